@@ -1,0 +1,5 @@
+pub mod Commands
+pub mod Numbers
+pub mod Running
+pub mod Source
+pub mod Statuses

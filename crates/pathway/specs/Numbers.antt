@@ -1,0 +1,13 @@
+-- The exit statuses.
+use Rattle.std.specs.Prelude.{ℕ}
+use Rattle.pathway.specs.declared.status.Status.{Status}
+use Rattle.pathway.specs.declared.status.Status.TheVariants.{Finished, Refused, Limit, ReadFault, WriteFault, Memory, Usage}
+
+abbrev pub number_of : Status → ℕ
+number_of Finished = 0
+number_of Refused = 2
+number_of Limit = 3
+number_of ReadFault = 4
+number_of WriteFault = 5
+number_of Memory = 6
+number_of Usage = 7

@@ -1,0 +1,111 @@
+-- The table of statuses: where each comes, and what is written then.
+use Rattle.std.specs.Prelude.{◌≡◌, ℕ, ◌<◌, ◌≤◌, List, [], length, take, Bool, true, false, Option, Result, Ok, Err, IfSome}
+use Rattle.std.specs.Io.KnownBytes.{Appends, Keeps}
+use Rattle.pw_base.specs.declared.fault.Fault.{Fault}
+use Rattle.pw_base.specs.Outside.{Rose}
+use Rattle.pw_event.specs.declared.event.Event.{Event}
+use Rattle.pw_paired.specs.State.{starting}
+use Rattle.pw_paired.specs.Step.{IsRun, after, is_finished}
+use Rattle.pw_paired.specs.Serial.{IsSerializable}
+use Rattle.pw_deck.specs.Deck.{program_of, system_of}
+use Rattle.pw_report.specs.Report.{report_text}
+use Rattle.pathway.specs.declared.status.TheConstants.{MAX_ENTRIES}
+use Rattle.pathway.specs.declared.status.Status.{Status}
+use Rattle.pathway.specs.declared.status.Status.TheVariants.{Finished, Refused, Limit, ReadFault, WriteFault, Memory, Usage}
+use Rattle.pathway.specs.Numbers.{number_of}
+use Rattle.pathway.specs.Source.{deck_system}
+use Rattle.pathway.specs.Commands.{takes, usage_line, fault_line}
+
+-- The headline. The deck has no fault, the log is a run of it, the one-copy machine runs the log's serial order
+-- and shows its screens, each numbered refresh counted once, and the text is the report of the log.
+pub record Reports (bytes : List ℕ) (done : Bool) (text : List ℕ) : Type 0 where
+  pub texts : List (List ℕ)
+  pub log : List Event
+  pub deck : program_of bytes ≡ Ok texts
+  pub run : IsRun (deck_system texts) starting log
+  pub serial : IsSerializable (deck_system texts) log
+  pub finished : is_finished (deck_system texts) (after starting log) ≡ done
+  pub is : text ≡ report_text (system_of texts) (deck_system texts) log
+  pub full : done ≡ false → length log ≡ MAX_ENTRIES
+
+-- the text is the line of the deck's first fault
+pub record IsRefused (bytes text : List ℕ) : Type 0 where
+  pub fault : Fault
+  pub deck : program_of bytes ≡ Err fault
+  pub is : text ≡ fault_line fault
+
+-- the text that a status defines for the bytes of the source, once the words were taken
+abbrev pub Defines : Status → List ℕ → List ℕ → Type 0
+Defines Finished bytes text = Reports bytes true text
+Defines Limit bytes text = Reports bytes false text
+Defines Refused bytes text = IsRefused bytes text
+Defines ReadFault bytes text = ⊥
+Defines WriteFault bytes text = ⊥
+Defines Memory bytes text = ⊥
+Defines Usage bytes text = ⊥
+
+-- why a reading gives up: the source failed, or memory ran out
+abbrev pub GivesUp : Status → ℕ → ℕ → Type 0
+GivesUp ReadFault before now = Rose before now
+GivesUp Memory before now = Unit {0}
+GivesUp Finished before now = ⊥
+GivesUp Limit before now = ⊥
+GivesUp Refused before now = ⊥
+GivesUp WriteFault before now = ⊥
+GivesUp Usage before now = ⊥
+
+-- one call: its words, and what source and sink tell before it and after it
+pub record Call : Type 0 where
+  pub words : List (List ℕ)
+  pub left : Option (List ℕ)
+  pub left_then : Option (List ℕ)
+  pub read_faults : ℕ
+  pub read_faults_then : ℕ
+  pub written : Option (List ℕ)
+  pub written_then : Option (List ℕ)
+  pub write_faults : ℕ
+  pub write_faults_then : ℕ
+
+-- the text of a status, for the bytes that the source had left, where it tells them
+pub record IsOutput (status : Status) (call : Call) (text : List ℕ) : Type 0 where
+  pub words : takes call.words ≡ true
+  pub bytes : List ℕ
+  pub read : IfSome call.left (λ left. left ≡ bytes)
+  pub defined : Defines status bytes text
+
+-- the usage line is the text of words that are not the command's
+abbrev pub IsUsage : Call → List ℕ → Type 0
+IsUsage call text = (takes call.words ≡ false) × (text ≡ usage_line)
+
+-- which text a status has
+abbrev pub HasText : Status → Call → List ℕ → Type 0
+HasText Usage call text = IsUsage call text
+HasText status call text = IsOutput status call text
+
+-- the whole text was written
+abbrev pub Writes : Status → Call → Type 0
+Writes status call = (text : List ℕ) × HasText status call text × Appends call.written call.written_then text
+
+-- the sink failed, and a beginning of the text was written
+pub record IsCutOff (call : Call) : Type 0 where
+  pub failed : Rose call.write_faults call.write_faults_then
+  pub status : Status
+  pub text : List ℕ
+  pub has : HasText status call text
+  pub count : ℕ
+  pub some : count < length text
+  pub begun : Appends call.written call.written_then (take count text)
+
+-- where a status comes, and what is written then
+abbrev pub Means : Status → Call → Type 0
+Means Finished call = Writes Finished call
+Means Limit call = Writes Limit call
+Means Refused call = Writes Refused call
+Means Usage call = Writes Usage call × Keeps call.left call.left_then
+Means ReadFault call = (takes call.words ≡ true) × Rose call.read_faults call.read_faults_then × Keeps call.written call.written_then
+Means WriteFault call = IsCutOff call
+Means Memory call = (takes call.words ≡ true) × Keeps call.written call.written_then
+
+-- the answer of a call is the number of a status that means what happened
+abbrev pub Ends : Call → ℕ → Type 0
+Ends call answer = (status : Status) × (answer ≡ number_of status) × Means status call

@@ -1,0 +1,87 @@
+ghost use Rattle.std.specs.Prelude.{◌≡◌, ◌≤◌, List, ℕ, Ok, IfOk, IfErr, IfSome};
+ghost use Rattle.pw_code.specs.Valid.{IsValid};
+ghost use Rattle.pathway.specs.Commands.{fault_line};
+ghost use Rattle.pathway.specs.Running.{RunsTo, status_of};
+ghost use Rattle.pathway.specs.Statuses.{Defines, GivesUp};
+
+use crate::commands::fault_line;
+use crate::run::{RunEnd, run};
+use crate::status::{MAX_ENTRIES, Status};
+use pw_base::bytes::Bytes;
+use pw_base::fault::{Fault, Refusal};
+use pw_base::memory::Memory;
+use pw_base::read_all::{ReadFault, read_all};
+use pw_base::source::Source;
+use pw_code::system::System;
+use pw_deck::deck::read_deck;
+use pw_report::report::report;
+use pw_world::world::World;
+use std::alloc::Global;
+
+/// Reads the source and runs its deck: the status and its text, or the status of a call that has none.
+pub fn output_of<S: Source>(alloc: Global, source: &mut S) -> Result<(Status, Bytes), Status>
+    ensures ok { IfOk result (λ output. (bytes : List ℕ) × IfSome (S.left source.old) (λ left. left ≡ bytes) × Defines output.0 bytes output.1) }
+    ensures err { IfErr result (λ status. GivesUp status (S.faults source.old) (S.faults source.new)) }
+    ensures count { S.faults source.old ≤ S.faults source.new }
+{
+    match read_all(alloc, source) {
+        Ok(bytes) => or_memory(deck_output(alloc, bytes.as_slice())),
+        Err(ReadFault::TooLong) => or_memory(refused(alloc, Fault { line: 0, code: 190 })),
+        Err(ReadFault::Fault) => Err(Status::ReadFault),
+        Err(ReadFault::Memory) => Err(Status::Memory),
+    }
+}
+
+/// Want of memory as a status.
+fn or_memory(output: Result<(Status, Bytes), Memory>) -> Result<(Status, Bytes), Status>
+    ensures ok { IfOk result (λ text. output ≡ Ok text) }
+    ensures err { IfErr result (λ status. status ≡ Status.Memory) }
+{
+    match output {
+        Ok(text) => Ok(text),
+        Err(Memory) => Err(Status::Memory),
+    }
+}
+
+/// What a deck's bytes give: the report of a run, or the line of the deck's first fault.
+fn deck_output(alloc: Global, bytes: &[u8]) -> Result<(Status, Bytes), Memory>
+    ensures { IfOk result (λ output. Defines output.0 bytes.now output.1) }
+{
+    match read_deck(alloc, bytes) {
+        Ok(deck) => {
+            let (end, text) = run_output(alloc, deck.system)?;
+            Ok((status_of(end), text))
+        }
+        Err(Refusal::At { line, code }) => refused(alloc, Fault { line, code }),
+        Err(Refusal::Memory) => Err(Memory),
+    }
+}
+
+/// The line of a deck's first fault.
+fn refused(alloc: Global, fault: Fault) -> Result<(Status, Bytes), Memory>
+    ensures { IfOk result (λ output. (output.0 ≡ Status.Refused) × (output.1 ≡ fault_line fault)) }
+{
+    let text = fault_line(alloc, fault)?;
+    Ok((Status::Refused, text))
+}
+
+/// Runs a system: how the run ended, and the report of it.
+fn run_output(alloc: Global, system: System) -> Result<(RunEnd, Bytes), Memory>
+    requires { IsValid system }
+    ensures { IfOk result (λ output. RunsTo system MAX_ENTRIES output.0 output.1) }
+{
+    let mut world = World::new(alloc, system, MAX_ENTRIES)?;
+    let end = run(&mut world)?;
+    let text = report(alloc, &world)?;
+    Ok((end, text))
+}
+
+/// The status of a run that ended so.
+fn status_of(end: RunEnd) -> Status
+    ensures { result ≡ status_of end }
+{
+    match end {
+        RunEnd::Finished => Status::Finished,
+        RunEnd::Limit => Status::Limit,
+    }
+}

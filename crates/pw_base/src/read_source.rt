@@ -1,0 +1,90 @@
+ghost use Rattle.std.specs.Prelude.{◌≡◌, ◌<◌, ◌≤◌, length};
+ghost use Rattle.pw_base.specs.Outside.{Reads, Rose, faults_after_read};
+
+use crate::source::{Got, Source};
+use std::io::Read;
+use std::marker::Model;
+
+/// A source over a reader. It counts the errors of the reader, up to `u64::MAX`, and it takes no
+/// memory.
+#[derive(Debug, Drop)]
+pub struct ReadSource<I> {
+    reader: I,
+    faults: u64,
+}
+
+impl<I> Model for ReadSource<I> {
+    ghost use Rattle.pw_base.specs.ReadSource.{ReaderState};
+
+    ghost Value = { ReaderState I };
+
+    ghost view = { λ source. record { reader = source.reader; faults = source.faults } };
+}
+
+impl<I> ReadSource<I> {
+    /// A source of what the reader has left, with no faults so far.
+    pub fn new(reader: I) -> ReadSource<I>
+        ensures { result ≡ record { reader = reader; faults = 0 } }
+    {
+        ReadSource { reader, faults: 0 }
+    }
+}
+
+impl<I: Read> Source for ReadSource<I> {
+    ghost left = { λ source. I.remaining source.reader };
+
+    ghost faults = { λ source. source.faults };
+
+    /// Reads once. A read of no bytes is the end, and any error is a failure.
+    fn read(&mut self, into: &mut [u8]) -> Got
+        requires { 0 < length into.old }
+        ensures reads { Reads result into.new
+            (I.remaining self.old.reader) (I.remaining self.new.reader) }
+        ensures count { self.old.faults ≤ self.new.faults }
+        ensures cause { result ≡ Got.Failed → Rose self.old.faults self.new.faults }
+        ensures faults { self.new.faults ≡ faults_after_read result self.old.faults }
+    {
+        match self.reader.read(into) {
+            Ok(0) => Got::End,
+            Ok(count) => Got::Got(count),
+            Err(_) => {
+                self.faults = self.faults.saturating_add(1);
+                Got::Failed
+            }
+        }
+    }
+}
+
+#[cfg(test)]
+mod tests {
+    use super::*;
+    use std::io::{self, ErrorKind};
+
+    /// Gives one byte, and then fails.
+    #[derive(Drop)]
+    struct Broken {
+        is_first: bool,
+    }
+
+    impl Read for Broken {
+        fn read(&mut self, buf: &mut [u8]) -> io::Result<usize> {
+            if !self.is_first || buf.is_empty() {
+                return Err(io::Error::from(ErrorKind::Other));
+            }
+            self.is_first = false;
+            buf[0] = b'A';
+            Ok(1)
+        }
+    }
+
+    #[test]
+    fn failure_is_counted(rt: HostRuntime) {
+        let mut source = ReadSource::new(Broken { is_first: true });
+        let mut piece = [0; 4];
+        assert_eq!(rt; source.read(&mut piece), Got::Got(1));
+        assert_eq!(rt; source.faults, 0);
+        assert_eq!(rt; source.read(&mut piece), Got::Failed);
+        assert_eq!(rt; source.faults, 1);
+        assert_eq!(rt; piece[0], b'A');
+    }
+}

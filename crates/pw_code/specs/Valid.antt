@@ -1,0 +1,12 @@
+-- A system whose numbers name what is there.
+use Rattle.std.specs.Prelude.{◌<◌, ◌≤◌, ◌^◌, length, All}
+use Rattle.pw_code.specs.declared.system.System.{System}
+use Rattle.pw_code.specs.declared.system.TheConstants.{MAX_TERMINALS}
+
+-- Each instruction of a program has a place that a `u32` holds, each terminal has its pair and its
+-- program, and there are not too many terminals.
+pub record IsValid (system : System) : Type 0 where
+  pub places : All (λ code. length code.instrs < 2 ^ 32) system.programs
+  pub pairs : All (λ terminal. terminal.tcp < length system.tcps) system.terminals
+  pub programs : All (λ terminal. terminal.program < length system.programs) system.terminals
+  pub few : length system.terminals ≤ MAX_TERMINALS

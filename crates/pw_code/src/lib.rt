@@ -1,0 +1,9 @@
+//! The plain types of the monitor: what a deck says, what its programs are compiled to, and what a
+//! program at work is.
+#![tactic(auto)]
+
+pub mod code;
+pub mod context;
+pub mod screen;
+pub mod system;
+pub mod verb;

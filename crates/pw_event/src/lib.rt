@@ -1,0 +1,5 @@
+//! The entries of the log, and their spelling.
+#![tactic(auto)]
+
+pub mod event;
+pub mod printing;

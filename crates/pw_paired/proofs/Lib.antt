@@ -1,0 +1,4 @@
+pub mod Upd
+pub mod Runs
+pub mod Once
+pub mod Serializes

@@ -1,0 +1,4 @@
+pub mod System
+pub mod State
+pub mod Step
+pub mod Serial

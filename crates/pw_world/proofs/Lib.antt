@@ -1,0 +1,4 @@
+pub mod Logs
+pub mod Pushes
+pub mod Seating
+pub mod Worlds

@@ -1,0 +1,12 @@
+use pw_code::context::Context;
+
+/// What the world keeps for a terminal.
+#[derive(Debug, Drop)]
+pub struct Seat {
+    pub context: Context,
+    /// The length of the log when the terminal's state last changed.
+    pub stamp: u64,
+    /// Whether a task of the terminal is out.
+    pub out: bool,
+    pub ended: bool,
+}
