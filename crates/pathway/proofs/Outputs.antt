@@ -1,19 +1,15 @@
 -- What a deck and a call give.
-use Rattle.std.proofs.Common.{◌≡◌, ◌≢◌, ℕ, ◌+◌, ◌<◌, ◌≤◌, List, [], ◌++◌, length, Option, None, Some, Bool, true, false, Result, Ok, Err, refl, sym, ap, ◌∙◌, subst, arith, length-append}
+use Rattle.std.proofs.Common.{◌≡◌, ℕ, ◌<◌, List, length, Option, None, Some, true, false, Result, Ok, Err, refl, ap, ◌∙◌, subst, arith, length-append}
 use Rattle.std.specs.Prelude.{IfSome, IfOk, nat_lt}
-use Rattle.std.specs.Io.KnownBytes.{Consumes, Appends}
+use Rattle.std.specs.Io.KnownBytes.{Consumes}
 use Rattle.std.proofs.lemmas.Bool.Decides.{nat_tests}
 use Rattle.pw_base.specs.declared.memory.Memory.{Memory}
 use Rattle.pw_base.specs.declared.read_all.TheConstants.{MAX_INPUT}
 use Rattle.pw_base.specs.Outside.{Rose, WritesAll}
 use Rattle.pw_base.specs.declared.fault.Fault.{Fault}
-use Rattle.pw_code.specs.declared.system.System.{System}
-use Rattle.pw_paired.specs.System.{Sys}
 use Rattle.pw_paired.specs.State.{starting}
 use Rattle.pw_paired.specs.Step.{IsRun}
 use Rattle.pw_paired.proofs.Serializes.{serializes}
-use Rattle.pw_world.specs.Behaviour.{behaviour}
-use Rattle.pw_world.specs.Answers.{finished}
 use Rattle.pw_deck.specs.Deck.{program_of, system_of}
 use Rattle.pw_report.specs.Report.{report_text}
 use Rattle.pathway.specs.declared.run.RunEnd.{RunEnd}
@@ -24,7 +20,7 @@ use Rattle.pathway.specs.declared.status.Status.TheVariants as status
 use Rattle.pathway.specs.Commands.{takes, fault_line}
 use Rattle.pathway.specs.Running.{RunsTo, status_of}
 use Rattle.pathway.specs.Source.{deck_system}
-use Rattle.pathway.specs.Statuses.{Reports, IsRefused, Defines, Call, HasText, IsCutOff}
+use Rattle.pathway.specs.Statuses.{Reports, Defines, Call, HasText, IsCutOff}
 use Rattle.pathway.proofs.Source.{behaves}
 
 -- the report of a finished run of a deck's system is one of the deck

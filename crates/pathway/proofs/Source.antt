@@ -1,13 +1,10 @@
 -- The code of a deck behaves as its program.
-use Rattle.std.proofs.Common.{◌≡◌, ℕ, zero, suc, ◌+◌, List, [], ◌∷◌, ◌++◌, map, refl, sym, ap, ◌∙◌, arith}
-use Rattle.std.specs.Prelude.{codes}
+use Rattle.std.proofs.Common.{◌≡◌, ℕ, zero, suc, ◌+◌, List, [], ◌∷◌, refl, ap, ◌∙◌, arith}
 use Rattle.pw_code.specs.declared.code.Instr.{Instr}
-use Rattle.pw_code.specs.declared.code.Instr.TheVariants.{Display, StopRun}
 use Rattle.pw_code.specs.declared.verb.Answer.{Answer}
 use Rattle.pw_terminal.specs.Screen.{blank_cells, with_message}
-use Rattle.pw_machine.specs.Running.{Place, instr_at, behind, asked_by, first_place, place_after, verb_at, place_at_verb, code_ask, code_image}
+use Rattle.pw_machine.specs.Running.{instr_at, behind, asked_by, place_after, verb_at, place_at_verb, code_ask, code_image}
 use Rattle.pw_machine.specs.Contexts.{instrs_of as code_of}
-use Rattle.pw_paired.specs.System.{Sys}
 use Rattle.pw_world.specs.Behaviour.{behaviour, program_of as program_at}
 use Rattle.pw_deck.specs.Deck.{system_of, instrs_of}
 use Rattle.pathway.specs.Source.{ask, image, deck_system}

@@ -24,7 +24,7 @@ pub fn pathway<S: Source, K: Sink>(
     ensures ends { Ends (record {
       words = map string_bytes words.now;
       left = S.left source.old;
-        left_then = S.left source.new;
+      left_then = S.left source.new;
       read_faults = S.faults source.old;
       read_faults_then = S.faults source.new;
       written = K.written sink.old;
@@ -43,7 +43,7 @@ fn call<S: Source, K: Sink>(alloc: Global, words: &[String], source: &mut S, sin
     ensures means { Means result (record {
       words = map string_bytes words.now;
       left = S.left source.old;
-        left_then = S.left source.new;
+      left_then = S.left source.new;
       read_faults = S.faults source.old;
       read_faults_then = S.faults source.new;
       written = K.written sink.old;

@@ -1,3 +1,4 @@
+pub mod Locks
+pub mod Path
 pub mod Screen
 pub mod Valid
-pub mod Path

@@ -4,6 +4,11 @@
 
 pub mod code;
 pub mod context;
+pub mod file;
+pub mod lock;
 pub mod screen;
 pub mod system;
+#[cfg(test)]
+mod tests;
+pub mod unit;
 pub mod verb;

@@ -1,4 +1,6 @@
 use crate::code::Code;
+use crate::file::FileInfo;
+use crate::lock::LockRule;
 use pw_base::bytes::Bytes;
 use pw_base::list::List;
 
@@ -15,11 +17,27 @@ pub struct TermInfo {
     pub program: u32,
 }
 
-/// What a deck says. Programs, pairs and terminals are named by their numbers, from 0, in order
+/// The most processes that a server class has.
+pub const MAX_PROCESSES: u32 = 16;
+
+/// A server class.
+#[derive(Debug, Drop)]
+pub struct ClassInfo {
+    pub name: Bytes,
+    /// The number of its program.
+    pub server: u32,
+    /// How many processes it has, from 1.
+    pub processes: u32,
+}
+
+/// What a deck says. Programs, classes, files, pairs and terminals are named by their numbers, from 0, in order
 /// of declaration.
 #[derive(Debug, Drop)]
 pub struct System {
     pub programs: List<Code>,
+    pub classes: List<ClassInfo>,
+    pub files: List<FileInfo>,
     pub tcps: List<Bytes>,
     pub terminals: List<TermInfo>,
+    pub rule: LockRule,
 }

@@ -9,6 +9,7 @@ use Rattle.pw_base.specs.declared.read_all.TheConstants.{MAX_INPUT}
 use Rattle.pw_base.specs.First.{least, unless}
 use Rattle.pw_code.specs.declared.code.Instr.{Instr}
 use Rattle.pw_code.specs.declared.code.Instr.TheVariants.{Display, StopRun}
+use Rattle.pw_code.specs.declared.lock.LockRule.TheVariants.{ReadersShare}
 use Rattle.pw_code.specs.declared.system.System.{System}
 use Rattle.pw_deck.specs.Lines.{lines}
 
@@ -106,8 +107,11 @@ instrs_of texts = map Display texts ++ StopRun ∷ []
 abbrev pub system_with : List Instr → System
 system_with instrs = record {
   programs = (record { name = codes "HELLO"; instrs = instrs }) ∷ [];
+  classes = [];
+  files = [];
   tcps = codes "TCP-1" ∷ [];
   terminals = (record { name = codes "T1"; tcp = 0; program = 0 }) ∷ [];
+  rule = ReadersShare;
 }
 
 -- the system of a deck whose program displays these texts and stops

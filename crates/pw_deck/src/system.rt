@@ -5,6 +5,7 @@ use pw_base::bytes::Bytes;
 use pw_base::list::List;
 use pw_base::memory::Memory;
 use pw_code::code::{Code, Instr};
+use pw_code::lock::LockRule;
 use pw_code::system::{System, TermInfo};
 use std::alloc::Global;
 
@@ -32,7 +33,10 @@ pub fn system_with(alloc: Global, instrs: List<Instr>) -> Result<System, Memory>
     };
     Ok(System {
         programs: list_of(alloc, code)?,
+        classes: List::new(alloc),
+        files: List::new(alloc),
         tcps: list_of(alloc, Bytes::from_slice(alloc, b"TCP-1")?)?,
         terminals: list_of(alloc, terminal)?,
+        rule: LockRule::ReadersShare,
     })
 }

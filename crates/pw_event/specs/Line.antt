@@ -21,6 +21,7 @@ sentence (word ∷ next ∷ words) = word ++ 32 ∷ sentence (next ∷ words)
 abbrev pub refresh_number : ℕ → ℕ → ℕ → List ℕ
 refresh_number phase attempt k = decimal phase ++ 46 ∷ (decimal attempt ++ 46 ∷ decimal k)
 
+-- the words of an ending
 abbrev pub ending_text : Ending → List ℕ
 ending_text Stopped = codes "STOPPED"
 

@@ -3,3 +3,5 @@
 
 pub mod event;
 pub mod printing;
+#[cfg(test)]
+mod tests;

@@ -6,6 +6,7 @@ use Rattle.pw_code.specs.declared.system.System.{System}
 use Rattle.pw_code.specs.declared.verb.Answer.{Answer}
 use Rattle.pw_code.specs.declared.verb.Answer.TheVariants.{Shown}
 use Rattle.pw_code.specs.Path.{refreshes_on}
+use Rattle.pw_code.proofs.PathLemmas.{refreshes_on-push}
 use Rattle.pw_machine.specs.Running.{Place, instr_at, behind, first_place, place_after, place_at_verb}
 use Rattle.pw_machine.specs.Contexts.{instrs_of, context_after, run_on, shown}
 
@@ -14,10 +15,6 @@ pub place_after-push : (instrs : List Instr) (place : Place) (path : List Answer
     → place_after instrs place (path ++ answer ∷ []) ≡ place_at_verb instrs (place_after instrs place path)
 place_after-push instrs place [] answer = refl
 place_after-push instrs place (first ∷ path) answer = place_after-push instrs (behind (instr_at instrs place.at) place) path answer
-
-pub refreshes_on-push : (path : List Answer) → refreshes_on (path ++ Shown ∷ []) ≡ refreshes_on path + 1
-refreshes_on-push [] = refl
-refreshes_on-push (Shown ∷ path) = ap (λ n. n + 1) (refreshes_on-push path)
 
 -- the context of a path that runs on and is answered Shown is that of the longer path
 pub shown-run_on : (system : System) (program : ℕ) (path : List Answer)

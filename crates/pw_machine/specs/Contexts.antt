@@ -32,7 +32,7 @@ run_on system context =
     let place = place_at_verb (instrs_of system context.program) (place_of context) in
     record context { at_verb = true; screen = place.screen; at = place.at }
 
--- a context at a Show, after the answer Shown
+-- a context at a verb, after the answer Shown
 abbrev pub shown : Context → Context
 shown context = record context { at_verb = false; shown = context.shown + 1 }
 

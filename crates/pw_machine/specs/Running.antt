@@ -35,10 +35,11 @@ abbrev pub place_after : List Instr → Place → List Answer → Place
 place_after instrs place [] = place
 place_after instrs place (answer ∷ path) = place_after instrs (behind (instr_at instrs place.at) place) path
 
--- the verb that the code asks at a place, and the place at which it then stands
+-- the verb that the code asks at a place
 abbrev pub verb_at : List Instr → Place → Verb
 verb_at instrs place = asked_by (instr_at instrs place.at)
 
+-- the place at which the code then stands
 abbrev pub place_at_verb : List Instr → Place → Place
 place_at_verb instrs place = behind (instr_at instrs place.at) place
 

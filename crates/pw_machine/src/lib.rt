@@ -2,3 +2,5 @@
 #![tactic(auto)]
 
 pub mod machine;
+#[cfg(test)]
+mod tests;

@@ -2,3 +2,4 @@ pub mod Upd
 pub mod Runs
 pub mod Once
 pub mod Serializes
+mod Examples

@@ -2,13 +2,13 @@
 use Rattle.std.proofs.Common.{◌≡◌, ◌≢◌, inl, inr, ℕ, ◌+◌, List, [], ◌∷◌, ◌++◌, true, false, cond, eqb, refl, sym, ap, ◌∙◌, subst, append_assoc, arith}
 use Rattle.std.proofs.lemmas.Bool.{cases_eq, eq-eqb, ne_eqb}
 use Rattle.std.proofs.lemmas.List.{append-nil}
-use Rattle.pw_code.specs.declared.verb.Answer.{Answer}
 use Rattle.pw_code.specs.declared.verb.Answer.TheVariants.{Shown}
 use Rattle.pw_event.specs.declared.event.Ending.{Ending}
 use Rattle.pw_event.specs.declared.event.Event.{Event}
 use Rattle.pw_event.specs.declared.event.Event.TheVariants.{Show, End}
 use Rattle.pw_paired.specs.declared.refresh.Refresh.{Refresh}
 use Rattle.pw_code.specs.Path.{refreshes_on}
+use Rattle.pw_code.proofs.PathLemmas.{refreshes_on-push}
 use Rattle.pw_paired.specs.System.{Sys, next_refresh}
 use Rattle.pw_paired.specs.State.{State, Term, starting}
 use Rattle.pw_paired.specs.Step.{Legal, LegalShow, effect, answered, ended, IsRun, after}
@@ -91,13 +91,9 @@ adds_all sys state machine (entry ∷ log) t f run =
 abbrev shown_so_far : State → ℕ → ℕ
 shown_so_far state t = refreshes_on (state.terms t).path
 
-refreshes_on-shown : (path : List Answer) → refreshes_on (path ++ Shown ∷ []) ≡ refreshes_on path + 1
-refreshes_on-shown [] = refl
-refreshes_on-shown (Shown ∷ path) = ap (λ n. n + 1) (refreshes_on-shown path)
-
 shown_there : (state : State) (u t : ℕ) → u ≡ t → shown_so_far (answered state u Shown) t ≡ shown_so_far state u + 1
 shown_there state u t is =
-    ap (λ (x : Term). refreshes_on x.path) (upd-same state.terms u _ t (sym is)) ∙ refreshes_on-shown (state.terms u).path
+    ap (λ (x : Term). refreshes_on x.path) (upd-same state.terms u _ t (sym is)) ∙ refreshes_on-push (state.terms u).path
 
 shown_elsewhere : (state : State) (u t : ℕ) → u ≢ t → shown_so_far (answered state u Shown) t ≡ shown_so_far state t
 shown_elsewhere state u t ne = ap (λ (x : Term). refreshes_on x.path) (upd-other state.terms u _ t (λ is. ne (sym is)))

@@ -16,7 +16,8 @@ pub data Block : Type 0 where
   Out : (t : ℕ) → Block
   Done : (t : ℕ) (ending : Ending) → Block
 
--- what an entry reads as
+-- What an entry reads as. A SHOW outside transactions is an Out where its path is longer than every path that the
+-- terminal had before, which holds of each while paths only grow.
 abbrev pub block_of : Event → Block
 block_of (Show t phase attempt k) = Out t
 block_of (End t ending) = Done t ending
@@ -36,6 +37,7 @@ pub record Copy : Type 0 where
 pub record Machine : Type 0 where
   pub terms : ℕ → Copy
 
+-- empty paths, no refreshes, and nothing has ended
 abbrev pub beginning : Machine
 beginning = record { terms = λ t. record { path = []; refreshes = []; ending = None } }
 
@@ -51,6 +53,7 @@ pub record LegalDone (sys : Sys) (machine : Machine) (t : ℕ) (ending : Ending)
   pub live : (machine.terms t).ending ≡ None
   pub asks : sys.ask t (machine.terms t).path ≡ verb_of ending
 
+-- where a block is legal
 abbrev pub LegalBlock : Sys → Machine → Block → Type 0
 LegalBlock sys machine (Out t) = LegalOut sys machine t
 LegalBlock sys machine (Done t ending) = LegalDone sys machine t ending
@@ -92,6 +95,7 @@ refreshes sys state (entry ∷ log) = refresh_of sys state entry ++ refreshes sy
 abbrev pub refreshes_of : ℕ → List Refresh → List Refresh
 refreshes_of t all = filter (λ r. r.terminal == t) all
 
+-- two refreshes of one terminal have one number
 abbrev pub same_number : Refresh → Refresh → Bool
 same_number a b = a.phase == b.phase && (a.attempt == b.attempt && a.k == b.k)
 

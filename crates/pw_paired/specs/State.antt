@@ -12,6 +12,7 @@ pub record Term : Type 0 where
   pub path : List Answer
   pub ending : Option Ending
 
+-- all that entries speak of
 pub record State : Type 0 where
   pub terms : ℕ → Term
 

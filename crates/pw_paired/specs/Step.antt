@@ -37,6 +37,7 @@ pub record LegalEnd (sys : Sys) (state : State) (t : ℕ) (ending : Ending) : Ty
   pub can : CanStep sys state t
   pub asks : next_verb sys state t ≡ verb_of ending
 
+-- where an entry is legal
 abbrev pub Legal : Sys → State → Event → Type 0
 Legal sys state (Show t phase attempt k) = LegalShow sys state t phase attempt k
 Legal sys state (End t ending) = LegalEnd sys state t ending
@@ -64,7 +65,7 @@ abbrev pub after : State → List Event → State
 after state [] = state
 after state (entry ∷ log) = after (effect state entry) log
 
--- each of the first terminals has an ending
+-- each terminal below a number has an ending
 abbrev pub all_ended : State → ℕ → Bool
 all_ended state zero = true
 all_ended state (suc t) = all_ended state t && is_some (state.terms t).ending

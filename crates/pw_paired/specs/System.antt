@@ -5,6 +5,7 @@ use Rattle.pw_code.specs.declared.verb.Answer.{Answer}
 use Rattle.pw_code.specs.Path.{refreshes_on}
 use Rattle.pw_paired.specs.declared.refresh.Refresh.{Refresh}
 
+-- the started terminals, and what each asks and shows after a path
 pub record Sys : Type 0 where
   -- the number of started terminals
   pub terminals : ℕ

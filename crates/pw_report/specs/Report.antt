@@ -20,6 +20,7 @@ abbrev pub block_line : System → Block → List ℕ
 block_line system (Out t) = line (sentence (codes "OUT" ∷ terminal_name system t ∷ []))
 block_line system (Done t ending) = line (sentence (codes "DONE" ∷ terminal_name system t ∷ ending_text ending ∷ []))
 
+-- the lines of the blocks, in order
 abbrev pub block_lines : System → List Block → List ℕ
 block_lines system [] = []
 block_lines system (block ∷ rest) = block_line system block ++ block_lines system rest
@@ -28,6 +29,7 @@ block_lines system (block ∷ rest) = block_line system block ++ block_lines sys
 abbrev pub refresh_part : System → Refresh → List ℕ
 refresh_part system r = line (sentence (codes "SCREEN" ∷ terminal_name system r.terminal ∷ refresh_number r.phase r.attempt r.k ∷ [])) ++ refresh_lines r.image
 
+-- the lines of the refreshes, in order
 abbrev pub refresh_parts : System → List Refresh → List ℕ
 refresh_parts system [] = []
 refresh_parts system (r ∷ rest) = refresh_part system r ++ refresh_parts system rest

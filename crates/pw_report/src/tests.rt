@@ -4,6 +4,7 @@ use crate::parts::{print_blocks, print_log, print_screens};
 use pw_base::bytes::Bytes;
 use pw_base::list::List;
 use pw_base::memory::Memory;
+use pw_code::lock::LockRule;
 use pw_code::system::{System, TermInfo};
 use pw_event::event::{Ending, Event};
 use pw_paired::refresh::Refresh;
@@ -40,8 +41,11 @@ fn one_terminal(alloc: Global) -> Result<System, Memory>
     terminals.push(terminal(alloc, b"T1")?)?;
     Ok(System {
         programs: List::new(alloc),
+        classes: List::new(alloc),
+        files: List::new(alloc),
         tcps: List::new(alloc),
         terminals,
+        rule: LockRule::ReadersShare,
     })
 }
 

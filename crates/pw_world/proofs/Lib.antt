@@ -1,3 +1,4 @@
+pub mod Changing
 pub mod Logs
 pub mod Pushes
 pub mod Seating

@@ -3,7 +3,7 @@ use Rattle.std.proofs.Common.{◌≡◌, ◌≢◌, ℕ, ◌+◌, ◌≤◌, Lis
 use Rattle.std.specs.Prelude.{if◌then◌else◌, ◌==◌}
 use Rattle.std.proofs.lemmas.List.{append-nil}
 use Rattle.pw_code.specs.Path.{refreshes_on}
-use Rattle.pw_machine.proofs.Paths.{refreshes_on-push}
+use Rattle.pw_code.proofs.PathLemmas.{refreshes_on-push}
 use Rattle.pw_event.specs.declared.event.Event.{Event}
 use Rattle.pw_event.specs.declared.event.Event.TheVariants.{Show, End}
 use Rattle.pw_paired.specs.System.{Sys}

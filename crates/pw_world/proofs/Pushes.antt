@@ -23,7 +23,7 @@ use Rattle.pw_world.specs.Seats.{seat_at}
 use Rattle.pw_world.specs.Told.{state_after, kept_at, kept_for, kept_context, stamp, terminal_of}
 use Rattle.pw_world.proofs.Logs.{refreshes-push, stamp_from-push, effect-other}
 
-state-push : (log : List Event) (entry : Event) → state_after (log ++ entry ∷ []) ≡ effect (state_after log) entry
+pub state-push : (log : List Event) (entry : Event) → state_after (log ++ entry ∷ []) ≡ effect (state_after log) entry
 state-push log entry = after-append starting log (entry ∷ [])
 
 pub stamp-own : (log : List Event) (entry : Event) (t : ℕ) → terminal_of entry ≡ t → stamp (log ++ entry ∷ []) t ≡ length (log ++ entry ∷ [])
@@ -31,7 +31,7 @@ stamp-own log entry t is =
     let long : length (log ++ entry ∷ []) ≡ 0 + length log + 1 = omega (arith, length-append log (entry ∷ [])) in
     stamp_from-push 0 0 log entry t ∙ (ap (λ b. cond b (0 + length log + 1) (stamp log t)) (eq-eqb (terminal_of entry) t is) ∙ sym long)
 
-stamp-other : (log : List Event) (entry : Event) (t : ℕ) → terminal_of entry ≢ t → stamp (log ++ entry ∷ []) t ≡ stamp log t
+pub stamp-other : (log : List Event) (entry : Event) (t : ℕ) → terminal_of entry ≢ t → stamp (log ++ entry ∷ []) t ≡ stamp log t
 stamp-other log entry t ne =
     stamp_from-push 0 0 log entry t ∙ ap (λ b. cond b (0 + length log + 1) (stamp log t)) (ne_eqb (terminal_of entry) t ne)
 
@@ -47,12 +47,12 @@ other_seat system log entry t seat ne s =
     }
 
 -- the terms of a terminal behind its own entry
-term-shown : (log : List Event) (t phase attempt k : ℕ) → (state_after (log ++ Show t phase attempt k ∷ [])).terms t
+pub term-shown : (log : List Event) (t phase attempt k : ℕ) → (state_after (log ++ Show t phase attempt k ∷ [])).terms t
     ≡ record ((state_after log).terms t) { path = ((state_after log).terms t).path ++ Shown ∷ [] }
 term-shown log t phase attempt k =
     ap (λ (state : State). state.terms t) (state-push log (Show t phase attempt k)) ∙ upd-same (state_after log).terms t _ t refl
 
-term-ended : (log : List Event) (t : ℕ) (ending : Ending) → (state_after (log ++ End t ending ∷ [])).terms t ≡ record ((state_after log).terms t) { ending = Some ending }
+pub term-ended : (log : List Event) (t : ℕ) (ending : Ending) → (state_after (log ++ End t ending ∷ [])).terms t ≡ record ((state_after log).terms t) { ending = Some ending }
 term-ended log t ending =
     ap (λ (state : State). state.terms t) (state-push log (End t ending)) ∙ upd-same (state_after log).terms t _ t refl
 

@@ -1,5 +1,5 @@
 -- What the seats tell of the terminals.
-use Rattle.std.proofs.Common.{◌≡◌, inl, inr, ℕ, zero, suc, ◌<◌, ◌≤◌, List, [], ◌∷◌, length, take, map, replicate, Option, None, Some, Bool, true, false, not, ◌&&◌, ◌||◌, refl, sym, ap, ◌∙◌, add-one, arith}
+use Rattle.std.proofs.Common.{◌≡◌, inl, inr, ℕ, zero, suc, ◌<◌, ◌≤◌, List, [], ◌∷◌, length, take, map, replicate, Option, None, Some, Bool, true, false, not, ◌&&◌, ◌||◌, refl, sym, ap, ◌∙◌, ◌⊎◌, add-one, arith}
 use Rattle.std.specs.Prelude.{is_some, position}
 use Rattle.std.specs.List.{list_all, position_or_len}
 use Rattle.std.proofs.Common.{cond}
@@ -42,6 +42,24 @@ live-unfinished state (suc n) t lt live =
       | inr ne ↦ let below : t < n = omega arith in rw (live-unfinished state n t below live) refl
     ]
 
+pub not_some : {A : Type 0} (o : Option A) → is_some o ≡ false → o ≡ None
+not_some None e = refl
+not_some (Some x) e = absurd (cc e)
+
+and-false : (a b : Bool) → a && b ≡ false → (a ≡ false) ⊎ (b ≡ false)
+and-false false b e = inl refl
+and-false true false e = inr refl
+and-false true true e = absurd (cc e)
+
+-- where the log is not finished, a terminal is live
+pub unfinished-live : (state : State) (n : ℕ) → all_ended state n ≡ false → (t : ℕ) × ((t < n) × ((state.terms t).ending ≡ None))
+unfinished-live state zero e = absurd (cc e)
+unfinished-live state (suc n) e =
+    elim (and-false (all_ended state n) (is_some (state.terms n).ending) e) [
+      | inl earlier ↦ let live = unfinished-live state n earlier in let lt = live.1.0 in (live.0, (omega arith, live.1.1))
+      | inr none ↦ (n, (omega arith, not_some (state.terms n).ending none))
+    ]
+
 -- a free seat has not ended and is not out
 pub free-parts : (ended out : Bool) → not (ended || out) ≡ true → (ended ≡ false) × (out ≡ false)
 free-parts true out e = absurd (cc e)
@@ -53,10 +71,6 @@ pub busy-out : (ended out : Bool) → not (ended || out) ≡ false → ended ≡
 busy-out true out e f = absurd (cc f)
 busy-out false true e f = refl
 busy-out false false e f = absurd (cc e)
-
-pub not_some : {A : Type 0} (o : Option A) → is_some o ≡ false → o ≡ None
-not_some None e = refl
-not_some (Some x) e = absurd (cc e)
 
 none_at : (b : Bool) (n : ℕ) → cond b (Some n) None ≡ None → b ≡ false
 none_at true n e = absurd (cc e)

@@ -25,6 +25,19 @@ finished world = is_finished (behaviour world.system) (state_after world.log)
 abbrev pub IsLive : Told → ℕ → Type 0
 IsLive world t = ((state_after world.log).terms t).ending ≡ None
 
+-- an entry that the world may make next, of the terminal
+pub record IsStepOf (world : Told) (t : ℕ) (entry : Event) : Type 0 where
+  pub legal : Legal (behaviour world.system) (state_after world.log) entry
+  pub owner : terminal_of entry ≡ t
+
+-- the terminal has a step
+abbrev pub HasStep : Told → ℕ → Type 0
+HasStep world t = (entry : Event) × IsStepOf world t entry
+
+-- some terminal of the system is live
+abbrev pub SomeLive : Told → Type 0
+SomeLive world = (t : ℕ) × ((t < length world.system.terminals) × IsLive world t)
+
 -- the terminal is out
 abbrev pub is_out : Told → ℕ → Bool
 is_out world t = slice_index_or world.out t false

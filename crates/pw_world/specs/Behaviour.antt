@@ -9,6 +9,7 @@ use Rattle.pw_paired.specs.System.{Sys}
 abbrev pub program_of : System → ℕ → ℕ
 program_of system t = (slice_index_or system.terminals t (record { name = []; tcp = 0; program = 0 })).program
 
+-- the behaviour of a system, by the codes of its programs
 abbrev pub behaviour : System → Sys
 behaviour system = record {
   terminals = length system.terminals;

@@ -24,6 +24,7 @@ pub record IsSeated (system : System) (log : List Event) (t : ℕ) (seat : Seat)
 abbrev pub first_seat : System → TermInfo → Seat
 first_seat system terminal = record { context = context_after system terminal.program []; stamp = 0; out = false; ended = false }
 
+-- what a world keeps is that of its system and its log
 pub record IsKept (system : System) (log : List Event) (made : List Refresh) (kept : List Seat) (limit : ℕ) : Type 0 where
   pub valid : IsValid system
   pub few : limit ≤ 500000

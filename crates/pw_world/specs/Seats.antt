@@ -2,6 +2,7 @@
 use Rattle.std.specs.Prelude.{ℕ, List, [], Bool, false, not, ◌||◌, slice_index_or}
 use Rattle.pw_world.specs.declared.seat.Seat.{Seat}
 
+-- its terminal has ended
 abbrev pub has_ended : Seat → Bool
 has_ended seat = seat.ended
 
@@ -9,6 +10,7 @@ has_ended seat = seat.ended
 abbrev pub is_free : Seat → Bool
 is_free seat = not (seat.ended || seat.out)
 
+-- it is out from now on, or no more
 abbrev pub with_out : Bool → Seat → Seat
 with_out out seat = record seat { out = out }
 

@@ -1,5 +1,5 @@
 -- What contracts see of a world.
-use Rattle.std.specs.Prelude.{ℕ, ◌+◌, List, [], ◌∷◌, Bool, Option, None, Some, ◌==◌, if◌then◌else◌}
+use Rattle.std.specs.Prelude.{◌≢◌, ℕ, ◌+◌, List, [], ◌∷◌, ◌++◌, Bool, Option, None, Some, ◌==◌, if◌then◌else◌}
 use Rattle.pw_code.specs.declared.system.System.{System}
 use Rattle.pw_code.specs.declared.context.Context.{Context}
 use Rattle.pw_event.specs.declared.event.Event.{Event}
@@ -10,6 +10,7 @@ use Rattle.pw_paired.specs.Step.{after}
 use Rattle.pw_machine.specs.Contexts.{context_after, run_on}
 use Rattle.pw_world.specs.Behaviour.{program_of}
 
+-- what a world has: its system, log, bound and the terminals that are out
 pub record Told : Type 0 where
   pub system : System
   pub log : List Event
@@ -28,9 +29,11 @@ abbrev pub kept_at : Option Ending → System → Context → Context
 kept_at None system context = context
 kept_at (Some ending) system context = run_on system context
 
+-- the context that is kept for a terminal in a state
 abbrev pub kept_for : System → ℕ → Term → Context
 kept_for system t term = kept_at term.ending system (context_after system (program_of system t) term.path)
 
+-- the context that is kept for a terminal after a log
 abbrev pub kept_context : System → List Event → ℕ → Context
 kept_context system log t = kept_for system t ((state_after log).terms t)
 
@@ -47,3 +50,7 @@ stamp_from n last (entry ∷ log) t = stamp_from (n + 1) (if terminal_of entry =
 -- the length of the log when the terminal's state last changed
 abbrev pub stamp : List Event → ℕ → ℕ
 stamp log t = stamp_from 0 0 log t
+
+-- one more entry changes the terminal's state
+abbrev pub Changes : List Event → Event → ℕ → Type 0
+Changes log entry t = (state_after (log ++ entry ∷ [])).terms t ≢ (state_after log).terms t

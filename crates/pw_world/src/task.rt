@@ -34,6 +34,7 @@ pub struct Task {
     pub actor: Actor,
     /// The length of the log when the actor's state last changed.
     pub stamp: u64,
+    /// The context from which its program is to run on.
     pub work: Option<Context>,
 }
 
@@ -44,16 +45,20 @@ pub struct Task {
 #[derive(Drop)]
 pub struct Outcome {
     pub actor: Actor,
+    /// The stamp of its task.
     pub stamp: u64,
+    /// The work of its task, as it was.
     pub given: Option<Context>,
     pub verb: Option<Verb>,
+    /// The work at the verb.
     pub work: Option<Context>,
+    /// The system, for contracts only.
     pub over: Snapshot<System>,
     pub ghost verb_is: { verb ≡ option_map (verb_of over.value) given },
     pub ghost work_is: { work ≡ option_map (run_on over.value) given },
 }
 
-/// Runs the work of a task to its next verb.
+/// Runs the work of a task to its next verb. A task without work needs no program.
 pub fn run_task(system: &System, task: Task) -> Result<Outcome, Memory>
     requires valid { IsValid system.now }
     requires runs { ForSome task.work (CanRun system.now) }

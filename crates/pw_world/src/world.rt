@@ -47,6 +47,7 @@ pub enum Applied {
     Unrun,
     /// The actor has no step.
     Held,
+    /// There is no memory for the entry.
     Memory,
 }
 
@@ -75,7 +76,7 @@ impl Model for World {
 }
 
 impl World {
-    /// A new world of a system, whose log may have `limit` entries.
+    /// A new world of a system, whose log may have `limit` entries, at most 500000. No terminal is out.
     pub fn new(alloc: Global, system: System, limit: u32) -> Result<World, Memory>
         requires valid { IsValid system }
         requires few { limit ≤ 500000 }
@@ -92,9 +93,12 @@ impl World {
         })
     }
 
+    /// The system that the world was made of.
     pub fn system(&self) -> &System
         ensures system { result.now ≡ self.now.system }
         ensures valid { IsValid result.now }
+        // a flag for each terminal says whether it is out
+        ensures flags { length self.now.out ≡ length result.now.terminals }
     {
         &self.system
     }
@@ -122,7 +126,7 @@ impl World {
         all_ended(self.seats.as_slice())
     }
 
-    /// Hands out the task of an actor that has a step.
+    /// Hands out the task of an actor that has a step. An `Err` leaves the world as it was.
     pub fn claim(&mut self) -> Result<Claim, Memory>
         ensures { Claims self.old result self.new }
     {
@@ -142,9 +146,10 @@ impl World {
         Ok(Claim::Work(task))
     }
 
-    /// Makes a step of the outcome's actor, which is no more out then.
+    /// Makes a step of the outcome's actor, which is no more out then, whatever the answer.
     ///
-    /// It runs no program: the outcome has to be one of the context that is kept for the actor.
+    /// It runs no program: the outcome has to be one of the context that is kept for the actor. Every
+    /// answer but `Done` leaves the log, the stamps and the paired state as they were.
     pub fn apply(&mut self, outcome: Outcome) -> Applied
         requires system { outcome.over.value ≡ self.old.system }
         requires actor { terminal_at outcome.actor < length self.old.system.terminals }
@@ -182,10 +187,10 @@ impl World {
         ensures judged { result ≢ Applied.Memory }
         ensures room { result ≡ Applied.Done → length self.now.log < self.now.limit }
     {
-        let seat = seat_at(self.seats.as_slice(), terminal as usize);
         if self.is_full() {
             return Applied::Limit;
         }
+        let seat = seat_at(self.seats.as_slice(), terminal as usize);
         if outcome.stamp != seat.stamp {
             return Applied::Stale {
                 carried: outcome.stamp,
@@ -259,17 +264,8 @@ impl World {
                 image,
             },
         );
-        let stamp = self.log.as_slice().len() as u64;
-        put_seat(
-            &mut self.seats,
-            terminal as usize,
-            Seat {
-                context: work,
-                stamp,
-                out: false,
-                ended: false,
-            },
-        );
+        let seat = seat_behind(self.log.as_slice(), work, false);
+        put_seat(&mut self.seats, terminal as usize, seat);
         Ok(())
     }
 
@@ -286,18 +282,21 @@ impl World {
     {
         self.log.reserve(1)?;
         push_reserved(&mut self.log, Event::End { terminal, ending });
-        let stamp = self.log.as_slice().len() as u64;
-        put_seat(
-            &mut self.seats,
-            terminal as usize,
-            Seat {
-                context: work,
-                stamp,
-                out: false,
-                ended: true,
-            },
-        );
+        let seat = seat_behind(self.log.as_slice(), work, true);
+        put_seat(&mut self.seats, terminal as usize, seat);
         Ok(())
+    }
+}
+
+/// What is kept for a terminal to which the log's last entry belongs.
+fn seat_behind(log: &[Event], context: Context, ended: bool) -> Seat
+    ensures { result ≡ record { context = context; stamp = length log.now; out = false; ended = ended } }
+{
+    Seat {
+        context,
+        stamp: log.len() as u64,
+        out: false,
+        ended,
     }
 }
 

@@ -1,4 +1,4 @@
-use Rattle.std.proofs.Common.{refl, sym, ap, ◌∙◌, not}
+use Rattle.std.proofs.Common.{refl, sym}
 use Rattle.pathway.specs.declared.status.Status.TheVariants as status
 use Rattle.pathway.proofs.Outputs.{cut_off, has_output}
 use Rattle.pathway.proofs.top.call.Goals as goal

@@ -1,0 +1,40 @@
+use pw_base::bytes::Bytes;
+use pw_base::list::List;
+
+/// A file of a deck.
+#[derive(Debug, Drop)]
+pub struct FileInfo {
+    pub name: Bytes,
+    /// How many characters at the front of a record are its key: 1 to 255.
+    pub key: u16,
+    /// The records, each of the key's length to 4,000 characters.
+    pub records: List<Bytes>,
+}
+
+/// What a server does on a file.
+#[derive(Clone, Copy, Debug, PartialEq, Eq)]
+pub enum FileOp {
+    /// Reads the record of a key.
+    Read,
+    /// Reads the first record of a larger key.
+    Next,
+    /// Adds a record.
+    Write,
+    /// Replaces a record.
+    Rewrite,
+    /// Takes a record away.
+    Delete,
+    /// Reads as `Read`, and locks exclusively.
+    ReadLock,
+    /// Reads as `Next`, and locks exclusively.
+    NextLock,
+}
+
+/// One operation on a file. `content` is the record of a write or a rewrite, and empty otherwise.
+#[derive(Debug, Drop)]
+pub struct FileCall {
+    pub file: u32,
+    pub op: FileOp,
+    pub key: Bytes,
+    pub content: Bytes,
+}

@@ -1,0 +1,96 @@
+ghost use Rattle.std.specs.Prelude.{◌≡◌, ◌<◌, ◌^◌, length, IfOk};
+ghost use Rattle.pw_code.specs.Valid.{IsValid};
+
+use crate::machine::{answer, start, verb};
+use pw_base::bytes::Bytes;
+use pw_base::list::List;
+use pw_base::memory::Memory;
+use pw_code::code::{Code, Instr};
+use pw_code::context::Context;
+use pw_code::lock::LockRule;
+use pw_code::system::System;
+use pw_code::verb::{Answer, Verb};
+use pw_terminal::printing::refresh_text;
+use std::alloc::Global;
+use std::process::Abort;
+use std::test::Fail;
+
+/// A system of one program.
+fn system_of(alloc: Global, instrs: List<Instr>) -> Result<System, Memory>
+    requires { length instrs < 2 ^ 32 }
+    ensures valid { IfOk result (λ system. IsValid system) }
+    ensures one { IfOk result (λ system. length system.programs ≡ 1) }
+{
+    let name = Bytes::from_slice(alloc, b"MAIN")?;
+    let mut programs = List::new(alloc);
+    programs.push(Code { name, instrs })?;
+    Ok(System {
+        programs,
+        classes: List::new(alloc),
+        files: List::new(alloc),
+        tcps: List::new(alloc),
+        terminals: List::new(alloc),
+        rule: LockRule::ReadersShare,
+    })
+}
+
+/// A program that displays two texts and stops.
+fn one_two(alloc: Global) -> Result<System, Memory>
+    ensures valid { IfOk result (λ system. IsValid system) }
+    ensures one { IfOk result (λ system. length system.programs ≡ 1) }
+{
+    let mut instrs = List::new(alloc);
+    instrs.push(Instr::Display(Bytes::from_slice(alloc, b"ONE")?))?;
+    instrs.push(Instr::Display(Bytes::from_slice(alloc, b"TWO")?))?;
+    instrs.push(Instr::StopRun)?;
+    system_of(alloc, instrs)
+}
+
+/// Asserts what is printed of the screen: the rows that are not blank.
+fn expect_lines(
+    rt: &(impl Abort + AllocGlobal),
+    context: &Context,
+    lines: &[u8],
+) -> Result<(), Fail> {
+    let text = refresh_text(rt.alloc(), &context.screen)?;
+    assert_eq!(rt; text.as_slice(), lines);
+    Ok(())
+}
+
+#[test]
+fn each_display_is_shown(rt: HostRuntime) -> Result<(), Fail> {
+    let system = one_two(rt.alloc())?;
+    let mut context = start(rt.alloc(), &system, 0)?;
+    assert_eq!(rt; verb(&system, &mut context)?, Verb::Show);
+    expect_lines(&rt, &context, b"24|ONE\n")?;
+    answer(&system, &mut context, Answer::Shown)?;
+    assert_eq!(rt; context.shown, 1);
+    assert_eq!(rt; verb(&system, &mut context)?, Verb::Show);
+    expect_lines(&rt, &context, b"24|TWO\n")?;
+    answer(&system, &mut context, Answer::Shown)?;
+    assert_eq!(rt; context.shown, 2);
+    assert_eq!(rt; verb(&system, &mut context)?, Verb::Stop);
+    expect_lines(&rt, &context, b"24|TWO\n")?;
+    Ok(())
+}
+
+#[test]
+fn a_program_without_instructions_stops(rt: HostRuntime) -> Result<(), Fail> {
+    let system = system_of(rt.alloc(), List::new(rt.alloc()))?;
+    let mut context = start(rt.alloc(), &system, 0)?;
+    assert_eq!(rt; verb(&system, &mut context)?, Verb::Stop);
+    assert_eq!(rt; context.shown, 0);
+    Ok(())
+}
+
+#[test]
+fn a_context_behind_the_last_instruction_stops(rt: HostRuntime) -> Result<(), Fail> {
+    let mut instrs = List::new(rt.alloc());
+    instrs.push(Instr::Display(Bytes::from_slice(rt.alloc(), b"ONE")?))?;
+    let system = system_of(rt.alloc(), instrs)?;
+    let mut context = start(rt.alloc(), &system, 0)?;
+    context.at = 1;
+    assert_eq!(rt; verb(&system, &mut context)?, Verb::Stop);
+    assert_eq!(rt; context.at, 1);
+    Ok(())
+}
