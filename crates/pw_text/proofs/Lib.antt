@@ -1,0 +1,6 @@
+mod Endings
+mod Examples
+mod Quotes
+mod Runs
+mod Spans
+mod Steps

@@ -1,0 +1,84 @@
+-- One item after the other.
+use Rattle.std.proofs.Common.{◌≡◌, ℕ, zero, suc, ◌+◌, ◌-◌, ◌<◌, false, List, [], ◌∷◌, ◌++◌, length, drop, Option, None, Result, refl, sym, ap, ◌∙◌, append_assoc, add-zero, arith}
+use Rattle.std.proofs.lemmas.List.{append-nil}
+use Rattle.std.specs.Prelude.{◌==◌}
+use Rattle.pw_base.specs.declared.fault.Fault.{Fault}
+use Rattle.pw_base.specs.First.{least, unless}
+use Rattle.pw_base.proofs.FirstFault.{least-append}
+use Rattle.pw_text.specs.declared.token.Token.{Token}
+use Rattle.pw_text.specs.declared.item.Item.{Item}
+use Rattle.pw_text.specs.declared.item.Place.{Place}
+use Rattle.pw_text.specs.declared.item.Place.TheVariants.{LineStart}
+use Rattle.pw_text.specs.Bytes.{bad_bytes}
+use Rattle.pw_text.specs.Items.{item_at}
+use Rattle.pw_text.specs.Tokens.{Placed, items_from, items_of, line_after, tokens_at, faults_at, tokens_in, faults_in, tokens_of}
+
+-- what a text gives, of which a fault and tokens are known, and these items are left
+abbrev pub finish : Option Fault → List Token → List Placed → Result (List Token) Fault
+finish known tokens items = unless (least known (faults_in items)) (tokens ++ tokens_in items)
+
+-- an item of a line, from a start on
+abbrev placed : Item → ℕ → ℕ → Placed
+placed item line start = record { piece = item.piece; line = line; start = start; end = start + item.size }
+
+-- bytes that belong to the item before are passed over
+skips : (k : ℕ) (place : Place) (at line : ℕ) (bs : List ℕ) → items_from k place at line bs ≡ items_from 0 place (at + k) line (drop k bs)
+unfolding items_from
+skips zero place at line bs = rw add-zero refl
+skips (suc k) place at line [] = refl
+skips (suc k) place at line (b ∷ bs) =
+    let further : at + 1 + k ≡ at + suc k = omega arith in
+    skips k place (at + 1) line bs ∙ ap (λ n. items_from 0 place n line (drop k bs)) further
+
+-- an item of a size is passed over
+behind : (size : ℕ) (place : Place) (at line b : ℕ) (bs : List ℕ) → 0 < size → items_from (size - 1) place (at + 1) line bs ≡ items_from 0 place (at + size) line (drop size (b ∷ bs))
+behind zero place at line b bs some = absurd (omega arith)
+behind (suc k) place at line b bs some =
+    let less : suc k - 1 ≡ k = omega arith in
+    let further : at + 1 + k ≡ at + suc k = omega arith in
+    ap (λ n. items_from n place (at + 1) line bs) less ∙ skips k place (at + 1) line bs ∙ ap (λ n. items_from 0 place n line (drop k bs)) further
+
+-- the first item, and those behind it
+items_step : (place : Place) (at line : ℕ) (bytes : List ℕ) (item : Item) → 0 < length bytes → item ≡ item_at place bytes → 0 < item.size
+    → items_from 0 place at line bytes ≡ placed item line at ∷ items_from 0 item.next (at + item.size) (line_after item.piece line) (drop item.size bytes)
+unfolding items_from
+items_step place at line [] item left is some = absurd (omega arith)
+items_step place at line (b ∷ bs) item left is some =
+    ap (λ (i : Item). placed i line at ∷ items_from (i.size - 1) i.next (at + 1) (line_after i.piece line) bs) (sym is)
+    ∙ ap (λ (rest : List Placed). placed item line at ∷ rest) (behind item.size item.next at (line_after item.piece line) b bs some)
+
+-- one item is read
+pub finish_step : (place : Place) (at line : ℕ) (bytes : List ℕ) (item : Item) (known : Option Fault) (tokens : List Token) → 0 < length bytes → item ≡ item_at place bytes → 0 < item.size
+    → finish known tokens (items_from 0 place at line bytes)
+    ≡ finish (least known (faults_at item.piece line)) (tokens ++ tokens_at item.piece line at (at + item.size)) (items_from 0 item.next (at + item.size) (line_after item.piece line) (drop item.size bytes))
+finish_step place at line bytes item known tokens left is some =
+    let rest : List Placed = items_from 0 item.next (at + item.size) (line_after item.piece line) (drop item.size bytes) in
+    ap (finish known tokens) (items_step place at line bytes item left is some)
+    ∙ ap (λ (k : Option Fault). unless k (tokens ++ (tokens_at item.piece line at (at + item.size) ++ tokens_in rest))) (least-append known (faults_at item.piece line) (faults_in rest))
+    ∙ ap (unless (least (least known (faults_at item.piece line)) (faults_in rest))) (sym (append_assoc tokens (tokens_at item.piece line at (at + item.size)) (tokens_in rest)))
+
+-- before the first item the bad bytes are known
+pub finish_first : (text : List ℕ) (line : ℕ) → finish (least None (bad_bytes line text)) [] (items_from 0 LineStart 0 line text) ≡ tokens_of text line
+finish_first text line = ap (λ (k : Option Fault). unless k (tokens_in (items_of text line))) (sym (least-append None (bad_bytes line text) (faults_in (items_of text line))))
+
+-- behind the last byte
+pub finish_last : (place : Place) (at line : ℕ) (bytes : List ℕ) (known : Option Fault) (tokens : List Token) → length bytes ≡ 0 → finish known tokens (items_from 0 place at line bytes) ≡ unless known tokens
+unfolding items_from
+finish_last place at line [] known tokens none = ap (unless known) (append-nil tokens)
+finish_last place at line (b ∷ bs) known tokens none = absurd (omega arith)
+
+-- one item further
+pub finish_further : (place : Place) (at line : ℕ) (bytes : List ℕ) (item : Item) (known : Option Fault) (tokens : List Token) (whole : Result (List Token) Fault)
+    (next_known : Option Fault) (next_tokens : List Token) (next_line : ℕ) (next_bytes : List ℕ)
+    → next_known ≡ least known (faults_at item.piece line) → next_tokens ≡ tokens ++ tokens_at item.piece line at (at + item.size)
+    → next_line ≡ line_after item.piece line → next_bytes ≡ drop item.size bytes
+    → 0 < length bytes → item ≡ item_at place bytes → 0 < item.size
+    → finish known tokens (items_from 0 place at line bytes) ≡ whole
+    → finish next_known next_tokens (items_from 0 item.next (at + item.size) next_line next_bytes) ≡ whole
+finish_further place at line bytes item known tokens whole next_known next_tokens next_line next_bytes known_is tokens_is line_is bytes_is left is some so_far =
+    rw (known_is, tokens_is, line_is, bytes_is) (sym (finish_step place at line bytes item known tokens left is some) ∙ so_far)
+
+-- some bytes are left
+pub some_left : (bytes : List ℕ) → false ≡ (length bytes == 0) → 0 < length bytes
+some_left [] some = absurd cc
+some_left (b ∷ bs) some = omega arith

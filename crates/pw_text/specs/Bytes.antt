@@ -1,0 +1,67 @@
+-- The bytes of a text, and those that may not stand in its lines.
+use Rattle.std.specs.Prelude.{ℕ, ◌+◌, List, [], ◌∷◌, ◌++◌, Bool, false, not, ◌&&◌, ◌||◌, nat_lt, nat_le, ◌==◌, length, take_while, if◌then◌else◌}
+use Rattle.pw_base.specs.declared.fault.Fault.{Fault}
+
+-- A to Z or a to z
+abbrev pub is_letter : ℕ → Bool
+is_letter b = (nat_le 65 b && nat_le b 90) || (nat_le 97 b && nat_le b 122)
+
+-- 0 to 9
+abbrev pub is_digit : ℕ → Bool
+is_digit b = nat_le 48 b && nat_le b 57
+
+-- + or -
+abbrev pub is_sign : ℕ → Bool
+is_sign b = b == 43 || b == 45
+
+-- a letter, a digit or a hyphen
+abbrev pub is_word_byte : ℕ → Bool
+is_word_byte b = is_letter b || (is_digit b || b == 45)
+
+-- a space, and a comma, a semicolon or | that separates as a space does
+abbrev pub is_separator : ℕ → Bool
+is_separator b = b == 32 || (b == 44 || (b == 59 || b == 124))
+
+-- what a picture has: every byte but a space, on its line
+abbrev pub is_picture_byte : ℕ → Bool
+is_picture_byte b = not (b == 32 || (b == 13 || b == 10))
+
+-- every byte but LF
+abbrev pub is_line_byte : ℕ → Bool
+is_line_byte b = not (b == 10)
+
+-- how many bytes in front pass the test
+abbrev pub run : (ℕ → Bool) → List ℕ → ℕ
+run test bytes = length (take_while test bytes)
+
+-- the byte in front passes the test
+abbrev pub begins_with : (ℕ → Bool) → List ℕ → Bool
+begins_with test [] = false
+begins_with test (b ∷ bs) = test b
+
+-- a sign counts where a digit follows it directly
+abbrev pub is_signed : ℕ → List ℕ → Bool
+is_signed b behind = is_sign b && begins_with is_digit behind
+
+-- LF stands in front, or CR and LF
+abbrev pub at_line_end : List ℕ → Bool
+at_line_end [] = false
+at_line_end (b ∷ bs) = b == 10 || (b == 13 && begins_with (λ c. c == 10) bs)
+
+-- the byte in front may not stand in a line: it is outside 0x20 to 0x7E
+abbrev pub is_bad : List ℕ → Bool
+is_bad [] = false
+is_bad (b ∷ bs) = not (at_line_end (b ∷ bs)) && (nat_lt b 32 || nat_lt 126 b)
+
+-- the line of the byte behind this one
+abbrev pub line_behind : ℕ → ℕ → ℕ
+line_behind b line = if b == 10 then line + 1 else line
+
+-- the fault, where it is one
+abbrev pub only_if : Bool → Fault → List Fault
+only_if is_fault fault = if is_fault then fault ∷ [] else []
+
+-- 101 for each byte that may not stand in its line, from a line on
+unfoldable pub bad_bytes : ℕ → List ℕ → List Fault
+bad_bytes line [] = []
+bad_bytes line (b ∷ bs) = only_if (is_bad (b ∷ bs)) (record { line = line; code = 101 }) ++ bad_bytes (line_behind b line) bs

@@ -1,0 +1,150 @@
+ghost use Rattle.std.specs.Prelude.{◌≡◌, ◌<◌, ◌≤◌, ◌+◌, ◌^◌, None, length, take_while};
+ghost use Rattle.pw_base.specs.First.{least};
+ghost use Rattle.pw_text.specs.Bytes.{is_letter, is_digit, is_sign, is_signed, is_word_byte, is_separator, is_picture_byte, is_line_byte, run, begins_with, is_bad, line_behind, bad_bytes};
+
+use pw_base::fault::{Fault, noted};
+
+/// The code of a byte that may not stand where it does.
+pub const BAD_CHARACTER: u16 = 101;
+
+pub fn is_letter(byte: u8) -> bool
+    ensures { result ≡ is_letter byte }
+{
+    (byte >= b'A' && byte <= b'Z') || (byte >= b'a' && byte <= b'z')
+}
+
+pub fn is_digit(byte: u8) -> bool
+    ensures { result ≡ is_digit byte }
+{
+    byte >= b'0' && byte <= b'9'
+}
+
+fn is_sign(byte: u8) -> bool
+    ensures { result ≡ is_sign byte }
+{
+    byte == b'+' || byte == b'-'
+}
+
+/// Whether a byte separates two tokens.
+pub fn is_separator(byte: u8) -> bool
+    ensures { result ≡ is_separator byte }
+{
+    byte == b' ' || (byte == b',' || (byte == b';' || byte == b'|'))
+}
+
+fn is_word_byte(byte: u8) -> bool
+    ensures { result ≡ is_word_byte byte }
+{
+    is_letter(byte) || (is_digit(byte) || byte == b'-')
+}
+
+fn is_picture_byte(byte: u8) -> bool
+    ensures { result ≡ is_picture_byte byte }
+{
+    !(byte == b' ' || (byte == b'\r' || byte == b'\n'))
+}
+
+/// How many letters, digits and hyphens stand in front.
+fn word_size(bytes: &[u8]) -> usize
+    ensures value { result ≡ run is_word_byte bytes.now }
+    ensures bound { result ≤ length bytes.now }
+{
+    bytes.iter().take_while(|byte| is_word_byte(**byte)).count()
+}
+
+/// How many bytes stand in front of the next space or of the end of the line.
+fn picture_size(bytes: &[u8]) -> usize
+    ensures value { result ≡ run is_picture_byte bytes.now }
+    ensures bound { result ≤ length bytes.now }
+{
+    bytes
+        .iter()
+        .take_while(|byte| is_picture_byte(**byte))
+        .count()
+}
+
+/// The letters, digits and hyphens in front.
+pub fn word_at(bytes: &[u8]) -> &[u8]
+    ensures { result.now ≡ take_while is_word_byte bytes.now }
+{
+    bytes.split_at(word_size(bytes)).0
+}
+
+/// The bytes in front of the next space or of the end of the line.
+pub fn picture_at(bytes: &[u8]) -> &[u8]
+    ensures { result.now ≡ take_while is_picture_byte bytes.now }
+{
+    bytes.split_at(picture_size(bytes)).0
+}
+
+/// How many digits stand in front.
+pub fn digit_count(bytes: &[u8]) -> usize
+    ensures value { result ≡ run is_digit bytes.now }
+    ensures bound { result ≤ length bytes.now }
+{
+    bytes.iter().take_while(|byte| is_digit(**byte)).count()
+}
+
+/// How many bytes are left of the line.
+pub fn line_size(bytes: &[u8]) -> usize
+    ensures value { result ≡ run is_line_byte bytes.now }
+    ensures bound { result ≤ length bytes.now }
+{
+    bytes.iter().take_while(|byte| **byte != b'\n').count()
+}
+
+/// Whether a byte is the sign of the number behind it.
+pub fn is_signed(byte: u8, behind: &[u8]) -> bool
+    ensures { result ≡ is_signed byte behind.now }
+{
+    is_sign(byte) && begins_with_digit(behind)
+}
+
+/// Whether a digit stands in front.
+fn begins_with_digit(bytes: &[u8]) -> bool
+    ensures { result ≡ begins_with is_digit bytes.now }
+{
+    match bytes {
+        [byte, ..] => is_digit(*byte),
+        [] => false,
+    }
+}
+
+/// Whether the byte in front is outside 0x20 to 0x7E and no part of the end of a line.
+fn is_bad(bytes: &[u8]) -> bool
+    ensures { result ≡ is_bad bytes.now }
+{
+    match bytes {
+        [b'\n', ..] | [b'\r', b'\n', ..] | [] => false,
+        [byte, ..] => *byte < b' ' || *byte > b'~',
+    }
+}
+
+/// The line of the byte behind this one.
+fn line_behind(byte: u8, line: u32) -> u32
+    requires { line + 1 < 2 ^ 32 }
+    ensures value { result ≡ line_behind byte line }
+    ensures bound { result ≤ line + 1 }
+{
+    if byte == b'\n' { line + 1 } else { line }
+}
+
+/// The first fault of the bytes that may not stand in their lines.
+pub fn first_bad_byte(text: &[u8], first_line: u32) -> Option<Fault>
+    requires { first_line + length text.now < 2 ^ 32 }
+    ensures { result ≡ least None (bad_bytes first_line text.now) }
+{
+    let mut known = None;
+    let mut line = first_line;
+    let mut rest = text;
+    while let Some((byte, behind)) = rest.split_first() {
+        let bad_character = Fault {
+            line,
+            code: BAD_CHARACTER,
+        };
+        known = noted(known, is_bad(rest), bad_character);
+        line = line_behind(*byte, line);
+        rest = behind;
+    }
+    known
+}

@@ -1,0 +1,33 @@
+use crate::token::TokenKind;
+
+/// What stands at the front of a text.
+#[derive(Clone, Copy)]
+pub enum Piece {
+    Token(TokenKind),
+    /// A fault, by its code.
+    Fault(u16),
+    /// A separator or a comment.
+    Gap,
+    LineEnd,
+}
+
+/// Where in its line something stands.
+#[derive(Clone, Copy)]
+pub enum Place {
+    /// At the first byte of the line.
+    LineStart,
+    /// Further on.
+    InLine,
+    /// Behind the word PIC or PICTURE.
+    BehindPic,
+    /// Behind the word IS that follows PIC or PICTURE.
+    BehindIs,
+}
+
+/// A piece of a text: its size in bytes, and the place behind it.
+#[derive(Clone, Copy)]
+pub struct Item {
+    pub piece: Piece,
+    pub size: usize,
+    pub next: Place,
+}

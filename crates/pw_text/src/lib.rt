@@ -1,0 +1,11 @@
+//! The tokens of a source text.
+#![tactic(auto)]
+
+mod bytes;
+mod item;
+mod items;
+mod quoted;
+#[cfg(test)]
+mod tests;
+pub mod token;
+pub mod tokens;

@@ -1,0 +1,177 @@
+ghost use Rattle.std.specs.Prelude.{◌≡◌};
+ghost use Rattle.pw_words.specs.Texts.{requester_words, server_words, pathcom_words, refusal_texts};
+
+use crate::table::Table;
+
+/// The rows of a language: the verbs, the other words of both languages, and the given ones.
+macro_rules! language {
+    ($($own:literal),* $(,)?) => {
+        &[
+            b"ACCEPT",
+            b"ABORT-TRANSACTION",
+            b"ADD",
+            b"BEGIN-TRANSACTION",
+            b"CALL",
+            b"DELETE",
+            b"DISPLAY",
+            b"DIVIDE",
+            b"END-TRANSACTION",
+            b"EXIT",
+            b"IF",
+            b"MOVE",
+            b"MULTIPLY",
+            b"PERFORM",
+            b"READ",
+            b"RESTART-TRANSACTION",
+            b"REWRITE",
+            b"SEND",
+            b"STOP",
+            b"SUBTRACT",
+            b"WRITE",
+            b"ELSE",
+            b"END-IF",
+            b"THEN",
+            b"AND",
+            b"OR",
+            b"NOT",
+            b"IS",
+            b"NUMERIC",
+            b"EQUAL",
+            b"GREATER",
+            b"LESS",
+            b"THAN",
+            b"TO",
+            b"FROM",
+            b"BY",
+            b"INTO",
+            b"GIVING",
+            b"ON",
+            b"SIZE",
+            b"ERROR",
+            b"TIMES",
+            b"UNTIL",
+            b"ONE",
+            b"OF",
+            b"DEPENDING",
+            b"PROGRAM",
+            b"RUN",
+            b"SPACE",
+            b"SPACES",
+            b"ZERO",
+            b"ZEROS",
+            b"ZEROES",
+            b"FILLER",
+            b"PIC",
+            b"PICTURE",
+            b"VALUE",
+            b"OCCURS",
+            b"DIVISION",
+            b"SECTION",
+            $($own),*
+        ]
+    };
+}
+
+/// The given rows.
+macro_rules! rows {
+    ($($row:literal),* $(,)?) => {
+        &[$($row),*]
+    };
+}
+
+/// The words of a requester: the verbs, then the other words of both languages, then its own.
+pub fn requester_words() -> Table<68>
+    ensures { result ≡ requester_words }
+{
+    const ROWS: &[&[u8]] = language![
+        b"BASE",
+        b"AT",
+        b"USING",
+        b"REPLY",
+        b"CODE",
+        b"YIELDS",
+        b"TERMINATION-STATUS",
+        b"RESTART-COUNTER",
+    ];
+    Table { rows: ROWS }
+}
+
+/// The words of a server: the verbs, then the other words of both languages, then its own, of
+/// which WITH and LOCK are the last.
+pub fn server_words() -> Table<67>
+    ensures { result ≡ server_words }
+{
+    const ROWS: &[&[u8]] = language![
+        b"$RECEIVE",
+        b"NEXT",
+        b"KEY",
+        b"AFTER",
+        b"FILE-STATUS",
+        b"WITH",
+        b"LOCK",
+    ];
+    Table { rows: ROWS }
+}
+
+/// The words of the commands.
+pub fn pathcom_words() -> Table<10>
+    ensures { result ≡ pathcom_words }
+{
+    const ROWS: &[&[u8]] = rows![
+        b"SET",
+        b"ADD",
+        b"START",
+        b"TCP",
+        b"TERM",
+        b"SERVER",
+        b"INITIAL",
+        b"PROGRAM",
+        b"MAXSERVERS",
+        b"MAXTMFRESTARTS",
+    ];
+    Table { rows: ROWS }
+}
+
+/// The texts of the refusals, in the order of their codes.
+pub fn refusal_texts() -> Table<35>
+    ensures { result ≡ refusal_texts }
+{
+    const ROWS: &[&[u8]] = rows![
+        b"BAD CHARACTER",
+        b"UNCLOSED LITERAL",
+        b"WORD TOO LONG",
+        b"NUMBER TOO LONG",
+        b"BAD PICTURE",
+        b"BAD DATA ENTRY",
+        b"NAME TWICE",
+        b"UNKNOWN ITEM",
+        b"STORAGE TOO LARGE",
+        b"NO SUCH FORM",
+        b"NO IF",
+        b"PARAGRAPH TWICE",
+        b"FIELD OUTSIDE",
+        b"FIELDS OVERLAP",
+        b"BAD CLAUSE",
+        b"BAD DIVISION",
+        b"NOT FOR SERVERS",
+        b"UNKNOWN PARAGRAPH",
+        b"UNKNOWN NAME",
+        b"WRONG LENGTH",
+        b"WRONG KIND",
+        b"BAD LOG LINE",
+        b"BAD FAILURE LINE",
+        b"BAD COMMAND",
+        b"ADDED TWICE",
+        b"UNKNOWN OBJECT",
+        b"OUT OF RANGE",
+        b"BAD START",
+        b"INPUT TOO LONG",
+        b"BAD SECTION",
+        b"END MISSING",
+        b"SECTION TWICE",
+        b"BAD RECORD",
+        b"BAD ENTRY",
+        b"TOO MANY",
+    ];
+    Table { rows: ROWS }
+}
