@@ -1,0 +1,12 @@
+//! The server classes: which requests wait for which class, and which process works on which.
+#![tactic(auto)]
+
+pub mod book;
+mod classes;
+pub mod laws;
+mod queue;
+pub mod request;
+#[cfg(test)]
+mod tests;
+mod twin;
+mod work;

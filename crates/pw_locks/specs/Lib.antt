@@ -1,0 +1,4 @@
+pub mod Conflicts
+pub mod Keys
+pub mod Oldest
+pub mod Spans

@@ -1,0 +1,60 @@
+ghost use Rattle.std.specs.Prelude.{◌≡◌, IfOk};
+ghost use Rattle.pw_locks.specs.Conflicts.{is_same_unit, are_both_shared, exclude, conflict, lock_of};
+
+use crate::span::Span;
+use pw_base::memory::Memory;
+use pw_code::lock::LockMode;
+use pw_code::unit::Unit;
+use std::alloc::Global;
+
+/// A lock that a unit holds.
+#[derive(Debug, Drop)]
+pub struct Lock {
+    pub unit: Unit,
+    /// The number of the file, from 0.
+    pub file: u32,
+    pub span: Span,
+    pub mode: LockMode,
+}
+
+/// Whether two are one unit: a unit is known by its terminal and its number.
+pub fn is_same_unit(unit: &Unit, other: &Unit) -> bool
+    ensures { result ≡ is_same_unit unit.now other.now }
+{
+    unit.terminal == other.terminal && unit.number == other.number
+}
+
+/// Whether both are shared.
+fn are_both_shared(mode: LockMode, other: LockMode) -> bool
+    ensures { result ≡ are_both_shared mode other }
+{
+    matches!((mode, other), (LockMode::Shared, LockMode::Shared))
+}
+
+impl Lock {
+    /// Whether this lock and one on `span` of `file` in this mode overlap and are not both shared.
+    pub fn excludes(&self, file: u32, span: &Span, mode: LockMode) -> bool
+        ensures { result ≡ exclude file span.now mode self.now }
+    {
+        file == self.file && (span.overlaps(&self.span) && !are_both_shared(mode, self.mode))
+    }
+
+    /// Whether this lock conflicts with one of `unit` on `span` of `file` in this mode.
+    pub fn conflicts(&self, unit: &Unit, file: u32, span: &Span, mode: LockMode) -> bool
+        ensures { result ≡ conflict (lock_of unit.now file span.now mode) self.now }
+    {
+        !is_same_unit(unit, &self.unit) && self.excludes(file, span, mode)
+    }
+
+    /// An equal value.
+    pub fn copy(&self, alloc: Global) -> Result<Lock, Memory>
+        ensures { IfOk result (λ lock. lock ≡ self.now) }
+    {
+        Ok(Lock {
+            unit: self.unit,
+            file: self.file,
+            span: self.span.copy(alloc)?,
+            mode: self.mode,
+        })
+    }
+}
