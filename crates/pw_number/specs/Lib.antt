@@ -1,0 +1,4 @@
+pub mod Arithmetic
+pub mod Number
+pub mod Order
+pub mod Sign

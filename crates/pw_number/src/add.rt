@@ -1,0 +1,71 @@
+ghost use Rattle.std.specs.Prelude.{◌≡◌, ◌<◌, ◌≤◌, ◌^◌, Bool, false, FitsSigned, IfSome, IfNone, unsigned_abs};
+ghost use Rattle.std.specs.Int.{w128};
+ghost use Rattle.std.specs.Option.{SomeIff};
+ghost use Rattle.pw_number.specs.Number.{number, is_short};
+ghost use Rattle.pw_number.specs.Arithmetic.{sized, raised, common, sum, difference};
+
+use crate::power::power_of_ten;
+use crate::scaled::{MAX_PLACES, Scaled};
+use crate::size_error::SizeError;
+
+/// The number with these units and places, where the units have at most 30 digits.
+pub(crate) fn sized(units: i128, places: u8) -> Result<Scaled, SizeError>
+    requires { places ≤ 18 }
+    ensures { result ≡ sized (number units places) }
+{
+    Scaled::new(units, places).ok_or(SizeError)
+}
+
+impl Scaled {
+    /// The units of the same value at more places, where they fit.
+    pub(crate) fn raised(self, places: u8) -> Option<i128>
+        requires more { self.places ≤ places }
+        requires few { places ≤ 18 }
+        ensures units { SomeIff result (FitsSigned w128 (raised places self)) (raised places self) }
+        ensures bound { unsigned_abs self.units < 10 ^ 30 }
+    {
+        self.units()
+            .checked_mul(power_of_ten(places - self.places()) as i128)
+    }
+
+    /// The larger of the places of two numbers.
+    pub(crate) fn common_places(self, other: Scaled) -> u8
+        ensures places { result ≡ common self other }
+        ensures few { result ≤ 18 }
+    {
+        self.places().max(other.places())
+    }
+
+    /// The units of two numbers at the larger of their places, where both fit. Where one does not,
+    /// it is too large for the other to make up for.
+    fn aligned(self, other: Scaled) -> Option<(i128, i128)>
+        ensures units { IfSome result (λ pair. (pair.0 ≡ raised (common self other) self) × (pair.1 ≡ raised (common self other) other)) }
+        ensures sum { IfNone result (is_short (sum self other) ≡ false) }
+        ensures difference { IfNone result (is_short (difference self other) ≡ false) }
+    {
+        let places = self.common_places(other);
+        let left = self.raised(places);
+        let right = other.raised(places);
+        left.zip(right)
+    }
+
+    /// The exact sum, at the larger of the two places. It is SizeError exactly where the sum has
+    /// more than 30 digits.
+    pub fn add(self, other: Scaled) -> Result<Scaled, SizeError>
+        ensures { result ≡ sized (sum self other) }
+    {
+        let (left, right) = self.aligned(other).ok_or(SizeError)?;
+        let units = left.checked_add(right).ok_or(SizeError)?;
+        sized(units, self.common_places(other))
+    }
+
+    /// The exact difference, at the larger of the two places. It is SizeError exactly where the
+    /// difference has more than 30 digits.
+    pub fn subtract(self, other: Scaled) -> Result<Scaled, SizeError>
+        ensures { result ≡ sized (difference self other) }
+    {
+        let (left, right) = self.aligned(other).ok_or(SizeError)?;
+        let units = left.checked_sub(right).ok_or(SizeError)?;
+        sized(units, self.common_places(other))
+    }
+}

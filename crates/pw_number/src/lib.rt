@@ -1,0 +1,14 @@
+//! Decimal numbers with a fixed number of places: exact sums, differences and products, quotients
+//! that are cut toward zero, and the order of the values.
+#![tactic(auto)]
+
+pub mod add;
+pub mod compare;
+pub mod divide;
+pub mod laws;
+pub mod multiply;
+mod power;
+pub mod scaled;
+pub mod size_error;
+#[cfg(test)]
+mod tests;

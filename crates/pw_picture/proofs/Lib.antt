@@ -1,0 +1,4 @@
+pub mod Counts
+pub mod DigitSymbols
+pub mod Digits
+pub mod Reading

@@ -1,0 +1,5 @@
+pub mod Edited
+pub mod Grammar
+pub mod Stored
+pub mod Symbols
+pub mod Text

@@ -1,0 +1,18 @@
+//! Pictures of items: which texts are one, and how numbers and texts are held by them.
+#![tactic(auto)]
+
+pub mod edit;
+mod edited;
+pub mod fault;
+pub mod grammar;
+mod kind;
+pub mod laws;
+mod number;
+pub mod picture;
+mod power;
+mod read;
+mod store;
+mod symbols;
+#[cfg(test)]
+mod tests;
+pub mod text;

@@ -1,0 +1,131 @@
+ghost use Rattle.std.specs.Prelude.{◌≡◌, ◌%◌, ◌<◌, ◌≤◌, ◌^◌, ◌↔◌, length, IsTrue, IsOk, OnOk, OnErr, if◌then◌else◌, ◌+◌};
+ghost use Rattle.std.specs.Option.{SomeIff};
+ghost use Rattle.pw_picture.specs.Grammar.{IsPicture, size_of};
+ghost use Rattle.pw_picture.specs.Stored.{is_number, size_at, sign_of, digits_of, chars_of, is_negative, moved, is_kept};
+
+use crate::picture::Picture;
+use crate::power::power_of_ten;
+use pw_number::scaled::Scaled;
+use pw_number::size_error::SizeError;
+
+/// The digits of a number at these places, without a point, where they fit.
+fn size_at(value: Scaled, places: u8) -> Option<u128>
+    requires { places ≤ 18 }
+    ensures { SomeIff result (size_at places value < 2 ^ 128) (size_at places value) }
+{
+    let size = value.units().unsigned_abs();
+    if value.places() >= places {
+        Some(size / power_of_ten(value.places() - places))
+    } else {
+        size.checked_mul(power_of_ten(places - value.places()))
+    }
+}
+
+/// The low digits of a number at these places, without a point.
+pub fn low_digits(value: Scaled, places: u8, digits: u8) -> u64
+    requires places { places ≤ 18 }
+    requires digits { digits ≤ 18 }
+    ensures { result ≡ size_at places value % 10 ^ digits }
+{
+    let size = value.units().unsigned_abs();
+    let end = power_of_ten(digits);
+    let low = if value.places() >= places {
+        size / power_of_ten(value.places() - places)
+    } else {
+        size % end * power_of_ten(places - value.places())
+    };
+    (low % end) as u64
+}
+
+/// The sign of a number that shows these digits.
+fn sign_of(negative: bool, size: u64) -> u8
+    ensures { result ≡ sign_of negative size }
+{
+    if negative && size != 0 { b'-' } else { b'+' }
+}
+
+/// Writes the low digits of a value.
+fn write_digits(size: u64, into: &mut [u8])
+    ensures { into.new ≡ digits_of (length into.old) size }
+{
+    let mut rest = size;
+    let mut at = into.len();
+    while at > 0 {
+        at -= 1;
+        into[at] = b'0' + (rest % 10) as u8;
+        rest /= 10;
+    }
+}
+
+/// Writes the low digits of a value, with a sign in front where there is one.
+fn write_chars(digits: u8, sign: bool, negative: bool, size: u64, into: &mut [u8])
+    requires { length into.old ≡ (if sign then digits + 1 else digits) }
+    ensures { into.new ≡ chars_of digits sign negative size }
+{
+    if sign {
+        let (front, back) = into.split_at_mut(1);
+        front[0] = sign_of(negative, size);
+        write_digits(size, back);
+    } else {
+        write_digits(size, into);
+    }
+}
+
+impl Picture {
+    /// Whether `store` takes a value: no integer digit is lost, and a negative value meets a sign.
+    fn keeps(&self, value: Scaled) -> bool
+        requires { IsPicture self.now }
+        ensures { result ≡ is_kept self.now value }
+    {
+        let Picture::Number {
+            digits,
+            places,
+            signed,
+        } = self
+        else {
+            return false;
+        };
+        match size_at(value, *places) {
+            Some(size) => size < power_of_ten(*digits) && (*signed || value.units() >= 0),
+            None => false,
+        }
+    }
+
+    /// Moves a number into an item: decimals beyond the picture's are cut, high digits are dropped,
+    /// and the sign where there is none. The picture is a Number.
+    pub fn move_to(&self, value: Scaled, into: &mut [u8])
+        requires picture { IsPicture self.now }
+        requires number { IsTrue (is_number self.now) }
+        requires size { length into.old ≡ size_of self.now }
+        ensures { into.new ≡ moved self.now value }
+    {
+        if let Picture::Number {
+            digits,
+            places,
+            signed,
+        } = self
+        {
+            let size = low_digits(value, *places, *digits);
+            write_chars(*digits, *signed, value.units() < 0, size, into);
+        }
+    }
+
+    /// Stores a number in an item: decimals beyond the picture's are cut. The picture is a Number.
+    ///
+    /// It is SizeError exactly where an integer digit would be lost, or a negative value meets no
+    /// sign. Then nothing is stored.
+    pub fn store(&self, value: Scaled, into: &mut [u8]) -> Result<(), SizeError>
+        requires picture { IsPicture self.now }
+        requires number { IsTrue (is_number self.now) }
+        requires size { length into.old ≡ size_of self.now }
+        ensures stores { OnOk result (into.new ≡ moved self.now value) }
+        ensures succeeds { IsOk result ↔ IsTrue (is_kept self.now value) }
+        ensures err { OnErr result (into.new ≡ into.old) }
+    {
+        if !self.keeps(value) {
+            return Err(SizeError);
+        }
+        self.move_to(value, into);
+        Ok(())
+    }
+}
