@@ -66,3 +66,7 @@ abbrev pub is_kept : Picture → Number → Bool
 is_kept (picture.Text size) n = false
 is_kept (picture.Number digits places sign) n = nat_lt (size_at places n) (10 ^ digits) && (sign || not (is_negative n))
 is_kept (picture.Edited symbols) n = false
+
+-- the characters of an item after a number was stored, or refused: those that it had
+abbrev pub stored : Picture → Number → List ℕ → List ℕ
+stored p n chars = if is_kept p n then moved p n else chars

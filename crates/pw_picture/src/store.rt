@@ -1,7 +1,7 @@
-ghost use Rattle.std.specs.Prelude.{◌≡◌, ◌%◌, ◌<◌, ◌≤◌, ◌^◌, ◌↔◌, length, IsTrue, IsOk, OnOk, OnErr, if◌then◌else◌, ◌+◌};
+ghost use Rattle.std.specs.Prelude.{◌≡◌, ◌%◌, ◌<◌, ◌≤◌, ◌^◌, ◌↔◌, length, IsTrue, IsOk, if◌then◌else◌, ◌+◌};
 ghost use Rattle.std.specs.Option.{SomeIff};
 ghost use Rattle.pw_picture.specs.Grammar.{IsPicture, size_of};
-ghost use Rattle.pw_picture.specs.Stored.{is_number, size_at, sign_of, digits_of, chars_of, is_negative, moved, is_kept};
+ghost use Rattle.pw_picture.specs.Stored.{is_number, size_at, sign_of, digits_of, chars_of, is_negative, moved, is_kept, stored};
 
 use crate::picture::Picture;
 use crate::power::power_of_ten;
@@ -118,9 +118,8 @@ impl Picture {
         requires picture { IsPicture self.now }
         requires number { IsTrue (is_number self.now) }
         requires size { length into.old ≡ size_of self.now }
-        ensures stores { OnOk result (into.new ≡ moved self.now value) }
         ensures succeeds { IsOk result ↔ IsTrue (is_kept self.now value) }
-        ensures err { OnErr result (into.new ≡ into.old) }
+        ensures chars { into.new ≡ stored self.now value into.old }
     {
         if !self.keeps(value) {
             return Err(SizeError);

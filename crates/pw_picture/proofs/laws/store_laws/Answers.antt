@@ -2,5 +2,5 @@
 use Rattle.pw_picture.proofs.Reading.{read-moved}
 use Rattle.pw_picture.proofs.laws.store_laws.Goals as goal
 
-pub returns : goal.returns
-returns c = read-moved
+pub returns-clause-read : goal.returns-clause-read
+returns-clause-read c = read-moved
