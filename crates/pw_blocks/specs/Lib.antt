@@ -1,0 +1,4 @@
+pub mod Blocks
+pub mod Cuts
+pub mod Packing
+pub mod Seats

@@ -1,0 +1,12 @@
+//! Record files in blocks: records packed into blocks of bytes, in the order of their keys, and an
+//! index of the blocks' first keys.
+#![tactic(auto)]
+
+mod block;
+pub mod block_file;
+mod cut;
+mod packing;
+mod pieces;
+mod splice;
+#[cfg(test)]
+mod tests;
