@@ -1,7 +1,8 @@
 #!/usr/bin/env bash
 # What a call of each form of record file costs, for 1,000, 10,000 and 100,000 records of 100 bytes, in microseconds, and
 # by how much that grows from 1,000 to 100,000 records. A find or a next is the time of a run with these calls less that of
-# one without them. It is no part of the gate. It proves and builds a program of its own in a temporary folder first.
+# one without them, so each is made 20 times for a record: the two runs of a sorted file differ by chance too. It is no
+# part of the gate. It proves and builds a program of its own in a temporary folder first.
 set -eu
 here=$(cd "$(dirname "$0")" && pwd)
 work=${1:-$(mktemp -d)}
@@ -22,7 +23,7 @@ build() {
     [ -x "$program" ] || { cat "$work/build.log" >&2; exit 1; }
 }
 
-# The nanoseconds of the shortest of three runs, each of 100,000 calls in all on files of so many records.
+# The nanoseconds of the shortest of three runs, each of 100,000 inserts in all into files of so many records.
 run() {
     local best=0 before spent
     for _ in 1 2 3; do
@@ -41,10 +42,14 @@ for form in sorted blocks; do
         for count in 1000 10000 100000; do
             whole=$(run "$form" "$call" "$count")
             less=0
-            [ "$call" = insert ] || less=$(run "$form" insert "$count")
-            echo "$((whole - less))"
+            calls=100000
+            if [ "$call" != insert ]; then
+                less=$(run "$form" insert "$count")
+                calls=2000000
+            fi
+            echo "$((whole - less)) $calls"
         done | awk -v name="$form $call" '
-            { cost[NR] = $1 / 100000 / 1000 }
+            { cost[NR] = $1 / $2 / 1000 }
             END { printf "%s %.2f %.2f %.2f %.1f\n", name, cost[1], cost[2], cost[3], cost[3] / cost[1] }'
     done
 done

@@ -10,7 +10,7 @@ takes [] = false
 takes (word ∷ []) = bytes_eq word (codes "run")
 takes (word ∷ next ∷ words) = false
 
--- the line at status 64
+-- the line that is written where the words are not the command's
 abbrev pub usage_line : List ℕ
 usage_line = codes "USAGE: pathway run\n"
 
