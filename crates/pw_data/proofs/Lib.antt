@@ -1,0 +1,13 @@
+pub mod Cells
+pub mod Forests
+pub mod Held
+pub mod Loops
+pub mod Named
+pub mod Outcomes
+pub mod Readings
+pub mod Repeats
+pub mod Sizes
+pub mod Steps
+pub mod StoreLaws
+pub mod Stores
+pub mod Within

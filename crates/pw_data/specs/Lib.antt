@@ -1,0 +1,9 @@
+pub mod Clauses
+pub mod Entries
+pub mod Laid
+pub mod Layouts
+pub mod Literals
+pub mod Names
+pub mod Parts
+pub mod Store
+pub mod Tree

@@ -1,0 +1,39 @@
+-- Names that two items have.
+use Rattle.std.specs.Prelude.{◌≡◌, ℕ, Vec, bytes_eq, List, [], ◌∷◌, ◌++◌, Bool, false, Option, Some, None, option_map}
+use Rattle.std.specs.List.{list_any}
+use Rattle.std.specs.Str.{str_to_ascii_lowercase}
+use Rattle.std.specs.BTreeSet.{BTreeSet}
+use Rattle.pw_base.specs.declared.fault.Fault.{Fault}
+use Rattle.pw_words.specs.Words.{Word, same_word}
+use Rattle.pw_data.specs.declared.entry.Entry.{Entry}
+use Rattle.pw_data.specs.Parts.{bytes_of}
+use Rattle.pw_data.specs.Entries.{only_if}
+
+-- the name of an entry, where it has one
+abbrev pub name_of : List ℕ → Entry → Option Word
+name_of text entry = option_map (bytes_of text) entry.name
+
+-- there is a name, and it is this word
+abbrev pub is_this_name : Option Word → Word → Bool
+is_this_name None word = false
+is_this_name (Some name) word = same_word name word
+
+-- one of the entries has the name, where there is one
+abbrev pub is_taken : List ℕ → List Entry → Option Word → Bool
+is_taken text entries None = false
+is_taken text entries (Some name) = list_any (λ entry. is_this_name (name_of text entry) name) entries
+
+-- one of the names that a set has in lower case is this word
+abbrev pub has_name : {A : Type 0} → BTreeSet (Vec ℕ A) → Word → Bool
+has_name names word = list_any (λ name. bytes_eq name.items (str_to_ascii_lowercase word)) names.keys
+
+-- the set has the names of some entries
+abbrev pub HasNamesOf : {A : Type 0} → List ℕ → List Entry → BTreeSet (Vec ℕ A) → Type 0
+HasNamesOf text entries names =
+    (word : Word) → has_name names word ≡ list_any (λ entry. is_this_name (name_of text entry) word) entries
+
+-- 122 for each entry with a name that one before it has
+abbrev pub clashes : List ℕ → List Entry → List Entry → List Fault
+clashes text before [] = []
+clashes text before (entry ∷ entries) =
+    only_if (is_taken text before (name_of text entry)) entry.line 122 ++ clashes text (before ++ entry ∷ []) entries

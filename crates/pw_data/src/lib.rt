@@ -1,0 +1,20 @@
+//! Working storage and linkage: the items of a program's data, where each lies in its storage, and
+//! the characters with which the storage begins.
+#![tactic(auto)]
+
+mod clauses;
+mod entries;
+mod entry;
+pub mod item;
+pub mod laws;
+mod lay;
+pub mod layout;
+pub mod literal;
+mod names;
+mod parts;
+pub mod read;
+mod storage;
+#[cfg(test)]
+mod tests;
+mod tree;
+pub mod words;

@@ -1,0 +1,83 @@
+ghost use Rattle.std.specs.Prelude.{◌≡◌, ◌||◌, ◌++◌, ◌∷◌, [], ℕ, List, IfOk, OnOk, option_copied};
+ghost use Rattle.std.specs.Str.{str_to_ascii_lowercase};
+ghost use Rattle.pw_base.specs.First.{least};
+ghost use Rattle.pw_words.specs.Words.{same_word};
+ghost use Rattle.pw_data.specs.declared.entry.Entry.{Entry};
+ghost use Rattle.pw_data.specs.Names.{name_of, is_taken, has_name, HasNamesOf, clashes};
+
+use crate::entry::{Entry, NAME_TWICE, fault};
+use crate::words::bytes_of;
+use pw_base::fault::{Fault, noted};
+use pw_base::memory::Memory;
+use std::alloc::Global;
+use std::collections::BTreeSet;
+
+/// The name of an entry.
+pub fn name_of<'a>(text: &'a [u8], entry: Entry) -> Option<&'a [u8]>
+    ensures { option_copied result ≡ name_of text.entry.now entry }
+{
+    match entry.name {
+        Some(token) => Some(bytes_of(text, token)),
+        None => None,
+    }
+}
+
+/// A name in lower case.
+fn in_lower_case(alloc: Global, name: &[u8]) -> Result<Vec<u8>, Memory>
+    ensures { IfOk result (λ folded. folded.items ≡ str_to_ascii_lowercase name.now) }
+{
+    Ok(
+        name.iter()
+            .map(|byte| byte.to_ascii_lowercase())
+            .collect(alloc)?,
+    )
+}
+
+/// Puts a name into a set of names in lower case. It gives whether the name was there.
+fn put_name(alloc: Global, name: &[u8], names: &mut BTreeSet<Vec<u8>>) -> Result<bool, Memory>
+    ensures taken { IfOk result (λ taken. taken ≡ has_name names.old name.now) }
+    ensures names { OnOk result ((word : List ℕ)
+        → has_name names.new word ≡ (same_word name.now word || has_name names.old word)) }
+{
+    let key = in_lower_case(alloc, name)?;
+    let is_new = names.insert(key)?;
+    Ok(!is_new)
+}
+
+/// Puts the name of an entry, where it has one, into a set of names in lower case. It gives whether the
+/// name was there.
+fn put_name_of(
+    alloc: Global,
+    text: &[u8],
+    entry: Entry,
+    names: &mut BTreeSet<Vec<u8>>,
+) -> Result<bool, Memory>
+    ensures taken { (entries : List Entry) → HasNamesOf text.now entries names.old
+        → IfOk result (λ taken. taken ≡ is_taken text.now entries (name_of text.now entry)) }
+    ensures names { OnOk result ((entries : List Entry) → HasNamesOf text.now entries names.old
+        → HasNamesOf text.now (entries ++ entry ∷ []) names.new) }
+{
+    match name_of(text, entry) {
+        Some(name) => put_name(alloc, name, names),
+        None => Ok(false),
+    }
+}
+
+/// The first of the fault that is known and of the entries with a name that an earlier one has, 122
+/// each.
+pub fn clashes(
+    alloc: Global,
+    text: &[u8],
+    entries: &[Entry],
+    known: Option<Fault>,
+) -> Result<Option<Fault>, Memory>
+    ensures { IfOk result (λ first. first ≡ least known (clashes text.now [] entries.now)) }
+{
+    let mut names = BTreeSet::new(alloc);
+    let mut known = known;
+    for entry in entries {
+        let taken = put_name_of(alloc, text, *entry, &mut names)?;
+        known = noted(known, taken, fault(entry.line, NAME_TWICE));
+    }
+    Ok(known)
+}
