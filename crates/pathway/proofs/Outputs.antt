@@ -7,9 +7,9 @@ use Rattle.pw_base.specs.declared.memory.Memory.{Memory}
 use Rattle.pw_base.specs.declared.read_all.TheConstants.{MAX_INPUT}
 use Rattle.pw_base.specs.Outside.{Rose, WritesAll}
 use Rattle.pw_base.specs.declared.fault.Fault.{Fault}
-use Rattle.pw_paired.specs.State.{starting}
-use Rattle.pw_paired.specs.Step.{IsRun}
-use Rattle.pw_paired.proofs.Serializes.{serializes}
+use Rattle.pw_display.specs.State.{starting}
+use Rattle.pw_display.specs.Step.{IsRun}
+use Rattle.pw_display.proofs.Serializes.{serializes}
 use Rattle.pw_deck.specs.Deck.{program_of, system_of}
 use Rattle.pw_report.specs.Report.{report_text}
 use Rattle.pathway.specs.declared.run.RunEnd.{RunEnd}

@@ -5,8 +5,8 @@ use Rattle.std.proofs.Math.ListN.{set}
 use Rattle.std.proofs.lemmas.List.{set-set}
 use Rattle.pw_event.specs.declared.event.Ending.{Ending}
 use Rattle.pw_event.specs.declared.event.Event.{Event}
-use Rattle.pw_paired.specs.State.{State}
-use Rattle.pw_paired.specs.Step.{all_ended}
+use Rattle.pw_display.specs.State.{State}
+use Rattle.pw_display.specs.Step.{all_ended}
 use Rattle.pw_world.specs.Told.{Told, state_after}
 use Rattle.pw_world.specs.Answers.{is_out, with_out, finished, IsLive, IsStep}
 use Rattle.pw_world.specs.declared.task.Actor.{Actor}

@@ -2,8 +2,8 @@
 use Rattle.std.specs.Prelude.{◌≡◌, ℕ, List, [], true, false}
 use Rattle.pw_code.specs.declared.system.System.{System}
 use Rattle.pw_event.specs.declared.event.Event.{Event}
-use Rattle.pw_paired.specs.State.{starting}
-use Rattle.pw_paired.specs.Step.{IsRun}
+use Rattle.pw_display.specs.State.{starting}
+use Rattle.pw_display.specs.Step.{IsRun}
 use Rattle.pw_report.specs.Report.{report_text}
 use Rattle.pw_world.specs.Behaviour.{behaviour}
 use Rattle.pw_world.specs.Told.{Told}

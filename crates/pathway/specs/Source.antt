@@ -4,7 +4,7 @@ use Rattle.pw_code.specs.declared.verb.Verb.{Verb}
 use Rattle.pw_code.specs.declared.verb.Verb.TheVariants.{Show, Stop}
 use Rattle.pw_code.specs.declared.verb.Answer.{Answer}
 use Rattle.pw_terminal.specs.Screen.{blank_cells, with_message}
-use Rattle.pw_paired.specs.System.{Sys}
+use Rattle.pw_display.specs.System.{Sys}
 
 -- the next verb of a program that has these texts to display, after a path
 abbrev pub ask : List (List ℕ) → List Answer → Verb

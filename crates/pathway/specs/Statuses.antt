@@ -4,9 +4,9 @@ use Rattle.std.specs.Io.KnownBytes.{Appends, Keeps}
 use Rattle.pw_base.specs.declared.fault.Fault.{Fault}
 use Rattle.pw_base.specs.Outside.{Rose}
 use Rattle.pw_event.specs.declared.event.Event.{Event}
-use Rattle.pw_paired.specs.State.{starting}
-use Rattle.pw_paired.specs.Step.{IsRun, after, is_finished}
-use Rattle.pw_paired.specs.Serial.{IsSerializable}
+use Rattle.pw_display.specs.State.{starting}
+use Rattle.pw_display.specs.Step.{IsRun, after, is_finished}
+use Rattle.pw_display.specs.Serial.{IsSerializable}
 use Rattle.pw_deck.specs.Deck.{program_of, system_of}
 use Rattle.pw_report.specs.Report.{report_text}
 use Rattle.pathway.specs.declared.status.TheConstants.{MAX_ENTRIES}

@@ -1,5 +1,6 @@
 ghost use Rattle.std.specs.Prelude.{◌≡◌, ◌<◌, ◌^◌, length, map, slice_get, slice_set, Some, IfOk, IfSome, IsSome, false, is_some, OnOk, OnErr};
 ghost use Rattle.std.specs.Option.{option_copied};
+ghost use Rattle.pw_code.specs.Valid.{IsValid};
 
 use crate::classes::{cancel_all, class_with};
 use crate::queue::Queue;
@@ -31,13 +32,11 @@ impl ClassBook {
     ghost use Rattle.pw_class.specs.Queue.{with_request, taken, after_take, with_free, without};
     ghost use Rattle.pw_class.specs.Book.{first_queue, queue_at, request_at, is_out, IsAt};
 
-    /// The book of a system's classes, with no request. A system of 2^32 classes or more counts as want of memory.
+    /// The book of a valid system's classes, with no request.
     pub fn new(alloc: Global, system: &System) -> Result<ClassBook, Memory>
+        requires { IsValid system.now }
         ensures { IfOk result (λ book. book ≡ map first_queue system.now.classes) }
     {
-        if system.classes.len() >= 1 << 32 {
-            return Err(Memory);
-        }
         let mut classes = Vec::new(alloc);
         for class in system.classes.as_slice() {
             classes.push(Queue::new(alloc, class.processes)?)?;

@@ -1,33 +1,80 @@
+ghost use Rattle.std.specs.Prelude.{◌≡◌, ◌≤◌, [], length, map, All, IfOk};
+ghost use Rattle.pw_code.specs.Names.{AreNames};
+ghost use Rattle.pw_code.specs.Valid.{IsValid};
+
 use crate::book::ClassBook;
 use crate::laws::take_laws;
 use crate::request::{Place, Request, Taken};
 use pw_base::bytes::Bytes;
 use pw_base::list::List;
 use pw_base::memory::Memory;
+use pw_code::code::Code;
 use pw_code::lock::LockRule;
 use pw_code::system::{ClassInfo, System};
 use std::alloc::Global;
 use std::process::Abort;
 use std::test::Fail;
 
-/// A system with classes of these numbers of processes.
-fn system_of(alloc: Global, processes: &[u32]) -> Result<System, Memory> {
-    let mut classes = List::new(alloc);
-    for &count in processes {
-        classes.push(ClassInfo {
-            name: Bytes::new(alloc),
-            server: 0,
-            processes: count,
-        })?;
-    }
+/// The program of a server that does nothing.
+fn server(alloc: Global) -> Result<Code, Memory>
+    ensures { IfOk result (λ code. code.instrs ≡ []) }
+{
+    Ok(Code {
+        name: Bytes::from_slice(alloc, b"SERVER")?,
+        instrs: List::new(alloc),
+    })
+}
+
+/// A class of the first server.
+fn class(alloc: Global, name: &[u8], processes: u32) -> Result<ClassInfo, Memory>
+    ensures { IfOk result (λ class. class ≡ record { name = name.now; server = 0; processes = processes }) }
+{
+    Ok(ClassInfo {
+        name: Bytes::from_slice(alloc, name)?,
+        server: 0,
+        processes,
+    })
+}
+
+/// A system of one server with these classes.
+fn system_of(alloc: Global, classes: List<ClassInfo>) -> Result<System, Memory>
+    requires servers { All (λ class. class.server ≡ 0) classes }
+    requires some { All (λ class. 1 ≤ class.processes) classes }
+    requires few { All (λ class. class.processes ≤ 16) classes }
+    requires names { AreNames (map (λ class. class.name) classes) }
+    requires room { length classes ≤ 16 }
+    ensures { IfOk result IsValid }
+{
+    let mut servers = List::new(alloc);
+    servers.push(server(alloc)?)?;
     Ok(System {
         programs: List::new(alloc),
+        servers,
         classes,
         files: List::new(alloc),
         tcps: List::new(alloc),
         terminals: List::new(alloc),
         rule: LockRule::ReadersShare,
     })
+}
+
+/// A system of one class with three processes.
+fn one_class(alloc: Global) -> Result<System, Memory>
+    ensures { IfOk result IsValid }
+{
+    let mut classes = List::new(alloc);
+    classes.push(class(alloc, b"STORE", 3)?)?;
+    system_of(alloc, classes)
+}
+
+/// A system of two classes, with one process and with two.
+fn two_classes(alloc: Global) -> Result<System, Memory>
+    ensures { IfOk result IsValid }
+{
+    let mut classes = List::new(alloc);
+    classes.push(class(alloc, b"STORE", 1)?)?;
+    classes.push(class(alloc, b"PRICE", 2)?)?;
+    system_of(alloc, classes)
 }
 
 /// A step of a script on a class book.
@@ -134,8 +181,10 @@ fn perform(rt: &impl Abort, alloc: Global, book: &mut ClassBook, step: Act) -> R
     Ok(())
 }
 
-fn play(rt: &impl Abort, alloc: Global, processes: &[u32], steps: &[Act]) -> Result<(), Memory> {
-    let mut book = ClassBook::new(alloc, &system_of(alloc, processes)?)?;
+fn play(rt: &impl Abort, alloc: Global, system: &System, steps: &[Act]) -> Result<(), Memory>
+    requires { IsValid system.now }
+{
+    let mut book = ClassBook::new(alloc, system)?;
     for &step in steps {
         perform(rt, alloc, &mut book, step)?;
     }
@@ -147,7 +196,7 @@ fn three_processes_serve_in_order(rt: HostRuntime) -> Result<(), Fail> {
     play(
         &rt,
         rt.alloc(),
-        &[3],
+        &one_class(rt.alloc())?,
         &[
             Act::FirstNone(0),
             Act::TakeEmpty(0),
@@ -196,7 +245,7 @@ fn cancelled_requests_are_gone(rt: HostRuntime) -> Result<(), Fail> {
     play(
         &rt,
         rt.alloc(),
-        &[3],
+        &one_class(rt.alloc())?,
         &[
             Act::Put(0, 1),
             Act::Put(0, 2),
@@ -230,7 +279,7 @@ fn classes_stand_apart(rt: HostRuntime) -> Result<(), Fail> {
     play(
         &rt,
         rt.alloc(),
-        &[1, 2],
+        &two_classes(rt.alloc())?,
         &[
             Act::Put(1, 1),
             Act::FirstNone(0),

@@ -1,4 +1,6 @@
+pub mod Entry
 pub mod Locks
+pub mod Names
 pub mod Path
 pub mod Screen
 pub mod Valid

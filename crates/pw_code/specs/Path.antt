@@ -7,3 +7,4 @@ use Rattle.pw_code.specs.declared.verb.Answer.TheVariants.{Shown}
 abbrev pub refreshes_on : List Answer → ℕ
 refreshes_on [] = 0
 refreshes_on (Shown ∷ path) = refreshes_on path + 1
+refreshes_on (_ ∷ path) = refreshes_on path

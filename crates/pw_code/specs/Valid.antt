@@ -1,13 +1,68 @@
--- A system whose numbers name what is there.
-use Rattle.std.specs.Prelude.{◌<◌, ◌≤◌, ◌^◌, length, All}
+-- A system whose numbers name what is there, and which keeps the limits.
+use Rattle.std.specs.Prelude.{◌<◌, ◌≤◌, ◌^◌, length, map, take, All}
+use Rattle.std.specs.List.{IsDistinct}
+use Rattle.std.specs.Str.{bytes_eq}
+use Rattle.pw_files.specs.Records.{IsKeyLength, IsContent}
+use Rattle.pw_code.specs.Entry.{Entry}
+use Rattle.pw_code.specs.Names.{AreNames}
+use Rattle.pw_code.specs.declared.code.Code.{Code}
+use Rattle.pw_code.specs.declared.entry.TheConstants.{MAX_KEY}
+use Rattle.pw_code.specs.declared.file.FileInfo.{FileInfo}
+use Rattle.pw_code.specs.declared.system.ClassInfo.{ClassInfo}
 use Rattle.pw_code.specs.declared.system.System.{System}
-use Rattle.pw_code.specs.declared.system.TheConstants.{MAX_TERMINALS, MAX_PROCESSES}
+use Rattle.pw_code.specs.declared.system.TermInfo.{TermInfo}
+use Rattle.pw_code.specs.declared.system.TheConstants.{MAX_PROGRAMS, MAX_SERVERS, MAX_CLASSES, MAX_PROCESSES, MAX_FILES, MAX_TCPS, MAX_TERMINALS, MAX_RESTARTS, MAX_ENTRY_LINES}
 
--- The places of a program, and the one behind its last instruction, fit a `u32`; each class has a process, and
--- not too many; each terminal has its pair and its program, and there are not too many terminals.
+-- the places of a program, and the one behind its last instruction, fit a `u32`
+abbrev pub HasPlaces : Code → Type 0
+HasPlaces code = length code.instrs < 2 ^ 32
+
+-- the key of an entry line is F1 to F16 or SF1 to SF16
+abbrev pub HasKey : Entry → Type 0
+HasKey entry = (1 ≤ entry.key) × (entry.key ≤ MAX_KEY)
+
+-- a terminal's pair and program are the system's, and it keeps its limits
+pub record IsTerminal (system : System) (terminal : TermInfo) : Type 0 where
+  pub pair : terminal.tcp < length system.tcps
+  pub program : terminal.program < length system.programs
+  pub restarts : terminal.max_restarts ≤ MAX_RESTARTS
+  pub few : length terminal.entries ≤ MAX_ENTRY_LINES
+  pub keys : All HasKey terminal.entries
+
+-- a class's server is the system's, and it has a process and not too many
+pub record IsClass (system : System) (class : ClassInfo) : Type 0 where
+  pub server : class.server < length system.servers
+  pub some : 1 ≤ class.processes
+  pub few : class.processes ≤ MAX_PROCESSES
+
+-- a file's keys and records have lengths that they may have, and no key stands twice
+pub record IsDeckFile (file : FileInfo) : Type 0 where
+  pub key : IsKeyLength file.key
+  pub contents : All (IsContent file.key) file.records
+  pub distinct : IsDistinct bytes_eq (map (λ content. take file.key content) file.records)
+
+-- pairs, terminals, classes and files have names
+pub record HasNames (system : System) : Type 0 where
+  pub tcps : AreNames system.tcps
+  pub terminals : AreNames (map (λ terminal. terminal.name) system.terminals)
+  pub classes : AreNames (map (λ class. class.name) system.classes)
+  pub files : AreNames (map (λ file. file.name) system.files)
+
+-- there are not too many of each kind
+pub record HasFew (system : System) : Type 0 where
+  pub programs : length system.programs ≤ MAX_PROGRAMS
+  pub servers : length system.servers ≤ MAX_SERVERS
+  pub classes : length system.classes ≤ MAX_CLASSES
+  pub files : length system.files ≤ MAX_FILES
+  pub tcps : length system.tcps ≤ MAX_TCPS
+  pub terminals : length system.terminals ≤ MAX_TERMINALS
+
+-- the system is one that a deck may say
 pub record IsValid (system : System) : Type 0 where
-  pub places : All (λ code. length code.instrs < 2 ^ 32) system.programs
-  pub processes : All (λ class. (1 ≤ class.processes) × (class.processes ≤ MAX_PROCESSES)) system.classes
-  pub pairs : All (λ terminal. terminal.tcp < length system.tcps) system.terminals
-  pub programs : All (λ terminal. terminal.program < length system.programs) system.terminals
-  pub few : length system.terminals ≤ MAX_TERMINALS
+  pub programs : All HasPlaces system.programs
+  pub servers : All HasPlaces system.servers
+  pub terminals : All (IsTerminal system) system.terminals
+  pub classes : All (IsClass system) system.classes
+  pub files : All IsDeckFile system.files
+  pub names : HasNames system
+  pub few : HasFew system

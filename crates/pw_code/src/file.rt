@@ -1,7 +1,10 @@
+use crate::copies::Duplicate;
 use pw_base::bytes::Bytes;
 use pw_base::list::List;
+use pw_base::memory::Memory;
+use std::alloc::Global;
 
-/// A file of a deck.
+/// A file of a deck. No two records have the same key.
 #[derive(Debug, Drop)]
 pub struct FileInfo {
     pub name: Bytes,
@@ -9,6 +12,16 @@ pub struct FileInfo {
     pub key: u16,
     /// The records, each of the key's length to 4,000 characters.
     pub records: List<Bytes>,
+}
+
+impl Duplicate for FileInfo {
+    fn copy(&self, alloc: Global) -> Result<FileInfo, Memory> {
+        Ok(FileInfo {
+            name: self.name.copy(alloc)?,
+            key: self.key,
+            records: self.records.copy(alloc)?,
+        })
+    }
 }
 
 /// What a server does on a file.

@@ -4,6 +4,8 @@
 
 pub mod code;
 pub mod context;
+pub mod copies;
+pub mod entry;
 pub mod file;
 pub mod lock;
 pub mod screen;

@@ -4,3 +4,4 @@ pub mod Wanted
 pub mod Texts
 pub mod Faults
 pub mod Examples
+pub mod Validity

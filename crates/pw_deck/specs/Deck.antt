@@ -103,14 +103,15 @@ RefusesLine (At line code) wrong = IsWrongLine (At line code) wrong
 abbrev pub instrs_of : List (List ℕ) → List Instr
 instrs_of texts = map Display texts ++ StopRun ∷ []
 
--- the system of a deck whose program has these instructions
+-- the system of a deck whose program has these instructions: a unit may restart 5 times, and nothing is keyed in
 abbrev pub system_with : List Instr → System
 system_with instrs = record {
   programs = (record { name = codes "HELLO"; instrs = instrs }) ∷ [];
+  servers = [];
   classes = [];
   files = [];
   tcps = codes "TCP-1" ∷ [];
-  terminals = (record { name = codes "T1"; tcp = 0; program = 0 }) ∷ [];
+  terminals = (record { name = codes "T1"; tcp = 0; program = 0; max_restarts = 5; entries = [] }) ∷ [];
   rule = ReadersShare;
 }
 

@@ -9,6 +9,9 @@ use pw_code::lock::LockRule;
 use pw_code::system::{System, TermInfo};
 use std::alloc::Global;
 
+/// How often a unit may restart where the deck does not say it.
+const DEFAULT_RESTARTS: u32 = 5;
+
 /// The list of one item.
 fn list_of<T: Drop>(alloc: Global, item: T) -> Result<List<T>, Memory>
     ensures { IfOk result (λ list. list ≡ item ∷ []) }
@@ -30,9 +33,12 @@ pub fn system_with(alloc: Global, instrs: List<Instr>) -> Result<System, Memory>
         name: Bytes::from_slice(alloc, b"T1")?,
         tcp: 0,
         program: 0,
+        max_restarts: DEFAULT_RESTARTS,
+        entries: List::new(alloc),
     };
     Ok(System {
         programs: list_of(alloc, code)?,
+        servers: List::new(alloc),
         classes: List::new(alloc),
         files: List::new(alloc),
         tcps: list_of(alloc, Bytes::from_slice(alloc, b"TCP-1")?)?,

@@ -1,1 +1,5 @@
+pub mod Due
+pub mod Fails
 pub mod Line
+pub mod Parsing
+pub mod Reading

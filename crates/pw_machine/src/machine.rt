@@ -55,9 +55,11 @@ fn instr_at(system: &System, program: u32, at: u32) -> Option<&Instr>
     code.instrs.get(at as usize)
 }
 
-/// Gives a context that stands at a verb its answer. After an `Err` the context is spent.
+/// Gives a context that stands at a Show its answer, which is Shown: what other answers are for is not compiled yet.
+/// After an `Err` the context is spent.
 pub fn answer(_system: &System, context: &mut Context, answer: Answer) -> Result<(), Memory>
     requires asks { context.old.at_verb ≡ true }
+    requires takes { answer ≡ Answer.Shown }
     requires few { context.old.shown < 1000000 }
     ensures { OnOk result (context.new ≡ shown context.old) }
 {
@@ -67,5 +69,6 @@ pub fn answer(_system: &System, context: &mut Context, answer: Answer) -> Result
             context.shown += 1;
             Ok(())
         }
+        _ => unreachable!(),
     }
 }

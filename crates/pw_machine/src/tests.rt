@@ -26,6 +26,7 @@ fn system_of(alloc: Global, instrs: List<Instr>) -> Result<System, Memory>
     programs.push(Code { name, instrs })?;
     Ok(System {
         programs,
+        servers: List::new(alloc),
         classes: List::new(alloc),
         files: List::new(alloc),
         tcps: List::new(alloc),
@@ -61,15 +62,15 @@ fn expect_lines(
 fn each_display_is_shown(rt: HostRuntime) -> Result<(), Fail> {
     let system = one_two(rt.alloc())?;
     let mut context = start(rt.alloc(), &system, 0)?;
-    assert_eq!(rt; verb(&system, &mut context)?, Verb::Show);
+    assert!(rt; matches!(verb(&system, &mut context)?, Verb::Show));
     expect_lines(&rt, &context, b"24|ONE\n")?;
     answer(&system, &mut context, Answer::Shown)?;
     assert_eq!(rt; context.shown, 1);
-    assert_eq!(rt; verb(&system, &mut context)?, Verb::Show);
+    assert!(rt; matches!(verb(&system, &mut context)?, Verb::Show));
     expect_lines(&rt, &context, b"24|TWO\n")?;
     answer(&system, &mut context, Answer::Shown)?;
     assert_eq!(rt; context.shown, 2);
-    assert_eq!(rt; verb(&system, &mut context)?, Verb::Stop);
+    assert!(rt; matches!(verb(&system, &mut context)?, Verb::Stop));
     expect_lines(&rt, &context, b"24|TWO\n")?;
     Ok(())
 }
@@ -78,7 +79,7 @@ fn each_display_is_shown(rt: HostRuntime) -> Result<(), Fail> {
 fn a_program_without_instructions_stops(rt: HostRuntime) -> Result<(), Fail> {
     let system = system_of(rt.alloc(), List::new(rt.alloc()))?;
     let mut context = start(rt.alloc(), &system, 0)?;
-    assert_eq!(rt; verb(&system, &mut context)?, Verb::Stop);
+    assert!(rt; matches!(verb(&system, &mut context)?, Verb::Stop));
     assert_eq!(rt; context.shown, 0);
     Ok(())
 }
@@ -90,7 +91,7 @@ fn a_context_behind_the_last_instruction_stops(rt: HostRuntime) -> Result<(), Fa
     let system = system_of(rt.alloc(), instrs)?;
     let mut context = start(rt.alloc(), &system, 0)?;
     context.at = 1;
-    assert_eq!(rt; verb(&system, &mut context)?, Verb::Stop);
+    assert!(rt; matches!(verb(&system, &mut context)?, Verb::Stop));
     assert_eq!(rt; context.at, 1);
     Ok(())
 }

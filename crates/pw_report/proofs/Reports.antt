@@ -1,25 +1,36 @@
 -- The report of a run.
-use Rattle.std.proofs.Common.{◌≡◌, ℕ, zero, suc, List, [], ◌∷◌, ◌++◌, length, Bool, refl, sym, ap, ◌∙◌, append_assoc}
+use Rattle.std.proofs.Common.{◌≡◌, ℕ, zero, suc, List, [], ◌∷◌, ◌++◌, length, Bool, Some, refl, sym, ap, ◌∙◌, append_assoc}
 use Rattle.std.specs.Prelude.{codes, if◌then◌else◌}
 use Rattle.std.specs.List.{AllByRecursion}
 use Rattle.pw_code.specs.declared.system.System.{System}
-use Rattle.pw_event.specs.Line.{IsNamed}
+use Rattle.pw_code.specs.declared.verb.Verb.{Verb}
+use Rattle.pw_event.specs.Line.{IsNamed, IsThere, ending_words}
+use Rattle.pw_event.specs.declared.event.Ending.{Ending}
+use Rattle.pw_event.specs.declared.event.Ending.TheVariants.{Stopped}
 use Rattle.pw_event.specs.declared.event.Event.{Event}
 use Rattle.pw_event.specs.declared.event.Event.TheVariants.{Show, End}
-use Rattle.pw_paired.specs.State.{State, starting}
-use Rattle.pw_paired.specs.declared.refresh.Refresh.{Refresh}
-use Rattle.pw_paired.specs.Step.{IsRun, effect, after, is_finished}
-use Rattle.pw_paired.specs.Serial.{blocks, one_copy, refreshes, refreshes_of}
-use Rattle.pw_paired.proofs.Serializes.{serializes, repeats_none}
+use Rattle.pw_display.specs.State.{State, starting}
+use Rattle.pw_display.specs.declared.refresh.Refresh.{Refresh}
+use Rattle.pw_display.specs.Step.{IsRun, verb_at_end, effect, after, is_finished}
+use Rattle.pw_display.specs.Serial.{blocks, one_copy, refreshes, refreshes_of}
+use Rattle.pw_display.proofs.Serializes.{serializes, repeats_none}
 use Rattle.pw_world.specs.Behaviour.{behaviour}
 use Rattle.pw_report.specs.Report.{line, block_lines, screens_part, refresh_parts, log_lines, last_line, report_text}
 use Rattle.pw_report.specs.Screens.{screens_to}
 
+-- an ending at a verb of its own names nothing
+named-ending : (system : System) (verb : Verb) (ending : Ending) → Some verb ≡ verb_at_end ending → AllByRecursion (IsThere system) (ending_words ending)
+named-ending system verb Stopped asks = (tt, tt)
+named-ending system verb _ asks = absurd (cc asks)
+
 -- the entries of a run name terminals of the system
 pub named-run : (system : System) (state : State) (log : List Event) → IsRun (behaviour system) state log → AllByRecursion (IsNamed system) log
 named-run system state [] run = tt
-named-run system state (Show t phase attempt k ∷ log) run = (run.0.can.known, named-run system (effect state (Show t phase attempt k)) log run.1)
-named-run system state (End t ending ∷ log) run = (run.0.can.known, named-run system (effect state (End t ending)) log run.1)
+named-run system state (Show t phase attempt k ∷ log) run =
+    (record { line = tt; there = (tt, (run.0.can.known, (tt, tt))) }, named-run system (effect state (Show t phase attempt k)) log run.1)
+named-run system state (End t ending ∷ log) run =
+    (record { line = tt; there = (tt, (run.0.can.known, named-ending system _ ending run.0.asks)) }, named-run system (effect state (End t ending)) log run.1)
+named-run system state (_ ∷ log) run = absurd run.0
 
 -- the screens of a run's refreshes are those of the one-copy machine
 pub screens_to-run : (system : System) (log : List Event) → IsRun (behaviour system) starting log → (n : ℕ)

@@ -5,11 +5,11 @@ use Rattle.pw_code.specs.declared.system.System.{System}
 use Rattle.pw_terminal.specs.Screen.{refresh_lines}
 use Rattle.pw_event.specs.declared.event.Event.{Event}
 use Rattle.pw_event.specs.Line.{sentence, terminal_name, refresh_number, ending_text, event_text}
-use Rattle.pw_paired.specs.declared.refresh.Refresh.{Refresh}
-use Rattle.pw_paired.specs.System.{Sys}
-use Rattle.pw_paired.specs.State.{starting}
-use Rattle.pw_paired.specs.Step.{after, is_finished}
-use Rattle.pw_paired.specs.Serial.{Block, Out, Done, blocks, Machine, one_copy}
+use Rattle.pw_display.specs.declared.refresh.Refresh.{Refresh}
+use Rattle.pw_display.specs.System.{Sys}
+use Rattle.pw_display.specs.State.{starting}
+use Rattle.pw_display.specs.Step.{after, is_finished}
+use Rattle.pw_display.specs.Serial.{Block, Out, Done, blocks, Machine, one_copy}
 
 -- a line of a text
 abbrev pub line : List ℕ → List ℕ
@@ -18,7 +18,7 @@ line words = words ++ 10 ∷ []
 -- the line of a block of the serial order
 abbrev pub block_line : System → Block → List ℕ
 block_line system (Out t) = line (sentence (codes "OUT" ∷ terminal_name system t ∷ []))
-block_line system (Done t ending) = line (sentence (codes "DONE" ∷ terminal_name system t ∷ ending_text ending ∷ []))
+block_line system (Done t ending) = line (sentence (codes "DONE" ∷ terminal_name system t ∷ ending_text system ending ∷ []))
 
 -- the lines of the blocks, in order
 abbrev pub block_lines : System → List Block → List ℕ

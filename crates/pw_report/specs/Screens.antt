@@ -1,8 +1,8 @@
 -- The screens of terminals, out of the refreshes of all.
 use Rattle.std.specs.Prelude.{ℕ, zero, suc, List, [], ◌++◌}
 use Rattle.pw_code.specs.declared.system.System.{System}
-use Rattle.pw_paired.specs.declared.refresh.Refresh.{Refresh}
-use Rattle.pw_paired.specs.Serial.{refreshes_of}
+use Rattle.pw_display.specs.declared.refresh.Refresh.{Refresh}
+use Rattle.pw_display.specs.Serial.{refreshes_of}
 use Rattle.pw_report.specs.Report.{refresh_parts}
 
 -- the screens of the first terminals, in order

@@ -2,15 +2,16 @@ ghost use Rattle.std.specs.Prelude.{◌≡◌, ◌<◌, ◌++◌, ◌∷◌, [],
 ghost use Rattle.std.specs.Fmt.{decimal};
 ghost use Rattle.std.specs.List.{AllByRecursion};
 ghost use Rattle.pw_event.specs.Line.{IsNamed, event_text};
-ghost use Rattle.pw_paired.specs.Serial.{block_of, blocks, refreshes_of};
-ghost use Rattle.pw_report.specs.Report.{line, block_line, block_lines, refresh_part, refresh_parts, log_lines};
+ghost use Rattle.pw_display.specs.Serial.{block_of, blocks, refreshes_of};
+ghost use Rattle.pw_report.specs.Report.{line, block_lines, refresh_part, refresh_parts, log_lines};
 
 use pw_base::bytes::Bytes;
 use pw_base::memory::Memory;
 use pw_code::system::System;
+use pw_display::refresh::Refresh;
 use pw_event::event::Event;
-use pw_event::printing::{name_of, print_ending, print_event, print_number};
-use pw_paired::refresh::Refresh;
+use pw_event::names::terminal_name;
+use pw_event::printing::{print_ending, print_event, print_number};
 use pw_terminal::printing::refresh_text;
 
 /// Puts the lines of the log's serial order behind the text. An `Err` may leave a part of them
@@ -56,21 +57,23 @@ pub fn print_log(text: &mut Bytes, system: &System, log: &[Event]) -> Result<(),
     Ok(())
 }
 
-/// Puts the line of an entry's block behind the text.
+/// Puts the line of an entry's block behind the text, and nothing where it reads as none.
 fn print_block(text: &mut Bytes, system: &System, entry: &Event) -> Result<(), Memory>
     requires { IsNamed system.now entry.now }
-    ensures { OnOk result (text.new ≡ text.old ++ block_line system.now (block_of entry.now)) }
+    ensures { OnOk result (text.new ≡ text.old ++ block_lines system.now (block_of entry.now)) }
 {
     match *entry {
         Event::Show { terminal, .. } => {
             print_word(text, b"OUT")?;
-            print_last_word(text, name_of(system, terminal))
+            print_last_word(text, terminal_name(system, terminal))
         }
         Event::End { terminal, ending } => {
             print_word(text, b"DONE")?;
-            print_word(text, name_of(system, terminal))?;
-            print_last_word(text, print_ending(ending))
+            print_word(text, terminal_name(system, terminal))?;
+            let words = print_ending(text.allocator(), system, ending)?;
+            print_last_word(text, words.as_slice())
         }
+        _ => Ok(()),
     }
 }
 
@@ -83,7 +86,7 @@ fn print_refresh(text: &mut Bytes, system: &System, refresh: &Refresh) -> Result
     let number = print_number(alloc, refresh.phase, refresh.attempt, refresh.k)?;
     let rows = refresh_text(alloc, &refresh.image)?;
     print_word(text, b"SCREEN")?;
-    print_word(text, name_of(system, refresh.terminal))?;
+    print_word(text, terminal_name(system, refresh.terminal))?;
     print_last_word(text, number.as_bytes())?;
     text.extend(rows.as_slice())
 }

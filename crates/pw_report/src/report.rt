@@ -1,7 +1,7 @@
 ghost use Rattle.std.specs.Prelude.{◌≡◌, ◌++◌, length, codes, if◌then◌else◌, IfOk, OnOk};
 ghost use Rattle.pw_code.specs.Valid.{IsValid};
-ghost use Rattle.pw_paired.specs.State.{starting};
-ghost use Rattle.pw_paired.specs.Step.{IsRun};
+ghost use Rattle.pw_display.specs.State.{starting};
+ghost use Rattle.pw_display.specs.Step.{IsRun};
 ghost use Rattle.pw_world.specs.Behaviour.{behaviour};
 ghost use Rattle.pw_report.specs.Report.{line, report_text};
 ghost use Rattle.pw_report.specs.Screens.{screens_to};
@@ -10,7 +10,7 @@ use crate::parts::{print_blocks, print_log, print_screens};
 use pw_base::bytes::Bytes;
 use pw_base::memory::Memory;
 use pw_code::system::System;
-use pw_paired::refresh::Refresh;
+use pw_display::refresh::Refresh;
 use pw_world::world::World;
 use std::alloc::Global;
 

@@ -6,8 +6,8 @@ use pw_base::list::List;
 use pw_base::memory::Memory;
 use pw_code::lock::LockRule;
 use pw_code::system::{System, TermInfo};
+use pw_display::refresh::Refresh;
 use pw_event::event::{Ending, Event};
-use pw_paired::refresh::Refresh;
 use pw_terminal::images::{blank, message};
 use std::alloc::Global;
 use std::process::Abort;
@@ -41,6 +41,7 @@ fn one_terminal(alloc: Global) -> Result<System, Memory>
     terminals.push(terminal(alloc, b"T1")?)?;
     Ok(System {
         programs: List::new(alloc),
+        servers: List::new(alloc),
         classes: List::new(alloc),
         files: List::new(alloc),
         tcps: List::new(alloc),
@@ -64,6 +65,8 @@ fn terminal(alloc: Global, name: &[u8]) -> Result<TermInfo, Memory> {
         name,
         tcp: 0,
         program: 0,
+        max_restarts: 5,
+        entries: List::new(alloc),
     })
 }
 

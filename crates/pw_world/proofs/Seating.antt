@@ -10,8 +10,8 @@ use Rattle.std.proofs.lemmas.List.Folds.{list_all_more}
 use Rattle.std.proofs.lemmas.List.Sums.{fails_before_first}
 use Rattle.pw_code.specs.declared.system.System.{System}
 use Rattle.pw_code.specs.declared.system.TermInfo.{TermInfo}
-use Rattle.pw_paired.specs.State.{State}
-use Rattle.pw_paired.specs.Step.{all_ended}
+use Rattle.pw_display.specs.State.{State}
+use Rattle.pw_display.specs.Step.{all_ended}
 use Rattle.pw_world.specs.declared.seat.Seat.{Seat}
 use Rattle.pw_world.specs.Kept.{first_seat}
 use Rattle.pw_world.specs.Seats.{has_ended, is_free, seat_at}

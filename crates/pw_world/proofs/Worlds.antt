@@ -2,15 +2,16 @@
 use Rattle.std.proofs.Common.{◌≡◌, ◌≢◌, ℕ, ◌+◌, ◌<◌, ◌≤◌, List, [], ◌∷◌, ◌++◌, length, get_or, map, Option, None, Some, Bool, true, false, refl, sym, ap, ◌∙◌, subst, arith}
 use Rattle.std.specs.Prelude.{is_some, position}
 use Rattle.std.proofs.Math.ListN.{set}
+use Rattle.std.proofs.lemmas.Bool.{eq-eqb}
 use Rattle.std.proofs.lemmas.List.{get_or-map, length-map, map-set}
 use Rattle.pw_code.specs.declared.context.Context.{Context}
 use Rattle.pw_code.specs.declared.system.System.{System}
 use Rattle.pw_event.specs.declared.event.Ending.{Ending}
 use Rattle.pw_event.specs.declared.event.Event.{Event}
 use Rattle.pw_event.specs.declared.event.Event.TheVariants.{Show, End}
-use Rattle.pw_paired.specs.declared.refresh.Refresh.{Refresh}
-use Rattle.pw_paired.specs.State.{starting}
-use Rattle.pw_paired.specs.Step.{LegalShow, LegalEnd, is_finished}
+use Rattle.pw_display.specs.declared.refresh.Refresh.{Refresh}
+use Rattle.pw_display.specs.State.{starting}
+use Rattle.pw_display.specs.Step.{LegalShow, LegalEnd, is_finished}
 use Rattle.pw_code.specs.Path.{refreshes_on}
 use Rattle.pw_code.specs.Valid.{IsValid}
 use Rattle.std.specs.List.{list_all}
@@ -58,7 +59,7 @@ shown_kept system log new made more kept next limit t work answered image at ran
     let cells : image ≡ (behaviour system).image t ((state_after log).terms t).path =
     screen ∙ ap (λ (c : Context). c.screen) (ran ∙ ap (run_on system) live) in
     let refresh : List ℕ → Refresh = λ cs. record { terminal = t; phase = 0; attempt = 0; k = work.shown + 1; image = cs } in
-    kept-push system log new made more kept next limit entry _ is (too ∙ ap (λ cs. made ++ refresh cs ∷ []) cells) put legal room legal.can.known
+    kept-push system log new made more kept next limit entry t _ is (too ∙ ap (λ cs. made ++ refresh cs ∷ []) cells) put legal (eq-eqb t t refl) room legal.can.known
     (shown_seat system log t 0 0 (work.shown + 1) _ legal.can.live (shows ∙ ap shown ran) (long ∙ ap length is) refl) k
 
 -- END keeps what a world keeps
@@ -68,7 +69,7 @@ pub ended_kept : (system : System) (log new : List Event) (made : List Refresh) 
     → LegalEnd (behaviour system) (state_after log) t ending → length log < limit
     → IsKept system log made kept limit → IsKept system new made next limit
 ended_kept system log new made kept next limit t work ending at ran long is put legal room k =
-    kept-push system log new made made kept next limit (End t ending) _ is (sym (append-nil made)) put legal room legal.can.known
+    kept-push system log new made made kept next limit (End t ending) t _ is (sym (append-nil made)) put legal (eq-eqb t t refl) room legal.can.known
     (ended_seat system log t ending _ legal.can.live ran (long ∙ ap length is) refl) k
 
 -- a world that has just been made
@@ -84,7 +85,7 @@ first_kept system kept limit valid few is =
       sizes = length-map system.terminals (first_seat system);
       seats = λ t lt.
           let within : t < length system.terminals = rw length-map at lt in
-          let seat = get_or-map (first_seat system) system.terminals t (record { name = []; tcp = 0; program = 0 }) (seat_at [] 0) within in
+          let seat = get_or-map (first_seat system) system.terminals t (record { name = []; tcp = 0; program = 0; max_restarts = 0; entries = [] }) (seat_at [] 0) within in
           rw seat (record { context = refl; stamp = refl; ended = refl });
     })
 
@@ -129,7 +130,7 @@ claimed system log made kept limit t k found =
       stamp = seated.stamp;
       work = ap work_of seated.context;
       runs = rw is (λ x same. let here : context_after system (program_of system t) ((state_after log).terms t).path ≡ x = cc in
-          subst (CanRun system) here (record { known = k.valid.programs t _ known; answered = refl }));
+          subst (CanRun system) here (record { known = (k.valid.terminals t _ known).program; answered = refl }));
     }
 
 -- a terminal whose seat has not ended leaves the log unfinished

@@ -4,10 +4,10 @@ use Rattle.std.specs.Option.{ForSome}
 use Rattle.pw_base.specs.declared.memory.Memory.{Memory}
 use Rattle.pw_code.specs.declared.context.Context.{Context}
 use Rattle.pw_event.specs.declared.event.Event.{Event}
-use Rattle.pw_paired.specs.Step.{Legal, is_finished}
+use Rattle.pw_display.specs.Step.{Legal, is_finished}
 use Rattle.pw_machine.specs.Contexts.{CanRun}
 use Rattle.pw_world.specs.Behaviour.{behaviour}
-use Rattle.pw_world.specs.Told.{Told, state_after, kept_context, stamp, terminal_of}
+use Rattle.pw_world.specs.Told.{Told, state_after, kept_context, stamp, is_of}
 use Rattle.pw_world.specs.declared.task.Actor.{Actor}
 use Rattle.pw_world.specs.Actors.{terminal_at}
 use Rattle.pw_world.specs.declared.task.Task.{Task}
@@ -28,7 +28,7 @@ IsLive world t = ((state_after world.log).terms t).ending ≡ None
 -- an entry that the world may make next, of the terminal
 pub record IsStepOf (world : Told) (t : ℕ) (entry : Event) : Type 0 where
   pub legal : Legal (behaviour world.system) (state_after world.log) entry
-  pub owner : terminal_of entry ≡ t
+  pub owner : is_of t entry ≡ true
 
 -- the terminal has a step
 abbrev pub HasStep : Told → ℕ → Type 0
@@ -105,7 +105,7 @@ Comes world outcome applied.Memory = Unit {0}
 -- one more entry, which is a step of the actor
 pub record IsStep (world new : Told) (actor : Actor) (entry : Event) : Type 0 where
   pub legal : Legal (behaviour world.system) (state_after world.log) entry
-  pub owner : terminal_of entry ≡ terminal_at actor
+  pub owner : is_of (terminal_at actor) entry ≡ true
   pub log : new.log ≡ world.log ++ entry ∷ []
 
 -- the log gets one entry at Done, and else stays

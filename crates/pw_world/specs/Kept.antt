@@ -4,10 +4,10 @@ use Rattle.pw_code.specs.declared.system.System.{System}
 use Rattle.pw_code.specs.declared.system.TermInfo.{TermInfo}
 use Rattle.pw_code.specs.Valid.{IsValid}
 use Rattle.pw_event.specs.declared.event.Event.{Event}
-use Rattle.pw_paired.specs.declared.refresh.Refresh.{Refresh}
-use Rattle.pw_paired.specs.State.{starting}
-use Rattle.pw_paired.specs.Step.{IsRun}
-use Rattle.pw_paired.specs.Serial.{refreshes}
+use Rattle.pw_display.specs.declared.refresh.Refresh.{Refresh}
+use Rattle.pw_display.specs.State.{starting}
+use Rattle.pw_display.specs.Step.{IsRun}
+use Rattle.pw_display.specs.Serial.{refreshes}
 use Rattle.pw_machine.specs.Contexts.{context_after}
 use Rattle.pw_world.specs.Behaviour.{behaviour}
 use Rattle.pw_world.specs.Told.{state_after, kept_context, stamp}

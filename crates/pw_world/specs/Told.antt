@@ -1,12 +1,12 @@
 -- What contracts see of a world.
-use Rattle.std.specs.Prelude.{◌≢◌, ℕ, ◌+◌, List, [], ◌∷◌, ◌++◌, Bool, Option, None, Some, ◌==◌, if◌then◌else◌}
+use Rattle.std.specs.Prelude.{◌≢◌, ℕ, ◌+◌, List, [], ◌∷◌, ◌++◌, Bool, false, Option, None, Some, ◌==◌, if◌then◌else◌}
 use Rattle.pw_code.specs.declared.system.System.{System}
 use Rattle.pw_code.specs.declared.context.Context.{Context}
 use Rattle.pw_event.specs.declared.event.Event.{Event}
 use Rattle.pw_event.specs.declared.event.Event.TheVariants.{Show, End}
 use Rattle.pw_event.specs.declared.event.Ending.{Ending}
-use Rattle.pw_paired.specs.State.{State, Term, starting}
-use Rattle.pw_paired.specs.Step.{after}
+use Rattle.pw_display.specs.State.{State, Term, starting}
+use Rattle.pw_display.specs.Step.{after}
 use Rattle.pw_machine.specs.Contexts.{context_after, run_on}
 use Rattle.pw_world.specs.Behaviour.{program_of}
 
@@ -37,15 +37,16 @@ kept_for system t term = kept_at term.ending system (context_after system (progr
 abbrev pub kept_context : System → List Event → ℕ → Context
 kept_context system log t = kept_for system t ((state_after log).terms t)
 
--- the terminal to which an entry belongs
-abbrev pub terminal_of : Event → ℕ
-terminal_of (Show t phase attempt k) = t
-terminal_of (End t ending) = t
+-- an entry of the terminal: no kind but these two changes it
+abbrev pub is_of : ℕ → Event → Bool
+is_of t (Show u phase attempt k) = u == t
+is_of t (End u ending) = u == t
+is_of t _ = false
 
 -- the length of a log, of which n entries are before, behind the last entry of a terminal
 abbrev pub stamp_from : ℕ → ℕ → List Event → ℕ → ℕ
 stamp_from n last [] t = last
-stamp_from n last (entry ∷ log) t = stamp_from (n + 1) (if terminal_of entry == t then n + 1 else last) log t
+stamp_from n last (entry ∷ log) t = stamp_from (n + 1) (if is_of t entry then n + 1 else last) log t
 
 -- the length of the log when the terminal's state last changed
 abbrev pub stamp : List Event → ℕ → ℕ

@@ -1,7 +1,7 @@
 ghost use Rattle.std.specs.Prelude.{◌≡◌, ◌↔◌, false, ℕ, ◌<◌, ◌+◌, List, [], ◌∷◌, ◌++◌, length};
 ghost use Rattle.pw_event.specs.declared.event.Event.{Event};
-ghost use Rattle.pw_paired.specs.System.{Sys};
-ghost use Rattle.pw_paired.specs.Step.{Legal};
+ghost use Rattle.pw_display.specs.System.{Sys};
+ghost use Rattle.pw_display.specs.Step.{Legal};
 ghost use Rattle.pw_world.specs.Told.{Told, Changes, state_after, stamp};
 ghost use Rattle.pw_world.specs.Answers.{IsLive, HasStep, SomeLive, finished};
 

@@ -1,4 +1,5 @@
-ghost use Rattle.std.specs.Prelude.{◌≡◌, ◌<◌, ◌≤◌, length, All, IfOk};
+ghost use Rattle.std.specs.Prelude.{◌≡◌, ◌<◌, ◌≤◌, [], length, map, All, IfOk};
+ghost use Rattle.pw_code.specs.Names.{AreNames};
 ghost use Rattle.pw_code.specs.Valid.{IsValid};
 ghost use Rattle.pw_world.specs.Actors.{terminal_at};
 
@@ -10,8 +11,8 @@ use pw_base::memory::Memory;
 use pw_code::code::{Code, Instr};
 use pw_code::lock::LockRule;
 use pw_code::system::{System, TermInfo};
+use pw_display::refresh::Refresh;
 use pw_event::event::{Ending, Event};
-use pw_paired::refresh::Refresh;
 use pw_terminal::printing::refresh_text;
 use std::alloc::Global;
 use std::process::Abort;
@@ -31,13 +32,15 @@ fn code(alloc: Global) -> Result<Code, Memory>
 
 /// A terminal of the first pair, with the first program.
 fn terminal(alloc: Global, name: &[u8]) -> Result<TermInfo, Memory>
-    ensures { IfOk result (λ terminal. terminal ≡ record { name = name.now; tcp = 0; program = 0 }) }
+    ensures { IfOk result (λ terminal. terminal ≡ record { name = name.now; tcp = 0; program = 0; max_restarts = 5; entries = [] }) }
 {
     let name = Bytes::from_slice(alloc, name)?;
     Ok(TermInfo {
         name,
         tcp: 0,
         program: 0,
+        max_restarts: 5,
+        entries: List::new(alloc),
     })
 }
 
@@ -45,6 +48,9 @@ fn terminal(alloc: Global, name: &[u8]) -> Result<TermInfo, Memory>
 fn system_of(alloc: Global, terminals: List<TermInfo>) -> Result<System, Memory>
     requires pairs { All (λ terminal. terminal.tcp ≡ 0) terminals }
     requires programs { All (λ terminal. terminal.program ≡ 0) terminals }
+    requires restarts { All (λ terminal. terminal.max_restarts ≡ 5) terminals }
+    requires entries { All (λ terminal. terminal.entries ≡ []) terminals }
+    requires names { AreNames (map (λ terminal. terminal.name) terminals) }
     requires few { length terminals ≤ 128 }
     ensures valid { IfOk result IsValid }
     ensures terminals { IfOk result (λ system. system.terminals ≡ terminals) }
@@ -55,6 +61,7 @@ fn system_of(alloc: Global, terminals: List<TermInfo>) -> Result<System, Memory>
     tcps.push(Bytes::from_slice(alloc, b"TCP")?)?;
     Ok(System {
         programs,
+        servers: List::new(alloc),
         classes: List::new(alloc),
         files: List::new(alloc),
         tcps,

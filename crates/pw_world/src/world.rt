@@ -1,10 +1,10 @@
 ghost use Rattle.std.specs.Prelude.{◌≡◌, ◌≢◌, ◌↔◌, ◌<◌, ◌≤◌, ◌+◌, [], ◌∷◌, ◌++◌, false, length, replicate, slice_set, vec_len, vec_capacity, IfOk, OnErr, IsTrue};
 ghost use Rattle.pw_code.specs.Valid.{IsValid};
-ghost use Rattle.pw_paired.specs.State.{starting};
+ghost use Rattle.pw_display.specs.State.{starting};
 ghost use Rattle.pw_machine.specs.Contexts.{run_on};
 ghost use Rattle.pw_event.specs.declared.event.Event.{Event};
-ghost use Rattle.pw_paired.specs.Step.{IsRun, LegalShow, LegalEnd};
-ghost use Rattle.pw_paired.specs.Serial.{refreshes};
+ghost use Rattle.pw_display.specs.Step.{IsRun, LegalShow, LegalEnd};
+ghost use Rattle.pw_display.specs.Serial.{refreshes};
 ghost use Rattle.pw_world.specs.Behaviour.{behaviour};
 ghost use Rattle.pw_world.specs.Told.{Told, state_after, kept_context};
 ghost use Rattle.pw_world.specs.Actors.{terminal_at};
@@ -17,9 +17,9 @@ use pw_base::memory::Memory;
 use pw_code::context::Context;
 use pw_code::system::System;
 use pw_code::verb::{Answer, Verb};
+use pw_display::refresh::Refresh;
 use pw_event::event::{Ending, Event};
 use pw_machine::machine::answer;
-use pw_paired::refresh::Refresh;
 use std::alloc::Global;
 use std::marker::Model;
 
@@ -226,6 +226,8 @@ impl World {
         match verb {
             Verb::Show => self.show(terminal, work),
             Verb::Stop => self.end(terminal, work, Ending::Stopped),
+            // the machine asks nothing else yet
+            _ => unreachable!(),
         }
     }
 

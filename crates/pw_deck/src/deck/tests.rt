@@ -86,6 +86,8 @@ fn reads_hello(rt: HostRuntime) -> Result<(), Fail> {
         return Err("one terminal")?;
     };
     assert_eq!(rt; terminal.name.as_slice(), b"T1".as_slice());
+    assert_eq!(rt; terminal.max_restarts, 5);
+    assert!(rt; terminal.entries.is_empty());
     Ok(())
 }
 

@@ -4,6 +4,7 @@ use Rattle.pw_base.specs.First.{Refuses}
 use Rattle.pw_deck.specs.Lines.{lines}
 use Rattle.pw_deck.specs.Deck.{program_of, texts_in}
 use Rattle.pw_deck.proofs.Faults.{in_heading, in_program, is_deck, says}
+use Rattle.pw_deck.proofs.Validity.{valid_deck}
 use Rattle.pw_deck.proofs.deck.read_deck.Goals as goal
 
 pub returns-in_err-program-clause-fault : goal.returns-in_err-program-clause-fault
@@ -20,3 +21,6 @@ pub returns-clause-deck : goal.returns-clause-deck
 returns-clause-deck c =
     let found = lines c.in_ok-program.program.now in
     says c.args.bytes.now (texts_in found) c.in_ok-instrs.instrs c.deck_with.result (is_deck c.args.bytes.now found c.if-bytes-gt-MAX_INPUT.false c.in_ok-program.ensures.good c.in_ok-program.ensures.rest c.in_ok-instrs.ensures.good) c.in_ok-instrs.ensures.instrs c.deck_with.ensures.deck
+
+pub returns-clause-valid : goal.returns-clause-valid
+returns-clause-valid c = valid_deck c.in_ok-instrs.instrs c.deck_with.result c.in_ok-instrs.ensures.short c.deck_with.ensures.deck

@@ -1,5 +1,5 @@
 use Rattle.std.proofs.Common.{◌≡◌, ◌++◌, drop}
-use Rattle.pw_paired.specs.Serial.{blocks}
+use Rattle.pw_display.specs.Serial.{blocks}
 use Rattle.pw_report.specs.Report.{block_lines}
 use Rattle.pw_report.proofs.parts.print_blocks.Given as goal
 

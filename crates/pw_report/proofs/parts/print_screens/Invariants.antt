@@ -1,5 +1,5 @@
 use Rattle.std.proofs.Common.{◌≡◌, ◌++◌, drop}
-use Rattle.pw_paired.specs.Serial.{refreshes_of}
+use Rattle.pw_display.specs.Serial.{refreshes_of}
 use Rattle.pw_report.specs.Report.{refresh_parts}
 use Rattle.pw_report.proofs.parts.print_screens.Given as goal
 

@@ -1,5 +1,5 @@
 use Rattle.std.proofs.Common.{◌++◌, ap, ◌∙◌, append_assoc, add-one}
-use Rattle.pw_paired.specs.Serial.{refreshes_of}
+use Rattle.pw_display.specs.Serial.{refreshes_of}
 use Rattle.pw_report.specs.Report.{refresh_parts}
 use Rattle.pw_report.specs.Screens.{screens_to}
 use Rattle.pw_report.proofs.report.print_all_screens.Goals as goal

@@ -1,4 +1,4 @@
-use Rattle.pw_paired.specs.State.{starting}
+use Rattle.pw_display.specs.State.{starting}
 use Rattle.pw_report.proofs.Reports.{named-run, reported}
 use Rattle.pw_report.proofs.report.report.Goals as goal
 

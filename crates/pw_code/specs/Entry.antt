@@ -1,0 +1,12 @@
+-- An entry line.
+use Rattle.std.specs.Prelude.{ℕ, ◌≤◌, List, length}
+use Rattle.pw_code.specs.declared.entry.TheConstants.{MAX_PAIRS}
+
+-- a key, and the names of fields with their values
+pub record Entry : Type 0 where
+  pub key : ℕ
+  pub fields : List (List ℕ × List ℕ)
+
+-- there are not too many pairs
+abbrev pub IsEntry : Entry → Type 0
+IsEntry entry = length entry.fields ≤ MAX_PAIRS

@@ -1,0 +1,113 @@
+-- A line of the grammar is not read as a bad one.
+use Rattle.std.proofs.Common.{◌≡◌, ℕ, ◌<◌, ◌≤◌, ◌^◌, List, [], ◌∷◌, map, Bool, true, false, cond, Option, Some, None, Ok, Err}
+use Rattle.std.specs.Fmt.{decimal}
+use Rattle.std.specs.List.{AllByRecursion}
+use Rattle.pw_code.specs.declared.file.FileOp.{FileOp}
+use Rattle.pw_code.specs.declared.lock.LockMode.{LockMode}
+use Rattle.pw_code.specs.declared.lock.LockRule.{LockRule}
+use Rattle.pw_code.specs.declared.lock.LockRule.TheVariants.{ReadersShare, AllExclusive}
+use Rattle.pw_code.specs.declared.system.System.{System}
+use Rattle.pw_event.specs.declared.event.Cause.TheVariants as cause
+use Rattle.pw_event.specs.declared.event.Ending.TheVariants as ending
+use Rattle.pw_event.specs.declared.event.Event.{Event}
+use Rattle.pw_event.specs.declared.event.Event.TheVariants.{Show, Key, CheckStart, CheckEnd, CheckCopy, Applied, Begin, Send, Take, File, Reply, Again, Commit, Back, Restart, FailTcp, FailServer, Takeover, Raise, End}
+use Rattle.pw_event.specs.declared.fault.EventFault.TheVariants.{Unknown}
+use Rattle.pw_event.specs.Line.{Names, spelling, event_words, HasLine, IsInRange}
+use Rattle.pw_event.specs.Reading.{may_name, AreFormed}
+use Rattle.pw_event.specs.Parsing.{or_unknown, terminal_named, pair_named, class_named, file_named, terminal, pair, class, file, process, terminal_names, terminal_among, fault_of, other_cause, older, caused_otherwise, caused, ending_of, show, numbered, check, applied, begin, send, taken, file_at, file_line, reply, restart, fail_tcp, fail_server, fail, takeover, raise, ended, end_by, end, unit_line, server_line, line_behind, event_of, member}
+use Rattle.pw_event.proofs.Numbers.{counted-decimal}
+use Rattle.pw_event.proofs.Leaves.{number_of, code_of, refresh_of, named_formed, op_of, mode_of}
+use Rattle.pw_event.proofs.Steps.{InGrammar, in_grammar}
+
+or_unknown_in : {A : Type 0} (found : Option A) → InGrammar (or_unknown found)
+or_unknown_in None = tt
+or_unknown_in (Some thing) = tt
+
+pub cond_in : {A : Type 0} (b : Bool) (value : A) → InGrammar (cond b (Ok value) (Err Unknown))
+cond_in true value = tt
+cond_in false value = tt
+
+terminal_in : (system : System) (word : List ℕ) → may_name word ≡ true → InGrammar (terminal system word)
+unfolding terminal terminal_named
+terminal_in system word formed = rw (named_formed word formed) (or_unknown_in _)
+
+among_in : (names : List (List ℕ)) (word : List ℕ) → may_name word ≡ true → InGrammar (terminal_among names word)
+unfolding terminal_among
+among_in names word formed = rw (named_formed word formed) (or_unknown_in _)
+
+pub pair_named_in : (system : System) (name : List ℕ) → InGrammar (pair_named system name)
+unfolding pair_named
+pair_named_in system name = or_unknown_in _
+
+pair_in : (system : System) (word : List ℕ) → may_name word ≡ true → InGrammar (pair system word)
+unfolding pair
+pair_in system word formed = rw (named_formed word formed) (pair_named_in system word)
+
+pub class_named_in : (system : System) (name : List ℕ) → InGrammar (class_named system name)
+unfolding class_named
+class_named_in system name = or_unknown_in _
+
+class_in : (system : System) (word : List ℕ) → may_name word ≡ true → InGrammar (class system word)
+unfolding class
+class_in system word formed = rw (named_formed word formed) (class_named_in system word)
+
+file_in : (system : System) (word : List ℕ) → may_name word ≡ true → InGrammar (file system word)
+unfolding file file_named
+file_in system word formed = rw (named_formed word formed) (or_unknown_in _)
+
+process_in : (system : System) (c : List ℕ) (i : ℕ) → may_name c ≡ true → (1 ≤ i) × (i < 2 ^ 32) → InGrammar (process system c (decimal i))
+unfolding process
+process_in system c i formed fits = rw (named_formed c formed, counted-decimal i fits) (in_grammar _ _ (class_in system c formed) (λ c. cond_in _ _))
+
+-- the words of an entry under some names
+abbrev pub spelled : Names → LockRule → Event → List (List ℕ)
+spelled names rule event = map (spelling names) (event_words rule event)
+
+-- the words behind the first
+abbrev behind_first : List (List ℕ) → List (List ℕ)
+behind_first [] = []
+behind_first (word ∷ words) = words
+
+file_grammar : (system : System) (names : Names) → AreFormed names → (rule : LockRule) (c i : ℕ) (o : FileOp) (m : LockMode) (f s : ℕ) → HasLine rule (File c i o m f s)
+    → AllByRecursion IsInRange (event_words rule (File c i o m f s)) → InGrammar (file_line system rule (behind_first (spelled names rule (File c i o m f s))))
+unfolding file_line file_at
+file_grammar system names formed ReadersShare c i o m f s line range =
+    rw (mode_of m, op_of o line.0, named_formed (names.file f) (formed.file f), code_of s range.1.1.1.1.1.1.0) (in_grammar _ _ (process_in system (names.class c) i (formed.class c) range.1.1.0) (λ p. in_grammar _ _ (file_in system (names.file f) (formed.file f)) (λ f. tt)))
+file_grammar system names formed AllExclusive c i o m f s line range =
+    rw (op_of o line.0, named_formed (names.file f) (formed.file f), code_of s range.1.1.1.1.1.0) (in_grammar _ _ (process_in system (names.class c) i (formed.class c) range.1.1.0) (λ p. in_grammar _ _ (file_in system (names.file f) (formed.file f)) (λ f. tt)))
+
+pub grammar : (system : System) (names : Names) → AreFormed names → (event : Event) → HasLine system.rule event → AllByRecursion IsInRange (event_words system.rule event)
+    → InGrammar (event_of system (spelled names system.rule event))
+unfolding event_of line_behind server_line unit_line show numbered check applied begin send taken reply fault_of restart caused caused_otherwise other_cause older fail fail_tcp fail_server takeover raise end end_by ended ending_of member
+grammar system names formed (Show t p a k) line range = rw (refresh_of p a k range.1.1.0) (in_grammar _ _ (terminal_in system (names.terminal t) (formed.terminal t)) (λ t. tt))
+grammar system names formed (Key t k) line range = rw (number_of k range.1.1.0) (in_grammar _ _ (in_grammar _ _ (terminal_in system (names.terminal t) (formed.terminal t)) (λ t. tt)) (λ r. tt))
+grammar system names formed (CheckStart t) line range = in_grammar _ _ (terminal_in system (names.terminal t) (formed.terminal t)) (λ t. tt)
+grammar system names formed (CheckEnd t) line range = in_grammar _ _ (terminal_in system (names.terminal t) (formed.terminal t)) (λ t. tt)
+grammar system names formed (CheckCopy t) line range = in_grammar _ _ (terminal_in system (names.terminal t) (formed.terminal t)) (λ t. tt)
+grammar system names formed (Applied t) line range = in_grammar _ _ (terminal_in system (names.terminal t) (formed.terminal t)) (λ t. tt)
+grammar system names formed (Begin t n r) line range = rw (number_of n range.1.1.0, number_of r range.1.1.1.0) (in_grammar _ _ (terminal_in system (names.terminal t) (formed.terminal t)) (λ t. tt))
+grammar system names formed (Send t n c) line range = rw (named_formed (names.class c) (formed.class c), number_of n range.1.1.0) (in_grammar _ _ (terminal_in system (names.terminal t) (formed.terminal t)) (λ t. in_grammar _ _ (class_in system (names.class c) (formed.class c)) (λ c. tt)))
+grammar system names formed (Take c i t) line range = rw (named_formed (names.terminal t) (formed.terminal t)) (in_grammar _ _ (process_in system (names.class c) i (formed.class c) range.1.1.0) (λ p. in_grammar _ _ (terminal_in system (names.terminal t) (formed.terminal t)) (λ t. tt)))
+grammar system names formed (File c i o m f s) line range = file_grammar system names formed system.rule c i o m f s line range
+grammar system names formed (Reply c i t None) line range = rw (named_formed (names.terminal t) (formed.terminal t)) (in_grammar _ _ (process_in system (names.class c) i (formed.class c) range.1.1.0) (λ p. in_grammar _ _ (terminal_in system (names.terminal t) (formed.terminal t)) (λ t. tt)))
+grammar system names formed (Reply c i t (Some x)) line range = rw (code_of x range.1.1.1.1.1.0, named_formed (names.terminal t) (formed.terminal t)) (in_grammar _ _ (process_in system (names.class c) i (formed.class c) range.1.1.0) (λ p. in_grammar _ _ (terminal_in system (names.terminal t) (formed.terminal t)) (λ t. tt)))
+grammar system names formed (Again t n) line range = rw (number_of n range.1.1.0) (in_grammar _ _ (in_grammar _ _ (terminal_in system (names.terminal t) (formed.terminal t)) (λ t. tt)) (λ r. tt))
+grammar system names formed (Commit t n) line range = rw (number_of n range.1.1.0) (in_grammar _ _ (in_grammar _ _ (terminal_in system (names.terminal t) (formed.terminal t)) (λ t. tt)) (λ r. tt))
+grammar system names formed (Back t n) line range = rw (number_of n range.1.1.0) (in_grammar _ _ (in_grammar _ _ (terminal_in system (names.terminal t) (formed.terminal t)) (λ t. tt)) (λ r. tt))
+grammar system names formed (Restart t n (cause.Older o m)) line range = rw (number_of n range.1.1.0, named_formed (names.terminal t) (formed.terminal t), named_formed (names.terminal o) (formed.terminal o), number_of m range.1.1.1.1.1.0) (in_grammar _ _ (in_grammar _ _ (among_in (terminal_names system) (names.terminal o) (formed.terminal o)) (λ o. in_grammar _ _ (among_in (terminal_names system) (names.terminal t) (formed.terminal t)) (λ t. tt))) (λ r. tt))
+grammar system names formed (Restart t n (cause.Takeover p)) line range = rw (number_of n range.1.1.0, named_formed (names.terminal t) (formed.terminal t)) (in_grammar _ _ (in_grammar _ _ (in_grammar _ _ (pair_in system (names.pair p) (formed.pair p)) (λ p. tt)) (λ cause. in_grammar _ _ (terminal_in system (names.terminal t) (formed.terminal t)) (λ t. tt))) (λ r. tt))
+grammar system names formed (Restart t n (cause.Server k)) line range = rw (number_of n range.1.1.0, named_formed (names.terminal t) (formed.terminal t), counted-decimal k range.1.1.1.1.0) (in_grammar _ _ (in_grammar _ _ (terminal_in system (names.terminal t) (formed.terminal t)) (λ t. tt)) (λ r. tt))
+grammar system names formed (Restart t n cause.Redo) line range = rw (number_of n range.1.1.0, named_formed (names.terminal t) (formed.terminal t)) (in_grammar _ _ (in_grammar _ _ (terminal_in system (names.terminal t) (formed.terminal t)) (λ t. tt)) (λ r. tt))
+grammar system names formed (FailTcp p true k) line range = rw (counted-decimal k range.1.1.1.1.0) (in_grammar _ _ (pair_in system (names.pair p) (formed.pair p)) (λ p. tt))
+grammar system names formed (FailTcp p false k) line range = rw (counted-decimal k range.1.1.1.1.0) (in_grammar _ _ (pair_in system (names.pair p) (formed.pair p)) (λ p. tt))
+grammar system names formed (FailServer c i k) line range = rw (counted-decimal k range.1.1.1.1.0) (in_grammar _ _ (process_in system (names.class c) i (formed.class c) range.1.1.1.0) (λ p. tt))
+grammar system names formed (Takeover p) line range = in_grammar _ _ (pair_in system (names.pair p) (formed.pair p)) (λ p. tt)
+grammar system names formed (Raise p) line range = in_grammar _ _ (pair_in system (names.pair p) (formed.pair p)) (λ p. tt)
+grammar system names formed (End t ending.Stopped) line range = in_grammar _ _ (terminal_in system (names.terminal t) (formed.terminal t)) (λ t. tt)
+grammar system names formed (End t ending.NoEntries) line range = in_grammar _ _ (terminal_in system (names.terminal t) (formed.terminal t)) (λ t. tt)
+grammar system names formed (End t (ending.Fault x)) line range = rw (code_of x range.1.1.1.0) (in_grammar _ _ (terminal_in system (names.terminal t) (formed.terminal t)) (λ t. tt))
+grammar system names formed (End t (ending.Suspended (cause.Older o m))) line range = rw (named_formed (names.terminal t) (formed.terminal t), named_formed (names.terminal o) (formed.terminal o), number_of m range.1.1.1.1.1.0) (in_grammar _ _ (in_grammar _ _ (among_in (terminal_names system) (names.terminal o) (formed.terminal o)) (λ o. in_grammar _ _ (among_in (terminal_names system) (names.terminal t) (formed.terminal t)) (λ t. tt))) (λ r. tt))
+grammar system names formed (End t (ending.Suspended (cause.Takeover p))) line range = rw (named_formed (names.terminal t) (formed.terminal t)) (in_grammar _ _ (in_grammar _ _ (in_grammar _ _ (pair_in system (names.pair p) (formed.pair p)) (λ p. tt)) (λ cause. in_grammar _ _ (terminal_in system (names.terminal t) (formed.terminal t)) (λ t. tt))) (λ r. tt))
+grammar system names formed (End t (ending.Suspended (cause.Server k))) line range = rw (named_formed (names.terminal t) (formed.terminal t), counted-decimal k range.1.1.1.1.0) (in_grammar _ _ (in_grammar _ _ (terminal_in system (names.terminal t) (formed.terminal t)) (λ t. tt)) (λ r. tt))
+grammar system names formed (End t (ending.Suspended cause.Redo)) line range = rw (named_formed (names.terminal t) (formed.terminal t)) (in_grammar _ _ (in_grammar _ _ (terminal_in system (names.terminal t) (formed.terminal t)) (λ t. tt)) (λ r. tt))
+grammar system names formed (End t ending.Lost) line range = in_grammar _ _ (terminal_in system (names.terminal t) (formed.terminal t)) (λ t. tt)

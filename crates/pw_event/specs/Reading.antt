@@ -1,0 +1,45 @@
+-- What it is to read a line of the log.
+use Rattle.std.specs.Prelude.{◌≡◌, ℕ, List, map, Bool, true, Result, Ok, Err}
+use Rattle.std.specs.List.{AllByRecursion}
+use Rattle.std.specs.Str.{str_to_ascii_uppercase}
+use Rattle.pw_code.specs.Names.{is_name}
+use Rattle.pw_code.specs.declared.lock.LockRule.{LockRule}
+use Rattle.pw_code.specs.declared.system.System.{System}
+use Rattle.pw_event.specs.declared.event.Event.{Event}
+use Rattle.pw_event.specs.declared.fault.EventFault.{EventFault}
+use Rattle.pw_event.specs.declared.fault.EventFault.TheVariants.{Bad, Unknown, Memory}
+use Rattle.pw_event.specs.Line.{Names, spelling, sentence, event_words, event_text, HasLine, IsInRange, IsNamed}
+
+-- a name as it may stand in a line: 1 to 30 letters, digits and hyphens, of which the first is a letter, in either case
+abbrev pub may_name : List ℕ → Bool
+may_name word = is_name (str_to_ascii_uppercase word)
+
+-- the names may stand in a line
+pub record AreFormed (names : Names) : Type 0 where
+  pub terminal : (t : ℕ) → may_name (names.terminal t) ≡ true
+  pub pair : (p : ℕ) → may_name (names.pair p) ≡ true
+  pub class : (c : ℕ) → may_name (names.class c) ≡ true
+  pub file : (f : ℕ) → may_name (names.file f) ≡ true
+
+-- A line of the grammar: under some names it is the spelling of some entry.
+pub record IsLine (rule : LockRule) (line : List ℕ) : Type 0 where
+  pub names : Names
+  pub event : Event
+  pub formed : AreFormed names
+  pub told : HasLine rule event
+  pub numbers : AllByRecursion IsInRange (event_words rule event)
+  pub spelled : line ≡ sentence (map (spelling names) (event_words rule event))
+
+-- The line is the spelling of this entry of the system.
+pub record IsLineOf (system : System) (line : List ℕ) (event : Event) : Type 0 where
+  pub named : IsNamed system event
+  pub numbers : AllByRecursion IsInRange (event_words system.rule event)
+  pub spelled : line ≡ event_text system event
+
+-- What reading a line answers: the entry of the system that it spells; Bad where it is no line of the grammar; Unknown
+-- where it is one that spells no entry of the system.
+abbrev pub Reads : System → List ℕ → Result Event EventFault → Type 0
+Reads system line (Ok event) = IsLineOf system line event
+Reads system line (Err Bad) = ¬ (IsLine system.rule line)
+Reads system line (Err Unknown) = IsLine system.rule line × ((event : Event) → ¬ (IsLineOf system line event))
+Reads system line (Err Memory) = Unit {0}

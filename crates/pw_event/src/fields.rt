@@ -1,0 +1,206 @@
+ghost use Rattle.std.specs.Prelude.{◌≡◌, ◌≢◌, ◌==◌, ◌<◌, ◌≤◌, ◌^◌, ℕ, length, position, IfSome, IfOk, MatchOption};
+ghost use Rattle.std.specs.Fmt.{decimal};
+ghost use Rattle.std.specs.List.{list_all};
+ghost use Rattle.std.specs.Char.{to_ascii_uppercase};
+ghost use Rattle.std.specs.Str.{str_to_ascii_uppercase};
+ghost use Rattle.pw_code.specs.Names.{is_name_byte, begins_with_letter};
+ghost use Rattle.pw_event.specs.Reading.{may_name};
+ghost use Rattle.std.specs.Option.{option_map};
+ghost use Rattle.pw_event.specs.Parsing.{named, is_odd, number, counted, cut, refresh, op, mode, member};
+
+use crate::fault::EventFault;
+use crate::words::is;
+use pw_code::file::FileOp;
+use pw_code::lock::LockMode;
+
+/// The most bytes that a name has.
+const MAX_NAME: usize = 30;
+
+fn is_name_byte(byte: u8) -> bool
+    ensures { result ≡ is_name_byte (to_ascii_uppercase byte) }
+{
+    let upper = byte.to_ascii_uppercase();
+    upper.is_ascii_uppercase() || (upper.is_ascii_digit() || upper == b'-')
+}
+
+fn are_name_bytes(word: &[u8]) -> bool
+    ensures { result ≡ list_all (λ byte. is_name_byte (to_ascii_uppercase byte)) word.now }
+{
+    word.iter().all(|byte| is_name_byte(*byte))
+}
+
+fn begins_with_letter(word: &[u8]) -> bool
+    ensures { result ≡ begins_with_letter (str_to_ascii_uppercase word.now) }
+{
+    match word {
+        [first, ..] => first.to_ascii_uppercase().is_ascii_uppercase(),
+        [] => false,
+    }
+}
+
+/// Whether the bytes are 1 to 30 letters, digits and hyphens, of which the first is a letter, in either case.
+fn is_name(word: &[u8]) -> bool
+    ensures { result ≡ may_name word.now }
+{
+    begins_with_letter(word) && (word.len() <= MAX_NAME && are_name_bytes(word))
+}
+
+/// Refuses a word that is no name.
+#[tactic(auto, unfolding(crate::specs::Parsing::named))]
+pub fn named(word: &[u8]) -> Result<(), EventFault>
+    ensures { result ≡ named word.now }
+{
+    if is_name(word) {
+        Ok(())
+    } else {
+        Err(EventFault::Bad)
+    }
+}
+
+/// Whether a sign stands in front, or a zero before other digits.
+fn is_odd(word: &[u8]) -> bool
+    ensures { result ≡ is_odd word.now }
+{
+    match word {
+        [b'+', ..] => true,
+        [b'0', _, ..] => true,
+        _ => false,
+    }
+}
+
+/// The number of which the word is the decimal digits, without leading zeros.
+fn decimal(word: &[u8]) -> Option<u32>
+    ensures { MatchOption result ((n : ℕ) → n < 2 ^ 32 → word.now ≢ decimal n)
+        (λ n. (word.now ≡ decimal n) × (n < 2 ^ 32)) }
+{
+    if is_odd(word) {
+        return None;
+    }
+    let Ok(text) = std::str::from_utf8(word) else {
+        return None;
+    };
+    match text.parse() {
+        Ok(number) => Some(number),
+        Err(_) => None,
+    }
+}
+
+/// The number of which the word is the decimal digits, up to a limit.
+pub fn number(word: &[u8], limit: u32) -> Result<u32, EventFault>
+    ensures value { result ≡ number limit word.now }
+    ensures bound { IfOk result (λ number. number ≤ limit) }
+{
+    match decimal(word) {
+        Some(number) => {
+            if number <= limit {
+                Ok(number)
+            } else {
+                Err(EventFault::Bad)
+            }
+        }
+        None => Err(EventFault::Bad),
+    }
+}
+
+/// A number from 1.
+#[tactic(auto, unfolding(crate::specs::Parsing::counted))]
+pub fn counted(word: &[u8]) -> Result<u32, EventFault>
+    ensures { result ≡ counted word.now }
+{
+    let number = number(word, u32::MAX)?;
+    if number == 0 {
+        Err(EventFault::Bad)
+    } else {
+        Ok(number)
+    }
+}
+
+/// A file status or a run fault.
+pub fn code(word: &[u8]) -> Result<u16, EventFault>
+    ensures { result ≡ number 65535 word.now }
+{
+    let number = number(word, 65535)?;
+    Ok(number as u16)
+}
+
+/// The place of the first point.
+fn point(word: &[u8]) -> Option<usize>
+    ensures place { result ≡ position (λ byte. byte == 46) word.now }
+    ensures bound { IfSome result (λ place. place < length word.now) }
+{
+    word.iter().position(|byte| *byte == b'.')
+}
+
+/// What stands before and behind the first point.
+#[tactic(auto, unfolding(crate::specs::Parsing::cut))]
+fn cut(word: &[u8]) -> Option<(&[u8], &[u8])>
+    ensures { option_map (λ parts. (parts.0.now, parts.1.now)) result ≡ cut word.now }
+{
+    let place = point(word)?;
+    Some((word.split_at(place).0, word.split_at(place + 1).1))
+}
+
+/// The phase, the attempt and the k of a refresh number.
+#[tactic(auto, unfolding(crate::specs::Parsing::refresh))]
+pub fn refresh(word: &[u8]) -> Result<(u32, u32, u32), EventFault>
+    ensures { result ≡ refresh word.now }
+{
+    let Some((phase, behind)) = cut(word) else {
+        return Err(EventFault::Bad);
+    };
+    let Some((attempt, k)) = cut(behind) else {
+        return Err(EventFault::Bad);
+    };
+    let phase = number(phase, u32::MAX)?;
+    let attempt = number(attempt, u32::MAX)?;
+    let k = number(k, u32::MAX)?;
+    Ok((phase, attempt, k))
+}
+
+/// An operation. The locking reads have no words of their own.
+#[tactic(auto, unfolding(crate::specs::Parsing::op))]
+pub fn op(word: &[u8]) -> Result<FileOp, EventFault>
+    ensures { result ≡ op word.now }
+{
+    if is(word, b"READ") {
+        Ok(FileOp::Read)
+    } else if is(word, b"NEXT") {
+        Ok(FileOp::Next)
+    } else if is(word, b"WRITE") {
+        Ok(FileOp::Write)
+    } else if is(word, b"REWRITE") {
+        Ok(FileOp::Rewrite)
+    } else if is(word, b"DELETE") {
+        Ok(FileOp::Delete)
+    } else {
+        Err(EventFault::Bad)
+    }
+}
+
+/// The mode of a lock.
+#[tactic(auto, unfolding(crate::specs::Parsing::mode))]
+pub fn mode(word: &[u8]) -> Result<LockMode, EventFault>
+    ensures { result ≡ mode word.now }
+{
+    if is(word, b"S") {
+        Ok(LockMode::Shared)
+    } else if is(word, b"X") {
+        Ok(LockMode::Exclusive)
+    } else {
+        Err(EventFault::Bad)
+    }
+}
+
+/// Whether a member of a pair is its primary.
+#[tactic(auto, unfolding(crate::specs::Parsing::member))]
+pub fn member(word: &[u8]) -> Result<bool, EventFault>
+    ensures { result ≡ member word.now }
+{
+    if is(word, b"PRIMARY") {
+        Ok(true)
+    } else if is(word, b"BACKUP") {
+        Ok(false)
+    } else {
+        Err(EventFault::Bad)
+    }
+}
