@@ -1,0 +1,12 @@
+pub mod OlderUnitWins
+pub mod SharedReaders
+pub mod SpanLock
+pub mod TakeoverAfterCommit
+pub mod TakeoverAnswersKeptReply
+pub mod TakeoverRestartsOpenUnit
+pub mod PairLostWhileRaising
+pub mod ServerFailureRestartsUnit
+pub mod RedoUntilSuspended
+pub mod LocksOutliveReply
+pub mod DroppedTransaction
+pub mod BackupFailureInUnit

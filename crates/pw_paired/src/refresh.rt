@@ -1,0 +1,11 @@
+use pw_code::screen::ScreenImage;
+
+/// One showing of a terminal's screen, under its refresh number `phase.attempt.k`.
+#[derive(Debug, Drop)]
+pub struct Refresh {
+    pub terminal: u32,
+    pub phase: u32,
+    pub attempt: u32,
+    pub k: u32,
+    pub image: ScreenImage,
+}
