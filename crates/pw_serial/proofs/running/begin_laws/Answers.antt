@@ -1,0 +1,5 @@
+use Rattle.pw_serial.proofs.BeginsOnce.{begins-once, few-restarts}
+use Rattle.pw_serial.proofs.running.begin_laws.Goals as goal
+
+pub returns : goal.returns
+returns c = record { once = begins-once; few = few-restarts }

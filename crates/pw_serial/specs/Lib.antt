@@ -1,0 +1,4 @@
+pub mod Held
+pub mod Records
+pub mod Seen
+pub mod Running

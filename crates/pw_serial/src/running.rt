@@ -1,0 +1,70 @@
+ghost use Rattle.std.specs.Prelude.{◌≡◌, ◌≢◌, ℕ, ◌+◌, ◌≤◌, List, [], ◌∷◌, ◌++◌, None, Some, true, false};
+ghost use Rattle.pw_event.specs.declared.event.Cause.{Cause};
+ghost use Rattle.pw_event.specs.declared.event.Event.{Event};
+ghost use Rattle.pw_event.specs.declared.event.Event.TheVariants.{Begin, Commit, Reply};
+ghost use Rattle.pw_paired.specs.Behaviour.{IsBehaviour};
+ghost use Rattle.pw_paired.specs.OneCopy.{IsAttempt, attempt};
+ghost use Rattle.pw_paired.specs.Path.{PathAnswer, is_outside};
+ghost use Rattle.pw_paired.specs.Raising.{is_takeover};
+ghost use Rattle.pw_paired.specs.State.{Gone, Open, Paired};
+ghost use Rattle.pw_paired.specs.Step.{IsRun, after};
+ghost use Rattle.pw_paired.specs.System.{Sys};
+ghost use Rattle.pw_paired.specs.Terminal.{IsLive, path_of};
+ghost use Rattle.pw_paired.specs.Units.{committed};
+ghost use Rattle.pw_serial.specs.Running.{CommitsAlone, HasStep, Runs, answers_after, has_paths};
+
+/// In a run of a deck a running attempt is the attempt that the one-copy machine makes alone, on the committed records as
+/// they are now: from its start path, with its unit's restarts and as many answers as entries have put on its path. While
+/// a member of the pair works and no takeover is pending for the terminal, its path is the path of that attempt.
+pub fn attempt_laws()
+    ensures is { (sys : Sys) → IsBehaviour sys → (log : List Event) → IsRun sys log
+        → (t : ℕ) (unit : Open) (start : List PathAnswer)
+        → (after sys log).units t ≡ Some unit → unit.running ≡ Some start
+        → IsAttempt sys t start (committed sys (after sys log)) unit.restarts (answers_after sys log t) }
+    ensures path { (sys : Sys) → IsBehaviour sys → (log : List Event) → IsRun sys log
+        → (t : ℕ) (unit : Open) (start : List PathAnswer)
+        → (after sys log).units t ≡ Some unit → unit.running ≡ Some start
+        → has_paths ((after sys log).modes (sys.pair_of t)) ≡ true
+        → is_takeover ((after sys log).terms t).pending ≡ false
+        → path_of (after sys log) t
+        ≡ (attempt sys t start (committed sys (after sys log)) unit.restarts (answers_after sys log t)).path }
+{}
+
+/// In a run of a deck a unit that commits leaves what it would leave alone: behind its COMMIT, and behind the reply of a
+/// unit that is one SEND, the committed records are the files of its attempt on the committed records just before.
+pub fn commit_laws()
+    ensures commit { (sys : Sys) → IsBehaviour sys → (log : List Event) (t n : ℕ) → IsRun sys (log ++ Commit t n ∷ [])
+        → CommitsAlone sys (after sys log) (after sys (log ++ Commit t n ∷ [])) t (answers_after sys log t) }
+    ensures send { (sys : Sys) → IsBehaviour sys → (log : List Event) (c i t : ℕ)
+        → IsRun sys (log ++ Reply c i t None ∷ []) → is_outside (path_of (after sys log) t) ≡ true
+        → CommitsAlone sys (after sys log) (after sys (log ++ Reply c i t None ∷ [])) t (answers_after sys log t + 1) }
+{}
+
+/// In a run of a deck each attempt of a unit begins once, whatever fails: no entry BEGIN t n r stands twice. The recorded
+/// restarts of an open unit are never more than its terminal's MAXTMFRESTARTS.
+pub fn begin_laws()
+    ensures once { (sys : Sys) → IsBehaviour sys → (before between : List Event) (t n r : ℕ)
+        → ¬ IsRun sys (before ++ Begin t n r ∷ (between ++ Begin t n r ∷ [])) }
+    ensures few { (sys : Sys) → IsBehaviour sys → (log : List Event) → IsRun sys log → (t : ℕ) (unit : Open)
+        → (after sys log).units t ≡ Some unit → unit.restarts ≤ sys.max_restarts t }
+{}
+
+/// In a run of a deck a pending cause is one of a running attempt, unless the pair is lost: so the attempt can restart by
+/// it, or its terminal be suspended.
+pub fn pending_laws()
+    ensures { (sys : Sys) → IsBehaviour sys → (log : List Event) → IsRun sys log → (t : ℕ) (cause : Cause)
+        → ((after sys log).terms t).pending ≡ Some cause → (after sys log).modes (sys.pair_of t) ≢ Gone
+        → Runs ((after sys log).units t) }
+{}
+
+/// In a run of a deck an entry is legal wherever a live terminal's pair is not up to date, a cause is pending for it or a
+/// message of it is in flight: a failure line that is due, a takeover, a restart or suspension, a new backup and its
+/// copies, or the loss of the pair.
+pub fn pair_laws()
+    ensures pair { (sys : Sys) → IsBehaviour sys → (log : List Event) → IsRun sys log → (t : ℕ)
+        → IsLive sys (after sys log) t → (after sys log).modes (sys.pair_of t) ≢ Paired → HasStep sys (after sys log) }
+    ensures pending { (sys : Sys) → IsBehaviour sys → (log : List Event) → IsRun sys log → (t : ℕ)
+        → IsLive sys (after sys log) t → ((after sys log).terms t).pending ≢ None → HasStep sys (after sys log) }
+    ensures message { (sys : Sys) → IsBehaviour sys → (log : List Event) → IsRun sys log → (t : ℕ)
+        → IsLive sys (after sys log) t → (after sys log).flight t ≢ None → HasStep sys (after sys log) }
+{}
