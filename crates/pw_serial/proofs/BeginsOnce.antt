@@ -1,8 +1,10 @@
 -- Each attempt of a unit begins once.
-use Rattle.std.proofs.Common.{◌≡◌, ℕ, ◌+◌, ◌<◌, ◌≤◌, ⊎_elim, Bool, true, false, List, [], ◌∷◌, ◌++◌, Option, Some, None, if◌then◌else◌, refl, ap, sym, subst, ◌∙◌, arith}
-use Rattle.std.proofs.lemmas.Bool.{cases_eq}
+use Rattle.std.proofs.Common.{◌≡◌, ◌≢◌, ℕ, ◌+◌, ◌<◌, ◌≤◌, ⊎_elim, Bool, true, false, ◌&&◌, ◌==◌, cond, length, filter, List, [], ◌∷◌, ◌++◌, Option, Some, None, if◌then◌else◌, refl, ap, sym, subst, ◌∙◌, arith}
+use Rattle.std.proofs.lemmas.Bool.{cases_eq, eq-eqb, ne_eqb, and_left}
 use Rattle.pw_code.specs.declared.verb.Verb.{Verb}
 use Rattle.pw_code.specs.declared.verb.Verb.TheVariants as verb
+use Rattle.pw_event.specs.declared.event.Cause.{Cause}
+use Rattle.pw_event.specs.declared.event.Cause.TheVariants as cause
 use Rattle.pw_event.specs.declared.event.Ending.TheVariants as ending
 use Rattle.pw_event.specs.declared.event.Event.{Event}
 use Rattle.pw_event.specs.declared.event.Event.TheVariants.{Show, Key, CheckStart, CheckEnd, CheckCopy, Applied, Begin, Send, Take, File, Reply, Again, Commit, Back, Restart, FailTcp, FailServer, Takeover, Raise, End}
@@ -13,25 +15,31 @@ use Rattle.pw_paired.proofs.Kept.{Inv}
 use Rattle.pw_paired.proofs.Runs.{IsRunFrom-split, keeps, kept-at-start, kept-from}
 use Rattle.pw_paired.proofs.Upd.{upd-same, upd-other}
 use Rattle.pw_paired.specs.Behaviour.{IsBehaviour}
-use Rattle.pw_paired.specs.Failure.{awaiting, backup_fails, is_of, primary_fails, process_fails, restarted}
+use Rattle.pw_paired.specs.Failure.{LegalRestart, awaiting, backup_fails, is_of, primary_fails, process_fails, restarted}
 use Rattle.pw_paired.specs.Path.{PathAnswer, is_outside, unit_number}
 use Rattle.pw_paired.specs.Server.{do_job, do_verb, freed, reply_at}
 use Rattle.pw_paired.specs.State.{upd, Alone, Down, Gone, Job, LastEnded, Mode, Open, Paired, Raising, State, starting}
 use Rattle.pw_paired.specs.Step.{Fits, IsRun, IsRunFrom, after_from, effect}
 use Rattle.pw_paired.specs.System.{Sys}
-use Rattle.pw_paired.specs.Terminal.{LegalBegin, begun, path_of}
+use Rattle.pw_paired.specs.Terminal.{IsOver, LegalBegin, awaited_of, begun, path_of}
 use Rattle.pw_paired.specs.Units.{attempt_of, commits, last_left, only, restarts_of}
+use Rattle.pw_serial.specs.Running.{is_restart_of, restarts_in}
 
 -- the number of a terminal's last ended unit
 abbrev last_of : State → ℕ → ℕ
 last_of s t = (s.ended t).number
 
--- what an entry may do to the open unit of a terminal and to the number of its last ended one
-data Moves (limit t : ℕ) (s after : State) : Type 0 where
-  stays : after.units t ≡ s.units t → last_of after t ≡ last_of s t → Moves limit t s after
-  begins : (unit : Open) → after.units t ≡ Some unit → unit.restarts ≡ restarts_of (s.units t) → attempt_of (s.units t) ≡ None → last_of after t ≡ last_of s t → Moves limit t s after
-  restarts : (was unit : Open) → s.units t ≡ Some was → after.units t ≡ Some unit → unit.restarts ≡ was.restarts + 1 → was.restarts < limit → last_of after t ≡ last_of s t → Moves limit t s after
-  ends : after.units t ≡ None → last_of after t ≡ last_of s t + 1 → Moves limit t s after
+-- what an entry other than a restart may do to the open unit of a terminal and to the number of its last ended one
+data Moves (t : ℕ) (s after : State) : Type 0 where
+  stays : after.units t ≡ s.units t → last_of after t ≡ last_of s t → Moves t s after
+  begins : (unit : Open) → after.units t ≡ Some unit → unit.restarts ≡ restarts_of (s.units t) → attempt_of (s.units t) ≡ None → IsOver s.ended (awaited_of (s.units t)) → last_of after t ≡ last_of s t → Moves t s after
+  ends : after.units t ≡ None → last_of after t ≡ last_of s t + 1 → Moves t s after
+
+-- an entry is no restart of a terminal, or it is one of its open unit
+data Goes (limit t : ℕ) (s after : State) (entry : Event) : Type 0 where
+  plainly : ((n : ℕ) → is_restart_of t n entry ≡ false) → Moves t s after → Goes limit t s after entry
+  restarting : (was unit : Open) → s.units t ≡ Some was → after.units t ≡ Some unit → unit.restarts ≡ was.restarts + 1 → was.restarts < limit → was.running ≢ None → last_of after t ≡ last_of s t
+      → ((n : ℕ) → is_restart_of t n entry ≡ (was.number == n)) → Goes limit t s after entry
 
 -- attempt r of unit n has begun
 data Past (t n r : ℕ) (s : State) : Type 0 where
@@ -40,38 +48,38 @@ data Past (t n r : ℕ) (s : State) : Type 0 where
   is_running : (unit : Open) (q : List PathAnswer) → n ≡ last_of s t + 1 → s.units t ≡ Some unit → r ≡ unit.restarts → unit.running ≡ Some q → Past t n r s
 
 -- it stays so
-still-past : (limit t n r : ℕ) (s after : State) → Moves limit t s after → Past t n r s → Past t n r after
-still-past limit t n r s after (stays units last) (has_ended low) = has_ended (omega (arith, low, last))
-still-past limit t n r s after (stays units last) (has_restarted unit next is less) = has_restarted unit (omega (arith, next, last)) (units ∙ is) less
-still-past limit t n r s after (stays units last) (is_running unit q next is same runs) = is_running unit q (omega (arith, next, last)) (units ∙ is) same runs
-still-past limit t n r s after (begins unit is counts idle last) (has_ended low) = has_ended (omega (arith, low, last))
-still-past limit t n r s after (begins unit is counts idle last) (has_restarted u next was less) =
+still-past : (limit t n r : ℕ) (s after : State) (entry : Event) → Goes limit t s after entry → Past t n r s → Past t n r after
+still-past limit t n r s after entry (plainly other (stays units last)) (has_ended low) = has_ended (omega (arith, low, last))
+still-past limit t n r s after entry (plainly other (stays units last)) (has_restarted unit next is less) = has_restarted unit (omega (arith, next, last)) (units ∙ is) less
+still-past limit t n r s after entry (plainly other (stays units last)) (is_running unit q next is same runs) = is_running unit q (omega (arith, next, last)) (units ∙ is) same runs
+still-past limit t n r s after entry (plainly other (begins unit is counts idle over last)) (has_ended low) = has_ended (omega (arith, low, last))
+still-past limit t n r s after entry (plainly other (begins unit is counts idle over last)) (has_restarted u next was less) =
     has_restarted unit (omega (arith, next, last)) is (let same : unit.restarts ≡ u.restarts = counts ∙ ap restarts_of was in omega (arith, less, same))
-still-past limit t n r s after (begins unit is counts idle last) (is_running u q next was same runs) =
+still-past limit t n r s after entry (plainly other (begins unit is counts idle over last)) (is_running u q next was same runs) =
     absurd (let running = ap attempt_of was in cc (running, idle, runs))
-still-past limit t n r s after (restarts was unit was_is is more few last) (has_ended low) = has_ended (omega (arith, low, last))
-still-past limit t n r s after (restarts was unit was_is is more few last) (has_restarted u next u_is less) =
+still-past limit t n r s after entry (restarting was unit was_is is more few runs_then last at_entry) (has_ended low) = has_ended (omega (arith, low, last))
+still-past limit t n r s after entry (restarting was unit was_is is more few runs_then last at_entry) (has_restarted u next u_is less) =
     has_restarted unit (omega (arith, next, last)) is (let same : u.restarts ≡ was.restarts = cc (u_is, was_is) in omega (arith, less, same, more))
-still-past limit t n r s after (restarts was unit was_is is more few last) (is_running u q next u_is at runs) =
+still-past limit t n r s after entry (restarting was unit was_is is more few runs_then last at_entry) (is_running u q next u_is at runs) =
     has_restarted unit (omega (arith, next, last)) is (let same : u.restarts ≡ was.restarts = cc (u_is, was_is) in omega (arith, at, same, more))
-still-past limit t n r s after (ends none more) (has_ended low) = has_ended (omega (arith, low, more))
-still-past limit t n r s after (ends none more) (has_restarted u next is less) = has_ended (omega (arith, next, more))
-still-past limit t n r s after (ends none more) (is_running u q next is same runs) = has_ended (omega (arith, next, more))
+still-past limit t n r s after entry (plainly other (ends none more)) (has_ended low) = has_ended (omega (arith, low, more))
+still-past limit t n r s after entry (plainly other (ends none more)) (has_restarted u next is less) = has_ended (omega (arith, next, more))
+still-past limit t n r s after entry (plainly other (ends none more)) (is_running u q next is same runs) = has_ended (omega (arith, next, more))
 
 module _ (sys : Sys) (b : IsBehaviour sys) (s : State) (i : Inv sys s) (t : ℕ) where
   -- the open units of some terminals are left
   left-moves : (whose : Bool) (after : State) → after.units t ≡ (if whose then None else s.units t)
-      → after.ended t ≡ (if whose then last_left (s.units t) (s.ended t) else s.ended t) → Moves (sys.max_restarts t) t s after
+      → after.ended t ≡ (if whose then last_left (s.units t) (s.ended t) else s.ended t) → Moves t s after
   left-moves false after units last = stays units (ap (λ (x : LastEnded). x.number) last)
   left-moves true after units last = by (s.units t) refl last
     where
-      by : (unit : Option Open) → s.units t ≡ unit → after.ended t ≡ last_left unit (s.ended t) → Moves (sys.max_restarts t) t s after
+      by : (unit : Option Open) → s.units t ≡ unit → after.ended t ≡ last_left unit (s.ended t) → Moves t s after
       by None is now = stays (units ∙ sym is) (ap (λ (x : LastEnded). x.number) now)
       by (Some unit) is now = ends units (ap (λ (x : LastEnded). x.number) now ∙ ((i.terms t (i.known t unit is)).unit_ok unit is).number)
 
   -- a unit ends
   ends-moves : (own number : ℕ) (reply : Option (List ℕ)) (after : State) → after.units ≡ upd s.units own None → after.ended ≡ upd s.ended own (record { number = number; reply = reply })
-      → number ≡ last_of s own + 1 → Moves (sys.max_restarts t) t s after
+      → number ≡ last_of s own + 1 → Moves t s after
   ends-moves own number reply after units ended next =
       ⊎_elim
       (λ same.
@@ -82,7 +90,7 @@ module _ (sys : Sys) (b : IsBehaviour sys) (s : State) (i : Inv sys s) (t : ℕ)
       (ap (λ (x : ℕ → LastEnded). (x t).number) ended ∙ ap (λ (x : LastEnded). x.number) (upd-other s.ended own (record { number = number; reply = reply }) t differ)))
       (cases_eq t own)
 
-  verb-moves : (c p : ℕ) (job : Job) (v : Verb) → Moves (sys.max_restarts t) t s (do_verb sys c p job v s)
+  verb-moves : (c p : ℕ) (job : Job) (v : Verb) → Moves t s (do_verb sys c p job v s)
   verb-moves c p job (verb.File call) = stays refl refl
   verb-moves c p job verb.Show = stays refl refl
   verb-moves c p job (verb.Accept screen) = stays refl refl
@@ -95,28 +103,28 @@ module _ (sys : Sys) (b : IsBehaviour sys) (s : State) (i : Inv sys s) (t : ℕ)
   verb-moves c p job (verb.Fault x) = stays refl refl
   verb-moves c p job (verb.Reply reply) = stays refl refl
 
-  job-moves : (c p : ℕ) (job : Option Job) → Moves (sys.max_restarts t) t s (do_job sys c p job s)
+  job-moves : (c p : ℕ) (job : Option Job) → Moves t s (do_job sys c p job s)
   job-moves c p None = stays refl refl
   job-moves c p (Some job) = verb-moves c p job (sys.ops c job.request.message job.done)
 
   reply-moves : (c p own : ℕ) (outside : Bool) → unit_number (path_of s own) ≡ last_of s own + 1
-      → Moves (sys.max_restarts t) t s (if outside then commits own (unit_number (path_of s own)) (Some (reply_at sys c ((s.classes c).busy p))) (freed c p s) else freed c p s)
+      → Moves t s (if outside then commits own (unit_number (path_of s own)) (Some (reply_at sys c ((s.classes c).busy p))) (freed c p s) else freed c p s)
   reply-moves c p own true number = ends-moves own (unit_number (path_of s own)) (Some (reply_at sys c ((s.classes c).busy p)))
       (commits own (unit_number (path_of s own)) (Some (reply_at sys c ((s.classes c).busy p))) (freed c p s)) refl refl number
   reply-moves c p own false number = stays refl refl
 
-  process-moves : (c p k : ℕ) (job : Option Job) → Moves (sys.max_restarts t) t s (process_fails c p k job s)
+  process-moves : (c p k : ℕ) (job : Option Job) → Moves t s (process_fails c p k job s)
   process-moves c p k None = stays refl refl
   process-moves c p k (Some job) = stays refl refl
 
-  primary-moves : (p : ℕ) (mode : Mode) → Moves (sys.max_restarts t) t s (primary_fails sys p mode s)
+  primary-moves : (p : ℕ) (mode : Mode) → Moves t s (primary_fails sys p mode s)
   primary-moves p Paired = stays refl refl
   primary-moves p Raising = left-moves (is_of sys p t) (primary_fails sys p Raising s) refl refl
   primary-moves p Alone = left-moves (is_of sys p t) (primary_fails sys p Alone s) refl refl
   primary-moves p Down = stays refl refl
   primary-moves p Gone = stays refl refl
 
-  backup-moves : (p : ℕ) (mode : Mode) → Moves (sys.max_restarts t) t s (backup_fails sys p mode s)
+  backup-moves : (p : ℕ) (mode : Mode) → Moves t s (backup_fails sys p mode s)
   backup-moves p Paired = stays refl refl
   backup-moves p Raising = stays refl refl
   backup-moves p Alone = stays refl refl
@@ -124,72 +132,76 @@ module _ (sys : Sys) (b : IsBehaviour sys) (s : State) (i : Inv sys s) (t : ℕ)
   backup-moves p Gone = stays refl refl
 
   -- the same with the entry in the log
-  logged : (x : State) (entry : Event) → Moves (sys.max_restarts t) t s x → Moves (sys.max_restarts t) t s (record x { log = s.log ++ entry ∷ [] })
+  logged : (x : State) (entry : Event) → Moves t s x → Moves t s (record x { log = s.log ++ entry ∷ [] })
   logged x entry (stays units last) = stays units last
-  logged x entry (begins unit is counts idle last) = begins unit is counts idle last
-  logged x entry (restarts was unit was_is is more few last) = restarts was unit was_is is more few last
+  logged x entry (begins unit is counts idle over last) = begins unit is counts idle over last
   logged x entry (ends none more) = ends none more
 
-  moves : (entry : Event) → Fits sys s entry → Moves (sys.max_restarts t) t s (effect sys s entry)
-  moves (Show own phase attempt k) l = stays refl refl
-  moves (Key own k) l = stays refl refl
-  moves (CheckStart own) l = stays refl refl
-  moves (CheckEnd own) l = stays refl refl
-  moves (CheckCopy own) l = stays refl refl
-  moves (Applied own) l = stays refl refl
+  moves : (entry : Event) → Fits sys s entry → Goes (sys.max_restarts t) t s (effect sys s entry) entry
+  moves (Show own phase attempt k) l = plainly (λ n. refl) (stays refl refl)
+  moves (Key own k) l = plainly (λ n. refl) (stays refl refl)
+  moves (CheckStart own) l = plainly (λ n. refl) (stays refl refl)
+  moves (CheckEnd own) l = plainly (λ n. refl) (stays refl refl)
+  moves (CheckCopy own) l = plainly (λ n. refl) (stays refl refl)
+  moves (Applied own) l = plainly (λ n. refl) (stays refl refl)
   moves (Begin own n r) l =
-      ⊎_elim
+      plainly (λ m. refl)
+      (⊎_elim
       (λ same.
       begins (begun n s.births (path_of s own) (s.units own)) (upd-same s.units own _ t same)
-      (begun-restarts (s.units own) ∙ ap (λ (o : ℕ). restarts_of (s.units o)) (sym same)) (ap (λ (o : ℕ). attempt_of (s.units o)) same ∙ l.idle) refl)
+      (begun-restarts (s.units own) ∙ ap (λ (o : ℕ). restarts_of (s.units o)) (sym same)) (ap (λ (o : ℕ). attempt_of (s.units o)) same ∙ l.idle)
+      (subst (λ (o : ℕ). IsOver s.ended (awaited_of (s.units o))) (sym same) l.over) refl)
       (λ differ. stays (upd-other s.units own _ t differ) refl)
-      (cases_eq t own)
+      (cases_eq t own))
     where
       begun-restarts : (unit : Option Open) → (begun n s.births (path_of s own) unit).restarts ≡ restarts_of unit
       begun-restarts None = refl
       begun-restarts (Some unit) = refl
-  moves (Send own n c) l = stays refl refl
-  moves (Take c p own) l = stays refl refl
-  moves (File c p op mode f status) l = logged (do_job sys c p ((s.classes c).busy p) s) (File c p op mode f status) (job-moves c p ((s.classes c).busy p))
-  moves (Reply c p own (Some x)) l = stays refl refl
+  moves (Send own n c) l = plainly (λ n. refl) (stays refl refl)
+  moves (Take c p own) l = plainly (λ n. refl) (stays refl refl)
+  moves (File c p op mode f status) l = plainly (λ n. refl) (logged (do_job sys c p ((s.classes c).busy p) s) (File c p op mode f status) (job-moves c p ((s.classes c).busy p)))
+  moves (Reply c p own (Some x)) l = plainly (λ n. refl) (stays refl refl)
   moves (Reply c p own None) l =
-      relabelled (reply-moves c p own (is_outside (path_of s own))
+      plainly (λ n. refl)
+      (relabelled (reply-moves c p own (is_outside (path_of s own))
       (subst (λ (o : ℕ). unit_number (path_of s o) ≡ last_of s o + 1) l.whose
-      (out-path sys b s i.terms l.job.request.terminal (record { class = c; request = l.job.request }) (out-job sys b s i c p l.job l.at_work)).number))
+      (out-path sys b s i.terms l.job.request.terminal (record { class = c; request = l.job.request }) (out-job sys b s i c p l.job l.at_work)).number)))
     where
-      relabelled : Moves (sys.max_restarts t) t s (if is_outside (path_of s own) then commits own (unit_number (path_of s own)) (Some (reply_at sys c ((s.classes c).busy p))) (freed c p s) else freed c p s)
-          → Moves (sys.max_restarts t) t s (effect sys s (Reply c p own None))
+      relabelled : Moves t s (if is_outside (path_of s own) then commits own (unit_number (path_of s own)) (Some (reply_at sys c ((s.classes c).busy p))) (freed c p s) else freed c p s)
+          → Moves t s (effect sys s (Reply c p own None))
       relabelled (stays units last) = stays units last
-      relabelled (begins unit is counts idle last) = begins unit is counts idle last
-      relabelled (restarts was unit was_is is more few last) = restarts was unit was_is is more few last
+      relabelled (begins unit is counts idle over last) = begins unit is counts idle over last
       relabelled (ends none more) = ends none more
-  moves (Again own n) l = stays refl refl
+  moves (Again own n) l = plainly (λ n. refl) (stays refl refl)
   moves (Commit own n) l =
       let path = can_path sys b s i.terms own l.can in
-      ends-moves own n None (effect sys s (Commit own n)) refl refl
-      (l.number ∙ (within (s.units own) (b.ends own (path_of s own) (path_ok-is _ (s.units own) path) l.asks) path).path_is.number)
+      plainly (λ m. refl)
+      (ends-moves own n None (effect sys s (Commit own n)) refl refl
+      (l.number ∙ (within (s.units own) (b.ends own (path_of s own) (path_ok-is _ (s.units own) path) l.asks) path).path_is.number))
   moves (Back own n) l =
       let path = can_path sys b s i.terms own l.can in
-      ends-moves own n None (effect sys s (Back own n)) refl refl
-      (l.number ∙ (within (s.units own) (b.drops own (path_of s own) (path_ok-is _ (s.units own) path) l.asks) path).path_is.number)
-  moves (Restart own n cause) l =
+      plainly (λ m. refl)
+      (ends-moves own n None (effect sys s (Back own n)) refl refl
+      (l.number ∙ (within (s.units own) (b.drops own (path_of s own) (path_ok-is _ (s.units own) path) l.asks) path).path_is.number))
+  moves (Restart own number cause) l =
       ⊎_elim
       (λ same.
-      restarts l.unit (record l.unit { restarts = l.unit.restarts + 1; awaits = awaiting cause l.unit.awaits; running = None }) (ap s.units same ∙ l.caused.is_open)
+      restarting l.unit (record l.unit { restarts = l.unit.restarts + 1; awaits = awaiting cause l.unit.awaits; running = None }) (ap s.units same ∙ l.caused.is_open)
       (upd-same s.units own _ t same ∙ ap (restarted cause) l.caused.is_open) refl
-      (subst (λ (o : ℕ). l.unit.restarts < sys.max_restarts o) (sym same) l.few) refl)
-      (λ differ. stays (upd-other s.units own _ t differ) refl)
+      (subst (λ (o : ℕ). l.unit.restarts < sys.max_restarts o) (sym same) l.few) (λ none. absurd (let runs = l.caused.runs in cc (none, runs))) refl
+      (λ n. ap (λ (own_is : Bool). own_is && (number == n)) (eq-eqb own t (sym same)) ∙ ap (λ (m : ℕ). m == n) (sym l.caused.number)))
+      (λ differ. plainly (λ n. and_left (own == t) (number == n) (ne_eqb own t (λ same. differ (sym same)))) (stays (upd-other s.units own _ t differ) refl))
       (cases_eq t own)
-  moves (FailTcp p true k) l = logged (primary_fails sys p (s.modes p) s) (FailTcp p true k) (primary-moves p (s.modes p))
-  moves (FailTcp p false k) l = logged (backup_fails sys p (s.modes p) s) (FailTcp p false k) (backup-moves p (s.modes p))
-  moves (FailServer c p k) l = logged (process_fails c p k ((s.classes c).busy p) s) (FailServer c p k) (process-moves c p k ((s.classes c).busy p))
-  moves (Takeover p) l = stays refl refl
-  moves (Raise p) l = stays refl refl
-  moves (End own ending.Stopped) l = stays refl refl
-  moves (End own ending.NoEntries) l = left-moves (only own t) (effect sys s (End own ending.NoEntries)) refl refl
-  moves (End own (ending.Fault x)) l = left-moves (only own t) (effect sys s (End own (ending.Fault x))) refl refl
-  moves (End own (ending.Suspended cause)) l = left-moves (only own t) (effect sys s (End own (ending.Suspended cause))) refl refl
-  moves (End own ending.Lost) l = stays refl refl
+  moves (FailTcp p true k) l = plainly (λ n. refl) (logged (primary_fails sys p (s.modes p) s) (FailTcp p true k) (primary-moves p (s.modes p)))
+  moves (FailTcp p false k) l = plainly (λ n. refl) (logged (backup_fails sys p (s.modes p) s) (FailTcp p false k) (backup-moves p (s.modes p)))
+  moves (FailServer c p k) l = plainly (λ n. refl) (logged (process_fails c p k ((s.classes c).busy p) s) (FailServer c p k) (process-moves c p k ((s.classes c).busy p)))
+  moves (Takeover p) l = plainly (λ n. refl) (stays refl refl)
+  moves (Raise p) l = plainly (λ n. refl) (stays refl refl)
+  moves (End own ending.Stopped) l = plainly (λ n. refl) (stays refl refl)
+  moves (End own ending.NoEntries) l = plainly (λ n. refl) (left-moves (only own t) (effect sys s (End own ending.NoEntries)) refl refl)
+  moves (End own (ending.Fault x)) l = plainly (λ n. refl) (left-moves (only own t) (effect sys s (End own (ending.Fault x))) refl refl)
+  moves (End own (ending.Suspended cause)) l = plainly (λ n. refl) (left-moves (only own t) (effect sys s (End own (ending.Suspended cause))) refl refl)
+  moves (End own ending.Lost) l = plainly (λ n. refl) (stays refl refl)
 
   module _ (n r : ℕ) (l : LegalBegin sys s t n r) where
     abbrev next : last_of s t ≤ n × (n ≤ last_of s t + 1)
@@ -222,7 +234,7 @@ module _ (sys : Sys) (b : IsBehaviour sys) (s : State) (i : Inv sys s) (t : ℕ)
 past-from : (sys : Sys) → IsBehaviour sys → (t n r : ℕ) (s : State) → Inv sys s → (log : List Event) → IsRunFrom sys s log → Past t n r s → Past t n r (after_from sys s log)
 past-from sys b t n r s i [] run past = past
 past-from sys b t n r s i (entry ∷ log) run past =
-    past-from sys b t n r (effect sys s entry) (keeps sys b s i entry run.0) log run.1 (still-past (sys.max_restarts t) t n r s (effect sys s entry) (moves sys b s i t entry run.0.fits) past)
+    past-from sys b t n r (effect sys s entry) (keeps sys b s i entry run.0) log run.1 (still-past (sys.max_restarts t) t n r s (effect sys s entry) entry (moves sys b s i t entry run.0.fits) past)
 
 pub begins-once : (sys : Sys) → IsBehaviour sys → (before between : List Event) (t n r : ℕ)
     → ¬ IsRun sys (before ++ Begin t n r ∷ (between ++ Begin t n r ∷ []))
@@ -237,26 +249,160 @@ begins-once sys b before between t n r run =
     (past-from sys b t n r next j between second.0 (has-begun sys b s i t n r first.1.0.fits))
 
 -- an open unit has no more recorded restarts than its terminal may have
-still-few : (limit t : ℕ) (s after : State) → Moves limit t s after → ((unit : Open) → s.units t ≡ Some unit → unit.restarts ≤ limit)
+still-few : (limit t : ℕ) (s after : State) (entry : Event) → Goes limit t s after entry → ((unit : Open) → s.units t ≡ Some unit → unit.restarts ≤ limit)
     → (unit : Open) → after.units t ≡ Some unit → unit.restarts ≤ limit
-still-few limit t s after (stays units last) few unit is = few unit (sym units ∙ is)
-still-few limit t s after (begins now now_is counts idle last) few unit is =
+still-few limit t s after entry (plainly other (stays units last)) few unit is = few unit (sym units ∙ is)
+still-few limit t s after entry (plainly other (begins now now_is counts idle over last)) few unit is =
     by (s.units t) few (ap (λ (u : Open). u.restarts) (let same : unit ≡ now = cc (is, now_is) in same) ∙ counts)
   where
     by : (was : Option Open) → ((u : Open) → was ≡ Some u → u.restarts ≤ limit) → unit.restarts ≡ restarts_of was → unit.restarts ≤ limit
     by None before counts = omega (arith, counts)
     by (Some u) before counts = let low = before u refl in omega (arith, counts, low)
-still-few limit t s after (restarts was now was_is now_is more below last) few unit is =
+still-few limit t s after entry (plainly other (ends none more)) few unit is = absurd (cc (none, is))
+still-few limit t s after entry (restarting was now was_is now_is more below runs_then last at_entry) few unit is =
     let same : unit.restarts ≡ now.restarts = cc (is, now_is) in omega (arith, same, more, below)
-still-few limit t s after (ends none more) few unit is = absurd (cc (none, is))
 
 few-from : (sys : Sys) → IsBehaviour sys → (t : ℕ) (s : State) → Inv sys s → ((unit : Open) → s.units t ≡ Some unit → unit.restarts ≤ sys.max_restarts t)
     → (log : List Event) → IsRunFrom sys s log → (unit : Open) → (after_from sys s log).units t ≡ Some unit → unit.restarts ≤ sys.max_restarts t
 few-from sys b t s i few [] run = few
 few-from sys b t s i few (entry ∷ log) run =
     few-from sys b t (effect sys s entry) (keeps sys b s i entry run.0)
-    (still-few (sys.max_restarts t) t s (effect sys s entry) (moves sys b s i t entry run.0.fits) few) log run.1
+    (still-few (sys.max_restarts t) t s (effect sys s entry) entry (moves sys b s i t entry run.0.fits) few) log run.1
 
 pub few-restarts : (sys : Sys) → IsBehaviour sys → (log : List Event) → IsRun sys log → (t : ℕ) (unit : Open) → (after_from sys (starting sys) log).units t ≡ Some unit
     → unit.restarts ≤ sys.max_restarts t
 few-restarts sys b log run t = few-from sys b t (starting sys) (kept-at-start sys) (λ unit is. absurd (cc is)) log run
+
+-- how many restarts of a unit an entry is
+abbrev one : ℕ → ℕ → Event → ℕ
+one t n entry = if is_restart_of t n entry then 1 else 0
+
+-- so many restarts of each unit of the terminal have been: the recorded ones of the next to end, none of later ones
+record Counted (t : ℕ) (s : State) (count : ℕ → ℕ) : Type 0 where
+  now : count (last_of s t + 1) ≡ restarts_of (s.units t)
+  later : (n : ℕ) → last_of s t + 1 < n → count n ≡ 0
+
+still-counted : (sys : Sys) (s : State) (i : Inv sys s) (limit t : ℕ) (after : State) (entry : Event) (count : ℕ → ℕ) → Goes limit t s after entry → Counted t s count
+    → Counted t after (λ n. count n + one t n entry)
+still-counted sys s i limit t after entry count (plainly other plain) counted = by plain
+  where
+    none : (n : ℕ) → one t n entry ≡ 0
+    none n = ap (λ (b : Bool). if b then 1 else 0) (other n)
+
+    by : Moves t s after → Counted t after (λ n. count n + one t n entry)
+    by (stays units last) = record {
+      now = let zero = none (last_of after t + 1) in let same = ap (λ (n : ℕ). count (n + 1)) last in let was = counted.now in let restarts = ap restarts_of units in omega (arith, zero, same, was, restarts);
+      later = λ n above. let zero = none n in let was = counted.later n (omega (arith, above, last)) in omega (arith, zero, was);
+    }
+    by (begins unit is counts idle over last) = record {
+      now = let zero = none (last_of after t + 1) in let same = ap (λ (n : ℕ). count (n + 1)) last in let was = counted.now in let restarts = ap restarts_of is in omega (arith, zero, same, was, restarts, counts);
+      later = λ n above. let zero = none n in let was = counted.later n (omega (arith, above, last)) in omega (arith, zero, was);
+    }
+    by (ends gone more) = record {
+      now = let zero = none (last_of after t + 1) in let was = counted.later (last_of after t + 1) (omega (arith, more)) in let restarts = ap restarts_of gone in omega (arith, zero, was, restarts);
+      later = λ n above. let zero = none n in let was = counted.later n (omega (arith, above, more)) in omega (arith, zero, was);
+    }
+still-counted sys s i limit t after entry count (restarting was unit was_is is more few runs_then last at_entry) counted =
+    let number = ((i.terms t (i.known t was was_is)).unit_ok was was_is).number in
+    record {
+      now =
+          let one_more : one t (last_of after t + 1) entry ≡ 1 = ap (λ (b : Bool). if b then 1 else 0) (at_entry (last_of after t + 1) ∙ eq-eqb was.number (last_of after t + 1) (omega (arith, number, last))) in
+          let same = ap (λ (n : ℕ). count (n + 1)) last in let before = counted.now in let restarts = ap restarts_of is in let old = ap restarts_of was_is in
+          omega (arith, one_more, same, before, restarts, old, more);
+      later = λ n above.
+          let zero : one t n entry ≡ 0 = ap (λ (b : Bool). if b then 1 else 0) (at_entry n ∙ ne_eqb was.number n (λ same. absurd (omega (arith, same, number, last, above)))) in
+          let before = counted.later n (omega (arith, above, last)) in omega (arith, zero, before);
+    }
+
+one-first : (t n : ℕ) (entry : Event) (log : List Event) → restarts_in t n (entry ∷ log) ≡ one t n entry + restarts_in t n log
+one-first t n entry log = by (is_restart_of t n entry)
+  where
+    by : (b : Bool) → length (cond b (entry ∷ filter (is_restart_of t n) log) (filter (is_restart_of t n) log)) ≡ (if b then 1 else 0) + restarts_in t n log
+    by true = omega arith
+    by false = omega arith
+
+counted-from : (sys : Sys) → IsBehaviour sys → (t : ℕ) (s : State) → Inv sys s → (count : ℕ → ℕ) → Counted t s count → (log : List Event) → IsRunFrom sys s log
+    → (unit : Open) → (after_from sys s log).units t ≡ Some unit → count unit.number + restarts_in t unit.number log ≡ unit.restarts
+counted-from sys b t s i count counted [] run unit is =
+    let number = ((i.terms t (i.known t unit is)).unit_ok unit is).number in
+    let now = counted.now in let same = ap count number in let restarts = ap restarts_of is in omega (arith, now, same, restarts)
+counted-from sys b t s i count counted (entry ∷ log) run unit is =
+    let rest = counted-from sys b t (effect sys s entry) (keeps sys b s i entry run.0) (λ n. count n + one t n entry)
+    (still-counted sys s i (sys.max_restarts t) t (effect sys s entry) entry count (moves sys b s i t entry run.0.fits) counted) log run.1 unit is in
+    let first = one-first t unit.number entry log in
+    omega (arith, rest, first)
+
+-- the recorded restarts of an open unit are its RESTART entries
+pub restarts-counted : (sys : Sys) → IsBehaviour sys → (log : List Event) → IsRun sys log → (t : ℕ) (unit : Open) → (after_from sys (starting sys) log).units t ≡ Some unit
+    → restarts_in t unit.number log ≡ unit.restarts
+restarts-counted sys b log run t unit is =
+    let whole = counted-from sys b t (starting sys) (kept-at-start sys) (λ n. 0) (record { now = refl; later = λ n above. refl }) log run unit is in
+    omega (arith, whole)
+
+-- a terminal is suspended after exactly as many as it may have
+pub suspended-after : (sys : Sys) → IsBehaviour sys → (log : List Event) (t : ℕ) (kind : Cause) → IsRun sys (log ++ End t (ending.Suspended kind) ∷ []) → (unit : Open)
+    → (after_from sys (starting sys) log).units t ≡ Some unit → restarts_in t unit.number log ≡ sys.max_restarts t
+suspended-after sys b log t kind run unit is =
+    let parts = IsRunFrom-split sys (starting sys) log (End t (ending.Suspended kind) ∷ []) run in
+    let l = parts.1.0.fits in
+    let same : unit ≡ l.unit = let open_is = l.caused.is_open in cc (is, open_is) in
+    restarts-counted sys b log parts.0 t unit is ∙ (ap (λ (u : Open). u.restarts) same ∙ l.full)
+
+-- the number of a terminal's last ended unit never falls
+rises : {limit t : ℕ} {s after : State} {entry : Event} → Goes limit t s after entry → last_of s t ≤ last_of after t
+rises (plainly other (stays units last)) = omega (arith, last)
+rises (plainly other (begins unit is counts idle over last)) = omega (arith, last)
+rises (plainly other (ends none more)) = omega (arith, more)
+rises (restarting was unit was_is is more few runs_then last at_entry) = omega (arith, last)
+
+-- unit n of t has restarted for unit m of o: that one is awaited, or it has ended, or n has
+data Awaited (t n o m : ℕ) (s : State) : Type 0 where
+  is_over : m ≤ last_of s o → Awaited t n o m s
+  is_ended : n ≤ last_of s t → Awaited t n o m s
+  waits : (unit : Open) → n ≡ last_of s t + 1 → s.units t ≡ Some unit → unit.running ≡ None → unit.awaits ≡ Some (record { terminal = o; number = m }) → Awaited t n o m s
+
+still-awaited : {limit other : ℕ} {entry : Event} (t n o m : ℕ) (s after : State) → Goes limit t s after entry → Goes other o s after entry → Awaited t n o m s → Awaited t n o m after
+still-awaited t n o m s after goes goes_o (is_over low) = let up = rises goes_o in is_over (omega (arith, low, up))
+still-awaited t n o m s after goes goes_o (is_ended low) = let up = rises goes in is_ended (omega (arith, low, up))
+still-awaited t n o m s after (plainly other (stays units last)) goes_o (waits unit next is idle awaits) = waits unit (omega (arith, next, last)) (units ∙ is) idle awaits
+still-awaited t n o m s after (plainly other (begins now now_is counts idle over last)) goes_o (waits unit next is rests awaits) =
+    let low : m ≤ last_of s o = subst (IsOver s.ended) (ap awaited_of is ∙ awaits) over in
+    let up = rises goes_o in is_over (omega (arith, low, up))
+still-awaited t n o m s after (plainly other (ends none more)) goes_o (waits unit next is idle awaits) = is_ended (omega (arith, next, more))
+still-awaited t n o m s after (restarting was unit was_is is more few runs_then last at_entry) goes_o (waits own next own_is idle awaits) =
+    absurd (runs_then (let same : was ≡ own = cc (was_is, own_is) in ap (λ (u : Open). u.running) same ∙ idle))
+
+awaited-from : (sys : Sys) → IsBehaviour sys → (t n o m : ℕ) (s : State) → Inv sys s → (log : List Event) → IsRunFrom sys s log → Awaited t n o m s → Awaited t n o m (after_from sys s log)
+awaited-from sys b t n o m s i [] run awaited = awaited
+awaited-from sys b t n o m s i (entry ∷ log) run awaited =
+    awaited-from sys b t n o m (effect sys s entry) (keeps sys b s i entry run.0) log run.1
+    (still-awaited t n o m s (effect sys s entry) (moves sys b s i t entry run.0.fits) (moves sys b s i o entry run.0.fits) awaited)
+
+-- a unit restarts for another one at most once
+pub older-once : (sys : Sys) → IsBehaviour sys → (before between : List Event) (t n o m : ℕ)
+    → ¬ IsRun sys (before ++ Restart t n (cause.Older o m) ∷ (between ++ Restart t n (cause.Older o m) ∷ []))
+older-once sys b before between t n o m run =
+    let restart : Event = Restart t n (cause.Older o m) in
+    let first = IsRunFrom-split sys (starting sys) before (restart ∷ (between ++ restart ∷ [])) run in
+    let s : State = after_from sys (starting sys) before in
+    let i = kept-from sys b (starting sys) (kept-at-start sys) before first.0 in
+    let next : State = effect sys s restart in
+    let j = keeps sys b s i restart first.1.0 in
+    let second = IsRunFrom-split sys next between (restart ∷ []) first.1.1 in
+    let l = first.1.0.fits in
+    let own = ((i.terms t (i.known t l.unit l.caused.is_open)).unit_ok l.unit l.caused.is_open).number in
+    let number = l.caused.number in
+    clash (after_from sys next between) (kept-from sys b next j between second.0) second.1.0.fits
+    (awaited-from sys b t n o m next j between second.0
+    (waits (record l.unit { restarts = l.unit.restarts + 1; awaits = Some (record { terminal = o; number = m }); running = None }) (omega (arith, own, number))
+    (upd-same s.units t _ t refl ∙ ap (restarted (cause.Older o m)) l.caused.is_open) refl refl))
+  where
+    clash : (x : State) → Inv sys x → LegalRestart sys x t n (cause.Older o m) → Awaited t n o m x → ⊥
+    clash x i l (is_over low) =
+        let older = l.caused.holds in
+        let own = ((i.terms o (i.known o older.older older.is_open)).unit_ok older.older older.is_open).number in
+        let number = older.number in absurd (omega (arith, low, own, number))
+    clash x i l (is_ended low) =
+        let own = ((i.terms t (i.known t l.unit l.caused.is_open)).unit_ok l.unit l.caused.is_open).number in
+        let number = l.caused.number in absurd (omega (arith, low, own, number))
+    clash x i l (waits unit next is idle awaits) = absurd (let is_open = l.caused.is_open in let runs = l.caused.runs in let same : unit ≡ l.unit = cc (is, is_open) in let none = ap (λ (u : Open). u.running) (sym same) in cc (none, idle, runs))

@@ -26,3 +26,4 @@ pub mod BeginsOnce
 pub mod Pending
 pub mod Lacking
 pub mod PairSteps
+pub mod Losing

@@ -1,11 +1,12 @@
--- Running attempts: how many answers each has had, behind a log.
-use Rattle.std.specs.Prelude.{◌≡◌, ℕ, List, [], ◌∷◌, Bool, true, false, Option, Some}
+-- What the laws of runs speak of: answers and restarts so far, running attempts, steps, and pairs that are lost.
+use Rattle.std.specs.Prelude.{◌≡◌, ◌⊎◌, ◌++◌, ℕ, List, [], ◌∷◌, length, filter, Bool, true, false, ◌&&◌, ◌==◌, Option, Some}
 use Rattle.pw_event.specs.declared.event.Event.{Event}
+use Rattle.pw_event.specs.declared.event.Event.TheVariants.{FailTcp, Restart}
 use Rattle.pw_paired.specs.OneCopy.{attempt}
 use Rattle.pw_paired.specs.Path.{PathAnswer}
 use Rattle.pw_paired.specs.Serial.{answers_behind, reading_starts}
 use Rattle.pw_paired.specs.State.{Alone, Down, Gone, Mode, Open, Paired, Raising, State, starting}
-use Rattle.pw_paired.specs.Step.{Legal, effect}
+use Rattle.pw_paired.specs.Step.{Legal, after_from, effect}
 use Rattle.pw_paired.specs.System.{Sys}
 use Rattle.pw_paired.specs.Units.{committed}
 
@@ -47,3 +48,26 @@ pub record Runs (open_unit : Option Open) : Type 0 where
 pub record HasStep (sys : Sys) (state : State) : Type 0 where
   pub entry : Event
   pub legal : Legal sys state entry
+
+-- the entry is a restart of unit n of the terminal
+abbrev pub is_restart_of : ℕ → ℕ → Event → Bool
+is_restart_of t n (Restart own number cause) = own == t && number == n
+is_restart_of t n _ = false
+
+-- how many restarts of unit n of the terminal the log has
+abbrev pub restarts_in : ℕ → ℕ → List Event → ℕ
+restarts_in t n log = length (filter (is_restart_of t n) log)
+
+-- the failure of this member makes a pair of the mode Gone
+abbrev pub Breaks : Bool → Mode → Type 0
+Breaks true mode = (mode ≡ Raising) ⊎ (mode ≡ Alone)
+Breaks false mode = mode ≡ Down
+
+-- The log has a FAIL TCP entry that made the pair Gone.
+pub record MadeGone (sys : Sys) (state : State) (log : List Event) (p : ℕ) : Type 0 where
+  pub before : List Event
+  pub primary : Bool
+  pub k : ℕ
+  pub behind : List Event
+  pub parts : log ≡ before ++ FailTcp p primary k ∷ behind
+  pub breaks : Breaks primary ((after_from sys state before).modes p)

@@ -1,17 +1,19 @@
 ghost use Rattle.std.specs.Prelude.{◌≡◌, ◌≢◌, ℕ, ◌+◌, ◌≤◌, List, [], ◌∷◌, ◌++◌, None, Some, true, false};
 ghost use Rattle.pw_event.specs.declared.event.Cause.{Cause};
+ghost use Rattle.pw_event.specs.declared.event.Cause.TheVariants.{Older};
+ghost use Rattle.pw_event.specs.declared.event.Ending.TheVariants.{Lost, Suspended};
 ghost use Rattle.pw_event.specs.declared.event.Event.{Event};
-ghost use Rattle.pw_event.specs.declared.event.Event.TheVariants.{Begin, Commit, Reply};
+ghost use Rattle.pw_event.specs.declared.event.Event.TheVariants.{Begin, Commit, End, Reply, Restart};
 ghost use Rattle.pw_paired.specs.Behaviour.{IsBehaviour};
 ghost use Rattle.pw_paired.specs.OneCopy.{IsAttempt, attempt};
 ghost use Rattle.pw_paired.specs.Path.{PathAnswer, is_outside};
 ghost use Rattle.pw_paired.specs.Raising.{is_takeover};
-ghost use Rattle.pw_paired.specs.State.{Gone, Open, Paired};
+ghost use Rattle.pw_paired.specs.State.{Gone, Open, Paired, starting};
 ghost use Rattle.pw_paired.specs.Step.{IsRun, after};
 ghost use Rattle.pw_paired.specs.System.{Sys};
 ghost use Rattle.pw_paired.specs.Terminal.{IsLive, path_of};
 ghost use Rattle.pw_paired.specs.Units.{committed};
-ghost use Rattle.pw_serial.specs.Running.{CommitsAlone, HasStep, Runs, answers_after, has_paths};
+ghost use Rattle.pw_serial.specs.Running.{CommitsAlone, HasStep, MadeGone, Runs, answers_after, has_paths, restarts_in};
 
 /// In a run of a deck a running attempt is the attempt that the one-copy machine makes alone, on the committed records as
 /// they are now: from its start path, with its unit's restarts and as many answers as entries have put on its path. While
@@ -41,12 +43,20 @@ pub fn commit_laws()
 {}
 
 /// In a run of a deck each attempt of a unit begins once, whatever fails: no entry BEGIN t n r stands twice. The recorded
-/// restarts of an open unit are never more than its terminal's MAXTMFRESTARTS.
+/// restarts of an open unit are its RESTART entries, and never more than its terminal's MAXTMFRESTARTS; a terminal is
+/// suspended after exactly so many. A unit restarts for one older unit at most once.
 pub fn begin_laws()
     ensures once { (sys : Sys) → IsBehaviour sys → (before between : List Event) (t n r : ℕ)
         → ¬ IsRun sys (before ++ Begin t n r ∷ (between ++ Begin t n r ∷ [])) }
     ensures few { (sys : Sys) → IsBehaviour sys → (log : List Event) → IsRun sys log → (t : ℕ) (unit : Open)
         → (after sys log).units t ≡ Some unit → unit.restarts ≤ sys.max_restarts t }
+    ensures counted { (sys : Sys) → IsBehaviour sys → (log : List Event) → IsRun sys log → (t : ℕ) (unit : Open)
+        → (after sys log).units t ≡ Some unit → restarts_in t unit.number log ≡ unit.restarts }
+    ensures suspended { (sys : Sys) → IsBehaviour sys → (log : List Event) (t : ℕ) (cause : Cause)
+        → IsRun sys (log ++ End t (Suspended cause) ∷ []) → (unit : Open)
+        → (after sys log).units t ≡ Some unit → restarts_in t unit.number log ≡ sys.max_restarts t }
+    ensures older { (sys : Sys) → IsBehaviour sys → (before between : List Event) (t n o m : ℕ)
+        → ¬ IsRun sys (before ++ Restart t n (Older o m) ∷ (between ++ Restart t n (Older o m) ∷ [])) }
 {}
 
 /// In a run of a deck a pending cause is one of a running attempt, unless the pair is lost: so the attempt can restart by
@@ -67,4 +77,13 @@ pub fn pair_laws()
         → IsLive sys (after sys log) t → ((after sys log).terms t).pending ≢ None → HasStep sys (after sys log) }
     ensures message { (sys : Sys) → IsBehaviour sys → (log : List Event) → IsRun sys log → (t : ℕ)
         → IsLive sys (after sys log) t → (after sys log).flight t ≢ None → HasStep sys (after sys log) }
+{}
+
+/// In a run of a deck a pair is Gone only behind a FAIL TCP entry that made it so: of its primary while it was Raising or
+/// Alone, or of its backup while it was Down. A terminal is lost only behind such an entry of its pair.
+pub fn lost_laws()
+    ensures gone { (sys : Sys) (log : List Event) (p : ℕ) → (after sys log).modes p ≡ Gone
+        → MadeGone sys (starting sys) log p }
+    ensures lost { (sys : Sys) (log : List Event) (t : ℕ) → IsRun sys (log ++ End t Lost ∷ [])
+        → MadeGone sys (starting sys) log (sys.pair_of t) }
 {}

@@ -1,5 +1,6 @@
-use Rattle.pw_serial.proofs.BeginsOnce.{begins-once, few-restarts}
+use Rattle.pw_serial.proofs.BeginsOnce.{begins-once, few-restarts, older-once, restarts-counted, suspended-after}
 use Rattle.pw_serial.proofs.running.begin_laws.Goals as goal
 
 pub returns : goal.returns
-returns c = record { once = begins-once; few = few-restarts }
+returns c =
+    record { once = begins-once; few = few-restarts; counted = restarts-counted; suspended = suspended-after; older = older-once }
