@@ -1,5 +1,5 @@
 -- Each attempt of a unit begins once.
-use Rattle.std.proofs.Common.{◌≡◌, ◌≢◌, ℕ, ◌+◌, ◌<◌, ◌≤◌, ⊎_elim, Bool, true, false, ◌&&◌, ◌==◌, cond, length, filter, List, [], ◌∷◌, ◌++◌, Option, Some, None, if◌then◌else◌, refl, ap, sym, subst, ◌∙◌, arith}
+use Rattle.std.proofs.Common.{◌≡◌, ◌≢◌, ℕ, ◌+◌, ◌<◌, ◌≤◌, ◌⊎◌, inl, inr, ⊎_elim, Bool, true, false, ◌&&◌, ◌==◌, cond, length, filter, List, [], ◌∷◌, ◌++◌, Option, Some, None, if◌then◌else◌, refl, ap, sym, subst, ◌∙◌, arith}
 use Rattle.std.proofs.lemmas.Bool.{cases_eq, eq-eqb, ne_eqb, and_left}
 use Rattle.pw_code.specs.declared.verb.Verb.{Verb}
 use Rattle.pw_code.specs.declared.verb.Verb.TheVariants as verb
@@ -26,19 +26,23 @@ use Rattle.pw_paired.specs.Units.{attempt_of, commits, last_left, only, restarts
 use Rattle.pw_serial.specs.Running.{is_restart_of, restarts_in}
 
 -- the number of a terminal's last ended unit
-abbrev last_of : State → ℕ → ℕ
+abbrev pub last_of : State → ℕ → ℕ
 last_of s t = (s.ended t).number
 
+-- an open unit was open before, or it has the next birth
+abbrev pub Kin : State → ℕ → Open → Type 0
+Kin s t unit = ((was : Open) × (s.units t ≡ Some was) × (was.birth ≡ unit.birth) × (was.number ≡ unit.number)) ⊎ ((s.units t ≡ None) × (unit.birth ≡ s.births))
+
 -- what an entry other than a restart may do to the open unit of a terminal and to the number of its last ended one
-data Moves (t : ℕ) (s after : State) : Type 0 where
+pub data Moves (t : ℕ) (s after : State) : Type 0 where
   stays : after.units t ≡ s.units t → last_of after t ≡ last_of s t → Moves t s after
-  begins : (unit : Open) → after.units t ≡ Some unit → unit.restarts ≡ restarts_of (s.units t) → attempt_of (s.units t) ≡ None → IsOver s.ended (awaited_of (s.units t)) → last_of after t ≡ last_of s t → Moves t s after
+  begins : (unit : Open) → after.units t ≡ Some unit → unit.restarts ≡ restarts_of (s.units t) → attempt_of (s.units t) ≡ None → IsOver s.ended (awaited_of (s.units t)) → Kin s t unit → last_of after t ≡ last_of s t → Moves t s after
   ends : after.units t ≡ None → last_of after t ≡ last_of s t + 1 → Moves t s after
 
 -- an entry is no restart of a terminal, or it is one of its open unit
-data Goes (limit t : ℕ) (s after : State) (entry : Event) : Type 0 where
+pub data Goes (limit t : ℕ) (s after : State) (entry : Event) : Type 0 where
   plainly : ((n : ℕ) → is_restart_of t n entry ≡ false) → Moves t s after → Goes limit t s after entry
-  restarting : (was unit : Open) → s.units t ≡ Some was → after.units t ≡ Some unit → unit.restarts ≡ was.restarts + 1 → was.restarts < limit → was.running ≢ None → last_of after t ≡ last_of s t
+  restarting : (was unit : Open) → s.units t ≡ Some was → after.units t ≡ Some unit → unit.restarts ≡ was.restarts + 1 → was.restarts < limit → was.running ≢ None → (was.birth ≡ unit.birth) × (was.number ≡ unit.number) → last_of after t ≡ last_of s t
       → ((n : ℕ) → is_restart_of t n entry ≡ (was.number == n)) → Goes limit t s after entry
 
 -- attempt r of unit n has begun
@@ -52,15 +56,15 @@ still-past : (limit t n r : ℕ) (s after : State) (entry : Event) → Goes limi
 still-past limit t n r s after entry (plainly other (stays units last)) (has_ended low) = has_ended (omega (arith, low, last))
 still-past limit t n r s after entry (plainly other (stays units last)) (has_restarted unit next is less) = has_restarted unit (omega (arith, next, last)) (units ∙ is) less
 still-past limit t n r s after entry (plainly other (stays units last)) (is_running unit q next is same runs) = is_running unit q (omega (arith, next, last)) (units ∙ is) same runs
-still-past limit t n r s after entry (plainly other (begins unit is counts idle over last)) (has_ended low) = has_ended (omega (arith, low, last))
-still-past limit t n r s after entry (plainly other (begins unit is counts idle over last)) (has_restarted u next was less) =
+still-past limit t n r s after entry (plainly other (begins unit is counts idle over kin last)) (has_ended low) = has_ended (omega (arith, low, last))
+still-past limit t n r s after entry (plainly other (begins unit is counts idle over kin last)) (has_restarted u next was less) =
     has_restarted unit (omega (arith, next, last)) is (let same : unit.restarts ≡ u.restarts = counts ∙ ap restarts_of was in omega (arith, less, same))
-still-past limit t n r s after entry (plainly other (begins unit is counts idle over last)) (is_running u q next was same runs) =
+still-past limit t n r s after entry (plainly other (begins unit is counts idle over kin last)) (is_running u q next was same runs) =
     absurd (let running = ap attempt_of was in cc (running, idle, runs))
-still-past limit t n r s after entry (restarting was unit was_is is more few runs_then last at_entry) (has_ended low) = has_ended (omega (arith, low, last))
-still-past limit t n r s after entry (restarting was unit was_is is more few runs_then last at_entry) (has_restarted u next u_is less) =
+still-past limit t n r s after entry (restarting was unit was_is is more few runs_then alike last at_entry) (has_ended low) = has_ended (omega (arith, low, last))
+still-past limit t n r s after entry (restarting was unit was_is is more few runs_then alike last at_entry) (has_restarted u next u_is less) =
     has_restarted unit (omega (arith, next, last)) is (let same : u.restarts ≡ was.restarts = cc (u_is, was_is) in omega (arith, less, same, more))
-still-past limit t n r s after entry (restarting was unit was_is is more few runs_then last at_entry) (is_running u q next u_is at runs) =
+still-past limit t n r s after entry (restarting was unit was_is is more few runs_then alike last at_entry) (is_running u q next u_is at runs) =
     has_restarted unit (omega (arith, next, last)) is (let same : u.restarts ≡ was.restarts = cc (u_is, was_is) in omega (arith, at, same, more))
 still-past limit t n r s after entry (plainly other (ends none more)) (has_ended low) = has_ended (omega (arith, low, more))
 still-past limit t n r s after entry (plainly other (ends none more)) (has_restarted u next is less) = has_ended (omega (arith, next, more))
@@ -134,10 +138,10 @@ module _ (sys : Sys) (b : IsBehaviour sys) (s : State) (i : Inv sys s) (t : ℕ)
   -- the same with the entry in the log
   logged : (x : State) (entry : Event) → Moves t s x → Moves t s (record x { log = s.log ++ entry ∷ [] })
   logged x entry (stays units last) = stays units last
-  logged x entry (begins unit is counts idle over last) = begins unit is counts idle over last
+  logged x entry (begins unit is counts idle over kin last) = begins unit is counts idle over kin last
   logged x entry (ends none more) = ends none more
 
-  moves : (entry : Event) → Fits sys s entry → Goes (sys.max_restarts t) t s (effect sys s entry) entry
+  pub moves : (entry : Event) → Fits sys s entry → Goes (sys.max_restarts t) t s (effect sys s entry) entry
   moves (Show own phase attempt k) l = plainly (λ n. refl) (stays refl refl)
   moves (Key own k) l = plainly (λ n. refl) (stays refl refl)
   moves (CheckStart own) l = plainly (λ n. refl) (stays refl refl)
@@ -150,13 +154,18 @@ module _ (sys : Sys) (b : IsBehaviour sys) (s : State) (i : Inv sys s) (t : ℕ)
       (λ same.
       begins (begun n s.births (path_of s own) (s.units own)) (upd-same s.units own _ t same)
       (begun-restarts (s.units own) ∙ ap (λ (o : ℕ). restarts_of (s.units o)) (sym same)) (ap (λ (o : ℕ). attempt_of (s.units o)) same ∙ l.idle)
-      (subst (λ (o : ℕ). IsOver s.ended (awaited_of (s.units o))) (sym same) l.over) refl)
+      (subst (λ (o : ℕ). IsOver s.ended (awaited_of (s.units o))) (sym same) l.over)
+      (subst (λ (o : ℕ). Kin s o (begun n s.births (path_of s own) (s.units own))) (sym same) (kin (s.units own) refl)) refl)
       (λ differ. stays (upd-other s.units own _ t differ) refl)
       (cases_eq t own))
     where
       begun-restarts : (unit : Option Open) → (begun n s.births (path_of s own) unit).restarts ≡ restarts_of unit
       begun-restarts None = refl
       begun-restarts (Some unit) = refl
+
+      kin : (unit : Option Open) → s.units own ≡ unit → Kin s own (begun n s.births (path_of s own) unit)
+      kin None is = inr (is, refl)
+      kin (Some unit) is = inl (unit, is, refl, refl)
   moves (Send own n c) l = plainly (λ n. refl) (stays refl refl)
   moves (Take c p own) l = plainly (λ n. refl) (stays refl refl)
   moves (File c p op mode f status) l = plainly (λ n. refl) (logged (do_job sys c p ((s.classes c).busy p) s) (File c p op mode f status) (job-moves c p ((s.classes c).busy p)))
@@ -170,7 +179,7 @@ module _ (sys : Sys) (b : IsBehaviour sys) (s : State) (i : Inv sys s) (t : ℕ)
       relabelled : Moves t s (if is_outside (path_of s own) then commits own (unit_number (path_of s own)) (Some (reply_at sys c ((s.classes c).busy p))) (freed c p s) else freed c p s)
           → Moves t s (effect sys s (Reply c p own None))
       relabelled (stays units last) = stays units last
-      relabelled (begins unit is counts idle over last) = begins unit is counts idle over last
+      relabelled (begins unit is counts idle over kin last) = begins unit is counts idle over kin last
       relabelled (ends none more) = ends none more
   moves (Again own n) l = plainly (λ n. refl) (stays refl refl)
   moves (Commit own n) l =
@@ -188,7 +197,7 @@ module _ (sys : Sys) (b : IsBehaviour sys) (s : State) (i : Inv sys s) (t : ℕ)
       (λ same.
       restarting l.unit (record l.unit { restarts = l.unit.restarts + 1; awaits = awaiting cause l.unit.awaits; running = None }) (ap s.units same ∙ l.caused.is_open)
       (upd-same s.units own _ t same ∙ ap (restarted cause) l.caused.is_open) refl
-      (subst (λ (o : ℕ). l.unit.restarts < sys.max_restarts o) (sym same) l.few) (λ none. absurd (let runs = l.caused.runs in cc (none, runs))) refl
+      (subst (λ (o : ℕ). l.unit.restarts < sys.max_restarts o) (sym same) l.few) (λ none. absurd (let runs = l.caused.runs in cc (none, runs))) (refl, refl) refl
       (λ n. ap (λ (own_is : Bool). own_is && (number == n)) (eq-eqb own t (sym same)) ∙ ap (λ (m : ℕ). m == n) (sym l.caused.number)))
       (λ differ. plainly (λ n. and_left (own == t) (number == n) (ne_eqb own t (λ same. differ (sym same)))) (stays (upd-other s.units own _ t differ) refl))
       (cases_eq t own)
@@ -212,6 +221,10 @@ module _ (sys : Sys) (b : IsBehaviour sys) (s : State) (i : Inv sys s) (t : ℕ)
         let number = l.number in
         (omega (arith, low, number), omega (arith, high, number))
 
+    -- its unit is the next to end
+    pub begins-next : n ≡ last_of s t + 1
+    begins-next = let low = next.0 in let high = next.1 in let new = l.new in omega (arith, low, high, new)
+
     -- such an attempt has not begun before
     barred : Past t n r s → ⊥
     barred (has_ended le) = let low = next.0 in l.new (omega (arith, le, low))
@@ -222,13 +235,10 @@ module _ (sys : Sys) (b : IsBehaviour sys) (s : State) (i : Inv sys s) (t : ℕ)
     has-begun : Past t n r (effect sys s (Begin t n r))
     has-begun = by (s.units t) refl
       where
-        at : n ≡ last_of s t + 1
-        at = let low = next.0 in let high = next.1 in let new = l.new in omega (arith, low, high, new)
-
         by : (unit : Option Open) → s.units t ≡ unit → Past t n r (effect sys s (Begin t n r))
-        by None is = is_running (begun n s.births (path_of s t) (s.units t)) (path_of s t) at (upd-same s.units t _ t refl)
+        by None is = is_running (begun n s.births (path_of s t) (s.units t)) (path_of s t) begins-next (upd-same s.units t _ t refl)
             (l.restarts ∙ (ap restarts_of is ∙ sym (ap (λ (u : Option Open). (begun n s.births (path_of s t) u).restarts) is))) (ap (λ (u : Option Open). (begun n s.births (path_of s t) u).running) is)
-        by (Some unit) is = is_running (begun n s.births (path_of s t) (s.units t)) (path_of s t) at (upd-same s.units t _ t refl)
+        by (Some unit) is = is_running (begun n s.births (path_of s t) (s.units t)) (path_of s t) begins-next (upd-same s.units t _ t refl)
             (l.restarts ∙ (ap restarts_of is ∙ sym (ap (λ (u : Option Open). (begun n s.births (path_of s t) u).restarts) is))) (ap (λ (u : Option Open). (begun n s.births (path_of s t) u).running) is)
 
 past-from : (sys : Sys) → IsBehaviour sys → (t n r : ℕ) (s : State) → Inv sys s → (log : List Event) → IsRunFrom sys s log → Past t n r s → Past t n r (after_from sys s log)
@@ -252,14 +262,14 @@ begins-once sys b before between t n r run =
 still-few : (limit t : ℕ) (s after : State) (entry : Event) → Goes limit t s after entry → ((unit : Open) → s.units t ≡ Some unit → unit.restarts ≤ limit)
     → (unit : Open) → after.units t ≡ Some unit → unit.restarts ≤ limit
 still-few limit t s after entry (plainly other (stays units last)) few unit is = few unit (sym units ∙ is)
-still-few limit t s after entry (plainly other (begins now now_is counts idle over last)) few unit is =
+still-few limit t s after entry (plainly other (begins now now_is counts idle over kin last)) few unit is =
     by (s.units t) few (ap (λ (u : Open). u.restarts) (let same : unit ≡ now = cc (is, now_is) in same) ∙ counts)
   where
     by : (was : Option Open) → ((u : Open) → was ≡ Some u → u.restarts ≤ limit) → unit.restarts ≡ restarts_of was → unit.restarts ≤ limit
     by None before counts = omega (arith, counts)
     by (Some u) before counts = let low = before u refl in omega (arith, counts, low)
 still-few limit t s after entry (plainly other (ends none more)) few unit is = absurd (cc (none, is))
-still-few limit t s after entry (restarting was now was_is now_is more below runs_then last at_entry) few unit is =
+still-few limit t s after entry (restarting was now was_is now_is more below runs_then alike last at_entry) few unit is =
     let same : unit.restarts ≡ now.restarts = cc (is, now_is) in omega (arith, same, more, below)
 
 few-from : (sys : Sys) → IsBehaviour sys → (t : ℕ) (s : State) → Inv sys s → ((unit : Open) → s.units t ≡ Some unit → unit.restarts ≤ sys.max_restarts t)
@@ -294,7 +304,7 @@ still-counted sys s i limit t after entry count (plainly other plain) counted = 
       now = let zero = none (last_of after t + 1) in let same = ap (λ (n : ℕ). count (n + 1)) last in let was = counted.now in let restarts = ap restarts_of units in omega (arith, zero, same, was, restarts);
       later = λ n above. let zero = none n in let was = counted.later n (omega (arith, above, last)) in omega (arith, zero, was);
     }
-    by (begins unit is counts idle over last) = record {
+    by (begins unit is counts idle over kin last) = record {
       now = let zero = none (last_of after t + 1) in let same = ap (λ (n : ℕ). count (n + 1)) last in let was = counted.now in let restarts = ap restarts_of is in omega (arith, zero, same, was, restarts, counts);
       later = λ n above. let zero = none n in let was = counted.later n (omega (arith, above, last)) in omega (arith, zero, was);
     }
@@ -302,7 +312,7 @@ still-counted sys s i limit t after entry count (plainly other plain) counted = 
       now = let zero = none (last_of after t + 1) in let was = counted.later (last_of after t + 1) (omega (arith, more)) in let restarts = ap restarts_of gone in omega (arith, zero, was, restarts);
       later = λ n above. let zero = none n in let was = counted.later n (omega (arith, above, more)) in omega (arith, zero, was);
     }
-still-counted sys s i limit t after entry count (restarting was unit was_is is more few runs_then last at_entry) counted =
+still-counted sys s i limit t after entry count (restarting was unit was_is is more few runs_then alike last at_entry) counted =
     let number = ((i.terms t (i.known t was was_is)).unit_ok was was_is).number in
     record {
       now =
@@ -349,11 +359,11 @@ suspended-after sys b log t kind run unit is =
     restarts-counted sys b log parts.0 t unit is ∙ (ap (λ (u : Open). u.restarts) same ∙ l.full)
 
 -- the number of a terminal's last ended unit never falls
-rises : {limit t : ℕ} {s after : State} {entry : Event} → Goes limit t s after entry → last_of s t ≤ last_of after t
+pub rises : {limit t : ℕ} {s after : State} {entry : Event} → Goes limit t s after entry → last_of s t ≤ last_of after t
 rises (plainly other (stays units last)) = omega (arith, last)
-rises (plainly other (begins unit is counts idle over last)) = omega (arith, last)
+rises (plainly other (begins unit is counts idle over kin last)) = omega (arith, last)
 rises (plainly other (ends none more)) = omega (arith, more)
-rises (restarting was unit was_is is more few runs_then last at_entry) = omega (arith, last)
+rises (restarting was unit was_is is more few runs_then alike last at_entry) = omega (arith, last)
 
 -- unit n of t has restarted for unit m of o: that one is awaited, or it has ended, or n has
 data Awaited (t n o m : ℕ) (s : State) : Type 0 where
@@ -365,11 +375,11 @@ still-awaited : {limit other : ℕ} {entry : Event} (t n o m : ℕ) (s after : S
 still-awaited t n o m s after goes goes_o (is_over low) = let up = rises goes_o in is_over (omega (arith, low, up))
 still-awaited t n o m s after goes goes_o (is_ended low) = let up = rises goes in is_ended (omega (arith, low, up))
 still-awaited t n o m s after (plainly other (stays units last)) goes_o (waits unit next is idle awaits) = waits unit (omega (arith, next, last)) (units ∙ is) idle awaits
-still-awaited t n o m s after (plainly other (begins now now_is counts idle over last)) goes_o (waits unit next is rests awaits) =
+still-awaited t n o m s after (plainly other (begins now now_is counts idle over kin last)) goes_o (waits unit next is rests awaits) =
     let low : m ≤ last_of s o = subst (IsOver s.ended) (ap awaited_of is ∙ awaits) over in
     let up = rises goes_o in is_over (omega (arith, low, up))
 still-awaited t n o m s after (plainly other (ends none more)) goes_o (waits unit next is idle awaits) = is_ended (omega (arith, next, more))
-still-awaited t n o m s after (restarting was unit was_is is more few runs_then last at_entry) goes_o (waits own next own_is idle awaits) =
+still-awaited t n o m s after (restarting was unit was_is is more few runs_then alike last at_entry) goes_o (waits own next own_is idle awaits) =
     absurd (runs_then (let same : was ≡ own = cc (was_is, own_is) in ap (λ (u : Open). u.running) same ∙ idle))
 
 awaited-from : (sys : Sys) → IsBehaviour sys → (t n o m : ℕ) (s : State) → Inv sys s → (log : List Event) → IsRunFrom sys s log → Awaited t n o m s → Awaited t n o m (after_from sys s log)

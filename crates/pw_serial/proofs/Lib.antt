@@ -27,3 +27,4 @@ pub mod Pending
 pub mod Lacking
 pub mod PairSteps
 pub mod Losing
+pub mod OpenThen

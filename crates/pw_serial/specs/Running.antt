@@ -71,3 +71,9 @@ pub record MadeGone (sys : Sys) (state : State) (log : List Event) (p : ℕ) : T
   pub behind : List Event
   pub parts : log ≡ before ++ FailTcp p primary k ∷ behind
   pub breaks : Breaks primary ((after_from sys state before).modes p)
+
+-- unit m of the terminal is open
+pub record IsOpen (state : State) (t m : ℕ) : Type 0 where
+  pub unit : Open
+  pub is_open : state.units t ≡ Some unit
+  pub number : unit.number ≡ m

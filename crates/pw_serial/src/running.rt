@@ -13,7 +13,7 @@ ghost use Rattle.pw_paired.specs.Step.{IsRun, after};
 ghost use Rattle.pw_paired.specs.System.{Sys};
 ghost use Rattle.pw_paired.specs.Terminal.{IsLive, path_of};
 ghost use Rattle.pw_paired.specs.Units.{committed};
-ghost use Rattle.pw_serial.specs.Running.{CommitsAlone, HasStep, MadeGone, Runs, answers_after, has_paths, restarts_in};
+ghost use Rattle.pw_serial.specs.Running.{CommitsAlone, HasStep, IsOpen, MadeGone, Runs, answers_after, has_paths, restarts_in};
 
 /// In a run of a deck a running attempt is the attempt that the one-copy machine makes alone, on the committed records as
 /// they are now: from its start path, with its unit's restarts and as many answers as entries have put on its path. While
@@ -44,7 +44,7 @@ pub fn commit_laws()
 
 /// In a run of a deck each attempt of a unit begins once, whatever fails: no entry BEGIN t n r stands twice. The recorded
 /// restarts of an open unit are its RESTART entries, and never more than its terminal's MAXTMFRESTARTS; a terminal is
-/// suspended after exactly so many. A unit restarts for one older unit at most once.
+/// suspended after exactly so many.
 pub fn begin_laws()
     ensures once { (sys : Sys) → IsBehaviour sys → (before between : List Event) (t n r : ℕ)
         → ¬ IsRun sys (before ++ Begin t n r ∷ (between ++ Begin t n r ∷ [])) }
@@ -55,8 +55,6 @@ pub fn begin_laws()
     ensures suspended { (sys : Sys) → IsBehaviour sys → (log : List Event) (t : ℕ) (cause : Cause)
         → IsRun sys (log ++ End t (Suspended cause) ∷ []) → (unit : Open)
         → (after sys log).units t ≡ Some unit → restarts_in t unit.number log ≡ sys.max_restarts t }
-    ensures older { (sys : Sys) → IsBehaviour sys → (before between : List Event) (t n o m : ℕ)
-        → ¬ IsRun sys (before ++ Restart t n (Older o m) ∷ (between ++ Restart t n (Older o m) ∷ [])) }
 {}
 
 /// In a run of a deck a pending cause is one of a running attempt, unless the pair is lost: so the attempt can restart by
@@ -86,4 +84,14 @@ pub fn lost_laws()
         → MadeGone sys (starting sys) log p }
     ensures lost { (sys : Sys) (log : List Event) (t : ℕ) → IsRun sys (log ++ End t Lost ∷ [])
         → MadeGone sys (starting sys) log (sys.pair_of t) }
+{}
+
+/// In a run of a deck the units for which one unit restarts as the younger one differ, and each was open before the BEGIN
+/// entry that opened it: so there are at most as many as there are other terminals.
+pub fn older_laws()
+    ensures differ { (sys : Sys) → IsBehaviour sys → (before between : List Event) (t n o m : ℕ)
+        → ¬ IsRun sys (before ++ Restart t n (Older o m) ∷ (between ++ Restart t n (Older o m) ∷ [])) }
+    ensures open_before { (sys : Sys) → IsBehaviour sys → (before between : List Event) (t n r o m : ℕ)
+        → IsRun sys (before ++ Begin t n r ∷ (between ++ Restart t n (Older o m) ∷ []))
+        → (after sys before).units t ≡ None → IsOpen (after sys before) o m }
 {}

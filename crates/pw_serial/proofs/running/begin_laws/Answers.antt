@@ -1,6 +1,5 @@
-use Rattle.pw_serial.proofs.BeginsOnce.{begins-once, few-restarts, older-once, restarts-counted, suspended-after}
+use Rattle.pw_serial.proofs.BeginsOnce.{begins-once, few-restarts, restarts-counted, suspended-after}
 use Rattle.pw_serial.proofs.running.begin_laws.Goals as goal
 
 pub returns : goal.returns
-returns c =
-    record { once = begins-once; few = few-restarts; counted = restarts-counted; suspended = suspended-after; older = older-once }
+returns c = record { once = begins-once; few = few-restarts; counted = restarts-counted; suspended = suspended-after }
