@@ -1,8 +1,6 @@
 -- Each attempt of a unit begins once.
 use Rattle.std.proofs.Common.{◌≡◌, ◌≢◌, ℕ, ◌+◌, ◌<◌, ◌≤◌, ◌⊎◌, inl, inr, ⊎_elim, Bool, true, false, ◌&&◌, ◌==◌, cond, length, filter, List, [], ◌∷◌, ◌++◌, Option, Some, None, if◌then◌else◌, refl, ap, sym, subst, ◌∙◌, arith}
 use Rattle.std.proofs.lemmas.Bool.{cases_eq, eq-eqb, ne_eqb, and_left}
-use Rattle.pw_code.specs.declared.verb.Verb.{Verb}
-use Rattle.pw_code.specs.declared.verb.Verb.TheVariants as verb
 use Rattle.pw_event.specs.declared.event.Cause.{Cause}
 use Rattle.pw_event.specs.declared.event.Cause.TheVariants as cause
 use Rattle.pw_event.specs.declared.event.Ending.TheVariants as ending
@@ -17,12 +15,13 @@ use Rattle.pw_paired.proofs.Upd.{upd-same, upd-other}
 use Rattle.pw_paired.specs.Behaviour.{IsBehaviour}
 use Rattle.pw_paired.specs.Failure.{LegalRestart, awaiting, backup_fails, is_of, primary_fails, process_fails, restarted}
 use Rattle.pw_paired.specs.Path.{PathAnswer, is_outside, unit_number}
-use Rattle.pw_paired.specs.Server.{do_job, do_verb, freed, reply_at}
+use Rattle.pw_paired.specs.Server.{do_job, freed, reply_at}
 use Rattle.pw_paired.specs.State.{upd, Alone, Down, Gone, Job, LastEnded, Mode, Open, Paired, Raising, State, starting}
 use Rattle.pw_paired.specs.Step.{Fits, IsRun, IsRunFrom, after_from, effect}
 use Rattle.pw_paired.specs.System.{Sys}
 use Rattle.pw_paired.specs.Terminal.{IsOver, LegalBegin, awaited_of, begun, path_of}
 use Rattle.pw_paired.specs.Units.{attempt_of, commits, last_left, only, restarts_of}
+use Rattle.pw_serial.proofs.JobCases.{job-cases}
 use Rattle.pw_serial.specs.Running.{is_restart_of, restarts_in}
 
 -- the number of a terminal's last ended unit
@@ -94,22 +93,8 @@ module _ (sys : Sys) (b : IsBehaviour sys) (s : State) (i : Inv sys s) (t : ℕ)
       (ap (λ (x : ℕ → LastEnded). (x t).number) ended ∙ ap (λ (x : LastEnded). x.number) (upd-other s.ended own (record { number = number; reply = reply }) t differ)))
       (cases_eq t own)
 
-  verb-moves : (c p : ℕ) (job : Job) (v : Verb) → Moves t s (do_verb sys c p job v s)
-  verb-moves c p job (verb.File call) = stays refl refl
-  verb-moves c p job verb.Show = stays refl refl
-  verb-moves c p job (verb.Accept screen) = stays refl refl
-  verb-moves c p job verb.Begin = stays refl refl
-  verb-moves c p job (verb.Send class message) = stays refl refl
-  verb-moves c p job verb.End = stays refl refl
-  verb-moves c p job verb.Drop = stays refl refl
-  verb-moves c p job verb.Redo = stays refl refl
-  verb-moves c p job verb.Stop = stays refl refl
-  verb-moves c p job (verb.Fault x) = stays refl refl
-  verb-moves c p job (verb.Reply reply) = stays refl refl
-
   job-moves : (c p : ℕ) (job : Option Job) → Moves t s (do_job sys c p job s)
-  job-moves c p None = stays refl refl
-  job-moves c p (Some job) = verb-moves c p job (sys.ops c job.request.message job.done)
+  job-moves c p = job-cases sys c p s (Moves t s) (stays refl refl) (λ job call. stays refl refl)
 
   reply-moves : (c p own : ℕ) (outside : Bool) → unit_number (path_of s own) ≡ last_of s own + 1
       → Moves t s (if outside then commits own (unit_number (path_of s own)) (Some (reply_at sys c ((s.classes c).busy p))) (freed c p s) else freed c p s)

@@ -1,8 +1,6 @@
 -- While a pair is Raising, its memory lacks a live terminal.
 use Rattle.std.proofs.Common.{◌≡◌, ◌≢◌, ℕ, zero, suc, ◌<◌, ⊎_elim, Bool, true, false, not, ◌&&◌, is_some, is_none, List, [], ◌∷◌, Option, Some, None, if◌then◌else◌, refl, ap, sym, subst, ◌∙◌, arith}
 use Rattle.std.proofs.lemmas.Bool.{cases_eq, cases_Bool, cond-true, cond-false, eqb-true, true≢false, and_from}
-use Rattle.pw_code.specs.declared.verb.Verb.{Verb}
-use Rattle.pw_code.specs.declared.verb.Verb.TheVariants as verb
 use Rattle.pw_event.specs.declared.event.Ending.{Ending}
 use Rattle.pw_event.specs.declared.event.Ending.TheVariants as ending
 use Rattle.pw_event.specs.declared.event.Event.{Event}
@@ -13,12 +11,13 @@ use Rattle.pw_paired.specs.End.{ends}
 use Rattle.pw_paired.specs.Failure.{alone, back_at, backup_fails, down, gone, is_live_of, is_of, primary_fails, process_fails, resumed}
 use Rattle.pw_paired.specs.Path.{PathAnswer, Replied, is_outside, unit_number}
 use Rattle.pw_paired.specs.Raising.{lacks_one, raised, remembered, settled}
-use Rattle.pw_paired.specs.Server.{do_job, do_verb, freed, reply_at}
+use Rattle.pw_paired.specs.Server.{do_job, freed, reply_at}
 use Rattle.pw_paired.specs.State.{upd, Alone, Down, Gone, Job, LastEnded, Memory, Mode, Open, Paired, Raising, State, Term, starting}
 use Rattle.pw_paired.specs.Step.{Fits, IsRun, IsRunFrom, after, after_from, effect}
 use Rattle.pw_paired.specs.System.{Sys}
 use Rattle.pw_paired.specs.Terminal.{path_of}
 use Rattle.pw_paired.specs.Units.{answered, any_below, attempt_of, commits, left, only}
+use Rattle.pw_serial.proofs.JobCases.{job-cases}
 use Rattle.pw_serial.proofs.RecordsOk.{and-first, and-second, drop-false}
 
 -- some number below n has a property
@@ -79,22 +78,8 @@ module _ (sys : Sys) (p : ℕ) where
         kept after (λ j. ap (λ (f : ℕ → Term). (f j).ending) terms ∙ own-ending own term same j) (λ j of none. ap (λ (m : ℕ → Option Memory). m j) memory ∙ none)
         (λ is. ap (λ (m : ℕ → Mode). m p) (sym modes) ∙ is)
 
-    verb-lacks : (c i : ℕ) (job : Job) (v : Verb) → LackingOk (do_verb sys c i job v s)
-    verb-lacks c i job (verb.File call) = ok
-    verb-lacks c i job verb.Show = ok
-    verb-lacks c i job (verb.Accept screen) = ok
-    verb-lacks c i job verb.Begin = ok
-    verb-lacks c i job (verb.Send class message) = ok
-    verb-lacks c i job verb.End = ok
-    verb-lacks c i job verb.Drop = ok
-    verb-lacks c i job verb.Redo = ok
-    verb-lacks c i job verb.Stop = ok
-    verb-lacks c i job (verb.Fault x) = ok
-    verb-lacks c i job (verb.Reply reply) = ok
-
     job-lacks : (c i : ℕ) (job : Option Job) → LackingOk (do_job sys c i job s)
-    job-lacks c i None = ok
-    job-lacks c i (Some job) = verb-lacks c i job (sys.ops c job.request.message job.done)
+    job-lacks c i = job-cases sys c i s LackingOk ok (λ job call. ok)
 
     reply-lacks : (c i own : ℕ) (reply : List ℕ) (outside : Bool)
         → LackingOk (answered own (Replied reply) (if outside then commits own (unit_number (path_of s own)) (Some reply) (freed c i s) else freed c i s))

@@ -22,6 +22,7 @@ pub mod AloneFails
 pub mod AloneServers
 pub mod AloneCommits
 pub mod AloneRuns
+pub mod JobCases
 pub mod BeginsOnce
 pub mod Pending
 pub mod Lacking

@@ -1,7 +1,5 @@
 -- A pair is Gone only by the failure of a member.
 use Rattle.std.proofs.Common.{◌≡◌, ◌≢◌, ◌⊎◌, ℕ, ⊎_elim, inl, inr, Bool, true, false, List, [], ◌∷◌, ◌++◌, Option, Some, None, if◌then◌else◌, refl, ap, sym, subst, ◌∙◌}
-use Rattle.pw_code.specs.declared.verb.Verb.{Verb}
-use Rattle.pw_code.specs.declared.verb.Verb.TheVariants as verb
 use Rattle.pw_event.specs.declared.event.Ending.TheVariants as ending
 use Rattle.pw_event.specs.declared.event.Event.{Event}
 use Rattle.pw_event.specs.declared.event.Event.TheVariants.{Show, Key, CheckStart, CheckEnd, CheckCopy, Applied, Begin, Send, Take, File, Reply, Again, Commit, Back, Restart, FailTcp, FailServer, Takeover, Raise, End}
@@ -11,12 +9,13 @@ use Rattle.pw_paired.specs.End.{ends}
 use Rattle.pw_paired.specs.Failure.{backup_fails, primary_fails, process_fails}
 use Rattle.pw_paired.specs.Path.{is_outside, unit_number}
 use Rattle.pw_paired.specs.Raising.{lacks_one, raised, remembered, settled}
-use Rattle.pw_paired.specs.Server.{do_job, do_verb, freed, reply_at}
+use Rattle.pw_paired.specs.Server.{do_job, freed, reply_at}
 use Rattle.pw_paired.specs.State.{upd, Alone, Down, Gone, Job, Mode, Paired, Raising, State, starting}
 use Rattle.pw_paired.specs.Step.{IsRun, after, after_from, effect}
 use Rattle.pw_paired.specs.System.{Sys}
 use Rattle.pw_paired.specs.Terminal.{path_of}
 use Rattle.pw_paired.specs.Units.{commits, left, only}
+use Rattle.pw_serial.proofs.JobCases.{job-cases}
 use Rattle.pw_serial.specs.Running.{Breaks, MadeGone}
 
 module _ (sys : Sys) (s : State) (p : ℕ) where
@@ -44,22 +43,8 @@ module _ (sys : Sys) (s : State) (p : ℕ) where
       by Paired lacks is = is
       by Down lacks is = is
 
-  verb-same : (c i : ℕ) (job : Job) (v : Verb) → (do_verb sys c i job v s).modes ≡ s.modes
-  verb-same c i job (verb.File call) = refl
-  verb-same c i job verb.Show = refl
-  verb-same c i job (verb.Accept screen) = refl
-  verb-same c i job verb.Begin = refl
-  verb-same c i job (verb.Send class message) = refl
-  verb-same c i job verb.End = refl
-  verb-same c i job verb.Drop = refl
-  verb-same c i job verb.Redo = refl
-  verb-same c i job verb.Stop = refl
-  verb-same c i job (verb.Fault x) = refl
-  verb-same c i job (verb.Reply reply) = refl
-
   job-same : (c i : ℕ) (job : Option Job) → (do_job sys c i job s).modes ≡ s.modes
-  job-same c i None = refl
-  job-same c i (Some job) = verb-same c i job (sys.ops c job.request.message job.done)
+  job-same c i = job-cases sys c i s (λ (x : State). x.modes ≡ s.modes) refl (λ job call. refl)
 
   reply-same : (c i own : ℕ) (outside : Bool)
       → (if outside then commits own (unit_number (path_of s own)) (Some (reply_at sys c ((s.classes c).busy i))) (freed c i s) else freed c i s).modes ≡ s.modes

@@ -1,8 +1,6 @@
 -- A pending cause is one of a running attempt.
 use Rattle.std.proofs.Common.{◌≡◌, ◌≢◌, ℕ, ⊎_elim, Bool, true, false, ◌==◌, is_some, List, [], ◌∷◌, ◌++◌, Option, Some, None, if◌then◌else◌, refl, ap, sym, subst, ◌∙◌}
 use Rattle.std.proofs.lemmas.Bool.{cases_eq, cases_Bool, cond-true, cond-false, eq-eqb, ne_eqb, true≢false}
-use Rattle.pw_code.specs.declared.verb.Verb.{Verb}
-use Rattle.pw_code.specs.declared.verb.Verb.TheVariants as verb
 use Rattle.pw_event.specs.declared.event.Cause.{Cause}
 use Rattle.pw_event.specs.declared.event.Cause.TheVariants as cause
 use Rattle.pw_event.specs.declared.event.Ending.{Ending}
@@ -19,12 +17,13 @@ use Rattle.pw_paired.specs.End.{ends}
 use Rattle.pw_paired.specs.Failure.{alone, back_at, backup_fails, down, gone, is_live_of, is_of, primary_fails, process_fails, resumed, runs_unit}
 use Rattle.pw_paired.specs.Path.{PathAnswer, Failed, Replied, is_outside, unit_number}
 use Rattle.pw_paired.specs.Raising.{raised, lacks_one, remembered, settled}
-use Rattle.pw_paired.specs.Server.{do_job, do_verb, freed, reply_at}
+use Rattle.pw_paired.specs.Server.{do_job, freed, reply_at}
 use Rattle.pw_paired.specs.State.{upd, Alone, Down, Gone, Job, LastEnded, Memory, Mode, Open, Paired, Raising, State, Term, starting}
 use Rattle.pw_paired.specs.Step.{Fits, IsRun, IsRunFrom, after, after_from, effect}
 use Rattle.pw_paired.specs.System.{Sys}
 use Rattle.pw_paired.specs.Terminal.{path_of}
 use Rattle.pw_paired.specs.Units.{answered, attempt_of, commits, left, only}
+use Rattle.pw_serial.proofs.JobCases.{job-cases}
 use Rattle.pw_serial.proofs.RecordsOk.{and-second}
 use Rattle.pw_serial.specs.Running.{Runs}
 
@@ -84,22 +83,8 @@ module _ (sys : Sys) (b : IsBehaviour sys) (s : State) (i : Inv sys s) (t : ℕ)
       (λ differ. kept after pending (λ is. ap (λ (m : ℕ → Mode). m (sys.pair_of t)) modes ∙ is) (ap (λ (u : ℕ → Option Open). u t) units ∙ upd-other s.units own unit t differ))
       (cases_eq t own)
 
-  verb-pending : (c p : ℕ) (job : Job) (v : Verb) → PendingOk sys (do_verb sys c p job v s) t
-  verb-pending c p job (verb.File call) = ok
-  verb-pending c p job verb.Show = ok
-  verb-pending c p job (verb.Accept screen) = ok
-  verb-pending c p job verb.Begin = ok
-  verb-pending c p job (verb.Send class message) = ok
-  verb-pending c p job verb.End = ok
-  verb-pending c p job verb.Drop = ok
-  verb-pending c p job verb.Redo = ok
-  verb-pending c p job verb.Stop = ok
-  verb-pending c p job (verb.Fault x) = ok
-  verb-pending c p job (verb.Reply reply) = ok
-
   job-pending : (c p : ℕ) (job : Option Job) → PendingOk sys (do_job sys c p job s) t
-  job-pending c p None = ok
-  job-pending c p (Some job) = verb-pending c p job (sys.ops c job.request.message job.done)
+  job-pending c p = job-cases sys c p s (λ (x : State). PendingOk sys x t) ok (λ job call. ok)
 
   reply-pending : (c p own : ℕ) (reply : List ℕ) (outside : Bool) → (s.terms own).pending ≡ None
       → PendingOk sys (answered own (Replied reply) (if outside then commits own (unit_number (path_of s own)) (Some reply) (freed c p s) else freed c p s)) t

@@ -87,7 +87,7 @@ pub fn lost_laws()
 {}
 
 /// In a run of a deck the units for which one unit restarts as the younger one differ, and each was open before the BEGIN
-/// entry that opened it: so there are at most as many as there are other terminals.
+/// entry that opened the one that restarts.
 pub fn older_laws()
     ensures differ { (sys : Sys) → IsBehaviour sys → (before between : List Event) (t n o m : ℕ)
         → ¬ IsRun sys (before ++ Restart t n (Older o m) ∷ (between ++ Restart t n (Older o m) ∷ [])) }
