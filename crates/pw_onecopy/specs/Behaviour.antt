@@ -11,11 +11,14 @@ pub data Served : Type 0 where
   Reply : (reply : List ℕ) (files : ℕ → List (List ℕ)) → Served
   Fault : (code : ℕ) → Served
 
--- The terminals, classes and files of a deck, by their numbers from 0, what its programs ask and show, and its failure
--- lines.
+-- The terminals, pairs, classes and files of a deck, by their numbers from 0, what its programs ask and show, and its failure
+-- lines. Of a terminal, class or file that is not there the functions answer 0, the verb Stop, a screen without cells, a file
+-- without records and keys of 1 character; no step reads these answers.
 pub record Behaviour : Type 0 where
   -- the number of started terminals
   pub terminals : ℕ
+  -- the number of pairs
+  pub pairs : ℕ
   -- the pair of a terminal
   pub pair_of : ℕ → ℕ
   -- how often a unit of a terminal may restart, its MAXTMFRESTARTS
@@ -34,9 +37,11 @@ pub record Behaviour : Type 0 where
   pub ops : ℕ → List ℕ → List FileAnswer → Verb
   -- what a class's server comes to on a message and files, run by itself
   pub serve : ℕ → List ℕ → (ℕ → List (List ℕ)) → Served
-  -- the length of a file's keys, any that keys may have for a file that is not there
+  -- the number of files
+  pub files : ℕ
+  -- the length of a file's keys
   pub key_length : ℕ → ℕ
-  -- the records of a file in the deck, in the order of their keys; none for a file that is not there
+  -- the records of a file in the deck, in the order of their keys
   pub records : ℕ → List (List ℕ)
   -- the rule of locking
   pub rule : LockRule

@@ -1,5 +1,5 @@
 -- What holds of the programs, servers and files of every deck.
-use Rattle.std.specs.Prelude.{◌≡◌, ℕ, ◌+◌, ◌<◌, ◌≤◌, Bool, true, false, List, [], ◌∷◌, ◌++◌}
+use Rattle.std.specs.Prelude.{◌≡◌, ℕ, ◌+◌, ◌<◌, ◌≤◌, Bool, true, false, List, [], ◌∷◌, ◌++◌, length}
 use Rattle.pw_code.specs.declared.file.FileCall.{FileCall}
 use Rattle.pw_code.specs.declared.file.FileOp.{FileOp}
 use Rattle.pw_code.specs.declared.file.FileOp.TheVariants.{Write, Rewrite}
@@ -7,6 +7,7 @@ use Rattle.pw_code.specs.declared.verb.Verb.{Verb}
 use Rattle.pw_code.specs.declared.verb.Verb.TheVariants as verb
 use Rattle.pw_files.specs.Records.{IsContent, IsFile}
 use Rattle.pw_onecopy.specs.Path.{PathAnswer, Shown, Entry, Begun, Replied, Failed, Ended, Dropped, FileAnswer, is_outside, entries_on}
+use Rattle.pw_onecopy.specs.Operation.{key_of}
 use Rattle.pw_onecopy.specs.Behaviour.{Behaviour, Served, Reply, Fault}
 use Rattle.pw_onecopy.specs.Play.{Play, play_after}
 
@@ -55,11 +56,13 @@ IsAsked (verb.File call) = ⊥
 IsAsked (verb.Reply reply) = ⊥
 IsAsked _ = Unit {0}
 
--- What holds of every deck. A terminal's program asks the verbs of terminals; Begin and Stop come outside transactions alone,
--- and End, Drop and Redo inside them; a program whose server had a run fault has this run fault; messages go to classes that
--- are there, and each of these has a process. What a server writes has the length of a record, and its operations add up to what
--- it comes to by itself; and the files are files.
+-- What holds of every deck. A terminal's pair is there. Its program asks the verbs of terminals; Begin and Stop come outside
+-- transactions alone, and End, Drop and Redo inside them; a program whose server had a run fault has this run fault; messages
+-- go to classes that are there, and each of these has a process. An operation of a server names a file that is there and has a
+-- key of that file's length; what it writes has the length of a record; and a server's operations add up to what it comes to
+-- by itself. The files are files.
 pub record IsBehaviour (sys : Behaviour) : Type 0 where
+  pub pairs : (t : ℕ) → t < sys.terminals → sys.pair_of t < sys.pairs
   pub asks : (t : ℕ) (path : List PathAnswer) → IsPath sys t path → IsAsked (sys.ask t path)
   pub begins : (t : ℕ) (path : List PathAnswer) → IsPath sys t path → sys.ask t path ≡ verb.Begin → is_outside path ≡ true
   pub stops : (t : ℕ) (path : List PathAnswer) → IsPath sys t path → sys.ask t path ≡ verb.Stop → is_outside path ≡ true
@@ -71,6 +74,10 @@ pub record IsBehaviour (sys : Behaviour) : Type 0 where
   pub sends : (t c : ℕ) (message : List ℕ) (path : List PathAnswer) → IsPath sys t path
       → sys.ask t path ≡ verb.Send c message → c < sys.classes
   pub staffed : (c : ℕ) → c < sys.classes → 1 ≤ sys.processes c
+  pub calls : (c : ℕ) (message : List ℕ) (done : List FileAnswer) (call : FileCall) → c < sys.classes
+      → sys.ops c message done ≡ verb.File call → call.file < sys.files
+  pub keys : (c : ℕ) (message : List ℕ) (done : List FileAnswer) (call : FileCall) → c < sys.classes
+      → sys.ops c message done ≡ verb.File call → length (key_of (sys.key_length call.file) call.op call) ≡ sys.key_length call.file
   pub writes : (c : ℕ) (message : List ℕ) (done : List FileAnswer) (call : FileCall) → c < sys.classes
       → sys.ops c message done ≡ verb.File call → is_written call.op ≡ true → IsContent (sys.key_length call.file) call.content
   pub adds_up : (c : ℕ) (message : List ℕ) (files : ℕ → List (List ℕ)) → c < sys.classes

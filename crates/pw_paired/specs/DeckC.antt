@@ -130,6 +130,7 @@ stock (suc f) = []
 abbrev pub deck_but_serve : ℕ → (ℕ → List Line) → ℕ → LockRule → List FailLine → Behaviour
 deck_but_serve terminals lines max_restarts rule script = record {
   terminals = terminals;
+  pairs = 1;
   pair_of = λ t. 0;
   max_restarts = λ t. max_restarts;
   entries = λ t. length (lines t);
@@ -139,6 +140,7 @@ deck_but_serve terminals lines max_restarts rule script = record {
   processes = λ c. 2;
   ops = λ c message done. store message done;
   serve = λ c message files. Fault 201;
+  files = 1;
   key_length = λ f. 2;
   records = stock;
   rule = rule;

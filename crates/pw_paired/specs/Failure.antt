@@ -1,11 +1,12 @@
 -- The entries of restarts and failures: RESTART, FAIL TCP, FAIL SERVER and TAKEOVER.
-use Rattle.std.specs.Prelude.{◌≡◌, ℕ, ◌+◌, ◌-◌, ◌<◌, ◌==◌, ◌&&◌, Bool, true, false, List, [], Option, Some, None, is_none, is_some, unwrap_or, ◌⊎◌, slice_get, if◌then◌else◌}
+use Rattle.std.specs.Prelude.{◌≡◌, ℕ, zero, suc, ◌+◌, ◌<◌, ◌==◌, ◌&&◌, Bool, true, false, List, [], Option, Some, None, is_none, is_some, unwrap_or, ◌⊎◌, slice_get, if◌then◌else◌}
 use Rattle.std.specs.List.{list_any}
 use Rattle.pw_code.specs.declared.file.FileCall.{FileCall}
 use Rattle.pw_code.specs.declared.unit.Unit as unit
 use Rattle.pw_code.specs.declared.verb.Verb.TheVariants as verb
 use Rattle.pw_event.specs.declared.event.Cause.{Cause}
 use Rattle.pw_event.specs.declared.event.Cause.TheVariants.{Older, Takeover, Server, Redo}
+use Rattle.pw_event.specs.declared.script.FailLine.{FailLine}
 use Rattle.pw_event.specs.declared.script.FailLine.TheVariants as line
 use Rattle.pw_locks.specs.Conflicts.{conflict, is_same_unit}
 use Rattle.pw_onecopy.specs.Path.{PathAnswer}
@@ -113,11 +114,11 @@ without_backup sys p state = record state {
   flight = λ t. if is_of sys p t then None else state.flight t;
 }
 
--- a terminal whose path is gone: its path is empty
+-- a terminal whose path is gone: its path is empty, and nothing is pending for it
 abbrev pub without_path : Term → Term
-without_path term = record term { path = [] }
+without_path term = record term { path = []; pending = None }
 
--- Gone: memory, messages, paths and requests of the pair's terminals go, and all their open units are left
+-- Gone: memory, messages, paths, pending causes and requests of the pair's terminals go, and all their open units are left
 abbrev pub lose_pair : Behaviour → ℕ → State → State
 lose_pair sys p state = record (leave_units sys (is_of sys p) (without_backup sys p state)) {
   modes = upd state.modes p Gone;
@@ -128,7 +129,7 @@ lose_pair sys p state = record (leave_units sys (is_of sys p) (without_backup sy
 abbrev pub lose_primary : Behaviour → ℕ → State → State
 lose_primary sys p state = record (cancel_requests (is_of sys p) state) {
   modes = upd state.modes p Down;
-  terms = λ t. if is_of sys p t then record (without_path (state.terms t)) { pending = None } else state.terms t;
+  terms = λ t. if is_of sys p t then without_path (state.terms t) else state.terms t;
   flight = λ t. if is_of sys p t then None else state.flight t;
 }
 
@@ -152,10 +153,15 @@ backup_fails sys p Alone state = state
 backup_fails sys p Down state = lose_pair sys p state
 backup_fails sys p Gone state = state
 
+-- line k of the failure lines, counted from 1, if there is one
+abbrev pub fail_line : List FailLine → ℕ → Option FailLine
+fail_line lines zero = None
+fail_line lines (suc k) = slice_get lines k
+
 -- FAIL TCP p PRIMARY k, FAIL TCP p BACKUP k: line k is such a line. (That the line is due is asked in `Legal`.)
 pub record LegalFailTcp (sys : Behaviour) (p : ℕ) (primary : Bool) (k : ℕ) : Type 0 where
   pub after : ℕ
-  pub names : slice_get sys.script (k - 1) ≡ Some (line.Tcp p primary after)
+  pub names : fail_line sys.script k ≡ Some (line.Tcp p primary after)
 
 -- the member of the pair fails
 abbrev pub do_fail_tcp : Behaviour → ℕ → Bool → State → State
@@ -165,7 +171,7 @@ do_fail_tcp sys p false state = backup_fails sys p (state.modes p) state
 -- FAIL SERVER c i k: line k is such a line
 pub record LegalFailServer (sys : Behaviour) (c i k : ℕ) : Type 0 where
   pub after : ℕ
-  pub names : slice_get sys.script (k - 1) ≡ Some (line.Server c i after)
+  pub names : fail_line sys.script k ≡ Some (line.Server c i after)
 
 -- the request at a process, if any, is cancelled, the process is free, and the cause is pending for its terminal
 abbrev pub process_fails : ℕ → ℕ → ℕ → Option Job → State → State

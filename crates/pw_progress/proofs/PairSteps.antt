@@ -1,5 +1,5 @@
 -- A pair that is not up to date has a step.
-use Rattle.std.proofs.Common.{◌≡◌, ◌≢◌, ℕ, suc, ◌+◌, ◌-◌, ◌≤◌, ⊎_elim, inl, inr, Bool, true, false, not, ◌&&◌, is_some, is_none, List, [], ◌∷◌, Option, Some, None, find, cond, refl, ap, sym, subst, ◌∙◌, arith}
+use Rattle.std.proofs.Common.{◌≡◌, ◌≢◌, ℕ, zero, suc, ◌+◌, ◌-◌, ◌≤◌, ⊎_elim, inl, inr, Bool, true, false, not, ◌&&◌, is_some, is_none, List, [], ◌∷◌, Option, Some, None, find, cond, refl, ap, sym, subst, ◌∙◌, arith}
 use Rattle.std.specs.List.{list_any, slice_get}
 use Rattle.std.proofs.lemmas.Bool.{cases_lt, cases_Bool, eq-eqb, eqb-true, true≢false, and_from}
 use Rattle.pw_event.specs.declared.event.Cause.TheVariants as cause
@@ -15,7 +15,7 @@ use Rattle.pw_event.specs.declared.script.Owner.TheVariants.{Tcp, Class}
 use Rattle.pw_event.specs.Due.{Numbered, due_line, entries_of, if_due, is_fail_of, is_same_owner, next_failure, numbered, owner_of, owner_of_line}
 use Rattle.pw_runs.proofs.kept.Runs.{kept-at-start, kept-from}
 use Rattle.pw_onecopy.specs.IsBehaviour.{IsBehaviour}
-use Rattle.pw_paired.specs.Failure.{IsCaused, is_live_of, is_of}
+use Rattle.pw_paired.specs.Failure.{IsCaused, fail_line, is_live_of, is_of}
 use Rattle.pw_paired.specs.Raising.{is_takeover}
 use Rattle.pw_paired.specs.State.{Alone, Down, Gone, BackupCopy, Message, Mode, Paired, Raising, State, starting}
 use Rattle.pw_paired.specs.Step.{Fits, IsRun, after, is_finished, is_going_on, line_due, line_wanted}
@@ -57,12 +57,17 @@ found-line test (first ∷ lines) start l found = by (test (record { number = st
           ap (slice_get (first ∷ lines)) (let next : l.number - start ≡ suc (l.number - (start + 1)) = omega (arith, low) in next) ∙ rest.2,
         )
 
+-- lines count from 1
+from-one : (lines : List FailLine) (k : ℕ) → 1 ≤ k → fail_line lines k ≡ slice_get lines (k - 1)
+from-one lines zero there = absurd (omega (arith, there))
+from-one lines (suc k) there = ap (slice_get lines) (let next : k ≡ suc k - 1 = omega arith in next)
+
 module _ (sys : Behaviour) (s : State) (unfinished : is_finished sys s ≡ false) where
   -- a failure line that is due has its FAIL entry
   fail-step : (owner : Owner) (k : ℕ) → due_line sys.pair_of sys.script s.log owner ≡ Some k → HasStep sys s
   fail-step owner k due = by (next_failure sys.script s.log owner) refl due
     where
-      entry-for : (l : Numbered) → is_same_owner (owner_of_line l.line) owner ≡ true → slice_get sys.script (l.number - 1) ≡ Some l.line → l.number ≡ k → HasStep sys s
+      entry-for : (l : Numbered) → is_same_owner (owner_of_line l.line) owner ≡ true → fail_line sys.script l.number ≡ Some l.line → l.number ≡ k → HasStep sys s
       entry-for l own names number = of l.line refl
         where
           of : (it : FailLine) → l.line ≡ it → HasStep sys s
@@ -71,7 +76,7 @@ module _ (sys : Behaviour) (s : State) (unfinished : is_finished sys s ≡ false
             legal = record {
               unfinished = unfinished;
               due = subst (λ (o : Owner). due_line sys.pair_of sys.script s.log o ≡ Some k) (same-owner (owner_of_line l.line) owner own ∙ ap owner_of_line is) due;
-              fits = record { after = count; names = subst (λ (n : ℕ). slice_get sys.script (n - 1) ≡ Some l.line) number names ∙ ap Some is };
+              fits = record { after = count; names = subst (λ (n : ℕ). fail_line sys.script n ≡ Some l.line) number names ∙ ap Some is };
             };
           }
           of (line.Server c i count) is = record {
@@ -79,7 +84,7 @@ module _ (sys : Behaviour) (s : State) (unfinished : is_finished sys s ≡ false
             legal = record {
               unfinished = unfinished;
               due = subst (λ (o : Owner). due_line sys.pair_of sys.script s.log o ≡ Some k) (same-owner (owner_of_line l.line) owner own ∙ ap owner_of_line is) due;
-              fits = record { after = count; names = subst (λ (n : ℕ). slice_get sys.script (n - 1) ≡ Some l.line) number names ∙ ap Some is };
+              fits = record { after = count; names = subst (λ (n : ℕ). fail_line sys.script n ≡ Some l.line) number names ∙ ap Some is };
             };
           }
 
@@ -87,7 +92,7 @@ module _ (sys : Behaviour) (s : State) (unfinished : is_finished sys s ≡ false
       by None is due = absurd (cc due)
       by (Some l) is due =
           let found = found-line (λ x. is_same_owner (owner_of_line x.line) owner && not (list_any (is_fail_of x.number) s.log)) sys.script 1 l is in
-          entry-for l (and-first (is_same_owner (owner_of_line l.line) owner) (not (list_any (is_fail_of l.number) s.log)) found.0) found.2 (cond-number _ due)
+          entry-for l (and-first (is_same_owner (owner_of_line l.line) owner) (not (list_any (is_fail_of l.number) s.log)) found.0) (from-one sys.script l.number found.1 ∙ found.2) (cond-number _ due)
         where
           cond-number : (b : Bool) → cond b (Some l.number) None ≡ Some k → l.number ≡ k
           cond-number true is = cc is

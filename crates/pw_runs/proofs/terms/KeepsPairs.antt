@@ -168,7 +168,7 @@ term-raises calm ok = record {
 -- the primary fails beside an up-to-date backup
 term-down : {sys : Behaviour} {t last : ℕ} {unit : Option OpenUnit} {memory : Option BackupCopy} {flight : Option Message} {term : Term}
     → TermOk sys t last unit memory flight term Paired
-    → TermOk sys t last unit memory None (record (without_path term) { pending = None }) Down
+    → TermOk sys t last unit memory None (without_path term) Down
 term-down ok = record {
   unit_ok = ok.unit_ok;
   memory_ok = ok.memory_ok;
