@@ -1,5 +1,5 @@
 -- The locks of a run: whose they are, and that no two of them conflict.
-use Rattle.std.proofs.Common.{◌≡◌, ℕ, Bool, true, false, not, cond, List, [], ◌∷◌, filter, Option, Some, None, if◌then◌else◌, refl, ap, sym, subst₂, ◌∙◌}
+use Rattle.std.proofs.Common.{◌≡◌, ℕ, Bool, true, false, not, cond, List, [], ◌∷◌, ◌++◌, filter, Option, Some, None, if◌then◌else◌, refl, ap, sym, subst₂, ◌∙◌}
 use Rattle.std.specs.List.{list_any, AllByRecursion}
 use Rattle.std.proofs.lemmas.Bool.{false≢true, eqb-false, cond-false, or_parts}
 use Rattle.pw_code.specs.declared.file.FileCall.{FileCall}
@@ -27,6 +27,8 @@ use Rattle.pw_paired.specs.Terminal.{IsIdle, path_of}
 use Rattle.pw_paired.specs.Units.{attempt_of, commit_unit, only}
 use Rattle.pw_locking.proofs.records.OperationKept.{none-holds}
 use Rattle.pw_locking.specs.Held.{AreApart, IsHeld}
+use Rattle.pw_locks.proofs.Overlaps.{conflict-comm}
+use Rattle.pw_runs.proofs.Tests.{all-last}
 
 -- both at once
 pub record LocksOk (units : ℕ → Option OpenUnit) (locks : List Lock) : Type 0 where
@@ -57,6 +59,11 @@ apart-filter q (lock ∷ locks) apart = by_test (q lock) (apart-filter q locks a
 none-all : (lock : Lock) (locks : List Lock) → list_any (conflict lock) locks ≡ false → AllByRecursion (λ held. conflict lock held ≡ false) locks
 none-all lock [] none = tt
 none-all lock (held ∷ locks) none = let parts = or_parts (conflict lock held) (list_any (conflict lock) locks) none in (parts.0, none-all lock locks parts.1)
+
+apart-last : (lock : Lock) (locks : List Lock) → AreApart locks → AllByRecursion (λ held. conflict lock held ≡ false) locks → AreApart (locks ++ lock ∷ [])
+apart-last lock [] apart none = (tt, tt)
+apart-last lock (held ∷ locks) apart none =
+    (all-last (λ later. conflict held later ≡ false) locks lock apart.0 (conflict-comm held lock ∙ none.0), apart-last lock locks apart.1 none.1)
 
 -- a lock stays held where its terminal's unit stays
 held-same : {units after : ℕ → Option OpenUnit} (lock : Lock) → after lock.unit.terminal ≡ units lock.unit.terminal → IsHeld units lock → IsHeld after lock
@@ -97,8 +104,10 @@ module _ (sys : Behaviour) (b : IsBehaviour sys) (s : State) (i : Inv sys s) (ok
   verb-locks c p job works (verb.File call) free =
       let out = out-job sys b s i c p job works in
       record {
-        held = (record { unit = out.unit; is_open = out.is_open; number = out.number; start = out.start; runs = out.runs }, ok.held);
-        apart = (none-all (lock_of_job sys s job call) s.locks (none-holds (lock_of_job sys s job call) s.locks (free call refl)), ok.apart);
+        held = all-last (IsHeld s.units) s.locks (lock_of_job sys s job call) ok.held
+            (record { unit = out.unit; is_open = out.is_open; number = out.number; start = out.start; runs = out.runs });
+        apart = apart-last (lock_of_job sys s job call) s.locks ok.apart
+            (none-all (lock_of_job sys s job call) s.locks (none-holds (lock_of_job sys s job call) s.locks (free call refl)));
       }
   verb-locks c p job works verb.Show free = ok
   verb-locks c p job works (verb.Accept screen) free = ok

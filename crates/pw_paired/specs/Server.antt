@@ -72,12 +72,12 @@ with_answer answer job = record job { done = job.done ++ answer ∷ [] }
 abbrev pub at_process : ℕ → Option Job → Class → Class
 at_process i job class = record class { busy = upd class.busy i job }
 
--- the lock is added, and the operation is done
+-- the lock is added behind the others, and the operation is done
 abbrev pub do_operation : Behaviour → ℕ → ℕ → Job → FileCall → State → State
 do_operation sys c i job call state = record state {
   files = upd state.files call.file (records_behind (sys.key_length call.file) (state.files call.file) call);
   before = with_image sys state job.request.terminal call;
-  locks = lock_of_job sys state job call ∷ state.locks;
+  locks = state.locks ++ lock_of_job sys state job call ∷ [];
   classes = upd state.classes c (at_process i (Some (with_answer (answer_on sys state call) job)) (state.classes c));
 }
 
