@@ -16,7 +16,7 @@ use Rattle.pw_runs.proofs.kept.Kept.{Inv}
 use Rattle.pw_runs.proofs.kept.Runs.{keeps, kept-at-start}
 use Rattle.pw_onecopy.proofs.Update.{upd-other}
 use Rattle.pw_onecopy.specs.IsBehaviour.{IsBehaviour}
-use Rattle.pw_paired.specs.Failure.{backup_fails, is_of, primary_fails, process_fails}
+use Rattle.pw_paired.specs.Failure.{backup_fails, is_of_pair, primary_fails, process_fails}
 use Rattle.pw_onecopy.specs.Path.{is_outside, unit_number}
 use Rattle.pw_paired.specs.Server.{do_job, do_verb, free_process, lock_of_job, reply_at, server_verb}
 use Rattle.pw_onecopy.specs.Update.{upd}
@@ -136,13 +136,13 @@ module _ (sys : Behaviour) (b : IsBehaviour sys) (s : State) (i : Inv sys s) (ok
   process-locks c p k None = ok
   process-locks c p k (Some job) = ok
 
-  pair-other : (p : ℕ) (j : ℕ) → is_of sys p j ≡ false → (if is_of sys p j then None else s.units j) ≡ s.units j
-  pair-other p j spared = cond-false (is_of sys p j) None (s.units j) spared
+  pair-other : (p : ℕ) (j : ℕ) → is_of_pair sys p j ≡ false → (if is_of_pair sys p j then None else s.units j) ≡ s.units j
+  pair-other p j spared = cond-false (is_of_pair sys p j) None (s.units j) spared
 
   primary-locks : (p : ℕ) (mode : Mode) → LocksOk (primary_fails sys p mode s).units (primary_fails sys p mode s).locks
   primary-locks p Paired = ok
-  primary-locks p Raising = without (is_of sys p) (λ j. if is_of sys p j then None else s.units j) (pair-other p)
-  primary-locks p Alone = without (is_of sys p) (λ j. if is_of sys p j then None else s.units j) (pair-other p)
+  primary-locks p Raising = without (is_of_pair sys p) (λ j. if is_of_pair sys p j then None else s.units j) (pair-other p)
+  primary-locks p Alone = without (is_of_pair sys p) (λ j. if is_of_pair sys p j then None else s.units j) (pair-other p)
   primary-locks p Down = ok
   primary-locks p Gone = ok
 
@@ -150,7 +150,7 @@ module _ (sys : Behaviour) (b : IsBehaviour sys) (s : State) (i : Inv sys s) (ok
   backup-locks p Paired = ok
   backup-locks p Raising = ok
   backup-locks p Alone = ok
-  backup-locks p Down = without (is_of sys p) (λ j. if is_of sys p j then None else s.units j) (pair-other p)
+  backup-locks p Down = without (is_of_pair sys p) (λ j. if is_of_pair sys p j then None else s.units j) (pair-other p)
   backup-locks p Gone = ok
 
   left-other : (t j : ℕ) → only t j ≡ false → (if only t j then None else s.units j) ≡ s.units j

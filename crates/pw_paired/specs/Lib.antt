@@ -1,5 +1,6 @@
 pub mod State
 pub mod Units
+pub mod Queues
 pub mod Terminal
 pub mod Server
 pub mod Failure
