@@ -1,3 +1,4 @@
+pub mod induction
 pub mod Committed
 pub mod CoveredKeys
 pub mod Entries

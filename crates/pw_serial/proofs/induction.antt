@@ -1,0 +1,6 @@
+pub mod Runs
+pub mod Served
+pub mod Failed
+pub mod Views
+pub mod Moving
+pub mod PendingCauses
