@@ -1,4 +1,5 @@
 pub mod induction
+pub mod frontier
 pub mod Committed
 pub mod CoveredKeys
 pub mod Entries

@@ -12,7 +12,8 @@ use Rattle.pw_paired.proofs.Failing.{out-job}
 use Rattle.pw_paired.proofs.KeepsEnds.{OutOk}
 use Rattle.pw_paired.proofs.KeepsPairs.{any_below-false, mode-of-other, mode-of-pair, not-of-pair, of-pair}
 use Rattle.pw_paired.proofs.Kept.{Inv}
-use Rattle.pw_paired.proofs.TermOk.{HasMessages}
+use Rattle.pw_paired.proofs.Runs.{keeps as still}
+use Rattle.pw_paired.proofs.TermOk.{HasMessages, TermOk}
 use Rattle.pw_paired.proofs.Upd.{upd-other, upd-same}
 use Rattle.pw_paired.specs.Behaviour.{IsBehaviour}
 use Rattle.pw_paired.specs.End.{LegalEnd, ends}
@@ -351,3 +352,20 @@ pub holds-of-view : (sys : Sys) → IsBehaviour sys → (t : ℕ) → t < sys.te
     → P (view_of sys (starting sys) t) → (log : List Event) → IsRun sys log → P (view_of sys (after sys log) t)
 holds-of-view sys b t known P keeps first log run =
     holds-of-views sys b t known {A = Unit {0}} (λ v w a. tt) tt (λ v a. P v) (λ log run v w is move a. keeps log run v w is move) first log run
+
+-- what every state of a run keeps of a terminal, in its view
+abbrev pub TermAt : Sys → ℕ → View → Type 0
+TermAt sys t v = TermOk sys t v.last.number v.unit v.memory v.flight v.term v.mode
+
+-- the same of a property that is kept over such views
+pub holds-of-terms : (sys : Sys) → IsBehaviour sys → (t : ℕ) → t < sys.terminals → {A : Type 0} (next : View → View → A → A) (start : A) (P : View → A → Type 0)
+    → ((v w : View) → TermAt sys t v → TermAt sys t w → Moves sys t v w → (a : A) → P v a → P w (next v w a))
+    → P (view_of sys (starting sys) t) start
+    → (log : List Event) → IsRun sys log → P (view_of sys (after sys log) t) (carried sys (carried_view sys t next) start log)
+holds-of-terms sys b t known next start P keeps first log run =
+    behind-runs sys (carried_view sys t next) start (λ s a. P (view_of sys s t) a)
+    (λ log run entry legal.
+    let i = kept sys b log run in
+    keeps (view_of sys (after sys log) t) (view_of sys (effect sys (after sys log) entry) t)
+    (i.terms t known) ((still sys b (after sys log) i entry legal).terms t known)
+    (moves sys b (after sys log) i t known entry legal.fits) (carried sys (carried_view sys t next) start log)) first log run
