@@ -1,5 +1,6 @@
 pub mod induction
 pub mod frontier
+pub mod screens
 pub mod Committed
 pub mod CoveredKeys
 pub mod Entries
