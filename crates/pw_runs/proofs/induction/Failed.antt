@@ -46,6 +46,15 @@ module _ (sys : Behaviour) (s : State) (P : State → Type 0) where
   process-cases c i k same works = by-job c i k same works ((s.classes c).busy i) refl
 
   module _ (t : ℕ) where
+    -- Legal or not: the terminal ends, with its open unit left or without.
+    pub end-any : (e : Ending) → P (settle_mode sys (sys.pair_of t) (end_terminal t e s))
+        → P (settle_mode sys (sys.pair_of t) (end_terminal t e (leave_units sys (only t) s))) → P (do_end sys t e s)
+    end-any ending.Stopped stays leaves = stays
+    end-any ending.Lost stays leaves = stays
+    end-any ending.NoEntries stays leaves = leaves
+    end-any (ending.Fault x) stays leaves = leaves
+    end-any (ending.Suspended cause) stays leaves = leaves
+
     -- An ending: the terminal stops at its program's end or is lost with its pair, or an open unit of it is left.
     pub end-cases : (e : Ending) → LegalEnd sys s t e
         → (LegalStopped sys s t → P (settle_mode sys (sys.pair_of t) (end_terminal t ending.Stopped s)))

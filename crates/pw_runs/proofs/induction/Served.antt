@@ -1,5 +1,6 @@
 -- What the entries of a class do, by the verb of the server: FILE, TAKE and REPLY.
 use Rattle.std.proofs.Common.{◌≡◌, ℕ, Bool, true, false, List, ◌∷◌, Option, Some, None, if◌then◌else◌, refl, ap, sym, subst, ◌∙◌}
+use Rattle.pw_code.specs.declared.file.FileCall.{FileCall}
 use Rattle.pw_code.specs.declared.file.FileOp.{FileOp}
 use Rattle.pw_code.specs.declared.lock.LockMode.{LockMode}
 use Rattle.pw_code.specs.declared.verb.Verb.{Verb}
@@ -47,6 +48,29 @@ module _ (sys : Behaviour) (s : State) (c p : ℕ) where
   file-is op mode f status l =
       ap (λ (job : Option Job). do_job sys c p job s) l.at_work ∙ ap (λ (v : Verb). do_verb sys c p l.job v s) l.asks
 
+  -- Legal or not: nothing happens, or the server's operation is done.
+  module _ (P : State → Type 0) (same : P s) (operates : (job : Job) (call : FileCall) → (s.classes c).busy p ≡ Some job
+      → server_verb sys c job ≡ verb.File call → P (do_operation sys c p job call s)) where
+    verb-cases : (job : Job) → (s.classes c).busy p ≡ Some job → (v : Verb) → server_verb sys c job ≡ v → P (do_verb sys c p job v s)
+    verb-cases job works (verb.File call) asks = operates job call works asks
+    verb-cases job works verb.Show asks = same
+    verb-cases job works (verb.Accept screen) asks = same
+    verb-cases job works verb.Begin asks = same
+    verb-cases job works (verb.Send class message) asks = same
+    verb-cases job works verb.End asks = same
+    verb-cases job works verb.Drop asks = same
+    verb-cases job works verb.Redo asks = same
+    verb-cases job works verb.Stop asks = same
+    verb-cases job works (verb.Fault x) asks = same
+    verb-cases job works (verb.Reply reply) asks = same
+
+    job-cases : (job : Option Job) → (s.classes c).busy p ≡ job → P (do_job sys c p job s)
+    job-cases None works = same
+    job-cases (Some job) works = verb-cases job works (server_verb sys c job) refl
+
+    pub file-cases : P (do_file sys c p s)
+    file-cases = job-cases ((s.classes c).busy p) refl
+
   -- a TAKE hands the first waiting request to the process
   pub take-is : (t : ℕ) → (l : LegalTake sys s c p t)
       → do_take c p s ≡ record s { classes = upd s.classes c (with_first_taken p (l.request ∷ l.others) (s.classes c)) }
@@ -59,6 +83,18 @@ module _ (sys : Behaviour) (s : State) (c p : ℕ) where
         → P (give_answer t (Replied reply) (if outside then commit_unit t (unit_number (path_of s t)) (Some reply) (free_process c p s) else free_process c p s))
     replied reply true is send within = send is
     replied reply false is send within = within is
+
+    -- Legal or not: the terminal is answered, and a unit that is one SEND commits.
+    pub reply-any : (fault : Option ℕ)
+        → ((reply : List ℕ) → is_outside (path_of s t) ≡ true
+        → P (give_answer t (Replied reply) (commit_unit t (unit_number (path_of s t)) (Some reply) (free_process c p s))))
+        → ((reply : List ℕ) → is_outside (path_of s t) ≡ false → P (give_answer t (Replied reply) (free_process c p s)))
+        → ((x : ℕ) → P (give_answer t (Failed x) (free_process c p s)))
+        → P (do_reply sys c p t fault s)
+    reply-any None send within fails =
+        let reply : List ℕ = reply_at sys c ((s.classes c).busy p) in
+        replied reply (is_outside (path_of s t)) refl (send reply) (within reply)
+    reply-any (Some x) send within fails = fails x
 
     -- A REPLY answers the terminal: it commits a unit that is one SEND, goes on in a transaction, or has the run fault.
     pub reply-cases : (fault : Option ℕ) → (l : LegalReply sys s c p t fault)
