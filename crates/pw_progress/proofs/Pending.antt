@@ -1,4 +1,4 @@
--- A pending cause is one of a running attempt, unless the pair is lost.
+-- A pending cause is one of a running attempt.
 use Rattle.std.proofs.Common.{◌≡◌, ◌≢◌, ℕ, ◌<◌, ⊎_elim, Bool, true, false, if◌then◌else◌, ◌==◌, is_some, List, Option, Some, None, refl, ap, sym, subst, ◌∙◌, arith}
 use Rattle.std.proofs.lemmas.Bool.{cases_Bool, cases_lt, cond-false, cond-true, true≢false}
 use Rattle.pw_event.specs.declared.event.Cause.{Cause}
@@ -34,9 +34,9 @@ Pends (cause.Server k) = Unit {0}
 Pends (cause.Older o m) = ⊥
 Pends cause.Redo = ⊥
 
--- what is pending where the pair is not lost is of a running attempt
+-- what is pending is of a running attempt
 abbrev PendingOk : View → Type 0
-PendingOk v = (kind : Cause) → v.term.pending ≡ Some kind → v.mode ≢ Gone → Runs v.unit × Pends kind
+PendingOk v = (kind : Cause) → v.term.pending ≡ Some kind → Runs v.unit × Pends kind
 
 runs-of : (number : ℕ) (unit : Option OpenUnit) → runs_unit number unit ≡ true → Runs unit
 runs-of number None is = absurd (true≢false (sym is))
@@ -46,23 +46,19 @@ runs-of number (Some unit) is = by unit.running refl (and-second (unit.number ==
     by None none there = absurd (true≢false (sym there ∙ ap is_some none))
     by (Some q) runs there = record { unit = unit; is_open = refl; start = q; runs = runs }
 
-messages-there : (mode : Mode) → HasMessages mode → mode ≢ Gone
-messages-there mode has gone = subst HasMessages gone has
-
 -- a calm terminal has nothing pending
-calm : {pending : Option Cause} {mode : Mode} {unit : Option OpenUnit} → pending ≡ None → (kind : Cause) → pending ≡ Some kind → mode ≢ Gone → Runs unit × Pends kind
-calm none kind is there = absurd (cc (none, is))
+calm : {pending : Option Cause} {unit : Option OpenUnit} → pending ≡ None → (kind : Cause) → pending ≡ Some kind → Runs unit × Pends kind
+calm none kind is = absurd (cc (none, is))
 
 pending-kept : (sys : Behaviour) (t : ℕ) (v w : View) → Moves sys t v w → PendingOk v → PendingOk w
 pending-kept sys t v w (move.stays is) ok = subst PendingOk (sym is) ok
-pending-kept sys t v w (move.settles lacks has is) ok =
-    subst PendingOk (sym is) (λ kind pending there. ok kind pending (λ gone. there (ap (λ (m : Mode). settled_mode m lacks) gone)))
+pending-kept sys t v w (move.settles lacks has is) ok = subst PendingOk (sym is) ok
 pending-kept sys t v w (move.shows able asks is) ok = subst PendingOk (sym is) ok
 pending-kept sys t v w (move.enters able screen k asks next exists is) ok = subst PendingOk (sym is) ok
 pending-kept sys t v w (move.sends_start able idle begin new lacking free is) ok = subst PendingOk (sym is) ok
 pending-kept sys t v w (move.sends_end able a closes lacking free is) ok = subst PendingOk (sym is) ok
 pending-kept sys t v w (move.sends_copy going raising lacking free is) ok = subst PendingOk (sym is) ok
-pending-kept sys t v w (move.applies message flies has lacks is) ok = subst PendingOk (sym is) (λ kind pending there. ok kind pending (messages-there v.mode has))
+pending-kept sys t v w (move.applies message flies has lacks is) ok = subst PendingOk (sym is) ok
 pending-kept sys t v w (move.begins able idle begin new held birth is) ok = subst PendingOk (sym is) (calm able.calm)
 pending-kept sys t v w (move.is_answered waits reply inside is) ok = subst PendingOk (sym is) ok
 pending-kept sys t v w (move.is_served waits reply outside is) ok = subst PendingOk (sym is) (calm waits.calm)
@@ -72,21 +68,21 @@ pending-kept sys t v w (move.commits able asks held is) ok = subst PendingOk (sy
 pending-kept sys t v w (move.drops able asks held is) ok = subst PendingOk (sym is) (calm able.calm)
 pending-kept sys t v w (move.restarts unit is_open start runs kind few is) ok = subst PendingOk (sym is) (calm refl)
 pending-kept sys t v w (move.goes_down paired is) ok = subst PendingOk (sym is) (calm refl)
-pending-kept sys t v w (move.is_lost is) ok = subst PendingOk (sym is) (λ kind pending there. absurd (there refl))
-pending-kept sys t v w (move.loses_backup has is) ok = subst PendingOk (sym is) (λ kind pending there. ok kind pending (messages-there v.mode has))
+pending-kept sys t v w (move.is_lost is) ok = subst PendingOk (sym is) (calm refl)
+pending-kept sys t v w (move.loses_backup has is) ok = subst PendingOk (sym is) ok
 pending-kept sys t v w (move.loses_server waits k is) ok =
-    subst PendingOk (sym is) (λ kind pending there.
+    subst PendingOk (sym is) (λ kind pending.
     (record { unit = waits.unit; is_open = waits.is_open; start = waits.start; runs = waits.runs }, subst Pends (let same : cause.Server k ≡ kind = cc pending in same) tt))
 pending-kept sys t v w (move.is_taken_over p down live held is_held is) ok =
-    subst PendingOk (sym is) (λ kind pending there.
+    subst PendingOk (sym is) (λ kind pending.
     ⊎_elim
     (λ runs.
     let taken : cause.Takeover p ≡ kind = let now = cond-true (runs_unit held.unit v.unit) (Some (cause.Takeover p)) v.term.pending runs in cc (now, pending) in
     (runs-of held.unit v.unit runs, subst Pends taken tt))
-    (λ none. ok kind (sym (cond-false (runs_unit held.unit v.unit) (Some (cause.Takeover p)) v.term.pending none) ∙ pending) (λ gone. absurd (cc (down, gone))))
+    (λ none. ok kind (sym (cond-false (runs_unit held.unit v.unit) (Some (cause.Takeover p)) v.term.pending none) ∙ pending))
     (cases_Bool (runs_unit held.unit v.unit)))
-pending-kept sys t v w (move.is_passed_over down e dead is) ok = subst PendingOk (sym is) (λ kind pending there. ok kind pending (λ gone. absurd (cc (down, gone))))
-pending-kept sys t v w (move.is_raised alone calm_is is) ok = subst PendingOk (sym is) (λ kind pending there. ok kind pending (λ gone. absurd (cc (alone, gone))))
+pending-kept sys t v w (move.is_passed_over down e dead is) ok = subst PendingOk (sym is) ok
+pending-kept sys t v w (move.is_raised alone calm_is is) ok = subst PendingOk (sym is) ok
 pending-kept sys t v w (move.stops e lacks live idle is) ok = subst PendingOk (sym is) (calm refl)
 pending-kept sys t v w (move.leaves e lacks is) ok = subst PendingOk (sym is) (calm refl)
 
@@ -143,14 +139,14 @@ module _ (sys : Behaviour) (b : IsBehaviour sys) (s : State) (i : Inv sys s) (t 
 
 -- in every run of a deck
 known-pending : (sys : Behaviour) → IsBehaviour sys → (log : List Event) → IsRun sys log → (t : ℕ) → t < sys.terminals
-    → (kind : Cause) → ((after sys log).terms t).pending ≡ Some kind → (after sys log).modes (sys.pair_of t) ≢ Gone → Runs ((after sys log).units t) × Pends kind
+    → (kind : Cause) → ((after sys log).terms t).pending ≡ Some kind → Runs ((after sys log).units t) × Pends kind
 known-pending sys b log run t known =
     holds-of-view sys b t known PendingOk (λ log run v w is move. pending-kept sys t v w move) (calm refl) log run
 
 pub pending-ok : (sys : Behaviour) → IsBehaviour sys → (log : List Event) → IsRun sys log → (t : ℕ) (kind : Cause)
-    → ((after sys log).terms t).pending ≡ Some kind → (after sys log).modes (sys.pair_of t) ≢ Gone → Runs ((after sys log).units t) × Pends kind
-pending-ok sys b log run t kind is there =
-    ⊎_elim (λ known. known-pending sys b log run t known kind is there)
+    → ((after sys log).terms t).pending ≡ Some kind → Runs ((after sys log).units t) × Pends kind
+pending-ok sys b log run t kind is =
+    ⊎_elim (λ known. known-pending sys b log run t known kind is)
     (λ beyond.
     let strange : t < sys.terminals → ⊥ = λ known. absurd (omega (arith, known, beyond)) in
     let none = holds-behind sys (λ s. (s.terms t).pending ≡ None) (λ log run entry legal calm. keeps-calm sys b (after sys log) (kept sys b log run) t strange calm entry) refl log run in
@@ -158,5 +154,5 @@ pending-ok sys b log run t kind is there =
     (cases_lt t sys.terminals)
 
 pub pending-runs : (sys : Behaviour) → IsBehaviour sys → (log : List Event) → IsRun sys log → (t : ℕ) (kind : Cause)
-    → ((after sys log).terms t).pending ≡ Some kind → (after sys log).modes (sys.pair_of t) ≢ Gone → Runs ((after sys log).units t)
-pending-runs sys b log run t kind is there = (pending-ok sys b log run t kind is there).0
+    → ((after sys log).terms t).pending ≡ Some kind → Runs ((after sys log).units t)
+pending-runs sys b log run t kind is = (pending-ok sys b log run t kind is).0

@@ -26,11 +26,11 @@ pub fn begin_laws()
         → (after sys log).units t ≡ Some unit → restarts_in t unit.number log ≡ sys.max_restarts t }
 {}
 
-/// In a run of a deck a pending cause is one of a running attempt, unless the pair is lost: so the attempt can restart by
-/// it, or its terminal be suspended.
+/// In a run of a deck a pending cause is one of a running attempt: so the attempt can restart by it, or its terminal be
+/// suspended.
 pub fn pending_laws()
-    ensures { (sys : Behaviour) → IsBehaviour sys → (log : List Event) → IsRun sys log → (t : ℕ) (cause : Cause)
-        → ((after sys log).terms t).pending ≡ Some cause → (after sys log).modes (sys.pair_of t) ≢ Gone
+    ensures { (sys : Behaviour) → IsBehaviour sys → (log : List Event) → IsRun sys log
+        → (t : ℕ) (cause : Cause) → ((after sys log).terms t).pending ≡ Some cause
         → Runs ((after sys log).units t) }
 {}
 

@@ -13,7 +13,7 @@ use Rattle.pw_runs.proofs.terms.KeepsChecks.{can_path, running}
 use Rattle.pw_runs.proofs.terms.KeepsPairs.{mode-of-pair, mode-of-other, of-pair, not-of-pair}
 use Rattle.pw_runs.proofs.kept.Kept.{Inv}
 use Rattle.pw_runs.proofs.requests.Requests.{Nowhere, placed_freed, placed_process_other, placed_cancelled, placed_cancelled_other}
-use Rattle.pw_runs.proofs.terms.TermOk.{HasMessages, IsWorking}
+use Rattle.pw_runs.proofs.terms.TermOk.{IsWorking, messages-work}
 use Rattle.pw_onecopy.proofs.Update.{upd_elim, upd-same, upd-other}
 use Rattle.pw_onecopy.specs.IsBehaviour.{IsBehaviour}
 use Rattle.pw_paired.specs.End.{LegalEnd, end_terminal}
@@ -160,13 +160,6 @@ module _ (sys : Behaviour) (b : IsBehaviour sys) (s : State) (i : Inv sys s) (ok
       (upd_elim s.modes p Alone (sys.pair_of t) (λ (m : Mode). IsWorking m → IsWorking (s.modes (sys.pair_of t)))
       (λ same _. subst (λ (x : ℕ). IsWorking (s.modes x)) (sym same) working) (λ _ works. works))
       refl refl refl (all t unit q is runs)
-
-  messages-work : (mode : Mode) → HasMessages mode → IsWorking mode
-  messages-work Alone has = tt
-  messages-work Raising has = tt
-  messages-work Paired has = tt
-  messages-work Down has = absurd has
-  messages-work Gone has = absurd has
 
   pub alone-fail-tcp : (p : ℕ) (primary : Bool) (k : ℕ) → Fits sys s (FailTcp p primary k) → AllAlone sys b (effect sys s (FailTcp p primary k)) answers
   alone-fail-tcp p primary k l =
