@@ -3,7 +3,7 @@ use Rattle.std.specs.Prelude.{ℕ, ◌==◌, Bool, true, false, List, Option, So
 use Rattle.pw_code.specs.declared.file.FileCall.{FileCall}
 use Rattle.pw_code.specs.declared.verb.Verb.{Verb}
 use Rattle.pw_code.specs.declared.verb.Verb.TheVariants as verb
-use Rattle.pw_paired.specs.Path.{PathAnswer, is_outside}
+use Rattle.pw_onecopy.specs.Path.{PathAnswer, is_outside}
 
 -- the verb is Show
 abbrev pub asks_show : Verb → Bool

@@ -1,12 +1,12 @@
 ghost use Rattle.std.specs.Prelude.{◌≡◌, ◌↔◌, ℕ, List, true};
 ghost use Rattle.pw_event.specs.declared.event.Event.{Event};
-ghost use Rattle.pw_paired.specs.Behaviour.{IsBehaviour};
-ghost use Rattle.pw_paired.specs.OneCopy.{IsSerial, LegalBlock, Machine};
-ghost use Rattle.pw_paired.specs.Path.{PathAnswer};
-ghost use Rattle.pw_paired.specs.Serial.{Block};
+ghost use Rattle.pw_onecopy.specs.IsBehaviour.{IsBehaviour};
+ghost use Rattle.pw_onecopy.specs.OneCopy.{IsSerial, LegalBlock, Machine};
+ghost use Rattle.pw_onecopy.specs.Path.{PathAnswer};
+ghost use Rattle.pw_onecopy.specs.Blocks.{Block};
 ghost use Rattle.pw_paired.specs.State.{State};
 ghost use Rattle.pw_paired.specs.Step.{IsRun, Legal, after};
-ghost use Rattle.pw_paired.specs.System.{Sys};
+ghost use Rattle.pw_onecopy.specs.Behaviour.{Behaviour};
 ghost use Rattle.pw_legal.specs.Blocks.{is_legal_block, is_serial};
 ghost use Rattle.pw_legal.specs.Causes.{JobsAreThere};
 ghost use Rattle.pw_legal.specs.Legality.{is_by_conflict, is_legal, is_run};
@@ -15,9 +15,9 @@ ghost use Rattle.pw_legal.specs.Values.{is_same_path};
 /// An entry that passes the test is legal, and a legal one passes it: a restart or a suspension by a conflict of locks
 /// where only processes of the system's classes work, and every other entry in every state.
 pub fn legality_laws()
-    ensures sound { (sys : Sys) (state : State) (entry : Event)
+    ensures sound { (sys : Behaviour) (state : State) (entry : Event)
         → is_legal sys state entry ≡ true → Legal sys state entry }
-    ensures complete { (sys : Sys) (state : State) (entry : Event)
+    ensures complete { (sys : Behaviour) (state : State) (entry : Event)
         → (is_by_conflict entry ≡ true → JobsAreThere sys state)
         → Legal sys state entry → is_legal sys state entry ≡ true }
 {}
@@ -25,11 +25,11 @@ pub fn legality_laws()
 /// In every run of a deck only processes of the system's classes work, so the test of legality misses nothing; and a log
 /// is a run exactly where each of its entries passes.
 pub fn run_laws()
-    ensures jobs { (sys : Sys) → IsBehaviour sys → (log : List Event) → IsRun sys log
+    ensures jobs { (sys : Behaviour) → IsBehaviour sys → (log : List Event) → IsRun sys log
         → JobsAreThere sys (after sys log) }
-    ensures entries { (sys : Sys) → IsBehaviour sys → (log : List Event) → IsRun sys log → (entry : Event)
+    ensures entries { (sys : Behaviour) → IsBehaviour sys → (log : List Event) → IsRun sys log → (entry : Event)
         → (is_legal sys (after sys log) entry ≡ true) ↔ Legal sys (after sys log) entry }
-    ensures logs { (sys : Sys) → IsBehaviour sys → (log : List Event)
+    ensures logs { (sys : Behaviour) → IsBehaviour sys → (log : List Event)
         → (is_run sys log ≡ true) ↔ IsRun sys log }
 {}
 
@@ -41,7 +41,7 @@ pub fn path_laws()
 /// A block that passes the test is legal in the one-copy machine, and a legal one passes it; the machine is defined on a
 /// list of blocks exactly where each passes.
 pub fn block_laws()
-    ensures blocks { (sys : Sys) (machine : Machine) (block : Block)
+    ensures blocks { (sys : Behaviour) (machine : Machine) (block : Block)
         → (is_legal_block sys machine block ≡ true) ↔ LegalBlock sys machine block }
-    ensures orders { (sys : Sys) (order : List Block) → (is_serial sys order ≡ true) ↔ IsSerial sys order }
+    ensures orders { (sys : Behaviour) (order : List Block) → (is_serial sys order ≡ true) ↔ IsSerial sys order }
 {}

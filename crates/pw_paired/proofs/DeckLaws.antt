@@ -13,11 +13,12 @@ use Rattle.pw_code.specs.declared.verb.Verb.{Verb}
 use Rattle.pw_code.specs.declared.verb.Verb.TheVariants as verb
 use Rattle.pw_event.specs.declared.script.FailLine.{FailLine}
 use Rattle.pw_files.specs.Records.{IsContent, IsFile}
-use Rattle.pw_paired.specs.Behaviour.{IsBehaviour, IsAsked, ComesTo, Play, played, is_written}
+use Rattle.pw_onecopy.specs.IsBehaviour.{IsBehaviour, IsAsked, ComesTo, is_written}
+use Rattle.pw_onecopy.specs.Play.{Play, play_after}
 use Rattle.pw_paired.specs.DeckC.{Line, Sends, Begins, Ends, Drops, Redoes, deck, item, last_of, line_at, served_by, serves, spaces, stock, store, verb_at, verb_behind, with_one_more}
-use Rattle.pw_paired.specs.Operation.{key_of}
-use Rattle.pw_paired.specs.Path.{PathAnswer, Shown, Entry, Begun, Replied, Failed, Ended, Dropped, FileAnswer, is_outside}
-use Rattle.pw_paired.specs.System.{Sys}
+use Rattle.pw_onecopy.specs.Operation.{key_of}
+use Rattle.pw_onecopy.specs.Path.{PathAnswer, Shown, Entry, Begun, Replied, Failed, Ended, Dropped, FileAnswer, is_outside}
+use Rattle.pw_onecopy.specs.Behaviour.{Behaviour}
 
 -- the last answer of a longer path
 last_of-push : (path : List PathAnswer) (answer : PathAnswer) → last_of (path ++ answer ∷ []) ≡ Some answer
@@ -115,12 +116,12 @@ call-ok false false content [] call six is = like_known call _ is (of-record Wri
 call-ok false false content (put_in ∷ done) call six is = absurd (cc is)
 
 -- the system whose server is that of these letters
-abbrev of_letters : Bool → Bool → List ℕ → Sys → Sys
+abbrev of_letters : Bool → Bool → List ℕ → Behaviour → Behaviour
 of_letters is_increment is_next content sys = record sys { ops = λ c message done. serves is_increment is_next content done }
 
 -- the server's operations come to a reply within two
-two-add-up : (is_increment is_next : Bool) (content : List ℕ) (sys : Sys) (c : ℕ) (message : List ℕ) (files : ℕ → List (List ℕ))
-    → let at : Play = played (of_letters is_increment is_next content sys) c message files 2 in
+two-add-up : (is_increment is_next : Bool) (content : List ℕ) (sys : Behaviour) (c : ℕ) (message : List ℕ) (files : ℕ → List (List ℕ))
+    → let at : Play = play_after (of_letters is_increment is_next content sys) c message files 2 in
     ComesTo (served_by (serves is_increment is_next content at.done) at.files) (serves is_increment is_next content at.done) at.files
 two-add-up true is_next content sys c message files = (refl, refl)
 two-add-up false true content sys c message files = (refl, refl)

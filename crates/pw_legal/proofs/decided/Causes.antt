@@ -15,14 +15,14 @@ use Rattle.pw_legal.specs.Causes as test
 use Rattle.pw_legal.specs.Values.{some_with}
 use Rattle.pw_paired.specs.End.{LegalSuspended}
 use Rattle.pw_paired.specs.Failure.{Holds, LegalOlder, LegalRestart, Meets, unit_named}
-use Rattle.pw_paired.specs.Path.{PathAnswer}
+use Rattle.pw_onecopy.specs.Path.{PathAnswer}
 use Rattle.pw_paired.specs.Server.{server_verb}
-use Rattle.pw_paired.specs.State.{Job, Open, State}
-use Rattle.pw_paired.specs.System.{Sys}
+use Rattle.pw_paired.specs.State.{Job, OpenUnit, State}
+use Rattle.pw_onecopy.specs.Behaviour.{Behaviour}
 use Rattle.pw_paired.specs.Terminal.{next_verb}
 
 -- what the search for a process finds
-record Found (sys : Sys) (state : State) (one other : unit.Unit) : Type 0 where
+record Found (sys : Behaviour) (state : State) (one other : unit.Unit) : Type 0 where
   class : ℕ
   there : class < sys.classes
   place : ℕ
@@ -35,7 +35,7 @@ record Found (sys : Sys) (state : State) (one other : unit.Unit) : Type 0 where
   asks : server_verb sys class job ≡ verb.File call
   meets : test.call_meets sys state other job call ≡ true
 
-found : (sys : Sys) (state : State) (one other : unit.Unit) → Decides (test.meets sys state one other) (Found sys state one other)
+found : (sys : Behaviour) (state : State) (one other : unit.Unit) → Decides (test.meets sys state one other) (Found sys state one other)
 unfolding test.meets
 found sys state one other =
     like (some_below (λ (class : ℕ). some_below (λ (i : ℕ). one_with (job_meets class) ((state.classes class).busy (i + 1))) (sys.processes class)) sys.classes)
@@ -61,7 +61,7 @@ found sys state one other =
         both (number job.request.terminal one.terminal) (both (number job.request.unit one.number)
         (asked.file (λ (call : FileCall). itself (test.call_meets sys state other job call)) (server_verb sys class job)))
 
-meet : (sys : Sys) (state : State) (one other : unit.Unit) → DecidesIf (JobsAreThere sys state) (test.meets sys state one other) (Meets sys state one other)
+meet : (sys : Behaviour) (state : State) (one other : unit.Unit) → DecidesIf (JobsAreThere sys state) (test.meets sys state one other) (Meets sys state one other)
 meet sys state one other =
     (λ e. of_found ((found sys state one other).0 e), λ there m. (found sys state one other).1 (to_found there m))
   where
@@ -97,10 +97,10 @@ meet sys state one other =
           meets = m.meets;
         }
 
-older : (sys : Sys) (state : State) (t : ℕ) (own : Open) (o m : ℕ)
+older : (sys : Behaviour) (state : State) (t : ℕ) (own : OpenUnit) (o m : ℕ)
     → DecidesIf (JobsAreThere sys state) (test.is_legal_older sys state t own o m) (LegalOlder sys state t own o m)
 older sys state t own o m =
-    like_if (one_with_if (λ (unit : Open). both_if (always (number unit.number m)) (both_if (always (below unit.birth own.birth))
+    like_if (one_with_if (λ (unit : OpenUnit). both_if (always (number unit.number m)) (both_if (always (below unit.birth own.birth))
     (both_if (always (denied (gone (state.modes (sys.pair_of t)))))
     (either_if (meet sys state (unit_named t own) (unit_named o unit)) (meet sys state (unit_named o unit) (unit_named t own)))))) (state.units o))
     (λ h. record { older = h.0; is_open = h.1; number = h.2.0; is_older = h.2.1.0; there = h.2.1.1.0; meets = h.2.1.1.1 })
@@ -110,7 +110,7 @@ pending_is : {passes : Cause → Bool} {own : Cause} → ((pending : Cause) → 
     → Decides (some_with passes pending) (pending ≡ Some own)
 pending_is each pending = like (one_with each pending) (λ h. h.1 ∙ ap (λ (c : Cause). Some c) h.2) (λ e. (_, e, refl))
 
-holding : (sys : Sys) (state : State) (t : ℕ) (own : Open) (why : Cause)
+holding : (sys : Behaviour) (state : State) (t : ℕ) (own : OpenUnit) (why : Cause)
     → DecidesIf (is_conflict why ≡ true → JobsAreThere sys state) (test.holds sys state t own why) (Holds sys state t own why)
 holding sys state t own (cause.Older o m) = suppose (λ h. h refl) (older sys state t own o m)
 holding sys state t own (cause.Takeover p) =
@@ -123,15 +123,15 @@ holding sys state t own cause.Redo =
     always (like (both (can sys state t) (asked.redo (next_verb sys state t))) (λ h. record { can = h.0; asks = h.1 }) (λ l. (l.can, l.asks)))
 
 -- an attempt runs, and the cause holds for it
-caused : (sys : Sys) (state : State) (t : ℕ) (why : Cause) (unit : Open)
+caused : (sys : Behaviour) (state : State) (t : ℕ) (why : Cause) (unit : OpenUnit)
     → DecidesIf (is_conflict why ≡ true → JobsAreThere sys state) (test.is_caused sys state t why unit)
     (((start : List PathAnswer) × (unit.running ≡ Some start)) × Holds sys state t unit why)
 caused sys state t why unit = both_if (always (some unit.running)) (holding sys state t unit why)
 
-pub restart : (sys : Sys) (state : State) (t n : ℕ) (why : Cause)
+pub restart : (sys : Behaviour) (state : State) (t n : ℕ) (why : Cause)
     → DecidesIf (is_conflict why ≡ true → JobsAreThere sys state) (test.is_legal_restart sys state t n why) (LegalRestart sys state t n why)
 restart sys state t n why =
-    like_if (one_with_if (λ (unit : Open). both_if (always (number unit.number n))
+    like_if (one_with_if (λ (unit : OpenUnit). both_if (always (number unit.number n))
     (both_if (caused sys state t why unit) (always (below unit.restarts (sys.max_restarts t))))) (state.units t))
     (λ h. record {
       unit = h.0;
@@ -140,10 +140,10 @@ restart sys state t n why =
     })
     (λ l. (l.unit, l.caused.is_open, (l.caused.number, (((l.caused.start, l.caused.runs), l.caused.holds), l.few))))
 
-pub suspended : (sys : Sys) (state : State) (t : ℕ) (why : Cause)
+pub suspended : (sys : Behaviour) (state : State) (t : ℕ) (why : Cause)
     → DecidesIf (is_conflict why ≡ true → JobsAreThere sys state) (test.is_legal_suspended sys state t why) (LegalSuspended sys state t why)
 suspended sys state t why =
-    like_if (one_with_if (λ (unit : Open). both_if (caused sys state t why unit) (always (number unit.restarts (sys.max_restarts t)))) (state.units t))
+    like_if (one_with_if (λ (unit : OpenUnit). both_if (caused sys state t why unit) (always (number unit.restarts (sys.max_restarts t)))) (state.units t))
     (λ h. record {
       unit = h.0;
       caused = record { is_open = h.1; number = refl; start = h.2.0.0.0; runs = h.2.0.0.1; holds = h.2.0.1 };

@@ -9,12 +9,12 @@ use Rattle.pw_legal.proofs.decided.Values.{same_mode, same_number, same_op}
 use Rattle.pw_legal.proofs.decided.Verbs as asked
 use Rattle.pw_legal.specs.Classes as test
 use Rattle.pw_locks.specs.Conflicts.{holders}
-use Rattle.pw_paired.specs.Operation.{plain_op}
+use Rattle.pw_onecopy.specs.Operation.{plain_op}
 use Rattle.pw_paired.specs.Server.{LegalTake, LegalFile, LegalReply, answer_on, first_free, lock_of_job, server_verb}
 use Rattle.pw_paired.specs.State.{Job, State}
-use Rattle.pw_paired.specs.System.{Sys}
+use Rattle.pw_onecopy.specs.Behaviour.{Behaviour}
 
-pub take : (sys : Sys) (state : State) (c i t : ℕ) → Decides (test.is_legal_take sys state c i t) (LegalTake sys state c i t)
+pub take : (sys : Behaviour) (state : State) (c i t : ℕ) → Decides (test.is_legal_take sys state c i t) (LegalTake sys state c i t)
 take sys state c i t =
     like (both (first_one (λ request. number request.terminal t) (state.classes c).waiting)
     (same_number (first_free (state.classes c).busy 1 (sys.processes c)) (Some i)))
@@ -22,14 +22,14 @@ take sys state c i t =
     (λ l. ((l.request, l.others, l.first, l.whose), l.free))
 
 -- the call that an entry speaks of
-record Called (sys : Sys) (state : State) (op : FileOp) (mode : LockMode) (f status : ℕ) (job : Job) (call : FileCall) : Type 0 where
+record Called (sys : Behaviour) (state : State) (op : FileOp) (mode : LockMode) (f status : ℕ) (job : Job) (call : FileCall) : Type 0 where
   op_is : op ≡ plain_op call.op
   mode_is : mode ≡ mode_of sys.rule call.op
   file_is : f ≡ call.file
   status_is : status ≡ (answer_on sys state call).status
   free : holders (lock_of_job sys state job call) state.locks ≡ []
 
-called : (sys : Sys) (state : State) (op : FileOp) (mode : LockMode) (f status : ℕ) (job : Job) (call : FileCall)
+called : (sys : Behaviour) (state : State) (op : FileOp) (mode : LockMode) (f status : ℕ) (job : Job) (call : FileCall)
     → Decides (test.is_call sys state op mode f status job call) (Called sys state op mode f status job call)
 called sys state op mode f status job call =
     like (both (same_op op (plain_op call.op)) (both (same_mode mode (mode_of sys.rule call.op)) (both (number f call.file)
@@ -37,7 +37,7 @@ called sys state op mode f status job call =
     (λ h. record { op_is = h.0; mode_is = h.1.0; file_is = h.1.1.0; status_is = h.1.1.1.0; free = h.1.1.1.1 })
     (λ l. (l.op_is, (l.mode_is, (l.file_is, (l.status_is, l.free)))))
 
-pub file : (sys : Sys) (state : State) (c i : ℕ) (op : FileOp) (mode : LockMode) (f status : ℕ)
+pub file : (sys : Behaviour) (state : State) (c i : ℕ) (op : FileOp) (mode : LockMode) (f status : ℕ)
     → Decides (test.is_legal_file sys state c i op mode f status) (LegalFile sys state c i op mode f status)
 file sys state c i op mode f status =
     like (one_with (λ (job : Job). asked.file (called sys state op mode f status job) (server_verb sys c job)) ((state.classes c).busy i))
@@ -54,7 +54,7 @@ file sys state c i op mode f status =
     })
     (λ l. (l.job, l.at_work, (l.call, l.asks, record { op_is = l.op_is; mode_is = l.mode_is; file_is = l.file_is; status_is = l.status_is; free = l.free })))
 
-pub reply : (sys : Sys) (state : State) (c i t : ℕ) (fault : Option ℕ)
+pub reply : (sys : Behaviour) (state : State) (c i t : ℕ) (fault : Option ℕ)
     → Decides (test.is_legal_reply sys state c i t fault) (LegalReply sys state c i t fault)
 reply sys state c i t fault =
     like (one_with (λ (job : Job). both (number job.request.terminal t) (asked.reply (server_verb sys c job) fault)) ((state.classes c).busy i))

@@ -11,14 +11,14 @@ use Rattle.pw_legal.proofs.decided.Values.{same_number}
 use Rattle.pw_legal.specs.Causes.{JobsAreThere}
 use Rattle.pw_legal.specs.Legality.{is_by_conflict, is_run, is_run_from}
 use Rattle.pw_legal.specs.Legality as test
-use Rattle.pw_paired.proofs.Kept.{Inv}
-use Rattle.pw_paired.proofs.Runs.{keeps, kept-at-start, kept-from}
-use Rattle.pw_paired.specs.Behaviour.{IsBehaviour}
+use Rattle.pw_runs.proofs.kept.Kept.{Inv}
+use Rattle.pw_runs.proofs.kept.Runs.{keeps, kept-at-start, kept-from}
+use Rattle.pw_onecopy.specs.IsBehaviour.{IsBehaviour}
 use Rattle.pw_paired.specs.State.{State, starting}
 use Rattle.pw_paired.specs.Step.{Fits, IsRun, IsRunFrom, Legal, after, effect, is_finished, line_due, line_wanted}
-use Rattle.pw_paired.specs.System.{Sys}
+use Rattle.pw_onecopy.specs.Behaviour.{Behaviour}
 
-fitting : (sys : Sys) (state : State) (entry : Event)
+fitting : (sys : Behaviour) (state : State) (entry : Event)
     → DecidesIf (is_by_conflict entry ≡ true → JobsAreThere sys state) (test.fits sys state entry) (Fits sys state entry)
 fitting sys state (Show t phase attempt k) = always (terminal.show sys state t phase attempt k)
 fitting sys state (Key t k) = always (terminal.key sys state t k)
@@ -41,7 +41,7 @@ fitting sys state (Takeover p) = always (pair.takeover state p)
 fitting sys state (Raise p) = always (pair.raise sys state p)
 fitting sys state (End t how) = pair.end sys state t how
 
-pub legality : (sys : Sys) (state : State) (entry : Event)
+pub legality : (sys : Behaviour) (state : State) (entry : Event)
     → DecidesIf (is_by_conflict entry ≡ true → JobsAreThere sys state) (test.is_legal sys state entry) (Legal sys state entry)
 unfolding test.is_legal
 legality sys state entry =
@@ -50,7 +50,7 @@ legality sys state entry =
     (λ h. record { unfinished = h.0; due = h.1.0; fits = h.1.1 }) (λ l. (l.unfinished, (l.due, l.fits)))
 
 -- a log of which each entry passes is a run
-pub run-sound : (sys : Sys) (state : State) (log : List Event) → is_run_from sys state log ≡ true → IsRunFrom sys state log
+pub run-sound : (sys : Behaviour) (state : State) (log : List Event) → is_run_from sys state log ≡ true → IsRunFrom sys state log
 run-sound sys state [] e = tt
 run-sound sys state (entry ∷ log) e =
     let h = (both (itself (test.is_legal sys state entry)) (itself (is_run_from sys (effect sys state entry) log))).0 e in
@@ -58,13 +58,13 @@ run-sound sys state (entry ∷ log) e =
 
 -- Runs keep that only processes of the system's classes work, so that the test misses nothing.
 
-there : {sys : Sys} {state : State} → Inv sys state → JobsAreThere sys state
+there : {sys : Behaviour} {state : State} → Inv sys state → JobsAreThere sys state
 there i = record {
   classes = λ c p job works. (i.requests.bounds.work c p job works).there;
   processes = λ c p job works. let process = i.requests.bounds.work c p job works in (process.from_one, process.within);
 }
 
-module _ (sys : Sys) (b : IsBehaviour sys) where
+module _ (sys : Behaviour) (b : IsBehaviour sys) where
   pub jobs-there : (log : List Event) → IsRun sys log → JobsAreThere sys (after sys log)
   jobs-there log run = there (kept-from sys b (starting sys) (kept-at-start sys) log run)
 

@@ -11,7 +11,7 @@ use Rattle.pw_event.specs.declared.script.FailLine.{FailLine}
 use Rattle.pw_event.specs.declared.script.FailLine.TheVariants as line
 use Rattle.pw_legal.proofs.Deciding.{yes, no, both, like, number}
 use Rattle.pw_legal.specs.Values.{is_alone, is_raising, is_paired, is_down, is_same_number, is_same_truth, is_same_answer, is_same_path, is_same_refresh, is_same_op, is_same_mode, is_takeover_by, is_server_line, is_line_of_member, is_line_of_process}
-use Rattle.pw_paired.specs.Path.{PathAnswer, Shown, Entry, Begun, Replied, Failed, Ended, Dropped, RefreshNumber}
+use Rattle.pw_onecopy.specs.Path.{PathAnswer, Shown, Entry, Begun, Replied, Failed, Ended, Dropped, RefreshNumber}
 use Rattle.pw_paired.specs.Serial.{is_gone}
 use Rattle.pw_paired.specs.State.{Mode, Alone, Raising, Paired, Down, Gone}
 

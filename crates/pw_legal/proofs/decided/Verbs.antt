@@ -5,9 +5,9 @@ use Rattle.pw_code.specs.declared.verb.Verb.{Verb}
 use Rattle.pw_code.specs.declared.verb.Verb.TheVariants as verb
 use Rattle.pw_legal.proofs.Deciding.{yes, no, like, itself, number}
 use Rattle.pw_legal.specs.Verbs.{asks_show, asks_accept, asks_send, asks_send_to, asks_end, asks_drop, asks_redo, asks_stop, asks_fault, asks_file, begins_unit, replies}
-use Rattle.pw_paired.specs.Path.{PathAnswer, is_outside}
+use Rattle.pw_onecopy.specs.Path.{PathAnswer, is_outside}
 use Rattle.pw_paired.specs.Server.{Replies}
-use Rattle.pw_paired.specs.Terminal.{BeginsUnit}
+use Rattle.pw_onecopy.specs.Attempt.{BeginsUnit}
 
 pub show : (asked : Verb) → Decides (asks_show asked) (asked ≡ verb.Show)
 show verb.Show = yes refl
