@@ -1,6 +1,6 @@
 -- The operations of an attempt by itself: what holds of each of them on one set of files holds on another one that has the same records
 -- at the keys that they lock.
-use Rattle.std.proofs.Common.{◌≡◌, ℕ, zero, suc, ◌<◌, ◌≤◌, ◌⊎◌, ⊎_elim, List, [], ◌∷◌, ap, sym, subst, ◌∙◌, arith}
+use Rattle.std.proofs.Common.{◌≡◌, ℕ, zero, suc, ◌<◌, ◌≤◌, ◌⊎◌, inl, inr, ⊎_elim, List, [], ◌∷◌, ◌++◌, ap, sym, subst, ◌∙◌, arith}
 use Rattle.std.proofs.lemmas.Bool.{cases_eq}
 use Rattle.pw_code.specs.declared.file.FileCall.{FileCall}
 use Rattle.pw_code.specs.declared.verb.Verb.TheVariants as verb
@@ -15,10 +15,30 @@ use Rattle.pw_attempts.proofs.Attempts.{AgreeOnAttempt, attempt-fine, attempts-s
 use Rattle.pw_locking.proofs.seeing.Plays.{ChangesAt, ServerWrites-behaviour, same_play_span, same_play_changes, same_verb}
 use Rattle.pw_locking.specs.Seen.{AgreeOnRun, AreFiles, CallCovers, HaveSameAt, files_at, verb_at}
 
+-- the lock is of the terminal and covers the key
+abbrev pub IsOwnLock : ℕ → ℕ → List ℕ → Lock → Type 0
+IsOwnLock t file key lock = (lock.unit.terminal ≡ t) × (lock.file ≡ file) × Covers lock.span key
+
 -- a lock of the terminal covers the key of the file
 abbrev pub IsLocked : ℕ → ℕ → List ℕ → List Lock → Type 0
 IsLocked t file key [] = ⊥
-IsLocked t file key (lock ∷ locks) = ((lock.unit.terminal ≡ t) × (lock.file ≡ file) × Covers lock.span key) ⊎ IsLocked t file key locks
+IsLocked t file key (lock ∷ locks) = IsOwnLock t file key lock ⊎ IsLocked t file key locks
+
+-- the same behind one more lock
+pub locked-before : (t file : ℕ) (key : List ℕ) (locks more : List Lock) → IsLocked t file key locks → IsLocked t file key (locks ++ more)
+locked-before t file key [] more locked = absurd locked
+locked-before t file key (lock ∷ locks) more (inl own) = inl own
+locked-before t file key (lock ∷ locks) more (inr locked) = inr (locked-before t file key locks more locked)
+
+pub locked-last : (t file : ℕ) (key : List ℕ) (locks : List Lock) (lock : Lock) → IsOwnLock t file key lock → IsLocked t file key (locks ++ lock ∷ [])
+locked-last t file key [] lock own = inl own
+locked-last t file key (held ∷ locks) lock own = inr (locked-last t file key locks lock own)
+
+pub locked-cases : (t file : ℕ) (key : List ℕ) (locks : List Lock) (lock : Lock) → IsLocked t file key (locks ++ lock ∷ [])
+    → IsOwnLock t file key lock ⊎ IsLocked t file key locks
+locked-cases t file key [] lock locked = locked
+locked-cases t file key (held ∷ locks) lock (inl own) = inr (inl own)
+locked-cases t file key (held ∷ locks) lock (inr more) = ⊎_elim (λ own. inl own) (λ locked. inr (inr locked)) (locked-cases t file key locks lock more)
 
 module _ (sys : Behaviour) where
   -- an operation is the same on two sets of files: it locks and changes the same

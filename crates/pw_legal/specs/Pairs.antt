@@ -2,7 +2,7 @@
 use Rattle.std.specs.Prelude.{ℕ, ◌==◌, ◌&&◌, ◌||◌, Bool, not, is_none, is_some}
 use Rattle.pw_event.specs.declared.event.Ending.{Ending}
 use Rattle.pw_event.specs.declared.event.Ending.TheVariants.{Stopped, NoEntries, Fault, Suspended, Lost}
-use Rattle.pw_paired.specs.Failure.{fail_line, is_live_of, is_of}
+use Rattle.pw_paired.specs.Failure.{fail_line, is_live_of, is_of_pair}
 use Rattle.pw_onecopy.specs.Path.{entries_on}
 use Rattle.pw_paired.specs.Raising.{is_takeover}
 use Rattle.pw_paired.specs.Serial.{is_gone}
@@ -31,7 +31,7 @@ is_legal_applied sys state t =
 abbrev pub is_legal_raise : Behaviour → State → ℕ → Bool
 is_legal_raise sys state p =
     is_alone (state.modes p) && (any_below sys.terminals (is_live_of sys p state)
-    && not (any_below sys.terminals (λ t. is_of sys p t && is_takeover (state.terms t).pending)))
+    && not (any_below sys.terminals (λ t. is_of_pair sys p t && is_takeover (state.terms t).pending)))
 
 -- TAKEOVER p
 abbrev pub is_legal_takeover : State → ℕ → Bool

@@ -1,5 +1,5 @@
 -- The locks of a run: whose they are, and that no two of them conflict.
-use Rattle.std.proofs.Common.{◌≡◌, ℕ, Bool, true, false, not, cond, List, [], ◌∷◌, filter, Option, Some, None, if◌then◌else◌, refl, ap, sym, subst₂, ◌∙◌}
+use Rattle.std.proofs.Common.{◌≡◌, ℕ, Bool, true, false, not, cond, List, [], ◌∷◌, ◌++◌, filter, Option, Some, None, if◌then◌else◌, refl, ap, sym, subst₂, ◌∙◌}
 use Rattle.std.specs.List.{list_any, AllByRecursion}
 use Rattle.std.proofs.lemmas.Bool.{false≢true, eqb-false, cond-false, or_parts}
 use Rattle.pw_code.specs.declared.file.FileCall.{FileCall}
@@ -16,7 +16,7 @@ use Rattle.pw_runs.proofs.kept.Kept.{Inv}
 use Rattle.pw_runs.proofs.kept.Runs.{keeps, kept-at-start}
 use Rattle.pw_onecopy.proofs.Update.{upd-other}
 use Rattle.pw_onecopy.specs.IsBehaviour.{IsBehaviour}
-use Rattle.pw_paired.specs.Failure.{backup_fails, is_of, primary_fails, process_fails}
+use Rattle.pw_paired.specs.Failure.{backup_fails, is_of_pair, primary_fails, process_fails}
 use Rattle.pw_onecopy.specs.Path.{is_outside, unit_number}
 use Rattle.pw_paired.specs.Server.{do_job, do_verb, free_process, lock_of_job, reply_at, server_verb}
 use Rattle.pw_onecopy.specs.Update.{upd}
@@ -27,6 +27,8 @@ use Rattle.pw_paired.specs.Terminal.{IsIdle, path_of}
 use Rattle.pw_paired.specs.Units.{attempt_of, commit_unit, only}
 use Rattle.pw_locking.proofs.records.OperationKept.{none-holds}
 use Rattle.pw_locking.specs.Held.{AreApart, IsHeld}
+use Rattle.pw_locks.proofs.Overlaps.{conflict-comm}
+use Rattle.pw_runs.proofs.Tests.{all-last}
 
 -- both at once
 pub record LocksOk (units : ℕ → Option OpenUnit) (locks : List Lock) : Type 0 where
@@ -57,6 +59,11 @@ apart-filter q (lock ∷ locks) apart = by_test (q lock) (apart-filter q locks a
 none-all : (lock : Lock) (locks : List Lock) → list_any (conflict lock) locks ≡ false → AllByRecursion (λ held. conflict lock held ≡ false) locks
 none-all lock [] none = tt
 none-all lock (held ∷ locks) none = let parts = or_parts (conflict lock held) (list_any (conflict lock) locks) none in (parts.0, none-all lock locks parts.1)
+
+apart-last : (lock : Lock) (locks : List Lock) → AreApart locks → AllByRecursion (λ held. conflict lock held ≡ false) locks → AreApart (locks ++ lock ∷ [])
+apart-last lock [] apart none = (tt, tt)
+apart-last lock (held ∷ locks) apart none =
+    (all-last (λ later. conflict held later ≡ false) locks lock apart.0 (conflict-comm held lock ∙ none.0), apart-last lock locks apart.1 none.1)
 
 -- a lock stays held where its terminal's unit stays
 held-same : {units after : ℕ → Option OpenUnit} (lock : Lock) → after lock.unit.terminal ≡ units lock.unit.terminal → IsHeld units lock → IsHeld after lock
@@ -97,8 +104,10 @@ module _ (sys : Behaviour) (b : IsBehaviour sys) (s : State) (i : Inv sys s) (ok
   verb-locks c p job works (verb.File call) free =
       let out = out-job sys b s i c p job works in
       record {
-        held = (record { unit = out.unit; is_open = out.is_open; number = out.number; start = out.start; runs = out.runs }, ok.held);
-        apart = (none-all (lock_of_job sys s job call) s.locks (none-holds (lock_of_job sys s job call) s.locks (free call refl)), ok.apart);
+        held = all-last (IsHeld s.units) s.locks (lock_of_job sys s job call) ok.held
+            (record { unit = out.unit; is_open = out.is_open; number = out.number; start = out.start; runs = out.runs });
+        apart = apart-last (lock_of_job sys s job call) s.locks ok.apart
+            (none-all (lock_of_job sys s job call) s.locks (none-holds (lock_of_job sys s job call) s.locks (free call refl)));
       }
   verb-locks c p job works verb.Show free = ok
   verb-locks c p job works (verb.Accept screen) free = ok
@@ -127,13 +136,13 @@ module _ (sys : Behaviour) (b : IsBehaviour sys) (s : State) (i : Inv sys s) (ok
   process-locks c p k None = ok
   process-locks c p k (Some job) = ok
 
-  pair-other : (p : ℕ) (j : ℕ) → is_of sys p j ≡ false → (if is_of sys p j then None else s.units j) ≡ s.units j
-  pair-other p j spared = cond-false (is_of sys p j) None (s.units j) spared
+  pair-other : (p : ℕ) (j : ℕ) → is_of_pair sys p j ≡ false → (if is_of_pair sys p j then None else s.units j) ≡ s.units j
+  pair-other p j spared = cond-false (is_of_pair sys p j) None (s.units j) spared
 
   primary-locks : (p : ℕ) (mode : Mode) → LocksOk (primary_fails sys p mode s).units (primary_fails sys p mode s).locks
   primary-locks p Paired = ok
-  primary-locks p Raising = without (is_of sys p) (λ j. if is_of sys p j then None else s.units j) (pair-other p)
-  primary-locks p Alone = without (is_of sys p) (λ j. if is_of sys p j then None else s.units j) (pair-other p)
+  primary-locks p Raising = without (is_of_pair sys p) (λ j. if is_of_pair sys p j then None else s.units j) (pair-other p)
+  primary-locks p Alone = without (is_of_pair sys p) (λ j. if is_of_pair sys p j then None else s.units j) (pair-other p)
   primary-locks p Down = ok
   primary-locks p Gone = ok
 
@@ -141,7 +150,7 @@ module _ (sys : Behaviour) (b : IsBehaviour sys) (s : State) (i : Inv sys s) (ok
   backup-locks p Paired = ok
   backup-locks p Raising = ok
   backup-locks p Alone = ok
-  backup-locks p Down = without (is_of sys p) (λ j. if is_of sys p j then None else s.units j) (pair-other p)
+  backup-locks p Down = without (is_of_pair sys p) (λ j. if is_of_pair sys p j then None else s.units j) (pair-other p)
   backup-locks p Gone = ok
 
   left-other : (t j : ℕ) → only t j ≡ false → (if only t j then None else s.units j) ≡ s.units j

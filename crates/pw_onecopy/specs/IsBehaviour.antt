@@ -7,9 +7,9 @@ use Rattle.pw_code.specs.declared.verb.Verb.{Verb}
 use Rattle.pw_code.specs.declared.verb.Verb.TheVariants as verb
 use Rattle.pw_files.specs.Records.{IsContent, IsFile}
 use Rattle.pw_onecopy.specs.Path.{PathAnswer, Shown, Entry, Begun, Replied, Failed, Ended, Dropped, FileAnswer, is_outside, entries_on}
+use Rattle.pw_onecopy.specs.Operation.{key_of}
 use Rattle.pw_onecopy.specs.Behaviour.{Behaviour, Served, Reply, Fault}
 use Rattle.pw_onecopy.specs.Play.{Play, play_after}
-use Rattle.pw_onecopy.specs.Operation.{key_of}
 
 -- the operation writes a record
 abbrev pub is_written : FileOp → Bool

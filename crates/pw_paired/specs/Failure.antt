@@ -10,7 +10,7 @@ use Rattle.pw_event.specs.declared.script.FailLine.{FailLine}
 use Rattle.pw_event.specs.declared.script.FailLine.TheVariants as line
 use Rattle.pw_locks.specs.Conflicts.{conflict, is_same_unit}
 use Rattle.pw_onecopy.specs.Path.{PathAnswer}
-use Rattle.pw_paired.specs.Server.{at_process, lock_of_job, server_verb}
+use Rattle.pw_paired.specs.Server.{with_job_at, lock_of_job, server_verb}
 use Rattle.pw_onecopy.specs.Update.{upd}
 use Rattle.pw_paired.specs.State.{Mode, Alone, Raising, Paired, Down, Gone, Awaited, Job, LastEnded, BackupCopy, OpenUnit, State, Term}
 use Rattle.pw_onecopy.specs.Behaviour.{Behaviour}
@@ -104,14 +104,14 @@ do_restart sys t cause state = record (cancel_requests (only t) (release_locks (
 }
 
 -- the terminal is of the pair
-abbrev pub is_of : Behaviour → ℕ → ℕ → Bool
-is_of sys p t = sys.pair_of t == p
+abbrev pub is_of_pair : Behaviour → ℕ → ℕ → Bool
+is_of_pair sys p t = sys.pair_of t == p
 
 -- what the backup of a pair holds, and the messages in flight to it, are gone
 abbrev pub without_backup : Behaviour → ℕ → State → State
 without_backup sys p state = record state {
-  memory = λ t. if is_of sys p t then None else state.memory t;
-  flight = λ t. if is_of sys p t then None else state.flight t;
+  memory = λ t. if is_of_pair sys p t then None else state.memory t;
+  flight = λ t. if is_of_pair sys p t then None else state.flight t;
 }
 
 -- a terminal whose path is gone: its path is empty, and nothing is pending for it
@@ -120,17 +120,17 @@ without_path term = record term { path = []; pending = None }
 
 -- Gone: memory, messages, paths, pending causes and requests of the pair's terminals go, and all their open units are left
 abbrev pub lose_pair : Behaviour → ℕ → State → State
-lose_pair sys p state = record (leave_units sys (is_of sys p) (without_backup sys p state)) {
+lose_pair sys p state = record (leave_units sys (is_of_pair sys p) (without_backup sys p state)) {
   modes = upd state.modes p Gone;
-  terms = λ t. if is_of sys p t then without_path (state.terms t) else state.terms t;
+  terms = λ t. if is_of_pair sys p t then without_path (state.terms t) else state.terms t;
 }
 
 -- Down: paths, messages in flight, requests and pending causes of the pair's terminals are gone
 abbrev pub lose_primary : Behaviour → ℕ → State → State
-lose_primary sys p state = record (cancel_requests (is_of sys p) state) {
+lose_primary sys p state = record (cancel_requests (is_of_pair sys p) state) {
   modes = upd state.modes p Down;
-  terms = λ t. if is_of sys p t then without_path (state.terms t) else state.terms t;
-  flight = λ t. if is_of sys p t then None else state.flight t;
+  terms = λ t. if is_of_pair sys p t then without_path (state.terms t) else state.terms t;
+  flight = λ t. if is_of_pair sys p t then None else state.flight t;
 }
 
 -- Alone again: memory and messages in flight are gone
@@ -177,7 +177,7 @@ pub record LegalFailServer (sys : Behaviour) (c i k : ℕ) : Type 0 where
 abbrev pub process_fails : ℕ → ℕ → ℕ → Option Job → State → State
 process_fails c i k None state = state
 process_fails c i k (Some job) state = record state {
-  classes = upd state.classes c (at_process i None (state.classes c));
+  classes = upd state.classes c (with_job_at i None (state.classes c));
   terms = upd state.terms job.request.terminal (record (state.terms job.request.terminal) { pending = Some (Server k) });
 }
 
@@ -208,12 +208,12 @@ resume_terminal p (Some memory) unit last term = record term {
 
 -- the terminal is of the pair and has no ending
 abbrev pub is_live_of : Behaviour → ℕ → State → ℕ → Bool
-is_live_of sys p state t = is_of sys p t && is_none (state.terms t).ending
+is_live_of sys p state t = is_of_pair sys p t && is_none (state.terms t).ending
 
 -- Alone; each live terminal's path is set, and then the memory of p's terminals is gone
 abbrev pub do_takeover : Behaviour → ℕ → State → State
 do_takeover sys p state = record state {
   modes = upd state.modes p Alone;
   terms = λ t. if is_live_of sys p state t then resume_terminal p (state.memory t) (state.units t) (state.ended t) (state.terms t) else state.terms t;
-  memory = λ t. if is_of sys p t then None else state.memory t;
+  memory = λ t. if is_of_pair sys p t then None else state.memory t;
 }

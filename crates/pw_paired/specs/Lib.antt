@@ -1,5 +1,6 @@
 pub mod State
 pub mod Units
+pub mod Queues
 pub mod Terminal
 pub mod Server
 pub mod Failure
@@ -9,6 +10,3 @@ pub mod Step
 pub mod Shown
 pub mod Serial
 pub mod Headline
-pub mod DeckC
-pub mod Logs
-pub mod Worked

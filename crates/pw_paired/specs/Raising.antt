@@ -2,7 +2,7 @@
 use Rattle.std.specs.Prelude.{◌≡◌, ◌⊎◌, ℕ, ◌&&◌, Bool, true, false, not, List, Option, Some, None, is_some, unwrap_or, if◌then◌else◌}
 use Rattle.pw_event.specs.declared.event.Cause.{Cause}
 use Rattle.pw_event.specs.declared.event.Cause.TheVariants.{Takeover}
-use Rattle.pw_paired.specs.Failure.{is_live_of, is_of}
+use Rattle.pw_paired.specs.Failure.{is_live_of, is_of_pair}
 use Rattle.pw_onecopy.specs.Path.{PathAnswer, unit_number}
 use Rattle.pw_onecopy.specs.Update.{upd}
 use Rattle.pw_paired.specs.State.{Mode, Alone, Raising, Paired, Down, Gone, BackupCopy, Message, Start, End, Copy, State}
@@ -20,13 +20,13 @@ is_takeover (Some _) = false
 pub record LegalRaise (sys : Behaviour) (state : State) (p : ℕ) : Type 0 where
   pub alone : state.modes p ≡ Alone
   pub wanted : any_below sys.terminals (is_live_of sys p state) ≡ true
-  pub calm : any_below sys.terminals (λ t. is_of sys p t && is_takeover (state.terms t).pending) ≡ false
+  pub calm : any_below sys.terminals (λ t. is_of_pair sys p t && is_takeover (state.terms t).pending) ≡ false
 
 -- Raising, with an empty memory
 abbrev pub do_raise : Behaviour → ℕ → State → State
 do_raise sys p state = record state {
   modes = upd state.modes p Raising;
-  memory = λ t. if is_of sys p t then None else state.memory t;
+  memory = λ t. if is_of_pair sys p t then None else state.memory t;
 }
 
 -- CHECK t COPY: the pair is Raising, t is live, memory lacks t, and nothing is in flight

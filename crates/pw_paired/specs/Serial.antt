@@ -4,7 +4,7 @@ use Rattle.pw_code.specs.declared.verb.Verb.{Verb}
 use Rattle.pw_code.specs.declared.verb.Verb.TheVariants as verb
 use Rattle.pw_event.specs.declared.event.Event.{Event}
 use Rattle.pw_event.specs.declared.event.Event.TheVariants.{Show, Key, Begin, Reply, Again, Commit, Back, Restart, FailTcp, End}
-use Rattle.pw_paired.specs.Failure.{is_of}
+use Rattle.pw_paired.specs.Failure.{is_of_pair}
 use Rattle.pw_onecopy.specs.Path.{is_outside, unit_number}
 use Rattle.pw_onecopy.specs.Update.{upd}
 use Rattle.pw_paired.specs.State.{Mode, Gone, OpenUnit, State, starting}
@@ -100,7 +100,7 @@ blocks_of sys state reading (Reply c i t fault) = reply_commits state t fault (r
 blocks_of sys state reading (Back t n) = Attempted t n Aborted (reading.answers t + 1) ∷ []
 blocks_of sys state reading (Restart t n cause) = Attempted t n Restarted (reading.answers t) ∷ []
 blocks_of sys state reading (FailTcp p primary k) =
-    if makes_gone sys state (FailTcp p primary k) p then left_blocks state reading (is_of sys p) sys.terminals else []
+    if makes_gone sys state (FailTcp p primary k) p then left_blocks state reading (is_of_pair sys p) sys.terminals else []
 blocks_of sys state reading (End t ending) = left_block t (reading.answers t) (state.units t) ++ Done t ending ∷ []
 blocks_of sys state reading _ = []
 

@@ -31,13 +31,13 @@ pub record LegalTake (sys : Behaviour) (state : State) (c i t : ℕ) : Type 0 wh
   pub free : first_free (state.classes c).busy 1 (sys.processes c) ≡ Some i
 
 -- a class whose first waiting request is at a process
-abbrev pub taken : ℕ → List Request → Class → Class
-taken i [] class = class
-taken i (request ∷ others) class = record { waiting = others; busy = upd class.busy i (Some (record { request = request; done = [] })) }
+abbrev pub with_first_taken : ℕ → List Request → Class → Class
+with_first_taken i [] class = class
+with_first_taken i (request ∷ others) class = record { waiting = others; busy = upd class.busy i (Some (record { request = request; done = [] })) }
 
 -- process i starts the server on the message
 abbrev pub do_take : ℕ → ℕ → State → State
-do_take c i state = record state { classes = upd state.classes c (taken i (state.classes c).waiting (state.classes c)) }
+do_take c i state = record state { classes = upd state.classes c (with_first_taken i (state.classes c).waiting (state.classes c)) }
 
 -- what the server at a job asks next
 abbrev pub server_verb : Behaviour → ℕ → Job → Verb
@@ -69,16 +69,16 @@ abbrev pub with_answer : FileAnswer → Job → Job
 with_answer answer job = record job { done = job.done ++ answer ∷ [] }
 
 -- a class with this at a process
-abbrev pub at_process : ℕ → Option Job → Class → Class
-at_process i job class = record class { busy = upd class.busy i job }
+abbrev pub with_job_at : ℕ → Option Job → Class → Class
+with_job_at i job class = record class { busy = upd class.busy i job }
 
--- the lock is added, and the operation is done
+-- the lock is added behind the others, and the operation is done
 abbrev pub do_operation : Behaviour → ℕ → ℕ → Job → FileCall → State → State
 do_operation sys c i job call state = record state {
   files = upd state.files call.file (records_behind (sys.key_length call.file) (state.files call.file) call);
   before = with_image sys state job.request.terminal call;
-  locks = lock_of_job sys state job call ∷ state.locks;
-  classes = upd state.classes c (at_process i (Some (with_answer (answer_on sys state call) job)) (state.classes c));
+  locks = state.locks ++ lock_of_job sys state job call ∷ [];
+  classes = upd state.classes c (with_job_at i (Some (with_answer (answer_on sys state call) job)) (state.classes c));
 }
 
 -- where the server's verb is an operation
@@ -110,7 +110,7 @@ pub record LegalReply (sys : Behaviour) (state : State) (c i t : ℕ) (fault : O
 
 -- process i is free
 abbrev pub free_process : ℕ → ℕ → State → State
-free_process c i state = record state { classes = upd state.classes c (at_process i None (state.classes c)) }
+free_process c i state = record state { classes = upd state.classes c (with_job_at i None (state.classes c)) }
 
 -- the reply that a server makes at a process
 abbrev pub reply_of : Verb → List ℕ

@@ -2,10 +2,12 @@
 use Rattle.std.specs.Prelude.{ℕ, zero, suc, ◌+◌, ◌==◌, ◌&&◌, ◌||◌, Bool, false, not, List, [], ◌∷◌, ◌++◌, filter, Option, Some, None, if◌then◌else◌}
 use Rattle.std.specs.List.{list_any}
 use Rattle.std.specs.Str.{bytes_eq}
+use Rattle.pw_class.specs.Queue.{is_of, works_for}
 use Rattle.pw_class.specs.declared.request.Request.{Request}
 use Rattle.pw_code.specs.declared.file.FileCall.{FileCall}
 use Rattle.pw_code.specs.declared.unit.Unit as unit
 use Rattle.pw_files.specs.Records.{record_at, with_record, without_key}
+use Rattle.pw_locks.specs.declared.lock.Lock.{Lock}
 use Rattle.pw_onecopy.specs.Operation.{key_of, changes_records}
 use Rattle.pw_onecopy.specs.Path.{PathAnswer}
 use Rattle.pw_onecopy.specs.Update.{upd}
@@ -85,9 +87,13 @@ back_out_changes sys whose state = record state {
   before = filter (λ image. not (whose image.terminal)) state.before;
 }
 
--- their locks are released
+-- the locks but those of the units of some terminals
+abbrev pub without_locks : (ℕ → Bool) → List Lock → List Lock
+without_locks whose locks = filter (λ lock. not (whose lock.unit.terminal)) locks
+
+-- their locks are released; in a run these are the locks of their open units
 abbrev pub release_locks : (ℕ → Bool) → State → State
-release_locks whose state = record state { locks = filter (λ lock. not (whose lock.unit.terminal)) state.locks }
+release_locks whose state = record state { locks = without_locks whose state.locks }
 
 -- a process is free where it worked for one of them
 abbrev pub freed_of : (ℕ → Bool) → Option Job → Option Job
@@ -105,15 +111,15 @@ without_requests whose class = record {
 abbrev pub cancel_requests : (ℕ → Bool) → State → State
 cancel_requests whose state = record state { classes = λ c. without_requests whose (state.classes c) }
 
--- a process works for the terminal
-abbrev pub works_for : ℕ → Option Job → Bool
-works_for t None = false
-works_for t (Some job) = job.request.terminal == t
+-- the request that a process works on, if it is busy
+abbrev pub request_in : Option Job → Option Request
+request_in None = None
+request_in (Some job) = Some job.request
 
 -- a request of the terminal waits at the class, or is at one of its processes
 abbrev pub has_request : ℕ → ℕ → Class → Bool
 has_request t processes class =
-    list_any (λ request. request.terminal == t) class.waiting || any_below processes (λ i. works_for t (class.busy (i + 1)))
+    list_any (is_of t) class.waiting || any_below processes (λ i. works_for t (request_in (class.busy (i + 1))))
 
 -- the terminal's request is out
 abbrev pub is_out : Behaviour → State → ℕ → Bool

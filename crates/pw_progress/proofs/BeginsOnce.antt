@@ -14,7 +14,7 @@ use Rattle.pw_runs.proofs.Runs.{IsRunFrom-split}
 use Rattle.pw_runs.proofs.kept.Runs.{keeps, kept-at-start, kept-from}
 use Rattle.pw_onecopy.proofs.Update.{upd-same, upd-other}
 use Rattle.pw_onecopy.specs.IsBehaviour.{IsBehaviour}
-use Rattle.pw_paired.specs.Failure.{LegalRestart, awaited_after, backup_fails, is_of, primary_fails, process_fails, with_restart}
+use Rattle.pw_paired.specs.Failure.{LegalRestart, awaited_after, backup_fails, is_of_pair, primary_fails, process_fails, with_restart}
 use Rattle.pw_onecopy.specs.Path.{PathAnswer, is_outside, unit_number}
 use Rattle.pw_paired.specs.Server.{do_job, free_process, reply_at}
 use Rattle.pw_onecopy.specs.Update.{upd}
@@ -110,8 +110,8 @@ module _ (sys : Behaviour) (b : IsBehaviour sys) (s : State) (i : Inv sys s) (t 
 
   primary-moves : (p : ℕ) (mode : Mode) → Moves t s (primary_fails sys p mode s)
   primary-moves p Paired = stays refl refl
-  primary-moves p Raising = left-moves (is_of sys p t) (primary_fails sys p Raising s) refl refl
-  primary-moves p Alone = left-moves (is_of sys p t) (primary_fails sys p Alone s) refl refl
+  primary-moves p Raising = left-moves (is_of_pair sys p t) (primary_fails sys p Raising s) refl refl
+  primary-moves p Alone = left-moves (is_of_pair sys p t) (primary_fails sys p Alone s) refl refl
   primary-moves p Down = stays refl refl
   primary-moves p Gone = stays refl refl
 
@@ -119,7 +119,7 @@ module _ (sys : Behaviour) (b : IsBehaviour sys) (s : State) (i : Inv sys s) (t 
   backup-moves p Paired = stays refl refl
   backup-moves p Raising = stays refl refl
   backup-moves p Alone = stays refl refl
-  backup-moves p Down = left-moves (is_of sys p t) (backup_fails sys p Down s) refl refl
+  backup-moves p Down = left-moves (is_of_pair sys p t) (backup_fails sys p Down s) refl refl
   backup-moves p Gone = stays refl refl
 
   -- the same with the entry in the log

@@ -8,7 +8,7 @@ use Rattle.pw_event.specs.declared.event.Event.TheVariants.{Show, Key, CheckStar
 use Rattle.pw_runs.proofs.terms.KeepsPairs.{any_below-false}
 use Rattle.pw_onecopy.proofs.Update.{upd_elim, upd-same, upd-other}
 use Rattle.pw_paired.specs.End.{end_terminal}
-use Rattle.pw_paired.specs.Failure.{lose_backup, with_start_path, backup_fails, lose_primary, lose_pair, is_live_of, is_of, primary_fails, process_fails, resume_terminal}
+use Rattle.pw_paired.specs.Failure.{lose_backup, with_start_path, backup_fails, lose_primary, lose_pair, is_live_of, is_of_pair, primary_fails, process_fails, resume_terminal}
 use Rattle.pw_onecopy.specs.Path.{PathAnswer, Replied, is_outside, unit_number}
 use Rattle.pw_paired.specs.Raising.{lacks_one, settled_mode, with_message, settle_mode}
 use Rattle.pw_paired.specs.Server.{do_job, free_process, reply_at}
@@ -38,7 +38,7 @@ module _ (sys : Behaviour) (p : ℕ) where
   abbrev LackingOk : State → Type 0
   LackingOk s = s.modes p ≡ Raising → lacks_one sys p s ≡ true
 
-  lacks-more : (s after : State) → ((j : ℕ) → (after.terms j).ending ≡ (s.terms j).ending) → ((j : ℕ) → is_of sys p j ≡ true → s.memory j ≡ None → after.memory j ≡ None)
+  lacks-more : (s after : State) → ((j : ℕ) → (after.terms j).ending ≡ (s.terms j).ending) → ((j : ℕ) → is_of_pair sys p j ≡ true → s.memory j ≡ None → after.memory j ≡ None)
       → lacks_one sys p s ≡ true → lacks_one sys p after ≡ true
   lacks-more s after endings memory lacks =
       let one = any_below-some sys.terminals (λ j. is_live_of sys p s j && not (is_some (s.memory j))) lacks in
@@ -46,8 +46,8 @@ module _ (sys : Behaviour) (p : ℕ) where
       let none : s.memory one.0 ≡ None = empty (s.memory one.0) (and-second (is_live_of sys p s one.0) (not (is_some (s.memory one.0))) one.2) in
       any_below-true sys.terminals (λ j. is_live_of sys p after j && not (is_some (after.memory j))) one.0 one.1
       (and_from (is_live_of sys p after one.0) (not (is_some (after.memory one.0)))
-      (ap (λ (e : Option Ending). is_of sys p one.0 && is_none e) (endings one.0) ∙ live)
-      (ap (λ (m : Option BackupCopy). not (is_some m)) (memory one.0 (and-first (is_of sys p one.0) (is_none (s.terms one.0).ending) live) none)))
+      (ap (λ (e : Option Ending). is_of_pair sys p one.0 && is_none e) (endings one.0) ∙ live)
+      (ap (λ (m : Option BackupCopy). not (is_some m)) (memory one.0 (and-first (is_of_pair sys p one.0) (is_none (s.terms one.0).ending) live) none)))
     where
       empty : (m : Option BackupCopy) → not (is_some m) ≡ true → m ≡ None
       empty None is = refl
@@ -66,7 +66,7 @@ module _ (sys : Behaviour) (p : ℕ) where
       by Gone lacks is = absurd (cc is)
 
   module _ (s : State) (ok : LackingOk s) where
-    kept : (after : State) → ((j : ℕ) → (after.terms j).ending ≡ (s.terms j).ending) → ((j : ℕ) → is_of sys p j ≡ true → s.memory j ≡ None → after.memory j ≡ None)
+    kept : (after : State) → ((j : ℕ) → (after.terms j).ending ≡ (s.terms j).ending) → ((j : ℕ) → is_of_pair sys p j ≡ true → s.memory j ≡ None → after.memory j ≡ None)
         → (after.modes p ≡ Raising → s.modes p ≡ Raising) → LackingOk after
     kept after endings memory modes is = lacks-more s after endings memory (ok (modes is))
 
@@ -95,17 +95,17 @@ module _ (sys : Behaviour) (p : ℕ) where
     other-mode : (q : ℕ) (mode : Mode) → mode ≢ Raising → upd s.modes q mode p ≡ Raising → s.modes p ≡ Raising
     other-mode q mode differs = upd_elim s.modes q mode p (λ (m : Mode). m ≡ Raising → s.modes p ≡ Raising) (λ _ is. absurd (differs is)) (λ _ is. is)
 
-    emptied : (q j : ℕ) (x : Option BackupCopy) → x ≡ None → (if is_of sys q j then None else x) ≡ None
-    emptied q j x none = ⊎_elim (λ of. cond-true (is_of sys q j) None x of) (λ other. cond-false (is_of sys q j) None x other ∙ none) (cases_Bool (is_of sys q j))
+    emptied : (q j : ℕ) (x : Option BackupCopy) → x ≡ None → (if is_of_pair sys q j then None else x) ≡ None
+    emptied q j x none = ⊎_elim (λ of. cond-true (is_of_pair sys q j) None x of) (λ other. cond-false (is_of_pair sys q j) None x other ∙ none) (cases_Bool (is_of_pair sys q j))
 
     if-ending : (b : Bool) (x y : Term) (e : Option Ending) → x.ending ≡ e → y.ending ≡ e → (if b then x else y).ending ≡ e
     if-ending true x y e one other = one
     if-ending false x y e one other = other
 
     primary-lacks : (q : ℕ) (mode : Mode) → LackingOk (primary_fails sys q mode s)
-    primary-lacks q Paired = kept (lose_primary sys q s) (λ j. if-ending (is_of sys q j) _ (s.terms j) _ refl refl) (λ j of none. none) (other-mode q Down (λ is. cc is))
-    primary-lacks q Raising = kept (lose_pair sys q s) (λ j. if-ending (is_of sys q j) _ (s.terms j) _ refl refl) (λ j of none. emptied q j (s.memory j) none) (other-mode q Gone (λ is. cc is))
-    primary-lacks q Alone = kept (lose_pair sys q s) (λ j. if-ending (is_of sys q j) _ (s.terms j) _ refl refl) (λ j of none. emptied q j (s.memory j) none) (other-mode q Gone (λ is. cc is))
+    primary-lacks q Paired = kept (lose_primary sys q s) (λ j. if-ending (is_of_pair sys q j) _ (s.terms j) _ refl refl) (λ j of none. none) (other-mode q Down (λ is. cc is))
+    primary-lacks q Raising = kept (lose_pair sys q s) (λ j. if-ending (is_of_pair sys q j) _ (s.terms j) _ refl refl) (λ j of none. emptied q j (s.memory j) none) (other-mode q Gone (λ is. cc is))
+    primary-lacks q Alone = kept (lose_pair sys q s) (λ j. if-ending (is_of_pair sys q j) _ (s.terms j) _ refl refl) (λ j of none. emptied q j (s.memory j) none) (other-mode q Gone (λ is. cc is))
     primary-lacks q Down = ok
     primary-lacks q Gone = ok
 
@@ -113,7 +113,7 @@ module _ (sys : Behaviour) (p : ℕ) where
     backup-lacks q Paired = kept (lose_backup sys q s) (λ j. refl) (λ j of none. emptied q j (s.memory j) none) (other-mode q Alone (λ is. cc is))
     backup-lacks q Raising = kept (lose_backup sys q s) (λ j. refl) (λ j of none. emptied q j (s.memory j) none) (other-mode q Alone (λ is. cc is))
     backup-lacks q Alone = ok
-    backup-lacks q Down = kept (lose_pair sys q s) (λ j. if-ending (is_of sys q j) _ (s.terms j) _ refl refl) (λ j of none. emptied q j (s.memory j) none) (other-mode q Gone (λ is. cc is))
+    backup-lacks q Down = kept (lose_pair sys q s) (λ j. if-ending (is_of_pair sys q j) _ (s.terms j) _ refl refl) (λ j of none. emptied q j (s.memory j) none) (other-mode q Gone (λ is. cc is))
     backup-lacks q Gone = ok
 
     resumed-ending : (q : ℕ) (memory : Option BackupCopy) (unit : Option OpenUnit) (last : LastEnded) (term : Term) → (resume_terminal q memory unit last term).ending ≡ term.ending
@@ -138,10 +138,10 @@ module _ (sys : Behaviour) (p : ℕ) where
         others differ lacks =
             let one = any_below-some sys.terminals (λ j. is_live_of sys p s j && not (is_some (s.memory j))) lacks in
             let live : is_live_of sys p s one.0 ≡ true = and-first (is_live_of sys p s one.0) (not (is_some (s.memory one.0))) one.2 in
-            let of : sys.pair_of one.0 ≡ p = eqb-true (sys.pair_of one.0) p (and-first (is_of sys p one.0) (is_none (s.terms one.0).ending) live) in
+            let of : sys.pair_of one.0 ≡ p = eqb-true (sys.pair_of one.0) p (and-first (is_of_pair sys p one.0) (is_none (s.terms one.0).ending) live) in
             let away : sys.pair_of one.0 ≢ sys.pair_of own = λ same. differ (sym of ∙ same) in
             any_below-true sys.terminals (λ j. is_live_of sys p x j && not (is_some (x.memory j))) one.0 one.1
-            (ap (λ (e : Option Ending). (is_of sys p one.0 && is_none e) && not (is_some (x.memory one.0))) (endings one.0 away)
+            (ap (λ (e : Option Ending). (is_of_pair sys p one.0 && is_none e) && not (is_some (x.memory one.0))) (endings one.0 away)
             ∙ (ap (λ (m : Option BackupCopy). is_live_of sys p s one.0 && not (is_some m)) (memory one.0 away) ∙ one.2))
 
     pair-differs : (own j : ℕ) → sys.pair_of j ≢ sys.pair_of own → j ≢ own
@@ -182,10 +182,10 @@ module _ (sys : Behaviour) (p : ℕ) where
         ⊎_elim
         (λ same is.
         let one = any_below-some sys.terminals (is_live_of sys q s) l.wanted in
-        let of : is_of sys q one.0 ≡ true = and-first (is_of sys q one.0) (is_none (s.terms one.0).ending) one.2 in
+        let of : is_of_pair sys q one.0 ≡ true = and-first (is_of_pair sys q one.0) (is_none (s.terms one.0).ending) one.2 in
         any_below-true sys.terminals (λ j. is_live_of sys p (effect sys s (Raise q)) j && not (is_some ((effect sys s (Raise q)).memory j))) one.0 one.1
-        (and_from (is_live_of sys p s one.0) (not (is_some (if is_of sys q one.0 then None else s.memory one.0))) (subst (λ (x : ℕ). is_live_of sys x s one.0 ≡ true) (sym same) one.2)
-        (ap (λ (m : Option BackupCopy). not (is_some m)) (cond-true (is_of sys q one.0) None (s.memory one.0) of))))
+        (and_from (is_live_of sys p s one.0) (not (is_some (if is_of_pair sys q one.0 then None else s.memory one.0))) (subst (λ (x : ℕ). is_live_of sys x s one.0 ≡ true) (sym same) one.2)
+        (ap (λ (m : Option BackupCopy). not (is_some m)) (cond-true (is_of_pair sys q one.0) None (s.memory one.0) of))))
         (λ differ. kept (effect sys s (Raise q)) (λ j. refl) (λ j of none. emptied q j (s.memory j) none) (λ is. sym (upd-other s.modes q Raising p differ) ∙ is))
         (cases_eq p q)
     keeps-lacking (End own ending.Stopped) l = end-lacks own ending.Stopped s refl refl refl

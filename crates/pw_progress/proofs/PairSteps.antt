@@ -15,7 +15,7 @@ use Rattle.pw_event.specs.declared.script.Owner.TheVariants.{Tcp, Class}
 use Rattle.pw_event.specs.Due.{Numbered, due_line, entries_of, if_due, is_fail_of, is_same_owner, next_failure, numbered, owner_of, owner_of_line}
 use Rattle.pw_runs.proofs.kept.Runs.{kept-at-start, kept-from}
 use Rattle.pw_onecopy.specs.IsBehaviour.{IsBehaviour}
-use Rattle.pw_paired.specs.Failure.{IsCaused, fail_line, is_live_of, is_of}
+use Rattle.pw_paired.specs.Failure.{IsCaused, fail_line, is_live_of, is_of_pair}
 use Rattle.pw_paired.specs.Raising.{is_takeover}
 use Rattle.pw_paired.specs.State.{Alone, Down, Gone, BackupCopy, Message, Mode, Paired, Raising, State, starting}
 use Rattle.pw_paired.specs.Step.{Fits, IsRun, after, is_finished, is_going_on, line_due, line_wanted}
@@ -128,7 +128,7 @@ pair-steps sys b log run t live other = by (s.modes p) refl
     unfinished = ap not (any_below-true sys.terminals (is_going_on s) t live.known (ap is_none live.going_on))
 
     live-of : is_live_of sys p s t ≡ true
-    live-of = and_from (is_of sys p t) (is_none (s.terms t).ending) (eq-eqb p p refl) (ap is_none live.going_on)
+    live-of = and_from (is_of_pair sys p t) (is_none (s.terms t).ending) (eq-eqb p p refl) (ap is_none live.going_on)
 
     -- a takeover is pending for a terminal of the pair
     restart : s.modes p ≡ Alone → (o : ℕ) → sys.pair_of o ≡ p → is_takeover (s.terms o).pending ≡ true → HasStep sys s
@@ -152,8 +152,8 @@ pair-steps sys b log run t live other = by (s.modes p) refl
     raise-on raising =
         let one = any_below-some sys.terminals (λ j. is_live_of sys p s j && not (is_some (s.memory j))) (lacking sys p log run raising) in
         let here : is_live_of sys p s one.0 ≡ true = and-first (is_live_of sys p s one.0) (not (is_some (s.memory one.0))) one.2 in
-        let of : sys.pair_of one.0 ≡ p = eqb-true (sys.pair_of one.0) p (and-first (is_of sys p one.0) (is_none (s.terms one.0).ending) here) in
-        let is_live : IsLive sys s one.0 = record { known = one.1; going_on = going (s.terms one.0).ending (and-second (is_of sys p one.0) (is_none (s.terms one.0).ending) here) } in
+        let of : sys.pair_of one.0 ≡ p = eqb-true (sys.pair_of one.0) p (and-first (is_of_pair sys p one.0) (is_none (s.terms one.0).ending) here) in
+        let is_live : IsLive sys s one.0 = record { known = one.1; going_on = going (s.terms one.0).ending (and-second (is_of_pair sys p one.0) (is_none (s.terms one.0).ending) here) } in
         by-flight one.0 (ap s.modes of ∙ raising) is_live (empty (s.memory one.0) (and-second (is_live_of sys p s one.0) (not (is_some (s.memory one.0))) one.2)) (s.flight one.0) refl
       where
         empty : (m : Option BackupCopy) → not (is_some m) ≡ true → m ≡ None
@@ -172,10 +172,10 @@ pair-steps sys b log run t live other = by (s.modes p) refl
     by Alone is =
         ⊎_elim
         (λ some.
-        let one = any_below-some sys.terminals (λ j. is_of sys p j && is_takeover (s.terms j).pending) some in
-        restart is one.0 (eqb-true (sys.pair_of one.0) p (and-first (is_of sys p one.0) (is_takeover (s.terms one.0).pending) one.2)) (and-second (is_of sys p one.0) (is_takeover (s.terms one.0).pending) one.2))
+        let one = any_below-some sys.terminals (λ j. is_of_pair sys p j && is_takeover (s.terms j).pending) some in
+        restart is one.0 (eqb-true (sys.pair_of one.0) p (and-first (is_of_pair sys p one.0) (is_takeover (s.terms one.0).pending) one.2)) (and-second (is_of_pair sys p one.0) (is_takeover (s.terms one.0).pending) one.2))
         (λ none. step-of sys s unfinished (Raise p) refl (record { alone = is; wanted = any_below-true sys.terminals (is_live_of sys p s) t live.known live-of; calm = none }))
-        (cases_Bool (any_below sys.terminals (λ j. is_of sys p j && is_takeover (s.terms j).pending)))
+        (cases_Bool (any_below sys.terminals (λ j. is_of_pair sys p j && is_takeover (s.terms j).pending)))
 
 -- where a message of a live terminal is in flight, an entry is legal
 pub message-steps : (sys : Behaviour) → IsBehaviour sys → (log : List Event) → IsRun sys log → (t : ℕ) → IsLive sys (after sys log) t

@@ -14,7 +14,7 @@ use Rattle.pw_runs.proofs.kept.Runs.{keeps, kept-at-start}
 use Rattle.pw_onecopy.proofs.Update.{upd_elim, upd-same, upd-other}
 use Rattle.pw_onecopy.specs.IsBehaviour.{IsBehaviour}
 use Rattle.pw_paired.specs.End.{end_terminal}
-use Rattle.pw_paired.specs.Failure.{lose_backup, with_start_path, backup_fails, lose_primary, lose_pair, is_live_of, is_of, primary_fails, process_fails, resume_terminal, runs_unit}
+use Rattle.pw_paired.specs.Failure.{lose_backup, with_start_path, backup_fails, lose_primary, lose_pair, is_live_of, is_of_pair, primary_fails, process_fails, resume_terminal, runs_unit}
 use Rattle.pw_onecopy.specs.Path.{PathAnswer, Failed, Replied, is_outside, unit_number}
 use Rattle.pw_paired.specs.Raising.{settled_mode, lacks_one, with_message, settle_mode}
 use Rattle.pw_paired.specs.Server.{do_job, free_process, reply_at}
@@ -110,8 +110,8 @@ module _ (sys : Behaviour) (b : IsBehaviour sys) (s : State) (i : Inv sys s) (t 
   down-pending : (p : ℕ) → s.modes p ≡ Paired → PendingOk sys (lose_primary sys p s) t
   down-pending p paired =
       ⊎_elim
-      (λ of. calm (lose_primary sys p s) (ap (λ (x : Term). x.pending) (cond-true (is_of sys p t) _ (s.terms t) (eq-eqb (sys.pair_of t) p of))))
-      (λ differ. kept (lose_primary sys p s) (λ kind is. ap (λ (x : Term). x.pending) (sym (cond-false (is_of sys p t) _ (s.terms t) (ne_eqb (sys.pair_of t) p differ))) ∙ is)
+      (λ of. calm (lose_primary sys p s) (ap (λ (x : Term). x.pending) (cond-true (is_of_pair sys p t) _ (s.terms t) (eq-eqb (sys.pair_of t) p of))))
+      (λ differ. kept (lose_primary sys p s) (λ kind is. ap (λ (x : Term). x.pending) (sym (cond-false (is_of_pair sys p t) _ (s.terms t) (ne_eqb (sys.pair_of t) p differ))) ∙ is)
       (upd-gone s p (sys.pair_of t) Down (λ lost. absurd (cc (paired, lost)))) refl)
       (cases_eq (sys.pair_of t) p)
 
@@ -119,8 +119,8 @@ module _ (sys : Behaviour) (b : IsBehaviour sys) (s : State) (i : Inv sys s) (t 
   gone-pending p =
       ⊎_elim
       (λ of kind is there. absurd (there (mode-of-pair sys s p t Gone of)))
-      (λ differ. kept (lose_pair sys p s) (λ kind is. ap (λ (x : Term). x.pending) (sym (cond-false (is_of sys p t) _ (s.terms t) (ne_eqb (sys.pair_of t) p differ))) ∙ is)
-      (λ is. mode-of-other sys s p t Gone differ ∙ is) (cond-false (is_of sys p t) None (s.units t) (ne_eqb (sys.pair_of t) p differ)))
+      (λ differ. kept (lose_pair sys p s) (λ kind is. ap (λ (x : Term). x.pending) (sym (cond-false (is_of_pair sys p t) _ (s.terms t) (ne_eqb (sys.pair_of t) p differ))) ∙ is)
+      (λ is. mode-of-other sys s p t Gone differ ∙ is) (cond-false (is_of_pair sys p t) None (s.units t) (ne_eqb (sys.pair_of t) p differ)))
       (cases_eq (sys.pair_of t) p)
 
   primary-pending : (p : ℕ) (mode : Mode) → s.modes p ≡ mode → PendingOk sys (primary_fails sys p mode s) t

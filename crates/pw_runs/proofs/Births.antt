@@ -9,7 +9,7 @@ use Rattle.pw_event.specs.declared.event.Ending.TheVariants as ending
 use Rattle.pw_event.specs.declared.event.Event.{Event}
 use Rattle.pw_event.specs.declared.event.Event.TheVariants.{Show, Key, CheckStart, CheckEnd, CheckCopy, Applied, Begin, Send, Take, File, Reply, Again, Commit, Back, Restart, FailTcp, FailServer, Takeover, Raise, End}
 use Rattle.pw_onecopy.proofs.Update.{upd_elim}
-use Rattle.pw_paired.specs.Failure.{backup_fails, is_of, primary_fails, process_fails, with_restart}
+use Rattle.pw_paired.specs.Failure.{backup_fails, is_of_pair, primary_fails, process_fails, with_restart}
 use Rattle.pw_onecopy.specs.Path.{PathAnswer, is_outside, unit_number}
 use Rattle.pw_paired.specs.Server.{do_job, do_verb, free_process, reply_at, server_verb}
 use Rattle.pw_onecopy.specs.Update.{upd}
@@ -103,8 +103,8 @@ module _ (sys : Behaviour) (s : State) (ok : BirthsOk s.units s.births) where
 
   primary-births : (p : ℕ) (mode : Mode) → BirthsOk (primary_fails sys p mode s).units (primary_fails sys p mode s).births
   primary-births p Paired = ok
-  primary-births p Raising = remain (remain-left s.units (is_of sys p)) ok
-  primary-births p Alone = remain (remain-left s.units (is_of sys p)) ok
+  primary-births p Raising = remain (remain-left s.units (is_of_pair sys p)) ok
+  primary-births p Alone = remain (remain-left s.units (is_of_pair sys p)) ok
   primary-births p Down = ok
   primary-births p Gone = ok
 
@@ -112,7 +112,7 @@ module _ (sys : Behaviour) (s : State) (ok : BirthsOk s.units s.births) where
   backup-births p Paired = ok
   backup-births p Raising = ok
   backup-births p Alone = ok
-  backup-births p Down = remain (remain-left s.units (is_of sys p)) ok
+  backup-births p Down = remain (remain-left s.units (is_of_pair sys p)) ok
   backup-births p Gone = ok
 
   process-births : (c p k : ℕ) (job : Option Job) → BirthsOk (process_fails c p k job s).units (process_fails c p k job s).births

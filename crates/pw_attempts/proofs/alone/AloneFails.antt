@@ -17,7 +17,7 @@ use Rattle.pw_runs.proofs.terms.TermOk.{IsWorking}
 use Rattle.pw_onecopy.proofs.Update.{upd_elim, upd-same, upd-other}
 use Rattle.pw_onecopy.specs.IsBehaviour.{IsBehaviour}
 use Rattle.pw_paired.specs.End.{LegalEnd, end_terminal}
-use Rattle.pw_paired.specs.Failure.{LegalRestart, LegalTakeover, lose_backup, backup_fails, lose_primary, lose_pair, is_live_of, is_of, primary_fails, process_fails, with_restart, resume_terminal, runs_unit}
+use Rattle.pw_paired.specs.Failure.{LegalRestart, LegalTakeover, lose_backup, backup_fails, lose_primary, lose_pair, is_live_of, is_of_pair, primary_fails, process_fails, with_restart, resume_terminal, runs_unit}
 use Rattle.pw_onecopy.specs.Path.{PathAnswer}
 use Rattle.pw_paired.specs.Raising.{is_takeover, settle_mode}
 use Rattle.pw_paired.specs.Serial.{one_more}
@@ -128,17 +128,17 @@ module _ (sys : Behaviour) (b : IsBehaviour sys) (s : State) (i : Inv sys s) (ok
       let at = all t unit q is runs in
       let mode : (lose_primary sys p s).modes (sys.pair_of t) ≡ Down = mode-of-pair sys s p t Down of in
       record {
-        going = ap (λ (x : Term). x.ending) (cond-true (is_of sys p t) _ (s.terms t) (eq-eqb (sys.pair_of t) p of)) ∙ at.going;
+        going = ap (λ (x : Term). x.ending) (cond-true (is_of_pair sys p t) _ (s.terms t) (eq-eqb (sys.pair_of t) p of)) ∙ at.going;
         start = at.start;
         place = Nowhere;
-        placed = placed_cancelled s.classes (is_of sys p) (eq-eqb (sys.pair_of t) p of);
+        placed = placed_cancelled s.classes (is_of_pair sys p) (eq-eqb (sys.pair_of t) p of);
         alone = own-cut sys b t q unit.restarts at.start (committed_files sys s) s.files s.files (answers t) s.locks s.before at.place Nowhere (s.terms t) ((lose_primary sys p s).terms t) (s.modes (sys.pair_of t)) ((lose_primary sys p s).modes (sys.pair_of t))
             (λ working _. absurd (subst IsWorking mode working)) (λ working _. absurd (subst IsWorking mode working)) at.alone;
       })
       (λ differ.
-      let spared : is_of sys p t ≡ false = ne_eqb (sys.pair_of t) p differ in
+      let spared : is_of_pair sys p t ≡ false = ne_eqb (sys.pair_of t) p differ in
       moved-plain sys b s (lose_primary sys p s) ok lk answers answers t unit q
-      (cond-false (is_of sys p t) _ (s.terms t) spared) refl (λ place placed. placed_cancelled_other s.classes (is_of sys p) spared place placed)
+      (cond-false (is_of_pair sys p t) _ (s.terms t) spared) refl (λ place placed. placed_cancelled_other s.classes (is_of_pair sys p) spared place placed)
       (λ works. subst IsWorking (mode-of-other sys s p t Down differ) works) refl refl refl (all t unit q is runs))
       (cases_eq (sys.pair_of t) p)
 
@@ -148,11 +148,11 @@ module _ (sys : Behaviour) (b : IsBehaviour sys) (s : State) (i : Inv sys s) (ok
       ⊎_elim
       (λ of. absurd (no-unit (sym (of-pair sys p t None (s.units t) of) ∙ is)))
       (λ differ.
-      let spared : is_of sys p t ≡ false = ne_eqb (sys.pair_of t) p differ in
+      let spared : is_of_pair sys p t ≡ false = ne_eqb (sys.pair_of t) p differ in
       moved-withdrawn sys b s (lose_pair sys p s) ok lk answers answers t unit q
-      (cond-false (is_of sys p t) _ (s.terms t) spared) refl (λ place placed. placed_cancelled_other s.classes (is_of sys p) spared place placed)
+      (cond-false (is_of_pair sys p t) _ (s.terms t) spared) refl (λ place placed. placed_cancelled_other s.classes (is_of_pair sys p) spared place placed)
       (λ works. subst IsWorking (mode-of-other sys s p t Gone differ) works)
-      (is_of sys p) spared refl refl refl are (all t unit q (sym (not-of-pair sys p t None (s.units t) differ) ∙ is) runs))
+      (is_of_pair sys p) spared refl refl refl are (all t unit q (sym (not-of-pair sys p t None (s.units t) differ) ∙ is) runs))
       (cases_eq (sys.pair_of t) p)
 
   -- a pair loses its backup
@@ -240,7 +240,7 @@ module _ (sys : Behaviour) (b : IsBehaviour sys) (s : State) (i : Inv sys s) (ok
       let lose_primary : s.modes (sys.pair_of t) ≡ Down = ap s.modes of ∙ l.down in
       let memory = term.has_memory at.going (rw lose_primary tt) in
       let number : memory.0.unit ≡ unit.number = term.memory_unit memory.0 unit memory.1 is in
-      let live : is_live_of sys p s t ≡ true = and_from (is_of sys p t) (is_none (s.terms t).ending) (eq-eqb (sys.pair_of t) p of) (ap is_none at.going) in
+      let live : is_live_of sys p s t ≡ true = and_from (is_of_pair sys p t) (is_none (s.terms t).ending) (eq-eqb (sys.pair_of t) p of) (ap is_none at.going) in
       let pends : runs_unit memory.0.unit (s.units t) ≡ true =
       ap (runs_unit memory.0.unit) is ∙ and_from (unit.number == memory.0.unit) (is_some unit.running) (eq-eqb unit.number memory.0.unit (sym number)) (ap is_some runs) in
       let resumes : (effect sys s (Takeover p)).terms t ≡ resume_terminal p (Some memory.0) (s.units t) (s.ended t) (s.terms t) =
@@ -258,6 +258,6 @@ module _ (sys : Behaviour) (b : IsBehaviour sys) (s : State) (i : Inv sys s) (ok
             at.alone;
       })
       (λ differ. moved-plain sys b s (effect sys s (Takeover p)) ok lk answers answers t unit q
-      (cond-false (is_live_of sys p s t) _ (s.terms t) (and_left (is_of sys p t) (is_none (s.terms t).ending) (ne_eqb (sys.pair_of t) p differ))) refl (λ place placed. placed)
+      (cond-false (is_live_of sys p s t) _ (s.terms t) (and_left (is_of_pair sys p t) (is_none (s.terms t).ending) (ne_eqb (sys.pair_of t) p differ))) refl (λ place placed. placed)
       (λ works. subst IsWorking (mode-of-other sys s p t Alone differ) works) refl refl refl (all t unit q is runs))
       (cases_eq (sys.pair_of t) p)

@@ -24,7 +24,7 @@ use Rattle.pw_paired.specs.State.{BeforeImage, Job, Mode, Term}
 use Rattle.pw_onecopy.specs.Behaviour.{Behaviour, Served, Reply, Fault}
 use Rattle.pw_paired.specs.Units.{has_image}
 use Rattle.pw_attempts.proofs.alone.Alone.{AloneOk, Calm, Mid, Serving}
-use Rattle.pw_attempts.proofs.AttemptOps.{EachOfRun, EachOp, IsLocked, LocksAre, Spares}
+use Rattle.pw_attempts.proofs.AttemptOps.{EachOfRun, EachOp, IsLocked, LocksAre, Spares, locked-before, locked-cases, locked-last}
 use Rattle.pw_attempts.proofs.Attempts.{IsLast, Outcome, faults, one-end, outcome, outcome-last, replies, stays-played, attempt-fine}
 use Rattle.pw_locking.proofs.seeing.Plays.{ChangesAt, ServerWrites-behaviour, played_files}
 use Rattle.pw_locking.proofs.seeing.Seeing.{same_answer, same_changes, same_effect, same_span}
@@ -127,7 +127,7 @@ module _ (sys : Behaviour) (b : IsBehaviour sys) (t : ℕ) (q : List PathAnswer)
     files = (attempt sys t q x r j).files
 
     served : (mid : ℕ → List (List ℕ)) → Serving sys b t q r start files locks before c job mid → ((f : ℕ) (key : List ℕ) → IsLocked t f key locks → HaveSameAt sys mid now f key)
-        → Calm sys b t q r start files after (lock ∷ locks) before' (AtWork c p (with_answer answer job))
+        → Calm sys b t q r start files after (locks ++ lock ∷ []) before' (AtWork c p (with_answer answer job))
     served mid serving agree =
         let message : List ℕ = job.request.message in
         let at : Play = play_after sys c message files serving.n in
@@ -150,13 +150,13 @@ module _ (sys : Behaviour) (b : IsBehaviour sys) (t : ℕ) (q : List PathAnswer)
                 ⊎_elim
                 (λ same.
                 let one : call ≡ other = let v = verb_is in let w = subst (λ (m : ℕ). verb_at sys c message files m ≡ verb.File other) same is in cc (v, w) in
-                inl (
+                locked-last t other.file key locks lock (
                   whose,
                   file ∙ ap (λ (y : FileCall). y.file) one,
                   subst (λ (s : Span). Covers s key) (sym (span ∙ spans))
                       (subst (λ (y : FileCall). CallCovers sys at.files y key) (sym one) (subst (λ (m : ℕ). CallCovers sys (files_at sys c message files m) other key) same covers)),
                 ))
-                (λ differ. inr (serving.locked k (omega (arith, below, differ)) other is key covers))
+                (λ differ. locked-before t other.file key locks (lock ∷ []) (serving.locked k (omega (arith, below, differ)) other is key covers))
                 (cases_eq k serving.n);
             spared = λ f key none k below other is at_file change.
                 ⊎_elim
@@ -172,7 +172,7 @@ module _ (sys : Behaviour) (b : IsBehaviour sys) (t : ℕ) (q : List PathAnswer)
               let was : HaveSameAt sys at.files now f key =
               ⊎_elim
               (λ new. subst (λ (g : ℕ). HaveSameAt sys at.files now g key) (sym file ∙ new.1) (sym (see key (subst (λ (s : Span). Covers s key) span new.2))))
-              (λ old. subst (λ (m : ℕ → List (List ℕ)). HaveSameAt sys m now f key) serving.mid_is (agree f key old)) locked in
+              (λ old. subst (λ (m : ℕ → List (List ℕ)). HaveSameAt sys m now f key) serving.mid_is (agree f key old)) (locked-cases t f key locks lock locked) in
               upd_both at.files now call.file (records_behind n (at.files call.file) call) (records_behind n (now call.file) call) f
               (λ (one other : List (List ℕ)). record_at (sys.key_length f) one key ≡ record_at (sys.key_length f) other key)
               (λ same.
@@ -182,11 +182,11 @@ module _ (sys : Behaviour) (b : IsBehaviour sys) (t : ℕ) (q : List PathAnswer)
         }
 
     pub own-operation : AloneOk sys b t q r start x now j locks before (AtWork c p job) term mode
-        → AloneOk sys b t q r start x after j (lock ∷ locks) before' (AtWork c p (with_answer answer job)) term mode
+        → AloneOk sys b t q r start x after j (locks ++ lock ∷ []) before' (AtWork c p (with_answer answer job)) term mode
     own-operation ok = record {
       is_attempt = ok.is_attempt;
       path_is = ok.path_is;
-      locked = λ i below d message sends m k less other is key covers. inr (ok.locked i below d message sends m k less other is key covers);
+      locked = λ i below d message sends m k less other is key covers. locked-before t other.file key locks (lock ∷ []) (ok.locked i below d message sends m k less other is key covers);
       spared = λ f key none. ok.spared f key (fewer f key none);
       calm = λ working calm no_fault. let old = ok.calm working calm no_fault in served old.mid old.mid_is old.agree;
     }

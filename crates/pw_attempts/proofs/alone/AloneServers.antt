@@ -33,7 +33,7 @@ use Rattle.pw_attempts.proofs.alone.Alone.{AloneOk, Mid, alone-moved}
 use Rattle.pw_attempts.proofs.alone.AloneEntries.{AllAlone, AloneAt, moved, moved-committed, moved-plain}
 use Rattle.pw_attempts.proofs.alone.AloneFails.{no-unit}
 use Rattle.pw_attempts.proofs.alone.AloneOwn.{own-failed, own-operation, own-replied}
-use Rattle.pw_attempts.proofs.AttemptOps.{IsLocked}
+use Rattle.pw_attempts.proofs.AttemptOps.{IsLocked, locked-before, locked-cases, locked-last}
 use Rattle.pw_attempts.proofs.Attempts.{attempt-fine}
 use Rattle.pw_locking.proofs.records.Entries.{Stays, reply-stays, verb-stays}
 use Rattle.pw_locking.proofs.Holding.{LocksOk, verb-locks}
@@ -43,6 +43,8 @@ use Rattle.pw_attempts.proofs.alone.LockedRecords.{attempt-spares, no-image-same
 use Rattle.pw_locking.proofs.seeing.Plays.{operation_leaves, played_leaves}
 use Rattle.pw_locking.proofs.records.RecordsOk.{RecordsOk}
 use Rattle.pw_locking.specs.Seen.{AreFiles, HaveSameAt}
+use Rattle.pw_runs.proofs.Tests.{any-before}
+use Rattle.pw_locking.specs.Held.{locks_key}
 
 module _ (sys : Behaviour) (b : IsBehaviour sys) (s : State) (i : Inv sys s) (ok : RecordsOk sys s.files s.before s.locks) (lk : LocksOk s.units s.locks) (answers : ℕ → ℕ) (all : AllAlone sys b s answers) where
   -- an operation of a server
@@ -116,7 +118,8 @@ module _ (sys : Behaviour) (b : IsBehaviour sys) (s : State) (i : Inv sys s) (ok
         sym (no-image-same sys s.files s.before s.locks ok call.file key
         (λ o there.
         ⊎_elim (λ same. true≢false (sym there ∙ subst (λ (x : ℕ). has_image x call.file key s.before ≡ false) same none))
-        (λ differ. unshared t o call.file key (lock ∷ s.locks) differ locks_after.apart (inl (refl, refl, covers)) (or_right _ _ (ok.locked o call.file key there)))
+        (λ differ. unshared t o call.file key after.locks differ locks_after.apart (locked-last t call.file key s.locks lock (refl, refl, covers))
+        (any-before (locks_key o call.file key) s.locks (lock ∷ []) (ok.locked o call.file key there)))
         (cases_eq t o)))
         ∙ (sym (attempt-spares sys b t q unit.restarts at.start (committed_files sys s) are call.file key (answers t) at.alone.is_attempt (at.alone.spared call.file key none))
         ∙ (sym (played_leaves sys c job.request.message files call.file key serving.n
@@ -147,13 +150,13 @@ module _ (sys : Behaviour) (b : IsBehaviour sys) (s : State) (i : Inv sys s) (ok
     other-file j unit q differ is runs =
         moved sys b s after ok lk answers answers j unit q refl refl
         (λ place placed. placed_process_other s.classes c p job (Some (with_answer (answer_on sys s call) job)) works (λ mine. differ (sym mine)) (λ mine. differ (sym mine)) place placed) (λ working. working)
-        are_after (λ f key locked. sym (st.same refl f key)) (λ f key locked. inr locked)
-        (λ f key locked. ⊎_elim (λ mine. absurd (differ (sym mine.0))) (λ more. more) locked)
+        are_after (λ f key locked. sym (st.same refl f key)) (λ f key locked. locked-before j f key s.locks (lock ∷ []) locked)
+        (λ f key locked. ⊎_elim (λ mine. absurd (differ (sym mine.0))) (λ more. more) (locked-cases j f key s.locks lock locked))
         (image-stays j)
         (λ f key locked. sym (operation_leaves sys (verb.File call) (record { files = s.files; done = [] }) f key
         (λ other is at_file change.
         let same : call ≡ other = cc is in
-        unshared j t f key after.locks differ locks_after.apart (inr locked)
+        unshared j t f key after.locks differ locks_after.apart (locked-before j f key s.locks (lock ∷ []) locked)
         (st.ok.locked t f key
         (subst₂ (λ (g : ℕ) (k : List ℕ). has_image t g k after.before ≡ true) (ap (λ (x : FileCall). x.file) same ∙ at_file)
         (sym (subst (λ (x : FileCall). key ≡ key_of (sys.key_length x.file) x.op x) (sym same) change.own))

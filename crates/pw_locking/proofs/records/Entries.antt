@@ -13,7 +13,7 @@ use Rattle.pw_locks.specs.Conflicts.{holders}
 use Rattle.pw_locks.specs.declared.lock.Lock.{Lock}
 use Rattle.pw_runs.proofs.kept.Kept.{Inv}
 use Rattle.pw_onecopy.specs.IsBehaviour.{IsBehaviour}
-use Rattle.pw_paired.specs.Failure.{backup_fails, is_of, primary_fails, process_fails}
+use Rattle.pw_paired.specs.Failure.{backup_fails, is_of_pair, primary_fails, process_fails}
 use Rattle.pw_onecopy.specs.Path.{is_outside, unit_number}
 use Rattle.pw_paired.specs.Server.{do_job, do_verb, free_process, lock_of_job, reply_at, server_verb}
 use Rattle.pw_paired.specs.State.{BeforeImage, Job, Mode, Alone, Raising, Paired, Down, Gone, State}
@@ -105,8 +105,8 @@ module _ (sys : Behaviour) (b : IsBehaviour sys) (s : State) (i : Inv sys s) (ok
 
   primary-stays : (p : ℕ) (mode : Mode) → Stays sys s (primary_fails sys p mode s) false
   primary-stays p Paired = nothing (primary_fails sys p Paired s) false refl refl refl
-  primary-stays p Raising = withdrawn (is_of sys p) (primary_fails sys p Raising s) false refl refl refl
-  primary-stays p Alone = withdrawn (is_of sys p) (primary_fails sys p Alone s) false refl refl refl
+  primary-stays p Raising = withdrawn (is_of_pair sys p) (primary_fails sys p Raising s) false refl refl refl
+  primary-stays p Alone = withdrawn (is_of_pair sys p) (primary_fails sys p Alone s) false refl refl refl
   primary-stays p Down = nothing s false refl refl refl
   primary-stays p Gone = nothing s false refl refl refl
 
@@ -114,7 +114,7 @@ module _ (sys : Behaviour) (b : IsBehaviour sys) (s : State) (i : Inv sys s) (ok
   backup-stays p Paired = nothing (backup_fails sys p Paired s) false refl refl refl
   backup-stays p Raising = nothing (backup_fails sys p Raising s) false refl refl refl
   backup-stays p Alone = nothing s false refl refl refl
-  backup-stays p Down = withdrawn (is_of sys p) (backup_fails sys p Down s) false refl refl refl
+  backup-stays p Down = withdrawn (is_of_pair sys p) (backup_fails sys p Down s) false refl refl refl
   backup-stays p Gone = nothing s false refl refl refl
 
   end-stays : (t : ℕ) (e : Ending) → Stays sys s (effect sys s (End t e)) false

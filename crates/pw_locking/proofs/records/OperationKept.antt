@@ -1,5 +1,5 @@
 -- What an operation does to a file, to the before-images and to the locks, and that it leaves the committed records.
-use Rattle.std.proofs.Common.{◌≡◌, ◌≢◌, ℕ, ◌⊎◌, inl, inr, ⊎_elim, Bool, true, false, not, ◌&&◌, ◌||◌, ◌==◌, cond, List, [], ◌∷◌, map, filter, Option, if◌then◌else◌, refl, ap, ap₂, sym, subst, subst₂, ◌∙◌}
+use Rattle.std.proofs.Common.{◌≡◌, ◌≢◌, ℕ, ◌⊎◌, inl, inr, ⊎_elim, Bool, true, false, not, ◌&&◌, ◌||◌, ◌==◌, cond, List, [], ◌∷◌, ◌++◌, map, filter, Option, if◌then◌else◌, refl, ap, ap₂, sym, subst, subst₂, ◌∙◌}
 use Rattle.std.specs.List.{list_any, AllByRecursion}
 use Rattle.std.specs.Prelude.{All, Contains}
 use Rattle.std.specs.Str.{bytes_eq}
@@ -30,7 +30,7 @@ use Rattle.pw_paired.specs.Units.{has_image, restored_files}
 use Rattle.pw_locking.proofs.seeing.Seeing.{effect_leaves, operated_is_file}
 use Rattle.pw_locking.proofs.records.Images.{ImageOk, cases_bytes, is_at, restored-at, same_bytes, stands_at, stands_at-there}
 use Rattle.pw_locking.proofs.records.RecordsOk.{RecordsOk}
-use Rattle.pw_runs.proofs.Tests.{and-first, and-second, any-more}
+use Rattle.pw_runs.proofs.Tests.{and-first, and-second, any-before, any-last, any-more}
 use Rattle.pw_locking.specs.Held.{has_key_lock, is_exclusive, is_point, locks_key}
 
 -- a change locks its key exclusively
@@ -168,7 +168,7 @@ module _ (sys : Behaviour) (files : ℕ → List (List ℕ)) (before : List Befo
   images-ok true = (image-ok, ok.images)
   images-ok false = ok.images
 
-  pub operation-ok : RecordsOk sys files_after (images_after adds) (lock ∷ locks)
+  pub operation-ok : RecordsOk sys files_after (images_after adds) (locks ++ lock ∷ [])
   operation-ok = record {
     are_files = λ f. upd_elim files call.file (records_behind n (files call.file) call) f (λ (r : List (List ℕ)). IsFile (sys.key_length f) r)
         (λ same. subst (λ (g : ℕ). IsFile (sys.key_length g) (records_behind n (files call.file) call)) (sym same) (operated_is_file n call (files call.file) (ok.are_files call.file) fits))
@@ -176,8 +176,8 @@ module _ (sys : Behaviour) (files : ℕ → List (List ℕ)) (before : List Befo
     images = images-ok adds;
     locked = λ t f key there.
         ⊎_elim
-        (λ old. or_right (locks_key t f key lock) (has_key_lock t f key locks) (ok.locked t f key old))
-        (λ new. or_left (locks_key t f key lock) (has_key_lock t f key locks)
+        (λ old. any-before (locks_key t f key) locks (lock ∷ []) (ok.locked t f key old))
+        (λ new. any-last (locks_key t f key) locks lock
         (subst (λ (x : ℕ). locks_key x f key lock ≡ true) new.1
         (subst₂ (λ (x : ℕ) (k : List ℕ). locks_key u.terminal x k lock ≡ true) new.2 new.3 (own-kept new.0))))
         (image-cases t f key adds adds-change there);

@@ -20,7 +20,7 @@ use Rattle.pw_runs.proofs.terms.TermOk.{PathOk}
 use Rattle.pw_onecopy.proofs.Update.{upd-same, upd-other}
 use Rattle.pw_onecopy.specs.IsBehaviour.{IsBehaviour}
 use Rattle.pw_paired.specs.End.{LegalEnd, LegalStopped}
-use Rattle.pw_paired.specs.Failure.{backup_fails, lose_pair, is_of, primary_fails, process_fails}
+use Rattle.pw_paired.specs.Failure.{backup_fails, lose_pair, is_of_pair, primary_fails, process_fails}
 use Rattle.pw_paired.specs.Headline.{EndsOnce}
 use Rattle.pw_onecopy.specs.Path.{PathAnswer, is_outside, unit_number}
 use Rattle.pw_onecopy.specs.Blocks.{Block, Out, Attempted, Done, How, Committed, Aborted, Restarted, Left}
@@ -122,7 +122,7 @@ module _ (sys : Behaviour) (b : IsBehaviour sys) (s : State) (i : Inv sys s) (t 
       by_place false = stays t n _ _ [] refl refl
 
   -- a pair is lost
-  gone-goes : (p : ℕ) (made : Bool) → Goes t n (last_of s t) (last_of (lose_pair sys p s) t) (if made then left_blocks s reading (is_of sys p) sys.terminals else [])
+  gone-goes : (p : ℕ) (made : Bool) → Goes t n (last_of s t) (last_of (lose_pair sys p s) t) (if made then left_blocks s reading (is_of_pair sys p) sys.terminals else [])
   gone-goes p made = record { rises = rises; ends = ends made }
     where
       rises : last_of s t ≤ last_of (lose_pair sys p s) t
@@ -131,21 +131,21 @@ module _ (sys : Behaviour) (b : IsBehaviour sys) (s : State) (i : Inv sys s) (t 
           (λ differ. let same = last-spared sys s i p t differ in omega (arith, same))
           (cases_eq (sys.pair_of t) p)
 
-      ends : (made : Bool) → EndsBy t n (last_of s t) (last_of (lose_pair sys p s) t) (if made then left_blocks s reading (is_of sys p) sys.terminals else [])
+      ends : (made : Bool) → EndsBy t n (last_of s t) (last_of (lose_pair sys p s) t) (if made then left_blocks s reading (is_of_pair sys p) sys.terminals else [])
       ends false = not_at_all refl
-      ends true = (lefts-one s reading (is_of sys p) t n _ _ sys.terminals
+      ends true = (lefts-one s reading (is_of_pair sys p) t n _ _ sys.terminals
           (λ u is of number.
           let next = open-next sys s i t n u is number in
           (next.0, last-gone sys s i p t (eqb-true (sys.pair_of t) p of) ∙ next.1))).1
 
   -- a member of a pair fails: its pair is lost, or nothing is left
   lost-none : (p : ℕ) (after : State) → is_gone (after.modes p) ≡ false → (made : Bool) → (is_gone (after.modes p) && not (is_gone (s.modes p))) ≡ made
-      → ends_in t n (if made then left_blocks s reading (is_of sys p) sys.terminals else []) ≡ 0
+      → ends_in t n (if made then left_blocks s reading (is_of_pair sys p) sys.terminals else []) ≡ 0
   lost-none p after is false e = refl
   lost-none p after is true e = absurd (true≢false (sym e ∙ and_left (is_gone (after.modes p)) (not (is_gone (s.modes p))) is))
 
   same-none : (p : ℕ) (made : Bool) → (is_gone (s.modes p) && not (is_gone (s.modes p))) ≡ made
-      → ends_in t n (if made then left_blocks s reading (is_of sys p) sys.terminals else []) ≡ 0
+      → ends_in t n (if made then left_blocks s reading (is_of_pair sys p) sys.terminals else []) ≡ 0
   same-none p false e = refl
   same-none p true e = absurd (true≢false (sym e ∙ no (is_gone (s.modes p))))
     where
@@ -155,7 +155,7 @@ module _ (sys : Behaviour) (b : IsBehaviour sys) (s : State) (i : Inv sys s) (t 
 
   primary-goes : (p : ℕ) (mode : Mode)
       → Goes t n (last_of s t) (last_of (primary_fails sys p mode s) t)
-      (if is_gone ((primary_fails sys p mode s).modes p) && not (is_gone (s.modes p)) then left_blocks s reading (is_of sys p) sys.terminals else [])
+      (if is_gone ((primary_fails sys p mode s).modes p) && not (is_gone (s.modes p)) then left_blocks s reading (is_of_pair sys p) sys.terminals else [])
   primary-goes p Paired = stays t n _ _ _ refl (lost-none p (primary_fails sys p Paired s) (ap is_gone (upd-same s.modes p Down p refl)) _ refl)
   primary-goes p Raising = gone-goes p (is_gone ((primary_fails sys p Raising s).modes p) && not (is_gone (s.modes p)))
   primary-goes p Alone = gone-goes p (is_gone ((primary_fails sys p Alone s).modes p) && not (is_gone (s.modes p)))
@@ -164,7 +164,7 @@ module _ (sys : Behaviour) (b : IsBehaviour sys) (s : State) (i : Inv sys s) (t 
 
   backup-goes : (p : ℕ) (mode : Mode)
       → Goes t n (last_of s t) (last_of (backup_fails sys p mode s) t)
-      (if is_gone ((backup_fails sys p mode s).modes p) && not (is_gone (s.modes p)) then left_blocks s reading (is_of sys p) sys.terminals else [])
+      (if is_gone ((backup_fails sys p mode s).modes p) && not (is_gone (s.modes p)) then left_blocks s reading (is_of_pair sys p) sys.terminals else [])
   backup-goes p Paired = stays t n _ _ _ refl (lost-none p (backup_fails sys p Paired s) (ap is_gone (upd-same s.modes p Alone p refl)) _ refl)
   backup-goes p Raising = stays t n _ _ _ refl (lost-none p (backup_fails sys p Raising s) (ap is_gone (upd-same s.modes p Alone p refl)) _ refl)
   backup-goes p Alone = stays t n _ _ _ refl (same-none p _ refl)

@@ -15,10 +15,10 @@ use Rattle.pw_runs.proofs.terms.TermOk.{IsWorking, TermsOk}
 use Rattle.pw_onecopy.proofs.Update.{upd_elim, upd-other}
 use Rattle.pw_onecopy.specs.IsBehaviour.{IsBehaviour}
 use Rattle.pw_paired.specs.End.{LegalEnd, do_end, end_terminal}
-use Rattle.pw_paired.specs.Failure.{LegalRestart, LegalTakeover, lose_backup, backup_fails, do_fail_server, do_fail_tcp, do_restart, do_takeover, lose_primary, lose_pair, is_live_of, is_of, primary_fails, process_fails}
+use Rattle.pw_paired.specs.Failure.{LegalRestart, LegalTakeover, lose_backup, backup_fails, do_fail_server, do_fail_tcp, do_restart, do_takeover, lose_primary, lose_pair, is_live_of, is_of_pair, primary_fails, process_fails}
 use Rattle.pw_onecopy.specs.Path.{Replied, is_outside, unit_number}
 use Rattle.pw_paired.specs.Raising.{LegalApplied, LegalRaise, do_applied, do_raise, lacks_one, settled_mode, with_message, settle_mode}
-use Rattle.pw_paired.specs.Server.{LegalReply, answer_on, at_process, do_file, do_job, do_reply, do_verb, free_process, reply_at, server_verb}
+use Rattle.pw_paired.specs.Server.{LegalReply, answer_on, with_job_at, do_file, do_job, do_reply, do_verb, free_process, reply_at, server_verb}
 use Rattle.pw_onecopy.specs.Update.{upd}
 use Rattle.pw_paired.specs.State.{Class, Job, Mode, Alone, Raising, Paired, Down, Gone, OpenUnit, State}
 use Rattle.pw_onecopy.specs.Behaviour.{Behaviour}
@@ -131,13 +131,13 @@ module _ (sys : Behaviour) (b : IsBehaviour sys) (s : State) (i : Inv sys s) whe
       by_place true = refl
       by_place false = refl
 
-  reply-classes : (c p t : ℕ) (fault : Option ℕ) → (do_reply sys c p t fault s).classes ≡ upd s.classes c (at_process p None (s.classes c))
+  reply-classes : (c p t : ℕ) (fault : Option ℕ) → (do_reply sys c p t fault s).classes ≡ upd s.classes c (with_job_at p None (s.classes c))
   reply-classes c p t (Some x) = refl
   reply-classes c p t None = by_place (is_outside (path_of s t))
     where
       by_place : (outside : Bool)
           → (if outside then commit_unit t (unit_number (path_of s t)) (Some (reply_at sys c ((s.classes c).busy p))) (free_process c p s) else free_process c p s).classes
-          ≡ upd s.classes c (at_process p None (s.classes c))
+          ≡ upd s.classes c (with_job_at p None (s.classes c))
       by_place true = refl
       by_place false = refl
 
@@ -179,28 +179,28 @@ module _ (sys : Behaviour) (b : IsBehaviour sys) (s : State) (i : Inv sys s) whe
   inv_fail_server c p k = process-of c p k ((s.classes c).busy p) refl
 
   -- another pair keeps its mode
-  beside : (p : ℕ) (mode : Mode) (j : ℕ) → is_of sys p j ≡ false → upd s.modes p mode (sys.pair_of j) ≡ s.modes (sys.pair_of j)
+  beside : (p : ℕ) (mode : Mode) (j : ℕ) → is_of_pair sys p j ≡ false → upd s.modes p mode (sys.pair_of j) ≡ s.modes (sys.pair_of j)
   beside p mode j spared = mode-of-other sys s p j mode (eqb-false (sys.pair_of j) p spared)
 
   inv_down : (p : ℕ) → TermsOk sys (lose_primary sys p s) → Inv sys (lose_primary sys p s)
   inv_down p terms = record {
     terms = terms;
     known = i.known;
-    places = without_places (is_of sys p) i.places;
-    requests = requests_cancelled (is_of sys p) i.requests;
-    out = out-cancelled (is_of sys p) i.places
-        (λ j spared. cond-false (is_of sys p j) _ (s.terms j) spared) (λ j spared. refl)
+    places = without_places (is_of_pair sys p) i.places;
+    requests = requests_cancelled (is_of_pair sys p) i.requests;
+    out = out-cancelled (is_of_pair sys p) i.places
+        (λ j spared. cond-false (is_of_pair sys p j) _ (s.terms j) spared) (λ j spared. refl)
         (λ j spared works. subst IsWorking (sym (beside p Down j spared)) works) i.out;
   }
 
   inv_gone : (p : ℕ) → TermsOk sys (lose_pair sys p s) → Inv sys (lose_pair sys p s)
   inv_gone p terms = record {
     terms = terms;
-    known = known-left (is_of sys p) i;
-    places = without_places (is_of sys p) i.places;
-    requests = requests_cancelled (is_of sys p) i.requests;
-    out = out-cancelled (is_of sys p) i.places
-        (λ j spared. cond-false (is_of sys p j) _ (s.terms j) spared) (λ j spared. cond-false (is_of sys p j) None (s.units j) spared)
+    known = known-left (is_of_pair sys p) i;
+    places = without_places (is_of_pair sys p) i.places;
+    requests = requests_cancelled (is_of_pair sys p) i.requests;
+    out = out-cancelled (is_of_pair sys p) i.places
+        (λ j spared. cond-false (is_of_pair sys p j) _ (s.terms j) spared) (λ j spared. cond-false (is_of_pair sys p j) None (s.units j) spared)
         (λ j spared works. subst IsWorking (sym (beside p Gone j spared)) works) i.out;
   }
 
@@ -241,7 +241,7 @@ module _ (sys : Behaviour) (b : IsBehaviour sys) (s : State) (i : Inv sys s) whe
         let out = i.out j request is in
         ⊎_elim
         (λ of. absurd (subst IsWorking (ap s.modes of ∙ l.down) out.working))
-        (λ differ. OutOk-same (cond-false (is_live_of sys p s j) _ (s.terms j) (and_left (is_of sys p j) (is_none (s.terms j).ending) (ne_eqb (sys.pair_of j) p differ))) refl
+        (λ differ. OutOk-same (cond-false (is_live_of sys p s j) _ (s.terms j) (and_left (is_of_pair sys p j) (is_none (s.terms j).ending) (ne_eqb (sys.pair_of j) p differ))) refl
         (λ works. subst IsWorking (sym (mode-of-other sys s p j Alone differ)) works) out)
         (cases_eq (sys.pair_of j) p);
   }

@@ -6,7 +6,7 @@ use Rattle.std.proofs.lemmas.Bool.{cond_both, cond-true, cond-false, not_from_fa
 use Rattle.std.proofs.lemmas.List.{append_assoc}
 use Rattle.std.proofs.lemmas.List.Elements.{filter-append}
 use Rattle.pw_class.specs.declared.request.Request.{Request}
-use Rattle.pw_paired.specs.Server.{at_process, first_free, taken}
+use Rattle.pw_paired.specs.Server.{with_job_at, first_free, with_first_taken}
 use Rattle.pw_onecopy.specs.Update.{upd}
 use Rattle.pw_paired.specs.State.{Class, Job}
 use Rattle.pw_onecopy.specs.Behaviour.{Behaviour}
@@ -282,34 +282,34 @@ sent_kept {t = t} class request other = class_kept (line_longer t class.waiting 
 
 pub has_taken : {t : ℕ} {class : Class} (i : ℕ) (request : Request) (others : List Request)
     → class.waiting ≡ request ∷ others → request.terminal ≡ t → HasInLine t request class
-    → HasAtWork t i (new_job request) (taken i class.waiting class)
+    → HasAtWork t i (new_job request) (with_first_taken i class.waiting class)
 has_taken {t = t} {class = class} i request others first whose has =
-    subst (λ (line : List Request). HasAtWork t i (new_job request) (taken i line class)) (sym first) (record {
+    subst (λ (line : List Request). HasAtWork t i (new_job request) (with_first_taken i line class)) (sym first) (record {
       line = (the_one [] request others request first whose has.line).1;
       work = one_begins class.busy i (new_job request) whose has.work;
     })
 
 pub taken_kept : {t : ℕ} (class : Class) (i : ℕ) (request : Request) (others : List Request)
     → class.waiting ≡ request ∷ others → class.busy i ≡ None → request.terminal ≢ t
-    → ClassKept t class (taken i class.waiting class)
+    → ClassKept t class (with_first_taken i class.waiting class)
 taken_kept {t = t} class i request others first free other =
     let kept = line_shorter t request others other in
     let line = subst (λ (line : List Request). LineKept t line others) (sym first) kept in
     let work = work_at t class.busy i (Some (new_job request)) (subst (NotFor t) (sym free) tt) other in
-    subst (λ (line : List Request). ClassKept t class (taken i line class)) (sym first) (class_kept line work)
+    subst (λ (line : List Request). ClassKept t class (with_first_taken i line class)) (sym first) (class_kept line work)
 
 -- what is at a process changes, for the terminal and for another one
 
 pub has_job : {t i : ℕ} {class : Class} {job : Job} (next : Job) → next.request.terminal ≡ t → HasAtWork t i job class
-    → HasAtWork t i next (at_process i (Some next) class)
+    → HasAtWork t i next (with_job_at i (Some next) class)
 has_job next whose has = record { line = has.line; work = one_goes_on next whose has.work }
 
 pub without_job : {t i : ℕ} {class : Class} {job : Job} → HasAtWork t i job class
-    → IsWithout t (at_process i None class)
+    → IsWithout t (with_job_at i None class)
 without_job has = record { line = has.line; work = one_ends has.work }
 
 pub process_kept : {t : ℕ} (class : Class) (i : ℕ) (job : Job) (next : Option Job) → class.busy i ≡ Some job
-    → job.request.terminal ≢ t → NotFor t next → ClassKept t class (at_process i next class)
+    → job.request.terminal ≢ t → NotFor t next → ClassKept t class (with_job_at i next class)
 process_kept {t = t} class i job next works other still =
     class_kept (line_same t class.waiting) (work_at t class.busy i next (subst (NotFor t) (sym works) other) still)
 
@@ -387,21 +387,21 @@ found_free busy from (suc n) i found = by_work (busy from) refl (found_free busy
 pub bounds_taken : {sys : Behaviour} {classes : ℕ → Class} (c i : ℕ) (request : Request) (others : List Request)
     → InBounds sys classes → (classes c).waiting ≡ request ∷ others
     → first_free (classes c).busy 1 (sys.processes c) ≡ Some i
-    → InBounds sys (upd classes c (taken i (classes c).waiting (classes c)))
+    → InBounds sys (upd classes c (with_first_taken i (classes c).waiting (classes c)))
 bounds_taken {sys = sys} {classes = classes} c i request others bounds first free =
     let found = found_free (classes c).busy 1 (sys.processes c) i free in
     let there : c < sys.classes = bounds.line c request others first in
     let process : IsProcess sys c i = record { there = there; from_one = found.1; within = omega (arith, found.2) } in
-    subst (λ (requests : List Request). InBounds sys (upd classes c (taken i requests (classes c)))) (sym first)
-    (bounds_at c (taken i (request ∷ others) (classes c)) bounds there
+    subst (λ (requests : List Request). InBounds sys (upd classes c (with_first_taken i requests (classes c)))) (sym first)
+    (bounds_at c (with_first_taken i (request ∷ others) (classes c)) bounds there
     (process_at c i (Some (new_job request)) bounds process))
 
 pub bounds_at_process : {sys : Behaviour} {classes : ℕ → Class} (c i : ℕ) (job : Job) (next : Option Job)
     → InBounds sys classes → (classes c).busy i ≡ Some job
-    → InBounds sys (upd classes c (at_process i next (classes c)))
+    → InBounds sys (upd classes c (with_job_at i next (classes c)))
 bounds_at_process {sys = sys} {classes = classes} c i job next bounds works =
     let process : IsProcess sys c i = bounds.work c i job works in
-    bounds_at c (at_process i next (classes c)) bounds process.there (process_at c i next bounds process)
+    bounds_at c (with_job_at i next (classes c)) bounds process.there (process_at c i next bounds process)
 
 filtered_from : (p : Request → Bool) (xs : List Request) (request : Request) (others : List Request)
     → filter p xs ≡ request ∷ others → (first : Request) × (rest : List Request) × (xs ≡ first ∷ rest)

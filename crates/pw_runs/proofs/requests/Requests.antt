@@ -5,12 +5,13 @@ use Rattle.std.specs.List.{list_any}
 use Rattle.std.proofs.lemmas.Bool.{cases_eq, cases_lt, cond_both, eqb-false, or_parts}
 use Rattle.pw_class.specs.declared.request.Request.{Request}
 use Rattle.pw_onecopy.specs.Path.{FileAnswer}
-use Rattle.pw_paired.specs.Server.{at_process, first_free, taken, with_answer}
+use Rattle.pw_paired.specs.Server.{with_job_at, first_free, with_first_taken, with_answer}
 use Rattle.pw_onecopy.specs.Update.{upd}
 use Rattle.pw_paired.specs.State.{Class, Job, State}
 use Rattle.pw_onecopy.specs.Behaviour.{Behaviour}
 use Rattle.pw_paired.specs.Terminal.{with_request}
-use Rattle.pw_paired.specs.Units.{any_below, has_request, is_out, without_requests, works_for}
+use Rattle.pw_paired.specs.Units.{any_below, has_request, is_out, request_in, without_requests}
+use Rattle.pw_class.specs.Queue.{works_for}
 use Rattle.pw_runs.proofs.requests.Classes.{NoneOf, IsOneOf, NotFor, IsOneAtWork, IsWithout, HasInLine, HasAtWork, none_not, the_one, not_for, new_job, ClassKept, class_same, has_sent, sent_kept, has_taken, taken_kept, has_job, without_job, process_kept, without_cancelled, cancelled_kept, IsProcess, InBounds, bounds_starting, bounds_sent, found_free, bounds_taken, bounds_at_process, bounds_cancelled}
 use Rattle.pw_onecopy.proofs.Update.{upd_elim, upd-same, upd-other}
 
@@ -184,44 +185,44 @@ placed_sent_other classes c request other = kept_at classes c (sent_kept (classe
 
 pub placed_taken : {t : ℕ} (classes : ℕ → Class) (c i : ℕ) (request : Request) (others : List Request)
     → (classes c).waiting ≡ request ∷ others → request.terminal ≡ t → (place : Place) → Placed classes t place
-    → Placed (upd classes c (taken i (classes c).waiting (classes c))) t (AtWork c i (new_job request))
+    → Placed (upd classes c (with_first_taken i (classes c).waiting (classes c))) t (AtWork c i (new_job request))
 placed_taken {t = t} classes c i request others first whose place placed =
     let is : place ≡ InLine c request = place_in_line classes place c [] request others first whose placed in
     let at : OnlyAt t c (HasInLine t request) classes = subst (Placed classes t) is placed in
-    changed_at (taken i (classes c).waiting (classes c)) (HasAtWork t i (new_job request))
+    changed_at (with_first_taken i (classes c).waiting (classes c)) (HasAtWork t i (new_job request))
     (has_taken i request others first whose at.here) at.elsewhere
 
 pub placed_taken_other : {t : ℕ} (classes : ℕ → Class) (c i : ℕ) (request : Request) (others : List Request)
     → (classes c).waiting ≡ request ∷ others → (classes c).busy i ≡ None → request.terminal ≢ t
     → (place : Place) → Placed classes t place
-    → Placed (upd classes c (taken i (classes c).waiting (classes c))) t place
+    → Placed (upd classes c (with_first_taken i (classes c).waiting (classes c))) t place
 placed_taken_other classes c i request others first free other =
     kept_at classes c (taken_kept (classes c) i request others first free other)
 
 -- FILE: the terminal of the job.
 pub placed_filed : {t : ℕ} (classes : ℕ → Class) (c i : ℕ) (job : Job) → (classes c).busy i ≡ Some job
     → job.request.terminal ≡ t → (answer : FileAnswer) (place : Place) → Placed classes t place
-    → Placed (upd classes c (at_process i (Some (with_answer answer job)) (classes c))) t
+    → Placed (upd classes c (with_job_at i (Some (with_answer answer job)) (classes c))) t
     (AtWork c i (with_answer answer job))
 placed_filed {t = t} classes c i job works whose answer place placed =
     let next : Job = with_answer answer job in
     let is : place ≡ AtWork c i job = place_at_work classes place c i job works whose placed in
     let at : OnlyAt t c (HasAtWork t i job) classes = subst (Placed classes t) is placed in
-    changed_at (at_process i (Some next) (classes c)) (HasAtWork t i next) (has_job next whose at.here) at.elsewhere
+    changed_at (with_job_at i (Some next) (classes c)) (HasAtWork t i next) (has_job next whose at.here) at.elsewhere
 
 -- REPLY and FAIL SERVER: the terminal of the job.
 pub placed_freed : {t : ℕ} (classes : ℕ → Class) (c i : ℕ) (job : Job) → (classes c).busy i ≡ Some job
-    → job.request.terminal ≡ t → (place : Place) → Placed classes t place → Placed (upd classes c (at_process i None (classes c))) t Nowhere
+    → job.request.terminal ≡ t → (place : Place) → Placed classes t place → Placed (upd classes c (with_job_at i None (classes c))) t Nowhere
 placed_freed {t = t} classes c i job works whose place placed =
     let is : place ≡ AtWork c i job = place_at_work classes place c i job works whose placed in
     let at : OnlyAt t c (HasAtWork t i job) classes = subst (Placed classes t) is placed in
-    λ d. upd_elim classes c (at_process i None (classes c)) d (IsWithout t)
+    λ d. upd_elim classes c (with_job_at i None (classes c)) d (IsWithout t)
     (λ _. without_job at.here) (λ ne. at.elsewhere d ne)
 
 -- FILE, REPLY and FAIL SERVER: another terminal, where the process gets nothing of it.
 pub placed_process_other : {t : ℕ} (classes : ℕ → Class) (c i : ℕ) (job : Job) (next : Option Job)
     → (classes c).busy i ≡ Some job → job.request.terminal ≢ t → NotFor t next
-    → (place : Place) → Placed classes t place → Placed (upd classes c (at_process i next (classes c))) t place
+    → (place : Place) → Placed classes t place → Placed (upd classes c (with_job_at i next (classes c))) t place
 placed_process_other classes c i job next works other still =
     kept_at classes c (process_kept (classes c) i job next works other still)
 
@@ -257,12 +258,12 @@ none_in t (x ∷ xs) none =
     let parts = or_parts (x.terminal == t) (list_any (λ request. request.terminal == t) xs) none in
     (eqb-false x.terminal t parts.0, none_in t xs parts.1)
 
-not_works : (t : ℕ) (busy : Option Job) → works_for t busy ≡ false → NotFor t busy
+not_works : (t : ℕ) (busy : Option Job) → works_for t (request_in busy) ≡ false → NotFor t busy
 not_works t None none = tt
 not_works t (Some job) none = eqb-false job.request.terminal t none
 
 none_at_work : {sys : Behaviour} {classes : ℕ → Class} (t c i : ℕ) → InBounds sys classes
-    → any_below (sys.processes c) (λ j. works_for t ((classes c).busy (j + 1))) ≡ false → NotFor t ((classes c).busy i)
+    → any_below (sys.processes c) (λ j. works_for t (request_in ((classes c).busy (j + 1)))) ≡ false → NotFor t ((classes c).busy i)
 none_at_work {sys = sys} {classes = classes} t c i bounds none = by_work ((classes c).busy i) refl
   where
     by_work : (work : Option Job) → (classes c).busy i ≡ work → NotFor t ((classes c).busy i)
@@ -271,8 +272,8 @@ none_at_work {sys = sys} {classes = classes} t c i bounds none = by_work ((class
         let process : IsProcess sys c i = bounds.work c i job is in
         let number : i - 1 + 1 ≡ i = omega (arith, process.from_one) in
         let low : i - 1 < sys.processes c = omega (arith, process.from_one, process.within) in
-        let idle = none_below (sys.processes c) (λ j. works_for t ((classes c).busy (j + 1))) none (i - 1) low in
-        not_works t ((classes c).busy i) (subst (λ (k : ℕ). works_for t ((classes c).busy k) ≡ false) number idle)
+        let idle = none_below (sys.processes c) (λ j. works_for t (request_in ((classes c).busy (j + 1)))) none (i - 1) low in
+        not_works t ((classes c).busy i) (subst (λ (k : ℕ). works_for t (request_in ((classes c).busy k)) ≡ false) number idle)
 
 -- a terminal whose request is not out is nowhere
 pub placed_inside : {t : ℕ} (sys : Behaviour) (state : State) → InBounds sys state.classes → is_out sys state t ≡ false
@@ -280,7 +281,7 @@ pub placed_inside : {t : ℕ} (sys : Behaviour) (state : State) → InBounds sys
 placed_inside {t = t} sys state bounds inside c = elim (cases_lt c sys.classes) [
   | inl there ↦
       let parts = or_parts (list_any (λ request. request.terminal == t) (state.classes c).waiting)
-      (any_below (sys.processes c) (λ i. works_for t ((state.classes c).busy (i + 1))))
+      (any_below (sys.processes c) (λ i. works_for t (request_in ((state.classes c).busy (i + 1)))))
       (none_below sys.classes (λ d. has_request t (sys.processes d) (state.classes d)) inside c there) in
       record { line = none_in t (state.classes c).waiting parts.0; work = λ i. none_at_work t c i bounds parts.1 }
   | inr beyond ↦ record {
@@ -348,7 +349,7 @@ pub requests_taken : {sys : Behaviour} {classes : ℕ → Class} {places : ℕ �
     {request : Request} {others : List Request} → RequestsOk sys classes places
     → (classes c).waiting ≡ request ∷ others → request.terminal ≡ t
     → first_free (classes c).busy 1 (sys.processes c) ≡ Some i
-    → RequestsOk sys (upd classes c (taken i (classes c).waiting (classes c)))
+    → RequestsOk sys (upd classes c (with_first_taken i (classes c).waiting (classes c)))
     (upd places t (AtWork c i (new_job request)))
 requests_taken {sys = sys} {classes = classes} {places = places} {c = c} {i = i} {t = t}
     {request = request} {others = others} ok first whose free =
@@ -359,7 +360,7 @@ requests_taken {sys = sys} {classes = classes} {places = places} {c = c} {i = i}
 
 pub requests_filed : {sys : Behaviour} {classes : ℕ → Class} {places : ℕ → Place} {c i t : ℕ} {job : Job}
     (answer : FileAnswer) → RequestsOk sys classes places → (classes c).busy i ≡ Some job → job.request.terminal ≡ t
-    → RequestsOk sys (upd classes c (at_process i (Some (with_answer answer job)) (classes c)))
+    → RequestsOk sys (upd classes c (with_job_at i (Some (with_answer answer job)) (classes c)))
     (upd places t (AtWork c i (with_answer answer job)))
 requests_filed {classes = classes} {places = places} {c = c} {i = i} {t = t} {job = job} answer ok works whose =
     let next : Job = with_answer answer job in
@@ -370,7 +371,7 @@ requests_filed {classes = classes} {places = places} {c = c} {i = i} {t = t} {jo
 
 pub requests_freed : {sys : Behaviour} {classes : ℕ → Class} {places : ℕ → Place} {c i t : ℕ} {job : Job}
     → RequestsOk sys classes places → (classes c).busy i ≡ Some job → job.request.terminal ≡ t
-    → RequestsOk sys (upd classes c (at_process i None (classes c))) (upd places t Nowhere)
+    → RequestsOk sys (upd classes c (with_job_at i None (classes c))) (upd places t Nowhere)
 requests_freed {classes = classes} {places = places} {c = c} {i = i} {t = t} {job = job} ok works whose =
     moved t Nowhere ok (bounds_at_process c i job None ok.bounds works)
     (placed_freed classes c i job works whose (places t) (ok.placed t))

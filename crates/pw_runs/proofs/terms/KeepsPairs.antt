@@ -5,7 +5,7 @@ use Rattle.pw_event.specs.declared.event.Cause.TheVariants as cause
 use Rattle.pw_event.specs.declared.event.Ending.{Ending}
 use Rattle.pw_runs.proofs.terms.TermOk.{IsRest, MemoryOk, IsWorking, HasMessages, RestingPath, PathOf, PathOk, TermOk, TermsOk, TermOk-same}
 use Rattle.pw_onecopy.proofs.Update.{upd-same, upd-other}
-use Rattle.pw_paired.specs.Failure.{lose_backup, backup_fails, do_fail_tcp, do_takeover, lose_primary, lose_pair, is_live_of, is_of, primary_fails, resume_terminal, resumed_path, runs_unit, without_path, LegalTakeover}
+use Rattle.pw_paired.specs.Failure.{lose_backup, backup_fails, do_fail_tcp, do_takeover, lose_primary, lose_pair, is_live_of, is_of_pair, primary_fails, resume_terminal, resumed_path, runs_unit, without_path, LegalTakeover}
 use Rattle.pw_onecopy.specs.Path.{PathAnswer, unit_number}
 use Rattle.pw_paired.specs.Raising.{LegalApplied, LegalRaise, do_applied, do_raise, is_takeover, lacks_one, settled_mode, with_message, settle_mode, with_end}
 use Rattle.pw_onecopy.specs.Update.{upd}
@@ -112,7 +112,7 @@ memory-there (Some held) lacks = (held, refl)
 held-of : (sys : Behaviour) (s : State) (p j : ℕ) → lacks_one sys p s ≡ false → j < sys.terminals → sys.pair_of j ≡ p → (s.terms j).ending ≡ None
     → (held : BackupCopy) × (s.memory j ≡ Some held)
 held-of sys s p j lacks known of live =
-    let live_of : is_live_of sys p s j ≡ true = and_from (is_of sys p j) (is_none (s.terms j).ending) (eq-eqb (sys.pair_of j) p of) (ap is_none live) in
+    let live_of : is_live_of sys p s j ≡ true = and_from (is_of_pair sys p j) (is_none (s.terms j).ending) (eq-eqb (sys.pair_of j) p of) (ap is_none live) in
     let test = any_below-false sys.terminals (λ t. is_live_of sys p s t && not (is_some (s.memory t))) lacks j known in
     ⊎_elim (λ dead. absurd (true≢false (sym live_of ∙ dead))) (λ there. memory-there (s.memory j) there)
     (and_cases (is_live_of sys p s j) (not (is_some (s.memory j))) test)
@@ -143,11 +143,11 @@ module _ (sys : Behaviour) (s : State) (ok : TermsOk sys s) where
           (cases_eq j t)
 
 -- a choice by whether a terminal is of a pair
-pub of-pair : {A : Type 0} (sys : Behaviour) (p j : ℕ) (x y : A) → sys.pair_of j ≡ p → (if is_of sys p j then x else y) ≡ x
-of-pair sys p j x y of = cond-true (is_of sys p j) x y (eq-eqb (sys.pair_of j) p of)
+pub of-pair : {A : Type 0} (sys : Behaviour) (p j : ℕ) (x y : A) → sys.pair_of j ≡ p → (if is_of_pair sys p j then x else y) ≡ x
+of-pair sys p j x y of = cond-true (is_of_pair sys p j) x y (eq-eqb (sys.pair_of j) p of)
 
-pub not-of-pair : {A : Type 0} (sys : Behaviour) (p j : ℕ) (x y : A) → sys.pair_of j ≢ p → (if is_of sys p j then x else y) ≡ y
-not-of-pair sys p j x y differ = cond-false (is_of sys p j) x y (ne_eqb (sys.pair_of j) p differ)
+pub not-of-pair : {A : Type 0} (sys : Behaviour) (p j : ℕ) (x y : A) → sys.pair_of j ≢ p → (if is_of_pair sys p j then x else y) ≡ y
+not-of-pair sys p j x y differ = cond-false (is_of_pair sys p j) x y (ne_eqb (sys.pair_of j) p differ)
 
 -- a pair gets a new backup
 term-raises : {sys : Behaviour} {t last : ℕ} {unit : Option OpenUnit} {memory : Option BackupCopy} {flight : Option Message} {term : Term}
@@ -293,9 +293,9 @@ module _ (sys : Behaviour) (s : State) (ok : TermsOk sys s) where
   keeps_raise p l j known =
       ⊎_elim
       (λ of.
-      let test = any_below-false sys.terminals (λ t. is_of sys p t && is_takeover (s.terms t).pending) l.calm j known in
+      let test = any_below-false sys.terminals (λ t. is_of_pair sys p t && is_takeover (s.terms t).pending) l.calm j known in
       let calm : is_takeover (s.terms j).pending ≡ false =
-      ⊎_elim (λ not_of. absurd (true≢false (sym (eq-eqb (sys.pair_of j) p of) ∙ not_of))) (λ calm. calm) (and_cases (is_of sys p j) (is_takeover (s.terms j).pending) test) in
+      ⊎_elim (λ not_of. absurd (true≢false (sym (eq-eqb (sys.pair_of j) p of) ∙ not_of))) (λ calm. calm) (and_cases (is_of_pair sys p j) (is_takeover (s.terms j).pending) test) in
       TermOk-same refl refl (of-pair sys p j None (s.memory j) of) refl refl (mode-of-pair sys s p j Raising of)
       (term-raises calm (in-mode p j Alone of l.alone known)))
       (λ differ. TermOk-same refl refl (not-of-pair sys p j None (s.memory j) differ) refl refl (mode-of-other sys s p j Raising differ) (ok j known))
@@ -368,18 +368,18 @@ module _ (sys : Behaviour) (s : State) (ok : TermsOk sys s) where
       ⊎_elim
       (λ of. of-p of (s.terms j).ending refl)
       (λ differ. TermOk-same refl refl (not-of-pair sys p j None (s.memory j) differ) refl
-      (cond-false (is_live_of sys p s j) _ (s.terms j) (and_left (is_of sys p j) (is_none (s.terms j).ending) (ne_eqb (sys.pair_of j) p differ)))
+      (cond-false (is_live_of sys p s j) _ (s.terms j) (and_left (is_of_pair sys p j) (is_none (s.terms j).ending) (ne_eqb (sys.pair_of j) p differ)))
       (mode-of-other sys s p j Alone differ) (ok j known))
       (cases_eq (sys.pair_of j) p)
     where
       of-p : sys.pair_of j ≡ p → (e : Option Ending) → (s.terms j).ending ≡ e
-          → TermOk sys j (s.ended j).number (s.units j) (if is_of sys p j then None else s.memory j) (s.flight j)
+          → TermOk sys j (s.ended j).number (s.units j) (if is_of_pair sys p j then None else s.memory j) (s.flight j)
           (if is_live_of sys p s j then resume_terminal p (s.memory j) (s.units j) (s.ended j) (s.terms j) else s.terms j) (upd s.modes p Alone (sys.pair_of j))
       of-p of None live = TermOk-same refl refl (of-pair sys p j None (s.memory j) of) refl
-          (cond-true (is_live_of sys p s j) _ (s.terms j) (and_from (is_of sys p j) (is_none (s.terms j).ending) (eq-eqb (sys.pair_of j) p of) (ap is_none live)))
+          (cond-true (is_live_of sys p s j) _ (s.terms j) (and_from (is_of_pair sys p j) (is_none (s.terms j).ending) (eq-eqb (sys.pair_of j) p of) (ap is_none live)))
           (mode-of-pair sys s p j Alone of)
           (term-taken p (s.ended j) refl live (in-mode p j Down of l.down known))
       of-p of (Some ending) dead = TermOk-same refl refl (of-pair sys p j None (s.memory j) of) refl
-          (cond-false (is_live_of sys p s j) _ (s.terms j) (and_right (is_of sys p j) (is_none (s.terms j).ending) (ap is_none dead)))
+          (cond-false (is_live_of sys p s j) _ (s.terms j) (and_right (is_of_pair sys p j) (is_none (s.terms j).ending) (ap is_none dead)))
           (mode-of-pair sys s p j Alone of)
           (term-idle j ending dead (ap s.modes of ∙ l.down) known)
