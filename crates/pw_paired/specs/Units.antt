@@ -47,43 +47,46 @@ abbrev pub put_back : ℕ → List (List ℕ) → List ℕ → Option (List ℕ)
 put_back n records key None = without_key n records key
 put_back n records key (Some content) = with_record n records content
 
--- the files with before-images put back
-abbrev pub restored_files : Behaviour → List BeforeImage → (ℕ → List (List ℕ)) → ℕ → List (List ℕ)
-restored_files sys [] files = files
-restored_files sys (image ∷ images) files =
-    restored_files sys images (upd files image.file (put_back (sys.key_length image.file) (files image.file) image.key image.content))
+-- the files with before-images put back, one after the other; keys of a file have this length
+abbrev pub restored_files : (ℕ → ℕ) → List BeforeImage → (ℕ → List (List ℕ)) → ℕ → List (List ℕ)
+restored_files key_length [] files = files
+restored_files key_length (image ∷ images) files =
+    restored_files key_length images
+    (upd files image.file (put_back (key_length image.file) (files image.file) image.key image.content))
 
 -- the committed records of each file: all before-images put back
 abbrev pub committed_files : Behaviour → State → ℕ → List (List ℕ)
-committed_files sys state = restored_files sys state.before state.files
+committed_files sys state = restored_files sys.key_length state.before state.files
 
 -- the unit of the terminal has a before-image of this key
 abbrev pub has_image : ℕ → ℕ → List ℕ → List BeforeImage → Bool
 has_image t file key images = list_any (λ image. image.terminal == t && (image.file == file && bytes_eq image.key key)) images
 
--- the before-image that an operation makes
-abbrev pub image_before : Behaviour → State → ℕ → FileCall → BeforeImage
-image_before sys state t call =
-    let n : ℕ = sys.key_length call.file in
-    record {
-      terminal = t;
-      file = call.file;
-      key = key_of n call.op call;
-      content = record_at n (state.files call.file) (key_of n call.op call);
-    }
+-- the before-image that an operation of a terminal's unit makes on these records
+abbrev pub image_before : ℕ → List (List ℕ) → ℕ → FileCall → BeforeImage
+image_before n records t call = record {
+  terminal = t;
+  file = call.file;
+  key = key_of n call.op call;
+  content = record_at n records (key_of n call.op call);
+}
+
+-- the operation changes a record, and these images have none of the terminal's unit at that key
+abbrev pub is_first_change : ℕ → List (List ℕ) → ℕ → FileCall → List BeforeImage → Bool
+is_first_change n records t call before =
+    changes_records n records call && not (has_image t call.file (key_of n call.op call) before)
 
 -- the before-images with that of a change by the terminal's unit, where it is the unit's first one at that key
 abbrev pub with_image : Behaviour → State → ℕ → FileCall → List BeforeImage
 with_image sys state t call =
     let n : ℕ = sys.key_length call.file in
-    if changes_records n (state.files call.file) call && not (has_image t call.file (key_of n call.op call) state.before)
-    then image_before sys state t call ∷ state.before
-    else state.before
+    let records : List (List ℕ) = state.files call.file in
+    if is_first_change n records t call state.before then image_before n records t call ∷ state.before else state.before
 
 -- the changes of the units of some terminals are backed out
 abbrev pub back_out_changes : Behaviour → (ℕ → Bool) → State → State
 back_out_changes sys whose state = record state {
-  files = restored_files sys (filter (λ image. whose image.terminal) state.before) state.files;
+  files = restored_files sys.key_length (filter (λ image. whose image.terminal) state.before) state.files;
   before = filter (λ image. not (whose image.terminal)) state.before;
 }
 

@@ -17,7 +17,8 @@ use Rattle.pw_onecopy.specs.Behaviour.{Behaviour}
 use Rattle.pw_paired.specs.Terminal.{path_of}
 use Rattle.pw_paired.specs.Units.{commit_unit, leave_units, only}
 use Rattle.pw_progress.proofs.JobCases.{job-cases}
-use Rattle.pw_progress.specs.Running.{Breaks, MadeGone}
+use Rattle.pw_runs.specs.Losses.{Breaks}
+use Rattle.pw_progress.specs.Running.{MadeGone}
 
 module _ (sys : Behaviour) (s : State) (p : ℕ) where
   -- the entry made the pair Gone

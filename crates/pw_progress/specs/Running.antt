@@ -6,6 +6,7 @@ use Rattle.pw_onecopy.specs.Path.{PathAnswer}
 use Rattle.pw_paired.specs.State.{Alone, Down, Mode, OpenUnit, Raising, State}
 use Rattle.pw_paired.specs.Step.{Legal, after_from}
 use Rattle.pw_onecopy.specs.Behaviour.{Behaviour}
+use Rattle.pw_runs.specs.Losses.{Breaks}
 
 -- an attempt of the open unit runs
 pub record Runs (open_unit : Option OpenUnit) : Type 0 where
@@ -27,11 +28,6 @@ is_restart_of t n _ = false
 -- how many restarts of unit n of the terminal the log has
 abbrev pub restarts_in : ℕ → ℕ → List Event → ℕ
 restarts_in t n log = length (filter (is_restart_of t n) log)
-
--- the failure of this member makes a pair of the mode Gone
-abbrev pub Breaks : Bool → Mode → Type 0
-Breaks true mode = (mode ≡ Raising) ⊎ (mode ≡ Alone)
-Breaks false mode = mode ≡ Down
 
 -- The log has a FAIL TCP entry that made the pair Gone.
 pub record MadeGone (sys : Behaviour) (state : State) (log : List Event) (p : ℕ) : Type 0 where

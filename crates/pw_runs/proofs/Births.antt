@@ -9,6 +9,8 @@ use Rattle.pw_event.specs.declared.event.Ending.TheVariants as ending
 use Rattle.pw_event.specs.declared.event.Event.{Event}
 use Rattle.pw_event.specs.declared.event.Event.TheVariants.{Show, Key, CheckStart, CheckEnd, CheckCopy, Applied, Begin, Send, Take, File, Reply, Again, Commit, Back, Restart, FailTcp, FailServer, Takeover, Raise, End}
 use Rattle.pw_onecopy.proofs.Update.{upd_elim}
+use Rattle.pw_runs.proofs.induction.Failed.{end-any, fail-cases, process-cases}
+use Rattle.pw_runs.proofs.induction.Served.{file-cases, reply-any}
 use Rattle.pw_paired.specs.Failure.{backup_fails, is_of_pair, primary_fails, process_fails, with_restart}
 use Rattle.pw_onecopy.specs.Path.{PathAnswer, is_outside, unit_number}
 use Rattle.pw_paired.specs.Server.{do_job, do_verb, free_process, reply_at, server_verb}
@@ -78,53 +80,8 @@ begins-ok {units = units} {births = births} t n path (Some u) now ok = remain ag
         (λ same is. (u, ap units same ∙ now, ap birth_of is)) (λ _ is. (x, is, refl))
 
 module _ (sys : Behaviour) (s : State) (ok : BirthsOk s.units s.births) where
-  verb-births : (c p : ℕ) (job : Job) (v : Verb) → BirthsOk (do_verb sys c p job v s).units (do_verb sys c p job v s).births
-  verb-births c p job (verb.File call) = ok
-  verb-births c p job verb.Show = ok
-  verb-births c p job (verb.Accept screen) = ok
-  verb-births c p job verb.Begin = ok
-  verb-births c p job (verb.Send class message) = ok
-  verb-births c p job verb.End = ok
-  verb-births c p job verb.Drop = ok
-  verb-births c p job verb.Redo = ok
-  verb-births c p job verb.Stop = ok
-  verb-births c p job (verb.Fault x) = ok
-  verb-births c p job (verb.Reply reply) = ok
-
-  job-births : (c p : ℕ) (job : Option Job) → BirthsOk (do_job sys c p job s).units (do_job sys c p job s).births
-  job-births c p None = ok
-  job-births c p (Some job) = verb-births c p job (server_verb sys c job)
-
-  reply-births : (c p t : ℕ) (reply : List ℕ) (outside : Bool)
-      → BirthsOk (if outside then commit_unit t (unit_number (path_of s t)) (Some reply) (free_process c p s) else free_process c p s).units
-      (if outside then commit_unit t (unit_number (path_of s t)) (Some reply) (free_process c p s) else free_process c p s).births
-  reply-births c p t reply true = remain (remain-without s.units t) ok
-  reply-births c p t reply false = ok
-
-  primary-births : (p : ℕ) (mode : Mode) → BirthsOk (primary_fails sys p mode s).units (primary_fails sys p mode s).births
-  primary-births p Paired = ok
-  primary-births p Raising = remain (remain-left s.units (is_of_pair sys p)) ok
-  primary-births p Alone = remain (remain-left s.units (is_of_pair sys p)) ok
-  primary-births p Down = ok
-  primary-births p Gone = ok
-
-  backup-births : (p : ℕ) (mode : Mode) → BirthsOk (backup_fails sys p mode s).units (backup_fails sys p mode s).births
-  backup-births p Paired = ok
-  backup-births p Raising = ok
-  backup-births p Alone = ok
-  backup-births p Down = remain (remain-left s.units (is_of_pair sys p)) ok
-  backup-births p Gone = ok
-
-  process-births : (c p k : ℕ) (job : Option Job) → BirthsOk (process_fails c p k job s).units (process_fails c p k job s).births
-  process-births c p k None = ok
-  process-births c p k (Some job) = ok
-
-  end-births : (t : ℕ) (e : Ending) → BirthsOk (effect sys s (End t e)).units (effect sys s (End t e)).births
-  end-births t ending.Stopped = ok
-  end-births t ending.NoEntries = remain (remain-left s.units (only t)) ok
-  end-births t (ending.Fault x) = remain (remain-left s.units (only t)) ok
-  end-births t (ending.Suspended cause) = remain (remain-left s.units (only t)) ok
-  end-births t ending.Lost = ok
+  abbrev Kept : State → Type 0
+  Kept x = BirthsOk x.units x.births
 
   keeps-births : (entry : Event) → BirthsOk (effect sys s entry).units (effect sys s entry).births
   keeps-births (Show t phase attempt k) = ok
@@ -136,19 +93,19 @@ module _ (sys : Behaviour) (s : State) (ok : BirthsOk s.units s.births) where
   keeps-births (Begin t n r) = begins-ok t n (path_of s t) (s.units t) refl ok
   keeps-births (Send t n c) = ok
   keeps-births (Take c p t) = ok
-  keeps-births (File c p op mode f status) = job-births c p ((s.classes c).busy p)
-  keeps-births (Reply c p t None) = reply-births c p t (reply_at sys c ((s.classes c).busy p)) (is_outside (path_of s t))
-  keeps-births (Reply c p t (Some x)) = ok
+  keeps-births (File c p op mode f status) = file-cases sys s c p Kept ok (λ job call works asks. ok)
+  keeps-births (Reply c p t fault) =
+      reply-any sys s c p t Kept fault (λ reply outside. remain (remain-without s.units t) ok) (λ reply inside. ok) (λ x. ok)
   keeps-births (Again t n) = ok
   keeps-births (Commit t n) = remain (remain-without s.units t) ok
   keeps-births (Back t n) = remain (remain-without s.units t) ok
   keeps-births (Restart t n cause) = remain (remain-restarted s.units t cause (s.units t) refl) ok
-  keeps-births (FailTcp p true k) = primary-births p (s.modes p)
-  keeps-births (FailTcp p false k) = backup-births p (s.modes p)
-  keeps-births (FailServer c p k) = process-births c p k ((s.classes c).busy p)
+  keeps-births (FailTcp p primary k) =
+      fail-cases sys s Kept p ok (λ paired. ok) (λ member breaks. remain (remain-left s.units (is_of_pair sys p)) ok) (λ has. ok) primary
+  keeps-births (FailServer c p k) = process-cases sys s Kept c p k ok (λ job works. ok)
   keeps-births (Takeover p) = ok
   keeps-births (Raise p) = ok
-  keeps-births (End t e) = end-births t e
+  keeps-births (End t e) = end-any sys s Kept t e ok (remain (remain-left s.units (only t)) ok)
 
 births-from : (sys : Behaviour) (s : State) → BirthsOk s.units s.births → (log : List Event) → BirthsOk (after_from sys s log).units (after_from sys s log).births
 births-from sys s ok [] = ok

@@ -45,7 +45,7 @@ module _ (sys : Behaviour) (b : IsBehaviour sys) (s : State) (ok : RecordsOk sys
     abbrev files : ℕ → List (List ℕ)
     files = (attempt sys t q (committed_files sys s) r j).files
 
-    at-key : (f : ℕ) (key : List ℕ) → record_at (sys.key_length f) (restored_files sys others s.files f) key ≡ record_at (sys.key_length f) (files f) key
+    at-key : (f : ℕ) (key : List ℕ) → record_at (sys.key_length f) (restored_files sys.key_length others s.files f) key ≡ record_at (sys.key_length f) (files f) key
     at-key f key =
         ⊎_elim
         (λ there.
@@ -61,16 +61,16 @@ module _ (sys : Behaviour) (b : IsBehaviour sys) (s : State) (ok : RecordsOk sys
         ∙ sym (attempt-spares sys b t q r start (committed_files sys s) are f key j is (spared f key none)))
         (cases_Bool (has_image t f key s.before))
 
-    left-files : (f : ℕ) → restored_files sys others s.files f ≡ files f
+    left-files : (f : ℕ) → restored_files sys.key_length others s.files f ≡ files f
     left-files f =
         let ended = ended-ok sys s.files s.before s.locks ok (only t) in
-        same_files (sys.key_length f) (restored_files sys others s.files f) (files f) (restored-file sys others ended.images s.files ended.are_files f)
+        same_files (sys.key_length f) (restored_files sys.key_length others s.files f) (files f) (restored-file sys others ended.images s.files ended.are_files f)
         ((attempt-fine sys b t q r start (committed_files sys s) are j is).are_files f) (at-key f)
 
   module _ (i : Inv sys s) (lk : LocksOk s.units s.locks) (answers : ℕ → ℕ) (all : AllAlone sys b s answers) where
     -- COMMIT
     pub commit-files : (t n : ℕ) → LegalCommit sys s t n → (unit : OpenUnit) (q : List PathAnswer) → s.units t ≡ Some unit → unit.running ≡ Some q
-        → (f : ℕ) → restored_files sys (filter (λ image. not (only t image.terminal)) s.before) s.files f ≡ (attempt sys t q (committed_files sys s) unit.restarts (answers t)).files f
+        → (f : ℕ) → restored_files sys.key_length (filter (λ image. not (only t image.terminal)) s.before) s.files f ≡ (attempt sys t q (committed_files sys s) unit.restarts (answers t)).files f
     commit-files t n l unit q is runs =
         let at = all t unit q is runs in
         let in_it = no-request t i (λ c message sends. absurd (cc (l.asks, sends))) in
@@ -81,7 +81,7 @@ module _ (sys : Behaviour) (b : IsBehaviour sys) (s : State) (ok : RecordsOk sys
 
     -- a REPLY of one SEND
     pub reply-files : (c p t : ℕ) → LegalReply sys s c p t None → (unit : OpenUnit) (q : List PathAnswer) → s.units t ≡ Some unit → unit.running ≡ Some q
-        → (f : ℕ) → restored_files sys (filter (λ image. not (only t image.terminal)) s.before) s.files f ≡ (attempt sys t q (committed_files sys s) unit.restarts (suc (answers t))).files f
+        → (f : ℕ) → restored_files sys.key_length (filter (λ image. not (only t image.terminal)) s.before) s.files f ≡ (attempt sys t q (committed_files sys s) unit.restarts (suc (answers t))).files f
     reply-files c p t l unit q is runs =
         let at = all t unit q is runs in
         let out = out-job sys b s i c p l.job l.at_work in

@@ -56,8 +56,8 @@ module _ (sys : Behaviour) (b : IsBehaviour sys) (s s' : State) (ok : RecordsOk 
   -- nothing changes in files, images and locks
   pub moved-plain : s'.files ≡ s.files → s'.before ≡ s.before → s'.locks ≡ s.locks → AloneAt sys b s answers t unit q → AloneAt sys b s' answers' t unit q
   moved-plain files before locks_are = moved
-      (subst₂ (λ (x : List BeforeImage) (y : ℕ → List (List ℕ)). AreFiles sys (restored_files sys x y)) (sym before) (sym files) (restored-file sys s.before ok.images s.files ok.are_files))
-      (λ f key locked. ap₂ (λ (x : List BeforeImage) (y : ℕ → List (List ℕ)). record_at (sys.key_length f) (restored_files sys x y f) key) (sym before) (sym files))
+      (subst₂ (λ (x : List BeforeImage) (y : ℕ → List (List ℕ)). AreFiles sys (restored_files sys.key_length x y)) (sym before) (sym files) (restored-file sys s.before ok.images s.files ok.are_files))
+      (λ f key locked. ap₂ (λ (x : List BeforeImage) (y : ℕ → List (List ℕ)). record_at (sys.key_length f) (restored_files sys.key_length x y f) key) (sym before) (sym files))
       (λ f key locked. subst (λ (l : List Lock). IsLocked t f key l) (sym locks_are) locked)
       (λ f key locked. subst (λ (l : List Lock). IsLocked t f key l) locks_are locked)
       (λ f key none. subst (λ (x : List BeforeImage). has_image t f key x ≡ false) before none)
@@ -65,13 +65,13 @@ module _ (sys : Behaviour) (b : IsBehaviour sys) (s s' : State) (ok : RecordsOk 
 
   -- units of other terminals are backed out
   pub moved-withdrawn : (whose : ℕ → Bool) → whose t ≡ false
-      → s'.files ≡ restored_files sys (filter (λ image. whose image.terminal) s.before) s.files
+      → s'.files ≡ restored_files sys.key_length (filter (λ image. whose image.terminal) s.before) s.files
       → s'.before ≡ filter (λ image. not (whose image.terminal)) s.before → s'.locks ≡ filter (λ lock. not (whose lock.unit.terminal)) s.locks
       → AreFiles sys (committed_files sys s')
       → AloneAt sys b s answers t unit q → AloneAt sys b s' answers' t unit q
   moved-withdrawn whose spared files before locks_are are = moved are
       (λ f key locked. sym (backed-out-committed sys s.files s.before s.locks ok whose f key)
-      ∙ ap₂ (λ (x : List BeforeImage) (y : ℕ → List (List ℕ)). record_at (sys.key_length f) (restored_files sys x y f) key) (sym before) (sym files))
+      ∙ ap₂ (λ (x : List BeforeImage) (y : ℕ → List (List ℕ)). record_at (sys.key_length f) (restored_files sys.key_length x y f) key) (sym before) (sym files))
       (λ f key locked. subst (λ (l : List Lock). IsLocked t f key l) (sym locks_are) (locked-kept whose t f key s.locks spared locked))
       (λ f key locked. locked-was whose t f key s.locks (subst (λ (l : List Lock). IsLocked t f key l) locks_are locked))
       (λ f key none. images-were whose t f key s.before spared (subst (λ (x : List BeforeImage). has_image t f key x ≡ false) before none))
@@ -85,7 +85,7 @@ module _ (sys : Behaviour) (b : IsBehaviour sys) (s s' : State) (ok : RecordsOk 
       → AloneAt sys b s answers t unit q → AloneAt sys b s' answers' t unit q
   moved-committed whose spared files before locks_are are = moved are
       (λ f key locked. sym (committed-same sys s.files s.before s.locks ok locks.apart t whose spared f key locked)
-      ∙ ap₂ (λ (x : List BeforeImage) (y : ℕ → List (List ℕ)). record_at (sys.key_length f) (restored_files sys x y f) key) (sym before) (sym files))
+      ∙ ap₂ (λ (x : List BeforeImage) (y : ℕ → List (List ℕ)). record_at (sys.key_length f) (restored_files sys.key_length x y f) key) (sym before) (sym files))
       (λ f key locked. subst (λ (l : List Lock). IsLocked t f key l) (sym locks_are) (locked-kept whose t f key s.locks spared locked))
       (λ f key locked. locked-was whose t f key s.locks (subst (λ (l : List Lock). IsLocked t f key l) locks_are locked))
       (λ f key none. images-were whose t f key s.before spared (subst (λ (x : List BeforeImage). has_image t f key x ≡ false) before none))

@@ -80,7 +80,7 @@ module _ (sys : Behaviour) (b : IsBehaviour sys) (s : State) (i : Inv sys s) (ok
     are_after : AreFiles sys (committed_files sys after)
     are_after = restored-file sys after.before st.ok.images after.files st.ok.are_files
 
-    by-adding : (o f : ℕ) (key : List ℕ) (adds : Bool) → has_image o f key (if adds then image_before sys s t call ∷ s.before else s.before) ≡ false → has_image o f key s.before ≡ false
+    by-adding : (o f : ℕ) (key : List ℕ) (adds : Bool) → has_image o f key (if adds then image_before (sys.key_length call.file) (s.files call.file) t call ∷ s.before else s.before) ≡ false → has_image o f key s.before ≡ false
     by-adding o f key true none =
         ⊎_elim
         (λ there. absurd (true≢false (sym (or_right (t == o && (call.file == f && bytes_eq key_is key)) (has_image o f key s.before) there) ∙ none)))
@@ -99,7 +99,7 @@ module _ (sys : Behaviour) (b : IsBehaviour sys) (s : State) (i : Inv sys s) (ok
         (λ none.
         let adds : (changes_records n (s.files call.file) call && not (has_image t call.file key_is s.before)) ≡ true =
         and_from (changes_records n (s.files call.file) call) (not (has_image t call.file key_is s.before)) change (ap not none) in
-        ap (has_image t call.file key_is) (cond-true (changes_records n (s.files call.file) call && not (has_image t call.file key_is s.before)) (image_before sys s t call ∷ s.before) s.before adds)
+        ap (has_image t call.file key_is) (cond-true (changes_records n (s.files call.file) call && not (has_image t call.file key_is s.before)) (image_before (sys.key_length call.file) (s.files call.file) t call ∷ s.before) s.before adds)
         ∙ or_left (t == t && (call.file == call.file && bytes_eq key_is key_is)) (has_image t call.file key_is s.before)
         (and_from (t == t) (call.file == call.file && bytes_eq key_is key_is) (eq-eqb t t refl)
         (and_from (call.file == call.file) (bytes_eq key_is key_is) (eq-eqb call.file call.file refl) (same_bytes key_is))))

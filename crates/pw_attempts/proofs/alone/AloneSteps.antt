@@ -107,7 +107,7 @@ module _ (sys : Behaviour) (b : IsBehaviour sys) (s : State) (i : Inv sys s) (ok
           (let next : suc (answers t) ≡ answers t + 1 = omega arith in next ∙ sym (upd-same answers t (answers t + 1) t refl)) (sym (ap (λ (x : ℕ → Term). x t) terms ∙ upd-same s.terms t _ t refl))
           (subst (λ (m : ℕ → Mode). AloneOk sys b t q unit.restarts at.start (committed_files sys s') s'.files (suc (answers t)) s'.locks s'.before Nowhere (record (s.terms t) { path = path_of s t ++ answer ∷ [] }) (m (sys.pair_of t))) (sym modes)
           (subst (λ (l : List Lock). AloneOk sys b t q unit.restarts at.start (committed_files sys s') s'.files (suc (answers t)) l s'.before Nowhere (record (s.terms t) { path = path_of s t ++ answer ∷ [] }) (s.modes (sys.pair_of t))) (sym locks)
-          (subst₂ (λ (x : ℕ → List (List ℕ)) (y : List BeforeImage). AloneOk sys b t q unit.restarts at.start (restored_files sys y x) x (suc (answers t)) s.locks y Nowhere (record (s.terms t) { path = path_of s t ++ answer ∷ [] }) (s.modes (sys.pair_of t))) (sym files) (sym before) alone)))
+          (subst₂ (λ (x : ℕ → List (List ℕ)) (y : List BeforeImage). AloneOk sys b t q unit.restarts at.start (restored_files sys.key_length y x) x (suc (answers t)) s.locks y Nowhere (record (s.terms t) { path = path_of s t ++ answer ∷ [] }) (s.modes (sys.pair_of t))) (sym files) (sym before) alone)))
 
   pub alone-show : (t phase attempt k : ℕ) → LegalShow sys s t phase attempt k → AllAlone sys b (effect sys s (Show t phase attempt k)) (one_more t answers)
   alone-show t phase attempt_no k l =

@@ -33,7 +33,7 @@ none-at test f key before never =
 module _ (sys : Behaviour) (files : ℕ → List (List ℕ)) (before : List BeforeImage) (locks : List Lock) (ok : RecordsOk sys files before locks) where
   -- the images of some terminals go, of which none is of this key: what is committed there stays
   pub committed-without : (whose : ℕ → Bool) (f : ℕ) (key : List ℕ) → ((o : ℕ) → whose o ≡ true → has_image o f key before ≡ true → ⊥)
-      → record_at (sys.key_length f) (restored_files sys (filter (λ image. not (whose image.terminal)) before) files f) key ≡ record_at (sys.key_length f) (restored_files sys before files f) key
+      → record_at (sys.key_length f) (restored_files sys.key_length (filter (λ image. not (whose image.terminal)) before) files f) key ≡ record_at (sys.key_length f) (restored_files sys.key_length before files f) key
   committed-without whose f key never =
       restored-at sys (filter (λ image. not (whose image.terminal)) before) (all-filter (ImageOk sys) (λ image. not (whose image.terminal)) before ok.images) files f key
       ∙ sym (kept (λ image. not (whose image.terminal)) f key before (same-any before ∙ none-at whose f key before never) (record_at (sys.key_length f) (files f) key))
@@ -49,7 +49,7 @@ module _ (sys : Behaviour) (files : ℕ → List (List ℕ)) (before : List Befo
 
   -- a key without images is as committed
   pub no-image-same : (f : ℕ) (key : List ℕ) → ((o : ℕ) → has_image o f key before ≡ true → ⊥)
-      → record_at (sys.key_length f) (restored_files sys before files f) key ≡ record_at (sys.key_length f) (files f) key
+      → record_at (sys.key_length f) (restored_files sys.key_length before files f) key ≡ record_at (sys.key_length f) (files f) key
   no-image-same f key never =
       restored-at sys before ok.images files f key
       ∙ stands_at-none before f key (record_at (sys.key_length f) (files f) key)
@@ -71,13 +71,13 @@ module _ (sys : Behaviour) (files : ℕ → List (List ℕ)) (before : List Befo
     other o is same = true≢false (sym is ∙ (ap whose (sym same) ∙ spared))
 
     -- backing out others leaves it in the open records
-    pub backed-out-same : record_at (sys.key_length f) (restored_files sys (filter (λ image. whose image.terminal) before) files f) key ≡ record_at (sys.key_length f) (files f) key
+    pub backed-out-same : record_at (sys.key_length f) (restored_files sys.key_length (filter (λ image. whose image.terminal) before) files f) key ≡ record_at (sys.key_length f) (files f) key
     backed-out-same =
         restored-at sys (filter (λ image. whose image.terminal) before) (all-filter (ImageOk sys) (λ image. whose image.terminal) before ok.images) files f key
         ∙ dropped (λ image. whose image.terminal) f key before (none-at whose f key before (λ o is there. unimaged f key locked o (other o is) there)) (record_at (sys.key_length f) (files f) key)
 
     -- a commit of others leaves it in the committed records
-    pub committed-same : record_at (sys.key_length f) (restored_files sys (filter (λ image. not (whose image.terminal)) before) files f) key ≡ record_at (sys.key_length f) (restored_files sys before files f) key
+    pub committed-same : record_at (sys.key_length f) (restored_files sys.key_length (filter (λ image. not (whose image.terminal)) before) files f) key ≡ record_at (sys.key_length f) (restored_files sys.key_length before files f) key
     committed-same = committed-without sys files before locks ok whose f key (λ o is there. unimaged f key locked o (other o is) there)
 
 -- an attempt leaves the keys that none of its operations changes

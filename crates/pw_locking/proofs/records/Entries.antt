@@ -37,21 +37,21 @@ module _ (sys : Behaviour) (b : IsBehaviour sys) (s : State) (i : Inv sys s) (ok
   nothing after commit_unit files before locks = record {
     ok = subst (λ (x : ℕ → List (List ℕ)). RecordsOk sys x after.before after.locks) (sym files)
         (subst (λ (x : List BeforeImage). RecordsOk sys s.files x after.locks) (sym before) (subst (λ (x : List Lock). RecordsOk sys s.files s.before x) (sym locks) ok));
-    same = λ _ f key. ap₂ (λ (x : List BeforeImage) (y : ℕ → List (List ℕ)). record_at (sys.key_length f) (restored_files sys x y f) key) before files;
+    same = λ _ f key. ap₂ (λ (x : List BeforeImage) (y : ℕ → List (List ℕ)). record_at (sys.key_length f) (restored_files sys.key_length x y f) key) before files;
   }
 
   -- units of some terminals are backed out
   withdrawn : (whose : ℕ → Bool) (after : State) (commit_unit : Bool)
-      → after.files ≡ restored_files sys (filter (λ image. whose image.terminal) s.before) s.files
+      → after.files ≡ restored_files sys.key_length (filter (λ image. whose image.terminal) s.before) s.files
       → after.before ≡ filter (λ image. not (whose image.terminal)) s.before → after.locks ≡ filter (λ lock. not (whose lock.unit.terminal)) s.locks
       → Stays sys s after commit_unit
   withdrawn whose after commit_unit files before locks = record {
     ok = subst (λ (x : ℕ → List (List ℕ)). RecordsOk sys x after.before after.locks) (sym files)
-        (subst (λ (x : List BeforeImage). RecordsOk sys (restored_files sys (filter (λ image. whose image.terminal) s.before) s.files) x after.locks) (sym before)
-        (subst (λ (x : List Lock). RecordsOk sys (restored_files sys (filter (λ image. whose image.terminal) s.before) s.files) (filter (λ image. not (whose image.terminal)) s.before) x) (sym locks)
+        (subst (λ (x : List BeforeImage). RecordsOk sys (restored_files sys.key_length (filter (λ image. whose image.terminal) s.before) s.files) x after.locks) (sym before)
+        (subst (λ (x : List Lock). RecordsOk sys (restored_files sys.key_length (filter (λ image. whose image.terminal) s.before) s.files) (filter (λ image. not (whose image.terminal)) s.before) x) (sym locks)
         (backed-out-ok sys s.files s.before s.locks ok whose)));
     same = λ _ f key.
-        ap₂ (λ (x : List BeforeImage) (y : ℕ → List (List ℕ)). record_at (sys.key_length f) (restored_files sys x y f) key) before files
+        ap₂ (λ (x : List BeforeImage) (y : ℕ → List (List ℕ)). record_at (sys.key_length f) (restored_files sys.key_length x y f) key) before files
         ∙ backed-out-committed sys s.files s.before s.locks ok whose f key;
   }
 

@@ -82,14 +82,14 @@ module _ (sys : Behaviour) where
           (cases_eq file image.file)
 
   pub restored-at : (images : List BeforeImage) → AllByRecursion (ImageOk sys) images → (files : ℕ → List (List ℕ)) (file : ℕ) (key : List ℕ)
-      → record_at (sys.key_length file) (restored_files sys images files file) key ≡ stands_at images file key (record_at (sys.key_length file) (files file) key)
+      → record_at (sys.key_length file) (restored_files sys.key_length images files file) key ≡ stands_at images file key (record_at (sys.key_length file) (files file) key)
   restored-at [] ok files file key = refl
   restored-at (image ∷ images) ok files file key =
       restored-at images ok.1 (upd files image.file (put_back (sys.key_length image.file) (files image.file) image.key image.content)) file key
       ∙ ap (λ (now : Option (List ℕ)). stands_at images file key now) (one-restored image ok.0 files file key)
 
   pub restored-file : (images : List BeforeImage) → AllByRecursion (ImageOk sys) images → (files : ℕ → List (List ℕ))
-      → ((f : ℕ) → IsFile (sys.key_length f) (files f)) → (f : ℕ) → IsFile (sys.key_length f) (restored_files sys images files f)
+      → ((f : ℕ) → IsFile (sys.key_length f) (files f)) → (f : ℕ) → IsFile (sys.key_length f) (restored_files sys.key_length images files f)
   restored-file [] ok files are_files = are_files
   restored-file (image ∷ images) ok files are_files =
       restored-file images ok.1 (upd files image.file (put_back (sys.key_length image.file) (files image.file) image.key image.content))

@@ -240,7 +240,7 @@ module _ (sys : Behaviour) (files : ℕ → List (List ℕ)) (before : List Befo
           same (sym own) (at-own b is)
 
   pub operation-committed : (f : ℕ) (key : List ℕ)
-      → record_at (sys.key_length f) (restored_files sys (images_after adds) files_after f) key ≡ record_at (sys.key_length f) (restored_files sys before files f) key
+      → record_at (sys.key_length f) (restored_files sys.key_length (images_after adds) files_after f) key ≡ record_at (sys.key_length f) (restored_files sys.key_length before files f) key
   operation-committed f key =
       restored-at sys (images_after adds) (images-ok adds) files_after f key
       ∙ committed-same f key adds refl

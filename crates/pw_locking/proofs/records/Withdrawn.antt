@@ -52,8 +52,8 @@ module _ (sys : Behaviour) (files : ℕ → List (List ℕ)) (before : List Befo
   }
 
   -- their changes are backed out
-  pub backed-out-ok : RecordsOk sys (restored_files sys (filter own before) files) others their_locks
-  backed-out-ok = left-over (restored_files sys (filter own before) files)
+  pub backed-out-ok : RecordsOk sys (restored_files sys.key_length (filter own before) files) others their_locks
+  backed-out-ok = left-over (restored_files sys.key_length (filter own before) files)
       (restored-file sys (filter own before) (all-filter (ImageOk sys) own before ok.images) files ok.are_files)
 
   -- their changes stay
@@ -73,9 +73,9 @@ module _ (sys : Behaviour) (files : ℕ → List (List ℕ)) (before : List Befo
       contradict false e f = false≢true e
 
   pub backed-out-committed : (f : ℕ) (key : List ℕ)
-      → record_at (sys.key_length f) (restored_files sys others (restored_files sys (filter own before) files) f) key ≡ record_at (sys.key_length f) (restored_files sys before files f) key
+      → record_at (sys.key_length f) (restored_files sys.key_length others (restored_files sys.key_length (filter own before) files) f) key ≡ record_at (sys.key_length f) (restored_files sys.key_length before files f) key
   backed-out-committed f key =
-      restored-at sys others (all-filter (ImageOk sys) (λ image. not (own image)) before ok.images) (restored_files sys (filter own before) files) f key
+      restored-at sys others (all-filter (ImageOk sys) (λ image. not (own image)) before ok.images) (restored_files sys.key_length (filter own before) files) f key
       ∙ ap (λ (x : Option (List ℕ)). stands_at others f key x) (restored-at sys (filter own before) (all-filter (ImageOk sys) own before ok.images) files f key)
       ∙ in-two-parts own before f key (apart f key) (record_at (sys.key_length f) (files f) key)
       ∙ sym (restored-at sys before ok.images files f key)

@@ -20,7 +20,9 @@ use Rattle.pw_onecopy.specs.Path.{Replied, is_outside, unit_number}
 use Rattle.pw_paired.specs.Raising.{LegalApplied, LegalRaise, do_applied, do_raise, lacks_one, settled_mode, with_message, settle_mode}
 use Rattle.pw_paired.specs.Server.{LegalReply, answer_on, with_job_at, do_file, do_job, do_reply, do_verb, free_process, reply_at, server_verb}
 use Rattle.pw_onecopy.specs.Update.{upd}
-use Rattle.pw_paired.specs.State.{Class, Job, Mode, Alone, Raising, Paired, Down, Gone, OpenUnit, State}
+use Rattle.pw_runs.proofs.induction.Failed.{fail-cases, process-cases}
+use Rattle.pw_runs.proofs.induction.Served.{file-cases, reply-any}
+use Rattle.pw_paired.specs.State.{Term, Class, Job, Mode, Alone, Raising, Paired, Down, Gone, OpenUnit, State}
 use Rattle.pw_onecopy.specs.Behaviour.{Behaviour}
 use Rattle.pw_paired.specs.Terminal.{path_of}
 use Rattle.pw_paired.specs.Units.{give_answer, commit_unit, leave_units, only}
@@ -59,9 +61,11 @@ module _ (sys : Behaviour) (b : IsBehaviour sys) (s : State) (i : Inv sys s) whe
     out = λ j request is. OutOk-same refl refl (λ works. upd_elim s.modes p Raising (sys.pair_of j) IsWorking (λ _. tt) (λ _. works)) (i.out j request is);
   }
 
-  -- where the server's verb is an operation
-  file-of : (c p : ℕ) (job : Job) → (s.classes c).busy p ≡ Some job → (v : Verb) → Inv sys (do_verb sys c p job v s)
-  file-of c p job works (verb.File call) =
+  -- an operation of a server
+  pub inv_file : (c p : ℕ) → Inv sys (do_file sys c p s)
+  inv_file c p =
+      file-cases sys s c p (Inv sys) i
+      (λ job call works asks.
       let place = place_of_job i.requests works refl in
       record {
         terms = i.terms;
@@ -71,82 +75,42 @@ module _ (sys : Behaviour) (b : IsBehaviour sys) (s : State) (i : Inv sys s) whe
         out = out-placed job.request.terminal i.places _
             (λ request is. OutOk-same refl refl (λ works. works) (i.out job.request.terminal request (ap sent_of place ∙ is)))
             (λ j differ. refl) (λ j differ. refl) (λ j works. works) i.out;
-      }
-  file-of c p job works verb.Show = i
-  file-of c p job works (verb.Accept screen) = i
-  file-of c p job works verb.Begin = i
-  file-of c p job works (verb.Send class message) = i
-  file-of c p job works verb.End = i
-  file-of c p job works verb.Drop = i
-  file-of c p job works verb.Redo = i
-  file-of c p job works verb.Stop = i
-  file-of c p job works (verb.Fault x) = i
-  file-of c p job works (verb.Reply reply) = i
-
-  job-of : (c p : ℕ) (job : Option Job) → (s.classes c).busy p ≡ job → Inv sys (do_job sys c p job s)
-  job-of c p None is = i
-  job-of c p (Some job) is = file-of c p job is (server_verb sys c job)
-
-  pub inv_file : (c p : ℕ) → Inv sys (do_file sys c p s)
-  inv_file c p = job-of c p ((s.classes c).busy p) refl
+      })
 
   -- what holds of the terminal of a job
   pub out-job : (c p : ℕ) (job : Job) → (s.classes c).busy p ≡ Some job → OutOk sys s job.request.terminal (record { class = c; request = job.request })
   out-job c p job works = i.out job.request.terminal (record { class = c; request = job.request }) (ap sent_of (place_of_job i.requests works refl))
 
-  reply-known : (c p t : ℕ) (fault : Option ℕ) (reply : List ℕ) → (j : ℕ) (u : OpenUnit) → (do_reply sys c p t fault s).units j ≡ Some u → j < sys.terminals
-  reply-known c p t (Some x) reply j u is = i.known j u is
-  reply-known c p t None reply j u is = by_place (is_outside (path_of s t)) is
-    where
-      by_place : (outside : Bool)
-          → (if outside then commit_unit t (unit_number (path_of s t)) (Some (reply_at sys c ((s.classes c).busy p))) (free_process c p s) else free_process c p s).units j ≡ Some u → j < sys.terminals
-      by_place true is = known-gone t i j u is
-      by_place false is = i.known j u is
+  -- what a reply leaves: units of terminals that are there, other terminals, the modes, and the classes but for a free process
+  reply-known : (c p t : ℕ) (fault : Option ℕ) (j : ℕ) (u : OpenUnit) → (do_reply sys c p t fault s).units j ≡ Some u → j < sys.terminals
+  reply-known c p t fault j u =
+      reply-any sys s c p t (λ x. x.units j ≡ Some u → j < sys.terminals) fault
+      (λ reply outside. known-gone t i j u) (λ reply inside. i.known j u) (λ x. i.known j u)
 
   reply-units : (c p t : ℕ) (fault : Option ℕ) (j : ℕ) → j ≢ t → (do_reply sys c p t fault s).units j ≡ s.units j
-  reply-units c p t (Some x) j differ = refl
-  reply-units c p t None j differ = by_place (is_outside (path_of s t))
-    where
-      by_place : (outside : Bool)
-          → (if outside then commit_unit t (unit_number (path_of s t)) (Some (reply_at sys c ((s.classes c).busy p))) (free_process c p s) else free_process c p s).units j ≡ s.units j
-      by_place true = upd-other s.units t None j differ
-      by_place false = refl
+  reply-units c p t fault j differ =
+      reply-any sys s c p t (λ x. x.units j ≡ s.units j) fault
+      (λ reply outside. upd-other s.units t None j differ) (λ reply inside. refl) (λ x. refl)
 
   reply-terms : (c p t : ℕ) (fault : Option ℕ) (j : ℕ) → j ≢ t → (do_reply sys c p t fault s).terms j ≡ s.terms j
-  reply-terms c p t (Some x) j differ = upd-other s.terms t _ j differ
-  reply-terms c p t None j differ = by_place (is_outside (path_of s t))
-    where
-      by_place : (outside : Bool)
-          → (give_answer t (Replied (reply_at sys c ((s.classes c).busy p)))
-          (if outside then commit_unit t (unit_number (path_of s t)) (Some (reply_at sys c ((s.classes c).busy p))) (free_process c p s) else free_process c p s)).terms j ≡ s.terms j
-      by_place true = upd-other s.terms t _ j differ
-      by_place false = upd-other s.terms t _ j differ
+  reply-terms c p t fault j differ =
+      let other : (x : Term) → upd s.terms t x j ≡ s.terms j = λ x. upd-other s.terms t x j differ in
+      reply-any sys s c p t (λ x. x.terms j ≡ s.terms j) fault (λ reply outside. other _) (λ reply inside. other _) (λ x. other _)
 
   reply-modes : (c p t : ℕ) (fault : Option ℕ) → (do_reply sys c p t fault s).modes ≡ s.modes
-  reply-modes c p t (Some x) = refl
-  reply-modes c p t None = by_place (is_outside (path_of s t))
-    where
-      by_place : (outside : Bool)
-          → (if outside then commit_unit t (unit_number (path_of s t)) (Some (reply_at sys c ((s.classes c).busy p))) (free_process c p s) else free_process c p s).modes ≡ s.modes
-      by_place true = refl
-      by_place false = refl
+  reply-modes c p t fault = reply-any sys s c p t (λ x. x.modes ≡ s.modes) fault (λ reply outside. refl) (λ reply inside. refl) (λ x. refl)
 
   reply-classes : (c p t : ℕ) (fault : Option ℕ) → (do_reply sys c p t fault s).classes ≡ upd s.classes c (with_job_at p None (s.classes c))
-  reply-classes c p t (Some x) = refl
-  reply-classes c p t None = by_place (is_outside (path_of s t))
-    where
-      by_place : (outside : Bool)
-          → (if outside then commit_unit t (unit_number (path_of s t)) (Some (reply_at sys c ((s.classes c).busy p))) (free_process c p s) else free_process c p s).classes
-          ≡ upd s.classes c (with_job_at p None (s.classes c))
-      by_place true = refl
-      by_place false = refl
+  reply-classes c p t fault =
+      reply-any sys s c p t (λ x. x.classes ≡ upd s.classes c (with_job_at p None (s.classes c))) fault
+      (λ reply outside. refl) (λ reply inside. refl) (λ x. refl)
 
   pub inv_reply : (c p t : ℕ) (fault : Option ℕ) → LegalReply sys s c p t fault → Inv sys (do_reply sys c p t fault s)
   inv_reply c p t fault l =
       let out = subst (λ (k : ℕ). OutOk sys s k (record { class = c; request = l.job.request })) l.whose (out-job c p l.job l.at_work) in
       record {
         terms = keeps_reply sys b s i.terms c p t fault (record { class = c; request = l.job.request }) out;
-        known = reply-known c p t fault [];
+        known = reply-known c p t fault;
         places = upd i.places t Nowhere;
         requests = subst (λ (classes : ℕ → Class). RequestsOk sys classes (upd i.places t Nowhere)) (sym (reply-classes c p t fault)) (requests_freed i.requests l.at_work l.whose);
         out = out-placed t i.places Nowhere (λ request is. absurd (cc is))
@@ -164,19 +128,18 @@ module _ (sys : Behaviour) (b : IsBehaviour sys) (s : State) (i : Inv sys s) whe
         (λ j spared. upd-other s.terms t _ j (eqb-false j t spared)) (λ j spared. upd-other s.units t _ j (eqb-false j t spared)) (λ j spared works. works) i.out;
   }
 
-  process-of : (c p k : ℕ) (job : Option Job) → (s.classes c).busy p ≡ job → Inv sys (process_fails c p k job s)
-  process-of c p k None is = i
-  process-of c p k (Some job) is = record {
-    terms = keeps_process_fails sys b s i.terms c p k (Some job) (λ x same. out-job c p x (is ∙ same));
-    known = i.known;
-    places = upd i.places job.request.terminal Nowhere;
-    requests = requests_freed i.requests is refl;
-    out = out-placed job.request.terminal i.places Nowhere (λ request e. absurd (cc e))
-        (λ j differ. upd-other s.terms job.request.terminal _ j differ) (λ j differ. refl) (λ j works. works) i.out;
-  }
-
   pub inv_fail_server : (c p k : ℕ) → Inv sys (do_fail_server c p k s)
-  inv_fail_server c p k = process-of c p k ((s.classes c).busy p) refl
+  inv_fail_server c p k =
+      process-cases sys s (Inv sys) c p k i
+      (λ job is.
+      record {
+        terms = keeps_process_fails sys b s i.terms c p k (Some job) (λ x same. out-job c p x (is ∙ same));
+        known = i.known;
+        places = upd i.places job.request.terminal Nowhere;
+        requests = requests_freed i.requests is refl;
+        out = out-placed job.request.terminal i.places Nowhere (λ request e. absurd (cc e))
+            (λ j differ. upd-other s.terms job.request.terminal _ j differ) (λ j differ. refl) (λ j works. works) i.out;
+      })
 
   -- another pair keeps its mode
   beside : (p : ℕ) (mode : Mode) (j : ℕ) → is_of_pair sys p j ≡ false → upd s.modes p mode (sys.pair_of j) ≡ s.modes (sys.pair_of j)
@@ -213,23 +176,10 @@ module _ (sys : Behaviour) (b : IsBehaviour sys) (s : State) (i : Inv sys s) whe
     out = λ j request is. OutOk-same refl refl (λ works. upd_elim s.modes p Alone (sys.pair_of j) IsWorking (λ _. tt) (λ _. works)) (i.out j request is);
   }
 
-  primary-inv : (p : ℕ) (mode : Mode) → TermsOk sys (primary_fails sys p mode s) → Inv sys (primary_fails sys p mode s)
-  primary-inv p Paired terms = inv_down p terms
-  primary-inv p Raising terms = inv_gone p terms
-  primary-inv p Alone terms = inv_gone p terms
-  primary-inv p Down terms = i
-  primary-inv p Gone terms = i
-
-  backup-inv : (p : ℕ) (mode : Mode) → TermsOk sys (backup_fails sys p mode s) → Inv sys (backup_fails sys p mode s)
-  backup-inv p Paired terms = inv_alone p terms
-  backup-inv p Raising terms = inv_alone p terms
-  backup-inv p Alone terms = i
-  backup-inv p Down terms = inv_gone p terms
-  backup-inv p Gone terms = i
-
   pub inv_fail_tcp : (p : ℕ) (primary : Bool) → Inv sys (do_fail_tcp sys p primary s)
-  inv_fail_tcp p true = primary-inv p (s.modes p) (keeps_fail_tcp sys s i.terms p true)
-  inv_fail_tcp p false = backup-inv p (s.modes p) (keeps_fail_tcp sys s i.terms p false)
+  inv_fail_tcp p primary =
+      fail-cases sys s (λ x. TermsOk sys x → Inv sys x) p (λ terms. i) (λ paired. inv_down p) (λ member breaks. inv_gone p) (λ has. inv_alone p)
+      primary (keeps_fail_tcp sys s i.terms p primary)
 
   pub inv_takeover : (p : ℕ) → LegalTakeover s p → Inv sys (do_takeover sys p s)
   inv_takeover p l = record {

@@ -1,0 +1,2 @@
+//! The headline: every run of the paired system is serializable.
+#![tactic(auto)]
