@@ -49,16 +49,18 @@ pair_lost_while_down = record {
   second = [];
 }
 
--- A pair is lost with two open units, of which T2's is the older: they are left in the order of terminals.
+-- A pair is lost with two open units, of which T2's is the older: they are left in the order of terminals, and later
+-- failures change nothing.
 abbrev pub pair_lost_with_two_units : WorkedLog
 pair_lost_with_two_units = record {
   setting =
-      two_terminals (Begins ∷ []) (Begins ∷ []) (line.Tcp 0 false 13 ∷ line.Tcp 0 true 14 ∷ []);
+      two_terminals (Begins ∷ []) (Begins ∷ []) (line.Tcp 0 false 13 ∷
+      line.Tcp 0 true 14 ∷ line.Tcp 0 true 15 ∷ line.Tcp 0 false 16 ∷ []);
   log =
       Raise 0 ∷ CheckCopy 0 ∷ Applied 0 ∷ CheckCopy 1 ∷ Applied 1 ∷ Key 1 1 ∷ CheckStart 1 ∷
       Applied 1 ∷ Begin 1 1 0 ∷
-      Key 0 1 ∷ CheckStart 0 ∷ Applied 0 ∷ Begin 0 1 0 ∷ FailTcp 0 false 1 ∷ FailTcp 0 true 2 ∷
-      End 0 Lost ∷
+      Key 0 1 ∷ CheckStart 0 ∷ Applied 0 ∷ Begin 0 1 0 ∷ FailTcp 0 false 1 ∷ FailTcp 0 true 2 ∷ FailTcp 0 true 3 ∷
+      FailTcp 0 false 4 ∷ End 0 Lost ∷
       End 1 Lost ∷ [];
   stock = deck_stock;
   order =

@@ -190,3 +190,20 @@ backup_failure_in_transaction = record {
   first = [];
   second = [];
 }
+
+-- The primary fails again before the takeover, and the backup when there is none: nothing changes. It fails while it is raised:
+-- the pair is Alone again.
+abbrev pub failures_without_effect : WorkedLog
+failures_without_effect = record {
+  setting = record (displays_with (line.Tcp 0 true 3)) {
+    script = line.Tcp 0 true 3 ∷ line.Tcp 0 true 4 ∷ line.Tcp 0 false 6 ∷ line.Tcp 0 false 8 ∷ [];
+  };
+  log =
+      backup_entries ++ (FailTcp 0 true 1 ∷ FailTcp 0 true 2 ∷ Takeover 0 ∷ FailTcp 0 false 3 ∷
+      Raise 0 ∷ FailTcp 0 false 4 ∷ (backup_entries ++ (Show 0 0 0 1 ∷ Show 0 0 0 2 ∷
+      End 0 Stopped ∷ [])));
+  stock = deck_stock;
+  order = Out 0 ∷ Out 0 ∷ Done 0 Stopped ∷ [];
+  first = shown 0 0 0 1 (codes "ONE") ∷ shown 0 0 0 2 (codes "TWO") ∷ [];
+  second = [];
+}

@@ -77,19 +77,25 @@ duplicate_missing_and_end_of_file = record {
   second = [];
 }
 
--- A READ and a REWRITE of a key that is not there have status 11.
+-- A READ, a REWRITE and a READ WITH LOCK of a key that is not there have status 11, a READ NEXT WITH LOCK behind the last one 1.
 abbrev pub missing_records : WorkedLog
 missing_records = record {
-  setting = one_terminal (Sends (codes "RC90000") ∷ Sends (codes "UC90001") ∷ []) [];
+  setting =
+      one_terminal (Sends (codes "RC90000") ∷ Sends (codes "UC90001") ∷ Sends (codes "LC90000") ∷
+      Sends (codes "MB10000") ∷ []) [];
   log =
       backup_entries ++ (unit_of_one_send 1 1 (File 0 1 Read Shared 0 11 ∷ [])
       ++ (unit_of_one_send 2 2 (File 0 1 Rewrite Exclusive 0 11 ∷ [])
-      ++ End 0 NoEntries ∷ []));
+      ++ (unit_of_one_send 3 3 (File 0 1 Read Exclusive 0 11 ∷ [])
+      ++ (unit_of_one_send 4 4 (File 0 1 Next Exclusive 0 1 ∷ []) ++ End 0 NoEntries ∷ []))));
   stock = deck_stock;
   order =
       Out 0 ∷ Attempted 0 1 Committed 1 ∷ Out 0 ∷ Out 0 ∷ Attempted 0 2 Committed 1 ∷ Out 0 ∷
+      Out 0 ∷ Attempted 0 3 Committed 1 ∷ Out 0 ∷ Out 0 ∷ Attempted 0 4 Committed 1 ∷ Out 0 ∷
       Done 0 NoEntries ∷ [];
-  first = shown 0 2 0 1 (codes "00000011      ") ∷ shown 0 4 0 1 (codes "00000011      ") ∷ [];
+  first =
+      shown 0 2 0 1 (codes "00000011      ") ∷ shown 0 4 0 1 (codes "00000011      ") ∷
+      shown 0 6 0 1 (codes "00000011      ") ∷ shown 0 8 0 1 (codes "00000001      ") ∷ [];
   second = [];
 }
 
