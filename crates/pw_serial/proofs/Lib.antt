@@ -1,6 +1,7 @@
 pub mod induction
 pub mod frontier
 pub mod screens
+pub mod blocks
 pub mod Committed
 pub mod CoveredKeys
 pub mod Entries
