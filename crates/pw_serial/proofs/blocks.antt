@@ -5,3 +5,5 @@ pub mod Others
 pub mod Quiet
 pub mod Running
 pub mod Lefts
+pub mod Losses
+pub mod Endings

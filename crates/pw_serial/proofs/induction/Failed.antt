@@ -48,12 +48,12 @@ module _ (sys : Sys) (s : State) (P : State → Type 0) where
   module _ (t : ℕ) where
     -- An ending: the terminal stops at its program's end or is lost with its pair, or an open unit of it is left.
     pub end-cases : (e : Ending) → LegalEnd sys s t e
-        → (LegalStopped sys s t → P (settled sys (sys.pair_of t) (ends t ending.Stopped s)))
-        → (LegalLost sys s t → P (settled sys (sys.pair_of t) (ends t ending.Lost s)))
+        → (e ≡ ending.Stopped → LegalStopped sys s t → P (settled sys (sys.pair_of t) (ends t e s)))
+        → (e ≡ ending.Lost → LegalLost sys s t → P (settled sys (sys.pair_of t) (ends t e s)))
         → (LegalEnd sys s t e → P (settled sys (sys.pair_of t) (ends t e (left sys (only t) s))))
         → P (do_end sys t e s)
-    end-cases ending.Stopped l stops is_lost leaves = stops l
-    end-cases ending.Lost l stops is_lost leaves = is_lost l
+    end-cases ending.Stopped l stops is_lost leaves = stops refl l
+    end-cases ending.Lost l stops is_lost leaves = is_lost refl l
     end-cases ending.NoEntries l stops is_lost leaves = leaves l
     end-cases (ending.Fault x) l stops is_lost leaves = leaves l
     end-cases (ending.Suspended cause) l stops is_lost leaves = leaves l

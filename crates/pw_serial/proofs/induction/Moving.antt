@@ -298,13 +298,13 @@ module _ (sys : Sys) (b : IsBehaviour sys) (s : State) (i : Inv sys s) (t : ℕ)
       at-own (λ (o : ℕ). LegalEnd sys s o e → Moves sys t v (view_of sys (change sys s (event.End o e)) t)) own
       (λ l.
       end-cases sys s (λ (x : State). Moves sys t v (view_of sys x t)) t e l
-      (λ stopped. move.stops ending.Stopped _ stopped.can.live.going_on (stopped-idle sys b s i 0 0 reading_starts t stopped) (own-end ending.Stopped s))
-      (λ lost. move.stops ending.Lost _ lost.live.going_on (ap attempt_of ((i.terms t known).lost lost.lost)) (own-end ending.Lost s))
+      (λ same stopped. move.stops e _ stopped.can.live.going_on (stopped-idle sys b s i 0 0 reading_starts t stopped) (own-end e s))
+      (λ same lost. move.stops e _ lost.live.going_on (ap attempt_of ((i.terms t known).lost lost.lost)) (own-end e s))
       (λ leaves. move.leaves e _ (own-end e (left sys (only t) s) ∙ ap (λ (w : View). move.over e (lacks_one sys (sys.pair_of t) (ends t e (left sys (only t) s))) w) own-left)))
       (λ differ l.
       end-cases sys s (λ (x : State). Moves sys t v (view_of sys x t)) own e l
-      (λ stopped. other-end own ending.Stopped s differ refl)
-      (λ lost. other-end own ending.Lost s differ refl)
+      (λ same stopped. other-end own e s differ refl)
+      (λ same lost. other-end own e s differ refl)
       (λ leaves. other-end own e (left sys (only own) s) differ (other-left own differ)))
 
   -- each entry
