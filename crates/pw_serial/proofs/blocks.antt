@@ -7,3 +7,5 @@ pub mod Running
 pub mod Lefts
 pub mod Losses
 pub mod Endings
+pub mod Own
+pub mod Screens

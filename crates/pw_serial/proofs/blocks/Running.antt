@@ -3,18 +3,21 @@ use Rattle.std.proofs.Common.{◌≡◌, ◌≢◌, ℕ, suc, ◌+◌, ◌<◌, 
 use Rattle.pw_paired.specs.declared.refresh.Refresh.{Refresh}
 use Rattle.pw_paired.specs.Behaviour.{IsBehaviour}
 use Rattle.pw_paired.specs.OneCopy.{IsAttempt, IsGoingOn, LegalEnded, Machine, MayBe, Single, attempt, next_attempt, one_copy}
-use Rattle.pw_paired.specs.Path.{PathAnswer, unit_number}
+use Rattle.pw_paired.specs.Path.{PathAnswer, standing, unit_number}
 use Rattle.pw_paired.specs.Serial.{How, Left}
 use Rattle.pw_paired.specs.State.{Gone, Open, State}
 use Rattle.pw_paired.specs.System.{Sys}
-use Rattle.pw_paired.specs.Terminal.{path_of}
+use Rattle.pw_paired.specs.Terminal.{BeginsUnit, path_of}
 use Rattle.pw_paired.specs.Units.{attempt_of, committed, restarts_of}
 use Rattle.pw_serial.proofs.AloneEntries.{AloneAt}
+use Rattle.pw_serial.proofs.Images.{restored-file}
 use Rattle.pw_serial.proofs.blocks.Fold.{Fold}
 use Rattle.pw_serial.proofs.blocks.Following.{Follows, FollowsAll, Goes, attempt_refreshes, refreshes_so_far, running_refreshes}
 use Rattle.pw_serial.proofs.blocks.Known.{Known}
 use Rattle.pw_serial.proofs.frontier.Frontier.{FrontierOk}
 use Rattle.pw_serial.proofs.induction.Views.{view_of}
+use Rattle.pw_serial.proofs.screens.Attempts.{Numbered, numbered}
+use Rattle.pw_serial.proofs.screens.Numbers.{AreBounded, Covers}
 
 -- an idle terminal has no attempt
 pub running-idle : (sys : Sys) (t : ℕ) (files : ℕ → List (List ℕ)) (j : ℕ) (unit : Option Open) → attempt_of unit ≡ None → running_refreshes sys t files j unit ≡ []
@@ -87,3 +90,14 @@ module _ (sys : Sys) (b : IsBehaviour sys) (s : State) (f : Fold) (known : Known
   -- it may be left
   pub ready : (t : ℕ) (u : Open) (q : List PathAnswer) → s.units t ≡ Some u → u.running ≡ Some q → LegalEnded sys machine t u.number Left (f.reading.answers t)
   ready t u q is runs = let w = at-work t u q is runs in block-legal t u q w u.number (f.reading.answers t) Left refl w.at.alone.is_attempt tt
+
+  -- the refreshes of the machine's terminal and of the attempt
+  pub numbered-at : (t : ℕ) (u : Open) (q : List PathAnswer) → (w : AtWork t u q) → s.units t ≡ Some u → (j : ℕ) → IsAttempt sys t q (committed sys s) u.restarts j
+      → Numbered sys t u.restarts q (machine.terms t).refreshes (attempt sys t q (committed sys s) u.restarts j)
+  numbered-at t u q w is j attempt_is =
+      numbered sys b t u.restarts q w.at.start
+      (subst (λ (p : List PathAnswer). BeginsUnit (sys.ask t p) p) (sym w.goes.path ∙ w.path_is) (w.frontier.base.begins u is))
+      (machine.terms t).refreshes (committed sys s) (restored-file sys s.before known.records.images s.files known.records.are_files)
+      (subst₂ (λ (n : ℕ) (p : List PathAnswer). AreBounded n (standing p) (machine.terms t).refreshes) w.restarts_is w.path_is w.goes.bounded)
+      (subst (λ (p : List PathAnswer). Covers sys t p (machine.terms t).refreshes) w.path_is w.goes.covers)
+      j attempt_is
