@@ -9,3 +9,4 @@ pub mod Losses
 pub mod Endings
 pub mod Own
 pub mod Screens
+pub mod Keys

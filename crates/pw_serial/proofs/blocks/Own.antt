@@ -88,3 +88,16 @@ module _ (sys : Sys) (b : IsBehaviour sys) (s : State) (f : Fold) (known : Known
         screens = ap once shown ∙ (ok.screens ∙ sym so_far);
         each = λ x there_in. subst (IsIn x) (sym so_far) (ok.each x (subst (IsIn x) shown there_in));
       }
+
+  -- the terminal itself, with this terminal of the machine, where nothing new is shown
+  pub plain-follows : (single : Single) → single.ending ≡ (next.terms t).ending
+      → ((next.terms t).ending ≡ None → next.modes (sys.pair_of t) ≢ Gone → Goes sys t single (now.frontier t) (next.units t))
+      → refreshes_so_far sys next now t single ≡ refreshes_so_far sys s f t (machine.terms t)
+      → refreshes_of t now.shown ≡ refreshes_of t f.shown → Follows sys next now t single
+  plain-follows single ending goes so_far shown = record {
+    ending = ending;
+    goes = goes;
+    longest = longest-kept (view_of sys s t) (view_of sys next t) (f.reading.longest t) (f.frontier t) (all.terms t here).longest;
+    screens = ap once shown ∙ ((all.terms t here).screens ∙ sym so_far);
+    each = λ x there_in. subst (IsIn x) (sym so_far) ((all.terms t here).each x (subst (IsIn x) shown there_in));
+  }
