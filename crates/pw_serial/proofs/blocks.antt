@@ -10,3 +10,4 @@ pub mod Endings
 pub mod Own
 pub mod Screens
 pub mod Keys
+pub mod Units

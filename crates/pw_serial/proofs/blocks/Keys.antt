@@ -261,17 +261,17 @@ module _ (sys : Sys) (b : IsBehaviour sys) (s : State) (f : Fold) (known : Known
 
   -- BEGIN: an attempt without refreshes
   begun-quiet : (t r : ℕ) (files : ℕ → List (List ℕ)) (q : List PathAnswer) (v : Verb) → sys.ask t q ≡ v → BeginsUnit v q → (attempt sys t q files r (answers_at_begin v)).refreshes ≡ []
-  begun-quiet t r x q verb.Begin asks begins = ap (λ (v : Verb). (verb_answered sys t r files v (attempt sys t q files r 0)).refreshes) asks
-  begun-quiet t r x q (verb.Send class message) asks begins = refl
-  begun-quiet t r x q verb.Show asks begins = absurd begins
-  begun-quiet t r x q (verb.Accept screen) asks begins = absurd begins
-  begun-quiet t r x q verb.End asks begins = absurd begins
-  begun-quiet t r x q verb.Drop asks begins = absurd begins
-  begun-quiet t r x q verb.Redo asks begins = absurd begins
-  begun-quiet t r x q verb.Stop asks begins = absurd begins
-  begun-quiet t r x q (verb.Fault x) asks begins = absurd begins
-  begun-quiet t r x q (verb.File call) asks begins = absurd begins
-  begun-quiet t r x q (verb.Reply reply) asks begins = absurd begins
+  begun-quiet t r x q verb.Begin begin begins = ap (λ (v : Verb). (verb_answered sys t r x v (attempt sys t q x r 0)).refreshes) begin
+  begun-quiet t r x q (verb.Send class message) begin begins = refl
+  begun-quiet t r x q verb.Show begin begins = absurd begins
+  begun-quiet t r x q (verb.Accept screen) begin begins = absurd begins
+  begun-quiet t r x q verb.End begin begins = absurd begins
+  begun-quiet t r x q verb.Drop begin begins = absurd begins
+  begun-quiet t r x q verb.Redo begin begins = absurd begins
+  begun-quiet t r x q verb.Stop begin begins = absurd begins
+  begun-quiet t r x q (verb.Fault n) begin begins = absurd begins
+  begun-quiet t r x q (verb.File call) begin begins = absurd begins
+  begun-quiet t r x q (verb.Reply reply) begin begins = absurd begins
 
   begun-parts : (n birth : ℕ) (p : List PathAnswer) (unit : Option Open) → ((begun n birth p unit).running ≡ Some p) × ((begun n birth p unit).restarts ≡ restarts_of unit)
   begun-parts n birth p None = (refl, refl)
