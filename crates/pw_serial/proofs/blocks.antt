@@ -11,3 +11,5 @@ pub mod Own
 pub mod Screens
 pub mod Keys
 pub mod Units
+pub mod Backs
+pub mod Replies

@@ -61,12 +61,12 @@ module _ (sys : Sys) (b : IsBehaviour sys) (s : State) (f : Fold) (known : Known
   abbrev so_far : ℕ → List Refresh
   so_far t = refreshes_so_far sys s f t (machine.terms t)
 
-  so-running : (t : ℕ) (u : Open) (q : List PathAnswer) → s.units t ≡ Some u → u.running ≡ Some q
+  pub so-running : (t : ℕ) (u : Open) (q : List PathAnswer) → s.units t ≡ Some u → u.running ≡ Some q
       → so_far t ≡ (machine.terms t).refreshes ++ (attempt sys t q (committed sys s) u.restarts (f.reading.answers t)).refreshes
   so-running t u q is runs = ap (λ (l : List Refresh). (machine.terms t).refreshes ++ l) (running-is sys t (committed sys s) (f.reading.answers t) (s.units t) u q is runs)
 
   -- the numbers of a running attempt's path and of its start path
-  numbers : (t : ℕ) (u : Open) (q : List PathAnswer) → AtWork sys b s f known all t u q → s.units t ≡ Some u → u.running ≡ Some q → IsWorking (s.modes (sys.pair_of t)) → is_takeover (s.terms t).pending ≡ false
+  pub numbers : (t : ℕ) (u : Open) (q : List PathAnswer) → AtWork sys b s f known all t u q → s.units t ≡ Some u → u.running ≡ Some q → IsWorking (s.modes (sys.pair_of t)) → is_takeover (s.terms t).pending ≡ false
       → (unit_number (path_of s t) ≡ unit_number q) × (u.number ≡ unit_number (path_of s t)) × ((s.ended t).number + 1 ≡ unit_number q)
   numbers t u q w is runs works untaken =
       let p = checks.running (s.units t) (ap attempt_of is ∙ runs) ((known.inv.terms t w.here).path_ok w.going_on works untaken) in
@@ -174,12 +174,12 @@ module _ (sys : Sys) (b : IsBehaviour sys) (s : State) (f : Fold) (known : Known
         shown
 
   -- the terminal of the machine behind the block
-  taken-is : (t n : ℕ) (how : How) (j : ℕ) (last : Attempt) → next_attempt sys machine t j ≡ last
+  pub taken-is : (t n : ℕ) (how : How) (j : ℕ) (last : Attempt) → next_attempt sys machine t j ≡ last
       → (run_blocks sys machine (Ended t n how j ∷ [])).terms t ≡ single_behind how last (machine.terms t)
-  taken-is t n how j last is = upd-same machine.terms t _ t refl ∙ ap (λ (x : Attempt). single_behind how x (machine.terms t)) is
+  taken-is t n how j x is = upd-same machine.terms t _ t refl ∙ ap (λ (x : Attempt). single_behind how x (machine.terms t)) is
 
   -- the committed records behind the entry are files
-  behind-files : (entry : Event) → Known sys b (effect sys s entry) (fold_on sys s entry f) → AreFiles sys (committed sys (effect sys s entry))
+  pub behind-files : (entry : Event) → Known sys b (effect sys s entry) (fold_on sys s entry f) → AreFiles sys (committed sys (effect sys s entry))
   behind-files entry known' = restored-file sys (effect sys s entry).before known'.records.images (effect sys s entry).files known'.records.are_files
 
   -- COMMIT
