@@ -13,3 +13,4 @@ pub mod Keys
 pub mod Units
 pub mod Backs
 pub mod Replies
+pub mod Serializable

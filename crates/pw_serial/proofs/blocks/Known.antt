@@ -9,18 +9,20 @@ use Rattle.pw_paired.specs.Behaviour.{IsBehaviour}
 use Rattle.pw_paired.specs.OneCopy.{IsAttempt, attempt}
 use Rattle.pw_paired.specs.Path.{PathAnswer}
 use Rattle.pw_paired.specs.State.{BeforeImage, Open, State}
-use Rattle.pw_paired.specs.Step.{IsRun, Legal, after, effect}
+use Rattle.pw_paired.specs.Step.{Fits, IsRun, Legal, after, effect}
 use Rattle.pw_paired.specs.System.{Sys}
 use Rattle.pw_paired.specs.Units.{committed, restored}
 use Rattle.pw_serial.proofs.AloneEntries.{AllAlone, AloneAt}
 use Rattle.pw_serial.proofs.AloneRuns.{all-alone}
 use Rattle.pw_serial.proofs.AttemptOps.{agree-by-locks}
 use Rattle.pw_serial.proofs.Attempts.{SameAttempts, attempts-same}
-use Rattle.pw_serial.proofs.Committed.{commits-alone, records-ok}
+use Rattle.pw_serial.proofs.Committed.{records-ok}
+use Rattle.pw_serial.proofs.Entries.{stays}
 use Rattle.pw_serial.proofs.Holding.{LocksOk, locks-ok}
 use Rattle.pw_serial.proofs.Images.{restored-file}
 use Rattle.pw_serial.proofs.LockedRecords.{committed-same}
 use Rattle.pw_serial.proofs.RecordsOk.{RecordsOk}
+use Rattle.pw_serial.proofs.SameFiles.{same_files}
 use Rattle.pw_serial.proofs.blocks.Fold.{Fold, fold_after, fold_on, fold_starts, fold-answers, fold-frontier}
 use Rattle.pw_serial.proofs.frontier.Frontier.{FrontierAt}
 use Rattle.pw_serial.proofs.frontier.Frontiers.{frontiers}
@@ -58,10 +60,13 @@ pub same-everywhere : {A : Type 0} {f g : ℕ → A} → ((x : ℕ) → f x ≡ 
 same-everywhere agree = λ i x. agree x i
 
 -- an entry that commits nothing leaves the committed records
-pub committed-stay : (sys : Sys) → IsBehaviour sys → (log : List Event) → IsRun sys log → (entry : Event) → Legal sys (after sys log) entry
-    → commits_at (after sys log) entry ≡ false → committed sys (effect sys (after sys log) entry) ≡ committed sys (after sys log)
-committed-stay sys b log run entry legal none =
-    same-everywhere (λ f. ap (λ (s : State). committed sys s f) (sym (after-more sys log entry)) ∙ commits-alone sys b log entry (run-more sys log entry run legal) none f)
+pub committed-stay : (sys : Sys) → IsBehaviour sys → (s : State) → Inv sys s → RecordsOk sys s.files s.before s.locks → (entry : Event) → commits_at s entry ≡ false → Fits sys s entry
+    → committed sys (effect sys s entry) ≡ committed sys s
+committed-stay sys b s i ok entry none fits =
+    let st = stays sys b s i ok entry fits in
+    same-everywhere (λ f.
+    same_files (sys.key_length f) (committed sys (effect sys s entry) f) (committed sys s f)
+    (restored-file sys (effect sys s entry).before st.ok.images (effect sys s entry).files st.ok.are_files f) (restored-file sys s.before ok.images s.files ok.are_files f) (st.same none f))
 
 -- where a unit of other terminals commits, a running attempt is the same one on the records behind it
 module _ (sys : Sys) (b : IsBehaviour sys) (s after_it : State) (answers : ℕ → ℕ) (ok : RecordsOk sys s.files s.before s.locks) (locks : LocksOk s.units s.locks) (t : ℕ) (whose : ℕ → Bool) (spared : whose t ≡ false)
