@@ -1,6 +1,2 @@
-//! The laws of runs: what locks keep apart, what the committed records are, and that attempts run and commit as if alone.
+//! The headline: every run of the paired system is serializable.
 #![tactic(auto)]
-
-pub mod laws;
-pub mod operations;
-pub mod running;

@@ -7,20 +7,22 @@ use Rattle.pw_event.specs.declared.event.Ending.{Ending}
 use Rattle.pw_event.specs.declared.event.Ending.TheVariants as ending
 use Rattle.pw_event.specs.declared.event.Event.{Event}
 use Rattle.pw_event.specs.declared.event.Event.TheVariants as event
-use Rattle.pw_paired.proofs.EndsOnce.{stopped-idle}
-use Rattle.pw_paired.proofs.Upd.{upd-other, upd-same}
-use Rattle.pw_paired.specs.Behaviour.{IsBehaviour, IsPath, Suits, SuitsFrom}
-use Rattle.pw_paired.specs.End.{LegalEnd, do_end, ends}
-use Rattle.pw_paired.specs.OneCopy.{IsSerialFrom, LegalDone, Machine, MayEnd, Single, attempt, one_copy, run_blocks, single_behind}
-use Rattle.pw_paired.specs.Path.{PathAnswer, Entry, entries_on}
-use Rattle.pw_paired.specs.Raising.{is_takeover, settled}
-use Rattle.pw_paired.specs.Refreshes.{once, refreshes_of}
-use Rattle.pw_paired.specs.Serial.{Block, Done, Left, left_of, lefts}
-use Rattle.pw_paired.specs.State.{Gone, LastEnded, Open, Paired, State, Term}
+use Rattle.pw_runs.proofs.ends.EndsOnce.{stopped-idle}
+use Rattle.pw_onecopy.proofs.Update.{upd-other, upd-same}
+use Rattle.pw_onecopy.specs.IsBehaviour.{IsBehaviour, IsPath, Suits, SuitsFrom}
+use Rattle.pw_paired.specs.End.{LegalEnd, do_end, end_terminal}
+use Rattle.pw_onecopy.specs.OneCopy.{IsSerialFrom, LegalDone, Machine, MayEnd, Single, one_copy, run_blocks, single_behind}
+use Rattle.pw_onecopy.specs.Attempt.{attempt, BeginsUnit}
+use Rattle.pw_onecopy.specs.Path.{PathAnswer, Entry, entries_on}
+use Rattle.pw_paired.specs.Raising.{is_takeover, settle_mode}
+use Rattle.pw_onecopy.specs.Refreshes.{once, refreshes_of}
+use Rattle.pw_onecopy.specs.Blocks.{Block, Done, Left}
+use Rattle.pw_paired.specs.Serial.{left_block, left_blocks}
+use Rattle.pw_paired.specs.State.{Gone, LastEnded, OpenUnit, Paired, State, Term}
 use Rattle.pw_paired.specs.Step.{Fits, effect}
-use Rattle.pw_paired.specs.System.{Sys}
-use Rattle.pw_paired.specs.Terminal.{BeginsUnit, CanStep, path_of}
-use Rattle.pw_paired.specs.Units.{attempt_of, committed, left, only, restarts_of}
+use Rattle.pw_onecopy.specs.Behaviour.{Behaviour}
+use Rattle.pw_paired.specs.Terminal.{CanStep, path_of}
+use Rattle.pw_paired.specs.Units.{attempt_of, committed_files, leave_units, only, restarts_of}
 use Rattle.pw_serial.proofs.blocks.Fold.{Fold, fold_on, run_blocks-append, serial-append}
 use Rattle.pw_serial.proofs.blocks.Following.{Follows, FollowsAll, Goes, IsStranger}
 use Rattle.pw_serial.proofs.blocks.Known.{Known}
@@ -32,31 +34,31 @@ use Rattle.pw_serial.proofs.blocks.Running.{AtWork, at-work, next-is, ready}
 use Rattle.pw_serial.proofs.frontier.Frontier.{FrontierOk}
 use Rattle.pw_serial.proofs.frontier.Leads.{IsForced, Leads, Next, goes_on, is_there, next-of}
 use Rattle.pw_serial.proofs.frontier.Standing.{Where, closed, running, waiting, where-of}
-use Rattle.pw_serial.proofs.induction.Failed.{end-cases}
-use Rattle.pw_serial.proofs.induction.Views.{view_of}
-use Rattle.pw_serial.specs.Records.{commits_at}
+use Rattle.pw_runs.proofs.induction.Failed.{end-cases}
+use Rattle.pw_runs.proofs.induction.Views.{view_of}
+use Rattle.pw_locking.specs.Records.{commits_at}
 
 -- each answer on a path is one to the verb before it
-suits-from : (sys : Sys) (t : ℕ) (before path rest : List PathAnswer) (a : PathAnswer) → SuitsFrom sys t before (path ++ a ∷ rest) → Suits sys t (before ++ path) (sys.ask t (before ++ path)) a
+suits-from : (sys : Behaviour) (t : ℕ) (before path rest : List PathAnswer) (a : PathAnswer) → SuitsFrom sys t before (path ++ a ∷ rest) → Suits sys t (before ++ path) (sys.ask t (before ++ path)) a
 suits-from sys t before [] rest a suits = subst (λ (p : List PathAnswer). Suits sys t p (sys.ask t p) a) (sym (append-nil before)) suits.0
 suits-from sys t before (first ∷ path) rest a suits =
     subst (λ (p : List PathAnswer). Suits sys t p (sys.ask t p) a) (append_assoc before (first ∷ []) path) (suits-from sys t (before ++ first ∷ []) path rest a suits.1)
 
-pub suits-at : (sys : Sys) (t : ℕ) (path rest : List PathAnswer) (a : PathAnswer) → IsPath sys t (path ++ a ∷ rest) → Suits sys t path (sys.ask t path) a
+pub suits-at : (sys : Behaviour) (t : ℕ) (path rest : List PathAnswer) (a : PathAnswer) → IsPath sys t (path ++ a ∷ rest) → Suits sys t path (sys.ask t path) a
 suits-at sys t path rest a is_path = suits-from sys t [] path rest a is_path.suits
 
 -- a terminal whose attempt does not run is left as it is
-pub left-idle : (sys : Sys) (t : ℕ) (files : ℕ → List (List ℕ)) (j : ℕ) (unit : Option Open) (single : Single) → attempt_of unit ≡ None → left_term sys t files j unit single ≡ single
+pub left-idle : (sys : Behaviour) (t : ℕ) (files : ℕ → List (List ℕ)) (j : ℕ) (unit : Option OpenUnit) (single : Single) → attempt_of unit ≡ None → left_term sys t files j unit single ≡ single
 left-idle sys t files j None single idle = refl
 left-idle sys t files j (Some u) single idle = ap (λ (r : Option (List PathAnswer)). left_in sys t files j r single) idle
 
-pub left-running : (sys : Sys) (t : ℕ) (files : ℕ → List (List ℕ)) (j : ℕ) (unit : Option Open) (single : Single) (u : Open) (q : List PathAnswer) → unit ≡ Some u → u.running ≡ Some q
+pub left-running : (sys : Behaviour) (t : ℕ) (files : ℕ → List (List ℕ)) (j : ℕ) (unit : Option OpenUnit) (single : Single) (u : OpenUnit) (q : List PathAnswer) → unit ≡ Some u → u.running ≡ Some q
     → left_term sys t files j unit single ≡ single_behind Left (attempt sys t single.path files single.restarts j) single
 left-running sys t files j unit single u q is runs =
-    ap (λ (x : Option Open). left_term sys t files j x single) is ∙ ap (λ (r : Option (List PathAnswer)). left_in sys t files j r single) runs
+    ap (λ (x : Option OpenUnit). left_term sys t files j x single) is ∙ ap (λ (r : Option (List PathAnswer)). left_in sys t files j r single) runs
 
-module _ (sys : Sys) (b : IsBehaviour sys) (s : State) (f : Fold) (known : Known sys b s f) (all : FollowsAll sys s f)
-    (stay : (entry : Event) → commits_at s entry ≡ false → Fits sys s entry → committed sys (effect sys s entry) ≡ committed sys s) (t : ℕ) where
+module _ (sys : Behaviour) (b : IsBehaviour sys) (s : State) (f : Fold) (known : Known sys b s f) (all : FollowsAll sys s f)
+    (stay : (entry : Event) → commits_at s entry ≡ false → Fits sys s entry → committed_files sys (effect sys s entry) ≡ committed_files sys s) (t : ℕ) where
   abbrev machine : Machine
   machine = one_copy sys f.order
 
@@ -133,29 +135,33 @@ module _ (sys : Sys) (b : IsBehaviour sys) (s : State) (f : Fold) (known : Known
     units : (o : ℕ) → o ≢ t → x.units o ≡ s.units o
     there : (p : ℕ) → x.modes p ≢ Gone → s.modes p ≢ Gone
 
+  over-it : (e : Ending) (x : State) → attempt_of (x.units t) ≡ None → ((o : ℕ) → o ≢ t → x.terms o ≡ s.terms o) → ((o : ℕ) → o ≢ t → x.units o ≡ s.units o)
+      → ((p : ℕ) → x.modes p ≢ Gone → s.modes p ≢ Gone) → Ended e (settle_mode sys (sys.pair_of t) (end_terminal t e x))
+  over-it e x idle terms units there = record {
+    own = ap (λ (y : Term). y.ending) (upd-same x.terms t _ t refl);
+    idle = idle;
+    terms = λ o differ. upd-other x.terms t _ o differ ∙ terms o differ;
+    units = units;
+    there = λ p here. there p (settled-there sys (end_terminal t e x) (sys.pair_of t) p here);
+  }
+
+  over-left : (e : Ending) → Ended e (settle_mode sys (sys.pair_of t) (end_terminal t e (leave_units sys (only t) s)))
+  over-left e =
+      over-it e (leave_units sys (only t) s) (ap attempt_of (cond-true (only t t) None (s.units t) (eq-eqb t t refl))) (λ o differ. refl)
+      (λ o differ. cond-false (only t o) None (s.units o) (ne_eqb o t differ)) (λ p there. there)
+
   ended : (e : Ending) → LegalEnd sys s t e → Ended e (do_end sys t e s)
-  ended e l =
-      end-cases sys s (λ (x : State). Ended e x) t e l
-      (λ same stopped. over e s (stopped-idle sys b s known.inv 0 0 f.reading t stopped) (λ o differ. refl) (λ o differ. refl) (λ p there. there))
-      (λ same lost. over e s (ap attempt_of ((known.inv.terms t lost.live.known).lost lost.lost)) (λ o differ. refl) (λ o differ. refl) (λ p there. there))
-      (λ leaves. over e (left sys (only t) s) (ap attempt_of (cond-true (only t t) None (s.units t) (eq-eqb t t refl))) (λ o differ. refl)
-      (λ o differ. cond-false (only t o) None (s.units o) (ne_eqb o t differ)) (λ p there. there))
-    where
-      over : (e : Ending) (x : State) → attempt_of (x.units t) ≡ None → ((o : ℕ) → o ≢ t → x.terms o ≡ s.terms o) → ((o : ℕ) → o ≢ t → x.units o ≡ s.units o)
-          → ((p : ℕ) → x.modes p ≢ Gone → s.modes p ≢ Gone) → Ended e (settled sys (sys.pair_of t) (ends t e x))
-      over e x idle terms units there = record {
-        own = ap (λ (y : Term). y.ending) (upd-same x.terms t _ t refl);
-        idle = idle;
-        terms = λ o differ. upd-other x.terms t _ o differ ∙ terms o differ;
-        units = units;
-        there = λ p here. there p (settled-there sys (ends t e x) (sys.pair_of t) p here);
-      }
+  ended ending.Stopped l = over-it ending.Stopped s (stopped-idle sys b s known.inv 0 0 f.reading t l) (λ o differ. refl) (λ o differ. refl) (λ p there. there)
+  ended ending.Lost l = over-it ending.Lost s (ap attempt_of ((known.inv.terms t l.live.known).lost l.lost)) (λ o differ. refl) (λ o differ. refl) (λ p there. there)
+  ended ending.NoEntries l = over-left ending.NoEntries
+  ended (ending.Fault x) l = over-left (ending.Fault x)
+  ended (ending.Suspended cause) l = over-left (ending.Suspended cause)
 
   -- a running attempt of it is left, and it is done
   pub follows-end : (e : Ending) → Fits sys s (event.End t e) → FollowsAll sys (effect sys s (event.End t e)) (fold_on sys s (event.End t e) f)
   follows-end e l =
       follow-by sys b s f entry more refl all.serial
-      (serial-append sys machine (left_of t (f.reading.answers t) (s.units t)) (Done t e ∷ []) one.serial (done, tt))
+      (serial-append sys machine (left_block t (f.reading.answers t) (s.units t)) (Done t e ∷ []) one.serial (done, tt))
       (ap (λ (m : Machine). m.files) run ∙ (one.files ∙ (all.files ∙ sym (stay entry refl l))))
       (λ o here. subst (λ (m : Machine). Follows sys (effect sys s entry) (fold_on sys s entry f) o (m.terms o)) (sym run) (⊎_elim (λ same. own o same) (λ differ. others o here differ) (cases_eq o t)))
       (λ o unknown.
@@ -167,7 +173,7 @@ module _ (sys : Sys) (b : IsBehaviour sys) (s : State) (f : Fold) (known : Known
       entry = event.End t e
 
       more : List Block
-      more = left_of t (f.reading.answers t) (s.units t) ++ Done t e ∷ []
+      more = left_block t (f.reading.answers t) (s.units t) ++ Done t e ∷ []
 
       live : (t < sys.terminals) × ((s.terms t).ending ≡ None)
       live = live-at e l
@@ -175,14 +181,14 @@ module _ (sys : Sys) (b : IsBehaviour sys) (s : State) (f : Fold) (known : Known
       left_state : Ended e (do_end sys t e s)
       left_state = ended e l
 
-      one : LeftOne sys machine t (f.reading.answers t) (s.units t) (left_of t (f.reading.answers t) (s.units t))
+      one : LeftOne sys machine t (f.reading.answers t) (s.units t) (left_block t (f.reading.answers t) (s.units t))
       one = left-one sys machine t (f.reading.answers t) (s.units t) (λ u q is runs. ready sys b s f known all t u q is runs)
 
       middle : Machine
-      middle = run_blocks sys machine (left_of t (f.reading.answers t) (s.units t))
+      middle = run_blocks sys machine (left_block t (f.reading.answers t) (s.units t))
 
       run : run_blocks sys machine more ≡ run_blocks sys middle (Done t e ∷ [])
-      run = run_blocks-append sys machine (left_of t (f.reading.answers t) (s.units t)) (Done t e ∷ [])
+      run = run_blocks-append sys machine (left_block t (f.reading.answers t) (s.units t)) (Done t e ∷ [])
 
       done : LegalDone sys middle t e
       done = record {

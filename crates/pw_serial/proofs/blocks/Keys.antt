@@ -4,22 +4,26 @@ use Rattle.pw_code.specs.declared.verb.Verb.{Verb}
 use Rattle.pw_code.specs.declared.verb.Verb.TheVariants as verb
 use Rattle.pw_event.specs.declared.event.Event.{Event}
 use Rattle.pw_event.specs.declared.event.Event.TheVariants as event
-use Rattle.pw_paired.proofs.KeepsChecks as checks
-use Rattle.pw_paired.proofs.Paths.{standing-push}
-use Rattle.pw_paired.proofs.TermOk.{IsWorking}
-use Rattle.pw_paired.proofs.Upd.{upd-other, upd-same}
-use Rattle.pw_paired.specs.Behaviour.{IsBehaviour}
-use Rattle.pw_paired.specs.declared.refresh.Refresh.{Refresh}
-use Rattle.pw_paired.specs.OneCopy.{AsksOut, Attempt, IsSerialFrom, Machine, Single, attempt, given_served, one_copy, out_answered, run_blocks, verb_answered}
-use Rattle.pw_paired.specs.Path.{PathAnswer, Entry, Replied, Standing, entries_on, standing, unit_number}
+use Rattle.pw_runs.proofs.terms.KeepsChecks as checks
+use Rattle.pw_runs.proofs.Paths.{standing-push}
+use Rattle.pw_runs.proofs.terms.TermOk.{IsWorking}
+use Rattle.pw_onecopy.proofs.Update.{upd-other, upd-same}
+use Rattle.pw_onecopy.specs.IsBehaviour.{IsBehaviour}
+use Rattle.pw_onecopy.specs.declared.refresh.Refresh.{Refresh}
+use Rattle.pw_onecopy.specs.OneCopy.{AsksOut, IsSerialFrom, Machine, Single, one_copy, single_behind_out, run_blocks}
+use Rattle.pw_onecopy.specs.Attempt.{Attempt, attempt, attempt_with_served, answer_verb, BeginsUnit}
+use Rattle.pw_onecopy.specs.Path.{PathAnswer, Entry, Replied, Standing, entries_on, standing, unit_number}
 use Rattle.pw_paired.specs.Raising.{is_takeover}
-use Rattle.pw_paired.specs.Refreshes.{refresh_of, refreshes_of}
-use Rattle.pw_paired.specs.Serial.{Block, Out, answers_at_begin, blocks_of, one_more}
-use Rattle.pw_paired.specs.State.{upd, Gone, Open, State, Term}
+use Rattle.pw_paired.specs.Shown.{refresh_of}
+use Rattle.pw_onecopy.specs.Refreshes.{refreshes_of}
+use Rattle.pw_onecopy.specs.Blocks.{Block, Out}
+use Rattle.pw_paired.specs.Serial.{answers_at_begin, blocks_of, one_more}
+use Rattle.pw_onecopy.specs.Update.{upd}
+use Rattle.pw_paired.specs.State.{Gone, OpenUnit, State, Term}
 use Rattle.pw_paired.specs.Step.{Fits, effect}
-use Rattle.pw_paired.specs.System.{Sys, Served, Reply, Fault}
-use Rattle.pw_paired.specs.Terminal.{BeginsUnit, CanStep, LegalAgain, LegalBegin, LegalKey, begun, kept_reply, next_verb, path_of}
-use Rattle.pw_paired.specs.Units.{attempt_of, committed, restarts_of}
+use Rattle.pw_onecopy.specs.Behaviour.{Behaviour, Served, Reply, Fault}
+use Rattle.pw_paired.specs.Terminal.{CanStep, LegalAgain, LegalBegin, LegalKey, unit_with_attempt, kept_reply, next_verb, path_of}
+use Rattle.pw_paired.specs.Units.{attempt_of, committed_files, restarts_of}
 use Rattle.pw_serial.proofs.blocks.Fold.{Fold, fold_on}
 use Rattle.pw_serial.proofs.blocks.Following.{Follows, FollowsAll, Goes, running_refreshes}
 use Rattle.pw_serial.proofs.blocks.Known.{Known}
@@ -30,16 +34,16 @@ use Rattle.pw_serial.proofs.blocks.Screens.{out-is, out-running, out-short}
 use Rattle.pw_serial.proofs.frontier.Frontier.{FrontierOk}
 use Rattle.pw_serial.proofs.frontier.Leads.{IsForced, Leads, Next, goes_on, is_there, leads-short, next-of}
 use Rattle.pw_serial.proofs.frontier.Standing.{Where, closed, grows, one-longer, running, waiting, where-of}
-use Rattle.pw_serial.proofs.induction.Views.{view_of}
+use Rattle.pw_runs.proofs.induction.Views.{view_of}
 use Rattle.pw_serial.proofs.screens.Numbers.{AreBounded, covers-other, quiet-bounded}
-use Rattle.pw_serial.specs.Records.{commits_at}
+use Rattle.pw_locking.specs.Records.{commits_at}
 
 -- a verb that shows no screen adds no refresh
-served-quiet : (served : Served) (at : Attempt) → (given_served served at).refreshes ≡ at.refreshes
+served-quiet : (served : Served) (at : Attempt) → (attempt_with_served served at).refreshes ≡ at.refreshes
 served-quiet (Reply reply files) at = refl
 served-quiet (Fault x) at = refl
 
-pub verb-quiet : (sys : Sys) (t r : ℕ) (files : ℕ → List (List ℕ)) (at : Attempt) (v : Verb) → v ≢ verb.Show → (verb_answered sys t r files v at).refreshes ≡ at.refreshes
+pub verb-quiet : (sys : Behaviour) (t r : ℕ) (files : ℕ → List (List ℕ)) (at : Attempt) (v : Verb) → v ≢ verb.Show → (answer_verb sys t r files v at).refreshes ≡ at.refreshes
 verb-quiet sys t r files at verb.Show other = absurd (other refl)
 verb-quiet sys t r files at (verb.Accept screen) other = refl
 verb-quiet sys t r files at verb.Begin other = refl
@@ -52,25 +56,25 @@ verb-quiet sys t r files at (verb.Fault x) other = refl
 verb-quiet sys t r files at (verb.File call) other = refl
 verb-quiet sys t r files at (verb.Reply reply) other = refl
 
-module _ (sys : Sys) (b : IsBehaviour sys) (s : State) (f : Fold) (known : Known sys b s f) (all : FollowsAll sys s f)
-    (stay : (entry : Event) → commits_at s entry ≡ false → Fits sys s entry → committed sys (effect sys s entry) ≡ committed sys s) where
+module _ (sys : Behaviour) (b : IsBehaviour sys) (s : State) (f : Fold) (known : Known sys b s f) (all : FollowsAll sys s f)
+    (stay : (entry : Event) → commits_at s entry ≡ false → Fits sys s entry → committed_files sys (effect sys s entry) ≡ committed_files sys s) where
   abbrev machine : Machine
   machine = one_copy sys f.order
 
   -- the attempt with one answer more adds no refresh, where its verb shows no screen
-  pub quiet-more : (t : ℕ) (u : Open) (q : List PathAnswer) (w : AtWork sys b s f known all t u q) (v : Verb)
-      → sys.ask t (attempt sys t q (committed sys s) u.restarts (f.reading.answers t)).path ≡ v → v ≢ verb.Show
-      → (attempt sys t q (committed sys s) u.restarts (suc (f.reading.answers t))).refreshes ≡ (attempt sys t q (committed sys s) u.restarts (f.reading.answers t)).refreshes
+  pub quiet-more : (t : ℕ) (u : OpenUnit) (q : List PathAnswer) (w : AtWork sys b s f known all t u q) (v : Verb)
+      → sys.ask t (attempt sys t q (committed_files sys s) u.restarts (f.reading.answers t)).path ≡ v → v ≢ verb.Show
+      → (attempt sys t q (committed_files sys s) u.restarts (suc (f.reading.answers t))).refreshes ≡ (attempt sys t q (committed_files sys s) u.restarts (f.reading.answers t)).refreshes
   quiet-more t u q w v asks other =
-      let at : Attempt = attempt sys t q (committed sys s) u.restarts (f.reading.answers t) in
-      ap (λ (x : Verb). (verb_answered sys t u.restarts (committed sys s) x at).refreshes) asks ∙ verb-quiet sys t u.restarts (committed sys s) at v other
+      let at : Attempt = attempt sys t q (committed_files sys s) u.restarts (f.reading.answers t) in
+      ap (λ (x : Verb). (answer_verb sys t u.restarts (committed_files sys s) x at).refreshes) asks ∙ verb-quiet sys t u.restarts (committed_files sys s) at v other
 
   -- an entry that puts one answer on the path of a terminal and shows no screen
   module _ (entry : Event) (t : ℕ) (here : t < sys.terminals) (a : PathAnswer)
       (terms : (effect sys s entry).terms ≡ upd s.terms t (record (s.terms t) { path = path_of s t ++ a ∷ [] }))
       (units : (effect sys s entry).units ≡ s.units) (modes : (effect sys s entry).modes ≡ s.modes)
       (answers : (fold_on sys s entry f).reading.answers ≡ one_more t f.reading.answers) (none : refresh_of sys s entry ≡ [])
-      (files : committed sys (effect sys s entry) ≡ committed sys s) where
+      (files : committed_files sys (effect sys s entry) ≡ committed_files sys s) where
     abbrev next : State
     next = effect sys s entry
 
@@ -90,7 +94,7 @@ module _ (sys : Sys) (b : IsBehaviour sys) (s : State) (f : Fold) (known : Known
     ending-same = ap (λ (x : Term). x.ending) own-term
 
     pub units-same : next.units t ≡ s.units t
-    units-same = ap (λ (u : ℕ → Option Open). u t) units
+    units-same = ap (λ (u : ℕ → Option OpenUnit). u t) units
 
     -- with these blocks
     pub by-blocks : (more : List Block) → blocks_of sys s f.reading entry ≡ more → IsSerialFrom sys machine more → (run_blocks sys machine more).files ≡ machine.files
@@ -98,11 +102,11 @@ module _ (sys : Sys) (b : IsBehaviour sys) (s : State) (f : Fold) (known : Known
         → Follows sys next now t ((run_blocks sys machine more).terms t) → FollowsAll sys next now
     by-blocks more blocks serial files_same others own =
         own-follows sys b s f known all entry t here more blocks serial (files_same ∙ (all.files ∙ sym files)) others
-        (λ o differ. ap (λ (x : ℕ → Term). x o) terms ∙ upd-other s.terms t _ o differ) (λ o differ. ap (λ (u : ℕ → Option Open). u o) units) modes
+        (λ o differ. ap (λ (x : ℕ → Term). x o) terms ∙ upd-other s.terms t _ o differ) (λ o differ. ap (λ (u : ℕ → Option OpenUnit). u o) units) modes
         (λ o differ. ap (λ (x : ℕ → ℕ). x o) answers ∙ upd-other f.reading.answers t _ o differ) (λ o differ. shown-none sys b s f entry none o)
         (λ o differ u q is runs. ap (λ (x : ℕ → List (List ℕ)). (attempt sys o q x u.restarts (f.reading.answers o)).refreshes) files) own
 
-    same-own : (now.frontier t ≡ f.frontier t) → running_refreshes sys t (committed sys next) (now.reading.answers t) (next.units t) ≡ running_refreshes sys t (committed sys s) (f.reading.answers t) (s.units t)
+    same-own : (now.frontier t ≡ f.frontier t) → running_refreshes sys t (committed_files sys next) (now.reading.answers t) (next.units t) ≡ running_refreshes sys t (committed_files sys s) (f.reading.answers t) (s.units t)
         → Follows sys next now t (machine.terms t)
     same-own put running_same =
         same-follows sys b s f known all entry t here ending-same modes (ap restarts_of units-same) (λ live there. put) running_same (shown-none sys b s f entry none t)
@@ -112,24 +116,24 @@ module _ (sys : Sys) (b : IsBehaviour sys) (s : State) (f : Fold) (known : Known
     silent-idle blocks idle short =
         by-blocks [] blocks tt refl (λ o differ. refl)
         (same-own (frontier-stays sys b s f entry t (λ _. subst (λ (p : List PathAnswer). length p ≤ length (f.frontier t)) (sym new-path) short))
-        (running-idle sys t (committed sys next) (now.reading.answers t) (next.units t) (ap attempt_of units-same ∙ idle)
-        ∙ sym (running-idle sys t (committed sys s) (f.reading.answers t) (s.units t) idle)))
+        (running-idle sys t (committed_files sys next) (now.reading.answers t) (next.units t) (ap attempt_of units-same ∙ idle)
+        ∙ sym (running-idle sys t (committed_files sys s) (f.reading.answers t) (s.units t) idle)))
 
     -- in an attempt
-    pub silent-running : blocks_of sys s f.reading entry ≡ [] → (u : Open) (q : List PathAnswer) → s.units t ≡ Some u → u.running ≡ Some q → (v : Verb)
-        → sys.ask t (attempt sys t q (committed sys s) u.restarts (f.reading.answers t)).path ≡ v → v ≢ verb.Show → FollowsAll sys next now
+    pub silent-running : blocks_of sys s f.reading entry ≡ [] → (u : OpenUnit) (q : List PathAnswer) → s.units t ≡ Some u → u.running ≡ Some q → (v : Verb)
+        → sys.ask t (attempt sys t q (committed_files sys s) u.restarts (f.reading.answers t)).path ≡ v → v ≢ verb.Show → FollowsAll sys next now
     silent-running blocks u q is runs v asks other =
         by-blocks [] blocks tt refl (λ o differ. refl)
         (same-own (frontier-stays sys b s f entry t (λ idle. absurd (let now_is = units-same ∙ is in cc (now_is, runs, idle))))
-        (running-is sys t (committed sys next) (now.reading.answers t) (next.units t) u q (units-same ∙ is) runs
+        (running-is sys t (committed_files sys next) (now.reading.answers t) (next.units t) u q (units-same ∙ is) runs
         ∙ (ap (λ (x : ℕ → List (List ℕ)). (attempt sys t q x u.restarts (now.reading.answers t)).refreshes) files
-        ∙ (ap (λ (n : ℕ). (attempt sys t q (committed sys s) u.restarts n).refreshes)
+        ∙ (ap (λ (n : ℕ). (attempt sys t q (committed_files sys s) u.restarts n).refreshes)
         (ap (λ (x : ℕ → ℕ). x t) answers ∙ (upd-same f.reading.answers t _ t refl ∙ (let one : f.reading.answers t + 1 ≡ suc (f.reading.answers t) = omega arith in one)))
-        ∙ (quiet-more t u q (at-work sys b s f known all t u q is runs) v asks other ∙ sym (running-is sys t (committed sys s) (f.reading.answers t) (s.units t) u q is runs))))))
+        ∙ (quiet-more t u q (at-work sys b s f known all t u q is runs) v asks other ∙ sym (running-is sys t (committed_files sys s) (f.reading.answers t) (s.units t) u q is runs))))))
 
   -- the attempt stands where the terminal does
-  pub stands-at : (t : ℕ) (u : Open) (q : List PathAnswer) → (w : AtWork sys b s f known all t u q) → IsWorking (s.modes (sys.pair_of t)) → is_takeover (s.terms t).pending ≡ false
-      → path_of s t ≡ (attempt sys t q (committed sys s) u.restarts (f.reading.answers t)).path
+  pub stands-at : (t : ℕ) (u : OpenUnit) (q : List PathAnswer) → (w : AtWork sys b s f known all t u q) → IsWorking (s.modes (sys.pair_of t)) → is_takeover (s.terms t).pending ≡ false
+      → path_of s t ≡ (attempt sys t q (committed_files sys s) u.restarts (f.reading.answers t)).path
   stands-at t u q w works untaken = w.at.alone.path_is works untaken
 
   -- KEY
@@ -146,7 +150,7 @@ module _ (sys : Sys) (b : IsBehaviour sys) (s : State) (f : Fold) (known : Known
     goes : Goes sys t (machine.terms t) (f.frontier t) (s.units t)
     goes = (all.terms t l.can.live.known).goes l.can.live.going_on there
 
-    files : committed sys (effect sys s key) ≡ committed sys s
+    files : committed_files sys (effect sys s key) ≡ committed_files sys s
     files = stay key refl l
 
     -- at the frontier: Out
@@ -166,7 +170,7 @@ module _ (sys : Sys) (b : IsBehaviour sys) (s : State) (f : Fold) (known : Known
       out_is : (run_blocks sys machine (Out t ∷ [])).terms t ≡ out
       out_is =
           upd-same machine.terms t _ t refl
-          ∙ (ap (λ (v : Verb). out_answered sys t v (machine.terms t)) asks
+          ∙ (ap (λ (v : Verb). single_behind_out sys t v (machine.terms t)) asks
           ∙ ap (λ (n : ℕ). record (machine.terms t) { path = (machine.terms t).path ++ Entry n ∷ [] }) (ap (λ (p : List PathAnswer). entries_on p + 1) path_is ∙ sym l.next))
 
       grown-to : (fold_on sys s key f).frontier t ≡ path_of s t ++ Entry k ∷ []
@@ -197,8 +201,8 @@ module _ (sys : Sys) (b : IsBehaviour sys) (s : State) (f : Fold) (known : Known
             covers = covers-other sys t single.path (Entry k) single.refreshes (λ is. absurd (cc is)) goes.covers;
           })
           (ap (λ (x : List Refresh). single.refreshes ++ x)
-          (running-idle sys t (committed sys (effect sys s key)) ((fold_on sys s key f).reading.answers t) (s.units t) idle
-          ∙ sym (running-idle sys t (committed sys s) (f.reading.answers t) (s.units t) idle)))
+          (running-idle sys t (committed_files sys (effect sys s key)) ((fold_on sys s key f).reading.answers t) (s.units t) idle
+          ∙ sym (running-idle sys t (committed_files sys s) (f.reading.answers t) (s.units t) idle)))
           (shown-none sys b s f key refl t)))
 
     only-entry : (a : PathAnswer) → IsForced (s.ended t) (path_of s t) (verb.Accept l.screen) a → a ≡ Entry k
@@ -261,7 +265,7 @@ module _ (sys : Sys) (b : IsBehaviour sys) (s : State) (f : Fold) (known : Known
 
   -- BEGIN: an attempt without refreshes
   begun-quiet : (t r : ℕ) (files : ℕ → List (List ℕ)) (q : List PathAnswer) (v : Verb) → sys.ask t q ≡ v → BeginsUnit v q → (attempt sys t q files r (answers_at_begin v)).refreshes ≡ []
-  begun-quiet t r x q verb.Begin begin begins = ap (λ (v : Verb). (verb_answered sys t r x v (attempt sys t q x r 0)).refreshes) begin
+  begun-quiet t r x q verb.Begin begin begins = ap (λ (v : Verb). (answer_verb sys t r x v (attempt sys t q x r 0)).refreshes) begin
   begun-quiet t r x q (verb.Send class message) begin begins = refl
   begun-quiet t r x q verb.Show begin begins = absurd begins
   begun-quiet t r x q (verb.Accept screen) begin begins = absurd begins
@@ -273,7 +277,7 @@ module _ (sys : Sys) (b : IsBehaviour sys) (s : State) (f : Fold) (known : Known
   begun-quiet t r x q (verb.File call) begin begins = absurd begins
   begun-quiet t r x q (verb.Reply reply) begin begins = absurd begins
 
-  begun-parts : (n birth : ℕ) (p : List PathAnswer) (unit : Option Open) → ((begun n birth p unit).running ≡ Some p) × ((begun n birth p unit).restarts ≡ restarts_of unit)
+  begun-parts : (n birth : ℕ) (p : List PathAnswer) (unit : Option OpenUnit) → ((unit_with_attempt n birth p unit).running ≡ Some p) × ((unit_with_attempt n birth p unit).restarts ≡ restarts_of unit)
   begun-parts n birth p None = (refl, refl)
   begun-parts n birth p (Some u) = (refl, refl)
 
@@ -281,7 +285,7 @@ module _ (sys : Sys) (b : IsBehaviour sys) (s : State) (f : Fold) (known : Known
   follows-begin t n r l =
       let entry : Event = event.Begin t n r in
       let next : State = effect sys s entry in
-      let unit : Open = begun n s.births (path_of s t) (s.units t) in
+      let unit : OpenUnit = unit_with_attempt n s.births (path_of s t) (s.units t) in
       let parts = begun-parts n s.births (path_of s t) (s.units t) in
       let now_is : next.units t ≡ Some unit = upd-same s.units t _ t refl in
       own-follows sys b s f known all entry t l.can.live.known [] refl tt (all.files ∙ sym (stay entry refl l)) (λ o differ. refl)
@@ -291,8 +295,8 @@ module _ (sys : Sys) (b : IsBehaviour sys) (s : State) (f : Fold) (known : Known
       (same-follows sys b s f known all entry t l.can.live.known
       (ap (λ (x : Term). x.ending) (upd-same s.terms t _ t refl)) refl (ap restarts_of now_is ∙ parts.1)
       (λ live there. frontier-stays sys b s f entry t (λ idle. absurd (let runs = parts.0 in cc (now_is, runs, idle))))
-      (running-is sys t (committed sys next) ((fold_on sys s entry f).reading.answers t) (next.units t) unit (path_of s t) now_is parts.0
-      ∙ (ap (λ (j : ℕ). (attempt sys t (path_of s t) (committed sys next) unit.restarts j).refreshes) (upd-same f.reading.answers t _ t refl)
-      ∙ (begun-quiet t unit.restarts (committed sys next) (path_of s t) (next_verb sys s t) refl l.begins
-      ∙ sym (running-idle sys t (committed sys s) (f.reading.answers t) (s.units t) l.idle))))
+      (running-is sys t (committed_files sys next) ((fold_on sys s entry f).reading.answers t) (next.units t) unit (path_of s t) now_is parts.0
+      ∙ (ap (λ (j : ℕ). (attempt sys t (path_of s t) (committed_files sys next) unit.restarts j).refreshes) (upd-same f.reading.answers t _ t refl)
+      ∙ (begun-quiet t unit.restarts (committed_files sys next) (path_of s t) (next_verb sys s t) refl l.begins
+      ∙ sym (running-idle sys t (committed_files sys s) (f.reading.answers t) (s.units t) l.idle))))
       (shown-none sys b s f entry refl t))

@@ -7,24 +7,26 @@ use Rattle.pw_event.specs.declared.event.Ending.{Ending}
 use Rattle.pw_event.specs.declared.event.Ending.TheVariants as ending
 use Rattle.pw_event.specs.declared.event.Event.{Event}
 use Rattle.pw_event.specs.declared.event.Event.TheVariants as event
-use Rattle.pw_paired.proofs.EndsOnce.{stopped-idle}
-use Rattle.pw_paired.proofs.KeepsPairs.{mode-of-other, mode-of-pair, not-of-pair, of-pair}
-use Rattle.pw_paired.proofs.TermOk.{IsWorking}
-use Rattle.pw_paired.proofs.Upd.{upd-other, upd-same}
-use Rattle.pw_paired.specs.Behaviour.{IsBehaviour, IsPath, Suits, SuitsFrom}
-use Rattle.pw_paired.specs.declared.refresh.Refresh.{Refresh}
-use Rattle.pw_paired.specs.End.{LegalEnd, ends}
-use Rattle.pw_paired.specs.Failure.{do_fail_tcp, gone, is_of}
-use Rattle.pw_paired.specs.OneCopy.{IsSerialFrom, LegalDone, Machine, MayEnd, Single, attempt, one_copy, run_block, run_blocks}
-use Rattle.pw_paired.specs.Path.{PathAnswer, Entry, entries_on}
-use Rattle.pw_paired.specs.Raising.{is_takeover, settled}
-use Rattle.pw_paired.specs.Refreshes.{once, refreshes_of}
-use Rattle.pw_paired.specs.Serial.{Block, Done, is_gone, left_of, lefts}
-use Rattle.pw_paired.specs.State.{Alone, Down, Gone, LastEnded, Mode, Open, Paired, Raising, State, Term}
+use Rattle.pw_runs.proofs.ends.EndsOnce.{stopped-idle}
+use Rattle.pw_runs.proofs.terms.KeepsPairs.{mode-of-other, mode-of-pair, not-of-pair, of-pair}
+use Rattle.pw_runs.proofs.terms.TermOk.{IsWorking}
+use Rattle.pw_onecopy.proofs.Update.{upd-other, upd-same}
+use Rattle.pw_onecopy.specs.IsBehaviour.{IsBehaviour, IsPath, Suits, SuitsFrom}
+use Rattle.pw_onecopy.specs.declared.refresh.Refresh.{Refresh}
+use Rattle.pw_paired.specs.End.{LegalEnd, end_terminal}
+use Rattle.pw_paired.specs.Failure.{do_fail_tcp, lose_pair, is_of_pair}
+use Rattle.pw_onecopy.specs.OneCopy.{IsSerialFrom, LegalDone, Machine, MayEnd, Single, one_copy, run_block, run_blocks}
+use Rattle.pw_onecopy.specs.Attempt.{attempt}
+use Rattle.pw_onecopy.specs.Path.{PathAnswer, Entry, entries_on}
+use Rattle.pw_paired.specs.Raising.{is_takeover, settle_mode}
+use Rattle.pw_onecopy.specs.Refreshes.{once, refreshes_of}
+use Rattle.pw_onecopy.specs.Blocks.{Block, Done}
+use Rattle.pw_paired.specs.Serial.{is_gone, left_block, left_blocks}
+use Rattle.pw_paired.specs.State.{Alone, Down, Gone, LastEnded, Mode, OpenUnit, Paired, Raising, State, Term}
 use Rattle.pw_paired.specs.Step.{Fits, effect}
-use Rattle.pw_paired.specs.System.{Sys}
+use Rattle.pw_onecopy.specs.Behaviour.{Behaviour}
 use Rattle.pw_paired.specs.Terminal.{CanStep, path_of}
-use Rattle.pw_paired.specs.Units.{attempt_of, committed, left, only, restarts_of}
+use Rattle.pw_paired.specs.Units.{attempt_of, committed_files, leave_units, only, restarts_of}
 use Rattle.pw_serial.proofs.blocks.Fold.{Fold, fold_on, run_blocks-append, serial-append}
 use Rattle.pw_serial.proofs.blocks.Following.{Follows, FollowsAll, Goes, IsStranger, refreshes_so_far, running_refreshes}
 use Rattle.pw_serial.proofs.blocks.Known.{Known}
@@ -32,13 +34,13 @@ use Rattle.pw_serial.proofs.blocks.Lefts.{LeftAll, LeftOne, left-all, left-endin
 use Rattle.pw_serial.proofs.blocks.Others.{follow-by, frontier-stays, longest-kept, other-follows, shown-none, stranger-follows}
 use Rattle.pw_serial.proofs.blocks.Quiet.{settled-there}
 use Rattle.pw_serial.proofs.blocks.Running.{AtWork, at-work, ready, running-idle}
-use Rattle.pw_serial.proofs.induction.Views.{view_of}
+use Rattle.pw_runs.proofs.induction.Views.{view_of}
 use Rattle.pw_serial.proofs.screens.Once.{IsIn}
-use Rattle.pw_serial.specs.Records.{commits_at}
-use Rattle.pw_serial.specs.Running.{Breaks}
+use Rattle.pw_locking.specs.Records.{commits_at}
+use Rattle.pw_runs.specs.Losses.{Breaks}
 
-module _ (sys : Sys) (b : IsBehaviour sys) (s : State) (f : Fold) (known : Known sys b s f) (all : FollowsAll sys s f)
-    (stay : (entry : Event) → commits_at s entry ≡ false → Fits sys s entry → committed sys (effect sys s entry) ≡ committed sys s) where
+module _ (sys : Behaviour) (b : IsBehaviour sys) (s : State) (f : Fold) (known : Known sys b s f) (all : FollowsAll sys s f)
+    (stay : (entry : Event) → commits_at s entry ≡ false → Fits sys s entry → committed_files sys (effect sys s entry) ≡ committed_files sys s) where
   abbrev machine : Machine
   machine = one_copy sys f.order
 
@@ -65,7 +67,7 @@ module _ (sys : Sys) (b : IsBehaviour sys) (s : State) (f : Fold) (known : Known
     over-follows t here single ending over idle shown refreshes =
         let ok = all.terms t here in
         let so_far : refreshes_so_far sys next now t single ≡ refreshes_so_far sys s f t (machine.terms t) =
-        ap (λ (l : List Refresh). single.refreshes ++ l) (running-idle sys t (committed sys next) (now.reading.answers t) (next.units t) idle) ∙ (append-nil single.refreshes ∙ refreshes) in
+        ap (λ (l : List Refresh). single.refreshes ++ l) (running-idle sys t (committed_files sys next) (now.reading.answers t) (next.units t) idle) ∙ (append-nil single.refreshes ∙ refreshes) in
         record {
           ending = ending;
           goes = λ live there. absurd (over live there);
@@ -80,10 +82,10 @@ module _ (sys : Sys) (b : IsBehaviour sys) (s : State) (f : Fold) (known : Known
   breaks-there false mode is = ap is_gone is
 
   -- a pair is lost: each running attempt of it is left
-  pub follows-lost : (p : ℕ) (primary : Bool) (k : ℕ) → Fits sys s (event.FailTcp p primary k) → (which : Bool) → Breaks which (s.modes p) → do_fail_tcp sys p primary s ≡ gone sys p s
+  pub follows-lost : (p : ℕ) (primary : Bool) (k : ℕ) → Fits sys s (event.FailTcp p primary k) → (which : Bool) → Breaks which (s.modes p) → do_fail_tcp sys p primary s ≡ lose_pair sys p s
       → FollowsAll sys (effect sys s (event.FailTcp p primary k)) (fold_on sys s (event.FailTcp p primary k) f)
   follows-lost p primary k l which breaks is =
-      follow-by sys b s f entry (lefts s f.reading (is_of sys p) sys.terminals) blocks all.serial some.serial (some.files ∙ (all.files ∙ sym (stay entry refl l)))
+      follow-by sys b s f entry (left_blocks s f.reading (is_of_pair sys p) sys.terminals) blocks all.serial some.serial (some.files ∙ (all.files ∙ sym (stay entry refl l)))
       (λ t here. ⊎_elim (λ of. of-it t here of) (λ differ. others t here differ) (cases_eq (sys.pair_of t) p))
       (λ t unknown.
       subst (λ (x : Single). IsStranger (effect sys s entry) (fold_on sys s entry f) t x) (sym (some.above t (let high : sys.terminals ≤ t = omega (arith, unknown) in high)))
@@ -95,12 +97,12 @@ module _ (sys : Sys) (b : IsBehaviour sys) (s : State) (f : Fold) (known : Known
       after : State
       after = effect sys s entry
 
-      some : LeftAll sys s f.reading machine (is_of sys p) sys.terminals
-      some = left-all sys s f.reading machine (is_of sys p) (ready sys b s f known all) sys.terminals
+      some : LeftAll sys s f.reading machine (is_of_pair sys p) sys.terminals
+      some = left-all sys s f.reading machine (is_of_pair sys p) (ready sys b s f known all) sys.terminals
 
-      blocks : (if is_gone (after.modes p) && not (is_gone (s.modes p)) then lefts s f.reading (is_of sys p) sys.terminals else []) ≡ lefts s f.reading (is_of sys p) sys.terminals
+      blocks : (if is_gone (after.modes p) && not (is_gone (s.modes p)) then left_blocks s f.reading (is_of_pair sys p) sys.terminals else []) ≡ left_blocks s f.reading (is_of_pair sys p) sys.terminals
       blocks =
-          cond-true (is_gone (after.modes p) && not (is_gone (s.modes p))) (lefts s f.reading (is_of sys p) sys.terminals) []
+          cond-true (is_gone (after.modes p) && not (is_gone (s.modes p))) (left_blocks s f.reading (is_of_pair sys p) sys.terminals) []
           (and_from (is_gone (after.modes p)) (not (is_gone (s.modes p))) (ap (λ (x : State). is_gone (x.modes p)) is ∙ ap is_gone (upd-same s.modes p Gone p refl))
           (ap not (breaks-there which (s.modes p) breaks)))
 
@@ -109,19 +111,19 @@ module _ (sys : Sys) (b : IsBehaviour sys) (s : State) (f : Fold) (known : Known
           ap (λ (x : State). (x.terms t).ending) is
           ∙ ⊎_elim (λ of. ap (λ (x : Term). x.ending) (of-pair sys p t _ (s.terms t) of)) (λ differ. ap (λ (x : Term). x.ending) (not-of-pair sys p t _ (s.terms t) differ)) (cases_eq (sys.pair_of t) p)
 
-      of-it : (t : ℕ) → t < sys.terminals → sys.pair_of t ≡ p → Follows sys after (fold_on sys s entry f) t ((run_blocks sys machine (lefts s f.reading (is_of sys p) sys.terminals)).terms t)
+      of-it : (t : ℕ) → t < sys.terminals → sys.pair_of t ≡ p → Follows sys after (fold_on sys s entry f) t ((run_blocks sys machine (left_blocks s f.reading (is_of_pair sys p) sys.terminals)).terms t)
       of-it t here of =
           let own = some.own t here (eq-eqb (sys.pair_of t) p of) in
-          over-follows entry t here ((run_blocks sys machine (lefts s f.reading (is_of sys p) sys.terminals)).terms t)
+          over-follows entry t here ((run_blocks sys machine (left_blocks s f.reading (is_of_pair sys p) sys.terminals)).terms t)
           (ap (λ (x : Single). x.ending) own ∙ (left-ending sys t machine.files (f.reading.answers t) (s.units t) (machine.terms t) ∙ ((all.terms t here).ending ∙ sym (ending-same t))))
           (λ live there. there (ap (λ (x : State). x.modes (sys.pair_of t)) is ∙ mode-of-pair sys s p t Gone of))
           (ap (λ (x : State). attempt_of (x.units t)) is ∙ ap attempt_of (of-pair sys p t None (s.units t) of))
           (shown-none sys b s f entry refl t)
           (ap (λ (x : Single). x.refreshes) own ∙ refreshes-left t)
 
-      others : (t : ℕ) → t < sys.terminals → sys.pair_of t ≢ p → Follows sys after (fold_on sys s entry f) t ((run_blocks sys machine (lefts s f.reading (is_of sys p) sys.terminals)).terms t)
+      others : (t : ℕ) → t < sys.terminals → sys.pair_of t ≢ p → Follows sys after (fold_on sys s entry f) t ((run_blocks sys machine (left_blocks s f.reading (is_of_pair sys p) sys.terminals)).terms t)
       others t here differ =
-          let spared : is_of sys p t ≡ false = ne_eqb (sys.pair_of t) p differ in
+          let spared : is_of_pair sys p t ≡ false = ne_eqb (sys.pair_of t) p differ in
           let modes : after.modes (sys.pair_of t) ≡ s.modes (sys.pair_of t) = ap (λ (x : State). x.modes (sys.pair_of t)) is ∙ mode-of-other sys s p t Gone differ in
           let units : after.units t ≡ s.units t = ap (λ (x : State). x.units t) is ∙ not-of-pair sys p t None (s.units t) differ in
           let term : after.terms t ≡ s.terms t = ap (λ (x : State). x.terms t) is ∙ not-of-pair sys p t _ (s.terms t) differ in

@@ -3,22 +3,25 @@ use Rattle.std.proofs.Common.{◌≡◌, ◌≢◌, ⊎_elim, ℕ, ◌+◌, ◌<
 use Rattle.std.proofs.lemmas.Bool.{cases_eq, cond-false, cond-true, eq-eqb, ne_eqb}
 use Rattle.std.proofs.lemmas.List.Elements.{filter-append}
 use Rattle.pw_event.specs.declared.event.Event.{Event}
-use Rattle.pw_paired.specs.declared.refresh.Refresh.{Refresh}
-use Rattle.pw_paired.specs.Behaviour.{IsBehaviour}
-use Rattle.pw_paired.specs.OneCopy.{IsSerialFrom, Machine, Single, attempt, one_copy, run_blocks}
-use Rattle.pw_paired.specs.Path.{PathAnswer}
-use Rattle.pw_paired.specs.Refreshes.{once, refresh_of, refreshes_of}
-use Rattle.pw_paired.specs.Serial.{Block, blocks_of}
-use Rattle.pw_paired.specs.State.{Gone, Mode, Open, State, Term}
+use Rattle.pw_onecopy.specs.declared.refresh.Refresh.{Refresh}
+use Rattle.pw_onecopy.specs.IsBehaviour.{IsBehaviour}
+use Rattle.pw_onecopy.specs.OneCopy.{IsSerialFrom, Machine, Single, one_copy, run_blocks}
+use Rattle.pw_onecopy.specs.Attempt.{attempt}
+use Rattle.pw_onecopy.specs.Path.{PathAnswer}
+use Rattle.pw_onecopy.specs.Refreshes.{once, refreshes_of}
+use Rattle.pw_paired.specs.Shown.{refresh_of}
+use Rattle.pw_onecopy.specs.Blocks.{Block}
+use Rattle.pw_paired.specs.Serial.{blocks_of}
+use Rattle.pw_paired.specs.State.{Gone, Mode, OpenUnit, State, Term}
 use Rattle.pw_paired.specs.Step.{effect}
-use Rattle.pw_paired.specs.System.{Sys}
+use Rattle.pw_onecopy.specs.Behaviour.{Behaviour}
 use Rattle.pw_paired.specs.Terminal.{path_of}
-use Rattle.pw_paired.specs.Units.{attempt_of, committed, restarts_of}
+use Rattle.pw_paired.specs.Units.{attempt_of, committed_files, restarts_of}
 use Rattle.pw_serial.proofs.blocks.Fold.{Fold, fold_on}
 use Rattle.pw_serial.proofs.blocks.Following.{Follows, FollowsAll, Goes, IsStranger, refreshes_so_far, running_refreshes}
 use Rattle.pw_serial.proofs.blocks.Known.{Known}
 use Rattle.pw_serial.proofs.blocks.Others.{follow-by, frontier-stays, longest-kept, other-follows, stranger-follows}
-use Rattle.pw_serial.proofs.induction.Views.{view_of}
+use Rattle.pw_runs.proofs.induction.Views.{view_of}
 use Rattle.pw_serial.proofs.screens.Once.{IsIn}
 
 -- one refresh more, of a terminal or of another one
@@ -32,7 +35,7 @@ refreshes-other t shown r other =
     filter-append (λ (x : Refresh). x.terminal == t) shown (r ∷ [])
     ∙ (ap (λ (l : List Refresh). refreshes_of t shown ++ l) (cond-false (r.terminal == t) (r ∷ []) [] (ne_eqb r.terminal t other)) ∙ append-nil (refreshes_of t shown))
 
-module _ (sys : Sys) (b : IsBehaviour sys) (s : State) (f : Fold) (known : Known sys b s f) (all : FollowsAll sys s f) (entry : Event) (t : ℕ) (here : t < sys.terminals) where
+module _ (sys : Behaviour) (b : IsBehaviour sys) (s : State) (f : Fold) (known : Known sys b s f) (all : FollowsAll sys s f) (entry : Event) (t : ℕ) (here : t < sys.terminals) where
   abbrev next : State
   next = effect sys s entry
 
@@ -43,12 +46,12 @@ module _ (sys : Sys) (b : IsBehaviour sys) (s : State) (f : Fold) (known : Known
   machine = one_copy sys f.order
 
   -- the others stay as they were
-  pub own-follows : (more : List Block) → blocks_of sys s f.reading entry ≡ more → IsSerialFrom sys machine more → (run_blocks sys machine more).files ≡ committed sys next
+  pub own-follows : (more : List Block) → blocks_of sys s f.reading entry ≡ more → IsSerialFrom sys machine more → (run_blocks sys machine more).files ≡ committed_files sys next
       → ((o : ℕ) → o ≢ t → (run_blocks sys machine more).terms o ≡ machine.terms o)
       → ((o : ℕ) → o ≢ t → next.terms o ≡ s.terms o) → ((o : ℕ) → o ≢ t → next.units o ≡ s.units o) → next.modes ≡ s.modes
       → ((o : ℕ) → o ≢ t → now.reading.answers o ≡ f.reading.answers o) → ((o : ℕ) → o ≢ t → refreshes_of o now.shown ≡ refreshes_of o f.shown)
-      → ((o : ℕ) → o ≢ t → (u : Open) (q : List PathAnswer) → s.units o ≡ Some u → u.running ≡ Some q
-          → (attempt sys o q (committed sys next) u.restarts (f.reading.answers o)).refreshes ≡ (attempt sys o q (committed sys s) u.restarts (f.reading.answers o)).refreshes)
+      → ((o : ℕ) → o ≢ t → (u : OpenUnit) (q : List PathAnswer) → s.units o ≡ Some u → u.running ≡ Some q
+          → (attempt sys o q (committed_files sys next) u.restarts (f.reading.answers o)).refreshes ≡ (attempt sys o q (committed_files sys s) u.restarts (f.reading.answers o)).refreshes)
       → Follows sys next now t ((run_blocks sys machine more).terms t) → FollowsAll sys next now
   own-follows more blocks serial files others terms units modes answers shown same own =
       follow-by sys b s f entry more blocks all.serial serial files
@@ -74,7 +77,7 @@ module _ (sys : Sys) (b : IsBehaviour sys) (s : State) (f : Fold) (known : Known
   -- the terminal itself, where the machine's terminal stays and nothing new is shown
   pub same-follows : (next.terms t).ending ≡ (s.terms t).ending → next.modes ≡ s.modes → restarts_of (next.units t) ≡ restarts_of (s.units t)
       → ((next.terms t).ending ≡ None → next.modes (sys.pair_of t) ≢ Gone → now.frontier t ≡ f.frontier t)
-      → running_refreshes sys t (committed sys next) (now.reading.answers t) (next.units t) ≡ running_refreshes sys t (committed sys s) (f.reading.answers t) (s.units t)
+      → running_refreshes sys t (committed_files sys next) (now.reading.answers t) (next.units t) ≡ running_refreshes sys t (committed_files sys s) (f.reading.answers t) (s.units t)
       → refreshes_of t now.shown ≡ refreshes_of t f.shown → Follows sys next now t (machine.terms t)
   same-follows ending modes restarts frontier running shown =
       let ok = all.terms t here in

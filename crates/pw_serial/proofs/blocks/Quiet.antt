@@ -5,19 +5,20 @@ use Rattle.pw_code.specs.declared.file.FileOp.{FileOp}
 use Rattle.pw_code.specs.declared.lock.LockMode.{LockMode}
 use Rattle.pw_event.specs.declared.event.Event.{Event}
 use Rattle.pw_event.specs.declared.event.Event.TheVariants as event
-use Rattle.pw_paired.proofs.KeepsPairs.{not-of-pair, of-pair}
-use Rattle.pw_paired.proofs.TermOk.{HasMessages}
-use Rattle.pw_paired.proofs.Upd.{upd_elim, upd-same}
-use Rattle.pw_paired.specs.Behaviour.{IsBehaviour}
-use Rattle.pw_paired.specs.Failure.{alone, do_fail_server, do_fail_tcp, down, gone, is_live_of, is_of, process_fails, resumed}
-use Rattle.pw_paired.specs.Raising.{lacks_one, raised, remembered, settled}
-use Rattle.pw_paired.specs.Serial.{Reading, is_gone, lefts}
+use Rattle.pw_runs.proofs.terms.KeepsPairs.{not-of-pair, of-pair}
+use Rattle.pw_runs.proofs.terms.TermOk.{HasMessages}
+use Rattle.pw_onecopy.proofs.Update.{upd_elim, upd-same}
+use Rattle.pw_onecopy.specs.IsBehaviour.{IsBehaviour}
+use Rattle.pw_paired.specs.Failure.{lose_backup, do_fail_server, do_fail_tcp, lose_primary, lose_pair, is_live_of, is_of_pair, process_fails, resume_terminal}
+use Rattle.pw_paired.specs.Raising.{lacks_one, settled_mode, with_message, settle_mode}
+use Rattle.pw_paired.specs.Serial.{Reading, is_gone, left_blocks}
 use Rattle.pw_paired.specs.Server.{do_file, do_operation}
-use Rattle.pw_paired.specs.State.{upd, Alone, Down, Gone, Job, LastEnded, Memory, Mode, Open, Paired, Raising, State, Term}
+use Rattle.pw_onecopy.specs.Update.{upd}
+use Rattle.pw_paired.specs.State.{Alone, Down, Gone, Job, LastEnded, BackupCopy, Mode, OpenUnit, Paired, Raising, State, Term}
 use Rattle.pw_paired.specs.Step.{Fits, effect}
-use Rattle.pw_paired.specs.System.{Sys}
+use Rattle.pw_onecopy.specs.Behaviour.{Behaviour}
 use Rattle.pw_paired.specs.Terminal.{path_of}
-use Rattle.pw_paired.specs.Units.{attempt_of, committed}
+use Rattle.pw_paired.specs.Units.{attempt_of, committed_files}
 use Rattle.pw_serial.proofs.blocks.Fold.{Fold, fold_on}
 use Rattle.pw_serial.proofs.blocks.Following.{FollowsAll}
 use Rattle.pw_serial.proofs.blocks.Known.{Known}
@@ -25,48 +26,48 @@ use Rattle.pw_serial.proofs.blocks.Others.{quiet-follows, still-follows}
 use Rattle.pw_serial.proofs.frontier.Frontier.{FrontierOk}
 use Rattle.pw_serial.proofs.frontier.Leads.{leads-short}
 use Rattle.pw_serial.proofs.frontier.Standing.{raised-there}
-use Rattle.pw_serial.proofs.induction.Failed.{fail-cases, process-cases}
-use Rattle.pw_serial.proofs.induction.Served.{file-is}
-use Rattle.pw_serial.proofs.induction.Views.{view_of}
-use Rattle.pw_serial.specs.Records.{commits_at}
-use Rattle.pw_serial.specs.Running.{Breaks}
+use Rattle.pw_runs.proofs.induction.Failed.{fail-cases, process-cases}
+use Rattle.pw_runs.proofs.induction.Served.{file-is}
+use Rattle.pw_runs.proofs.induction.Views.{view_of}
+use Rattle.pw_locking.specs.Records.{commits_at}
+use Rattle.pw_runs.specs.Losses.{Breaks}
 
 -- a mode that is put in place of one that was not Gone
 pub put-there : (modes : ℕ → Mode) (p q : ℕ) (mode : Mode) → modes p ≢ Gone → upd modes p mode q ≢ Gone → modes q ≢ Gone
 put-there modes p q mode there =
-    upd_elim modes p mode q (λ (m : Mode). m ≢ Gone → modes q ≢ Gone) (λ same _ gone. there (ap modes (sym same) ∙ gone)) (λ _ stays. stays)
+    upd_elim modes p mode q (λ (m : Mode). m ≢ Gone → modes q ≢ Gone) (λ same _ lose_pair. there (ap modes (sym same) ∙ lose_pair)) (λ _ stays. stays)
 
-pub settled-there : (sys : Sys) (s : State) (p q : ℕ) → (settled sys p s).modes q ≢ Gone → s.modes q ≢ Gone
+pub settled-there : (sys : Behaviour) (s : State) (p q : ℕ) → (settle_mode sys p s).modes q ≢ Gone → s.modes q ≢ Gone
 settled-there sys s p q =
     upd_elim s.modes p _ q (λ (m : Mode). m ≢ Gone → s.modes q ≢ Gone)
     (λ same there. subst (λ (x : ℕ). s.modes x ≢ Gone) (sym same) (raised-there (s.modes p) (lacks_one sys p s) there)) (λ _ stays. stays)
 
 -- what the failure of a member of a pair leaves
-pub data Outcome (sys : Sys) (s : State) (p : ℕ) (x : State) : Type 0 where
+pub data Outcome (sys : Behaviour) (s : State) (p : ℕ) (x : State) : Type 0 where
   nothing : x ≡ s → Outcome sys s p x
-  is_down : s.modes p ≡ Paired → x ≡ down sys p s → Outcome sys s p x
-  is_lost : (primary : Bool) → Breaks primary (s.modes p) → x ≡ gone sys p s → Outcome sys s p x
-  is_alone : HasMessages (s.modes p) → x ≡ alone sys p s → Outcome sys s p x
+  is_down : s.modes p ≡ Paired → x ≡ lose_primary sys p s → Outcome sys s p x
+  is_lost : (primary : Bool) → Breaks primary (s.modes p) → x ≡ lose_pair sys p s → Outcome sys s p x
+  is_alone : HasMessages (s.modes p) → x ≡ lose_backup sys p s → Outcome sys s p x
 
-pub outcome : (sys : Sys) (s : State) (p : ℕ) (primary : Bool) → Outcome sys s p (do_fail_tcp sys p primary s)
+pub outcome : (sys : Behaviour) (s : State) (p : ℕ) (primary : Bool) → Outcome sys s p (do_fail_tcp sys p primary s)
 outcome sys s p primary =
     fail-cases sys s (Outcome sys s p) p (nothing refl) (λ paired. is_down paired refl) (λ which breaks. is_lost which breaks refl) (λ has. is_alone has refl) primary
 
 -- a pair that is not made Gone leaves no blocks
-none-left : (sys : Sys) (s : State) (reading : Reading) (p : ℕ) (mode : Mode) → (is_gone mode ≡ false) ⊎ (mode ≡ s.modes p)
-    → (if is_gone mode && not (is_gone (s.modes p)) then lefts s reading (is_of sys p) sys.terminals else []) ≡ []
+none-left : (sys : Behaviour) (s : State) (reading : Reading) (p : ℕ) (mode : Mode) → (is_gone mode ≡ false) ⊎ (mode ≡ s.modes p)
+    → (if is_gone mode && not (is_gone (s.modes p)) then left_blocks s reading (is_of_pair sys p) sys.terminals else []) ≡ []
 none-left sys s reading p mode (inl there) =
-    cond-false (is_gone mode && not (is_gone (s.modes p))) (lefts s reading (is_of sys p) sys.terminals) [] (and_left (is_gone mode) (not (is_gone (s.modes p))) there)
+    cond-false (is_gone mode && not (is_gone (s.modes p))) (left_blocks s reading (is_of_pair sys p) sys.terminals) [] (and_left (is_gone mode) (not (is_gone (s.modes p))) there)
 none-left sys s reading p mode (inr same) =
-    cond-false (is_gone mode && not (is_gone (s.modes p))) (lefts s reading (is_of sys p) sys.terminals) []
+    cond-false (is_gone mode && not (is_gone (s.modes p))) (left_blocks s reading (is_of_pair sys p) sys.terminals) []
     (ap (λ (m : Mode). is_gone m && not (is_gone (s.modes p))) same ∙ no (is_gone (s.modes p)))
   where
     no : (x : Bool) → (x && not x) ≡ false
     no true = refl
     no false = refl
 
-module _ (sys : Sys) (b : IsBehaviour sys) (s : State) (f : Fold) (known : Known sys b s f) (all : FollowsAll sys s f)
-    (stay : (entry : Event) → commits_at s entry ≡ false → Fits sys s entry → committed sys (effect sys s entry) ≡ committed sys s) where
+module _ (sys : Behaviour) (b : IsBehaviour sys) (s : State) (f : Fold) (known : Known sys b s f) (all : FollowsAll sys s f)
+    (stay : (entry : Event) → commits_at s entry ≡ false → Fits sys s entry → committed_files sys (effect sys s entry) ≡ committed_files sys s) where
   pub follows-check-start : (t : ℕ) → Fits sys s (event.CheckStart t) → FollowsAll sys (effect sys s (event.CheckStart t)) (fold_on sys s (event.CheckStart t) f)
   follows-check-start t l = still-follows sys b s f (event.CheckStart t) known refl refl refl (stay (event.CheckStart t) refl l) (λ o. refl) (λ o. refl) (λ o there. there) refl all
 
@@ -79,7 +80,7 @@ module _ (sys : Sys) (b : IsBehaviour sys) (s : State) (f : Fold) (known : Known
   pub follows-applied : (t : ℕ) → Fits sys s (event.Applied t) → FollowsAll sys (effect sys s (event.Applied t)) (fold_on sys s (event.Applied t) f)
   follows-applied t l =
       still-follows sys b s f (event.Applied t) known refl refl refl (stay (event.Applied t) refl l) (λ o. refl) (λ o. refl)
-      (λ o. settled-there sys (record s { memory = upd s.memory t (remembered (s.flight t) (s.memory t)); flight = upd s.flight t None }) (sys.pair_of t) (sys.pair_of o)) refl all
+      (λ o. settled-there sys (record s { memory = upd s.memory t (with_message (s.flight t) (s.memory t)); flight = upd s.flight t None }) (sys.pair_of t) (sys.pair_of o)) refl all
 
   pub follows-send : (t n c : ℕ) → Fits sys s (event.Send t n c) → FollowsAll sys (effect sys s (event.Send t n c)) (fold_on sys s (event.Send t n c) f)
   follows-send t n c l = still-follows sys b s f (event.Send t n c) known refl refl refl (stay (event.Send t n c) refl l) (λ o. refl) (λ o. refl) (λ o there. there) refl all
@@ -117,18 +118,18 @@ module _ (sys : Sys) (b : IsBehaviour sys) (s : State) (f : Fold) (known : Known
   pub follows-raise : (p : ℕ) → Fits sys s (event.Raise p) → FollowsAll sys (effect sys s (event.Raise p)) (fold_on sys s (event.Raise p) f)
   follows-raise p l =
       still-follows sys b s f (event.Raise p) known refl refl refl (stay (event.Raise p) refl l) (λ o. refl) (λ o. refl)
-      (λ o. put-there s.modes p (sys.pair_of o) Raising (λ gone. absurd (let alone_is = l.alone in cc (alone_is, gone)))) refl all
+      (λ o. put-there s.modes p (sys.pair_of o) Raising (λ lose_pair. absurd (let alone_is = l.alone in cc (alone_is, lose_pair)))) refl all
 
   -- TAKEOVER: each path leads to its frontier
   pub follows-takeover : (p : ℕ) → Fits sys s (event.Takeover p) → FollowsAll sys (effect sys s (event.Takeover p)) (fold_on sys s (event.Takeover p) f)
   follows-takeover p l =
       quiet-follows sys b s f (event.Takeover p) refl refl refl (stay (event.Takeover p) refl l) ending
-      (λ o. put-there s.modes p (sys.pair_of o) Alone (λ gone. absurd (let is = l.down in cc (is, gone)))) refl short all
+      (λ o. put-there s.modes p (sys.pair_of o) Alone (λ lose_pair. absurd (let is = l.down in cc (is, lose_pair)))) refl short all
     where
       after : State
       after = effect sys s (event.Takeover p)
 
-      resumed-ending : (m : Option Memory) (u : Option Open) (last : LastEnded) (x : Term) → (resumed p m u last x).ending ≡ x.ending
+      resumed-ending : (m : Option BackupCopy) (u : Option OpenUnit) (last : LastEnded) (x : Term) → (resume_terminal p m u last x).ending ≡ x.ending
       resumed-ending None u last x = refl
       resumed-ending (Some m) u last x = refl
 
@@ -142,25 +143,25 @@ module _ (sys : Sys) (b : IsBehaviour sys) (s : State) (f : Fold) (known : Known
       short : (t : ℕ) → t < sys.terminals → (after.terms t).ending ≡ None → after.modes (sys.pair_of t) ≢ Gone → attempt_of (s.units t) ≡ None → length (path_of after t) ≤ length (f.frontier t)
       short t is_known live here idle =
           let going : (s.terms t).ending ≡ None = sym (ending t) ∙ live in
-          let there = put-there s.modes p (sys.pair_of t) Alone (λ gone. absurd (let is = l.down in cc (is, gone))) here in
+          let there = put-there s.modes p (sys.pair_of t) Alone (λ lose_pair. absurd (let is = l.down in cc (is, lose_pair))) here in
           let ok = known.frontiers t is_known going there in
           ⊎_elim
           (λ live_of.
-          by ok idle (s.memory t) refl (cond-true (is_live_of sys p s t) (resumed p (s.memory t) (s.units t) (s.ended t) (s.terms t)) (s.terms t) live_of))
+          by ok idle (s.memory t) refl (cond-true (is_live_of sys p s t) (resume_terminal p (s.memory t) (s.units t) (s.ended t) (s.terms t)) (s.terms t) live_of))
           (λ other. subst (λ (x : Term). length x.path ≤ length (f.frontier t)) (sym (cond-false (is_live_of sys p s t) _ (s.terms t) other)) (ok.short idle))
           (cases_Bool (is_live_of sys p s t))
         where
-          by : FrontierOk sys t (view_of sys s t) (f.frontier t) → attempt_of (s.units t) ≡ None → (m : Option Memory) → s.memory t ≡ m
-              → after.terms t ≡ resumed p (s.memory t) (s.units t) (s.ended t) (s.terms t) → length (path_of after t) ≤ length (f.frontier t)
+          by : FrontierOk sys t (view_of sys s t) (f.frontier t) → attempt_of (s.units t) ≡ None → (m : Option BackupCopy) → s.memory t ≡ m
+              → after.terms t ≡ resume_terminal p (s.memory t) (s.units t) (s.ended t) (s.terms t) → length (path_of after t) ≤ length (f.frontier t)
           by ok idle None is_m is =
-              subst (λ (x : Term). length x.path ≤ length (f.frontier t)) (sym (is ∙ ap (λ (m : Option Memory). resumed p m (s.units t) (s.ended t) (s.terms t)) is_m)) (ok.short idle)
+              subst (λ (x : Term). length x.path ≤ length (f.frontier t)) (sym (is ∙ ap (λ (m : Option BackupCopy). resume_terminal p m (s.units t) (s.ended t) (s.terms t)) is_m)) (ok.short idle)
           by ok idle (Some m) is_m is =
-              subst (λ (x : Term). length x.path ≤ length (f.frontier t)) (sym (is ∙ ap (λ (m : Option Memory). resumed p m (s.units t) (s.ended t) (s.terms t)) is_m))
+              subst (λ (x : Term). length x.path ≤ length (f.frontier t)) (sym (is ∙ ap (λ (m : Option BackupCopy). resume_terminal p m (s.units t) (s.ended t) (s.terms t)) is_m))
               (leads-short (ok.held m is_m).resumes)
 
   -- a member of a pair fails, and the pair is not lost
   pub follows-kept-pair : (p : ℕ) (primary : Bool) (k : ℕ) → Fits sys s (event.FailTcp p primary k) → Outcome sys s p (do_fail_tcp sys p primary s)
-      → ((is_primary : Bool) → Breaks is_primary (s.modes p) → do_fail_tcp sys p primary s ≡ gone sys p s
+      → ((is_primary : Bool) → Breaks is_primary (s.modes p) → do_fail_tcp sys p primary s ≡ lose_pair sys p s
           → FollowsAll sys (effect sys s (event.FailTcp p primary k)) (fold_on sys s (event.FailTcp p primary k) f))
       → FollowsAll sys (effect sys s (event.FailTcp p primary k)) (fold_on sys s (event.FailTcp p primary k) f)
   follows-kept-pair p primary k l (nothing is) lost =
@@ -173,7 +174,7 @@ module _ (sys : Sys) (b : IsBehaviour sys) (s : State) (f : Fold) (known : Known
       (none-left sys s f.reading p _ (inl (ap (λ (x : State). is_gone (x.modes p)) is ∙ ap is_gone (upd-same s.modes p Alone p refl)))) refl refl
       (stay (event.FailTcp p primary k) refl l) (λ o. ap (λ (x : State). (x.terms o).ending) is) (λ o. ap (λ (x : State). path_of x o) is)
       (λ o. subst (λ (x : State). x.modes (sys.pair_of o) ≢ Gone → s.modes (sys.pair_of o) ≢ Gone) (sym is)
-      (put-there s.modes p (sys.pair_of o) Alone (λ gone. subst HasMessages gone has))) (ap (λ (x : State). x.units) is) all
+      (put-there s.modes p (sys.pair_of o) Alone (λ lose_pair. subst HasMessages lose_pair has))) (ap (λ (x : State). x.units) is) all
   follows-kept-pair p primary k l (is_down paired is) lost =
       quiet-follows sys b s f (event.FailTcp p primary k)
       (none-left sys s f.reading p _ (inl (ap (λ (x : State). is_gone (x.modes p)) is ∙ ap is_gone (upd-same s.modes p Down p refl)))) refl refl
@@ -186,16 +187,16 @@ module _ (sys : Sys) (b : IsBehaviour sys) (s : State) (f : Fold) (known : Known
       (ap (λ (x : State). attempt_of (x.units t)) (sym is) ∙ idle)))
       all
     where
-      ending : (o : ℕ) → ((down sys p s).terms o).ending ≡ (s.terms o).ending
+      ending : (o : ℕ) → ((lose_primary sys p s).terms o).ending ≡ (s.terms o).ending
       ending o =
           ⊎_elim (λ of. ap (λ (x : Term). x.ending) (of-pair sys p o _ (s.terms o) of)) (λ differ. ap (λ (x : Term). x.ending) (not-of-pair sys p o _ (s.terms o) differ)) (cases_eq (sys.pair_of o) p)
 
       there : (o : ℕ) → (effect sys s (event.FailTcp p primary k)).modes (sys.pair_of o) ≢ Gone → s.modes (sys.pair_of o) ≢ Gone
       there o =
           subst (λ (x : State). x.modes (sys.pair_of o) ≢ Gone → s.modes (sys.pair_of o) ≢ Gone) (sym is)
-          (put-there s.modes p (sys.pair_of o) Down (λ gone. absurd (cc (paired, gone))))
+          (put-there s.modes p (sys.pair_of o) Down (λ lose_pair. absurd (cc (paired, lose_pair))))
 
-      short : (t : ℕ) → (attempt_of (s.units t) ≡ None → length (path_of s t) ≤ length (f.frontier t)) → attempt_of (s.units t) ≡ None → length (path_of (down sys p s) t) ≤ length (f.frontier t)
+      short : (t : ℕ) → (attempt_of (s.units t) ≡ None → length (path_of s t) ≤ length (f.frontier t)) → attempt_of (s.units t) ≡ None → length (path_of (lose_primary sys p s) t) ≤ length (f.frontier t)
       short t was idle =
           ⊎_elim
           (λ of. subst (λ (x : Term). length x.path ≤ length (f.frontier t)) (sym (of-pair sys p t _ (s.terms t) of)) (let none : 0 ≤ length (f.frontier t) = omega arith in none))

@@ -6,19 +6,21 @@ use Rattle.pw_code.specs.declared.verb.Verb.{Verb}
 use Rattle.pw_code.specs.declared.verb.Verb.TheVariants as verb
 use Rattle.pw_event.specs.declared.event.Event.{Event}
 use Rattle.pw_event.specs.declared.event.Event.TheVariants as event
-use Rattle.pw_paired.proofs.Upd.{upd-other, upd-same}
-use Rattle.pw_paired.specs.Behaviour.{IsBehaviour}
-use Rattle.pw_paired.specs.declared.refresh.Refresh.{Refresh}
-use Rattle.pw_paired.specs.OneCopy.{AsksOut, Attempt, IsSerialFrom, LegalOut, Machine, Single, TakesAnswer, attempt, one_copy, out_answered, run_block, run_blocks, verb_answered}
-use Rattle.pw_paired.specs.Path.{PathAnswer, RefreshNumber, Shown, next_number, standing}
+use Rattle.pw_onecopy.proofs.Update.{upd-other, upd-same}
+use Rattle.pw_onecopy.specs.IsBehaviour.{IsBehaviour}
+use Rattle.pw_onecopy.specs.declared.refresh.Refresh.{Refresh}
+use Rattle.pw_onecopy.specs.OneCopy.{AsksOut, IsSerialFrom, LegalOut, Machine, Single, one_copy, single_behind_out, run_block, run_blocks}
+use Rattle.pw_onecopy.specs.Attempt.{Attempt, TakesAnswer, attempt, answer_verb, BeginsUnit}
+use Rattle.pw_onecopy.specs.Path.{PathAnswer, RefreshNumber, Shown, next_number, standing}
 use Rattle.pw_paired.specs.Raising.{is_takeover}
-use Rattle.pw_paired.specs.Refreshes.{next_refresh, once, refresh_numbered, refreshes_of}
-use Rattle.pw_paired.specs.Serial.{Block, Out, is_idle, one_more, out_of}
-use Rattle.pw_paired.specs.State.{Gone, Open, Paired, State, Term}
+use Rattle.pw_onecopy.specs.Refreshes.{next_refresh, once, refresh_numbered, refreshes_of}
+use Rattle.pw_onecopy.specs.Blocks.{Block, Out}
+use Rattle.pw_paired.specs.Serial.{is_idle, one_more, out_block}
+use Rattle.pw_paired.specs.State.{Gone, OpenUnit, Paired, State, Term}
 use Rattle.pw_paired.specs.Step.{Fits, effect}
-use Rattle.pw_paired.specs.System.{Sys}
-use Rattle.pw_paired.specs.Terminal.{BeginsUnit, CanStep, LegalShow, path_of}
-use Rattle.pw_paired.specs.Units.{attempt_of, committed, restarts_of}
+use Rattle.pw_onecopy.specs.Behaviour.{Behaviour}
+use Rattle.pw_paired.specs.Terminal.{CanStep, LegalShow, path_of}
+use Rattle.pw_paired.specs.Units.{attempt_of, committed_files, restarts_of}
 use Rattle.pw_serial.proofs.blocks.Fold.{Fold, fold_on}
 use Rattle.pw_serial.proofs.blocks.Following.{Follows, FollowsAll, Goes, refreshes_so_far, running_refreshes}
 use Rattle.pw_serial.proofs.blocks.Known.{Known}
@@ -28,29 +30,29 @@ use Rattle.pw_serial.proofs.blocks.Running.{AtWork, at-work, numbered-at, runnin
 use Rattle.pw_serial.proofs.frontier.Frontier.{FrontierOk}
 use Rattle.pw_serial.proofs.frontier.Leads.{IsForced, Leads, Next, goes_on, is_there, leads-short, next-of}
 use Rattle.pw_serial.proofs.frontier.Standing.{Where, closed, grows, one-longer, running, stays-put, waiting, where-of}
-use Rattle.pw_serial.proofs.induction.Views.{view_of}
+use Rattle.pw_runs.proofs.induction.Views.{view_of}
 use Rattle.pw_serial.proofs.screens.Once.{IsIn, has_number, has-once, in-has, in-left, in-parts, in-right, once-new, once-there, parts-same}
 use Rattle.pw_serial.proofs.screens.Numbers.{Covers, covers-at, covers-shown, next-bounded, next-new}
-use Rattle.pw_serial.specs.Records.{commits_at}
+use Rattle.pw_locking.specs.Records.{commits_at}
 
 -- a SHOW or KEY reads as Out, or as nothing
-pub out-is : (s : State) (f : Fold) (t : ℕ) → attempt_of (s.units t) ≡ None → f.reading.longest t < length (path_of s t) + 1 → out_of s f.reading t ≡ Out t ∷ []
+pub out-is : (s : State) (f : Fold) (t : ℕ) → attempt_of (s.units t) ≡ None → f.reading.longest t < length (path_of s t) + 1 → out_block s f.reading t ≡ Out t ∷ []
 out-is s f t idle longer =
     cond-true (is_idle s t && nat_lt (f.reading.longest t) (length (path_of s t) + 1)) (Out t ∷ []) []
     (and_from (is_idle s t) (nat_lt (f.reading.longest t) (length (path_of s t) + 1)) (ap is_none idle) (lt-ltb (f.reading.longest t) (length (path_of s t) + 1) longer))
 
-pub out-short : (s : State) (f : Fold) (t : ℕ) → length (path_of s t) + 1 ≤ f.reading.longest t → out_of s f.reading t ≡ []
+pub out-short : (s : State) (f : Fold) (t : ℕ) → length (path_of s t) + 1 ≤ f.reading.longest t → out_block s f.reading t ≡ []
 out-short s f t short =
     cond-false (is_idle s t && nat_lt (f.reading.longest t) (length (path_of s t) + 1)) (Out t ∷ []) []
     (and_right (is_idle s t) (nat_lt (f.reading.longest t) (length (path_of s t) + 1)) (le-ltb (f.reading.longest t) (length (path_of s t) + 1) short))
 
-pub out-running : (s : State) (f : Fold) (t : ℕ) (q : List PathAnswer) → attempt_of (s.units t) ≡ Some q → out_of s f.reading t ≡ []
+pub out-running : (s : State) (f : Fold) (t : ℕ) (q : List PathAnswer) → attempt_of (s.units t) ≡ Some q → out_block s f.reading t ≡ []
 out-running s f t q runs =
     cond-false (is_idle s t && nat_lt (f.reading.longest t) (length (path_of s t) + 1)) (Out t ∷ []) []
     (and_left (is_idle s t) (nat_lt (f.reading.longest t) (length (path_of s t) + 1)) (ap is_none runs))
 
-module _ (sys : Sys) (b : IsBehaviour sys) (s : State) (f : Fold) (known : Known sys b s f) (all : FollowsAll sys s f)
-    (stay : (entry : Event) → commits_at s entry ≡ false → Fits sys s entry → committed sys (effect sys s entry) ≡ committed sys s)
+module _ (sys : Behaviour) (b : IsBehaviour sys) (s : State) (f : Fold) (known : Known sys b s f) (all : FollowsAll sys s f)
+    (stay : (entry : Event) → commits_at s entry ≡ false → Fits sys s entry → committed_files sys (effect sys s entry) ≡ committed_files sys s)
     (t phase attempt_no k : ℕ) (l : LegalShow sys s t phase attempt_no k) where
   abbrev entry : Event
   entry = event.Show t phase attempt_no k
@@ -142,7 +144,7 @@ module _ (sys : Sys) (b : IsBehaviour sys) (s : State) (f : Fold) (known : Known
   }
 
   -- all of it, where this is the terminal
-  by-own : (more : List Block) → out_of s f.reading t ≡ more → IsSerialFrom sys machine more → (run_blocks sys machine more).files ≡ machine.files
+  by-own : (more : List Block) → out_block s f.reading t ≡ more → IsSerialFrom sys machine more → (run_blocks sys machine more).files ≡ machine.files
       → ((o : ℕ) → o ≢ t → (run_blocks sys machine more).terms o ≡ machine.terms o)
       → Follows sys next now t ((run_blocks sys machine more).terms t) → FollowsAll sys next now
   by-own more blocks serial files others own =
@@ -152,11 +154,11 @@ module _ (sys : Sys) (b : IsBehaviour sys) (s : State) (f : Fold) (known : Known
       (λ o differ u q is runs. ap (λ (x : ℕ → List (List ℕ)). (attempt sys o q x u.restarts (f.reading.answers o)).refreshes) (stay entry refl l)) own
 
   -- with no running attempt
-  idle-none : attempt_of (s.units t) ≡ None → running_refreshes sys t (committed sys next) (now.reading.answers t) (next.units t) ≡ []
-  idle-none idle = running-idle sys t (committed sys next) (now.reading.answers t) (next.units t) idle
+  idle-none : attempt_of (s.units t) ≡ None → running_refreshes sys t (committed_files sys next) (now.reading.answers t) (next.units t) ≡ []
+  idle-none idle = running-idle sys t (committed_files sys next) (now.reading.answers t) (next.units t) idle
 
   so-idle : attempt_of (s.units t) ≡ None → so_far ≡ (machine.terms t).refreshes
-  so-idle idle = ap (λ (x : List Refresh). (machine.terms t).refreshes ++ x) (running-idle sys t (committed sys s) (f.reading.answers t) (s.units t) idle) ∙ append-nil (machine.terms t).refreshes
+  so-idle idle = ap (λ (x : List Refresh). (machine.terms t).refreshes ++ x) (running-idle sys t (committed_files sys s) (f.reading.answers t) (s.units t) idle) ∙ append-nil (machine.terms t).refreshes
 
   -- at the frontier: Out
   module _ (idle : attempt_of (s.units t) ≡ None) (same : path ≡ f.frontier t) where
@@ -173,7 +175,7 @@ module _ (sys : Sys) (b : IsBehaviour sys) (s : State) (f : Fold) (known : Known
     out = record single { path = single.path ++ Shown ∷ []; refreshes = single.refreshes ++ next_refresh sys t single.path ∷ [] }
 
     out_is : (run_blocks sys machine (Out t ∷ [])).terms t ≡ out
-    out_is = upd-same machine.terms t _ t refl ∙ ap (λ (v : Verb). out_answered sys t v single) asks
+    out_is = upd-same machine.terms t _ t refl ∙ ap (λ (v : Verb). single_behind_out sys t v single) asks
 
     grown-to : now.frontier t ≡ path ++ Shown ∷ []
     grown-to =
@@ -219,7 +221,7 @@ module _ (sys : Sys) (b : IsBehaviour sys) (s : State) (f : Fold) (known : Known
       (subst (λ (p : List PathAnswer). Covers sys t p (machine.terms t).refreshes) (goes.path ∙ (leads.whole ∙ append_assoc path (Shown ∷ []) leads.rest)) goes.covers))))
 
   -- in an attempt: the screen is its next one
-  module _ (u : Open) (q : List PathAnswer) (is_open : s.units t ≡ Some u) (runs : u.running ≡ Some q) where
+  module _ (u : OpenUnit) (q : List PathAnswer) (is_open : s.units t ≡ Some u) (runs : u.running ≡ Some q) where
     abbrev w : AtWork sys b s f known all t u q
     w = at-work sys b s f known all t u q is_open runs
 
@@ -227,25 +229,25 @@ module _ (sys : Sys) (b : IsBehaviour sys) (s : State) (f : Fold) (known : Known
     j = f.reading.answers t
 
     abbrev at : Attempt
-    at = attempt sys t q (committed sys s) u.restarts j
+    at = attempt sys t q (committed_files sys s) u.restarts j
 
     at_path : path ≡ at.path
     at_path = w.at.alone.path_is (rw l.can.paired tt) (ap is_takeover l.can.calm)
 
-    more-refreshes : (attempt sys t q (committed sys s) u.restarts (suc j)).refreshes ≡ at.refreshes ++ r ∷ []
+    more-refreshes : (attempt sys t q (committed_files sys s) u.restarts (suc j)).refreshes ≡ at.refreshes ++ r ∷ []
     more-refreshes =
-        ap (λ (v : Verb). (verb_answered sys t u.restarts (committed sys s) v at).refreshes) (ap (sys.ask t) (sym at_path) ∙ l.asks)
+        ap (λ (v : Verb). (answer_verb sys t u.restarts (committed_files sys s) v at).refreshes) (ap (sys.ask t) (sym at_path) ∙ l.asks)
         ∙ ap (λ (p : List PathAnswer). at.refreshes ++ next_refresh sys t p ∷ []) (sym at_path)
 
-    running-now : running_refreshes sys t (committed sys next) (now.reading.answers t) (next.units t) ≡ at.refreshes ++ r ∷ []
+    running-now : running_refreshes sys t (committed_files sys next) (now.reading.answers t) (next.units t) ≡ at.refreshes ++ r ∷ []
     running-now =
-        running-is sys t (committed sys next) (now.reading.answers t) (next.units t) u q is_open runs
+        running-is sys t (committed_files sys next) (now.reading.answers t) (next.units t) u q is_open runs
         ∙ (ap (λ (x : ℕ → List (List ℕ)). (attempt sys t q x u.restarts (now.reading.answers t)).refreshes) (stay entry refl l)
-        ∙ (ap (λ (n : ℕ). (attempt sys t q (committed sys s) u.restarts n).refreshes) (upd-same f.reading.answers t _ t refl ∙ (let one : j + 1 ≡ suc j = omega arith in one))
+        ∙ (ap (λ (n : ℕ). (attempt sys t q (committed_files sys s) u.restarts n).refreshes) (upd-same f.reading.answers t _ t refl ∙ (let one : j + 1 ≡ suc j = omega arith in one))
         ∙ more-refreshes))
 
     so-running : so_far ≡ (machine.terms t).refreshes ++ at.refreshes
-    so-running = ap (λ (x : List Refresh). (machine.terms t).refreshes ++ x) (running-is sys t (committed sys s) j (s.units t) u q is_open runs)
+    so-running = ap (λ (x : List Refresh). (machine.terms t).refreshes ++ x) (running-is sys t (committed_files sys s) j (s.units t) u q is_open runs)
 
     shows-inside : FollowsAll sys next now
     shows-inside =

@@ -3,16 +3,18 @@ use Rattle.std.proofs.Common.{◌≡◌, ◌≢◌, ◌⊎◌, inl, inr, ⊎_eli
 use Rattle.std.proofs.lemmas.Bool.{cases_lt}
 use Rattle.pw_event.specs.declared.event.Event.{Event}
 use Rattle.pw_event.specs.declared.event.Event.TheVariants as event
-use Rattle.pw_paired.specs.Behaviour.{IsBehaviour}
-use Rattle.pw_paired.specs.declared.refresh.Refresh.{Refresh}
+use Rattle.pw_onecopy.specs.IsBehaviour.{IsBehaviour}
+use Rattle.pw_onecopy.specs.declared.refresh.Refresh.{Refresh}
 use Rattle.pw_paired.specs.Headline.{IsSerializable}
-use Rattle.pw_paired.specs.OneCopy.{IsSerial, Machine, Single, beginning, one_copy, run_blocks}
-use Rattle.pw_paired.specs.Refreshes.{once, refreshes, refreshes_of, same_number}
-use Rattle.pw_paired.specs.Serial.{Block, blocks, lefts}
-use Rattle.pw_paired.specs.State.{Open, State, starting}
+use Rattle.pw_onecopy.specs.OneCopy.{IsSerial, Machine, Single, beginning, one_copy, run_blocks}
+use Rattle.pw_onecopy.specs.Refreshes.{once, refreshes_of, same_number}
+use Rattle.pw_paired.specs.Shown.{refreshes}
+use Rattle.pw_onecopy.specs.Blocks.{Block}
+use Rattle.pw_paired.specs.Serial.{blocks, left_blocks}
+use Rattle.pw_paired.specs.State.{OpenUnit, State, starting}
 use Rattle.pw_paired.specs.Step.{Fits, IsRun, Legal, after, effect}
-use Rattle.pw_paired.specs.System.{Sys}
-use Rattle.pw_paired.specs.Units.{committed}
+use Rattle.pw_onecopy.specs.Behaviour.{Behaviour}
+use Rattle.pw_paired.specs.Units.{committed_files}
 use Rattle.pw_serial.proofs.blocks.Backs.{follows-back, follows-restart}
 use Rattle.pw_serial.proofs.blocks.Endings.{follows-end}
 use Rattle.pw_serial.proofs.blocks.Fold.{Fold, fold_after, fold_on, fold_starts, fold-blocks, fold-shown, run_blocks-append, serial-append}
@@ -26,13 +28,13 @@ use Rattle.pw_serial.proofs.blocks.Replies.{follows-reply}
 use Rattle.pw_serial.proofs.blocks.Running.{ready}
 use Rattle.pw_serial.proofs.blocks.Screens.{follows-show}
 use Rattle.pw_serial.proofs.blocks.Units.{follows-commit}
-use Rattle.pw_serial.proofs.induction.Runs.{behind-runs}
+use Rattle.pw_runs.proofs.induction.Runs.{behind-runs}
 use Rattle.pw_serial.proofs.screens.Once.{IsIn, once-one}
-use Rattle.pw_serial.specs.Records.{commits_at}
+use Rattle.pw_locking.specs.Records.{commits_at}
 
-module _ (sys : Sys) (b : IsBehaviour sys) where
+module _ (sys : Behaviour) (b : IsBehaviour sys) where
   module _ (s : State) (f : Fold) (k : Known sys b s f) (all : FollowsAll sys s f)
-      (stay : (entry : Event) → commits_at s entry ≡ false → Fits sys s entry → committed sys (effect sys s entry) ≡ committed sys s) where
+      (stay : (entry : Event) → commits_at s entry ≡ false → Fits sys s entry → committed_files sys (effect sys s entry) ≡ committed_files sys s) where
     -- each entry
     follows-entry : (entry : Event) → Fits sys s entry → Known sys b (effect sys s entry) (fold_on sys s entry f) → FollowsAll sys (effect sys s entry) (fold_on sys s entry f)
     follows-entry (event.Show t phase attempt n) l k' = follows-show sys b s f k all stay t phase attempt n l
@@ -100,8 +102,8 @@ module _ (sys : Sys) (b : IsBehaviour sys) where
     some : LeftAll sys s f.reading machine (λ t. true) sys.terminals
     some = left-all sys s f.reading machine (λ t. true) (ready sys b s f (known sys b log run) all) sys.terminals
 
-    final : one_copy sys (blocks sys log) ≡ run_blocks sys machine (lefts s f.reading (λ t. true) sys.terminals)
-    final = ap (one_copy sys) (fold-blocks sys log) ∙ run_blocks-append sys (beginning sys) f.order (lefts s f.reading (λ t. true) sys.terminals)
+    final : one_copy sys (blocks sys log) ≡ run_blocks sys machine (left_blocks s f.reading (λ t. true) sys.terminals)
+    final = ap (one_copy sys) (fold-blocks sys log) ∙ run_blocks-append sys (beginning sys) f.order (left_blocks s f.reading (λ t. true) sys.terminals)
 
     shown : (t : ℕ) → refreshes_of t (refreshes sys log) ≡ refreshes_of t f.shown
     shown t = ap (refreshes_of t) (sym (fold-shown sys log))
@@ -119,7 +121,7 @@ module _ (sys : Sys) (b : IsBehaviour sys) where
 
     pub is-serializable : IsSerializable sys log
     is-serializable = record {
-      legal = subst (IsSerial sys) (sym (fold-blocks sys log)) (serial-append sys (beginning sys) f.order (lefts s f.reading (λ t. true) sys.terminals) all.serial some.serial);
+      legal = subst (IsSerial sys) (sym (fold-blocks sys log)) (serial-append sys (beginning sys) f.order (left_blocks s f.reading (λ t. true) sys.terminals) all.serial some.serial);
       screens = λ t.
           ⊎_elim
           (λ here. ap once (shown t) ∙ ((all.terms t here).screens ∙ sym (ap (λ (x : Single). x.refreshes) (at-end t here) ∙ refreshes-left sys b s f (known sys b log run) all (stay-at) t)))
@@ -135,7 +137,7 @@ module _ (sys : Sys) (b : IsBehaviour sys) where
           (started t);
     }
       where
-        stay-at : (entry : Event) → commits_at s entry ≡ false → Fits sys s entry → committed sys (effect sys s entry) ≡ committed sys s
+        stay-at : (entry : Event) → commits_at s entry ≡ false → Fits sys s entry → committed_files sys (effect sys s entry) ≡ committed_files sys s
         stay-at entry none fits = let k = known sys b log run in committed-stay sys b s k.inv k.records entry none fits
 
     -- two refreshes of one terminal with one number are one

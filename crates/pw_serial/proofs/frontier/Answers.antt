@@ -3,29 +3,30 @@ use Rattle.std.proofs.Common.{◌≡◌, ◌≢◌, ℕ, ◌+◌, ◌<◌, ◌�
 use Rattle.std.proofs.lemmas.Bool.{true≢false}
 use Rattle.pw_code.specs.declared.verb.Verb.{Verb}
 use Rattle.pw_code.specs.declared.verb.Verb.TheVariants as verb
-use Rattle.pw_paired.proofs.KeepsChecks as path
-use Rattle.pw_paired.proofs.Paths.{IsPath-push, IsPlain, Entry-plain, Failed-plain, Shown-plain, plain-number, plain-outside, reply-inside}
-use Rattle.pw_paired.specs.Behaviour.{IsBehaviour, IsPath, Suits}
+use Rattle.pw_runs.proofs.terms.KeepsChecks as path
+use Rattle.pw_runs.proofs.Paths.{IsPath-push, IsPlain, Entry-plain, Failed-plain, Shown-plain, plain-number, plain-outside, reply-inside}
+use Rattle.pw_onecopy.specs.IsBehaviour.{IsBehaviour, IsPath, Suits}
 use Rattle.pw_paired.specs.Failure.{resumed_path}
-use Rattle.pw_paired.specs.Path.{PathAnswer, Begun, Entry, Failed, Replied, Shown, Standing, entries_on, is_outside, unit_number}
+use Rattle.pw_onecopy.specs.Path.{PathAnswer, Begun, Entry, Failed, Replied, Shown, Standing, entries_on, is_outside, unit_number}
 use Rattle.pw_paired.specs.Raising.{is_takeover}
-use Rattle.pw_paired.specs.State.{Copy, End, Message, Open, Start}
-use Rattle.pw_paired.specs.System.{Sys}
-use Rattle.pw_paired.specs.Terminal.{BeginsUnit, kept_reply}
+use Rattle.pw_paired.specs.State.{Copy, End, Message, OpenUnit, Start}
+use Rattle.pw_onecopy.specs.Behaviour.{Behaviour}
+use Rattle.pw_onecopy.specs.Attempt.{BeginsUnit}
+use Rattle.pw_paired.specs.Terminal.{kept_reply}
 use Rattle.pw_paired.specs.Units.{attempt_of}
 use Rattle.pw_serial.proofs.frontier.Frontier.{FrontierOk, IsFlying, RunsFrom, fails, frontier_behind, sends, transacts}
 use Rattle.pw_serial.proofs.frontier.Leads.{IsForced, Leads, Next, goes_on, is_there, leads-here, leads-more, leads-short, next-of}
 use Rattle.pw_serial.proofs.frontier.Standing.{NoClose, Where, closed, ends-moved, flies-moved, grown, none-of-verb, one-longer, put, running, to-stand, waiting, where-of}
-use Rattle.pw_serial.proofs.induction.Moving.{TermAt}
-use Rattle.pw_serial.proofs.induction.Views.{Able, View, Waits, gets, path_in, verb_in}
+use Rattle.pw_runs.proofs.induction.Moving.{TermAt}
+use Rattle.pw_runs.proofs.induction.Views.{Able, View, Waits, gets, path_in, verb_in}
 
 -- a unit is not closed and open
-pub no-open : {unit : Option Open} {u : Open} → unit ≡ None → unit ≡ Some u → ⊥
+pub no-open : {unit : Option OpenUnit} {u : OpenUnit} → unit ≡ None → unit ≡ Some u → ⊥
 no-open none is = absurd (cc (none, is))
 
-module _ (sys : Sys) (t : ℕ) (v : View) (frontier : List PathAnswer) (ok : FrontierOk sys t v frontier) where
+module _ (sys : Behaviour) (t : ℕ) (v : View) (frontier : List PathAnswer) (ok : FrontierOk sys t v frontier) where
   -- the path of a running attempt
-  pub answer-runs : (a : PathAnswer) (u : Open) (q : List PathAnswer) → v.unit ≡ Some u → u.running ≡ Some q → NoClose sys t (path_in v)
+  pub answer-runs : (a : PathAnswer) (u : OpenUnit) (q : List PathAnswer) → v.unit ≡ Some u → u.running ≡ Some q → NoClose sys t (path_in v)
       → RunsFrom sys t u.restarts frontier (path_in v ++ a ∷ []) → FrontierOk sys t (gets a v) frontier
   answer-runs a u q is runs none at = record {
     base = ok.base;
@@ -89,7 +90,7 @@ module _ (sys : Sys) (t : ℕ) (v : View) (frontier : List PathAnswer) (ok : Fro
     alone = ok.alone;
   }
 
-module _ (sys : Sys) (b : IsBehaviour sys) (t : ℕ) (v : View) (frontier : List PathAnswer) (ok : FrontierOk sys t v frontier) where
+module _ (sys : Behaviour) (b : IsBehaviour sys) (t : ℕ) (v : View) (frontier : List PathAnswer) (ok : FrontierOk sys t v frontier) where
   -- a running attempt that neither sends nor has a run fault is in its transaction
   runs-plain : (r : ℕ) (a : PathAnswer) → IsPlain a → ((c : ℕ) (message : List ℕ) → verb_in sys t v ≢ verb.Send c message) → ((x : ℕ) → verb_in sys t v ≢ verb.Fault x)
       → RunsFrom sys t r frontier (path_in v) → RunsFrom sys t r frontier (path_in v ++ a ∷ [])
@@ -151,8 +152,8 @@ module _ (sys : Sys) (b : IsBehaviour sys) (t : ℕ) (v : View) (frontier : List
     where
       by : Where sys t v.last v.unit (path_in v) frontier → RunsFrom sys t w.unit.restarts frontier (path_in v)
       by (closed none leads) = absurd (no-open none w.is_open)
-      by (waiting u is idle same) = absurd (let one : u ≡ w.unit = let is_w = w.is_open in cc (is, is_w) in let running = ap (λ (x : Open). x.running) one in let runs = w.runs in cc (running, idle, runs))
-      by (running u q is runs at) = subst (λ (x : Open). RunsFrom sys t x.restarts frontier (path_in v)) (let is_w = w.is_open in let one : u ≡ w.unit = cc (is, is_w) in one) at
+      by (waiting u is idle same) = absurd (let one : u ≡ w.unit = let is_w = w.is_open in cc (is, is_w) in let running = ap (λ (x : OpenUnit). x.running) one in let runs = w.runs in cc (running, idle, runs))
+      by (running u q is runs at) = subst (λ (x : OpenUnit). RunsFrom sys t x.restarts frontier (path_in v)) (let is_w = w.is_open in let one : u ≡ w.unit = cc (is, is_w) in one) at
 
   -- REPLY OK in a transaction
   pub answered-kept : (w : Waits sys t v) (reply : List ℕ) → is_outside (path_in v) ≡ false → FrontierOk sys t (gets (Replied reply) v) (frontier_behind v (gets (Replied reply) v) frontier)

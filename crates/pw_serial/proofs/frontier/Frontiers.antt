@@ -1,32 +1,32 @@
 -- The frontier behind every run.
 use Rattle.std.proofs.Common.{◌≡◌, ℕ, ◌<◌, List, [], ◌∷◌, ◌++◌, None, refl, sym, subst, ap, arith}
 use Rattle.pw_event.specs.declared.event.Event.{Event}
-use Rattle.pw_paired.proofs.KeepsChecks.{path_ok-is}
-use Rattle.pw_paired.proofs.Paths.{Dropped-closing, Ended-closing}
-use Rattle.pw_paired.proofs.TermOk.{HasMessages}
-use Rattle.pw_paired.specs.Behaviour.{IsBehaviour, IsPath}
-use Rattle.pw_paired.specs.Path.{PathAnswer}
-use Rattle.pw_paired.specs.Path as answer
+use Rattle.pw_runs.proofs.terms.KeepsChecks.{path_ok-is}
+use Rattle.pw_runs.proofs.Paths.{Dropped-closing, Ended-closing}
+use Rattle.pw_runs.proofs.terms.TermOk.{HasMessages}
+use Rattle.pw_onecopy.specs.IsBehaviour.{IsBehaviour, IsPath}
+use Rattle.pw_onecopy.specs.Path.{PathAnswer}
+use Rattle.pw_onecopy.specs.Path as answer
 use Rattle.pw_paired.specs.Raising.{is_takeover}
 use Rattle.pw_paired.specs.State.{Copy, End, Start, starting}
 use Rattle.pw_paired.specs.Step.{IsRun, after}
-use Rattle.pw_paired.specs.System.{Sys}
+use Rattle.pw_onecopy.specs.Behaviour.{Behaviour}
 use Rattle.pw_serial.proofs.frontier.Answers.{again-kept, answered-kept, failed-kept, key-kept, show-kept}
 use Rattle.pw_serial.proofs.frontier.Frontier.{FrontierAt, FrontierOk, frontier_behind}
 use Rattle.pw_serial.proofs.frontier.Leads.{leads-here}
 use Rattle.pw_serial.proofs.frontier.Messages.{applied-kept, copy-flies, down-kept, end-flies, lone-kept, raise-kept, sent-kept, server-kept, settles-kept, taken-over-kept}
 use Rattle.pw_serial.proofs.frontier.Standing.{messages-work, put, raised-there, works-there}
 use Rattle.pw_serial.proofs.frontier.Units.{begin-kept, close-kept, restart-kept, serve-kept}
-use Rattle.pw_serial.proofs.induction.Moving.{TermAt, carried_view, holds-of-terms}
-use Rattle.pw_serial.proofs.induction.Runs.{carried}
-use Rattle.pw_serial.proofs.induction.Views as move
-use Rattle.pw_serial.proofs.induction.Views.{Able, Moves, View, Waits, path_in, view_of}
+use Rattle.pw_runs.proofs.induction.Moving.{TermAt, carried_view, holds-of-terms}
+use Rattle.pw_runs.proofs.induction.Runs.{carried}
+use Rattle.pw_runs.proofs.induction.Views as move
+use Rattle.pw_runs.proofs.induction.Views.{Able, Moves, View, Waits, path_in, view_of}
 
 -- the frontiers behind a log
-abbrev pub frontier_after : Sys → ℕ → List Event → List PathAnswer
+abbrev pub frontier_after : Behaviour → ℕ → List Event → List PathAnswer
 frontier_after sys t log = carried sys (carried_view sys t frontier_behind) [] log
 
-module _ (sys : Sys) (b : IsBehaviour sys) (t : ℕ) (v w : View) (frontier : List PathAnswer) (ok : FrontierAt sys t v frontier) (term : TermAt sys t v) where
+module _ (sys : Behaviour) (b : IsBehaviour sys) (t : ℕ) (v w : View) (frontier : List PathAnswer) (ok : FrontierAt sys t v frontier) (term : TermAt sys t v) where
   at : (x : View) → w ≡ x → FrontierAt sys t x (frontier_behind v x frontier) → FrontierAt sys t w (frontier_behind v w frontier)
   at x is = subst (λ (y : View). FrontierAt sys t y (frontier_behind v y frontier)) (sym is)
 
@@ -82,7 +82,7 @@ module _ (sys : Sys) (b : IsBehaviour sys) (t : ℕ) (v w : View) (frontier : Li
   frontier-kept (move.leaves e lacks is) = at _ is (λ now there. absurd (cc now))
 
 -- what holds at the start
-frontier-at-start : (sys : Sys) (t : ℕ) → t < sys.terminals → FrontierAt sys t (view_of sys (starting sys) t) []
+frontier-at-start : (sys : Behaviour) (t : ℕ) → t < sys.terminals → FrontierAt sys t (view_of sys (starting sys) t) []
 frontier-at-start sys t known live there = record {
   base = record {
     rest = record { is_path = record { known = known; suits = tt }; outside = refl };
@@ -99,7 +99,7 @@ frontier-at-start sys t known live there = record {
 }
 
 -- In every run of a deck the frontier of each terminal is as it should be.
-pub frontiers : (sys : Sys) → IsBehaviour sys → (t : ℕ) → t < sys.terminals → (log : List Event) → IsRun sys log
+pub frontiers : (sys : Behaviour) → IsBehaviour sys → (t : ℕ) → t < sys.terminals → (log : List Event) → IsRun sys log
     → FrontierAt sys t (view_of sys (after sys log) t) (frontier_after sys t log)
 frontiers sys b t known =
     holds-of-terms sys b t known frontier_behind [] (FrontierAt sys t)

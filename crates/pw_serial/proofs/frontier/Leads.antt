@@ -2,10 +2,10 @@
 use Rattle.std.proofs.Common.{◌≡◌, ◌≢◌, ℕ, ◌+◌, ◌≤◌, true, List, [], ◌∷◌, ◌++◌, length, Some, ap, sym, subst, append-nil, append_assoc, length-append, arith, ◌∙◌}
 use Rattle.pw_code.specs.declared.verb.Verb.{Verb}
 use Rattle.pw_code.specs.declared.verb.Verb.TheVariants as verb
-use Rattle.pw_paired.specs.Path.{PathAnswer, Entry, Replied, Shown, entries_on, is_outside, unit_number}
+use Rattle.pw_onecopy.specs.Path.{PathAnswer, Entry, Replied, Shown, entries_on, is_outside, unit_number}
 use Rattle.pw_paired.specs.State.{LastEnded}
-use Rattle.pw_paired.specs.System.{Sys}
-use Rattle.pw_paired.specs.Terminal.{BeginsUnit}
+use Rattle.pw_onecopy.specs.Behaviour.{Behaviour}
+use Rattle.pw_onecopy.specs.Attempt.{BeginsUnit}
 
 -- The answer is forced at this verb: Shown, the next entry, or the reply that TMF keeps for the last ended unit.
 abbrev pub IsForced : LastEnded → List PathAnswer → Verb → PathAnswer → Type 0
@@ -15,21 +15,21 @@ IsForced last path (verb.Send class message) (Replied reply) = (is_outside path 
 IsForced last path _ _ = ⊥
 
 -- each answer is, where the path goes on from these
-abbrev pub AreForced : Sys → ℕ → LastEnded → List PathAnswer → List PathAnswer → Type 0
+abbrev pub AreForced : Behaviour → ℕ → LastEnded → List PathAnswer → List PathAnswer → Type 0
 AreForced sys t last before [] = Unit {0}
 AreForced sys t last before (a ∷ rest) = IsForced last before (sys.ask t before) a × AreForced sys t last (before ++ a ∷ []) rest
 
 -- the path is a beginning of the frontier, and what follows on the frontier is forced
-pub record Leads (sys : Sys) (t : ℕ) (last : LastEnded) (path frontier : List PathAnswer) : Type 0 where
+pub record Leads (sys : Behaviour) (t : ℕ) (last : LastEnded) (path frontier : List PathAnswer) : Type 0 where
   pub rest : List PathAnswer
   pub whole : frontier ≡ path ++ rest
   pub forced : AreForced sys t last path rest
 
 -- the frontier itself
-pub leads-here : (sys : Sys) (t : ℕ) (last : LastEnded) (path frontier : List PathAnswer) → path ≡ frontier → Leads sys t last path frontier
+pub leads-here : (sys : Behaviour) (t : ℕ) (last : LastEnded) (path frontier : List PathAnswer) → path ≡ frontier → Leads sys t last path frontier
 leads-here sys t last path frontier is = record { rest = []; whole = sym is ∙ sym (append-nil path); forced = tt }
 
-forced-more : (sys : Sys) (t : ℕ) (last : LastEnded) (before rest : List PathAnswer) (a : PathAnswer) → AreForced sys t last before rest
+forced-more : (sys : Behaviour) (t : ℕ) (last : LastEnded) (before rest : List PathAnswer) (a : PathAnswer) → AreForced sys t last before rest
     → IsForced last (before ++ rest) (sys.ask t (before ++ rest)) a → AreForced sys t last before (rest ++ a ∷ [])
 forced-more sys t last before [] a forced new = (subst (λ (p : List PathAnswer). IsForced last p (sys.ask t p) a) (append-nil before) new, tt)
 forced-more sys t last before (first ∷ rest) a forced new = (
@@ -39,7 +39,7 @@ forced-more sys t last before (first ∷ rest) a forced new = (
 )
 
 -- the frontier grows by an answer that is forced
-pub leads-more : {sys : Sys} {t : ℕ} {last : LastEnded} {path frontier : List PathAnswer} (a : PathAnswer) → IsForced last frontier (sys.ask t frontier) a
+pub leads-more : {sys : Behaviour} {t : ℕ} {last : LastEnded} {path frontier : List PathAnswer} (a : PathAnswer) → IsForced last frontier (sys.ask t frontier) a
     → Leads sys t last path frontier → Leads sys t last path (frontier ++ a ∷ [])
 leads-more {sys = sys} {t = t} {last = last} {path = path} {frontier = frontier} a new leads = record {
   rest = leads.rest ++ a ∷ [];
@@ -48,11 +48,11 @@ leads-more {sys = sys} {t = t} {last = last} {path = path} {frontier = frontier}
 }
 
 -- a path that leads is the frontier, or one more forced answer leads on
-pub data Next (sys : Sys) (t : ℕ) (last : LastEnded) (path frontier : List PathAnswer) : Type 0 where
+pub data Next (sys : Behaviour) (t : ℕ) (last : LastEnded) (path frontier : List PathAnswer) : Type 0 where
   is_there : path ≡ frontier → Next sys t last path frontier
   goes_on : (a : PathAnswer) → IsForced last path (sys.ask t path) a → Leads sys t last (path ++ a ∷ []) frontier → Next sys t last path frontier
 
-pub next-of : {sys : Sys} {t : ℕ} {last : LastEnded} {path frontier : List PathAnswer} → Leads sys t last path frontier → Next sys t last path frontier
+pub next-of : {sys : Behaviour} {t : ℕ} {last : LastEnded} {path frontier : List PathAnswer} → Leads sys t last path frontier → Next sys t last path frontier
 next-of {sys = sys} {t = t} {last = last} {path = path} {frontier = frontier} leads = by leads.rest leads.whole leads.forced
   where
     by : (rest : List PathAnswer) → frontier ≡ path ++ rest → AreForced sys t last path rest → Next sys t last path frontier
@@ -74,7 +74,7 @@ begins-none last path (verb.Fault x) a begins new forced = absurd begins
 begins-none last path (verb.File call) a begins new forced = absurd begins
 begins-none last path (verb.Reply reply) a begins new forced = absurd begins
 
-pub leads-whole : {sys : Sys} {t : ℕ} {last : LastEnded} {path frontier : List PathAnswer} → Leads sys t last path frontier
+pub leads-whole : {sys : Behaviour} {t : ℕ} {last : LastEnded} {path frontier : List PathAnswer} → Leads sys t last path frontier
     → BeginsUnit (sys.ask t path) path → last.number ≢ unit_number path → path ≡ frontier
 leads-whole {sys = sys} {t = t} {last = last} {path = path} {frontier = frontier} leads begins new = by (next-of leads)
   where
@@ -83,6 +83,6 @@ leads-whole {sys = sys} {t = t} {last = last} {path = path} {frontier = frontier
     by (goes_on a forced more) = absurd (begins-none last path (sys.ask t path) a begins new forced)
 
 -- a path that leads is no longer than the frontier
-pub leads-short : {sys : Sys} {t : ℕ} {last : LastEnded} {path frontier : List PathAnswer} → Leads sys t last path frontier → length path ≤ length frontier
+pub leads-short : {sys : Behaviour} {t : ℕ} {last : LastEnded} {path frontier : List PathAnswer} → Leads sys t last path frontier → length path ≤ length frontier
 leads-short {path = path} {frontier = frontier} leads =
     let whole = ap (λ (p : List PathAnswer). length p) leads.whole ∙ length-append path leads.rest in omega (arith, whole)

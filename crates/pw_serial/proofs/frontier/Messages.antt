@@ -4,32 +4,32 @@ use Rattle.std.proofs.lemmas.Bool.{and_from, cond-false, cond-true, eq-eqb, ne_e
 use Rattle.pw_code.specs.declared.verb.Verb.{Verb}
 use Rattle.pw_code.specs.declared.verb.Verb.TheVariants as verb
 use Rattle.pw_event.specs.declared.event.Cause.TheVariants as cause
-use Rattle.pw_paired.proofs.KeepsChecks as path
-use Rattle.pw_paired.proofs.TermOk.{FlightOk, HasMessages}
-use Rattle.pw_paired.specs.Behaviour.{IsBehaviour, IsPath}
-use Rattle.pw_paired.specs.Failure.{resumed, resumed_path, runs_unit}
-use Rattle.pw_paired.specs.Path.{PathAnswer, Begun, is_outside}
-use Rattle.pw_paired.specs.Raising.{is_takeover, raised, remembered, with_end}
-use Rattle.pw_paired.specs.State.{Alone, Copy, Down, End, LastEnded, Memory, Message, Open, Raising, Start}
-use Rattle.pw_paired.specs.System.{Sys}
-use Rattle.pw_paired.specs.Terminal.{HoldsEnd, closing}
+use Rattle.pw_runs.proofs.terms.KeepsChecks as path
+use Rattle.pw_runs.proofs.terms.TermOk.{FlightOk, HasMessages}
+use Rattle.pw_onecopy.specs.IsBehaviour.{IsBehaviour, IsPath}
+use Rattle.pw_paired.specs.Failure.{resume_terminal, resumed_path, runs_unit}
+use Rattle.pw_onecopy.specs.Path.{PathAnswer, Begun, is_outside}
+use Rattle.pw_paired.specs.Raising.{is_takeover, settled_mode, with_message, with_end}
+use Rattle.pw_paired.specs.State.{Alone, Copy, Down, End, LastEnded, BackupCopy, Message, OpenUnit, Raising, Start}
+use Rattle.pw_onecopy.specs.Behaviour.{Behaviour}
+use Rattle.pw_paired.specs.Terminal.{HoldsEnd, closing_answer}
 use Rattle.pw_paired.specs.Units.{attempt_of}
 use Rattle.pw_serial.proofs.frontier.Answers.{no-open}
 use Rattle.pw_serial.proofs.frontier.Frontier.{EndFlies, EndsOne, FrontierOk, IsFlying, IsHeld, Stands, fails, frontier_behind, sends, transacts}
 use Rattle.pw_serial.proofs.frontier.Leads.{Leads, leads-here, leads-short}
 use Rattle.pw_serial.proofs.frontier.Standing.{Where, closed, messages-work, put, raised-alone, raised-has, raised-works, resumed-start, running, to-stand, waiting, where-of}
-use Rattle.pw_serial.proofs.induction.Moving.{TermAt}
-use Rattle.pw_serial.proofs.induction.Views.{Able, View, Waits, path_in, verb_in}
+use Rattle.pw_runs.proofs.induction.Moving.{TermAt}
+use Rattle.pw_runs.proofs.induction.Views.{Able, View, Waits, path_in, verb_in}
 
 -- a memory of a unit that has not ended resumes at its start
-resumed-open : (m : Memory) (last : LastEnded) → last.number ≢ m.unit → resumed_path m last ≡ m.start
+resumed-open : (m : BackupCopy) (last : LastEnded) → last.number ≢ m.unit → resumed_path m last ≡ m.start
 resumed-open m last differ = cond-false (last.number == m.unit) (unwrap_or m.end m.start) m.start (ne_eqb last.number m.unit differ)
 
 -- an attempt that closes neither sends nor has a run fault
-closing-send : (v : Verb) (a : PathAnswer) → closing v ≡ Some a → ((c : ℕ) (message : List ℕ) → v ≢ verb.Send c message) × ((x : ℕ) → v ≢ verb.Fault x)
-closing-send v a closes = (λ c message is. absurd (let none = ap closing is in cc (closes, none)), λ x is. absurd (let none = ap closing is in cc (closes, none)))
+closing-send : (v : Verb) (a : PathAnswer) → closing_answer v ≡ Some a → ((c : ℕ) (message : List ℕ) → v ≢ verb.Send c message) × ((x : ℕ) → v ≢ verb.Fault x)
+closing-send v a closes = (λ c message is. absurd (let none = ap closing_answer is in cc (closes, none)), λ x is. absurd (let none = ap closing_answer is in cc (closes, none)))
 
-closing-inside : (sys : Sys) → IsBehaviour sys → (t : ℕ) (path : List PathAnswer) (v : Verb) (a : PathAnswer) → IsPath sys t path → sys.ask t path ≡ v → closing v ≡ Some a
+closing-inside : (sys : Behaviour) → IsBehaviour sys → (t : ℕ) (path : List PathAnswer) (v : Verb) (a : PathAnswer) → IsPath sys t path → sys.ask t path ≡ v → closing_answer v ≡ Some a
     → is_outside path ≡ false
 closing-inside sys b t path verb.End a is_path asks closes = b.ends t path is_path asks
 closing-inside sys b t path verb.Drop a is_path asks closes = b.drops t path is_path asks
@@ -43,7 +43,7 @@ closing-inside sys b t path (verb.Fault x) a is_path asks closes = absurd (cc cl
 closing-inside sys b t path (verb.File call) a is_path asks closes = absurd (cc closes)
 closing-inside sys b t path (verb.Reply reply) a is_path asks closes = absurd (cc closes)
 
-module _ (sys : Sys) (b : IsBehaviour sys) (t : ℕ) (v : View) (frontier : List PathAnswer) (ok : FrontierOk sys t v frontier) (term : TermAt sys t v) where
+module _ (sys : Behaviour) (b : IsBehaviour sys) (t : ℕ) (v : View) (frontier : List PathAnswer) (ok : FrontierOk sys t v frontier) (term : TermAt sys t v) where
   -- a message is in flight
   module _ (message : Message) (flies : IsFlying sys t v.last v.unit v.memory frontier (path_in v) message) where
     abbrev sent : View
@@ -61,7 +61,7 @@ module _ (sys : Sys) (b : IsBehaviour sys) (t : ℕ) (v : View) (frontier : List
     })
 
   -- CHECK END
-  pub end-flies : Able sys t v → (a : PathAnswer) → closing (verb_in sys t v) ≡ Some a → (¬ HoldsEnd v.memory (path_in v ++ a ∷ []))
+  pub end-flies : Able sys t v → (a : PathAnswer) → closing_answer (verb_in sys t v) ≡ Some a → (¬ HoldsEnd v.memory (path_in v ++ a ∷ []))
       → EndFlies sys t v.unit v.memory frontier (path_in v) (path_in v ++ a ∷ [])
   end-flies able a closes lacking = by (where-of v.unit (ok.stands (rw able.paired tt) (ap is_takeover able.calm)))
     where
@@ -71,7 +71,7 @@ module _ (sys : Sys) (b : IsBehaviour sys) (t : ℕ) (v : View) (frontier : List
       not-there : path_in v ≡ frontier → ⊥
       not-there same = outside-none (ap is_outside same ∙ ok.base.rest.outside) (subst (IsPath sys t) (sym same) ok.base.rest.is_path)
 
-      flying : (u : Open) (q : List PathAnswer) → v.unit ≡ Some u → u.running ≡ Some q → sys.ask t frontier ≡ verb.Begin → (more : List PathAnswer) → path_in v ≡ frontier ++ Begun u.restarts ∷ more
+      flying : (u : OpenUnit) (q : List PathAnswer) → v.unit ≡ Some u → u.running ≡ Some q → sys.ask t frontier ≡ verb.Begin → (more : List PathAnswer) → path_in v ≡ frontier ++ Begun u.restarts ∷ more
           → EndFlies sys t v.unit v.memory frontier (path_in v) (path_in v ++ a ∷ [])
       flying u q is runs begins more whole = record {
         open_unit = u;
@@ -106,14 +106,14 @@ module _ (sys : Sys) (b : IsBehaviour sys) (t : ℕ) (v : View) (frontier : List
 
   -- CHECK COPY
   pub copy-flies : v.term.ending ≡ None → v.mode ≡ Raising
-      → Leads sys t v.last (unwrap_or (attempt_of v.unit) (path_in v)) frontier × ((u : Open) → v.unit ≡ Some u → unwrap_or (attempt_of v.unit) (path_in v) ≡ frontier)
+      → Leads sys t v.last (unwrap_or (attempt_of v.unit) (path_in v)) frontier × ((u : OpenUnit) → v.unit ≡ Some u → unwrap_or (attempt_of v.unit) (path_in v) ≡ frontier)
   copy-flies live raising = by (where-of v.unit (ok.stands (rw raising tt) (term.calm (rw raising tt))))
     where
       idle-path : attempt_of v.unit ≡ None → unwrap_or (attempt_of v.unit) (path_in v) ≡ path_in v
       idle-path idle = ap (λ (q : Option (List PathAnswer)). unwrap_or q (path_in v)) idle
 
       by : Where sys t v.last v.unit (path_in v) frontier
-          → Leads sys t v.last (unwrap_or (attempt_of v.unit) (path_in v)) frontier × ((u : Open) → v.unit ≡ Some u → unwrap_or (attempt_of v.unit) (path_in v) ≡ frontier)
+          → Leads sys t v.last (unwrap_or (attempt_of v.unit) (path_in v)) frontier × ((u : OpenUnit) → v.unit ≡ Some u → unwrap_or (attempt_of v.unit) (path_in v) ≡ frontier)
       by (closed none leads) =
           (subst (λ (p : List PathAnswer). Leads sys t v.last p frontier) (sym (idle-path (ap attempt_of none))) leads, λ u is. absurd (no-open none is))
       by (waiting u is idle same) =
@@ -127,28 +127,28 @@ module _ (sys : Sys) (b : IsBehaviour sys) (t : ℕ) (v : View) (frontier : List
   -- APPLIED
   module _ (has : HasMessages v.mode) (lacks : Bool) where
     abbrev taken : Message → View
-    taken message = record v { memory = remembered (Some message) v.memory; flight = None; mode = raised v.mode lacks }
+    taken message = record v { memory = with_message (Some message) v.memory; flight = None; mode = settled_mode v.mode lacks }
 
     -- a memory with a start path alone
-    start-held : (n : ℕ) (p : List PathAnswer) → Leads sys t v.last p frontier → ((u : Open) → v.unit ≡ Some u → p ≡ frontier) → (memory : Memory)
+    start-held : (n : ℕ) (p : List PathAnswer) → Leads sys t v.last p frontier → ((u : OpenUnit) → v.unit ≡ Some u → p ≡ frontier) → (memory : BackupCopy)
         → record { unit = n; start = p; end = None } ≡ memory → IsHeld sys t v.last v.unit memory frontier
     start-held n p leads at_open memory same =
-        subst (λ (m : Memory). IsHeld sys t v.last v.unit m frontier) same
+        subst (λ (m : BackupCopy). IsHeld sys t v.last v.unit m frontier) same
         (record {
           resumes = subst (λ (q : List PathAnswer). Leads sys t v.last q frontier) (sym (resumed-start (record { unit = n; start = p; end = None }) v.last refl)) leads;
           at_open = at_open;
           no_end = λ none differ. refl;
         })
 
-    start-taken : (message : Message) (n : ℕ) (p : List PathAnswer) → remembered (Some message) v.memory ≡ Some (record { unit = n; start = p; end = None })
-        → Leads sys t v.last p frontier → ((u : Open) → v.unit ≡ Some u → p ≡ frontier) → FrontierOk sys t (taken message) frontier
+    start-taken : (message : Message) (n : ℕ) (p : List PathAnswer) → with_message (Some message) v.memory ≡ Some (record { unit = n; start = p; end = None })
+        → Leads sys t v.last p frontier → ((u : OpenUnit) → v.unit ≡ Some u → p ≡ frontier) → FrontierOk sys t (taken message) frontier
     start-taken message n p new leads at_open = record {
       base = ok.base;
       short = ok.short;
       stands = λ works. ok.stands (raised-works v.mode lacks works);
       held = λ memory is. start-held n p leads at_open memory (cc (new, is));
       ends = λ messages u memory e is_u is_m is_e.
-          absurd (let one : record { unit = n; start = p; end = None } ≡ memory = cc (new, is_m) in let end = ap (λ (m : Memory). m.end) one in cc (end, is_e));
+          absurd (let one : record { unit = n; start = p; end = None } ≡ memory = cc (new, is_m) in let end = ap (λ (m : BackupCopy). m.end) one in cc (end, is_e));
       flies = λ other is. absurd (cc is);
       alone = λ is. absurd (let was = raised-alone v.mode lacks is in subst HasMessages was has);
     }
@@ -158,16 +158,16 @@ module _ (sys : Sys) (b : IsBehaviour sys) (t : ℕ) (v : View) (frontier : List
 
     -- START
     start-leads : (n : ℕ) (p : List PathAnswer) → FlightOk sys t v.last.number v.unit v.memory (path_in v) (Start n p)
-        → Leads sys t v.last p frontier × ((u : Open) → v.unit ≡ Some u → p ≡ frontier)
+        → Leads sys t v.last p frontier × ((u : OpenUnit) → v.unit ≡ Some u → p ≡ frontier)
     start-leads n p f = by (where-of v.unit working)
       where
-        by : Where sys t v.last v.unit (path_in v) frontier → Leads sys t v.last p frontier × ((u : Open) → v.unit ≡ Some u → p ≡ frontier)
+        by : Where sys t v.last v.unit (path_in v) frontier → Leads sys t v.last p frontier × ((u : OpenUnit) → v.unit ≡ Some u → p ≡ frontier)
         by (closed none leads) = (subst (λ (q : List PathAnswer). Leads sys t v.last q frontier) f.2 leads, λ u is. absurd (no-open none is))
         by (waiting u is idle same) = let whole = sym f.2 ∙ same in (leads-here sys t v.last p frontier whole, λ x is_x. whole)
         by (running u q is runs at) = let idle = f.1 in absurd (cc (idle, is, runs))
 
     -- END
-    end-taken : (p : List PathAnswer) (m : Memory) → v.memory ≡ Some m → EndFlies sys t v.unit v.memory frontier (path_in v) p → FrontierOk sys t (taken (End p)) frontier
+    end-taken : (p : List PathAnswer) (m : BackupCopy) → v.memory ≡ Some m → EndFlies sys t v.unit v.memory frontier (path_in v) p → FrontierOk sys t (taken (End p)) frontier
     end-taken p m is_m flies =
         let new : with_end p v.memory ≡ Some (record m { end = Some p }) = ap (with_end p) is_m in
         let old = ok.held m is_m in
@@ -178,7 +178,7 @@ module _ (sys : Sys) (b : IsBehaviour sys) (t : ℕ) (v : View) (frontier : List
           short = ok.short;
           stands = λ works. ok.stands (raised-works v.mode lacks works);
           held = λ memory is.
-              subst (λ (x : Memory). IsHeld sys t v.last v.unit x frontier) (let one : record m { end = Some p } ≡ memory = cc (new, is) in one)
+              subst (λ (x : BackupCopy). IsHeld sys t v.last v.unit x frontier) (let one : record m { end = Some p } ≡ memory = cc (new, is) in one)
               (record {
                 resumes = leads-here sys t v.last (resumed_path (record m { end = Some p }) v.last) frontier
                     (resumed-open (record m { end = Some p }) v.last (λ same. absurd (omega (arith, same, unit_is, next))) ∙ old.at_open flies.open_unit flies.is_open);
@@ -187,9 +187,9 @@ module _ (sys : Sys) (b : IsBehaviour sys) (t : ℕ) (v : View) (frontier : List
               });
           ends = λ messages u memory e is_u is is_e.
               let one : record m { end = Some p } ≡ memory = cc (new, is) in
-              let same : p ≡ e = let end = ap (λ (x : Memory). x.end) one in cc (end, is_e) in
+              let same : p ≡ e = let end = ap (λ (x : BackupCopy). x.end) one in cc (end, is_e) in
               let unit : flies.open_unit ≡ u = let is_f = flies.is_open in cc (is_f, is_u) in
-              subst (λ (q : List PathAnswer). EndsOne sys t u frontier (path_in v) q) same (subst (λ (x : Open). EndsOne sys t x frontier (path_in v) p) unit flies.ends);
+              subst (λ (q : List PathAnswer). EndsOne sys t u frontier (path_in v) q) same (subst (λ (x : OpenUnit). EndsOne sys t x frontier (path_in v) p) unit flies.ends);
           flies = λ other is. absurd (cc is);
           alone = λ is. absurd (let was = raised-alone v.mode lacks is in subst HasMessages was has);
         }
@@ -204,8 +204,8 @@ module _ (sys : Sys) (b : IsBehaviour sys) (t : ℕ) (v : View) (frontier : List
     applied-kept message is = put v (taken message) frontier (taken-kept message is (term.flight_ok message is) (ok.flies message is))
 
   -- the pair may have become up to date
-  pub settles-kept : (lacks : Bool) → FrontierOk sys t (record v { mode = raised v.mode lacks }) (frontier_behind v (record v { mode = raised v.mode lacks }) frontier)
-  settles-kept lacks = put v (record v { mode = raised v.mode lacks }) frontier (record {
+  pub settles-kept : (lacks : Bool) → FrontierOk sys t (record v { mode = settled_mode v.mode lacks }) (frontier_behind v (record v { mode = settled_mode v.mode lacks }) frontier)
+  settles-kept lacks = put v (record v { mode = settled_mode v.mode lacks }) frontier (record {
     base = ok.base;
     short = ok.short;
     stands = λ works. ok.stands (raised-works v.mode lacks works);
@@ -266,18 +266,18 @@ module _ (sys : Sys) (b : IsBehaviour sys) (t : ℕ) (v : View) (frontier : List
   })
 
   -- TAKEOVER
-  module _ (p : ℕ) (down : v.mode ≡ Down) (live : v.term.ending ≡ None) (held : Memory) (is_held : v.memory ≡ Some held) where
+  module _ (p : ℕ) (down : v.mode ≡ Down) (live : v.term.ending ≡ None) (held : BackupCopy) (is_held : v.memory ≡ Some held) where
     abbrev after : View
-    after = record v { mode = Alone; memory = None; term = resumed p (Some held) v.unit v.last v.term }
+    after = record v { mode = Alone; memory = None; term = resume_terminal p (Some held) v.unit v.last v.term }
 
     -- with an open unit it goes on at the frontier
-    at-open : (u : Open) → v.unit ≡ Some u → resumed_path held v.last ≡ frontier
+    at-open : (u : OpenUnit) → v.unit ≡ Some u → resumed_path held v.last ≡ frontier
     at-open u is =
         let same = term.memory_unit held u is_held is in
         let next = (term.unit_ok u is).number in
         resumed-open held v.last (λ e. absurd (omega (arith, e, same, next))) ∙ (ok.held held is_held).at_open u is
 
-    stands-by : (unit : Option Open) → v.unit ≡ unit → is_takeover (if runs_unit held.unit unit then Some (cause.Takeover p) else v.term.pending) ≡ false
+    stands-by : (unit : Option OpenUnit) → v.unit ≡ unit → is_takeover (if runs_unit held.unit unit then Some (cause.Takeover p) else v.term.pending) ≡ false
         → Stands sys t v.last unit (resumed_path held v.last) frontier
     stands-by None none untaken = (ok.held held is_held).resumes
     stands-by (Some u) is untaken = by u.running refl

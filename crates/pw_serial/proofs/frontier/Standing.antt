@@ -4,17 +4,17 @@ use Rattle.std.specs.Prelude.{nat_lt}
 use Rattle.std.proofs.lemmas.Bool.{and_from, and_left, and_right, cond-false, cond-true, le-ltb, lt-ltb}
 use Rattle.std.proofs.lemmas.List.{append_cancel_left}
 use Rattle.pw_code.specs.declared.verb.Verb.{Verb}
-use Rattle.pw_paired.proofs.TermOk.{HasMessages, IsWorking}
+use Rattle.pw_runs.proofs.terms.TermOk.{HasMessages, IsWorking}
 use Rattle.pw_paired.specs.Failure.{resumed_path}
-use Rattle.pw_paired.specs.Path.{PathAnswer, Begun}
-use Rattle.pw_paired.specs.Raising.{raised}
-use Rattle.pw_paired.specs.State.{Alone, Copy, Down, End, Gone, LastEnded, Memory, Message, Mode, Open, Paired, Raising, Start}
-use Rattle.pw_paired.specs.System.{Sys}
-use Rattle.pw_paired.specs.Terminal.{closing}
+use Rattle.pw_onecopy.specs.Path.{PathAnswer, Begun}
+use Rattle.pw_paired.specs.Raising.{settled_mode}
+use Rattle.pw_paired.specs.State.{Alone, Copy, Down, End, Gone, LastEnded, BackupCopy, Message, Mode, OpenUnit, Paired, Raising, Start}
+use Rattle.pw_onecopy.specs.Behaviour.{Behaviour}
+use Rattle.pw_paired.specs.Terminal.{closing_answer}
 use Rattle.pw_paired.specs.Units.{attempt_of}
 use Rattle.pw_serial.proofs.frontier.Frontier.{Closes, EndsOne, FrontierOk, IsFlying, RunsFrom, Stands, StandsIn, frontier_behind}
 use Rattle.pw_serial.proofs.frontier.Leads.{Leads}
-use Rattle.pw_serial.proofs.induction.Views.{View, path_in}
+use Rattle.pw_runs.proofs.induction.Views.{View, path_in}
 
 -- a path that is not longer leaves the frontier
 pub stays-put : (v w : View) (frontier : List PathAnswer) → (attempt_of w.unit ≡ None → length (path_in w) ≤ length frontier) → frontier_behind v w frontier ≡ frontier
@@ -28,7 +28,7 @@ stays-put v w frontier short = by (attempt_of w.unit) refl
         cond-false (is_none (attempt_of w.unit) && nat_lt (length frontier) (length (path_in w))) (path_in w) frontier
         (and_left (is_none (attempt_of w.unit)) (nat_lt (length frontier) (length (path_in w))) (ap is_none runs))
 
-pub put : {sys : Sys} {t : ℕ} (v w : View) (frontier : List PathAnswer) → FrontierOk sys t w frontier → FrontierOk sys t w (frontier_behind v w frontier)
+pub put : {sys : Behaviour} {t : ℕ} (v w : View) (frontier : List PathAnswer) → FrontierOk sys t w frontier → FrontierOk sys t w (frontier_behind v w frontier)
 put {sys = sys} {t = t} v w frontier ok = subst (FrontierOk sys t w) (sym (stays-put v w frontier ok.short)) ok
 
 -- a longer path becomes it
@@ -37,7 +37,7 @@ grows v w frontier idle longer =
     cond-true (is_none (attempt_of w.unit) && nat_lt (length frontier) (length (path_in w))) (path_in w) frontier
     (and_from (is_none (attempt_of w.unit)) (nat_lt (length frontier) (length (path_in w))) (ap is_none idle) (lt-ltb (length frontier) (length (path_in w)) longer))
 
-pub grown : {sys : Sys} {t : ℕ} (v w : View) (frontier : List PathAnswer) → attempt_of w.unit ≡ None → length frontier < length (path_in w)
+pub grown : {sys : Behaviour} {t : ℕ} (v w : View) (frontier : List PathAnswer) → attempt_of w.unit ≡ None → length frontier < length (path_in w)
     → FrontierOk sys t w (path_in w) → FrontierOk sys t w (frontier_behind v w frontier)
 grown {sys = sys} {t = t} v w frontier idle longer ok = subst (FrontierOk sys t w) (sym (grows v w frontier idle longer)) ok
 
@@ -45,39 +45,39 @@ pub one-longer : (path : List PathAnswer) (a : PathAnswer) → length path < len
 one-longer path a = let sum = length-append path (a ∷ []) in omega (arith, sum)
 
 -- where a terminal stands
-pub data Where (sys : Sys) (t : ℕ) (last : LastEnded) (unit : Option Open) (path frontier : List PathAnswer) : Type 0 where
+pub data Where (sys : Behaviour) (t : ℕ) (last : LastEnded) (unit : Option OpenUnit) (path frontier : List PathAnswer) : Type 0 where
   closed : unit ≡ None → Leads sys t last path frontier → Where sys t last unit path frontier
-  waiting : (open_unit : Open) → unit ≡ Some open_unit → open_unit.running ≡ None → path ≡ frontier → Where sys t last unit path frontier
-  running : (open_unit : Open) (start : List PathAnswer) → unit ≡ Some open_unit → open_unit.running ≡ Some start → RunsFrom sys t open_unit.restarts frontier path
+  waiting : (open_unit : OpenUnit) → unit ≡ Some open_unit → open_unit.running ≡ None → path ≡ frontier → Where sys t last unit path frontier
+  running : (open_unit : OpenUnit) (start : List PathAnswer) → unit ≡ Some open_unit → open_unit.running ≡ Some start → RunsFrom sys t open_unit.restarts frontier path
       → Where sys t last unit path frontier
 
-where-in : {sys : Sys} {t : ℕ} {last : LastEnded} {path frontier : List PathAnswer} (unit : Open) (attempt : Option (List PathAnswer)) → unit.running ≡ attempt
+where-in : {sys : Behaviour} {t : ℕ} {last : LastEnded} {path frontier : List PathAnswer} (unit : OpenUnit) (attempt : Option (List PathAnswer)) → unit.running ≡ attempt
     → StandsIn sys t unit.restarts attempt path frontier → Where sys t last (Some unit) path frontier
 where-in unit None is at = waiting unit refl is at
 where-in unit (Some start) is at = running unit start refl is at
 
-pub where-of : {sys : Sys} {t : ℕ} {last : LastEnded} {path frontier : List PathAnswer} (unit : Option Open) → Stands sys t last unit path frontier
+pub where-of : {sys : Behaviour} {t : ℕ} {last : LastEnded} {path frontier : List PathAnswer} (unit : Option OpenUnit) → Stands sys t last unit path frontier
     → Where sys t last unit path frontier
 where-of None at = closed refl at
 where-of (Some unit) at = where-in unit unit.running refl at
 
-pub to-stand : {sys : Sys} {t : ℕ} {last : LastEnded} {unit : Option Open} {path frontier : List PathAnswer} → Where sys t last unit path frontier
+pub to-stand : {sys : Behaviour} {t : ℕ} {last : LastEnded} {unit : Option OpenUnit} {path frontier : List PathAnswer} → Where sys t last unit path frontier
     → Stands sys t last unit path frontier
 to-stand {sys = sys} {t = t} {last = last} {path = path} {frontier = frontier} (closed none leads) =
-    subst (λ (u : Option Open). Stands sys t last u path frontier) (sym none) leads
+    subst (λ (u : Option OpenUnit). Stands sys t last u path frontier) (sym none) leads
 to-stand {sys = sys} {t = t} {last = last} {path = path} {frontier = frontier} (waiting u is idle at) =
-    subst (λ (x : Option Open). Stands sys t last x path frontier) (sym is)
+    subst (λ (x : Option OpenUnit). Stands sys t last x path frontier) (sym is)
     (subst (λ (r : Option (List PathAnswer)). StandsIn sys t u.restarts r path frontier) (sym idle) at)
 to-stand {sys = sys} {t = t} {last = last} {path = path} {frontier = frontier} (running u start is runs at) =
-    subst (λ (x : Option Open). Stands sys t last x path frontier) (sym is)
+    subst (λ (x : Option OpenUnit). Stands sys t last x path frontier) (sym is)
     (subst (λ (r : Option (List PathAnswer)). StandsIn sys t u.restarts r path frontier) (sym runs) at)
 
 -- the verb ends no transaction
-abbrev pub NoClose : Sys → ℕ → List PathAnswer → Type 0
-NoClose sys t path = (a : PathAnswer) → closing (sys.ask t path) ≡ Some a → ⊥
+abbrev pub NoClose : Behaviour → ℕ → List PathAnswer → Type 0
+NoClose sys t path = (a : PathAnswer) → closing_answer (sys.ask t path) ≡ Some a → ⊥
 
 -- so end paths stay as they should be where the path moves
-abbrev pub ends-moved : {sys : Sys} {t : ℕ} {unit : Open} {frontier path closed_path : List PathAnswer} (other : List PathAnswer) → NoClose sys t path
+abbrev pub ends-moved : {sys : Behaviour} {t : ℕ} {unit : OpenUnit} {frontier path closed_path : List PathAnswer} (other : List PathAnswer) → NoClose sys t path
     → EndsOne sys t unit frontier path closed_path → EndsOne sys t unit frontier other closed_path
 ends-moved other none ends = record {
   asks = ends.asks;
@@ -86,14 +86,14 @@ ends-moved other none ends = record {
   which = ⊎_elim (λ earlier. inl earlier) (λ now. absurd (none now.1.answer now.1.closes)) ends.which;
 }
 
-pub flies-moved : (sys : Sys) (t : ℕ) (last : LastEnded) (unit : Option Open) (memory : Option Memory) (frontier path other : List PathAnswer) (message : Message)
+pub flies-moved : (sys : Behaviour) (t : ℕ) (last : LastEnded) (unit : Option OpenUnit) (memory : Option BackupCopy) (frontier path other : List PathAnswer) (message : Message)
     → NoClose sys t path → IsFlying sys t last unit memory frontier path message → IsFlying sys t last unit memory frontier other message
 flies-moved sys t last unit memory frontier path other (Start n p) none flies = tt
 flies-moved sys t last unit memory frontier path other (Copy n p) none flies = flies
 flies-moved sys t last unit memory frontier path other (End p) none flies = record { open_unit = flies.open_unit; is_open = flies.is_open; ends = ends-moved other none flies.ends; later = flies.later }
 
-pub none-of-verb : (sys : Sys) (t : ℕ) (path : List PathAnswer) (v : Verb) → sys.ask t path ≡ v → closing v ≡ None → NoClose sys t path
-none-of-verb sys t path v asks none a closes = absurd (let same = ap closing asks in cc (same, none, closes))
+pub none-of-verb : (sys : Behaviour) (t : ℕ) (path : List PathAnswer) (v : Verb) → sys.ask t path ≡ v → closing_answer v ≡ None → NoClose sys t path
+none-of-verb sys t path v asks none a closes = absurd (let same = ap closing_answer asks in cc (same, none, closes))
 
 -- one attempt closes a path
 pub one-attempt : (frontier path : List PathAnswer) (r n : ℕ) → Closes frontier r path → Closes frontier n path → r ≡ n
@@ -102,21 +102,21 @@ one-attempt frontier path r n one other =
     let first : Begun r ≡ Begun n = cc same in cc first
 
 -- modes of a pair that may have become up to date
-pub raised-works : (mode : Mode) (lacks : Bool) → IsWorking (raised mode lacks) → IsWorking mode
+pub raised-works : (mode : Mode) (lacks : Bool) → IsWorking (settled_mode mode lacks) → IsWorking mode
 raised-works Alone lacks works = tt
 raised-works Raising lacks works = tt
 raised-works Paired lacks works = tt
 raised-works Down lacks works = works
 raised-works Gone lacks works = works
 
-pub raised-has : (mode : Mode) (lacks : Bool) → HasMessages (raised mode lacks) → HasMessages mode
+pub raised-has : (mode : Mode) (lacks : Bool) → HasMessages (settled_mode mode lacks) → HasMessages mode
 raised-has Alone lacks has = has
 raised-has Raising lacks has = tt
 raised-has Paired lacks has = tt
 raised-has Down lacks has = has
 raised-has Gone lacks has = has
 
-pub raised-alone : (mode : Mode) (lacks : Bool) → raised mode lacks ≡ Alone → mode ≡ Alone
+pub raised-alone : (mode : Mode) (lacks : Bool) → settled_mode mode lacks ≡ Alone → mode ≡ Alone
 raised-alone Alone lacks is = refl
 raised-alone Raising true is = is
 raised-alone Raising false is = absurd (cc is)
@@ -124,8 +124,8 @@ raised-alone Paired lacks is = is
 raised-alone Down lacks is = is
 raised-alone Gone lacks is = is
 
-pub raised-there : (mode : Mode) (lacks : Bool) → raised mode lacks ≢ Gone → mode ≢ Gone
-raised-there mode lacks there gone = there (ap (λ (m : Mode). raised m lacks) gone)
+pub raised-there : (mode : Mode) (lacks : Bool) → settled_mode mode lacks ≢ Gone → mode ≢ Gone
+raised-there mode lacks there gone = there (ap (λ (m : Mode). settled_mode m lacks) gone)
 
 pub messages-work : (mode : Mode) → HasMessages mode → IsWorking mode
 messages-work Raising has = tt
@@ -138,7 +138,7 @@ pub works-there : (mode : Mode) → IsWorking mode → mode ≢ Gone
 works-there mode works gone = subst IsWorking gone works
 
 -- a memory without an end path resumes at its start
-pub resumed-start : (memory : Memory) (last : LastEnded) → memory.end ≡ None → resumed_path memory last ≡ memory.start
+pub resumed-start : (memory : BackupCopy) (last : LastEnded) → memory.end ≡ None → resumed_path memory last ≡ memory.start
 resumed-start memory last none = by (last.number == memory.unit)
   where
     by : (is : Bool) → (if is then unwrap_or memory.end memory.start else memory.start) ≡ memory.start

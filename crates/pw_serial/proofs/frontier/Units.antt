@@ -4,25 +4,26 @@ use Rattle.std.proofs.lemmas.Bool.{cond-true, eq-eqb, true≢false}
 use Rattle.pw_code.specs.declared.verb.Verb.{Verb}
 use Rattle.pw_code.specs.declared.verb.Verb.TheVariants as verb
 use Rattle.pw_event.specs.declared.event.Cause.{Cause}
-use Rattle.pw_paired.proofs.KeepsChecks as path
-use Rattle.pw_paired.proofs.Paths.{Begun-inside, IsClosing as ClosesUnit, IsPath-push, closing-number, closing-outside, reply-outside}
-use Rattle.pw_paired.proofs.TermOk.{FlightOk, HasMessages, IsRest, IsWorking, PathOk, RunningPath}
-use Rattle.pw_paired.specs.Behaviour.{IsBehaviour, Suits}
-use Rattle.pw_paired.specs.Failure.{awaiting, restarted, resumed_path}
-use Rattle.pw_paired.specs.Path.{PathAnswer, Begun, Replied, Standing, is_outside, unit_number}
+use Rattle.pw_runs.proofs.terms.KeepsChecks as path
+use Rattle.pw_runs.proofs.Paths.{Begun-inside, IsClosing as ClosesUnit, IsPath-push, closing-number, closing-outside, reply-outside}
+use Rattle.pw_runs.proofs.terms.TermOk.{FlightOk, HasMessages, IsRest, IsWorking, PathOk, RunningPath}
+use Rattle.pw_onecopy.specs.IsBehaviour.{IsBehaviour, Suits}
+use Rattle.pw_paired.specs.Failure.{awaited_after, with_restart, resumed_path}
+use Rattle.pw_onecopy.specs.Path.{PathAnswer, Begun, Replied, Standing, is_outside, unit_number}
 use Rattle.pw_paired.specs.Raising.{is_takeover}
-use Rattle.pw_paired.specs.State.{Alone, Copy, Down, End, Gone, Memory, Message, Mode, Open, Paired, Raising, Start}
-use Rattle.pw_paired.specs.System.{Sys}
-use Rattle.pw_paired.specs.Terminal.{BeginsUnit, HoldsEnd, HoldsStart, begun, begun_path}
+use Rattle.pw_paired.specs.State.{Alone, Copy, Down, End, Gone, BackupCopy, Message, Mode, OpenUnit, Paired, Raising, Start}
+use Rattle.pw_onecopy.specs.Behaviour.{Behaviour}
+use Rattle.pw_onecopy.specs.Attempt.{BeginsUnit}
+use Rattle.pw_paired.specs.Terminal.{HoldsEnd, HoldsStart, unit_with_attempt, begun_path}
 use Rattle.pw_paired.specs.Units.{attempt_of, restarts_of}
 use Rattle.pw_serial.proofs.frontier.Answers.{no-open, waiting-at}
 use Rattle.pw_serial.proofs.frontier.Frontier.{Closes, EndsOne, FrontierOk, IsFlying, RunsFrom, fails, frontier_behind, sends, transacts}
 use Rattle.pw_serial.proofs.frontier.Leads.{IsForced, Leads, leads-here, leads-whole}
 use Rattle.pw_serial.proofs.frontier.Standing.{Where, closed, grown, one-attempt, one-longer, put, running, to-stand, waiting, where-of}
-use Rattle.pw_serial.proofs.induction.Moving.{TermAt}
-use Rattle.pw_serial.proofs.induction.Views.{Able, View, Waits, gets, path_in, unit_over_in, verb_in}
+use Rattle.pw_runs.proofs.induction.Moving.{TermAt}
+use Rattle.pw_runs.proofs.induction.Views.{Able, View, Waits, gets, path_in, unit_over_in, verb_in}
 
-module _ (sys : Sys) (b : IsBehaviour sys) (t : ℕ) (v : View) (frontier : List PathAnswer) (ok : FrontierOk sys t v frontier) (term : TermAt sys t v) where
+module _ (sys : Behaviour) (b : IsBehaviour sys) (t : ℕ) (v : View) (frontier : List PathAnswer) (ok : FrontierOk sys t v frontier) (term : TermAt sys t v) where
   -- the attempt that begins at the frontier
   begun-runs : (r : ℕ) (w : Verb) → sys.ask t (path_in v) ≡ w → BeginsUnit w (path_in v) → path_in v ≡ frontier → RunsFrom sys t r frontier (begun_path r w (path_in v))
   begun-runs r verb.Begin asks begins same =
@@ -39,7 +40,7 @@ module _ (sys : Sys) (b : IsBehaviour sys) (t : ℕ) (v : View) (frontier : List
   begun-runs r (verb.Reply reply) asks begins same = absurd begins
 
   -- the unit that begins
-  begun-parts : (n birth : ℕ) (p : List PathAnswer) (unit : Option Open) → ((begun n birth p unit).running ≡ Some p) × ((begun n birth p unit).restarts ≡ restarts_of unit)
+  begun-parts : (n birth : ℕ) (p : List PathAnswer) (unit : Option OpenUnit) → ((unit_with_attempt n birth p unit).running ≡ Some p) × ((unit_with_attempt n birth p unit).restarts ≡ restarts_of unit)
   begun-parts n birth p None = (refl, refl)
   begun-parts n birth p (Some u) = (refl, refl)
 
@@ -54,14 +55,14 @@ module _ (sys : Sys) (b : IsBehaviour sys) (t : ℕ) (v : View) (frontier : List
         by (waiting u is rests same) = same
         by (running u q is runs at) = absurd (cc (is, idle, runs))
 
-    abbrev unit : Open
-    unit = begun (unit_number (path_in v)) birth (path_in v) v.unit
+    abbrev unit : OpenUnit
+    unit = unit_with_attempt (unit_number (path_in v)) birth (path_in v) v.unit
 
     abbrev after : View
     after = record v { unit = Some unit; term = record v.term { path = begun_path (restarts_of v.unit) (verb_in sys t v) (path_in v) } }
 
     -- an end path of the unit closes an earlier attempt
-    ends-earlier : (u : Open) (p e : List PathAnswer) → v.unit ≡ Some u → EndsOne sys t u frontier (path_in v) e → EndsOne sys t unit frontier p e
+    ends-earlier : (u : OpenUnit) (p e : List PathAnswer) → v.unit ≡ Some u → EndsOne sys t u frontier (path_in v) e → EndsOne sys t unit frontier p e
     ends-earlier u p e is ends = record {
       asks = ends.asks;
       attempt = ends.attempt;
@@ -72,14 +73,14 @@ module _ (sys : Sys) (b : IsBehaviour sys) (t : ℕ) (v : View) (frontier : List
     }
 
     -- a memory of a unit that was not open has no end path
-    ends-begun : (memory : Memory) (e p : List PathAnswer) → v.memory ≡ Some memory → memory.end ≡ Some e → EndsOne sys t unit frontier p e
+    ends-begun : (memory : BackupCopy) (e p : List PathAnswer) → v.memory ≡ Some memory → memory.end ≡ Some e → EndsOne sys t unit frontier p e
     ends-begun memory e p is_m is_e = by v.unit refl
       where
-        by : (was : Option Open) → v.unit ≡ was → EndsOne sys t unit frontier p e
+        by : (was : Option OpenUnit) → v.unit ≡ was → EndsOne sys t unit frontier p e
         by None none =
             absurd (let one : holds.held ≡ memory = let held = holds.is_held in cc (held, is_m) in
             let n = holds.number_is in
-            let same = ap (λ (m : Memory). m.unit) one in
+            let same = ap (λ (m : BackupCopy). m.unit) one in
             let no = (ok.held memory is_m).no_end none (λ here. new (sym here ∙ (sym same ∙ n))) in
             cc (no, is_e))
         by (Some u) is = ends-earlier u p e is (ok.ends (rw able.paired tt) u memory e is is_m is_e)
@@ -112,23 +113,23 @@ module _ (sys : Sys) (b : IsBehaviour sys) (t : ℕ) (v : View) (frontier : List
               let h = ok.held memory is in
               record {
                 resumes = h.resumes;
-                at_open = λ u is_u. let one : holds.held ≡ memory = let held = holds.is_held in cc (held, is) in ap (λ (m : Memory). m.start) (sym one) ∙ (holds.path_is ∙ at-frontier);
+                at_open = λ u is_u. let one : holds.held ≡ memory = let held = holds.is_held in cc (held, is) in ap (λ (m : BackupCopy). m.start) (sym one) ∙ (holds.path_is ∙ at-frontier);
                 no_end = λ none. absurd (cc none);
               };
-          ends = λ has u memory e is_u is_m is_e. subst (λ (x : Open). EndsOne sys t x frontier after.term.path e) (let one : unit ≡ u = cc is_u in one) (ends-begun memory e after.term.path is_m is_e);
+          ends = λ has u memory e is_u is_m is_e. subst (λ (x : OpenUnit). EndsOne sys t x frontier after.term.path e) (let one : unit ≡ u = cc is_u in one) (ends-begun memory e after.term.path is_m is_e);
           flies = λ message is. flies-begun message (term.flight_ok message is) (ok.flies message is);
           alone = ok.alone;
         })
 
   -- a unit of this number ends, and the frontier is behind it
-  module _ (u : Open) (q : List PathAnswer) (is_open : v.unit ≡ Some u) (runs : u.running ≡ Some q) (a : PathAnswer) (reply : Option (List ℕ))
+  module _ (u : OpenUnit) (q : List PathAnswer) (is_open : v.unit ≡ Some u) (runs : u.running ≡ Some q) (a : PathAnswer) (reply : Option (List ℕ))
       (rest : IsRest sys t (path_in v ++ a ∷ [])) (more : unit_number (path_in v ++ a ∷ []) ≡ unit_number (path_in v) + 1) (here : unit_number (path_in v) ≡ v.last.number + 1) where
     abbrev over : View
     over = gets a (unit_over_in reply v)
 
     -- what memory holds leads there
     pub unit-over : (longer : length frontier ≤ length (path_in v))
-        → ((memory : Memory) → v.memory ≡ Some memory → memory.unit ≡ unit_number (path_in v) → Leads sys t over.last (resumed_path memory over.last) (path_in v ++ a ∷ []))
+        → ((memory : BackupCopy) → v.memory ≡ Some memory → memory.unit ≡ unit_number (path_in v) → Leads sys t over.last (resumed_path memory over.last) (path_in v ++ a ∷ []))
         → ((message : Message) → v.flight ≡ Some message → IsFlying sys t over.last None v.memory (path_in v ++ a ∷ []) (path_in v ++ a ∷ []) message)
         → FrontierOk sys t over (frontier_behind v over frontier)
     unit-over longer leads flies =
@@ -166,8 +167,8 @@ module _ (sys : Sys) (b : IsBehaviour sys) (t : ℕ) (v : View) (frontier : List
       where
         by : Where sys t v.last v.unit (path_in v) frontier → RunsFrom sys t who.open_unit.restarts frontier (path_in v)
         by (closed none leads) = absurd (no-open none who.is_open)
-        by (waiting u is idle same) = absurd (let one : u ≡ who.open_unit = let is_w = who.is_open in cc (is, is_w) in let run = ap (λ (x : Open). x.running) one in let runs = who.runs in cc (run, idle, runs))
-        by (running u q is runs here) = subst (λ (x : Open). RunsFrom sys t x.restarts frontier (path_in v)) (let is_w = who.is_open in let one : u ≡ who.open_unit = cc (is, is_w) in one) here
+        by (waiting u is idle same) = absurd (let one : u ≡ who.open_unit = let is_w = who.is_open in cc (is, is_w) in let run = ap (λ (x : OpenUnit). x.running) one in let runs = who.runs in cc (run, idle, runs))
+        by (running u q is runs here) = subst (λ (x : OpenUnit). RunsFrom sys t x.restarts frontier (path_in v)) (let is_w = who.is_open in let one : u ≡ who.open_unit = cc (is, is_w) in one) here
 
     -- it closes the running attempt
     closes-it : (p : List PathAnswer) → RunsFrom sys t who.open_unit.restarts frontier p → p ≡ path_in v → Closes frontier who.open_unit.restarts (path_in v ++ a ∷ []) × (length frontier ≤ length (path_in v))
@@ -195,7 +196,7 @@ module _ (sys : Sys) (b : IsBehaviour sys) (t : ℕ) (v : View) (frontier : List
         let same = one-attempt frontier (path_in v ++ a ∷ []) old.0 who.open_unit.restarts old.1 ending.0 in
         let below = old.2 in
         let one : flies.open_unit ≡ who.open_unit = let is_f = flies.is_open in let is_w = who.is_open in cc (is_f, is_w) in
-        let restarts = ap (λ (x : Open). x.restarts) one in
+        let restarts = ap (λ (x : OpenUnit). x.restarts) one in
         ⊎_elim (λ earlier. absurd (omega (arith, same, below, earlier, restarts))) (λ now. let this = now.0 in absurd (omega (arith, same, below, this, restarts))) flies.ends.which
 
     pub close-kept : FrontierOk sys t over_it (frontier_behind v over_it frontier)
@@ -207,7 +208,7 @@ module _ (sys : Sys) (b : IsBehaviour sys) (t : ℕ) (v : View) (frontier : List
         let one : holds.held ≡ memory = let held = holds.is_held in cc (held, is) in
         leads-here sys t over_it.last (resumed_path memory over_it.last) (path_in v ++ a ∷ [])
         (cond-true (unit_number (path_in v) == memory.unit) (unwrap_or memory.end memory.start) memory.start (eq-eqb (unit_number (path_in v)) memory.unit (sym unit_is))
-        ∙ ap (λ (e : Option (List PathAnswer)). unwrap_or e memory.start) (ap (λ (m : Memory). m.end) (sym one) ∙ holds.path_is)))
+        ∙ ap (λ (e : Option (List PathAnswer)). unwrap_or e memory.start) (ap (λ (m : BackupCopy). m.end) (sym one) ∙ holds.path_is)))
         (λ message is. absurd (landed message is (term.flight_ok message is) (ok.flies message is)))
 
   -- REPLY OK of a unit that is one SEND
@@ -229,7 +230,7 @@ module _ (sys : Sys) (b : IsBehaviour sys) (t : ℕ) (v : View) (frontier : List
     from = sent-from (waiting-at sys b t v frontier ok w)
 
     -- its memory has no end path
-    no-end : (memory : Memory) → v.memory ≡ Some memory → memory.end ≡ None
+    no-end : (memory : BackupCopy) → v.memory ≡ Some memory → memory.end ≡ None
     no-end memory is = by v.mode refl w.working memory.end refl
       where
         ended : HasMessages v.mode → (e : List PathAnswer) → memory.end ≡ Some e → ⊥
@@ -273,25 +274,25 @@ module _ (sys : Sys) (b : IsBehaviour sys) (t : ℕ) (v : View) (frontier : List
         (λ message is. flies-served message (term.flight_ok message is) (ok.flies message is))
 
   -- RESTART
-  module _ (unit : Open) (is_open : v.unit ≡ Some unit) (start : List PathAnswer) (runs : unit.running ≡ Some start) (kind : Cause) where
+  module _ (unit : OpenUnit) (is_open : v.unit ≡ Some unit) (start : List PathAnswer) (runs : unit.running ≡ Some start) (kind : Cause) where
     abbrev back : View
-    back = record v { unit = restarted kind (Some unit); term = record v.term { path = start; pending = None } }
+    back = record v { unit = with_restart kind (Some unit); term = record v.term { path = start; pending = None } }
 
-    abbrev now : Open
-    now = record unit { restarts = unit.restarts + 1; awaits = awaiting kind unit.awaits; running = None }
+    abbrev now : OpenUnit
+    now = record unit { restarts = unit.restarts + 1; awaits = awaited_after kind unit.awaits; running = None }
 
     there : start ≡ frontier
     there = ok.base.start start (ap attempt_of is_open ∙ runs)
 
     -- an end path closes an earlier attempt now
-    ends-back : (u now : Open) (e : List PathAnswer) → v.unit ≡ Some u → now.restarts ≡ unit.restarts + 1 → EndsOne sys t u frontier (path_in v) e → EndsOne sys t now frontier start e
+    ends-back : (u now : OpenUnit) (e : List PathAnswer) → v.unit ≡ Some u → now.restarts ≡ unit.restarts + 1 → EndsOne sys t u frontier (path_in v) e → EndsOne sys t now frontier start e
     ends-back u now e is more ends = record {
       asks = ends.asks;
       attempt = ends.attempt;
       closes = ends.closes;
       which =
           let one : u ≡ unit = cc (is, is_open) in
-          let same = ap (λ (x : Open). x.restarts) one in
+          let same = ap (λ (x : OpenUnit). x.restarts) one in
           ⊎_elim (λ earlier. inl (omega (arith, earlier, same, more))) (λ current. let this = current.0 in inl (omega (arith, this, same, more))) ends.which;
     }
 
@@ -314,7 +315,7 @@ module _ (sys : Sys) (b : IsBehaviour sys) (t : ℕ) (v : View) (frontier : List
       held = λ memory is.
           let h = ok.held memory is in
           record { resumes = h.resumes; at_open = λ u is_u. h.at_open unit is_open; no_end = λ none. absurd (cc none) };
-      ends = λ has u memory e is_u is_m is_e. subst (λ (x : Open). EndsOne sys t x frontier start e) (let one : now ≡ u = cc is_u in one) (ends-back unit now e is_open refl (ok.ends has unit memory e is_open is_m is_e));
+      ends = λ has u memory e is_u is_m is_e. subst (λ (x : OpenUnit). EndsOne sys t x frontier start e) (let one : now ≡ u = cc is_u in one) (ends-back unit now e is_open refl (ok.ends has unit memory e is_open is_m is_e));
       flies = λ message is. flies-back message (ok.flies message is);
       alone = ok.alone;
     })

@@ -2,30 +2,29 @@
 use Rattle.std.proofs.Common.{◌≡◌, ◌≢◌, ℕ, zero, suc, ◌+◌, ◌*◌, inl, inr, ⊎_elim, true, false, is_none, List, [], ◌∷◌, ◌++◌, Option, Some, None, refl, ap, sym, subst, append-nil, append_assoc, arith, ◌∙◌}
 use Rattle.pw_code.specs.declared.verb.Verb.{Verb}
 use Rattle.pw_code.specs.declared.verb.Verb.TheVariants as verb
-use Rattle.pw_paired.proofs.Paths.{reply-outside, standing-push}
-use Rattle.pw_paired.specs.Behaviour.{IsBehaviour, IsPath, Suits}
-use Rattle.pw_paired.specs.OneCopy.{Attempt, GoesOn, IsAttempt, TakesAnswer, attempt, given_served, verb_answered}
-use Rattle.pw_paired.specs.Path.{PathAnswer, Begun, Dropped, Ended, Entry, Failed, Replied, Shown, Standing, entries_on, is_outside, moved, number_at, replied, standing, unit_number}
-use Rattle.pw_paired.specs.Refreshes.{next_refresh}
-use Rattle.pw_paired.specs.Terminal.{BeginsUnit}
-use Rattle.pw_paired.specs.System.{Sys, Served, Reply, Fault}
-use Rattle.pw_paired.specs.declared.refresh.Refresh.{Refresh}
-use Rattle.pw_serial.proofs.Attempts.{attempt-fine}
+use Rattle.pw_runs.proofs.Paths.{reply-outside, standing-push}
+use Rattle.pw_onecopy.specs.IsBehaviour.{IsBehaviour, IsPath, Suits}
+use Rattle.pw_onecopy.specs.Attempt.{Attempt, GoesOn, IsAttempt, TakesAnswer, attempt, attempt_with_served, answer_verb, BeginsUnit}
+use Rattle.pw_onecopy.specs.Path.{PathAnswer, Begun, Dropped, Ended, Entry, Failed, Replied, Shown, Standing, entries_on, is_outside, standing_after_answer, number_at, standing_after_reply, standing, unit_number}
+use Rattle.pw_onecopy.specs.Refreshes.{next_refresh}
+use Rattle.pw_onecopy.specs.Behaviour.{Behaviour, Served, Reply, Fault}
+use Rattle.pw_onecopy.specs.declared.refresh.Refresh.{Refresh}
+use Rattle.pw_attempts.proofs.Attempts.{attempt-fine}
 use Rattle.pw_serial.proofs.screens.Numbers.{AreBefore, AreBounded, Covers, IsQuiet, begun-bounded, covers-other, covers-shown, next-bounded, quiet-bounded}
 use Rattle.pw_serial.proofs.screens.Once.{IsIn, in-parts}
-use Rattle.pw_serial.specs.Seen.{AreFiles}
+use Rattle.pw_locking.specs.Seen.{AreFiles}
 
 -- one verb of an attempt is answered: Show, Begin or another one, with an answer to it
-pub data Steps (sys : Sys) (t r : ℕ) (at next : Attempt) : Type 0 where
+pub data Steps (sys : Behaviour) (t r : ℕ) (at next : Attempt) : Type 0 where
   shows : sys.ask t at.path ≡ verb.Show → next.path ≡ at.path ++ Shown ∷ [] → next.refreshes ≡ at.refreshes ++ next_refresh sys t at.path ∷ [] → Steps sys t r at next
   begins : sys.ask t at.path ≡ verb.Begin → next.path ≡ at.path ++ Begun r ∷ [] → next.refreshes ≡ at.refreshes → Steps sys t r at next
   goes_on : (a : PathAnswer) → IsQuiet a → Suits sys t at.path (sys.ask t at.path) a → next.path ≡ at.path ++ a ∷ [] → next.refreshes ≡ at.refreshes → Steps sys t r at next
 
-served-steps : (sys : Sys) (t r c : ℕ) (message : List ℕ) (at : Attempt) (served : Served) → sys.ask t at.path ≡ verb.Send c message → Steps sys t r at (given_served served at)
+served-steps : (sys : Behaviour) (t r c : ℕ) (message : List ℕ) (at : Attempt) (served : Served) → sys.ask t at.path ≡ verb.Send c message → Steps sys t r at (attempt_with_served served at)
 served-steps sys t r c message at (Reply reply files) asks = goes_on (Replied reply) tt (rw asks tt) refl refl
 served-steps sys t r c message at (Fault x) asks = goes_on (Failed x) tt (rw asks tt) refl refl
 
-pub verb-steps : (sys : Sys) (t r : ℕ) (files : ℕ → List (List ℕ)) (at : Attempt) (v : Verb) → sys.ask t at.path ≡ v → TakesAnswer sys t at.path v → Steps sys t r at (verb_answered sys t r files v at)
+pub verb-steps : (sys : Behaviour) (t r : ℕ) (files : ℕ → List (List ℕ)) (at : Attempt) (v : Verb) → sys.ask t at.path ≡ v → TakesAnswer sys t at.path v → Steps sys t r at (answer_verb sys t r files v at)
 verb-steps sys t r files at verb.Begin asks takes = begins asks refl refl
 verb-steps sys t r files at verb.Show asks takes = shows asks refl refl
 verb-steps sys t r files at (verb.Accept screen) asks takes = goes_on (Entry (entries_on at.path + 1)) tt (rw asks (refl, omega (arith, takes))) refl refl
@@ -39,14 +38,14 @@ verb-steps sys t r files at (verb.File call) asks takes = absurd takes
 verb-steps sys t r files at (verb.Reply reply) asks takes = absurd takes
 
 -- where an attempt stands while its unit is open: in its transaction, at its start, or at a run fault
-pub data Stays (sys : Sys) (t r : ℕ) (q path : List PathAnswer) : Type 0 where
+pub data Stays (sys : Behaviour) (t r : ℕ) (q path : List PathAnswer) : Type 0 where
   inside : (standing path).within ≡ Some r → Stays sys t r q path
   at_start : path ≡ q → Stays sys t r q path
   faulty : (x : ℕ) → sys.ask t path ≡ verb.Fault x → Stays sys t r q path
 
 -- What holds of the refreshes before an attempt and of it: they lie before the path's next one, and strictly so once the unit has
 -- ended; each screen on the path is among them; and its own are of its attempt of its unit.
-pub record Numbered (sys : Sys) (t r : ℕ) (q : List PathAnswer) (before : List Refresh) (at : Attempt) : Type 0 where
+pub record Numbered (sys : Behaviour) (t r : ℕ) (q : List PathAnswer) (before : List Refresh) (at : Attempt) : Type 0 where
   pub bounded : AreBounded r (standing at.path) (before ++ at.refreshes)
   pub over : unit_number at.path ≢ unit_number q → AreBefore (standing at.path) (before ++ at.refreshes)
   pub covers : Covers sys t at.path (before ++ at.refreshes)
@@ -59,7 +58,7 @@ inside-number at None r is = absurd (cc is)
 inside-number at (Some n) r is = (refl, cc is)
 
 -- an answer that does not end the unit leaves the attempt in its transaction
-quiet-within : (r : ℕ) (at : Standing) (a : PathAnswer) → IsQuiet a → at.within ≡ Some r → (moved at a).ended ≡ at.ended → (moved at a).within ≡ Some r
+quiet-within : (r : ℕ) (at : Standing) (a : PathAnswer) → IsQuiet a → at.within ≡ Some r → (standing_after_answer at a).ended ≡ at.ended → (standing_after_answer at a).within ≡ Some r
 quiet-within r at Shown quiet within same = absurd quiet
 quiet-within r at (Begun n) quiet within same = absurd quiet
 quiet-within r at (Entry k) quiet within same = within
@@ -68,11 +67,11 @@ quiet-within r at Ended quiet within same = absurd (omega (arith, same))
 quiet-within r at Dropped quiet within same = absurd (omega (arith, same))
 quiet-within r at (Replied reply) quiet within same = by at.within within refl
   where
-    by : (w : Option ℕ) → w ≡ Some r → at.within ≡ w → (replied at w).within ≡ Some r
+    by : (w : Option ℕ) → w ≡ Some r → at.within ≡ w → (standing_after_reply at w).within ≡ Some r
     by None none is = absurd (cc none)
     by (Some n) some is = within
 
-module _ (sys : Sys) (b : IsBehaviour sys) (t r : ℕ) (q : List PathAnswer) (start : IsPath sys t q) (begins_it : BeginsUnit (sys.ask t q) q) (before : List Refresh) where
+module _ (sys : Behaviour) (b : IsBehaviour sys) (t r : ℕ) (q : List PathAnswer) (start : IsPath sys t q) (begins_it : BeginsUnit (sys.ask t q) q) (before : List Refresh) where
   outside-within : (w : Option ℕ) → is_none w ≡ true → w ≡ None
   outside-within None is = refl
   outside-within (Some n) is = absurd (cc is)
@@ -140,7 +139,7 @@ module _ (sys : Sys) (b : IsBehaviour sys) (t r : ℕ) (q : List PathAnswer) (st
         own = λ x there. ok.own x (subst (IsIn x) refreshes there);
       }
     where
-      go : standing next.path ≡ moved (standing at.path) a → unit_number next.path ≡ unit_number q → Stays sys t r q at.path → Stays sys t r q next.path
+      go : standing next.path ≡ standing_after_answer (standing at.path) a → unit_number next.path ≡ unit_number q → Stays sys t r q at.path → Stays sys t r q next.path
       go stands same (inside within) =
           let ended = ap (λ (s : Standing). s.ended + 1) stands in
           inside (ap (λ (s : Standing). s.within) stands ∙ quiet-within r (standing at.path) a quiet within (omega (arith, ended, same, here)))

@@ -1,11 +1,11 @@
 -- Refresh numbers rise along a path.
 use Rattle.std.proofs.Common.{◌≡◌, ◌≢◌, ◌⊎◌, ℕ, ◌+◌, ◌*◌, ◌<◌, ◌≤◌, inl, inr, ⊎_elim, Bool, true, false, ◌||◌, is_none, List, [], ◌∷◌, ◌++◌, Option, Some, None, refl, ap, sym, subst, append_assoc, arith, ◌∙◌}
 use Rattle.std.proofs.lemmas.Bool.{cases_Bool, false≢true, true≢false}
-use Rattle.pw_paired.proofs.Paths.{standing-push}
-use Rattle.pw_paired.specs.declared.refresh.Refresh.{Refresh}
-use Rattle.pw_paired.specs.Path.{PathAnswer, Begun, Dropped, Ended, Entry, Failed, RefreshNumber, Replied, Shown, Standing, moved, number_at, replied, standing, unit_over}
-use Rattle.pw_paired.specs.Refreshes.{next_refresh, same_number}
-use Rattle.pw_paired.specs.System.{Sys}
+use Rattle.pw_runs.proofs.Paths.{standing-push}
+use Rattle.pw_onecopy.specs.declared.refresh.Refresh.{Refresh}
+use Rattle.pw_onecopy.specs.Path.{PathAnswer, Begun, Dropped, Ended, Entry, Failed, RefreshNumber, Replied, Shown, Standing, standing_after_answer, number_at, standing_after_reply, standing, standing_after_unit}
+use Rattle.pw_onecopy.specs.Refreshes.{next_refresh, same_number}
+use Rattle.pw_onecopy.specs.Behaviour.{Behaviour}
 use Rattle.pw_serial.proofs.screens.Once.{IsIn, has_number, in-left, in-parts, in-right, same-parts}
 
 -- the number of a refresh lies before this one
@@ -41,11 +41,11 @@ shown-next at (Some r) x (inl low) = inl low
 shown-next at (Some r) x (inr (same, inl low)) = inr (same, inl low)
 shown-next at (Some r) x (inr (same, inr (attempt, low))) = inr (same, inr (attempt, omega (arith, low)))
 
-pub shown-bounded : (r : ℕ) (at : Standing) (list : List Refresh) → AreBounded r at list → AreBounded r (moved at Shown) list
+pub shown-bounded : (r : ℕ) (at : Standing) (list : List Refresh) → AreBounded r at list → AreBounded r (standing_after_answer at Shown) list
 shown-bounded r at list bounded x there = ⊎_elim (λ low. inl (shown-next at at.within x low)) (λ earlier. inr earlier) (bounded x there)
 
 -- behind Begun(r)
-pub begun-bounded : (r : ℕ) (at : Standing) (list : List Refresh) → at.within ≡ None → AreBounded r at list → AreBounded r (moved at (Begun r)) list
+pub begun-bounded : (r : ℕ) (at : Standing) (list : List Refresh) → at.within ≡ None → AreBounded r at list → AreBounded r (standing_after_answer at (Begun r)) list
 begun-bounded r at list outside bounded x there =
     ⊎_elim
     (λ low. inl (inl (phase-of at.within outside low)))
@@ -58,7 +58,7 @@ begun-bounded r at list outside bounded x there =
     phase-of (Some n) none low = absurd (cc none)
 
 -- behind the end of a unit
-over-before : (r : ℕ) (at : Standing) (list : List Refresh) → AreBounded r at list → AreBefore (unit_over at) list
+over-before : (r : ℕ) (at : Standing) (list : List Refresh) → AreBounded r at list → AreBefore (standing_after_unit at) list
 over-before r at list bounded x there =
     ⊎_elim
     (λ low. inl (phase-of at.within low))
@@ -77,7 +77,7 @@ IsQuiet _ = Unit {0}
 
 -- behind such an answer, which may end a unit
 pub quiet-bounded : (r : ℕ) (at : Standing) (list : List Refresh) (a : PathAnswer) → IsQuiet a → AreBounded r at list
-    → AreBounded r (moved at a) list × ((moved at a).ended ≢ at.ended → AreBefore (moved at a) list)
+    → AreBounded r (standing_after_answer at a) list × ((standing_after_answer at a).ended ≢ at.ended → AreBefore (standing_after_answer at a) list)
 quiet-bounded r at list Shown quiet bounded = absurd quiet
 quiet-bounded r at list (Begun n) quiet bounded = absurd quiet
 quiet-bounded r at list (Entry k) quiet bounded = (bounded, λ differ. absurd (differ refl))
@@ -86,31 +86,31 @@ quiet-bounded r at list Ended quiet bounded = (λ x there. inl (over-before r at
 quiet-bounded r at list Dropped quiet bounded = (λ x there. inl (over-before r at list bounded x there), λ differ. over-before r at list bounded)
 quiet-bounded r at list (Replied reply) quiet bounded = by at.within
   where
-    by : (w : Option ℕ) → AreBounded r (replied at w) list × ((replied at w).ended ≢ at.ended → AreBefore (replied at w) list)
+    by : (w : Option ℕ) → AreBounded r (standing_after_reply at w) list × ((standing_after_reply at w).ended ≢ at.ended → AreBefore (standing_after_reply at w) list)
     by None = (λ x there. inl (over-before r at list bounded x there), λ differ. over-before r at list bounded)
     by (Some n) = (bounded, λ differ. absurd (differ refl))
 
 -- the next refresh of a path lies before the one behind it
-next-before : (sys : Sys) (t : ℕ) (path : List PathAnswer) (at : Standing) → standing path ≡ at → IsBefore (next_refresh sys t path) (next_at (moved at Shown))
-next-before sys t path at is = subst (λ (s : Standing). IsBefore (next_refresh sys t path) (next_at (moved s Shown))) is (by (standing path).within)
+next-before : (sys : Behaviour) (t : ℕ) (path : List PathAnswer) (at : Standing) → standing path ≡ at → IsBefore (next_refresh sys t path) (next_at (standing_after_answer at Shown))
+next-before sys t path at is = subst (λ (s : Standing). IsBefore (next_refresh sys t path) (next_at (standing_after_answer s Shown))) is (by (standing path).within)
   where
     by : (w : Option ℕ)
-        → ((number_at (standing path) w).phase < (number_at (moved (standing path) Shown) w).phase)
-        ⊎ (((number_at (standing path) w).phase ≡ (number_at (moved (standing path) Shown) w).phase)
-        × (((number_at (standing path) w).attempt < (number_at (moved (standing path) Shown) w).attempt)
-        ⊎ (((number_at (standing path) w).attempt ≡ (number_at (moved (standing path) Shown) w).attempt) × ((number_at (standing path) w).k < (number_at (moved (standing path) Shown) w).k))))
+        → ((number_at (standing path) w).phase < (number_at (standing_after_answer (standing path) Shown) w).phase)
+        ⊎ (((number_at (standing path) w).phase ≡ (number_at (standing_after_answer (standing path) Shown) w).phase)
+        × (((number_at (standing path) w).attempt < (number_at (standing_after_answer (standing path) Shown) w).attempt)
+        ⊎ (((number_at (standing path) w).attempt ≡ (number_at (standing_after_answer (standing path) Shown) w).attempt) × ((number_at (standing path) w).k < (number_at (standing_after_answer (standing path) Shown) w).k))))
     by None = inr (refl, inr (refl, omega arith))
     by (Some n) = inr (refl, inr (refl, omega arith))
 
 -- with the next refresh
-pub next-bounded : (sys : Sys) (t r : ℕ) (path : List PathAnswer) (list : List Refresh) → AreBounded r (standing path) list
+pub next-bounded : (sys : Behaviour) (t r : ℕ) (path : List PathAnswer) (list : List Refresh) → AreBounded r (standing path) list
     → AreBounded r (standing (path ++ Shown ∷ [])) (list ++ next_refresh sys t path ∷ [])
 next-bounded sys t r path list bounded =
     subst (λ (at : Standing). AreBounded r at (list ++ next_refresh sys t path ∷ [])) (sym (standing-push path Shown))
     (λ x there. ⊎_elim (λ old. shown-bounded r (standing path) list bounded x old) (λ new. new-one x new) (in-parts x list (next_refresh sys t path ∷ []) there))
   where
-    new-one : (x : Refresh) → IsIn x (next_refresh sys t path ∷ []) → IsBefore x (next_at (moved (standing path) Shown)) ⊎ IsEarlier r (moved (standing path) Shown) x
-    new-one x (inl same) = inl (subst (λ (y : Refresh). IsBefore y (next_at (moved (standing path) Shown))) (sym same) (next-before sys t path (standing path) refl))
+    new-one : (x : Refresh) → IsIn x (next_refresh sys t path ∷ []) → IsBefore x (next_at (standing_after_answer (standing path) Shown)) ⊎ IsEarlier r (standing_after_answer (standing path) Shown) x
+    new-one x (inl same) = inl (subst (λ (y : Refresh). IsBefore y (next_at (standing_after_answer (standing path) Shown))) (sym same) (next-before sys t path (standing path) refl))
     new-one x (inr none) = absurd none
 
 -- a number in a list is that of a refresh
@@ -124,7 +124,7 @@ has-in r (y ∷ list) there = by (has-in r list) (same_number r y) refl there
     by rest false is there = let one = rest there in (one.0, inr one.1, one.2)
 
 -- the next refresh is new
-pub next-new : (sys : Sys) (t r : ℕ) (path : List PathAnswer) (list : List Refresh) → AreBounded r (standing path) list → has_number (next_refresh sys t path) list ≡ false
+pub next-new : (sys : Behaviour) (t r : ℕ) (path : List PathAnswer) (list : List Refresh) → AreBounded r (standing path) list → has_number (next_refresh sys t path) list ≡ false
 next-new sys t r path list bounded = ⊎_elim (λ there. absurd (clash (has-in (next_refresh sys t path) list there))) (λ none. none) (cases_Bool (has_number (next_refresh sys t path) list))
   where
     outside-phase : (w : Option ℕ) → w ≡ None → (number_at (standing path) w).phase ≡ 2 * (standing path).ended
@@ -149,7 +149,7 @@ with_shown Shown r list = r ∷ list
 with_shown _ r list = list
 
 -- the refreshes of the screens on a path that goes on from these answers
-abbrev pub shown_on : Sys → ℕ → List PathAnswer → List PathAnswer → List Refresh
+abbrev pub shown_on : Behaviour → ℕ → List PathAnswer → List PathAnswer → List Refresh
 shown_on sys t before [] = []
 shown_on sys t before (a ∷ path) = with_shown a (next_refresh sys t before) (shown_on sys t (before ++ a ∷ []) path)
 
@@ -166,7 +166,7 @@ append-none : (xs : List PathAnswer) → xs ++ [] ≡ xs
 append-none [] = refl
 append-none (x ∷ xs) = ap (λ (l : List PathAnswer). x ∷ l) (append-none xs)
 
-pub shown-append : (sys : Sys) (t : ℕ) (before path more : List PathAnswer) → shown_on sys t before (path ++ more) ≡ shown_on sys t before path ++ shown_on sys t (before ++ path) more
+pub shown-append : (sys : Behaviour) (t : ℕ) (before path more : List PathAnswer) → shown_on sys t before (path ++ more) ≡ shown_on sys t before path ++ shown_on sys t (before ++ path) more
 shown-append sys t before [] more = ap (λ (p : List PathAnswer). shown_on sys t p more) (sym (append-none before))
 shown-append sys t before (a ∷ path) more =
     ap (with_shown a (next_refresh sys t before)) (shown-append sys t (before ++ a ∷ []) path more)
@@ -174,10 +174,10 @@ shown-append sys t before (a ∷ path) more =
     ∙ ap (λ (p : List PathAnswer). with_shown a (next_refresh sys t before) (shown_on sys t (before ++ a ∷ []) path) ++ shown_on sys t p more) (append_assoc before (a ∷ []) path))
 
 -- each screen on the path has its refresh in the list
-abbrev pub Covers : Sys → ℕ → List PathAnswer → List Refresh → Type 0
+abbrev pub Covers : Behaviour → ℕ → List PathAnswer → List Refresh → Type 0
 Covers sys t path list = (x : Refresh) → IsIn x (shown_on sys t [] path) → IsIn x list
 
-pub covers-shown : (sys : Sys) (t : ℕ) (path : List PathAnswer) (list : List Refresh) → Covers sys t path list → Covers sys t (path ++ Shown ∷ []) (list ++ next_refresh sys t path ∷ [])
+pub covers-shown : (sys : Behaviour) (t : ℕ) (path : List PathAnswer) (list : List Refresh) → Covers sys t path list → Covers sys t (path ++ Shown ∷ []) (list ++ next_refresh sys t path ∷ [])
 covers-shown sys t path list covers x there =
     ⊎_elim (λ old. in-left x list (next_refresh sys t path ∷ []) (covers x old)) (λ new. in-right x list (next_refresh sys t path ∷ []) new)
     (in-parts x (shown_on sys t [] path) (next_refresh sys t path ∷ []) (subst (IsIn x) (shown-append sys t [] path (Shown ∷ [])) there))
@@ -191,13 +191,13 @@ not-shown (Failed x) r other = refl
 not-shown Ended r other = refl
 not-shown Dropped r other = refl
 
-pub covers-other : (sys : Sys) (t : ℕ) (path : List PathAnswer) (a : PathAnswer) (list : List Refresh) → (a ≡ Shown → ⊥) → Covers sys t path list → Covers sys t (path ++ a ∷ []) list
+pub covers-other : (sys : Behaviour) (t : ℕ) (path : List PathAnswer) (a : PathAnswer) (list : List Refresh) → (a ≡ Shown → ⊥) → Covers sys t path list → Covers sys t (path ++ a ∷ []) list
 covers-other sys t path a list other covers x there =
     ⊎_elim (λ old. covers x old) (λ new. absurd (subst (IsIn x) (not-shown a (next_refresh sys t path) other) new))
     (in-parts x (shown_on sys t [] path) (with_shown a (next_refresh sys t path) []) (subst (IsIn x) (shown-append sys t [] path (a ∷ [])) there))
 
 -- the refresh of a screen in the middle
-pub covers-at : (sys : Sys) (t : ℕ) (path rest : List PathAnswer) (list : List Refresh) → Covers sys t (path ++ Shown ∷ rest) list → IsIn (next_refresh sys t path) list
+pub covers-at : (sys : Behaviour) (t : ℕ) (path rest : List PathAnswer) (list : List Refresh) → Covers sys t (path ++ Shown ∷ rest) list → IsIn (next_refresh sys t path) list
 covers-at sys t path rest list covers =
     covers (next_refresh sys t path)
     (subst (IsIn (next_refresh sys t path)) (sym (shown-append sys t [] path (Shown ∷ rest)))

@@ -2,9 +2,9 @@
 use Rattle.std.proofs.Common.{◌≡◌, ◌⊎◌, ℕ, inl, inr, ⊎_elim, Bool, true, false, ◌&&◌, ◌||◌, ◌==◌, List, [], ◌∷◌, ◌++◌, filter, if◌then◌else◌, cond, refl, ap, ap₂, sym, subst, ◌∙◌}
 use Rattle.std.specs.List.{list_any}
 use Rattle.std.proofs.lemmas.Bool.{and_from, cases_Bool, cond-false, cond-true, eq-eqb, eqb-true, false≢true, or_left, or_parts, or_right, true≢false}
-use Rattle.pw_paired.specs.declared.refresh.Refresh.{Refresh}
-use Rattle.pw_paired.specs.Refreshes.{once, others, refreshes_of, same_number}
-use Rattle.pw_serial.proofs.RecordsOk.{and-first, and-second}
+use Rattle.pw_onecopy.specs.declared.refresh.Refresh.{Refresh}
+use Rattle.pw_onecopy.specs.Refreshes.{once, others, refreshes_of, same_number}
+use Rattle.pw_runs.proofs.Tests.{and-first, and-second}
 
 -- a refresh of this number is in the list
 abbrev pub has_number : Refresh → List Refresh → Bool

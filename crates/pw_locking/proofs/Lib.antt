@@ -1,0 +1,4 @@
+pub mod Holding
+pub mod Releasing
+pub mod records
+pub mod seeing

@@ -1,0 +1,6 @@
+pub mod BeginsOnce
+pub mod OpenThen
+pub mod Pending
+pub mod Lacking
+pub mod PairSteps
+pub mod Losing

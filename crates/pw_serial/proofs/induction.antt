@@ -1,6 +1,0 @@
-pub mod Runs
-pub mod Served
-pub mod Failed
-pub mod Views
-pub mod Moving
-pub mod PendingCauses
