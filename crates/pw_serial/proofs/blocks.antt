@@ -14,3 +14,4 @@ pub mod Units
 pub mod Backs
 pub mod Replies
 pub mod Serializable
+pub mod Images

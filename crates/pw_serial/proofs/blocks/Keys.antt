@@ -182,12 +182,14 @@ module _ (sys : Behaviour) (b : IsBehaviour sys) (s : State) (f : Fold) (known :
       keys-out : FollowsAll sys (effect sys s key) (fold_on sys s key f)
       keys-out =
           by-blocks key t l.can.live.known (Entry k) refl refl refl refl refl files (Out t ∷ [])
-          (out-is s f t idle (let long = (all.terms t l.can.live.known).longest ∙ ap (λ (p : List PathAnswer). length p) (sym same) in omega (arith, long)))
-          (record {
-            live = record { known = l.can.live.known; live = (all.terms t l.can.live.known).ending ∙ l.can.live.going_on };
-            not_left = goes.not_left;
-            asks = subst (λ (v : Verb). AsksOut sys t single.path v) (sym asks) (subst (λ (n : ℕ). n < sys.entries t) (ap entries_on (sym path_is)) (let next = l.next in let exists = l.exists in omega (arith, next, exists)));
-          }, tt)
+          (out-is s f t idle (let long = (all.terms t l.can.live.known).longest ∙ ap (λ (p : List PathAnswer). length p) (sym same) in omega (arith, long))) (
+            record {
+              live = record { known = l.can.live.known; live = (all.terms t l.can.live.known).ending ∙ l.can.live.going_on };
+              not_left = goes.not_left;
+              asks = subst (λ (v : Verb). AsksOut sys t single.path v) (sym asks) (subst (λ (n : ℕ). n < sys.entries t) (ap entries_on (sym path_is)) (let next = l.next in let exists = l.exists in omega (arith, next, exists)));
+            },
+            tt,
+          )
           refl (λ o differ. upd-other machine.terms t _ o differ)
           (subst (λ (x : Single). Follows sys (effect sys s key) (fold_on sys s key f) t x) (sym out_is)
           (plain-follows sys b s f known all key t l.can.live.known out

@@ -60,7 +60,7 @@ module _ (sys : Behaviour) (b : IsBehaviour sys) (s : State) (f : Fold) (entry :
       → ((next.terms t).ending ≡ None → next.modes (sys.pair_of t) ≢ Gone → now.frontier t ≡ f.frontier t)
       → now.reading.answers t ≡ f.reading.answers t → refreshes_of t now.shown ≡ refreshes_of t f.shown
       → ((u : OpenUnit) (q : List PathAnswer) → s.units t ≡ Some u → u.running ≡ Some q
-          → (attempt sys t q (committed_files sys next) u.restarts (f.reading.answers t)).refreshes ≡ (attempt sys t q (committed_files sys s) u.restarts (f.reading.answers t)).refreshes)
+      → (attempt sys t q (committed_files sys next) u.restarts (f.reading.answers t)).refreshes ≡ (attempt sys t q (committed_files sys s) u.restarts (f.reading.answers t)).refreshes)
       → Follows sys s f t single → Follows sys next now t single
   other-follows t single ending there units frontier answers shown same ok =
       let running : running_refreshes sys t (committed_files sys next) (now.reading.answers t) (next.units t) ≡ running_refreshes sys t (committed_files sys s) (f.reading.answers t) (s.units t) =

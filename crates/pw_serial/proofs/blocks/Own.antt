@@ -51,7 +51,7 @@ module _ (sys : Behaviour) (b : IsBehaviour sys) (s : State) (f : Fold) (known :
       → ((o : ℕ) → o ≢ t → next.terms o ≡ s.terms o) → ((o : ℕ) → o ≢ t → next.units o ≡ s.units o) → next.modes ≡ s.modes
       → ((o : ℕ) → o ≢ t → now.reading.answers o ≡ f.reading.answers o) → ((o : ℕ) → o ≢ t → refreshes_of o now.shown ≡ refreshes_of o f.shown)
       → ((o : ℕ) → o ≢ t → (u : OpenUnit) (q : List PathAnswer) → s.units o ≡ Some u → u.running ≡ Some q
-          → (attempt sys o q (committed_files sys next) u.restarts (f.reading.answers o)).refreshes ≡ (attempt sys o q (committed_files sys s) u.restarts (f.reading.answers o)).refreshes)
+      → (attempt sys o q (committed_files sys next) u.restarts (f.reading.answers o)).refreshes ≡ (attempt sys o q (committed_files sys s) u.restarts (f.reading.answers o)).refreshes)
       → Follows sys next now t ((run_blocks sys machine more).terms t) → FollowsAll sys next now
   own-follows more blocks serial files others terms units modes answers shown same own =
       follow-by sys b s f entry more blocks all.serial serial files

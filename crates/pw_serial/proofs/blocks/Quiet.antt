@@ -162,7 +162,7 @@ module _ (sys : Behaviour) (b : IsBehaviour sys) (s : State) (f : Fold) (known :
   -- a member of a pair fails, and the pair is not lost
   pub follows-kept-pair : (p : ℕ) (primary : Bool) (k : ℕ) → Fits sys s (event.FailTcp p primary k) → Outcome sys s p (do_fail_tcp sys p primary s)
       → ((is_primary : Bool) → Breaks is_primary (s.modes p) → do_fail_tcp sys p primary s ≡ lose_pair sys p s
-          → FollowsAll sys (effect sys s (event.FailTcp p primary k)) (fold_on sys s (event.FailTcp p primary k) f))
+      → FollowsAll sys (effect sys s (event.FailTcp p primary k)) (fold_on sys s (event.FailTcp p primary k) f))
       → FollowsAll sys (effect sys s (event.FailTcp p primary k)) (fold_on sys s (event.FailTcp p primary k) f)
   follows-kept-pair p primary k l (nothing is) lost =
       still-follows sys b s f (event.FailTcp p primary k) known (none-left sys s f.reading p _ (inr (ap (λ (x : State). x.modes p) is))) refl refl

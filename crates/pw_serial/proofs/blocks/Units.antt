@@ -128,12 +128,11 @@ module _ (sys : Behaviour) (b : IsBehaviour sys) (s : State) (f : Fold) (known :
     machine-last = ap (next_attempt sys machine t) one ∙ next-is sys b s f known all t u q w (suc j)
 
     pub legal-last : (n : ℕ) (how : How) → n ≡ unit_number (path_of s t) → MayBe sys t (machine.terms t) last how → IsSerialFrom sys machine (Attempted t n how (j + 1) ∷ [])
-    legal-last n how same may_be =
-        (
-          subst (λ (m : ℕ). LegalAttempted sys machine t n how m) (sym one)
-              (block-legal sys b s f known all t u q w n (suc j) how (same ∙ sym number.1) is-attempt (subst (λ (x : Attempt). MayBe sys t (machine.terms t) x how) (sym (next-is sys b s f known all t u q w (suc j))) may_be)),
-          tt,
-        )
+    legal-last n how same may_be = (
+      subst (λ (m : ℕ). LegalAttempted sys machine t n how m) (sym one)
+          (block-legal sys b s f known all t u q w n (suc j) how (same ∙ sym number.1) is-attempt (subst (λ (x : Attempt). MayBe sys t (machine.terms t) x how) (sym (next-is sys b s f known all t u q w (suc j))) may_be)),
+      tt,
+    )
 
     -- the frontier is behind the unit
     grown : (path_of next t ≡ last.path) → last.path ≡ now.frontier t
