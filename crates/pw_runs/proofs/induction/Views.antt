@@ -5,16 +5,16 @@ use Rattle.pw_code.specs.declared.verb.Verb.TheVariants as verb
 use Rattle.pw_event.specs.declared.event.Cause.{Cause}
 use Rattle.pw_event.specs.declared.event.Cause.TheVariants as cause
 use Rattle.pw_event.specs.declared.event.Ending.{Ending}
-use Rattle.pw_runs.proofs.terms.TermOk.{HasMessages, IsWorking}
-use Rattle.pw_paired.specs.Failure.{with_restart, resume_terminal}
+use Rattle.pw_onecopy.specs.Attempt.{BeginsUnit}
+use Rattle.pw_onecopy.specs.Behaviour.{Behaviour}
 use Rattle.pw_onecopy.specs.Path.{PathAnswer, Entry, Failed, Replied, Shown, entries_on, is_outside, unit_number}
 use Rattle.pw_onecopy.specs.Path as answer
+use Rattle.pw_paired.specs.Failure.{with_restart, resume_terminal}
 use Rattle.pw_paired.specs.Raising.{is_takeover, settled_mode, with_message}
 use Rattle.pw_paired.specs.State.{Alone, Copy, Down, End, Gone, LastEnded, BackupCopy, Message, Mode, OpenUnit, Paired, Raising, Start, State, Term}
-use Rattle.pw_onecopy.specs.Behaviour.{Behaviour}
-use Rattle.pw_onecopy.specs.Attempt.{BeginsUnit}
 use Rattle.pw_paired.specs.Terminal.{HoldsEnd, HoldsStart, unit_with_attempt, begun_path, closing_answer, kept_reply}
 use Rattle.pw_paired.specs.Units.{attempt_of, last_after_leaving, restarts_of}
+use Rattle.pw_runs.proofs.terms.TermOk.{HasMessages, IsWorking}
 
 -- what the state has of one terminal
 pub record View : Type 0 where
