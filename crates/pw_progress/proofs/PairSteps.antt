@@ -99,7 +99,7 @@ module _ (sys : Behaviour) (s : State) (unfinished : is_finished sys s ≡ false
           cond-number false is = absurd (cc is)
 
   -- an entry that fits is legal, or a failure line is due
-  step-of : (entry : Event) → line_wanted entry ≡ None → Fits sys s entry → HasStep sys s
+  pub step-of : (entry : Event) → line_wanted entry ≡ None → Fits sys s entry → HasStep sys s
   step-of entry wanted fits = by (line_due sys s entry) refl
     where
       by : (due : Option ℕ) → line_due sys s entry ≡ due → HasStep sys s

@@ -1,2 +1,4 @@
+pub mod blocks
 pub mod frontier
 pub mod screens
+pub mod steps
