@@ -1,2 +1,4 @@
 pub mod Deciding
 pub mod Awaiting
+pub mod Living
+pub mod Servers

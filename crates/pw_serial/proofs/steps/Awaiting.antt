@@ -26,11 +26,12 @@ use Rattle.pw_runs.proofs.terms.KeepsEnds.{OutOk, out-path}
 use Rattle.pw_runs.proofs.terms.KeepsPairs.{not-of-pair, of-pair}
 
 -- what an entry other than a restart does to the open unit of a terminal and to its last ended one
-data Goes (s x : State) (t : ℕ) : Type 0 where
+pub data Goes (s x : State) (t : ℕ) : Type 0 where
   stays : x.units t ≡ s.units t → (x.ended t).number ≡ (s.ended t).number → Goes s x t
   runs : (was now : OpenUnit) → s.units t ≡ Some was → x.units t ≡ Some now → now.birth ≡ was.birth → now.number ≡ was.number → now.awaits ≡ was.awaits
       → (x.ended t).number ≡ (s.ended t).number → Goes s x t
-  opens : (now : OpenUnit) → s.units t ≡ None → x.units t ≡ Some now → now.awaits ≡ None → (x.ended t).number ≡ (s.ended t).number → Goes s x t
+  opens : (now : OpenUnit) → s.units t ≡ None → x.units t ≡ Some now → now.awaits ≡ None → (x.ended t).number ≡ (s.ended t).number
+      → (s.terms t).ending ≡ None → Goes s x t
   ends : x.units t ≡ None → ((u : OpenUnit) → s.units t ≡ Some u → (x.ended t).number ≡ u.number) → (s.ended t).number ≤ (x.ended t).number → Goes s x t
 
 module _ (sys : Behaviour) (b : IsBehaviour sys) (s : State) (i : Inv sys s) (t : ℕ) where
@@ -54,10 +55,10 @@ module _ (sys : Behaviour) (b : IsBehaviour sys) (s : State) (i : Inv sys s) (t 
   begins n r l = by (s.units t) refl
     where
       by : (unit : Option OpenUnit) → s.units t ≡ unit → Goes s (effect sys s (event.Begin t n r)) t
-      by None is = opens (unit_with_attempt n s.births (path_of s t) None) is (upd-same s.units t _ t refl ∙ ap (λ (u : Option OpenUnit). Some (unit_with_attempt n s.births (path_of s t) u)) is) refl refl
+      by None is = opens (unit_with_attempt n s.births (path_of s t) None) is (upd-same s.units t _ t refl ∙ ap (λ (u : Option OpenUnit). Some (unit_with_attempt n s.births (path_of s t) u)) is) refl refl l.can.live.going_on
       by (Some u) is = runs u (unit_with_attempt n s.births (path_of s t) (Some u)) is (upd-same s.units t _ t refl ∙ ap (λ (x : Option OpenUnit). Some (unit_with_attempt n s.births (path_of s t) x)) is) refl refl refl refl
 
-  goes : (entry : Event) → Fits sys s entry → ((own n : ℕ) (kind : Cause) → entry ≡ event.Restart own n kind → ⊥) → Goes s (change sys s entry) t
+  pub goes : (entry : Event) → Fits sys s entry → ((own n : ℕ) (kind : Cause) → entry ≡ event.Restart own n kind → ⊥) → Goes s (change sys s entry) t
   goes (event.Show own phase attempt k) l other = stays refl refl
   goes (event.Key own k) l other = stays refl refl
   goes (event.CheckStart own) l other = stays refl refl
@@ -71,7 +72,7 @@ module _ (sys : Behaviour) (b : IsBehaviour sys) (s : State) (i : Inv sys s) (t 
       relabelled : Goes s (effect sys s (event.Begin t n r)) t → Goes s (change sys s (event.Begin t n r)) t
       relabelled (stays units last) = stays units last
       relabelled (runs was now a c d e f g) = runs was now a c d e f g
-      relabelled (opens now a c d e) = opens now a c d e
+      relabelled (opens now a c d e f) = opens now a c d e f
       relabelled (ends a c d) = ends a c d
   goes (event.Send own n c) l other = stays refl refl
   goes (event.Take c p own) l other = stays refl refl
@@ -137,7 +138,7 @@ still-open s x o m birth (runs old now old_is now_is birth_is number_is awaits l
     let low = v.3 in
     let b = ap (λ (w : OpenUnit). w.birth) same in
     (now, now_is, number_is ∙ (ap (λ (w : OpenUnit). w.number) (sym same) ∙ v.2), omega (arith, low, b, birth_is))
-still-open s x o m birth (opens now none now_is awaits last) less was = let v = was (omega (arith, less, last)) in absurd (let is = v.1 in cc (is, none))
+still-open s x o m birth (opens now none now_is awaits last live) less was = let v = was (omega (arith, less, last)) in absurd (let is = v.1 in cc (is, none))
 still-open s x o m birth (ends none number rises) less was =
     let v = was (omega (arith, less, rises)) in
     let n = number v.0 v.1 in let m_is = v.2 in absurd (omega (arith, n, m_is, less))
@@ -157,7 +158,7 @@ module _ (sys : Behaviour) (b : IsBehaviour sys) where
           let low_birth = v.3 in
           let one = ap (λ (w : OpenUnit). w.birth) same in
           (v.0, v.1, v.2, omega (arith, low_birth, birth_is, one)))
-      by (opens now none now_is awaits_is last) = absurd (let same : now ≡ u = cc (now_is, is) in let a_is = ap (λ (w : OpenUnit). w.awaits) same in cc (a_is, awaits_is, awaits))
+      by (opens now none now_is awaits_is last live) = absurd (let same : now ≡ u = cc (now_is, is) in let a_is = ap (λ (w : OpenUnit). w.awaits) same in cc (a_is, awaits_is, awaits))
       by (ends none number rises) = absurd (cc (none, is))
 
   -- a restart
