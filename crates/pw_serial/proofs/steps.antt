@@ -2,3 +2,4 @@ pub mod Deciding
 pub mod Awaiting
 pub mod Living
 pub mod Servers
+pub mod Terminals
