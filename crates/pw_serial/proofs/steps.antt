@@ -3,3 +3,4 @@ pub mod Awaiting
 pub mod Living
 pub mod Servers
 pub mod Terminals
+pub mod Unstuck

@@ -1,4 +1,4 @@
-ghost use Rattle.std.specs.Prelude.{◌≡◌, List, true};
+ghost use Rattle.std.specs.Prelude.{◌≡◌, List, false, true};
 ghost use Rattle.std.specs.List.{Contains};
 ghost use Rattle.pw_event.specs.declared.event.Event.{Event};
 ghost use Rattle.pw_onecopy.specs.Behaviour.{Behaviour};
@@ -7,7 +7,8 @@ ghost use Rattle.pw_onecopy.specs.Refreshes.{same_number};
 ghost use Rattle.pw_onecopy.specs.declared.refresh.Refresh.{Refresh};
 ghost use Rattle.pw_paired.specs.Headline.{IsSerializable};
 ghost use Rattle.pw_paired.specs.Shown.{refreshes};
-ghost use Rattle.pw_paired.specs.Step.{IsRun};
+ghost use Rattle.pw_paired.specs.Step.{IsRun, after, is_finished};
+ghost use Rattle.pw_serial.specs.Actors.{Actor, ActorSteps};
 
 /// Every run of a deck is serializable, for every interleaving of terminals, servers and checkpoints and whatever fails:
 /// the one-copy machine is defined on its serial order, its screens are the log's with each number counted once, its
@@ -21,4 +22,11 @@ pub fn equal_numbers_equal_images()
     ensures { (sys : Behaviour) → IsBehaviour sys → (log : List Event) → IsRun sys log → (one other : Refresh)
         → Contains (refreshes sys log) one → Contains (refreshes sys log) other → one.terminal ≡ other.terminal
         → same_number one other ≡ true → one.image ≡ other.image }
+{}
+
+/// In every run of a deck that is not finished an actor has a step: a terminal, a process, a pair or a class. What waits
+/// for a unit waits for an older one.
+pub fn unfinished_runs_have_a_step()
+    ensures { (sys : Behaviour) → IsBehaviour sys → (log : List Event) → IsRun sys log
+        → is_finished sys (after sys log) ≡ false → (actor : Actor) × ActorSteps sys (after sys log) actor }
 {}
