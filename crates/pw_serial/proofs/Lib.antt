@@ -1,4 +1,5 @@
 pub mod blocks
 pub mod frontier
+pub mod guarded
 pub mod screens
 pub mod steps
