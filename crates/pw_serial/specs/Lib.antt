@@ -1,2 +1,3 @@
 pub mod Actors
 pub mod Guarded
+pub mod Restarts

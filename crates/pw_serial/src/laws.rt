@@ -1,4 +1,4 @@
-ghost use Rattle.std.specs.Prelude.{◌≡◌, ◌≢◌, ℕ, List, [], ◌∷◌, ◌++◌, None, false, true};
+ghost use Rattle.std.specs.Prelude.{◌≡◌, ◌≢◌, ℕ, ◌-◌, ◌<◌, ◌≤◌, List, [], ◌∷◌, ◌++◌, None, false, true};
 ghost use Rattle.std.specs.List.{Contains};
 ghost use Rattle.pw_event.specs.declared.event.Ending.TheVariants.{Lost};
 ghost use Rattle.pw_event.specs.declared.event.Event.{Event};
@@ -15,6 +15,7 @@ ghost use Rattle.pw_paired.specs.Step.{IsRun, after, change, is_finished};
 ghost use Rattle.pw_paired.specs.Terminal.{path_of};
 ghost use Rattle.pw_paired.specs.Units.{committed_files};
 ghost use Rattle.pw_serial.specs.Actors.{Actor, ActorSteps};
+ghost use Rattle.pw_serial.specs.Restarts.{older_restarts_in};
 ghost use Rattle.pw_serial.specs.Guarded.{HasEndedOnce, IsGuarded, NoneCommits, is_fail};
 
 /// Every run of a deck is serializable, for every interleaving of terminals, servers and checkpoints and whatever fails:
@@ -56,4 +57,10 @@ pub fn guarded_pairs_are_kept()
         → (f : ℕ) → committed_files sys (after sys (log ++ more)) f ≡ committed_files sys (after sys log) f }
     ensures changes { (sys : Behaviour) → IsBehaviour sys → (log : List Event) (entry : Event)
         → IsRun sys (log ++ entry ∷ []) → is_fail entry ≡ false → change sys (after sys log) entry ≢ after sys log }
+{}
+
+/// In a run of a deck a unit restarts as the younger one at most as often as there are other terminals.
+pub fn older_restarts_are_few()
+    ensures { (sys : Behaviour) → IsBehaviour sys → (log : List Event) → IsRun sys log → (t n : ℕ) → t < sys.terminals
+        → older_restarts_in t n log ≤ sys.terminals - 1 }
 {}

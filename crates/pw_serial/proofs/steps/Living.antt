@@ -89,8 +89,8 @@ module _ (sys : Behaviour) (b : IsBehaviour sys) (s : State) (f : Fold) (k : Kno
   -- the units that an entry leaves open
   by-goes : (x : State) (t : ℕ) (u : OpenUnit) → Goes s x t → x.units t ≡ Some u → (s.terms t).ending ≡ None
   by-goes x t u (stays units last) is = ok t u (sym units ∙ is)
-  by-goes x t u (runs was now was_is now_is a c d e) is = ok t was was_is
-  by-goes x t u (opens now none now_is awaits last live) is = live
+  by-goes x t u (runs was now was_is now_is a c d e f g) is = ok t was was_is
+  by-goes x t u (opens now none now_is awaits last live restarts birth_is) is = live
   by-goes x t u (ends none number rises) is = absurd (cc (none, is))
 
   -- a terminal that stops at its program's end has no open unit
