@@ -9,8 +9,7 @@ use Rattle.pw_locking.specs.Seen.{AgreeOnRun, AreFiles, CallCovers, HaveSameAt, 
 use Rattle.pw_onecopy.specs.Attempt.{Attempt, GoesOn, IsAttempt, TakesAnswer, attempt, attempt_with, attempt_with_served, answer_verb}
 use Rattle.pw_onecopy.specs.Behaviour.{Behaviour, Served, Reply, Fault}
 use Rattle.pw_onecopy.specs.IsBehaviour.{ComesTo, IsBehaviour, IsPath, Suits}
-use Rattle.pw_onecopy.specs.Path.{PathAnswer, Begun, Entry, Failed, Replied, Shown, entries_on, unit_number}
-use Rattle.pw_onecopy.specs.Path as answer
+use Rattle.pw_onecopy.specs.Path.{PathAnswer, Begun, Entry, Failed, Replied, Shown, entries_on, unit_number, Dropped, Ended}
 use Rattle.pw_onecopy.specs.Play.{Play, play_operation, play_after}
 use Rattle.pw_onecopy.specs.Refreshes.{next_refresh}
 use Rattle.pw_onecopy.specs.declared.refresh.Refresh.{Refresh}
@@ -156,8 +155,8 @@ module _ (sys : Behaviour) (b : IsBehaviour sys) (t : ℕ) (q : List PathAnswer)
   step-fine files are at verb.Show asks takes fine = let next = given-fine at Shown (rw asks tt) fine in record { is_path = next.is_path; are_files = next.are_files }
   step-fine files are at (verb.Accept screen) asks takes fine = given-fine at (Entry (entries_on at.path + 1)) (rw asks (refl, omega (arith, takes))) fine
   step-fine files are at (verb.Send c message) asks takes fine = served-fine c message (b.sends t c message at.path fine.is_path asks) at asks fine
-  step-fine files are at verb.End asks takes fine = given-fine at answer.Ended (rw asks tt) fine
-  step-fine files are at verb.Drop asks takes fine = let next = given-fine at answer.Dropped (rw asks tt) fine in record { is_path = next.is_path; are_files = are }
+  step-fine files are at verb.End asks takes fine = given-fine at Ended (rw asks tt) fine
+  step-fine files are at verb.Drop asks takes fine = let next = given-fine at Dropped (rw asks tt) fine in record { is_path = next.is_path; are_files = are }
   step-fine files are at verb.Redo asks takes fine = absurd takes
   step-fine files are at verb.Stop asks takes fine = absurd takes
   step-fine files are at (verb.Fault x) asks takes fine = absurd takes
@@ -187,8 +186,8 @@ module _ (sys : Behaviour) (b : IsBehaviour sys) (t : ℕ) (q : List PathAnswer)
       subst (λ (p : List PathAnswer). SameAttempts sys (attempt_with (Entry (entries_on one.path + 1)) one) (attempt_with (Entry (entries_on p + 1)) other) x y) same.path
       (given-same sys one other x y (Entry (entries_on one.path + 1)) same)
   step-same x y one other (verb.Send c message) sends same = sends c message refl
-  step-same x y one other verb.End sends same = given-same sys one other x y answer.Ended same
-  step-same x y one other verb.Drop sends same = record { path = ap (λ (p : List PathAnswer). p ++ answer.Dropped ∷ []) same.path; refreshes = same.refreshes; last = refl; stays = λ f key e. e }
+  step-same x y one other verb.End sends same = given-same sys one other x y Ended same
+  step-same x y one other verb.Drop sends same = record { path = ap (λ (p : List PathAnswer). p ++ Dropped ∷ []) same.path; refreshes = same.refreshes; last = refl; stays = λ f key e. e }
   step-same x y one other verb.Redo sends same = same
   step-same x y one other verb.Stop sends same = same
   step-same x y one other (verb.Fault n) sends same = same

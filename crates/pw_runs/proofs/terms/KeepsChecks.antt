@@ -6,8 +6,7 @@ use Rattle.pw_code.specs.declared.verb.Verb.TheVariants as verb
 use Rattle.pw_onecopy.proofs.Update.{upd_elim}
 use Rattle.pw_onecopy.specs.Behaviour.{Behaviour}
 use Rattle.pw_onecopy.specs.IsBehaviour.{IsBehaviour, IsPath, Suits}
-use Rattle.pw_onecopy.specs.Path.{PathAnswer, is_outside, unit_number}
-use Rattle.pw_onecopy.specs.Path as answer
+use Rattle.pw_onecopy.specs.Path.{PathAnswer, is_outside, unit_number, Dropped, Ended}
 use Rattle.pw_onecopy.specs.Update.{upd}
 use Rattle.pw_paired.specs.Raising.{LegalCheckCopy, do_check_copy}
 use Rattle.pw_paired.specs.State.{Mode, BackupCopy, Message, Copy, OpenUnit, State, Term}
@@ -100,10 +99,10 @@ closes sys b t path a (verb.Accept screen) is_path asks is = absurd (cc is)
 closes sys b t path a verb.Begin is_path asks is = absurd (cc is)
 closes sys b t path a (verb.Send c message) is_path asks is = absurd (cc is)
 closes sys b t path a verb.End is_path asks is =
-    subst (λ (x : PathAnswer). Closes sys t path x) (let same : answer.Ended ≡ a = cc in same)
+    subst (λ (x : PathAnswer). Closes sys t path x) (let same : Ended ≡ a = cc in same)
     (record { inside = b.ends t path is_path asks; closing_is = Ended-closing; suits = rw asks tt })
 closes sys b t path a verb.Drop is_path asks is =
-    subst (λ (x : PathAnswer). Closes sys t path x) (let same : answer.Dropped ≡ a = cc in same)
+    subst (λ (x : PathAnswer). Closes sys t path x) (let same : Dropped ≡ a = cc in same)
     (record { inside = b.drops t path is_path asks; closing_is = Dropped-closing; suits = rw asks tt })
 closes sys b t path a verb.Redo is_path asks is = absurd (cc is)
 closes sys b t path a verb.Stop is_path asks is = absurd (cc is)

@@ -7,8 +7,7 @@ use Rattle.pw_onecopy.proofs.Update.{upd_elim, upd-same, upd-other}
 use Rattle.pw_onecopy.specs.Attempt.{BeginsUnit}
 use Rattle.pw_onecopy.specs.Behaviour.{Behaviour}
 use Rattle.pw_onecopy.specs.IsBehaviour.{IsBehaviour, IsPath, Suits}
-use Rattle.pw_onecopy.specs.Path.{PathAnswer, Begun, Replied, Standing, is_outside, unit_number}
-use Rattle.pw_onecopy.specs.Path as answer
+use Rattle.pw_onecopy.specs.Path.{PathAnswer, Begun, Replied, Standing, is_outside, unit_number, Dropped, Ended}
 use Rattle.pw_onecopy.specs.Update.{upd}
 use Rattle.pw_paired.specs.State.{Mode, LastEnded, BackupCopy, Message, Start, End, Copy, OpenUnit, State, Term}
 use Rattle.pw_paired.specs.Terminal.{CanStep, HoldsStart, LegalBegin, LegalAgain, LegalCommit, LegalBack, unit_with_attempt, begun_path, do_begin, do_again, do_commit, do_back, kept_reply, next_verb, path_of}
@@ -208,7 +207,7 @@ module _ (sys : Behaviour) (b : IsBehaviour sys) (s : State) (ok : TermsOk sys s
   keeps_commit t n l j j_known =
       let is_path = path_ok-is _ (s.units t) (can_path sys b s ok t l.can) in
       OkAt-changed sys s j t _ _ _
-      (λ _. closes-unit t n answer.Ended l.can l.number (b.ends t (path_of s t) is_path l.asks) Ended-closing (rw l.asks tt))
+      (λ _. closes-unit t n Ended l.can l.number (b.ends t (path_of s t) is_path l.asks) Ended-closing (rw l.asks tt))
       (ok j j_known)
 
   -- BACK keeps what holds of terminals
@@ -216,5 +215,5 @@ module _ (sys : Behaviour) (b : IsBehaviour sys) (s : State) (ok : TermsOk sys s
   keeps_back t n l j j_known =
       let is_path = path_ok-is _ (s.units t) (can_path sys b s ok t l.can) in
       OkAt-changed sys s j t _ _ _
-      (λ _. closes-unit t n answer.Dropped l.can l.number (b.drops t (path_of s t) is_path l.asks) Dropped-closing (rw l.asks tt))
+      (λ _. closes-unit t n Dropped l.can l.number (b.drops t (path_of s t) is_path l.asks) Dropped-closing (rw l.asks tt))
       (ok j j_known)
