@@ -1,6 +1,0 @@
-pub mod DeckLaws
-pub mod Orders
-pub mod Refused
-pub mod Stepping
-pub mod Unmet
-pub mod logs
