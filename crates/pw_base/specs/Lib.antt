@@ -1,3 +1,4 @@
+pub mod FaultCodes
 pub mod First
 pub mod MemSink
 pub mod MemSource
