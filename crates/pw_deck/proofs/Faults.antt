@@ -3,6 +3,7 @@ use Rattle.std.proofs.Common.{◌≡◌, ℕ, ◌+◌, ◌<◌, ◌≤◌, Bool,
 use Rattle.std.proofs.lemmas.Bool.{le-ltb, ne_eqb}
 use Rattle.std.specs.Bool.{◌==◌}
 use Rattle.std.specs.Str.{bytes_eq}
+use Rattle.pw_base.specs.declared.fault_code.FaultCode.TheVariants.{InputTooLong}
 use Rattle.pw_base.specs.declared.fault.Fault.{Fault}
 use Rattle.pw_base.specs.declared.read_all.TheConstants.{MAX_INPUT}
 use Rattle.pw_base.specs.declared.fault.Refusal.{Refusal}
@@ -53,7 +54,7 @@ judged front behind texts = unless (least None (map no_such_form (front ++ behin
 
 short : (bytes : List ℕ) → length bytes ≤ MAX_INPUT → program_of bytes ≡ judged (wrong_in heading 1 (lines bytes)) (wrong_program (drop 12 (lines bytes))) (texts_in (drop 12 (lines bytes)))
 short bytes le = let e : ltb MAX_INPUT (length bytes) ≡ false = le-ltb MAX_INPUT (length bytes) le in
-    ap (λ t. unless (least None (cond t ((record { line = 0; code = 190 }) ∷ []) (map no_such_form (wrong_in heading 1 (lines bytes) ++ wrong_program (drop 12 (lines bytes)))))) (texts_in (drop 12 (lines bytes)))) e
+    ap (λ t. unless (least None (cond t ((record { line = 0; code = InputTooLong }) ∷ []) (map no_such_form (wrong_in heading 1 (lines bytes) ++ wrong_program (drop 12 (lines bytes)))))) (texts_in (drop 12 (lines bytes)))) e
 
 heading_wrong : (bytes : List ℕ) (line : ℕ) → length bytes ≤ MAX_INPUT → wrong_in heading 1 (lines bytes) ≡ line ∷ [] → program_of bytes ≡ Err (no_such_form line)
 heading_wrong bytes line le e =

@@ -1,3 +1,6 @@
+ghost use Rattle.std.specs.Prelude.{◌≡◌};
+ghost use Rattle.pw_text.specs.Cursor.{same_kind};
+
 /// What a token is.
 #[derive(Clone, Copy, Debug, PartialEq, Eq)]
 pub enum TokenKind {
@@ -25,6 +28,15 @@ pub enum TokenKind {
     LessEqual,
     /// `>=`
     GreaterEqual,
+}
+
+impl TokenKind {
+    /// Whether the two are one kind.
+    pub fn is(self, kind: TokenKind) -> bool
+        ensures { result ≡ same_kind self kind }
+    {
+        self as usize == kind as usize
+    }
 }
 
 /// A token: its kind, the line on which it stands, and where its bytes begin and end in the text.
