@@ -3,6 +3,7 @@ use Rattle.std.proofs.Common.{◌≡◌, ℕ, ◌<◌, List, length, Option, Non
 use Rattle.std.specs.Prelude.{IfSome, IfOk, nat_lt}
 use Rattle.std.specs.Io.KnownBytes.{Consumes}
 use Rattle.std.proofs.lemmas.Bool.Decides.{nat_tests}
+use Rattle.pw_base.specs.declared.fault_code.FaultCode.TheVariants.{InputTooLong}
 use Rattle.pw_base.specs.declared.memory.Memory.{Memory}
 use Rattle.pw_base.specs.declared.read_all.TheConstants.{MAX_INPUT}
 use Rattle.pw_base.specs.Outside.{Rose, WritesAll}
@@ -66,7 +67,7 @@ refused_defines bytes fault (Ok output) deck is = rw is.0 (record { fault = faul
 refused_defines bytes fault (Err memory) deck is = tt
 
 -- an input that is longer than the longest has the fault 190 on line 0
-pub long_fault : (bytes : List ℕ) → MAX_INPUT < length bytes → program_of bytes ≡ Err (record { line = 0; code = 190 })
+pub long_fault : (bytes : List ℕ) → MAX_INPUT < length bytes → program_of bytes ≡ Err (record { line = 0; code = InputTooLong })
 long_fault bytes long =
     let test : nat_lt MAX_INPUT (length bytes) ≡ true = grind (arith, nat_tests) in
     rw test refl
@@ -79,11 +80,11 @@ too_long (Some had) (Some rest) taken gone long = (had, refl, omega (arith, ap l
 
 pub refused_long : (left : Option (List ℕ)) (refused : Result (Status × List ℕ) Memory) (result : Result (Status × List ℕ) Status)
     → (bytes : List ℕ) × IfSome left (λ had. had ≡ bytes) × (MAX_INPUT < length bytes)
-    → IfOk refused (λ output. (output.0 ≡ status.Refused) × (output.1 ≡ fault_line (record { line = 0; code = 190 })))
+    → IfOk refused (λ output. (output.0 ≡ status.Refused) × (output.1 ≡ fault_line (record { line = 0; code = InputTooLong })))
     → IfOk result (λ output. refused ≡ Ok output)
     → IfOk result (λ output. (bytes : List ℕ) × IfSome left (λ had. had ≡ bytes) × Defines output.0 bytes output.1)
 refused_long left refused (Ok output) long is same =
-    let whole = refused_defines long.0 (record { line = 0; code = 190 }) refused (long_fault long.0 long.2) is in
+    let whole = refused_defines long.0 (record { line = 0; code = InputTooLong }) refused (long_fault long.0 long.2) is in
     (long.0, long.1, rw same at whole)
 refused_long left refused (Err e) long is same = tt
 

@@ -9,6 +9,7 @@ use crate::run::{RunEnd, run};
 use crate::status::{MAX_ENTRIES, Status};
 use pw_base::bytes::Bytes;
 use pw_base::fault::{Fault, Refusal};
+use pw_base::fault_code::FaultCode;
 use pw_base::memory::Memory;
 use pw_base::read_all::{ReadFault, read_all};
 use pw_base::source::Source;
@@ -18,6 +19,12 @@ use pw_report::report::report;
 use pw_world::world::World;
 use std::alloc::Global;
 
+/// The fault of an input that is too long.
+const TOO_LONG: Fault = Fault {
+    line: 0,
+    code: FaultCode::InputTooLong,
+};
+
 /// Reads the source and runs its deck: the status and its text, or the status of a call that has none.
 pub fn output_of<S: Source>(alloc: Global, source: &mut S) -> Result<(Status, Bytes), Status>
     ensures ok { IfOk result (λ output. (bytes : List ℕ) × IfSome (S.left source.old) (λ left. left ≡ bytes) × Defines output.0 bytes output.1) }
@@ -26,7 +33,7 @@ pub fn output_of<S: Source>(alloc: Global, source: &mut S) -> Result<(Status, By
 {
     match read_all(alloc, source) {
         Ok(bytes) => or_memory(deck_output(alloc, bytes.as_slice())),
-        Err(ReadFault::TooLong) => or_memory(refused(alloc, Fault { line: 0, code: 190 })),
+        Err(ReadFault::TooLong) => or_memory(refused(alloc, TOO_LONG)),
         Err(ReadFault::Fault) => Err(Status::ReadFault),
         Err(ReadFault::Memory) => Err(Status::Memory),
     }

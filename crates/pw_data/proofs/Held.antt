@@ -4,6 +4,7 @@ use Rattle.std.specs.Prelude.{◌&&◌, ◌||◌, nat_le, take_while, is_some, o
 use Rattle.std.specs.List.{list_all}
 use Rattle.std.proofs.lemmas.Bool.Decides.{nat_tests}
 use Rattle.std.proofs.lemmas.List.Elements.{All-nil, All-cons, All-append}
+use Rattle.pw_base.specs.declared.fault_code.FaultCode.TheVariants.{BadDataEntry}
 use Rattle.pw_picture.specs.declared.picture.Picture.{Picture}
 use Rattle.pw_picture.specs.declared.picture.Picture.TheVariants.{Text, Number, Edited}
 use Rattle.pw_picture.specs.Symbols.{longest, begins_with, bounded, symbols_behind}
@@ -108,7 +109,7 @@ items-fit text top table at around Empty all none = All-nil FitsPicture
 items-fit text top table at around (Node e ms r) all none =
     let size : ℕ = e.size + size_in ms in
     let own : Table = table_of around e.occurs size in
-    let here = no_fault (is_misplaced top table (is_group ms) e) e.line 121 (tree_faults false (table || has_occurs e) ms ++ tree_faults top table r) none in
+    let here = no_fault (is_misplaced top table (is_group ms) e) e.line BadDataEntry (tree_faults false (table || has_occurs e) ms ++ tree_faults top table r) none in
     let deeper = no_faults (tree_faults false (table || has_occurs e) ms) (tree_faults top table r) here.1 in
     let fine : Placed table e ms = placed top table e ms here.0 in
     All-cons FitsPicture (item_of text at size own e) (items_in text at own ms ++ items_in text (at + times e * size) around r) (item-fits text at own e ms all.0 fine.plain)

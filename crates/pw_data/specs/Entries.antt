@@ -1,6 +1,8 @@
 -- What is read off the tokens of one entry.
 use Rattle.std.specs.Prelude.{ℕ, List, [], ◌∷◌, ◌++◌, flat_map, Bool, true, false, not, ◌&&◌, ◌||◌, nat_le, ◌==◌, is_some, codes, Option, Some, None, unwrap_or, option_map, option_and_then, option_to_list, if◌then◌else◌}
 use Rattle.std.specs.List.{list_any}
+use Rattle.pw_base.specs.declared.fault_code.FaultCode.{FaultCode}
+use Rattle.pw_base.specs.declared.fault_code.FaultCode.TheVariants.{BadDataEntry, BadPicture, NameTwice}
 use Rattle.pw_base.specs.declared.fault.Fault.{Fault}
 use Rattle.pw_picture.specs.declared.picture.Picture.{Picture}
 use Rattle.pw_picture.specs.declared.picture.Picture.TheVariants as picture
@@ -166,23 +168,23 @@ is_bad_entry text None = false
 is_bad_entry text (Some entry) = has_bad_clause text entry
 
 -- the fault of a line
-abbrev pub fault : ℕ → ℕ → Fault
+abbrev pub fault : ℕ → FaultCode → Fault
 fault line code = record { line = line; code = code }
 
 -- a fault of a line, where it is one
-abbrev pub only_if : Bool → ℕ → ℕ → List Fault
+abbrev pub only_if : Bool → ℕ → FaultCode → List Fault
 only_if is_fault line code = if is_fault then fault line code ∷ [] else []
 
--- 111 for a picture that is none
--- 121 for an entry of another form, and for a clause that may not stand in it
--- 122 for a table word as a name
+-- BadPicture for a picture that is none
+-- BadDataEntry for an entry of another form, and for a clause that may not stand in it
+-- NameTwice for a table word as a name
 abbrev pub part_faults : Bool → List ℕ → Part → List Fault
 part_faults server text part =
     let reading = reading_of server text part.tokens in
     let line = line_of part.tokens in
-    only_if (list_any (is_bad_picture text) part.tokens) line 111
-    ++ (only_if (not (has_form reading) || is_bad_entry text (entry_of server text part)) line 121
-    ++ only_if (has_table_name server text (option_and_then (proper_name text) reading.name)) line 122)
+    only_if (list_any (is_bad_picture text) part.tokens) line BadPicture
+    ++ (only_if (not (has_form reading) || is_bad_entry text (entry_of server text part)) line BadDataEntry
+    ++ only_if (has_table_name server text (option_and_then (proper_name text) reading.name)) line NameTwice)
 
 -- the faults that are read off the entries one by one
 abbrev pub faults_of_parts : Bool → List ℕ → List Part → List Fault

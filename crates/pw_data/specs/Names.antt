@@ -3,6 +3,7 @@ use Rattle.std.specs.Prelude.{◌≡◌, ℕ, Vec, bytes_eq, List, [], ◌∷◌
 use Rattle.std.specs.List.{list_any}
 use Rattle.std.specs.Str.{str_to_ascii_lowercase}
 use Rattle.std.specs.BTreeSet.{BTreeSet}
+use Rattle.pw_base.specs.declared.fault_code.FaultCode.TheVariants.{NameTwice}
 use Rattle.pw_base.specs.declared.fault.Fault.{Fault}
 use Rattle.pw_words.specs.Words.{Word, same_word}
 use Rattle.pw_data.specs.declared.entry.Entry.{Entry}
@@ -32,8 +33,8 @@ abbrev pub HasNamesOf : {A : Type 0} → List ℕ → List Entry → BTreeSet (V
 HasNamesOf text entries names =
     (word : Word) → has_name names word ≡ list_any (λ entry. is_this_name (name_of text entry) word) entries
 
--- 122 for each entry with a name that one before it has
+-- NameTwice for each entry with a name that one before it has
 abbrev pub clashes : List ℕ → List Entry → List Entry → List Fault
 clashes text before [] = []
 clashes text before (entry ∷ entries) =
-    only_if (is_taken text before (name_of text entry)) entry.line 122 ++ clashes text (before ++ entry ∷ []) entries
+    only_if (is_taken text before (name_of text entry)) entry.line NameTwice ++ clashes text (before ++ entry ∷ []) entries

@@ -1,30 +1,23 @@
 ghost use Rattle.std.specs.Prelude.{◌≡◌, ◌++◌, IfOk, OnOk, IfSome, option_map, option_and_then, option_to_list};
 ghost use Rattle.std.specs.List.{list_any};
+ghost use Rattle.pw_base.specs.declared.fault_code.FaultCode.TheVariants.{BadPicture, BadDataEntry, NameTwice};
 ghost use Rattle.pw_base.specs.First.{least};
 ghost use Rattle.pw_picture.specs.Grammar.{IsPicture};
 ghost use Rattle.pw_data.specs.Parts.{part_of};
-ghost use Rattle.pw_data.specs.Entries.{level_of, level_at, is_name, name_at, behind_name, reading_of, has_form, picture_at, is_bad_picture, proper_name, has_table_name, count_at, size_at, entry_with, line_of, entry_of, begins_item, has_picture, has_value, has_occurs, has_no_kind, is_refused, is_bad_value, is_bad_occurs, has_bad_clause, is_bad_entry, fault, part_faults};
+ghost use Rattle.pw_data.specs.Entries.{level_of, level_at, is_name, name_at, behind_name, reading_of, has_form, picture_at, is_bad_picture, proper_name, has_table_name, count_at, size_at, entry_with, line_of, entry_of, begins_item, has_picture, has_value, has_occurs, has_no_kind, is_refused, is_bad_value, is_bad_occurs, has_bad_clause, is_bad_entry, fault, only_if, part_faults};
 
 use crate::clauses::{Clauses, clauses_of, no_clauses};
 use crate::item::kind_at;
 use crate::literal::{Literal, holds, literal_of, whole_number};
 use crate::words::{bytes_of, is_number, is_picture, is_table_word, is_the_word, is_word};
 use pw_base::fault::{Fault, noted};
+use pw_base::fault_code::FaultCode;
 use pw_base::memory::Memory;
 use pw_picture::fault::PictureFault;
 use pw_picture::grammar::picture;
 use pw_picture::picture::Picture;
 use pw_text::token::Token;
 use std::alloc::Global;
-
-/// The code of a text that stands for a picture and is none.
-const BAD_PICTURE: u16 = 111;
-
-/// The code of an entry that is none.
-pub const BAD_ENTRY: u16 = 121;
-
-/// The code of a name that an earlier item has, and of a table word as a name.
-pub const NAME_TWICE: u16 = 122;
 
 /// The parts of an entry, each where it has its form: the level, the name, and the clauses.
 #[derive(Clone, Copy)]
@@ -363,15 +356,39 @@ pub fn read_part(
     let line = line_of(tokens);
     let (entry, bad) = entry_of(alloc, text, linked, line, reading)?;
     push_entry(entries, entry)?;
-    let bad_picture = has_bad_picture(alloc, text, tokens)?;
-    let table_name = has_table_name(server, text, proper_name(text, reading.name));
-    let known = noted(known, bad_picture, fault(line, BAD_PICTURE));
-    let known = noted(known, !has_form(reading) || bad, fault(line, BAD_ENTRY));
-    Ok(noted(known, table_name, fault(line, NAME_TWICE)))
+    let own = OwnFaults {
+        picture: has_bad_picture(alloc, text, tokens)?,
+        entry: !has_form(reading) || bad,
+        name: has_table_name(server, text, proper_name(text, reading.name)),
+    };
+    Ok(own.noted(known, line))
+}
+
+/// Which faults an entry has by itself.
+#[derive(Clone, Copy)]
+struct OwnFaults {
+    /// A picture that is none.
+    picture: bool,
+    /// Another form, or a clause that may not stand there.
+    entry: bool,
+    /// A table word as a name.
+    name: bool,
+}
+
+impl OwnFaults {
+    /// The first of the fault that is known and of these on a line.
+    fn noted(self, known: Option<Fault>, line: u32) -> Option<Fault>
+        ensures { result ≡ least known (only_if self.picture line BadPicture
+            ++ (only_if self.entry line BadDataEntry ++ only_if self.name line NameTwice)) }
+    {
+        let known = noted(known, self.picture, fault(line, FaultCode::BadPicture));
+        let known = noted(known, self.entry, fault(line, FaultCode::BadDataEntry));
+        noted(known, self.name, fault(line, FaultCode::NameTwice))
+    }
 }
 
 /// The fault of a line.
-pub fn fault(line: u32, code: u16) -> Fault
+pub fn fault(line: u32, code: FaultCode) -> Fault
     ensures { result ≡ fault line code }
 {
     Fault { line, code }

@@ -5,9 +5,10 @@ ghost use Rattle.pw_words.specs.Words.{same_word};
 ghost use Rattle.pw_data.specs.declared.entry.Entry.{Entry};
 ghost use Rattle.pw_data.specs.Names.{name_of, is_taken, has_name, HasNamesOf, clashes};
 
-use crate::entry::{Entry, NAME_TWICE, fault};
+use crate::entry::{Entry, fault};
 use crate::words::bytes_of;
 use pw_base::fault::{Fault, noted};
+use pw_base::fault_code::FaultCode;
 use pw_base::memory::Memory;
 use std::alloc::Global;
 use std::collections::BTreeSet;
@@ -77,7 +78,7 @@ pub fn clashes(
     let mut known = known;
     for entry in entries {
         let taken = put_name_of(alloc, text, *entry, &mut names)?;
-        known = noted(known, taken, fault(entry.line, NAME_TWICE));
+        known = noted(known, taken, fault(entry.line, FaultCode::NameTwice));
     }
     Ok(known)
 }

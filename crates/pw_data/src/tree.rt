@@ -4,14 +4,12 @@ ghost use Rattle.pw_base.specs.First.{least};
 ghost use Rattle.pw_data.specs.Tree.{same_section, stands_in, forest, is_misplaced, tree_faults};
 ghost use Rattle.pw_data.specs.Laid.{times, size_in, most, too_large};
 
-use crate::entry::{BAD_ENTRY, Entry, begins_item, fault, has_occurs, has_picture, has_value};
+use crate::entry::{Entry, begins_item, fault, has_occurs, has_picture, has_value};
 use pw_base::fault::{Fault, noted};
+use pw_base::fault_code::FaultCode;
 
 /// The most characters of storage of a program.
 pub const MAX_STORAGE: u32 = 32_000;
-
-/// The code of data whose storage is too large.
-const STORAGE_TOO_LARGE: u16 = 124;
 
 /// A size above the most, as which every larger one counts.
 const TOO_LARGE: u32 = MAX_STORAGE + 1;
@@ -74,7 +72,7 @@ pub fn tree_faults(top: bool, table: bool, entries: &[Entry], known: Option<Faul
     while let Some((entry, behind)) = rest.split_first() {
         let (members, next) = behind.split_at(member_count(*entry, behind));
         let misplaced = is_misplaced(top, table, !members.is_empty(), *entry);
-        known = noted(known, misplaced, fault(entry.line, BAD_ENTRY));
+        known = noted(known, misplaced, fault(entry.line, FaultCode::BadDataEntry));
         known = tree_faults(false, is_inside(table, *entry), members, known);
         rest = next;
     }
@@ -123,7 +121,7 @@ pub fn too_large(entries: &[Entry]) -> Option<Fault>
         let (members, next) = behind.split_at(member_count(*entry, behind));
         size += extent(*entry, size_of(members));
         if size > MAX_STORAGE {
-            return Some(fault(entry.line, STORAGE_TOO_LARGE));
+            return Some(fault(entry.line, FaultCode::StorageTooLarge));
         }
         rest = next;
     }
