@@ -1,4 +1,5 @@
-ghost use Rattle.std.specs.Prelude.{◌≡◌, ◌≤◌, List, ℕ, Ok, IfOk, IfErr, IfSome};
+ghost use Rattle.std.specs.Prelude.{◌≡◌, ◌≤◌, List, ℕ, Ok, IfOk, IfErr, IfSome, OnOk};
+ghost use Rattle.pw_base.specs.Limits.{most_entries};
 ghost use Rattle.pw_code.specs.Valid.{IsValid};
 ghost use Rattle.pathway.specs.Commands.{fault_line};
 ghost use Rattle.pathway.specs.Running.{RunsTo, status_of};
@@ -29,6 +30,7 @@ const TOO_LONG: Fault = Fault {
 pub fn output_of<S: Source>(alloc: Global, source: &mut S) -> Result<(Status, Bytes), Status>
     ensures ok { IfOk result (λ output. (bytes : List ℕ) × IfSome (S.left source.old) (λ left. left ≡ bytes) × Defines output.0 bytes output.1) }
     ensures err { IfErr result (λ status. GivesUp status (S.faults source.old) (S.faults source.new)) }
+    ensures kept { OnOk result (S.faults source.new ≡ S.faults source.old) }
     ensures count { S.faults source.old ≤ S.faults source.new }
 {
     match read_all(alloc, source) {
@@ -75,7 +77,7 @@ fn refused(alloc: Global, fault: Fault) -> Result<(Status, Bytes), Memory>
 /// Runs a system: how the run ended, and the report of it.
 fn run_output(alloc: Global, system: System) -> Result<(RunEnd, Bytes), Memory>
     requires { IsValid system }
-    ensures { IfOk result (λ output. RunsTo system MAX_ENTRIES output.0 output.1) }
+    ensures { IfOk result (λ output. RunsTo system most_entries output.0 output.1) }
 {
     let mut world = World::new(alloc, system, MAX_ENTRIES)?;
     let end = run(&mut world)?;

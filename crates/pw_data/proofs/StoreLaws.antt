@@ -10,7 +10,7 @@ use Rattle.pw_base.specs.declared.fault.Fault.{Fault}
 use Rattle.pw_base.specs.First.{least, unless}
 use Rattle.pw_base.proofs.FirstFault.{least-none}
 use Rattle.pw_text.specs.declared.token.Token.{Token}
-use Rattle.pw_data.specs.declared.entry.Reading.{Reading}
+use Rattle.pw_data.specs.declared.reading.Reading.{Reading}
 use Rattle.pw_data.specs.declared.entry.Entry.{Entry}
 use Rattle.pw_data.specs.Parts.{Part, parts_of}
 use Rattle.pw_data.specs.Entries.{only_if, reading_of, line_of, proper_name, has_form, is_bad_picture, has_table_name, has_no_kind, is_bad_entry, is_bad_occurs, is_bad_value, entry_with, entry_of, part_faults, faults_of_parts, entries_of}

@@ -7,12 +7,12 @@ use Rattle.pw_base.specs.declared.fault_code.FaultCode.TheVariants.{NameTwice}
 use Rattle.pw_base.specs.declared.fault.Fault.{Fault}
 use Rattle.pw_words.specs.Words.{Word, same_word}
 use Rattle.pw_data.specs.declared.entry.Entry.{Entry}
-use Rattle.pw_data.specs.Parts.{bytes_of}
+use Rattle.pw_text.specs.Cursor.{spelling}
 use Rattle.pw_data.specs.Entries.{only_if}
 
 -- the name of an entry, where it has one
 abbrev pub name_of : List ℕ → Entry → Option Word
-name_of text entry = option_map (bytes_of text) entry.name
+name_of text entry = option_map (spelling text) entry.name
 
 -- there is a name, and it is this word
 abbrev pub is_this_name : Option Word → Word → Bool

@@ -3,6 +3,8 @@ use Rattle.std.specs.Prelude.{List, [], ◌∷◌, ◌++◌, Bool, true, false, 
 use Rattle.pw_base.specs.declared.fault_code.FaultCode.TheVariants.{BadDataEntry}
 use Rattle.pw_base.specs.declared.fault.Fault.{Fault}
 use Rattle.pw_data.specs.declared.entry.Entry.{Entry}
+use Rattle.pw_data.specs.declared.tree.Within.{Within}
+use Rattle.pw_data.specs.declared.tree.Within.TheVariants as within
 use Rattle.pw_data.specs.Entries.{begins_item, has_picture, has_value, has_occurs, only_if}
 
 -- the two stand in one section
@@ -48,6 +50,18 @@ is_misplaced top table group entry =
     (top && not (begins_item entry))
     || ((if group then has_picture entry || has_value entry else not (has_picture entry))
     || ((table && has_occurs entry) || ((table || has_occurs entry) && has_value entry)))
+
+-- the entries belong to none
+abbrev pub is_top : Within → Bool
+is_top within.Nothing = true
+is_top within.Group = false
+is_top within.Table = false
+
+-- the entries are inside an OCCURS
+abbrev pub in_table : Within → Bool
+in_table within.Nothing = false
+in_table within.Group = false
+in_table within.Table = true
 
 -- BadDataEntry for each entry whose place is a fault. top: the entries belong to none. table: they are inside an OCCURS.
 abbrev pub tree_faults : Bool → Bool → Forest → List Fault

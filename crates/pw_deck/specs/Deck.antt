@@ -6,7 +6,7 @@ use Rattle.pw_base.specs.declared.fault_code.FaultCode.TheVariants.{InputTooLong
 use Rattle.pw_base.specs.declared.fault.Fault.{Fault}
 use Rattle.pw_base.specs.declared.fault.Refusal.{Refusal}
 use Rattle.pw_base.specs.declared.fault.Refusal.TheVariants.{At, Memory}
-use Rattle.pw_base.specs.declared.read_all.TheConstants.{MAX_INPUT}
+use Rattle.pw_base.specs.Limits.{longest_input}
 use Rattle.pw_base.specs.First.{least, unless}
 use Rattle.pw_code.specs.declared.code.Instr.{Instr}
 use Rattle.pw_code.specs.declared.code.Instr.TheVariants.{Display, StopRun}
@@ -83,7 +83,7 @@ no_such_form line = record { line = line; code = NoSuchForm }
 -- the faults of a deck: too long, or the lines that may not stand where they do
 abbrev pub faults : List ℕ → List Fault
 faults bytes =
-    if nat_lt MAX_INPUT (length bytes) then (record { line = 0; code = InputTooLong }) ∷ []
+    if nat_lt longest_input (length bytes) then (record { line = 0; code = InputTooLong }) ∷ []
     else map no_such_form (wrong_in heading 1 (lines bytes) ++ wrong_program (drop 12 (lines bytes)))
 
 -- the texts that a deck's program displays one after the other, or the deck's first fault

@@ -2,6 +2,7 @@
 use Rattle.std.specs.Prelude.{ℕ, ◌+◌, ◌*◌, ◌≤◌, ◌<◌, List, [], ◌∷◌, Bool, true, false, ◌&&◌, ◌||◌, nat_lt, ◌==◌, Option, Some, None, codes, drop, length, take_while, if◌then◌else◌}
 use Rattle.pw_base.specs.declared.fault_code.FaultCode.{FaultCode}
 use Rattle.pw_base.specs.declared.fault_code.FaultCode.TheVariants.{BadCharacter, UnclosedLiteral, WordTooLong, NumberTooLong}
+use Rattle.pw_base.specs.Limits.{longest_word, most_digits}
 use Rattle.pw_words.specs.Words.{same_word}
 use Rattle.pw_text.specs.declared.token.TokenKind.{TokenKind}
 use Rattle.pw_text.specs.declared.token.TokenKind.TheVariants as kind
@@ -75,10 +76,10 @@ word_at bytes = take_while is_word_byte bytes
 abbrev pub is_pic : List ℕ → Bool
 is_pic word = same_word word (codes "PIC") || same_word word (codes "PICTURE")
 
--- a word of at most 30 characters
+-- a word of at most so many characters as the longest
 abbrev pub word_item : List ℕ → Item
 word_item word =
-    if nat_lt 30 (length word) then fault WordTooLong (length word)
+    if nat_lt longest_word (length word) then fault WordTooLong (length word)
     else (if is_pic word then record (token kind.Word (length word)) { next = BehindPic }
     else token kind.Word (length word))
 
@@ -95,7 +96,7 @@ places_at (b ∷ bs) = if b == 46 then run is_digit bs else 0
 abbrev pub number_of : ℕ → ℕ → ℕ → Item
 number_of sign whole places =
     let size = sign + (whole + (if places == 0 then 0 else 1 + places)) in
-    if nat_lt 18 (whole + places) then fault NumberTooLong size else token kind.Number size
+    if nat_lt most_digits (whole + places) then fault NumberTooLong size else token kind.Number size
 
 -- the number of these digits, with a sign of a size before them
 abbrev pub number_item : ℕ → List ℕ → Item

@@ -1,8 +1,7 @@
 ghost use Rattle.std.specs.Prelude.{◌≡◌, ◌==◌, ◌≤◌, None, length, take, slice_get};
-ghost use Rattle.pw_text.specs.Cursor.{spelling, is_the_word, sees, sees_word, behind, after, expect, expect_word, Reads};
+ghost use Rattle.pw_text.specs.Cursor.{spelling, sees, sees_word, behind, after, expect, expect_word, Reads};
 
 use crate::token::{Token, TokenKind};
-use pw_words::table::is_same_word;
 use std::marker::Model;
 
 /// The tokens of a text from one on. Contracts see the text and what is left of its tokens. A step
@@ -19,22 +18,6 @@ impl<'a> Model for Cursor<'a> {
     ghost Value = { Left };
 
     ghost view = { λ cursor. record { text = cursor.text.now; tokens = cursor.tokens.now } };
-}
-
-/// The bytes of a token in its text, as far as it lies there.
-fn spelling_in<'a>(text: &'a [u8], token: Token) -> &'a [u8]
-    ensures { result.now ≡ spelling text.entry.now token }
-{
-    let end = (token.end as usize).min(text.len());
-    let start = (token.start as usize).min(end);
-    &text[start..end]
-}
-
-/// Whether a token is this word, in either case.
-fn is_the_word(text: &[u8], word: &[u8], token: Token) -> bool
-    ensures { result ≡ is_the_word text.now word.now token }
-{
-    token.kind.is(TokenKind::Word) && is_same_word(spelling_in(text, token), word)
 }
 
 impl<'a> Cursor<'a> {
@@ -54,6 +37,13 @@ impl<'a> Cursor<'a> {
             text: self.text,
             tokens: self.tokens,
         }
+    }
+
+    /// The text.
+    pub fn text(&self) -> &'a [u8]
+        ensures { result.now ≡ self.now.text }
+    {
+        self.text
     }
 
     /// The tokens that are left.
@@ -95,7 +85,7 @@ impl<'a> Cursor<'a> {
     pub fn spelling(&self, token: Token) -> &'a [u8]
         ensures { result.now ≡ spelling self.now.text token }
     {
-        spelling_in(self.text, token)
+        token.spelling(self.text)
     }
 
     /// Whether the next token is of a kind.
@@ -113,7 +103,7 @@ impl<'a> Cursor<'a> {
         ensures { result ≡ sees_word word.now self.now }
     {
         match self.tokens {
-            [token, ..] => is_the_word(self.text, word, *token),
+            [token, ..] => token.is_the_word(self.text, word),
             [] => false,
         }
     }

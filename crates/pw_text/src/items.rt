@@ -7,15 +7,9 @@ use crate::bytes::{
 };
 use crate::item::{Item, Piece, Place};
 use crate::quoted::quoted;
-use crate::token::TokenKind;
+use crate::token::{MAX_DIGITS, MAX_WORD, TokenKind};
 use pw_base::fault_code::FaultCode;
 use pw_words::table::is_same_word;
-
-/// The most characters of a word.
-const MAX_WORD: usize = 30;
-
-/// The most digits of a number.
-const MAX_DIGITS: usize = 18;
 
 fn token(kind: TokenKind, size: usize) -> Item
     ensures { result ≡ token kind size }
