@@ -1,5 +1,5 @@
 -- The locks of a run: whose they are, and that no two of them conflict.
-use Rattle.std.proofs.Common.{◌≡◌, ℕ, Bool, true, false, not, cond, List, [], ◌∷◌, ◌++◌, filter, Option, Some, None, if◌then◌else◌, refl, ap, sym, subst₂, ◌∙◌}
+use Rattle.std.proofs.Common.{◌≡◌, ℕ, Bool, true, false, not, cond, List, [], ◌∷◌, ◌++◌, filter, Option, Some, None, if◌then◌else◌, refl, ap, sym, subst, subst₂, ◌∙◌}
 use Rattle.std.specs.List.{list_any, AllByRecursion}
 use Rattle.std.proofs.lemmas.Bool.{false≢true, eqb-false, cond-false, or_parts}
 use Rattle.pw_code.specs.declared.file.FileCall.{FileCall}
@@ -18,7 +18,7 @@ use Rattle.pw_onecopy.proofs.Update.{upd-other}
 use Rattle.pw_onecopy.specs.IsBehaviour.{IsBehaviour}
 use Rattle.pw_paired.specs.Failure.{backup_fails, is_of_pair, primary_fails, process_fails}
 use Rattle.pw_onecopy.specs.Path.{is_outside, unit_number}
-use Rattle.pw_paired.specs.Server.{do_job, do_verb, free_process, lock_of_job, reply_at, server_verb}
+use Rattle.pw_paired.specs.Server.{do_job, do_operation, do_verb, free_process, lock_of_job, reply_at, server_verb}
 use Rattle.pw_onecopy.specs.Update.{upd}
 use Rattle.pw_paired.specs.State.{Job, Mode, Alone, Raising, Paired, Down, Gone, OpenUnit, State, starting}
 use Rattle.pw_paired.specs.Step.{Fits, IsRun, IsRunFrom, after, after_from, effect}
@@ -27,6 +27,9 @@ use Rattle.pw_paired.specs.Terminal.{IsIdle, path_of}
 use Rattle.pw_paired.specs.Units.{attempt_of, commit_unit, only}
 use Rattle.pw_locking.proofs.records.OperationKept.{none-holds}
 use Rattle.pw_locking.specs.Held.{AreApart, IsHeld}
+use Rattle.pw_runs.proofs.induction.Failed.{end-any, fail-cases, process-cases}
+use Rattle.pw_runs.proofs.induction.Served.{file-is, reply-any}
+use Rattle.pw_runs.proofs.induction.Runs.{holds-behind, kept}
 use Rattle.pw_locks.proofs.Overlaps.{conflict-comm}
 use Rattle.pw_runs.proofs.Tests.{all-last}
 
@@ -98,70 +101,26 @@ module _ (sys : Behaviour) (b : IsBehaviour sys) (s : State) (i : Inv sys s) (ok
     apart = ok.apart;
   }
 
-  pub verb-locks : (c p : ℕ) (job : Job) → (s.classes c).busy p ≡ Some job → (v : Verb)
-      → ((call : FileCall) → v ≡ verb.File call → holders (lock_of_job sys s job call) s.locks ≡ [])
-      → LocksOk (do_verb sys c p job v s).units (do_verb sys c p job v s).locks
-  verb-locks c p job works (verb.File call) free =
+  -- an operation whose lock conflicts with none
+  pub operation-locks : (c p : ℕ) (job : Job) → (s.classes c).busy p ≡ Some job → (call : FileCall)
+      → holders (lock_of_job sys s job call) s.locks ≡ [] → LocksOk (do_operation sys c p job call s).units (do_operation sys c p job call s).locks
+  operation-locks c p job works call free =
       let out = out-job sys b s i c p job works in
       record {
         held = all-last (IsHeld s.units) s.locks (lock_of_job sys s job call) ok.held
             (record { unit = out.unit; is_open = out.is_open; number = out.number; start = out.start; runs = out.runs });
         apart = apart-last (lock_of_job sys s job call) s.locks ok.apart
-            (none-all (lock_of_job sys s job call) s.locks (none-holds (lock_of_job sys s job call) s.locks (free call refl)));
+            (none-all (lock_of_job sys s job call) s.locks (none-holds (lock_of_job sys s job call) s.locks free));
       }
-  verb-locks c p job works verb.Show free = ok
-  verb-locks c p job works (verb.Accept screen) free = ok
-  verb-locks c p job works verb.Begin free = ok
-  verb-locks c p job works (verb.Send class message) free = ok
-  verb-locks c p job works verb.End free = ok
-  verb-locks c p job works verb.Drop free = ok
-  verb-locks c p job works verb.Redo free = ok
-  verb-locks c p job works verb.Stop free = ok
-  verb-locks c p job works (verb.Fault x) free = ok
-  verb-locks c p job works (verb.Reply reply) free = ok
-
-  file-locks : (c p : ℕ) (job : Option Job) → (s.classes c).busy p ≡ job
-      → ((own : Job) (call : FileCall) → job ≡ Some own → server_verb sys c own ≡ verb.File call → holders (lock_of_job sys s own call) s.locks ≡ [])
-      → LocksOk (do_job sys c p job s).units (do_job sys c p job s).locks
-  file-locks c p None is free = ok
-  file-locks c p (Some job) is free = verb-locks c p job is (server_verb sys c job) (λ call asks. free job call refl asks)
-
-  reply-locks : (c p t : ℕ) (reply : List ℕ) (outside : Bool)
-      → LocksOk (if outside then commit_unit t (unit_number (path_of s t)) (Some reply) (free_process c p s) else free_process c p s).units
-      (if outside then commit_unit t (unit_number (path_of s t)) (Some reply) (free_process c p s) else free_process c p s).locks
-  reply-locks c p t reply true = without (only t) (upd s.units t None) (only-other t None)
-  reply-locks c p t reply false = ok
-
-  process-locks : (c p k : ℕ) (job : Option Job) → LocksOk (process_fails c p k job s).units (process_fails c p k job s).locks
-  process-locks c p k None = ok
-  process-locks c p k (Some job) = ok
 
   pair-other : (p : ℕ) (j : ℕ) → is_of_pair sys p j ≡ false → (if is_of_pair sys p j then None else s.units j) ≡ s.units j
   pair-other p j spared = cond-false (is_of_pair sys p j) None (s.units j) spared
 
-  primary-locks : (p : ℕ) (mode : Mode) → LocksOk (primary_fails sys p mode s).units (primary_fails sys p mode s).locks
-  primary-locks p Paired = ok
-  primary-locks p Raising = without (is_of_pair sys p) (λ j. if is_of_pair sys p j then None else s.units j) (pair-other p)
-  primary-locks p Alone = without (is_of_pair sys p) (λ j. if is_of_pair sys p j then None else s.units j) (pair-other p)
-  primary-locks p Down = ok
-  primary-locks p Gone = ok
-
-  backup-locks : (p : ℕ) (mode : Mode) → LocksOk (backup_fails sys p mode s).units (backup_fails sys p mode s).locks
-  backup-locks p Paired = ok
-  backup-locks p Raising = ok
-  backup-locks p Alone = ok
-  backup-locks p Down = without (is_of_pair sys p) (λ j. if is_of_pair sys p j then None else s.units j) (pair-other p)
-  backup-locks p Gone = ok
-
   left-other : (t j : ℕ) → only t j ≡ false → (if only t j then None else s.units j) ≡ s.units j
   left-other t j spared = cond-false (only t j) None (s.units j) spared
 
-  end-locks : (t : ℕ) (e : Ending) → LocksOk (effect sys s (End t e)).units (effect sys s (End t e)).locks
-  end-locks t ending.Stopped = ok
-  end-locks t ending.NoEntries = without (only t) (λ j. if only t j then None else s.units j) (left-other t)
-  end-locks t (ending.Fault x) = without (only t) (λ j. if only t j then None else s.units j) (left-other t)
-  end-locks t (ending.Suspended cause) = without (only t) (λ j. if only t j then None else s.units j) (left-other t)
-  end-locks t ending.Lost = ok
+  abbrev Kept : State → Type 0
+  Kept x = LocksOk x.units x.locks
 
   pub keeps-locks : (entry : Event) → Fits sys s entry → LocksOk (effect sys s entry).units (effect sys s entry).locks
   keeps-locks (Show t phase attempt k) l = ok
@@ -174,31 +133,25 @@ module _ (sys : Behaviour) (b : IsBehaviour sys) (s : State) (i : Inv sys s) (ok
   keeps-locks (Send t n c) l = ok
   keeps-locks (Take c p t) l = ok
   keeps-locks (File c p op mode f status) l =
-      file-locks c p ((s.classes c).busy p) refl
-      (λ own call is asks.
-      let same : l.job ≡ own = let at_work = l.at_work in cc (at_work, is) in
-      let call_is : l.call ≡ call = let own_asks = l.asks in cc (own_asks, asks, same) in
-      subst₂ (λ (j : Job) (x : FileCall). holders (lock_of_job sys s j x) s.locks ≡ []) same call_is l.free)
-  keeps-locks (Reply c p t None) l = reply-locks c p t (reply_at sys c ((s.classes c).busy p)) (is_outside (path_of s t))
-  keeps-locks (Reply c p t (Some x)) l = ok
+      subst Kept (sym (file-is sys s c p op mode f status l)) (operation-locks c p l.job l.at_work l.call l.free)
+  keeps-locks (Reply c p t fault) l =
+      reply-any sys s c p t Kept fault (λ reply outside. without (only t) (upd s.units t None) (only-other t None)) (λ reply inside. ok) (λ x. ok)
   keeps-locks (Again t n) l = ok
   keeps-locks (Commit t n) l = without (only t) (upd s.units t None) (only-other t None)
   keeps-locks (Back t n) l = without (only t) (upd s.units t None) (only-other t None)
   keeps-locks (Restart t n cause) l = without (only t) _ (only-other t _)
-  keeps-locks (FailTcp p true k) l = primary-locks p (s.modes p)
-  keeps-locks (FailTcp p false k) l = backup-locks p (s.modes p)
-  keeps-locks (FailServer c p k) l = process-locks c p k ((s.classes c).busy p)
+  keeps-locks (FailTcp p primary k) l =
+      fail-cases sys s Kept p ok (λ paired. ok)
+      (λ member breaks. without (is_of_pair sys p) (λ j. if is_of_pair sys p j then None else s.units j) (pair-other p)) (λ has. ok) primary
+  keeps-locks (FailServer c p k) l = process-cases sys s Kept c p k ok (λ job works. ok)
   keeps-locks (Takeover p) l = ok
   keeps-locks (Raise p) l = ok
-  keeps-locks (End t e) l = end-locks t e
-
-locks-from : (sys : Behaviour) → IsBehaviour sys → (s : State) → Inv sys s → LocksOk s.units s.locks → (log : List Event) → IsRunFrom sys s log
-    → LocksOk (after_from sys s log).units (after_from sys s log).locks
-locks-from sys b s i ok [] run = ok
-locks-from sys b s i ok (entry ∷ log) run = locks-from sys b (effect sys s entry) (keeps sys b s i entry run.0) (keeps-locks sys b s i ok entry run.0.fits) log run.1
+  keeps-locks (End t e) l = end-any sys s Kept t e ok (without (only t) (λ j. if only t j then None else s.units j) (left-other t))
 
 pub locks-ok : (sys : Behaviour) → IsBehaviour sys → (log : List Event) → IsRun sys log → LocksOk (after sys log).units (after sys log).locks
-locks-ok sys b log run = locks-from sys b (starting sys) (kept-at-start sys) (record { held = tt; apart = tt }) log run
+locks-ok sys b log run =
+    holds-behind sys (λ s. LocksOk s.units s.locks) (λ log run entry legal ok. keeps-locks sys b (after sys log) (kept sys b log run) ok entry legal.fits)
+    (record { held = tt; apart = tt }) log run
 
 pub held : (sys : Behaviour) → IsBehaviour sys → (log : List Event) → IsRun sys log → AllByRecursion (IsHeld (after sys log).units) (after sys log).locks
 held sys b log run = (locks-ok sys b log run).held

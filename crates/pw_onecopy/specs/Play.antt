@@ -15,7 +15,8 @@ pub record Play : Type 0 where
 -- one operation by itself
 abbrev pub play_operation : Behaviour → Verb → Play → Play
 play_operation sys (verb.File call) at = record {
-  files = upd at.files call.file (records_behind (sys.key_length call.file) (at.files call.file) call);
+  files = upd at.files call.file
+      (records_behind (sys.key_length call.file) (at.files call.file) call);
   done = at.done ++ answer_of (sys.key_length call.file) (at.files call.file) call.op call ∷ [];
 }
 play_operation sys _ at = at

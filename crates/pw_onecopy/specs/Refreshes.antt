@@ -6,9 +6,16 @@ use Rattle.pw_onecopy.specs.Behaviour.{Behaviour}
 
 -- a refresh of this number
 abbrev pub refresh_numbered : ℕ → RefreshNumber → List ℕ → Refresh
-refresh_numbered t number image = record { terminal = t; phase = number.phase; attempt = number.attempt; k = number.k; image = image }
+refresh_numbered t number image = record {
+  terminal = t;
+  phase = number.phase;
+  attempt = number.attempt;
+  k = number.k;
+  image = image;
+}
 
--- the next refresh of a terminal after a path: the path's next number, and the screen after the path
+-- the next refresh of a terminal after a path: the path's next number, and the screen after the
+-- path
 abbrev pub next_refresh : Behaviour → ℕ → List PathAnswer → Refresh
 next_refresh sys t path = refresh_numbered t (next_number path) (sys.image t path)
 

@@ -20,7 +20,8 @@ is_going_on state t = is_none (state.terms t).ending
 abbrev pub is_finished : Behaviour → State → Bool
 is_finished sys state = not (any_below sys.terminals (is_going_on state))
 
--- the failure line that must be due for an entry: its own for a FAIL entry, none for every other one
+-- the failure line that must be due for an entry: its own for a FAIL entry, none for every other
+-- one
 abbrev pub line_wanted : Event → Option ℕ
 line_wanted (FailTcp p primary k) = Some k
 line_wanted (FailServer c i k) = Some k
@@ -53,8 +54,8 @@ Fits sys state (Takeover p) = LegalTakeover state p
 Fits sys state (Raise p) = LegalRaise sys state p
 Fits sys state (End t ending) = LegalEnd sys state t ending
 
--- An entry is legal where the log is not finished, its kind fits and, while a failure line is due for its pair or class, it is
--- that line's FAIL entry; a FAIL entry is legal only so.
+-- An entry is legal where the log is not finished, its kind fits and, while a failure line is due
+-- for its pair or class, it is that line's FAIL entry; a FAIL entry is legal only so.
 pub record Legal (sys : Behaviour) (state : State) (entry : Event) : Type 0 where
   pub unfinished : is_finished sys state ≡ false
   pub due : line_due sys state entry ≡ line_wanted entry
@@ -95,7 +96,8 @@ pub record Steps (sys : Behaviour) (state : State) (entry : Event) (next : State
 -- each entry of the log is a step from the state before it
 abbrev pub IsRunFrom : Behaviour → State → List Event → Type 0
 IsRunFrom sys state [] = Unit {0}
-IsRunFrom sys state (entry ∷ log) = Legal sys state entry × IsRunFrom sys (effect sys state entry) log
+IsRunFrom sys state (entry ∷ log) =
+    Legal sys state entry × IsRunFrom sys (effect sys state entry) log
 
 -- the state behind the entries of a log
 abbrev pub after_from : Behaviour → State → List Event → State

@@ -14,17 +14,21 @@ use Rattle.pw_runs.proofs.Runs.{IsRunFrom-split}
 use Rattle.pw_runs.proofs.kept.Runs.{keeps, kept-at-start, kept-from}
 use Rattle.pw_onecopy.proofs.Update.{upd-same, upd-other}
 use Rattle.pw_onecopy.specs.IsBehaviour.{IsBehaviour}
-use Rattle.pw_paired.specs.Failure.{LegalRestart, awaited_after, backup_fails, is_of_pair, primary_fails, process_fails, with_restart}
-use Rattle.pw_onecopy.specs.Path.{PathAnswer, is_outside, unit_number}
+use Rattle.pw_paired.specs.Failure.{lose_pair, LegalRestart, awaited_after, backup_fails, is_of_pair, primary_fails, process_fails, with_restart}
+use Rattle.pw_onecopy.specs.Path.{Replied, PathAnswer, is_outside, unit_number}
 use Rattle.pw_paired.specs.Server.{do_job, free_process, reply_at}
 use Rattle.pw_onecopy.specs.Update.{upd}
 use Rattle.pw_paired.specs.State.{Alone, Down, Gone, Job, LastEnded, Mode, OpenUnit, Paired, Raising, State, starting}
-use Rattle.pw_paired.specs.Step.{Fits, IsRun, IsRunFrom, after_from, effect}
+use Rattle.pw_paired.specs.Raising.{settle_mode}
+use Rattle.pw_paired.specs.End.{end_terminal}
+use Rattle.pw_paired.specs.Step.{after, Fits, IsRun, IsRunFrom, after_from, effect}
 use Rattle.pw_onecopy.specs.Behaviour.{Behaviour}
 use Rattle.pw_paired.specs.Terminal.{IsOver, LegalBegin, awaited_of, unit_with_attempt, path_of}
-use Rattle.pw_paired.specs.Units.{attempt_of, commit_unit, last_after_leaving, only, restarts_of}
-use Rattle.pw_progress.proofs.JobCases.{job-cases}
+use Rattle.pw_paired.specs.Units.{give_answer, leave_units, attempt_of, commit_unit, last_after_leaving, only, restarts_of}
 use Rattle.pw_progress.specs.Running.{is_restart_of, restarts_in}
+use Rattle.pw_runs.proofs.induction.Failed.{end-any, fail-cases, process-cases}
+use Rattle.pw_runs.proofs.induction.Served.{file-cases, reply-any}
+use Rattle.pw_runs.proofs.induction.Runs.{holds-behind, kept}
 
 -- the number of a terminal's last ended unit
 abbrev pub last_of : State → ℕ → ℕ
@@ -95,33 +99,6 @@ module _ (sys : Behaviour) (b : IsBehaviour sys) (s : State) (i : Inv sys s) (t 
       (ap (λ (x : ℕ → LastEnded). (x t).number) ended ∙ ap (λ (x : LastEnded). x.number) (upd-other s.ended own (record { number = number; reply = reply }) t differ)))
       (cases_eq t own)
 
-  job-moves : (c p : ℕ) (job : Option Job) → Moves t s (do_job sys c p job s)
-  job-moves c p = job-cases sys c p s (Moves t s) (stays refl refl) (λ job call. stays refl refl)
-
-  reply-moves : (c p own : ℕ) (outside : Bool) → unit_number (path_of s own) ≡ last_of s own + 1
-      → Moves t s (if outside then commit_unit own (unit_number (path_of s own)) (Some (reply_at sys c ((s.classes c).busy p))) (free_process c p s) else free_process c p s)
-  reply-moves c p own true number = ends-moves own (unit_number (path_of s own)) (Some (reply_at sys c ((s.classes c).busy p)))
-      (commit_unit own (unit_number (path_of s own)) (Some (reply_at sys c ((s.classes c).busy p))) (free_process c p s)) refl refl number
-  reply-moves c p own false number = stays refl refl
-
-  process-moves : (c p k : ℕ) (job : Option Job) → Moves t s (process_fails c p k job s)
-  process-moves c p k None = stays refl refl
-  process-moves c p k (Some job) = stays refl refl
-
-  primary-moves : (p : ℕ) (mode : Mode) → Moves t s (primary_fails sys p mode s)
-  primary-moves p Paired = stays refl refl
-  primary-moves p Raising = left-moves (is_of_pair sys p t) (primary_fails sys p Raising s) refl refl
-  primary-moves p Alone = left-moves (is_of_pair sys p t) (primary_fails sys p Alone s) refl refl
-  primary-moves p Down = stays refl refl
-  primary-moves p Gone = stays refl refl
-
-  backup-moves : (p : ℕ) (mode : Mode) → Moves t s (backup_fails sys p mode s)
-  backup-moves p Paired = stays refl refl
-  backup-moves p Raising = stays refl refl
-  backup-moves p Alone = stays refl refl
-  backup-moves p Down = left-moves (is_of_pair sys p t) (backup_fails sys p Down s) refl refl
-  backup-moves p Gone = stays refl refl
-
   -- the same with the entry in the log
   logged : (x : State) (entry : Event) → Moves t s x → Moves t s (record x { log = s.log ++ entry ∷ [] })
   logged x entry (stays units last) = stays units last
@@ -155,19 +132,17 @@ module _ (sys : Behaviour) (b : IsBehaviour sys) (s : State) (i : Inv sys s) (t 
       kin (Some unit) is = inl (unit, is, refl, refl)
   moves (Send own n c) l = plainly (λ n. refl) (stays refl refl)
   moves (Take c p own) l = plainly (λ n. refl) (stays refl refl)
-  moves (File c p op mode f status) l = plainly (λ n. refl) (logged (do_job sys c p ((s.classes c).busy p) s) (File c p op mode f status) (job-moves c p ((s.classes c).busy p)))
-  moves (Reply c p own (Some x)) l = plainly (λ n. refl) (stays refl refl)
-  moves (Reply c p own None) l =
+  moves (File c p op mode f status) l =
+      plainly (λ n. refl) (logged _ _ (file-cases sys s c p (Moves t s) (stays refl refl) (λ job call works asks. stays refl refl)))
+  moves (Reply c p own fault) l =
+      let number : unit_number (path_of s own) ≡ last_of s own + 1 =
+      subst (λ (o : ℕ). unit_number (path_of s o) ≡ last_of s o + 1) l.whose
+      (out-path sys b s i.terms l.job.request.terminal (record { class = c; request = l.job.request }) (out-job sys b s i c p l.job l.at_work)).number in
       plainly (λ n. refl)
-      (relabelled (reply-moves c p own (is_outside (path_of s own))
-      (subst (λ (o : ℕ). unit_number (path_of s o) ≡ last_of s o + 1) l.whose
-      (out-path sys b s i.terms l.job.request.terminal (record { class = c; request = l.job.request }) (out-job sys b s i c p l.job l.at_work)).number)))
-    where
-      relabelled : Moves t s (if is_outside (path_of s own) then commit_unit own (unit_number (path_of s own)) (Some (reply_at sys c ((s.classes c).busy p))) (free_process c p s) else free_process c p s)
-          → Moves t s (effect sys s (Reply c p own None))
-      relabelled (stays units last) = stays units last
-      relabelled (begins unit is counts idle over kin last) = begins unit is counts idle over kin last
-      relabelled (ends none more) = ends none more
+      (logged _ _ (reply-any sys s c p own (Moves t s) fault
+      (λ reply outside. ends-moves own (unit_number (path_of s own)) (Some reply)
+      (give_answer own (Replied reply) (commit_unit own (unit_number (path_of s own)) (Some reply) (free_process c p s))) refl refl number)
+      (λ reply inside. stays refl refl) (λ x. stays refl refl)))
   moves (Again own n) l = plainly (λ n. refl) (stays refl refl)
   moves (Commit own n) l =
       let path = can_path sys b s i.terms own l.can in
@@ -188,16 +163,17 @@ module _ (sys : Behaviour) (b : IsBehaviour sys) (s : State) (i : Inv sys s) (t 
       (λ n. ap (λ (own_is : Bool). own_is && (number == n)) (eq-eqb own t (sym same)) ∙ ap (λ (m : ℕ). m == n) (sym l.caused.number)))
       (λ differ. plainly (λ n. and_left (own == t) (number == n) (ne_eqb own t (λ same. differ (sym same)))) (stays (upd-other s.units own _ t differ) refl))
       (cases_eq t own)
-  moves (FailTcp p true k) l = plainly (λ n. refl) (logged (primary_fails sys p (s.modes p) s) (FailTcp p true k) (primary-moves p (s.modes p)))
-  moves (FailTcp p false k) l = plainly (λ n. refl) (logged (backup_fails sys p (s.modes p) s) (FailTcp p false k) (backup-moves p (s.modes p)))
-  moves (FailServer c p k) l = plainly (λ n. refl) (logged (process_fails c p k ((s.classes c).busy p) s) (FailServer c p k) (process-moves c p k ((s.classes c).busy p)))
+  moves (FailTcp p primary k) l =
+      plainly (λ n. refl)
+      (logged _ _ (fail-cases sys s (Moves t s) p (stays refl refl) (λ paired. stays refl refl)
+      (λ member breaks. left-moves (is_of_pair sys p t) (lose_pair sys p s) refl refl) (λ has. stays refl refl) primary))
+  moves (FailServer c p k) l = plainly (λ n. refl) (logged _ _ (process-cases sys s (Moves t s) c p k (stays refl refl) (λ job works. stays refl refl)))
   moves (Takeover p) l = plainly (λ n. refl) (stays refl refl)
   moves (Raise p) l = plainly (λ n. refl) (stays refl refl)
-  moves (End own ending.Stopped) l = plainly (λ n. refl) (stays refl refl)
-  moves (End own ending.NoEntries) l = plainly (λ n. refl) (left-moves (only own t) (effect sys s (End own ending.NoEntries)) refl refl)
-  moves (End own (ending.Fault x)) l = plainly (λ n. refl) (left-moves (only own t) (effect sys s (End own (ending.Fault x))) refl refl)
-  moves (End own (ending.Suspended cause)) l = plainly (λ n. refl) (left-moves (only own t) (effect sys s (End own (ending.Suspended cause))) refl refl)
-  moves (End own ending.Lost) l = plainly (λ n. refl) (stays refl refl)
+  moves (End own e) l =
+      plainly (λ n. refl)
+      (logged _ _ (end-any sys s (Moves t s) own e (stays refl refl)
+      (left-moves (only own t) (settle_mode sys (sys.pair_of own) (end_terminal own e (leave_units sys (only own) s))) refl refl)))
 
   module _ (n r : ℕ) (l : LegalBegin sys s t n r) where
     abbrev next : last_of s t ≤ n × (n ≤ last_of s t + 1)
@@ -259,16 +235,14 @@ still-few limit t s after entry (plainly other (ends none more)) few unit is = a
 still-few limit t s after entry (restarting was now was_is now_is more below runs_then alike last at_entry) few unit is =
     let same : unit.restarts ≡ now.restarts = cc (is, now_is) in omega (arith, same, more, below)
 
-few-from : (sys : Behaviour) → IsBehaviour sys → (t : ℕ) (s : State) → Inv sys s → ((unit : OpenUnit) → s.units t ≡ Some unit → unit.restarts ≤ sys.max_restarts t)
-    → (log : List Event) → IsRunFrom sys s log → (unit : OpenUnit) → (after_from sys s log).units t ≡ Some unit → unit.restarts ≤ sys.max_restarts t
-few-from sys b t s i few [] run = few
-few-from sys b t s i few (entry ∷ log) run =
-    few-from sys b t (effect sys s entry) (keeps sys b s i entry run.0)
-    (still-few (sys.max_restarts t) t s (effect sys s entry) entry (moves sys b s i t entry run.0.fits) few) log run.1
-
 pub few-restarts : (sys : Behaviour) → IsBehaviour sys → (log : List Event) → IsRun sys log → (t : ℕ) (unit : OpenUnit) → (after_from sys (starting sys) log).units t ≡ Some unit
     → unit.restarts ≤ sys.max_restarts t
-few-restarts sys b log run t = few-from sys b t (starting sys) (kept-at-start sys) (λ unit is. absurd (cc is)) log run
+few-restarts sys b log run t =
+    holds-behind sys (λ s. (unit : OpenUnit) → s.units t ≡ Some unit → unit.restarts ≤ sys.max_restarts t)
+    (λ log run entry legal few.
+    still-few (sys.max_restarts t) t (after sys log) (effect sys (after sys log) entry) entry
+    (moves sys b (after sys log) (kept sys b log run) t entry legal.fits) few)
+    (λ unit is. absurd (cc is)) log run
 
 -- how many restarts of a unit an entry is
 abbrev one : ℕ → ℕ → Event → ℕ

@@ -9,7 +9,7 @@ use Rattle.pw_runs.proofs.terms.KeepsPairs.{any_below-false}
 use Rattle.pw_onecopy.proofs.Update.{upd_elim, upd-same, upd-other}
 use Rattle.pw_paired.specs.End.{end_terminal}
 use Rattle.pw_paired.specs.Failure.{lose_backup, with_start_path, backup_fails, lose_primary, lose_pair, is_live_of, is_of_pair, primary_fails, process_fails, resume_terminal}
-use Rattle.pw_onecopy.specs.Path.{PathAnswer, Replied, is_outside, unit_number}
+use Rattle.pw_onecopy.specs.Path.{Failed, PathAnswer, Replied, is_outside, unit_number}
 use Rattle.pw_paired.specs.Raising.{lacks_one, settled_mode, with_message, settle_mode}
 use Rattle.pw_paired.specs.Server.{do_job, free_process, reply_at}
 use Rattle.pw_onecopy.specs.Update.{upd}
@@ -18,8 +18,10 @@ use Rattle.pw_paired.specs.Step.{Fits, IsRun, IsRunFrom, after, after_from, effe
 use Rattle.pw_onecopy.specs.Behaviour.{Behaviour}
 use Rattle.pw_paired.specs.Terminal.{path_of}
 use Rattle.pw_paired.specs.Units.{give_answer, any_below, attempt_of, commit_unit, leave_units, only}
-use Rattle.pw_progress.proofs.JobCases.{job-cases}
 use Rattle.pw_runs.proofs.Tests.{and-first, and-second, drop-false}
+use Rattle.pw_runs.proofs.induction.Failed.{end-any, fail-cases, process-cases}
+use Rattle.pw_runs.proofs.induction.Served.{file-cases, reply-any}
+use Rattle.pw_runs.proofs.induction.Runs.{holds-behind}
 
 -- some number below n has a property
 pub any_below-some : (n : ℕ) (has : ℕ → Bool) → any_below n has ≡ true → (j : ℕ) × (j < n) × (has j ≡ true)
@@ -79,18 +81,6 @@ module _ (sys : Behaviour) (p : ℕ) where
         kept after (λ j. ap (λ (f : ℕ → Term). (f j).ending) terms ∙ own-ending own term same j) (λ j of none. ap (λ (m : ℕ → Option BackupCopy). m j) memory ∙ none)
         (λ is. ap (λ (m : ℕ → Mode). m p) (sym modes) ∙ is)
 
-    job-lacks : (c i : ℕ) (job : Option Job) → LackingOk (do_job sys c i job s)
-    job-lacks c i = job-cases sys c i s LackingOk ok (λ job call. ok)
-
-    reply-lacks : (c i own : ℕ) (reply : List ℕ) (outside : Bool)
-        → LackingOk (give_answer own (Replied reply) (if outside then commit_unit own (unit_number (path_of s own)) (Some reply) (free_process c i s) else free_process c i s))
-    reply-lacks c i own reply true = own-term own _ (give_answer own (Replied reply) (commit_unit own (unit_number (path_of s own)) (Some reply) (free_process c i s))) refl refl refl refl
-    reply-lacks c i own reply false = own-term own _ (give_answer own (Replied reply) (free_process c i s)) refl refl refl refl
-
-    process-lacks : (c i k : ℕ) (job : Option Job) → LackingOk (process_fails c i k job s)
-    process-lacks c i k None = ok
-    process-lacks c i k (Some job) = own-term job.request.terminal _ (process_fails c i k (Some job) s) refl refl refl refl
-
     -- another mode of a pair
     other-mode : (q : ℕ) (mode : Mode) → mode ≢ Raising → upd s.modes q mode p ≡ Raising → s.modes p ≡ Raising
     other-mode q mode differs = upd_elim s.modes q mode p (λ (m : Mode). m ≡ Raising → s.modes p ≡ Raising) (λ _ is. absurd (differs is)) (λ _ is. is)
@@ -101,20 +91,6 @@ module _ (sys : Behaviour) (p : ℕ) where
     if-ending : (b : Bool) (x y : Term) (e : Option Ending) → x.ending ≡ e → y.ending ≡ e → (if b then x else y).ending ≡ e
     if-ending true x y e one other = one
     if-ending false x y e one other = other
-
-    primary-lacks : (q : ℕ) (mode : Mode) → LackingOk (primary_fails sys q mode s)
-    primary-lacks q Paired = kept (lose_primary sys q s) (λ j. if-ending (is_of_pair sys q j) _ (s.terms j) _ refl refl) (λ j of none. none) (other-mode q Down (λ is. cc is))
-    primary-lacks q Raising = kept (lose_pair sys q s) (λ j. if-ending (is_of_pair sys q j) _ (s.terms j) _ refl refl) (λ j of none. emptied q j (s.memory j) none) (other-mode q Gone (λ is. cc is))
-    primary-lacks q Alone = kept (lose_pair sys q s) (λ j. if-ending (is_of_pair sys q j) _ (s.terms j) _ refl refl) (λ j of none. emptied q j (s.memory j) none) (other-mode q Gone (λ is. cc is))
-    primary-lacks q Down = ok
-    primary-lacks q Gone = ok
-
-    backup-lacks : (q : ℕ) (mode : Mode) → LackingOk (backup_fails sys q mode s)
-    backup-lacks q Paired = kept (lose_backup sys q s) (λ j. refl) (λ j of none. emptied q j (s.memory j) none) (other-mode q Alone (λ is. cc is))
-    backup-lacks q Raising = kept (lose_backup sys q s) (λ j. refl) (λ j of none. emptied q j (s.memory j) none) (other-mode q Alone (λ is. cc is))
-    backup-lacks q Alone = ok
-    backup-lacks q Down = kept (lose_pair sys q s) (λ j. if-ending (is_of_pair sys q j) _ (s.terms j) _ refl refl) (λ j of none. emptied q j (s.memory j) none) (other-mode q Gone (λ is. cc is))
-    backup-lacks q Gone = ok
 
     resumed-ending : (q : ℕ) (memory : Option BackupCopy) (unit : Option OpenUnit) (last : LastEnded) (term : Term) → (resume_terminal q memory unit last term).ending ≡ term.ending
     resumed-ending q None unit last term = refl
@@ -165,16 +141,25 @@ module _ (sys : Behaviour) (p : ℕ) where
     keeps-lacking (Begin own n r) l = own-term own _ (effect sys s (Begin own n r)) refl refl refl refl
     keeps-lacking (Send own n c) l = ok
     keeps-lacking (Take c i own) l = ok
-    keeps-lacking (File c i op mode f status) l = job-lacks c i ((s.classes c).busy i)
-    keeps-lacking (Reply c i own (Some x)) l = own-term own _ (effect sys s (Reply c i own (Some x))) refl refl refl refl
-    keeps-lacking (Reply c i own None) l = reply-lacks c i own (reply_at sys c ((s.classes c).busy i)) (is_outside (path_of s own))
+    keeps-lacking (File c i op mode f status) l = file-cases sys s c i LackingOk ok (λ job call works asks. ok)
+    keeps-lacking (Reply c i own fault) l =
+        reply-any sys s c i own LackingOk fault
+        (λ reply outside. own-term own _ (give_answer own (Replied reply) (commit_unit own (unit_number (path_of s own)) (Some reply) (free_process c i s))) refl refl refl refl)
+        (λ reply inside. own-term own _ (give_answer own (Replied reply) (free_process c i s)) refl refl refl refl)
+        (λ x. own-term own _ (give_answer own (Failed x) (free_process c i s)) refl refl refl refl)
     keeps-lacking (Again own n) l = own-term own _ (effect sys s (Again own n)) refl refl refl refl
     keeps-lacking (Commit own n) l = own-term own _ (effect sys s (Commit own n)) refl refl refl refl
     keeps-lacking (Back own n) l = own-term own _ (effect sys s (Back own n)) refl refl refl refl
     keeps-lacking (Restart own n kind) l = own-term own _ (effect sys s (Restart own n kind)) (back-ending (attempt_of (s.units own)) (s.terms own)) refl refl refl
-    keeps-lacking (FailTcp q true k) l = primary-lacks q (s.modes q)
-    keeps-lacking (FailTcp q false k) l = backup-lacks q (s.modes q)
-    keeps-lacking (FailServer c i k) l = process-lacks c i k ((s.classes c).busy i)
+    keeps-lacking (FailTcp q primary k) l =
+        fail-cases sys s LackingOk q ok
+        (λ paired. kept (lose_primary sys q s) (λ j. if-ending (is_of_pair sys q j) _ (s.terms j) _ refl refl) (λ j of none. none) (other-mode q Down (λ is. cc is)))
+        (λ member breaks.
+        kept (lose_pair sys q s) (λ j. if-ending (is_of_pair sys q j) _ (s.terms j) _ refl refl) (λ j of none. emptied q j (s.memory j) none) (other-mode q Gone (λ is. cc is)))
+        (λ has. kept (lose_backup sys q s) (λ j. refl) (λ j of none. emptied q j (s.memory j) none) (other-mode q Alone (λ is. cc is)))
+        primary
+    keeps-lacking (FailServer c i k) l =
+        process-cases sys s LackingOk c i k ok (λ job works. own-term job.request.terminal _ (process_fails c i k (Some job) s) refl refl refl refl)
     keeps-lacking (Takeover q) l =
         kept (effect sys s (Takeover q)) (λ j. if-ending (is_live_of sys q s j) _ (s.terms j) _ (resumed-ending q (s.memory j) (s.units j) (s.ended j) (s.terms j)) refl)
         (λ j of none. emptied q j (s.memory j) none) (other-mode q Alone (λ is. cc is))
@@ -188,15 +173,7 @@ module _ (sys : Behaviour) (p : ℕ) where
         (ap (λ (m : Option BackupCopy). not (is_some m)) (cond-true (is_of_pair sys q one.0) None (s.memory one.0) of))))
         (λ differ. kept (effect sys s (Raise q)) (λ j. refl) (λ j of none. emptied q j (s.memory j) none) (λ is. sym (upd-other s.modes q Raising p differ) ∙ is))
         (cases_eq p q)
-    keeps-lacking (End own ending.Stopped) l = end-lacks own ending.Stopped s refl refl refl
-    keeps-lacking (End own ending.Lost) l = end-lacks own ending.Lost s refl refl refl
-    keeps-lacking (End own ending.NoEntries) l = end-lacks own ending.NoEntries (leave_units sys (only own) s) refl refl refl
-    keeps-lacking (End own (ending.Fault x)) l = end-lacks own (ending.Fault x) (leave_units sys (only own) s) refl refl refl
-    keeps-lacking (End own (ending.Suspended kind)) l = end-lacks own (ending.Suspended kind) (leave_units sys (only own) s) refl refl refl
-
-  lacking-from : (s : State) → LackingOk s → (log : List Event) → IsRunFrom sys s log → LackingOk (after_from sys s log)
-  lacking-from s ok [] run = ok
-  lacking-from s ok (entry ∷ log) run = lacking-from (effect sys s entry) (keeps-lacking s ok entry run.0.fits) log run.1
+    keeps-lacking (End own e) l = end-any sys s LackingOk own e (end-lacks own e s refl refl refl) (end-lacks own e (leave_units sys (only own) s) refl refl refl)
 
   pub lacking : (log : List Event) → IsRun sys log → (after sys log).modes p ≡ Raising → lacks_one sys p (after sys log) ≡ true
-  lacking log run = lacking-from (starting sys) (λ is. absurd (cc is)) log run
+  lacking log run = holds-behind sys LackingOk (λ log run entry legal ok. keeps-lacking (after sys log) ok entry legal.fits) (λ is. absurd (cc is)) log run

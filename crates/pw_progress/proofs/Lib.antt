@@ -1,4 +1,3 @@
-pub mod JobCases
 pub mod BeginsOnce
 pub mod OpenThen
 pub mod Pending

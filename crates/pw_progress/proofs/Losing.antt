@@ -6,17 +6,18 @@ use Rattle.pw_event.specs.declared.event.Event.TheVariants.{Show, Key, CheckStar
 use Rattle.pw_runs.proofs.Runs.{IsRunFrom-split}
 use Rattle.pw_onecopy.proofs.Update.{upd_elim}
 use Rattle.pw_paired.specs.End.{end_terminal}
-use Rattle.pw_paired.specs.Failure.{backup_fails, primary_fails, process_fails}
+use Rattle.pw_paired.specs.Failure.{do_fail_server, backup_fails, primary_fails, process_fails}
 use Rattle.pw_onecopy.specs.Path.{is_outside, unit_number}
 use Rattle.pw_paired.specs.Raising.{lacks_one, settled_mode, with_message, settle_mode}
-use Rattle.pw_paired.specs.Server.{do_job, free_process, reply_at}
+use Rattle.pw_paired.specs.Server.{do_file, do_reply, do_job, free_process, reply_at}
 use Rattle.pw_onecopy.specs.Update.{upd}
 use Rattle.pw_paired.specs.State.{Alone, Down, Gone, Job, Mode, Paired, Raising, State, starting}
 use Rattle.pw_paired.specs.Step.{IsRun, after, after_from, effect}
 use Rattle.pw_onecopy.specs.Behaviour.{Behaviour}
 use Rattle.pw_paired.specs.Terminal.{path_of}
 use Rattle.pw_paired.specs.Units.{commit_unit, leave_units, only}
-use Rattle.pw_progress.proofs.JobCases.{job-cases}
+use Rattle.pw_runs.proofs.induction.Failed.{fail-by, process-cases}
+use Rattle.pw_runs.proofs.induction.Served.{file-cases, reply-any}
 use Rattle.pw_runs.specs.Losses.{Breaks}
 use Rattle.pw_progress.specs.Running.{MadeGone}
 
@@ -45,18 +46,6 @@ module _ (sys : Behaviour) (s : State) (p : ℕ) where
       by Paired lacks is = is
       by Down lacks is = is
 
-  job-same : (c i : ℕ) (job : Option Job) → (do_job sys c i job s).modes ≡ s.modes
-  job-same c i = job-cases sys c i s (λ (x : State). x.modes ≡ s.modes) refl (λ job call. refl)
-
-  reply-same : (c i own : ℕ) (outside : Bool)
-      → (if outside then commit_unit own (unit_number (path_of s own)) (Some (reply_at sys c ((s.classes c).busy i))) (free_process c i s) else free_process c i s).modes ≡ s.modes
-  reply-same c i own true = refl
-  reply-same c i own false = refl
-
-  process-same : (c i k : ℕ) (job : Option Job) → (process_fails c i k job s).modes ≡ s.modes
-  process-same c i k None = refl
-  process-same c i k (Some job) = refl
-
   -- another mode than Gone for a pair
   other-mode : {entry : Event} (q : ℕ) (mode : Mode) → mode ≢ Gone → s.modes p ≢ Gone → upd s.modes q mode p ≡ Gone → Breaking entry
   other-mode {entry = entry} q mode differs there = upd_elim s.modes q mode p (λ (m : Mode). m ≡ Gone → Breaking entry) (λ _ lost. absurd (differs lost)) (λ _ lost. absurd (there lost))
@@ -68,19 +57,8 @@ module _ (sys : Behaviour) (s : State) (p : ℕ) where
       (λ is _. record { primary = primary; k = k; is = ap (λ (x : ℕ). FailTcp x primary k) (sym is); breaks = subst (λ (x : ℕ). Breaks primary (s.modes x)) (sym is) breaks })
       (λ _ lost. absurd (there lost))
 
-  primary-breaks : (q k : ℕ) (mode : Mode) → s.modes q ≡ mode → s.modes p ≢ Gone → (primary_fails sys q mode s).modes p ≡ Gone → Breaking (FailTcp q true k)
-  primary-breaks q k Paired is = other-mode q Down (λ e. cc e)
-  primary-breaks q k Raising is = lost-by q true k (inl is)
-  primary-breaks q k Alone is = lost-by q true k (inr is)
-  primary-breaks q k Down is = same s refl
-  primary-breaks q k Gone is = same s refl
-
-  backup-breaks : (q k : ℕ) (mode : Mode) → s.modes q ≡ mode → s.modes p ≢ Gone → (backup_fails sys q mode s).modes p ≡ Gone → Breaking (FailTcp q false k)
-  backup-breaks q k Paired is = other-mode q Alone (λ e. cc e)
-  backup-breaks q k Raising is = other-mode q Alone (λ e. cc e)
-  backup-breaks q k Alone is = same s refl
-  backup-breaks q k Down is = lost-by q false k is
-  backup-breaks q k Gone is = same s refl
+  abbrev Kept : State → Type 0
+  Kept x = x.modes ≡ s.modes
 
   breaking : (entry : Event) → s.modes p ≢ Gone → (effect sys s entry).modes p ≡ Gone → Breaking entry
   breaking (Show own phase attempt k) = same s refl
@@ -92,18 +70,18 @@ module _ (sys : Behaviour) (s : State) (p : ℕ) where
   breaking (Begin own n r) = same s refl
   breaking (Send own n c) = same s refl
   breaking (Take c i own) = same s refl
-  breaking (File c i op mode f status) = same (do_job sys c i ((s.classes c).busy i) s) (ap (λ (m : ℕ → Mode). m p) (job-same c i ((s.classes c).busy i)))
-  breaking (Reply c i own (Some x)) = same s refl
-  breaking (Reply c i own None) =
-      same (if is_outside (path_of s own) then commit_unit own (unit_number (path_of s own)) (Some (reply_at sys c ((s.classes c).busy i))) (free_process c i s) else free_process c i s)
-      (ap (λ (m : ℕ → Mode). m p) (reply-same c i own (is_outside (path_of s own))))
+  breaking (File c i op mode f status) =
+      same (do_file sys c i s) (ap (λ (m : ℕ → Mode). m p) (file-cases sys s c i Kept refl (λ job call works asks. refl)))
+  breaking (Reply c i own fault) =
+      same (do_reply sys c i own fault s) (ap (λ (m : ℕ → Mode). m p) (reply-any sys s c i own Kept fault (λ reply outside. refl) (λ reply inside. refl) (λ x. refl)))
   breaking (Again own n) = same s refl
   breaking (Commit own n) = same s refl
   breaking (Back own n) = same s refl
   breaking (Restart own n cause) = same s refl
-  breaking (FailTcp q true k) = primary-breaks q k (s.modes q) refl
-  breaking (FailTcp q false k) = backup-breaks q k (s.modes q) refl
-  breaking (FailServer c i k) = same (process_fails c i k ((s.classes c).busy i) s) (ap (λ (m : ℕ → Mode). m p) (process-same c i k ((s.classes c).busy i)))
+  breaking (FailTcp q primary k) =
+      fail-by sys s (λ x. s.modes p ≢ Gone → x.modes p ≡ Gone → Breaking (FailTcp q primary k)) q primary (same s refl)
+      (λ paired. other-mode q Down (λ e. cc e)) (lost-by q primary k) (λ has. other-mode q Alone (λ e. cc e))
+  breaking (FailServer c i k) = same (do_fail_server c i k s) (ap (λ (m : ℕ → Mode). m p) (process-cases sys s Kept c i k refl (λ job works. refl)))
   breaking (Takeover q) = other-mode q Alone (λ e. cc e)
   breaking (Raise q) = other-mode q Raising (λ e. cc e)
   breaking (End own ending.Stopped) = settled-modes (sys.pair_of own) (end_terminal own ending.Stopped s) refl

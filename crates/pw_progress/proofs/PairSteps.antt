@@ -135,7 +135,7 @@ pair-steps sys b log run t live other = by (s.modes p) refl
     restart alone o of pends =
         let pending = takeover-cause (s.terms o).pending pends in
         let mode : s.modes (sys.pair_of o) ≡ Alone = ap s.modes of ∙ alone in
-        let runs = pending-runs sys b log run o (cause.Takeover pending.0) pending.1 (λ lost. absurd (cc (mode, lost))) in
+        let runs = pending-runs sys b log run o (cause.Takeover pending.0) pending.1 in
         let few = few-restarts sys b log run o runs.unit runs.is_open in
         let caused : IsCaused sys s o runs.unit.number (cause.Takeover pending.0) runs.unit = record { is_open = runs.is_open; number = refl; start = runs.start; runs = runs.runs; holds = record { pending = pending.1; alone = mode } } in
         ⊎_elim
@@ -209,7 +209,7 @@ pending-steps sys b log run t live pends = by ((after sys log).modes (sys.pair_o
     -- by the failure of a process
     restart : (k : ℕ) → (s.terms t).pending ≡ Some (cause.Server k) → s.modes (sys.pair_of t) ≡ Paired → HasStep sys s
     restart k is mode =
-        let runs = pending-runs sys b log run t (cause.Server k) is (λ lost. absurd (cc (mode, lost))) in
+        let runs = pending-runs sys b log run t (cause.Server k) is in
         let few = few-restarts sys b log run t runs.unit runs.is_open in
         let caused : IsCaused sys s t runs.unit.number (cause.Server k) runs.unit =
         record { is_open = runs.is_open; number = refl; start = runs.start; runs = runs.runs; holds = record { pending = is; paired = mode } } in
@@ -226,8 +226,8 @@ pending-steps sys b log run t live pends = by ((after sys log).modes (sys.pair_o
     of None is mode = absurd (pends is)
     of (Some (cause.Server k)) is mode = restart k is mode
     of (Some (cause.Takeover q)) is mode = absurd (true≢false (sym (ap is_takeover is) ∙ calm mode))
-    of (Some (cause.Older o m)) is mode = absurd (pending-ok sys b log run t (cause.Older o m) is (λ lost. absurd (cc (mode, lost)))).1
-    of (Some cause.Redo) is mode = absurd (pending-ok sys b log run t cause.Redo is (λ lost. absurd (cc (mode, lost)))).1
+    of (Some (cause.Older o m)) is mode = absurd (pending-ok sys b log run t (cause.Older o m) is).1
+    of (Some cause.Redo) is mode = absurd (pending-ok sys b log run t cause.Redo is).1
 
     by : (mode : Mode) → s.modes (sys.pair_of t) ≡ mode → HasStep sys s
     by Paired is = of (s.terms t).pending refl is

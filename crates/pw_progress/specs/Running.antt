@@ -1,4 +1,5 @@
--- What the laws of progress speak of: restarts so far, running attempts, steps, and pairs that are lost.
+-- What the laws of progress speak of: restarts so far, running attempts, steps, and pairs that are
+-- lost.
 use Rattle.std.specs.Prelude.{◌≡◌, ◌⊎◌, ◌++◌, ℕ, List, ◌∷◌, length, filter, Bool, true, false, ◌&&◌, ◌==◌, Option, Some}
 use Rattle.pw_event.specs.declared.event.Event.{Event}
 use Rattle.pw_event.specs.declared.event.Event.TheVariants.{FailTcp, Restart}

@@ -18,7 +18,8 @@ use Rattle.pw_paired.specs.Units.{committed_files, has_image, only, restored_fil
 use Rattle.pw_attempts.proofs.alone.Alone.{AloneOk, Calm}
 use Rattle.pw_attempts.proofs.alone.AloneEntries.{AllAlone}
 use Rattle.pw_attempts.proofs.alone.AloneOwn.{own-replied}
-use Rattle.pw_attempts.proofs.alone.AloneServers.{agree, reply-verb}
+use Rattle.pw_attempts.proofs.alone.AloneServers.{agree}
+use Rattle.pw_runs.proofs.induction.Served.{reply-verb}
 use Rattle.pw_attempts.proofs.alone.AloneSteps.{nowhere}
 use Rattle.pw_attempts.proofs.AttemptOps.{EachOp, Spares}
 use Rattle.pw_attempts.proofs.Attempts.{attempt-fine}
@@ -94,5 +95,5 @@ module _ (sys : Behaviour) (b : IsBehaviour sys) (s : State) (ok : RecordsOk sys
         (subst (λ (o : ℕ). sys.ask o (path_of s o) ≡ verb.Send c l.job.request.message) l.whose out.asks)
         (subst (λ (o : ℕ). unit_number (path_of s o) ≡ unit_number q) l.whose
         (agree sys b s i ok lk answers all c p l.job l.at_work unit q (ap s.units l.whose ∙ is) runs))
-        (reply_of (server_verb sys c l.job)) (reply-verb sys b s i ok lk answers all (server_verb sys c l.job) l.replies) refl in
+        (reply_of (server_verb sys c l.job)) (reply-verb (server_verb sys c l.job) l.replies) refl in
         left-files t q unit.restarts at.start (suc (answers t)) both.0.is_attempt both.0.spared both.1

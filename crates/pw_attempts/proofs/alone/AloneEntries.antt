@@ -4,6 +4,7 @@ use Rattle.pw_files.specs.Records.{record_at}
 use Rattle.pw_locks.specs.declared.lock.Lock.{Lock}
 use Rattle.pw_runs.proofs.requests.Requests.{Place, Placed}
 use Rattle.pw_runs.proofs.terms.TermOk.{IsWorking}
+use Rattle.pw_event.specs.declared.event.Event.{Event}
 use Rattle.pw_onecopy.specs.IsBehaviour.{IsBehaviour, IsPath}
 use Rattle.pw_onecopy.specs.Path.{PathAnswer}
 use Rattle.pw_paired.specs.State.{BeforeImage, OpenUnit, State, Term}
@@ -30,6 +31,13 @@ pub record AloneAt (sys : Behaviour) (b : IsBehaviour sys) (s : State) (answers 
 -- all running attempts are
 abbrev pub AllAlone : (sys : Behaviour) → IsBehaviour sys → State → (ℕ → ℕ) → Type 0
 AllAlone sys b s answers = (t : ℕ) (unit : OpenUnit) (q : List PathAnswer) → s.units t ≡ Some unit → unit.running ≡ Some q → AloneAt sys b s answers t unit q
+
+-- the log says nothing of it
+pub logged-alone : (sys : Behaviour) (b : IsBehaviour sys) (s : State) (answers : ℕ → ℕ) (log : List Event)
+    → AllAlone sys b s answers → AllAlone sys b (record s { log = log }) answers
+logged-alone sys b s answers log all t unit q is runs =
+    let at = all t unit q is runs in
+    record { going = at.going; start = at.start; place = at.place; placed = at.placed; alone = at.alone }
 
 module _ (sys : Behaviour) (b : IsBehaviour sys) (s s' : State) (ok : RecordsOk sys s.files s.before s.locks) (locks : LocksOk s.units s.locks) (answers answers' : ℕ → ℕ) (t : ℕ) (unit : OpenUnit) (q : List PathAnswer)
     (term : s'.terms t ≡ s.terms t) (same_answers : answers' t ≡ answers t) (placed : (place : Place) → Placed s.classes t place → Placed s'.classes t place)

@@ -13,7 +13,7 @@ use Rattle.pw_runs.proofs.terms.KeepsChecks.{can_path, running}
 use Rattle.pw_runs.proofs.terms.KeepsPairs.{mode-of-pair, mode-of-other, of-pair, not-of-pair}
 use Rattle.pw_runs.proofs.kept.Kept.{Inv}
 use Rattle.pw_runs.proofs.requests.Requests.{Nowhere, placed_freed, placed_process_other, placed_cancelled, placed_cancelled_other}
-use Rattle.pw_runs.proofs.terms.TermOk.{IsWorking}
+use Rattle.pw_runs.proofs.terms.TermOk.{IsWorking, messages-work}
 use Rattle.pw_onecopy.proofs.Update.{upd_elim, upd-same, upd-other}
 use Rattle.pw_onecopy.specs.IsBehaviour.{IsBehaviour}
 use Rattle.pw_paired.specs.End.{LegalEnd, end_terminal}
@@ -26,7 +26,7 @@ use Rattle.pw_paired.specs.Step.{Fits, effect}
 use Rattle.pw_onecopy.specs.Behaviour.{Behaviour}
 use Rattle.pw_paired.specs.Terminal.{LegalAgain, LegalBack, LegalCommit}
 use Rattle.pw_paired.specs.Units.{attempt_of, committed_files, leave_units, only}
-use Rattle.pw_attempts.proofs.alone.AloneEntries.{AllAlone, AloneAt, moved-committed, moved-plain, moved-withdrawn}
+use Rattle.pw_attempts.proofs.alone.AloneEntries.{logged-alone, AllAlone, AloneAt, moved-committed, moved-plain, moved-withdrawn}
 use Rattle.pw_attempts.proofs.alone.AloneOwn.{own-cut}
 use Rattle.pw_attempts.proofs.alone.AloneSteps.{settled-was}
 use Rattle.pw_locking.proofs.records.Entries.{stays}
@@ -34,6 +34,7 @@ use Rattle.pw_locking.proofs.Holding.{LocksOk}
 use Rattle.pw_locking.proofs.records.Images.{restored-file}
 use Rattle.pw_locking.proofs.records.RecordsOk.{RecordsOk}
 use Rattle.pw_locking.specs.Seen.{AreFiles}
+use Rattle.pw_runs.proofs.induction.Failed.{end-cases, fail-cases, process-cases}
 
 -- nobody is Some and None
 pub no-unit : {unit : OpenUnit} → (None ≡ Some unit) → ⊥
@@ -90,9 +91,8 @@ module _ (sys : Behaviour) (b : IsBehaviour sys) (s : State) (i : Inv sys s) (ok
       (only t) (ne_eqb j t differ) refl refl refl (files-behind (Restart t n kind) l) (all j unit q is runs))
 
   -- a process fails
-  process-alone : (c p k : ℕ) (job : Option Job) → (s.classes c).busy p ≡ job → AllAlone sys b (process_fails c p k job s) answers
-  process-alone c p k None works t unit q is runs = all t unit q is runs
-  process-alone c p k (Some job) works j unit q is runs =
+  process-alone : (c p k : ℕ) (job : Job) → (s.classes c).busy p ≡ Some job → AllAlone sys b (process_fails c p k (Some job) s) answers
+  process-alone c p k job works j unit q is runs =
       ⊎_elim
       (λ same.
       let t : ℕ = job.request.terminal in
@@ -115,10 +115,8 @@ module _ (sys : Behaviour) (b : IsBehaviour sys) (s : State) (i : Inv sys s) (ok
       (cases_eq j job.request.terminal)
 
   pub alone-fail-server : (c p k : ℕ) → AllAlone sys b (effect sys s (FailServer c p k)) answers
-  alone-fail-server c p k t unit q is runs = relabelled (process-alone c p k ((s.classes c).busy p) refl t unit q is runs)
-    where
-      relabelled : AloneAt sys b (process_fails c p k ((s.classes c).busy p) s) answers t unit q → AloneAt sys b (effect sys s (FailServer c p k)) answers t unit q
-      relabelled at = record { going = at.going; start = at.start; place = at.place; placed = at.placed; alone = at.alone }
+  alone-fail-server c p k =
+      logged-alone sys b _ answers _ (process-cases sys s (λ x. AllAlone sys b x answers) c p k all (process-alone c p k))
 
   -- a pair loses its primary beside an up-to-date backup
   down-alone : (p : ℕ) → AllAlone sys b (lose_primary sys p s) answers
@@ -163,32 +161,11 @@ module _ (sys : Behaviour) (b : IsBehaviour sys) (s : State) (i : Inv sys s) (ok
       (λ same _. subst (λ (x : ℕ). IsWorking (s.modes x)) (sym same) working) (λ _ works. works))
       refl refl refl (all t unit q is runs)
 
-  unchanged : AllAlone sys b s answers
-  unchanged = all
-
-  primary-alone : (p : ℕ) (mode : Mode) → s.modes p ≡ mode → AreFiles sys (committed_files sys (primary_fails sys p mode s)) → AllAlone sys b (primary_fails sys p mode s) answers
-  primary-alone p Paired is are = down-alone p
-  primary-alone p Raising is are = gone-alone p are
-  primary-alone p Alone is are = gone-alone p are
-  primary-alone p Down is are = all
-  primary-alone p Gone is are = all
-
-  backup-alone : (p : ℕ) (mode : Mode) → s.modes p ≡ mode → AreFiles sys (committed_files sys (backup_fails sys p mode s)) → AllAlone sys b (backup_fails sys p mode s) answers
-  backup-alone p Paired is are = lone-alone p (subst IsWorking (sym is) tt)
-  backup-alone p Raising is are = lone-alone p (subst IsWorking (sym is) tt)
-  backup-alone p Alone is are = all
-  backup-alone p Down is are = gone-alone p are
-  backup-alone p Gone is are = all
-
   pub alone-fail-tcp : (p : ℕ) (primary : Bool) (k : ℕ) → Fits sys s (FailTcp p primary k) → AllAlone sys b (effect sys s (FailTcp p primary k)) answers
-  alone-fail-tcp p true k l t unit q is runs = relabelled (primary-alone p (s.modes p) refl (files-behind (FailTcp p true k) l) t unit q is runs)
-    where
-      relabelled : AloneAt sys b (primary_fails sys p (s.modes p) s) answers t unit q → AloneAt sys b (effect sys s (FailTcp p true k)) answers t unit q
-      relabelled at = record { going = at.going; start = at.start; place = at.place; placed = at.placed; alone = at.alone }
-  alone-fail-tcp p false k l t unit q is runs = relabelled (backup-alone p (s.modes p) refl (files-behind (FailTcp p false k) l) t unit q is runs)
-    where
-      relabelled : AloneAt sys b (backup_fails sys p (s.modes p) s) answers t unit q → AloneAt sys b (effect sys s (FailTcp p false k)) answers t unit q
-      relabelled at = record { going = at.going; start = at.start; place = at.place; placed = at.placed; alone = at.alone }
+  alone-fail-tcp p primary k l =
+      logged-alone sys b _ answers _ (fail-cases sys s (λ x. AreFiles sys (committed_files sys x) → AllAlone sys b x answers) p
+      (λ are. all) (λ paired are. down-alone p) (λ member breaks. gone-alone p) (λ has are. lone-alone p (messages-work (s.modes p) has))
+      primary (files-behind (FailTcp p primary k) l))
 
   -- a terminal ends, and its open unit is left
   left-alone : (t : ℕ) (e : Ending) → AreFiles sys (committed_files sys (settle_mode sys (sys.pair_of t) (end_terminal t e (leave_units sys (only t) s))))
@@ -214,21 +191,11 @@ module _ (sys : Behaviour) (b : IsBehaviour sys) (s : State) (i : Inv sys s) (ok
       (cases_eq j t)
 
   pub alone-end : (t : ℕ) (e : Ending) → LegalEnd sys s t e → AllAlone sys b (effect sys s (End t e)) answers
-  alone-end t ending.Stopped l j unit q is runs =
-      let at = ended-alone t ending.Stopped (stopped-idle sys b s i 0 0 (record { longest = λ _. 0; answers = answers }) t l) j unit q is runs in
-      record { going = at.going; start = at.start; place = at.place; placed = at.placed; alone = at.alone }
-  alone-end t ending.Lost l j unit q is runs =
-      let at = ended-alone t ending.Lost (ap attempt_of ((i.terms t l.live.known).lost l.lost)) j unit q is runs in
-      record { going = at.going; start = at.start; place = at.place; placed = at.placed; alone = at.alone }
-  alone-end t ending.NoEntries l j unit q is runs =
-      let at = left-alone t ending.NoEntries (files-behind (End t ending.NoEntries) l) j unit q is runs in
-      record { going = at.going; start = at.start; place = at.place; placed = at.placed; alone = at.alone }
-  alone-end t (ending.Fault x) l j unit q is runs =
-      let at = left-alone t (ending.Fault x) (files-behind (End t (ending.Fault x)) l) j unit q is runs in
-      record { going = at.going; start = at.start; place = at.place; placed = at.placed; alone = at.alone }
-  alone-end t (ending.Suspended cause) l j unit q is runs =
-      let at = left-alone t (ending.Suspended cause) (files-behind (End t (ending.Suspended cause)) l) j unit q is runs in
-      record { going = at.going; start = at.start; place = at.place; placed = at.placed; alone = at.alone }
+  alone-end t e l =
+      logged-alone sys b _ answers _ (end-cases sys s (λ x. AreFiles sys (committed_files sys x) → AllAlone sys b x answers) t e l
+      (λ stopped are. ended-alone t ending.Stopped (stopped-idle sys b s i 0 0 (record { longest = λ _. 0; answers = answers }) t stopped))
+      (λ lost are. ended-alone t ending.Lost (ap attempt_of ((i.terms t lost.live.known).lost lost.lost)))
+      (λ leaves. left-alone t e) (files-behind (End t e) l))
 
   -- a backup takes over: a running attempt of the pair has TAKEOVER pending
   pub alone-takeover : (p : ℕ) → LegalTakeover s p → AllAlone sys b (effect sys s (Takeover p)) answers

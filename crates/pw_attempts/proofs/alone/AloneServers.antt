@@ -22,7 +22,7 @@ use Rattle.pw_onecopy.specs.Attempt.{attempt}
 use Rattle.pw_onecopy.specs.Operation.{changes_records, key_of, span_of}
 use Rattle.pw_onecopy.specs.Path.{PathAnswer, Failed, Replied, is_outside, unit_number}
 use Rattle.pw_paired.specs.Serial.{one_more}
-use Rattle.pw_paired.specs.Server.{LegalFile, LegalReply, Replies, answer_on, do_job, do_operation, do_verb, free_process, lock_of_job, reply_at, reply_of, server_verb, with_answer}
+use Rattle.pw_paired.specs.Server.{do_reply, LegalFile, LegalReply, Replies, answer_on, do_job, do_operation, do_verb, free_process, lock_of_job, reply_at, reply_of, server_verb, with_answer}
 use Rattle.pw_onecopy.specs.Update.{upd}
 use Rattle.pw_paired.specs.State.{Class, Job, OpenUnit, State, Term}
 use Rattle.pw_paired.specs.Step.{effect}
@@ -30,13 +30,13 @@ use Rattle.pw_onecopy.specs.Behaviour.{Behaviour}
 use Rattle.pw_paired.specs.Terminal.{path_of}
 use Rattle.pw_paired.specs.Units.{give_answer, commit_unit, committed_files, has_image, image_before, only}
 use Rattle.pw_attempts.proofs.alone.Alone.{AloneOk, Mid, alone-moved}
-use Rattle.pw_attempts.proofs.alone.AloneEntries.{AllAlone, AloneAt, moved, moved-committed, moved-plain}
+use Rattle.pw_attempts.proofs.alone.AloneEntries.{logged-alone, AllAlone, AloneAt, moved, moved-committed, moved-plain}
 use Rattle.pw_attempts.proofs.alone.AloneFails.{no-unit}
 use Rattle.pw_attempts.proofs.alone.AloneOwn.{own-failed, own-operation, own-replied}
 use Rattle.pw_attempts.proofs.AttemptOps.{IsLocked, locked-before, locked-cases, locked-last}
 use Rattle.pw_attempts.proofs.Attempts.{attempt-fine}
-use Rattle.pw_locking.proofs.records.Entries.{Stays, reply-stays, verb-stays}
-use Rattle.pw_locking.proofs.Holding.{LocksOk, verb-locks}
+use Rattle.pw_locking.proofs.records.Entries.{Stays, operation-stays, send-stays}
+use Rattle.pw_locking.proofs.Holding.{LocksOk, operation-locks}
 use Rattle.pw_locking.proofs.records.Images.{restored-file, same_bytes}
 use Rattle.pw_attempts.proofs.alone.Locked.{key-locked, unshared}
 use Rattle.pw_attempts.proofs.alone.LockedRecords.{attempt-spares, no-image-same}
@@ -45,6 +45,7 @@ use Rattle.pw_locking.proofs.records.RecordsOk.{RecordsOk}
 use Rattle.pw_locking.specs.Seen.{AreFiles, HaveSameAt}
 use Rattle.pw_runs.proofs.Tests.{any-before}
 use Rattle.pw_locking.specs.Held.{locks_key}
+use Rattle.pw_runs.proofs.induction.Served.{file-is, reply-cases}
 
 module _ (sys : Behaviour) (b : IsBehaviour sys) (s : State) (i : Inv sys s) (ok : RecordsOk sys s.files s.before s.locks) (lk : LocksOk s.units s.locks) (answers : ℕ → ℕ) (all : AllAlone sys b s answers) where
   -- an operation of a server
@@ -65,14 +66,11 @@ module _ (sys : Behaviour) (b : IsBehaviour sys) (s : State) (i : Inv sys s) (ok
     abbrev lock : Lock
     lock = lock_of_job sys s job call
 
-    free-of : (other : FileCall) → verb.File call ≡ verb.File other → holders (lock_of_job sys s job other) s.locks ≡ []
-    free-of other same = subst (λ (x : FileCall). holders (lock_of_job sys s job x) s.locks ≡ []) (let e : call ≡ other = cc same in e) free
-
     st : Stays sys s after false
-    st = verb-stays sys b s i ok c p job works (verb.File call) asks free-of
+    st = operation-stays sys b s i ok c p job works call asks free
 
     locks_after : LocksOk after.units after.locks
-    locks_after = verb-locks sys b s i lk c p job works (verb.File call) free-of
+    locks_after = operation-locks sys b s i lk c p job works call free
 
     are : AreFiles sys (committed_files sys s)
     are = restored-file sys s.before ok.images s.files ok.are_files
@@ -170,33 +168,9 @@ module _ (sys : Behaviour) (b : IsBehaviour sys) (s : State) (i : Inv sys s) (ok
         (λ differ. other-file j unit q differ is runs)
         (cases_eq j t)
 
-  verb-alone : (c p : ℕ) (job : Job) → (s.classes c).busy p ≡ Some job → (v : Verb) → server_verb sys c job ≡ v
-      → ((call : FileCall) → v ≡ verb.File call → holders (lock_of_job sys s job call) s.locks ≡ []) → AllAlone sys b (do_verb sys c p job v s) answers
-  verb-alone c p job works (verb.File call) asks free = file-alone c p job works call asks (free call refl)
-  verb-alone c p job works verb.Show asks free = all
-  verb-alone c p job works (verb.Accept screen) asks free = all
-  verb-alone c p job works verb.Begin asks free = all
-  verb-alone c p job works (verb.Send class message) asks free = all
-  verb-alone c p job works verb.End asks free = all
-  verb-alone c p job works verb.Drop asks free = all
-  verb-alone c p job works verb.Redo asks free = all
-  verb-alone c p job works verb.Stop asks free = all
-  verb-alone c p job works (verb.Fault x) asks free = all
-  verb-alone c p job works (verb.Reply reply) asks free = all
-
-  job-alone : (c p : ℕ) (job : Option Job) → (s.classes c).busy p ≡ job
-      → ((own : Job) (call : FileCall) → job ≡ Some own → server_verb sys c own ≡ verb.File call → holders (lock_of_job sys s own call) s.locks ≡ []) → AllAlone sys b (do_job sys c p job s) answers
-  job-alone c p None is free = all
-  job-alone c p (Some job) is free = verb-alone c p job is (server_verb sys c job) refl (λ call asks. free job call refl asks)
-
   pub alone-file : (c p : ℕ) (op : FileOp) (mode : LockMode) (f status : ℕ) → LegalFile sys s c p op mode f status → AllAlone sys b (effect sys s (File c p op mode f status)) answers
-  alone-file c p op mode f status l t unit q is runs =
-      let at = job-alone c p ((s.classes c).busy p) refl
-      (λ own call is asks.
-      let same : l.job ≡ own = let at_work = l.at_work in cc (at_work, is) in
-      let call_is : l.call ≡ call = let own_asks = l.asks in cc (own_asks, asks, same) in
-      subst₂ (λ (j : Job) (x : FileCall). holders (lock_of_job sys s j x) s.locks ≡ []) same call_is l.free) t unit q is runs in
-      record { going = at.going; start = at.start; place = at.place; placed = at.placed; alone = at.alone }
+  alone-file c p op mode f status l =
+      logged-alone sys b _ answers _ (subst (λ x. AllAlone sys b x answers) (sym (file-is sys s c p op mode f status l)) (file-alone c p l.job l.at_work l.call l.asks l.free))
 
   -- a server's reply, or its run fault, joins the path of its terminal
   module _ (c p : ℕ) (job : Job) (works : (s.classes c).busy p ≡ Some job) where
@@ -255,9 +229,8 @@ module _ (sys : Behaviour) (b : IsBehaviour sys) (s : State) (i : Inv sys s) (ok
         (λ place placed. placed_process_other s.classes c p job None works (λ mine. differ (sym mine)) tt place placed) (λ w. w) refl refl refl (all j unit q is runs))
         (cases_eq j whose)
 
-    replied-alone : (reply : List ℕ) → server_verb sys c job ≡ verb.Reply reply → (outside : Bool)
-        → AllAlone sys b (give_answer whose (Replied reply) (if outside then commit_unit whose (unit_number (path_of s whose)) (Some reply) (free_process c p s) else free_process c p s)) (one_more whose answers)
-    replied-alone reply asks false j unit q is runs =
+    replied-alone : (reply : List ℕ) → server_verb sys c job ≡ verb.Reply reply → AllAlone sys b (give_answer whose (Replied reply) (free_process c p s)) (one_more whose answers)
+    replied-alone reply asks j unit q is runs =
         ⊎_elim
         (λ same.
         let was = ap s.units (sym same) ∙ is in
@@ -270,9 +243,13 @@ module _ (sys : Behaviour) (b : IsBehaviour sys) (s : State) (i : Inv sys s) (ok
         (upd-other s.terms whose _ j differ) (upd-other answers whose (answers whose + 1) j differ)
         (λ place placed. placed_process_other s.classes c p job None works (λ mine. differ (sym mine)) tt place placed) (λ w. w) refl refl refl (all j unit q is runs))
         (cases_eq j whose)
-    replied-alone reply asks true j unit q is runs =
+
+    -- a unit that is one SEND commits
+    sent-alone : (reply : List ℕ)
+        → AllAlone sys b (give_answer whose (Replied reply) (commit_unit whose (unit_number (path_of s whose)) (Some reply) (free_process c p s))) (one_more whose answers)
+    sent-alone reply j unit q is runs =
         let after : State = give_answer whose (Replied reply) (commit_unit whose (unit_number (path_of s whose)) (Some reply) (free_process c p s)) in
-        let st = reply-stays sys b s i ok c p whose reply true in
+        let st = send-stays sys b s i ok c p whose (unit_number (path_of s whose)) reply in
         upd_elim s.units whose None j (λ (u : Option OpenUnit). u ≡ Some unit → unit.running ≡ Some q → AloneAt sys b after (one_more whose answers) j unit q)
         (λ same none _. absurd (no-unit none))
         (λ differ is runs. moved-committed sys b s after ok lk answers (one_more whose answers) j unit q
@@ -280,42 +257,12 @@ module _ (sys : Behaviour) (b : IsBehaviour sys) (s : State) (i : Inv sys s) (ok
         (λ place placed. placed_process_other s.classes c p job None works (λ mine. differ (sym mine)) tt place placed) (λ w. w)
         (only whose) (ne_eqb j whose differ) refl refl refl (restored-file sys after.before st.ok.images after.files st.ok.are_files) (all j unit q is runs)) is runs
 
-  -- what a REPLY says of the server's verb
-  pub reply-verb : (v : Verb) → Replies v None → v ≡ verb.Reply (reply_of v)
-  reply-verb (verb.Reply reply) replies = refl
-  reply-verb verb.Show replies = absurd replies
-  reply-verb (verb.Accept screen) replies = absurd replies
-  reply-verb verb.Begin replies = absurd replies
-  reply-verb (verb.Send class message) replies = absurd replies
-  reply-verb verb.End replies = absurd replies
-  reply-verb verb.Drop replies = absurd replies
-  reply-verb verb.Redo replies = absurd replies
-  reply-verb verb.Stop replies = absurd replies
-  reply-verb (verb.Fault x) replies = absurd replies
-  reply-verb (verb.File call) replies = absurd replies
-
-  fault-verb : (v : Verb) (x : ℕ) → Replies v (Some x) → v ≡ verb.Fault x
-  fault-verb (verb.Fault code) x replies = ap (λ (n : ℕ). verb.Fault n) replies
-  fault-verb verb.Show x replies = absurd replies
-  fault-verb (verb.Accept screen) x replies = absurd replies
-  fault-verb verb.Begin x replies = absurd replies
-  fault-verb (verb.Send class message) x replies = absurd replies
-  fault-verb verb.End x replies = absurd replies
-  fault-verb verb.Drop x replies = absurd replies
-  fault-verb verb.Redo x replies = absurd replies
-  fault-verb verb.Stop x replies = absurd replies
-  fault-verb (verb.File call) x replies = absurd replies
-  fault-verb (verb.Reply reply) x replies = absurd replies
-
   pub alone-reply : (c p t : ℕ) (fault : Option ℕ) → LegalReply sys s c p t fault → AllAlone sys b (effect sys s (Reply c p t fault)) (one_more t answers)
-  alone-reply c p t None l j unit q is runs =
-      let reply : List ℕ = reply_of (server_verb sys c l.job) in
-      let same : reply_at sys c ((s.classes c).busy p) ≡ reply = ap (reply_at sys c) l.at_work in
-      let at = subst₂ (λ (o : ℕ) (r : List ℕ). AllAlone sys b (give_answer o (Replied r) (if is_outside (path_of s o) then commit_unit o (unit_number (path_of s o)) (Some r) (free_process c p s) else free_process c p s)) (one_more o answers))
-      l.whose (sym same)
-      (replied-alone c p l.job l.at_work reply (reply-verb (server_verb sys c l.job) l.replies) (is_outside (path_of s l.job.request.terminal))) j unit q is runs in
-      record { going = at.going; start = at.start; place = at.place; placed = at.placed; alone = at.alone }
-  alone-reply c p t (Some x) l j unit q is runs =
-      let at = subst (λ (o : ℕ). AllAlone sys b (give_answer o (Failed x) (free_process c p s)) (one_more o answers)) l.whose
-      (failed-alone c p l.job l.at_work x (fault-verb (server_verb sys c l.job) x l.replies)) j unit q is runs in
-      record { going = at.going; start = at.start; place = at.place; placed = at.placed; alone = at.alone }
+  alone-reply c p t fault l =
+      let own : ℕ = l.job.request.terminal in
+      logged-alone sys b _ _ _ (subst (λ (o : ℕ). AllAlone sys b (do_reply sys c p o fault s) (one_more o answers)) l.whose
+      (reply-cases sys s c p own (λ x. AllAlone sys b x (one_more own answers)) fault
+      (record { job = l.job; at_work = l.at_work; whose = refl; replies = l.replies })
+      (λ reply none asks outside. sent-alone c p l.job l.at_work reply)
+      (λ reply none asks inside. replied-alone c p l.job l.at_work reply asks)
+      (λ x is asks. failed-alone c p l.job l.at_work x asks)))

@@ -16,6 +16,7 @@ use Rattle.pw_locking.proofs.records.Images.{restored-file}
 use Rattle.pw_locking.proofs.records.RecordsOk.{RecordsOk}
 use Rattle.pw_locking.proofs.seeing.SameFiles.{same_files}
 use Rattle.pw_locking.specs.Records.{commits_at}
+use Rattle.pw_runs.proofs.induction.Runs.{holds-behind, kept}
 
 pub records-at-start : (sys : Behaviour) → IsBehaviour sys → RecordsOk sys (starting sys).files (starting sys).before (starting sys).locks
 records-at-start sys b = record {
@@ -25,14 +26,10 @@ records-at-start sys b = record {
   single = λ t o f key there other. absurd (false≢true there);
 }
 
-records-from : (sys : Behaviour) → IsBehaviour sys → (s : State) → Inv sys s → RecordsOk sys s.files s.before s.locks → (log : List Event) → IsRunFrom sys s log
-    → RecordsOk sys (after_from sys s log).files (after_from sys s log).before (after_from sys s log).locks
-records-from sys b s i ok [] run = ok
-records-from sys b s i ok (entry ∷ log) run =
-    records-from sys b (effect sys s entry) (keeps sys b s i entry run.0) (stays sys b s i ok entry run.0.fits).ok log run.1
-
 pub records-ok : (sys : Behaviour) → IsBehaviour sys → (log : List Event) → IsRun sys log → RecordsOk sys (after sys log).files (after sys log).before (after sys log).locks
-records-ok sys b log run = records-from sys b (starting sys) (kept-at-start sys) (records-at-start sys b) log run
+records-ok sys b log run =
+    holds-behind sys (λ s. RecordsOk sys s.files s.before s.locks) (λ log run entry legal ok. (stays sys b (after sys log) (kept sys b log run) ok entry legal.fits).ok)
+    (records-at-start sys b) log run
 
 committed-file : (sys : Behaviour) (s : State) → RecordsOk sys s.files s.before s.locks → (f : ℕ) → IsFile (sys.key_length f) (committed_files sys s f)
 committed-file sys s ok f = restored-file sys s.before ok.images s.files ok.are_files f
@@ -44,7 +41,7 @@ pub commits-alone : (sys : Behaviour) → IsBehaviour sys → (log : List Event)
     → (f : ℕ) → committed_files sys (after sys (log ++ entry ∷ [])) f ≡ committed_files sys (after sys log) f
 commits-alone sys b log entry run none f =
     let parts = IsRunFrom-split sys (starting sys) log (entry ∷ []) run in
-    let i = kept-from sys b (starting sys) (kept-at-start sys) log parts.0 in
+    let i = kept sys b log parts.0 in
     let ok = records-ok sys b log parts.0 in
     let st = stays sys b (after sys log) i ok entry parts.1.0.fits in
     ap (λ (s : State). committed_files sys s f) (after_from-append sys (starting sys) log (entry ∷ []))

@@ -20,7 +20,7 @@ use Rattle.pw_runs.proofs.terms.TermOk.{PathOk}
 use Rattle.pw_onecopy.proofs.Update.{upd-same, upd-other}
 use Rattle.pw_onecopy.specs.IsBehaviour.{IsBehaviour}
 use Rattle.pw_paired.specs.End.{LegalEnd, LegalStopped}
-use Rattle.pw_paired.specs.Failure.{backup_fails, lose_pair, is_of_pair, primary_fails, process_fails}
+use Rattle.pw_paired.specs.Failure.{lose_backup, lose_primary, backup_fails, lose_pair, is_of_pair, primary_fails, process_fails}
 use Rattle.pw_paired.specs.Headline.{EndsOnce}
 use Rattle.pw_onecopy.specs.Path.{PathAnswer, is_outside, unit_number}
 use Rattle.pw_onecopy.specs.Blocks.{Block, Out, Attempted, Done, How, Committed, Aborted, Restarted, Left}
@@ -32,6 +32,8 @@ use Rattle.pw_paired.specs.Step.{Fits, effect, IsRunFrom, IsRun, after, after_fr
 use Rattle.pw_onecopy.specs.Behaviour.{Behaviour}
 use Rattle.pw_paired.specs.Terminal.{LegalCommit, LegalBack, path_of}
 use Rattle.pw_paired.specs.Units.{attempt_of, commit_unit, last_after_leaving, only}
+use Rattle.pw_runs.proofs.induction.Failed.{end-cases, fail-cases, process-cases}
+use Rattle.pw_runs.proofs.induction.Served.{file-cases}
 
 -- From a state to the next the last ended unit does not fall, and the blocks end the unit not at all, or once and rightly.
 record Goes (t n before after : ℕ) (blocks : List Block) : Type 0 where
@@ -153,28 +155,16 @@ module _ (sys : Behaviour) (b : IsBehaviour sys) (s : State) (i : Inv sys s) (t 
       no true = refl
       no false = refl
 
-  primary-goes : (p : ℕ) (mode : Mode)
-      → Goes t n (last_of s t) (last_of (primary_fails sys p mode s) t)
-      (if is_gone ((primary_fails sys p mode s).modes p) && not (is_gone (s.modes p)) then left_blocks s reading (is_of_pair sys p) sys.terminals else [])
-  primary-goes p Paired = stays t n _ _ _ refl (lost-none p (primary_fails sys p Paired s) (ap is_gone (upd-same s.modes p Down p refl)) _ refl)
-  primary-goes p Raising = gone-goes p (is_gone ((primary_fails sys p Raising s).modes p) && not (is_gone (s.modes p)))
-  primary-goes p Alone = gone-goes p (is_gone ((primary_fails sys p Alone s).modes p) && not (is_gone (s.modes p)))
-  primary-goes p Down = stays t n _ _ _ refl (same-none p _ refl)
-  primary-goes p Gone = stays t n _ _ _ refl (same-none p _ refl)
-
-  backup-goes : (p : ℕ) (mode : Mode)
-      → Goes t n (last_of s t) (last_of (backup_fails sys p mode s) t)
-      (if is_gone ((backup_fails sys p mode s).modes p) && not (is_gone (s.modes p)) then left_blocks s reading (is_of_pair sys p) sys.terminals else [])
-  backup-goes p Paired = stays t n _ _ _ refl (lost-none p (backup_fails sys p Paired s) (ap is_gone (upd-same s.modes p Alone p refl)) _ refl)
-  backup-goes p Raising = stays t n _ _ _ refl (lost-none p (backup_fails sys p Raising s) (ap is_gone (upd-same s.modes p Alone p refl)) _ refl)
-  backup-goes p Alone = stays t n _ _ _ refl (same-none p _ refl)
-  backup-goes p Down = gone-goes p (is_gone ((backup_fails sys p Down s).modes p) && not (is_gone (s.modes p)))
-  backup-goes p Gone = stays t n _ _ _ refl (same-none p _ refl)
-
   fail-goes : (p : ℕ) (primary : Bool) (k : ℕ)
       → Goes t n (last_of s t) (last_of (effect sys s (FailTcp p primary k)) t) (blocks_of sys s reading (FailTcp p primary k))
-  fail-goes p true k = primary-goes p (s.modes p)
-  fail-goes p false k = backup-goes p (s.modes p)
+  fail-goes p primary k =
+      fail-cases sys s
+      (λ x. Goes t n (last_of s t) (last_of x t) (if is_gone (x.modes p) && not (is_gone (s.modes p)) then left_blocks s reading (is_of_pair sys p) sys.terminals else [])) p
+      (stays t n _ _ _ refl (same-none p _ refl))
+      (λ paired. stays t n _ _ _ refl (lost-none p (lose_primary sys p s) (ap is_gone (upd-same s.modes p Down p refl)) _ refl))
+      (λ member breaks. gone-goes p _)
+      (λ has. stays t n _ _ _ refl (lost-none p (lose_backup sys p s) (ap is_gone (upd-same s.modes p Alone p refl)) _ refl))
+      primary
 
   -- a terminal ends, and its open unit is left
   left-goes : (own : ℕ) (e : Ending)
@@ -225,33 +215,11 @@ module _ (sys : Behaviour) (b : IsBehaviour sys) (s : State) (i : Inv sys s) (t 
 
   end-goes : (own : ℕ) (e : Ending) → LegalEnd sys s own e
       → Goes t n (last_of s t) (last_of (effect sys s (End own e)) t) (blocks_of sys s reading (End own e))
-  end-goes own ending.Stopped l = stays t n _ _ _ refl (idle-none own ending.Stopped (s.units own) (stopped-idle own l))
-  end-goes own ending.NoEntries l = left-goes own ending.NoEntries
-  end-goes own (ending.Fault x) l = left-goes own (ending.Fault x)
-  end-goes own (ending.Suspended cause) l = left-goes own (ending.Suspended cause)
-  end-goes own ending.Lost l =
-      stays t n _ _ _ refl (idle-none own ending.Lost (s.units own) (ap attempt_of ((i.terms own l.live.known).lost l.lost)))
-
-  verb-last : (c q : ℕ) (job : Job) (v : Verb) → last_of (do_verb sys c q job v s) t ≡ last_of s t
-  verb-last c q job (verb.File call) = refl
-  verb-last c q job verb.Show = refl
-  verb-last c q job (verb.Accept screen) = refl
-  verb-last c q job verb.Begin = refl
-  verb-last c q job (verb.Send class message) = refl
-  verb-last c q job verb.End = refl
-  verb-last c q job verb.Drop = refl
-  verb-last c q job verb.Redo = refl
-  verb-last c q job verb.Stop = refl
-  verb-last c q job (verb.Fault x) = refl
-  verb-last c q job (verb.Reply reply) = refl
-
-  file-last : (c q : ℕ) (job : Option Job) → last_of (do_job sys c q job s) t ≡ last_of s t
-  file-last c q None = refl
-  file-last c q (Some job) = verb-last c q job (server_verb sys c job)
-
-  server-last : (c q k : ℕ) (job : Option Job) → last_of (process_fails c q k job s) t ≡ last_of s t
-  server-last c q k None = refl
-  server-last c q k (Some job) = refl
+  end-goes own e l =
+      end-cases sys s (λ x. Goes t n (last_of s t) (last_of x t) (left_block own (reading.answers own) (s.units own) ++ Done own e ∷ [])) own e l
+      (λ stopped. stays t n _ _ _ refl (idle-none own e (s.units own) (stopped-idle own stopped)))
+      (λ lost. stays t n _ _ _ refl (idle-none own e (s.units own) (ap attempt_of ((i.terms own lost.live.known).lost lost.lost))))
+      (λ leaves. left-goes own e)
 
   -- what each entry ends
   goes : (entry : Event) → Fits sys s entry → Goes t n (last_of s t) (last_of (effect sys s entry) t) (blocks_of sys s reading entry)
@@ -264,14 +232,14 @@ module _ (sys : Behaviour) (b : IsBehaviour sys) (s : State) (i : Inv sys s) (t 
   goes (Begin own number r) l = stays t n _ _ _ refl refl
   goes (Send own number c) l = stays t n _ _ _ refl refl
   goes (Take c q own) l = stays t n _ _ _ refl refl
-  goes (File c q op mode f status) l = stays t n _ _ _ (file-last c q ((s.classes c).busy q)) refl
+  goes (File c q op mode f status) l = stays t n _ _ _ (file-cases sys s c q (λ x. last_of x t ≡ last_of s t) refl (λ job call works asks. refl)) refl
   goes (Reply c q own fault) l = reply-goes c q own fault l
   goes (Again own number) l = stays t n _ _ _ refl refl
   goes (Commit own number) l = moves s t n own number (reading.answers own + 1) Committed None (commit-next own number l)
   goes (Back own number) l = moves s t n own number (reading.answers own + 1) Aborted None (back-next own number l)
   goes (Restart own number cause) l = stays t n _ _ _ refl (restart-none t n own number (reading.answers own))
   goes (FailTcp p primary k) l = fail-goes p primary k
-  goes (FailServer c q k) l = stays t n _ _ _ (server-last c q k ((s.classes c).busy q)) refl
+  goes (FailServer c q k) l = stays t n _ _ _ (process-cases sys s (λ x. last_of x t ≡ last_of s t) c q k refl (λ job works. refl)) refl
   goes (Takeover p) l = stays t n _ _ _ refl refl
   goes (Raise p) l = stays t n _ _ _ refl refl
   goes (End own e) l = end-goes own e l

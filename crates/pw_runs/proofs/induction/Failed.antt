@@ -13,27 +13,30 @@ use Rattle.pw_paired.specs.Units.{leave_units, only}
 use Rattle.pw_runs.specs.Losses.{Breaks}
 
 module _ (sys : Behaviour) (s : State) (P : State → Type 0) where
-  module _ (p : ℕ) (same : P s) (goes_down : s.modes p ≡ Paired → P (lose_primary sys p s))
-      (is_lost : (primary : Bool) → Breaks primary (s.modes p) → P (lose_pair sys p s))
-      (goes_on : HasMessages (s.modes p) → P (lose_backup sys p s)) where
-    primary-cases : (mode : Mode) → s.modes p ≡ mode → P (primary_fails sys p mode s)
-    primary-cases Paired is = goes_down is
-    primary-cases Raising is = is_lost true (inl is)
-    primary-cases Alone is = is_lost true (inr is)
-    primary-cases Down is = same
-    primary-cases Gone is = same
+  -- A member of a pair fails: nothing happens, or the pair is Down, Gone by this member, or Alone.
+  pub fail-by : (p : ℕ) (primary : Bool) → P s → (s.modes p ≡ Paired → P (lose_primary sys p s))
+      → (Breaks primary (s.modes p) → P (lose_pair sys p s)) → (HasMessages (s.modes p) → P (lose_backup sys p s)) → P (do_fail_tcp sys p primary s)
+  fail-by p true same goes_down is_lost goes_on = by (s.modes p) refl
+    where
+      by : (mode : Mode) → s.modes p ≡ mode → P (primary_fails sys p mode s)
+      by Paired is = goes_down is
+      by Raising is = is_lost (inl is)
+      by Alone is = is_lost (inr is)
+      by Down is = same
+      by Gone is = same
+  fail-by p false same goes_down is_lost goes_on = by (s.modes p) refl
+    where
+      by : (mode : Mode) → s.modes p ≡ mode → P (backup_fails sys p mode s)
+      by Paired is = goes_on (subst HasMessages (sym is) tt)
+      by Raising is = goes_on (subst HasMessages (sym is) tt)
+      by Alone is = same
+      by Down is = is_lost is
+      by Gone is = same
 
-    backup-cases : (mode : Mode) → s.modes p ≡ mode → P (backup_fails sys p mode s)
-    backup-cases Paired is = goes_on (subst HasMessages (sym is) tt)
-    backup-cases Raising is = goes_on (subst HasMessages (sym is) tt)
-    backup-cases Alone is = same
-    backup-cases Down is = is_lost false is
-    backup-cases Gone is = same
-
-    -- A member of a pair fails: nothing happens, or the pair is Down, Gone or Alone.
-    pub fail-cases : (primary : Bool) → P (do_fail_tcp sys p primary s)
-    fail-cases true = primary-cases (s.modes p) refl
-    fail-cases false = backup-cases (s.modes p) refl
+  -- the same for either member
+  pub fail-cases : (p : ℕ) → P s → (s.modes p ≡ Paired → P (lose_primary sys p s)) → ((primary : Bool) → Breaks primary (s.modes p) → P (lose_pair sys p s))
+      → (HasMessages (s.modes p) → P (lose_backup sys p s)) → (primary : Bool) → P (do_fail_tcp sys p primary s)
+  fail-cases p same goes_down is_lost goes_on primary = fail-by p primary same goes_down (is_lost primary) goes_on
 
   by-job : (c i k : ℕ) → P s → ((job : Job) → (s.classes c).busy i ≡ Some job → P (process_fails c i k (Some job) s))
       → (job : Option Job) → (s.classes c).busy i ≡ job → P (process_fails c i k job s)

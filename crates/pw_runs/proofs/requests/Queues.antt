@@ -183,8 +183,8 @@ taken-queue n i class request others first free =
     (place-is class.busy n i free) (omega (arith, found.1)) in (
       parts.0,
       ap (λ waiting. queue_of n (with_first_taken i waiting class)) first
-      ∙ (ap (λ busy. record { waiting = others; busy = busy })
-      (set-requests class.busy (Some (new_job request)) 1 n (i - 1) i (omega (arith, found.1, found.2)) (omega (arith, found.1))) ∙ sym parts.1),
+          ∙ (ap (λ busy. record { waiting = others; busy = busy })
+          (set-requests class.busy (Some (new_job request)) 1 n (i - 1) i (omega (arith, found.1, found.2)) (omega (arith, found.1))) ∙ sym parts.1),
     )
 
 got-of : (waiting : List Request) (free : Option ℕ) (i : ℕ) (request : Request) → queue.taken_of waiting free ≡ Got i request
@@ -212,10 +212,10 @@ got-queue n i class request is =
     let low : place < n = omega (arith, found.0, all) in
     let at : get_or requests place None ≡ request_in (class.busy i) = get-requests class.busy 1 n place i low (omega (arith, number)) in (
       free-is class.busy 1 n i (omega (arith, number)) (omega (arith, low, number))
-      (none-of (class.busy i) (sym (none-request (class.busy i)) ∙ (ap is_none (sym at) ∙ found.1)))
-      (λ j from below.
-      sym (none-request (class.busy j))
-      ∙ (ap is_none (sym (get-requests class.busy 1 n (j - 1) j (omega (arith, below, number, low)) (omega (arith, from))))
-      ∙ found.2 (j - 1) (omega (arith, below, number, from)))),
+          (none-of (class.busy i) (sym (none-request (class.busy i)) ∙ (ap is_none (sym at) ∙ found.1)))
+          (λ j from below.
+          sym (none-request (class.busy j))
+          ∙ (ap is_none (sym (get-requests class.busy 1 n (j - 1) j (omega (arith, below, number, low)) (omega (arith, from))))
+          ∙ found.2 (j - 1) (omega (arith, below, number, from)))),
       parts.1,
     )

@@ -3,7 +3,7 @@ use Rattle.std.proofs.Common.{◌≡◌, ◌≢◌, ℕ, zero, suc, ◌+◌, ◌
 use Rattle.std.proofs.lemmas.Bool.{cases_eq, true≢false, eq-eqb, ne_eqb, eqb-true, cond-true, cond-false, or_parts, and_cases, and_from, and_left, and_right}
 use Rattle.pw_event.specs.declared.event.Cause.TheVariants as cause
 use Rattle.pw_event.specs.declared.event.Ending.{Ending}
-use Rattle.pw_runs.proofs.terms.TermOk.{IsRest, MemoryOk, IsWorking, HasMessages, RestingPath, PathOf, PathOk, TermOk, TermsOk, TermOk-same}
+use Rattle.pw_runs.proofs.terms.TermOk.{messages-work, IsRest, MemoryOk, IsWorking, HasMessages, RestingPath, PathOf, PathOk, TermOk, TermsOk, TermOk-same}
 use Rattle.pw_onecopy.proofs.Update.{upd-same, upd-other}
 use Rattle.pw_paired.specs.Failure.{lose_backup, backup_fails, do_fail_tcp, do_takeover, lose_primary, lose_pair, is_live_of, is_of_pair, primary_fails, resume_terminal, resumed_path, runs_unit, without_path, LegalTakeover}
 use Rattle.pw_onecopy.specs.Path.{PathAnswer, unit_number}
@@ -12,6 +12,7 @@ use Rattle.pw_onecopy.specs.Update.{upd}
 use Rattle.pw_paired.specs.State.{Mode, Alone, Raising, Paired, Down, Gone, LastEnded, BackupCopy, Message, Start, End, Copy, OpenUnit, State, Term}
 use Rattle.pw_onecopy.specs.Behaviour.{Behaviour}
 use Rattle.pw_paired.specs.Units.{any_below}
+use Rattle.pw_runs.proofs.induction.Failed.{fail-cases}
 
 -- where no number below n has the property, each lacks it
 pub any_below-false : (n : ℕ) (has : ℕ → Bool) → any_below n has ≡ false → (j : ℕ) → j < n → has j ≡ false
@@ -328,23 +329,10 @@ module _ (sys : Behaviour) (s : State) (ok : TermsOk sys s) where
       (λ differ. TermOk-same refl refl (not-of-pair sys p j None (s.memory j) differ) (not-of-pair sys p j None (s.flight j) differ) refl (mode-of-other sys s p j Alone differ) (ok j known))
       (cases_eq (sys.pair_of j) p)
 
-  primary : (p : ℕ) (mode : Mode) → s.modes p ≡ mode → TermsOk sys (primary_fails sys p mode s)
-  primary p Paired is = keeps_down p is
-  primary p Raising is = keeps_gone p
-  primary p Alone is = keeps_gone p
-  primary p Down is = ok
-  primary p Gone is = ok
-
-  backup : (p : ℕ) (mode : Mode) → s.modes p ≡ mode → TermsOk sys (backup_fails sys p mode s)
-  backup p Paired is = keeps_alone p Paired is tt
-  backup p Raising is = keeps_alone p Raising is tt
-  backup p Alone is = ok
-  backup p Down is = keeps_gone p
-  backup p Gone is = ok
-
-  pub keeps_fail_tcp : (p : ℕ) (is_primary : Bool) → TermsOk sys (do_fail_tcp sys p is_primary s)
-  keeps_fail_tcp p true = primary p (s.modes p) refl
-  keeps_fail_tcp p false = backup p (s.modes p) refl
+  pub keeps_fail_tcp : (p : ℕ) (primary : Bool) → TermsOk sys (do_fail_tcp sys p primary s)
+  keeps_fail_tcp p primary =
+      fail-cases sys s (TermsOk sys) p ok (keeps_down p) (λ member breaks. keeps_gone p)
+      (λ has. keeps_alone p (s.modes p) refl (messages-work (s.modes p) has)) primary
 
   -- a terminal of the pair that has ended
   term-idle : (j : ℕ) (ending : Ending) → (s.terms j).ending ≡ Some ending → s.modes (sys.pair_of j) ≡ Down → j < sys.terminals

@@ -61,6 +61,14 @@ HasMessages Paired = Unit {0}
 HasMessages Down = ⊥
 HasMessages Gone = ⊥
 
+-- a pair with a backup works
+pub messages-work : (mode : Mode) → HasMessages mode → IsWorking mode
+messages-work Alone has = tt
+messages-work Raising has = tt
+messages-work Paired has = tt
+messages-work Down has = absurd has
+messages-work Gone has = absurd has
+
 -- the path of a running attempt: it is in the transaction, or waits for the reply of one SEND, or has a run fault
 pub record RunningPath (sys : Behaviour) (t last : ℕ) (path : List PathAnswer) : Type 0 where
   pub is_path : IsPath sys t path

@@ -1,5 +1,10 @@
 use Rattle.std.proofs.Common.{sym, ◌∙◌}
+use Rattle.pw_runs.proofs.Runs.{finished-stops, one-more}
 use Rattle.pw_runs.proofs.laws.step_laws.Goals as goal
 
 pub returns : goal.returns
-returns c sys state entry one other first second = first.is_next ∙ sym second.is_next
+returns c = record {
+  run = one-more;
+  finished = finished-stops;
+  due = λ sys state entry k legal. (λ is. sym legal.due ∙ is, λ is. legal.due ∙ is);
+}
