@@ -25,7 +25,8 @@ takes_answer sys t path _ = false
 
 -- one more verb may be answered
 abbrev pub goes_on : Behaviour → ℕ → List PathAnswer → Attempt → Bool
-goes_on sys t q at = takes_answer sys t at.path (sys.ask t at.path) && unit_number at.path == unit_number q
+goes_on sys t q at =
+    takes_answer sys t at.path (sys.ask t at.path) && unit_number at.path == unit_number q
 
 -- the attempt is defined for j answers
 abbrev pub is_attempt : Behaviour → ℕ → List PathAnswer → (ℕ → List (List ℕ)) → ℕ → ℕ → Bool
@@ -59,7 +60,8 @@ may_be sys t single at Left = true
 -- where an ending may come
 abbrev pub may_end : Behaviour → ℕ → Single → Ending → Verb → Bool
 may_end sys t single ending.Stopped asked = asks_stop asked
-may_end sys t single ending.NoEntries asked = asks_accept asked && entries_on single.path == sys.entries t
+may_end sys t single ending.NoEntries asked =
+    asks_accept asked && entries_on single.path == sys.entries t
 may_end sys t single (ending.Fault x) asked = asks_fault x asked
 may_end sys t single (ending.Suspended cause) asked = single.restarts == sys.max_restarts t
 may_end sys t single ending.Lost asked = true

@@ -7,6 +7,7 @@ use Rattle.pw_code.specs.declared.unit.Unit as unit
 use Rattle.pw_event.specs.declared.event.Cause.{Cause}
 use Rattle.pw_event.specs.declared.event.Cause.TheVariants.{Older, Takeover, Server, Redo}
 use Rattle.pw_locks.specs.Conflicts.{conflict, is_same_unit}
+use Rattle.pw_locks.specs.declared.lock.Lock.{Lock}
 use Rattle.pw_paired.specs.Failure.{unit_named}
 use Rattle.pw_paired.specs.Serial.{is_gone}
 use Rattle.pw_paired.specs.Server.{lock_of_job, server_verb}
@@ -21,12 +22,14 @@ use Rattle.pw_legal.specs.Verbs.{asks_file, asks_redo}
 -- Only the processes of the system's classes work; those of a class count from 1.
 pub record JobsAreThere (sys : Behaviour) (state : State) : Type 0 where
   pub classes : (c i : ℕ) (job : Job) → (state.classes c).busy i ≡ Some job → c < sys.classes
-  pub processes : (c i : ℕ) (job : Job) → (state.classes c).busy i ≡ Some job → (1 ≤ i) × (i ≤ sys.processes c)
+  pub processes : (c i : ℕ) (job : Job) → (state.classes c).busy i ≡ Some job
+      → (1 ≤ i) × (i ≤ sys.processes c)
 
 -- the lock of the call conflicts with a lock of the other unit
 abbrev pub call_meets : Behaviour → State → unit.Unit → Job → FileCall → Bool
 call_meets sys state other job call =
-    list_any (λ held. is_same_unit held.unit other && conflict (lock_of_job sys state job call) held) state.locks
+    let lock : Lock = lock_of_job sys state job call in
+    list_any (λ held. is_same_unit held.unit other && conflict lock held) state.locks
 
 -- the job is of one unit, and the lock of its next operation conflicts with a lock of the other
 abbrev pub job_meets : Behaviour → State → unit.Unit → unit.Unit → ℕ → Job → Bool

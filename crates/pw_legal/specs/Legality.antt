@@ -50,7 +50,8 @@ is_by_conflict _ = false
 -- each entry of the log is legal behind those before it
 abbrev pub is_run_from : Behaviour → State → List Event → Bool
 is_run_from sys state [] = true
-is_run_from sys state (entry ∷ log) = is_legal sys state entry && is_run_from sys (effect sys state entry) log
+is_run_from sys state (entry ∷ log) =
+    is_legal sys state entry && is_run_from sys (effect sys state entry) log
 
 -- the log is a run
 abbrev pub is_run : Behaviour → List Event → Bool

@@ -31,7 +31,8 @@ is_legal_applied sys state t =
 abbrev pub is_legal_raise : Behaviour → State → ℕ → Bool
 is_legal_raise sys state p =
     is_alone (state.modes p) && (any_below sys.terminals (is_live_of sys p state)
-    && not (any_below sys.terminals (λ t. is_of_pair sys p t && is_takeover (state.terms t).pending)))
+    && not (any_below sys.terminals
+    (λ t. is_of_pair sys p t && is_takeover (state.terms t).pending)))
 
 -- TAKEOVER p
 abbrev pub is_legal_takeover : State → ℕ → Bool

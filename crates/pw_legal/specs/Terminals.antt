@@ -16,7 +16,8 @@ is_live sys state t = nat_lt t sys.terminals && is_none (state.terms t).ending
 -- t can step: it is live, its pair is Paired and no cause is pending for it
 abbrev pub can_step : Behaviour → State → ℕ → Bool
 can_step sys state t =
-    is_live sys state t && (is_paired (state.modes (sys.pair_of t)) && is_none (state.terms t).pending)
+    is_live sys state t
+    && (is_paired (state.modes (sys.pair_of t)) && is_none (state.terms t).pending)
 
 -- what the backup holds is of this unit number and start path
 abbrev pub is_start : ℕ → List PathAnswer → BackupCopy → Bool
@@ -43,7 +44,8 @@ is_over ended (Some awaited) = nat_le awaited.number (ended awaited.terminal).nu
 abbrev pub is_legal_show : Behaviour → State → ℕ → ℕ → ℕ → ℕ → Bool
 is_legal_show sys state t phase attempt k =
     can_step sys state t && (asks_show (next_verb sys state t)
-    && is_same_refresh (next_number (path_of state t)) (record { phase = phase; attempt = attempt; k = k }))
+    && is_same_refresh (next_number (path_of state t))
+    (record { phase = phase; attempt = attempt; k = k }))
 
 -- KEY t k
 abbrev pub is_legal_key : Behaviour → State → ℕ → ℕ → Bool

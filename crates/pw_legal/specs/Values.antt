@@ -75,7 +75,8 @@ is_same_answer _ _ = false
 -- two paths are one
 abbrev pub is_same_path : List PathAnswer → List PathAnswer → Bool
 is_same_path [] [] = true
-is_same_path (answer ∷ path) (other ∷ others) = is_same_answer answer other && is_same_path path others
+is_same_path (answer ∷ path) (other ∷ others) =
+    is_same_answer answer other && is_same_path path others
 is_same_path _ _ = false
 
 -- two refresh numbers are one

@@ -27,7 +27,8 @@ pub fn legality_laws()
 pub fn run_laws()
     ensures jobs { (sys : Behaviour) → IsBehaviour sys → (log : List Event) → IsRun sys log
         → JobsAreThere sys (after sys log) }
-    ensures entries { (sys : Behaviour) → IsBehaviour sys → (log : List Event) → IsRun sys log → (entry : Event)
+    ensures entries { (sys : Behaviour) → IsBehaviour sys → (log : List Event) → IsRun sys log
+        → (entry : Event)
         → (is_legal sys (after sys log) entry ≡ true) ↔ Legal sys (after sys log) entry }
     ensures logs { (sys : Behaviour) → IsBehaviour sys → (log : List Event)
         → (is_run sys log ≡ true) ↔ IsRun sys log }
@@ -43,5 +44,6 @@ pub fn path_laws()
 pub fn block_laws()
     ensures blocks { (sys : Behaviour) (machine : Machine) (block : Block)
         → (is_legal_block sys machine block ≡ true) ↔ LegalBlock sys machine block }
-    ensures orders { (sys : Behaviour) (order : List Block) → (is_serial sys order ≡ true) ↔ IsSerial sys order }
+    ensures orders { (sys : Behaviour) (order : List Block)
+        → (is_serial sys order ≡ true) ↔ IsSerial sys order }
 {}

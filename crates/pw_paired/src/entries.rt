@@ -15,8 +15,8 @@ pub fn backup_laws()
         → last.number ≢ held.unit → resumed_path held last ≡ held.start }
     ensures end { (held : BackupCopy) (last : LastEnded) (path : List PathAnswer)
         → last.number ≡ held.unit → held.end ≡ Some path → resumed_path held last ≡ path }
-    ensures other_unit { (p : ℕ) (held : BackupCopy) (unit : OpenUnit) (last : LastEnded) (term : Term)
-        → unit.number ≢ held.unit
+    ensures other_unit { (p : ℕ) (held : BackupCopy) (unit : OpenUnit) (last : LastEnded)
+        (term : Term) → unit.number ≢ held.unit
         → (resume_terminal p (Some held) (Some unit) last term).pending ≡ term.pending }
     ensures copied { (state : State) (t : ℕ) (unit : OpenUnit) (start : List PathAnswer)
         → state.units t ≡ Some unit → unit.running ≡ Some start → copied_path state t ≡ start }

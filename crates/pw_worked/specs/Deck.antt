@@ -65,7 +65,8 @@ last_of (first ∷ next ∷ path) = last_of (next ∷ path)
 -- what a program asks after a path
 abbrev pub asked_by : Program → List PathAnswer → Verb
 asked_by (Keys lines) path = verb_behind lines (is_outside path) (last_of path)
-asked_by (Displays texts) path = if nat_lt (length path) (length texts) then verb.Show else verb.Stop
+asked_by (Displays texts) path =
+    if nat_lt (length path) (length texts) then verb.Show else verb.Stop
 
 -- row 24 behind an answer: a reply is displayed
 abbrev pub row_behind : List ℕ → PathAnswer → List ℕ
@@ -116,7 +117,9 @@ task_of message =
 
 -- a file status as four digits
 abbrev pub four_digits : ℕ → List ℕ
-four_digits n = codes "00" ++ (if n == 10 then codes "10" else if n == 11 then codes "11" else 48 ∷ (48 + n) ∷ [])
+four_digits n =
+    codes "00"
+    ++ (if n == 10 then codes "10" else if n == 11 then codes "11" else 48 ∷ (48 + n) ∷ [])
 
 -- an item without characters
 abbrev pub spaces : List ℕ
@@ -146,10 +149,13 @@ call_of op content = record {
 -- what the server asks for a task with a record, after these file answers
 abbrev pub asked_for : Task → List ℕ → List FileAnswer → Verb
 asked_for (Does op) content [] = verb.File (call_of op content)
-asked_for (Does op) content (answer ∷ done) = verb.Reply (reply_with answer.status (unwrap_or answer.content spaces))
+asked_for (Does op) content (answer ∷ done) =
+    verb.Reply (reply_with answer.status (unwrap_or answer.content spaces))
 asked_for (Increments op) content [] = verb.File (call_of op content)
-asked_for (Increments op) content (read ∷ []) = verb.File (call_of Rewrite (with_one_more (unwrap_or read.content content)))
-asked_for (Increments op) content (read ∷ rewritten ∷ done) = verb.Reply (reply_with rewritten.status (with_one_more (unwrap_or read.content content)))
+asked_for (Increments op) content (read ∷ []) =
+    verb.File (call_of Rewrite (with_one_more (unwrap_or read.content content)))
+asked_for (Increments op) content (read ∷ rewritten ∷ done) =
+    verb.Reply (reply_with rewritten.status (with_one_more (unwrap_or read.content content)))
 asked_for (Breaks code) content done = verb.Fault code
 
 -- what the server of a class asks on a message: that of STORE by the message's letter and its record
@@ -215,7 +221,9 @@ deck_but_serve setting = record {
 -- the same with its servers: none makes more than two operations
 abbrev pub with_serve : Behaviour → Behaviour
 with_serve sys = record sys {
-  serve = λ c message files. let at : Play = play_after sys c message files 2 in served_by (sys.ops c message at.done) at.files;
+  serve = λ c message files.
+      let at : Play = play_after sys c message files 2 in
+      served_by (sys.ops c message at.done) at.files;
 }
 
 -- the system of a worked deck

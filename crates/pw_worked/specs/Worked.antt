@@ -1,5 +1,5 @@
 -- What is said of a worked log, and of an entry that is none.
-use Rattle.std.specs.Prelude.{◌≡◌, ℕ, List, [], ◌∷◌}
+use Rattle.std.specs.Prelude.{◌≡◌, ℕ, List, [], ◌∷◌, take}
 use Rattle.pw_code.specs.declared.lock.LockRule.TheVariants.{ReadersShare}
 use Rattle.pw_event.specs.declared.event.Event.{Event}
 use Rattle.pw_event.specs.declared.script.FailLine.{FailLine}
@@ -16,16 +16,18 @@ use Rattle.pw_worked.specs.Deck.{Keys, Line, Setting, deck}
 
 -- deck C with one terminal that has these entry lines, and with these failure lines
 abbrev pub one_terminal : List Line → List FailLine → Setting
-one_terminal lines script = record { programs = Keys lines ∷ []; max_restarts = 5; rule = ReadersShare; script = script }
+one_terminal lines script =
+    record { programs = Keys lines ∷ []; max_restarts = 5; rule = ReadersShare; script = script }
 
 -- deck C with two terminals
 abbrev pub two_terminals : List Line → List Line → List FailLine → Setting
 two_terminals first second script =
-    record { programs = Keys first ∷ Keys second ∷ []; max_restarts = 5; rule = ReadersShare; script = script }
+    record (one_terminal first script) { programs = Keys first ∷ Keys second ∷ [] }
 
 -- a refresh of a terminal with this number, and this row 24
 abbrev pub shown : ℕ → ℕ → ℕ → ℕ → List ℕ → Refresh
-shown t phase attempt k row = record { terminal = t; phase = phase; attempt = attempt; k = k; image = row }
+shown t phase attempt k row =
+    record { terminal = t; phase = phase; attempt = attempt; k = k; image = row }
 
 -- A log with its deck, and what was worked out by hand: the committed records of STOCK behind it, its serial order, and the
 -- refreshes of T1 and of T2, each number counted once.
@@ -54,9 +56,17 @@ pub record WorksOut (w : WorkedLog) : Type 0 where
 abbrev pub behind : Setting → List Event → State
 behind setting log = after (deck setting) log
 
+-- the state behind the first n entries of a worked log
+abbrev pub state_at : WorkedLog → ℕ → State
+state_at w n = behind w.setting (take n w.log)
+
 -- behind a log of a worked deck the entry is no step
 abbrev pub IsRefused : Setting → List Event → Event → Type 0
 IsRefused setting log entry = ¬ Legal (deck setting) (behind setting log) entry
+
+-- behind the first n entries of a worked log the entry is no step
+abbrev pub IsNoStep : WorkedLog → ℕ → Event → Type 0
+IsNoStep w n entry = IsRefused w.setting (take n w.log) entry
 
 -- behind a list of blocks the block is none that the one-copy machine of a worked deck runs
 abbrev pub IsBarred : Setting → List Block → Block → Type 0

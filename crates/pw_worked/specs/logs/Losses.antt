@@ -26,7 +26,8 @@ abbrev pub pair_lost_while_raising : WorkedLog
 pair_lost_while_raising = record {
   setting = one_terminal transaction (line.Tcp 0 true 14 ∷ line.Tcp 0 true 17 ∷ []);
   log =
-      entries_to_begin ++ (send_inside 0 2 read_and_rewrite 1 ++ (entries_to_commit ++ (FailTcp 0 true 1 ∷ Takeover 0 ∷ Raise 0 ∷ FailTcp 0 true 2 ∷
+      entries_to_begin ++ (send_inside 0 2 read_and_rewrite 1 ++ (entries_to_commit
+      ++ (FailTcp 0 true 1 ∷ Takeover 0 ∷ Raise 0 ∷ FailTcp 0 true 2 ∷
       End 0 Lost ∷ [])));
   stock = codes "A10006" ∷ codes "B10007" ∷ [];
   order = Out 0 ∷ Attempted 0 1 Committed 6 ∷ Done 0 Lost ∷ [];
@@ -37,9 +38,11 @@ pair_lost_while_raising = record {
 -- The backup fails before it has taken over: the open unit is left, and its change is undone.
 abbrev pub pair_lost_while_down : WorkedLog
 pair_lost_while_down = record {
-  setting = one_terminal (Begins ∷ increments_a1 ∷ []) (line.Tcp 0 true 9 ∷ line.Tcp 0 false 10 ∷ []);
+  setting =
+      one_terminal (Begins ∷ increments_a1 ∷ []) (line.Tcp 0 true 9 ∷ line.Tcp 0 false 10 ∷ []);
   log =
-      entries_to_begin ++ (Key 0 2 ∷ Send 0 1 0 ∷ Take 0 1 0 ∷ (read_and_rewrite ++ (FailTcp 0 true 1 ∷ FailTcp 0 false 2 ∷ End 0 Lost ∷ [])));
+      entries_to_begin ++ (Key 0 2 ∷ Send 0 1 0 ∷ Take 0 1 0 ∷ (read_and_rewrite
+      ++ (FailTcp 0 true 1 ∷ FailTcp 0 false 2 ∷ End 0 Lost ∷ [])));
   stock = deck_stock;
   order = Out 0 ∷ Attempted 0 1 Left 2 ∷ Done 0 Lost ∷ [];
   first = [];
@@ -49,13 +52,17 @@ pair_lost_while_down = record {
 -- A pair is lost with two open units, of which T2's is the older: they are left in the order of terminals.
 abbrev pub pair_lost_with_two_units : WorkedLog
 pair_lost_with_two_units = record {
-  setting = two_terminals (Begins ∷ []) (Begins ∷ []) (line.Tcp 0 false 13 ∷ line.Tcp 0 true 14 ∷ []);
+  setting =
+      two_terminals (Begins ∷ []) (Begins ∷ []) (line.Tcp 0 false 13 ∷ line.Tcp 0 true 14 ∷ []);
   log =
-      Raise 0 ∷ CheckCopy 0 ∷ Applied 0 ∷ CheckCopy 1 ∷ Applied 1 ∷ Key 1 1 ∷ CheckStart 1 ∷ Applied 1 ∷ Begin 1 1 0 ∷
-      Key 0 1 ∷ CheckStart 0 ∷ Applied 0 ∷ Begin 0 1 0 ∷ FailTcp 0 false 1 ∷ FailTcp 0 true 2 ∷ End 0 Lost ∷
+      Raise 0 ∷ CheckCopy 0 ∷ Applied 0 ∷ CheckCopy 1 ∷ Applied 1 ∷ Key 1 1 ∷ CheckStart 1 ∷
+      Applied 1 ∷ Begin 1 1 0 ∷
+      Key 0 1 ∷ CheckStart 0 ∷ Applied 0 ∷ Begin 0 1 0 ∷ FailTcp 0 false 1 ∷ FailTcp 0 true 2 ∷
+      End 0 Lost ∷
       End 1 Lost ∷ [];
   stock = deck_stock;
-  order = Out 1 ∷ Out 0 ∷ Attempted 0 1 Left 1 ∷ Attempted 1 1 Left 1 ∷ Done 0 Lost ∷ Done 1 Lost ∷ [];
+  order =
+      Out 1 ∷ Out 0 ∷ Attempted 0 1 Left 1 ∷ Attempted 1 1 Left 1 ∷ Done 0 Lost ∷ Done 1 Lost ∷ [];
   first = [];
   second = [];
 }

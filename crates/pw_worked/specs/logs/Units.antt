@@ -23,7 +23,8 @@ backup_entries = Raise 0 ∷ CheckCopy 0 ∷ Applied 0 ∷ []
 -- the entries of a unit that is one SEND, from its entry line on: its number, the line's number, and what the server does
 abbrev pub unit_of_one_send : ℕ → ℕ → List Event → List Event
 unit_of_one_send n k operations =
-    Key 0 k ∷ CheckStart 0 ∷ Applied 0 ∷ Begin 0 n 0 ∷ Send 0 n 0 ∷ Take 0 1 0 ∷ (operations ++ Reply 0 1 0 None ∷ Show 0 (n + n) 0 1 ∷ [])
+    Key 0 k ∷ CheckStart 0 ∷ Applied 0 ∷ Begin 0 n 0 ∷ Send 0 n 0 ∷ Take 0 1 0 ∷ (operations
+    ++ Reply 0 1 0 None ∷ Show 0 (n + n) 0 1 ∷ [])
 
 -- the entries with which unit 1, a transaction, begins
 abbrev pub entries_to_begin : List Event
@@ -41,7 +42,13 @@ read_and_rewrite = File 0 1 Read Shared 0 0 ∷ File 0 1 Rewrite Exclusive 0 0 �
 -- A program displays two texts and stops.
 abbrev pub two_displays : WorkedLog
 two_displays = record {
-  setting = record { programs = Displays (codes "ONE" ∷ codes "TWO" ∷ []) ∷ []; max_restarts = 5; rule = ReadersShare; script = [] };
+  setting = record {
+    programs = Displays (codes "ONE" ∷ codes "TWO" ∷ []) ∷
+        [];
+    max_restarts = 5;
+    rule = ReadersShare;
+    script = [];
+  };
   log = backup_entries ++ (Show 0 0 0 1 ∷ Show 0 0 0 2 ∷ End 0 Stopped ∷ []);
   stock = deck_stock;
   order = Out 0 ∷ Out 0 ∷ Done 0 Stopped ∷ [];
@@ -52,13 +59,17 @@ two_displays = record {
 -- A WRITE of a key that is there has status 10, a DELETE of one that is not 11, a READ NEXT behind the last one 1.
 abbrev pub duplicate_missing_and_end_of_file : WorkedLog
 duplicate_missing_and_end_of_file = record {
-  setting = one_terminal (Sends (codes "WA10007") ∷ Sends (codes "DC90007") ∷ Sends (codes "NB10007") ∷ []) [];
+  setting =
+      one_terminal (Sends (codes "WA10007") ∷ Sends (codes "DC90007") ∷ Sends (codes "NB10007") ∷
+      []) [];
   log =
-      backup_entries ++ (unit_of_one_send 1 1 (File 0 1 Write Exclusive 0 10 ∷ []) ++ (unit_of_one_send 2 2 (File 0 1 Delete Exclusive 0 11 ∷ [])
+      backup_entries ++ (unit_of_one_send 1 1 (File 0 1 Write Exclusive 0 10 ∷ [])
+      ++ (unit_of_one_send 2 2 (File 0 1 Delete Exclusive 0 11 ∷ [])
       ++ (unit_of_one_send 3 3 (File 0 1 Next Shared 0 1 ∷ []) ++ End 0 NoEntries ∷ [])));
   stock = deck_stock;
   order =
-      Out 0 ∷ Attempted 0 1 Committed 1 ∷ Out 0 ∷ Out 0 ∷ Attempted 0 2 Committed 1 ∷ Out 0 ∷ Out 0 ∷
+      Out 0 ∷ Attempted 0 1 Committed 1 ∷ Out 0 ∷ Out 0 ∷ Attempted 0 2 Committed 1 ∷ Out 0 ∷
+      Out 0 ∷
       Attempted 0 3 Committed 1 ∷ Out 0 ∷ Done 0 NoEntries ∷ [];
   first =
       shown 0 2 0 1 (codes "00000010      ") ∷ shown 0 4 0 1 (codes "00000011      ") ∷
@@ -71,10 +82,13 @@ abbrev pub missing_records : WorkedLog
 missing_records = record {
   setting = one_terminal (Sends (codes "RC90000") ∷ Sends (codes "UC90001") ∷ []) [];
   log =
-      backup_entries ++ (unit_of_one_send 1 1 (File 0 1 Read Shared 0 11 ∷ []) ++ (unit_of_one_send 2 2 (File 0 1 Rewrite Exclusive 0 11 ∷ [])
+      backup_entries ++ (unit_of_one_send 1 1 (File 0 1 Read Shared 0 11 ∷ [])
+      ++ (unit_of_one_send 2 2 (File 0 1 Rewrite Exclusive 0 11 ∷ [])
       ++ End 0 NoEntries ∷ []));
   stock = deck_stock;
-  order = Out 0 ∷ Attempted 0 1 Committed 1 ∷ Out 0 ∷ Out 0 ∷ Attempted 0 2 Committed 1 ∷ Out 0 ∷ Done 0 NoEntries ∷ [];
+  order =
+      Out 0 ∷ Attempted 0 1 Committed 1 ∷ Out 0 ∷ Out 0 ∷ Attempted 0 2 Committed 1 ∷ Out 0 ∷
+      Done 0 NoEntries ∷ [];
   first = shown 0 2 0 1 (codes "00000011      ") ∷ shown 0 4 0 1 (codes "00000011      ") ∷ [];
   second = [];
 }
@@ -84,14 +98,18 @@ abbrev pub each_operation : WorkedLog
 each_operation = record {
   setting =
       one_terminal
-      (Sends (codes "WA50001") ∷ Sends (codes "NA10000") ∷ Sends (codes "UA50002") ∷ Sends (codes "LA50000") ∷ Sends (codes "DA10000") ∷ []) [];
+      (Sends (codes "WA50001") ∷ Sends (codes "NA10000") ∷ Sends (codes "UA50002") ∷
+      Sends (codes "LA50000") ∷ Sends (codes "DA10000") ∷ []) [];
   log =
-      backup_entries ++ (unit_of_one_send 1 1 (File 0 1 Write Exclusive 0 0 ∷ []) ++ (unit_of_one_send 2 2 (File 0 1 Next Shared 0 0 ∷ [])
-      ++ (unit_of_one_send 3 3 (File 0 1 Rewrite Exclusive 0 0 ∷ []) ++ (unit_of_one_send 4 4 (File 0 1 Read Exclusive 0 0 ∷ [])
+      backup_entries ++ (unit_of_one_send 1 1 (File 0 1 Write Exclusive 0 0 ∷ [])
+      ++ (unit_of_one_send 2 2 (File 0 1 Next Shared 0 0 ∷ [])
+      ++ (unit_of_one_send 3 3 (File 0 1 Rewrite Exclusive 0 0 ∷ [])
+      ++ (unit_of_one_send 4 4 (File 0 1 Read Exclusive 0 0 ∷ [])
       ++ (unit_of_one_send 5 5 (File 0 1 Delete Exclusive 0 0 ∷ []) ++ End 0 NoEntries ∷ [])))));
   stock = codes "A50002" ∷ codes "B10007" ∷ [];
   order =
-      Out 0 ∷ Attempted 0 1 Committed 1 ∷ Out 0 ∷ Out 0 ∷ Attempted 0 2 Committed 1 ∷ Out 0 ∷ Out 0 ∷
+      Out 0 ∷ Attempted 0 1 Committed 1 ∷ Out 0 ∷ Out 0 ∷ Attempted 0 2 Committed 1 ∷ Out 0 ∷
+      Out 0 ∷
       Attempted 0 3 Committed 1 ∷ Out 0 ∷ Out 0 ∷ Attempted 0 4 Committed 1 ∷ Out 0 ∷ Out 0 ∷
       Attempted 0 5 Committed 1 ∷ Out 0 ∷ Done 0 NoEntries ∷ [];
   first =
@@ -116,7 +134,9 @@ open_unit_is_left = record {
 abbrev pub committed_transaction : WorkedLog
 committed_transaction = record {
   setting = one_terminal (Begins ∷ increments_a1 ∷ Ends ∷ []) [];
-  log = entries_to_begin ++ (send_inside 0 2 read_and_rewrite 1 ++ (Key 0 3 ∷ CheckEnd 0 ∷ Applied 0 ∷ Commit 0 1 ∷ End 0 NoEntries ∷ []));
+  log =
+      entries_to_begin ++ (send_inside 0 2 read_and_rewrite 1 ++ (Key 0 3 ∷ CheckEnd 0 ∷
+      Applied 0 ∷ Commit 0 1 ∷ End 0 NoEntries ∷ []));
   stock = codes "A10006" ∷ codes "B10007" ∷ [];
   order = Out 0 ∷ Attempted 0 1 Committed 6 ∷ Done 0 NoEntries ∷ [];
   first = shown 0 1 0 1 (codes "00000000A10006") ∷ [];
@@ -126,9 +146,11 @@ committed_transaction = record {
 -- A transaction is dropped: the record that it wrote is gone, and the one that it deleted is there again.
 abbrev pub dropped_transaction : WorkedLog
 dropped_transaction = record {
-  setting = one_terminal (Begins ∷ Sends (codes "WC90001") ∷ Sends (codes "DA10000") ∷ Drops ∷ []) [];
+  setting =
+      one_terminal (Begins ∷ Sends (codes "WC90001") ∷ Sends (codes "DA10000") ∷ Drops ∷ []) [];
   log =
-      entries_to_begin ++ (send_inside 0 2 (File 0 1 Write Exclusive 0 0 ∷ []) 1 ++ (send_inside 0 3 (File 0 1 Delete Exclusive 0 0 ∷ []) 2
+      entries_to_begin ++ (send_inside 0 2 (File 0 1 Write Exclusive 0 0 ∷ []) 1
+      ++ (send_inside 0 3 (File 0 1 Delete Exclusive 0 0 ∷ []) 2
       ++ (Key 0 4 ∷ CheckEnd 0 ∷ Applied 0 ∷ Back 0 1 ∷ End 0 NoEntries ∷ [])));
   stock = deck_stock;
   order = Out 0 ∷ Attempted 0 1 Aborted 9 ∷ Done 0 NoEntries ∷ [];
@@ -141,7 +163,8 @@ abbrev pub redo_until_suspended : WorkedLog
 redo_until_suspended = record {
   setting = record (one_terminal (Begins ∷ increments_a1 ∷ Redoes ∷ []) []) { max_restarts = 1 };
   log =
-      entries_to_begin ++ (send_inside 0 2 read_and_rewrite 1 ++ (Key 0 3 ∷ Restart 0 1 Redo ∷ Begin 0 1 1 ∷ (send_inside 1 2 read_and_rewrite 1
+      entries_to_begin ++ (send_inside 0 2 read_and_rewrite 1 ++ (Key 0 3 ∷ Restart 0 1 Redo ∷
+      Begin 0 1 1 ∷ (send_inside 1 2 read_and_rewrite 1
       ++ (Key 0 3 ∷ End 0 (Suspended Redo) ∷ []))));
   stock = deck_stock;
   order = Out 0 ∷ Attempted 0 1 Restarted 5 ∷ Attempted 0 1 Left 5 ∷ Done 0 (Suspended Redo) ∷ [];
@@ -165,7 +188,8 @@ abbrev pub server_breaks : WorkedLog
 server_breaks = record {
   setting = one_terminal (Sends (codes "XA10000") ∷ []) [];
   log =
-      backup_entries ++ (Key 0 1 ∷ CheckStart 0 ∷ Applied 0 ∷ Begin 0 1 0 ∷ Send 0 1 0 ∷ Take 0 1 0 ∷ Reply 0 1 0 (Some 204) ∷
+      backup_entries ++ (Key 0 1 ∷ CheckStart 0 ∷ Applied 0 ∷ Begin 0 1 0 ∷ Send 0 1 0 ∷
+      Take 0 1 0 ∷ Reply 0 1 0 (Some 204) ∷
       End 0 (Fault 204) ∷ []);
   stock = deck_stock;
   order = Out 0 ∷ Attempted 0 1 Left 1 ∷ Done 0 (Fault 204) ∷ [];
