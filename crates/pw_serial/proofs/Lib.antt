@@ -1,2 +1,3 @@
+pub mod blocks
 pub mod frontier
 pub mod screens

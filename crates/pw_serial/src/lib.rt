@@ -1,2 +1,4 @@
-//! The headline: every run of the paired system is serializable.
+//! The headline of the paired system: every run is serializable, and no unfinished run is stuck.
 #![tactic(auto)]
+
+pub mod laws;

@@ -67,7 +67,7 @@ alone-from sys b s i ok lk answers all (entry ∷ log) run =
     alone-from sys b (effect sys s entry) (keeps sys b s i entry run.0) (stays sys b s i ok entry run.0.fits).ok (keeps-locks sys b s i lk entry run.0.fits)
     (answers_behind sys s entry answers) (keeps-alone sys b s i ok lk answers all entry run.0.fits) log run.1
 
-all-alone : (sys : Behaviour) (b : IsBehaviour sys) (log : List Event) → IsRun sys log → AllAlone sys b (after sys log) (answers_after sys log)
+pub all-alone : (sys : Behaviour) (b : IsBehaviour sys) (log : List Event) → IsRun sys log → AllAlone sys b (after sys log) (answers_after sys log)
 all-alone sys b log run =
     alone-from sys b (starting sys) (kept-at-start sys) (records-at-start sys b) (record { held = tt; apart = tt }) reading_starts.answers
     (λ t unit q is runs. absurd (no-unit is)) log run

@@ -1,0 +1,17 @@
+pub mod Fold
+pub mod Following
+pub mod Known
+pub mod Others
+pub mod Quiet
+pub mod Running
+pub mod Lefts
+pub mod Losses
+pub mod Endings
+pub mod Own
+pub mod Screens
+pub mod Keys
+pub mod Units
+pub mod Backs
+pub mod Replies
+pub mod Serializable
+pub mod Images
