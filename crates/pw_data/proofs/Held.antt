@@ -1,5 +1,5 @@
 -- Items with a picture are as long as it says.
-use Rattle.std.proofs.Common.{◌≡◌, ℕ, ◌+◌, ◌*◌, ◌≤◌, Bool, true, false, List, [], ◌++◌, length, drop, All, Option, Some, None, refl, ap, subst, arith}
+use Rattle.std.proofs.Common.{◌≡◌, ℕ, ◌+◌, ◌*◌, ◌≤◌, Bool, true, false, List, [], ◌++◌, length, drop, All, Option, Some, None, refl, sym, ap, ◌∙◌, subst, arith}
 use Rattle.std.specs.Prelude.{◌&&◌, ◌||◌, nat_le, take_while, is_some, option_and_then, if◌then◌else◌, ◌==◌}
 use Rattle.std.specs.List.{list_all}
 use Rattle.std.proofs.lemmas.Bool.Decides.{nat_tests}
@@ -16,7 +16,7 @@ use Rattle.pw_data.specs.declared.item.Kind.{Kind}
 use Rattle.pw_data.specs.declared.item.Kind.TheVariants as kind
 use Rattle.pw_data.specs.declared.item.Table.{Table}
 use Rattle.pw_text.specs.Cursor.{spelling}
-use Rattle.pw_data.specs.Entries.{picture_of_kind, picture_at, kind_of, has_picture, has_occurs, size_at}
+use Rattle.pw_data.specs.Entries.{IsKept, picture_of_kind, picture_at, kind_of, has_picture, has_occurs, size_at}
 use Rattle.pw_data.specs.Tree.{Forest, Empty, Node, is_group, is_misplaced, tree_faults}
 use Rattle.pw_data.specs.Laid.{times, size_in, table_of, item_of, items_in}
 use Rattle.pw_data.specs.Layouts.{FitsPicture}
@@ -102,6 +102,10 @@ item-fits text at table e ms good plain = λ k is.
     let none : ms ≡ Empty = no_members ms (λ group. let has : has_picture e ≡ true = found.some in absurd (cc (plain group))) in
     let zero_size : size_in ms ≡ 0 = ap size_in none in
     (found.of_kind.valid, omega (arith, found.of_kind.long, good.size))
+
+-- a good entry keeps what its picture says
+pub is_kept : (text : List ℕ) (e : Entry) → Good text e → IsKept text e
+is_kept text e good = (good.kept, λ k is. (clause text e.clauses.picture k (sym good.kept ∙ is)).of_kind.valid)
 
 -- the items of trees without a fault
 pub items-fit : (text : List ℕ) (top table : Bool) (at : ℕ) (around : Table) (f : Forest) → AllIn (Good text) f → tree_faults top table f ≡ [] → All FitsPicture (items_in text at around f)

@@ -1,6 +1,8 @@
 pub mod Cells
 pub mod Forests
 pub mod Held
+pub mod Indexes
+pub mod Kept
 pub mod Loops
 pub mod Named
 pub mod Outcomes

@@ -4,6 +4,7 @@ use Rattle.std.specs.Prelude.{◌≡◌, ℕ, List, [], ◌∷◌, ◌++◌, fla
 use Rattle.std.specs.List.{list_any}
 use Rattle.pw_base.specs.declared.fault_code.FaultCode.{FaultCode}
 use Rattle.pw_base.specs.declared.fault_code.FaultCode.TheVariants.{BadDataEntry, BadPicture, NameTwice}
+use Rattle.pw_base.specs.Limits.{most_occurrences}
 use Rattle.pw_base.specs.declared.fault.Fault.{Fault}
 use Rattle.pw_picture.specs.declared.picture.Picture.{Picture}
 use Rattle.pw_picture.specs.declared.picture.Picture.TheVariants as picture
@@ -70,7 +71,7 @@ has_table_name server text (Some name) = is_table_word server (spelling text nam
 
 -- the number of occurrences that a number is: 1 to 1,000
 abbrev pub count_of : ℕ → Option ℕ
-count_of n = if nat_le 1 n && nat_le n 1000 then Some n else None
+count_of n = if nat_le 1 n && nat_le n most_occurrences then Some n else None
 
 -- the number of an OCCURS, where it is one
 abbrev pub count_at : List ℕ → Option Token → Option ℕ

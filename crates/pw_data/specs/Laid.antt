@@ -8,6 +8,7 @@ use Rattle.pw_picture.specs.declared.picture.Picture.{Picture}
 use Rattle.pw_picture.specs.declared.picture.Picture.TheVariants as picture
 use Rattle.pw_picture.specs.Stored.{moved}
 use Rattle.pw_picture.specs.Text.{fitted}
+use Rattle.pw_base.specs.Limits.{most_storage}
 use Rattle.pw_data.specs.declared.literal.Literal.{Literal}
 use Rattle.pw_data.specs.declared.literal.Literal.TheVariants as literal
 use Rattle.pw_data.specs.declared.entry.Entry.{Entry}
@@ -32,7 +33,7 @@ abbrev pub too_large : ℕ → Forest → Option Fault
 too_large before Empty = None
 too_large before (Node entry members behind) =
     let size = before + times entry * (entry.size + size_in members) in
-    if nat_lt most size then Some (record { line = entry.line; code = StorageTooLarge }) else too_large size behind
+    if nat_lt most_storage size then Some (record { line = entry.line; code = StorageTooLarge }) else too_large size behind
 
 -- the table in which an entry stands, of occurrences of a size: that of its own OCCURS, or the one around it
 abbrev pub table_of : Table → Option ℕ → ℕ → Table

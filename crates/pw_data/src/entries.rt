@@ -92,6 +92,7 @@ fn push_entry(entries: &mut Vec<Entry>, entry: Option<Entry>) -> Result<(), Memo
 }
 
 /// What is read so far of the data sections of a server or of a requester.
+#[derive(Drop)]
 pub struct Found {
     pub server: bool,
     /// Whether reading stands in LINKAGE.
@@ -147,7 +148,8 @@ fn read_next(alloc: Global, cursor: &mut Cursor<'_>, found: &mut Found) -> Resul
         return Ok(());
     }
     let part = take_entry(cursor);
-    read_part(alloc, &part, found)
+    read_part(alloc, &part, found)?;
+    Ok(())
 }
 
 /// The entries of the tokens that have a level, and the first of the faults that are read off each

@@ -1,8 +1,9 @@
 ghost use Rattle.std.specs.Prelude.{◌≡◌, ◌++◌, ◌+◌, ◌≤◌, All, IfOk, OnOk};
+ghost use Rattle.pw_base.specs.Limits.{most_storage};
 ghost use Rattle.pw_data.specs.Entries.{IsKept};
 ghost use Rattle.pw_data.specs.Tree.{forest};
 ghost use Rattle.pw_data.specs.Names.{name_of};
-ghost use Rattle.pw_data.specs.Laid.{size_in, most, table_of, item_of, items_in};
+ghost use Rattle.pw_data.specs.Laid.{size_in, table_of, item_of, items_in};
 
 use crate::entry::Entry;
 use crate::item::{Item, Table};
@@ -66,7 +67,7 @@ pub fn lay(
     entries: &[Entry],
     items: &mut Vec<Item>,
 ) -> Result<(), Memory>
-    requires size { at + size_in (forest entries.now) ≤ most }
+    requires size { at + size_in (forest entries.now) ≤ most_storage }
     requires kept { All (IsKept text.now) entries.now }
     ensures { OnOk result (items.new.items ≡ items.old.items ++ items_in text.now at around (forest entries.now)) }
 {

@@ -1,5 +1,5 @@
 ghost use Rattle.std.specs.Prelude.{◌≡◌, ◌≤◌, length, find, All, IfOk, IfSome, option_copied};
-ghost use Rattle.pw_data.specs.Laid.{most};
+ghost use Rattle.pw_base.specs.Limits.{most_storage};
 ghost use Rattle.pw_data.specs.Names.{is_this_name};
 ghost use Rattle.pw_data.specs.Layouts.{IsSound, EndsBy, PlaceEndsBy, FitsPicture, PlaceFitsPicture, place_at, place_of};
 
@@ -53,7 +53,9 @@ impl Layout {
     /// The first item of a name, in either case. A name of more than 30 characters is no word of a text,
     /// and is looked for from item to item.
     fn item(&self, name: &[u8]) -> Option<&Item>
-        ensures { option_copied result ≡ find (λ item. is_this_name item.name name.now) self.now.items }
+        ensures item { option_copied result ≡ find (λ item. is_this_name item.name name.now) self.now.items }
+        ensures within { IfSome result (λ item. EndsBy (length self.now.storage) item.now) }
+        ensures fits { IfSome result (λ item. FitsPicture item.now) }
     {
         if name.len() > MAX_WORD {
             return self
@@ -79,7 +81,7 @@ impl Layout {
     /// no memory.
     pub fn storage(&self) -> &[u8]
         ensures storage { result.now ≡ self.now.storage }
-        ensures bound { length result.now ≤ most }
+        ensures bound { length result.now ≤ most_storage }
     {
         self.storage.as_slice()
     }

@@ -1,5 +1,6 @@
-ghost use Rattle.std.specs.Prelude.{◌≡◌, ◌++◌, All, ForSome, IfOk, OnOk, IsTrue, option_and_then, option_map};
+ghost use Rattle.std.specs.Prelude.{◌≡◌, ◌++◌, All, IfOk, OnOk, IsTrue, option_and_then, option_map};
 ghost use Rattle.std.specs.List.{repeat};
+ghost use Rattle.std.specs.Option.{ForSome};
 ghost use Rattle.pw_picture.specs.Grammar.{IsPicture};
 ghost use Rattle.pw_picture.specs.Stored.{is_number, moved};
 ghost use Rattle.pw_picture.specs.Text.{fitted};
@@ -92,7 +93,7 @@ fn initial(alloc: Global, text: &[u8], entry: Entry) -> Result<Bytes, Memory>
     ensures { IfOk result (λ chars. chars ≡ initial text.now entry) }
 {
     let value = value_at(alloc, text, entry.clauses.value)?;
-    initial_by(alloc, &value, entry.kind)
+    Ok(initial_by(alloc, &value, entry.kind)?)
 }
 
 /// Puts a piece behind the characters, so many times.

@@ -1,8 +1,9 @@
 ghost use Rattle.std.specs.Prelude.{◌≡◌, ◌≤◌, ◌+◌, ◌*◌, ◌||◌, min, false, length, take_while};
+ghost use Rattle.pw_base.specs.Limits.{most_storage};
 ghost use Rattle.pw_data.specs.Entries.{has_occurs};
 ghost use Rattle.pw_base.specs.First.{least};
 ghost use Rattle.pw_data.specs.Tree.{same_section, stands_in, forest, is_top, in_table, is_misplaced, tree_faults};
-ghost use Rattle.pw_data.specs.Laid.{times, size_in, most, too_large};
+ghost use Rattle.pw_data.specs.Laid.{times, size_in, too_large};
 
 use crate::entry::Entry;
 use pw_base::fault::{Fault, noted};
@@ -10,6 +11,11 @@ use pw_base::fault_code::FaultCode;
 
 /// The most characters of storage of a program.
 pub const MAX_STORAGE: u32 = 32_000;
+
+/// The storage has as many characters as the table of limits says.
+pub fn storage_limit()
+    ensures { MAX_STORAGE ≡ most_storage }
+{}
 
 /// A size above the most, as which every larger one counts.
 const TOO_LARGE: u32 = MAX_STORAGE + 1;
@@ -65,8 +71,8 @@ impl Entry {
     /// The size of all its occurrences, by the size of its members. Every size above the most counts as
     /// one more than it.
     pub fn extent(self, members: u32) -> u32
-        requires { members ≤ most + 1 }
-        ensures { result ≡ min (times self * (self.size + members)) (most + 1) }
+        requires { members ≤ most_storage + 1 }
+        ensures { result ≡ min (times self * (self.size + members)) (most_storage + 1) }
     {
         let one = self.size as u32 + members;
         self.times().saturating_mul(one).min(TOO_LARGE)
@@ -130,8 +136,8 @@ pub fn tree_faults(within: Within, entries: &[Entry], known: Option<Fault>) -> O
 
 /// The size of all that entries hold. Every size above the most counts as one more than it.
 pub fn size_of(entries: &[Entry]) -> u32
-    ensures size { result ≡ min (size_in (forest entries.now)) (most + 1) }
-    ensures bound { result ≤ most + 1 }
+    ensures size { result ≡ min (size_in (forest entries.now)) (most_storage + 1) }
+    ensures bound { result ≤ most_storage + 1 }
 {
     let mut size = 0;
     let mut rest = entries;
