@@ -10,95 +10,96 @@ use pw_code::system::System;
 use std::process::Abort;
 use std::test::Fail;
 
-/// Asserts the failure lines of TCP-1, of TCP-2 and of STORE that are due.
-fn expect_due(
-    rt: &impl Abort,
-    system: &System,
-    script: &Script,
-    log: &[Event],
-    lines: [Option<u32>; 3],
-)
+/// The failure lines of a script: two of TCP-1, one of STORE between them, and one of TCP-2.
+static FAIL_LINES: [FailLine; 4] = [
+    FailLine::Tcp {
+        tcp: 0,
+        primary: true,
+        after: 2,
+    },
+    FailLine::Server {
+        class: 0,
+        process: 1,
+        after: 1,
+    },
+    FailLine::Tcp {
+        tcp: 0,
+        primary: false,
+        after: 0,
+    },
+    FailLine::Tcp {
+        tcp: 1,
+        primary: true,
+        after: 1,
+    },
+];
+
+/// The entries of a log, with those of TCP-1, of TCP-2 and of STORE.
+static LOG: [Event; 8] = [
+    Event::Raise { tcp: 0 },
+    Event::Key { terminal: 1, k: 1 },
+    Event::CheckStart { terminal: 0 },
+    Event::FailTcp {
+        tcp: 0,
+        primary: true,
+        line: 1,
+    },
+    Event::Take {
+        class: 0,
+        process: 1,
+        terminal: 0,
+    },
+    Event::FailServer {
+        class: 0,
+        process: 1,
+        line: 2,
+    },
+    Event::FailTcp {
+        tcp: 1,
+        primary: true,
+        line: 4,
+    },
+    Event::FailTcp {
+        tcp: 0,
+        primary: false,
+        line: 3,
+    },
+];
+
+/// The failure lines of TCP-1, of TCP-2 and of STORE that are due behind so many entries.
+static DUE: [(usize, [Option<u32>; 3]); 9] = [
+    (0, [None, None, None]),
+    (1, [None, None, None]),
+    (2, [None, Some(4), None]),
+    (3, [Some(1), Some(4), None]),
+    (4, [Some(3), Some(4), None]),
+    (5, [Some(3), Some(4), Some(2)]),
+    (6, [Some(3), Some(4), None]),
+    (7, [Some(3), None, None]),
+    (8, [None, None, None]),
+];
+
+/// Asserts what is due behind each number of entries.
+fn expect_due(rt: &impl Abort, system: &System, script: &Script)
     requires { length script.now.lines ≤ 64 }
 {
-    let [first, second, store] = lines;
-    assert_eq!(rt; due(system, script, log, Owner::Tcp(0)), first);
-    assert_eq!(rt; due(system, script, log, Owner::Tcp(1)), second);
-    assert_eq!(rt; due(system, script, log, Owner::Class(0)), store);
+    for (entries, [first, second, store]) in DUE {
+        let log = LOG.get(..entries).unwrap_or(&LOG);
+        assert_eq!(rt; due(system, script, log, Owner::Tcp(0)), first);
+        assert_eq!(rt; due(system, script, log, Owner::Tcp(1)), second);
+        assert_eq!(rt; due(system, script, log, Owner::Class(0)), store);
+    }
 }
 
 #[test]
 fn due_lines_of_two_pairs_and_a_class(rt: HostRuntime) -> Result<(), Fail> {
     let system = system_under(rt.alloc(), LockRule::ReadersShare)?;
     let mut lines = List::new(rt.alloc());
-    lines.push(FailLine::Tcp {
-        tcp: 0,
-        primary: true,
-        after: 2,
-    })?;
-    lines.push(FailLine::Server {
-        class: 0,
-        process: 1,
-        after: 1,
-    })?;
-    lines.push(FailLine::Tcp {
-        tcp: 0,
-        primary: false,
-        after: 0,
-    })?;
-    lines.push(FailLine::Tcp {
-        tcp: 1,
-        primary: true,
-        after: 1,
-    })?;
-    let script = Script { lines };
-    let log = [
-        Event::Raise { tcp: 0 },
-        Event::Key { terminal: 1, k: 1 },
-        Event::CheckStart { terminal: 0 },
-        Event::FailTcp {
-            tcp: 0,
-            primary: true,
-            line: 1,
-        },
-        Event::Take {
-            class: 0,
-            process: 1,
-            terminal: 0,
-        },
-        Event::FailServer {
-            class: 0,
-            process: 1,
-            line: 2,
-        },
-        Event::FailTcp {
-            tcp: 1,
-            primary: true,
-            line: 4,
-        },
-        Event::FailTcp {
-            tcp: 0,
-            primary: false,
-            line: 3,
-        },
-    ];
-    for (entries, first, second, store) in [
-        (0, None, None, None),
-        (1, None, None, None),
-        (2, None, Some(4), None),
-        (3, Some(1), Some(4), None),
-        (4, Some(3), Some(4), None),
-        (5, Some(3), Some(4), Some(2)),
-        (6, Some(3), Some(4), None),
-        (7, Some(3), None, None),
-        (8, None, None, None),
-    ] {
-        expect_due(
-            &rt,
-            &system,
-            &script,
-            &log[..entries],
-            [first, second, store],
-        );
-    }
+    let [first, second, third, fourth] = FAIL_LINES;
+    lines.push(first)?;
+    lines.push(second)?;
+    lines.push(third)?;
+    lines.push(fourth)?;
+    expect_due(&rt, &system, &Script { lines });
     Ok(())
 }
