@@ -16,7 +16,7 @@ use Rattle.pw_onecopy.specs.Behaviour.{Behaviour}
 use Rattle.pw_paired.specs.Terminal.{next_verb}
 use Rattle.pw_paired.specs.Units.{any_below}
 use Rattle.pw_legal.specs.Terminals.{can_step}
-use Rattle.pw_legal.specs.Values.{is_alone, is_paired, is_server_line, is_takeover_by, some_with}
+use Rattle.pw_legal.specs.Values.{is_alone, is_paired, is_server_by, is_takeover_by, some_with}
 use Rattle.pw_legal.specs.Verbs.{asks_file, asks_redo}
 
 -- Only the processes of the system's classes work; those of a class count from 1.
@@ -58,7 +58,7 @@ holds sys state t own (Older o m) = is_legal_older sys state t own o m
 holds sys state t own (Takeover p) =
     some_with (is_takeover_by p) (state.terms t).pending && is_alone (state.modes (sys.pair_of t))
 holds sys state t own (Server k) =
-    some_with (is_server_line k) (state.terms t).pending && is_paired (state.modes (sys.pair_of t))
+    some_with (is_server_by k) (state.terms t).pending && is_paired (state.modes (sys.pair_of t))
 holds sys state t own Redo = can_step sys state t && asks_redo (next_verb sys state t)
 
 -- an attempt of the open unit runs, and the cause holds for it
@@ -72,7 +72,7 @@ is_legal_restart sys state t n cause =
     && nat_lt unit.restarts (sys.max_restarts t)))
     (state.units t)
 
--- END t SUSPENDED cause
+-- END t SUSPENDED cause is legal by its kind
 abbrev pub is_legal_suspended : Behaviour → State → ℕ → Cause → Bool
 is_legal_suspended sys state t cause =
     some_with (λ unit. is_caused sys state t cause unit && unit.restarts == sys.max_restarts t)

@@ -26,13 +26,13 @@ is_call sys state op mode f status job call =
     && (status == (answer_on sys state call).status
     && is_empty (holders (lock_of_job sys state job call) state.locks))))
 
--- FILE c i op mode f status
+-- FILE c i op mode f status is legal by its kind
 abbrev pub is_legal_file : Behaviour → State → ℕ → ℕ → FileOp → LockMode → ℕ → ℕ → Bool
 is_legal_file sys state c i op mode f status =
     some_with (λ job. asks_file (is_call sys state op mode f status job) (server_verb sys c job))
     ((state.classes c).busy i)
 
--- REPLY c i t OK, and REPLY c i t FAULT x
+-- REPLY c i t OK, and REPLY c i t FAULT x, are legal by their kind
 abbrev pub is_legal_reply : Behaviour → State → ℕ → ℕ → ℕ → Option ℕ → Bool
 is_legal_reply sys state c i t fault =
     some_with (λ job. job.request.terminal == t && replies (server_verb sys c job) fault)

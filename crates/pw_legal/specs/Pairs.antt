@@ -21,32 +21,32 @@ is_legal_check_copy sys state t =
     is_live sys state t && (is_raising (state.modes (sys.pair_of t))
     && (is_none (state.memory t) && is_none (state.flight t)))
 
--- APPLIED t
+-- APPLIED t is legal by its kind
 abbrev pub is_legal_applied : Behaviour → State → ℕ → Bool
 is_legal_applied sys state t =
     is_some (state.flight t)
     && (is_raising (state.modes (sys.pair_of t)) || is_paired (state.modes (sys.pair_of t)))
 
--- RAISE p
+-- RAISE p is legal by its kind
 abbrev pub is_legal_raise : Behaviour → State → ℕ → Bool
 is_legal_raise sys state p =
     is_alone (state.modes p) && (any_below sys.terminals (is_live_of sys p state)
     && not (any_below sys.terminals
     (λ t. is_of_pair sys p t && is_takeover (state.terms t).pending)))
 
--- TAKEOVER p
+-- TAKEOVER p is legal by its kind
 abbrev pub is_legal_takeover : State → ℕ → Bool
 is_legal_takeover state p = is_down (state.modes p)
 
--- FAIL TCP p PRIMARY k, and FAIL TCP p BACKUP k
+-- FAIL TCP p PRIMARY k, and FAIL TCP p BACKUP k, are legal by their kind
 abbrev pub is_legal_fail_tcp : Behaviour → ℕ → Bool → ℕ → Bool
 is_legal_fail_tcp sys p primary k = some_with (is_line_of_member p primary) (fail_line sys.script k)
 
--- FAIL SERVER c i k
+-- FAIL SERVER c i k is legal by its kind
 abbrev pub is_legal_fail_server : Behaviour → ℕ → ℕ → ℕ → Bool
 is_legal_fail_server sys c i k = some_with (is_line_of_process c i) (fail_line sys.script k)
 
--- END t with each ending
+-- END t is legal by its kind, with each ending
 abbrev pub is_legal_end : Behaviour → State → ℕ → Ending → Bool
 is_legal_end sys state t Stopped = can_step sys state t && asks_stop (next_verb sys state t)
 is_legal_end sys state t NoEntries =

@@ -47,13 +47,13 @@ is_legal_show sys state t phase attempt k =
     && is_same_refresh (next_number (path_of state t))
     (record { phase = phase; attempt = attempt; k = k }))
 
--- KEY t k
+-- KEY t k is legal by its kind
 abbrev pub is_legal_key : Behaviour → State → ℕ → ℕ → Bool
 is_legal_key sys state t k =
     can_step sys state t && (asks_accept (next_verb sys state t)
     && (k == entries_on (path_of state t) + 1 && nat_le k (sys.entries t)))
 
--- CHECK t START
+-- CHECK t START is legal by its kind
 abbrev pub is_legal_check_start : Behaviour → State → ℕ → Bool
 is_legal_check_start sys state t =
     let path : List PathAnswer = path_of state t in
@@ -63,13 +63,13 @@ is_legal_check_start sys state t =
     && (not (holds_start (state.memory t) (unit_number path) path)
     && is_none (state.flight t)))))
 
--- CHECK t END
+-- CHECK t END is legal by its kind
 abbrev pub is_legal_check_end : Behaviour → State → ℕ → Bool
 is_legal_check_end sys state t =
     can_step sys state t && (is_some (closing_answer (next_verb sys state t))
     && (not (holds_end (state.memory t) (closed_path sys state t)) && is_none (state.flight t)))
 
--- BEGIN t n r
+-- BEGIN t n r is legal by its kind
 abbrev pub is_legal_begin : Behaviour → State → ℕ → ℕ → ℕ → Bool
 is_legal_begin sys state t n r =
     let path : List PathAnswer = path_of state t in
@@ -81,27 +81,27 @@ is_legal_begin sys state t n r =
     && (holds_start (state.memory t) (unit_number path) path
     && r == restarts_of (state.units t)))))))
 
--- SEND t n c
+-- SEND t n c is legal by its kind
 abbrev pub is_legal_send : Behaviour → State → ℕ → ℕ → ℕ → Bool
 is_legal_send sys state t n c =
     can_step sys state t && (runs_unit n (state.units t)
     && (asks_send_to c (next_verb sys state t) && not (is_out sys state t)))
 
--- AGAIN t n
+-- AGAIN t n is legal by its kind
 abbrev pub is_legal_again : Behaviour → State → ℕ → ℕ → Bool
 is_legal_again sys state t n =
     can_step sys state t && (asks_send (next_verb sys state t)
     && (is_outside (path_of state t)
     && (n == unit_number (path_of state t) && (state.ended t).number == n)))
 
--- COMMIT t n
+-- COMMIT t n is legal by its kind
 abbrev pub is_legal_commit : Behaviour → State → ℕ → ℕ → Bool
 is_legal_commit sys state t n =
     can_step sys state t && (asks_end (next_verb sys state t)
     && (n == unit_number (path_of state t)
     && holds_end (state.memory t) (path_of state t ++ Ended ∷ [])))
 
--- BACK t n
+-- BACK t n is legal by its kind
 abbrev pub is_legal_back : Behaviour → State → ℕ → ℕ → Bool
 is_legal_back sys state t n =
     can_step sys state t && (asks_drop (next_verb sys state t)

@@ -108,9 +108,9 @@ is_takeover_by p (cause.Takeover q) = q == p
 is_takeover_by p _ = false
 
 -- the cause is SERVER k
-abbrev pub is_server_line : ℕ → Cause → Bool
-is_server_line k (cause.Server l) = l == k
-is_server_line k _ = false
+abbrev pub is_server_by : ℕ → Cause → Bool
+is_server_by k (cause.Server l) = l == k
+is_server_by k _ = false
 
 -- the line is one of the primary, or of the backup, of pair p
 abbrev pub is_line_of_member : ℕ → Bool → FailLine → Bool

@@ -13,8 +13,8 @@ pub data Served : Type 0 where
 
 -- The terminals, pairs, classes and files of a deck, by their numbers from 0, what its programs ask
 -- and show, and its failure lines. Of a terminal, class or file that is not there the functions
--- answer 0, the verb Stop, a screen without cells, a file without records and keys of 1 character;
--- no step reads these answers.
+-- answer 0, the verb Stop, the run fault 0, a screen without cells, a file without records and keys
+-- of 1 character; no step reads these answers.
 pub record Behaviour : Type 0 where
   -- the number of started terminals
   pub terminals : ℕ

@@ -2,4 +2,5 @@
 //! runs them one by one.
 #![tactic(auto)]
 
+pub mod examples;
 pub mod refresh;

@@ -14,19 +14,23 @@ use Rattle.pw_paired.specs.State.{BackupCopy, Down, Gone, Job, LastEnded, Mode, 
 use Rattle.pw_paired.specs.Terminal.{path_of}
 use Rattle.pw_paired.specs.Units.{any_below, attempt_of, freed_of, has_request, last_after_leaving, leave_units, request_in}
 
+-- a takeover goes to the start path of a unit that TMF has not ended
 pub resumed-start : (held : BackupCopy) (last : LastEnded) → last.number ≢ held.unit → resumed_path held last ≡ held.start
 resumed-start held last other = cond-false (last.number == held.unit) _ _ (ne_eqb last.number held.unit other)
 
+-- and behind one that it has ended, where the backup holds its end path
 pub resumed-end : (held : BackupCopy) (last : LastEnded) (path : List PathAnswer) → last.number ≡ held.unit → held.end ≡ Some path → resumed_path held last ≡ path
 resumed-end held last path same is =
     cond-true (last.number == held.unit) _ _ (eq-eqb last.number held.unit same) ∙ ap (λ (o : Option (List PathAnswer)). unwrap_or o held.start) is
 
+-- nothing becomes pending for an attempt of another unit
 pub cause-other : (p : ℕ) (held : BackupCopy) (unit : OpenUnit) (last : LastEnded) (term : Term) → unit.number ≢ held.unit
     → (resume_terminal p (Some held) (Some unit) last term).pending ≡ term.pending
 cause-other p held unit last term other =
     cond-false (unit.number == held.unit && is_some unit.running) (Some (Takeover p)) term.pending
     (ap (λ (b : Bool). b && is_some unit.running) (ne_eqb unit.number held.unit other))
 
+-- a new backup is told the start path of a running attempt
 pub copied-start : (state : State) (t : ℕ) (unit : OpenUnit) (start : List PathAnswer) → state.units t ≡ Some unit → unit.running ≡ Some start
     → copied_path state t ≡ start
 copied-start state t unit start is_open runs =
@@ -68,6 +72,7 @@ none_below : (n : ℕ) (has : ℕ → Bool) → ((i : ℕ) → has i ≡ false) 
 none_below zero has none = refl
 none_below (suc n) has none = ap₂ (λ (a b : Bool). a || b) (none_below n has none) (none n)
 
+-- a failed primary takes the requests of its terminals along
 pub requests-gone : (sys : Behaviour) (state : State) (p c t : ℕ) → sys.pair_of t ≡ p
     → has_request t (sys.processes c) ((lose_primary sys p state).classes c) ≡ false
 requests-gone sys state p c t of =
@@ -76,14 +81,17 @@ requests-gone sys state p c t of =
     (none_below (sys.processes c) (λ i. works_for t (request_in (freed_of (is_of_pair sys p) ((state.classes c).busy (i + 1)))))
     (λ i. none_at_work t (is_of_pair sys p) own ((state.classes c).busy (i + 1))))
 
+-- a backup that fails in Down leaves the pair Gone
 pub down-gone : (sys : Behaviour) (state : State) (p : ℕ) → state.modes p ≡ Down → (do_fail_tcp sys p false state).modes p ≡ Gone
 down-gone sys state p down =
     ap (λ (m : Mode). (backup_fails sys p m state).modes p) down ∙ upd-same state.modes p Gone p refl
 
+-- a terminal of a lost pair
 pub lost-term : (sys : Behaviour) (state : State) (p t : ℕ) → sys.pair_of t ≡ p
     → (lose_pair sys p state).terms t ≡ record (state.terms t) { path = []; pending = None }
 lost-term sys state p t of = cond-true (is_of_pair sys p t) _ _ (eq-eqb (sys.pair_of t) p of)
 
+-- a unit that is left has ended, and no reply of it is kept
 pub left-ended : (sys : Behaviour) (whose : ℕ → Bool) (state : State) (t : ℕ) (unit : OpenUnit) → whose t ≡ true → state.units t ≡ Some unit
     → (leave_units sys whose state).ended t ≡ record { number = unit.number; reply = None }
 left-ended sys whose state t unit own is =

@@ -18,6 +18,7 @@ use Rattle.pw_worked.proofs.DeckLaws.{behaves}
 use Rattle.pw_worked.specs.Deck.{Setting, deck}
 use Rattle.pw_worked.specs.Worked.{IsBarred, IsRefused, WorkedLog, WorksOut, behind}
 
+-- a log works out where each part computes
 pub works : (w : WorkedLog) → is_run (deck w.setting) w.log ≡ true
     → committed_files (deck w.setting) (after (deck w.setting) w.log) 0 ≡ w.stock
     → blocks (deck w.setting) w.log ≡ w.order
@@ -40,11 +41,13 @@ works w run stock order first second orders copy_stock copy_first copy_second = 
   copy_second = copy_second;
 }
 
+-- behind a log that computes as a run, what the test refuses is no step
 pub refused : (setting : Setting) (log : List Event) (entry : Event) → is_run (deck setting) log ≡ true
     → is_legal (deck setting) (behind setting log) entry ≡ false → IsRefused setting log entry
 refused setting log entry run refuses =
     not_from_Decides _ (legal (deck setting) (behaves setting) log (run-sound (deck setting) (starting (deck setting)) log run) entry) refuses
 
+-- behind a list of blocks, what the test refuses is not run
 pub barred : (setting : Setting) (order : List Block) (next : Block)
     → is_legal_block (deck setting) (one_copy (deck setting) order) next ≡ false → IsBarred setting order next
 barred setting order next bars = not_from_Decides _ (block (deck setting) (one_copy (deck setting) order) next) bars

@@ -44,6 +44,7 @@ pub fn takeover_logs()
     ensures takeover_repeats_screen { WorksOut takeovers.takeover_repeats_screen }
     ensures backup_failure_repeats_no_screen { WorksOut takeovers.backup_failure_repeats_no_screen }
     ensures backup_failure_in_unit { WorksOut takeovers.backup_failure_in_unit }
+    ensures failures_without_effect { WorksOut takeovers.failures_without_effect }
     ensures backup_failure_in_transaction { WorksOut takeovers.backup_failure_in_transaction }
 {}
 

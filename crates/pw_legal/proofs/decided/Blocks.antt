@@ -65,6 +65,7 @@ ending-of sys t single (ending.Fault x) v = asked.fault x v
 ending-of sys t single (ending.Suspended cause) v = number single.restarts (sys.max_restarts t)
 ending-of sys t single ending.Lost v = yes tt
 
+-- whether the block is legal in the machine
 pub block : (sys : Behaviour) (machine : Machine) (one : Block) → Decides (test.is_legal_block sys machine one) (LegalBlock sys machine one)
 unfolding test.is_legal_block
 block sys machine (Out t) =
@@ -88,5 +89,6 @@ serial_from : (sys : Behaviour) (machine : Machine) (order : List Block)
 serial_from sys machine [] = yes tt
 serial_from sys machine (one ∷ rest) = both (block sys machine one) (serial_from sys (run_block sys machine one) rest)
 
+-- whether the one-copy machine is defined on the list of blocks
 pub serial : (sys : Behaviour) (order : List Block) → Decides (test.is_serial sys order) (IsSerial sys order)
 serial sys order = serial_from sys (beginning sys) order

@@ -8,7 +8,7 @@ use Rattle.pw_event.specs.declared.event.Cause.{Cause}
 use Rattle.pw_event.specs.declared.event.Cause.TheVariants as cause
 use Rattle.pw_legal.proofs.Deciding.{DecidesIf, always, suppose, both, denied, like, itself, number, below, some, one_with, some_below, both_if, either_if, like_if, one_with_if}
 use Rattle.pw_legal.proofs.decided.Terminals.{can}
-use Rattle.pw_legal.proofs.decided.Values.{alone, gone, paired, server_line, takeover_by}
+use Rattle.pw_legal.proofs.decided.Values.{alone, gone, paired, server_by, takeover_by}
 use Rattle.pw_legal.proofs.decided.Verbs as asked
 use Rattle.pw_legal.specs.Causes.{JobsAreThere, is_conflict}
 use Rattle.pw_legal.specs.Causes as test
@@ -117,7 +117,7 @@ holding sys state t own (cause.Takeover p) =
     always (like (both (pending_is (takeover_by p) (state.terms t).pending) (alone (state.modes (sys.pair_of t))))
     (λ h. record { pending = h.0; alone = h.1 }) (λ l. (l.pending, l.alone)))
 holding sys state t own (cause.Server k) =
-    always (like (both (pending_is (server_line k) (state.terms t).pending) (paired (state.modes (sys.pair_of t))))
+    always (like (both (pending_is (server_by k) (state.terms t).pending) (paired (state.modes (sys.pair_of t))))
     (λ h. record { pending = h.0; paired = h.1 }) (λ l. (l.pending, l.paired)))
 holding sys state t own cause.Redo =
     always (like (both (can sys state t) (asked.redo (next_verb sys state t))) (λ h. record { can = h.0; asks = h.1 }) (λ l. (l.can, l.asks)))
@@ -128,6 +128,7 @@ caused : (sys : Behaviour) (state : State) (t : ℕ) (why : Cause) (unit : OpenU
     (((start : List PathAnswer) × (unit.running ≡ Some start)) × Holds sys state t unit why)
 caused sys state t why unit = both_if (always (some unit.running)) (holding sys state t unit why)
 
+-- whether RESTART t n cause is legal by its kind
 pub restart : (sys : Behaviour) (state : State) (t n : ℕ) (why : Cause)
     → DecidesIf (is_conflict why ≡ true → JobsAreThere sys state) (test.is_legal_restart sys state t n why) (LegalRestart sys state t n why)
 restart sys state t n why =
@@ -140,6 +141,7 @@ restart sys state t n why =
     })
     (λ l. (l.unit, l.caused.is_open, (l.caused.number, (((l.caused.start, l.caused.runs), l.caused.holds), l.few))))
 
+-- whether END t SUSPENDED cause is legal by its kind
 pub suspended : (sys : Behaviour) (state : State) (t : ℕ) (why : Cause)
     → DecidesIf (is_conflict why ≡ true → JobsAreThere sys state) (test.is_legal_suspended sys state t why) (LegalSuspended sys state t why)
 suspended sys state t why =

@@ -14,6 +14,7 @@ use Rattle.pw_paired.specs.Server.{LegalTake, LegalFile, LegalReply, answer_on, 
 use Rattle.pw_paired.specs.State.{Job, State}
 use Rattle.pw_onecopy.specs.Behaviour.{Behaviour}
 
+-- whether TAKE c i t is legal by its kind
 pub take : (sys : Behaviour) (state : State) (c i t : ℕ) → Decides (test.is_legal_take sys state c i t) (LegalTake sys state c i t)
 take sys state c i t =
     like (both (first_one (λ request. number request.terminal t) (state.classes c).waiting)
@@ -37,6 +38,7 @@ called sys state op mode f status job call =
     (λ h. record { op_is = h.0; mode_is = h.1.0; file_is = h.1.1.0; status_is = h.1.1.1.0; free = h.1.1.1.1 })
     (λ l. (l.op_is, (l.mode_is, (l.file_is, (l.status_is, l.free)))))
 
+-- whether FILE c i op mode f status is legal by its kind
 pub file : (sys : Behaviour) (state : State) (c i : ℕ) (op : FileOp) (mode : LockMode) (f status : ℕ)
     → Decides (test.is_legal_file sys state c i op mode f status) (LegalFile sys state c i op mode f status)
 file sys state c i op mode f status =
@@ -54,6 +56,7 @@ file sys state c i op mode f status =
     })
     (λ l. (l.job, l.at_work, (l.call, l.asks, record { op_is = l.op_is; mode_is = l.mode_is; file_is = l.file_is; status_is = l.status_is; free = l.free })))
 
+-- whether REPLY c i t OK, and REPLY c i t FAULT x, are legal by their kind
 pub reply : (sys : Behaviour) (state : State) (c i t : ℕ) (fault : Option ℕ)
     → Decides (test.is_legal_reply sys state c i t fault) (LegalReply sys state c i t fault)
 reply sys state c i t fault =

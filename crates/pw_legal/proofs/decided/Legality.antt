@@ -41,6 +41,7 @@ fitting sys state (Takeover p) = always (pair.takeover state p)
 fitting sys state (Raise p) = always (pair.raise sys state p)
 fitting sys state (End t how) = pair.end sys state t how
 
+-- whether the entry is legal
 pub legality : (sys : Behaviour) (state : State) (entry : Event)
     → DecidesIf (is_by_conflict entry ≡ true → JobsAreThere sys state) (test.is_legal sys state entry) (Legal sys state entry)
 unfolding test.is_legal
@@ -65,9 +66,11 @@ there i = record {
 }
 
 module _ (sys : Behaviour) (b : IsBehaviour sys) where
+  -- behind a run only processes of the system's classes work
   pub jobs-there : (log : List Event) → IsRun sys log → JobsAreThere sys (after sys log)
   jobs-there log run = there (kept-from sys b (starting sys) (kept-at-start sys) log run)
 
+  -- behind a run the test decides whether an entry is legal
   pub legal : (log : List Event) → IsRun sys log → (entry : Event)
       → Decides (test.is_legal sys (after sys log) entry) (Legal sys (after sys log) entry)
   legal log run entry = given (legality sys (after sys log) entry) (λ _. jobs-there log run)
@@ -78,5 +81,6 @@ module _ (sys : Behaviour) (b : IsBehaviour sys) where
       (both (itself (test.is_legal sys state entry)) (itself (is_run_from sys (effect sys state entry) log))).1
       ((legality sys state entry).1 (λ _. there i) run.0, run_from (effect sys state entry) (keeps sys b state i entry run.0) log run.1)
 
+  -- whether the log is a run
   pub run : (log : List Event) → Decides (is_run sys log) (IsRun sys log)
   run log = (run-sound sys (starting sys) log, run_from (starting sys) (kept-at-start sys) log)

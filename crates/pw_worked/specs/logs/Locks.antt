@@ -46,10 +46,9 @@ older_unit_wins = record {
   setting = two_increment 5 AllExclusive;
   log =
       entries_to_two_takes ++ (File 0 1 Read Exclusive 0 0 ∷ Restart 1 1 (Older 0 1) ∷
-      File 0 1 Rewrite Exclusive 0 0 ∷ Reply 0 1 0 None ∷
-      Show 0 2 0 1 ∷ Begin 1 1 1 ∷ Send 1 1 0 ∷ Take 0 1 1 ∷ File 0 1 Read Exclusive 0 0 ∷
-      File 0 1 Rewrite Exclusive 0 0 ∷ Reply 0 1 1 None ∷ Show 1 2 0 1 ∷ End 0 NoEntries ∷
-      End 1 NoEntries ∷ []);
+      File 0 1 Rewrite Exclusive 0 0 ∷ Reply 0 1 0 None ∷ Show 0 2 0 1 ∷ Begin 1 1 1 ∷ Send 1 1 0 ∷
+      Take 0 1 1 ∷ File 0 1 Read Exclusive 0 0 ∷ File 0 1 Rewrite Exclusive 0 0 ∷ Reply 0 1 1 None ∷
+      Show 1 2 0 1 ∷ End 0 NoEntries ∷ End 1 NoEntries ∷ []);
   stock = codes "A10007" ∷ codes "B10007" ∷ [];
   order = younger_behind_older;
   first = shown 0 2 0 1 (codes "00000000A10006") ∷ [];
@@ -62,9 +61,8 @@ shared_readers = record {
   setting = two_increment 5 ReadersShare;
   log =
       entries_to_two_takes ++ (File 0 1 Read Shared 0 0 ∷ File 0 2 Read Shared 0 0 ∷
-      Restart 1 1 (Older 0 1) ∷ File 0 1 Rewrite Exclusive 0 0 ∷
-      Reply 0 1 0 None ∷ Show 0 2 0 1 ∷ Begin 1 1 1 ∷ Send 1 1 0 ∷ Take 0 1 1 ∷
-      File 0 1 Read Shared 0 0 ∷
+      Restart 1 1 (Older 0 1) ∷ File 0 1 Rewrite Exclusive 0 0 ∷ Reply 0 1 0 None ∷ Show 0 2 0 1 ∷
+      Begin 1 1 1 ∷ Send 1 1 0 ∷ Take 0 1 1 ∷ File 0 1 Read Shared 0 0 ∷
       File 0 1 Rewrite Exclusive 0 0 ∷ Reply 0 1 1 None ∷ Show 1 2 0 1 ∷ End 0 NoEntries ∷
       End 1 NoEntries ∷ []);
   stock = codes "A10007" ∷ codes "B10007" ∷ [];
@@ -80,8 +78,8 @@ suspended_at_limit rule log = record {
   log = log ++ End 1 (Suspended (Older 0 1)) ∷ [];
   stock = codes "A10005" ∷ codes "B10007" ∷ [];
   order =
-      Out 0 ∷ Out 1 ∷ Attempted 1 1 Left 0 ∷ Done 1 (Suspended (Older 0 1)) ∷
-      Attempted 0 1 Left 0 ∷ [];
+      Out 0 ∷ Out 1 ∷ Attempted 1 1 Left 0 ∷ Done 1 (Suspended (Older 0 1)) ∷ Attempted 0 1 Left 0 ∷
+      [];
   first = [];
   second = [];
 }
@@ -99,10 +97,9 @@ span_lock = record {
       []) (Sends (codes "WA50001") ∷ []) []) { rule = AllExclusive };
   log =
       Raise 0 ∷ CheckCopy 0 ∷ Applied 0 ∷ CheckCopy 1 ∷ Applied 1 ∷ Key 0 1 ∷ CheckStart 0 ∷
-      Applied 0 ∷ Begin 0 1 0 ∷
-      Key 0 2 ∷ Send 0 1 0 ∷ Take 0 1 0 ∷ File 0 1 Next Exclusive 0 0 ∷ Key 1 1 ∷ CheckStart 1 ∷
-      Applied 1 ∷
-      Begin 1 1 0 ∷ Send 1 1 0 ∷ Take 0 2 1 ∷ Restart 1 1 (Older 0 1) ∷ [];
+      Applied 0 ∷ Begin 0 1 0 ∷ Key 0 2 ∷ Send 0 1 0 ∷ Take 0 1 0 ∷ File 0 1 Next Exclusive 0 0 ∷
+      Key 1 1 ∷ CheckStart 1 ∷ Applied 1 ∷ Begin 1 1 0 ∷ Send 1 1 0 ∷ Take 0 2 1 ∷
+      Restart 1 1 (Older 0 1) ∷ [];
   stock = codes "A10005" ∷ codes "B10007" ∷ [];
   order = Out 0 ∷ Out 1 ∷ Attempted 1 1 Restarted 0 ∷ Attempted 0 1 Left 2 ∷ [];
   first = [];
@@ -115,12 +112,9 @@ locks_outlive_reply = record {
   setting = two_terminals (Begins ∷ increments_a1 ∷ []) (increments_a1 ∷ []) [];
   log =
       Raise 0 ∷ CheckCopy 0 ∷ Applied 0 ∷ CheckCopy 1 ∷ Applied 1 ∷ Key 0 1 ∷ CheckStart 0 ∷
-      Applied 0 ∷ Begin 0 1 0 ∷
-      Key 0 2 ∷ Send 0 1 0 ∷ Take 0 1 0 ∷ File 0 1 Read Shared 0 0 ∷
-      File 0 1 Rewrite Exclusive 0 0 ∷
-      Reply 0 1 0 None ∷ Key 1 1 ∷ CheckStart 1 ∷ Applied 1 ∷ Begin 1 1 0 ∷ Send 1 1 0 ∷
-      Take 0 1 1 ∷
-      Restart 1 1 (Older 0 1) ∷ [];
+      Applied 0 ∷ Begin 0 1 0 ∷ Key 0 2 ∷ Send 0 1 0 ∷ Take 0 1 0 ∷ File 0 1 Read Shared 0 0 ∷
+      File 0 1 Rewrite Exclusive 0 0 ∷ Reply 0 1 0 None ∷ Key 1 1 ∷ CheckStart 1 ∷ Applied 1 ∷
+      Begin 1 1 0 ∷ Send 1 1 0 ∷ Take 0 1 1 ∷ Restart 1 1 (Older 0 1) ∷ [];
   stock = codes "A10005" ∷ codes "B10007" ∷ [];
   order = Out 0 ∷ Out 1 ∷ Attempted 1 1 Restarted 0 ∷ Attempted 0 1 Left 3 ∷ [];
   first = [];
@@ -144,11 +138,9 @@ next_with_lock_reaches_the_found = record {
   setting = two_terminals (Begins ∷ Sends (codes "MA10000") ∷ []) (Sends (codes "RB10000") ∷ []) [];
   log =
       Raise 0 ∷ CheckCopy 0 ∷ Applied 0 ∷ CheckCopy 1 ∷ Applied 1 ∷ Key 0 1 ∷ CheckStart 0 ∷
-      Applied 0 ∷ Begin 0 1 0 ∷
-      Key 0 2 ∷ Send 0 1 0 ∷ Take 0 1 0 ∷ File 0 1 Next Exclusive 0 0 ∷ Reply 0 1 0 None ∷
-      Show 0 1 0 1 ∷ Key 1 1 ∷
-      CheckStart 1 ∷ Applied 1 ∷ Begin 1 1 0 ∷ Send 1 1 0 ∷ Take 0 1 1 ∷
-      Restart 1 1 (Older 0 1) ∷ [];
+      Applied 0 ∷ Begin 0 1 0 ∷ Key 0 2 ∷ Send 0 1 0 ∷ Take 0 1 0 ∷ File 0 1 Next Exclusive 0 0 ∷
+      Reply 0 1 0 None ∷ Show 0 1 0 1 ∷ Key 1 1 ∷ CheckStart 1 ∷ Applied 1 ∷ Begin 1 1 0 ∷
+      Send 1 1 0 ∷ Take 0 1 1 ∷ Restart 1 1 (Older 0 1) ∷ [];
   stock = codes "A10005" ∷ codes "B10007" ∷ [];
   order = Out 0 ∷ Out 1 ∷ Attempted 1 1 Restarted 0 ∷ Attempted 0 1 Left 4 ∷ [];
   first = shown 0 1 0 1 (codes "00000000B10007") ∷ [];
@@ -161,12 +153,11 @@ next_with_lock_goes_no_further = record {
   setting = two_terminals (Begins ∷ Sends (codes "MA10000") ∷ []) (Sends (codes "RB20000") ∷ []) [];
   log =
       take 21 next_with_lock_reaches_the_found.log ++ (File 0 1 Read Shared 0 11 ∷
-      Reply 0 1 1 None ∷ Show 1 2 0 1 ∷
-      End 1 NoEntries ∷ []);
+      Reply 0 1 1 None ∷ Show 1 2 0 1 ∷ End 1 NoEntries ∷ []);
   stock = codes "A10005" ∷ codes "B10007" ∷ [];
   order =
-      Out 0 ∷ Out 1 ∷ Attempted 1 1 Committed 1 ∷ Out 1 ∷ Done 1 NoEntries ∷
-      Attempted 0 1 Left 4 ∷ [];
+      Out 0 ∷ Out 1 ∷ Attempted 1 1 Committed 1 ∷ Out 1 ∷ Done 1 NoEntries ∷ Attempted 0 1 Left 4 ∷
+      [];
   first = shown 0 1 0 1 (codes "00000000B10007") ∷ [];
   second = shown 1 2 0 1 (codes "00000011      ") ∷ [];
 }

@@ -36,8 +36,7 @@ failing_idle_process_changes_nothing = record {
   setting = one_terminal (increments_a1 ∷ []) (line.Server 0 2 1 ∷ []);
   log =
       entries_to_begin ++ (Send 0 1 0 ∷ Take 0 1 0 ∷ FailServer 0 2 1 ∷ (read_and_rewrite
-      ++ (Reply 0 1 0 None ∷ Show 0 2 0 1 ∷
-      End 0 NoEntries ∷ [])));
+      ++ (Reply 0 1 0 None ∷ Show 0 2 0 1 ∷ End 0 NoEntries ∷ [])));
   stock = codes "A10006" ∷ codes "B10007" ∷ [];
   order = Out 0 ∷ Attempted 0 1 Committed 1 ∷ Out 0 ∷ Done 0 NoEntries ∷ [];
   first = shown 0 2 0 1 (codes "00000000A10006") ∷ [];
@@ -50,8 +49,7 @@ server_cause_waits_for_backup = record {
   setting = one_terminal (increments_a1 ∷ []) (line.Server 0 1 1 ∷ line.Tcp 0 false 8 ∷ []);
   log =
       entries_to_begin ++ (Send 0 1 0 ∷ Take 0 1 0 ∷ FailServer 0 1 1 ∷ FailTcp 0 false 2 ∷
-      (backup_entries ++ (Restart 0 1 (cause.Server 1) ∷
-      Begin 0 1 1 ∷ sends_and_ends)));
+      (backup_entries ++ (Restart 0 1 (cause.Server 1) ∷ Begin 0 1 1 ∷ sends_and_ends)));
   stock = codes "A10006" ∷ codes "B10007" ∷ [];
   order =
       Out 0 ∷ Attempted 0 1 Restarted 0 ∷ Attempted 0 1 Committed 1 ∷ Out 0 ∷ Done 0 NoEntries ∷ [];

@@ -7,8 +7,9 @@ use Rattle.pw_event.specs.declared.event.Cause.TheVariants.{Redo}
 use Rattle.pw_event.specs.declared.event.Ending.TheVariants.{Stopped, NoEntries, Fault, Suspended}
 use Rattle.pw_event.specs.declared.event.Event.{Event}
 use Rattle.pw_event.specs.declared.event.Event.TheVariants.{Show, Key, CheckStart, CheckEnd, CheckCopy, Applied, Begin, Send, Take, File, Reply, Commit, Back, Restart, Raise, End}
+use Rattle.pw_event.specs.declared.script.FailLine.{FailLine}
 use Rattle.pw_onecopy.specs.Blocks.{Out, Attempted, Done, Committed, Aborted, Restarted, Left}
-use Rattle.pw_worked.specs.Deck.{Displays, Sends, Begins, Drops, Ends, Redoes}
+use Rattle.pw_worked.specs.Deck.{Displays, Sends, Begins, Drops, Ends, Redoes, Setting}
 use Rattle.pw_worked.specs.logs.Locks.{increments_a1}
 use Rattle.pw_worked.specs.Worked.{WorkedLog, one_terminal, shown}
 
@@ -39,16 +40,19 @@ send_inside r k operations shows =
 abbrev pub read_and_rewrite : List Event
 read_and_rewrite = File 0 1 Read Shared 0 0 ∷ File 0 1 Rewrite Exclusive 0 0 ∷ []
 
+-- a program that displays two texts and stops, with these failure lines
+abbrev pub two_texts : List FailLine → Setting
+two_texts script = record {
+  programs = Displays (codes "ONE" ∷ codes "TWO" ∷ []) ∷ [];
+  max_restarts = 5;
+  rule = ReadersShare;
+  script = script;
+}
+
 -- A program displays two texts and stops.
 abbrev pub two_displays : WorkedLog
 two_displays = record {
-  setting = record {
-    programs = Displays (codes "ONE" ∷ codes "TWO" ∷ []) ∷
-        [];
-    max_restarts = 5;
-    rule = ReadersShare;
-    script = [];
-  };
+  setting = two_texts [];
   log = backup_entries ++ (Show 0 0 0 1 ∷ Show 0 0 0 2 ∷ End 0 Stopped ∷ []);
   stock = deck_stock;
   order = Out 0 ∷ Out 0 ∷ Done 0 Stopped ∷ [];
@@ -69,27 +73,32 @@ duplicate_missing_and_end_of_file = record {
   stock = deck_stock;
   order =
       Out 0 ∷ Attempted 0 1 Committed 1 ∷ Out 0 ∷ Out 0 ∷ Attempted 0 2 Committed 1 ∷ Out 0 ∷
-      Out 0 ∷
-      Attempted 0 3 Committed 1 ∷ Out 0 ∷ Done 0 NoEntries ∷ [];
+      Out 0 ∷ Attempted 0 3 Committed 1 ∷ Out 0 ∷ Done 0 NoEntries ∷ [];
   first =
       shown 0 2 0 1 (codes "00000010      ") ∷ shown 0 4 0 1 (codes "00000011      ") ∷
       shown 0 6 0 1 (codes "00000001      ") ∷ [];
   second = [];
 }
 
--- A READ and a REWRITE of a key that is not there have status 11.
+-- A READ, a REWRITE and a READ WITH LOCK of a key that is not there have status 11, a READ NEXT WITH LOCK behind the last one 1.
 abbrev pub missing_records : WorkedLog
 missing_records = record {
-  setting = one_terminal (Sends (codes "RC90000") ∷ Sends (codes "UC90001") ∷ []) [];
+  setting =
+      one_terminal (Sends (codes "RC90000") ∷ Sends (codes "UC90001") ∷ Sends (codes "LC90000") ∷
+      Sends (codes "MB10000") ∷ []) [];
   log =
       backup_entries ++ (unit_of_one_send 1 1 (File 0 1 Read Shared 0 11 ∷ [])
       ++ (unit_of_one_send 2 2 (File 0 1 Rewrite Exclusive 0 11 ∷ [])
-      ++ End 0 NoEntries ∷ []));
+      ++ (unit_of_one_send 3 3 (File 0 1 Read Exclusive 0 11 ∷ [])
+      ++ (unit_of_one_send 4 4 (File 0 1 Next Exclusive 0 1 ∷ []) ++ End 0 NoEntries ∷ []))));
   stock = deck_stock;
   order =
       Out 0 ∷ Attempted 0 1 Committed 1 ∷ Out 0 ∷ Out 0 ∷ Attempted 0 2 Committed 1 ∷ Out 0 ∷
+      Out 0 ∷ Attempted 0 3 Committed 1 ∷ Out 0 ∷ Out 0 ∷ Attempted 0 4 Committed 1 ∷ Out 0 ∷
       Done 0 NoEntries ∷ [];
-  first = shown 0 2 0 1 (codes "00000011      ") ∷ shown 0 4 0 1 (codes "00000011      ") ∷ [];
+  first =
+      shown 0 2 0 1 (codes "00000011      ") ∷ shown 0 4 0 1 (codes "00000011      ") ∷
+      shown 0 6 0 1 (codes "00000011      ") ∷ shown 0 8 0 1 (codes "00000001      ") ∷ [];
   second = [];
 }
 
@@ -97,8 +106,7 @@ missing_records = record {
 abbrev pub each_operation : WorkedLog
 each_operation = record {
   setting =
-      one_terminal
-      (Sends (codes "WA50001") ∷ Sends (codes "NA10000") ∷ Sends (codes "UA50002") ∷
+      one_terminal (Sends (codes "WA50001") ∷ Sends (codes "NA10000") ∷ Sends (codes "UA50002") ∷
       Sends (codes "LA50000") ∷ Sends (codes "DA10000") ∷ []) [];
   log =
       backup_entries ++ (unit_of_one_send 1 1 (File 0 1 Write Exclusive 0 0 ∷ [])
@@ -109,9 +117,8 @@ each_operation = record {
   stock = codes "A50002" ∷ codes "B10007" ∷ [];
   order =
       Out 0 ∷ Attempted 0 1 Committed 1 ∷ Out 0 ∷ Out 0 ∷ Attempted 0 2 Committed 1 ∷ Out 0 ∷
-      Out 0 ∷
-      Attempted 0 3 Committed 1 ∷ Out 0 ∷ Out 0 ∷ Attempted 0 4 Committed 1 ∷ Out 0 ∷ Out 0 ∷
-      Attempted 0 5 Committed 1 ∷ Out 0 ∷ Done 0 NoEntries ∷ [];
+      Out 0 ∷ Attempted 0 3 Committed 1 ∷ Out 0 ∷ Out 0 ∷ Attempted 0 4 Committed 1 ∷ Out 0 ∷
+      Out 0 ∷ Attempted 0 5 Committed 1 ∷ Out 0 ∷ Done 0 NoEntries ∷ [];
   first =
       shown 0 2 0 1 (codes "00000000      ") ∷ shown 0 4 0 1 (codes "00000000A50001") ∷
       shown 0 6 0 1 (codes "00000000      ") ∷ shown 0 8 0 1 (codes "00000000A50002") ∷
@@ -135,8 +142,8 @@ abbrev pub committed_transaction : WorkedLog
 committed_transaction = record {
   setting = one_terminal (Begins ∷ increments_a1 ∷ Ends ∷ []) [];
   log =
-      entries_to_begin ++ (send_inside 0 2 read_and_rewrite 1 ++ (Key 0 3 ∷ CheckEnd 0 ∷
-      Applied 0 ∷ Commit 0 1 ∷ End 0 NoEntries ∷ []));
+      entries_to_begin ++ (send_inside 0 2 read_and_rewrite 1 ++ (Key 0 3 ∷ CheckEnd 0 ∷ Applied 0 ∷
+      Commit 0 1 ∷ End 0 NoEntries ∷ []));
   stock = codes "A10006" ∷ codes "B10007" ∷ [];
   order = Out 0 ∷ Attempted 0 1 Committed 6 ∷ Done 0 NoEntries ∷ [];
   first = shown 0 1 0 1 (codes "00000000A10006") ∷ [];
@@ -150,8 +157,8 @@ dropped_transaction = record {
       one_terminal (Begins ∷ Sends (codes "WC90001") ∷ Sends (codes "DA10000") ∷ Drops ∷ []) [];
   log =
       entries_to_begin ++ (send_inside 0 2 (File 0 1 Write Exclusive 0 0 ∷ []) 1
-      ++ (send_inside 0 3 (File 0 1 Delete Exclusive 0 0 ∷ []) 2
-      ++ (Key 0 4 ∷ CheckEnd 0 ∷ Applied 0 ∷ Back 0 1 ∷ End 0 NoEntries ∷ [])));
+      ++ (send_inside 0 3 (File 0 1 Delete Exclusive 0 0 ∷ []) 2 ++ (Key 0 4 ∷ CheckEnd 0 ∷
+      Applied 0 ∷ Back 0 1 ∷ End 0 NoEntries ∷ [])));
   stock = deck_stock;
   order = Out 0 ∷ Attempted 0 1 Aborted 9 ∷ Done 0 NoEntries ∷ [];
   first = shown 0 1 0 1 (codes "00000000      ") ∷ shown 0 1 0 2 (codes "00000000      ") ∷ [];
@@ -164,8 +171,8 @@ redo_until_suspended = record {
   setting = record (one_terminal (Begins ∷ increments_a1 ∷ Redoes ∷ []) []) { max_restarts = 1 };
   log =
       entries_to_begin ++ (send_inside 0 2 read_and_rewrite 1 ++ (Key 0 3 ∷ Restart 0 1 Redo ∷
-      Begin 0 1 1 ∷ (send_inside 1 2 read_and_rewrite 1
-      ++ (Key 0 3 ∷ End 0 (Suspended Redo) ∷ []))));
+      Begin 0 1 1 ∷ (send_inside 1 2 read_and_rewrite 1 ++ (Key 0 3 ∷ End 0 (Suspended Redo) ∷
+      []))));
   stock = deck_stock;
   order = Out 0 ∷ Attempted 0 1 Restarted 5 ∷ Attempted 0 1 Left 5 ∷ Done 0 (Suspended Redo) ∷ [];
   first = shown 0 1 0 1 (codes "00000000A10006") ∷ shown 0 1 1 1 (codes "00000000A10006") ∷ [];
@@ -189,8 +196,7 @@ server_breaks = record {
   setting = one_terminal (Sends (codes "XA10000") ∷ []) [];
   log =
       backup_entries ++ (Key 0 1 ∷ CheckStart 0 ∷ Applied 0 ∷ Begin 0 1 0 ∷ Send 0 1 0 ∷
-      Take 0 1 0 ∷ Reply 0 1 0 (Some 204) ∷
-      End 0 (Fault 204) ∷ []);
+      Take 0 1 0 ∷ Reply 0 1 0 (Some 204) ∷ End 0 (Fault 204) ∷ []);
   stock = deck_stock;
   order = Out 0 ∷ Attempted 0 1 Left 1 ∷ Done 0 (Fault 204) ∷ [];
   first = [];

@@ -19,5 +19,6 @@ returns c = record {
   takeover_repeats_screen = works takeovers.takeover_repeats_screen refl refl refl refl refl refl refl refl refl;
   backup_failure_repeats_no_screen = works takeovers.backup_failure_repeats_no_screen refl refl refl refl refl refl refl refl refl;
   backup_failure_in_unit = works takeovers.backup_failure_in_unit refl refl refl refl refl refl refl refl refl;
+  failures_without_effect = works takeovers.failures_without_effect refl refl refl refl refl refl refl refl refl;
   backup_failure_in_transaction = works takeovers.backup_failure_in_transaction refl refl refl refl refl refl refl refl refl;
 }
