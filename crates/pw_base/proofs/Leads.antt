@@ -1,5 +1,5 @@
 -- Reads that give bytes, one behind the other.
-use Rattle.std.proofs.Common.{◌≡◌, ℕ, List, [], ◌∷◌, ◌++◌, refl, sym, subst}
+use Rattle.std.proofs.Common.{ℕ, List, [], ◌∷◌, ◌++◌, refl, sym, subst}
 use Rattle.pw_base.specs.declared.source.Got.{Got}
 use Rattle.pw_base.specs.declared.source.Got.TheVariants as got
 use Rattle.pw_base.specs.Reading.{Gave, Lead}

@@ -3,8 +3,9 @@ ghost use Rattle.std.specs.List.{list_any};
 ghost use Rattle.pw_base.specs.declared.fault_code.FaultCode.TheVariants.{BadPicture, BadDataEntry, NameTwice};
 ghost use Rattle.pw_base.specs.First.{least};
 ghost use Rattle.pw_data.specs.Parts.{part_of, parts_from, parts_of};
-ghost use Rattle.pw_data.specs.Entries.{is_bad_picture, has_table_name, line_of, entry_of, only_if, part_faults, faults_of_parts, entries_of};
+ghost use Rattle.pw_data.specs.Entries.{picture_at, is_bad_picture, has_table_name, line_of, entry_of, only_if, part_faults, faults_of_parts, entries_of};
 
+use crate::clauses::Clauses;
 use crate::entry::{Entry, entry_of, picture_at, proper_name};
 use crate::parts::{is_heading, take_entry, take_heading};
 use crate::reading::Reading;
@@ -12,26 +13,44 @@ use crate::words::is_table_word;
 use pw_base::fault::{Fault, noted};
 use pw_base::fault_code::FaultCode;
 use pw_base::memory::Memory;
+use pw_picture::picture::Picture;
 use pw_text::cursor::Cursor;
 use pw_text::token::{Token, TokenKind};
 use std::alloc::Global;
 
-/// Whether a token stands for a picture and is none.
-fn is_bad_picture(alloc: Global, text: &[u8], token: Token) -> Result<bool, Memory>
+/// Whether a token stands for a picture and is none. The picture of the entry's clause is known.
+fn is_bad_picture(
+    alloc: Global,
+    text: &[u8],
+    token: Token,
+    clause: Option<Token>,
+    picture: &Option<Picture>,
+) -> Result<bool, Memory>
+    requires { picture.now ≡ picture_at text.now clause }
     ensures { IfOk result (λ bad. bad ≡ is_bad_picture text.now token) }
 {
     if !token.kind.is(TokenKind::Picture) {
         return Ok(false);
     }
+    if clause == Some(token) {
+        return Ok(picture.is_none());
+    }
     Ok(picture_at(alloc, text, Some(token))?.is_none())
 }
 
-/// Whether one of the tokens stands for a picture and is none.
-fn has_bad_picture(alloc: Global, part: &Cursor<'_>) -> Result<bool, Memory>
+/// Whether one of the tokens stands for a picture and is none. The picture of the entry's clause is
+/// known, so that no other is read but those that stand where no picture may.
+fn has_bad_picture(
+    alloc: Global,
+    part: &Cursor<'_>,
+    clause: Option<Token>,
+    picture: &Option<Picture>,
+) -> Result<bool, Memory>
+    requires { picture.now ≡ picture_at part.now.text clause }
     ensures { IfOk result (λ bad. bad ≡ list_any (is_bad_picture part.now.text) part.now.tokens) }
 {
     for token in part.tokens() {
-        if is_bad_picture(alloc, part.text(), *token)? {
+        if is_bad_picture(alloc, part.text(), *token, clause, picture)? {
             return Ok(true);
         }
     }
@@ -117,10 +136,12 @@ fn read_part(alloc: Global, part: &Cursor<'_>, found: &mut Found) -> Result<(), 
     let text = part.text();
     let reading = Reading::new(found.server, part);
     let line = line_of(part.tokens());
-    let (entry, bad) = entry_of(alloc, text, found.linked, line, reading)?;
+    let clauses = reading.clauses.unwrap_or(Clauses::none());
+    let picture = picture_at(alloc, text, clauses.picture)?;
+    let (entry, bad) = entry_of(alloc, text, found.linked, line, reading, &picture)?;
     push_entry(&mut found.entries, entry)?;
     let own = OwnFaults {
-        picture: has_bad_picture(alloc, part)?,
+        picture: has_bad_picture(alloc, part, clauses.picture, &picture)?,
         entry: !reading.has_form() || bad,
         name: has_table_name(found.server, text, proper_name(text, reading.name)),
     };

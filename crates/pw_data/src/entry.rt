@@ -1,5 +1,6 @@
-ghost use Rattle.std.specs.Prelude.{◌≡◌, IfOk, IfSome, option_map, option_and_then};
+ghost use Rattle.std.specs.Prelude.{◌≡◌, IfOk, IfSome, option_map, option_and_then, unwrap_or};
 ghost use Rattle.pw_picture.specs.Grammar.{IsPicture};
+ghost use Rattle.pw_data.specs.Clauses.{no_clauses};
 ghost use Rattle.pw_data.specs.Entries.{picture_at, proper_name, count_at, size_at, entry_with, begins_item, has_picture, has_value, has_occurs, has_no_kind, is_refused, is_bad_value, is_bad_occurs, has_bad_clause, is_bad_entry, fault};
 
 use crate::clauses::Clauses;
@@ -190,14 +191,18 @@ fn has_bad_clause(
     is_bad_value(alloc, text, entry, picture)
 }
 
-/// The entry of these parts, where they have a level, and whether a clause may not stand in it.
+/// The entry of these parts and of the picture that they name, where they have a level, and whether a
+/// clause may not stand in it.
 pub fn entry_of(
     alloc: Global,
     text: &[u8],
     linked: bool,
     line: u32,
     reading: Reading,
+    picture: &Option<Picture>,
 ) -> Result<(Option<Entry>, bool), Memory>
+    requires picture { picture.now ≡ picture_at text.now (unwrap_or reading.clauses no_clauses).picture }
+    requires valid { IfSome picture.now (λ p. IsPicture p) }
     ensures entry { IfOk result (λ read. read.0 ≡ option_map (entry_with text.now linked line reading) reading.level) }
     ensures bad { IfOk result (λ read. read.1 ≡ is_bad_entry text.now read.0) }
 {
@@ -205,17 +210,16 @@ pub fn entry_of(
         return Ok((None, false));
     };
     let clauses = reading.clauses.unwrap_or(Clauses::none());
-    let picture = picture_at(alloc, text, clauses.picture)?;
     let entry = Entry {
         line,
         level,
         linked,
         name: proper_name(text, reading.name),
         clauses,
-        kind: kind_at(&picture),
-        size: size_at(&picture),
+        kind: kind_at(picture),
+        size: size_at(picture),
         occurs: count_at(text, clauses.occurs),
     };
-    let bad = has_bad_clause(alloc, text, entry, &picture)?;
+    let bad = has_bad_clause(alloc, text, entry, picture)?;
     Ok((Some(entry), bad))
 }

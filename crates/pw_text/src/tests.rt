@@ -1,4 +1,5 @@
-use crate::token::TokenKind;
+use crate::cursor::Cursor;
+use crate::token::{TokenKind, token_limits};
 use crate::tokens::tokens;
 use pw_base::fault::Refusal;
 use pw_base::fault_code::FaultCode;
@@ -326,5 +327,29 @@ fn lines_count_from_the_first(rt: HostRuntime) -> Result<(), Fail> {
         .iter()
         .map(|token| (token.line, token.start, token.end));
     assert!(rt; places.eq([(7, 0, 1), (8, 3, 4)]));
+    Ok(())
+}
+
+#[test]
+fn cursor_steps(rt: HostRuntime) -> Result<(), Fail> {
+    let text = b"PIC IS X(3) OCCURS 2.".as_slice();
+    let found = tokens(rt.alloc(), text, 1)?;
+    let mut cursor = Cursor::new(text, &found);
+    assert!(rt; !cursor.eat_word(b"IS"));
+    assert!(rt; cursor.eat_word(b"pic") && cursor.expect_word(b"IS").is_some());
+    let picture = cursor.expect(TokenKind::Picture).ok_or("no picture")?;
+    assert_eq!(rt; cursor.spelling(picture), b"X(3)".as_slice());
+    assert_eq!(rt; cursor.expect(TokenKind::Number), None);
+    assert!(rt; cursor.sees_word(b"occurs") && cursor.len() == 3);
+    let number = cursor.peek_at(1).ok_or("no number")?;
+    assert!(rt; number.kind.is(TokenKind::Number));
+    let ahead = cursor.fork();
+    let front = cursor.take(2);
+    assert_eq!(rt; front.tokens().len(), 2);
+    assert_eq!(rt; ahead.len(), 3);
+    assert!(rt; cursor.peek().is_some() && cursor.sees(TokenKind::Period));
+    assert!(rt; cursor.eat(TokenKind::Period) && cursor.is_empty());
+    assert_eq!(rt; cursor.next(), None);
+    token_limits();
     Ok(())
 }

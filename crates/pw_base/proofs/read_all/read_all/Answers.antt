@@ -4,7 +4,7 @@ use Rattle.std.proofs.KnownBytes.{Consumes-trans, Consumes-kept}
 use Rattle.pw_base.specs.declared.read_all.ReadFault.{ReadFault}
 use Rattle.pw_base.specs.declared.read_all.ReadFault.TheVariants.{Fault, TooLong, Memory}
 use Rattle.pw_base.specs.declared.source.Got.{Got}
-use Rattle.pw_base.specs.Reading.{Comes, Gave, Stops, StopsOnce}
+use Rattle.pw_base.specs.Reading.{Comes, Stops}
 use Rattle.pw_base.proofs.Leads.{Lead-then}
 use Rattle.pw_base.proofs.read_all.read_all.Goals as goal
 
@@ -37,8 +37,10 @@ loop-piece-preserved g c =
     record {
       taken = rw c.in_ok-extend-in-Got.ensures.ok (Consumes-trans _ _ _ _ _ so_far.taken c.in-Got.ensures.reads.2);
       count = c.in-Got.ensures.cause ∙ so_far.count;
-      lead = (so_far.lead.0 ++ (record { count = c.in-Got.count; then = c.read.new.self }) ∷ [],
-        Lead-then g.S.Source.step c.args.source.now c.loop-piece.source c.read.new.self so_far.lead.0 c.in-Got.count so_far.lead.1 c.in-Got.ensures.step);
+      lead = (
+        so_far.lead.0 ++ (record { count = c.in-Got.count; then = c.read.new.self }) ∷ [],
+        Lead-then g.S.Source.step c.args.source.now c.loop-piece.source c.read.new.self so_far.lead.0 c.in-Got.count so_far.lead.1 c.in-Got.ensures.step,
+      );
     }
 
 pub returns-in_err-extend-in-Got-clause-once : goal.returns-in_err-extend-in-Got-clause-once

@@ -1,4 +1,4 @@
-use Rattle.std.proofs.Common.{◌≡◌, ◌≤◌, ◌-◌, ◌+◌, length, List}
+use Rattle.std.proofs.Common.{◌≡◌, ◌-◌, ◌+◌, length, List}
 use Rattle.std.specs.Io.KnownBytes.{Consumes}
 use Rattle.pw_base.specs.declared.read_all.TheConstants.{MAX_INPUT}
 use Rattle.pw_base.specs.Reading.{Gave, Lead}
