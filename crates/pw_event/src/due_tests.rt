@@ -1,13 +1,13 @@
-ghost use Rattle.std.specs.Prelude.{◌≤◌, length};
+ghost use Rattle.std.specs.Prelude.{◌≡◌, length, IfOk};
 
 use crate::due::due;
 use crate::event::Event;
 use crate::script::{FailLine, Owner, Script};
 use crate::tests::system_under;
 use pw_base::list::List;
+use pw_base::memory::Memory;
 use pw_code::lock::LockRule;
-use pw_code::system::System;
-use std::process::Abort;
+use std::alloc::Global;
 use std::test::Fail;
 
 /// The failure lines of a script: two of TCP-1, one of STORE between them, and one of TCP-2.
@@ -67,39 +67,50 @@ static LOG: [Event; 8] = [
 ];
 
 /// The failure lines of TCP-1, of TCP-2 and of STORE that are due behind so many entries.
-static DUE: [(usize, [Option<u32>; 3]); 9] = [
-    (0, [None, None, None]),
-    (1, [None, None, None]),
-    (2, [None, Some(4), None]),
-    (3, [Some(1), Some(4), None]),
-    (4, [Some(3), Some(4), None]),
-    (5, [Some(3), Some(4), Some(2)]),
-    (6, [Some(3), Some(4), None]),
-    (7, [Some(3), None, None]),
-    (8, [None, None, None]),
+static DUE: [(usize, Option<u32>, Option<u32>, Option<u32>); 9] = [
+    (0, None, None, None),
+    (1, None, None, None),
+    (2, None, Some(4), None),
+    (3, Some(1), Some(4), None),
+    (4, Some(3), Some(4), None),
+    (5, Some(3), Some(4), Some(2)),
+    (6, Some(3), Some(4), None),
+    (7, Some(3), None, None),
+    (8, None, None, None),
 ];
 
-/// Asserts what is due behind each number of entries.
-fn expect_due(rt: &impl Abort, system: &System, script: &Script)
-    requires { length script.now.lines ≤ 64 }
-{
-    for (entries, [first, second, store]) in DUE {
-        let log = LOG.get(..entries).unwrap_or(&LOG);
-        assert_eq!(rt; due(system, script, log, Owner::Tcp(0)), first);
-        assert_eq!(rt; due(system, script, log, Owner::Tcp(1)), second);
-        assert_eq!(rt; due(system, script, log, Owner::Class(0)), store);
-    }
+/// The entries of the log up to a number.
+fn log_of(entries: usize) -> &'static [Event] {
+    LOG.get(..entries).unwrap_or(&LOG)
 }
 
-#[test]
-fn due_lines_of_two_pairs_and_a_class(rt: HostRuntime) -> Result<(), Fail> {
-    let system = system_under(rt.alloc(), LockRule::ReadersShare)?;
-    let mut lines = List::new(rt.alloc());
+/// What is due, by the number of entries.
+fn due_behind() -> &'static [(usize, Option<u32>, Option<u32>, Option<u32>)] {
+    &DUE
+}
+
+/// The script of the failure lines.
+fn script(alloc: Global) -> Result<Script, Memory>
+    ensures { IfOk result (λ script. length script.lines ≡ 4) }
+{
+    let mut lines = List::new(alloc);
     let [first, second, third, fourth] = FAIL_LINES;
     lines.push(first)?;
     lines.push(second)?;
     lines.push(third)?;
     lines.push(fourth)?;
-    expect_due(&rt, &system, &Script { lines });
+    Ok(Script { lines })
+}
+
+#[test]
+fn due_lines_of_two_pairs_and_a_class(rt: HostRuntime) -> Result<(), Fail> {
+    let system = system_under(rt.alloc(), LockRule::ReadersShare)?;
+    let script = script(rt.alloc())?;
+    for (entries, first, second, store) in due_behind() {
+        let log = log_of(*entries);
+        assert_eq!(rt; due(&system, &script, log, Owner::Tcp(0)), *first);
+        assert_eq!(rt; due(&system, &script, log, Owner::Tcp(1)), *second);
+        assert_eq!(rt; due(&system, &script, log, Owner::Class(0)), *store);
+    }
     Ok(())
 }

@@ -338,6 +338,19 @@ static EXCLUSIVE: [(&[u8], Event); 5] = [
     ),
 ];
 
+/// The lines that both lock rules have, with their entries.
+fn lines() -> &'static [(&'static [u8], Event)] {
+    &LINES
+}
+
+/// FILE lines under a lock rule, with their entries.
+fn file_lines(rule: LockRule) -> &'static [(&'static [u8], Event)] {
+    match rule {
+        LockRule::ReadersShare => &SHARED,
+        LockRule::AllExclusive => &EXCLUSIVE,
+    }
+}
+
 /// Asserts that each line is read as its entry, and that the entry is printed as the line.
 fn expect_lines(
     rt: &(impl Abort + AllocGlobal),
@@ -353,19 +366,26 @@ fn expect_lines(
     Ok(())
 }
 
+/// Asserts it of the lines that a lock rule has.
+fn expect_lines_under(rt: &(impl Abort + AllocGlobal), rule: LockRule) -> Result<(), Fail> {
+    let system = system_under(rt.alloc(), rule)?;
+    let names = SystemNames::new(rt.alloc(), &system)?;
+    expect_lines(rt, &names, lines())?;
+    expect_lines(rt, &names, file_lines(rule))
+}
+
 #[test]
 fn lines_of_both_rules(rt: HostRuntime) -> Result<(), Fail> {
-    let shared = system_under(rt.alloc(), LockRule::ReadersShare)?;
-    let names = SystemNames::new(rt.alloc(), &shared)?;
-    expect_lines(&rt, &names, &LINES)?;
-    expect_lines(&rt, &names, &SHARED)?;
-    let exclusive = system_under(rt.alloc(), LockRule::AllExclusive)?;
-    let names = SystemNames::new(rt.alloc(), &exclusive)?;
-    expect_lines(&rt, &names, &LINES)?;
-    expect_lines(&rt, &names, &EXCLUSIVE)?;
-    let raise = read_event(rt.alloc(), &shared, b"RAISE TCP-2")?;
+    expect_lines_under(&rt, LockRule::ReadersShare)?;
+    expect_lines_under(&rt, LockRule::AllExclusive)
+}
+
+#[test]
+fn a_line_and_an_ending_alone(rt: HostRuntime) -> Result<(), Fail> {
+    let system = system_under(rt.alloc(), LockRule::ReadersShare)?;
+    let raise = read_event(rt.alloc(), &system, b"RAISE TCP-2")?;
     assert_eq!(rt; raise, Event::Raise { tcp: 1 });
-    let text = print_ending(rt.alloc(), &shared, Ending::Suspended(Cause::Server(3)))?;
+    let text = print_ending(rt.alloc(), &system, Ending::Suspended(Cause::Server(3)))?;
     assert_eq!(rt; text.as_slice(), b"SUSPENDED SERVER 3".as_slice());
     Ok(())
 }

@@ -140,33 +140,52 @@ static FAILS: [(&[u8], Result<FailLine, EventFault>); 19] = [
     (b"TCP TCP-9 PRIMARY AFTER 1", Err(EventFault::Unknown)),
 ];
 
-/// Asserts that each of the lines has this fault.
+/// Lines with this fault under a lock rule.
+fn faulty_lines(rule: LockRule, fault: EventFault) -> &'static [&'static [u8]] {
+    match (rule, fault) {
+        (LockRule::ReadersShare, EventFault::Bad) => &BAD,
+        (LockRule::ReadersShare, _) => &UNKNOWN,
+        (LockRule::AllExclusive, _) => &BAD_EXCLUSIVE,
+    }
+}
+
+/// Failure lines, and what they are read as.
+fn fail_lines() -> &'static [(&'static [u8], Result<FailLine, EventFault>)] {
+    &FAILS
+}
+
+/// Asserts that each of the lines with this fault has it.
 fn expect_faults(
     rt: &(impl Abort + AllocGlobal),
-    names: &SystemNames,
+    rule: LockRule,
     fault: EventFault,
-    lines: &[&[u8]],
-) {
-    for line in lines {
+) -> Result<(), Fail> {
+    let system = system_under(rt.alloc(), rule)?;
+    let names = SystemNames::new(rt.alloc(), &system)?;
+    for line in faulty_lines(rule, fault) {
         assert_eq!(rt; names.read_event(rt.alloc(), line), Err(fault), "{line:?}");
     }
+    Ok(())
 }
 
 #[test]
 fn malformed_lines_table(rt: HostRuntime) -> Result<(), Fail> {
-    let shared = system_under(rt.alloc(), LockRule::ReadersShare)?;
-    let names = SystemNames::new(rt.alloc(), &shared)?;
-    expect_faults(&rt, &names, EventFault::Bad, &BAD);
-    expect_faults(&rt, &names, EventFault::Unknown, &UNKNOWN);
-    for (line, answer) in &FAILS {
-        assert_eq!(rt; names.read_fail(rt.alloc(), line), *answer, "{line:?}");
-    }
-    assert!(rt; read_fail(rt.alloc(), &shared, b"TCP TCP-2 PRIMARY AFTER 3").is_ok());
-    let exclusive = system_under(rt.alloc(), LockRule::AllExclusive)?;
-    let names = SystemNames::new(rt.alloc(), &exclusive)?;
-    expect_faults(&rt, &names, EventFault::Bad, &BAD_EXCLUSIVE);
+    expect_faults(&rt, LockRule::ReadersShare, EventFault::Bad)?;
+    expect_faults(&rt, LockRule::ReadersShare, EventFault::Unknown)?;
+    expect_faults(&rt, LockRule::AllExclusive, EventFault::Bad)?;
     limit_laws();
     line_laws();
     fail_line_laws();
+    Ok(())
+}
+
+#[test]
+fn failure_lines_table(rt: HostRuntime) -> Result<(), Fail> {
+    let system = system_under(rt.alloc(), LockRule::ReadersShare)?;
+    let names = SystemNames::new(rt.alloc(), &system)?;
+    for (line, answer) in fail_lines() {
+        assert_eq!(rt; names.read_fail(rt.alloc(), line), *answer, "{line:?}");
+    }
+    assert!(rt; read_fail(rt.alloc(), &system, b"TCP TCP-2 PRIMARY AFTER 3").is_ok());
     Ok(())
 }
