@@ -1,6 +1,6 @@
 -- An entry line.
 use Rattle.std.specs.Prelude.{ℕ, ◌≤◌, List, length}
-use Rattle.pw_code.specs.declared.entry.TheConstants.{MAX_PAIRS}
+use Rattle.pw_code.specs.Limits.{most_pairs}
 
 -- a key, and the names of fields with their values
 pub record Entry : Type 0 where
@@ -9,4 +9,4 @@ pub record Entry : Type 0 where
 
 -- there are not too many pairs
 abbrev pub IsEntry : Entry → Type 0
-IsEntry entry = length entry.fields ≤ MAX_PAIRS
+IsEntry entry = length entry.fields ≤ most_pairs

@@ -1,4 +1,5 @@
 pub mod Entry
+pub mod Limits
 pub mod Locks
 pub mod Names
 pub mod Path

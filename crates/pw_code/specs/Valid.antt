@@ -4,14 +4,13 @@ use Rattle.std.specs.List.{IsDistinct}
 use Rattle.std.specs.Str.{bytes_eq}
 use Rattle.pw_files.specs.Records.{IsKeyLength, IsContent}
 use Rattle.pw_code.specs.Entry.{Entry}
+use Rattle.pw_code.specs.Limits.{most_programs, most_servers, most_classes, most_processes, most_files, most_tcps, most_terminals, most_restarts, most_entry_lines, last_key}
 use Rattle.pw_code.specs.Names.{AreNames}
 use Rattle.pw_code.specs.declared.code.Code.{Code}
-use Rattle.pw_code.specs.declared.entry.TheConstants.{MAX_KEY}
 use Rattle.pw_code.specs.declared.file.FileInfo.{FileInfo}
 use Rattle.pw_code.specs.declared.system.ClassInfo.{ClassInfo}
 use Rattle.pw_code.specs.declared.system.System.{System}
 use Rattle.pw_code.specs.declared.system.TermInfo.{TermInfo}
-use Rattle.pw_code.specs.declared.system.TheConstants.{MAX_PROGRAMS, MAX_SERVERS, MAX_CLASSES, MAX_PROCESSES, MAX_FILES, MAX_TCPS, MAX_TERMINALS, MAX_RESTARTS, MAX_ENTRY_LINES}
 
 -- the places of a program, and the one behind its last instruction, fit a `u32`
 abbrev pub HasPlaces : Code → Type 0
@@ -19,21 +18,21 @@ HasPlaces code = length code.instrs < 2 ^ 32
 
 -- the key of an entry line is F1 to F16 or SF1 to SF16
 abbrev pub HasKey : Entry → Type 0
-HasKey entry = (1 ≤ entry.key) × (entry.key ≤ MAX_KEY)
+HasKey entry = (1 ≤ entry.key) × (entry.key ≤ last_key)
 
 -- a terminal's pair and program are the system's, and it keeps its limits
 pub record IsTerminal (system : System) (terminal : TermInfo) : Type 0 where
   pub pair : terminal.tcp < length system.tcps
   pub program : terminal.program < length system.programs
-  pub restarts : terminal.max_restarts ≤ MAX_RESTARTS
-  pub few : length terminal.entries ≤ MAX_ENTRY_LINES
+  pub restarts : terminal.max_restarts ≤ most_restarts
+  pub few : length terminal.entries ≤ most_entry_lines
   pub keys : All HasKey terminal.entries
 
 -- a class's server is the system's, and it has a process and not too many
 pub record IsClass (system : System) (class : ClassInfo) : Type 0 where
   pub server : class.server < length system.servers
   pub some : 1 ≤ class.processes
-  pub few : class.processes ≤ MAX_PROCESSES
+  pub few : class.processes ≤ most_processes
 
 -- a file's keys and records have lengths that they may have, and no key stands twice
 pub record IsDeckFile (file : FileInfo) : Type 0 where
@@ -50,12 +49,12 @@ pub record HasNames (system : System) : Type 0 where
 
 -- there are not too many of each kind
 pub record HasFew (system : System) : Type 0 where
-  pub programs : length system.programs ≤ MAX_PROGRAMS
-  pub servers : length system.servers ≤ MAX_SERVERS
-  pub classes : length system.classes ≤ MAX_CLASSES
-  pub files : length system.files ≤ MAX_FILES
-  pub tcps : length system.tcps ≤ MAX_TCPS
-  pub terminals : length system.terminals ≤ MAX_TERMINALS
+  pub programs : length system.programs ≤ most_programs
+  pub servers : length system.servers ≤ most_servers
+  pub classes : length system.classes ≤ most_classes
+  pub files : length system.files ≤ most_files
+  pub tcps : length system.tcps ≤ most_tcps
+  pub terminals : length system.terminals ≤ most_terminals
 
 -- the system is one that a deck may say
 pub record IsValid (system : System) : Type 0 where

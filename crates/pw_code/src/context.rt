@@ -34,9 +34,11 @@ impl Context {
         })
     }
 
-    /// The allocator of its memory.
-    pub fn allocator(&self) -> Global {
-        self.screen.cells.allocator()
+    /// An equal value, in memory of the same allocator.
+    pub fn duplicate(&self) -> Result<Context, Memory>
+        ensures { IfOk result (λ context. context ≡ self.now) }
+    {
+        self.copy(self.screen.cells.allocator())
     }
 
     /// Whether the two are equal.

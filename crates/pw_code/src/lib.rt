@@ -7,6 +7,7 @@ pub mod context;
 pub mod copies;
 pub mod entry;
 pub mod file;
+pub mod limits;
 pub mod lock;
 pub mod screen;
 pub mod system;

@@ -4,6 +4,7 @@ use crate::code::{Code, Instr};
 use crate::context::Context;
 use crate::entry::EntryLine;
 use crate::file::FileInfo;
+use crate::limits::limit_laws;
 use crate::lock::LockRule;
 use crate::screen::{CELLS, ScreenImage};
 use crate::system::{ClassInfo, System, TermInfo};
@@ -47,6 +48,8 @@ fn a_copy_is_the_same(rt: HostRuntime) -> Result<(), Fail> {
     let context = context_with(rt.alloc(), 1919)?;
     let copy = context.copy(rt.alloc())?;
     expect_same(&rt, &context, &copy, true);
+    expect_same(&rt, &context, &context.duplicate()?, true);
+    limit_laws();
     Ok(())
 }
 

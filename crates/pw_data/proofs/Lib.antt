@@ -1,6 +1,9 @@
+pub mod Apart
 pub mod Cells
 pub mod Forests
 pub mod Held
+pub mod Indexes
+pub mod Kept
 pub mod Loops
 pub mod Named
 pub mod Outcomes

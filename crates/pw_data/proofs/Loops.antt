@@ -2,14 +2,16 @@
 use Rattle.std.proofs.Common.{◌≡◌, ℕ, ◌+◌, ◌*◌, ◌<◌, ◌≤◌, min, Bool, false, not, List, [], ◌∷◌, ◌++◌, length, take, drop, Option, Some, sym, ap, ◌∙◌, arith}
 use Rattle.std.specs.Prelude.{take_while, ◌||◌, ◌==◌}
 use Rattle.std.specs.List.{repeat}
+use Rattle.pw_base.specs.declared.fault_code.FaultCode.TheVariants.{BadDataEntry, StorageTooLarge}
 use Rattle.pw_base.specs.declared.fault.Fault.{Fault}
 use Rattle.pw_base.specs.First.{noted, least}
+use Rattle.pw_base.specs.Limits.{most_storage}
 use Rattle.pw_data.specs.declared.entry.Entry.{Entry}
 use Rattle.pw_data.specs.declared.item.Table.{Table}
 use Rattle.pw_data.specs.declared.item.Item.{Item}
 use Rattle.pw_data.specs.Entries.{fault, has_occurs}
 use Rattle.pw_data.specs.Tree.{Node, forest, stands_in, is_group, is_misplaced, tree_faults}
-use Rattle.pw_data.specs.Laid.{times, size_in, most, too_large, table_of, item_of, items_in, initial, chars_in}
+use Rattle.pw_data.specs.Laid.{times, size_in, too_large, table_of, item_of, items_in, initial, chars_in}
 use Rattle.pw_data.proofs.Forests.{forest-front, is_group-forest}
 use Rattle.pw_data.proofs.Sizes.{grows, times-some, exact, size_in-step, too_large-step, too_large-found}
 use Rattle.pw_data.proofs.Steps.{tree_faults-step, items_in-step, chars_in-step}
@@ -27,27 +29,27 @@ module _ (rest : List Entry) (entry : Entry) (behind members next : List Entry) 
   trees = ap forest cut.rest_is ∙ forest-front entry behind members next count cut.count_is cut.members_is cut.next_is
 
   pub faults-further : (top table misplaced : Bool) (known noted_known next_known whole : Option Fault)
-      → misplaced ≡ is_misplaced top table (not (length members == 0)) entry → noted_known ≡ noted known misplaced (fault entry.line 121)
+      → misplaced ≡ is_misplaced top table (not (length members == 0)) entry → noted_known ≡ noted known misplaced (fault entry.line BadDataEntry)
       → next_known ≡ least noted_known (tree_faults false (table || has_occurs entry) (forest members))
       → least known (tree_faults top table (forest rest)) ≡ whole → least next_known (tree_faults top table (forest next)) ≡ whole
   faults-further top table misplaced known noted_known next_known whole misplaced_is noted_is next_known_is so_far =
       let inner : List Fault = tree_faults false (table || has_occurs entry) (forest members) in
       let wrong : misplaced ≡ is_misplaced top table (is_group (forest members)) entry = misplaced_is ∙ ap (λ group. is_misplaced top table group entry) (sym (is_group-forest members)) in
-      ap (λ k. least k (tree_faults top table (forest next))) (next_known_is ∙ ap (λ k. least k inner) (noted_is ∙ ap (λ b. noted known b (fault entry.line 121)) wrong))
+      ap (λ k. least k (tree_faults top table (forest next))) (next_known_is ∙ ap (λ k. least k inner) (noted_is ∙ ap (λ b. noted known b (fault entry.line BadDataEntry)) wrong))
       ∙ tree_faults-step top table known entry (forest members) (forest next) ∙ ap (λ f. least known (tree_faults top table f)) (sym trees) ∙ so_far
 
-  pub size-further : (size extent inner whole : ℕ) → inner ≡ min (size_in (forest members)) (most + 1) → extent ≡ min (times entry * (entry.size + inner)) (most + 1)
-      → min (size + size_in (forest rest)) (most + 1) ≡ whole → min (min (size + extent) (most + 1) + size_in (forest next)) (most + 1) ≡ whole
+  pub size-further : (size extent inner whole : ℕ) → inner ≡ min (size_in (forest members)) (most_storage + 1) → extent ≡ min (times entry * (entry.size + inner)) (most_storage + 1)
+      → min (size + size_in (forest rest)) (most_storage + 1) ≡ whole → min (min (size + extent) (most_storage + 1) + size_in (forest next)) (most_storage + 1) ≡ whole
   size-further size extent inner whole inner_is extent_is so_far =
-      size_in-step size extent inner entry (forest members) (forest next) whole inner_is extent_is (ap (λ f. min (size + size_in f) (most + 1)) (sym trees) ∙ so_far)
+      size_in-step size extent inner entry (forest members) (forest next) whole inner_is extent_is (ap (λ f. min (size + size_in f) (most_storage + 1)) (sym trees) ∙ so_far)
 
-  pub too_large-further : (size extent inner : ℕ) (whole : Option Fault) → inner ≡ min (size_in (forest members)) (most + 1) → extent ≡ min (times entry * (entry.size + inner)) (most + 1)
-      → size + extent ≤ most → too_large size (forest rest) ≡ whole → too_large (size + extent) (forest next) ≡ whole
+  pub too_large-further : (size extent inner : ℕ) (whole : Option Fault) → inner ≡ min (size_in (forest members)) (most_storage + 1) → extent ≡ min (times entry * (entry.size + inner)) (most_storage + 1)
+      → size + extent ≤ most_storage → too_large size (forest rest) ≡ whole → too_large (size + extent) (forest next) ≡ whole
   too_large-further size extent inner whole inner_is extent_is small so_far =
       sym (too_large-step size extent inner entry (forest members) (forest next) inner_is extent_is small) ∙ ap (too_large size) (sym trees) ∙ so_far
 
-  pub too_large-stops : (size extent inner : ℕ) (whole : Option Fault) → inner ≡ min (size_in (forest members)) (most + 1) → extent ≡ min (times entry * (entry.size + inner)) (most + 1)
-      → size ≤ most → most < size + extent → too_large size (forest rest) ≡ whole → Some (fault entry.line 124) ≡ whole
+  pub too_large-stops : (size extent inner : ℕ) (whole : Option Fault) → inner ≡ min (size_in (forest members)) (most_storage + 1) → extent ≡ min (times entry * (entry.size + inner)) (most_storage + 1)
+      → size ≤ most_storage → most_storage < size + extent → too_large size (forest rest) ≡ whole → Some (fault entry.line StorageTooLarge) ≡ whole
   too_large-stops size extent inner whole inner_is extent_is before large so_far =
       sym (too_large-found size extent inner entry (forest members) (forest next) inner_is extent_is before large) ∙ ap (too_large size) (sym trees) ∙ so_far
 
@@ -55,16 +57,16 @@ module _ (rest : List Entry) (entry : Entry) (behind members next : List Entry) 
   pub record Fits (at extent inner : ℕ) : Type 0 where
     pub inner_is : inner ≡ size_in (forest members)
     pub extent_is : extent ≡ times entry * (entry.size + size_in (forest members))
-    pub members_fit : at + (entry.size + inner) ≤ most
-    pub next_fit : at + extent + size_in (forest next) ≤ most
+    pub members_fit : at + (entry.size + inner) ≤ most_storage
+    pub next_fit : at + extent + size_in (forest next) ≤ most_storage
 
-  pub fits : (at extent inner : ℕ) → inner ≡ min (size_in (forest members)) (most + 1) → extent ≡ min (times entry * (entry.size + inner)) (most + 1)
-      → at + size_in (forest rest) ≤ most → Fits at extent inner
+  pub fits : (at extent inner : ℕ) → inner ≡ min (size_in (forest members)) (most_storage + 1) → extent ≡ min (times entry * (entry.size + inner)) (most_storage + 1)
+      → at + size_in (forest rest) ≤ most_storage → Fits at extent inner
   fits at extent inner inner_is extent_is small =
       let whole : size_in (forest rest) ≡ times entry * (entry.size + size_in (forest members)) + size_in (forest next) = ap size_in trees in
       let product : ℕ = times entry * (entry.size + size_in (forest members)) in
       let one : entry.size + size_in (forest members) ≤ product = grows (times entry) (entry.size + size_in (forest members)) (entry.size + size_in (forest members)) (times-some entry) (omega arith) in
-      let extent_cut : extent ≡ min product (most + 1) = exact extent inner entry (forest members) inner_is extent_is in
+      let extent_cut : extent ≡ min product (most_storage + 1) = exact extent inner entry (forest members) inner_is extent_is in
       record { inner_is = omega arith; extent_is = omega arith; members_fit = omega arith; next_fit = omega arith }
 
   pub items-further : (text : List ℕ) (at extent inner size : ℕ) (around table : Table) (item : Item) (before pushed laid whole : List Item) → Fits at extent inner

@@ -40,11 +40,11 @@ any-alike : {K : Type 0} (test other : K → Bool) (xs : List K) → ((x : K) �
 any-alike test other [] alike = refl
 any-alike test other (x ∷ xs) alike = ap (λ b. b || list_any test xs) (alike x) ∙ ap (λ b. other x || b) (any-alike test other xs alike)
 
-bytes_eq-swap : (xs ys : List ℕ) → bytes_eq xs ys ≡ bytes_eq ys xs
+pub bytes_eq-swap : (xs ys : List ℕ) → bytes_eq xs ys ≡ bytes_eq ys xs
 bytes_eq-swap xs ys = same_from_decides (bytes_eq xs ys) (bytes_eq ys xs) (bytes_decides xs ys) (λ h. sym ((bytes_decides ys xs).0 h), λ is. (bytes_decides ys xs).1 (sym is))
 
 -- bytes that compare as equal are equal
-equal_bytes : (xs ys : List ℕ) → slice_cmp nat_cmp xs ys ≡ Equal → xs ≡ ys
+pub equal_bytes : (xs ys : List ℕ) → slice_cmp nat_cmp xs ys ≡ Equal → xs ≡ ys
 equal_bytes xs ys is = (bytes_decides xs ys).0 (texts_ties xs ys ∙ ap is_eq is)
 
 any-behind-by : (a b c : Bool) → c ≡ (b || a) → (x : Bool) → (x || c) ≡ (b || (x || a))

@@ -4,24 +4,27 @@ use Rattle.std.specs.Prelude.{◌||◌, option_map, option_and_then, option_to_l
 use Rattle.std.specs.List.{list_any}
 use Rattle.std.specs.Option.{option_or}
 use Rattle.std.proofs.lemmas.List.{append-nil}
+use Rattle.pw_base.specs.declared.fault_code.FaultCode.{FaultCode}
+use Rattle.pw_base.specs.declared.fault_code.FaultCode.TheVariants.{BadDataEntry, BadPicture, NameTwice}
 use Rattle.pw_base.specs.declared.fault.Fault.{Fault}
 use Rattle.pw_base.specs.First.{least, unless}
 use Rattle.pw_base.proofs.FirstFault.{least-none}
 use Rattle.pw_text.specs.declared.token.Token.{Token}
-use Rattle.pw_data.specs.declared.entry.Reading.{Reading}
+use Rattle.pw_data.specs.declared.reading.Reading.{Reading}
 use Rattle.pw_data.specs.declared.entry.Entry.{Entry}
-use Rattle.pw_data.specs.Parts.{Part, parts_of}
-use Rattle.pw_data.specs.Entries.{only_if, reading_of, line_of, proper_name, has_form, is_bad_picture, has_table_name, has_no_kind, is_bad_entry, is_bad_occurs, is_bad_value, entry_with, entry_of, part_faults, faults_of_parts, entries_of}
+use Rattle.pw_data.specs.Parts.{Part, left_of, parts_of}
+use Rattle.pw_data.specs.Entries.{only_if, reading_of, line_of, proper_name, has_form, is_bad_picture, has_table_name, has_no_kind, is_bad_entry, is_bad_occurs, is_bad_value, entry_with, entry_of, part_faults, faults_of_parts, entries_of, IsKept}
 use Rattle.pw_data.specs.Tree.{forest, tree_faults}
 use Rattle.pw_data.specs.Names.{clashes}
 use Rattle.pw_data.specs.Laid.{too_large, size_in, items_in, chars_in}
 use Rattle.pw_data.specs.Layouts.{FitsPicture, Laid, no_table, laid, entries_in, faults_in, first_fault, layout_of}
 use Rattle.pw_data.specs.Store.{IsStoreOf, store_of, cells_in}
 use Rattle.pw_data.proofs.Cells.{Good, Each, All-forest, joined-cells, length-chars}
-use Rattle.pw_data.proofs.Held.{items-fit}
+use Rattle.pw_data.proofs.Held.{items-fit, is_kept}
+use Rattle.pw_data.proofs.Kept.{Each-All}
 use Rattle.pw_data.proofs.Stores.{no_faults, neither, Lie-cells}
 
-no_fault-here : (is_fault : Bool) (line code : ℕ) → only_if is_fault line code ≡ [] → is_fault ≡ false
+no_fault-here : (is_fault : Bool) (line : ℕ) (code : FaultCode) → only_if is_fault line code ≡ [] → is_fault ≡ false
 no_fault-here true line code none = absurd cc
 no_fault-here false line code none = refl
 
@@ -30,7 +33,7 @@ good-by : (text : List ℕ) (linked : Bool) (line : ℕ) (reading : Reading) (le
 good-by text linked line reading None none = tt
 good-by text linked line reading (Some level) none =
     let entry : Entry = entry_with text linked line reading level in
-    (record { kind = (neither (has_no_kind text entry) (is_bad_occurs entry || is_bad_value text entry entry.clauses.value) none).0; size = refl; occurs = refl }, tt)
+    (record { kind = (neither (has_no_kind text entry) (is_bad_occurs entry || is_bad_value text entry entry.clauses.value) none).0; kept = refl; size = refl; occurs = refl }, tt)
 
 Each-append : (P : Entry → Type 0) (xs ys : List Entry) → Each P xs → Each P ys → Each P (xs ++ ys)
 Each-append P [] ys front back = back
@@ -38,13 +41,13 @@ Each-append P (x ∷ xs) ys front back = (front.0, Each-append P xs ys front.1 b
 
 good-part : (server : Bool) (text : List ℕ) (part : Part) → part_faults server text part ≡ [] → Each (Good text) (option_to_list (entry_of server text part))
 good-part server text part none =
-    let reading : Reading = reading_of server text part.tokens in
+    let reading : Reading = reading_of server (left_of text part.tokens) in
     let line : ℕ = line_of part.tokens in
-    let pictures : List Fault = only_if (list_any (is_bad_picture text) part.tokens) line 111 in
+    let pictures : List Fault = only_if (list_any (is_bad_picture text) part.tokens) line BadPicture in
     let wrong : Bool = not (has_form reading) || is_bad_entry text (entry_of server text part) in
-    let names : List Fault = only_if (has_table_name server text (option_and_then (proper_name text) reading.name)) line 122 in
-    let others = (no_faults pictures (only_if wrong line 121 ++ names) none).1 in
-    let fine : wrong ≡ false = no_fault-here wrong line 121 (no_faults (only_if wrong line 121) names others).0 in
+    let names : List Fault = only_if (has_table_name server text (option_and_then (proper_name text) reading.name)) line NameTwice in
+    let others = (no_faults pictures (only_if wrong line BadDataEntry ++ names) none).1 in
+    let fine : wrong ≡ false = no_fault-here wrong line BadDataEntry (no_faults (only_if wrong line BadDataEntry) names others).0 in
     good-by text part.linked line reading reading.level (neither (not (has_form reading)) (is_bad_entry text (entry_of server text part)) fine).1
 
 good-parts : (server : Bool) (text : List ℕ) (parts : List Part) → faults_of_parts server text parts ≡ [] → Each (Good text) (entries_of server text parts)
@@ -106,3 +109,12 @@ pub pictures-of_layout : (text : List ℕ) (tokens : List Token) (server : Bool)
 pictures-of_layout text tokens server layout is =
     let known = fine text tokens server layout is in
     items-fit text true false 0 no_table (forest (entries_in text tokens server)) (All-forest (Good text) (entries_in text tokens server) known.good) known.placed
+
+Each-map : (P Q : Entry → Type 0) (entries : List Entry) → ((entry : Entry) → P entry → Q entry) → Each P entries → Each Q entries
+Each-map P Q [] f each = tt
+Each-map P Q (entry ∷ entries) f each = (f entry each.0, Each-map P Q entries f each.1)
+
+-- its entries keep what their pictures say
+pub kept-of_layout : (text : List ℕ) (tokens : List Token) (server : Bool) (layout : Laid) → layout_of text tokens server ≡ Ok layout → All (IsKept text) (entries_in text tokens server)
+kept-of_layout text tokens server layout is =
+    Each-All (IsKept text) (entries_in text tokens server) (Each-map (Good text) (IsKept text) (entries_in text tokens server) (is_kept text) (fine text tokens server layout is).good)

@@ -2,11 +2,12 @@
 use Rattle.std.proofs.Common.{◌≡◌, ℕ, zero, suc, ◌+◌, ◌-◌, ◌*◌, ◌≤◌, max, List, ◌++◌, length, All, Option, Some, None, refl, ap, ◌∙◌, arith}
 use Rattle.std.specs.Prelude.{unwrap_or}
 use Rattle.std.proofs.lemmas.List.Elements.{All-nil, All-cons, All-append, All-same}
+use Rattle.pw_base.specs.Limits.{most_storage}
 use Rattle.pw_data.specs.declared.entry.Entry.{Entry}
 use Rattle.pw_data.specs.declared.item.Table.{Table}
 use Rattle.pw_data.specs.declared.item.Item.{Item}
 use Rattle.pw_data.specs.Tree.{Forest, Empty, Node, forest}
-use Rattle.pw_data.specs.Laid.{times, size_in, most, too_large, table_of, item_of, items_in, chars_in}
+use Rattle.pw_data.specs.Laid.{times, size_in, too_large, table_of, item_of, items_in, chars_in}
 use Rattle.pw_data.specs.Layouts.{EndsBy, FitsPicture, IsSound, no_table}
 use Rattle.pw_data.proofs.Sizes.{too_large-none}
 
@@ -39,6 +40,6 @@ items-end text end at around (Node e ms r) fits =
 pub within-laid : (text : List ℕ) (entries : List Entry) (items : List Item) (storage : List ℕ) → items ≡ items_in text 0 no_table (forest entries) → storage ≡ chars_in text (forest entries)
     → length (chars_in text (forest entries)) ≡ size_in (forest entries) → too_large 0 (forest entries) ≡ None → All FitsPicture (items_in text 0 no_table (forest entries)) → IsSound items storage
 within-laid text entries items storage items_is storage_is size_is small fit =
-    let fits : size_in (forest entries) ≤ most = omega (arith, too_large-none 0 (forest entries) (omega arith) small) in
+    let fits : size_in (forest entries) ≤ most_storage = omega (arith, too_large-none 0 (forest entries) (omega arith) small) in
     let long : length storage ≡ size_in (forest entries) = ap length storage_is ∙ size_is in
     (All-same (EndsBy (length storage)) items (items_in text 0 no_table (forest entries)) items_is (items-end text (length storage) 0 no_table (forest entries) (omega arith)), All-same FitsPicture items (items_in text 0 no_table (forest entries)) items_is fit, omega arith)

@@ -6,15 +6,16 @@ use Rattle.pw_base.specs.First.{least, unless}
 use Rattle.pw_words.specs.Words.{Word}
 use Rattle.pw_text.specs.declared.token.Token.{Token}
 use Rattle.pw_picture.specs.Grammar.{IsPicture, size_of}
+use Rattle.pw_base.specs.Limits.{most_storage}
 use Rattle.pw_data.specs.declared.entry.Entry.{Entry}
 use Rattle.pw_data.specs.declared.item.Table.{Table}
 use Rattle.pw_data.specs.declared.item.Item.{Item}
 use Rattle.pw_data.specs.declared.item.Place.{Place}
 use Rattle.pw_data.specs.Parts.{parts_of}
-use Rattle.pw_data.specs.Entries.{faults_of_parts, entries_of}
+use Rattle.pw_data.specs.Entries.{picture_of_kind, faults_of_parts, entries_of}
 use Rattle.pw_data.specs.Tree.{forest, tree_faults}
 use Rattle.pw_data.specs.Names.{is_this_name, clashes}
-use Rattle.pw_data.specs.Laid.{most, too_large, picture_of_kind, items_in, chars_in}
+use Rattle.pw_data.specs.Laid.{too_large, items_in, chars_in}
 
 -- a layout: its items in the order of their entries, and the characters with which they begin
 pub record Laid : Type 0 where
@@ -33,7 +34,7 @@ FitsPicture item =
 -- Every occurrence of every item lies in the storage, which has at most 32,000 characters, and an item with a picture
 -- is as long as it says.
 abbrev pub IsSound : List Item → List ℕ → Type 0
-IsSound items storage = All (EndsBy (length storage)) items × All FitsPicture items × (length storage ≤ most)
+IsSound items storage = All (EndsBy (length storage)) items × All FitsPicture items × (length storage ≤ most_storage)
 
 -- the last occurrence of what lies at a place of the storage ends before another place
 abbrev pub PlaceEndsBy : ℕ → Place → Type 0

@@ -1,5 +1,5 @@
 -- The store: the characters of each occurrence of each elementary item, and how the storage is tied to it.
-use Rattle.std.specs.Prelude.{◌≡◌, ℕ, zero, suc, ◌+◌, ◌-◌, ◌*◌, ◌≤◌, max, List, [], ◌∷◌, ◌++◌, length, slice_get, IsSome, Bool, Option, Some, None}
+use Rattle.std.specs.Prelude.{◌≡◌, ◌⊎◌, ℕ, zero, suc, ◌+◌, ◌-◌, ◌*◌, ◌≤◌, max, List, [], ◌∷◌, ◌++◌, length, slice_get, IsSome, Bool, Option, Some, None}
 use Rattle.pw_picture.specs.declared.picture.Picture.{Picture}
 use Rattle.pw_text.specs.declared.token.Token.{Token}
 use Rattle.pw_data.specs.declared.item.Item.{Item}
@@ -34,8 +34,23 @@ abbrev pub LieFrom : List Item → ℕ → List Cell → Type 0
 LieFrom items place [] = Unit {0}
 LieFrom items place (cell ∷ cells) = LiesAt items place cell × LieFrom items (place + length cell.chars) cells
 
--- The cells are a store of the layout: their characters are its storage, and each begins where its item says. So no two
--- of them overlap, and together they cover the storage.
+-- one of two cells ends before the other begins, wherever the two lie
+abbrev pub Apart : List Item → Cell → Cell → Type 0
+Apart items a b =
+    (p q : ℕ) → LiesAt items p a → LiesAt items q b → (p + length a.chars ≤ q) ⊎ (q + length b.chars ≤ p)
+
+-- a cell is apart from each of the others
+abbrev pub ApartFrom : List Item → Cell → List Cell → Type 0
+ApartFrom items cell [] = Unit {0}
+ApartFrom items cell (other ∷ others) = Apart items cell other × ApartFrom items cell others
+
+-- no two of the cells overlap
+abbrev pub AreApart : List Item → List Cell → Type 0
+AreApart items [] = Unit {0}
+AreApart items (cell ∷ cells) = ApartFrom items cell cells × AreApart items cells
+
+-- The cells are a store of the layout: their characters are its storage, and each begins where its item says. So
+-- together they cover the storage.
 pub record IsStoreOf (layout : Laid) (cells : List Cell) : Type 0 where
   pub storage : joined cells ≡ layout.storage
   pub places : LieFrom layout.items 0 cells

@@ -11,10 +11,11 @@ use Rattle.pw_event.specs.declared.event.Cause.TheVariants as cause
 use Rattle.pw_event.specs.declared.event.Ending.TheVariants as ending
 use Rattle.pw_event.specs.declared.event.Event.{Event}
 use Rattle.pw_event.specs.declared.event.Event.TheVariants.{Show, Key, CheckStart, CheckEnd, CheckCopy, Applied, Begin, Send, Take, File, Reply, Again, Commit, Back, Restart, FailTcp, FailServer, Takeover, Raise, End}
-use Rattle.pw_event.specs.Line.{terminal_name, spelling, names_of, event_words, HasLine, IsInRange, IsThere}
-use Rattle.pw_event.specs.Parsing.{fault_of, other_cause, older, caused_otherwise, caused, ending_of, show, numbered, check, applied, begin, send, taken, file_at, file_line, reply, restart, fail_tcp, fail_server, fail, takeover, raise, ended, end_by, end, unit_line, server_line, line_behind, event_of, member}
+use Rattle.pw_event.specs.Keywords.{keyword}
+use Rattle.pw_event.specs.Line.{spelling, names_of, event_words, HasLine, IsInRange, IsThere}
+use Rattle.pw_event.specs.Parsing.{fault_of, cause_of, cause_in, ending_of, show, terminal_and_number, check, applied, begin, send, taken, file_at, file_line, reply, restart, fail_tcp, fail_server, failure_of, fail, takeover, raise, end, line_of, event_of, member}
 use Rattle.pw_event.proofs.Numbers.{counted-decimal}
-use Rattle.pw_event.proofs.Leaves.{number_of, code_of, refresh_of, named_terminal, named_class, named_file, terminal_of, pair_of, class_of, file_of, process_of, among, op_of, mode_of}
+use Rattle.pw_event.proofs.Leaves.{number_of, code_of, refresh_of, named_terminal, named_class, named_file, terminal_of, pair_of, class_of, file_of, process_of, op_of, mode_of}
 
 -- the words with which an entry of a system is spelled
 abbrev pub words_of : System → LockRule → Event → List (List ℕ)
@@ -37,7 +38,7 @@ file_complete system names AllExclusive c i o m f s line range there =
 
 pub complete : (system : System) → HasNames system → (event : Event) → HasLine system.rule event → AllByRecursion IsInRange (event_words system.rule event) → AllByRecursion (IsThere system) (event_words system.rule event)
     → event_of system (words_of system system.rule event) ≡ Ok event
-unfolding event_of line_behind server_line unit_line show numbered check applied begin send taken reply fault_of restart caused caused_otherwise other_cause older fail fail_tcp fail_server takeover raise end end_by ended ending_of member
+unfolding event_of line_of keyword show terminal_and_number check applied begin send taken reply fault_of restart cause_in cause_of fail failure_of fail_tcp fail_server takeover raise end ending_of member
 complete system names (Show t p a k) line range there = rw (refresh_of p a k range.1.1.0, terminal_of system names t there.1.0) refl
 complete system names (Key t k) line range there = rw (number_of k range.1.1.0, terminal_of system names t there.1.0) refl
 complete system names (CheckStart t) line range there = rw (terminal_of system names t there.1.0) refl
@@ -53,20 +54,20 @@ complete system names (Reply c i t (Some x)) line range there = rw (code_of x ra
 complete system names (Again t n) line range there = rw (number_of n range.1.1.0, terminal_of system names t there.1.0) refl
 complete system names (Commit t n) line range there = rw (number_of n range.1.1.0, terminal_of system names t there.1.0) refl
 complete system names (Back t n) line range there = rw (number_of n range.1.1.0, terminal_of system names t there.1.0) refl
-complete system names (Restart t n (cause.Older o m)) line range there = rw (number_of n range.1.1.0, named_terminal system names t there.1.0, named_terminal system names o there.1.1.1.1.0, number_of m range.1.1.1.1.1.0, among system (terminal_name system o), terminal_of system names o there.1.1.1.1.0, among system (terminal_name system t), terminal_of system names t there.1.0) refl
-complete system names (Restart t n (cause.Takeover p)) line range there = rw (number_of n range.1.1.0, named_terminal system names t there.1.0, pair_of system names p there.1.1.1.1.0, terminal_of system names t there.1.0) refl
-complete system names (Restart t n (cause.Server k)) line range there = rw (number_of n range.1.1.0, named_terminal system names t there.1.0, counted-decimal k range.1.1.1.1.0, terminal_of system names t there.1.0) refl
-complete system names (Restart t n cause.Redo) line range there = rw (number_of n range.1.1.0, named_terminal system names t there.1.0, terminal_of system names t there.1.0) refl
+complete system names (Restart t n (cause.Older o m)) line range there = rw (named_terminal system names t there.1.0, number_of n range.1.1.0, named_terminal system names o there.1.1.1.1.0, number_of m range.1.1.1.1.1.0, terminal_of system names o there.1.1.1.1.0, terminal_of system names t there.1.0) refl
+complete system names (Restart t n (cause.Takeover p)) line range there = rw (named_terminal system names t there.1.0, number_of n range.1.1.0, pair_of system names p there.1.1.1.1.0, terminal_of system names t there.1.0) refl
+complete system names (Restart t n (cause.Server k)) line range there = rw (named_terminal system names t there.1.0, number_of n range.1.1.0, counted-decimal k range.1.1.1.1.0, terminal_of system names t there.1.0) refl
+complete system names (Restart t n cause.Redo) line range there = rw (named_terminal system names t there.1.0, number_of n range.1.1.0, terminal_of system names t there.1.0) refl
 complete system names (FailTcp p true k) line range there = rw (counted-decimal k range.1.1.1.1.0, pair_of system names p there.1.1.0) refl
 complete system names (FailTcp p false k) line range there = rw (counted-decimal k range.1.1.1.1.0, pair_of system names p there.1.1.0) refl
 complete system names (FailServer c i k) line range there = rw (counted-decimal k range.1.1.1.1.0, process_of system names c i there.1.1.0 range.1.1.1.0 there.1.1.1.0) refl
 complete system names (Takeover p) line range there = rw (pair_of system names p there.1.0) refl
 complete system names (Raise p) line range there = rw (pair_of system names p there.1.0) refl
-complete system names (End t ending.Stopped) line range there = rw (terminal_of system names t there.1.0) refl
-complete system names (End t ending.NoEntries) line range there = rw (terminal_of system names t there.1.0) refl
-complete system names (End t (ending.Fault x)) line range there = rw (code_of x range.1.1.1.0, terminal_of system names t there.1.0) refl
-complete system names (End t (ending.Suspended (cause.Older o m))) line range there = rw (named_terminal system names t there.1.0, named_terminal system names o there.1.1.1.1.0, number_of m range.1.1.1.1.1.0, among system (terminal_name system o), terminal_of system names o there.1.1.1.1.0, among system (terminal_name system t), terminal_of system names t there.1.0) refl
+complete system names (End t ending.Stopped) line range there = rw (named_terminal system names t there.1.0, terminal_of system names t there.1.0) refl
+complete system names (End t ending.NoEntries) line range there = rw (named_terminal system names t there.1.0, terminal_of system names t there.1.0) refl
+complete system names (End t (ending.Fault x)) line range there = rw (named_terminal system names t there.1.0, code_of x range.1.1.1.0, terminal_of system names t there.1.0) refl
+complete system names (End t (ending.Suspended (cause.Older o m))) line range there = rw (named_terminal system names t there.1.0, named_terminal system names o there.1.1.1.1.0, number_of m range.1.1.1.1.1.0, terminal_of system names o there.1.1.1.1.0, terminal_of system names t there.1.0) refl
 complete system names (End t (ending.Suspended (cause.Takeover p))) line range there = rw (named_terminal system names t there.1.0, pair_of system names p there.1.1.1.1.0, terminal_of system names t there.1.0) refl
 complete system names (End t (ending.Suspended (cause.Server k))) line range there = rw (named_terminal system names t there.1.0, counted-decimal k range.1.1.1.1.0, terminal_of system names t there.1.0) refl
 complete system names (End t (ending.Suspended cause.Redo)) line range there = rw (named_terminal system names t there.1.0, terminal_of system names t there.1.0) refl
-complete system names (End t ending.Lost) line range there = rw (terminal_of system names t there.1.0) refl
+complete system names (End t ending.Lost) line range there = rw (named_terminal system names t there.1.0, terminal_of system names t there.1.0) refl

@@ -15,14 +15,17 @@ use Rattle.pw_event.specs.declared.fault.EventFault.TheVariants.{Bad, Unknown, M
 use Rattle.pw_event.specs.declared.script.FailLine.{FailLine}
 use Rattle.pw_event.specs.declared.script.FailLine.TheVariants.{Tcp, Server}
 use Rattle.pw_event.specs.Fails.{fail_words, IsFailInRange, IsFailLine, IsFailThere, IsNameOf, IsFailLineOf, ReadsFail}
+use Rattle.pw_event.specs.declared.keyword.Keyword.{Keyword}
+use Rattle.pw_event.specs.declared.keyword.Keyword.TheVariants as plain
+use Rattle.pw_event.specs.Keywords.{text_of, keyword}
 use Rattle.pw_event.specs.Line.{Names as NamesBy, no_class, spelling, sentence, pair_name, class_name, IsInRange}
 use Rattle.pw_event.specs.Reading.{may_name, AreFormed}
-use Rattle.pw_event.specs.Parsing.{is, named, number, member, after, fail_process, pair_named, class_named, tcp_line, fail_class, class_line, fail_behind, fail_of, GivesUnlessMemory}
-use Rattle.pw_event.proofs.Grammar.{cond_in, pair_named_in, class_named_in}
-use Rattle.pw_event.proofs.Leaves.{named_formed, thing_name, pair_named_of, class_named_of}
+use Rattle.pw_event.specs.Parsing.{named, number, among, class_names, member, after_of, after, fail_process, tcp_line, fail_class, class_line, fail_line_of, fail_of, GivesUnlessMemory}
+use Rattle.pw_event.proofs.Grammar.{cond_in, among_in}
+use Rattle.pw_event.proofs.Leaves.{named_formed, thing_name, pair_among_of, class_among_of}
 use Rattle.pw_event.proofs.Numbers.{number-decimal, number_out}
 use Rattle.pw_event.proofs.Solid.{are_solid, HasName, formed_words, cut_words}
-use Rattle.pw_event.proofs.Sound.{either, is_or, named_out, member_out, pair_named_out, class_named_out}
+use Rattle.pw_event.proofs.Sound.{either, keyword_out, named_out, member_out, pair_among_out, class_among_out}
 use Rattle.pw_event.proofs.Spelled.{single, some, single_formed}
 use Rattle.pw_event.proofs.Steps.{Outcome, and_then, InGrammar, in_grammar}
 
@@ -33,7 +36,7 @@ unfolding fail_process
 process-decimal i fits = rw (number-decimal 16 i fits.1 (omega (arith, fits.1)), ne_eqb i 0 (λ zero. omega (arith, fits.0))) refl
 
 after_is : after (codes "AFTER") ≡ Ok tt
-unfolding after
+unfolding after keyword
 after_is = refl
 
 -- a word that is a name in upper case may be a name
@@ -45,11 +48,11 @@ class_is_name system names c within = thing_name (λ (row : ClassInfo). row.name
 
 complete_fail : (system : System) → HasNames system → (by : NamesBy) (fail : FailLine) → IsNameOf system by fail → IsFailThere system fail → IsFailInRange fail
     → fail_of system (map (spelling by) (fail_words fail)) ≡ Ok fail
-unfolding fail_of fail_behind tcp_line class_line fail_class member
+unfolding fail_of fail_line_of keyword tcp_line class_line fail_class member
 complete_fail system names by (Tcp p true n) same there range =
-    rw (named_formed (by.pair p) (may_by (by.pair p) (pair_name system p) same (names.tcps.each p [] there)), after_is, number-decimal 500000 n range (omega (arith, range)), same, pair_named_of system names p there) refl
+    rw (named_formed (by.pair p) (may_by (by.pair p) (pair_name system p) same (names.tcps.each p [] there)), after_is, number-decimal 500000 n range (omega (arith, range)), same, pair_among_of system names p there) refl
 complete_fail system names by (Tcp p false n) same there range =
-    rw (named_formed (by.pair p) (may_by (by.pair p) (pair_name system p) same (names.tcps.each p [] there)), after_is, number-decimal 500000 n range (omega (arith, range)), same, pair_named_of system names p there) refl
+    rw (named_formed (by.pair p) (may_by (by.pair p) (pair_name system p) same (names.tcps.each p [] there)), after_is, number-decimal 500000 n range (omega (arith, range)), same, pair_among_of system names p there) refl
 complete_fail system names by (Server c i n) same there range =
     rw (
       named_formed (by.class c) (may_by (by.class c) (class_name system c) same (class_is_name system names c there.0)),
@@ -57,20 +60,20 @@ complete_fail system names by (Server c i n) same there range =
       after_is,
       number-decimal 500000 n range.2 (omega (arith, range.2)),
       same,
-      class_named_of system names c there.0,
+      class_among_of system names c there.0,
       le-leb i (slice_index_or system.classes c no_class).processes there.1,
     ) refl
 
 -- a line of the grammar is not read as a bad one
 
 grammar_fail : (system : System) (names : NamesBy) → AreFormed names → (fail : FailLine) → IsFailInRange fail → InGrammar (fail_of system (map (spelling names) (fail_words fail)))
-unfolding fail_of fail_behind tcp_line class_line fail_class member
+unfolding fail_of fail_line_of keyword tcp_line class_line fail_class member
 grammar_fail system names formed (Tcp p true n) range =
-    rw (named_formed (names.pair p) (formed.pair p), after_is, number-decimal 500000 n range (omega (arith, range))) (in_grammar _ _ (pair_named_in system _) (λ p. tt))
+    rw (named_formed (names.pair p) (formed.pair p), after_is, number-decimal 500000 n range (omega (arith, range))) (in_grammar _ _ (among_in _ _) (λ p. tt))
 grammar_fail system names formed (Tcp p false n) range =
-    rw (named_formed (names.pair p) (formed.pair p), after_is, number-decimal 500000 n range (omega (arith, range))) (in_grammar _ _ (pair_named_in system _) (λ p. tt))
+    rw (named_formed (names.pair p) (formed.pair p), after_is, number-decimal 500000 n range (omega (arith, range))) (in_grammar _ _ (among_in _ _) (λ p. tt))
 grammar_fail system names formed (Server c i n) range =
-    rw (named_formed (names.class c) (formed.class c), process-decimal i (range.0, range.1), after_is, number-decimal 500000 n range.2 (omega (arith, range.2))) (in_grammar _ _ (class_named_in system _) (λ c. cond_in _ _))
+    rw (named_formed (names.class c) (formed.class c), process-decimal i (range.0, range.1), after_is, number-decimal 500000 n range.2 (omega (arith, range.2))) (in_grammar _ _ (among_in _ _) (λ c. cond_in _ _))
 
 -- what is read is what the line spells
 
@@ -90,9 +93,13 @@ record OfFail (system : System) (words : List (List ℕ)) (fail : FailLine) : Ty
   pub same : IsNameOf system names fail
   pub spelled : words ≡ map (spelling names) (fail_words fail)
 
+after_by : (word : List ℕ) (U : Type 0) (k : Keyword) → word ≡ text_of k → Outcome (λ done. word ≡ codes "AFTER") U (after_of k)
+after_by word U plain.After is = is
+after_by word U _ is = tt
+
 after_out : (word : List ℕ) (U : Type 0) → Outcome (λ done. word ≡ codes "AFTER") U (after word)
 unfolding after
-after_out word U = is_or _ U word (codes "AFTER") _ _ (λ same. same) tt
+after_out word U = and_then _ _ U (keyword word) _ (keyword_out word U) (after_by word U)
 
 process_by : (i : ℕ) (word : List ℕ) (U : Type 0) (b : Bool) → (i == 0) ≡ b → (word ≡ decimal i) × (i ≤ 16) → Outcome (λ i. (word ≡ decimal i) × ((1 ≤ i) × (i ≤ 16))) U (cond {A = Result ℕ EventFault} b (Err Bad) (Ok i))
 process_by i word U true none is = tt
@@ -113,7 +120,7 @@ tcp_spells system (p ∷ m ∷ a ∷ n ∷ []) =
     and_then _ _ U (number 500000 n) _ (number_out 500000 n U) (λ k number.
     let spelled : words ≡ map (spelling (single some p some some)) (fail_words (Tcp 0 b k)) = cc in
     let unknown : U = record { names = single some p some some; fail = Tcp 0 b k; formed = single_formed some p some some refl formed refl refl; numbers = number.1; spelled = spelled } in
-    and_then _ _ U (pair_named system (str_to_ascii_uppercase p)) _ (pair_named_out system (str_to_ascii_uppercase p) U unknown) (λ i name.
+    and_then _ _ U (among system.tcps (str_to_ascii_uppercase p)) _ (pair_among_out system (str_to_ascii_uppercase p) U unknown) (λ i name.
     record { there = name.0; numbers = number.1; names = single some p some some; same = sym name.1; spelled = spelled })))))
 tcp_spells system _ = tt
 
@@ -129,19 +136,24 @@ class_spells system (c ∷ i ∷ a ∷ n ∷ []) =
     let spelled : words ≡ map (spelling (single some some c some)) (fail_words (Server 0 q k)) = cc in
     let numbers : IsFailInRange (Server 0 q k) = (process.1.0, process.1.1, number.1) in
     let unknown : U = record { names = single some some c some; fail = Server 0 q k; formed = single_formed some some c some refl refl formed refl; numbers = numbers; spelled = spelled } in
-    and_then _ _ U (class_named system (str_to_ascii_uppercase c)) _ (class_named_out system (str_to_ascii_uppercase c) U unknown) (λ j name.
+    and_then _ _ U (among (class_names system) (str_to_ascii_uppercase c)) _ (class_among_out system (str_to_ascii_uppercase c) U unknown) (λ j name.
     either _ U (nat_le q (slice_index_or system.classes j no_class).processes) _ _
     (λ few. record { there = (name.0, leb-true q (slice_index_or system.classes j no_class).processes few); numbers = numbers; names = single some some c some; same = sym name.1; spelled = spelled })
     (λ many. unknown))))))
 class_spells system _ = tt
 
+fail_line_by : (system : System) (word : List ℕ) (words : List (List ℕ)) (k : Keyword) → word ≡ text_of k → Outcome (OfFail system (word ∷ words)) (InFail (word ∷ words)) (fail_line_of system k words)
+unfolding fail_line_of
+fail_line_by system word words plain.Tcp is = rw is (tcp_spells system words)
+fail_line_by system word words plain.Server is = rw is (class_spells system words)
+fail_line_by system word words _ is = tt
+
 fail_spells : (system : System) (words : List (List ℕ)) → Outcome (OfFail system words) (InFail words) (fail_of system words)
-unfolding fail_of fail_behind
+unfolding fail_of
 fail_spells system [] = tt
 fail_spells system (word ∷ words) =
     let U : Type 0 = InFail (word ∷ words) in
-    is_or _ U word (codes "TCP") _ _ (λ same. rw same (tcp_spells system words)) (
-    is_or _ U word (codes "SERVER") _ _ (λ same. rw same (class_spells system words)) tt)
+    and_then _ _ U (keyword word) _ (keyword_out word U) (fail_line_by system word words)
 
 -- lines and their words
 

@@ -12,9 +12,10 @@ use Rattle.pw_event.specs.declared.event.Ending.TheVariants as ending
 use Rattle.pw_event.specs.declared.event.Event.{Event}
 use Rattle.pw_event.specs.declared.event.Event.TheVariants.{Show, Key, CheckStart, CheckEnd, CheckCopy, Applied, Begin, Send, Take, File, Reply, Again, Commit, Back, Restart, FailTcp, FailServer, Takeover, Raise, End}
 use Rattle.pw_event.specs.declared.fault.EventFault.TheVariants.{Unknown}
+use Rattle.pw_event.specs.Keywords.{keyword}
 use Rattle.pw_event.specs.Line.{Names, spelling, event_words, HasLine, IsInRange}
 use Rattle.pw_event.specs.Reading.{may_name, AreFormed}
-use Rattle.pw_event.specs.Parsing.{or_unknown, terminal_named, pair_named, class_named, file_named, terminal, pair, class, file, process, terminal_names, terminal_among, fault_of, other_cause, older, caused_otherwise, caused, ending_of, show, numbered, check, applied, begin, send, taken, file_at, file_line, reply, restart, fail_tcp, fail_server, fail, takeover, raise, ended, end_by, end, unit_line, server_line, line_behind, event_of, member}
+use Rattle.pw_event.specs.Parsing.{or_unknown, among, terminal, pair, class, file, process, fault_of, cause_of, cause_in, ending_of, show, terminal_and_number, check, applied, begin, send, taken, file_at, file_line, reply, restart, fail_tcp, fail_server, failure_of, fail, takeover, raise, end, line_of, event_of, member}
 use Rattle.pw_event.proofs.Numbers.{counted-decimal}
 use Rattle.pw_event.proofs.Leaves.{number_of, code_of, refresh_of, named_formed, op_of, mode_of}
 use Rattle.pw_event.proofs.Steps.{InGrammar, in_grammar}
@@ -27,33 +28,25 @@ pub cond_in : {A : Type 0} (b : Bool) (value : A) → InGrammar (cond b (Ok valu
 cond_in true value = tt
 cond_in false value = tt
 
+pub among_in : (names : List (List ℕ)) (word : List ℕ) → InGrammar (among names word)
+unfolding among
+among_in names word = or_unknown_in _
+
 terminal_in : (system : System) (word : List ℕ) → may_name word ≡ true → InGrammar (terminal system word)
-unfolding terminal terminal_named
-terminal_in system word formed = rw (named_formed word formed) (or_unknown_in _)
-
-among_in : (names : List (List ℕ)) (word : List ℕ) → may_name word ≡ true → InGrammar (terminal_among names word)
-unfolding terminal_among
-among_in names word formed = rw (named_formed word formed) (or_unknown_in _)
-
-pub pair_named_in : (system : System) (name : List ℕ) → InGrammar (pair_named system name)
-unfolding pair_named
-pair_named_in system name = or_unknown_in _
+unfolding terminal
+terminal_in system word formed = rw (named_formed word formed) (among_in _ _)
 
 pair_in : (system : System) (word : List ℕ) → may_name word ≡ true → InGrammar (pair system word)
 unfolding pair
-pair_in system word formed = rw (named_formed word formed) (pair_named_in system word)
-
-pub class_named_in : (system : System) (name : List ℕ) → InGrammar (class_named system name)
-unfolding class_named
-class_named_in system name = or_unknown_in _
+pair_in system word formed = rw (named_formed word formed) (among_in _ _)
 
 class_in : (system : System) (word : List ℕ) → may_name word ≡ true → InGrammar (class system word)
 unfolding class
-class_in system word formed = rw (named_formed word formed) (class_named_in system word)
+class_in system word formed = rw (named_formed word formed) (among_in _ _)
 
 file_in : (system : System) (word : List ℕ) → may_name word ≡ true → InGrammar (file system word)
-unfolding file file_named
-file_in system word formed = rw (named_formed word formed) (or_unknown_in _)
+unfolding file
+file_in system word formed = rw (named_formed word formed) (among_in _ _)
 
 process_in : (system : System) (c : List ℕ) (i : ℕ) → may_name c ≡ true → (1 ≤ i) × (i < 2 ^ 32) → InGrammar (process system c (decimal i))
 unfolding process
@@ -78,7 +71,7 @@ file_grammar system names formed AllExclusive c i o m f s line range =
 
 pub grammar : (system : System) (names : Names) → AreFormed names → (event : Event) → HasLine system.rule event → AllByRecursion IsInRange (event_words system.rule event)
     → InGrammar (event_of system (spelled names system.rule event))
-unfolding event_of line_behind server_line unit_line show numbered check applied begin send taken reply fault_of restart caused caused_otherwise other_cause older fail fail_tcp fail_server takeover raise end end_by ended ending_of member
+unfolding event_of line_of keyword show terminal_and_number check applied begin send taken reply fault_of restart cause_in cause_of fail failure_of fail_tcp fail_server takeover raise end ending_of member
 grammar system names formed (Show t p a k) line range = rw (refresh_of p a k range.1.1.0) (in_grammar _ _ (terminal_in system (names.terminal t) (formed.terminal t)) (λ t. tt))
 grammar system names formed (Key t k) line range = rw (number_of k range.1.1.0) (in_grammar _ _ (in_grammar _ _ (terminal_in system (names.terminal t) (formed.terminal t)) (λ t. tt)) (λ r. tt))
 grammar system names formed (CheckStart t) line range = in_grammar _ _ (terminal_in system (names.terminal t) (formed.terminal t)) (λ t. tt)
@@ -94,20 +87,20 @@ grammar system names formed (Reply c i t (Some x)) line range = rw (code_of x ra
 grammar system names formed (Again t n) line range = rw (number_of n range.1.1.0) (in_grammar _ _ (in_grammar _ _ (terminal_in system (names.terminal t) (formed.terminal t)) (λ t. tt)) (λ r. tt))
 grammar system names formed (Commit t n) line range = rw (number_of n range.1.1.0) (in_grammar _ _ (in_grammar _ _ (terminal_in system (names.terminal t) (formed.terminal t)) (λ t. tt)) (λ r. tt))
 grammar system names formed (Back t n) line range = rw (number_of n range.1.1.0) (in_grammar _ _ (in_grammar _ _ (terminal_in system (names.terminal t) (formed.terminal t)) (λ t. tt)) (λ r. tt))
-grammar system names formed (Restart t n (cause.Older o m)) line range = rw (number_of n range.1.1.0, named_formed (names.terminal t) (formed.terminal t), named_formed (names.terminal o) (formed.terminal o), number_of m range.1.1.1.1.1.0) (in_grammar _ _ (in_grammar _ _ (among_in (terminal_names system) (names.terminal o) (formed.terminal o)) (λ o. in_grammar _ _ (among_in (terminal_names system) (names.terminal t) (formed.terminal t)) (λ t. tt))) (λ r. tt))
-grammar system names formed (Restart t n (cause.Takeover p)) line range = rw (number_of n range.1.1.0, named_formed (names.terminal t) (formed.terminal t)) (in_grammar _ _ (in_grammar _ _ (in_grammar _ _ (pair_in system (names.pair p) (formed.pair p)) (λ p. tt)) (λ cause. in_grammar _ _ (terminal_in system (names.terminal t) (formed.terminal t)) (λ t. tt))) (λ r. tt))
-grammar system names formed (Restart t n (cause.Server k)) line range = rw (number_of n range.1.1.0, named_formed (names.terminal t) (formed.terminal t), counted-decimal k range.1.1.1.1.0) (in_grammar _ _ (in_grammar _ _ (terminal_in system (names.terminal t) (formed.terminal t)) (λ t. tt)) (λ r. tt))
-grammar system names formed (Restart t n cause.Redo) line range = rw (number_of n range.1.1.0, named_formed (names.terminal t) (formed.terminal t)) (in_grammar _ _ (in_grammar _ _ (terminal_in system (names.terminal t) (formed.terminal t)) (λ t. tt)) (λ r. tt))
+grammar system names formed (Restart t n (cause.Older o m)) line range = rw (named_formed (names.terminal t) (formed.terminal t), number_of n range.1.1.0, named_formed (names.terminal o) (formed.terminal o), number_of m range.1.1.1.1.1.0) (in_grammar _ _ (in_grammar _ _ (terminal_in system (names.terminal o) (formed.terminal o)) (λ o. tt)) (λ c. in_grammar _ _ (terminal_in system (names.terminal t) (formed.terminal t)) (λ t. tt)))
+grammar system names formed (Restart t n (cause.Takeover p)) line range = rw (named_formed (names.terminal t) (formed.terminal t), number_of n range.1.1.0) (in_grammar _ _ (in_grammar _ _ (pair_in system (names.pair p) (formed.pair p)) (λ p. tt)) (λ c. in_grammar _ _ (terminal_in system (names.terminal t) (formed.terminal t)) (λ t. tt)))
+grammar system names formed (Restart t n (cause.Server k)) line range = rw (named_formed (names.terminal t) (formed.terminal t), number_of n range.1.1.0, counted-decimal k range.1.1.1.1.0) (in_grammar _ _ (terminal_in system (names.terminal t) (formed.terminal t)) (λ t. tt))
+grammar system names formed (Restart t n cause.Redo) line range = rw (named_formed (names.terminal t) (formed.terminal t), number_of n range.1.1.0) (in_grammar _ _ (terminal_in system (names.terminal t) (formed.terminal t)) (λ t. tt))
 grammar system names formed (FailTcp p true k) line range = rw (counted-decimal k range.1.1.1.1.0) (in_grammar _ _ (pair_in system (names.pair p) (formed.pair p)) (λ p. tt))
 grammar system names formed (FailTcp p false k) line range = rw (counted-decimal k range.1.1.1.1.0) (in_grammar _ _ (pair_in system (names.pair p) (formed.pair p)) (λ p. tt))
 grammar system names formed (FailServer c i k) line range = rw (counted-decimal k range.1.1.1.1.0) (in_grammar _ _ (process_in system (names.class c) i (formed.class c) range.1.1.1.0) (λ p. tt))
 grammar system names formed (Takeover p) line range = in_grammar _ _ (pair_in system (names.pair p) (formed.pair p)) (λ p. tt)
 grammar system names formed (Raise p) line range = in_grammar _ _ (pair_in system (names.pair p) (formed.pair p)) (λ p. tt)
-grammar system names formed (End t ending.Stopped) line range = in_grammar _ _ (terminal_in system (names.terminal t) (formed.terminal t)) (λ t. tt)
-grammar system names formed (End t ending.NoEntries) line range = in_grammar _ _ (terminal_in system (names.terminal t) (formed.terminal t)) (λ t. tt)
-grammar system names formed (End t (ending.Fault x)) line range = rw (code_of x range.1.1.1.0) (in_grammar _ _ (terminal_in system (names.terminal t) (formed.terminal t)) (λ t. tt))
-grammar system names formed (End t (ending.Suspended (cause.Older o m))) line range = rw (named_formed (names.terminal t) (formed.terminal t), named_formed (names.terminal o) (formed.terminal o), number_of m range.1.1.1.1.1.0) (in_grammar _ _ (in_grammar _ _ (among_in (terminal_names system) (names.terminal o) (formed.terminal o)) (λ o. in_grammar _ _ (among_in (terminal_names system) (names.terminal t) (formed.terminal t)) (λ t. tt))) (λ r. tt))
-grammar system names formed (End t (ending.Suspended (cause.Takeover p))) line range = rw (named_formed (names.terminal t) (formed.terminal t)) (in_grammar _ _ (in_grammar _ _ (in_grammar _ _ (pair_in system (names.pair p) (formed.pair p)) (λ p. tt)) (λ cause. in_grammar _ _ (terminal_in system (names.terminal t) (formed.terminal t)) (λ t. tt))) (λ r. tt))
-grammar system names formed (End t (ending.Suspended (cause.Server k))) line range = rw (named_formed (names.terminal t) (formed.terminal t), counted-decimal k range.1.1.1.1.0) (in_grammar _ _ (in_grammar _ _ (terminal_in system (names.terminal t) (formed.terminal t)) (λ t. tt)) (λ r. tt))
-grammar system names formed (End t (ending.Suspended cause.Redo)) line range = rw (named_formed (names.terminal t) (formed.terminal t)) (in_grammar _ _ (in_grammar _ _ (terminal_in system (names.terminal t) (formed.terminal t)) (λ t. tt)) (λ r. tt))
-grammar system names formed (End t ending.Lost) line range = in_grammar _ _ (terminal_in system (names.terminal t) (formed.terminal t)) (λ t. tt)
+grammar system names formed (End t ending.Stopped) line range = rw (named_formed (names.terminal t) (formed.terminal t)) (in_grammar _ _ (terminal_in system (names.terminal t) (formed.terminal t)) (λ t. tt))
+grammar system names formed (End t ending.NoEntries) line range = rw (named_formed (names.terminal t) (formed.terminal t)) (in_grammar _ _ (terminal_in system (names.terminal t) (formed.terminal t)) (λ t. tt))
+grammar system names formed (End t (ending.Fault x)) line range = rw (named_formed (names.terminal t) (formed.terminal t), code_of x range.1.1.1.0) (in_grammar _ _ (terminal_in system (names.terminal t) (formed.terminal t)) (λ t. tt))
+grammar system names formed (End t (ending.Suspended (cause.Older o m))) line range = rw (named_formed (names.terminal t) (formed.terminal t), named_formed (names.terminal o) (formed.terminal o), number_of m range.1.1.1.1.1.0) (in_grammar _ _ (in_grammar _ _ (in_grammar _ _ (terminal_in system (names.terminal o) (formed.terminal o)) (λ o. tt)) (λ c. tt)) (λ c. in_grammar _ _ (terminal_in system (names.terminal t) (formed.terminal t)) (λ t. tt)))
+grammar system names formed (End t (ending.Suspended (cause.Takeover p))) line range = rw (named_formed (names.terminal t) (formed.terminal t)) (in_grammar _ _ (in_grammar _ _ (in_grammar _ _ (pair_in system (names.pair p) (formed.pair p)) (λ p. tt)) (λ c. tt)) (λ c. in_grammar _ _ (terminal_in system (names.terminal t) (formed.terminal t)) (λ t. tt)))
+grammar system names formed (End t (ending.Suspended (cause.Server k))) line range = rw (named_formed (names.terminal t) (formed.terminal t), counted-decimal k range.1.1.1.1.0) (in_grammar _ _ (terminal_in system (names.terminal t) (formed.terminal t)) (λ t. tt))
+grammar system names formed (End t (ending.Suspended cause.Redo)) line range = rw (named_formed (names.terminal t) (formed.terminal t)) (in_grammar _ _ (terminal_in system (names.terminal t) (formed.terminal t)) (λ t. tt))
+grammar system names formed (End t ending.Lost) line range = rw (named_formed (names.terminal t) (formed.terminal t)) (in_grammar _ _ (terminal_in system (names.terminal t) (formed.terminal t)) (λ t. tt))

@@ -2,7 +2,6 @@
 use Rattle.std.proofs.Common.{◌≡◌, ℕ, ◌<◌, ◌≤◌, ◌^◌, true, List, [], ◌∷◌, ◌++◌, map, length, get_or, Ok, refl, sym, subst, arith}
 use Rattle.std.specs.Prelude.{slice_index_or}
 use Rattle.std.specs.Fmt.{decimal}
-use Rattle.std.specs.Str.{bytes_eq}
 use Rattle.std.proofs.lemmas.Bool.{le-leb}
 use Rattle.std.proofs.lemmas.List.{get_or-map, length-map, map-id}
 use Rattle.pw_code.specs.Names.{AreNames, IsName}
@@ -15,11 +14,11 @@ use Rattle.pw_code.specs.declared.lock.LockMode.TheVariants.{Shared, Exclusive}
 use Rattle.pw_code.specs.declared.system.ClassInfo.{ClassInfo}
 use Rattle.pw_code.specs.declared.system.TermInfo.{TermInfo}
 use Rattle.pw_code.specs.declared.system.System.{System}
+use Rattle.pw_event.specs.Keywords.{keyword}
 use Rattle.pw_event.specs.Line.{no_terminal, no_class, no_file, terminal_name, pair_name, class_name, file_name, refresh_number, op_text, mode_text, IsPlain}
 use Rattle.pw_event.specs.Reading.{may_name}
-use Rattle.pw_event.specs.Parsing.{named, number, refresh, terminal_named, pair_named, class_named, file_named, terminal, pair, class, file, process, terminal_names, terminal_among, op, mode}
-use Rattle.pw_event.proofs.Keyed.{position_like}
-use Rattle.pw_event.proofs.Looked.{found}
+use Rattle.pw_event.specs.Parsing.{named, number, refresh, among, class_names, terminal, pair, class, file, process, op, mode}
+use Rattle.pw_event.proofs.Looked.{among_at, among_thing}
 use Rattle.pw_event.proofs.Numbers.{number-decimal, counted-decimal}
 use Rattle.pw_event.proofs.Points.{cut_joined, decimal_lacks}
 use Rattle.pw_event.proofs.Uppers.{may_name-name}
@@ -64,8 +63,8 @@ pub named_file : (system : System) → HasNames system → (f : ℕ) → f < len
 named_file system names f within = named_of (λ (row : FileInfo). row.name) system.files names.files f no_file within
 
 pub terminal_of : (system : System) → HasNames system → (t : ℕ) → t < length system.terminals → terminal system (terminal_name system t) ≡ Ok t
-unfolding terminal terminal_named
-terminal_of system names t within = rw (named_terminal system names t within, found (λ (row : TermInfo). row.name) system.terminals names.terminals t no_terminal within) refl
+unfolding terminal
+terminal_of system names t within = rw (named_terminal system names t within) (among_thing (λ (row : TermInfo). row.name) system.terminals names.terminals t no_terminal within)
 
 pair_names : (system : System) → HasNames system → AreNames (map (λ (row : List ℕ). row) system.tcps)
 pair_names system names = subst AreNames (sym (map-id system.tcps)) names.tcps
@@ -73,25 +72,23 @@ pair_names system names = subst AreNames (sym (map-id system.tcps)) names.tcps
 named_pair : (system : System) → HasNames system → (p : ℕ) → p < length system.tcps → named (pair_name system p) ≡ Ok tt
 named_pair system names p within = named_of (λ (row : List ℕ). row) system.tcps (pair_names system names) p [] within
 
-pub pair_named_of : (system : System) → HasNames system → (p : ℕ) → p < length system.tcps → pair_named system (pair_name system p) ≡ Ok p
-unfolding pair_named
-pair_named_of system names p within = rw (found (λ (row : List ℕ). row) system.tcps (pair_names system names) p [] within) refl
+pub pair_among_of : (system : System) → HasNames system → (p : ℕ) → p < length system.tcps → among system.tcps (pair_name system p) ≡ Ok p
+pair_among_of system names p within = among_at system.tcps names.tcps.distinct p within
 
 pub pair_of : (system : System) → HasNames system → (p : ℕ) → p < length system.tcps → pair system (pair_name system p) ≡ Ok p
 unfolding pair
-pair_of system names p within = rw (named_pair system names p within) (pair_named_of system names p within)
+pair_of system names p within = rw (named_pair system names p within) (pair_among_of system names p within)
 
-pub class_named_of : (system : System) → HasNames system → (c : ℕ) → c < length system.classes → class_named system (class_name system c) ≡ Ok c
-unfolding class_named
-class_named_of system names c within = rw (found (λ (row : ClassInfo). row.name) system.classes names.classes c no_class within) refl
+pub class_among_of : (system : System) → HasNames system → (c : ℕ) → c < length system.classes → among (class_names system) (class_name system c) ≡ Ok c
+class_among_of system names c within = among_thing (λ (row : ClassInfo). row.name) system.classes names.classes c no_class within
 
 pub class_of : (system : System) → HasNames system → (c : ℕ) → c < length system.classes → class system (class_name system c) ≡ Ok c
 unfolding class
-class_of system names c within = rw (named_class system names c within) (class_named_of system names c within)
+class_of system names c within = rw (named_class system names c within) (class_among_of system names c within)
 
 pub file_of : (system : System) → HasNames system → (f : ℕ) → f < length system.files → file system (file_name system f) ≡ Ok f
-unfolding file file_named
-file_of system names f within = rw (named_file system names f within, found (λ (row : FileInfo). row.name) system.files names.files f no_file within) refl
+unfolding file
+file_of system names f within = rw (named_file system names f within) (among_thing (λ (row : FileInfo). row.name) system.files names.files f no_file within)
 
 pub process_of : (system : System) → HasNames system → (c i : ℕ) → c < length system.classes → (1 ≤ i) × (i < 2 ^ 32) → i ≤ (slice_index_or system.classes c no_class).processes
     → process system (class_name system c) (decimal i) ≡ Ok (c, i)
@@ -99,15 +96,10 @@ unfolding process
 process_of system names c i within fits few =
     rw (named_class system names c within, counted-decimal i fits, class_of system names c within, le-leb i (slice_index_or system.classes c no_class).processes few) refl
 
--- among the names of all a terminal is found as in the system
-pub among : (system : System) (word : List ℕ) → terminal_among (terminal_names system) word ≡ terminal system word
-unfolding terminal_among terminal terminal_named
-among system word = rw (position_like (λ row. bytes_eq row word) (λ (row : TermInfo). bytes_eq row.name word) (λ (row : TermInfo). row.name) (λ row. refl) system.terminals) refl
-
 -- words of the format
 
 pub op_of : (o : FileOp) → IsPlain o → op (op_text o) ≡ Ok o
-unfolding op
+unfolding op keyword
 op_of Read plain = refl
 op_of Next plain = refl
 op_of Write plain = refl
@@ -117,6 +109,6 @@ op_of ReadLock plain = absurd plain
 op_of NextLock plain = absurd plain
 
 pub mode_of : (m : LockMode) → mode (mode_text m) ≡ Ok m
-unfolding mode
+unfolding mode keyword
 mode_of Shared = refl
 mode_of Exclusive = refl

@@ -9,53 +9,47 @@ use Rattle.pw_code.specs.declared.system.System.{System}
 use Rattle.pw_event.specs.declared.event.Event.{Event}
 use Rattle.pw_event.specs.declared.fault.EventFault.{EventFault}
 use Rattle.pw_event.specs.declared.fault.EventFault.TheVariants.{Bad, Unknown, Memory}
+use Rattle.pw_event.specs.declared.keyword.Keyword.{Keyword}
+use Rattle.pw_event.specs.declared.keyword.Keyword.TheVariants as plain
+use Rattle.pw_event.specs.Keywords.{text_of, keyword}
 use Rattle.pw_event.specs.Line.{Names, Word, Plain, TerminalName, PairName, ClassName, FileName, Process, FailNumber, Number, Code, Refresh, terminal_name, pair_name, class_name, file_name, IsThere, names_of, spelling, sentence, event_words}
-use Rattle.pw_event.specs.Parsing.{unit_line, server_line, line_behind, event_of, GivesUnlessMemory}
+use Rattle.pw_event.specs.Parsing.{line_of, event_of}
 use Rattle.pw_event.specs.Reading.{may_name, AreFormed, IsLine, IsLineOf, Reads}
 use Rattle.pw_event.proofs.Complete.{words_of, complete}
 use Rattle.pw_event.proofs.Ends.{restart_spells, end_spells}
 use Rattle.pw_event.proofs.Grammar.{spelled, grammar}
 use Rattle.pw_event.proofs.Solid.{system_word, solid_words, formed_words, system_words, cut_words}
-use Rattle.pw_event.proofs.Sound.{is_or}
+use Rattle.pw_event.proofs.Sound.{keyword_out}
 use Rattle.pw_event.proofs.Spelled.{InWords, OfWords, Spells, show_spells, key_spells, again_spells, commit_spells, back_spells, check_spells, applied_spells, begin_spells, send_spells, take_spells, file_spells, reply_spells, fail_spells, takeover_spells, raise_spells}
-use Rattle.pw_event.proofs.Steps.{InGrammar}
+use Rattle.pw_event.proofs.Steps.{InGrammar, and_then}
 
-unit_spells : (system : System) (word : List ℕ) (words : List (List ℕ)) → Spells system (word ∷ words) (unit_line system word words)
-unfolding unit_line
-unit_spells system word words =
-    let U : Type 0 = InWords system.rule (word ∷ words) in
-    is_or _ U word (codes "BEGIN") _ _ (λ same. rw same (begin_spells system words)) (
-    is_or _ U word (codes "SEND") _ _ (λ same. rw same (send_spells system words)) (
-    is_or _ U word (codes "AGAIN") _ _ (λ same. rw same (again_spells system words)) (
-    is_or _ U word (codes "COMMIT") _ _ (λ same. rw same (commit_spells system words)) (
-    is_or _ U word (codes "BACK") _ _ (λ same. rw same (back_spells system words)) (
-    is_or _ U word (codes "RESTART") _ _ (λ same. rw same (restart_spells system words)) tt)))))
-
-server_spells : (system : System) (word : List ℕ) (words : List (List ℕ)) → Spells system (word ∷ words) (server_line system word words)
-unfolding server_line
-server_spells system word words =
-    let U : Type 0 = InWords system.rule (word ∷ words) in
-    is_or _ U word (codes "TAKE") _ _ (λ same. rw same (take_spells system words)) (
-    is_or _ U word (codes "FILE") _ _ (λ same. rw same (file_spells system words)) (
-    is_or _ U word (codes "REPLY") _ _ (λ same. rw same (reply_spells system words)) (
-    is_or _ U word (codes "FAIL") _ _ (λ same. rw same (fail_spells system words)) (
-    is_or _ U word (codes "TAKEOVER") _ _ (λ same. rw same (takeover_spells system words)) (
-    is_or _ U word (codes "RAISE") _ _ (λ same. rw same (raise_spells system words)) (unit_spells system word words))))))
-
-behind_spells : (system : System) (word : List ℕ) (words : List (List ℕ)) → Spells system (word ∷ words) (line_behind system word words)
-unfolding line_behind
-behind_spells system word words =
-    let U : Type 0 = InWords system.rule (word ∷ words) in
-    is_or _ U word (codes "SHOW") _ _ (λ same. rw same (show_spells system words)) (
-    is_or _ U word (codes "KEY") _ _ (λ same. rw same (key_spells system words)) (
-    is_or _ U word (codes "CHECK") _ _ (λ same. rw same (check_spells system words)) (
-    is_or _ U word (codes "APPLIED") _ _ (λ same. rw same (applied_spells system words)) (
-    is_or _ U word (codes "END") _ _ (λ same. rw same (end_spells system words)) (server_spells system word words)))))
+line_spells : (system : System) (word : List ℕ) (words : List (List ℕ)) (k : Keyword) → word ≡ text_of k → Spells system (word ∷ words) (line_of system k words)
+unfolding line_of
+line_spells system word words plain.Show is = rw is (show_spells system words)
+line_spells system word words plain.Key is = rw is (key_spells system words)
+line_spells system word words plain.Check is = rw is (check_spells system words)
+line_spells system word words plain.Applied is = rw is (applied_spells system words)
+line_spells system word words plain.Begin is = rw is (begin_spells system words)
+line_spells system word words plain.Send is = rw is (send_spells system words)
+line_spells system word words plain.Take is = rw is (take_spells system words)
+line_spells system word words plain.File is = rw is (file_spells system words)
+line_spells system word words plain.Reply is = rw is (reply_spells system words)
+line_spells system word words plain.Again is = rw is (again_spells system words)
+line_spells system word words plain.Commit is = rw is (commit_spells system words)
+line_spells system word words plain.Back is = rw is (back_spells system words)
+line_spells system word words plain.Restart is = rw is (restart_spells system words)
+line_spells system word words plain.Fail is = rw is (fail_spells system words)
+line_spells system word words plain.Takeover is = rw is (takeover_spells system words)
+line_spells system word words plain.Raise is = rw is (raise_spells system words)
+line_spells system word words plain.End is = rw is (end_spells system words)
+line_spells system word words _ is = tt
 
 event_spells : (system : System) (words : List (List ℕ)) → Spells system words (event_of system words)
 unfolding event_of
 event_spells system [] = tt
-event_spells system (word ∷ words) = behind_spells system word words
+event_spells system (word ∷ words) =
+    let U : Type 0 = InWords system.rule (word ∷ words) in
+    and_then _ _ U (keyword word) _ (keyword_out word U) (line_spells system word words)
 
 -- the line of an entry of a system is cut into its words
 line_words : (system : System) → HasNames system → (line : List ℕ) (event : Event) → IsLineOf system line event → slice_split (λ b. b == 32) line ≡ words_of system system.rule event
@@ -97,16 +91,16 @@ in_line system line in_words = record {
 
 -- what the words of a line give is what reading it answers
 pub line_reads : (system : System) → HasNames system → (line : List ℕ) (words : List (List ℕ)) (result : Result Event EventFault) → words ≡ slice_split (λ b. b == 32) line
-    → GivesUnlessMemory result (event_of system words) → Reads system line result
+    → result ≡ event_of system words → Reads system line result
 line_reads system names line words (Ok event) cut gives =
     let P : Result Event EventFault → Type 0 = λ r. Spells system (slice_split (λ b. b == 32) line) r in
-    of_line system line event (subst P (sym (ap (event_of system) cut) ∙ gives) (event_spells system (slice_split (λ b. b == 32) line)))
-line_reads system names line words (Err Bad) cut gives = λ is. subst InGrammar (sym (ap (event_of system) cut) ∙ gives) (line_good system line is)
+    of_line system line event (subst P (sym (gives ∙ ap (event_of system) cut)) (event_spells system (slice_split (λ b. b == 32) line)))
+line_reads system names line words (Err Bad) cut gives = λ is. subst InGrammar (sym (gives ∙ ap (event_of system) cut)) (line_good system line is)
 line_reads system names line words (Err Unknown) cut gives =
     let P : Result Event EventFault → Type 0 = λ r. Spells system (slice_split (λ b. b == 32) line) r in (
-      in_line system line (subst P (sym (ap (event_of system) cut) ∙ gives) (event_spells system (slice_split (λ b. b == 32) line))),
+      in_line system line (subst P (sym (gives ∙ ap (event_of system) cut)) (event_spells system (slice_split (λ b. b == 32) line))),
       λ event is.
-          let other : Err Unknown ≡ Ok event = sym gives ∙ ap (event_of system) cut ∙ line_gives system names line event is in cc,
+          let other : Err Unknown ≡ Ok event = gives ∙ ap (event_of system) cut ∙ line_gives system names line event is in cc,
     )
 line_reads system names line words (Err Memory) cut gives = tt
 

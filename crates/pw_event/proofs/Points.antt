@@ -9,7 +9,8 @@ use Rattle.std.proofs.lemmas.Fmt.{decimal_is_IsNumeral}
 use Rattle.std.proofs.lemmas.List.{get_or_append_left, get_or_at, take_at, drop_at, length-append, length_push, get_or_default}
 use Rattle.std.proofs.lemmas.List.Sums.{position_or_len_is, split_at_first, passes_at_first}
 use Rattle.std.proofs.lemmas.Str.Parse.{digit_at}
-use Rattle.pw_event.specs.Parsing.{cut, or_bad}
+use Rattle.pw_event.specs.Keywords.{or_bad}
+use Rattle.pw_event.specs.Parsing.{cut}
 use Rattle.pw_event.proofs.Splits.{Lacks}
 use Rattle.pw_event.proofs.Steps.{Outcome}
 

@@ -13,11 +13,14 @@ use Rattle.pw_code.specs.declared.system.System.{System}
 use Rattle.pw_event.specs.declared.event.Event.{Event}
 use Rattle.pw_event.specs.declared.event.Event.TheVariants.{Show, Key, CheckStart, CheckEnd, CheckCopy, Applied, Begin, Send, Take, File, Reply, Again, Commit, Back, FailTcp, FailServer, Takeover, Raise}
 use Rattle.pw_event.specs.declared.fault.EventFault.{EventFault}
+use Rattle.pw_event.specs.declared.keyword.Keyword.{Keyword}
+use Rattle.pw_event.specs.declared.keyword.Keyword.TheVariants as plain
+use Rattle.pw_event.specs.Keywords.{text_of, keyword}
 use Rattle.pw_event.specs.Line.{Names as NamesBy, no_terminal, names_of, spelling, event_words, reply_words, HasLine, IsInRange, IsThere}
 use Rattle.pw_event.specs.Reading.{may_name, AreFormed}
-use Rattle.pw_event.specs.Parsing.{◌>>=◌, named, number, counted, refresh, terminal, pair, class, file, process, op, mode, member, fault_of, show, numbered, check, applied, begin, send, taken, file_at, file_line, reply, fail_tcp, fail_server, fail, takeover, raise}
+use Rattle.pw_event.specs.Parsing.{◌>>=◌, named, number, counted, refresh, terminal, pair, class, file, process, op, mode, member, fault_of, show, terminal_and_number, check_of, check, applied, begin, send, taken, file_at, file_line, reply, fail_tcp, fail_server, failure_of, fail, takeover, raise}
 use Rattle.pw_event.proofs.Numbers.{counted_out}
-use Rattle.pw_event.proofs.Sound.{Names, IsProcess, is_or, named_out, small_out, code_out, refresh_out, terminal_out, pair_out, class_out, file_out, process_out, op_out, mode_out, member_out}
+use Rattle.pw_event.proofs.Sound.{Names, IsProcess, keyword_out, named_out, small_out, code_out, refresh_out, terminal_out, pair_out, class_out, file_out, process_out, op_out, mode_out, member_out}
 use Rattle.pw_event.proofs.Steps.{Outcome, and_then, weaker}
 
 -- the words are those of some entry under some names
@@ -70,62 +73,74 @@ show_spells system (t ∷ r ∷ []) =
     of_words system words (Show i n.0 n.1 n.2) tt (tt, (name.1, (tt, tt))) (tt, (tt, (number.1, tt))) cc))
 show_spells system _ = tt
 
-numbered_out : (system : System) (t n : List ℕ) (U : Type 0) → (may_name t ≡ true → (k : ℕ) → n ≡ decimal k → k < 2 ^ 32 → U)
-    → Outcome (λ (r : ℕ × ℕ). Names (λ (row : TermInfo). row.name) system.terminals no_terminal t r.0 × (n ≡ decimal r.1) × (r.1 < 2 ^ 32)) U (numbered system (t ∷ n ∷ []))
-unfolding numbered
-numbered_out system t n U unknown =
+terminal_and_number_out : (system : System) (t n : List ℕ) (U : Type 0) → (may_name t ≡ true → (k : ℕ) → n ≡ decimal k → k < 2 ^ 32 → U)
+    → Outcome (λ (r : ℕ × ℕ). Names (λ (row : TermInfo). row.name) system.terminals no_terminal t r.0 × (n ≡ decimal r.1) × (r.1 < 2 ^ 32)) U (terminal_and_number system (t ∷ n ∷ []))
+unfolding terminal_and_number
+terminal_and_number_out system t n U unknown =
     and_then _ _ U (number 4294967295 n) _ (small_out n U) (λ k number.
     and_then _ _ U (terminal system t) _ (terminal_out system t U (λ formed. unknown formed k number.0 number.1)) (λ i name. (name, number.0, number.1)))
 
 -- KEY t k
-pub key_spells : (system : System) (words : List (List ℕ)) → Spells system (codes "KEY" ∷ words) (numbered system words >>= λ r. Ok (Key r.0 r.1))
-unfolding numbered
+pub key_spells : (system : System) (words : List (List ℕ)) → Spells system (codes "KEY" ∷ words) (terminal_and_number system words >>= λ r. Ok (Key r.0 r.1))
+unfolding terminal_and_number
 key_spells system (t ∷ n ∷ []) =
     let words = codes "KEY" ∷ t ∷ n ∷ [] in
     let U : Type 0 = InWords system.rule words in
-    and_then _ _ U (numbered system (t ∷ n ∷ [])) _ (numbered_out system t n U (λ formed k at fits. in_words system.rule words (single t some some some) (Key 0 k) (single_formed t some some some formed refl refl refl) tt (tt, (tt, (fits, tt))) cc)) (λ (r : ℕ × ℕ) is.
+    and_then _ _ U (terminal_and_number system (t ∷ n ∷ [])) _ (terminal_and_number_out system t n U (λ formed k at fits. in_words system.rule words (single t some some some) (Key 0 k) (single_formed t some some some formed refl refl refl) tt (tt, (tt, (fits, tt))) cc)) (λ (r : ℕ × ℕ) is.
     of_words system words (Key r.0 r.1) tt (tt, (is.0.1, (tt, tt))) (tt, (tt, (is.2, tt))) cc)
 key_spells system _ = tt
 
 -- AGAIN t n
-pub again_spells : (system : System) (words : List (List ℕ)) → Spells system (codes "AGAIN" ∷ words) (numbered system words >>= λ r. Ok (Again r.0 r.1))
-unfolding numbered
+pub again_spells : (system : System) (words : List (List ℕ)) → Spells system (codes "AGAIN" ∷ words) (terminal_and_number system words >>= λ r. Ok (Again r.0 r.1))
+unfolding terminal_and_number
 again_spells system (t ∷ n ∷ []) =
     let words = codes "AGAIN" ∷ t ∷ n ∷ [] in
     let U : Type 0 = InWords system.rule words in
-    and_then _ _ U (numbered system (t ∷ n ∷ [])) _ (numbered_out system t n U (λ formed k at fits. in_words system.rule words (single t some some some) (Again 0 k) (single_formed t some some some formed refl refl refl) tt (tt, (tt, (fits, tt))) cc)) (λ (r : ℕ × ℕ) is.
+    and_then _ _ U (terminal_and_number system (t ∷ n ∷ [])) _ (terminal_and_number_out system t n U (λ formed k at fits. in_words system.rule words (single t some some some) (Again 0 k) (single_formed t some some some formed refl refl refl) tt (tt, (tt, (fits, tt))) cc)) (λ (r : ℕ × ℕ) is.
     of_words system words (Again r.0 r.1) tt (tt, (is.0.1, (tt, tt))) (tt, (tt, (is.2, tt))) cc)
 again_spells system _ = tt
 
 -- COMMIT t n
-pub commit_spells : (system : System) (words : List (List ℕ)) → Spells system (codes "COMMIT" ∷ words) (numbered system words >>= λ r. Ok (Commit r.0 r.1))
-unfolding numbered
+pub commit_spells : (system : System) (words : List (List ℕ)) → Spells system (codes "COMMIT" ∷ words) (terminal_and_number system words >>= λ r. Ok (Commit r.0 r.1))
+unfolding terminal_and_number
 commit_spells system (t ∷ n ∷ []) =
     let words = codes "COMMIT" ∷ t ∷ n ∷ [] in
     let U : Type 0 = InWords system.rule words in
-    and_then _ _ U (numbered system (t ∷ n ∷ [])) _ (numbered_out system t n U (λ formed k at fits. in_words system.rule words (single t some some some) (Commit 0 k) (single_formed t some some some formed refl refl refl) tt (tt, (tt, (fits, tt))) cc)) (λ (r : ℕ × ℕ) is.
+    and_then _ _ U (terminal_and_number system (t ∷ n ∷ [])) _ (terminal_and_number_out system t n U (λ formed k at fits. in_words system.rule words (single t some some some) (Commit 0 k) (single_formed t some some some formed refl refl refl) tt (tt, (tt, (fits, tt))) cc)) (λ (r : ℕ × ℕ) is.
     of_words system words (Commit r.0 r.1) tt (tt, (is.0.1, (tt, tt))) (tt, (tt, (is.2, tt))) cc)
 commit_spells system _ = tt
 
 -- BACK t n
-pub back_spells : (system : System) (words : List (List ℕ)) → Spells system (codes "BACK" ∷ words) (numbered system words >>= λ r. Ok (Back r.0 r.1))
-unfolding numbered
+pub back_spells : (system : System) (words : List (List ℕ)) → Spells system (codes "BACK" ∷ words) (terminal_and_number system words >>= λ r. Ok (Back r.0 r.1))
+unfolding terminal_and_number
 back_spells system (t ∷ n ∷ []) =
     let words = codes "BACK" ∷ t ∷ n ∷ [] in
     let U : Type 0 = InWords system.rule words in
-    and_then _ _ U (numbered system (t ∷ n ∷ [])) _ (numbered_out system t n U (λ formed k at fits. in_words system.rule words (single t some some some) (Back 0 k) (single_formed t some some some formed refl refl refl) tt (tt, (tt, (fits, tt))) cc)) (λ (r : ℕ × ℕ) is.
+    and_then _ _ U (terminal_and_number system (t ∷ n ∷ [])) _ (terminal_and_number_out system t n U (λ formed k at fits. in_words system.rule words (single t some some some) (Back 0 k) (single_formed t some some some formed refl refl refl) tt (tt, (tt, (fits, tt))) cc)) (λ (r : ℕ × ℕ) is.
     of_words system words (Back r.0 r.1) tt (tt, (is.0.1, (tt, tt))) (tt, (tt, (is.2, tt))) cc)
 back_spells system _ = tt
+
+check_by : (system : System) (t word : List ℕ) (k : Keyword) → word ≡ text_of k → Spells system (codes "CHECK" ∷ t ∷ word ∷ []) (check_of system t k)
+check_by system t word plain.Start is =
+    let words = codes "CHECK" ∷ t ∷ word ∷ [] in
+    let U : Type 0 = InWords system.rule words in
+    and_then _ _ U (terminal system t) _ (terminal_out system t U (λ formed. in_words system.rule words (single t some some some) (CheckStart 0) (single_formed t some some some formed refl refl refl) tt (tt, (tt, (tt, tt))) cc)) (λ i name. of_words system words (CheckStart i) tt (tt, (name.1, (tt, tt))) (tt, (tt, (tt, tt))) cc)
+check_by system t word plain.End is =
+    let words = codes "CHECK" ∷ t ∷ word ∷ [] in
+    let U : Type 0 = InWords system.rule words in
+    and_then _ _ U (terminal system t) _ (terminal_out system t U (λ formed. in_words system.rule words (single t some some some) (CheckEnd 0) (single_formed t some some some formed refl refl refl) tt (tt, (tt, (tt, tt))) cc)) (λ i name. of_words system words (CheckEnd i) tt (tt, (name.1, (tt, tt))) (tt, (tt, (tt, tt))) cc)
+check_by system t word plain.Copy is =
+    let words = codes "CHECK" ∷ t ∷ word ∷ [] in
+    let U : Type 0 = InWords system.rule words in
+    and_then _ _ U (terminal system t) _ (terminal_out system t U (λ formed. in_words system.rule words (single t some some some) (CheckCopy 0) (single_formed t some some some formed refl refl refl) tt (tt, (tt, (tt, tt))) cc)) (λ i name. of_words system words (CheckCopy i) tt (tt, (name.1, (tt, tt))) (tt, (tt, (tt, tt))) cc)
+check_by system t word _ is = tt
 
 -- CHECK t START, END or COPY
 pub check_spells : (system : System) (words : List (List ℕ)) → Spells system (codes "CHECK" ∷ words) (check system words)
 unfolding check
 check_spells system (t ∷ word ∷ []) =
-    let words = codes "CHECK" ∷ t ∷ word ∷ [] in
-    let U : Type 0 = InWords system.rule words in
-    is_or _ U word (codes "START") _ _ (λ same. and_then _ _ U (terminal system t) _ (terminal_out system t U (λ formed. in_words system.rule words (single t some some some) (CheckStart 0) (single_formed t some some some formed refl refl refl) tt (tt, (tt, (tt, tt))) cc)) (λ i name. of_words system words (CheckStart i) tt (tt, (name.1, (tt, tt))) (tt, (tt, (tt, tt))) cc)) (
-    is_or _ U word (codes "END") _ _ (λ same. and_then _ _ U (terminal system t) _ (terminal_out system t U (λ formed. in_words system.rule words (single t some some some) (CheckEnd 0) (single_formed t some some some formed refl refl refl) tt (tt, (tt, (tt, tt))) cc)) (λ i name. of_words system words (CheckEnd i) tt (tt, (name.1, (tt, tt))) (tt, (tt, (tt, tt))) cc)) (
-    is_or _ U word (codes "COPY") _ _ (λ same. and_then _ _ U (terminal system t) _ (terminal_out system t U (λ formed. in_words system.rule words (single t some some some) (CheckCopy 0) (single_formed t some some some formed refl refl refl) tt (tt, (tt, (tt, tt))) cc)) (λ i name. of_words system words (CheckCopy i) tt (tt, (name.1, (tt, tt))) (tt, (tt, (tt, tt))) cc)) tt))
+    let U : Type 0 = InWords system.rule (codes "CHECK" ∷ t ∷ word ∷ []) in
+    and_then _ _ U (keyword word) _ (keyword_out word U) (check_by system t word)
 check_spells system _ = tt
 
 -- APPLIED t
@@ -216,24 +231,25 @@ pub record IsReply (words : List (List ℕ)) (fault : Option ℕ) : Type 0 where
   pub there : (system : System) → AllByRecursion (IsThere system) (reply_words fault)
   pub spelled : (names : NamesBy) → words ≡ map (spelling names) (reply_words fault)
 
-fault_out : (words : List (List ℕ)) (U : Type 0) → Outcome (IsReply words) U (fault_of words)
+fault_out : (word : List ℕ) (U : Type 0) (k : Keyword) → word ≡ text_of k → (words : List (List ℕ)) → Outcome (IsReply (word ∷ words)) U (fault_of k words)
 unfolding fault_of
-fault_out (word ∷ []) U = is_or _ U word (codes "OK") _ _ (λ same. record { numbers = (tt, tt); there = λ system. (tt, tt); spelled = λ names. cc }) tt
-fault_out (word ∷ x ∷ []) U = is_or _ U word (codes "FAULT") _ _ (λ same.
-    and_then _ _ U (number 65535 x) _ (code_out x U) (λ n fault. record { numbers = (tt, (fault.1, tt)); there = λ system. (tt, (tt, tt)); spelled = λ names. cc })) tt
-fault_out _ U = tt
+fault_out word U plain.Okay is [] = record { numbers = (tt, tt); there = λ system. (tt, tt); spelled = λ names. cc }
+fault_out word U plain.Fault is (x ∷ []) =
+    and_then _ _ U (number 65535 x) _ (code_out x U) (λ n fault. record { numbers = (tt, (fault.1, tt)); there = λ system. (tt, (tt, tt)); spelled = λ names. cc })
+fault_out word U _ is _ = tt
 
 -- REPLY c i t OK, or REPLY c i t FAULT x
 pub reply_spells : (system : System) (words : List (List ℕ)) → Spells system (codes "REPLY" ∷ words) (reply system words)
 unfolding reply
-reply_spells system (c ∷ i ∷ t ∷ rest) =
-    let words = codes "REPLY" ∷ c ∷ i ∷ t ∷ rest in
+reply_spells system (c ∷ i ∷ t ∷ word ∷ rest) =
+    let words = codes "REPLY" ∷ c ∷ i ∷ t ∷ word ∷ rest in
     let U : Type 0 = InWords system.rule words in
-    and_then _ _ U (fault_of rest) _ (fault_out rest U) (λ (x : Option ℕ) (said : IsReply rest x).
+    and_then _ _ U (keyword word) _ (keyword_out word U) (λ k is.
+    and_then _ _ U (fault_of k rest) _ (fault_out word U k is rest) (λ (x : Option ℕ) (said : IsReply (word ∷ rest) x).
     and_then _ _ U (named t) _ (named_out t U) (λ done t_formed.
     and_then _ _ U (process system c i) _ (process_out system c i U (λ formed q at fits. let same = said.spelled (single t some c some) in in_words system.rule words (single t some c some) (Reply 0 q 0 x) (single_formed t some c some t_formed refl formed refl) tt (tt, (tt, (fits, (tt, said.numbers)))) cc)) (λ (p : ℕ × ℕ) (by : IsProcess system c i p).
     and_then _ _ U (terminal system t) _ (terminal_out system t U (λ formed. let same = said.spelled (single t some c some) in in_words system.rule words (single t some c some) (Reply 0 p.1 0 x) (single_formed t some c some formed refl by.class.0 refl) tt (tt, (tt, (by.fits, (tt, said.numbers)))) cc)) (λ j name.
-    let same = said.spelled (names_of system) in of_words system words (Reply p.0 p.1 j x) tt (tt, (by.class.1, (by.there, (name.1, said.there system)))) (tt, (tt, (by.fits, (tt, said.numbers)))) cc))))
+    let same = said.spelled (names_of system) in of_words system words (Reply p.0 p.1 j x) tt (tt, (by.class.1, (by.there, (name.1, said.there system)))) (tt, (tt, (by.fits, (tt, said.numbers)))) cc)))))
 reply_spells system _ = tt
 
 -- FAIL TCP p PRIMARY k or FAIL TCP p BACKUP k
@@ -259,15 +275,19 @@ fail_server_spells system (c ∷ i ∷ k ∷ []) =
     of_words system words (FailServer p.0 p.1 n) tt (tt, (tt, (by.class.1, (by.there, (tt, tt))))) (tt, (tt, (tt, (by.fits, (line.1, tt))))) cc))
 fail_server_spells system _ = tt
 
+failure_by : (system : System) (word : List ℕ) (rest : List (List ℕ)) (k : Keyword) → word ≡ text_of k → Spells system (codes "FAIL" ∷ word ∷ rest) (failure_of system k rest)
+unfolding failure_of
+failure_by system word rest plain.Tcp is = rw is (fail_tcp_spells system rest)
+failure_by system word rest plain.Server is = rw is (fail_server_spells system rest)
+failure_by system word rest _ is = tt
+
 -- FAIL TCP or FAIL SERVER
 pub fail_spells : (system : System) (words : List (List ℕ)) → Spells system (codes "FAIL" ∷ words) (fail system words)
 unfolding fail
 fail_spells system [] = tt
 fail_spells system (word ∷ rest) =
-    let words = codes "FAIL" ∷ word ∷ rest in
-    let U : Type 0 = InWords system.rule words in
-    is_or _ U word (codes "TCP") _ _ (λ same. rw same (fail_tcp_spells system rest)) (
-    is_or _ U word (codes "SERVER") _ _ (λ same. rw same (fail_server_spells system rest)) tt)
+    let U : Type 0 = InWords system.rule (codes "FAIL" ∷ word ∷ rest) in
+    and_then _ _ U (keyword word) _ (keyword_out word U) (failure_by system word rest)
 
 -- TAKEOVER p
 pub takeover_spells : (system : System) (words : List (List ℕ)) → Spells system (codes "TAKEOVER" ∷ words) (takeover system words)

@@ -1,11 +1,10 @@
 -- The failure lines of a deck, and what it is to read one.
 use Rattle.std.specs.Prelude.{◌≡◌, ℕ, ◌≤◌, ◌<◌, List, [], ◌∷◌, map, length, codes, slice_index_or, Result, Ok, Err}
 use Rattle.std.specs.Str.{str_to_ascii_uppercase}
+use Rattle.pw_code.specs.Limits.{most_processes, most_after}
 use Rattle.pw_code.specs.declared.system.System.{System}
-use Rattle.pw_code.specs.declared.system.TheConstants.{MAX_PROCESSES}
 use Rattle.pw_event.specs.declared.script.FailLine.{FailLine}
 use Rattle.pw_event.specs.declared.script.FailLine.TheVariants.{Tcp, Server}
-use Rattle.pw_event.specs.declared.script.TheConstants.{MAX_AFTER}
 use Rattle.pw_event.specs.declared.fault.EventFault.{EventFault}
 use Rattle.pw_event.specs.declared.fault.EventFault.TheVariants.{Bad, Unknown, Memory}
 use Rattle.pw_event.specs.Line.{Names, Word, Plain, PairName, ClassName, Process, Number, spelling, sentence, member_text, pair_name, class_name, no_class}
@@ -18,8 +17,8 @@ fail_words (Server c i after) = Plain (codes "SERVER") ∷ ClassName c ∷ Proce
 
 -- the numbers of a failure line are those of the grammar
 abbrev pub IsFailInRange : FailLine → Type 0
-IsFailInRange (Tcp p primary after) = after ≤ MAX_AFTER
-IsFailInRange (Server c i after) = (1 ≤ i) × (i ≤ MAX_PROCESSES) × (after ≤ MAX_AFTER)
+IsFailInRange (Tcp p primary after) = after ≤ most_after
+IsFailInRange (Server c i after) = (1 ≤ i) × (i ≤ most_processes) × (after ≤ most_after)
 
 -- A line of the grammar: under some names it is the spelling of some failure line.
 pub record IsFailLine (line : List ℕ) : Type 0 where

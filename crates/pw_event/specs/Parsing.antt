@@ -1,5 +1,5 @@
 -- What the reader makes of the words of a line.
-use Rattle.std.specs.Prelude.{ℕ, ◌≡◌, ◌+◌, List, [], ◌∷◌, Bool, true, false, ◌&&◌, ◌||◌, nat_le, ◌==◌, Option, Some, None, Result, Ok, Err, codes, position, slice_index_or, take, drop, map, if◌then◌else◌}
+use Rattle.std.specs.Prelude.{ℕ, ◌≡◌, ◌+◌, List, [], ◌∷◌, Bool, true, false, ◌&&◌, ◌||◌, nat_le, ◌==◌, Option, Some, None, Result, Ok, Err, position, slice_index_or, take, drop, map, if◌then◌else◌}
 use Rattle.std.specs.Fmt.{decimal}
 use Rattle.std.specs.Str.{bytes_eq, str_to_ascii_uppercase}
 use Rattle.std.specs.Str.Parse.{digits_value}
@@ -19,8 +19,11 @@ use Rattle.pw_event.specs.declared.event.Event.{Event}
 use Rattle.pw_event.specs.declared.event.Event.TheVariants.{Show, Key, CheckStart, CheckEnd, CheckCopy, Applied, Begin, Send, Take, File, Reply, Again, Commit, Back, Restart, FailTcp, FailServer, Takeover, Raise, End}
 use Rattle.pw_event.specs.declared.fault.EventFault.{EventFault}
 use Rattle.pw_event.specs.declared.fault.EventFault.TheVariants.{Bad, Unknown, Memory}
+use Rattle.pw_event.specs.declared.keyword.Keyword.{Keyword}
+use Rattle.pw_event.specs.declared.keyword.Keyword.TheVariants as plain
 use Rattle.pw_event.specs.declared.script.FailLine.{FailLine}
 use Rattle.pw_event.specs.declared.script.FailLine.TheVariants as line
+use Rattle.pw_event.specs.Keywords.{or_bad, keyword}
 use Rattle.pw_event.specs.Line.{no_class}
 use Rattle.pw_event.specs.Reading.{may_name}
 
@@ -29,10 +32,6 @@ infixl 10 ◌>>=◌
 abbrev pub ◌>>=◌ : {A B : Type 0} → Result A EventFault → (A → Result B EventFault) → Result B EventFault
 (Err fault) >>= next = Err fault
 (Ok value) >>= next = next value
-
--- the word is this text
-abbrev pub is : List ℕ → List ℕ → Bool
-is word text = bytes_eq word text
 
 -- a name
 unfoldable pub named : List ℕ → Result (Unit {0}) EventFault
@@ -58,11 +57,6 @@ counted word = do
 unfoldable pub cut : List ℕ → Option (List ℕ × List ℕ)
 cut word = option_map (λ point. (take point word, drop (point + 1) word)) (position (λ b. b == 46) word)
 
--- what is there; Bad where there is nothing
-abbrev pub or_bad : {A : Type 0} → Option A → Result A EventFault
-or_bad None = Err Bad
-or_bad (Some value) = Ok value
-
 -- what is there; Unknown where there is nothing
 abbrev pub or_unknown : {A : Type 0} → Option A → Result A EventFault
 or_unknown None = Err Unknown
@@ -78,45 +72,43 @@ refresh word = do
   k ← number 4294967295 attempt.1
   Ok (p, a, k)
 
--- a terminal, by its name as the system has it
-unfoldable pub terminal_named : System → List ℕ → Result ℕ EventFault
-terminal_named system name = or_unknown (position (λ row. bytes_eq row.name name) system.terminals)
+-- the number of a name among names
+unfoldable pub among : List (List ℕ) → List ℕ → Result ℕ EventFault
+among names word = or_unknown (position (λ name. bytes_eq name word) names)
+
+-- the names of terminals, of classes and of files
+abbrev pub terminal_names : System → List (List ℕ)
+terminal_names system = map (λ terminal. terminal.name) system.terminals
+
+abbrev pub class_names : System → List (List ℕ)
+class_names system = map (λ class. class.name) system.classes
+
+abbrev pub file_names : System → List (List ℕ)
+file_names system = map (λ file. file.name) system.files
 
 -- a terminal, by its name
 unfoldable pub terminal : System → List ℕ → Result ℕ EventFault
 terminal system word = do
   done ← named word
-  terminal_named system word
-
--- a pair, by its name as the system has it
-unfoldable pub pair_named : System → List ℕ → Result ℕ EventFault
-pair_named system name = or_unknown (position (λ row. bytes_eq row name) system.tcps)
+  among (terminal_names system) word
 
 -- a pair, by its name
 unfoldable pub pair : System → List ℕ → Result ℕ EventFault
 pair system word = do
   done ← named word
-  pair_named system word
-
--- a class, by its name as the system has it
-unfoldable pub class_named : System → List ℕ → Result ℕ EventFault
-class_named system name = or_unknown (position (λ row. bytes_eq row.name name) system.classes)
+  among system.tcps word
 
 -- a class, by its name
 unfoldable pub class : System → List ℕ → Result ℕ EventFault
 class system word = do
   done ← named word
-  class_named system word
-
--- a file, by its name as the system has it
-unfoldable pub file_named : System → List ℕ → Result ℕ EventFault
-file_named system name = or_unknown (position (λ row. bytes_eq row.name name) system.files)
+  among (class_names system) word
 
 -- a file, by its name
 unfoldable pub file : System → List ℕ → Result ℕ EventFault
 file system word = do
   done ← named word
-  file_named system word
+  among (file_names system) word
 
 -- a class and one of its processes, by the name and the number
 unfoldable pub process : System → List ℕ → List ℕ → Result (ℕ × ℕ) EventFault
@@ -127,86 +119,66 @@ process system c i = do
   if nat_le i (slice_index_or system.classes c no_class).processes then Ok (c, i) else Err Unknown
 
 -- an operation
+abbrev pub op_of : Keyword → Result FileOp EventFault
+op_of plain.Read = Ok Read
+op_of plain.Next = Ok Next
+op_of plain.Write = Ok Write
+op_of plain.Rewrite = Ok Rewrite
+op_of plain.Delete = Ok Delete
+op_of _ = Err Bad
+
 unfoldable pub op : List ℕ → Result FileOp EventFault
-op word =
-    if is word (codes "READ") then Ok Read
-    else (if is word (codes "NEXT") then Ok Next
-    else (if is word (codes "WRITE") then Ok Write
-    else (if is word (codes "REWRITE") then Ok Rewrite
-    else (if is word (codes "DELETE") then Ok Delete
-    else Err Bad))))
+op word = keyword word >>= op_of
 
 -- the mode of a lock
+abbrev pub mode_of : Keyword → Result LockMode EventFault
+mode_of plain.Shared = Ok Shared
+mode_of plain.Exclusive = Ok Exclusive
+mode_of _ = Err Bad
+
 unfoldable pub mode : List ℕ → Result LockMode EventFault
-mode word =
-    if is word (codes "S") then Ok Shared
-    else (if is word (codes "X") then Ok Exclusive
-    else Err Bad)
+mode word = keyword word >>= mode_of
 
 -- whether a member of a pair is its primary
+abbrev pub member_of : Keyword → Result Bool EventFault
+member_of plain.Primary = Ok true
+member_of plain.Backup = Ok false
+member_of _ = Err Bad
+
 unfoldable pub member : List ℕ → Result Bool EventFault
-member word =
-    if is word (codes "PRIMARY") then Ok true
-    else (if is word (codes "BACKUP") then Ok false
-    else Err Bad)
+member word = keyword word >>= member_of
 
--- the run fault of a reply, if any
-unfoldable pub fault_of : List (List ℕ) → Result (Option ℕ) EventFault
-fault_of (word ∷ []) = if is word (codes "OK") then Ok None else Err Bad
-fault_of (word ∷ x ∷ []) = if is word (codes "FAULT") then (number 65535 x >>= λ x. Ok (Some x)) else Err Bad
-fault_of _ = Err Bad
+-- the run fault of a reply, if any: by its first word and those behind it, as are those below
+unfoldable pub fault_of : Keyword → List (List ℕ) → Result (Option ℕ) EventFault
+fault_of plain.Okay [] = Ok None
+fault_of plain.Fault (x ∷ []) = number 65535 x >>= λ x. Ok (Some x)
+fault_of _ _ = Err Bad
 
--- a cause that names no terminal
-unfoldable pub other_cause : System → List (List ℕ) → Result Cause EventFault
-other_cause system (word ∷ []) = if is word (codes "REDO") then Ok cause.Redo else Err Bad
-other_cause system (word ∷ x ∷ []) =
-    if is word (codes "TAKEOVER") then (pair system x >>= λ p. Ok (cause.Takeover p))
-    else (if is word (codes "SERVER") then (counted x >>= λ k. Ok (cause.Server k))
-    else Err Bad)
-other_cause system _ = Err Bad
-
--- the names of the terminals
-abbrev pub terminal_names : System → List (List ℕ)
-terminal_names system = map (λ terminal. terminal.name) system.terminals
-
--- a terminal, by its name among the names of all
-unfoldable pub terminal_among : List (List ℕ) → List ℕ → Result ℕ EventFault
-terminal_among names word = do
-  done ← named word
-  or_unknown (position (λ row. bytes_eq row word) names)
-
--- a terminal that restarts for a unit of another, by the names of both and the unit's number
-unfoldable pub older : System → List ℕ → List ℕ → List ℕ → Result (ℕ × Cause) EventFault
-older system t other n = do
+-- a cause
+unfoldable pub cause_of : System → Keyword → List (List ℕ) → Result Cause EventFault
+cause_of system plain.Older (t ∷ n ∷ []) = do
   done ← named t
-  done ← named other
   n ← number 4294967295 n
-  other ← terminal_among (terminal_names system) other
-  t ← terminal_among (terminal_names system) t
-  Ok (t, cause.Older other n)
-
--- a terminal with a cause that names no other one
-unfoldable pub caused_otherwise : System → List ℕ → List (List ℕ) → Result (ℕ × Cause) EventFault
-caused_otherwise system t words = do
-  done ← named t
-  cause ← other_cause system words
   t ← terminal system t
-  Ok (t, cause)
+  Ok (cause.Older t n)
+cause_of system plain.Takeover (p ∷ []) = pair system p >>= λ p. Ok (cause.Takeover p)
+cause_of system plain.Server (k ∷ []) = counted k >>= λ k. Ok (cause.Server k)
+cause_of system plain.Redo [] = Ok cause.Redo
+cause_of system _ _ = Err Bad
 
--- a terminal, by its name, and a cause, by its words
-unfoldable pub caused : System → List ℕ → List (List ℕ) → Result (ℕ × Cause) EventFault
-caused system t (word ∷ other ∷ n ∷ []) = if is word (codes "OLDER") then older system t other n else caused_otherwise system t (word ∷ other ∷ n ∷ [])
-caused system t words = caused_otherwise system t words
+-- a cause, by its words
+unfoldable pub cause_in : System → List (List ℕ) → Result Cause EventFault
+cause_in system [] = Err Bad
+cause_in system (word ∷ words) = keyword word >>= λ k. cause_of system k words
 
--- an ending without a cause
-unfoldable pub ending_of : List (List ℕ) → Result Ending EventFault
-ending_of (word ∷ []) =
-    if is word (codes "STOPPED") then Ok ending.Stopped
-    else (if is word (codes "NOENTRIES") then Ok ending.NoEntries
-    else (if is word (codes "LOST") then Ok ending.Lost
-    else Err Bad))
-ending_of (word ∷ x ∷ []) = if is word (codes "FAULT") then (number 65535 x >>= λ x. Ok (ending.Fault x)) else Err Bad
-ending_of _ = Err Bad
+-- an ending
+unfoldable pub ending_of : System → Keyword → List (List ℕ) → Result Ending EventFault
+ending_of system plain.Stopped [] = Ok ending.Stopped
+ending_of system plain.NoEntries [] = Ok ending.NoEntries
+ending_of system plain.Fault (x ∷ []) = number 65535 x >>= λ x. Ok (ending.Fault x)
+ending_of system plain.Suspended words = cause_in system words >>= λ c. Ok (ending.Suspended c)
+ending_of system plain.Lost [] = Ok ending.Lost
+ending_of system _ _ = Err Bad
 
 -- SHOW t p.a.k, behind its first word, as are those below
 unfoldable pub show : System → List (List ℕ) → Result Event EventFault
@@ -217,20 +189,22 @@ show system (t ∷ r ∷ []) = do
 show system _ = Err Bad
 
 -- the terminal and the number of KEY t k, AGAIN t n, COMMIT t n and BACK t n
-unfoldable pub numbered : System → List (List ℕ) → Result (ℕ × ℕ) EventFault
-numbered system (t ∷ n ∷ []) = do
+unfoldable pub terminal_and_number : System → List (List ℕ) → Result (ℕ × ℕ) EventFault
+terminal_and_number system (t ∷ n ∷ []) = do
   n ← number 4294967295 n
   t ← terminal system t
   Ok (t, n)
-numbered system _ = Err Bad
+terminal_and_number system _ = Err Bad
 
 -- CHECK t START, END or COPY
+abbrev pub check_of : System → List ℕ → Keyword → Result Event EventFault
+check_of system t plain.Start = terminal system t >>= λ t. Ok (CheckStart t)
+check_of system t plain.End = terminal system t >>= λ t. Ok (CheckEnd t)
+check_of system t plain.Copy = terminal system t >>= λ t. Ok (CheckCopy t)
+check_of system t _ = Err Bad
+
 unfoldable pub check : System → List (List ℕ) → Result Event EventFault
-check system (t ∷ word ∷ []) =
-    if is word (codes "START") then (terminal system t >>= λ t. Ok (CheckStart t))
-    else (if is word (codes "END") then (terminal system t >>= λ t. Ok (CheckEnd t))
-    else (if is word (codes "COPY") then (terminal system t >>= λ t. Ok (CheckCopy t))
-    else Err Bad))
+check system (t ∷ word ∷ []) = keyword word >>= check_of system t
 check system _ = Err Bad
 
 -- APPLIED t
@@ -284,8 +258,9 @@ file_line system rule _ = Err Bad
 
 -- REPLY c i t OK, or REPLY c i t FAULT x
 unfoldable pub reply : System → List (List ℕ) → Result Event EventFault
-reply system (c ∷ i ∷ t ∷ words) = do
-  fault ← fault_of words
+reply system (c ∷ i ∷ t ∷ word ∷ words) = do
+  k ← keyword word
+  fault ← fault_of k words
   done ← named t
   p ← process system c i
   t ← terminal system t
@@ -295,9 +270,11 @@ reply system _ = Err Bad
 -- RESTART t n cause
 unfoldable pub restart : System → List (List ℕ) → Result Event EventFault
 restart system (t ∷ n ∷ words) = do
+  done ← named t
   n ← number 4294967295 n
-  r ← caused system t words
-  Ok (Restart r.0 n r.1)
+  c ← cause_in system words
+  t ← terminal system t
+  Ok (Restart t n c)
 restart system _ = Err Bad
 
 -- TCP p PRIMARY k, or BACKUP in place of PRIMARY
@@ -318,12 +295,14 @@ fail_server system (c ∷ i ∷ k ∷ []) = do
 fail_server system _ = Err Bad
 
 -- FAIL TCP p PRIMARY k, FAIL TCP p BACKUP k, or FAIL SERVER c i k
+unfoldable pub failure_of : System → Keyword → List (List ℕ) → Result Event EventFault
+failure_of system plain.Tcp words = fail_tcp system words
+failure_of system plain.Server words = fail_server system words
+failure_of system _ words = Err Bad
+
 unfoldable pub fail : System → List (List ℕ) → Result Event EventFault
 fail system [] = Err Bad
-fail system (word ∷ words) =
-    if is word (codes "TCP") then fail_tcp system words
-    else (if is word (codes "SERVER") then fail_server system words
-    else Err Bad)
+fail system (word ∷ words) = keyword word >>= λ k. failure_of system k words
 
 -- TAKEOVER p
 unfoldable pub takeover : System → List (List ℕ) → Result Event EventFault
@@ -335,65 +314,49 @@ unfoldable pub raise : System → List (List ℕ) → Result Event EventFault
 raise system (p ∷ []) = pair system p >>= λ p. Ok (Raise p)
 raise system _ = Err Bad
 
--- the terminal and the ending of END t ending
-unfoldable pub ended : System → List ℕ → List (List ℕ) → Result Event EventFault
-ended system t words = do
-  e ← ending_of words
-  t ← terminal system t
-  Ok (End t e)
-
--- END t ending, by the ending's words
-unfoldable pub end_by : System → List ℕ → List (List ℕ) → Result Event EventFault
-end_by system t [] = ended system t []
-end_by system t (word ∷ words) =
-    if is word (codes "SUSPENDED") then (caused system t words >>= λ r. Ok (End r.0 (ending.Suspended r.1)))
-    else ended system t (word ∷ words)
-
 -- END t ending
 unfoldable pub end : System → List (List ℕ) → Result Event EventFault
-end system [] = Err Bad
-end system (t ∷ words) = end_by system t words
+end system (t ∷ word ∷ words) = do
+  done ← named t
+  k ← keyword word
+  e ← ending_of system k words
+  t ← terminal system t
+  Ok (End t e)
+end system _ = Err Bad
 
--- an entry of a terminal's unit, behind its first word
-unfoldable pub unit_line : System → List ℕ → List (List ℕ) → Result Event EventFault
-unit_line system word words =
-    if is word (codes "BEGIN") then begin system words
-    else (if is word (codes "SEND") then send system words
-    else (if is word (codes "AGAIN") then (numbered system words >>= λ r. Ok (Again r.0 r.1))
-    else (if is word (codes "COMMIT") then (numbered system words >>= λ r. Ok (Commit r.0 r.1))
-    else (if is word (codes "BACK") then (numbered system words >>= λ r. Ok (Back r.0 r.1))
-    else (if is word (codes "RESTART") then restart system words
-    else Err Bad)))))
-
--- an entry of a class or of a pair, behind its first word
-unfoldable pub server_line : System → List ℕ → List (List ℕ) → Result Event EventFault
-server_line system word words =
-    if is word (codes "TAKE") then taken system words
-    else (if is word (codes "FILE") then file_line system system.rule words
-    else (if is word (codes "REPLY") then reply system words
-    else (if is word (codes "FAIL") then fail system words
-    else (if is word (codes "TAKEOVER") then takeover system words
-    else (if is word (codes "RAISE") then raise system words
-    else unit_line system word words)))))
-
--- an entry, behind its first word
-unfoldable pub line_behind : System → List ℕ → List (List ℕ) → Result Event EventFault
-line_behind system word words =
-    if is word (codes "SHOW") then show system words
-    else (if is word (codes "KEY") then (numbered system words >>= λ r. Ok (Key r.0 r.1))
-    else (if is word (codes "CHECK") then check system words
-    else (if is word (codes "APPLIED") then applied system words
-    else (if is word (codes "END") then end system words
-    else server_line system word words))))
+-- an entry, by its first word and those behind it
+unfoldable pub line_of : System → Keyword → List (List ℕ) → Result Event EventFault
+line_of system plain.Show words = show system words
+line_of system plain.Key words = terminal_and_number system words >>= λ r. Ok (Key r.0 r.1)
+line_of system plain.Check words = check system words
+line_of system plain.Applied words = applied system words
+line_of system plain.Begin words = begin system words
+line_of system plain.Send words = send system words
+line_of system plain.Take words = taken system words
+line_of system plain.File words = file_line system system.rule words
+line_of system plain.Reply words = reply system words
+line_of system plain.Again words = terminal_and_number system words >>= λ r. Ok (Again r.0 r.1)
+line_of system plain.Commit words = terminal_and_number system words >>= λ r. Ok (Commit r.0 r.1)
+line_of system plain.Back words = terminal_and_number system words >>= λ r. Ok (Back r.0 r.1)
+line_of system plain.Restart words = restart system words
+line_of system plain.Fail words = fail system words
+line_of system plain.Takeover words = takeover system words
+line_of system plain.Raise words = raise system words
+line_of system plain.End words = end system words
+line_of system _ words = Err Bad
 
 -- an entry, by its words
 unfoldable pub event_of : System → List (List ℕ) → Result Event EventFault
 event_of system [] = Err Bad
-event_of system (word ∷ words) = line_behind system word words
+event_of system (word ∷ words) = keyword word >>= λ k. line_of system k words
 
 -- the word AFTER
+abbrev pub after_of : Keyword → Result (Unit {0}) EventFault
+after_of plain.After = Ok tt
+after_of _ = Err Bad
+
 unfoldable pub after : List ℕ → Result (Unit {0}) EventFault
-after word = if is word (codes "AFTER") then Ok tt else Err Bad
+after word = keyword word >>= after_of
 
 -- a process of a failure line: 1 to 16
 unfoldable pub fail_process : List ℕ → Result ℕ EventFault
@@ -408,14 +371,14 @@ tcp_line system (p ∷ m ∷ a ∷ n ∷ []) = do
   m ← member m
   done ← after a
   n ← number 500000 n
-  p ← pair_named system (str_to_ascii_uppercase p)
+  p ← among system.tcps (str_to_ascii_uppercase p)
   Ok (line.Tcp p m n)
 tcp_line system _ = Err Bad
 
 -- a class of a failure line with one of its processes, by the name in upper case and the number
 unfoldable pub fail_class : System → List ℕ → ℕ → ℕ → Result FailLine EventFault
 fail_class system name i n = do
-  c ← class_named system name
+  c ← among (class_names system) name
   if nat_le i (slice_index_or system.classes c no_class).processes then Ok (line.Server c i n) else Err Unknown
 
 -- SERVER c i AFTER n, behind its first word
@@ -428,17 +391,16 @@ class_line system (c ∷ i ∷ a ∷ n ∷ []) = do
   fail_class system (str_to_ascii_uppercase c) i n
 class_line system _ = Err Bad
 
--- a failure line, behind its first word
-unfoldable pub fail_behind : System → List ℕ → List (List ℕ) → Result FailLine EventFault
-fail_behind system word words =
-    if is word (codes "TCP") then tcp_line system words
-    else (if is word (codes "SERVER") then class_line system words
-    else Err Bad)
+-- a failure line, by its first word and those behind it
+unfoldable pub fail_line_of : System → Keyword → List (List ℕ) → Result FailLine EventFault
+fail_line_of system plain.Tcp words = tcp_line system words
+fail_line_of system plain.Server words = class_line system words
+fail_line_of system _ words = Err Bad
 
 -- a failure line, by its words
 unfoldable pub fail_of : System → List (List ℕ) → Result FailLine EventFault
 fail_of system [] = Err Bad
-fail_of system (word ∷ words) = fail_behind system word words
+fail_of system (word ∷ words) = keyword word >>= λ k. fail_line_of system k words
 
 -- an answer is what is defined, unless memory ran out
 abbrev pub GivesUnlessMemory : {A : Type 0} → Result A EventFault → Result A EventFault → Type 0

@@ -3,6 +3,7 @@ use Rattle.std.specs.Prelude.{◌≡◌, ℕ, List, map, Bool, true, Result, Ok,
 use Rattle.std.specs.List.{AllByRecursion}
 use Rattle.std.specs.Str.{str_to_ascii_uppercase}
 use Rattle.pw_code.specs.Names.{is_name}
+use Rattle.pw_code.specs.Valid.{HasNames, HasFew}
 use Rattle.pw_code.specs.declared.lock.LockRule.{LockRule}
 use Rattle.pw_code.specs.declared.system.System.{System}
 use Rattle.pw_event.specs.declared.event.Event.{Event}
@@ -43,3 +44,12 @@ Reads system line (Ok event) = IsLineOf system line event
 Reads system line (Err Bad) = ¬ (IsLine system.rule line)
 Reads system line (Err Unknown) = IsLine system.rule line × ((event : Event) → ¬ (IsLineOf system line event))
 Reads system line (Err Memory) = Unit {0}
+
+-- These are the names of the terminals, pairs, classes and files of the system, in their orders; and names are names.
+pub record AreNamesOf (system : System) (terminals pairs classes files : List (List ℕ)) : Type 0 where
+  pub names : HasNames system
+  pub few : HasFew system
+  pub terminals_are : terminals ≡ map (λ terminal. terminal.name) system.terminals
+  pub pairs_are : pairs ≡ system.tcps
+  pub classes_are : classes ≡ map (λ class. class.name) system.classes
+  pub files_are : files ≡ map (λ file. file.name) system.files

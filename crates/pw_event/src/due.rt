@@ -1,9 +1,10 @@
 ghost use Rattle.std.specs.Prelude.{◌≡◌, ◌<◌, ◌≤◌, ◌^◌, length, filter};
 ghost use Rattle.std.specs.List.{list_any};
+ghost use Rattle.pw_code.specs.Limits.{most_fail_lines};
 ghost use Rattle.pw_event.specs.Due.{pair_of, owner_of, owner_of_line, after_of, is_same_owner, entries_of, is_fail_of, is_open, if_due, due_line};
 
 use crate::event::Event;
-use crate::script::{FailLine, MAX_FAIL_LINES, Owner, Script};
+use crate::script::{FailLine, Owner, Script};
 use pw_code::system::System;
 
 /// The pair of a terminal; one that is not there counts to the first pair.
@@ -124,7 +125,7 @@ fn if_due(entries: usize, number: u32, line: FailLine) -> Option<u32>
 /// has no FAIL entry in the log yet, where the log has at least as many entries of the owner as the line says. It takes
 /// no memory.
 pub fn due(system: &System, script: &Script, log: &[Event], owner: Owner) -> Option<u32>
-    requires { length script.now.lines ≤ MAX_FAIL_LINES }
+    requires { length script.now.lines ≤ most_fail_lines }
     ensures { result ≡ due_line (pair_of system.now) script.now.lines log.now owner }
 {
     let mut number = 1;

@@ -2,13 +2,14 @@ ghost use Rattle.std.specs.Prelude.{◌≡◌, map, IfOk};
 ghost use Rattle.std.specs.Str.{str_to_ascii_uppercase};
 ghost use Rattle.pw_code.specs.Valid.{HasNames, HasFew};
 ghost use Rattle.pw_event.specs.Fails.{ReadsFail};
-ghost use Rattle.pw_event.specs.Parsing.{after, fail_process, tcp_line, fail_class, class_line, fail_behind, fail_of, GivesUnlessMemory};
+ghost use Rattle.pw_event.specs.Parsing.{fail_process, tcp_line, fail_class, class_line, fail_line_of, fail_of, GivesUnlessMemory};
 
 use crate::fault::EventFault;
-use crate::fields::{member, named, number};
-use crate::lookup::{class_named, pair_named};
+use crate::fields::{after, member, named, number};
+use crate::keyword::Keyword;
 use crate::script::{FailLine, MAX_AFTER};
-use crate::words::{is, words};
+use crate::system_names::SystemNames;
+use crate::words::words;
 use pw_code::system::{MAX_PROCESSES, System};
 use std::alloc::{AllocError, Global};
 
@@ -19,18 +20,6 @@ fn upper(alloc: Global, name: &[u8]) -> Result<Vec<u8>, AllocError>
     name.iter()
         .map(|byte| byte.to_ascii_uppercase())
         .collect(alloc)
-}
-
-/// Refuses a word other than AFTER.
-#[tactic(auto, unfolding(crate::specs::Parsing::after))]
-fn after(word: &[u8]) -> Result<(), EventFault>
-    ensures { result ≡ after word.now }
-{
-    if is(word, b"AFTER") {
-        Ok(())
-    } else {
-        Err(EventFault::Bad)
-    }
 }
 
 /// The number of a process: 1 to `MAX_PROCESSES`.
@@ -48,9 +37,8 @@ fn fail_process(word: &[u8]) -> Result<u32, EventFault>
 
 /// TCP p PRIMARY AFTER n or TCP p BACKUP AFTER n, behind its first word.
 #[tactic(auto, unfolding(crate::specs::Parsing::tcp_line))]
-fn tcp_line(alloc: Global, system: &System, words: &[&[u8]]) -> Result<FailLine, EventFault>
-    requires { HasFew system.now }
-    ensures { GivesUnlessMemory result (tcp_line system.now (map (λ word. word.now) words.now)) }
+fn tcp_line(alloc: Global, names: &SystemNames, words: &[&[u8]]) -> Result<FailLine, EventFault>
+    ensures { GivesUnlessMemory result (tcp_line names.now (map (λ word. word.now) words.now)) }
 {
     let [name, primary, after_word, count] = words else {
         return Err(EventFault::Bad);
@@ -60,7 +48,7 @@ fn tcp_line(alloc: Global, system: &System, words: &[&[u8]]) -> Result<FailLine,
     after(after_word)?;
     let after = number(count, MAX_AFTER)?;
     let name = upper(alloc, name)?;
-    let tcp = pair_named(system, name.as_slice())?;
+    let tcp = names.pair_among(name.as_slice())?;
     Ok(FailLine::Tcp {
         tcp,
         primary,
@@ -71,16 +59,15 @@ fn tcp_line(alloc: Global, system: &System, words: &[&[u8]]) -> Result<FailLine,
 /// A class of a failure line with one of its processes, by the name of the class in upper case.
 #[tactic(auto, unfolding(crate::specs::Parsing::fail_class))]
 fn fail_class(
-    system: &System,
+    names: &SystemNames,
     name: &[u8],
     process: u32,
     after: u32,
 ) -> Result<FailLine, EventFault>
-    requires { HasFew system.now }
-    ensures { result ≡ fail_class system.now name.now process after }
+    ensures { result ≡ fail_class names.now name.now process after }
 {
-    let class = class_named(system, name)?;
-    if process <= system.classes.as_slice()[class as usize].processes {
+    let class = names.class_among(name)?;
+    if process <= names.processes(class) {
         Ok(FailLine::Server {
             class,
             process,
@@ -93,9 +80,8 @@ fn fail_class(
 
 /// SERVER c i AFTER n, behind its first word.
 #[tactic(auto, unfolding(crate::specs::Parsing::class_line))]
-fn class_line(alloc: Global, system: &System, words: &[&[u8]]) -> Result<FailLine, EventFault>
-    requires { HasFew system.now }
-    ensures { GivesUnlessMemory result (class_line system.now (map (λ word. word.now) words.now)) }
+fn class_line(alloc: Global, names: &SystemNames, words: &[&[u8]]) -> Result<FailLine, EventFault>
+    ensures { GivesUnlessMemory result (class_line names.now (map (λ word. word.now) words.now)) }
 {
     let [name, process, after_word, count] = words else {
         return Err(EventFault::Bad);
@@ -105,51 +91,58 @@ fn class_line(alloc: Global, system: &System, words: &[&[u8]]) -> Result<FailLin
     after(after_word)?;
     let after = number(count, MAX_AFTER)?;
     let name = upper(alloc, name)?;
-    fail_class(system, name.as_slice(), process, after)
+    fail_class(names, name.as_slice(), process, after)
 }
 
-/// A failure line, behind its first word.
-#[tactic(auto, unfolding(crate::specs::Parsing::fail_behind))]
-fn fail_behind(
+/// A failure line, by its first word and those behind it.
+#[tactic(auto, unfolding(crate::specs::Parsing::fail_line_of))]
+fn fail_line_of(
     alloc: Global,
-    system: &System,
-    word: &[u8],
+    names: &SystemNames,
+    keyword: Keyword,
     words: &[&[u8]],
 ) -> Result<FailLine, EventFault>
-    requires { HasFew system.now }
-    ensures { GivesUnlessMemory result (fail_behind system.now word.now (map (λ word. word.now) words.now)) }
+    ensures { GivesUnlessMemory result (fail_line_of names.now keyword (map (λ word. word.now) words.now)) }
 {
-    if is(word, b"TCP") {
-        tcp_line(alloc, system, words)
-    } else if is(word, b"SERVER") {
-        class_line(alloc, system, words)
-    } else {
-        Err(EventFault::Bad)
+    match keyword {
+        Keyword::Tcp => tcp_line(alloc, names, words),
+        Keyword::Server => class_line(alloc, names, words),
+        _ => Err(EventFault::Bad),
     }
 }
 
 /// A failure line, by its words.
 #[tactic(auto, unfolding(crate::specs::Parsing::fail_of))]
-fn fail_of(alloc: Global, system: &System, words: &[&[u8]]) -> Result<FailLine, EventFault>
-    requires { HasFew system.now }
-    ensures { GivesUnlessMemory result (fail_of system.now (map (λ word. word.now) words.now)) }
+fn fail_of(alloc: Global, names: &SystemNames, words: &[&[u8]]) -> Result<FailLine, EventFault>
+    ensures { GivesUnlessMemory result (fail_of names.now (map (λ word. word.now) words.now)) }
 {
-    match words {
-        [word, words @ ..] => fail_behind(alloc, system, word, words),
-        [] => Err(EventFault::Bad),
+    let [word, words @ ..] = words else {
+        return Err(EventFault::Bad);
+    };
+    fail_line_of(alloc, names, Keyword::of(word)?, words)
+}
+
+impl SystemNames<'_> {
+    /// Reads a failure line: TCP p PRIMARY AFTER n, TCP p BACKUP AFTER n or SERVER c i AFTER n, with n from 0 to
+    /// `MAX_AFTER` and i from 1 to `MAX_PROCESSES` (docs/LOG.md).
+    ///
+    /// The name may stand in either case. It answers `Bad` exactly where the line is outside the grammar, and
+    /// `Unknown` exactly where it is in the grammar and the name or the number of the process is not the system's.
+    pub fn read_fail(&self, alloc: Global, line: &[u8]) -> Result<FailLine, EventFault>
+        ensures { ReadsFail self.now line.now result }
+    {
+        let _ = &self.system;
+        let words = words(alloc, line)?;
+        fail_of(alloc, self, words.as_slice())
     }
 }
 
-/// Reads a failure line: TCP p PRIMARY AFTER n, TCP p BACKUP AFTER n or SERVER c i AFTER n, with n from 0 to
-/// `MAX_AFTER` and i from 1 to `MAX_PROCESSES`.
-///
-/// The name may stand in either case. It answers `Bad` exactly where the line is outside the grammar, and `Unknown`
-/// exactly where it is in the grammar and the name or the number of the process is not the system's.
+/// Reads one failure line, as [`SystemNames::read_fail`] does, which is for many lines: here the names of the system
+/// are made for this one.
 pub fn read_fail(alloc: Global, system: &System, line: &[u8]) -> Result<FailLine, EventFault>
     requires names { HasNames system.now }
     requires few { HasFew system.now }
     ensures { ReadsFail system.now line.now result }
 {
-    let words = words(alloc, line)?;
-    fail_of(alloc, system, words.as_slice())
+    SystemNames::new(alloc, system)?.read_fail(alloc, line)
 }

@@ -6,10 +6,10 @@ ghost use Rattle.std.specs.Str.{str_to_ascii_uppercase};
 ghost use Rattle.pw_code.specs.Names.{is_name_byte, begins_with_letter};
 ghost use Rattle.pw_event.specs.Reading.{may_name};
 ghost use Rattle.std.specs.Option.{option_map};
-ghost use Rattle.pw_event.specs.Parsing.{named, is_odd, number, counted, cut, refresh, op, mode, member};
+ghost use Rattle.pw_event.specs.Parsing.{named, is_odd, number, counted, cut, refresh, op, mode, member, after};
 
 use crate::fault::EventFault;
-use crate::words::is;
+use crate::keyword::Keyword;
 use pw_code::file::FileOp;
 use pw_code::lock::LockMode;
 
@@ -162,18 +162,13 @@ pub fn refresh(word: &[u8]) -> Result<(u32, u32, u32), EventFault>
 pub fn op(word: &[u8]) -> Result<FileOp, EventFault>
     ensures { result ≡ op word.now }
 {
-    if is(word, b"READ") {
-        Ok(FileOp::Read)
-    } else if is(word, b"NEXT") {
-        Ok(FileOp::Next)
-    } else if is(word, b"WRITE") {
-        Ok(FileOp::Write)
-    } else if is(word, b"REWRITE") {
-        Ok(FileOp::Rewrite)
-    } else if is(word, b"DELETE") {
-        Ok(FileOp::Delete)
-    } else {
-        Err(EventFault::Bad)
+    match Keyword::of(word)? {
+        Keyword::Read => Ok(FileOp::Read),
+        Keyword::Next => Ok(FileOp::Next),
+        Keyword::Write => Ok(FileOp::Write),
+        Keyword::Rewrite => Ok(FileOp::Rewrite),
+        Keyword::Delete => Ok(FileOp::Delete),
+        _ => Err(EventFault::Bad),
     }
 }
 
@@ -182,12 +177,10 @@ pub fn op(word: &[u8]) -> Result<FileOp, EventFault>
 pub fn mode(word: &[u8]) -> Result<LockMode, EventFault>
     ensures { result ≡ mode word.now }
 {
-    if is(word, b"S") {
-        Ok(LockMode::Shared)
-    } else if is(word, b"X") {
-        Ok(LockMode::Exclusive)
-    } else {
-        Err(EventFault::Bad)
+    match Keyword::of(word)? {
+        Keyword::Shared => Ok(LockMode::Shared),
+        Keyword::Exclusive => Ok(LockMode::Exclusive),
+        _ => Err(EventFault::Bad),
     }
 }
 
@@ -196,11 +189,20 @@ pub fn mode(word: &[u8]) -> Result<LockMode, EventFault>
 pub fn member(word: &[u8]) -> Result<bool, EventFault>
     ensures { result ≡ member word.now }
 {
-    if is(word, b"PRIMARY") {
-        Ok(true)
-    } else if is(word, b"BACKUP") {
-        Ok(false)
-    } else {
-        Err(EventFault::Bad)
+    match Keyword::of(word)? {
+        Keyword::Primary => Ok(true),
+        Keyword::Backup => Ok(false),
+        _ => Err(EventFault::Bad),
+    }
+}
+
+/// Refuses a word other than AFTER.
+#[tactic(auto, unfolding(crate::specs::Parsing::after))]
+pub fn after(word: &[u8]) -> Result<(), EventFault>
+    ensures { result ≡ after word.now }
+{
+    match Keyword::of(word)? {
+        Keyword::After => Ok(()),
+        _ => Err(EventFault::Bad),
     }
 }

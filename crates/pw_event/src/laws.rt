@@ -1,4 +1,5 @@
 ghost use Rattle.std.specs.Prelude.{◌≡◌, ◌⊎◌, List, ℕ, Result, Ok, Err};
+ghost use Rattle.pw_code.specs.Limits.{most_fail_lines, most_after};
 ghost use Rattle.pw_code.specs.Valid.{HasNames};
 ghost use Rattle.pw_code.specs.declared.system.System.{System};
 ghost use Rattle.pw_event.specs.Reading.{IsLine, IsLineOf, Reads};
@@ -7,6 +8,14 @@ ghost use Rattle.pw_event.specs.declared.event.Event.{Event};
 ghost use Rattle.pw_event.specs.declared.script.FailLine.{FailLine};
 ghost use Rattle.pw_event.specs.declared.fault.EventFault.{EventFault};
 ghost use Rattle.pw_event.specs.declared.fault.EventFault.TheVariants.{Memory};
+
+use crate::script::{MAX_AFTER, MAX_FAIL_LINES};
+
+/// The constants are the numbers of the table of limits (docs/LIMITS.md).
+pub fn limit_laws()
+    ensures lines { MAX_FAIL_LINES ≡ most_fail_lines }
+    ensures after { MAX_AFTER ≡ most_after }
+{}
 
 /// What lines say of entries, in a system whose names are names: the line of an entry is one of the grammar, two
 /// entries with one line are one, and the line of an entry is read as that entry wherever memory is left.

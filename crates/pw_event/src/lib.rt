@@ -9,17 +9,20 @@ pub mod event;
 pub mod fail_line;
 pub mod fault;
 mod fields;
+mod keyword;
 mod kinds;
 pub mod laws;
-mod lookup;
+#[cfg(test)]
+mod line_tests;
 #[cfg(test)]
 mod malformed_tests;
+mod named;
 pub mod names;
 pub mod printing;
 pub mod reading;
 pub mod script;
 pub mod sentence;
-mod terminals;
+pub mod system_names;
 #[cfg(test)]
 mod tests;
 mod words;

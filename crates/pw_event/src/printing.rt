@@ -1,8 +1,9 @@
-ghost use Rattle.std.specs.Prelude.{◌≡◌, ◌∷◌, [], ◌++◌, map, IfOk, codes, string_bytes};
+ghost use Rattle.std.specs.Prelude.{◌≡◌, ◌∷◌, [], ◌++◌, map, IfOk, IsTrue, codes, string_bytes};
 ghost use Rattle.std.specs.Fmt.{decimal};
 ghost use Rattle.std.specs.List.{AllByRecursion};
-ghost use Rattle.pw_event.specs.declared.event.Event.TheVariants.{Restart};
+ghost use Rattle.pw_event.specs.declared.event.Event.TheVariants.{File, Reply, Restart};
 ghost use Rattle.pw_event.specs.Line.{IsNamed, IsThere, spelling, names_of, op_text, mode_text, member_text, cause_words, ending_words, ending_text, event_text, refresh_number, sentence};
+ghost use Rattle.pw_event.specs.Printing.{is_of_terminal, is_of_unit};
 
 use crate::event::{Cause, Ending, Event};
 use crate::names::{class_name, file_name, pair_name, terminal_name};
@@ -14,9 +15,52 @@ use pw_code::lock::{LockMode, LockRule};
 use pw_code::system::System;
 use std::alloc::{AllocError, Global};
 
-/// The words of an entry, without its number in the log and without a line's end.
+/// The words of an entry, without its number in the log and without a line's end (docs/LOG.md).
 pub fn print_event(alloc: Global, system: &System, event: &Event) -> Result<Bytes, Memory>
     requires { IsNamed system.now event.now }
+    ensures { IfOk result (λ text. text ≡ event_text system.now event.now) }
+{
+    match *event {
+        Event::Take {
+            class,
+            process,
+            terminal,
+        } => {
+            let class = class_name(system, class);
+            print_take(alloc, class, process, terminal_name(system, terminal))
+        }
+        Event::File {
+            class,
+            process,
+            op,
+            mode,
+            file,
+            status,
+        } => print_operation(alloc, system, class, process, op, mode, file, status),
+        Event::Reply {
+            class,
+            process,
+            terminal,
+            fault,
+        } => print_answer(alloc, system, class, process, terminal, fault),
+        Event::FailServer {
+            class,
+            process,
+            line,
+        } => print_fail_server(alloc, class_name(system, class), process, line),
+        Event::FailTcp { tcp, primary, line } => {
+            print_fail_tcp(alloc, pair_name(system, tcp), member_text(primary), line)
+        }
+        Event::Takeover { tcp } => sentence(alloc, &[b"TAKEOVER", pair_name(system, tcp)]),
+        Event::Raise { tcp } => sentence(alloc, &[b"RAISE", pair_name(system, tcp)]),
+        _ => print_of_terminal(alloc, system, event),
+    }
+}
+
+/// The words of an entry of a terminal.
+fn print_of_terminal(alloc: Global, system: &System, event: &Event) -> Result<Bytes, Memory>
+    requires named { IsNamed system.now event.now }
+    requires kind { IsTrue (is_of_terminal event.now) }
     ensures { IfOk result (λ text. text ≡ event_text system.now event.now) }
 {
     match *event {
@@ -31,23 +75,34 @@ pub fn print_event(alloc: Global, system: &System, event: &Event) -> Result<Byte
             sentence(alloc, &[b"SHOW", name, number.as_bytes()])
         }
         Event::Key { terminal, k } => {
-            numbered(alloc, b"KEY", terminal_name(system, terminal), k)
+            named_number(alloc, b"KEY", terminal_name(system, terminal), k)
         }
         Event::CheckStart { terminal } => {
-            sentence(
-                alloc,
-                &[b"CHECK", terminal_name(system, terminal), b"START"],
-            )
+            print_check(alloc, terminal_name(system, terminal), b"START")
         }
-        Event::CheckEnd { terminal } => {
-            sentence(alloc, &[b"CHECK", terminal_name(system, terminal), b"END"])
-        }
+        Event::CheckEnd { terminal } => print_check(alloc, terminal_name(system, terminal), b"END"),
         Event::CheckCopy { terminal } => {
-            sentence(alloc, &[b"CHECK", terminal_name(system, terminal), b"COPY"])
+            print_check(alloc, terminal_name(system, terminal), b"COPY")
         }
         Event::Applied { terminal } => {
             sentence(alloc, &[b"APPLIED", terminal_name(system, terminal)])
         }
+        Event::End { terminal, ending } => {
+            let text = print_ending(alloc, system, ending)?;
+            let name = terminal_name(system, terminal);
+            sentence(alloc, &[b"END", name, text.as_slice()])
+        }
+        _ => print_of_unit(alloc, system, event),
+    }
+}
+
+/// The words of an entry of a terminal's unit.
+fn print_of_unit(alloc: Global, system: &System, event: &Event) -> Result<Bytes, Memory>
+    requires named { IsNamed system.now event.now }
+    requires kind { IsTrue (is_of_unit event.now) }
+    ensures { IfOk result (λ text. text ≡ event_text system.now event.now) }
+{
+    match *event {
         Event::Begin {
             terminal,
             unit,
@@ -57,97 +112,76 @@ pub fn print_event(alloc: Global, system: &System, event: &Event) -> Result<Byte
             terminal,
             unit,
             class,
-        } => print_send(
-            alloc,
-            terminal_name(system, terminal),
-            unit,
-            class_name(system, class),
-        ),
-        Event::Take {
-            class,
-            process,
-            terminal,
-        } => print_take(
-            alloc,
-            class_name(system, class),
-            process,
-            terminal_name(system, terminal),
-        ),
-        Event::File {
-            class,
-            process,
-            op,
-            mode,
-            file,
-            status,
-        } => match system.rule {
-            LockRule::ReadersShare => print_file_with_mode(
-                alloc,
-                class_name(system, class),
-                process,
-                op_text(op),
-                mode_text(mode),
-                file_name(system, file),
-                status,
-            ),
-            LockRule::AllExclusive => print_file(
-                alloc,
-                class_name(system, class),
-                process,
-                op_text(op),
-                file_name(system, file),
-                status,
-            ),
-        },
-        Event::Reply {
-            class,
-            process,
-            terminal,
-            fault,
-        } => match fault {
-            None => print_reply(
-                alloc,
-                class_name(system, class),
-                process,
-                terminal_name(system, terminal),
-            ),
-            Some(fault) => print_fault(
-                alloc,
-                class_name(system, class),
-                process,
-                terminal_name(system, terminal),
-                fault,
-            ),
-        },
+        } => {
+            let class = class_name(system, class);
+            print_send(alloc, terminal_name(system, terminal), unit, class)
+        }
         Event::Again { terminal, unit } => {
-            numbered(alloc, b"AGAIN", terminal_name(system, terminal), unit)
+            named_number(alloc, b"AGAIN", terminal_name(system, terminal), unit)
         }
         Event::Commit { terminal, unit } => {
-            numbered(alloc, b"COMMIT", terminal_name(system, terminal), unit)
+            named_number(alloc, b"COMMIT", terminal_name(system, terminal), unit)
         }
         Event::Back { terminal, unit } => {
-            numbered(alloc, b"BACK", terminal_name(system, terminal), unit)
+            named_number(alloc, b"BACK", terminal_name(system, terminal), unit)
         }
         Event::Restart {
             terminal,
             unit,
             cause,
         } => print_restart(alloc, system, terminal, unit, cause),
-        Event::FailTcp { tcp, primary, line } => {
-            print_fail_tcp(alloc, pair_name(system, tcp), member_text(primary), line)
+        _ => unreachable!(),
+    }
+}
+
+/// CHECK t START, END or COPY.
+fn print_check(alloc: Global, name: &[u8], part: &[u8]) -> Result<Bytes, Memory>
+    ensures { IfOk result (λ text. text ≡ sentence (codes "CHECK" ∷ name.now ∷ part.now ∷ [])) }
+{
+    sentence(alloc, &[b"CHECK", name, part])
+}
+
+/// The words of an operation on a file, with its mode where readers share.
+fn print_operation(
+    alloc: Global,
+    system: &System,
+    class: u32,
+    process: u32,
+    op: FileOp,
+    mode: LockMode,
+    file: u32,
+    status: u16,
+) -> Result<Bytes, Memory>
+    requires { IsNamed system.now (File class process op mode file status) }
+    ensures { IfOk result (λ text. text ≡ event_text system.now (File class process op mode file status)) }
+{
+    let class = class_name(system, class);
+    let (op, file) = (op_text(op), file_name(system, file));
+    match system.rule {
+        LockRule::ReadersShare => {
+            print_file_with_mode(alloc, class, process, op, mode_text(mode), file, status)
         }
-        Event::FailServer {
-            class,
-            process,
-            line,
-        } => print_fail_server(alloc, class_name(system, class), process, line),
-        Event::Takeover { tcp } => sentence(alloc, &[b"TAKEOVER", pair_name(system, tcp)]),
-        Event::Raise { tcp } => sentence(alloc, &[b"RAISE", pair_name(system, tcp)]),
-        Event::End { terminal, ending } => {
-            let text = print_ending(alloc, system, ending)?;
-            let name = terminal_name(system, terminal);
-            sentence(alloc, &[b"END", name, text.as_slice()])
-        }
+        LockRule::AllExclusive => print_file(alloc, class, process, op, file, status),
+    }
+}
+
+/// The words of a process's reply or run fault.
+fn print_answer(
+    alloc: Global,
+    system: &System,
+    class: u32,
+    process: u32,
+    terminal: u32,
+    fault: Option<u16>,
+) -> Result<Bytes, Memory>
+    requires { IsNamed system.now (Reply class process terminal fault) }
+    ensures { IfOk result (λ text. text ≡ event_text system.now (Reply class process terminal fault)) }
+{
+    let class = class_name(system, class);
+    let name = terminal_name(system, terminal);
+    match fault {
+        None => print_reply(alloc, class, process, name),
+        Some(fault) => print_fault(alloc, class, process, name, fault),
     }
 }
 
@@ -185,7 +219,7 @@ fn print_cause(alloc: Global, system: &System, cause: Cause) -> Result<Bytes, Me
 {
     match cause {
         Cause::Older { terminal, unit } => {
-            numbered(alloc, b"OLDER", terminal_name(system, terminal), unit)
+            named_number(alloc, b"OLDER", terminal_name(system, terminal), unit)
         }
         Cause::Takeover(tcp) => sentence(alloc, &[b"TAKEOVER", pair_name(system, tcp)]),
         Cause::Server(line) => {
@@ -197,7 +231,7 @@ fn print_cause(alloc: Global, system: &System, cause: Cause) -> Result<Bytes, Me
 }
 
 /// A word, a name and a number.
-fn numbered(alloc: Global, word: &[u8], name: &[u8], number: u32) -> Result<Bytes, Memory>
+fn named_number(alloc: Global, word: &[u8], name: &[u8], number: u32) -> Result<Bytes, Memory>
     ensures { IfOk result (λ text. text ≡ sentence (word.now ∷ name.now ∷ decimal number ∷ [])) }
 {
     let number = format!(in alloc; "{number}")?;

@@ -7,7 +7,7 @@ pub mod compare;
 pub mod divide;
 pub mod laws;
 pub mod multiply;
-mod power;
+pub mod power;
 pub mod scaled;
 pub mod size_error;
 #[cfg(test)]

@@ -2,16 +2,17 @@
 use Rattle.std.proofs.Common.{◌≡◌, ℕ, zero, suc, ◌+◌, ◌-◌, ◌*◌, ◌<◌, ◌≤◌, min, List, [], ◌∷◌, ◌++◌, length, drop, Option, Some, None, refl, sym, ap, ◌∙◌, arith, append_assoc, get_or, add-one, drop-cons, ◌^◌}
 use Rattle.std.proofs.Math.Nat.{pow-le-pow_right}
 use Rattle.std.proofs.lemmas.Nat.{pow-add}
-use Rattle.std.specs.Option.{option_and_then}
+use Rattle.std.specs.Option.{option_and_then, option_map}
 use Rattle.std.specs.Prelude.{replicate}
-use Rattle.pw_picture.specs.Symbols.{value_behind, count_behind, symbols_behind, with_front}
+use Rattle.pw_picture.specs.Symbols.{longest, value_behind, count_behind, symbols_behind, with_front}
+use Rattle.pw_picture.specs.Runs.{capped}
 
 -- a value may be cut on the way to its cut value
-pub capped : (x limit : ℕ) (digits : List ℕ) → min (value_behind (min x limit) digits) limit ≡ min (value_behind x digits) limit
-capped x limit [] = omega arith
-capped x limit (digit ∷ digits) =
+cut_before : (x limit : ℕ) (digits : List ℕ) → min (value_behind (min x limit) digits) limit ≡ min (value_behind x digits) limit
+cut_before x limit [] = omega arith
+cut_before x limit (digit ∷ digits) =
     let once : min (10 * min x limit + (digit - 48)) limit ≡ min (10 * x + (digit - 48)) limit = omega arith in
-    sym (capped (10 * min x limit + (digit - 48)) limit digits) ∙ ap (λ m. min (value_behind m digits) limit) once ∙ capped (10 * x + (digit - 48)) limit digits
+    sym (cut_before (10 * min x limit + (digit - 48)) limit digits) ∙ ap (λ m. min (value_behind m digits) limit) once ∙ cut_before (10 * x + (digit - 48)) limit digits
 
 -- to skip characters is to read what is behind them
 pub symbols_behind-drop : (skip : ℕ) (text : List ℕ) → symbols_behind skip text ≡ symbols_behind 0 (drop skip text)
@@ -40,7 +41,7 @@ pub count_step : (value i next limit : ℕ) (digits : List ℕ) → i < length d
     → min (value_behind next (drop (i + 1) digits)) limit ≡ min (value_behind value (drop i digits)) limit
 count_step value i next limit digits within is =
     ap (λ n. min (value_behind n (drop (i + 1) digits)) limit) is
-    ∙ capped (10 * value + (get_or digits i 0 - 48)) limit (drop (i + 1) digits)
+    ∙ cut_before (10 * value + (get_or digits i 0 - 48)) limit (drop (i + 1) digits)
     ∙ rw (add-one, drop-cons digits i 0) refl
 
 -- at most 18 digits are below ten to that power
@@ -49,3 +50,13 @@ power_bound i h = pow-le-pow_right (omega arith) h
 
 pub one_more_fits : (value i : ℕ) → value < 10 ^ i → i < 18 → 10 * value + 10 ≤ 10 ^ 18
 one_more_fits value i below few = omega (arith, pow-add 10 i 1, power_bound (i + 1) (omega arith))
+
+-- a count that is not cut is the count
+pub uncapped : (found : Option (ℕ × ℕ)) (count size : ℕ) → Some (count, size) ≡ option_map capped found → count ≤ longest → found ≡ Some (count, size)
+uncapped None count size is short = absurd cc
+uncapped (Some (whole, behind)) count size is short =
+    let same : (count, size) ≡ capped (whole, behind) = cc in
+    let counts : count ≡ min whole (longest + 1) = ap (λ (p : ℕ × ℕ). p.0) same in
+    let sizes : size ≡ behind = ap (λ (p : ℕ × ℕ). p.1) same in
+    let uncut : whole ≡ count = omega arith in
+    cc

@@ -2,3 +2,4 @@ pub mod Counts
 pub mod DigitSymbols
 pub mod Digits
 pub mod Reading
+pub mod RunLemmas

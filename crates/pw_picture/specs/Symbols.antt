@@ -1,5 +1,5 @@
 -- The symbols that a picture's text stands for, with its counts written out.
-use Rattle.std.specs.Prelude.{ℕ, zero, suc, ◌+◌, ◌-◌, ◌*◌, min, nat_le, Bool, false, ◌&&◌, ◌||◌, ◌==◌, List, [], ◌∷◌, ◌++◌, length, drop, take_while, replicate, Option, Some, None, if◌then◌else◌}
+use Rattle.std.specs.Prelude.{ℕ, zero, suc, ◌+◌, ◌-◌, ◌*◌, nat_le, Bool, false, ◌&&◌, ◌||◌, ◌==◌, List, [], ◌∷◌, ◌++◌, length, drop, take_while, replicate, Option, Some, None, if◌then◌else◌}
 use Rattle.std.specs.Char.{is_ascii_digit}
 use Rattle.std.specs.Option.{option_and_then, option_map}
 
@@ -21,15 +21,12 @@ begins_with wanted (found ∷ rest) = found == wanted
 abbrev pub longest : ℕ
 longest = 32000
 
--- the value of a count; more than the longest picture is one more than it, which is too long as well
-abbrev pub count_of : List ℕ → ℕ
-count_of digits = min (value_behind 0 digits) (longest + 1)
-
 -- how often a symbol stands whose count begins behind a `(`, and how many characters the count takes
 abbrev pub count_in : List ℕ → Option (ℕ × ℕ)
 count_in text =
     let digits = take_while is_ascii_digit text in
-    if nat_le 1 (count_of digits) && begins_with 41 (drop (length digits) text) then Some (count_of digits, length digits + 2) else None
+    let count = value_behind 0 digits in
+    if nat_le 1 count && begins_with 41 (drop (length digits) text) then Some (count, length digits + 2) else None
 
 -- the same behind a symbol: once, where no count follows
 abbrev pub count_behind : ℕ → List ℕ → Option (ℕ × ℕ)

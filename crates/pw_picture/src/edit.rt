@@ -1,13 +1,26 @@
 ghost use Rattle.std.specs.Prelude.{◌≡◌, ◌==◌, ◌<◌, ◌≤◌, ◌^◌, Bool, false, not, ◌&&◌, length, drop, take_while, IsTrue};
-ghost use Rattle.pw_picture.specs.Grammar.{IsPicture, size_of, digit_symbols};
+ghost use Rattle.pw_picture.specs.Grammar.{IsPicture, size_of, is_either, digit_symbols};
 ghost use Rattle.pw_picture.specs.Stored.{is_negative};
 ghost use Rattle.pw_picture.specs.Edited.{is_edited_picture, places_of, digit_at, is_blank, shown, shown_from, shown_size, edited};
 
-use crate::edited::digit_symbols;
 use crate::picture::Picture;
-use crate::power::power_of_ten;
 use crate::store::low_digits;
+use pw_number::power::power_of_ten;
 use pw_number::scaled::Scaled;
+
+/// Whether a symbol is a digit.
+fn is_digit(symbol: u8) -> bool
+    ensures { result ≡ is_either 57 90 symbol }
+{
+    symbol == b'9' || symbol == b'Z'
+}
+
+/// How many of the symbols are digits.
+fn digit_symbols(symbols: &[u8]) -> usize
+    ensures { result ≡ digit_symbols symbols.now }
+{
+    symbols.iter().filter(|symbol| is_digit(**symbol)).count()
+}
 
 /// How many symbols are in front of the point.
 fn before_point(symbols: &[u8]) -> usize
@@ -44,17 +57,19 @@ fn shown(nine: bool, negative: bool, size: u64, weight: u8, symbol: u8) -> u8
     }
 }
 
-/// Writes what the symbols show.
-fn write_shown(negative: bool, size: u64, symbols: &[u8], into: &mut [u8])
+/// Writes what the symbols show, one after the other. The digits that are left are counted down.
+fn write_shown(negative: bool, size: u64, digits: u8, symbols: &[u8], into: &mut [u8])
     requires size { length into.old ≡ length symbols.now }
-    requires digits { digit_symbols symbols.now ≤ 18 }
+    requires digits { digits ≡ digit_symbols symbols.now }
+    requires few { digits ≤ 18 }
     ensures { into.new ≡ shown_from false negative size symbols.now }
 {
     let mut nine = false;
+    let mut behind = digits;
     for at in 0..symbols.len() {
         let symbol = symbols[at];
-        let weight = digit_symbols(&symbols[at + 1..]);
-        into[at] = shown(nine, negative, size, weight as u8, symbol);
+        behind -= is_digit(symbol) as u8;
+        into[at] = shown(nine, negative, size, behind, symbol);
         nine = nine || symbol == b'9';
     }
 }
@@ -68,7 +83,7 @@ fn shows_minus(value: Scaled, size: u64) -> bool
 
 impl Picture {
     /// Writes a number as it is edited for a screen: its digits stand at the point, high digits are
-    /// dropped and decimals beyond the picture's are cut. The picture is an Edited.
+    /// dropped and decimals beyond the picture's are cut. The picture is an Edited. It is one pass over the symbols.
     pub fn edit(&self, value: Scaled, into: &mut [u8])
         requires picture { IsPicture self.now }
         requires edited { IsTrue (is_edited_picture self.now) }
@@ -77,9 +92,10 @@ impl Picture {
     {
         if let Picture::Edited { symbols } = self {
             let symbols = symbols.as_slice();
-            let places = places_of(symbols);
-            let size = low_digits(value, places as u8, digit_symbols(symbols) as u8);
-            write_shown(shows_minus(value, size), size, symbols, into);
+            let places = places_of(symbols) as u8;
+            let digits = digit_symbols(symbols) as u8;
+            let size = low_digits(value, places, digits);
+            write_shown(shows_minus(value, size), size, digits, symbols, into);
         }
     }
 }

@@ -1,74 +1,91 @@
-ghost use Rattle.std.specs.Prelude.{◌≡◌, ◌≤◌, length, take_while};
+ghost use Rattle.std.specs.Prelude.{◌≡◌, ◌≤◌, ◌∷◌, [], length, take_while};
+ghost use Rattle.pw_picture.specs.Symbols.{longest};
 ghost use Rattle.pw_picture.specs.Grammar.{is_either, past, is_end, is_tail, is_body, digit_symbols, is_edited};
+ghost use Rattle.pw_picture.specs.Runs.{spread};
 
-use crate::number::{after, is_run_of};
-use crate::symbols::begins_with;
+use crate::number::{after, are_run_of};
+use crate::run::Run;
+use crate::runs::{are_none, begin_with, strip};
 
-/// How many of the symbols in front are one of the two.
-fn in_front(first: u8, second: u8, symbols: &[u8]) -> usize
-    ensures count { result ≡ length (take_while (is_either first second) symbols.now) }
-    ensures bound { result ≤ length symbols.now }
+/// How many of the runs in front are of one of the two symbols.
+fn in_front(first: u8, second: u8, runs: &[Run]) -> usize
+    ensures count { result ≡ length (take_while (λ run. is_either first second run.symbol) runs.now) }
+    ensures bound { result ≤ length runs.now }
 {
-    symbols
-        .iter()
-        .take_while(|symbol| **symbol == first || **symbol == second)
+    runs.iter()
+        .take_while(|run| run.symbol == first || run.symbol == second)
         .count()
 }
 
 /// What is behind those in front that are one of the two symbols.
-fn past(first: u8, second: u8, symbols: &[u8]) -> &[u8]
-    ensures { result.now ≡ past first second symbols.now }
+fn past(first: u8, second: u8, runs: &[Run]) -> &[Run]
+    ensures { spread result.now ≡ past first second (spread runs.now) }
 {
-    &symbols[in_front(first, second, symbols)..]
+    let (_, behind) = runs.split_at(in_front(first, second, runs));
+    behind
 }
 
 /// Whether the symbols end an edited picture: nothing, or a `-` where there is no leading one.
-fn is_end(leading: bool, symbols: &[u8]) -> bool
-    ensures { result ≡ is_end leading symbols.now }
+fn is_end(leading: bool, runs: &[Run]) -> bool
+    ensures { result ≡ is_end leading (spread runs.now) }
 {
-    match symbols {
-        [] => true,
-        [last, rest @ ..] => !leading && *last == b'-' && rest.is_empty(),
+    match strip(b'-', runs) {
+        Some(rest) => !leading && are_none(rest),
+        None => are_none(runs),
     }
 }
 
 /// Whether the symbols are an optional point with decimals, and an end.
-fn is_tail(leading: bool, symbols: &[u8]) -> bool
-    ensures { result ≡ is_tail leading symbols.now }
+fn is_tail(leading: bool, runs: &[Run]) -> bool
+    ensures { result ≡ is_tail leading (spread runs.now) }
 {
-    match symbols {
-        [b'.', rest @ ..] => begins_with(b'9', rest) && is_end(leading, past(b'9', b'9', rest)),
-        _ => is_end(leading, symbols),
+    match strip(b'.', runs) {
+        Some(rest) => begin_with(b'9', rest) && is_end(leading, past(b'9', b'9', rest)),
+        None => is_end(leading, runs),
     }
 }
 
 /// Whether the symbols behind a leading `-` are digits in order, and a tail.
-fn is_body(leading: bool, symbols: &[u8]) -> bool
-    ensures { result ≡ is_body leading symbols.now }
+fn is_body(leading: bool, runs: &[Run]) -> bool
+    ensures { result ≡ is_body leading (spread runs.now) }
 {
-    if leading && begins_with(b',', symbols) {
+    if leading && begin_with(b',', runs) {
         return false;
     }
-    is_tail(leading, past(b'9', b',', past(b'Z', b',', symbols)))
+    is_tail(leading, past(b'9', b',', past(b'Z', b',', runs)))
+}
+
+/// How many of the symbols of a run are digits.
+fn digits_in(run: Run) -> u32
+    ensures { result ≡ digit_symbols (spread (run ∷ [])) }
+{
+    if run.symbol == b'9' || run.symbol == b'Z' {
+        run.count
+    } else {
+        0
+    }
 }
 
 /// How many of the symbols are digits.
-pub fn digit_symbols(symbols: &[u8]) -> usize
-    ensures { result ≡ digit_symbols symbols.now }
+fn digit_symbols(runs: &[Run]) -> usize
+    requires { length (spread runs.now) ≤ longest }
+    ensures { result ≡ digit_symbols (spread runs.now) }
 {
-    symbols
-        .iter()
-        .filter(|symbol| **symbol == b'9' || **symbol == b'Z')
-        .count()
+    let mut digits: usize = 0;
+    for run in runs {
+        digits += digits_in(*run) as usize;
+    }
+    digits
 }
 
 /// Whether the symbols are an edited picture.
-pub fn is_edited(symbols: &[u8]) -> bool
-    ensures { result ≡ is_edited symbols.now }
+pub fn is_edited(runs: &[Run]) -> bool
+    requires { length (spread runs.now) ≤ longest }
+    ensures { result ≡ is_edited (spread runs.now) }
 {
-    let digits = digit_symbols(symbols);
-    is_body(begins_with(b'-', symbols), after(b'-', symbols))
+    let digits = digit_symbols(runs);
+    is_body(begin_with(b'-', runs), after(b'-', runs))
         && digits >= 1
         && digits <= 18
-        && !is_run_of(b'9', symbols)
+        && !are_run_of(b'9', runs)
 }

@@ -1,26 +1,32 @@
-ghost use Rattle.std.specs.Prelude.{◌≡◌, ◌≤◌, length, IfSome};
+ghost use Rattle.std.specs.Prelude.{◌≡◌, ◌≤◌, Some, None, Err, length, IfOk};
 ghost use Rattle.pw_picture.specs.Symbols.{longest};
 ghost use Rattle.pw_picture.specs.Grammar.{kind_of, IsPicture};
+ghost use Rattle.pw_picture.specs.Runs.{spread};
 
 use crate::edited::is_edited;
-use crate::number::{is_run_of, number_of};
+use crate::fault::PictureFault;
+use crate::number::{are_run_of, number_of};
 use crate::picture::Picture;
-use pw_base::bytes::Bytes;
+use crate::run::Run;
+use crate::runs::{length_of, written_out};
+use std::alloc::Global;
 
-/// The picture of these symbols.
-pub fn kind_of(symbols: Bytes) -> Option<Picture>
-    requires { length symbols ≤ longest }
-    ensures kind { result ≡ kind_of symbols }
-    ensures valid { IfSome result (λ picture. IsPicture picture) }
+/// The picture of these symbols. It takes memory for an edited one alone. It is `Bad` exactly where
+/// they are none.
+pub fn kind_of(alloc: Global, runs: &[Run]) -> Result<Picture, PictureFault>
+    requires { length (spread runs.now) ≤ longest }
+    ensures kind { IfOk result (λ picture. kind_of (spread runs.now) ≡ Some picture) }
+    ensures valid { IfOk result (λ picture. IsPicture picture) }
+    ensures bad { result ≡ Err PictureFault.Bad → kind_of (spread runs.now) ≡ None }
 {
-    let found = symbols.as_slice();
-    if is_run_of(b'X', found) {
-        return Some(Picture::Text {
-            size: found.len() as u16,
+    if are_run_of(b'X', runs) {
+        return Ok(Picture::Text {
+            size: length_of(runs) as u16,
         });
     }
-    if is_edited(found) {
-        return Some(Picture::Edited { symbols });
+    if is_edited(runs) {
+        let symbols = written_out(alloc, runs)?;
+        return Ok(Picture::Edited { symbols });
     }
-    number_of(found)
+    number_of(runs).ok_or(PictureFault::Bad)
 }

@@ -9,8 +9,9 @@ mod kind;
 pub mod laws;
 mod number;
 pub mod picture;
-mod power;
 mod read;
+mod run;
+mod runs;
 mod store;
 mod symbols;
 #[cfg(test)]

@@ -1,58 +1,56 @@
-ghost use Rattle.std.specs.Prelude.{◌≡◌, ◌==◌, ◌+◌, ◌^◌, ◌<◌, ◌≤◌, length, take_while};
+ghost use Rattle.std.specs.Prelude.{◌≡◌, ◌==◌, ◌+◌, ◌^◌, ◌<◌, ◌≤◌, false, length, take_while, IfSome};
 ghost use Rattle.std.specs.List.{list_all};
+ghost use Rattle.pw_picture.specs.Symbols.{may_repeat, longest};
 ghost use Rattle.pw_picture.specs.Grammar.{is_run_of, after, decimals, number_with, number_of};
+ghost use Rattle.pw_picture.specs.Runs.{spread};
 
 use crate::picture::Picture;
-use crate::symbols::begins_with;
+use crate::run::Run;
+use crate::runs::{are_none, begin_with, length_of, strip};
 
 /// The most digits of a number.
 const MOST_DIGITS: usize = 18;
 
 /// Whether all symbols are this one.
-fn are_all(symbol: u8, symbols: &[u8]) -> bool
-    ensures { result ≡ list_all (λ found. found == symbol) symbols.now }
+fn are_all(symbol: u8, runs: &[Run]) -> bool
+    ensures { result ≡ list_all (λ run. run.symbol == symbol) runs.now }
 {
-    symbols.iter().all(|found| *found == symbol)
+    runs.iter().all(|run| run.symbol == symbol)
 }
 
 /// Whether there are one or more symbols, and all are this one.
-pub fn is_run_of(symbol: u8, symbols: &[u8]) -> bool
-    ensures { result ≡ is_run_of symbol symbols.now }
+pub fn are_run_of(symbol: u8, runs: &[Run]) -> bool
+    ensures { result ≡ is_run_of symbol (spread runs.now) }
 {
-    symbols.len() >= 1 && are_all(symbol, symbols)
+    !are_none(runs) && are_all(symbol, runs)
 }
 
-/// What is behind a symbol in front, where it is there.
-pub fn after(symbol: u8, symbols: &[u8]) -> &[u8]
-    ensures { result.now ≡ after symbol symbols.now }
+/// What is behind a symbol in front, where it is there. The symbol may not have a count.
+pub fn after(symbol: u8, runs: &[Run]) -> &[Run]
+    requires { may_repeat symbol ≡ false }
+    ensures { spread result.now ≡ after symbol (spread runs.now) }
 {
-    match symbols {
-        [first, rest @ ..] if *first == symbol => rest,
-        _ => symbols,
-    }
+    strip(symbol, runs).unwrap_or(runs)
 }
 
-/// How many nines are in front.
-fn nines_in_front(symbols: &[u8]) -> usize
-    ensures nines { result ≡ length (take_while (λ symbol. symbol == 57) symbols.now) }
-    ensures bound { result ≤ length symbols.now }
+/// How many runs of nines are in front.
+fn nines_in_front(runs: &[Run]) -> usize
+    ensures nines { result ≡ length (take_while (λ run. run.symbol == 57) runs.now) }
+    ensures bound { result ≤ length runs.now }
 {
-    symbols.iter().take_while(|symbol| **symbol == b'9').count()
+    runs.iter().take_while(|run| run.symbol == b'9').count()
 }
 
 /// The decimals behind a number's nines.
-fn decimals(symbols: &[u8]) -> Option<usize>
-    ensures { result ≡ decimals symbols.now }
+fn decimals(runs: &[Run]) -> Option<usize>
+    requires { length (spread runs.now) ≤ longest }
+    ensures decimals { result ≡ decimals (spread runs.now) }
+    ensures few { IfSome result (λ places. places ≤ longest) }
 {
-    match symbols {
-        [] => Some(0),
-        [point, rest @ ..] => {
-            if *point == b'V' && is_run_of(b'9', rest) {
-                Some(rest.len())
-            } else {
-                None
-            }
-        }
+    match strip(b'V', runs) {
+        Some(rest) if are_run_of(b'9', rest) => Some(length_of(rest)),
+        None if are_none(runs) => Some(0),
+        _ => None,
     }
 }
 
@@ -74,12 +72,12 @@ fn number_with(signed: bool, whole: usize, places: usize) -> Option<Picture>
 }
 
 /// The number that the symbols are.
-pub fn number_of(symbols: &[u8]) -> Option<Picture>
-    requires { length symbols.now ≤ 32000 }
-    ensures { result ≡ number_of symbols.now }
+pub fn number_of(runs: &[Run]) -> Option<Picture>
+    requires { length (spread runs.now) ≤ longest }
+    ensures { result ≡ number_of (spread runs.now) }
 {
-    let body = after(b'S', symbols);
-    let whole = nines_in_front(body);
-    let places = decimals(&body[whole..])?;
-    number_with(begins_with(b'S', symbols), whole, places)
+    let body = after(b'S', runs);
+    let (whole, behind) = body.split_at(nines_in_front(body));
+    let places = decimals(behind)?;
+    number_with(begin_with(b'S', runs), length_of(whole), places)
 }

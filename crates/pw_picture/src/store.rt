@@ -4,7 +4,7 @@ ghost use Rattle.pw_picture.specs.Grammar.{IsPicture, size_of};
 ghost use Rattle.pw_picture.specs.Stored.{is_number, size_at, sign_of, digits_of, chars_of, is_negative, moved, is_kept, stored};
 
 use crate::picture::Picture;
-use crate::power::power_of_ten;
+use pw_number::power::power_of_ten;
 use pw_number::scaled::Scaled;
 use pw_number::size_error::SizeError;
 

@@ -7,30 +7,36 @@ use crate::grammar::picture;
 use crate::picture::Picture;
 use crate::text::move_text;
 use pw_number::scaled::Scaled;
+use std::alloc::{AllocError, Global};
 use std::process::Abort;
 use std::test::Fail;
 
-/// What a picture is, in short.
-fn shown(alloc: std::alloc::Global, picture: &Picture) -> Result<String, std::alloc::AllocError> {
-    match picture {
-        Picture::Text { size } => format!(in alloc; "X{size}"),
-        Picture::Number {
-            digits,
-            places,
-            signed,
-        } => format!(in alloc; "{digits} {places} {signed}"),
-        Picture::Edited { symbols } => format!(in alloc; "E{}", symbols.len()),
+/// What a text is as a picture, in short.
+fn read(alloc: Global, text: &[u8]) -> Result<String, AllocError> {
+    match picture(alloc, text) {
+        Ok(Picture::Text { size }) => format!(in alloc; "X{size}"),
+        Ok(
+            Picture::Number {
+                digits,
+                places,
+                signed,
+            },
+        ) => format!(in alloc; "{digits} {places} {signed}"),
+        Ok(Picture::Edited { symbols }) => format!(in alloc; "E{}", symbols.len()),
+        Err(PictureFault::Bad) => format!(in alloc; "bad"),
+        Err(PictureFault::Memory) => format!(in alloc; "no memory"),
     }
 }
 
 #[test]
-fn pictures_are_read(rt: HostRuntime) -> Result<(), Fail> {
+fn pictures_are_read_and_other_texts_are_bad(rt: HostRuntime) -> Result<(), Fail> {
     for (text, wanted) in [
         ("X", "X1"),
         ("XX", "X2"),
         ("X(3)", "X3"),
         ("X(003)X", "X4"),
         ("X(32000)", "X32000"),
+        ("X(16000)X(16000)", "X32000"),
         ("9", "1 0 false"),
         ("99", "2 0 false"),
         ("9(2)9", "3 0 false"),
@@ -47,65 +53,62 @@ fn pictures_are_read(rt: HostRuntime) -> Result<(), Fail> {
         (".99", "E3"),
         ("Z(3).9(2)", "E6"),
         ("9.9", "E3"),
+        ("", "bad"),
+        ("x(3)", "bad"),
+        ("X(0)", "bad"),
+        ("X(000)", "bad"),
+        ("X()", "bad"),
+        ("X(3", "bad"),
+        ("X3)", "bad"),
+        ("(3)", "bad"),
+        ("X(-1)", "bad"),
+        ("X(32001)", "bad"),
+        ("X(32000)X", "bad"),
+        ("X(99999999999999999999)", "bad"),
+        ("X9", "bad"),
+        ("9X", "bad"),
+        ("A", "bad"),
+        ("S", "bad"),
+        ("V", "bad"),
+        ("SX", "bad"),
+        ("S(2)9", "bad"),
+        ("9S", "bad"),
+        ("99V", "bad"),
+        ("9V9V9", "bad"),
+        ("V(2)9", "bad"),
+        ("9(19)", "bad"),
+        ("9(18)V9", "bad"),
+        ("SS9", "bad"),
+        ("-", "bad"),
+        ("-,9", "bad"),
+        ("--9", "bad"),
+        ("-9-", "bad"),
+        ("9--", "bad"),
+        ("9Z", "bad"),
+        ("9,Z", "bad"),
+        ("9.", "bad"),
+        ("9.Z", "bad"),
+        ("Z(19)", "bad"),
+        (",(2)9", "bad"),
+        ("-(2)9", "bad"),
+        ("9.9.9", "bad"),
+        ("9.9,9", "bad"),
+        (",", "bad"),
+        (".", "bad"),
+        ("9 9", "bad"),
+        ("Z.9Z", "bad"),
+        ("X(3),", "bad"),
+        ("Z(9999)", "bad"),
+        ("9(9999)", "bad"),
+        ("X(16000)X(16001)", "bad"),
     ] {
-        let picture = picture(rt.alloc(), text.as_bytes()).ok().ok_or("none")?;
-        assert_eq!(rt; shown(rt.alloc(), &picture)?.as_str(), wanted, "{text}");
+        assert_eq!(rt;
+            read(rt.alloc(), text.as_bytes())?.as_str(),
+            wanted,
+            "{text}"
+        );
     }
     Ok(())
-}
-
-#[test]
-fn other_texts_are_bad(rt: HostRuntime) {
-    for text in [
-        "",
-        "x(3)",
-        "X(0)",
-        "X(000)",
-        "X()",
-        "X(3",
-        "X3)",
-        "(3)",
-        "X(-1)",
-        "X(32001)",
-        "X(32000)X",
-        "X(99999999999999999999)",
-        "X9",
-        "9X",
-        "A",
-        "S",
-        "V",
-        "SX",
-        "S(2)9",
-        "9S",
-        "99V",
-        "9V9V9",
-        "V(2)9",
-        "9(19)",
-        "9(18)V9",
-        "SS9",
-        "-",
-        "-,9",
-        "--9",
-        "-9-",
-        "9--",
-        "9Z",
-        "9,Z",
-        "9.",
-        "9.Z",
-        "Z(19)",
-        ",(2)9",
-        "-(2)9",
-        "9.9.9",
-        "9.9,9",
-        ",",
-        ".",
-        "9 9",
-        "Z.9Z",
-        "X(3),",
-    ] {
-        let found = picture(rt.alloc(), text.as_bytes());
-        assert!(rt; matches!(found, Err(PictureFault::Bad)), "{text}");
-    }
 }
 
 #[test]
@@ -152,7 +155,7 @@ fn store_and_move(
 }
 
 /// The number that an item's characters are.
-fn read(rt: &impl Abort, places: u8, signed: bool, chars: &[u8]) -> Scaled {
+fn read_number(rt: &impl Abort, places: u8, signed: bool, chars: &[u8]) -> Scaled {
     assert!(rt; places <= 3);
     let picture = number_picture(places, signed);
     assert!(rt; chars.len() == picture.size() as usize);
@@ -199,12 +202,13 @@ fn numbers_are_read(rt: HostRuntime) -> Result<(), Fail> {
         ("1234", 234),
     ] {
         assert!(rt;
-            read(&rt, 2, true, chars.as_bytes()) == Scaled::new(units, 2).ok_or("too large")?
+            read_number(&rt, 2, true, chars.as_bytes()) == Scaled::new(units, 2).ok_or("too large")?
         );
     }
     for (chars, units) in [("-12", 12), ("999", 999), ("   ", 0)] {
         assert!(rt;
-            read(&rt, 0, false, chars.as_bytes()) == Scaled::new(units, 0).ok_or("too large")?
+            read_number(&rt, 0, false, chars.as_bytes())
+                == Scaled::new(units, 0).ok_or("too large")?
         );
     }
     Ok(())

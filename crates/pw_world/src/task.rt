@@ -79,7 +79,7 @@ pub fn run_task(system: &System, task: Task) -> Result<Outcome, Memory>
             over,
         });
     };
-    let mut work = given.copy(given.allocator())?;
+    let mut work = given.duplicate()?;
     let verb = verb(system, &mut work)?;
     Ok(Outcome {
         actor,

@@ -309,7 +309,7 @@ fn work_of(context: &Context) -> Result<Option<Context>, Memory>
     if context.at_verb {
         return Ok(None);
     }
-    let work = context.copy(context.allocator())?;
+    let work = context.duplicate()?;
     Ok(Some(work))
 }
 

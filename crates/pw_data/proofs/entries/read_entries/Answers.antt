@@ -8,12 +8,12 @@ use Rattle.pw_data.proofs.entries.read_entries.Goals as goal
 
 pub returns-clause-entries : goal.returns-clause-entries
 returns-clause-entries c =
-    let none : length c.loop-rest.rest.now ≡ 0 = eqb-true (length c.loop-rest.rest.now) 0 (sym c.loop-rest-test.ensures) in
-    sym (ap (λ parts. c.loop-rest.entries.items ++ entries_of c.args.server c.args.text.now parts) (parts-none c.args.text.now c.loop-rest.found.linked c.loop-rest.rest.now none) ∙ append-nil c.loop-rest.entries.items)
-    ∙ c.loop-rest.invariant.entries
+    let none : length c.loop-cursor.cursor.tokens ≡ 0 = eqb-true (length c.loop-cursor.cursor.tokens) 0 (sym c.loop-cursor-test.ensures) in
+    sym (ap (λ parts. c.loop-cursor.found.entries.items ++ entries_of c.args.server c.args.text.now parts) (parts-none c.args.text.now c.loop-cursor.found.linked c.loop-cursor.cursor.tokens none) ∙ append-nil c.loop-cursor.found.entries.items)
+    ∙ c.loop-cursor.invariant.entries
 
 pub returns-clause-faults : goal.returns-clause-faults
 returns-clause-faults c =
-    let none : length c.loop-rest.rest.now ≡ 0 = eqb-true (length c.loop-rest.rest.now) 0 (sym c.loop-rest-test.ensures) in
-    sym (ap (λ parts. least c.loop-rest.found.known (faults_of_parts c.args.server c.args.text.now parts)) (parts-none c.args.text.now c.loop-rest.found.linked c.loop-rest.rest.now none))
-    ∙ c.loop-rest.invariant.faults
+    let none : length c.loop-cursor.cursor.tokens ≡ 0 = eqb-true (length c.loop-cursor.cursor.tokens) 0 (sym c.loop-cursor-test.ensures) in
+    sym (ap (λ parts. least c.loop-cursor.found.known (faults_of_parts c.args.server c.args.text.now parts)) (parts-none c.args.text.now c.loop-cursor.found.linked c.loop-cursor.cursor.tokens none))
+    ∙ c.loop-cursor.invariant.faults

@@ -5,11 +5,13 @@ use Rattle.pw_data.specs.Parts.{parts_from, parts_of}
 use Rattle.pw_data.specs.Entries.{faults_of_parts, entries_of}
 use Rattle.pw_data.proofs.entries.read_entries.Given as goal
 
-abbrev pub invariant-loop-rest : goal.invariant-loop-rest
-invariant-loop-rest l = record {
-  entries : l.entries.items ++ entries_of l.server l.text (parts_from l.text l.found.linked 0 l.rest) ≡ entries_of l.server l.text (parts_of l.text l.tokens);
-  faults : least l.found.known (faults_of_parts l.server l.text (parts_from l.text l.found.linked 0 l.rest)) ≡ least None (faults_of_parts l.server l.text (parts_of l.text l.tokens));
+abbrev pub invariant-loop-cursor : goal.invariant-loop-cursor
+invariant-loop-cursor l = record {
+  text : l.cursor.text ≡ l.text;
+  server : l.found.server ≡ l.server;
+  entries : l.found.entries.items ++ entries_of l.server l.text (parts_from l.text l.found.linked 0 l.cursor.tokens) ≡ entries_of l.server l.text (parts_of l.text l.tokens);
+  faults : least l.found.known (faults_of_parts l.server l.text (parts_from l.text l.found.linked 0 l.cursor.tokens)) ≡ least None (faults_of_parts l.server l.text (parts_of l.text l.tokens));
 }
 
-abbrev pub decreases-loop-rest : goal.decreases-loop-rest
-decreases-loop-rest l = length l.rest
+abbrev pub decreases-loop-cursor : goal.decreases-loop-cursor
+decreases-loop-cursor l = length l.cursor.tokens

@@ -5,9 +5,10 @@ use Rattle.pw_data.proofs.parts.entry_size.Given as goal
 
 abbrev pub invariant-loop-token : goal.invariant-loop-token
 invariant-loop-token l = record {
-  within : l.size + length l.rest ≡ length l.tokens;
-  so_far : l.size + entry_size l.text l.rest ≡ entry_size l.text l.tokens;
+  text : l.ahead.text ≡ l.cursor.text;
+  within : l.size + length l.ahead.tokens ≡ length l.cursor.tokens;
+  so_far : l.size + entry_size l.ahead.text l.ahead.tokens ≡ entry_size l.cursor.text l.cursor.tokens;
 }
 
 abbrev pub decreases-loop-token : goal.decreases-loop-token
-decreases-loop-token l = length l.rest
+decreases-loop-token l = length l.ahead.tokens

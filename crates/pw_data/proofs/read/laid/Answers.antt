@@ -7,7 +7,7 @@ use Rattle.pw_data.proofs.Within.{within-laid}
 use Rattle.pw_data.proofs.read.laid.Goals as goal
 
 pub lay-requires : goal.lay-requires
-lay-requires c = too_large-none 0 (forest c.args.entries.now) (omega arith) c.requires.small
+lay-requires c = record { size = too_large-none 0 (forest c.args.entries.now) (omega arith) c.requires.small; kept = c.requires.kept }
 
 pub new-requires : goal.new-requires
 new-requires c =

@@ -1,9 +1,10 @@
 use Rattle.std.proofs.Common.{◌≡◌, Ok, length, All, sym, ap, ◌∙◌, subst}
 use Rattle.pw_base.specs.First.{unless}
+use Rattle.pw_data.specs.Entries.{IsKept}
 use Rattle.pw_data.specs.Tree.{forest}
 use Rattle.pw_data.specs.Laid.{size_in, items_in, chars_in}
 use Rattle.pw_data.specs.Layouts.{FitsPicture, no_table, laid, entries_in}
-use Rattle.pw_data.proofs.StoreLaws.{length-of_layout, pictures-of_layout}
+use Rattle.pw_data.proofs.StoreLaws.{length-of_layout, pictures-of_layout, kept-of_layout}
 use Rattle.pw_data.proofs.Outcomes.{outcome}
 use Rattle.pw_data.proofs.read.layout.Goals as goal
 
@@ -14,6 +15,14 @@ laid-requires-clause-size c =
     let is_laid = found ∙ ap (λ fault. unless fault (laid c.args.text.now c.deref.result.now)) c.in-None.is in
     subst (λ entries. length (chars_in c.args.text.now (forest entries)) ≡ size_in (forest entries)) (sym (c.deref-in-None.ensures.value ∙ c.in_ok-entries.ensures.entries))
     (length-of_layout c.args.text.now c.args.tokens.now c.args.server (laid c.args.text.now c.deref.result.now) is_laid)
+
+pub laid-requires-clause-kept : goal.laid-requires-clause-kept
+laid-requires-clause-kept c =
+    let same : c.deref.result.now ≡ entries_in c.args.text.now c.args.tokens.now c.args.server = c.deref.ensures.value ∙ c.in_ok-entries.ensures.entries in
+    let found = outcome c.args.text.now c.args.tokens.now c.args.server c.deref.result.now c.in_ok-entries.known c.in_ok-fault.field-0 same c.in_ok-entries.ensures.faults c.in_ok-fault.ensures in
+    let is_laid = found ∙ ap (λ fault. unless fault (laid c.args.text.now c.deref.result.now)) c.in-None.is in
+    subst (All (IsKept c.args.text.now)) (sym (c.deref-in-None.ensures.value ∙ c.in_ok-entries.ensures.entries))
+    (kept-of_layout c.args.text.now c.args.tokens.now c.args.server (laid c.args.text.now c.deref.result.now) is_laid)
 
 pub laid-requires-clause-pictures : goal.laid-requires-clause-pictures
 laid-requires-clause-pictures c =

@@ -1,7 +1,0 @@
-use Rattle.std.proofs.Common.{ap, ◌∙◌}
-use Rattle.pw_event.proofs.Lines.{line_reads}
-use Rattle.pw_event.proofs.Sentences.{texts}
-use Rattle.pw_event.proofs.reading.read_event.Goals as goal
-
-pub returns : goal.returns
-returns c = line_reads c.args.system.now c.requires.names c.args.line.now (texts c.as_slice.result.now) c.event_of.result (ap texts c.as_slice.ensures.value ∙ c.in_ok-words.ensures) c.event_of.ensures
