@@ -3,11 +3,11 @@
 use Rattle.std.specs.Prelude.{◌≡◌, ℕ, List, [], ◌∷◌, Bool, true, false, Some}
 use Rattle.pw_event.specs.declared.event.Event.{Event}
 use Rattle.pw_onecopy.specs.Attempt.{attempt}
+use Rattle.pw_onecopy.specs.Behaviour.{Behaviour}
 use Rattle.pw_onecopy.specs.Path.{PathAnswer}
 use Rattle.pw_paired.specs.Serial.{answers_behind, reading_starts}
 use Rattle.pw_paired.specs.State.{Alone, Down, Gone, Mode, OpenUnit, Paired, Raising, State, starting}
 use Rattle.pw_paired.specs.Step.{effect}
-use Rattle.pw_onecopy.specs.Behaviour.{Behaviour}
 use Rattle.pw_paired.specs.Units.{committed_files}
 
 -- the answers that entries have put on the paths since their attempts began, behind more entries

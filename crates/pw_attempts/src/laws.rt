@@ -1,16 +1,16 @@
 ghost use Rattle.std.specs.Prelude.{◌≡◌, ◌≢◌, ℕ, ◌+◌, ◌≤◌, List, [], ◌∷◌, ◌++◌, None, Some, true, false};
+ghost use Rattle.pw_attempts.specs.Answers.{CommitsAlone, answers_after, has_paths};
 ghost use Rattle.pw_event.specs.declared.event.Event.{Event};
 ghost use Rattle.pw_event.specs.declared.event.Event.TheVariants.{Commit, Reply};
-ghost use Rattle.pw_onecopy.specs.IsBehaviour.{IsBehaviour};
 ghost use Rattle.pw_onecopy.specs.Attempt.{IsAttempt, attempt};
+ghost use Rattle.pw_onecopy.specs.Behaviour.{Behaviour};
+ghost use Rattle.pw_onecopy.specs.IsBehaviour.{IsBehaviour};
 ghost use Rattle.pw_onecopy.specs.Path.{PathAnswer, is_outside};
 ghost use Rattle.pw_paired.specs.Raising.{is_takeover};
 ghost use Rattle.pw_paired.specs.State.{OpenUnit};
 ghost use Rattle.pw_paired.specs.Step.{IsRun, after};
-ghost use Rattle.pw_onecopy.specs.Behaviour.{Behaviour};
 ghost use Rattle.pw_paired.specs.Terminal.{path_of};
 ghost use Rattle.pw_paired.specs.Units.{committed_files};
-ghost use Rattle.pw_attempts.specs.Answers.{CommitsAlone, answers_after, has_paths};
 
 /// In a run of a deck a running attempt is the attempt that the one-copy machine makes alone, on
 /// the committed records as they are now: from its start path, with its unit's restarts and as many

@@ -5,9 +5,9 @@ use Rattle.pw_code.specs.declared.verb.Verb.{Verb}
 use Rattle.pw_code.specs.declared.verb.Verb.TheVariants as verb
 use Rattle.pw_files.specs.Records.{record_at, IsFile}
 use Rattle.pw_locks.specs.Spans.{Covers}
-use Rattle.pw_onecopy.specs.Play.{play_after}
-use Rattle.pw_onecopy.specs.Operation.{span_of}
 use Rattle.pw_onecopy.specs.Behaviour.{Behaviour}
+use Rattle.pw_onecopy.specs.Operation.{span_of}
+use Rattle.pw_onecopy.specs.Play.{play_after}
 
 -- two lists of records have the same record at every key that an operation locks in the first one
 abbrev pub AgreeOn : ℕ → List (List ℕ) → List (List ℕ) → FileCall → Type 0

@@ -2,16 +2,16 @@ ghost use Rattle.std.specs.Prelude.{◌≡◌, ◌++◌, ◌∷◌, [], ℕ, Boo
 ghost use Rattle.std.specs.List.{AllByRecursion};
 ghost use Rattle.pw_event.specs.declared.event.Event.{Event};
 ghost use Rattle.pw_files.specs.Records.{IsFile};
-ghost use Rattle.pw_onecopy.specs.IsBehaviour.{IsBehaviour};
-ghost use Rattle.pw_paired.specs.Step.{IsRun, after};
-ghost use Rattle.pw_onecopy.specs.Behaviour.{Behaviour};
-ghost use Rattle.pw_paired.specs.Units.{committed_files, has_image, only, without_locks};
-ghost use Rattle.pw_paired.specs.Failure.{unit_named};
-ghost use Rattle.pw_paired.specs.State.{OpenUnit};
-ghost use Rattle.pw_locks.specs.Conflicts.{is_same_unit};
-ghost use Rattle.pw_locks.specs.declared.lock.Lock.{Lock};
 ghost use Rattle.pw_locking.specs.Held.{AreApart, IsHeld, has_key_lock};
 ghost use Rattle.pw_locking.specs.Records.{commits_at};
+ghost use Rattle.pw_locks.specs.Conflicts.{is_same_unit};
+ghost use Rattle.pw_locks.specs.declared.lock.Lock.{Lock};
+ghost use Rattle.pw_onecopy.specs.Behaviour.{Behaviour};
+ghost use Rattle.pw_onecopy.specs.IsBehaviour.{IsBehaviour};
+ghost use Rattle.pw_paired.specs.Failure.{unit_named};
+ghost use Rattle.pw_paired.specs.State.{OpenUnit};
+ghost use Rattle.pw_paired.specs.Step.{IsRun, after};
+ghost use Rattle.pw_paired.specs.Units.{committed_files, has_image, only, without_locks};
 
 /// In a run of a deck the committed records of a file are a file, and they change only at an entry
 /// that commits a unit: no operation, restart, drop, failure or end changes them. What a unit has

@@ -3,14 +3,14 @@ ghost use Rattle.pw_code.specs.declared.file.FileCall.{FileCall};
 ghost use Rattle.pw_code.specs.declared.lock.LockMode.TheVariants.{Exclusive};
 ghost use Rattle.pw_code.specs.declared.verb.Verb.TheVariants as verb;
 ghost use Rattle.pw_files.specs.Records.{IsContent, IsFile, record_at};
+ghost use Rattle.pw_locking.specs.Seen.{AgreeOn, AgreeOnRun, AreFiles, CallCovers, HaveSameAt, files_at, verb_at};
 ghost use Rattle.pw_locks.specs.Conflicts.{conflict, is_same_unit};
 ghost use Rattle.pw_locks.specs.Spans.{Covers};
 ghost use Rattle.pw_locks.specs.declared.lock.Lock.{Lock};
-ghost use Rattle.pw_onecopy.specs.IsBehaviour.{IsBehaviour, is_written};
-ghost use Rattle.pw_onecopy.specs.Play.{play_after};
-ghost use Rattle.pw_onecopy.specs.Operation.{answer_of, changes_records, records_behind, span_of};
 ghost use Rattle.pw_onecopy.specs.Behaviour.{Behaviour};
-ghost use Rattle.pw_locking.specs.Seen.{AgreeOn, AgreeOnRun, AreFiles, CallCovers, HaveSameAt, files_at, verb_at};
+ghost use Rattle.pw_onecopy.specs.IsBehaviour.{IsBehaviour, is_written};
+ghost use Rattle.pw_onecopy.specs.Operation.{answer_of, changes_records, records_behind, span_of};
+ghost use Rattle.pw_onecopy.specs.Play.{play_after};
 
 /// What an operation sees is what it locks: on files that have the same records at the keys that it
 /// locks it answers, locks and changes the same. Where it changes the same, a key at which the

@@ -6,9 +6,9 @@ use Rattle.pw_code.specs.declared.file.FileOp.TheVariants.{Write, Rewrite}
 use Rattle.pw_code.specs.declared.verb.Verb.{Verb}
 use Rattle.pw_code.specs.declared.verb.Verb.TheVariants as verb
 use Rattle.pw_files.specs.Records.{IsContent, IsFile}
-use Rattle.pw_onecopy.specs.Path.{PathAnswer, Shown, Entry, Begun, Replied, Failed, Ended, Dropped, FileAnswer, is_outside, entries_on}
-use Rattle.pw_onecopy.specs.Operation.{key_of}
 use Rattle.pw_onecopy.specs.Behaviour.{Behaviour, Served, Reply, Fault}
+use Rattle.pw_onecopy.specs.Operation.{key_of}
+use Rattle.pw_onecopy.specs.Path.{PathAnswer, Shown, Entry, Begun, Replied, Failed, Ended, Dropped, FileAnswer, is_outside, entries_on}
 use Rattle.pw_onecopy.specs.Play.{Play, play_after}
 
 -- the operation writes a record

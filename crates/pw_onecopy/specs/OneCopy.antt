@@ -5,13 +5,13 @@ use Rattle.pw_code.specs.declared.verb.Verb.{Verb}
 use Rattle.pw_code.specs.declared.verb.Verb.TheVariants as verb
 use Rattle.pw_event.specs.declared.event.Ending.{Ending}
 use Rattle.pw_event.specs.declared.event.Ending.TheVariants as ending
-use Rattle.pw_onecopy.specs.declared.refresh.Refresh.{Refresh}
+use Rattle.pw_onecopy.specs.Attempt.{Attempt, IsAttempt, attempt}
+use Rattle.pw_onecopy.specs.Behaviour.{Behaviour}
+use Rattle.pw_onecopy.specs.Blocks.{Block, Out, Attempted, Done, How, Committed, Aborted, Restarted, Left}
 use Rattle.pw_onecopy.specs.Path.{PathAnswer, Shown, Entry, Replied, unit_number, entries_on, Dropped, Ended}
 use Rattle.pw_onecopy.specs.Refreshes.{next_refresh}
-use Rattle.pw_onecopy.specs.Blocks.{Block, Out, Attempted, Done, How, Committed, Aborted, Restarted, Left}
 use Rattle.pw_onecopy.specs.Update.{upd}
-use Rattle.pw_onecopy.specs.Behaviour.{Behaviour}
-use Rattle.pw_onecopy.specs.Attempt.{Attempt, IsAttempt, attempt}
+use Rattle.pw_onecopy.specs.declared.refresh.Refresh.{Refresh}
 
 -- a terminal of the machine: its path, its r, its refreshes, whether its unit was left, and its
 -- ending

@@ -1,11 +1,11 @@
 -- A file operation: what it answers, what it does to the records, and how it locks.
 use Rattle.std.specs.Prelude.{ℕ, ◌==◌, ◌&&◌, Bool, true, false, List, take, Option, Some, None, if◌then◌else◌}
+use Rattle.pw_code.specs.Locks.{mode_of}
 use Rattle.pw_code.specs.declared.file.FileCall.{FileCall}
 use Rattle.pw_code.specs.declared.file.FileOp.{FileOp}
 use Rattle.pw_code.specs.declared.file.FileOp.TheVariants.{Read, Next, Write, Rewrite, Delete, ReadLock, NextLock}
 use Rattle.pw_code.specs.declared.lock.LockRule.{LockRule}
 use Rattle.pw_code.specs.declared.unit.Unit as unit
-use Rattle.pw_code.specs.Locks.{mode_of}
 use Rattle.pw_files.specs.Records.{record_at, record_after, has_key, with_record, without_key}
 use Rattle.pw_locks.specs.Conflicts.{lock_of}
 use Rattle.pw_locks.specs.declared.lock.Lock.{Lock}

@@ -2,10 +2,10 @@
 use Rattle.std.specs.Prelude.{ℕ, zero, suc, List, [], ◌∷◌, ◌++◌}
 use Rattle.pw_code.specs.declared.verb.Verb.{Verb}
 use Rattle.pw_code.specs.declared.verb.Verb.TheVariants as verb
+use Rattle.pw_onecopy.specs.Behaviour.{Behaviour}
 use Rattle.pw_onecopy.specs.Operation.{answer_of, records_behind}
 use Rattle.pw_onecopy.specs.Path.{FileAnswer}
 use Rattle.pw_onecopy.specs.Update.{upd}
-use Rattle.pw_onecopy.specs.Behaviour.{Behaviour}
 
 -- a server at work by itself: the files as it leaves them, and what its operations were answered
 pub record Play : Type 0 where

@@ -1,8 +1,8 @@
 -- Refreshes: the showings of screens, counted once.
 use Rattle.std.specs.Prelude.{ℕ, ◌&&◌, ◌==◌, Bool, List, [], ◌∷◌, filter, if◌then◌else◌}
-use Rattle.pw_onecopy.specs.declared.refresh.Refresh.{Refresh}
-use Rattle.pw_onecopy.specs.Path.{PathAnswer, RefreshNumber, next_number}
 use Rattle.pw_onecopy.specs.Behaviour.{Behaviour}
+use Rattle.pw_onecopy.specs.Path.{PathAnswer, RefreshNumber, next_number}
+use Rattle.pw_onecopy.specs.declared.refresh.Refresh.{Refresh}
 
 -- a refresh of this number
 abbrev pub refresh_numbered : ℕ → RefreshNumber → List ℕ → Refresh

@@ -4,12 +4,12 @@ use Rattle.pw_code.specs.declared.verb.Verb.TheVariants as verb
 use Rattle.pw_event.specs.declared.event.Cause.{Cause}
 use Rattle.pw_event.specs.declared.event.Ending.{Ending}
 use Rattle.pw_event.specs.declared.event.Ending.TheVariants.{Stopped, NoEntries, Fault, Suspended, Lost}
-use Rattle.pw_paired.specs.Failure.{IsCaused}
-use Rattle.pw_onecopy.specs.Path.{entries_on}
-use Rattle.pw_paired.specs.Raising.{settle_mode}
-use Rattle.pw_onecopy.specs.Update.{upd}
-use Rattle.pw_paired.specs.State.{Gone, OpenUnit, State}
 use Rattle.pw_onecopy.specs.Behaviour.{Behaviour}
+use Rattle.pw_onecopy.specs.Path.{entries_on}
+use Rattle.pw_onecopy.specs.Update.{upd}
+use Rattle.pw_paired.specs.Failure.{IsCaused}
+use Rattle.pw_paired.specs.Raising.{settle_mode}
+use Rattle.pw_paired.specs.State.{Gone, OpenUnit, State}
 use Rattle.pw_paired.specs.Terminal.{IsLive, CanStep, next_verb, path_of}
 use Rattle.pw_paired.specs.Units.{leave_units, only}
 

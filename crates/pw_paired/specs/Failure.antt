@@ -9,11 +9,11 @@ use Rattle.pw_event.specs.declared.event.Cause.TheVariants.{Older, Takeover, Ser
 use Rattle.pw_event.specs.declared.script.FailLine.{FailLine}
 use Rattle.pw_event.specs.declared.script.FailLine.TheVariants as line
 use Rattle.pw_locks.specs.Conflicts.{conflict, is_same_unit}
-use Rattle.pw_onecopy.specs.Path.{PathAnswer}
-use Rattle.pw_paired.specs.Server.{with_job_at, lock_of_job, server_verb}
-use Rattle.pw_onecopy.specs.Update.{upd}
-use Rattle.pw_paired.specs.State.{Mode, Alone, Raising, Paired, Down, Gone, Awaited, Job, LastEnded, BackupCopy, OpenUnit, State, Term}
 use Rattle.pw_onecopy.specs.Behaviour.{Behaviour}
+use Rattle.pw_onecopy.specs.Path.{PathAnswer}
+use Rattle.pw_onecopy.specs.Update.{upd}
+use Rattle.pw_paired.specs.Server.{with_job_at, lock_of_job, server_verb}
+use Rattle.pw_paired.specs.State.{Mode, Alone, Raising, Paired, Down, Gone, Awaited, Job, LastEnded, BackupCopy, OpenUnit, State, Term}
 use Rattle.pw_paired.specs.Terminal.{CanStep, next_verb}
 use Rattle.pw_paired.specs.Units.{attempt_of, leave_units, only, withdraw_attempts, cancel_requests}
 
@@ -196,6 +196,7 @@ process_fails c i k (Some job) state = record state {
       (record (state.terms job.request.terminal) { pending = Some (Server k) });
 }
 
+-- the process fails, with what it works on
 abbrev pub do_fail_server : ℕ → ℕ → ℕ → State → State
 do_fail_server c i k state = process_fails c i k ((state.classes c).busy i) state
 

@@ -1,13 +1,13 @@
 -- What is claimed of the log of a run.
 use Rattle.std.specs.Prelude.{◌≡◌, ℕ, ◌≤◌, ◌==◌, ◌&&◌, Bool, true, false, List, length, filter}
 use Rattle.pw_event.specs.declared.event.Event.{Event}
+use Rattle.pw_onecopy.specs.Behaviour.{Behaviour}
+use Rattle.pw_onecopy.specs.Blocks.{Block, Out, Attempted, Done, How, Committed, Aborted, Restarted, Left}
 use Rattle.pw_onecopy.specs.OneCopy.{IsSerial, one_copy}
 use Rattle.pw_onecopy.specs.Refreshes.{once, refreshes_of}
-use Rattle.pw_paired.specs.Shown.{refreshes}
-use Rattle.pw_onecopy.specs.Blocks.{Block, Out, Attempted, Done, How, Committed, Aborted, Restarted, Left}
 use Rattle.pw_paired.specs.Serial.{blocks}
+use Rattle.pw_paired.specs.Shown.{refreshes}
 use Rattle.pw_paired.specs.Step.{after}
-use Rattle.pw_onecopy.specs.Behaviour.{Behaviour}
 use Rattle.pw_paired.specs.Units.{committed_files}
 
 -- The log reads as a serial order: the one-copy machine is defined on the whole of it, and each

@@ -4,15 +4,15 @@ use Rattle.pw_code.specs.declared.verb.Verb.{Verb}
 use Rattle.pw_code.specs.declared.verb.Verb.TheVariants as verb
 use Rattle.pw_event.specs.declared.event.Event.{Event}
 use Rattle.pw_event.specs.declared.event.Event.TheVariants.{Show, Key, Begin, Reply, Again, Commit, Back, Restart, FailTcp, End}
-use Rattle.pw_paired.specs.Failure.{is_of_pair}
+use Rattle.pw_onecopy.specs.Behaviour.{Behaviour}
+use Rattle.pw_onecopy.specs.Blocks.{Aborted, Attempted, Block, Committed, Done, Left, Out, Restarted}
 use Rattle.pw_onecopy.specs.Path.{is_outside, unit_number}
 use Rattle.pw_onecopy.specs.Update.{upd}
+use Rattle.pw_paired.specs.Failure.{is_of_pair}
 use Rattle.pw_paired.specs.State.{Mode, Gone, OpenUnit, State, starting}
 use Rattle.pw_paired.specs.Step.{effect}
-use Rattle.pw_onecopy.specs.Behaviour.{Behaviour}
 use Rattle.pw_paired.specs.Terminal.{next_verb, path_of}
 use Rattle.pw_paired.specs.Units.{attempt_of}
-use Rattle.pw_onecopy.specs.Blocks.{Aborted, Attempted, Block, Committed, Done, Left, Out, Restarted}
 
 -- What the reading of a log keeps of each terminal: the length of the longest path that it had
 -- while no attempt of it was running, and how many answers entries have put on its path since the

@@ -1,19 +1,19 @@
 -- The entries of a class: TAKE, FILE and REPLY.
 use Rattle.std.specs.Prelude.{◌≡◌, ℕ, zero, suc, ◌+◌, List, [], ◌∷◌, ◌++◌, Option, Some, None, is_none, if◌then◌else◌}
 use Rattle.pw_class.specs.declared.request.Request.{Request}
+use Rattle.pw_code.specs.Locks.{mode_of}
 use Rattle.pw_code.specs.declared.file.FileCall.{FileCall}
 use Rattle.pw_code.specs.declared.file.FileOp.{FileOp}
 use Rattle.pw_code.specs.declared.lock.LockMode.{LockMode}
 use Rattle.pw_code.specs.declared.verb.Verb.{Verb}
 use Rattle.pw_code.specs.declared.verb.Verb.TheVariants as verb
-use Rattle.pw_code.specs.Locks.{mode_of}
 use Rattle.pw_locks.specs.Conflicts.{holders}
 use Rattle.pw_locks.specs.declared.lock.Lock.{Lock}
+use Rattle.pw_onecopy.specs.Behaviour.{Behaviour}
 use Rattle.pw_onecopy.specs.Operation.{answer_of, lock_for, records_behind, plain_op}
 use Rattle.pw_onecopy.specs.Path.{Replied, Failed, FileAnswer, is_outside, unit_number}
 use Rattle.pw_onecopy.specs.Update.{upd}
 use Rattle.pw_paired.specs.State.{Class, Job, State}
-use Rattle.pw_onecopy.specs.Behaviour.{Behaviour}
 use Rattle.pw_paired.specs.Terminal.{path_of}
 use Rattle.pw_paired.specs.Units.{unit_of, with_image, commit_unit, give_answer}
 
@@ -132,6 +132,7 @@ abbrev pub reply_of : Verb → List ℕ
 reply_of (verb.Reply reply) = reply
 reply_of _ = []
 
+-- the reply of the server at a process, none where no job is there
 abbrev pub reply_at : Behaviour → ℕ → Option Job → List ℕ
 reply_at sys c None = []
 reply_at sys c (Some job) = reply_of (server_verb sys c job)

@@ -2,12 +2,12 @@
 use Rattle.std.specs.Prelude.{List, [], ◌∷◌, ◌++◌}
 use Rattle.pw_event.specs.declared.event.Event.{Event}
 use Rattle.pw_event.specs.declared.event.Event.TheVariants.{Show}
-use Rattle.pw_onecopy.specs.declared.refresh.Refresh.{Refresh}
+use Rattle.pw_onecopy.specs.Behaviour.{Behaviour}
 use Rattle.pw_onecopy.specs.Path.{RefreshNumber}
 use Rattle.pw_onecopy.specs.Refreshes.{refresh_numbered}
+use Rattle.pw_onecopy.specs.declared.refresh.Refresh.{Refresh}
 use Rattle.pw_paired.specs.State.{State, starting}
 use Rattle.pw_paired.specs.Step.{effect}
-use Rattle.pw_onecopy.specs.Behaviour.{Behaviour}
 use Rattle.pw_paired.specs.Terminal.{path_of}
 
 -- the refresh that an entry makes in a state

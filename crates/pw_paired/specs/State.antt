@@ -5,8 +5,8 @@ use Rattle.pw_event.specs.declared.event.Cause.{Cause}
 use Rattle.pw_event.specs.declared.event.Ending.{Ending}
 use Rattle.pw_event.specs.declared.event.Event.{Event}
 use Rattle.pw_locks.specs.declared.lock.Lock.{Lock}
-use Rattle.pw_onecopy.specs.Path.{PathAnswer, FileAnswer}
 use Rattle.pw_onecopy.specs.Behaviour.{Behaviour}
+use Rattle.pw_onecopy.specs.Path.{PathAnswer, FileAnswer}
 
 -- the mode of a pair
 pub data Mode : Type 0 where

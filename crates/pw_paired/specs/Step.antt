@@ -1,14 +1,14 @@
 -- The kinds of entry put together: the step, the run, and when a log is finished.
 use Rattle.std.specs.Prelude.{◌≡◌, ℕ, Bool, false, not, List, [], ◌∷◌, ◌++◌, Option, Some, None, is_none}
+use Rattle.pw_event.specs.Due.{owner_of, due_line}
 use Rattle.pw_event.specs.declared.event.Event.{Event}
 use Rattle.pw_event.specs.declared.event.Event.TheVariants.{Show, Key, CheckStart, CheckEnd, CheckCopy, Applied, Begin, Send, Take, File, Reply, Again, Commit, Back, Restart, FailTcp, FailServer, Takeover, Raise, End}
-use Rattle.pw_event.specs.Due.{owner_of, due_line}
+use Rattle.pw_onecopy.specs.Behaviour.{Behaviour}
 use Rattle.pw_paired.specs.End.{LegalEnd, do_end}
 use Rattle.pw_paired.specs.Failure.{LegalRestart, do_restart, LegalFailTcp, do_fail_tcp, LegalFailServer, do_fail_server, LegalTakeover, do_takeover}
 use Rattle.pw_paired.specs.Raising.{LegalRaise, do_raise, LegalCheckCopy, do_check_copy, LegalApplied, do_applied}
 use Rattle.pw_paired.specs.Server.{LegalTake, do_take, LegalFile, do_file, LegalReply, do_reply}
 use Rattle.pw_paired.specs.State.{State, starting}
-use Rattle.pw_onecopy.specs.Behaviour.{Behaviour}
 use Rattle.pw_paired.specs.Terminal.{LegalShow, do_show, LegalKey, do_key, LegalCheckStart, do_check_start, LegalCheckEnd, do_check_end, LegalBegin, do_begin, LegalSend, do_send, LegalAgain, do_again, LegalCommit, do_commit, LegalBack, do_back}
 use Rattle.pw_paired.specs.Units.{any_below}
 

@@ -4,12 +4,12 @@ use Rattle.std.specs.Prelude.{◌≡◌, ◌≢◌, ℕ, ◌+◌, ◌<◌, ◌�
 use Rattle.pw_class.specs.declared.request.Request.{Request}
 use Rattle.pw_code.specs.declared.verb.Verb.{Verb}
 use Rattle.pw_code.specs.declared.verb.Verb.TheVariants as verb
+use Rattle.pw_onecopy.specs.Attempt.{BeginsUnit}
+use Rattle.pw_onecopy.specs.Behaviour.{Behaviour}
 use Rattle.pw_onecopy.specs.Path.{PathAnswer, Shown, Entry, Begun, Replied, Ended, Dropped, unit_number, is_outside, next_number, entries_on}
 use Rattle.pw_onecopy.specs.Update.{upd}
 use Rattle.pw_paired.specs.State.{Paired, Awaited, Class, LastEnded, BackupCopy, Start, End, OpenUnit, State}
-use Rattle.pw_onecopy.specs.Behaviour.{Behaviour}
 use Rattle.pw_paired.specs.Units.{attempt_of, restarts_of, is_out, commit_unit, drop_unit, give_answer}
-use Rattle.pw_onecopy.specs.Attempt.{BeginsUnit}
 
 -- the terminal is started and has no ending
 pub record IsLive (sys : Behaviour) (state : State) (t : ℕ) : Type 0 where

@@ -4,10 +4,10 @@ ghost use Rattle.pw_event.specs.declared.event.Cause.TheVariants.{Older};
 ghost use Rattle.pw_event.specs.declared.event.Ending.TheVariants.{Lost, Suspended};
 ghost use Rattle.pw_event.specs.declared.event.Event.{Event};
 ghost use Rattle.pw_event.specs.declared.event.Event.TheVariants.{Begin, End, Restart};
+ghost use Rattle.pw_onecopy.specs.Behaviour.{Behaviour};
 ghost use Rattle.pw_onecopy.specs.IsBehaviour.{IsBehaviour};
 ghost use Rattle.pw_paired.specs.State.{Gone, OpenUnit, Paired, starting};
 ghost use Rattle.pw_paired.specs.Step.{IsRun, after};
-ghost use Rattle.pw_onecopy.specs.Behaviour.{Behaviour};
 ghost use Rattle.pw_paired.specs.Terminal.{IsLive};
 ghost use Rattle.pw_progress.specs.Running.{HasStep, IsOpen, MadeGone, Runs, restarts_in};
 

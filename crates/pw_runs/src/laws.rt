@@ -1,10 +1,10 @@
 ghost use Rattle.std.specs.Prelude.{◌≡◌, ◌≢◌, ◌≤◌, ◌<◌, ◌++◌, ◌∷◌, ◌↔◌, [], ℕ, List, Some, true};
 ghost use Rattle.pw_event.specs.declared.event.Event.{Event};
+ghost use Rattle.pw_onecopy.specs.Behaviour.{Behaviour};
 ghost use Rattle.pw_onecopy.specs.IsBehaviour.{IsBehaviour};
 ghost use Rattle.pw_paired.specs.Headline.{EndsOnce};
 ghost use Rattle.pw_paired.specs.State.{OpenUnit, State};
 ghost use Rattle.pw_paired.specs.Step.{IsRun, Legal, Steps, after, is_finished, line_due, line_wanted};
-ghost use Rattle.pw_onecopy.specs.Behaviour.{Behaviour};
 
 /// A run one entry longer is a run and a step behind it. A finished log has no step. An entry is
 /// the FAIL entry of a line exactly where this line is due for the entry's pair or class.

@@ -1,2 +1,6 @@
 pub mod Deciding
 pub mod Awaiting
+pub mod Living
+pub mod Servers
+pub mod Terminals
+pub mod Unstuck

@@ -56,7 +56,7 @@ module _ (sys : Behaviour) where
   pub fold-answers : (log : List Event) → (fold_after sys log).reading.answers ≡ answers_after sys log
   fold-answers log = fold-answers-from (starting sys) fold_starts log
 
-  fold-order-from : (s : State) (f : Fold) (log : List Event) → (carried_from sys (fold_on sys) s f log).order ≡ f.order ++ entry_blocks_from sys s f.reading log
+  pub fold-order-from : (s : State) (f : Fold) (log : List Event) → (carried_from sys (fold_on sys) s f log).order ≡ f.order ++ entry_blocks_from sys s f.reading log
   fold-order-from s f [] = sym (append-nil f.order)
   fold-order-from s f (entry ∷ log) =
       fold-order-from (effect sys s entry) (fold_on sys s entry f) log

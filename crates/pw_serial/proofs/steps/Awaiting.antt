@@ -14,7 +14,7 @@ use Rattle.pw_paired.specs.End.{LegalEnd}
 use Rattle.pw_paired.specs.Failure.{LegalRestart, awaited_after, do_fail_tcp, is_of_pair, with_restart}
 use Rattle.pw_paired.specs.State.{Awaited, LastEnded, OpenUnit, State, starting}
 use Rattle.pw_paired.specs.Step.{Fits, IsRun, Legal, after, change, effect}
-use Rattle.pw_paired.specs.Terminal.{LegalBegin, path_of, unit_with_attempt}
+use Rattle.pw_paired.specs.Terminal.{IsOver, LegalBegin, awaited_of, path_of, unit_with_attempt}
 use Rattle.pw_paired.specs.Units.{attempt_of, last_after_leaving, only}
 use Rattle.pw_runs.proofs.induction.Failed.{end-cases, fail-cases, process-cases}
 use Rattle.pw_runs.proofs.induction.Runs.{holds-behind, kept}
@@ -26,17 +26,18 @@ use Rattle.pw_runs.proofs.terms.KeepsEnds.{OutOk, out-path}
 use Rattle.pw_runs.proofs.terms.KeepsPairs.{not-of-pair, of-pair}
 
 -- what an entry other than a restart does to the open unit of a terminal and to its last ended one
-data Goes (s x : State) (t : ℕ) : Type 0 where
+pub data Goes (s x : State) (t : ℕ) : Type 0 where
   stays : x.units t ≡ s.units t → (x.ended t).number ≡ (s.ended t).number → Goes s x t
   runs : (was now : OpenUnit) → s.units t ≡ Some was → x.units t ≡ Some now → now.birth ≡ was.birth → now.number ≡ was.number → now.awaits ≡ was.awaits
-      → (x.ended t).number ≡ (s.ended t).number → Goes s x t
-  opens : (now : OpenUnit) → s.units t ≡ None → x.units t ≡ Some now → now.awaits ≡ None → (x.ended t).number ≡ (s.ended t).number → Goes s x t
-  ends : x.units t ≡ None → ((u : OpenUnit) → s.units t ≡ Some u → (x.ended t).number ≡ u.number) → (s.ended t).number ≤ (x.ended t).number → Goes s x t
+      → (x.ended t).number ≡ (s.ended t).number → now.restarts ≡ was.restarts → IsOver s.ended was.awaits → Goes s x t
+  opens : (now : OpenUnit) → s.units t ≡ None → x.units t ≡ Some now → now.awaits ≡ None → (x.ended t).number ≡ (s.ended t).number
+      → (s.terms t).ending ≡ None → now.restarts ≡ 0 → now.birth ≡ s.births → Goes s x t
+  ends : x.units t ≡ None → ((u : OpenUnit) → s.units t ≡ Some u → (x.ended t).number ≡ u.number) → (x.ended t).number ≡ (s.ended t).number + 1 → Goes s x t
 
 module _ (sys : Behaviour) (b : IsBehaviour sys) (s : State) (i : Inv sys s) (t : ℕ) where
   -- the next unit ends
   next-ends : (x : State) → x.units t ≡ None → (x.ended t).number ≡ (s.ended t).number + 1 → Goes s x t
-  next-ends x none next = ends none (λ u is. next ∙ sym ((i.terms t (i.known t u is)).unit_ok u is).number) (omega (arith, next))
+  next-ends x none next = ends none (λ u is. next ∙ sym ((i.terms t (i.known t u is)).unit_ok u is).number) next
 
   -- its open unit, if any, is left
   left-goes : (x : State) → x.units t ≡ None → x.ended t ≡ last_after_leaving (s.units t) (s.ended t) → Goes s x t
@@ -54,10 +55,10 @@ module _ (sys : Behaviour) (b : IsBehaviour sys) (s : State) (i : Inv sys s) (t 
   begins n r l = by (s.units t) refl
     where
       by : (unit : Option OpenUnit) → s.units t ≡ unit → Goes s (effect sys s (event.Begin t n r)) t
-      by None is = opens (unit_with_attempt n s.births (path_of s t) None) is (upd-same s.units t _ t refl ∙ ap (λ (u : Option OpenUnit). Some (unit_with_attempt n s.births (path_of s t) u)) is) refl refl
-      by (Some u) is = runs u (unit_with_attempt n s.births (path_of s t) (Some u)) is (upd-same s.units t _ t refl ∙ ap (λ (x : Option OpenUnit). Some (unit_with_attempt n s.births (path_of s t) x)) is) refl refl refl refl
+      by None is = opens (unit_with_attempt n s.births (path_of s t) None) is (upd-same s.units t _ t refl ∙ ap (λ (u : Option OpenUnit). Some (unit_with_attempt n s.births (path_of s t) u)) is) refl refl l.can.live.going_on refl refl
+      by (Some u) is = runs u (unit_with_attempt n s.births (path_of s t) (Some u)) is (upd-same s.units t _ t refl ∙ ap (λ (x : Option OpenUnit). Some (unit_with_attempt n s.births (path_of s t) x)) is) refl refl refl refl refl (subst (λ (x : Option OpenUnit). IsOver s.ended (awaited_of x)) is l.over)
 
-  goes : (entry : Event) → Fits sys s entry → ((own n : ℕ) (kind : Cause) → entry ≡ event.Restart own n kind → ⊥) → Goes s (change sys s entry) t
+  pub goes : (entry : Event) → Fits sys s entry → ((own n : ℕ) (kind : Cause) → entry ≡ event.Restart own n kind → ⊥) → Goes s (change sys s entry) t
   goes (event.Show own phase attempt k) l other = stays refl refl
   goes (event.Key own k) l other = stays refl refl
   goes (event.CheckStart own) l other = stays refl refl
@@ -70,8 +71,8 @@ module _ (sys : Behaviour) (b : IsBehaviour sys) (s : State) (i : Inv sys s) (t 
     where
       relabelled : Goes s (effect sys s (event.Begin t n r)) t → Goes s (change sys s (event.Begin t n r)) t
       relabelled (stays units last) = stays units last
-      relabelled (runs was now a c d e f g) = runs was now a c d e f g
-      relabelled (opens now a c d e) = opens now a c d e
+      relabelled (runs was now a c d e f g h o) = runs was now a c d e f g h o
+      relabelled (opens now a c d e f g h) = opens now a c d e f g h
       relabelled (ends a c d) = ends a c d
   goes (event.Send own n c) l other = stays refl refl
   goes (event.Take c p own) l other = stays refl refl
@@ -130,14 +131,14 @@ still-open : (s x : State) (o m birth : ℕ) → Goes s x o → (x.ended o).numb
     → ((s.ended o).number < m → (v : OpenUnit) × (s.units o ≡ Some v) × (v.number ≡ m) × (v.birth < birth))
     → (v : OpenUnit) × (x.units o ≡ Some v) × (v.number ≡ m) × (v.birth < birth)
 still-open s x o m birth (stays units last) less was = let v = was (omega (arith, less, last)) in (v.0, units ∙ v.1, v.2, v.3)
-still-open s x o m birth (runs old now old_is now_is birth_is number_is awaits last) less was =
+still-open s x o m birth (runs old now old_is now_is birth_is number_is awaits last restarts over) less was =
     let v = was (omega (arith, less, last)) in
     let is = v.1 in
     let same : v.0 ≡ old = cc (is, old_is) in
     let low = v.3 in
     let b = ap (λ (w : OpenUnit). w.birth) same in
     (now, now_is, number_is ∙ (ap (λ (w : OpenUnit). w.number) (sym same) ∙ v.2), omega (arith, low, b, birth_is))
-still-open s x o m birth (opens now none now_is awaits last) less was = let v = was (omega (arith, less, last)) in absurd (let is = v.1 in cc (is, none))
+still-open s x o m birth (opens now none now_is awaits last live restarts birth_is) less was = let v = was (omega (arith, less, last)) in absurd (let is = v.1 in cc (is, none))
 still-open s x o m birth (ends none number rises) less was =
     let v = was (omega (arith, less, rises)) in
     let n = number v.0 v.1 in let m_is = v.2 in absurd (omega (arith, n, m_is, less))
@@ -149,7 +150,7 @@ module _ (sys : Behaviour) (b : IsBehaviour sys) where
     where
       by : Goes s x t → (v : OpenUnit) × (x.units a.terminal ≡ Some v) × (v.number ≡ a.number) × (v.birth < u.birth)
       by (stays units last) = still-open s x a.terminal a.number u.birth (goes_at a.terminal) less (λ low. ok t u a (sym units ∙ is) awaits low)
-      by (runs was now was_is now_is birth_is number_is awaits_is last) =
+      by (runs was now was_is now_is birth_is number_is awaits_is last restarts over) =
           let same : now ≡ u = cc (now_is, is) in
           still-open s x a.terminal a.number u.birth (goes_at a.terminal) less
           (λ low.
@@ -157,7 +158,7 @@ module _ (sys : Behaviour) (b : IsBehaviour sys) where
           let low_birth = v.3 in
           let one = ap (λ (w : OpenUnit). w.birth) same in
           (v.0, v.1, v.2, omega (arith, low_birth, birth_is, one)))
-      by (opens now none now_is awaits_is last) = absurd (let same : now ≡ u = cc (now_is, is) in let a_is = ap (λ (w : OpenUnit). w.awaits) same in cc (a_is, awaits_is, awaits))
+      by (opens now none now_is awaits_is last live restarts birth_is) = absurd (let same : now ≡ u = cc (now_is, is) in let a_is = ap (λ (w : OpenUnit). w.awaits) same in cc (a_is, awaits_is, awaits))
       by (ends none number rises) = absurd (cc (none, is))
 
   -- a restart

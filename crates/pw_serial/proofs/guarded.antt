@@ -1,0 +1,3 @@
+pub mod Changing
+pub mod Staying
+pub mod Ending

@@ -1,0 +1,3 @@
+pub mod Actors
+pub mod Guarded
+pub mod Restarts
