@@ -8,7 +8,7 @@ use Rattle.pw_event.specs.declared.event.Cause.TheVariants.{Takeover}
 use Rattle.pw_onecopy.proofs.Update.{upd-same}
 use Rattle.pw_onecopy.specs.Behaviour.{Behaviour}
 use Rattle.pw_onecopy.specs.Path.{PathAnswer}
-use Rattle.pw_paired.specs.Failure.{backup_fails, do_fail_tcp, is_of_pair, lose_pair, lose_primary, resume_terminal, resumed_path}
+use Rattle.pw_paired.specs.Failure.{LegalFailServer, LegalFailTcp, backup_fails, do_fail_tcp, is_of_pair, lose_pair, lose_primary, resume_terminal, resumed_path}
 use Rattle.pw_paired.specs.Raising.{copied_path}
 use Rattle.pw_paired.specs.State.{BackupCopy, Down, Gone, Job, LastEnded, Mode, OpenUnit, State, Term}
 use Rattle.pw_paired.specs.Terminal.{path_of}
@@ -96,3 +96,11 @@ pub left-ended : (sys : Behaviour) (whose : ℕ → Bool) (state : State) (t : �
     → (leave_units sys whose state).ended t ≡ record { number = unit.number; reply = None }
 left-ended sys whose state t unit own is =
     cond-true (whose t) _ _ own ∙ ap (λ (u : Option OpenUnit). last_after_leaving u (state.ended t)) is
+
+-- no FAIL entry of a member is of line 0
+pub no-member-line : (sys : Behaviour) (p : ℕ) (primary : Bool) → ¬ LegalFailTcp sys p primary 0
+no-member-line sys p primary legal = let names = legal.names in cc names
+
+-- and none of a process
+pub no-process-line : (sys : Behaviour) (c i : ℕ) → ¬ LegalFailServer sys c i 0
+no-process-line sys c i legal = let names = legal.names in cc names

@@ -1,7 +1,7 @@
 ghost use Rattle.std.specs.Prelude.{◌≡◌, ◌≢◌, ℕ, Bool, List, [], Some, None, true, false};
 ghost use Rattle.pw_onecopy.specs.Behaviour.{Behaviour};
 ghost use Rattle.pw_onecopy.specs.Path.{PathAnswer};
-ghost use Rattle.pw_paired.specs.Failure.{do_fail_tcp, lose_pair, lose_primary, resume_terminal, resumed_path};
+ghost use Rattle.pw_paired.specs.Failure.{LegalFailServer, LegalFailTcp, do_fail_tcp, lose_pair, lose_primary, resume_terminal, resumed_path};
 ghost use Rattle.pw_paired.specs.Raising.{copied_path};
 ghost use Rattle.pw_paired.specs.Server.{free_process};
 ghost use Rattle.pw_paired.specs.State.{BackupCopy, Down, Gone, LastEnded, OpenUnit, State, Term};
@@ -26,7 +26,7 @@ pub fn backup_laws()
 /// A failed primary takes the requests of its terminals along, from every class. A backup that
 /// fails before it has taken over leaves the pair Gone. A terminal of a lost pair has no path and
 /// no pending cause, and TMF keeps no reply of a unit that is left. A process that is free again
-/// has released no lock.
+/// has released no lock. No FAIL entry is of line 0.
 pub fn failure_laws()
     ensures requests { (sys : Behaviour) (state : State) (p c t : ℕ) → sys.pair_of t ≡ p
         → has_request t (sys.processes c) ((lose_primary sys p state).classes c) ≡ false }
@@ -37,5 +37,7 @@ pub fn failure_laws()
     ensures left { (sys : Behaviour) (whose : ℕ → Bool) (state : State) (t : ℕ) (unit : OpenUnit)
         → whose t ≡ true → state.units t ≡ Some unit
         → (leave_units sys whose state).ended t ≡ record { number = unit.number; reply = None } }
+    ensures no_member { (sys : Behaviour) (p : ℕ) (primary : Bool) → ¬ LegalFailTcp sys p primary 0 }
+    ensures no_process { (sys : Behaviour) (c i : ℕ) → ¬ LegalFailServer sys c i 0 }
     ensures locks { (state : State) (c i : ℕ) → (free_process c i state).locks ≡ state.locks }
 {}

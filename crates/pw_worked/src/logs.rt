@@ -53,6 +53,7 @@ pub fn loss_logs()
     ensures primary_fails_before_backup { WorksOut losses.primary_fails_before_backup }
     ensures pair_lost_while_raising { WorksOut losses.pair_lost_while_raising }
     ensures pair_lost_while_down { WorksOut losses.pair_lost_while_down }
+    ensures pair_lost_with_cause { WorksOut losses.pair_lost_with_cause }
     ensures pair_lost_with_two_units { WorksOut losses.pair_lost_with_two_units }
 {}
 

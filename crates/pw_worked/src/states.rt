@@ -1,6 +1,6 @@
 ghost use Rattle.std.specs.Prelude.{[], ◌∷◌, ◌≡◌, codes, None, Some};
 ghost use Rattle.pw_worked.specs.logs.Locks.{older_unit_wins};
-ghost use Rattle.pw_worked.specs.logs.Losses.{pair_lost_while_down, pair_lost_while_raising};
+ghost use Rattle.pw_worked.specs.logs.Losses.{pair_lost_while_down, pair_lost_while_raising, pair_lost_with_cause};
 ghost use Rattle.pw_worked.specs.logs.Takeovers.{takeover_frees_process};
 ghost use Rattle.pw_worked.specs.logs.Units.{committed_transaction, dropped_transaction, open_unit_is_left, server_breaks};
 ghost use Rattle.pw_worked.specs.Worked.{state_at};
@@ -9,6 +9,8 @@ ghost use Rattle.pw_worked.specs.Worked.{state_at};
 /// the reply of a unit that is one SEND and has committed, and of no other.
 pub fn worked_states()
     ensures lost_while_down { (state_at pair_lost_while_down 14).terms 0
+        ≡ record { path = []; pending = None; ending = None } }
+    ensures lost_with_cause { (state_at pair_lost_with_cause 12).terms 0
         ≡ record { path = []; pending = None; ending = None } }
     ensures lost_while_raising { (state_at pair_lost_while_raising 22).terms 0
         ≡ record { path = []; pending = None; ending = None } }

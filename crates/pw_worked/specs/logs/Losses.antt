@@ -1,7 +1,7 @@
 -- Worked logs of pairs that are lost.
 use Rattle.std.specs.Prelude.{[], ◌∷◌, ◌++◌, codes, true, false}
 use Rattle.pw_event.specs.declared.event.Ending.TheVariants.{Lost}
-use Rattle.pw_event.specs.declared.event.Event.TheVariants.{Key, CheckStart, CheckCopy, Applied, Begin, Send, Take, FailTcp, Takeover, Raise, End}
+use Rattle.pw_event.specs.declared.event.Event.TheVariants.{Key, CheckStart, CheckCopy, Applied, Begin, Send, Take, FailTcp, FailServer, Takeover, Raise, End}
 use Rattle.pw_event.specs.declared.script.FailLine.TheVariants as line
 use Rattle.pw_onecopy.specs.Blocks.{Out, Attempted, Done, Committed, Left}
 use Rattle.pw_worked.specs.Deck.{Begins}
@@ -44,6 +44,21 @@ pair_lost_while_down = record {
       ++ (FailTcp 0 true 1 ∷ FailTcp 0 false 2 ∷ End 0 Lost ∷ [])));
   stock = deck_stock;
   order = Out 0 ∷ Attempted 0 1 Left 2 ∷ Done 0 Lost ∷ [];
+  first = [];
+  second = [];
+}
+
+-- A pair is lost while the cause SERVER is pending: it goes with the path, and the unit is left.
+abbrev pub pair_lost_with_cause : WorkedLog
+pair_lost_with_cause = record {
+  setting =
+      one_terminal (increments_a1 ∷ []) (line.Server 0 1 1 ∷ line.Tcp 0 false 8 ∷ line.Tcp 0 true 9 ∷
+      []);
+  log =
+      entries_to_begin ++ (Send 0 1 0 ∷ Take 0 1 0 ∷ FailServer 0 1 1 ∷ FailTcp 0 false 2 ∷
+      FailTcp 0 true 3 ∷ End 0 Lost ∷ []);
+  stock = deck_stock;
+  order = Out 0 ∷ Attempted 0 1 Left 0 ∷ Done 0 Lost ∷ [];
   first = [];
   second = [];
 }

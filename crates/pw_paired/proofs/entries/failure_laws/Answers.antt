@@ -1,5 +1,5 @@
 use Rattle.std.proofs.Common.{refl}
-use Rattle.pw_paired.proofs.SingleEntries.{down-gone, left-ended, lost-term, requests-gone}
+use Rattle.pw_paired.proofs.SingleEntries.{down-gone, left-ended, lost-term, no-member-line, no-process-line, requests-gone}
 use Rattle.pw_paired.proofs.entries.failure_laws.Goals as goal
 
 pub returns : goal.returns
@@ -8,5 +8,7 @@ returns c = record {
   gone = down-gone;
   lost = lost-term;
   left = left-ended;
+  no_member = no-member-line;
+  no_process = no-process-line;
   locks = λ state c i. refl;
 }

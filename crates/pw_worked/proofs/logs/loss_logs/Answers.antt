@@ -13,5 +13,6 @@ returns c = record {
   primary_fails_before_backup = works losses.primary_fails_before_backup refl refl refl refl refl refl refl refl refl;
   pair_lost_while_raising = works losses.pair_lost_while_raising refl refl refl refl refl refl refl refl refl;
   pair_lost_while_down = works losses.pair_lost_while_down refl refl refl refl refl refl refl refl refl;
+  pair_lost_with_cause = works losses.pair_lost_with_cause refl refl refl refl refl refl refl refl refl;
   pair_lost_with_two_units = works losses.pair_lost_with_two_units refl refl refl refl refl refl refl refl refl;
 }

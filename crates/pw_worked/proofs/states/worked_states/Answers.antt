@@ -6,6 +6,7 @@ pub returns : goal.returns
 unfolding upd
 returns c = record {
   lost_while_down = refl;
+  lost_with_cause = refl;
   lost_while_raising = refl;
   down = refl;
   one_send = refl;
