@@ -2,18 +2,18 @@
 -- at the keys that they lock.
 use Rattle.std.proofs.Common.{◌≡◌, ℕ, zero, suc, ◌<◌, ◌≤◌, ◌⊎◌, inl, inr, ⊎_elim, List, [], ◌∷◌, ◌++◌, ap, sym, subst, ◌∙◌, arith}
 use Rattle.std.proofs.lemmas.Bool.{cases_eq}
+use Rattle.pw_attempts.proofs.Attempts.{AgreeOnAttempt, attempt-fine, attempts-same}
 use Rattle.pw_code.specs.declared.file.FileCall.{FileCall}
 use Rattle.pw_code.specs.declared.verb.Verb.TheVariants as verb
-use Rattle.pw_locks.specs.declared.lock.Lock.{Lock}
-use Rattle.pw_locks.specs.Spans.{Covers}
-use Rattle.pw_onecopy.specs.IsBehaviour.{IsBehaviour, IsPath}
-use Rattle.pw_onecopy.specs.Attempt.{IsAttempt, attempt}
-use Rattle.pw_onecopy.specs.Operation.{changes_records, span_of}
-use Rattle.pw_onecopy.specs.Path.{PathAnswer}
-use Rattle.pw_onecopy.specs.Behaviour.{Behaviour}
-use Rattle.pw_attempts.proofs.Attempts.{AgreeOnAttempt, attempt-fine, attempts-same}
 use Rattle.pw_locking.proofs.seeing.Plays.{ChangesAt, ServerWrites-behaviour, same_play_span, same_play_changes, same_verb}
 use Rattle.pw_locking.specs.Seen.{AgreeOnRun, AreFiles, CallCovers, HaveSameAt, files_at, verb_at}
+use Rattle.pw_locks.specs.Spans.{Covers}
+use Rattle.pw_locks.specs.declared.lock.Lock.{Lock}
+use Rattle.pw_onecopy.specs.Attempt.{IsAttempt, attempt}
+use Rattle.pw_onecopy.specs.Behaviour.{Behaviour}
+use Rattle.pw_onecopy.specs.IsBehaviour.{IsBehaviour, IsPath}
+use Rattle.pw_onecopy.specs.Operation.{changes_records, span_of}
+use Rattle.pw_onecopy.specs.Path.{PathAnswer}
 
 -- the lock is of the terminal and covers the key
 abbrev pub IsOwnLock : ℕ → ℕ → List ℕ → Lock → Type 0
@@ -30,10 +30,12 @@ locked-before t file key [] more locked = absurd locked
 locked-before t file key (lock ∷ locks) more (inl own) = inl own
 locked-before t file key (lock ∷ locks) more (inr locked) = inr (locked-before t file key locks more locked)
 
+-- the last lock covers the key
 pub locked-last : (t file : ℕ) (key : List ℕ) (locks : List Lock) (lock : Lock) → IsOwnLock t file key lock → IsLocked t file key (locks ++ lock ∷ [])
 locked-last t file key [] lock own = inl own
 locked-last t file key (held ∷ locks) lock own = inr (locked-last t file key locks lock own)
 
+-- a key under a lock is under the last one or was before
 pub locked-cases : (t file : ℕ) (key : List ℕ) (locks : List Lock) (lock : Lock) → IsLocked t file key (locks ++ lock ∷ [])
     → IsOwnLock t file key lock ⊎ IsLocked t file key locks
 locked-cases t file key [] lock locked = locked
@@ -58,6 +60,7 @@ module _ (sys : Behaviour) where
   abbrev pub LocksAre : ℕ → List Lock → (ℕ → List (List ℕ)) → FileCall → Type 0
   LocksAre t locks files call = (key : List ℕ) → CallCovers sys files call key → IsLocked t call.file key locks
 
+  -- locks that cover one run cover the same run on other files
   pub locks-pass : (t : ℕ) (locks : List Lock) → Passes (LocksAre t locks)
   locks-pass t locks x y call same q key covers = q key (subst (λ s. Covers s key) (sym same.span) covers)
 
@@ -65,6 +68,7 @@ module _ (sys : Behaviour) where
   abbrev pub Spares : ℕ → List ℕ → (ℕ → List (List ℕ)) → FileCall → Type 0
   Spares f key files call = call.file ≡ f → ¬ ChangesAt sys files call key
 
+  -- a key that one run spares the other spares too
   pub spares-pass : (f : ℕ) (key : List ℕ) → Passes (Spares f key)
   spares-pass f key x y call same q is at = q is (record { changed = same.changes_are ∙ at.changed; own = at.own })
 
@@ -77,6 +81,7 @@ module _ (sys : Behaviour) where
       changes_are = same_play_changes sys c message (ServerWrites-behaviour sys b c message known) x y files others n agree call asks;
     }
 
+    -- a run on other files that agree on its locks
     pub run-passes : (Q : (ℕ → List (List ℕ)) → FileCall → Type 0) → Passes Q → (n : ℕ) → AgreeOnRun sys c message x y n
         → EachOfRun c message x n Q → EachOfRun c message y n Q
     run-passes Q passes n agree each k below call asks =
@@ -104,6 +109,7 @@ module _ (sys : Behaviour) (b : IsBehaviour sys) (t : ℕ) (q : List PathAnswer)
   agree-by-locks x y j locks each same i below c message asks k call verb_is key covers =
       same call.file key (each i below c message asks (suc k) k (omega arith) call verb_is key covers)
 
+  -- each operation of an attempt on such files
   pub each-passes : (Q : (ℕ → List (List ℕ)) → FileCall → Type 0) → Passes sys Q → (x y : ℕ → List (List ℕ)) → AreFiles sys x → AreFiles sys y
       → (j : ℕ) → IsAttempt sys t q x r j → AgreeOnAttempt sys b t q r start x y j → EachOp x j Q → EachOp y j Q
   each-passes Q passes x y are others j is agree each i below c message asks n =

@@ -4,17 +4,16 @@ use Rattle.std.proofs.lemmas.Bool.{cases_eq, cases_lt}
 use Rattle.pw_code.specs.declared.file.FileCall.{FileCall}
 use Rattle.pw_code.specs.declared.verb.Verb.{Verb}
 use Rattle.pw_code.specs.declared.verb.Verb.TheVariants as verb
-use Rattle.pw_runs.proofs.Paths.{IsPath-push}
-use Rattle.pw_onecopy.specs.IsBehaviour.{ComesTo, IsBehaviour, IsPath, Suits}
-use Rattle.pw_onecopy.specs.Play.{Play, play_operation, play_after}
-use Rattle.pw_onecopy.specs.Attempt.{Attempt, GoesOn, IsAttempt, TakesAnswer, attempt, attempt_with, attempt_with_served, answer_verb}
-use Rattle.pw_onecopy.specs.Path.{PathAnswer, Begun, Entry, Failed, Replied, Shown, entries_on, unit_number}
-use Rattle.pw_onecopy.specs.Path as answer
-use Rattle.pw_onecopy.specs.Refreshes.{next_refresh}
-use Rattle.pw_onecopy.specs.declared.refresh.Refresh.{Refresh}
-use Rattle.pw_onecopy.specs.Behaviour.{Behaviour, Served, Reply, Fault}
 use Rattle.pw_locking.proofs.seeing.Plays.{ServerWrites-behaviour, played_files, same_play}
 use Rattle.pw_locking.specs.Seen.{AgreeOnRun, AreFiles, CallCovers, HaveSameAt, files_at, verb_at}
+use Rattle.pw_onecopy.specs.Attempt.{Attempt, GoesOn, IsAttempt, TakesAnswer, attempt, attempt_with, attempt_with_served, answer_verb}
+use Rattle.pw_onecopy.specs.Behaviour.{Behaviour, Served, Reply, Fault}
+use Rattle.pw_onecopy.specs.IsBehaviour.{ComesTo, IsBehaviour, IsPath, Suits}
+use Rattle.pw_onecopy.specs.Path.{PathAnswer, Begun, Entry, Failed, Replied, Shown, entries_on, unit_number, Dropped, Ended}
+use Rattle.pw_onecopy.specs.Play.{Play, play_operation, play_after}
+use Rattle.pw_onecopy.specs.Refreshes.{next_refresh}
+use Rattle.pw_onecopy.specs.declared.refresh.Refresh.{Refresh}
+use Rattle.pw_runs.proofs.Paths.{IsPath-push}
 
 -- a verb that ends a server's run
 abbrev pub IsLast : Verb → Type 0
@@ -36,6 +35,7 @@ module _ (sys : Behaviour) (c : ℕ) (message : List ℕ) where
   last-stays (verb.Fault x) at last = refl
   last-stays (verb.Reply reply) at last = refl
 
+  -- behind its last verb a run stays
   pub stays-played : (files : ℕ → List (List ℕ)) (n m : ℕ) → n ≤ m → IsLast (verb_at sys c message files n) → play_after sys c message files m ≡ play_after sys c message files n
   stays-played files n zero le last = ap (play_after sys c message files) (let none : 0 ≡ n = omega (arith, le) in none)
   stays-played files n (suc m) le last =
@@ -59,11 +59,13 @@ pub data Outcome (sv : Served) (v : Verb) (files : ℕ → List (List ℕ)) : Ty
   replies : (reply : List ℕ) → sv ≡ Reply reply files → v ≡ verb.Reply reply → Outcome sv v files
   faults : (x : ℕ) → sv ≡ Fault x → v ≡ verb.Fault x → Outcome sv v files
 
+-- what a server comes to, by its verb
 pub outcome : (sv : Served) (v : Verb) (files : ℕ → List (List ℕ)) → ComesTo sv v files → Outcome sv v files
 outcome (Reply reply left) (verb.Reply own) files comes = replies own (ap₂ (λ (r : List ℕ) (fs : ℕ → List (List ℕ)). Reply r fs) (sym comes.0) (sym comes.1)) refl
 outcome (Fault x) (verb.Fault own) files comes = faults own (ap (λ (n : ℕ). Fault n) (sym comes)) refl
 outcome _ _ files comes = absurd comes
 
+-- its verb is a last one
 pub outcome-last : {sv : Served} {v : Verb} {files : ℕ → List (List ℕ)} → Outcome sv v files → IsLast v
 outcome-last (replies reply sv_is v_is) = subst IsLast (sym v_is) tt
 outcome-last (faults x sv_is v_is) = subst IsLast (sym v_is) tt
@@ -153,14 +155,15 @@ module _ (sys : Behaviour) (b : IsBehaviour sys) (t : ℕ) (q : List PathAnswer)
   step-fine files are at verb.Show asks takes fine = let next = given-fine at Shown (rw asks tt) fine in record { is_path = next.is_path; are_files = next.are_files }
   step-fine files are at (verb.Accept screen) asks takes fine = given-fine at (Entry (entries_on at.path + 1)) (rw asks (refl, omega (arith, takes))) fine
   step-fine files are at (verb.Send c message) asks takes fine = served-fine c message (b.sends t c message at.path fine.is_path asks) at asks fine
-  step-fine files are at verb.End asks takes fine = given-fine at answer.Ended (rw asks tt) fine
-  step-fine files are at verb.Drop asks takes fine = let next = given-fine at answer.Dropped (rw asks tt) fine in record { is_path = next.is_path; are_files = are }
+  step-fine files are at verb.End asks takes fine = given-fine at Ended (rw asks tt) fine
+  step-fine files are at verb.Drop asks takes fine = let next = given-fine at Dropped (rw asks tt) fine in record { is_path = next.is_path; are_files = are }
   step-fine files are at verb.Redo asks takes fine = absurd takes
   step-fine files are at verb.Stop asks takes fine = absurd takes
   step-fine files are at (verb.Fault x) asks takes fine = absurd takes
   step-fine files are at (verb.File call) asks takes fine = absurd takes
   step-fine files are at (verb.Reply reply) asks takes fine = absurd takes
 
+  -- an attempt leaves a path and files
   pub attempt-fine : (files : ℕ → List (List ℕ)) → AreFiles sys files → (j : ℕ) → IsAttempt sys t q files r j → Fine (attempt sys t q files r j)
   attempt-fine files are zero is = record { is_path = start; are_files = are }
   attempt-fine files are (suc j) is =
@@ -183,8 +186,8 @@ module _ (sys : Behaviour) (b : IsBehaviour sys) (t : ℕ) (q : List PathAnswer)
       subst (λ (p : List PathAnswer). SameAttempts sys (attempt_with (Entry (entries_on one.path + 1)) one) (attempt_with (Entry (entries_on p + 1)) other) x y) same.path
       (given-same sys one other x y (Entry (entries_on one.path + 1)) same)
   step-same x y one other (verb.Send c message) sends same = sends c message refl
-  step-same x y one other verb.End sends same = given-same sys one other x y answer.Ended same
-  step-same x y one other verb.Drop sends same = record { path = ap (λ (p : List PathAnswer). p ++ answer.Dropped ∷ []) same.path; refreshes = same.refreshes; last = refl; stays = λ f key e. e }
+  step-same x y one other verb.End sends same = given-same sys one other x y Ended same
+  step-same x y one other verb.Drop sends same = record { path = ap (λ (p : List PathAnswer). p ++ Dropped ∷ []) same.path; refreshes = same.refreshes; last = refl; stays = λ f key e. e }
   step-same x y one other verb.Redo sends same = same
   step-same x y one other verb.Stop sends same = same
   step-same x y one other (verb.Fault n) sends same = same
@@ -197,6 +200,7 @@ module _ (sys : Behaviour) (b : IsBehaviour sys) (t : ℕ) (q : List PathAnswer)
       → (k : ℕ) (call : FileCall) → verb_at sys c message (attempt sys t q x r i).files k ≡ verb.File call
       → (key : List ℕ) → CallCovers sys (files_at sys c message (attempt sys t q x r i).files k) call key → HaveSameAt sys x y call.file key
 
+  -- attempts on files that agree on their locks are the same
   pub attempts-same : (x y : ℕ → List (List ℕ)) → AreFiles sys x → AreFiles sys y → (j : ℕ) → IsAttempt sys t q x r j → AgreeOnAttempt x y j
       → IsAttempt sys t q y r j × SameAttempts sys (attempt sys t q x r j) (attempt sys t q y r j) x y
   attempts-same x y are others zero is agree = (is, record { path = refl; refreshes = refl; last = refl; stays = λ f key e. e })

@@ -1,12 +1,13 @@
--- How many answers a running attempt has had, where its terminal has its path, and what a commit leaves.
+-- How many answers a running attempt has had, where its terminal has its path, and what a commit
+-- leaves.
 use Rattle.std.specs.Prelude.{◌≡◌, ℕ, List, [], ◌∷◌, Bool, true, false, Some}
 use Rattle.pw_event.specs.declared.event.Event.{Event}
 use Rattle.pw_onecopy.specs.Attempt.{attempt}
+use Rattle.pw_onecopy.specs.Behaviour.{Behaviour}
 use Rattle.pw_onecopy.specs.Path.{PathAnswer}
 use Rattle.pw_paired.specs.Serial.{answers_behind, reading_starts}
 use Rattle.pw_paired.specs.State.{Alone, Down, Gone, Mode, OpenUnit, Paired, Raising, State, starting}
 use Rattle.pw_paired.specs.Step.{effect}
-use Rattle.pw_onecopy.specs.Behaviour.{Behaviour}
 use Rattle.pw_paired.specs.Units.{committed_files}
 
 -- the answers that entries have put on the paths since their attempts began, behind more entries
@@ -27,11 +28,13 @@ has_paths Paired = true
 has_paths Down = false
 has_paths Gone = false
 
--- The terminal's unit has committed: the committed records are the files of its attempt alone, with so many answers.
+-- The terminal's unit has committed: the committed records are the files of its attempt alone, with
+-- so many answers.
 pub record CommitsAlone (sys : Behaviour) (before after : State) (t answers : ℕ) : Type 0 where
   pub unit : OpenUnit
   pub is_open : before.units t ≡ Some unit
   pub start : List PathAnswer
   pub runs : unit.running ≡ Some start
   pub files : (f : ℕ)
-      → committed_files sys after f ≡ (attempt sys t start (committed_files sys before) unit.restarts answers).files f
+      → committed_files sys after f
+      ≡ (attempt sys t start (committed_files sys before) unit.restarts answers).files f

@@ -1,37 +1,31 @@
 -- The locks of a run: whose they are, and that no two of them conflict.
-use Rattle.std.proofs.Common.{◌≡◌, ℕ, Bool, true, false, not, cond, List, [], ◌∷◌, ◌++◌, filter, Option, Some, None, if◌then◌else◌, refl, ap, sym, subst, subst₂, ◌∙◌}
+use Rattle.std.proofs.Common.{◌≡◌, ℕ, Bool, true, false, not, cond, List, [], ◌∷◌, ◌++◌, filter, Option, Some, None, if◌then◌else◌, refl, ap, sym, subst, ◌∙◌}
 use Rattle.std.specs.List.{list_any, AllByRecursion}
 use Rattle.std.proofs.lemmas.Bool.{false≢true, eqb-false, cond-false, or_parts}
 use Rattle.pw_code.specs.declared.file.FileCall.{FileCall}
-use Rattle.pw_code.specs.declared.verb.Verb.{Verb}
-use Rattle.pw_code.specs.declared.verb.Verb.TheVariants as verb
-use Rattle.pw_event.specs.declared.event.Ending.{Ending}
-use Rattle.pw_event.specs.declared.event.Ending.TheVariants as ending
 use Rattle.pw_event.specs.declared.event.Event.{Event}
 use Rattle.pw_event.specs.declared.event.Event.TheVariants.{Show, Key, CheckStart, CheckEnd, CheckCopy, Applied, Begin, Send, Take, File, Reply, Again, Commit, Back, Restart, FailTcp, FailServer, Takeover, Raise, End}
-use Rattle.pw_locks.specs.Conflicts.{conflict, holders}
-use Rattle.pw_locks.specs.declared.lock.Lock.{Lock}
-use Rattle.pw_runs.proofs.kept.Failing.{out-job}
-use Rattle.pw_runs.proofs.kept.Kept.{Inv}
-use Rattle.pw_runs.proofs.kept.Runs.{keeps, kept-at-start}
-use Rattle.pw_onecopy.proofs.Update.{upd-other}
-use Rattle.pw_onecopy.specs.IsBehaviour.{IsBehaviour}
-use Rattle.pw_paired.specs.Failure.{backup_fails, is_of_pair, primary_fails, process_fails}
-use Rattle.pw_onecopy.specs.Path.{is_outside, unit_number}
-use Rattle.pw_paired.specs.Server.{do_job, do_operation, do_verb, free_process, lock_of_job, reply_at, server_verb}
-use Rattle.pw_onecopy.specs.Update.{upd}
-use Rattle.pw_paired.specs.State.{Job, Mode, Alone, Raising, Paired, Down, Gone, OpenUnit, State, starting}
-use Rattle.pw_paired.specs.Step.{Fits, IsRun, IsRunFrom, after, after_from, effect}
-use Rattle.pw_onecopy.specs.Behaviour.{Behaviour}
-use Rattle.pw_paired.specs.Terminal.{IsIdle, path_of}
-use Rattle.pw_paired.specs.Units.{attempt_of, commit_unit, only}
 use Rattle.pw_locking.proofs.records.OperationKept.{none-holds}
 use Rattle.pw_locking.specs.Held.{AreApart, IsHeld}
-use Rattle.pw_runs.proofs.induction.Failed.{end-any, fail-cases, process-cases}
-use Rattle.pw_runs.proofs.induction.Served.{file-is, reply-any}
-use Rattle.pw_runs.proofs.induction.Runs.{holds-behind, kept}
 use Rattle.pw_locks.proofs.Overlaps.{conflict-comm}
+use Rattle.pw_locks.specs.Conflicts.{conflict, holders}
+use Rattle.pw_locks.specs.declared.lock.Lock.{Lock}
+use Rattle.pw_onecopy.proofs.Update.{upd-other}
+use Rattle.pw_onecopy.specs.Behaviour.{Behaviour}
+use Rattle.pw_onecopy.specs.IsBehaviour.{IsBehaviour}
+use Rattle.pw_onecopy.specs.Update.{upd}
+use Rattle.pw_paired.specs.Failure.{is_of_pair}
+use Rattle.pw_paired.specs.Server.{do_operation, lock_of_job}
+use Rattle.pw_paired.specs.State.{Job, OpenUnit, State}
+use Rattle.pw_paired.specs.Step.{Fits, IsRun, after, effect}
+use Rattle.pw_paired.specs.Terminal.{IsIdle}
+use Rattle.pw_paired.specs.Units.{attempt_of, only}
 use Rattle.pw_runs.proofs.Tests.{all-last}
+use Rattle.pw_runs.proofs.induction.Failed.{end-any, fail-cases, process-cases}
+use Rattle.pw_runs.proofs.induction.Runs.{holds-behind, kept}
+use Rattle.pw_runs.proofs.induction.Served.{file-is, reply-any}
+use Rattle.pw_runs.proofs.kept.Failing.{out-job}
+use Rattle.pw_runs.proofs.kept.Kept.{Inv}
 
 -- both at once
 pub record LocksOk (units : ℕ → Option OpenUnit) (locks : List Lock) : Type 0 where
@@ -122,6 +116,7 @@ module _ (sys : Behaviour) (b : IsBehaviour sys) (s : State) (i : Inv sys s) (ok
   abbrev Kept : State → Type 0
   Kept x = LocksOk x.units x.locks
 
+  -- each entry keeps locks in order
   pub keeps-locks : (entry : Event) → Fits sys s entry → LocksOk (effect sys s entry).units (effect sys s entry).locks
   keeps-locks (Show t phase attempt k) l = ok
   keeps-locks (Key t k) l = ok
@@ -148,13 +143,16 @@ module _ (sys : Behaviour) (b : IsBehaviour sys) (s : State) (i : Inv sys s) (ok
   keeps-locks (Raise p) l = ok
   keeps-locks (End t e) l = end-any sys s Kept t e ok (without (only t) (λ j. if only t j then None else s.units j) (left-other t))
 
+-- locks are in order behind every run
 pub locks-ok : (sys : Behaviour) → IsBehaviour sys → (log : List Event) → IsRun sys log → LocksOk (after sys log).units (after sys log).locks
 locks-ok sys b log run =
     holds-behind sys (λ s. LocksOk s.units s.locks) (λ log run entry legal ok. keeps-locks sys b (after sys log) (kept sys b log run) ok entry legal.fits)
     (record { held = tt; apart = tt }) log run
 
+-- in every run locks are held
 pub held : (sys : Behaviour) → IsBehaviour sys → (log : List Event) → IsRun sys log → AllByRecursion (IsHeld (after sys log).units) (after sys log).locks
 held sys b log run = (locks-ok sys b log run).held
 
+-- and no two conflict
 pub apart : (sys : Behaviour) → IsBehaviour sys → (log : List Event) → IsRun sys log → AreApart (after sys log).locks
 apart sys b log run = (locks-ok sys b log run).apart

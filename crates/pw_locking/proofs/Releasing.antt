@@ -1,10 +1,10 @@
 -- To release by terminal is to release by unit, where locks are those of open units.
-use Rattle.std.proofs.Common.{◌≡◌, ◌≢◌, ℕ, Bool, true, false, not, ◌&&◌, ◌==◌, cond, List, [], ◌∷◌, filter, Option, Some, None, refl, sym, ap, ap₂, ◌∙◌, ⊎_elim}
+use Rattle.std.proofs.Common.{◌≡◌, ℕ, Bool, true, not, cond, List, [], ◌∷◌, filter, Option, Some, None, refl, sym, ap, ap₂, ◌∙◌, ⊎_elim}
 use Rattle.std.specs.List.{AllByRecursion}
-use Rattle.std.proofs.lemmas.Bool.{cases_eq, and_left, eq-eqb, ne_eqb}
+use Rattle.std.proofs.lemmas.Bool.{cases_eq, eq-eqb, ne_eqb}
+use Rattle.pw_locking.specs.Held.{IsHeld}
 use Rattle.pw_locks.specs.Conflicts.{is_same_unit}
 use Rattle.pw_locks.specs.declared.lock.Lock.{Lock}
-use Rattle.pw_locking.specs.Held.{IsHeld}
 use Rattle.pw_paired.specs.Failure.{unit_named}
 use Rattle.pw_paired.specs.State.{OpenUnit}
 use Rattle.pw_paired.specs.Units.{only, without_locks}
@@ -41,6 +41,7 @@ module _ (units : ℕ → Option OpenUnit) (t : ℕ) where
   other-test none lock held =
       ap not (ne_eqb lock.unit.terminal t (λ own. absurd (cc (ap units (sym own) ∙ held.is_open, none))))
 
+-- of the open unit of the terminal
 pub release-unit : (units : ℕ → Option OpenUnit) (locks : List Lock) → AllByRecursion (IsHeld units) locks
     → (t : ℕ) (unit : OpenUnit) → units t ≡ Some unit
     → without_locks (only t) locks ≡ filter (λ held. not (is_same_unit held.unit (unit_named t unit))) locks
@@ -48,12 +49,14 @@ release-unit units locks all t unit is =
     filter-same (λ lock. not (only t lock.unit.terminal)) (λ held. not (is_same_unit held.unit (unit_named t unit))) locks
     (all-more (IsHeld units) _ (λ lock held. ap not (same-test units t unit is lock held)) locks all)
 
+-- where none is open
 pub release-none : (units : ℕ → Option OpenUnit) (locks : List Lock) → AllByRecursion (IsHeld units) locks
     → (t : ℕ) → units t ≡ None → without_locks (only t) locks ≡ locks
 release-none units locks all t none =
     filter-all (λ lock. not (only t lock.unit.terminal)) locks
     (all-more (IsHeld units) _ (λ lock held. other-test units t none lock held) locks all)
 
+-- the locks that stay are held
 pub release-stays : (units : ℕ → Option OpenUnit) (locks : List Lock) → AllByRecursion (IsHeld units) locks
     → (whose : ℕ → Bool) → AllByRecursion (IsHeld units) (without_locks whose locks)
 release-stays units locks all whose = all-filter (IsHeld units) (λ lock. not (whose lock.unit.terminal)) locks all

@@ -23,7 +23,9 @@ is_exclusive Exclusive = true
 
 -- an exclusive lock of the terminal's unit on this one key
 abbrev pub locks_key : ℕ → ℕ → List ℕ → Lock → Bool
-locks_key t file key lock = lock.unit.terminal == t && (lock.file == file && (is_point key lock.span && is_exclusive lock.mode))
+locks_key t file key lock =
+    lock.unit.terminal == t
+    && (lock.file == file && (is_point key lock.span && is_exclusive lock.mode))
 
 -- the terminal's unit has such a lock
 abbrev pub has_key_lock : ℕ → ℕ → List ℕ → List Lock → Bool

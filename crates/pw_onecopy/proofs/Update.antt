@@ -3,14 +3,17 @@ use Rattle.std.proofs.Common.{◌≡◌, ◌≢◌, ℕ, eqb}
 use Rattle.std.proofs.lemmas.Bool.{cond_both, eqb-true, eqb-false, eq-eqb, ne_eqb, cond-true, cond-false}
 use Rattle.pw_onecopy.specs.Update.{upd}
 
+-- what holds of the new value at its place and of the old ones elsewhere
 pub upd_elim : {A : Type 0} (f : ℕ → A) (k : ℕ) (v : A) (j : ℕ) (P : A → Type 0) → (j ≡ k → P v) → (j ≢ k → P (f j)) → P (upd f k v j)
 unfolding upd
 upd_elim f k v j P same other = cond_both (eqb j k) v (f j) P (λ e. same (eqb-true j k e)) (λ e. other (eqb-false j k e))
 
+-- at its place it has the new value
 pub upd-same : {A : Type 0} (f : ℕ → A) (k : ℕ) (v : A) (j : ℕ) → j ≡ k → upd f k v j ≡ v
 unfolding upd
 upd-same f k v j is = cond-true (eqb j k) v (f j) (eq-eqb j k is)
 
+-- elsewhere it has the old ones
 pub upd-other : {A : Type 0} (f : ℕ → A) (k : ℕ) (v : A) (j : ℕ) → j ≢ k → upd f k v j ≡ f j
 unfolding upd
 upd-other f k v j ne = cond-false (eqb j k) v (f j) (ne_eqb j k ne)

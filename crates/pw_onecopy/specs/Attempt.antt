@@ -2,12 +2,13 @@
 use Rattle.std.specs.Prelude.{◌≡◌, ℕ, zero, suc, ◌+◌, ◌<◌, true, List, [], ◌∷◌, ◌++◌, Option, Some, None}
 use Rattle.pw_code.specs.declared.verb.Verb.{Verb}
 use Rattle.pw_code.specs.declared.verb.Verb.TheVariants as verb
-use Rattle.pw_onecopy.specs.declared.refresh.Refresh.{Refresh}
+use Rattle.pw_onecopy.specs.Behaviour.{Behaviour, Served, Reply, Fault}
 use Rattle.pw_onecopy.specs.Path.{PathAnswer, Shown, Entry, Begun, Replied, Failed, unit_number, entries_on, Dropped, Ended, is_outside}
 use Rattle.pw_onecopy.specs.Refreshes.{next_refresh}
-use Rattle.pw_onecopy.specs.Behaviour.{Behaviour, Served, Reply, Fault}
+use Rattle.pw_onecopy.specs.declared.refresh.Refresh.{Refresh}
 
--- A unit's attempt by itself: its path, the files as it leaves them, its refreshes, and its last answer.
+-- A unit's attempt by itself: its path, the files as it leaves them, its refreshes, and its last
+-- answer.
 pub record Attempt : Type 0 where
   pub path : List PathAnswer
   pub files : ℕ → List (List ℕ)
@@ -24,16 +25,19 @@ attempt_with a at = record at { path = at.path ++ a ∷ []; last = Some a }
 
 -- SEND gets what the server comes to on the attempt's files: Replied, or Failed(x)
 abbrev pub attempt_with_served : Served → Attempt → Attempt
-attempt_with_served (Reply reply files) at = record (attempt_with (Replied reply) at) { files = files }
+attempt_with_served (Reply reply files) at =
+    record (attempt_with (Replied reply) at) { files = files }
 attempt_with_served (Fault x) at = attempt_with (Failed x) at
 
--- A verb is answered: Begin gets Begun(r), Show gets Shown, Accept gets the next entry, End gets Ended, and Drop gets
--- Dropped and puts the files back.
+-- A verb is answered: Begin gets Begun(r), Show gets Shown, Accept gets the next entry, End gets
+-- Ended, and Drop gets Dropped and puts the files back.
 abbrev pub answer_verb : Behaviour → ℕ → ℕ → (ℕ → List (List ℕ)) → Verb → Attempt → Attempt
 answer_verb sys t r files verb.Begin at = attempt_with (Begun r) at
-answer_verb sys t r files verb.Show at = record (attempt_with Shown at) { refreshes = at.refreshes ++ next_refresh sys t at.path ∷ [] }
+answer_verb sys t r files verb.Show at =
+    record (attempt_with Shown at) { refreshes = at.refreshes ++ next_refresh sys t at.path ∷ [] }
 answer_verb sys t r files (verb.Accept screen) at = attempt_with (Entry (entries_on at.path + 1)) at
-answer_verb sys t r files (verb.Send class message) at = attempt_with_served (sys.serve class message at.files) at
+answer_verb sys t r files (verb.Send class message) at =
+    attempt_with_served (sys.serve class message at.files) at
 answer_verb sys t r files verb.End at = attempt_with Ended at
 answer_verb sys t r files verb.Drop at = record (attempt_with Dropped at) { files = files }
 answer_verb sys t r files _ at = at
@@ -69,4 +73,5 @@ pub record GoesOn (sys : Behaviour) (t : ℕ) (q : List PathAnswer) (at : Attemp
 -- the attempt is defined for j answers
 abbrev pub IsAttempt : Behaviour → ℕ → List PathAnswer → (ℕ → List (List ℕ)) → ℕ → ℕ → Type 0
 IsAttempt sys t q files r zero = BeginsUnit (sys.ask t q) q
-IsAttempt sys t q files r (suc j) = IsAttempt sys t q files r j × GoesOn sys t q (attempt sys t q files r j)
+IsAttempt sys t q files r (suc j) =
+    IsAttempt sys t q files r j × GoesOn sys t q (attempt sys t q files r j)

@@ -1,5 +1,5 @@
--- How a system behaves: all that the paired system and the one-copy machine know of a deck. It is made from a deck's system
--- and its failure lines, which the one-copy machine never reads.
+-- How a system behaves: all that the paired system and the one-copy machine know of a deck. It is
+-- made from a deck's system and its failure lines, which the one-copy machine never reads.
 use Rattle.std.specs.Prelude.{ℕ, List}
 use Rattle.pw_code.specs.declared.lock.LockRule.{LockRule}
 use Rattle.pw_code.specs.declared.verb.Verb.{Verb}
@@ -11,9 +11,10 @@ pub data Served : Type 0 where
   Reply : (reply : List ℕ) (files : ℕ → List (List ℕ)) → Served
   Fault : (code : ℕ) → Served
 
--- The terminals, pairs, classes and files of a deck, by their numbers from 0, what its programs ask and show, and its failure
--- lines. Of a terminal, class or file that is not there the functions answer 0, the verb Stop, a screen without cells, a file
--- without records and keys of 1 character; no step reads these answers.
+-- The terminals, pairs, classes and files of a deck, by their numbers from 0, what its programs ask
+-- and show, and its failure lines. Of a terminal, class or file that is not there the functions
+-- answer 0, the verb Stop, the run fault 0, a screen without cells, a file without records and keys
+-- of 1 character; no step reads these answers.
 pub record Behaviour : Type 0 where
   -- the number of started terminals
   pub terminals : ℕ

@@ -13,7 +13,8 @@ pub data How : Type 0 where
   -- its unit has ended without effect, and its terminal ends
   Left : How
 
--- Out: one answer outside units. Attempted: an attempt of unit n of t with j answers. Done: an ending.
+-- Out: one answer outside units. Attempted: an attempt of unit n of t with j answers. Done: an
+-- ending.
 pub data Block : Type 0 where
   Out : (t : ℕ) → Block
   Attempted : (t n : ℕ) (how : How) (j : ℕ) → Block

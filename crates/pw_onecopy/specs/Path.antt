@@ -23,9 +23,9 @@ pub record FileAnswer : Type 0 where
   pub status : ℕ
   pub content : Option (List ℕ)
 
--- Where a path stands: how many units have ended on it, the restarts of the transaction that it is in, if any, and how
--- many refreshes it has since it went into that transaction or, outside one, since the last unit ended or, before any has, from
--- the start.
+-- Where a path stands: how many units have ended on it, the restarts of the transaction that it is
+-- in, if any, and how many refreshes it has since it went into that transaction or, outside one,
+-- since the last unit ended or, before any has, from the start.
 pub record Standing : Type 0 where
   pub ended : ℕ
   pub within : Option ℕ
@@ -77,8 +77,8 @@ pub record RefreshNumber : Type 0 where
   pub attempt : ℕ
   pub k : ℕ
 
--- the next number at a standing: phase 2n - 1 inside unit n, with the restarts of its attempt, and phase 2m outside
--- units after m ended units, with attempt 0
+-- the next number at a standing: phase 2n - 1 inside unit n, with the restarts of its attempt, and
+-- phase 2m outside units after m ended units, with attempt 0
 abbrev pub number_at : Standing → Option ℕ → RefreshNumber
 number_at at None = record { phase = 2 * at.ended; attempt = 0; k = at.shown + 1 }
 number_at at (Some r) = record { phase = 2 * at.ended + 1; attempt = r; k = at.shown + 1 }

@@ -2,10 +2,10 @@
 use Rattle.std.specs.Prelude.{ℕ, zero, suc, List, [], ◌∷◌, ◌++◌}
 use Rattle.pw_code.specs.declared.verb.Verb.{Verb}
 use Rattle.pw_code.specs.declared.verb.Verb.TheVariants as verb
+use Rattle.pw_onecopy.specs.Behaviour.{Behaviour}
 use Rattle.pw_onecopy.specs.Operation.{answer_of, records_behind}
 use Rattle.pw_onecopy.specs.Path.{FileAnswer}
 use Rattle.pw_onecopy.specs.Update.{upd}
-use Rattle.pw_onecopy.specs.Behaviour.{Behaviour}
 
 -- a server at work by itself: the files as it leaves them, and what its operations were answered
 pub record Play : Type 0 where
@@ -15,7 +15,8 @@ pub record Play : Type 0 where
 -- one operation by itself
 abbrev pub play_operation : Behaviour → Verb → Play → Play
 play_operation sys (verb.File call) at = record {
-  files = upd at.files call.file (records_behind (sys.key_length call.file) (at.files call.file) call);
+  files = upd at.files call.file
+      (records_behind (sys.key_length call.file) (at.files call.file) call);
   done = at.done ++ answer_of (sys.key_length call.file) (at.files call.file) call.op call ∷ [];
 }
 play_operation sys _ at = at

@@ -1,14 +1,21 @@
 -- Refreshes: the showings of screens, counted once.
 use Rattle.std.specs.Prelude.{ℕ, ◌&&◌, ◌==◌, Bool, List, [], ◌∷◌, filter, if◌then◌else◌}
-use Rattle.pw_onecopy.specs.declared.refresh.Refresh.{Refresh}
-use Rattle.pw_onecopy.specs.Path.{PathAnswer, RefreshNumber, next_number}
 use Rattle.pw_onecopy.specs.Behaviour.{Behaviour}
+use Rattle.pw_onecopy.specs.Path.{PathAnswer, RefreshNumber, next_number}
+use Rattle.pw_onecopy.specs.declared.refresh.Refresh.{Refresh}
 
 -- a refresh of this number
 abbrev pub refresh_numbered : ℕ → RefreshNumber → List ℕ → Refresh
-refresh_numbered t number image = record { terminal = t; phase = number.phase; attempt = number.attempt; k = number.k; image = image }
+refresh_numbered t number image = record {
+  terminal = t;
+  phase = number.phase;
+  attempt = number.attempt;
+  k = number.k;
+  image = image;
+}
 
--- the next refresh of a terminal after a path: the path's next number, and the screen after the path
+-- the next refresh of a terminal after a path: the path's next number, and the screen after the
+-- path
 abbrev pub next_refresh : Behaviour → ℕ → List PathAnswer → Refresh
 next_refresh sys t path = refresh_numbered t (next_number path) (sys.image t path)
 

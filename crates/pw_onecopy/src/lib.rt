@@ -1,4 +1,6 @@
-//! The one-copy machine: paths, how a system behaves, operations, attempts, and the machine that runs them one by one.
+//! The one-copy machine: paths, how a system behaves, operations, attempts, and the machine that
+//! runs them one by one.
 #![tactic(auto)]
 
+pub mod examples;
 pub mod refresh;

@@ -4,12 +4,12 @@ use Rattle.pw_code.specs.declared.verb.Verb.TheVariants as verb
 use Rattle.pw_event.specs.declared.event.Cause.{Cause}
 use Rattle.pw_event.specs.declared.event.Ending.{Ending}
 use Rattle.pw_event.specs.declared.event.Ending.TheVariants.{Stopped, NoEntries, Fault, Suspended, Lost}
-use Rattle.pw_paired.specs.Failure.{IsCaused}
-use Rattle.pw_onecopy.specs.Path.{entries_on}
-use Rattle.pw_paired.specs.Raising.{settle_mode}
-use Rattle.pw_onecopy.specs.Update.{upd}
-use Rattle.pw_paired.specs.State.{Gone, OpenUnit, State}
 use Rattle.pw_onecopy.specs.Behaviour.{Behaviour}
+use Rattle.pw_onecopy.specs.Path.{entries_on}
+use Rattle.pw_onecopy.specs.Update.{upd}
+use Rattle.pw_paired.specs.Failure.{IsCaused}
+use Rattle.pw_paired.specs.Raising.{settle_mode}
+use Rattle.pw_paired.specs.State.{Gone, OpenUnit, State}
 use Rattle.pw_paired.specs.Terminal.{IsLive, CanStep, next_verb, path_of}
 use Rattle.pw_paired.specs.Units.{leave_units, only}
 
@@ -30,8 +30,8 @@ pub record LegalFault (sys : Behaviour) (state : State) (t x : ℕ) : Type 0 whe
   pub can : CanStep sys state t
   pub asks : next_verb sys state t ≡ verb.Fault x
 
--- END t SUSPENDED cause: an attempt of an open unit runs, it has exactly MAXTMFRESTARTS recorded restarts, and the cause
--- holds
+-- END t SUSPENDED cause: an attempt of an open unit runs, it has exactly MAXTMFRESTARTS recorded
+-- restarts, and the cause holds
 pub record LegalSuspended (sys : Behaviour) (state : State) (t : ℕ) (cause : Cause) : Type 0 where
   pub unit : OpenUnit
   pub caused : IsCaused sys state t unit.number cause unit
@@ -58,7 +58,8 @@ leave_unit_at sys t (Fault x) state = leave_units sys (only t) state
 leave_unit_at sys t (Suspended cause) state = leave_units sys (only t) state
 leave_unit_at sys t Lost state = state
 
--- the terminal has the ending, nothing is pending for it, and its message in flight and its memory are dropped
+-- the terminal has the ending, nothing is pending for it, and its message in flight and its memory
+-- are dropped
 abbrev pub end_terminal : ℕ → Ending → State → State
 end_terminal t ending state = record state {
   terms = upd state.terms t (record (state.terms t) { pending = None; ending = Some ending });
@@ -68,4 +69,5 @@ end_terminal t ending state = record state {
 
 -- t ends, and the rest of its pair may be up to date now
 abbrev pub do_end : Behaviour → ℕ → Ending → State → State
-do_end sys t ending state = settle_mode sys (sys.pair_of t) (end_terminal t ending (leave_unit_at sys t ending state))
+do_end sys t ending state =
+    settle_mode sys (sys.pair_of t) (end_terminal t ending (leave_unit_at sys t ending state))

@@ -9,13 +9,13 @@ use Rattle.pw_event.specs.declared.event.Cause.TheVariants.{Older, Takeover, Ser
 use Rattle.pw_event.specs.declared.script.FailLine.{FailLine}
 use Rattle.pw_event.specs.declared.script.FailLine.TheVariants as line
 use Rattle.pw_locks.specs.Conflicts.{conflict, is_same_unit}
-use Rattle.pw_onecopy.specs.Path.{PathAnswer}
-use Rattle.pw_paired.specs.Server.{with_job_at, lock_of_job, server_verb}
-use Rattle.pw_onecopy.specs.Update.{upd}
-use Rattle.pw_paired.specs.State.{Mode, Alone, Raising, Paired, Down, Gone, Awaited, Job, LastEnded, BackupCopy, OpenUnit, State, Term}
 use Rattle.pw_onecopy.specs.Behaviour.{Behaviour}
+use Rattle.pw_onecopy.specs.Path.{PathAnswer}
+use Rattle.pw_onecopy.specs.Update.{upd}
+use Rattle.pw_paired.specs.Server.{with_job_at, lock_of_job, server_verb}
+use Rattle.pw_paired.specs.State.{Mode, Alone, Raising, Paired, Down, Gone, Awaited, Job, LastEnded, BackupCopy, OpenUnit, State, Term}
 use Rattle.pw_paired.specs.Terminal.{CanStep, next_verb}
-use Rattle.pw_paired.specs.Units.{attempt_of, back_out_changes, cancel_requests, leave_units, only, release_locks}
+use Rattle.pw_paired.specs.Units.{attempt_of, leave_units, only, withdraw_attempts, cancel_requests}
 
 -- an open unit of a terminal, as locks name it
 abbrev pub unit_named : ℕ → OpenUnit → unit.Unit
@@ -31,17 +31,21 @@ pub record Meets (sys : Behaviour) (state : State) (one other : unit.Unit) : Typ
   pub unit_is : job.request.unit ≡ one.number
   pub call : FileCall
   pub asks : server_verb sys class job ≡ verb.File call
-  pub meets : list_any (λ held. is_same_unit held.unit other && conflict (lock_of_job sys state job call) held) state.locks ≡ true
+  pub meets : list_any
+      (λ held. is_same_unit held.unit other && conflict (lock_of_job sys state job call) held)
+      state.locks ≡ true
 
--- OLDER o m: unit m of terminal o is open and older, the pair of t is not Gone, and the lock of the next file operation of
--- a process for one of the two units conflicts with a lock of the other
-pub record LegalOlder (sys : Behaviour) (state : State) (t : ℕ) (own : OpenUnit) (o m : ℕ) : Type 0 where
+-- OLDER o m: unit m of terminal o is open and older, the pair of t is not Gone, and the lock of the
+-- next file operation of a process for one of the two units conflicts with a lock of the other
+pub record LegalOlder (sys : Behaviour) (state : State) (t : ℕ) (own : OpenUnit)
+    (o m : ℕ) : Type 0 where
   pub older : OpenUnit
   pub is_open : state.units o ≡ Some older
   pub number : older.number ≡ m
   pub is_older : older.birth < own.birth
   pub there : ¬ (state.modes (sys.pair_of t) ≡ Gone)
-  pub meets : Meets sys state (unit_named t own) (unit_named o older) ⊎ Meets sys state (unit_named o older) (unit_named t own)
+  pub meets : Meets sys state (unit_named t own) (unit_named o older)
+      ⊎ Meets sys state (unit_named o older) (unit_named t own)
 
 -- TAKEOVER p: it is pending, in mode Alone
 pub record LegalTakeoverCause (sys : Behaviour) (state : State) (t p : ℕ) : Type 0 where
@@ -66,14 +70,16 @@ Holds sys state t own (Server k) = LegalServerCause sys state t k
 Holds sys state t own Redo = LegalRedoCause sys state t
 
 -- an attempt of unit n of t runs, and the cause holds for it
-pub record IsCaused (sys : Behaviour) (state : State) (t n : ℕ) (cause : Cause) (unit : OpenUnit) : Type 0 where
+pub record IsCaused (sys : Behaviour) (state : State) (t n : ℕ) (cause : Cause)
+    (unit : OpenUnit) : Type 0 where
   pub is_open : state.units t ≡ Some unit
   pub number : unit.number ≡ n
   pub start : List PathAnswer
   pub runs : unit.running ≡ Some start
   pub holds : Holds sys state t unit cause
 
--- RESTART t n cause: an attempt of n runs, it has fewer than MAXTMFRESTARTS recorded restarts, and the cause holds
+-- RESTART t n cause: an attempt of n runs, it has fewer than MAXTMFRESTARTS recorded restarts, and
+-- the cause holds
 pub record LegalRestart (sys : Behaviour) (state : State) (t n : ℕ) (cause : Cause) : Type 0 where
   pub unit : OpenUnit
   pub caused : IsCaused sys state t n cause unit
@@ -89,16 +95,21 @@ awaited_after Redo awaited = awaited
 -- the restart is recorded
 abbrev pub with_restart : Cause → Option OpenUnit → Option OpenUnit
 with_restart cause None = None
-with_restart cause (Some unit) = Some (record unit { restarts = unit.restarts + 1; awaits = awaited_after cause unit.awaits; running = None })
+with_restart cause (Some unit) = Some (record unit {
+  restarts = unit.restarts + 1;
+  awaits = awaited_after cause unit.awaits;
+  running = None;
+})
 
 -- the path is the start path, and nothing is pending
 abbrev pub with_start_path : Option (List PathAnswer) → Term → Term
 with_start_path None term = record term { pending = None }
 with_start_path (Some start) term = record term { path = start; pending = None }
 
--- changes are backed out, locks released and the request cancelled; the restart is recorded; the path is the start path
+-- changes are backed out, locks released and the request cancelled; the restart is recorded; the
+-- path is the start path
 abbrev pub do_restart : Behaviour → ℕ → Cause → State → State
-do_restart sys t cause state = record (cancel_requests (only t) (release_locks (only t) (back_out_changes sys (only t) state))) {
+do_restart sys t cause state = record (withdraw_attempts sys (only t) state) {
   units = upd state.units t (with_restart cause (state.units t));
   terms = upd state.terms t (with_start_path (attempt_of (state.units t)) (state.terms t));
 }
@@ -118,7 +129,8 @@ without_backup sys p state = record state {
 abbrev pub without_path : Term → Term
 without_path term = record term { path = []; pending = None }
 
--- Gone: memory, messages, paths, pending causes and requests of the pair's terminals go, and all their open units are left
+-- Gone: memory, messages, paths, pending causes and requests of the pair's terminals go, and all
+-- their open units are left
 abbrev pub lose_pair : Behaviour → ℕ → State → State
 lose_pair sys p state = record (leave_units sys (is_of_pair sys p) (without_backup sys p state)) {
   modes = upd state.modes p Gone;
@@ -158,7 +170,8 @@ abbrev pub fail_line : List FailLine → ℕ → Option FailLine
 fail_line lines zero = None
 fail_line lines (suc k) = slice_get lines k
 
--- FAIL TCP p PRIMARY k, FAIL TCP p BACKUP k: line k is such a line. (That the line is due is asked in `Legal`.)
+-- FAIL TCP p PRIMARY k, FAIL TCP p BACKUP k: line k is such a line. (That the line is due is asked
+-- in `Legal`.)
 pub record LegalFailTcp (sys : Behaviour) (p : ℕ) (primary : Bool) (k : ℕ) : Type 0 where
   pub after : ℕ
   pub names : fail_line sys.script k ≡ Some (line.Tcp p primary after)
@@ -173,14 +186,17 @@ pub record LegalFailServer (sys : Behaviour) (c i k : ℕ) : Type 0 where
   pub after : ℕ
   pub names : fail_line sys.script k ≡ Some (line.Server c i after)
 
--- the request at a process, if any, is cancelled, the process is free, and the cause is pending for its terminal
+-- the request at a process, if any, is cancelled, the process is free, and the cause is pending for
+-- its terminal
 abbrev pub process_fails : ℕ → ℕ → ℕ → Option Job → State → State
 process_fails c i k None state = state
 process_fails c i k (Some job) state = record state {
   classes = upd state.classes c (with_job_at i None (state.classes c));
-  terms = upd state.terms job.request.terminal (record (state.terms job.request.terminal) { pending = Some (Server k) });
+  terms = upd state.terms job.request.terminal
+      (record (state.terms job.request.terminal) { pending = Some (Server k) });
 }
 
+-- the process fails, with what it works on
 abbrev pub do_fail_server : ℕ → ℕ → ℕ → State → State
 do_fail_server c i k state = process_fails c i k ((state.classes c).busy i) state
 
@@ -188,17 +204,19 @@ do_fail_server c i k state = process_fails c i k ((state.classes c).busy i) stat
 pub record LegalTakeover (state : State) (p : ℕ) : Type 0 where
   pub down : state.modes p ≡ Down
 
--- where TMF's last ended unit is the memory's and the end path is there, the path is that; otherwise it is the start path
+-- where TMF's last ended unit is the memory's and the end path is there, the path is that;
+-- otherwise it is the start path
 abbrev pub resumed_path : BackupCopy → LastEnded → List PathAnswer
-resumed_path memory last = if last.number == memory.unit then unwrap_or memory.end memory.start else memory.start
+resumed_path memory last =
+    if last.number == memory.unit then unwrap_or memory.end memory.start else memory.start
 
 -- an attempt of the unit runs
 abbrev pub runs_unit : ℕ → Option OpenUnit → Bool
 runs_unit number None = false
 runs_unit number (Some unit) = unit.number == number && is_some unit.running
 
--- a live terminal behind the takeover: its path is set by the memory and, where an attempt of the memory's unit still runs,
--- the cause TAKEOVER p becomes pending
+-- a live terminal behind the takeover: its path is set by the memory and, where an attempt of the
+-- memory's unit still runs, the cause TAKEOVER p becomes pending
 abbrev pub resume_terminal : ℕ → Option BackupCopy → Option OpenUnit → LastEnded → Term → Term
 resume_terminal p None unit last term = term
 resume_terminal p (Some memory) unit last term = record term {
@@ -214,6 +232,9 @@ is_live_of sys p state t = is_of_pair sys p t && is_none (state.terms t).ending
 abbrev pub do_takeover : Behaviour → ℕ → State → State
 do_takeover sys p state = record state {
   modes = upd state.modes p Alone;
-  terms = λ t. if is_live_of sys p state t then resume_terminal p (state.memory t) (state.units t) (state.ended t) (state.terms t) else state.terms t;
+  terms = λ t.
+      if is_live_of sys p state t
+      then resume_terminal p (state.memory t) (state.units t) (state.ended t) (state.terms t)
+      else state.terms t;
   memory = λ t. if is_of_pair sys p t then None else state.memory t;
 }

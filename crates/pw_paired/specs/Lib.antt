@@ -10,6 +10,3 @@ pub mod Step
 pub mod Shown
 pub mod Serial
 pub mod Headline
-pub mod DeckC
-pub mod Logs
-pub mod Worked

@@ -2,11 +2,11 @@
 use Rattle.std.specs.Prelude.{◌≡◌, ◌⊎◌, ℕ, ◌&&◌, Bool, true, false, not, List, Option, Some, None, is_some, unwrap_or, if◌then◌else◌}
 use Rattle.pw_event.specs.declared.event.Cause.{Cause}
 use Rattle.pw_event.specs.declared.event.Cause.TheVariants.{Takeover}
-use Rattle.pw_paired.specs.Failure.{is_live_of, is_of_pair}
+use Rattle.pw_onecopy.specs.Behaviour.{Behaviour}
 use Rattle.pw_onecopy.specs.Path.{PathAnswer, unit_number}
 use Rattle.pw_onecopy.specs.Update.{upd}
+use Rattle.pw_paired.specs.Failure.{is_live_of, is_of_pair}
 use Rattle.pw_paired.specs.State.{Mode, Alone, Raising, Paired, Down, Gone, BackupCopy, Message, Start, End, Copy, State}
-use Rattle.pw_onecopy.specs.Behaviour.{Behaviour}
 use Rattle.pw_paired.specs.Terminal.{IsLive, path_of}
 use Rattle.pw_paired.specs.Units.{any_below, attempt_of}
 
@@ -20,7 +20,8 @@ is_takeover (Some _) = false
 pub record LegalRaise (sys : Behaviour) (state : State) (p : ℕ) : Type 0 where
   pub alone : state.modes p ≡ Alone
   pub wanted : any_below sys.terminals (is_live_of sys p state) ≡ true
-  pub calm : any_below sys.terminals (λ t. is_of_pair sys p t && is_takeover (state.terms t).pending) ≡ false
+  pub calm : any_below sys.terminals
+      (λ t. is_of_pair sys p t && is_takeover (state.terms t).pending) ≡ false
 
 -- Raising, with an empty memory
 abbrev pub do_raise : Behaviour → ℕ → State → State
@@ -42,7 +43,9 @@ copied_path state t = unwrap_or (attempt_of (state.units t)) (path_of state t)
 
 -- that path is in flight, with its u
 abbrev pub do_check_copy : ℕ → State → State
-do_check_copy t state = record state { flight = upd state.flight t (Some (Copy (unit_number (copied_path state t)) (copied_path state t))) }
+do_check_copy t state =
+    let path : List PathAnswer = copied_path state t in
+    record state { flight = upd state.flight t (Some (Copy (unit_number path) path)) }
 
 -- APPLIED t: a message of t is in flight, and the pair is Raising or Paired
 pub record LegalApplied (sys : Behaviour) (state : State) (t : ℕ) : Type 0 where
@@ -58,13 +61,16 @@ with_end path (Some memory) = Some (record memory { end = Some path })
 -- START and COPY replace memory and clear its end path; END sets its end path
 abbrev pub with_message : Option Message → Option BackupCopy → Option BackupCopy
 with_message None memory = memory
-with_message (Some (Start unit path)) memory = Some (record { unit = unit; start = path; end = None })
-with_message (Some (Copy unit path)) memory = Some (record { unit = unit; start = path; end = None })
+with_message (Some (Start unit path)) memory =
+    Some (record { unit = unit; start = path; end = None })
+with_message (Some (Copy unit path)) memory =
+    Some (record { unit = unit; start = path; end = None })
 with_message (Some (End path)) memory = with_end path memory
 
 -- memory lacks a live terminal of the pair
 abbrev pub lacks_one : Behaviour → ℕ → State → Bool
-lacks_one sys p state = any_below sys.terminals (λ t. is_live_of sys p state t && not (is_some (state.memory t)))
+lacks_one sys p state =
+    any_below sys.terminals (λ t. is_live_of sys p state t && not (is_some (state.memory t)))
 
 -- Raising becomes Paired where memory has every live terminal of the pair
 abbrev pub settled_mode : Mode → Bool → Mode
@@ -77,7 +83,9 @@ settled_mode Gone lacks = Gone
 
 -- the pair behind an entry that may have made its memory whole
 abbrev pub settle_mode : Behaviour → ℕ → State → State
-settle_mode sys p state = record state { modes = upd state.modes p (settled_mode (state.modes p) (lacks_one sys p state)) }
+settle_mode sys p state = record state {
+  modes = upd state.modes p (settled_mode (state.modes p) (lacks_one sys p state));
+}
 
 -- the message is taken in
 abbrev pub do_applied : Behaviour → ℕ → State → State

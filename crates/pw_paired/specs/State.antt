@@ -5,8 +5,8 @@ use Rattle.pw_event.specs.declared.event.Cause.{Cause}
 use Rattle.pw_event.specs.declared.event.Ending.{Ending}
 use Rattle.pw_event.specs.declared.event.Event.{Event}
 use Rattle.pw_locks.specs.declared.lock.Lock.{Lock}
-use Rattle.pw_onecopy.specs.Path.{PathAnswer, FileAnswer}
 use Rattle.pw_onecopy.specs.Behaviour.{Behaviour}
+use Rattle.pw_onecopy.specs.Path.{PathAnswer, FileAnswer}
 
 -- the mode of a pair
 pub data Mode : Type 0 where
@@ -32,8 +32,8 @@ pub record Awaited : Type 0 where
   pub terminal : ℕ
   pub number : ℕ
 
--- An open unit: its number on its terminal, its birth, its recorded restarts, the unit that it awaits, and the start
--- path of the attempt that runs, if one does.
+-- An open unit: its number on its terminal, its birth, its recorded restarts, the unit that it
+-- awaits, and the start path of the attempt that runs, if one does.
 pub record OpenUnit : Type 0 where
   pub number : ℕ
   pub birth : ℕ
@@ -41,7 +41,8 @@ pub record OpenUnit : Type 0 where
   pub awaits : Option Awaited
   pub running : Option (List PathAnswer)
 
--- the last ended unit of a terminal, 0 where none has ended, and its kept reply, where it was one SEND that committed
+-- the last ended unit of a terminal, 0 where none has ended, and its kept reply, where it was one
+-- SEND that committed
 pub record LastEnded : Type 0 where
   pub number : ℕ
   pub reply : Option (List ℕ)

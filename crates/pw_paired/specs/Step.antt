@@ -1,14 +1,14 @@
 -- The kinds of entry put together: the step, the run, and when a log is finished.
 use Rattle.std.specs.Prelude.{◌≡◌, ℕ, Bool, false, not, List, [], ◌∷◌, ◌++◌, Option, Some, None, is_none}
+use Rattle.pw_event.specs.Due.{owner_of, due_line}
 use Rattle.pw_event.specs.declared.event.Event.{Event}
 use Rattle.pw_event.specs.declared.event.Event.TheVariants.{Show, Key, CheckStart, CheckEnd, CheckCopy, Applied, Begin, Send, Take, File, Reply, Again, Commit, Back, Restart, FailTcp, FailServer, Takeover, Raise, End}
-use Rattle.pw_event.specs.Due.{owner_of, due_line}
+use Rattle.pw_onecopy.specs.Behaviour.{Behaviour}
 use Rattle.pw_paired.specs.End.{LegalEnd, do_end}
 use Rattle.pw_paired.specs.Failure.{LegalRestart, do_restart, LegalFailTcp, do_fail_tcp, LegalFailServer, do_fail_server, LegalTakeover, do_takeover}
 use Rattle.pw_paired.specs.Raising.{LegalRaise, do_raise, LegalCheckCopy, do_check_copy, LegalApplied, do_applied}
 use Rattle.pw_paired.specs.Server.{LegalTake, do_take, LegalFile, do_file, LegalReply, do_reply}
 use Rattle.pw_paired.specs.State.{State, starting}
-use Rattle.pw_onecopy.specs.Behaviour.{Behaviour}
 use Rattle.pw_paired.specs.Terminal.{LegalShow, do_show, LegalKey, do_key, LegalCheckStart, do_check_start, LegalCheckEnd, do_check_end, LegalBegin, do_begin, LegalSend, do_send, LegalAgain, do_again, LegalCommit, do_commit, LegalBack, do_back}
 use Rattle.pw_paired.specs.Units.{any_below}
 
@@ -20,7 +20,8 @@ is_going_on state t = is_none (state.terms t).ending
 abbrev pub is_finished : Behaviour → State → Bool
 is_finished sys state = not (any_below sys.terminals (is_going_on state))
 
--- the failure line that must be due for an entry: its own for a FAIL entry, none for every other one
+-- the failure line that must be due for an entry: its own for a FAIL entry, none for every other
+-- one
 abbrev pub line_wanted : Event → Option ℕ
 line_wanted (FailTcp p primary k) = Some k
 line_wanted (FailServer c i k) = Some k
@@ -53,8 +54,8 @@ Fits sys state (Takeover p) = LegalTakeover state p
 Fits sys state (Raise p) = LegalRaise sys state p
 Fits sys state (End t ending) = LegalEnd sys state t ending
 
--- An entry is legal where the log is not finished, its kind fits and, while a failure line is due for its pair or class, it is
--- that line's FAIL entry; a FAIL entry is legal only so.
+-- An entry is legal where the log is not finished, its kind fits and, while a failure line is due
+-- for its pair or class, it is that line's FAIL entry; a FAIL entry is legal only so.
 pub record Legal (sys : Behaviour) (state : State) (entry : Event) : Type 0 where
   pub unfinished : is_finished sys state ≡ false
   pub due : line_due sys state entry ≡ line_wanted entry
@@ -95,7 +96,8 @@ pub record Steps (sys : Behaviour) (state : State) (entry : Event) (next : State
 -- each entry of the log is a step from the state before it
 abbrev pub IsRunFrom : Behaviour → State → List Event → Type 0
 IsRunFrom sys state [] = Unit {0}
-IsRunFrom sys state (entry ∷ log) = Legal sys state entry × IsRunFrom sys (effect sys state entry) log
+IsRunFrom sys state (entry ∷ log) =
+    Legal sys state entry × IsRunFrom sys (effect sys state entry) log
 
 -- the state behind the entries of a log
 abbrev pub after_from : Behaviour → State → List Event → State

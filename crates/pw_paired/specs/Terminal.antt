@@ -1,14 +1,15 @@
--- The entries of a terminal at its own verb: SHOW, KEY, CHECK START, CHECK END, BEGIN, SEND, AGAIN, COMMIT and BACK.
+-- The entries of a terminal at its own verb: SHOW, KEY, CHECK START, CHECK END, BEGIN, SEND, AGAIN,
+-- COMMIT and BACK.
 use Rattle.std.specs.Prelude.{◌≡◌, ◌≢◌, ℕ, ◌+◌, ◌<◌, ◌≤◌, true, false, List, [], ◌∷◌, ◌++◌, Option, Some, None, unwrap_or}
 use Rattle.pw_class.specs.declared.request.Request.{Request}
 use Rattle.pw_code.specs.declared.verb.Verb.{Verb}
 use Rattle.pw_code.specs.declared.verb.Verb.TheVariants as verb
+use Rattle.pw_onecopy.specs.Attempt.{BeginsUnit}
+use Rattle.pw_onecopy.specs.Behaviour.{Behaviour}
 use Rattle.pw_onecopy.specs.Path.{PathAnswer, Shown, Entry, Begun, Replied, Ended, Dropped, unit_number, is_outside, next_number, entries_on}
 use Rattle.pw_onecopy.specs.Update.{upd}
 use Rattle.pw_paired.specs.State.{Paired, Awaited, Class, LastEnded, BackupCopy, Start, End, OpenUnit, State}
-use Rattle.pw_onecopy.specs.Behaviour.{Behaviour}
 use Rattle.pw_paired.specs.Units.{attempt_of, restarts_of, is_out, commit_unit, drop_unit, give_answer}
-use Rattle.pw_onecopy.specs.Attempt.{BeginsUnit}
 
 -- the terminal is started and has no ending
 pub record IsLive (sys : Behaviour) (state : State) (t : ℕ) : Type 0 where
@@ -34,7 +35,8 @@ abbrev pub IsIdle : State → ℕ → Type 0
 IsIdle state t = attempt_of (state.units t) ≡ None
 
 -- the memory of the terminal is of this unit number and start path, whatever its end path is
-pub record HoldsStart (memory : Option BackupCopy) (number : ℕ) (path : List PathAnswer) : Type 0 where
+pub record HoldsStart (memory : Option BackupCopy) (number : ℕ)
+    (path : List PathAnswer) : Type 0 where
   pub held : BackupCopy
   pub is_held : memory ≡ Some held
   pub number_is : held.unit ≡ number
@@ -78,8 +80,8 @@ pub record LegalKey (sys : Behaviour) (state : State) (t k : ℕ) : Type 0 where
 abbrev pub do_key : ℕ → ℕ → State → State
 do_key t k state = give_answer t (Entry k) state
 
--- CHECK t START: no attempt runs, the next verb begins a unit, TMF's last ended unit is not u, memory is not (u, path),
--- and nothing is in flight
+-- CHECK t START: no attempt runs, the next verb begins a unit, TMF's last ended unit is not u,
+-- memory is not (u, path), and nothing is in flight
 pub record LegalCheckStart (sys : Behaviour) (state : State) (t : ℕ) : Type 0 where
   pub can : CanStep sys state t
   pub idle : IsIdle state t
@@ -90,7 +92,9 @@ pub record LegalCheckStart (sys : Behaviour) (state : State) (t : ℕ) : Type 0 
 
 -- the message (u, path) is in flight
 abbrev pub do_check_start : ℕ → State → State
-do_check_start t state = record state { flight = upd state.flight t (Some (Start (unit_number (path_of state t)) (path_of state t))) }
+do_check_start t state = record state {
+  flight = upd state.flight t (Some (Start (unit_number (path_of state t)) (path_of state t)));
+}
 
 -- the answer with which a transaction ends at this verb, if it does
 abbrev pub closing_answer : Verb → Option PathAnswer
@@ -107,8 +111,8 @@ path_with (Some answer) path = path ++ answer ∷ []
 abbrev pub closed_path : Behaviour → State → ℕ → List PathAnswer
 closed_path sys state t = path_with (closing_answer (next_verb sys state t)) (path_of state t)
 
--- CHECK t END: the next verb is End or Drop, memory's end path is not the path with Ended or Dropped, and nothing is in
--- flight
+-- CHECK t END: the next verb is End or Drop, memory's end path is not the path with Ended or
+-- Dropped, and nothing is in flight
 pub record LegalCheckEnd (sys : Behaviour) (state : State) (t : ℕ) : Type 0 where
   pub can : CanStep sys state t
   pub answer : PathAnswer
@@ -118,10 +122,12 @@ pub record LegalCheckEnd (sys : Behaviour) (state : State) (t : ℕ) : Type 0 wh
 
 -- that longer path is in flight
 abbrev pub do_check_end : Behaviour → ℕ → State → State
-do_check_end sys t state = record state { flight = upd state.flight t (Some (End (closed_path sys state t))) }
+do_check_end sys t state =
+    record state { flight = upd state.flight t (Some (End (closed_path sys state t))) }
 
--- BEGIN t n r: no attempt runs, the next verb begins a unit, n is u, TMF's last ended unit is not n, the awaited unit has
--- ended, memory is (u, path), and r is the number of recorded restarts of unit n
+-- BEGIN t n r: no attempt runs, the next verb begins a unit, n is u, TMF's last ended unit is not
+-- n, the awaited unit has ended, memory is (u, path), and r is the number of recorded restarts of
+-- unit n
 pub record LegalBegin (sys : Behaviour) (state : State) (t n r : ℕ) : Type 0 where
   pub can : CanStep sys state t
   pub idle : IsIdle state t
@@ -134,7 +140,8 @@ pub record LegalBegin (sys : Behaviour) (state : State) (t n r : ℕ) : Type 0 w
 
 -- the open unit with an attempt that runs from this path; a unit that was not open has this birth
 abbrev pub unit_with_attempt : ℕ → ℕ → List PathAnswer → Option OpenUnit → OpenUnit
-unit_with_attempt n birth path None = record { number = n; birth = birth; restarts = 0; awaits = None; running = Some path }
+unit_with_attempt n birth path None =
+    record { number = n; birth = birth; restarts = 0; awaits = None; running = Some path }
 unit_with_attempt n birth path (Some unit) = record unit { running = Some path }
 
 -- the next birth, behind a beginning
@@ -150,9 +157,11 @@ begun_path r _ path = path
 -- the attempt runs
 abbrev pub do_begin : Behaviour → ℕ → ℕ → ℕ → State → State
 do_begin sys t n r state = record state {
-  units = upd state.units t (Some (unit_with_attempt n state.births (path_of state t) (state.units t)));
+  units = upd state.units t
+      (Some (unit_with_attempt n state.births (path_of state t) (state.units t)));
   births = births_after (state.units t) state.births;
-  terms = upd state.terms t (record (state.terms t) { path = begun_path r (next_verb sys state t) (path_of state t) });
+  terms = upd state.terms t
+      (record (state.terms t) { path = begun_path r (next_verb sys state t) (path_of state t) });
 }
 
 -- SEND t n c: an attempt of n runs, the next verb is Send to c, and its request is not out
@@ -179,7 +188,8 @@ with_request request class = record class { waiting = class.waiting ++ request �
 -- the request is the last waiting one of the class
 abbrev pub do_send : Behaviour → ℕ → ℕ → ℕ → State → State
 do_send sys t n c state =
-    let request : Request = record { terminal = t; unit = n; message = message_of (next_verb sys state t) } in
+    let message : List ℕ = message_of (next_verb sys state t) in
+    let request : Request = record { terminal = t; unit = n; message = message } in
     record state { classes = upd state.classes c (with_request request (state.classes c)) }
 
 -- AGAIN t n: the next verb is Send outside a transaction, n is u, and TMF's last ended unit is n

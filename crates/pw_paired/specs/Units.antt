@@ -8,11 +8,11 @@ use Rattle.pw_code.specs.declared.file.FileCall.{FileCall}
 use Rattle.pw_code.specs.declared.unit.Unit as unit
 use Rattle.pw_files.specs.Records.{record_at, with_record, without_key}
 use Rattle.pw_locks.specs.declared.lock.Lock.{Lock}
+use Rattle.pw_onecopy.specs.Behaviour.{Behaviour}
 use Rattle.pw_onecopy.specs.Operation.{key_of, changes_records}
 use Rattle.pw_onecopy.specs.Path.{PathAnswer}
 use Rattle.pw_onecopy.specs.Update.{upd}
-use Rattle.pw_paired.specs.State.{BeforeImage, Class, Job, LastEnded, OpenUnit, State}
-use Rattle.pw_onecopy.specs.Behaviour.{Behaviour}
+use Rattle.pw_paired.specs.State.{BeforeImage, Class, Job, LastEnded, OpenUnit, State, Term}
 
 -- some number below n has the property
 abbrev pub any_below : ℕ → (ℕ → Bool) → Bool
@@ -40,7 +40,11 @@ birth_of (Some unit) = unit.birth
 
 -- the unit that a request is of, with its birth
 abbrev pub unit_of : State → Request → unit.Unit
-unit_of state request = record { terminal = request.terminal; number = request.unit; birth = birth_of (state.units request.terminal) }
+unit_of state request = record {
+  terminal = request.terminal;
+  number = request.unit;
+  birth = birth_of (state.units request.terminal);
+}
 
 -- a file with what was at a key put back there
 abbrev pub put_back : ℕ → List (List ℕ) → List ℕ → Option (List ℕ) → List (List ℕ)
@@ -52,7 +56,8 @@ abbrev pub restored_files : (ℕ → ℕ) → List BeforeImage → (ℕ → List
 restored_files key_length [] files = files
 restored_files key_length (image ∷ images) files =
     restored_files key_length images
-    (upd files image.file (put_back (key_length image.file) (files image.file) image.key image.content))
+    (upd files image.file
+    (put_back (key_length image.file) (files image.file) image.key image.content))
 
 -- the committed records of each file: all before-images put back
 abbrev pub committed_files : Behaviour → State → ℕ → List (List ℕ)
@@ -60,7 +65,8 @@ committed_files sys state = restored_files sys.key_length state.before state.fil
 
 -- the unit of the terminal has a before-image of this key
 abbrev pub has_image : ℕ → ℕ → List ℕ → List BeforeImage → Bool
-has_image t file key images = list_any (λ image. image.terminal == t && (image.file == file && bytes_eq image.key key)) images
+has_image t file key images =
+    list_any (λ image. image.terminal == t && (image.file == file && bytes_eq image.key key)) images
 
 -- the before-image that an operation of a terminal's unit makes on these records
 abbrev pub image_before : ℕ → List (List ℕ) → ℕ → FileCall → BeforeImage
@@ -76,17 +82,21 @@ abbrev pub is_first_change : ℕ → List (List ℕ) → ℕ → FileCall → Li
 is_first_change n records t call before =
     changes_records n records call && not (has_image t call.file (key_of n call.op call) before)
 
--- the before-images with that of a change by the terminal's unit, where it is the unit's first one at that key
+-- the before-images with that of a change by the terminal's unit, where it is the unit's first one
+-- at that key
 abbrev pub with_image : Behaviour → State → ℕ → FileCall → List BeforeImage
 with_image sys state t call =
     let n : ℕ = sys.key_length call.file in
     let records : List (List ℕ) = state.files call.file in
-    if is_first_change n records t call state.before then image_before n records t call ∷ state.before else state.before
+    if is_first_change n records t call state.before
+    then image_before n records t call ∷ state.before
+    else state.before
 
 -- the changes of the units of some terminals are backed out
 abbrev pub back_out_changes : Behaviour → (ℕ → Bool) → State → State
 back_out_changes sys whose state = record state {
-  files = restored_files sys.key_length (filter (λ image. whose image.terminal) state.before) state.files;
+  files = restored_files sys.key_length
+      (filter (λ image. whose image.terminal) state.before) state.files;
   before = filter (λ image. not (whose image.terminal)) state.before;
 }
 
@@ -112,7 +122,8 @@ without_requests whose class = record {
 
 -- their requests are cancelled, and processes that worked on them are free
 abbrev pub cancel_requests : (ℕ → Bool) → State → State
-cancel_requests whose state = record state { classes = λ c. without_requests whose (state.classes c) }
+cancel_requests whose state =
+    record state { classes = λ c. without_requests whose (state.classes c) }
 
 -- the request that a process works on, if it is busy
 abbrev pub request_in : Option Job → Option Request
@@ -122,7 +133,8 @@ request_in (Some job) = Some job.request
 -- a request of the terminal waits at the class, or is at one of its processes
 abbrev pub has_request : ℕ → ℕ → Class → Bool
 has_request t processes class =
-    list_any (is_of t) class.waiting || any_below processes (λ i. works_for t (request_in (class.busy (i + 1))))
+    list_any (is_of t) class.waiting
+    || any_below processes (λ i. works_for t (request_in (class.busy (i + 1))))
 
 -- the terminal's request is out
 abbrev pub is_out : Behaviour → State → ℕ → Bool
@@ -130,30 +142,44 @@ is_out sys state t = any_below sys.classes (λ c. has_request t (sys.processes c
 
 -- the unit of a terminal has ended, so that it is TMF's last ended one
 abbrev pub end_unit : ℕ → ℕ → Option (List ℕ) → State → State
-end_unit t n reply state = record state { units = upd state.units t None; ended = upd state.ended t (record { number = n; reply = reply }) }
+end_unit t n reply state = record state {
+  units = upd state.units t None;
+  ended = upd state.ended t (record { number = n; reply = reply });
+}
 
 -- a unit ends committed: its before-images go, and its locks are released
 abbrev pub commit_unit : ℕ → ℕ → Option (List ℕ) → State → State
-commit_unit t n reply state =
-    end_unit t n reply (release_locks (only t) (record state { before = filter (λ image. not (only t image.terminal)) state.before }))
+commit_unit t n reply state = end_unit t n reply (release_locks (only t) (record state {
+  before = filter (λ image. not (only t image.terminal)) state.before;
+}))
 
 -- a unit is backed out and ends
 abbrev pub drop_unit : Behaviour → ℕ → ℕ → State → State
-drop_unit sys t n state = end_unit t n None (release_locks (only t) (back_out_changes sys (only t) state))
+drop_unit sys t n state =
+    end_unit t n None (release_locks (only t) (back_out_changes sys (only t) state))
 
 -- what a terminal's last ended unit is when its open unit, if any, is left
 abbrev pub last_after_leaving : Option OpenUnit → LastEnded → LastEnded
 last_after_leaving None last = last
 last_after_leaving (Some unit) last = record { number = unit.number; reply = None }
 
--- The open units of some terminals are left: backed out, their locks released, their requests cancelled, and ended
--- without effect.
+-- The attempts of some terminals are withdrawn: their changes are backed out, their locks released
+-- and their requests cancelled.
+abbrev pub withdraw_attempts : Behaviour → (ℕ → Bool) → State → State
+withdraw_attempts sys whose state =
+    cancel_requests whose (release_locks whose (back_out_changes sys whose state))
+
+-- The open units of some terminals are left: backed out, their locks released, their requests
+-- cancelled, and ended without effect.
 abbrev pub leave_units : Behaviour → (ℕ → Bool) → State → State
-leave_units sys whose state = record (cancel_requests whose (release_locks whose (back_out_changes sys whose state))) {
+leave_units sys whose state = record (withdraw_attempts sys whose state) {
   units = λ t. if whose t then None else state.units t;
-  ended = λ t. if whose t then last_after_leaving (state.units t) (state.ended t) else state.ended t;
+  ended = λ t.
+      if whose t then last_after_leaving (state.units t) (state.ended t) else state.ended t;
 }
 
 -- the path of a terminal gets an answer
 abbrev pub give_answer : ℕ → PathAnswer → State → State
-give_answer t answer state = record state { terms = upd state.terms t (record (state.terms t) { path = (state.terms t).path ++ answer ∷ [] }) }
+give_answer t answer state =
+    let term : Term = state.terms t in
+    record state { terms = upd state.terms t (record term { path = term.path ++ answer ∷ [] }) }

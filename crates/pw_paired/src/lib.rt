@@ -1,4 +1,4 @@
 //! The paired system: its state, its steps and runs, and what a log means.
 #![tactic(auto)]
 
-pub mod worked;
+pub mod entries;

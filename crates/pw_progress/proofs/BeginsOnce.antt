@@ -6,29 +6,29 @@ use Rattle.pw_event.specs.declared.event.Cause.TheVariants as cause
 use Rattle.pw_event.specs.declared.event.Ending.TheVariants as ending
 use Rattle.pw_event.specs.declared.event.Event.{Event}
 use Rattle.pw_event.specs.declared.event.Event.TheVariants.{Show, Key, CheckStart, CheckEnd, CheckCopy, Applied, Begin, Send, Take, File, Reply, Again, Commit, Back, Restart, FailTcp, FailServer, Takeover, Raise, End}
-use Rattle.pw_runs.proofs.kept.Failing.{out-job}
-use Rattle.pw_runs.proofs.terms.KeepsChecks.{can_path, path_ok-is, resting, within}
-use Rattle.pw_runs.proofs.terms.KeepsEnds.{out-path}
-use Rattle.pw_runs.proofs.kept.Kept.{Inv}
-use Rattle.pw_runs.proofs.Runs.{IsRunFrom-split}
-use Rattle.pw_runs.proofs.kept.Runs.{keeps, kept-at-start, kept-from}
 use Rattle.pw_onecopy.proofs.Update.{upd-same, upd-other}
-use Rattle.pw_onecopy.specs.IsBehaviour.{IsBehaviour}
-use Rattle.pw_paired.specs.Failure.{lose_pair, LegalRestart, awaited_after, backup_fails, is_of_pair, primary_fails, process_fails, with_restart}
-use Rattle.pw_onecopy.specs.Path.{Replied, PathAnswer, is_outside, unit_number}
-use Rattle.pw_paired.specs.Server.{do_job, free_process, reply_at}
-use Rattle.pw_onecopy.specs.Update.{upd}
-use Rattle.pw_paired.specs.State.{Alone, Down, Gone, Job, LastEnded, Mode, OpenUnit, Paired, Raising, State, starting}
-use Rattle.pw_paired.specs.Raising.{settle_mode}
-use Rattle.pw_paired.specs.End.{end_terminal}
-use Rattle.pw_paired.specs.Step.{after, Fits, IsRun, IsRunFrom, after_from, effect}
 use Rattle.pw_onecopy.specs.Behaviour.{Behaviour}
+use Rattle.pw_onecopy.specs.IsBehaviour.{IsBehaviour}
+use Rattle.pw_onecopy.specs.Path.{Replied, PathAnswer, unit_number}
+use Rattle.pw_onecopy.specs.Update.{upd}
+use Rattle.pw_paired.specs.End.{end_terminal}
+use Rattle.pw_paired.specs.Failure.{lose_pair, LegalRestart, awaited_after, is_of_pair, with_restart}
+use Rattle.pw_paired.specs.Raising.{settle_mode}
+use Rattle.pw_paired.specs.Server.{free_process}
+use Rattle.pw_paired.specs.State.{LastEnded, OpenUnit, State, starting}
+use Rattle.pw_paired.specs.Step.{after, Fits, IsRun, IsRunFrom, after_from, effect}
 use Rattle.pw_paired.specs.Terminal.{IsOver, LegalBegin, awaited_of, unit_with_attempt, path_of}
 use Rattle.pw_paired.specs.Units.{give_answer, leave_units, attempt_of, commit_unit, last_after_leaving, only, restarts_of}
 use Rattle.pw_progress.specs.Running.{is_restart_of, restarts_in}
+use Rattle.pw_runs.proofs.Runs.{IsRunFrom-split}
 use Rattle.pw_runs.proofs.induction.Failed.{end-any, fail-cases, process-cases}
-use Rattle.pw_runs.proofs.induction.Served.{file-cases, reply-any}
 use Rattle.pw_runs.proofs.induction.Runs.{holds-behind, kept}
+use Rattle.pw_runs.proofs.induction.Served.{file-cases, reply-any}
+use Rattle.pw_runs.proofs.kept.Failing.{out-job}
+use Rattle.pw_runs.proofs.kept.Kept.{Inv}
+use Rattle.pw_runs.proofs.kept.Runs.{keeps, kept-at-start, kept-from}
+use Rattle.pw_runs.proofs.terms.KeepsChecks.{can_path, path_ok-is, resting, within}
+use Rattle.pw_runs.proofs.terms.KeepsEnds.{out-path}
 
 -- the number of a terminal's last ended unit
 abbrev pub last_of : State → ℕ → ℕ
@@ -105,6 +105,7 @@ module _ (sys : Behaviour) (b : IsBehaviour sys) (s : State) (i : Inv sys s) (t 
   logged x entry (begins unit is counts idle over kin last) = begins unit is counts idle over kin last
   logged x entry (ends none more) = ends none more
 
+  -- what each entry does to one terminal's open unit
   pub moves : (entry : Event) → Fits sys s entry → Goes (sys.max_restarts t) t s (effect sys s entry) entry
   moves (Show own phase attempt k) l = plainly (λ n. refl) (stays refl refl)
   moves (Key own k) l = plainly (λ n. refl) (stays refl refl)
@@ -209,6 +210,7 @@ past-from sys b t n r s i [] run past = past
 past-from sys b t n r s i (entry ∷ log) run past =
     past-from sys b t n r (effect sys s entry) (keeps sys b s i entry run.0) log run.1 (still-past (sys.max_restarts t) t n r s (effect sys s entry) entry (moves sys b s i t entry run.0.fits) past)
 
+-- no attempt begins twice
 pub begins-once : (sys : Behaviour) → IsBehaviour sys → (before between : List Event) (t n r : ℕ)
     → ¬ IsRun sys (before ++ Begin t n r ∷ (between ++ Begin t n r ∷ []))
 begins-once sys b before between t n r run =
@@ -235,6 +237,7 @@ still-few limit t s after entry (plainly other (ends none more)) few unit is = a
 still-few limit t s after entry (restarting was now was_is now_is more below runs_then alike last at_entry) few unit is =
     let same : unit.restarts ≡ now.restarts = cc (is, now_is) in omega (arith, same, more, below)
 
+-- a unit has no more restarts than its terminal may have
 pub few-restarts : (sys : Behaviour) → IsBehaviour sys → (log : List Event) → IsRun sys log → (t : ℕ) (unit : OpenUnit) → (after_from sys (starting sys) log).units t ≡ Some unit
     → unit.restarts ≤ sys.max_restarts t
 few-restarts sys b log run t =

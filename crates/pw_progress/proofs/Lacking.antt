@@ -1,27 +1,26 @@
 -- While a pair is Raising, its memory lacks a live terminal.
-use Rattle.std.proofs.Common.{◌≡◌, ◌≢◌, ℕ, zero, suc, ◌<◌, ⊎_elim, Bool, true, false, not, ◌&&◌, is_some, is_none, List, [], ◌∷◌, Option, Some, None, if◌then◌else◌, refl, ap, sym, subst, ◌∙◌, arith}
+use Rattle.std.proofs.Common.{◌≡◌, ◌≢◌, ℕ, zero, suc, ◌<◌, ⊎_elim, Bool, true, false, not, ◌&&◌, is_some, is_none, List, Option, Some, None, if◌then◌else◌, refl, ap, sym, subst, ◌∙◌, arith}
 use Rattle.std.proofs.lemmas.Bool.{cases_eq, cases_Bool, cond-true, cond-false, eqb-true, true≢false, and_from}
 use Rattle.pw_event.specs.declared.event.Ending.{Ending}
-use Rattle.pw_event.specs.declared.event.Ending.TheVariants as ending
 use Rattle.pw_event.specs.declared.event.Event.{Event}
 use Rattle.pw_event.specs.declared.event.Event.TheVariants.{Show, Key, CheckStart, CheckEnd, CheckCopy, Applied, Begin, Send, Take, File, Reply, Again, Commit, Back, Restart, FailTcp, FailServer, Takeover, Raise, End}
-use Rattle.pw_runs.proofs.terms.KeepsPairs.{any_below-false}
 use Rattle.pw_onecopy.proofs.Update.{upd_elim, upd-same, upd-other}
-use Rattle.pw_paired.specs.End.{end_terminal}
-use Rattle.pw_paired.specs.Failure.{lose_backup, with_start_path, backup_fails, lose_primary, lose_pair, is_live_of, is_of_pair, primary_fails, process_fails, resume_terminal}
-use Rattle.pw_onecopy.specs.Path.{Failed, PathAnswer, Replied, is_outside, unit_number}
-use Rattle.pw_paired.specs.Raising.{lacks_one, settled_mode, with_message, settle_mode}
-use Rattle.pw_paired.specs.Server.{do_job, free_process, reply_at}
-use Rattle.pw_onecopy.specs.Update.{upd}
-use Rattle.pw_paired.specs.State.{Alone, Down, Gone, Job, LastEnded, BackupCopy, Mode, OpenUnit, Paired, Raising, State, Term, starting}
-use Rattle.pw_paired.specs.Step.{Fits, IsRun, IsRunFrom, after, after_from, effect}
 use Rattle.pw_onecopy.specs.Behaviour.{Behaviour}
+use Rattle.pw_onecopy.specs.Path.{Failed, PathAnswer, Replied, unit_number}
+use Rattle.pw_onecopy.specs.Update.{upd}
+use Rattle.pw_paired.specs.End.{end_terminal}
+use Rattle.pw_paired.specs.Failure.{lose_backup, with_start_path, lose_primary, lose_pair, is_live_of, is_of_pair, process_fails, resume_terminal}
+use Rattle.pw_paired.specs.Raising.{lacks_one, settled_mode, with_message, settle_mode}
+use Rattle.pw_paired.specs.Server.{free_process}
+use Rattle.pw_paired.specs.State.{Alone, Down, Gone, LastEnded, BackupCopy, Mode, OpenUnit, Paired, Raising, State, Term}
+use Rattle.pw_paired.specs.Step.{Fits, IsRun, after, effect}
 use Rattle.pw_paired.specs.Terminal.{path_of}
 use Rattle.pw_paired.specs.Units.{give_answer, any_below, attempt_of, commit_unit, leave_units, only}
 use Rattle.pw_runs.proofs.Tests.{and-first, and-second, drop-false}
 use Rattle.pw_runs.proofs.induction.Failed.{end-any, fail-cases, process-cases}
-use Rattle.pw_runs.proofs.induction.Served.{file-cases, reply-any}
 use Rattle.pw_runs.proofs.induction.Runs.{holds-behind}
+use Rattle.pw_runs.proofs.induction.Served.{file-cases, reply-any}
+use Rattle.pw_runs.proofs.terms.KeepsPairs.{any_below-false}
 
 -- some number below n has a property
 pub any_below-some : (n : ℕ) (has : ℕ → Bool) → any_below n has ≡ true → (j : ℕ) × (j < n) × (has j ≡ true)
@@ -32,6 +31,7 @@ any_below-some (suc n) has some =
     (λ none. (n, omega arith, drop-false (any_below n has) (has n) none some))
     (cases_Bool (any_below n has))
 
+-- a number below n has the property where one is known to
 pub any_below-true : (n : ℕ) (has : ℕ → Bool) (j : ℕ) → j < n → has j ≡ true → any_below n has ≡ true
 any_below-true n has j below there =
     ⊎_elim (λ some. some) (λ none. absurd (true≢false (sym there ∙ any_below-false n has none j below))) (cases_Bool (any_below n has))
@@ -175,5 +175,6 @@ module _ (sys : Behaviour) (p : ℕ) where
         (cases_eq p q)
     keeps-lacking (End own e) l = end-any sys s LackingOk own e (end-lacks own e s refl refl refl) (end-lacks own e (leave_units sys (only own) s) refl refl refl)
 
+  -- in every run a pair that is Raising lacks a live terminal
   pub lacking : (log : List Event) → IsRun sys log → (after sys log).modes p ≡ Raising → lacks_one sys p (after sys log) ≡ true
   lacking log run = holds-behind sys LackingOk (λ log run entry legal ok. keeps-lacking (after sys log) ok entry legal.fits) (λ is. absurd (cc is)) log run

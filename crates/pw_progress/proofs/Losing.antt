@@ -1,25 +1,23 @@
 -- A pair is Gone only by the failure of a member.
-use Rattle.std.proofs.Common.{◌≡◌, ◌≢◌, ◌⊎◌, ℕ, ⊎_elim, inl, inr, Bool, true, false, List, [], ◌∷◌, ◌++◌, Option, Some, None, if◌then◌else◌, refl, ap, sym, subst, ◌∙◌}
+use Rattle.std.proofs.Common.{◌≡◌, ◌≢◌, ◌⊎◌, ℕ, ⊎_elim, inl, inr, Bool, true, false, List, [], ◌∷◌, ◌++◌, None, refl, ap, sym, subst, ◌∙◌}
 use Rattle.pw_event.specs.declared.event.Ending.TheVariants as ending
 use Rattle.pw_event.specs.declared.event.Event.{Event}
 use Rattle.pw_event.specs.declared.event.Event.TheVariants.{Show, Key, CheckStart, CheckEnd, CheckCopy, Applied, Begin, Send, Take, File, Reply, Again, Commit, Back, Restart, FailTcp, FailServer, Takeover, Raise, End}
-use Rattle.pw_runs.proofs.Runs.{IsRunFrom-split}
 use Rattle.pw_onecopy.proofs.Update.{upd_elim}
-use Rattle.pw_paired.specs.End.{end_terminal}
-use Rattle.pw_paired.specs.Failure.{do_fail_server, backup_fails, primary_fails, process_fails}
-use Rattle.pw_onecopy.specs.Path.{is_outside, unit_number}
-use Rattle.pw_paired.specs.Raising.{lacks_one, settled_mode, with_message, settle_mode}
-use Rattle.pw_paired.specs.Server.{do_file, do_reply, do_job, free_process, reply_at}
-use Rattle.pw_onecopy.specs.Update.{upd}
-use Rattle.pw_paired.specs.State.{Alone, Down, Gone, Job, Mode, Paired, Raising, State, starting}
-use Rattle.pw_paired.specs.Step.{IsRun, after, after_from, effect}
 use Rattle.pw_onecopy.specs.Behaviour.{Behaviour}
-use Rattle.pw_paired.specs.Terminal.{path_of}
-use Rattle.pw_paired.specs.Units.{commit_unit, leave_units, only}
+use Rattle.pw_onecopy.specs.Update.{upd}
+use Rattle.pw_paired.specs.End.{end_terminal}
+use Rattle.pw_paired.specs.Failure.{do_fail_server}
+use Rattle.pw_paired.specs.Raising.{lacks_one, settled_mode, with_message, settle_mode}
+use Rattle.pw_paired.specs.Server.{do_file, do_reply}
+use Rattle.pw_paired.specs.State.{Alone, Down, Gone, Mode, Paired, Raising, State, starting}
+use Rattle.pw_paired.specs.Step.{IsRun, after, after_from, effect}
+use Rattle.pw_paired.specs.Units.{leave_units, only}
+use Rattle.pw_progress.specs.Running.{MadeGone}
+use Rattle.pw_runs.proofs.Runs.{IsRunFrom-split}
 use Rattle.pw_runs.proofs.induction.Failed.{fail-by, process-cases}
 use Rattle.pw_runs.proofs.induction.Served.{file-cases, reply-any}
 use Rattle.pw_runs.specs.Losses.{Breaks}
-use Rattle.pw_progress.specs.Running.{MadeGone}
 
 module _ (sys : Behaviour) (s : State) (p : ℕ) where
   -- the entry made the pair Gone

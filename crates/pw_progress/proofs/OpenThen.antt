@@ -3,19 +3,19 @@ use Rattle.std.proofs.Common.{◌≡◌, ◌⊎◌, ℕ, ◌+◌, ◌<◌, ◌�
 use Rattle.pw_event.specs.declared.event.Cause.TheVariants as cause
 use Rattle.pw_event.specs.declared.event.Event.{Event}
 use Rattle.pw_event.specs.declared.event.Event.TheVariants.{Begin, Restart}
-use Rattle.pw_runs.proofs.Births.{births-ok}
-use Rattle.pw_runs.proofs.kept.Kept.{Inv}
-use Rattle.pw_runs.proofs.Runs.{IsRunFrom-split, after_from-append}
-use Rattle.pw_runs.proofs.kept.Runs.{keeps, kept-at-start, kept-from}
 use Rattle.pw_onecopy.proofs.Update.{upd_elim, upd-same}
+use Rattle.pw_onecopy.specs.Behaviour.{Behaviour}
 use Rattle.pw_onecopy.specs.IsBehaviour.{IsBehaviour}
 use Rattle.pw_paired.specs.Failure.{LegalRestart}
 use Rattle.pw_paired.specs.State.{OpenUnit, State, starting}
 use Rattle.pw_paired.specs.Step.{IsRun, IsRunFrom, after, after_from, effect}
-use Rattle.pw_onecopy.specs.Behaviour.{Behaviour}
 use Rattle.pw_paired.specs.Terminal.{unit_with_attempt, path_of}
 use Rattle.pw_progress.proofs.BeginsOnce.{Goes, Kin, begins, begins-next, ends, last_of, moves, plainly, restarting, rises, stays}
 use Rattle.pw_progress.specs.Running.{IsOpen}
+use Rattle.pw_runs.proofs.Births.{births-ok}
+use Rattle.pw_runs.proofs.Runs.{IsRunFrom-split, after_from-append}
+use Rattle.pw_runs.proofs.kept.Kept.{Inv}
+use Rattle.pw_runs.proofs.kept.Runs.{keeps, kept-at-start, kept-from}
 
 -- unit n of t has ended, or it is open and each older unit was open then
 data Since (t n : ℕ) (then s : State) : Type 0 where

@@ -2,8 +2,9 @@
 use Rattle.std.proofs.Common.{◌≡◌, ◌≢◌, ℕ, zero, suc, ◌+◌, ◌-◌, ◌≤◌, ⊎_elim, inl, inr, Bool, true, false, not, ◌&&◌, is_some, is_none, List, [], ◌∷◌, Option, Some, None, find, cond, refl, ap, sym, subst, ◌∙◌, arith}
 use Rattle.std.specs.List.{list_any, slice_get}
 use Rattle.std.proofs.lemmas.Bool.{cases_lt, cases_Bool, eq-eqb, eqb-true, true≢false, and_from}
-use Rattle.pw_event.specs.declared.event.Cause.TheVariants as cause
+use Rattle.pw_event.specs.Due.{Numbered, due_line, entries_of, if_due, is_fail_of, is_same_owner, next_failure, numbered, owner_of, owner_of_line}
 use Rattle.pw_event.specs.declared.event.Cause.{Cause}
+use Rattle.pw_event.specs.declared.event.Cause.TheVariants as cause
 use Rattle.pw_event.specs.declared.event.Ending.{Ending}
 use Rattle.pw_event.specs.declared.event.Ending.TheVariants as ending
 use Rattle.pw_event.specs.declared.event.Event.{Event}
@@ -12,21 +13,20 @@ use Rattle.pw_event.specs.declared.script.FailLine.{FailLine}
 use Rattle.pw_event.specs.declared.script.FailLine.TheVariants as line
 use Rattle.pw_event.specs.declared.script.Owner.{Owner}
 use Rattle.pw_event.specs.declared.script.Owner.TheVariants.{Tcp, Class}
-use Rattle.pw_event.specs.Due.{Numbered, due_line, entries_of, if_due, is_fail_of, is_same_owner, next_failure, numbered, owner_of, owner_of_line}
-use Rattle.pw_runs.proofs.kept.Runs.{kept-at-start, kept-from}
+use Rattle.pw_onecopy.specs.Behaviour.{Behaviour}
 use Rattle.pw_onecopy.specs.IsBehaviour.{IsBehaviour}
 use Rattle.pw_paired.specs.Failure.{IsCaused, fail_line, is_live_of, is_of_pair}
 use Rattle.pw_paired.specs.Raising.{is_takeover}
 use Rattle.pw_paired.specs.State.{Alone, Down, Gone, BackupCopy, Message, Mode, Paired, Raising, State, starting}
 use Rattle.pw_paired.specs.Step.{Fits, IsRun, after, is_finished, is_going_on, line_due, line_wanted}
-use Rattle.pw_onecopy.specs.Behaviour.{Behaviour}
 use Rattle.pw_paired.specs.Terminal.{IsLive}
 use Rattle.pw_paired.specs.Units.{any_below}
 use Rattle.pw_progress.proofs.BeginsOnce.{few-restarts}
 use Rattle.pw_progress.proofs.Lacking.{any_below-some, any_below-true, lacking}
 use Rattle.pw_progress.proofs.Pending.{pending-ok, pending-runs}
-use Rattle.pw_runs.proofs.Tests.{and-first, and-second}
 use Rattle.pw_progress.specs.Running.{HasStep}
+use Rattle.pw_runs.proofs.Tests.{and-first, and-second}
+use Rattle.pw_runs.proofs.kept.Runs.{kept-at-start, kept-from}
 
 -- owners that are the same
 same-owner : (a b : Owner) → is_same_owner a b ≡ true → b ≡ a

@@ -1,31 +1,29 @@
 -- A pending cause is one of a running attempt.
-use Rattle.std.proofs.Common.{◌≡◌, ◌≢◌, ℕ, ◌<◌, ⊎_elim, Bool, true, false, if◌then◌else◌, ◌==◌, is_some, List, Option, Some, None, refl, ap, sym, subst, ◌∙◌, arith}
+use Rattle.std.proofs.Common.{◌≡◌, ℕ, ◌<◌, ⊎_elim, Bool, true, false, if◌then◌else◌, ◌==◌, is_some, List, Option, Some, None, refl, ap, sym, subst, ◌∙◌, arith}
 use Rattle.std.proofs.lemmas.Bool.{cases_Bool, cases_lt, cond-false, cond-true, true≢false}
 use Rattle.pw_event.specs.declared.event.Cause.{Cause}
 use Rattle.pw_event.specs.declared.event.Cause.TheVariants as cause
 use Rattle.pw_event.specs.declared.event.Event.{Event}
-use Rattle.pw_runs.proofs.terms.TermOk.{HasMessages}
-use Rattle.pw_onecopy.specs.IsBehaviour.{IsBehaviour}
-use Rattle.pw_paired.specs.Failure.{is_live_of, is_of_pair, resume_terminal, runs_unit, with_start_path}
-use Rattle.pw_onecopy.specs.Path.{PathAnswer}
-use Rattle.pw_paired.specs.Raising.{settled_mode}
-use Rattle.pw_paired.specs.State.{BackupCopy, Gone, Mode, OpenUnit, State, Term}
-use Rattle.pw_paired.specs.Step.{IsRun, after, effect}
-use Rattle.pw_onecopy.specs.Behaviour.{Behaviour}
-use Rattle.pw_paired.specs.Units.{attempt_of}
-use Rattle.pw_runs.proofs.induction.Moving.{holds-of-view}
-use Rattle.pw_runs.proofs.induction.Views as move
-use Rattle.pw_runs.proofs.induction.Views.{Moves, View, Waits}
-use Rattle.pw_runs.proofs.Tests.{and-second}
-use Rattle.pw_progress.specs.Running.{Runs}
 use Rattle.pw_event.specs.declared.event.Event.TheVariants.{Show, Key, CheckStart, CheckEnd, CheckCopy, Applied, Begin, Send, Take, File, Reply, Again, Commit, Back, Restart, FailTcp, FailServer, Takeover, Raise, End}
 use Rattle.pw_onecopy.proofs.Update.{upd_elim}
+use Rattle.pw_onecopy.specs.Behaviour.{Behaviour}
+use Rattle.pw_onecopy.specs.IsBehaviour.{IsBehaviour}
+use Rattle.pw_onecopy.specs.Path.{PathAnswer}
 use Rattle.pw_onecopy.specs.Update.{upd}
+use Rattle.pw_paired.specs.Failure.{is_live_of, is_of_pair, resume_terminal, runs_unit, with_start_path}
+use Rattle.pw_paired.specs.State.{BackupCopy, OpenUnit, State, Term}
+use Rattle.pw_paired.specs.Step.{IsRun, after, effect}
+use Rattle.pw_paired.specs.Units.{attempt_of}
+use Rattle.pw_progress.specs.Running.{Runs}
+use Rattle.pw_runs.proofs.Tests.{and-second}
+use Rattle.pw_runs.proofs.induction.Failed.{end-any, fail-cases, process-cases}
+use Rattle.pw_runs.proofs.induction.Moving.{holds-of-view}
+use Rattle.pw_runs.proofs.induction.Runs.{holds-behind, kept}
+use Rattle.pw_runs.proofs.induction.Served.{file-cases, reply-any}
+use Rattle.pw_runs.proofs.induction.Views as move
+use Rattle.pw_runs.proofs.induction.Views.{Moves, View, Waits}
 use Rattle.pw_runs.proofs.kept.Failing.{out-job}
 use Rattle.pw_runs.proofs.kept.Kept.{Inv}
-use Rattle.pw_runs.proofs.induction.Failed.{end-any, fail-cases, process-cases}
-use Rattle.pw_runs.proofs.induction.Served.{file-cases, reply-any}
-use Rattle.pw_runs.proofs.induction.Runs.{holds-behind, kept}
 
 -- a cause that becomes pending
 abbrev pub Pends : Cause → Type 0
@@ -143,6 +141,7 @@ known-pending : (sys : Behaviour) → IsBehaviour sys → (log : List Event) →
 known-pending sys b log run t known =
     holds-of-view sys b t known PendingOk (λ log run v w is move. pending-kept sys t v w move) (calm refl) log run
 
+-- in every run a pending cause is one of a running attempt, and TAKEOVER or SERVER
 pub pending-ok : (sys : Behaviour) → IsBehaviour sys → (log : List Event) → IsRun sys log → (t : ℕ) (kind : Cause)
     → ((after sys log).terms t).pending ≡ Some kind → Runs ((after sys log).units t) × Pends kind
 pending-ok sys b log run t kind is =
@@ -153,6 +152,7 @@ pending-ok sys b log run t kind is =
     absurd (cc (none, is)))
     (cases_lt t sys.terminals)
 
+-- in every run a pending cause is one of a running attempt
 pub pending-runs : (sys : Behaviour) → IsBehaviour sys → (log : List Event) → IsRun sys log → (t : ℕ) (kind : Cause)
     → ((after sys log).terms t).pending ≡ Some kind → Runs ((after sys log).units t)
 pending-runs sys b log run t kind is = (pending-ok sys b log run t kind is).0

@@ -1,11 +1,12 @@
--- What the laws of progress speak of: restarts so far, running attempts, steps, and pairs that are lost.
-use Rattle.std.specs.Prelude.{◌≡◌, ◌⊎◌, ◌++◌, ℕ, List, ◌∷◌, length, filter, Bool, true, false, ◌&&◌, ◌==◌, Option, Some}
+-- What the laws of progress speak of: restarts so far, running attempts, steps, and pairs that are
+-- lost.
+use Rattle.std.specs.Prelude.{◌≡◌, ◌++◌, ℕ, List, ◌∷◌, length, filter, Bool, false, ◌&&◌, ◌==◌, Option, Some}
 use Rattle.pw_event.specs.declared.event.Event.{Event}
 use Rattle.pw_event.specs.declared.event.Event.TheVariants.{FailTcp, Restart}
-use Rattle.pw_onecopy.specs.Path.{PathAnswer}
-use Rattle.pw_paired.specs.State.{Alone, Down, Mode, OpenUnit, Raising, State}
-use Rattle.pw_paired.specs.Step.{Legal, after_from}
 use Rattle.pw_onecopy.specs.Behaviour.{Behaviour}
+use Rattle.pw_onecopy.specs.Path.{PathAnswer}
+use Rattle.pw_paired.specs.State.{OpenUnit, State}
+use Rattle.pw_paired.specs.Step.{Legal, after_from}
 use Rattle.pw_runs.specs.Losses.{Breaks}
 
 -- an attempt of the open unit runs

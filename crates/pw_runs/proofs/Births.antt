@@ -1,25 +1,20 @@
 -- Births of open units.
-use Rattle.std.proofs.Common.{◌≡◌, ◌≢◌, ℕ, ◌+◌, ◌<◌, Bool, true, false, List, [], ◌∷◌, Option, Some, None, if◌then◌else◌, refl, ap, sym, ◌∙◌, arith}
+use Rattle.std.proofs.Common.{◌≡◌, ◌≢◌, ℕ, ◌+◌, ◌<◌, Bool, List, [], ◌∷◌, Option, Some, None, if◌then◌else◌, refl, ap, sym, ◌∙◌, arith}
 use Rattle.std.proofs.lemmas.Bool.{cond_both}
-use Rattle.pw_code.specs.declared.verb.Verb.{Verb}
-use Rattle.pw_code.specs.declared.verb.Verb.TheVariants as verb
 use Rattle.pw_event.specs.declared.event.Cause.{Cause}
-use Rattle.pw_event.specs.declared.event.Ending.{Ending}
-use Rattle.pw_event.specs.declared.event.Ending.TheVariants as ending
 use Rattle.pw_event.specs.declared.event.Event.{Event}
 use Rattle.pw_event.specs.declared.event.Event.TheVariants.{Show, Key, CheckStart, CheckEnd, CheckCopy, Applied, Begin, Send, Take, File, Reply, Again, Commit, Back, Restart, FailTcp, FailServer, Takeover, Raise, End}
 use Rattle.pw_onecopy.proofs.Update.{upd_elim}
+use Rattle.pw_onecopy.specs.Behaviour.{Behaviour}
+use Rattle.pw_onecopy.specs.Path.{PathAnswer}
+use Rattle.pw_onecopy.specs.Update.{upd}
+use Rattle.pw_paired.specs.Failure.{is_of_pair, with_restart}
+use Rattle.pw_paired.specs.State.{OpenUnit, State, starting}
+use Rattle.pw_paired.specs.Step.{effect, after_from}
+use Rattle.pw_paired.specs.Terminal.{unit_with_attempt, births_after, path_of}
+use Rattle.pw_paired.specs.Units.{birth_of, only}
 use Rattle.pw_runs.proofs.induction.Failed.{end-any, fail-cases, process-cases}
 use Rattle.pw_runs.proofs.induction.Served.{file-cases, reply-any}
-use Rattle.pw_paired.specs.Failure.{backup_fails, is_of_pair, primary_fails, process_fails, with_restart}
-use Rattle.pw_onecopy.specs.Path.{PathAnswer, is_outside, unit_number}
-use Rattle.pw_paired.specs.Server.{do_job, do_verb, free_process, reply_at, server_verb}
-use Rattle.pw_onecopy.specs.Update.{upd}
-use Rattle.pw_paired.specs.State.{Job, Mode, Alone, Raising, Paired, Down, Gone, OpenUnit, State, starting}
-use Rattle.pw_paired.specs.Step.{effect, after_from}
-use Rattle.pw_onecopy.specs.Behaviour.{Behaviour}
-use Rattle.pw_paired.specs.Terminal.{unit_with_attempt, births_after, path_of}
-use Rattle.pw_paired.specs.Units.{birth_of, commit_unit, only}
 
 -- births of open units differ, and lie below the next one
 pub record BirthsOk (units : ℕ → Option OpenUnit) (births : ℕ) : Type 0 where
@@ -111,6 +106,7 @@ births-from : (sys : Behaviour) (s : State) → BirthsOk s.units s.births → (l
 births-from sys s ok [] = ok
 births-from sys s ok (entry ∷ log) = births-from sys (effect sys s entry) (keeps-births sys s ok entry) log
 
+-- behind every log births differ and lie below the next one
 pub births-ok : (sys : Behaviour) (log : List Event) → BirthsOk (after_from sys (starting sys) log).units (after_from sys (starting sys) log).births
 births-ok sys log = births-from sys (starting sys)
     (record { below = λ t unit is. absurd (cc is); apart = λ t o unit other differ is is_other same. absurd (cc is) }) log

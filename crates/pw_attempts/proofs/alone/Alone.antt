@@ -1,21 +1,21 @@
 -- A running attempt is the attempt alone on the committed records.
 use Rattle.std.proofs.Common.{◌≡◌, ◌≢◌, ℕ, ◌<◌, false, List, None, refl, sym, subst, ◌∙◌}
-use Rattle.pw_code.specs.declared.verb.Verb.TheVariants as verb
-use Rattle.pw_locks.specs.declared.lock.Lock.{Lock}
-use Rattle.pw_runs.proofs.requests.Requests.{Place, Nowhere, InLine, AtWork}
-use Rattle.pw_runs.proofs.terms.TermOk.{IsWorking}
-use Rattle.pw_onecopy.specs.IsBehaviour.{IsBehaviour, IsPath}
-use Rattle.pw_onecopy.specs.Play.{play_after}
-use Rattle.pw_onecopy.specs.Attempt.{IsAttempt, attempt}
-use Rattle.pw_onecopy.specs.Path.{PathAnswer}
-use Rattle.pw_paired.specs.Raising.{is_takeover}
-use Rattle.pw_paired.specs.State.{BeforeImage, Job, Mode, Term}
-use Rattle.pw_onecopy.specs.Behaviour.{Behaviour}
-use Rattle.pw_paired.specs.Units.{has_image}
 use Rattle.pw_attempts.proofs.AttemptOps.{EachOfRun, EachOp, IsLocked, LocksAre, Spares, agree-by-locks, each-passes, locks-pass, run-passes, spares-pass}
 use Rattle.pw_attempts.proofs.Attempts.{AgreeOnAttempt, attempt-fine, attempts-same}
+use Rattle.pw_code.specs.declared.verb.Verb.TheVariants as verb
 use Rattle.pw_locking.proofs.seeing.Plays.{ServerWrites-behaviour, same_play}
 use Rattle.pw_locking.specs.Seen.{AgreeOnRun, AreFiles, HaveSameAt, files_at}
+use Rattle.pw_locks.specs.declared.lock.Lock.{Lock}
+use Rattle.pw_onecopy.specs.Attempt.{IsAttempt, attempt}
+use Rattle.pw_onecopy.specs.Behaviour.{Behaviour}
+use Rattle.pw_onecopy.specs.IsBehaviour.{IsBehaviour, IsPath}
+use Rattle.pw_onecopy.specs.Path.{PathAnswer}
+use Rattle.pw_onecopy.specs.Play.{play_after}
+use Rattle.pw_paired.specs.Raising.{is_takeover}
+use Rattle.pw_paired.specs.State.{BeforeImage, Job, Mode, Term}
+use Rattle.pw_paired.specs.Units.{has_image}
+use Rattle.pw_runs.proofs.requests.Requests.{Place, Nowhere, InLine, AtWork}
+use Rattle.pw_runs.proofs.terms.TermOk.{IsWorking}
 
 module _ (sys : Behaviour) (b : IsBehaviour sys) (t : ℕ) (q : List PathAnswer) (r : ℕ) (start : IsPath sys t q) where
   -- a server at work for the attempt: the operations of its run by itself so far
@@ -39,6 +39,7 @@ module _ (sys : Behaviour) (b : IsBehaviour sys) (t : ℕ) (q : List PathAnswer)
     pub mid_is : Mid files locks before place mid
     pub agree : (f : ℕ) (key : List ℕ) → IsLocked t f key locks → HaveSameAt sys mid now f key
 
+  -- a running attempt is the one that the machine makes alone
   pub record AloneOk (committed now : ℕ → List (List ℕ)) (j : ℕ) (locks : List Lock) (before : List BeforeImage) (place : Place) (term : Term) (mode : Mode) : Type 0 where
     pub is_attempt : IsAttempt sys t q committed r j
     pub path_is : IsWorking mode → is_takeover term.pending ≡ false → term.path ≡ (attempt sys t q committed r j).path
@@ -80,6 +81,7 @@ module _ (sys : Behaviour) (b : IsBehaviour sys) (t : ℕ) (q : List PathAnswer)
           λ f key locked. subst (λ (m : ℕ → List (List ℕ)). HaveSameAt sys m (files_at sys c message files' is.n) f key) (sym is.mid_is) (plays.stays f key (stays f key (same f key locked))),
         )
 
+    -- it stays alone where others change what it does not see
     pub alone-moved : AloneOk x now j locks before place term mode → AloneOk y now' j locks' before' place term mode'
     alone-moved ok =
         let agree : AgreeOnAttempt sys b t q r start x y j = agree-by-locks sys b t q r start x y j locks ok.locked same in

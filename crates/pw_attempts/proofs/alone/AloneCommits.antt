@@ -1,36 +1,36 @@
 -- What a unit leaves where it commits: the files of its attempt alone.
 use Rattle.std.proofs.Common.{◌≡◌, ℕ, suc, ⊎_elim, false, not, List, [], ◌∷◌, ◌++◌, filter, Some, None, refl, ap, sym, subst, ◌∙◌}
 use Rattle.std.proofs.lemmas.Bool.{cases_Bool, true≢false, eq-eqb, eqb-true}
-use Rattle.pw_code.specs.declared.verb.Verb.TheVariants as verb
-use Rattle.pw_files.specs.Records.{record_at}
-use Rattle.pw_runs.proofs.kept.Failing.{out-job}
-use Rattle.pw_runs.proofs.kept.Kept.{Inv, no-request}
-use Rattle.pw_runs.proofs.requests.Requests.{Place, Nowhere, AtWork, place_at_work}
-use Rattle.pw_runs.proofs.terms.TermOk.{IsWorking}
-use Rattle.pw_onecopy.specs.IsBehaviour.{IsBehaviour, IsPath}
-use Rattle.pw_onecopy.specs.Attempt.{IsAttempt, attempt}
-use Rattle.pw_onecopy.specs.Path.{PathAnswer, Replied, unit_number}
-use Rattle.pw_paired.specs.Server.{LegalReply, reply_of, server_verb}
-use Rattle.pw_paired.specs.State.{BeforeImage, OpenUnit, State}
-use Rattle.pw_onecopy.specs.Behaviour.{Behaviour}
-use Rattle.pw_paired.specs.Terminal.{LegalCommit, path_of}
-use Rattle.pw_paired.specs.Units.{committed_files, has_image, only, restored_files}
+use Rattle.pw_attempts.proofs.AttemptOps.{EachOp, Spares}
+use Rattle.pw_attempts.proofs.Attempts.{attempt-fine}
 use Rattle.pw_attempts.proofs.alone.Alone.{AloneOk, Calm}
 use Rattle.pw_attempts.proofs.alone.AloneEntries.{AllAlone}
 use Rattle.pw_attempts.proofs.alone.AloneOwn.{own-replied}
 use Rattle.pw_attempts.proofs.alone.AloneServers.{agree}
-use Rattle.pw_runs.proofs.induction.Served.{reply-verb}
 use Rattle.pw_attempts.proofs.alone.AloneSteps.{nowhere}
-use Rattle.pw_attempts.proofs.AttemptOps.{EachOp, Spares}
-use Rattle.pw_attempts.proofs.Attempts.{attempt-fine}
-use Rattle.pw_locking.proofs.Holding.{LocksOk}
-use Rattle.pw_locking.proofs.records.Images.{restored-file}
 use Rattle.pw_attempts.proofs.alone.Locked.{key-locked}
 use Rattle.pw_attempts.proofs.alone.LockedRecords.{attempt-spares, committed-without, no-image-same}
+use Rattle.pw_code.specs.declared.verb.Verb.TheVariants as verb
+use Rattle.pw_files.specs.Records.{record_at}
+use Rattle.pw_locking.proofs.Holding.{LocksOk}
+use Rattle.pw_locking.proofs.records.Images.{restored-file}
 use Rattle.pw_locking.proofs.records.RecordsOk.{RecordsOk, image-kept}
-use Rattle.pw_locking.proofs.seeing.SameFiles.{same_files}
 use Rattle.pw_locking.proofs.records.Withdrawn.{ended-ok}
+use Rattle.pw_locking.proofs.seeing.SameFiles.{same_files}
 use Rattle.pw_locking.specs.Seen.{AreFiles}
+use Rattle.pw_onecopy.specs.Attempt.{IsAttempt, attempt}
+use Rattle.pw_onecopy.specs.Behaviour.{Behaviour}
+use Rattle.pw_onecopy.specs.IsBehaviour.{IsBehaviour, IsPath}
+use Rattle.pw_onecopy.specs.Path.{PathAnswer, Replied, unit_number}
+use Rattle.pw_paired.specs.Server.{LegalReply, reply_of, server_verb}
+use Rattle.pw_paired.specs.State.{BeforeImage, OpenUnit, State}
+use Rattle.pw_paired.specs.Terminal.{LegalCommit, path_of}
+use Rattle.pw_paired.specs.Units.{committed_files, has_image, only, restored_files}
+use Rattle.pw_runs.proofs.induction.Served.{reply-verb}
+use Rattle.pw_runs.proofs.kept.Failing.{out-job}
+use Rattle.pw_runs.proofs.kept.Kept.{Inv, no-request}
+use Rattle.pw_runs.proofs.requests.Requests.{Place, Nowhere, AtWork, place_at_work}
+use Rattle.pw_runs.proofs.terms.TermOk.{IsWorking}
 
 module _ (sys : Behaviour) (b : IsBehaviour sys) (s : State) (ok : RecordsOk sys s.files s.before s.locks) where
   are : AreFiles sys (committed_files sys s)

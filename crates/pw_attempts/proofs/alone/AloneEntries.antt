@@ -1,24 +1,24 @@
 -- Each entry keeps that running attempts are alone on the committed records.
 use Rattle.std.proofs.Common.{◌≡◌, ℕ, Bool, false, not, List, filter, Some, None, ap, ap₂, sym, subst, subst₂, ◌∙◌}
-use Rattle.pw_files.specs.Records.{record_at}
-use Rattle.pw_locks.specs.declared.lock.Lock.{Lock}
-use Rattle.pw_runs.proofs.requests.Requests.{Place, Placed}
-use Rattle.pw_runs.proofs.terms.TermOk.{IsWorking}
-use Rattle.pw_event.specs.declared.event.Event.{Event}
-use Rattle.pw_onecopy.specs.IsBehaviour.{IsBehaviour, IsPath}
-use Rattle.pw_onecopy.specs.Path.{PathAnswer}
-use Rattle.pw_paired.specs.State.{BeforeImage, OpenUnit, State, Term}
-use Rattle.pw_onecopy.specs.Behaviour.{Behaviour}
-use Rattle.pw_paired.specs.Units.{committed_files, has_image, restored_files}
-use Rattle.pw_attempts.proofs.alone.Alone.{AloneOk, alone-moved}
 use Rattle.pw_attempts.proofs.AttemptOps.{IsLocked}
-use Rattle.pw_locking.proofs.Holding.{LocksOk}
-use Rattle.pw_locking.proofs.records.Images.{restored-file}
+use Rattle.pw_attempts.proofs.alone.Alone.{AloneOk, alone-moved}
 use Rattle.pw_attempts.proofs.alone.Locked.{images-were, locked-kept, locked-was}
 use Rattle.pw_attempts.proofs.alone.LockedRecords.{backed-out-same, committed-same}
+use Rattle.pw_event.specs.declared.event.Event.{Event}
+use Rattle.pw_files.specs.Records.{record_at}
+use Rattle.pw_locking.proofs.Holding.{LocksOk}
+use Rattle.pw_locking.proofs.records.Images.{restored-file}
 use Rattle.pw_locking.proofs.records.RecordsOk.{RecordsOk}
 use Rattle.pw_locking.proofs.records.Withdrawn.{backed-out-committed}
 use Rattle.pw_locking.specs.Seen.{AreFiles, HaveSameAt}
+use Rattle.pw_locks.specs.declared.lock.Lock.{Lock}
+use Rattle.pw_onecopy.specs.Behaviour.{Behaviour}
+use Rattle.pw_onecopy.specs.IsBehaviour.{IsBehaviour, IsPath}
+use Rattle.pw_onecopy.specs.Path.{PathAnswer}
+use Rattle.pw_paired.specs.State.{BeforeImage, OpenUnit, State, Term}
+use Rattle.pw_paired.specs.Units.{committed_files, has_image, restored_files}
+use Rattle.pw_runs.proofs.requests.Requests.{Place, Placed}
+use Rattle.pw_runs.proofs.terms.TermOk.{IsWorking}
 
 -- the running attempt of a terminal, from its start path and with its unit's restarts, is alone on the committed records
 pub record AloneAt (sys : Behaviour) (b : IsBehaviour sys) (s : State) (answers : ℕ → ℕ) (t : ℕ) (unit : OpenUnit) (q : List PathAnswer) : Type 0 where

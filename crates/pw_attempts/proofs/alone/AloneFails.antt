@@ -1,40 +1,40 @@
 -- Each entry keeps that running attempts are alone on the committed records: servers, ends of units, and failures.
 use Rattle.std.proofs.Common.{◌≡◌, ℕ, ◌+◌, ⊎_elim, Bool, true, false, ◌==◌, is_some, is_none, List, Option, Some, None, refl, ap, sym, subst, ◌∙◌, arith}
 use Rattle.std.proofs.lemmas.Bool.{cases_eq, true≢false, eq-eqb, ne_eqb, cond-true, cond-false, and_left, and_from}
+use Rattle.pw_attempts.proofs.alone.AloneEntries.{logged-alone, AllAlone, AloneAt, moved-committed, moved-plain, moved-withdrawn}
+use Rattle.pw_attempts.proofs.alone.AloneOwn.{own-cut}
+use Rattle.pw_attempts.proofs.alone.AloneSteps.{settled-was}
 use Rattle.pw_event.specs.declared.event.Cause.{Cause}
 use Rattle.pw_event.specs.declared.event.Cause.TheVariants as cause
 use Rattle.pw_event.specs.declared.event.Ending.{Ending}
 use Rattle.pw_event.specs.declared.event.Ending.TheVariants as ending
 use Rattle.pw_event.specs.declared.event.Event.{Event}
 use Rattle.pw_event.specs.declared.event.Event.TheVariants.{Again, Commit, Back, Restart, FailTcp, FailServer, Takeover, End}
-use Rattle.pw_runs.proofs.ends.EndsOnce.{stopped-idle}
-use Rattle.pw_runs.proofs.kept.Failing.{out-job}
-use Rattle.pw_runs.proofs.terms.KeepsChecks.{can_path, running}
-use Rattle.pw_runs.proofs.terms.KeepsPairs.{mode-of-pair, mode-of-other, of-pair, not-of-pair}
-use Rattle.pw_runs.proofs.kept.Kept.{Inv}
-use Rattle.pw_runs.proofs.requests.Requests.{Nowhere, placed_freed, placed_process_other, placed_cancelled, placed_cancelled_other}
-use Rattle.pw_runs.proofs.terms.TermOk.{IsWorking, messages-work}
-use Rattle.pw_onecopy.proofs.Update.{upd_elim, upd-same, upd-other}
-use Rattle.pw_onecopy.specs.IsBehaviour.{IsBehaviour}
-use Rattle.pw_paired.specs.End.{LegalEnd, end_terminal}
-use Rattle.pw_paired.specs.Failure.{LegalRestart, LegalTakeover, lose_backup, backup_fails, lose_primary, lose_pair, is_live_of, is_of_pair, primary_fails, process_fails, with_restart, resume_terminal, runs_unit}
-use Rattle.pw_onecopy.specs.Path.{PathAnswer}
-use Rattle.pw_paired.specs.Raising.{is_takeover, settle_mode}
-use Rattle.pw_paired.specs.Serial.{one_more}
-use Rattle.pw_paired.specs.State.{Alone, Down, Gone, Job, BackupCopy, Mode, OpenUnit, Paired, Raising, State, Term}
-use Rattle.pw_paired.specs.Step.{Fits, effect}
-use Rattle.pw_onecopy.specs.Behaviour.{Behaviour}
-use Rattle.pw_paired.specs.Terminal.{LegalAgain, LegalBack, LegalCommit}
-use Rattle.pw_paired.specs.Units.{attempt_of, committed_files, leave_units, only}
-use Rattle.pw_attempts.proofs.alone.AloneEntries.{logged-alone, AllAlone, AloneAt, moved-committed, moved-plain, moved-withdrawn}
-use Rattle.pw_attempts.proofs.alone.AloneOwn.{own-cut}
-use Rattle.pw_attempts.proofs.alone.AloneSteps.{settled-was}
-use Rattle.pw_locking.proofs.records.Entries.{stays}
 use Rattle.pw_locking.proofs.Holding.{LocksOk}
+use Rattle.pw_locking.proofs.records.Entries.{stays}
 use Rattle.pw_locking.proofs.records.Images.{restored-file}
 use Rattle.pw_locking.proofs.records.RecordsOk.{RecordsOk}
 use Rattle.pw_locking.specs.Seen.{AreFiles}
+use Rattle.pw_onecopy.proofs.Update.{upd_elim, upd-same, upd-other}
+use Rattle.pw_onecopy.specs.Behaviour.{Behaviour}
+use Rattle.pw_onecopy.specs.IsBehaviour.{IsBehaviour}
+use Rattle.pw_onecopy.specs.Path.{PathAnswer}
+use Rattle.pw_paired.specs.End.{LegalEnd, end_terminal}
+use Rattle.pw_paired.specs.Failure.{LegalRestart, LegalTakeover, lose_backup, lose_primary, lose_pair, is_live_of, is_of_pair, process_fails, with_restart, resume_terminal, runs_unit}
+use Rattle.pw_paired.specs.Raising.{is_takeover, settle_mode}
+use Rattle.pw_paired.specs.Serial.{one_more}
+use Rattle.pw_paired.specs.State.{Alone, Down, Gone, Job, BackupCopy, Mode, OpenUnit, State, Term}
+use Rattle.pw_paired.specs.Step.{Fits, effect}
+use Rattle.pw_paired.specs.Terminal.{LegalAgain, LegalBack, LegalCommit}
+use Rattle.pw_paired.specs.Units.{attempt_of, committed_files, leave_units, only}
+use Rattle.pw_runs.proofs.ends.EndsOnce.{stopped-idle}
 use Rattle.pw_runs.proofs.induction.Failed.{end-cases, fail-cases, process-cases}
+use Rattle.pw_runs.proofs.kept.Failing.{out-job}
+use Rattle.pw_runs.proofs.kept.Kept.{Inv}
+use Rattle.pw_runs.proofs.requests.Requests.{Nowhere, placed_freed, placed_process_other, placed_cancelled, placed_cancelled_other}
+use Rattle.pw_runs.proofs.terms.KeepsChecks.{can_path, running}
+use Rattle.pw_runs.proofs.terms.KeepsPairs.{mode-of-pair, mode-of-other, of-pair, not-of-pair}
+use Rattle.pw_runs.proofs.terms.TermOk.{IsWorking, messages-work}
 
 -- nobody is Some and None
 pub no-unit : {unit : OpenUnit} → (None ≡ Some unit) → ⊥
@@ -62,6 +62,7 @@ module _ (sys : Behaviour) (b : IsBehaviour sys) (s : State) (i : Inv sys s) (ok
       (upd-other s.terms t _ j differ) (upd-other answers t (answers t + 1) j differ) (λ place placed. placed) (λ works. works) refl refl refl (all j unit q is runs))
       (cases_eq j t)
 
+  -- behind COMMIT running attempts are alone
   pub alone-commit : (t n : ℕ) → LegalCommit sys s t n → AllAlone sys b (effect sys s (Commit t n)) (one_more t answers)
   alone-commit t n l j unit q =
       upd_elim s.units t None j (λ (u : Option OpenUnit). u ≡ Some unit → unit.running ≡ Some q → AloneAt sys b (effect sys s (Commit t n)) (one_more t answers) j unit q)
@@ -70,6 +71,7 @@ module _ (sys : Behaviour) (b : IsBehaviour sys) (s : State) (i : Inv sys s) (ok
       (upd-other s.terms t _ j differ) (upd-other answers t (answers t + 1) j differ) (λ place placed. placed) (λ works. works)
       (only t) (ne_eqb j t differ) refl refl refl (files-behind (Commit t n) l) (all j unit q is runs))
 
+  -- behind BACK running attempts are alone
   pub alone-back : (t n : ℕ) → LegalBack sys s t n → AllAlone sys b (effect sys s (Back t n)) (one_more t answers)
   alone-back t n l j unit q =
       upd_elim s.units t None j (λ (u : Option OpenUnit). u ≡ Some unit → unit.running ≡ Some q → AloneAt sys b (effect sys s (Back t n)) (one_more t answers) j unit q)
@@ -82,6 +84,7 @@ module _ (sys : Behaviour) (b : IsBehaviour sys) (s : State) (i : Inv sys s) (ok
   resting-none kind None unit q is runs = no-unit is
   resting-none kind (Some u) unit q is runs = absurd (let none = ap attempt_of is in cc (none, runs))
 
+  -- behind RESTART running attempts are alone
   pub alone-restart : (t n : ℕ) (kind : Cause) → LegalRestart sys s t n kind → AllAlone sys b (effect sys s (Restart t n kind)) answers
   alone-restart t n kind l j unit q =
       upd_elim s.units t (with_restart kind (s.units t)) j (λ (u : Option OpenUnit). u ≡ Some unit → unit.running ≡ Some q → AloneAt sys b (effect sys s (Restart t n kind)) answers j unit q)
@@ -114,6 +117,7 @@ module _ (sys : Behaviour) (b : IsBehaviour sys) (s : State) (i : Inv sys s) (ok
       (λ place placed. placed_process_other s.classes c p job None works (λ mine. differ (sym mine)) tt place placed) (λ w. w) refl refl refl (all j unit q is runs))
       (cases_eq j job.request.terminal)
 
+  -- behind FAIL SERVER running attempts are alone
   pub alone-fail-server : (c p k : ℕ) → AllAlone sys b (effect sys s (FailServer c p k)) answers
   alone-fail-server c p k =
       logged-alone sys b _ answers _ (process-cases sys s (λ x. AllAlone sys b x answers) c p k all (process-alone c p k))
@@ -161,6 +165,7 @@ module _ (sys : Behaviour) (b : IsBehaviour sys) (s : State) (i : Inv sys s) (ok
       (λ same _. subst (λ (x : ℕ). IsWorking (s.modes x)) (sym same) working) (λ _ works. works))
       refl refl refl (all t unit q is runs)
 
+  -- behind FAIL TCP running attempts are alone
   pub alone-fail-tcp : (p : ℕ) (primary : Bool) (k : ℕ) → Fits sys s (FailTcp p primary k) → AllAlone sys b (effect sys s (FailTcp p primary k)) answers
   alone-fail-tcp p primary k l =
       logged-alone sys b _ answers _ (fail-cases sys s (λ x. AreFiles sys (committed_files sys x) → AllAlone sys b x answers) p
@@ -190,6 +195,7 @@ module _ (sys : Behaviour) (b : IsBehaviour sys) (s : State) (i : Inv sys s) (ok
       (upd-other s.terms t _ j differ) refl (λ place placed. placed) (settled-was sys (end_terminal t e s) (sys.pair_of t) j) refl refl refl (all j unit q is runs))
       (cases_eq j t)
 
+  -- behind END running attempts are alone
   pub alone-end : (t : ℕ) (e : Ending) → LegalEnd sys s t e → AllAlone sys b (effect sys s (End t e)) answers
   alone-end t e l =
       logged-alone sys b _ answers _ (end-cases sys s (λ x. AreFiles sys (committed_files sys x) → AllAlone sys b x answers) t e l

@@ -1,34 +1,34 @@
 -- What a terminal's own entries do to its attempt alone.
-use Rattle.std.proofs.Common.{◌≡◌, ◌≢◌, ℕ, suc, ◌<◌, inl, inr, ⊎_elim, true, false, List, [], ◌∷◌, ◌++◌, None, refl, ap, ap₂, sym, subst, subst₂, ◌∙◌, arith}
+use Rattle.std.proofs.Common.{◌≡◌, ◌≢◌, ℕ, suc, ◌<◌, ⊎_elim, true, false, List, [], ◌∷◌, ◌++◌, None, refl, ap, ap₂, sym, subst, subst₂, ◌∙◌, arith}
 use Rattle.std.proofs.lemmas.Bool.{cases_eq, cases_lt, true≢false}
+use Rattle.pw_attempts.proofs.AttemptOps.{EachOfRun, EachOp, IsLocked, LocksAre, Spares, locked-before, locked-cases, locked-last}
+use Rattle.pw_attempts.proofs.Attempts.{IsLast, Outcome, faults, one-end, outcome, outcome-last, replies, stays-played, attempt-fine}
+use Rattle.pw_attempts.proofs.alone.Alone.{AloneOk, Calm, Mid, Serving}
 use Rattle.pw_class.specs.declared.request.Request.{Request}
 use Rattle.pw_code.specs.declared.file.FileCall.{FileCall}
 use Rattle.pw_code.specs.declared.verb.Verb.{Verb}
 use Rattle.pw_code.specs.declared.verb.Verb.TheVariants as verb
 use Rattle.pw_files.specs.Records.{record_at}
-use Rattle.pw_locks.specs.declared.lock.Lock.{Lock}
-use Rattle.pw_locks.specs.declared.span.Span.{Span}
-use Rattle.pw_locks.specs.Spans.{Covers}
-use Rattle.pw_runs.proofs.requests.Requests.{Place, Nowhere, AtWork}
-use Rattle.pw_runs.proofs.terms.TermOk.{IsWorking}
-use Rattle.pw_onecopy.proofs.Update.{upd_both}
-use Rattle.pw_onecopy.specs.IsBehaviour.{IsBehaviour, IsPath}
-use Rattle.pw_onecopy.specs.Play.{Play, play_operation, play_after}
-use Rattle.pw_onecopy.specs.Attempt.{Attempt, GoesOn, TakesAnswer, attempt, attempt_with, attempt_with_served, answer_verb}
-use Rattle.pw_onecopy.specs.Operation.{answer_of, changes_records, key_of, records_behind, span_of}
-use Rattle.pw_onecopy.specs.Path.{FileAnswer, PathAnswer, Failed, Replied, unit_number}
-use Rattle.pw_paired.specs.Raising.{is_takeover}
-use Rattle.pw_paired.specs.Server.{with_answer}
-use Rattle.pw_onecopy.specs.Update.{upd}
-use Rattle.pw_paired.specs.State.{BeforeImage, Job, Mode, Term}
-use Rattle.pw_onecopy.specs.Behaviour.{Behaviour, Served, Reply, Fault}
-use Rattle.pw_paired.specs.Units.{has_image}
-use Rattle.pw_attempts.proofs.alone.Alone.{AloneOk, Calm, Mid, Serving}
-use Rattle.pw_attempts.proofs.AttemptOps.{EachOfRun, EachOp, IsLocked, LocksAre, Spares, locked-before, locked-cases, locked-last}
-use Rattle.pw_attempts.proofs.Attempts.{IsLast, Outcome, faults, one-end, outcome, outcome-last, replies, stays-played, attempt-fine}
 use Rattle.pw_locking.proofs.seeing.Plays.{ChangesAt, ServerWrites-behaviour, played_files}
 use Rattle.pw_locking.proofs.seeing.Seeing.{same_answer, same_changes, same_effect, same_span}
 use Rattle.pw_locking.specs.Seen.{AgreeOn, AreFiles, CallCovers, HaveSameAt, files_at, verb_at}
+use Rattle.pw_locks.specs.Spans.{Covers}
+use Rattle.pw_locks.specs.declared.lock.Lock.{Lock}
+use Rattle.pw_locks.specs.declared.span.Span.{Span}
+use Rattle.pw_onecopy.proofs.Update.{upd_both}
+use Rattle.pw_onecopy.specs.Attempt.{Attempt, GoesOn, TakesAnswer, attempt, attempt_with, attempt_with_served, answer_verb}
+use Rattle.pw_onecopy.specs.Behaviour.{Behaviour, Served, Reply, Fault}
+use Rattle.pw_onecopy.specs.IsBehaviour.{IsBehaviour, IsPath}
+use Rattle.pw_onecopy.specs.Operation.{answer_of, changes_records, key_of, records_behind, span_of}
+use Rattle.pw_onecopy.specs.Path.{FileAnswer, PathAnswer, Failed, Replied, unit_number}
+use Rattle.pw_onecopy.specs.Play.{Play, play_operation, play_after}
+use Rattle.pw_onecopy.specs.Update.{upd}
+use Rattle.pw_paired.specs.Raising.{is_takeover}
+use Rattle.pw_paired.specs.Server.{with_answer}
+use Rattle.pw_paired.specs.State.{BeforeImage, Job, Mode, Term}
+use Rattle.pw_paired.specs.Units.{has_image}
+use Rattle.pw_runs.proofs.requests.Requests.{Place, Nowhere, AtWork}
+use Rattle.pw_runs.proofs.terms.TermOk.{IsWorking}
 
 module _ (sys : Behaviour) (b : IsBehaviour sys) (t : ℕ) (q : List PathAnswer) (r : ℕ) (start : IsPath sys t q) where
   -- one more answer that is no reply
@@ -181,6 +181,7 @@ module _ (sys : Behaviour) (b : IsBehaviour sys) (t : ℕ) (q : List PathAnswer)
               (λ _. was);
         }
 
+    -- its own operation
     pub own-operation : AloneOk sys b t q r start x now j locks before (AtWork c p job) term mode
         → AloneOk sys b t q r start x after j (locks ++ lock ∷ []) before' (AtWork c p (with_answer answer job)) term mode
     own-operation ok = record {
@@ -249,6 +250,7 @@ module _ (sys : Behaviour) (b : IsBehaviour sys) (t : ℕ) (q : List PathAnswer)
         (λ differ. each i (omega (arith, below, differ)) d message sent m)
         (cases_eq i j)
 
+    -- its own reply
     pub own-replied : (reply : List ℕ) → sys.ops c job.request.message job.done ≡ verb.Reply reply → term'.path ≡ term.path ++ Replied reply ∷ []
         → AloneOk sys b t q r start x now (suc j) locks before Nowhere term' mode
         × Calm sys b t q r start (attempt sys t q x r (suc j)).files now locks before Nowhere
@@ -273,6 +275,7 @@ module _ (sys : Behaviour) (b : IsBehaviour sys) (t : ℕ) (q : List PathAnswer)
         by-reply {left = left} (replies own sv_is w_is) is = sv_is ∙ ap (λ (l : List ℕ). Reply l left) (let same : own ≡ reply = cc (w_is, is) in same)
         by-reply (faults y sv_is w_is) is = absurd (cc (w_is, is))
 
+    -- its own run fault
     pub own-failed : (y : ℕ) → sys.ops c job.request.message job.done ≡ verb.Fault y → term'.path ≡ term.path ++ Failed y ∷ [] → sys.ask t term'.path ≡ verb.Fault y
         → AloneOk sys b t q r start x now (suc j) locks before Nowhere term' mode
     own-failed y failed path_is faulty =

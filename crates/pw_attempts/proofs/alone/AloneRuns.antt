@@ -1,37 +1,37 @@
 -- In every run each running attempt is alone on the committed records.
 use Rattle.std.proofs.Common.{◌≡◌, ℕ, suc, ◌+◌, List, [], ◌∷◌, ◌++◌, true, false, Some, None, refl, ap, sym, subst, ◌∙◌, arith}
 use Rattle.std.proofs.lemmas.Bool.{cond-true, false≢true}
-use Rattle.pw_event.specs.declared.event.Event.{Event}
-use Rattle.pw_event.specs.declared.event.Event.TheVariants.{Show, Key, CheckStart, CheckEnd, CheckCopy, Applied, Begin, Send, Take, File, Reply, Again, Commit, Back, Restart, FailTcp, FailServer, Takeover, Raise, End}
-use Rattle.pw_runs.proofs.kept.Failing.{out-job}
-use Rattle.pw_runs.proofs.terms.KeepsChecks.{can_path, path_ok-is, within}
-use Rattle.pw_runs.proofs.kept.Kept.{Inv}
-use Rattle.pw_runs.proofs.Runs.{IsRunFrom-split, after_from-append}
-use Rattle.pw_runs.proofs.kept.Runs.{keeps, kept-at-start, kept-from}
-use Rattle.pw_runs.proofs.terms.TermOk.{IsWorking}
-use Rattle.pw_onecopy.proofs.Update.{upd_elim}
-use Rattle.pw_onecopy.specs.IsBehaviour.{IsBehaviour}
-use Rattle.pw_onecopy.specs.Attempt.{IsAttempt, attempt}
-use Rattle.pw_onecopy.specs.Path.{PathAnswer, is_outside, unit_number}
-use Rattle.pw_paired.specs.Raising.{is_takeover, with_message}
-use Rattle.pw_paired.specs.Serial.{answers_behind, reading_starts}
-use Rattle.pw_paired.specs.Server.{free_process, reply_at}
-use Rattle.pw_onecopy.specs.Update.{upd}
-use Rattle.pw_paired.specs.State.{Alone, Down, Gone, Mode, OpenUnit, Paired, Raising, State, starting}
-use Rattle.pw_paired.specs.Step.{Fits, IsRun, IsRunFrom, after, after_from, effect}
-use Rattle.pw_onecopy.specs.Behaviour.{Behaviour}
-use Rattle.pw_paired.specs.Terminal.{path_of}
-use Rattle.pw_paired.specs.Units.{commit_unit, committed_files}
 use Rattle.pw_attempts.proofs.alone.AloneCommits.{commit-files, reply-files}
 use Rattle.pw_attempts.proofs.alone.AloneEntries.{AllAlone}
 use Rattle.pw_attempts.proofs.alone.AloneFails.{alone-again, alone-back, alone-commit, alone-end, alone-fail-server, alone-fail-tcp, alone-restart, alone-takeover, no-unit}
 use Rattle.pw_attempts.proofs.alone.AloneServers.{alone-file, alone-reply}
 use Rattle.pw_attempts.proofs.alone.AloneSteps.{alone-begin, alone-key, alone-plain, alone-send, alone-show, alone-take, settled-was}
+use Rattle.pw_attempts.specs.Answers.{CommitsAlone, answers_after, answers_from, has_paths}
+use Rattle.pw_event.specs.declared.event.Event.{Event}
+use Rattle.pw_event.specs.declared.event.Event.TheVariants.{Show, Key, CheckStart, CheckEnd, CheckCopy, Applied, Begin, Send, Take, File, Reply, Again, Commit, Back, Restart, FailTcp, FailServer, Takeover, Raise, End}
+use Rattle.pw_locking.proofs.Holding.{LocksOk, keeps-locks, locks-ok}
 use Rattle.pw_locking.proofs.records.Committed.{records-at-start, records-ok}
 use Rattle.pw_locking.proofs.records.Entries.{stays}
-use Rattle.pw_locking.proofs.Holding.{LocksOk, keeps-locks, locks-ok}
 use Rattle.pw_locking.proofs.records.RecordsOk.{RecordsOk}
-use Rattle.pw_attempts.specs.Answers.{CommitsAlone, answers_after, answers_from, has_paths}
+use Rattle.pw_onecopy.proofs.Update.{upd_elim}
+use Rattle.pw_onecopy.specs.Attempt.{IsAttempt, attempt}
+use Rattle.pw_onecopy.specs.Behaviour.{Behaviour}
+use Rattle.pw_onecopy.specs.IsBehaviour.{IsBehaviour}
+use Rattle.pw_onecopy.specs.Path.{PathAnswer, is_outside, unit_number}
+use Rattle.pw_onecopy.specs.Update.{upd}
+use Rattle.pw_paired.specs.Raising.{is_takeover, with_message}
+use Rattle.pw_paired.specs.Serial.{answers_behind, reading_starts}
+use Rattle.pw_paired.specs.Server.{free_process, reply_at}
+use Rattle.pw_paired.specs.State.{Alone, Down, Gone, Mode, OpenUnit, Paired, Raising, State, starting}
+use Rattle.pw_paired.specs.Step.{Fits, IsRun, IsRunFrom, after, after_from, effect}
+use Rattle.pw_paired.specs.Terminal.{path_of}
+use Rattle.pw_paired.specs.Units.{commit_unit, committed_files}
+use Rattle.pw_runs.proofs.Runs.{IsRunFrom-split, after_from-append}
+use Rattle.pw_runs.proofs.kept.Failing.{out-job}
+use Rattle.pw_runs.proofs.kept.Kept.{Inv}
+use Rattle.pw_runs.proofs.kept.Runs.{keeps, kept-at-start, kept-from}
+use Rattle.pw_runs.proofs.terms.KeepsChecks.{can_path, path_ok-is, within}
+use Rattle.pw_runs.proofs.terms.TermOk.{IsWorking}
 
 module _ (sys : Behaviour) (b : IsBehaviour sys) (s : State) (i : Inv sys s) (ok : RecordsOk sys s.files s.before s.locks) (lk : LocksOk s.units s.locks) (answers : ℕ → ℕ) (all : AllAlone sys b s answers) where
   -- each entry
@@ -67,6 +67,7 @@ alone-from sys b s i ok lk answers all (entry ∷ log) run =
     alone-from sys b (effect sys s entry) (keeps sys b s i entry run.0) (stays sys b s i ok entry run.0.fits).ok (keeps-locks sys b s i lk entry run.0.fits)
     (answers_behind sys s entry answers) (keeps-alone sys b s i ok lk answers all entry run.0.fits) log run.1
 
+-- in every run all running attempts are alone
 pub all-alone : (sys : Behaviour) (b : IsBehaviour sys) (log : List Event) → IsRun sys log → AllAlone sys b (after sys log) (answers_after sys log)
 all-alone sys b log run =
     alone-from sys b (starting sys) (kept-at-start sys) (records-at-start sys b) (record { held = tt; apart = tt }) reading_starts.answers
@@ -98,6 +99,7 @@ module _ (sys : Behaviour) (b : IsBehaviour sys) where
   one-entry : (log : List Event) (entry : Event) (f : ℕ) → committed_files sys (after sys (log ++ entry ∷ [])) f ≡ committed_files sys (effect sys (after sys log) entry) f
   one-entry log entry f = ap (λ (s : State). committed_files sys s f) (after_from-append sys (starting sys) log (entry ∷ []))
 
+  -- behind a COMMIT the committed records are the files of the attempt alone
   pub commits-alone : (log : List Event) (t n : ℕ) → IsRun sys (log ++ Commit t n ∷ []) → CommitsAlone sys (after sys log) (after sys (log ++ Commit t n ∷ [])) t (answers_after sys log t)
   commits-alone log t n run =
       let parts = IsRunFrom-split sys (starting sys) log (Commit t n ∷ []) run in
@@ -116,6 +118,7 @@ module _ (sys : Behaviour) (b : IsBehaviour sys) where
             ∙ commit-files sys b s (records-ok sys b log parts.0) i (locks-ok sys b log parts.0) (answers_after sys log) (all-alone sys b log parts.0) t n l who.open_unit who.start who.is_open who.runs f;
       }
 
+  -- the same for a unit that is one SEND
   pub send-commits-alone : (log : List Event) (c p t : ℕ) → IsRun sys (log ++ Reply c p t None ∷ []) → is_outside (path_of (after sys log) t) ≡ true
       → CommitsAlone sys (after sys log) (after sys (log ++ Reply c p t None ∷ [])) t (answers_after sys log t + 1)
   send-commits-alone log c p t run outside =

@@ -1,51 +1,50 @@
 -- Each entry keeps that running attempts are alone on the committed records: operations and replies of servers.
-use Rattle.std.proofs.Common.{◌≡◌, ◌≢◌, ℕ, suc, ◌+◌, inl, inr, ⊎_elim, Bool, true, false, not, ◌&&◌, ◌==◌, List, [], ◌∷◌, ◌++◌, Option, Some, None, if◌then◌else◌, refl, ap, sym, subst, subst₂, ◌∙◌, arith}
+use Rattle.std.proofs.Common.{◌≡◌, ◌≢◌, ℕ, suc, ◌+◌, ⊎_elim, Bool, true, false, not, ◌&&◌, ◌==◌, List, [], ◌∷◌, ◌++◌, Option, Some, None, if◌then◌else◌, refl, ap, sym, subst, subst₂, ◌∙◌, arith}
 use Rattle.std.specs.Str.{bytes_eq}
 use Rattle.std.proofs.lemmas.Bool.{cases_eq, cases_Bool, true≢false, eq-eqb, ne_eqb, cond-true, and_from, or_left, or_right}
-use Rattle.pw_code.specs.declared.file.FileCall.{FileCall}
-use Rattle.pw_code.specs.declared.file.FileOp.{FileOp}
-use Rattle.pw_code.specs.declared.lock.LockMode.{LockMode}
-use Rattle.pw_code.specs.declared.verb.Verb.{Verb}
-use Rattle.pw_code.specs.declared.verb.Verb.TheVariants as verb
-use Rattle.pw_event.specs.declared.event.Event.TheVariants.{File, Reply}
-use Rattle.pw_files.specs.Records.{record_at}
-use Rattle.pw_locks.specs.Conflicts.{holders}
-use Rattle.pw_locks.specs.declared.lock.Lock.{Lock}
-use Rattle.pw_locks.specs.Spans.{Covers}
-use Rattle.pw_runs.proofs.kept.Failing.{out-job}
-use Rattle.pw_runs.proofs.terms.KeepsEnds.{OutOk, out-path}
-use Rattle.pw_runs.proofs.kept.Kept.{Inv}
-use Rattle.pw_runs.proofs.requests.Requests.{Place, Nowhere, AtWork, Placed, place_at_work, placed_filed, placed_freed, placed_process_other}
-use Rattle.pw_onecopy.proofs.Update.{upd_elim, upd-same, upd-other}
-use Rattle.pw_onecopy.specs.IsBehaviour.{IsBehaviour}
-use Rattle.pw_onecopy.specs.Attempt.{attempt}
-use Rattle.pw_onecopy.specs.Operation.{changes_records, key_of, span_of}
-use Rattle.pw_onecopy.specs.Path.{PathAnswer, Failed, Replied, is_outside, unit_number}
-use Rattle.pw_paired.specs.Serial.{one_more}
-use Rattle.pw_paired.specs.Server.{do_reply, LegalFile, LegalReply, Replies, answer_on, do_job, do_operation, do_verb, free_process, lock_of_job, reply_at, reply_of, server_verb, with_answer}
-use Rattle.pw_onecopy.specs.Update.{upd}
-use Rattle.pw_paired.specs.State.{Class, Job, OpenUnit, State, Term}
-use Rattle.pw_paired.specs.Step.{effect}
-use Rattle.pw_onecopy.specs.Behaviour.{Behaviour}
-use Rattle.pw_paired.specs.Terminal.{path_of}
-use Rattle.pw_paired.specs.Units.{give_answer, commit_unit, committed_files, has_image, image_before, only}
+use Rattle.pw_attempts.proofs.AttemptOps.{IsLocked, locked-before, locked-cases, locked-last}
+use Rattle.pw_attempts.proofs.Attempts.{attempt-fine}
 use Rattle.pw_attempts.proofs.alone.Alone.{AloneOk, Mid, alone-moved}
 use Rattle.pw_attempts.proofs.alone.AloneEntries.{logged-alone, AllAlone, AloneAt, moved, moved-committed, moved-plain}
 use Rattle.pw_attempts.proofs.alone.AloneFails.{no-unit}
 use Rattle.pw_attempts.proofs.alone.AloneOwn.{own-failed, own-operation, own-replied}
-use Rattle.pw_attempts.proofs.AttemptOps.{IsLocked, locked-before, locked-cases, locked-last}
-use Rattle.pw_attempts.proofs.Attempts.{attempt-fine}
-use Rattle.pw_locking.proofs.records.Entries.{Stays, operation-stays, send-stays}
-use Rattle.pw_locking.proofs.Holding.{LocksOk, operation-locks}
-use Rattle.pw_locking.proofs.records.Images.{restored-file, same_bytes}
 use Rattle.pw_attempts.proofs.alone.Locked.{key-locked, unshared}
 use Rattle.pw_attempts.proofs.alone.LockedRecords.{attempt-spares, no-image-same}
-use Rattle.pw_locking.proofs.seeing.Plays.{operation_leaves, played_leaves}
+use Rattle.pw_code.specs.declared.file.FileCall.{FileCall}
+use Rattle.pw_code.specs.declared.file.FileOp.{FileOp}
+use Rattle.pw_code.specs.declared.lock.LockMode.{LockMode}
+use Rattle.pw_code.specs.declared.verb.Verb.TheVariants as verb
+use Rattle.pw_event.specs.declared.event.Event.TheVariants.{File, Reply}
+use Rattle.pw_files.specs.Records.{record_at}
+use Rattle.pw_locking.proofs.Holding.{LocksOk, operation-locks}
+use Rattle.pw_locking.proofs.records.Entries.{Stays, operation-stays, send-stays}
+use Rattle.pw_locking.proofs.records.Images.{restored-file, same_bytes}
 use Rattle.pw_locking.proofs.records.RecordsOk.{RecordsOk}
-use Rattle.pw_locking.specs.Seen.{AreFiles, HaveSameAt}
-use Rattle.pw_runs.proofs.Tests.{any-before}
+use Rattle.pw_locking.proofs.seeing.Plays.{operation_leaves, played_leaves}
 use Rattle.pw_locking.specs.Held.{locks_key}
+use Rattle.pw_locking.specs.Seen.{AreFiles, HaveSameAt}
+use Rattle.pw_locks.specs.Conflicts.{holders}
+use Rattle.pw_locks.specs.Spans.{Covers}
+use Rattle.pw_locks.specs.declared.lock.Lock.{Lock}
+use Rattle.pw_onecopy.proofs.Update.{upd_elim, upd-same, upd-other}
+use Rattle.pw_onecopy.specs.Attempt.{attempt}
+use Rattle.pw_onecopy.specs.Behaviour.{Behaviour}
+use Rattle.pw_onecopy.specs.IsBehaviour.{IsBehaviour}
+use Rattle.pw_onecopy.specs.Operation.{changes_records, key_of, span_of}
+use Rattle.pw_onecopy.specs.Path.{PathAnswer, Failed, Replied, unit_number}
+use Rattle.pw_onecopy.specs.Update.{upd}
+use Rattle.pw_paired.specs.Serial.{one_more}
+use Rattle.pw_paired.specs.Server.{do_reply, LegalFile, LegalReply, answer_on, do_operation, free_process, lock_of_job, server_verb, with_answer}
+use Rattle.pw_paired.specs.State.{Class, Job, OpenUnit, State, Term}
+use Rattle.pw_paired.specs.Step.{effect}
+use Rattle.pw_paired.specs.Terminal.{path_of}
+use Rattle.pw_paired.specs.Units.{give_answer, commit_unit, committed_files, has_image, image_before, only}
+use Rattle.pw_runs.proofs.Tests.{any-before}
 use Rattle.pw_runs.proofs.induction.Served.{file-is, reply-cases}
+use Rattle.pw_runs.proofs.kept.Failing.{out-job}
+use Rattle.pw_runs.proofs.kept.Kept.{Inv}
+use Rattle.pw_runs.proofs.requests.Requests.{Place, Nowhere, AtWork, Placed, place_at_work, placed_filed, placed_freed, placed_process_other}
+use Rattle.pw_runs.proofs.terms.KeepsEnds.{OutOk, out-path}
 
 module _ (sys : Behaviour) (b : IsBehaviour sys) (s : State) (i : Inv sys s) (ok : RecordsOk sys s.files s.before s.locks) (lk : LocksOk s.units s.locks) (answers : ℕ → ℕ) (all : AllAlone sys b s answers) where
   -- an operation of a server
@@ -168,6 +167,7 @@ module _ (sys : Behaviour) (b : IsBehaviour sys) (s : State) (i : Inv sys s) (ok
         (λ differ. other-file j unit q differ is runs)
         (cases_eq j t)
 
+  -- behind FILE running attempts are alone
   pub alone-file : (c p : ℕ) (op : FileOp) (mode : LockMode) (f status : ℕ) → LegalFile sys s c p op mode f status → AllAlone sys b (effect sys s (File c p op mode f status)) answers
   alone-file c p op mode f status l =
       logged-alone sys b _ answers _ (subst (λ x. AllAlone sys b x answers) (sym (file-is sys s c p op mode f status l)) (file-alone c p l.job l.at_work l.call l.asks l.free))
@@ -257,6 +257,7 @@ module _ (sys : Behaviour) (b : IsBehaviour sys) (s : State) (i : Inv sys s) (ok
         (λ place placed. placed_process_other s.classes c p job None works (λ mine. differ (sym mine)) tt place placed) (λ w. w)
         (only whose) (ne_eqb j whose differ) refl refl refl (restored-file sys after.before st.ok.images after.files st.ok.are_files) (all j unit q is runs)) is runs
 
+  -- behind REPLY running attempts are alone
   pub alone-reply : (c p t : ℕ) (fault : Option ℕ) → LegalReply sys s c p t fault → AllAlone sys b (effect sys s (Reply c p t fault)) (one_more t answers)
   alone-reply c p t fault l =
       let own : ℕ = l.job.request.terminal in

@@ -2,36 +2,36 @@
 use Rattle.std.proofs.Common.{◌≡◌, ℕ, suc, ◌+◌, ◌<◌, inl, inr, ⊎_elim, Bool, List, [], ◌∷◌, ◌++◌, Option, Some, None, refl, ap, sym, subst, subst₂, ◌∙◌, arith}
 use Rattle.std.specs.List.{AllByRecursion}
 use Rattle.std.proofs.lemmas.Bool.{cases_eq}
+use Rattle.pw_attempts.proofs.AttemptOps.{IsLocked}
+use Rattle.pw_attempts.proofs.alone.Alone.{AloneOk}
+use Rattle.pw_attempts.proofs.alone.AloneEntries.{AllAlone, AloneAt, moved-plain}
+use Rattle.pw_attempts.proofs.alone.AloneOwn.{own-answered, own-placed, taken-mid}
 use Rattle.pw_class.specs.declared.request.Request.{Request}
 use Rattle.pw_code.specs.declared.verb.Verb.{Verb}
 use Rattle.pw_code.specs.declared.verb.Verb.TheVariants as verb
 use Rattle.pw_event.specs.declared.event.Event.TheVariants.{Show, Key, Begin, Send, Take}
-use Rattle.pw_locks.specs.declared.lock.Lock.{Lock}
-use Rattle.pw_runs.proofs.terms.KeepsChecks.{can_path, path_ok-is, running}
-use Rattle.pw_runs.proofs.kept.Kept.{Inv, IsIn, no-request, no-request-idle}
-use Rattle.pw_runs.proofs.requests.Requests.{Place, Nowhere, InLine, AtWork, Placed, Sent, sent_of, one_place, placed_sent, placed_sent_other, placed_taken, placed_taken_other, place_in_line, place_inside}
-use Rattle.pw_runs.proofs.requests.Classes.{found_free}
-use Rattle.pw_runs.proofs.terms.TermOk.{IsWorking}
-use Rattle.pw_onecopy.proofs.Update.{upd_elim, upd-same, upd-other}
-use Rattle.pw_onecopy.specs.IsBehaviour.{IsBehaviour, IsPath}
-use Rattle.pw_onecopy.specs.Attempt.{attempt, answer_verb, BeginsUnit}
-use Rattle.pw_onecopy.specs.Path.{PathAnswer, Entry, Shown, entries_on, unit_number}
-use Rattle.pw_paired.specs.Raising.{lacks_one, settled_mode, settle_mode}
-use Rattle.pw_paired.specs.Serial.{answers_at_begin, one_more}
-use Rattle.pw_paired.specs.Server.{LegalTake}
-use Rattle.pw_onecopy.specs.Update.{upd}
-use Rattle.pw_paired.specs.State.{Alone, BeforeImage, Class, Down, Gone, Mode, OpenUnit, Paired, Raising, State, Term}
-use Rattle.pw_paired.specs.Step.{effect}
-use Rattle.pw_onecopy.specs.Behaviour.{Behaviour}
-use Rattle.pw_paired.specs.Terminal.{CanStep, IsIdle, LegalBegin, LegalKey, LegalSend, LegalShow, unit_with_attempt, begun_path, message_of, next_verb, path_of}
-use Rattle.pw_paired.specs.Units.{attempt_of, committed_files, restarts_of, restored_files}
-use Rattle.pw_attempts.proofs.alone.Alone.{AloneOk}
-use Rattle.pw_attempts.proofs.alone.AloneEntries.{AllAlone, AloneAt, moved-plain}
-use Rattle.pw_attempts.proofs.alone.AloneOwn.{own-answered, own-placed, taken-mid}
-use Rattle.pw_attempts.proofs.AttemptOps.{IsLocked}
 use Rattle.pw_locking.proofs.Holding.{LocksOk}
 use Rattle.pw_locking.proofs.records.RecordsOk.{RecordsOk}
 use Rattle.pw_locking.specs.Held.{IsHeld}
+use Rattle.pw_locks.specs.declared.lock.Lock.{Lock}
+use Rattle.pw_onecopy.proofs.Update.{upd_elim, upd-same, upd-other}
+use Rattle.pw_onecopy.specs.Attempt.{attempt, answer_verb, BeginsUnit}
+use Rattle.pw_onecopy.specs.Behaviour.{Behaviour}
+use Rattle.pw_onecopy.specs.IsBehaviour.{IsBehaviour, IsPath}
+use Rattle.pw_onecopy.specs.Path.{PathAnswer, Entry, Shown, entries_on, unit_number}
+use Rattle.pw_onecopy.specs.Update.{upd}
+use Rattle.pw_paired.specs.Raising.{lacks_one, settled_mode, settle_mode}
+use Rattle.pw_paired.specs.Serial.{answers_at_begin, one_more}
+use Rattle.pw_paired.specs.Server.{LegalTake}
+use Rattle.pw_paired.specs.State.{Alone, BeforeImage, Class, Down, Gone, Mode, OpenUnit, Paired, Raising, State, Term}
+use Rattle.pw_paired.specs.Step.{effect}
+use Rattle.pw_paired.specs.Terminal.{CanStep, IsIdle, LegalBegin, LegalKey, LegalSend, LegalShow, unit_with_attempt, begun_path, message_of, next_verb, path_of}
+use Rattle.pw_paired.specs.Units.{attempt_of, committed_files, restarts_of, restored_files}
+use Rattle.pw_runs.proofs.kept.Kept.{Inv, IsIn, no-request, no-request-idle}
+use Rattle.pw_runs.proofs.requests.Classes.{found_free}
+use Rattle.pw_runs.proofs.requests.Requests.{Place, Nowhere, InLine, AtWork, Placed, Sent, sent_of, one_place, placed_sent, placed_sent_other, placed_taken, placed_taken_other, place_in_line, place_inside}
+use Rattle.pw_runs.proofs.terms.KeepsChecks.{can_path, path_ok-is, running}
+use Rattle.pw_runs.proofs.terms.TermOk.{IsWorking}
 
 -- a place without a request is nowhere
 no-place : (place : Place) → ((sent : Sent) → sent_of place ≡ Some sent → ⊥) → place ≡ Nowhere
@@ -53,6 +53,7 @@ raised-was Paired lacks works = tt
 raised-was Down lacks works = works
 raised-was Gone lacks works = works
 
+-- a pair that works behind an entry that settles it worked before
 pub settled-was : (sys : Behaviour) (s : State) (p j : ℕ) → IsWorking ((settle_mode sys p s).modes (sys.pair_of j)) → IsWorking (s.modes (sys.pair_of j))
 settled-was sys s p j =
     upd_elim s.modes p _ (sys.pair_of j) (λ (m : Mode). IsWorking m → IsWorking (s.modes (sys.pair_of j)))
@@ -109,6 +110,7 @@ module _ (sys : Behaviour) (b : IsBehaviour sys) (s : State) (i : Inv sys s) (ok
           (subst (λ (l : List Lock). AloneOk sys b t q unit.restarts at.start (committed_files sys s') s'.files (suc (answers t)) l s'.before Nowhere (record (s.terms t) { path = path_of s t ++ answer ∷ [] }) (s.modes (sys.pair_of t))) (sym locks)
           (subst₂ (λ (x : ℕ → List (List ℕ)) (y : List BeforeImage). AloneOk sys b t q unit.restarts at.start (restored_files sys.key_length y x) x (suc (answers t)) s.locks y Nowhere (record (s.terms t) { path = path_of s t ++ answer ∷ [] }) (s.modes (sys.pair_of t))) (sym files) (sym before) alone)))
 
+  -- behind SHOW running attempts are alone
   pub alone-show : (t phase attempt k : ℕ) → LegalShow sys s t phase attempt k → AllAlone sys b (effect sys s (Show t phase attempt k)) (one_more t answers)
   alone-show t phase attempt_no k l =
       answered-alone t (effect sys s (Show t phase attempt_no k)) Shown verb.Show l.can l.asks refl refl refl refl refl refl refl
@@ -120,6 +122,7 @@ module _ (sys : Behaviour) (b : IsBehaviour sys) (s : State) (i : Inv sys s) (ok
       (λ a path. (ap (λ (p : List PathAnswer). p ++ Shown ∷ []) path, refl)))
       (no-request t i (λ c message is. absurd (cc (l.asks, is))))
 
+  -- behind KEY running attempts are alone
   pub alone-key : (t k : ℕ) → LegalKey sys s t k → AllAlone sys b (effect sys s (Key t k)) (one_more t answers)
   alone-key t k l =
       let next = l.next in
@@ -182,6 +185,7 @@ module _ (sys : Behaviour) (b : IsBehaviour sys) (s : State) (i : Inv sys s) (ok
   begun-parts n births path None = (refl, refl)
   begun-parts n births path (Some u) = (refl, refl)
 
+  -- behind BEGIN running attempts are alone
   pub alone-begin : (t n r : ℕ) → LegalBegin sys s t n r → AllAlone sys b (effect sys s (Begin t n r)) (upd answers t (answers_at_begin (next_verb sys s t)))
   alone-begin t n r l j unit q =
       upd_elim s.units t (Some (unit_with_attempt n s.births (path_of s t) (s.units t))) j
@@ -208,6 +212,7 @@ module _ (sys : Behaviour) (b : IsBehaviour sys) (s : State) (i : Inv sys s) (ok
       (λ differ is runs. moved-plain sys b s (effect sys s (Begin t n r)) ok lk answers (upd answers t (answers_at_begin (next_verb sys s t))) j unit q
       (upd-other s.terms t _ j differ) (upd-other answers t (answers_at_begin (next_verb sys s t)) j differ) (λ place placed. placed) (λ works. works) refl refl refl (all j unit q is runs))
 
+  -- behind SEND running attempts are alone
   pub alone-send : (t n c : ℕ) → LegalSend sys s t n c → AllAlone sys b (effect sys s (Send t n c)) answers
   alone-send t n c l j unit q is runs =
       ⊎_elim
@@ -229,6 +234,7 @@ module _ (sys : Behaviour) (b : IsBehaviour sys) (s : State) (i : Inv sys s) (ok
       (λ place placed. placed_sent_other s.classes c _ (λ mine. differ (sym mine)) place placed) (λ works. works) refl refl refl (all j unit q is runs))
       (cases_eq j t)
 
+  -- behind TAKE running attempts are alone
   pub alone-take : (c p t : ℕ) → LegalTake sys s c p t → AllAlone sys b (effect sys s (Take c p t)) answers
   alone-take c p t l j unit q is runs =
       let found = found_free (s.classes c).busy 1 (sys.processes c) p l.free in

@@ -3,20 +3,20 @@ use Rattle.std.proofs.Common.{◌≡◌, ◌≢◌, ℕ, inl, inr, ⊎_elim, Boo
 use Rattle.std.specs.List.{AllByRecursion}
 use Rattle.std.specs.Str.{bytes_eq}
 use Rattle.std.proofs.lemmas.Bool.{cases_Bool, true≢false, false≢true, eqb-true, ne_eqb, and_from, and_left}
+use Rattle.pw_attempts.proofs.AttemptOps.{IsLocked}
 use Rattle.pw_code.specs.declared.lock.LockMode.{LockMode}
 use Rattle.pw_code.specs.declared.lock.LockMode.TheVariants.{Shared, Exclusive}
+use Rattle.pw_locking.proofs.records.Images.{cases_bytes}
+use Rattle.pw_locking.proofs.seeing.CoveredKeys.{alone_exclusive, exclusive_alone}
+use Rattle.pw_locking.specs.Held.{AreApart, has_key_lock, is_exclusive, is_point, locks_key}
 use Rattle.pw_locks.specs.Conflicts.{conflict, is_same_unit}
+use Rattle.pw_locks.specs.Spans.{Covers}
 use Rattle.pw_locks.specs.declared.lock.Lock.{Lock}
 use Rattle.pw_locks.specs.declared.span.Span.{Span}
 use Rattle.pw_locks.specs.declared.span.Span.TheVariants.{Point, After}
-use Rattle.pw_locks.specs.Spans.{Covers}
 use Rattle.pw_paired.specs.State.{BeforeImage}
 use Rattle.pw_paired.specs.Units.{has_image}
-use Rattle.pw_attempts.proofs.AttemptOps.{IsLocked}
-use Rattle.pw_locking.proofs.seeing.CoveredKeys.{alone_exclusive, exclusive_alone}
-use Rattle.pw_locking.proofs.records.Images.{cases_bytes}
 use Rattle.pw_runs.proofs.Tests.{and-first, and-second, any-filter, any-more, drop-false}
-use Rattle.pw_locking.specs.Held.{AreApart, has_key_lock, is_exclusive, is_point, locks_key}
 
 -- a lock of the terminal on the key
 record Own (t f : ℕ) (key : List ℕ) (lock : Lock) : Type 0 where
@@ -79,6 +79,7 @@ other-head t o f key held [] differ other free locked = locked
 other-head t o f key held (lock ∷ locks) differ other free (inl own) = clash-back t o f key lock held differ (record { whose = own.0; file = own.1; covers = own.2 }) other free.0
 other-head t o f key held (lock ∷ locks) differ other free (inr locked) = other-head t o f key held locks differ other free.1 locked
 
+-- no key under a lock of one terminal is under an exclusive lock of another
 pub unshared : (t o f : ℕ) (key : List ℕ) (locks : List Lock) → t ≢ o → AreApart locks → IsLocked t f key locks → has_key_lock o f key locks ≡ true → ⊥
 unshared t o f key [] differ apart locked there = locked
 unshared t o f key (lock ∷ locks) differ apart locked there =
@@ -105,6 +106,7 @@ key-locked t f key (lock ∷ locks) there =
 
 -- locks of some terminals are released
 module _ (whose : ℕ → Bool) (t f : ℕ) (key : List ℕ) where
+  -- a key stays locked for a terminal that stays
   pub locked-kept : (locks : List Lock) → whose t ≡ false → IsLocked t f key locks → IsLocked t f key (filter (λ lock. not (whose lock.unit.terminal)) locks)
   locked-kept [] spared locked = locked
   locked-kept (lock ∷ locks) spared (inl own) = by_test (not (whose lock.unit.terminal)) (ap (λ n. not (whose n)) own.0 ∙ ap not spared)
@@ -119,6 +121,7 @@ module _ (whose : ℕ → Bool) (t f : ℕ) (key : List ℕ) where
       by_test true rest = inr rest
       by_test false rest = rest
 
+  -- a key that is locked still was locked before
   pub locked-was : (locks : List Lock) → IsLocked t f key (filter (λ lock. not (whose lock.unit.terminal)) locks) → IsLocked t f key locks
   locked-was [] locked = locked
   locked-was (lock ∷ locks) locked = by_test (not (whose lock.unit.terminal)) locked (locked-was locks)

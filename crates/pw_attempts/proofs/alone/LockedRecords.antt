@@ -2,26 +2,26 @@
 use Rattle.std.proofs.Common.{◌≡◌, ◌≢◌, ℕ, zero, suc, ◌<◌, ⊎_elim, Bool, true, false, not, ◌&&◌, ◌||◌, List, [], ◌∷◌, filter, refl, ap, ap₂, sym, subst, ◌∙◌, arith}
 use Rattle.std.specs.List.{list_any}
 use Rattle.std.proofs.lemmas.Bool.{cases_Bool, true≢false}
+use Rattle.pw_attempts.proofs.AttemptOps.{EachOfRun, EachOp, IsLocked, Spares}
+use Rattle.pw_attempts.proofs.Attempts.{Outcome, attempt-fine, faults, outcome, replies}
+use Rattle.pw_attempts.proofs.alone.Locked.{unshared}
 use Rattle.pw_code.specs.declared.verb.Verb.{Verb}
 use Rattle.pw_code.specs.declared.verb.Verb.TheVariants as verb
 use Rattle.pw_files.specs.Records.{record_at}
-use Rattle.pw_locks.specs.declared.lock.Lock.{Lock}
-use Rattle.pw_onecopy.specs.IsBehaviour.{IsBehaviour, IsPath}
-use Rattle.pw_onecopy.specs.Attempt.{Attempt, IsAttempt, attempt, attempt_with_served, answer_verb}
-use Rattle.pw_onecopy.specs.Path.{PathAnswer}
-use Rattle.pw_paired.specs.State.{BeforeImage}
-use Rattle.pw_onecopy.specs.Behaviour.{Behaviour, Served}
-use Rattle.pw_paired.specs.Units.{has_image, restored_files}
-use Rattle.pw_attempts.proofs.AttemptOps.{EachOfRun, EachOp, IsLocked, Spares}
-use Rattle.pw_attempts.proofs.Attempts.{Outcome, attempt-fine, faults, outcome, replies}
 use Rattle.pw_locking.proofs.records.Images.{ImageOk, dropped, is_at, kept, restored-at, stands_at-none}
-use Rattle.pw_attempts.proofs.alone.Locked.{unshared}
-use Rattle.pw_locking.proofs.seeing.Plays.{played_leaves}
 use Rattle.pw_locking.proofs.records.RecordsOk.{RecordsOk}
-use Rattle.pw_runs.proofs.Tests.{all-filter, any-more}
 use Rattle.pw_locking.proofs.records.Withdrawn.{any-image}
+use Rattle.pw_locking.proofs.seeing.Plays.{played_leaves}
 use Rattle.pw_locking.specs.Held.{AreApart}
 use Rattle.pw_locking.specs.Seen.{AreFiles, HaveSameAt, files_at, verb_at}
+use Rattle.pw_locks.specs.declared.lock.Lock.{Lock}
+use Rattle.pw_onecopy.specs.Attempt.{Attempt, IsAttempt, attempt, attempt_with_served, answer_verb}
+use Rattle.pw_onecopy.specs.Behaviour.{Behaviour, Served}
+use Rattle.pw_onecopy.specs.IsBehaviour.{IsBehaviour, IsPath}
+use Rattle.pw_onecopy.specs.Path.{PathAnswer}
+use Rattle.pw_paired.specs.State.{BeforeImage}
+use Rattle.pw_paired.specs.Units.{has_image, restored_files}
+use Rattle.pw_runs.proofs.Tests.{all-filter, any-more}
 
 -- a test that no terminal's images pass
 none-at : (test : ℕ → Bool) (f : ℕ) (key : List ℕ) (before : List BeforeImage) → ((o : ℕ) → test o ≡ true → has_image o f key before ≡ true → ⊥)
@@ -106,6 +106,7 @@ module _ (sys : Behaviour) (b : IsBehaviour sys) (t : ℕ) (q : List PathAnswer)
   step-spares at (verb.File call) fine sends same = same
   step-spares at (verb.Reply reply) fine sends same = same
 
+  -- an attempt leaves a key that it spares
   pub attempt-spares : (j : ℕ) → IsAttempt sys t q x r j → EachOp sys b t q r start x j (Spares sys f key) → HaveSameAt sys (attempt sys t q x r j).files x f key
   attempt-spares zero is each = refl
   attempt-spares (suc j) is each =

@@ -3,21 +3,20 @@ use Rattle.std.proofs.Common.{◌≡◌, ℕ, false, List, [], ◌∷◌, ◌++�
 use Rattle.std.proofs.lemmas.Bool.{false≢true}
 use Rattle.pw_event.specs.declared.event.Event.{Event}
 use Rattle.pw_files.specs.Records.{IsFile}
-use Rattle.pw_runs.proofs.kept.Kept.{Inv}
-use Rattle.pw_runs.proofs.Runs.{after_from-append, IsRunFrom-split}
-use Rattle.pw_runs.proofs.kept.Runs.{keeps, kept-at-start, kept-from}
-use Rattle.pw_onecopy.specs.IsBehaviour.{IsBehaviour}
-use Rattle.pw_paired.specs.State.{State, starting}
-use Rattle.pw_paired.specs.Step.{IsRun, IsRunFrom, after, after_from, effect}
-use Rattle.pw_onecopy.specs.Behaviour.{Behaviour}
-use Rattle.pw_paired.specs.Units.{committed_files}
 use Rattle.pw_locking.proofs.records.Entries.{stays}
 use Rattle.pw_locking.proofs.records.Images.{restored-file}
 use Rattle.pw_locking.proofs.records.RecordsOk.{RecordsOk}
 use Rattle.pw_locking.proofs.seeing.SameFiles.{same_files}
 use Rattle.pw_locking.specs.Records.{commits_at}
+use Rattle.pw_onecopy.specs.Behaviour.{Behaviour}
+use Rattle.pw_onecopy.specs.IsBehaviour.{IsBehaviour}
+use Rattle.pw_paired.specs.State.{State, starting}
+use Rattle.pw_paired.specs.Step.{IsRun, after, effect}
+use Rattle.pw_paired.specs.Units.{committed_files}
+use Rattle.pw_runs.proofs.Runs.{after_from-append, IsRunFrom-split}
 use Rattle.pw_runs.proofs.induction.Runs.{holds-behind, kept}
 
+-- records are in order at the start
 pub records-at-start : (sys : Behaviour) → IsBehaviour sys → RecordsOk sys (starting sys).files (starting sys).before (starting sys).locks
 records-at-start sys b = record {
   are_files = b.files;
@@ -26,6 +25,7 @@ records-at-start sys b = record {
   single = λ t o f key there other. absurd (false≢true there);
 }
 
+-- and behind every run
 pub records-ok : (sys : Behaviour) → IsBehaviour sys → (log : List Event) → IsRun sys log → RecordsOk sys (after sys log).files (after sys log).before (after sys log).locks
 records-ok sys b log run =
     holds-behind sys (λ s. RecordsOk sys s.files s.before s.locks) (λ log run entry legal ok. (stays sys b (after sys log) (kept sys b log run) ok entry legal.fits).ok)
@@ -34,9 +34,11 @@ records-ok sys b log run =
 committed-file : (sys : Behaviour) (s : State) → RecordsOk sys s.files s.before s.locks → (f : ℕ) → IsFile (sys.key_length f) (committed_files sys s f)
 committed-file sys s ok f = restored-file sys s.before ok.images s.files ok.are_files f
 
+-- committed records are files in every run
 pub are-files : (sys : Behaviour) → IsBehaviour sys → (log : List Event) → IsRun sys log → (f : ℕ) → IsFile (sys.key_length f) (committed_files sys (after sys log) f)
 are-files sys b log run f = committed-file sys (after sys log) (records-ok sys b log run) f
 
+-- they change only where a unit commits
 pub commits-alone : (sys : Behaviour) → IsBehaviour sys → (log : List Event) (entry : Event) → IsRun sys (log ++ entry ∷ []) → commits_at (after sys log) entry ≡ false
     → (f : ℕ) → committed_files sys (after sys (log ++ entry ∷ [])) f ≡ committed_files sys (after sys log) f
 commits-alone sys b log entry run none f =

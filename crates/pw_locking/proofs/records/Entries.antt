@@ -1,34 +1,31 @@
 -- What each entry does to files, before-images and locks.
-use Rattle.std.proofs.Common.{◌≡◌, ℕ, Bool, true, false, not, List, [], filter, Option, Some, None, if◌then◌else◌, refl, ap, ap₂, sym, subst, subst₂, ◌∙◌}
+use Rattle.std.proofs.Common.{◌≡◌, ℕ, Bool, true, false, not, List, [], filter, Option, Some, None, refl, ap, ap₂, sym, subst, ◌∙◌}
 use Rattle.std.proofs.lemmas.Bool.{true≢false}
 use Rattle.pw_code.specs.declared.file.FileCall.{FileCall}
-use Rattle.pw_code.specs.declared.verb.Verb.{Verb}
 use Rattle.pw_code.specs.declared.verb.Verb.TheVariants as verb
-use Rattle.pw_event.specs.declared.event.Ending.{Ending}
-use Rattle.pw_event.specs.declared.event.Ending.TheVariants as ending
 use Rattle.pw_event.specs.declared.event.Event.{Event}
 use Rattle.pw_event.specs.declared.event.Event.TheVariants.{Show, Key, CheckStart, CheckEnd, CheckCopy, Applied, Begin, Send, Take, File, Reply, Again, Commit, Back, Restart, FailTcp, FailServer, Takeover, Raise, End}
 use Rattle.pw_files.specs.Records.{record_at}
-use Rattle.pw_locks.specs.Conflicts.{holders}
-use Rattle.pw_locks.specs.declared.lock.Lock.{Lock}
-use Rattle.pw_runs.proofs.kept.Kept.{Inv}
-use Rattle.pw_onecopy.specs.IsBehaviour.{IsBehaviour}
-use Rattle.pw_paired.specs.Failure.{lose_backup, lose_primary, lose_pair, backup_fails, is_of_pair, primary_fails, process_fails}
-use Rattle.pw_paired.specs.End.{end_terminal}
-use Rattle.pw_paired.specs.Raising.{settle_mode}
-use Rattle.pw_onecopy.specs.Path.{Replied, Failed, is_outside, unit_number}
-use Rattle.pw_paired.specs.Server.{do_operation, do_job, do_verb, free_process, lock_of_job, reply_at, server_verb}
-use Rattle.pw_paired.specs.State.{BeforeImage, Job, Mode, Alone, Raising, Paired, Down, Gone, State}
-use Rattle.pw_paired.specs.Step.{Fits, effect}
-use Rattle.pw_onecopy.specs.Behaviour.{Behaviour}
-use Rattle.pw_paired.specs.Terminal.{path_of}
-use Rattle.pw_paired.specs.Units.{commit_unit, committed_files, give_answer, leave_units, only, restored_files, unit_of}
 use Rattle.pw_locking.proofs.records.OperationKept.{operation-ok, operation-committed}
 use Rattle.pw_locking.proofs.records.RecordsOk.{RecordsOk}
 use Rattle.pw_locking.proofs.records.Withdrawn.{backed-out-ok, backed-out-committed, ended-ok}
 use Rattle.pw_locking.specs.Records.{commits_at}
+use Rattle.pw_locks.specs.Conflicts.{holders}
+use Rattle.pw_locks.specs.declared.lock.Lock.{Lock}
+use Rattle.pw_onecopy.specs.Behaviour.{Behaviour}
+use Rattle.pw_onecopy.specs.IsBehaviour.{IsBehaviour}
+use Rattle.pw_onecopy.specs.Path.{Replied, Failed, is_outside, unit_number}
+use Rattle.pw_paired.specs.End.{end_terminal}
+use Rattle.pw_paired.specs.Failure.{lose_backup, lose_primary, lose_pair, is_of_pair, process_fails}
+use Rattle.pw_paired.specs.Raising.{settle_mode}
+use Rattle.pw_paired.specs.Server.{do_operation, free_process, lock_of_job, server_verb}
+use Rattle.pw_paired.specs.State.{BeforeImage, Job, State}
+use Rattle.pw_paired.specs.Step.{Fits, effect}
+use Rattle.pw_paired.specs.Terminal.{path_of}
+use Rattle.pw_paired.specs.Units.{commit_unit, committed_files, give_answer, leave_units, only, restored_files, unit_of}
 use Rattle.pw_runs.proofs.induction.Failed.{end-any, fail-cases, process-cases}
 use Rattle.pw_runs.proofs.induction.Served.{file-is, reply-any}
+use Rattle.pw_runs.proofs.kept.Kept.{Inv}
 
 -- files, images and locks are in order, and unless a unit commits the committed records stay
 pub record Stays (sys : Behaviour) (s after : State) (commits : Bool) : Type 0 where

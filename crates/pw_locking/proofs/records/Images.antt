@@ -5,11 +5,11 @@ use Rattle.std.specs.Str.{bytes_eq}
 use Rattle.std.proofs.lemmas.Slice.Eq.{bytes_eq-Decides}
 use Rattle.std.proofs.lemmas.Bool.{cases_eq, cases_Bool, true≢false, false≢true, eq-eqb, eqb-true, cond-false, and_from, or_parts}
 use Rattle.pw_files.specs.Records.{IsContent, IsFile, record_at}
+use Rattle.pw_locking.proofs.seeing.Seeing.{put_back-there, put_back-others, put_back_is_file}
 use Rattle.pw_onecopy.proofs.Update.{upd_elim, upd-same, upd-other}
+use Rattle.pw_onecopy.specs.Behaviour.{Behaviour}
 use Rattle.pw_onecopy.specs.Update.{upd}
 use Rattle.pw_paired.specs.State.{BeforeImage}
-use Rattle.pw_onecopy.specs.Behaviour.{Behaviour}
-use Rattle.pw_locking.proofs.seeing.Seeing.{put_back-there, put_back-others, put_back_is_file}
 use Rattle.pw_paired.specs.Units.{put_back, restored_files}
 
 -- the image is of this key of this file
@@ -32,6 +32,7 @@ cases_bytes a b =
     let decides = bytes_eq-Decides a b in
     ⊎_elim (λ is. inl (decides.0 is, is)) (λ is. inr (λ same. true≢false (sym (decides.1 same) ∙ is), is)) (cases_Bool (bytes_eq a b))
 
+-- bytes are equal to themselves
 pub same_bytes : (a : List ℕ) → bytes_eq a a ≡ true
 same_bytes a = ⊎_elim (λ same. same.1) (λ differ. absurd (differ.0 refl)) (cases_bytes a a)
 
@@ -81,6 +82,7 @@ module _ (sys : Behaviour) where
           (λ differ. ap (λ (r : List (List ℕ)). record_at (sys.key_length file) r key) (upd-other files image.file new file differ))
           (cases_eq file image.file)
 
+  -- what is at a key when images are put back
   pub restored-at : (images : List BeforeImage) → AllByRecursion (ImageOk sys) images → (files : ℕ → List (List ℕ)) (file : ℕ) (key : List ℕ)
       → record_at (sys.key_length file) (restored_files sys.key_length images files file) key ≡ stands_at images file key (record_at (sys.key_length file) (files file) key)
   restored-at [] ok files file key = refl
@@ -88,6 +90,7 @@ module _ (sys : Behaviour) where
       restored-at images ok.1 (upd files image.file (put_back (sys.key_length image.file) (files image.file) image.key image.content)) file key
       ∙ ap (λ (now : Option (List ℕ)). stands_at images file key now) (one-restored image ok.0 files file key)
 
+  -- files with images put back are files
   pub restored-file : (images : List BeforeImage) → AllByRecursion (ImageOk sys) images → (files : ℕ → List (List ℕ))
       → ((f : ℕ) → IsFile (sys.key_length f) (files f)) → (f : ℕ) → IsFile (sys.key_length f) (restored_files sys.key_length images files f)
   restored-file [] ok files are_files = are_files
@@ -105,6 +108,7 @@ there-by : (image : BeforeImage) (images : List BeforeImage) (file : ℕ) (key :
 there-by image images file key now other true rest there = refl
 there-by image images file key now other false rest there = rest there
 
+-- what stands at a key that has an image is the image's
 pub stands_at-there : (images : List BeforeImage) (file : ℕ) (key : List ℕ) (now other : Option (List ℕ)) → list_any (is_at file key) images ≡ true
     → stands_at images file key now ≡ stands_at images file key other
 stands_at-there [] file key now other there = absurd (false≢true there)
@@ -149,6 +153,7 @@ module _ (own : BeforeImage → Bool) (file : ℕ) (key : List ℕ) where
       and-true false e = refl
   drop-step image images now false none rest = rest now
 
+  -- an image that is kept
   pub kept : (images : List BeforeImage) → list_any (λ image. is_at file key image && not (own image)) images ≡ false → (now : Option (List ℕ))
       → stands_at images file key now ≡ stands_at (filter own images) file key now
   kept [] none now = refl
@@ -156,6 +161,7 @@ module _ (own : BeforeImage → Bool) (file : ℕ) (key : List ℕ) where
       let parts = or_parts (is_at file key image && not (own image)) (list_any (λ i. is_at file key i && not (own i)) images) none in
       keep-step image images now (own image) parts.0 (kept images parts.1)
 
+  -- an image that goes
   pub dropped : (images : List BeforeImage) → passes_at images ≡ false → (now : Option (List ℕ)) → stands_at (filter own images) file key now ≡ now
   dropped [] none now = refl
   dropped (image ∷ images) none now =

@@ -3,7 +3,8 @@ use Rattle.std.proofs.Common.{◌≡◌, ◌≢◌, ℕ, ◌⊎◌, inl, inr, �
 use Rattle.std.specs.List.{list_any, AllByRecursion}
 use Rattle.std.specs.Prelude.{All, Contains}
 use Rattle.std.specs.Str.{bytes_eq}
-use Rattle.std.proofs.lemmas.Bool.{cases_eq, cases_Bool, true≢false, false≢true, eq-eqb, eqb-true, ne_eqb, and_from, and_left, and_right, or_left, or_right, cond-true, cond-false}
+use Rattle.std.proofs.lemmas.Bool.{cases_eq, cases_Bool, true≢false, false≢true, eq-eqb, eqb-true, ne_eqb, and_from, and_left, and_right, cond-true, cond-false}
+use Rattle.pw_code.specs.Locks.{mode_of}
 use Rattle.pw_code.specs.declared.file.FileCall.{FileCall}
 use Rattle.pw_code.specs.declared.file.FileOp.{FileOp}
 use Rattle.pw_code.specs.declared.file.FileOp.TheVariants.{Read, Next, Write, Rewrite, Delete, ReadLock, NextLock}
@@ -12,26 +13,25 @@ use Rattle.pw_code.specs.declared.lock.LockMode.TheVariants.{Exclusive}
 use Rattle.pw_code.specs.declared.lock.LockRule.{LockRule}
 use Rattle.pw_code.specs.declared.lock.LockRule.TheVariants.{ReadersShare, AllExclusive}
 use Rattle.pw_code.specs.declared.unit.Unit as unit
-use Rattle.pw_code.specs.Locks.{mode_of}
 use Rattle.pw_files.proofs.Lookups.{record_at-found}
 use Rattle.pw_files.specs.Records.{IsContent, IsFile, record_at}
+use Rattle.pw_locking.proofs.records.Images.{ImageOk, cases_bytes, is_at, restored-at, same_bytes, stands_at, stands_at-there}
+use Rattle.pw_locking.proofs.records.RecordsOk.{RecordsOk}
+use Rattle.pw_locking.proofs.seeing.Seeing.{effect_leaves, operated_is_file}
+use Rattle.pw_locking.specs.Held.{is_exclusive, is_point, locks_key}
 use Rattle.pw_locks.specs.Conflicts.{conflict, exclude, holders, is_same_unit}
+use Rattle.pw_locks.specs.Spans.{overlap}
 use Rattle.pw_locks.specs.declared.lock.Lock.{Lock}
 use Rattle.pw_locks.specs.declared.span.Span.{Span}
 use Rattle.pw_locks.specs.declared.span.Span.TheVariants.{Point, After}
-use Rattle.pw_locks.specs.Spans.{overlap}
 use Rattle.pw_onecopy.proofs.Update.{upd_elim, upd-same, upd-other}
+use Rattle.pw_onecopy.specs.Behaviour.{Behaviour}
 use Rattle.pw_onecopy.specs.IsBehaviour.{is_written}
 use Rattle.pw_onecopy.specs.Operation.{answer_of, changes_records, is_change, key_of, lock_for, records_behind, changed_records, span_of}
 use Rattle.pw_onecopy.specs.Update.{upd}
 use Rattle.pw_paired.specs.State.{BeforeImage}
-use Rattle.pw_onecopy.specs.Behaviour.{Behaviour}
 use Rattle.pw_paired.specs.Units.{has_image, restored_files}
-use Rattle.pw_locking.proofs.seeing.Seeing.{effect_leaves, operated_is_file}
-use Rattle.pw_locking.proofs.records.Images.{ImageOk, cases_bytes, is_at, restored-at, same_bytes, stands_at, stands_at-there}
-use Rattle.pw_locking.proofs.records.RecordsOk.{RecordsOk}
 use Rattle.pw_runs.proofs.Tests.{and-first, and-second, any-before, any-last, any-more}
-use Rattle.pw_locking.specs.Held.{has_key_lock, is_exclusive, is_point, locks_key}
 
 -- a change locks its key exclusively
 change-point : (n : ℕ) (records : List (List ℕ)) (op : FileOp) (call : FileCall) → is_change op ≡ true → span_of n records op call ≡ Point (key_of n op call)
@@ -77,6 +77,7 @@ none-holds-step : (lock held : Lock) (locks : List Lock) (b : Bool) → (holders
 none-holds-step lock held locks true rest free = absurd (cc free)
 none-holds-step lock held locks false rest free = rest free
 
+-- where nobody holds a conflicting lock, none conflicts
 pub none-holds : (lock : Lock) (locks : List Lock) → holders lock locks ≡ [] → list_any (conflict lock) locks ≡ false
 none-holds lock [] free = refl
 none-holds lock (held ∷ locks) free = none-holds-step lock held locks (conflict lock held) (none-holds lock locks) free
@@ -168,6 +169,7 @@ module _ (sys : Behaviour) (files : ℕ → List (List ℕ)) (before : List Befo
   images-ok true = (image-ok, ok.images)
   images-ok false = ok.images
 
+  -- records are in order behind an operation
   pub operation-ok : RecordsOk sys files_after (images_after adds) (locks ++ lock ∷ [])
   operation-ok = record {
     are_files = λ f. upd_elim files call.file (records_behind n (files call.file) call) f (λ (r : List (List ℕ)). IsFile (sys.key_length f) r)
@@ -239,6 +241,7 @@ module _ (sys : Behaviour) (files : ℕ → List (List ℕ)) (before : List Befo
           subst₂ (λ (g : ℕ) (k : List ℕ). stands_at (images_after b) g k (record_at (sys.key_length g) (files_after g) k) ≡ stands_at before g k (record_at (sys.key_length g) (files g) k))
           same (sym own) (at-own b is)
 
+  -- an operation leaves the committed records
   pub operation-committed : (f : ℕ) (key : List ℕ)
       → record_at (sys.key_length f) (restored_files sys.key_length (images_after adds) files_after f) key ≡ record_at (sys.key_length f) (restored_files sys.key_length before files f) key
   operation-committed f key =

@@ -4,12 +4,12 @@ use Rattle.std.specs.List.{list_any, AllByRecursion}
 use Rattle.std.specs.Str.{bytes_eq}
 use Rattle.std.proofs.lemmas.Bool.{false≢true, eqb-true, and_from}
 use Rattle.pw_files.specs.Records.{IsFile}
-use Rattle.pw_locks.specs.declared.lock.Lock.{Lock}
-use Rattle.pw_paired.specs.State.{BeforeImage}
-use Rattle.pw_onecopy.specs.Behaviour.{Behaviour}
-use Rattle.pw_paired.specs.Units.{has_image}
-use Rattle.pw_locking.specs.Held.{has_key_lock, is_exclusive, is_point, locks_key}
 use Rattle.pw_locking.proofs.records.Images.{ImageOk}
+use Rattle.pw_locking.specs.Held.{has_key_lock, is_exclusive, is_point, locks_key}
+use Rattle.pw_locks.specs.declared.lock.Lock.{Lock}
+use Rattle.pw_onecopy.specs.Behaviour.{Behaviour}
+use Rattle.pw_paired.specs.State.{BeforeImage}
+use Rattle.pw_paired.specs.Units.{has_image}
 use Rattle.pw_runs.proofs.Tests.{and-first, and-second, any-filter, any-more, any-some}
 
 -- files are files; images have contents of their keys, each under an exclusive lock of its unit; and no key has images of two units
@@ -24,6 +24,7 @@ module _ (whose : ℕ → Bool) (t f : ℕ) (key : List ℕ) where
   image-test : BeforeImage → Bool
   image-test image = image.terminal == t && (image.file == f && bytes_eq image.key key)
 
+  -- an image that stays is one of before, of a unit that stays
   pub image-kept : (before : List BeforeImage) → has_image t f key (filter (λ image. not (whose image.terminal)) before) ≡ true
       → (has_image t f key before ≡ true) × (whose t ≡ false)
   image-kept before is =
@@ -39,6 +40,7 @@ module _ (whose : ℕ → Bool) (t f : ℕ) (key : List ℕ) where
       not-true true e = absurd (false≢true e)
       not-true false e = refl
 
+  -- the locks of a unit that stays, stay
   pub lock-kept : (locks : List Lock) → has_key_lock t f key locks ≡ true → whose t ≡ false → has_key_lock t f key (filter (λ lock. not (whose lock.unit.terminal)) locks) ≡ true
   lock-kept locks is spared =
       any-filter (locks_key t f key) (λ lock. not (whose lock.unit.terminal)) locks

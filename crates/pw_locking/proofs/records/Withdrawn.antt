@@ -3,12 +3,12 @@ use Rattle.std.proofs.Common.{◌≡◌, ℕ, ⊎_elim, Bool, true, false, not, 
 use Rattle.std.specs.List.{list_any}
 use Rattle.std.proofs.lemmas.Bool.{cases_Bool, true≢false, false≢true, eq-eqb, and_from, or_left, or_right}
 use Rattle.pw_files.specs.Records.{IsFile, record_at}
-use Rattle.pw_locks.specs.declared.lock.Lock.{Lock}
-use Rattle.pw_paired.specs.State.{BeforeImage}
-use Rattle.pw_onecopy.specs.Behaviour.{Behaviour}
-use Rattle.pw_paired.specs.Units.{has_image, restored_files}
 use Rattle.pw_locking.proofs.records.Images.{ImageOk, is_at, in-two-parts, restored-at, restored-file, stands_at}
 use Rattle.pw_locking.proofs.records.RecordsOk.{RecordsOk, image-kept, lock-kept}
+use Rattle.pw_locks.specs.declared.lock.Lock.{Lock}
+use Rattle.pw_onecopy.specs.Behaviour.{Behaviour}
+use Rattle.pw_paired.specs.State.{BeforeImage}
+use Rattle.pw_paired.specs.Units.{has_image, restored_files}
 use Rattle.pw_runs.proofs.Tests.{all-filter, and-first, and-second}
 
 -- an image of a key is that of its terminal
@@ -72,6 +72,7 @@ module _ (sys : Behaviour) (files : ℕ → List (List ℕ)) (before : List Befo
       contradict true e f = false≢true f
       contradict false e f = false≢true e
 
+  -- units that are backed out leave the committed records
   pub backed-out-committed : (f : ℕ) (key : List ℕ)
       → record_at (sys.key_length f) (restored_files sys.key_length others (restored_files sys.key_length (filter own before) files) f) key ≡ record_at (sys.key_length f) (restored_files sys.key_length before files f) key
   backed-out-committed f key =

@@ -4,10 +4,10 @@ use Rattle.std.proofs.lemmas.Bool.{and_from, eq-eqb}
 use Rattle.std.proofs.lemmas.List.Elements.{All-contains, All-nil, All-cons}
 use Rattle.pw_code.specs.declared.lock.LockMode.{LockMode}
 use Rattle.pw_code.specs.declared.lock.LockMode.TheVariants.{Shared, Exclusive}
+use Rattle.pw_locks.proofs.Overlaps.{common-overlap}
 use Rattle.pw_locks.specs.Conflicts.{is_same_unit, are_both_shared, exclude, conflict, holders}
 use Rattle.pw_locks.specs.Spans.{overlap, Covers}
 use Rattle.pw_locks.specs.declared.lock.Lock.{Lock}
-use Rattle.pw_locks.proofs.Overlaps.{common-overlap}
 
 -- an exclusive lock is not shared
 first_exclusive : (mode other : LockMode) → mode ≡ Exclusive → are_both_shared mode other ≡ false
@@ -34,6 +34,7 @@ module _ (a b : Lock) (apart : is_same_unit a.unit b.unit ≡ false) (file : a.f
   exclusive_alone free mode own other =
       absurd (cc (covered_conflict (first_exclusive a.mode b.mode mode) own other, free))
 
+  -- the same with the other one exclusive
   pub alone_exclusive : conflict a b ≡ false → b.mode ≡ Exclusive → Covers a.span key → ¬ Covers b.span key
   alone_exclusive free mode own other =
       absurd (cc (covered_conflict (second_exclusive a.mode b.mode mode) own other, free))

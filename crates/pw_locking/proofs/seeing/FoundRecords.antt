@@ -7,12 +7,12 @@ use Rattle.std.proofs.lemmas.Cmp.{nat_list_cmp_total, tied_itself}
 use Rattle.std.proofs.lemmas.List.Elements.{All-contains, at_from_Contains}
 use Rattle.std.proofs.lemmas.Map.Lookups.{exact_bytes}
 use Rattle.std.proofs.lemmas.Option.{slice_get-get_or}
-use Rattle.pw_files.specs.Records.{key_cmp, compared, record_at, record_after, with_record, without_key, IsFile}
 use Rattle.pw_files.proofs.Lookups.{record_at-found, record_at-with_record, record_at-with_other, record_at-without_key, record_at-without_other}
 use Rattle.pw_files.proofs.Nearest.{record_after-found, record_after-nearest, record_after-missing}
 use Rattle.pw_files.proofs.Places.{found_at}
-use Rattle.pw_locks.specs.Spans.{Precedes}
+use Rattle.pw_files.specs.Records.{key_cmp, compared, record_at, record_after, with_record, without_key, IsFile}
 use Rattle.pw_locks.proofs.Order.{not-itself}
+use Rattle.pw_locks.specs.Spans.{Precedes}
 
 -- a key compares as equal with itself
 cmp-itself : (key : List ℕ) → key_cmp key key ≡ Equal

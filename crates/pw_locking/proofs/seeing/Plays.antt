@@ -4,15 +4,15 @@ use Rattle.pw_code.specs.declared.file.FileCall.{FileCall}
 use Rattle.pw_code.specs.declared.verb.Verb.{Verb}
 use Rattle.pw_code.specs.declared.verb.Verb.TheVariants as verb
 use Rattle.pw_files.specs.Records.{record_at, IsContent, IsFile}
-use Rattle.pw_onecopy.specs.IsBehaviour.{is_written, IsBehaviour}
-use Rattle.pw_onecopy.specs.Play.{Play, play_operation, play_after}
-use Rattle.pw_onecopy.specs.Operation.{key_of, changes_records, records_behind, span_of}
-use Rattle.pw_onecopy.specs.Path.{FileAnswer}
-use Rattle.pw_onecopy.specs.Behaviour.{Behaviour}
-use Rattle.pw_onecopy.proofs.Update.{upd_elim, upd_both}
+use Rattle.pw_locking.proofs.seeing.Seeing.{same_answer, same_changes, same_span, same_effect, operated_leaves, changed_covered, operated_is_file}
 use Rattle.pw_locking.specs.Seen as seen
 use Rattle.pw_locking.specs.Seen.{AgreeOn}
-use Rattle.pw_locking.proofs.seeing.Seeing.{same_answer, same_changes, same_span, same_effect, operated_leaves, changed_covered, operated_is_file}
+use Rattle.pw_onecopy.proofs.Update.{upd_elim, upd_both}
+use Rattle.pw_onecopy.specs.Behaviour.{Behaviour}
+use Rattle.pw_onecopy.specs.IsBehaviour.{is_written, IsBehaviour}
+use Rattle.pw_onecopy.specs.Operation.{key_of, changes_records, records_behind, span_of}
+use Rattle.pw_onecopy.specs.Path.{FileAnswer}
+use Rattle.pw_onecopy.specs.Play.{Play, play_operation, play_after}
 
 module _ (sys : Behaviour) where
   abbrev AreFiles : (ℕ → List (List ℕ)) → Type 0
@@ -83,6 +83,7 @@ module _ (sys : Behaviour) where
       }
   operation_same _ p q same files others agree = record { done = same; stays = λ f key e. e }
 
+  -- an operation leaves what it does not change
   pub operation_leaves : (v : Verb) (at : Play) (f : ℕ) (key : List ℕ)
       → ((call : FileCall) → v ≡ verb.File call → call.file ≡ f → ¬ ChangesAt at.files call key)
       → HaveSameAt (play_operation sys v at).files at.files f key

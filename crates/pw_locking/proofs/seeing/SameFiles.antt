@@ -5,11 +5,11 @@ use Rattle.std.specs.List.Sorted.{IsStrictlySortedBy}
 use Rattle.std.specs.declared.cmp.Ordering.TheVariants.{Less}
 use Rattle.std.proofs.lemmas.Cmp.{nat_list_cmp_total}
 use Rattle.pw_files.specs.Records.{key_cmp, record_at, record_after, IsFile}
+use Rattle.pw_locking.proofs.seeing.FoundRecords.{key_cases, key_is, record_at-here, record_at-past, record_at-below, next-found, next-missing}
+use Rattle.pw_locks.proofs.Order.{not-itself, not-both-ways}
 use Rattle.pw_locks.specs.Spans.{Precedes, Covers}
 use Rattle.pw_locks.specs.declared.span.Span.TheVariants.{After}
-use Rattle.pw_locks.proofs.Order.{not-itself, not-both-ways}
 use Rattle.pw_onecopy.specs.Operation.{found_key}
-use Rattle.pw_locking.proofs.seeing.FoundRecords.{key_cases, key_is, record_at-here, record_at-past, record_at-below, next-found, next-missing}
 
 module _ (n : ℕ) where
   -- the keys of the records rise

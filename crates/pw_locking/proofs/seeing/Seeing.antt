@@ -2,15 +2,18 @@
 use Rattle.std.proofs.Common.{◌≡◌, ◌≢◌, ℕ, refl, sym, ◌∙◌, ap, subst, true, false, cond, ◌&&◌, ◌==◌, List, take, Option, Some, None}
 use Rattle.std.specs.Ordering.{is_eq}
 use Rattle.std.proofs.lemmas.Bool.{and_parts}
+use Rattle.pw_code.specs.Locks.{mode_of}
 use Rattle.pw_code.specs.declared.file.FileCall.{FileCall}
 use Rattle.pw_code.specs.declared.file.FileOp.{FileOp}
 use Rattle.pw_code.specs.declared.file.FileOp.TheVariants.{Read, Next, Write, Rewrite, Delete, ReadLock, NextLock}
 use Rattle.pw_code.specs.declared.lock.LockRule.{LockRule}
 use Rattle.pw_code.specs.declared.unit.Unit as unit
-use Rattle.pw_code.specs.Locks.{mode_of}
-use Rattle.pw_files.specs.Records.{key_cmp, record_at, with_record, without_key, IsContent, IsFile}
 use Rattle.pw_files.proofs.Lookups.{record_at-with_record, record_at-with_other, record_at-without_key, record_at-without_other}
 use Rattle.pw_files.proofs.RecordLemmas.{IsFile-with_record, IsFile-without_key}
+use Rattle.pw_files.specs.Records.{key_cmp, record_at, with_record, without_key, IsContent, IsFile}
+use Rattle.pw_locking.proofs.seeing.FoundRecords.{record_at-with, record_at-without}
+use Rattle.pw_locking.proofs.seeing.SameFiles.{same_after}
+use Rattle.pw_locking.specs.Seen.{AgreeOn}
 use Rattle.pw_locks.specs.Conflicts.{lock_of}
 use Rattle.pw_locks.specs.Spans.{Covers}
 use Rattle.pw_locks.specs.declared.span.Span.TheVariants.{After}
@@ -18,9 +21,6 @@ use Rattle.pw_onecopy.specs.IsBehaviour.{is_written}
 use Rattle.pw_onecopy.specs.Operation.{key_of, read_answer, answer_of, is_change, changed_records, changes_records, records_behind, found_key, span_of, lock_for}
 use Rattle.pw_onecopy.specs.Path.{FileAnswer}
 use Rattle.pw_paired.specs.Units.{put_back}
-use Rattle.pw_locking.proofs.seeing.FoundRecords.{record_at-with, record_at-without}
-use Rattle.pw_locking.proofs.seeing.SameFiles.{same_after}
-use Rattle.pw_locking.specs.Seen.{AgreeOn}
 
 module _ (n : ℕ) (a b : List (List ℕ)) (file : IsFile n a) (other : IsFile n b) (call : FileCall) where
   abbrev Agree : FileOp → Type 0
@@ -55,6 +55,7 @@ module _ (n : ℕ) (a b : List (List ℕ)) (file : IsFile n a) (other : IsFile n
   pub same_span : AgreeOn n a b call → span_of n a call.op call ≡ span_of n b call.op call
   same_span h = spans_same call.op h
 
+  -- an operation takes the same lock on files that agree on it
   pub same_lock : (rule : LockRule) (of : unit.Unit) → AgreeOn n a b call
       → lock_for rule n a of call ≡ lock_for rule n b of call
   same_lock rule of h = ap (λ span. lock_of of call.file span (mode_of rule call.op)) (same_span h)

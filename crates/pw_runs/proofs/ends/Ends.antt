@@ -3,8 +3,8 @@ use Rattle.std.proofs.Common.{◌≡◌, ◌≢◌, ℕ, zero, suc, ◌+◌, ◌
 use Rattle.std.proofs.lemmas.Bool.{cases_eq, eqb-true, and_left, and_right}
 use Rattle.std.proofs.lemmas.List.{length-append}
 use Rattle.std.proofs.lemmas.List.Elements.{filter-append}
-use Rattle.pw_paired.specs.Headline.{ends_unit, is_end_of}
 use Rattle.pw_onecopy.specs.Blocks.{Block, Attempted, How, Left}
+use Rattle.pw_paired.specs.Headline.{ends_unit, is_end_of}
 use Rattle.pw_paired.specs.Serial.{Reading, blocks, left_block, left_blocks}
 use Rattle.pw_paired.specs.State.{OpenUnit, State}
 
@@ -12,6 +12,7 @@ use Rattle.pw_paired.specs.State.{OpenUnit, State}
 abbrev pub ends_in : ℕ → ℕ → List Block → ℕ
 ends_in t n blocks = length (filter (is_end_of t n) blocks)
 
+-- the ends in two lists of blocks
 pub ends_in-append : (t n : ℕ) (xs ys : List Block) → ends_in t n (xs ++ ys) ≡ ends_in t n xs + ends_in t n ys
 ends_in-append t n xs ys = ap (λ (l : List Block). length l) (filter-append (is_end_of t n) xs ys) ∙ length-append (filter (is_end_of t n) xs) (filter (is_end_of t n) ys)
 
@@ -63,6 +64,7 @@ pub behind : (t n before after : ℕ) (xs ys : List Block) → ends_in t n xs �
 behind t n before after xs ys none (not_at_all is) = not_at_all (let sum = ends_in-append t n xs ys in omega (arith, sum, none, is))
 behind t n before after xs ys none (once is low same) = once (let sum = ends_in-append t n xs ys in omega (arith, sum, none, is)) low same
 
+-- blocks that end nothing stand ahead
 pub ahead : (t n before after : ℕ) (xs ys : List Block) → ends_in t n ys ≡ 0 → EndsBy t n before after xs → EndsBy t n before after (xs ++ ys)
 ahead t n before after xs ys none (not_at_all is) = not_at_all (let sum = ends_in-append t n xs ys in omega (arith, sum, none, is))
 ahead t n before after xs ys none (once is low same) = once (let sum = ends_in-append t n xs ys in omega (arith, sum, none, is)) low same

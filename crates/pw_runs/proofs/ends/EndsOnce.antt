@@ -2,38 +2,35 @@
 use Rattle.std.proofs.Common.{◌≡◌, ◌≢◌, ℕ, ◌+◌, ◌<◌, ◌≤◌, ◌⊎◌, inl, inr, ⊎_elim, Bool, true, false, not, ◌&&◌, ◌==◌, is_none, List, [], ◌∷◌, ◌++◌, length, cond, Option, Some, None, if◌then◌else◌, refl, ap, sym, subst, ◌∙◌, arith}
 use Rattle.std.proofs.lemmas.Bool.{cases_eq, true≢false, eq-eqb, eqb-true, ne_eqb, cond-true, cond-false, and_left, and_right}
 use Rattle.std.specs.Prelude.{nat_lt}
-use Rattle.pw_code.specs.declared.verb.Verb.{Verb}
-use Rattle.pw_code.specs.declared.verb.Verb.TheVariants as verb
 use Rattle.pw_event.specs.declared.event.Ending.{Ending}
-use Rattle.pw_event.specs.declared.event.Ending.TheVariants as ending
 use Rattle.pw_event.specs.declared.event.Event.{Event}
 use Rattle.pw_event.specs.declared.event.Event.TheVariants.{Show, Key, CheckStart, CheckEnd, CheckCopy, Applied, Begin, Send, Take, File, Reply, Again, Commit, Back, Restart, FailTcp, FailServer, Takeover, Raise, End}
+use Rattle.pw_onecopy.proofs.Update.{upd-same, upd-other}
+use Rattle.pw_onecopy.specs.Behaviour.{Behaviour}
+use Rattle.pw_onecopy.specs.Blocks.{Block, Out, Attempted, Done, How, Committed, Aborted, Restarted, Left}
+use Rattle.pw_onecopy.specs.IsBehaviour.{IsBehaviour}
+use Rattle.pw_onecopy.specs.Path.{PathAnswer, is_outside, unit_number}
+use Rattle.pw_onecopy.specs.Update.{upd}
+use Rattle.pw_paired.specs.End.{LegalEnd, LegalStopped}
+use Rattle.pw_paired.specs.Failure.{lose_backup, lose_primary, lose_pair, is_of_pair}
+use Rattle.pw_paired.specs.Headline.{EndsOnce}
+use Rattle.pw_paired.specs.Serial.{Reading, blocks, blocks_of, entry_blocks_from, is_gone, is_idle, last_blocks_from, left_block, left_blocks, out_block, read_on, reading_starts, reply_commits}
+use Rattle.pw_paired.specs.Server.{LegalReply, do_reply, free_process, reply_at}
+use Rattle.pw_paired.specs.State.{LastEnded, Alone, Down, OpenUnit, State, starting}
+use Rattle.pw_paired.specs.Step.{Fits, effect, IsRunFrom, IsRun, after, after_from}
+use Rattle.pw_paired.specs.Terminal.{LegalCommit, LegalBack, path_of}
+use Rattle.pw_paired.specs.Units.{attempt_of, commit_unit, last_after_leaving, only}
+use Rattle.pw_runs.proofs.Runs.{after_from-append, IsRunFrom-split}
 use Rattle.pw_runs.proofs.ends.Ends.{EndsBy, not_at_all, once, ahead, ends_in, ends_in-append, last_of, left-one, lefts-one, single}
+use Rattle.pw_runs.proofs.induction.Failed.{end-cases, fail-cases, process-cases}
+use Rattle.pw_runs.proofs.induction.Served.{file-cases}
 use Rattle.pw_runs.proofs.kept.Failing.{out-job}
+use Rattle.pw_runs.proofs.kept.Kept.{Inv}
+use Rattle.pw_runs.proofs.kept.Runs.{keeps, kept-at-start, kept-from}
 use Rattle.pw_runs.proofs.terms.KeepsChecks.{can_path, path_ok-is, running, within}
 use Rattle.pw_runs.proofs.terms.KeepsEnds.{OutOk, out-path}
 use Rattle.pw_runs.proofs.terms.KeepsPairs.{not-of-pair, of-pair}
-use Rattle.pw_runs.proofs.kept.Kept.{Inv}
-use Rattle.pw_runs.proofs.kept.Runs.{keeps, kept-at-start, kept-from}
-use Rattle.pw_runs.proofs.Runs.{after_from-append, IsRunFrom-split}
 use Rattle.pw_runs.proofs.terms.TermOk.{PathOk}
-use Rattle.pw_onecopy.proofs.Update.{upd-same, upd-other}
-use Rattle.pw_onecopy.specs.IsBehaviour.{IsBehaviour}
-use Rattle.pw_paired.specs.End.{LegalEnd, LegalStopped}
-use Rattle.pw_paired.specs.Failure.{lose_backup, lose_primary, backup_fails, lose_pair, is_of_pair, primary_fails, process_fails}
-use Rattle.pw_paired.specs.Headline.{EndsOnce}
-use Rattle.pw_onecopy.specs.Path.{PathAnswer, is_outside, unit_number}
-use Rattle.pw_onecopy.specs.Blocks.{Block, Out, Attempted, Done, How, Committed, Aborted, Restarted, Left}
-use Rattle.pw_paired.specs.Serial.{Reading, blocks, blocks_of, entry_blocks_from, is_gone, is_idle, last_blocks_from, left_block, left_blocks, out_block, read_on, reading_starts, reply_commits}
-use Rattle.pw_paired.specs.Server.{LegalReply, do_job, do_reply, do_verb, free_process, reply_at, server_verb}
-use Rattle.pw_onecopy.specs.Update.{upd}
-use Rattle.pw_paired.specs.State.{Job, LastEnded, Mode, Alone, Raising, Paired, Down, Gone, OpenUnit, State, starting}
-use Rattle.pw_paired.specs.Step.{Fits, effect, IsRunFrom, IsRun, after, after_from}
-use Rattle.pw_onecopy.specs.Behaviour.{Behaviour}
-use Rattle.pw_paired.specs.Terminal.{LegalCommit, LegalBack, path_of}
-use Rattle.pw_paired.specs.Units.{attempt_of, commit_unit, last_after_leaving, only}
-use Rattle.pw_runs.proofs.induction.Failed.{end-cases, fail-cases, process-cases}
-use Rattle.pw_runs.proofs.induction.Served.{file-cases}
 
 -- From a state to the next the last ended unit does not fall, and the blocks end the unit not at all, or once and rightly.
 record Goes (t n before after : ℕ) (blocks : List Block) : Type 0 where
@@ -197,6 +194,7 @@ module _ (sys : Behaviour) (b : IsBehaviour sys) (s : State) (i : Inv sys s) (t 
   idle-none own e (Some u) idle =
       subst (λ (r : Option (List PathAnswer)). ends_in t n ((if is_none r then [] else Attempted own u.number Left (reading.answers own) ∷ []) ++ Done own e ∷ []) ≡ 0) (sym idle) refl
 
+  -- a terminal at its Stop has no running attempt
   pub stopped-idle : (own : ℕ) → LegalStopped sys s own → attempt_of (s.units own) ≡ None
   stopped-idle own l = by_attempt (attempt_of (s.units own)) refl
     where
@@ -293,6 +291,7 @@ at-most-once sys b s i reading (entry ∷ log) t n run =
     one-more (ends_in t n first) (ends_in t n (others ++ last)) _ (last_of s t) (last_of next t) n
     (omega (arith, whole, front, back)) here.rises (by-cases here.ends) rest.0 rest.1
 
+-- in every run each unit number ends at most once
 pub ends-once : (sys : Behaviour) → IsBehaviour sys → (log : List Event) → IsRun sys log → EndsOnce sys log
 ends-once sys b log run t n = (at-most-once sys b (starting sys) (kept-at-start sys) reading_starts log t n run).1
 
@@ -304,6 +303,7 @@ rises-from sys b s i (entry ∷ log) run t =
     let rest = rises-from sys b (effect sys s entry) (keeps sys b s i entry run.0) log run.1 t in
     omega (arith, here, rest)
 
+-- in every run the last ended unit of a terminal never falls
 pub never-falls : (sys : Behaviour) → IsBehaviour sys → (log more : List Event) → IsRun sys (log ++ more) → (t : ℕ)
     → last_of (after sys log) t ≤ last_of (after sys (log ++ more)) t
 never-falls sys b log more run t =

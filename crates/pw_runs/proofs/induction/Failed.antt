@@ -3,13 +3,13 @@
 use Rattle.std.proofs.Common.{◌≡◌, inl, inr, ℕ, Bool, true, false, Option, Some, None, refl, sym, subst}
 use Rattle.pw_event.specs.declared.event.Ending.{Ending}
 use Rattle.pw_event.specs.declared.event.Ending.TheVariants as ending
-use Rattle.pw_runs.proofs.terms.TermOk.{HasMessages}
+use Rattle.pw_onecopy.specs.Behaviour.{Behaviour}
 use Rattle.pw_paired.specs.End.{LegalEnd, LegalLost, LegalStopped, do_end, end_terminal}
 use Rattle.pw_paired.specs.Failure.{lose_backup, backup_fails, do_fail_server, do_fail_tcp, lose_primary, lose_pair, primary_fails, process_fails}
 use Rattle.pw_paired.specs.Raising.{settle_mode}
 use Rattle.pw_paired.specs.State.{Alone, Down, Gone, Job, Mode, Paired, Raising, State}
-use Rattle.pw_onecopy.specs.Behaviour.{Behaviour}
 use Rattle.pw_paired.specs.Units.{leave_units, only}
+use Rattle.pw_runs.proofs.terms.TermOk.{HasMessages}
 use Rattle.pw_runs.specs.Losses.{Breaks}
 
 module _ (sys : Behaviour) (s : State) (P : State → Type 0) where

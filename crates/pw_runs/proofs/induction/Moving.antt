@@ -7,32 +7,32 @@ use Rattle.pw_event.specs.declared.event.Ending.{Ending}
 use Rattle.pw_event.specs.declared.event.Ending.TheVariants as ending
 use Rattle.pw_event.specs.declared.event.Event.{Event}
 use Rattle.pw_event.specs.declared.event.Event.TheVariants as event
-use Rattle.pw_runs.proofs.ends.EndsOnce.{stopped-idle}
-use Rattle.pw_runs.proofs.kept.Failing.{out-job}
-use Rattle.pw_runs.proofs.terms.KeepsEnds.{OutOk}
-use Rattle.pw_runs.proofs.terms.KeepsPairs.{any_below-false, mode-of-other, mode-of-pair, not-of-pair, of-pair}
-use Rattle.pw_runs.proofs.kept.Kept.{Inv}
-use Rattle.pw_runs.proofs.kept.Runs.{keeps as still}
-use Rattle.pw_runs.proofs.terms.TermOk.{HasMessages, TermOk}
 use Rattle.pw_onecopy.proofs.Update.{upd-other, upd-same}
+use Rattle.pw_onecopy.specs.Behaviour.{Behaviour}
 use Rattle.pw_onecopy.specs.IsBehaviour.{IsBehaviour}
+use Rattle.pw_onecopy.specs.Path.{PathAnswer}
+use Rattle.pw_onecopy.specs.Update.{upd}
 use Rattle.pw_paired.specs.End.{LegalEnd, end_terminal}
 use Rattle.pw_paired.specs.Failure.{with_start_path, is_live_of, is_of_pair, with_restart, resume_terminal}
-use Rattle.pw_onecopy.specs.Path.{PathAnswer}
 use Rattle.pw_paired.specs.Raising.{is_takeover, lacks_one, settled_mode, with_message, settle_mode}
 use Rattle.pw_paired.specs.Serial.{reading_starts}
 use Rattle.pw_paired.specs.Server.{LegalReply}
-use Rattle.pw_onecopy.specs.Update.{upd}
 use Rattle.pw_paired.specs.State.{Alone, Down, Gone, Job, LastEnded, BackupCopy, Message, Mode, OpenUnit, Raising, State, Term, starting}
 use Rattle.pw_paired.specs.Step.{Fits, IsRun, after, change, effect}
-use Rattle.pw_onecopy.specs.Behaviour.{Behaviour}
 use Rattle.pw_paired.specs.Terminal.{CanStep, unit_with_attempt, begun_path, next_verb, path_of}
 use Rattle.pw_paired.specs.Units.{attempt_of, last_after_leaving, leave_units, only}
+use Rattle.pw_runs.proofs.ends.EndsOnce.{stopped-idle}
 use Rattle.pw_runs.proofs.induction.Failed.{end-cases, fail-cases, process-cases}
 use Rattle.pw_runs.proofs.induction.Runs.{behind-runs, carried, kept}
 use Rattle.pw_runs.proofs.induction.Served.{file-is, reply-cases}
 use Rattle.pw_runs.proofs.induction.Views as move
 use Rattle.pw_runs.proofs.induction.Views.{Able, IsThere, Moves, View, Waits, path_in, verb_in, view_of}
+use Rattle.pw_runs.proofs.kept.Failing.{out-job}
+use Rattle.pw_runs.proofs.kept.Kept.{Inv}
+use Rattle.pw_runs.proofs.kept.Runs.{keeps as still}
+use Rattle.pw_runs.proofs.terms.KeepsEnds.{OutOk}
+use Rattle.pw_runs.proofs.terms.KeepsPairs.{any_below-false, mode-of-other, mode-of-pair, not-of-pair, of-pair}
+use Rattle.pw_runs.proofs.terms.TermOk.{HasMessages, TermOk}
 
 -- views of equal parts
 pub View-is : {v w : View} → w.last ≡ v.last → w.unit ≡ v.unit → w.memory ≡ v.memory → w.flight ≡ v.flight → w.term ≡ v.term → w.mode ≡ v.mode → w ≡ v

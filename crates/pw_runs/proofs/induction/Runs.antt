@@ -1,13 +1,13 @@
 -- The one induction over runs: what the start has and each entry keeps holds behind every run.
 use Rattle.std.proofs.Common.{◌≡◌, List, [], ◌∷◌, ◌++◌, refl, sym, subst₂}
 use Rattle.pw_event.specs.declared.event.Event.{Event}
-use Rattle.pw_runs.proofs.kept.Kept.{Inv}
-use Rattle.pw_runs.proofs.Runs.{IsRunFrom-append, after_from-append}
-use Rattle.pw_runs.proofs.kept.Runs.{kept-at-start, kept-from}
+use Rattle.pw_onecopy.specs.Behaviour.{Behaviour}
 use Rattle.pw_onecopy.specs.IsBehaviour.{IsBehaviour}
 use Rattle.pw_paired.specs.State.{State, starting}
 use Rattle.pw_paired.specs.Step.{IsRun, IsRunFrom, Legal, after, after_from, effect}
-use Rattle.pw_onecopy.specs.Behaviour.{Behaviour}
+use Rattle.pw_runs.proofs.Runs.{IsRunFrom-append, after_from-append}
+use Rattle.pw_runs.proofs.kept.Kept.{Inv}
+use Rattle.pw_runs.proofs.kept.Runs.{kept-at-start, kept-from}
 
 -- what every state of a run of a deck keeps
 pub kept : (sys : Behaviour) → IsBehaviour sys → (log : List Event) → IsRun sys log → Inv sys (after sys log)
@@ -27,6 +27,7 @@ module _ (sys : Behaviour) {A : Type 0} (next : State → Event → A → A) whe
   carried_from s a [] = a
   carried_from s a (entry ∷ log) = carried_from (effect sys s entry) (next s entry a) log
 
+  -- the same behind two parts of a log
   pub carried_from-append : (s : State) (a : A) (log more : List Event)
       → carried_from s a (log ++ more) ≡ carried_from (after_from sys s log) (carried_from s a log) more
   carried_from-append s a [] more = refl
@@ -36,6 +37,7 @@ module _ (sys : Behaviour) {A : Type 0} (next : State → Event → A → A) whe
   abbrev pub carried : A → List Event → A
   carried start = carried_from (starting sys) start
 
+  -- the same behind one entry more
   pub carried-more : (start : A) (log : List Event) (entry : Event)
       → carried start (log ++ entry ∷ []) ≡ next (after sys log) entry (carried start log)
   carried-more start log entry = carried_from-append (starting sys) start log (entry ∷ [])

@@ -5,11 +5,11 @@ use Rattle.pw_code.specs.declared.file.FileOp.{FileOp}
 use Rattle.pw_code.specs.declared.lock.LockMode.{LockMode}
 use Rattle.pw_code.specs.declared.verb.Verb.{Verb}
 use Rattle.pw_code.specs.declared.verb.Verb.TheVariants as verb
-use Rattle.pw_onecopy.specs.Path.{Failed, Replied, is_outside, unit_number}
-use Rattle.pw_paired.specs.Server.{LegalFile, LegalReply, LegalTake, Replies, do_file, do_job, do_operation, do_reply, do_take, do_verb, free_process, reply_at, reply_of, server_verb, with_first_taken}
-use Rattle.pw_onecopy.specs.Update.{upd}
-use Rattle.pw_paired.specs.State.{Job, State}
 use Rattle.pw_onecopy.specs.Behaviour.{Behaviour}
+use Rattle.pw_onecopy.specs.Path.{Failed, Replied, is_outside, unit_number}
+use Rattle.pw_onecopy.specs.Update.{upd}
+use Rattle.pw_paired.specs.Server.{LegalFile, LegalReply, LegalTake, Replies, do_file, do_job, do_operation, do_reply, do_take, do_verb, free_process, reply_at, reply_of, server_verb, with_first_taken}
+use Rattle.pw_paired.specs.State.{Job, State}
 use Rattle.pw_paired.specs.Terminal.{path_of}
 use Rattle.pw_paired.specs.Units.{give_answer, commit_unit}
 
@@ -68,6 +68,7 @@ module _ (sys : Behaviour) (s : State) (c p : ℕ) where
     job-cases None works = same
     job-cases (Some job) works = verb-cases job works (server_verb sys c job) refl
 
+    -- a FILE leaves the state as it was, or with the operation done
     pub file-cases : P (do_file sys c p s)
     file-cases = job-cases ((s.classes c).busy p) refl
 

@@ -5,16 +5,15 @@ use Rattle.pw_code.specs.declared.verb.Verb.TheVariants as verb
 use Rattle.pw_event.specs.declared.event.Cause.{Cause}
 use Rattle.pw_event.specs.declared.event.Cause.TheVariants as cause
 use Rattle.pw_event.specs.declared.event.Ending.{Ending}
-use Rattle.pw_runs.proofs.terms.TermOk.{HasMessages, IsWorking}
+use Rattle.pw_onecopy.specs.Attempt.{BeginsUnit}
+use Rattle.pw_onecopy.specs.Behaviour.{Behaviour}
+use Rattle.pw_onecopy.specs.Path.{PathAnswer, Entry, Failed, Replied, Shown, entries_on, is_outside, unit_number, Dropped, Ended}
 use Rattle.pw_paired.specs.Failure.{with_restart, resume_terminal}
-use Rattle.pw_onecopy.specs.Path.{PathAnswer, Entry, Failed, Replied, Shown, entries_on, is_outside, unit_number}
-use Rattle.pw_onecopy.specs.Path as answer
 use Rattle.pw_paired.specs.Raising.{is_takeover, settled_mode, with_message}
 use Rattle.pw_paired.specs.State.{Alone, Copy, Down, End, Gone, LastEnded, BackupCopy, Message, Mode, OpenUnit, Paired, Raising, Start, State, Term}
-use Rattle.pw_onecopy.specs.Behaviour.{Behaviour}
-use Rattle.pw_onecopy.specs.Attempt.{BeginsUnit}
 use Rattle.pw_paired.specs.Terminal.{HoldsEnd, HoldsStart, unit_with_attempt, begun_path, closing_answer, kept_reply}
 use Rattle.pw_paired.specs.Units.{attempt_of, last_after_leaving, restarts_of}
+use Rattle.pw_runs.proofs.terms.TermOk.{HasMessages, IsWorking}
 
 -- what the state has of one terminal
 pub record View : Type 0 where
@@ -129,11 +128,11 @@ pub data Moves (sys : Behaviour) (t : ℕ) (v w : View) : Type 0 where
   is_answered_again : Able sys t v → (class : ℕ) (message : List ℕ) → verb_in sys t v ≡ verb.Send class message → is_outside (path_in v) ≡ true
       → unit_number (path_in v) ≡ v.last.number → w ≡ gets (Replied (kept_reply v.last)) v → Moves sys t v w
   -- COMMIT
-  commits : Able sys t v → verb_in sys t v ≡ verb.End → HoldsEnd v.memory (path_in v ++ answer.Ended ∷ [])
-      → w ≡ gets answer.Ended (unit_over_in None v) → Moves sys t v w
+  commits : Able sys t v → verb_in sys t v ≡ verb.End → HoldsEnd v.memory (path_in v ++ Ended ∷ [])
+      → w ≡ gets Ended (unit_over_in None v) → Moves sys t v w
   -- BACK
-  drops : Able sys t v → verb_in sys t v ≡ verb.Drop → HoldsEnd v.memory (path_in v ++ answer.Dropped ∷ [])
-      → w ≡ gets answer.Dropped (unit_over_in None v) → Moves sys t v w
+  drops : Able sys t v → verb_in sys t v ≡ verb.Drop → HoldsEnd v.memory (path_in v ++ Dropped ∷ [])
+      → w ≡ gets Dropped (unit_over_in None v) → Moves sys t v w
   -- RESTART
   restarts : (unit : OpenUnit) → v.unit ≡ Some unit → (start : List PathAnswer) → unit.running ≡ Some start → (kind : Cause)
       → unit.restarts < sys.max_restarts t

@@ -1,31 +1,27 @@
 -- Each kind of entry keeps what each state of a run keeps: FILE, REPLY, restarts, failures and ends.
-use Rattle.std.proofs.Common.{◌≡◌, ◌≢◌, ℕ, ◌<◌, ⊎_elim, Bool, true, false, is_none, List, [], Option, Some, None, if◌then◌else◌, refl, ap, sym, subst, ◌∙◌}
+use Rattle.std.proofs.Common.{◌≡◌, ◌≢◌, ℕ, ◌<◌, ⊎_elim, Bool, true, false, is_none, Option, Some, None, refl, ap, sym, subst, ◌∙◌}
 use Rattle.std.proofs.lemmas.Bool.{cases_eq, eqb-false, ne_eqb, cond-false, and_left}
-use Rattle.pw_code.specs.declared.verb.Verb.{Verb}
-use Rattle.pw_code.specs.declared.verb.Verb.TheVariants as verb
 use Rattle.pw_event.specs.declared.event.Cause.{Cause}
 use Rattle.pw_event.specs.declared.event.Ending.{Ending}
 use Rattle.pw_event.specs.declared.event.Ending.TheVariants as ending
-use Rattle.pw_runs.proofs.terms.KeepsEnds.{OutOk, keeps_restart, keeps_end, keeps_process_fails, keeps_reply}
-use Rattle.pw_runs.proofs.terms.KeepsPairs.{keeps_applied, keeps_raise, keeps_fail_tcp, keeps_takeover, mode-of-other}
-use Rattle.pw_runs.proofs.kept.Kept.{Inv, IsIn, OutOk-same, out-others, out-placed, out-cancelled, no-request}
-use Rattle.pw_runs.proofs.requests.Requests.{Nowhere, RequestsOk, sent_of, place_of_job, requests_filed, requests_freed, requests_cancelled, without_places}
-use Rattle.pw_runs.proofs.kept.Steps.{known-gone, known-left}
-use Rattle.pw_runs.proofs.terms.TermOk.{IsWorking, TermsOk}
 use Rattle.pw_onecopy.proofs.Update.{upd_elim, upd-other}
+use Rattle.pw_onecopy.specs.Behaviour.{Behaviour}
 use Rattle.pw_onecopy.specs.IsBehaviour.{IsBehaviour}
-use Rattle.pw_paired.specs.End.{LegalEnd, do_end, end_terminal}
-use Rattle.pw_paired.specs.Failure.{LegalRestart, LegalTakeover, lose_backup, backup_fails, do_fail_server, do_fail_tcp, do_restart, do_takeover, lose_primary, lose_pair, is_live_of, is_of_pair, primary_fails, process_fails}
-use Rattle.pw_onecopy.specs.Path.{Replied, is_outside, unit_number}
-use Rattle.pw_paired.specs.Raising.{LegalApplied, LegalRaise, do_applied, do_raise, lacks_one, settled_mode, with_message, settle_mode}
-use Rattle.pw_paired.specs.Server.{LegalReply, answer_on, with_job_at, do_file, do_job, do_reply, do_verb, free_process, reply_at, server_verb}
 use Rattle.pw_onecopy.specs.Update.{upd}
+use Rattle.pw_paired.specs.End.{LegalEnd, do_end, end_terminal}
+use Rattle.pw_paired.specs.Failure.{LegalRestart, LegalTakeover, lose_backup, do_fail_server, do_fail_tcp, do_restart, do_takeover, lose_primary, lose_pair, is_live_of, is_of_pair}
+use Rattle.pw_paired.specs.Raising.{LegalApplied, LegalRaise, do_applied, do_raise, lacks_one, settled_mode, with_message, settle_mode}
+use Rattle.pw_paired.specs.Server.{LegalReply, answer_on, with_job_at, do_file, do_reply}
+use Rattle.pw_paired.specs.State.{Term, Class, Job, Mode, Alone, Raising, Paired, Down, Gone, OpenUnit, State}
+use Rattle.pw_paired.specs.Units.{leave_units, only}
 use Rattle.pw_runs.proofs.induction.Failed.{fail-cases, process-cases}
 use Rattle.pw_runs.proofs.induction.Served.{file-cases, reply-any}
-use Rattle.pw_paired.specs.State.{Term, Class, Job, Mode, Alone, Raising, Paired, Down, Gone, OpenUnit, State}
-use Rattle.pw_onecopy.specs.Behaviour.{Behaviour}
-use Rattle.pw_paired.specs.Terminal.{path_of}
-use Rattle.pw_paired.specs.Units.{give_answer, commit_unit, leave_units, only}
+use Rattle.pw_runs.proofs.kept.Kept.{Inv, IsIn, OutOk-same, out-others, out-placed, out-cancelled, no-request}
+use Rattle.pw_runs.proofs.kept.Steps.{known-gone, known-left}
+use Rattle.pw_runs.proofs.requests.Requests.{Nowhere, RequestsOk, sent_of, place_of_job, requests_filed, requests_freed, requests_cancelled, without_places}
+use Rattle.pw_runs.proofs.terms.KeepsEnds.{OutOk, keeps_restart, keeps_end, keeps_process_fails, keeps_reply}
+use Rattle.pw_runs.proofs.terms.KeepsPairs.{keeps_applied, keeps_raise, keeps_fail_tcp, keeps_takeover, mode-of-other}
+use Rattle.pw_runs.proofs.terms.TermOk.{IsWorking, TermsOk}
 
 -- a pair that becomes up to date still works
 raised-works : (mode : Mode) (lacks : Bool) → IsWorking mode → IsWorking (settled_mode mode lacks)
@@ -42,6 +38,7 @@ settled-works sys s p j works =
     (λ same. raised-works (s.modes p) (lacks_one sys p s) (subst (λ (q : ℕ). IsWorking (s.modes q)) same works)) (λ _. works)
 
 module _ (sys : Behaviour) (b : IsBehaviour sys) (s : State) (i : Inv sys s) where
+  -- APPLIED keeps it all
   pub inv_applied : (t : ℕ) → LegalApplied sys s t → Inv sys (do_applied sys t s)
   inv_applied t l = record {
     terms = keeps_applied sys s i.terms t l;
@@ -52,6 +49,7 @@ module _ (sys : Behaviour) (b : IsBehaviour sys) (s : State) (i : Inv sys s) whe
         (settled-works sys (record s { memory = upd s.memory t (with_message (s.flight t) (s.memory t)); flight = upd s.flight t None }) (sys.pair_of t) j) (i.out j request is);
   }
 
+  -- RAISE keeps it all
   pub inv_raise : (p : ℕ) → LegalRaise sys s p → Inv sys (do_raise sys p s)
   inv_raise p l = record {
     terms = keeps_raise sys s i.terms p l;
@@ -105,6 +103,7 @@ module _ (sys : Behaviour) (b : IsBehaviour sys) (s : State) (i : Inv sys s) whe
       reply-any sys s c p t (λ x. x.classes ≡ upd s.classes c (with_job_at p None (s.classes c))) fault
       (λ reply outside. refl) (λ reply inside. refl) (λ x. refl)
 
+  -- REPLY keeps it all
   pub inv_reply : (c p t : ℕ) (fault : Option ℕ) → LegalReply sys s c p t fault → Inv sys (do_reply sys c p t fault s)
   inv_reply c p t fault l =
       let out = subst (λ (k : ℕ). OutOk sys s k (record { class = c; request = l.job.request })) l.whose (out-job c p l.job l.at_work) in
@@ -117,6 +116,7 @@ module _ (sys : Behaviour) (b : IsBehaviour sys) (s : State) (i : Inv sys s) whe
             (reply-terms c p t fault) (reply-units c p t fault) (λ j works. subst (λ (m : ℕ → Mode). IsWorking (m (sys.pair_of j))) (sym (reply-modes c p t fault)) works) i.out;
       }
 
+  -- RESTART keeps it all
   pub inv_restart : (t n : ℕ) (cause : Cause) → LegalRestart sys s t n cause → Inv sys (do_restart sys t cause s)
   inv_restart t n cause l = record {
     terms = keeps_restart sys b s i.terms t n cause l;
@@ -128,6 +128,7 @@ module _ (sys : Behaviour) (b : IsBehaviour sys) (s : State) (i : Inv sys s) whe
         (λ j spared. upd-other s.terms t _ j (eqb-false j t spared)) (λ j spared. upd-other s.units t _ j (eqb-false j t spared)) (λ j spared works. works) i.out;
   }
 
+  -- FAIL SERVER keeps it all
   pub inv_fail_server : (c p k : ℕ) → Inv sys (do_fail_server c p k s)
   inv_fail_server c p k =
       process-cases sys s (Inv sys) c p k i
@@ -176,11 +177,13 @@ module _ (sys : Behaviour) (b : IsBehaviour sys) (s : State) (i : Inv sys s) whe
     out = λ j request is. OutOk-same refl refl (λ works. upd_elim s.modes p Alone (sys.pair_of j) IsWorking (λ _. tt) (λ _. works)) (i.out j request is);
   }
 
+  -- FAIL TCP keeps it all
   pub inv_fail_tcp : (p : ℕ) (primary : Bool) → Inv sys (do_fail_tcp sys p primary s)
   inv_fail_tcp p primary =
       fail-cases sys s (λ x. TermsOk sys x → Inv sys x) p (λ terms. i) (λ paired. inv_down p) (λ member breaks. inv_gone p) (λ has. inv_alone p)
       primary (keeps_fail_tcp sys s i.terms p primary)
 
+  -- TAKEOVER keeps it all
   pub inv_takeover : (p : ℕ) → LegalTakeover s p → Inv sys (do_takeover sys p s)
   inv_takeover p l = record {
     terms = keeps_takeover sys s i.terms p l;
@@ -220,6 +223,7 @@ module _ (sys : Behaviour) (b : IsBehaviour sys) (s : State) (i : Inv sys s) whe
         (λ j spared. settled-works sys (end_terminal t e (leave_units sys (only t) s)) (sys.pair_of t) j) i.out;
   }
 
+  -- END keeps it all
   pub inv_end : (t : ℕ) (e : Ending) → LegalEnd sys s t e → Inv sys (do_end sys t e s)
   inv_end t ending.Stopped l = quiet-end t ending.Stopped (no-request t i (λ c message is. absurd (cc (l.asks, is)))) (keeps_end sys b s i.terms t ending.Stopped)
   inv_end t ending.NoEntries l = left-end t ending.NoEntries (keeps_end sys b s i.terms t ending.NoEntries)

@@ -2,15 +2,15 @@
 use Rattle.std.proofs.Common.{◌≡◌, ◌≢◌, ℕ, ◌<◌, ⊎_elim, Bool, false, List, Some, if◌then◌else◌, ap, sym, subst, ◌∙◌}
 use Rattle.std.proofs.lemmas.Bool.{cases_eq, cond_both}
 use Rattle.pw_code.specs.declared.verb.Verb.TheVariants as verb
-use Rattle.pw_runs.proofs.terms.KeepsEnds.{OutOk}
-use Rattle.pw_runs.proofs.requests.Requests.{Place, Nowhere, RequestsOk, Sent, sent_of}
-use Rattle.pw_runs.proofs.terms.TermOk.{IsWorking, TermsOk}
 use Rattle.pw_onecopy.proofs.Update.{upd_elim}
+use Rattle.pw_onecopy.specs.Behaviour.{Behaviour}
 use Rattle.pw_onecopy.specs.Update.{upd}
 use Rattle.pw_paired.specs.State.{OpenUnit, State, Term}
-use Rattle.pw_onecopy.specs.Behaviour.{Behaviour}
 use Rattle.pw_paired.specs.Terminal.{IsIdle, path_of}
 use Rattle.pw_paired.specs.Units.{attempt_of}
+use Rattle.pw_runs.proofs.requests.Requests.{Place, Nowhere, RequestsOk, Sent, sent_of}
+use Rattle.pw_runs.proofs.terms.KeepsEnds.{OutOk}
+use Rattle.pw_runs.proofs.terms.TermOk.{IsWorking, TermsOk}
 
 -- all that is kept
 pub record Inv (sys : Behaviour) (s : State) : Type 0 where

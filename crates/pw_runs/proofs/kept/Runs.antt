@@ -2,14 +2,14 @@
 use Rattle.std.proofs.Common.{List, [], ◌∷◌, ◌++◌, refl, arith}
 use Rattle.pw_event.specs.declared.event.Event.{Event}
 use Rattle.pw_event.specs.declared.event.Event.TheVariants.{Show, Key, CheckStart, CheckEnd, CheckCopy, Applied, Begin, Send, Take, File, Reply, Again, Commit, Back, Restart, FailTcp, FailServer, Takeover, Raise, End}
-use Rattle.pw_runs.proofs.kept.Failing.{inv_applied, inv_raise, inv_file, inv_reply, inv_restart, inv_fail_server, inv_fail_tcp, inv_takeover, inv_end}
-use Rattle.pw_runs.proofs.kept.Kept.{Inv, OutOk-same}
-use Rattle.pw_runs.proofs.requests.Requests.{Nowhere, requests_starting}
-use Rattle.pw_runs.proofs.kept.Steps.{inv_show, inv_key, inv_check_start, inv_check_end, inv_check_copy, inv_begin, inv_send, inv_take, inv_again, inv_commit, inv_back}
+use Rattle.pw_onecopy.specs.Behaviour.{Behaviour}
 use Rattle.pw_onecopy.specs.IsBehaviour.{IsBehaviour}
 use Rattle.pw_paired.specs.State.{State, starting}
 use Rattle.pw_paired.specs.Step.{Legal, Fits, change, effect, IsRunFrom, after_from}
-use Rattle.pw_onecopy.specs.Behaviour.{Behaviour}
+use Rattle.pw_runs.proofs.kept.Failing.{inv_applied, inv_raise, inv_file, inv_reply, inv_restart, inv_fail_server, inv_fail_tcp, inv_takeover, inv_end}
+use Rattle.pw_runs.proofs.kept.Kept.{Inv, OutOk-same}
+use Rattle.pw_runs.proofs.kept.Steps.{inv_show, inv_key, inv_check_start, inv_check_end, inv_check_copy, inv_begin, inv_send, inv_take, inv_again, inv_commit, inv_back}
+use Rattle.pw_runs.proofs.requests.Requests.{Nowhere, requests_starting}
 
 -- the log says nothing of what is kept
 logged : {sys : Behaviour} {s : State} (log : List Event) → Inv sys s → Inv sys (record s { log = log })
@@ -44,6 +44,7 @@ keeps-change sys b s i (Takeover p) l = inv_takeover sys b s i p l
 keeps-change sys b s i (Raise p) l = inv_raise sys b s i p l
 keeps-change sys b s i (End t ending) l = inv_end sys b s i t ending l
 
+-- each legal entry keeps it
 pub keeps : (sys : Behaviour) → IsBehaviour sys → (s : State) → Inv sys s → (entry : Event) → Legal sys s entry → Inv sys (effect sys s entry)
 keeps sys b s i entry l = logged (s.log ++ entry ∷ []) (keeps-change sys b s i entry l.fits)
 
@@ -71,6 +72,7 @@ kept-at-start sys = record {
   out = λ t request is. absurd (cc is);
 }
 
+-- each state of a run from such a state keeps it
 pub kept-from : (sys : Behaviour) → IsBehaviour sys → (s : State) → Inv sys s → (log : List Event) → IsRunFrom sys s log → Inv sys (after_from sys s log)
 kept-from sys b s i [] run = i
 kept-from sys b s i (entry ∷ log) run = kept-from sys b (effect sys s entry) (keeps sys b s i entry run.0) log run.1

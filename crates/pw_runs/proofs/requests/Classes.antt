@@ -6,13 +6,13 @@ use Rattle.std.proofs.lemmas.Bool.{cond_both, cond-true, cond-false, not_from_fa
 use Rattle.std.proofs.lemmas.List.{append_assoc}
 use Rattle.std.proofs.lemmas.List.Elements.{filter-append}
 use Rattle.pw_class.specs.declared.request.Request.{Request}
-use Rattle.pw_paired.specs.Server.{with_job_at, first_free, with_first_taken}
-use Rattle.pw_onecopy.specs.Update.{upd}
-use Rattle.pw_paired.specs.State.{Class, Job}
+use Rattle.pw_onecopy.proofs.Update.{upd_elim, upd-same}
 use Rattle.pw_onecopy.specs.Behaviour.{Behaviour}
+use Rattle.pw_onecopy.specs.Update.{upd}
+use Rattle.pw_paired.specs.Server.{with_job_at, first_free, with_first_taken}
+use Rattle.pw_paired.specs.State.{Class, Job}
 use Rattle.pw_paired.specs.Terminal.{with_request}
 use Rattle.pw_paired.specs.Units.{freed_of, without_requests}
-use Rattle.pw_onecopy.proofs.Update.{upd_elim, upd-same}
 
 -- none of the requests is of the terminal
 abbrev pub NoneOf : ℕ → List Request → Type 0
@@ -262,11 +262,13 @@ class_kept line work = record {
   at_work = λ i job has. record { line = line.none has.line; work = work.one i job has.work };
 }
 
+-- a class that stays
 pub class_same : (t : ℕ) (class : Class) → ClassKept t class class
 class_same t class = class_kept (line_same t class.waiting) (work_same t class.busy)
 
 -- a request is sent, of the terminal and of another one
 
+-- a request that is sent is in line
 pub has_sent : {t : ℕ} {class : Class} (request : Request) → request.terminal ≡ t → IsWithout t class
     → HasInLine t request (with_request request class)
 has_sent {class = class} request whose has = record {
@@ -274,12 +276,14 @@ has_sent {class = class} request whose has = record {
   work = has.work;
 }
 
+-- one of another terminal changes nothing for this one
 pub sent_kept : {t : ℕ} (class : Class) (request : Request) → request.terminal ≢ t
     → ClassKept t class (with_request request class)
 sent_kept {t = t} class request other = class_kept (line_longer t class.waiting request other) (work_same t class.busy)
 
 -- the first request is taken, of the terminal and of another one
 
+-- a request that is taken is at work
 pub has_taken : {t : ℕ} {class : Class} (i : ℕ) (request : Request) (others : List Request)
     → class.waiting ≡ request ∷ others → request.terminal ≡ t → HasInLine t request class
     → HasAtWork t i (new_job request) (with_first_taken i class.waiting class)
@@ -289,6 +293,7 @@ has_taken {t = t} {class = class} i request others first whose has =
       work = one_begins class.busy i (new_job request) whose has.work;
     })
 
+-- one of another terminal changes nothing for this one
 pub taken_kept : {t : ℕ} (class : Class) (i : ℕ) (request : Request) (others : List Request)
     → class.waiting ≡ request ∷ others → class.busy i ≡ None → request.terminal ≢ t
     → ClassKept t class (with_first_taken i class.waiting class)
@@ -300,14 +305,17 @@ taken_kept {t = t} class i request others first free other =
 
 -- what is at a process changes, for the terminal and for another one
 
+-- the terminal's process goes on with another job of it
 pub has_job : {t i : ℕ} {class : Class} {job : Job} (next : Job) → next.request.terminal ≡ t → HasAtWork t i job class
     → HasAtWork t i next (with_job_at i (Some next) class)
 has_job next whose has = record { line = has.line; work = one_goes_on next whose has.work }
 
+-- a process that is free again leaves the class without its request
 pub without_job : {t i : ℕ} {class : Class} {job : Job} → HasAtWork t i job class
     → IsWithout t (with_job_at i None class)
 without_job has = record { line = has.line; work = one_ends has.work }
 
+-- a process of another terminal changes nothing for this one
 pub process_kept : {t : ℕ} (class : Class) (i : ℕ) (job : Job) (next : Option Job) → class.busy i ≡ Some job
     → job.request.terminal ≢ t → NotFor t next → ClassKept t class (with_job_at i next class)
 process_kept {t = t} class i job next works other still =
@@ -315,6 +323,7 @@ process_kept {t = t} class i job next works other still =
 
 -- requests are cancelled, of the terminal too and of others alone
 
+-- a terminal whose requests are cancelled has none at the class
 pub without_cancelled : {t : ℕ} (whose : ℕ → Bool) (class : Class) → whose t ≡ true
     → IsWithout t (without_requests whose class)
 without_cancelled {t = t} whose class out = record {
@@ -322,6 +331,7 @@ without_cancelled {t = t} whose class out = record {
   work = λ i. freed_out t whose (class.busy i) out;
 }
 
+-- requests of others that are cancelled change nothing for this one
 pub cancelled_kept : {t : ℕ} (whose : ℕ → Bool) (class : Class) → whose t ≡ false
     → ClassKept t class (without_requests whose class)
 cancelled_kept {t = t} whose class spared =
@@ -341,6 +351,7 @@ pub record InBounds (sys : Behaviour) (classes : ℕ → Class) : Type 0 where
       → c < sys.classes
   pub work : (c i : ℕ) (job : Job) → (classes c).busy i ≡ Some job → IsProcess sys c i
 
+-- at the start no request is anywhere
 pub bounds_starting : (sys : Behaviour) → InBounds sys (λ c. record { waiting = []; busy = λ i. None })
 bounds_starting sys = record {
   line = λ c request others first. absurd (cc first);
@@ -363,6 +374,7 @@ process_at {sys = sys} {classes = classes} c i next bounds process j job =
     upd_elim (classes c).busy i next j (λ (work : Option Job). work ≡ Some job → IsProcess sys c j)
     (λ is _. subst (IsProcess sys c) (sym is) process) (λ _. bounds.work c j job)
 
+-- a request is sent to a class that is there
 pub bounds_sent : {sys : Behaviour} {classes : ℕ → Class} (c : ℕ) (request : Request) → InBounds sys classes → c < sys.classes
     → InBounds sys (upd classes c (with_request request (classes c)))
 bounds_sent {classes = classes} c request bounds there =
@@ -384,6 +396,7 @@ found_free busy from (suc n) i found = by_work (busy from) refl (found_free busy
         let rest : (busy i ≡ None) × (from + 1 ≤ i) × (i < from + 1 + n) = later (rw works at found) in
         (rest.0, omega (arith, rest.1), omega (arith, rest.2))
 
+-- the free process that is found is there
 pub bounds_taken : {sys : Behaviour} {classes : ℕ → Class} (c i : ℕ) (request : Request) (others : List Request)
     → InBounds sys classes → (classes c).waiting ≡ request ∷ others
     → first_free (classes c).busy 1 (sys.processes c) ≡ Some i
@@ -396,6 +409,7 @@ bounds_taken {sys = sys} {classes = classes} c i request others bounds first fre
     (bounds_at c (with_first_taken i (request ∷ others) (classes c)) bounds there
     (process_at c i (Some (new_job request)) bounds process))
 
+-- a process goes on where it was
 pub bounds_at_process : {sys : Behaviour} {classes : ℕ → Class} (c i : ℕ) (job : Job) (next : Option Job)
     → InBounds sys classes → (classes c).busy i ≡ Some job
     → InBounds sys (upd classes c (with_job_at i next (classes c)))
@@ -415,6 +429,7 @@ freed_from whose (Some one) job =
     (λ (work : Option Job). work ≡ Some job → Some one ≡ Some job)
     (λ _ none. absurd (cc none)) (λ _ same. same)
 
+-- fewer requests are where they were
 pub bounds_cancelled : {sys : Behaviour} {classes : ℕ → Class} (whose : ℕ → Bool) → InBounds sys classes
     → InBounds sys (λ c. without_requests whose (classes c))
 bounds_cancelled {classes = classes} whose bounds = record {

@@ -1,8 +1,8 @@
 -- What the paired state says of a class is what the book of requests says of its queue.
-use Rattle.std.proofs.Common.{◌≡◌, ◌≢◌, ℕ, zero, suc, ◌+◌, ◌-◌, ◌<◌, ◌≤◌, ⊎_elim, Bool, true, false, ◌||◌, is_none, List, [], ◌∷◌, ◌++◌, length, get_or, set, map, cond, Option, Some, None, refl, sym, ap, ap₂, subst, ◌∙◌, arith}
+use Rattle.std.proofs.Common.{◌≡◌, ◌≢◌, ℕ, zero, suc, ◌+◌, ◌-◌, ◌<◌, ◌≤◌, ⊎_elim, Bool, true, false, ◌||◌, is_none, List, [], ◌∷◌, ◌++◌, length, get_or, set, map, cond, Option, Some, None, refl, sym, ap, ap₂, ◌∙◌, arith}
 use Rattle.std.specs.Prelude.{◌==◌, nat_lt, position}
 use Rattle.std.specs.List.{list_any}
-use Rattle.std.proofs.lemmas.Bool.{cases_eq, cond-true}
+use Rattle.std.proofs.lemmas.Bool.{cases_eq}
 use Rattle.std.proofs.lemmas.Bool.Decides.{nat_tests}
 use Rattle.std.proofs.lemmas.List.Folds.{list_any-append}
 use Rattle.std.proofs.lemmas.List.Quantifiers.{position-Some}
@@ -78,25 +78,30 @@ any-requests test busy k (suc n) =
     ap₂ (λ a b. a || b) (any-requests test busy k n) (sym (or-false (test (request_in (busy (n + k))))))
     ∙ (sym (list_any-append test (requests_from busy k n) (request_in (busy (n + k)) ∷ [])) ∙ ap (list_any test) (sym (push-requests busy k n)))
 
+-- a class has a request of a terminal where its queue has one
 pub has-queue : (n t : ℕ) (class : Class) → has_request t n class ≡ queue.has_request t (queue_of n class)
 has-queue n t class = ap (λ b. list_any (queue.is_of t) class.waiting || b) (any-requests (queue.works_for t) class.busy 1 n)
 
+-- a process works on what the queue has there
 pub works-queue : (n i : ℕ) (class : Class) → 1 ≤ i → i ≤ n → queue.at_process (queue_of n class) i ≡ request_in (class.busy i)
 works-queue n i class low high =
     let number : (i == 0) ≡ false = grind (arith, nat_tests, low) in
     let element = get-requests class.busy 1 n (i - 1) i (omega (arith, low, high)) (omega (arith, low)) in
     rw number element
 
+-- a request is sent
 pub sent-queue : (n : ℕ) (class : Class) (request : Request)
     → queue_of n (with_request request class) ≡ queue.with_request (queue_of n class) request
 sent-queue n class request = refl
 
+-- a process goes on
 pub next-queue : (n i : ℕ) (class : Class) (job next : Job) → class.busy i ≡ Some job → next.request ≡ job.request
     → queue_of n (with_job_at i (Some next) class) ≡ queue_of n class
 next-queue n i class job next works same =
     ap (λ busy. record { waiting = class.waiting; busy = busy })
     (same-requests class.busy i (Some next) (ap Some same ∙ ap request_in (sym works)) 1 n)
 
+-- a process is free again
 pub replied-queue : (n i : ℕ) (class : Class) → 1 ≤ i → i ≤ n
     → queue_of n (with_job_at i None class) ≡ queue.with_free (queue_of n class) i
 replied-queue n i class low high =
@@ -117,6 +122,7 @@ freed-requests : (t : ℕ) (busy : ℕ → Option Job) (k n : ℕ)
 freed-requests t busy k zero = refl
 freed-requests t busy k (suc n) = ap₂ (λ x xs. x ∷ xs) (freed-request t (busy k)) (freed-requests t busy (k + 1) n)
 
+-- requests of a terminal are cancelled
 pub cancelled-queue : (n t : ℕ) (class : Class) → queue_of n (without_requests (only t) class) ≡ queue.without t (queue_of n class)
 cancelled-queue n t class =
     ap (λ busy. record { waiting = (queue.without t (queue_of n class)).waiting; busy = busy }) (freed-requests t class.busy 1 n)
@@ -174,6 +180,7 @@ take-is : (n i place : ℕ) (class : Class) (waiting : List Request) (request : 
     × (queue.after_take_of (queue_of n class) waiting free ≡ record { waiting = others; busy = set (requests_from class.busy 1 n) place (Some request) })
 take-is n i place class waiting request others first free is number = rw (first, is, number) (refl, refl)
 
+-- the first request is taken
 pub taken-queue : (n i : ℕ) (class : Class) (request : Request) (others : List Request) → class.waiting ≡ request ∷ others
     → first_free class.busy 1 n ≡ Some i
     → (queue.taken (queue_of n class) ≡ Got i request) × (queue_of n (with_first_taken i class.waiting class) ≡ queue.after_take (queue_of n class))
@@ -183,8 +190,8 @@ taken-queue n i class request others first free =
     (place-is class.busy n i free) (omega (arith, found.1)) in (
       parts.0,
       ap (λ waiting. queue_of n (with_first_taken i waiting class)) first
-      ∙ (ap (λ busy. record { waiting = others; busy = busy })
-      (set-requests class.busy (Some (new_job request)) 1 n (i - 1) i (omega (arith, found.1, found.2)) (omega (arith, found.1))) ∙ sym parts.1),
+          ∙ (ap (λ busy. record { waiting = others; busy = busy })
+          (set-requests class.busy (Some (new_job request)) 1 n (i - 1) i (omega (arith, found.1, found.2)) (omega (arith, found.1))) ∙ sym parts.1),
     )
 
 got-of : (waiting : List Request) (free : Option ℕ) (i : ℕ) (request : Request) → queue.taken_of waiting free ≡ Got i request
@@ -200,6 +207,7 @@ none-of : (work : Option Job) → is_none work ≡ true → work ≡ None
 none-of None is = refl
 none-of (Some job) is = absurd (cc is)
 
+-- what the queue gives is the first request, for the first free process
 pub got-queue : (n i : ℕ) (class : Class) (request : Request) → queue.taken (queue_of n class) ≡ Got i request
     → (first_free class.busy 1 n ≡ Some i) × ((others : List Request) × (class.waiting ≡ request ∷ others))
 got-queue n i class request is =
@@ -212,10 +220,10 @@ got-queue n i class request is =
     let low : place < n = omega (arith, found.0, all) in
     let at : get_or requests place None ≡ request_in (class.busy i) = get-requests class.busy 1 n place i low (omega (arith, number)) in (
       free-is class.busy 1 n i (omega (arith, number)) (omega (arith, low, number))
-      (none-of (class.busy i) (sym (none-request (class.busy i)) ∙ (ap is_none (sym at) ∙ found.1)))
-      (λ j from below.
-      sym (none-request (class.busy j))
-      ∙ (ap is_none (sym (get-requests class.busy 1 n (j - 1) j (omega (arith, below, number, low)) (omega (arith, from))))
-      ∙ found.2 (j - 1) (omega (arith, below, number, from)))),
+          (none-of (class.busy i) (sym (none-request (class.busy i)) ∙ (ap is_none (sym at) ∙ found.1)))
+          (λ j from below.
+          sym (none-request (class.busy j))
+          ∙ (ap is_none (sym (get-requests class.busy 1 n (j - 1) j (omega (arith, below, number, low)) (omega (arith, from))))
+          ∙ found.2 (j - 1) (omega (arith, below, number, from)))),
       parts.1,
     )

@@ -3,17 +3,17 @@ use Rattle.std.proofs.Common.{◌≡◌, ◌≢◌, ℕ, zero, suc, ◌+◌, ◌
 use Rattle.std.specs.Prelude.{◌==◌, if◌then◌else◌}
 use Rattle.std.specs.List.{list_any}
 use Rattle.std.proofs.lemmas.Bool.{cases_eq, cases_lt, cond_both, eqb-false, or_parts}
+use Rattle.pw_class.specs.Queue.{works_for}
 use Rattle.pw_class.specs.declared.request.Request.{Request}
-use Rattle.pw_onecopy.specs.Path.{FileAnswer}
-use Rattle.pw_paired.specs.Server.{with_job_at, first_free, with_first_taken, with_answer}
-use Rattle.pw_onecopy.specs.Update.{upd}
-use Rattle.pw_paired.specs.State.{Class, Job, State}
+use Rattle.pw_onecopy.proofs.Update.{upd_elim, upd-same, upd-other}
 use Rattle.pw_onecopy.specs.Behaviour.{Behaviour}
+use Rattle.pw_onecopy.specs.Path.{FileAnswer}
+use Rattle.pw_onecopy.specs.Update.{upd}
+use Rattle.pw_paired.specs.Server.{with_job_at, first_free, with_first_taken, with_answer}
+use Rattle.pw_paired.specs.State.{Class, Job, State}
 use Rattle.pw_paired.specs.Terminal.{with_request}
 use Rattle.pw_paired.specs.Units.{any_below, has_request, is_out, request_in, without_requests}
-use Rattle.pw_class.specs.Queue.{works_for}
 use Rattle.pw_runs.proofs.requests.Classes.{NoneOf, IsOneOf, NotFor, IsOneAtWork, IsWithout, HasInLine, HasAtWork, none_not, the_one, not_for, new_job, ClassKept, class_same, has_sent, sent_kept, has_taken, taken_kept, has_job, without_job, process_kept, without_cancelled, cancelled_kept, IsProcess, InBounds, bounds_starting, bounds_sent, found_free, bounds_taken, bounds_at_process, bounds_cancelled}
-use Rattle.pw_onecopy.proofs.Update.{upd_elim, upd-same, upd-other}
 
 -- where a terminal's request is
 pub data Place : Type 0 where
@@ -133,12 +133,14 @@ place_at_work {t = t} classes place c i job works whose placed = by_place place 
 
 -- a terminal that is nowhere has no request in line, and no job
 
+-- no request of it waits
 pub nowhere_none_waits : {t : ℕ} (classes : ℕ → Class) (c : ℕ)
     (front : List Request) (request : Request) (back : List Request) → (classes c).waiting ≡ front ++ request ∷ back
     → Placed classes t Nowhere → request.terminal ≢ t
 nowhere_none_waits {t = t} classes c front request back waits placed whose =
     none_not front request back whose (subst (NoneOf t) waits (placed c).line)
 
+-- and none is at work
 pub nowhere_no_job : {t : ℕ} (classes : ℕ → Class) (c i : ℕ) (job : Job) → (classes c).busy i ≡ Some job
     → Placed classes t Nowhere → job.request.terminal ≢ t
 nowhere_no_job classes c i job works placed whose = not_for works whose ((placed c).work i)
@@ -171,18 +173,21 @@ request_is_of {request = request} classes (AtWork c i job) is placed =
 
 -- SEND: the terminal of the request, and another one.
 
+-- a request that is sent waits
 pub placed_sent : {t : ℕ} (classes : ℕ → Class) (c : ℕ) (request : Request) → request.terminal ≡ t
     → Placed classes t Nowhere → Placed (upd classes c (with_request request (classes c))) t (InLine c request)
 placed_sent {t = t} classes c request whose placed =
     changed_at (with_request request (classes c)) (HasInLine t request)
     (has_sent request whose (placed c)) (λ d _. placed d)
 
+-- another terminal keeps its place
 pub placed_sent_other : {t : ℕ} (classes : ℕ → Class) (c : ℕ) (request : Request) → request.terminal ≢ t
     → (place : Place) → Placed classes t place → Placed (upd classes c (with_request request (classes c))) t place
 placed_sent_other classes c request other = kept_at classes c (sent_kept (classes c) request other)
 
 -- TAKE: the terminal of the request, and another one. The process is free.
 
+-- a request that is taken is at work
 pub placed_taken : {t : ℕ} (classes : ℕ → Class) (c i : ℕ) (request : Request) (others : List Request)
     → (classes c).waiting ≡ request ∷ others → request.terminal ≡ t → (place : Place) → Placed classes t place
     → Placed (upd classes c (with_first_taken i (classes c).waiting (classes c))) t (AtWork c i (new_job request))
@@ -192,6 +197,7 @@ placed_taken {t = t} classes c i request others first whose place placed =
     changed_at (with_first_taken i (classes c).waiting (classes c)) (HasAtWork t i (new_job request))
     (has_taken i request others first whose at.here) at.elsewhere
 
+-- another terminal keeps its place
 pub placed_taken_other : {t : ℕ} (classes : ℕ → Class) (c i : ℕ) (request : Request) (others : List Request)
     → (classes c).waiting ≡ request ∷ others → (classes c).busy i ≡ None → request.terminal ≢ t
     → (place : Place) → Placed classes t place
@@ -228,10 +234,12 @@ placed_process_other classes c i job next works other still =
 
 -- Requests are cancelled: a terminal whose request is, and another one.
 
+-- a terminal whose requests are cancelled has none
 pub placed_cancelled : {t : ℕ} (classes : ℕ → Class) (whose : ℕ → Bool) → whose t ≡ true
     → Placed (λ c. without_requests whose (classes c)) t Nowhere
 placed_cancelled classes whose out = λ c. without_cancelled whose (classes c) out
 
+-- another terminal keeps its place
 pub placed_cancelled_other : {t : ℕ} (classes : ℕ → Class) (whose : ℕ → Bool) → whose t ≡ false
     → (place : Place) → Placed classes t place → Placed (λ c. without_requests whose (classes c)) t place
 placed_cancelled_other classes whose spared =
@@ -305,15 +313,18 @@ pub record RequestsOk (sys : Behaviour) (classes : ℕ → Class) (places : ℕ 
   pub bounds : InBounds sys classes
   pub placed : (t : ℕ) → Placed classes t (places t)
 
+-- at the start no terminal has a request
 pub requests_starting : (sys : Behaviour) → RequestsOk sys (λ c. record { waiting = []; busy = λ i. None }) (λ t. Nowhere)
 requests_starting sys = record { bounds = bounds_starting sys; placed = placed_starting }
 
+-- a job is the one request of its terminal
 pub place_of_job : {sys : Behaviour} {classes : ℕ → Class} {places : ℕ → Place} {c i t : ℕ} {job : Job}
     → RequestsOk sys classes places → (classes c).busy i ≡ Some job → job.request.terminal ≡ t
     → places t ≡ AtWork c i job
 place_of_job {classes = classes} {places = places} {c = c} {i = i} {t = t} {job = job} ok works whose =
     place_at_work classes (places t) c i job works whose (ok.placed t)
 
+-- a first waiting request is the one request of its terminal
 pub place_of_first : {sys : Behaviour} {classes : ℕ → Class} {places : ℕ → Place} {c t : ℕ}
     {request : Request} {others : List Request} → RequestsOk sys classes places
     → (classes c).waiting ≡ request ∷ others → request.terminal ≡ t → places t ≡ InLine c request
@@ -321,6 +332,7 @@ place_of_first {classes = classes} {places = places} {c = c} {t = t} {request = 
     ok first whose =
     place_in_line classes (places t) c [] request others first whose (ok.placed t)
 
+-- a request is at a class and a process that are there
 pub place_inside : {sys : Behaviour} {places : ℕ → Place} {t : ℕ} (state : State) → RequestsOk sys state.classes places
     → is_out sys state t ≡ false → places t ≡ Nowhere
 place_inside {sys = sys} {places = places} {t = t} state ok inside =
@@ -337,6 +349,7 @@ moved {after = after} {places = places} t place ok bounds own others = record {
       (λ is. subst (λ (k : ℕ). Placed after k place) (sym is) own) (λ ne. others j ne (places j) (ok.placed j));
 }
 
+-- a request is sent
 pub requests_sent : {sys : Behaviour} {classes : ℕ → Class} {places : ℕ → Place} {t : ℕ} (c : ℕ) (request : Request)
     → RequestsOk sys classes places → request.terminal ≡ t → c < sys.classes → places t ≡ Nowhere
     → RequestsOk sys (upd classes c (with_request request (classes c))) (upd places t (InLine c request))
@@ -345,6 +358,7 @@ requests_sent {classes = classes} {t = t} c request ok whose there nowhere =
     (placed_sent classes c request whose (subst (Placed classes t) nowhere (ok.placed t)))
     (λ j ne. placed_sent_other classes c request (λ is. ne (sym is ∙ whose)))
 
+-- a request is taken
 pub requests_taken : {sys : Behaviour} {classes : ℕ → Class} {places : ℕ → Place} {c i t : ℕ}
     {request : Request} {others : List Request} → RequestsOk sys classes places
     → (classes c).waiting ≡ request ∷ others → request.terminal ≡ t
@@ -358,6 +372,7 @@ requests_taken {sys = sys} {classes = classes} {places = places} {c = c} {i = i}
     (placed_taken classes c i request others first whose (places t) (ok.placed t))
     (λ j ne. placed_taken_other classes c i request others first found.0 (λ is. ne (sym is ∙ whose)))
 
+-- a process goes on
 pub requests_filed : {sys : Behaviour} {classes : ℕ → Class} {places : ℕ → Place} {c i t : ℕ} {job : Job}
     (answer : FileAnswer) → RequestsOk sys classes places → (classes c).busy i ≡ Some job → job.request.terminal ≡ t
     → RequestsOk sys (upd classes c (with_job_at i (Some (with_answer answer job)) (classes c)))
@@ -369,6 +384,7 @@ requests_filed {classes = classes} {places = places} {c = c} {i = i} {t = t} {jo
     (placed_filed classes c i job works whose answer (places t) (ok.placed t))
     (λ j ne. placed_process_other classes c i job (Some next) works (other j ne) (other j ne))
 
+-- a process is free again
 pub requests_freed : {sys : Behaviour} {classes : ℕ → Class} {places : ℕ → Place} {c i t : ℕ} {job : Job}
     → RequestsOk sys classes places → (classes c).busy i ≡ Some job → job.request.terminal ≡ t
     → RequestsOk sys (upd classes c (with_job_at i None (classes c))) (upd places t Nowhere)
@@ -381,6 +397,7 @@ requests_freed {classes = classes} {places = places} {c = c} {i = i} {t = t} {jo
 abbrev pub without_places : (ℕ → Bool) → (ℕ → Place) → ℕ → Place
 without_places whose places t = if whose t then Nowhere else places t
 
+-- requests are cancelled
 pub requests_cancelled : {sys : Behaviour} {classes : ℕ → Class} {places : ℕ → Place} (whose : ℕ → Bool)
     → RequestsOk sys classes places
     → RequestsOk sys (λ c. without_requests whose (classes c)) (without_places whose places)

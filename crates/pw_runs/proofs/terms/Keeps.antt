@@ -2,16 +2,16 @@
 use Rattle.std.proofs.Common.{◌≡◌, ◌≢◌, ℕ, ◌<◌, inl, false, List, [], ◌∷◌, ◌++◌, Option, Some, None, sym, subst, ⊎_elim, ◌∙◌}
 use Rattle.pw_code.specs.declared.verb.Verb.{Verb}
 use Rattle.pw_code.specs.declared.verb.Verb.TheVariants as verb
-use Rattle.pw_runs.proofs.Paths.{IsPlain, Shown-plain, Entry-plain, plain-number, plain-outside, IsPath-push}
-use Rattle.pw_runs.proofs.terms.TermOk.{FlightOk, RunningPath, RestingPath, PathOf, PathOk, TermOk, TermsOk}
 use Rattle.pw_onecopy.proofs.Update.{upd_elim}
+use Rattle.pw_onecopy.specs.Attempt.{BeginsUnit}
+use Rattle.pw_onecopy.specs.Behaviour.{Behaviour}
 use Rattle.pw_onecopy.specs.IsBehaviour.{Suits}
 use Rattle.pw_onecopy.specs.Path.{PathAnswer, Shown, Entry, is_outside}
 use Rattle.pw_paired.specs.State.{Mode, BackupCopy, Message, Start, End, Copy, OpenUnit, State, Term}
-use Rattle.pw_onecopy.specs.Behaviour.{Behaviour}
-use Rattle.pw_onecopy.specs.Attempt.{BeginsUnit}
 use Rattle.pw_paired.specs.Terminal.{LegalShow, LegalKey, do_show, do_key, next_verb, path_of}
 use Rattle.pw_paired.specs.Units.{give_answer}
+use Rattle.pw_runs.proofs.Paths.{IsPlain, Shown-plain, Entry-plain, plain-number, plain-outside, IsPath-push}
+use Rattle.pw_runs.proofs.terms.TermOk.{FlightOk, RunningPath, RestingPath, PathOf, PathOk, TermOk, TermsOk}
 
 -- the parts of a terminal in a state
 abbrev pub OkAt : Behaviour → State → ℕ → Type 0
@@ -109,8 +109,10 @@ module _ (sys : Behaviour) (s : State) (ok : TermsOk sys s) where
       (λ is. rw is (term-plain answer plain suits own (ok t known)))
       (λ _. ok j j_known)
 
+  -- SHOW keeps what holds of terminals
   pub keeps_show : (t phase attempt k : ℕ) → LegalShow sys s t phase attempt k → TermsOk sys (do_show t s)
   keeps_show t phase attempt k l = answered-plain t Shown l.can.live.known Shown-plain (rw l.asks tt) (own-show l.asks)
 
+  -- KEY keeps what holds of terminals
   pub keeps_key : (t k : ℕ) → LegalKey sys s t k → TermsOk sys (do_key t k s)
   keeps_key t k l = answered-plain t (Entry k) l.can.live.known (Entry-plain k) (rw l.asks (l.next, l.exists)) (own-accept l.asks)

@@ -3,18 +3,17 @@ use Rattle.std.proofs.Common.{◌≡◌, ◌≢◌, ℕ, ◌+◌, ◌<◌, ◌�
 use Rattle.std.proofs.lemmas.Bool.{cases_eq, true≢false}
 use Rattle.pw_code.specs.declared.verb.Verb.{Verb}
 use Rattle.pw_code.specs.declared.verb.Verb.TheVariants as verb
-use Rattle.pw_runs.proofs.Paths.{IsClosing, Ended-closing, Dropped-closing, closing-number, closing-outside, IsPath-push}
-use Rattle.pw_runs.proofs.terms.TermOk.{UnitOk, FlightOk, HasMessages, RunningPath, RestingPath, PathOf, PathOk, TermOk, TermsOk}
 use Rattle.pw_onecopy.proofs.Update.{upd_elim}
-use Rattle.pw_onecopy.specs.IsBehaviour.{IsBehaviour, IsPath, Suits}
-use Rattle.pw_onecopy.specs.Path.{PathAnswer, is_outside, unit_number}
-use Rattle.pw_onecopy.specs.Path as answer
-use Rattle.pw_paired.specs.Raising.{LegalCheckCopy, do_check_copy}
-use Rattle.pw_onecopy.specs.Update.{upd}
-use Rattle.pw_paired.specs.State.{Mode, BackupCopy, Message, Copy, OpenUnit, State, Term}
 use Rattle.pw_onecopy.specs.Behaviour.{Behaviour}
+use Rattle.pw_onecopy.specs.IsBehaviour.{IsBehaviour, IsPath, Suits}
+use Rattle.pw_onecopy.specs.Path.{PathAnswer, is_outside, unit_number, Dropped, Ended}
+use Rattle.pw_onecopy.specs.Update.{upd}
+use Rattle.pw_paired.specs.Raising.{LegalCheckCopy, do_check_copy}
+use Rattle.pw_paired.specs.State.{Mode, BackupCopy, Message, Copy, OpenUnit, State, Term}
 use Rattle.pw_paired.specs.Terminal.{CanStep, LegalCheckStart, LegalCheckEnd, do_check_start, do_check_end, closing_answer, next_verb, path_of}
 use Rattle.pw_paired.specs.Units.{attempt_of}
+use Rattle.pw_runs.proofs.Paths.{IsClosing, Ended-closing, Dropped-closing, closing-number, closing-outside, IsPath-push}
+use Rattle.pw_runs.proofs.terms.TermOk.{UnitOk, FlightOk, HasMessages, RunningPath, RestingPath, PathOf, PathOk, TermOk, TermsOk}
 
 -- one of two neighbours that is not the lower one
 pub upper : (low n : ℕ) → low ≤ n → n ≤ low + 1 → low ≢ n → n ≡ low + 1
@@ -56,6 +55,7 @@ within-of : {sys : Behaviour} {t last : ℕ} {path : List PathAnswer} (unit : Op
 within-of unit None is inside ok = absurd (true≢false (sym ok.rest.outside ∙ inside))
 within-of unit (Some start) is inside ok = record { open_unit = unit; is_open = refl; start = start; runs = is; path_is = ok }
 
+-- a path in a transaction is one of a running attempt
 pub within : {sys : Behaviour} {t last : ℕ} {path : List PathAnswer} (unit : Option OpenUnit) → is_outside path ≡ false → PathOk sys t last unit path
     → Within sys t last unit path
 within None inside ok = absurd (true≢false (sym ok.rest.outside ∙ inside))
@@ -65,6 +65,7 @@ path_of-is : {sys : Behaviour} {t : ℕ} (last : ℕ) {path : List PathAnswer} (
 path_of-is last None ok = ok.rest.is_path
 path_of-is last (Some start) ok = ok.is_path
 
+-- what is kept of a path says that it is one
 pub path_ok-is : {sys : Behaviour} {t : ℕ} (last : ℕ) {path : List PathAnswer} (unit : Option OpenUnit) → PathOk sys t last unit path → IsPath sys t path
 path_ok-is last None ok = ok.rest.is_path
 path_ok-is last (Some unit) ok = path_of-is last unit.running ok
@@ -98,10 +99,10 @@ closes sys b t path a (verb.Accept screen) is_path asks is = absurd (cc is)
 closes sys b t path a verb.Begin is_path asks is = absurd (cc is)
 closes sys b t path a (verb.Send c message) is_path asks is = absurd (cc is)
 closes sys b t path a verb.End is_path asks is =
-    subst (λ (x : PathAnswer). Closes sys t path x) (let same : answer.Ended ≡ a = cc in same)
+    subst (λ (x : PathAnswer). Closes sys t path x) (let same : Ended ≡ a = cc in same)
     (record { inside = b.ends t path is_path asks; closing_is = Ended-closing; suits = rw asks tt })
 closes sys b t path a verb.Drop is_path asks is =
-    subst (λ (x : PathAnswer). Closes sys t path x) (let same : answer.Dropped ≡ a = cc in same)
+    subst (λ (x : PathAnswer). Closes sys t path x) (let same : Dropped ≡ a = cc in same)
     (record { inside = b.drops t path is_path asks; closing_is = Dropped-closing; suits = rw asks tt })
 closes sys b t path a verb.Redo is_path asks is = absurd (cc is)
 closes sys b t path a verb.Stop is_path asks is = absurd (cc is)
@@ -142,12 +143,14 @@ module _ (sys : Behaviour) (b : IsBehaviour sys) (s : State) (ok : TermsOk sys s
       (λ is. rw is (term-sent message has flies (ok t known)))
       (λ _. ok j j_known)
 
+  -- CHECK START keeps what holds of terminals
   pub keeps_check_start : (t : ℕ) → LegalCheckStart sys s t → TermsOk sys (do_check_start t s)
   keeps_check_start t l =
       let rest = resting (s.units t) l.idle (can_path t l.can) in
       sent t _ l.can.live.known (rw l.can.paired tt)
       ((rest.rest, refl, upper _ _ rest.low_is rest.high_is l.new), l.idle, refl, l.begins, l.lacking)
 
+  -- CHECK END keeps what holds of terminals
   pub keeps_check_end : (t : ℕ) → LegalCheckEnd sys s t → TermsOk sys (do_check_end sys t s)
   keeps_check_end t l =
       let path = can_path t l.can in
@@ -166,6 +169,7 @@ module _ (sys : Behaviour) (b : IsBehaviour sys) (s : State) (ok : TermsOk sys s
         is,
       ))
 
+  -- CHECK COPY keeps what holds of terminals
   pub keeps_check_copy : (t : ℕ) → LegalCheckCopy sys s t → TermsOk sys (do_check_copy t s)
   keeps_check_copy t l =
       let calm = (ok t l.live.known).calm (rw l.raising tt) in

@@ -6,23 +6,23 @@ use Rattle.pw_event.specs.declared.event.Cause.{Cause}
 use Rattle.pw_event.specs.declared.event.Cause.TheVariants.{Server}
 use Rattle.pw_event.specs.declared.event.Ending.{Ending}
 use Rattle.pw_event.specs.declared.event.Ending.TheVariants as ending
-use Rattle.pw_runs.proofs.terms.KeepsChecks.{running}
-use Rattle.pw_runs.proofs.terms.KeepsPairs.{settles}
-use Rattle.pw_runs.proofs.terms.KeepsUnits.{OkAt-changed, term-ends}
-use Rattle.pw_runs.proofs.Paths.{Failed-plain, plain-number, reply-outside, reply-inside, IsPath-push}
-use Rattle.pw_runs.proofs.requests.Requests.{Sent}
-use Rattle.pw_runs.proofs.terms.TermOk.{UnitOk, FlightOk, IsWorking, RunningPath, PathOf, PathOk, TermOk, TermsOk, TermOk-same}
 use Rattle.pw_onecopy.proofs.Update.{upd_elim, upd-same, upd-other}
+use Rattle.pw_onecopy.specs.Behaviour.{Behaviour}
 use Rattle.pw_onecopy.specs.IsBehaviour.{IsBehaviour}
+use Rattle.pw_onecopy.specs.Path.{PathAnswer, Failed, Replied, Standing, is_outside, unit_number}
 use Rattle.pw_paired.specs.End.{do_end, end_terminal}
 use Rattle.pw_paired.specs.Failure.{LegalRestart, awaited_after, with_start_path, do_restart, process_fails, with_restart}
-use Rattle.pw_onecopy.specs.Path.{PathAnswer, Failed, Replied, Standing, is_outside, unit_number}
 use Rattle.pw_paired.specs.Raising.{is_takeover}
 use Rattle.pw_paired.specs.Server.{do_reply, free_process, reply_at}
 use Rattle.pw_paired.specs.State.{Job, LastEnded, BackupCopy, Message, Mode, Start, End, Copy, OpenUnit, State, Term}
-use Rattle.pw_onecopy.specs.Behaviour.{Behaviour}
 use Rattle.pw_paired.specs.Terminal.{IsLive, path_of}
 use Rattle.pw_paired.specs.Units.{give_answer, attempt_of, commit_unit, last_after_leaving, leave_units, only}
+use Rattle.pw_runs.proofs.Paths.{Failed-plain, plain-number, reply-outside, reply-inside, IsPath-push}
+use Rattle.pw_runs.proofs.requests.Requests.{Sent}
+use Rattle.pw_runs.proofs.terms.KeepsChecks.{running}
+use Rattle.pw_runs.proofs.terms.KeepsPairs.{settles}
+use Rattle.pw_runs.proofs.terms.KeepsUnits.{OkAt-changed, term-ends}
+use Rattle.pw_runs.proofs.terms.TermOk.{UnitOk, FlightOk, IsWorking, RunningPath, PathOf, PathOk, TermOk, TermsOk, TermOk-same}
 
 -- an attempt restarts
 term-restarts : {sys : Behaviour} {t last : ℕ} {unit : Option OpenUnit} {memory : Option BackupCopy} {flight : Option Message} {term : Term} {mode : Mode}
@@ -137,6 +137,7 @@ term-runs {sys = sys} {t = t} {last = last} {unit = unit} {memory = memory} {fli
     flies (End p) f = f
 
 module _ (sys : Behaviour) (b : IsBehaviour sys) (s : State) (ok : TermsOk sys s) where
+  -- RESTART keeps what holds of terminals
   pub keeps_restart : (t n : ℕ) (cause : Cause) → LegalRestart sys s t n cause → TermsOk sys (do_restart sys t cause s)
   keeps_restart t n cause l j known =
       let is_open = l.caused.is_open in
@@ -165,6 +166,7 @@ module _ (sys : Behaviour) (b : IsBehaviour sys) (s : State) (ok : TermsOk sys s
       (cond-false (only t j) None (s.units j) (ne_eqb j t differ)) (upd-other s.memory t None j differ) (upd-other s.flight t None j differ) (upd-other s.terms t _ j differ) refl (ok j known))
       (cases_eq j t)
 
+  -- END keeps what holds of terminals
   pub keeps_end : (t : ℕ) (e : Ending) → TermsOk sys (do_end sys t e s)
   keeps_end t ending.Stopped = settles sys (end_terminal t ending.Stopped s) (sys.pair_of t) (dies t ending.Stopped)
   keeps_end t ending.NoEntries = settles sys (end_terminal t ending.NoEntries (leave_units sys (only t) s)) (sys.pair_of t) (leaves t ending.NoEntries)
@@ -185,6 +187,7 @@ module _ (sys : Behaviour) (b : IsBehaviour sys) (s : State) (ok : TermsOk sys s
       (λ is. rw is (term-pending k out.calm (ok job.request.terminal out.live.known)))
       (λ _. ok j known)
 
+  -- the failure of a process keeps what holds of terminals
   pub keeps_process_fails : (c i k : ℕ) (job : Option Job) → ((x : Job) → job ≡ Some x → OutOk sys s x.request.terminal (record { class = c; request = x.request })) → TermsOk sys (process_fails c i k job s)
   keeps_process_fails c i k None out = ok
   keeps_process_fails c i k (Some job) out = failed-at c i k job (out job refl)
@@ -240,6 +243,7 @@ module _ (sys : Behaviour) (b : IsBehaviour sys) (s : State) (ok : TermsOk sys s
       (λ same. rw same (replied-inside t request reply out is))
       (λ _. ok j known)
 
+  -- REPLY keeps what holds of terminals
   pub keeps_reply : (c i t : ℕ) (fault : Option ℕ) (request : Sent) → OutOk sys s t request → TermsOk sys (do_reply sys c i t fault s)
   keeps_reply c i t None request out = answers-ok c i t request (reply_at sys c ((s.classes c).busy i)) (is_outside (path_of s t)) refl out
   keeps_reply c i t (Some x) request out = λ j known.

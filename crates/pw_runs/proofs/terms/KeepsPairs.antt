@@ -3,16 +3,16 @@ use Rattle.std.proofs.Common.{◌≡◌, ◌≢◌, ℕ, zero, suc, ◌+◌, ◌
 use Rattle.std.proofs.lemmas.Bool.{cases_eq, true≢false, eq-eqb, ne_eqb, eqb-true, cond-true, cond-false, or_parts, and_cases, and_from, and_left, and_right}
 use Rattle.pw_event.specs.declared.event.Cause.TheVariants as cause
 use Rattle.pw_event.specs.declared.event.Ending.{Ending}
-use Rattle.pw_runs.proofs.terms.TermOk.{messages-work, IsRest, MemoryOk, IsWorking, HasMessages, RestingPath, PathOf, PathOk, TermOk, TermsOk, TermOk-same}
 use Rattle.pw_onecopy.proofs.Update.{upd-same, upd-other}
-use Rattle.pw_paired.specs.Failure.{lose_backup, backup_fails, do_fail_tcp, do_takeover, lose_primary, lose_pair, is_live_of, is_of_pair, primary_fails, resume_terminal, resumed_path, runs_unit, without_path, LegalTakeover}
-use Rattle.pw_onecopy.specs.Path.{PathAnswer, unit_number}
-use Rattle.pw_paired.specs.Raising.{LegalApplied, LegalRaise, do_applied, do_raise, is_takeover, lacks_one, settled_mode, with_message, settle_mode, with_end}
-use Rattle.pw_onecopy.specs.Update.{upd}
-use Rattle.pw_paired.specs.State.{Mode, Alone, Raising, Paired, Down, Gone, LastEnded, BackupCopy, Message, Start, End, Copy, OpenUnit, State, Term}
 use Rattle.pw_onecopy.specs.Behaviour.{Behaviour}
+use Rattle.pw_onecopy.specs.Path.{PathAnswer, unit_number}
+use Rattle.pw_onecopy.specs.Update.{upd}
+use Rattle.pw_paired.specs.Failure.{lose_backup, do_fail_tcp, do_takeover, lose_primary, lose_pair, is_live_of, is_of_pair, resume_terminal, resumed_path, runs_unit, without_path, LegalTakeover}
+use Rattle.pw_paired.specs.Raising.{LegalApplied, LegalRaise, do_applied, do_raise, is_takeover, lacks_one, settled_mode, with_message, settle_mode, with_end}
+use Rattle.pw_paired.specs.State.{Mode, Alone, Raising, Paired, Down, Gone, LastEnded, BackupCopy, Message, Start, End, Copy, OpenUnit, State, Term}
 use Rattle.pw_paired.specs.Units.{any_below}
 use Rattle.pw_runs.proofs.induction.Failed.{fail-cases}
+use Rattle.pw_runs.proofs.terms.TermOk.{messages-work, IsRest, MemoryOk, IsWorking, HasMessages, RestingPath, PathOf, PathOk, TermOk, TermsOk, TermOk-same}
 
 -- where no number below n has the property, each lacks it
 pub any_below-false : (n : ℕ) (has : ℕ → Bool) → any_below n has ≡ false → (j : ℕ) → j < n → has j ≡ false
@@ -129,6 +129,7 @@ settles sys s p ok j known =
     (cases_eq (sys.pair_of j) p)
 
 module _ (sys : Behaviour) (s : State) (ok : TermsOk sys s) where
+  -- APPLIED keeps what holds of terminals
   pub keeps_applied : (t : ℕ) → LegalApplied sys s t → TermsOk sys (do_applied sys t s)
   keeps_applied t l = settles sys (record s { memory = upd s.memory t (with_message (s.flight t) (s.memory t)); flight = upd s.flight t None }) (sys.pair_of t) taken_in
     where
@@ -147,6 +148,7 @@ module _ (sys : Behaviour) (s : State) (ok : TermsOk sys s) where
 pub of-pair : {A : Type 0} (sys : Behaviour) (p j : ℕ) (x y : A) → sys.pair_of j ≡ p → (if is_of_pair sys p j then x else y) ≡ x
 of-pair sys p j x y of = cond-true (is_of_pair sys p j) x y (eq-eqb (sys.pair_of j) p of)
 
+-- a terminal of another pair keeps what it has
 pub not-of-pair : {A : Type 0} (sys : Behaviour) (p j : ℕ) (x y : A) → sys.pair_of j ≢ p → (if is_of_pair sys p j then x else y) ≡ y
 not-of-pair sys p j x y differ = cond-false (is_of_pair sys p j) x y (ne_eqb (sys.pair_of j) p differ)
 
@@ -290,6 +292,7 @@ module _ (sys : Behaviour) (s : State) (ok : TermsOk sys s) where
       → TermOk sys j (s.ended j).number (s.units j) (s.memory j) (s.flight j) (s.terms j) mode
   in-mode p j mode of is known = TermOk-same refl refl refl refl refl (sym is ∙ ap s.modes (sym of)) (ok j known)
 
+  -- RAISE keeps what holds of terminals
   pub keeps_raise : (p : ℕ) → LegalRaise sys s p → TermsOk sys (do_raise sys p s)
   keeps_raise p l j known =
       ⊎_elim
@@ -329,6 +332,7 @@ module _ (sys : Behaviour) (s : State) (ok : TermsOk sys s) where
       (λ differ. TermOk-same refl refl (not-of-pair sys p j None (s.memory j) differ) (not-of-pair sys p j None (s.flight j) differ) refl (mode-of-other sys s p j Alone differ) (ok j known))
       (cases_eq (sys.pair_of j) p)
 
+  -- FAIL TCP keeps what holds of terminals
   pub keeps_fail_tcp : (p : ℕ) (primary : Bool) → TermsOk sys (do_fail_tcp sys p primary s)
   keeps_fail_tcp p primary =
       fail-cases sys s (TermsOk sys) p ok (keeps_down p) (λ member breaks. keeps_gone p)
@@ -351,6 +355,7 @@ module _ (sys : Behaviour) (s : State) (ok : TermsOk sys s) where
         path_ok = λ live works untaken. absurd (cc (live, dead));
       }
 
+  -- TAKEOVER keeps what holds of terminals
   pub keeps_takeover : (p : ℕ) → LegalTakeover s p → TermsOk sys (do_takeover sys p s)
   keeps_takeover p l j known =
       ⊎_elim

@@ -3,19 +3,18 @@ use Rattle.std.proofs.Common.{◌≡◌, ℕ, ◌+◌, inl, inr, ⊎_elim, false
 use Rattle.std.proofs.lemmas.Bool.{cases_eq}
 use Rattle.pw_code.specs.declared.verb.Verb.{Verb}
 use Rattle.pw_code.specs.declared.verb.Verb.TheVariants as verb
-use Rattle.pw_runs.proofs.terms.KeepsChecks.{can_path, path_ok-is, resting, upper, within}
-use Rattle.pw_runs.proofs.Paths.{IsClosing, Ended-closing, Dropped-closing, closing-number, closing-outside, Begun-number, Begun-inside, reply-outside, IsPath-push}
-use Rattle.pw_runs.proofs.terms.TermOk.{IsRest, UnitOk, FlightOk, HasMessages, RunningPath, PathOf, PathOk, TermOk, TermsOk, TermOk-same}
 use Rattle.pw_onecopy.proofs.Update.{upd_elim, upd-same, upd-other}
+use Rattle.pw_onecopy.specs.Attempt.{BeginsUnit}
+use Rattle.pw_onecopy.specs.Behaviour.{Behaviour}
 use Rattle.pw_onecopy.specs.IsBehaviour.{IsBehaviour, IsPath, Suits}
-use Rattle.pw_onecopy.specs.Path.{PathAnswer, Begun, Replied, Standing, is_outside, unit_number}
-use Rattle.pw_onecopy.specs.Path as answer
+use Rattle.pw_onecopy.specs.Path.{PathAnswer, Begun, Replied, Standing, is_outside, unit_number, Dropped, Ended}
 use Rattle.pw_onecopy.specs.Update.{upd}
 use Rattle.pw_paired.specs.State.{Mode, LastEnded, BackupCopy, Message, Start, End, Copy, OpenUnit, State, Term}
-use Rattle.pw_onecopy.specs.Behaviour.{Behaviour}
-use Rattle.pw_onecopy.specs.Attempt.{BeginsUnit}
 use Rattle.pw_paired.specs.Terminal.{CanStep, HoldsStart, LegalBegin, LegalAgain, LegalCommit, LegalBack, unit_with_attempt, begun_path, do_begin, do_again, do_commit, do_back, kept_reply, next_verb, path_of}
 use Rattle.pw_paired.specs.Units.{attempt_of}
+use Rattle.pw_runs.proofs.Paths.{IsClosing, Ended-closing, Dropped-closing, closing-number, closing-outside, Begun-number, Begun-inside, reply-outside, IsPath-push}
+use Rattle.pw_runs.proofs.terms.KeepsChecks.{can_path, path_ok-is, resting, upper, within}
+use Rattle.pw_runs.proofs.terms.TermOk.{IsRest, UnitOk, FlightOk, HasMessages, RunningPath, PathOf, PathOk, TermOk, TermsOk, TermOk-same}
 
 -- A running unit ends: its number is the last ended one now, and the path stands behind it.
 pub term-ends : {sys : Behaviour} {t last : ℕ} {unit : Option OpenUnit} {memory : Option BackupCopy} {flight : Option Message} {term : Term} {mode : Mode}
@@ -123,6 +122,7 @@ OkAt-changed sys s j t ended unit term own other =
     (λ differ. TermOk-same (ap (λ (x : LastEnded). x.number) (upd-other s.ended t ended j differ)) (upd-other s.units t unit j differ) refl refl (upd-other s.terms t term j differ) refl other)
     (cases_eq j t)
 
+-- an entry of one terminal changes its unit and itself alone
 pub OkAt-units : (sys : Behaviour) (s : State) (j t : ℕ) (unit : Option OpenUnit) (term : Term) → (j ≡ t → TermOk sys t (s.ended t).number unit (s.memory t) (s.flight t) term (s.modes (sys.pair_of t)))
     → TermOk sys j (s.ended j).number (s.units j) (s.memory j) (s.flight j) (s.terms j) (s.modes (sys.pair_of j))
     → TermOk sys j (s.ended j).number (upd s.units t unit j) (s.memory j) (s.flight j) (upd s.terms t term j) (s.modes (sys.pair_of j))
@@ -159,6 +159,7 @@ begun-unit last n births path None is numbers = (is, refl)
 begun-unit last n births path (Some u) is numbers = (numbers u refl, refl)
 
 module _ (sys : Behaviour) (b : IsBehaviour sys) (s : State) (ok : TermsOk sys s) where
+  -- BEGIN keeps what holds of terminals
   pub keeps_begin : (t n r : ℕ) → LegalBegin sys s t n r → TermsOk sys (do_begin sys t n r s)
   keeps_begin t n r l j j_known =
       let path = can_path sys b s ok t l.can in
@@ -172,6 +173,7 @@ module _ (sys : Behaviour) (b : IsBehaviour sys) (s : State) (ok : TermsOk sys s
       (ok t l.can.live.known))
       (ok j j_known)
 
+  -- AGAIN keeps what holds of terminals
   pub keeps_again : (t n : ℕ) → LegalAgain sys s t n → TermsOk sys (do_again t s)
   keeps_again t n l j j_known =
       let path = can_path sys b s ok t l.can in
@@ -200,16 +202,18 @@ module _ (sys : Behaviour) (b : IsBehaviour sys) (s : State) (ok : TermsOk sys s
       (closing-number a closing (path_of s t) ∙ ap (λ (m : ℕ). m + 1) here.path_is.number)
       (ok t can.live.known))
 
+  -- COMMIT keeps what holds of terminals
   pub keeps_commit : (t n : ℕ) → LegalCommit sys s t n → TermsOk sys (do_commit t n s)
   keeps_commit t n l j j_known =
       let is_path = path_ok-is _ (s.units t) (can_path sys b s ok t l.can) in
       OkAt-changed sys s j t _ _ _
-      (λ _. closes-unit t n answer.Ended l.can l.number (b.ends t (path_of s t) is_path l.asks) Ended-closing (rw l.asks tt))
+      (λ _. closes-unit t n Ended l.can l.number (b.ends t (path_of s t) is_path l.asks) Ended-closing (rw l.asks tt))
       (ok j j_known)
 
+  -- BACK keeps what holds of terminals
   pub keeps_back : (t n : ℕ) → LegalBack sys s t n → TermsOk sys (do_back sys t n s)
   keeps_back t n l j j_known =
       let is_path = path_ok-is _ (s.units t) (can_path sys b s ok t l.can) in
       OkAt-changed sys s j t _ _ _
-      (λ _. closes-unit t n answer.Dropped l.can l.number (b.drops t (path_of s t) is_path l.asks) Dropped-closing (rw l.asks tt))
+      (λ _. closes-unit t n Dropped l.can l.number (b.drops t (path_of s t) is_path l.asks) Dropped-closing (rw l.asks tt))
       (ok j j_known)

@@ -1,12 +1,12 @@
 -- What each state of a run keeps of a terminal: its last ended unit, its open unit, its path, and what its backup holds.
 use Rattle.std.proofs.Common.{◌≡◌, ℕ, ◌+◌, ◌<◌, ◌≤◌, ◌⊎◌, true, false, List, Option, Some, None}
 use Rattle.pw_code.specs.declared.verb.Verb.TheVariants as verb
+use Rattle.pw_onecopy.specs.Attempt.{BeginsUnit}
+use Rattle.pw_onecopy.specs.Behaviour.{Behaviour}
 use Rattle.pw_onecopy.specs.IsBehaviour.{IsPath}
 use Rattle.pw_onecopy.specs.Path.{PathAnswer, is_outside, unit_number}
 use Rattle.pw_paired.specs.Raising.{is_takeover}
 use Rattle.pw_paired.specs.State.{Mode, Alone, Raising, Paired, Down, Gone, BackupCopy, Message, Start, End, Copy, OpenUnit, State, Term}
-use Rattle.pw_onecopy.specs.Behaviour.{Behaviour}
-use Rattle.pw_onecopy.specs.Attempt.{BeginsUnit}
 use Rattle.pw_paired.specs.Terminal.{HoldsStart}
 use Rattle.pw_paired.specs.Units.{attempt_of}
 
@@ -86,6 +86,7 @@ abbrev pub PathOf : Behaviour → ℕ → ℕ → Option (List PathAnswer) → L
 PathOf sys t last None path = RestingPath sys t (last + 1) (last + 1) path
 PathOf sys t last (Some start) path = RunningPath sys t last path
 
+-- of a terminal with its open unit
 abbrev pub PathOk : Behaviour → ℕ → ℕ → Option OpenUnit → List PathAnswer → Type 0
 PathOk sys t last None path = RestingPath sys t last (last + 1) path
 PathOk sys t last (Some unit) path = PathOf sys t last unit.running path

@@ -1,5 +1,5 @@
-use Rattle.pw_locking.proofs.seeing.Seeing.{operated_is_file, same_answer, same_changes, same_effect, same_span, uncovered_leaves}
 use Rattle.pw_locking.proofs.operations.operation_laws.Goals as goal
+use Rattle.pw_locking.proofs.seeing.Seeing.{operated_is_file, same_answer, same_changes, same_effect, same_span, uncovered_leaves}
 
 pub returns : goal.returns
 returns c = record {

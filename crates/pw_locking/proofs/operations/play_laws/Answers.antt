@@ -1,5 +1,5 @@
-use Rattle.pw_locking.proofs.seeing.Plays.{ServerWrites-behaviour, same_play, uncovered_played}
 use Rattle.pw_locking.proofs.operations.play_laws.Goals as goal
+use Rattle.pw_locking.proofs.seeing.Plays.{ServerWrites-behaviour, same_play, uncovered_played}
 
 pub returns : goal.returns
 returns c = record {

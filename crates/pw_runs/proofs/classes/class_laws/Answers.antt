@@ -1,5 +1,5 @@
-use Rattle.pw_runs.proofs.requests.Queues.{cancelled-queue, got-queue, has-queue, next-queue, replied-queue, sent-queue, taken-queue, works-queue}
 use Rattle.pw_runs.proofs.classes.class_laws.Goals as goal
+use Rattle.pw_runs.proofs.requests.Queues.{cancelled-queue, got-queue, has-queue, next-queue, replied-queue, sent-queue, taken-queue, works-queue}
 
 pub returns : goal.returns
 returns c = record {

@@ -1,0 +1,17 @@
+use Rattle.std.proofs.Common.{refl}
+use Rattle.pw_legal.specs.Blocks.{is_legal_block}
+use Rattle.pw_legal.specs.Causes.{meets}
+use Rattle.pw_legal.specs.Legality.{is_legal}
+use Rattle.pw_onecopy.specs.Update.{upd}
+use Rattle.pw_worked.proofs.Computed.{works}
+use Rattle.pw_worked.proofs.logs.loss_logs.Goals as goal
+use Rattle.pw_worked.specs.logs.Losses as losses
+
+pub returns : goal.returns
+unfolding upd is_legal is_legal_block meets
+returns c = record {
+  primary_fails_before_backup = works losses.primary_fails_before_backup refl refl refl refl refl refl refl refl refl;
+  pair_lost_while_raising = works losses.pair_lost_while_raising refl refl refl refl refl refl refl refl refl;
+  pair_lost_while_down = works losses.pair_lost_while_down refl refl refl refl refl refl refl refl refl;
+  pair_lost_with_two_units = works losses.pair_lost_with_two_units refl refl refl refl refl refl refl refl refl;
+}

@@ -1,0 +1,4 @@
+pub mod Deck
+pub mod Worked
+pub mod logs
+pub mod Refused

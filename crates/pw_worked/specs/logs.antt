@@ -1,0 +1,5 @@
+pub mod Locks
+pub mod Units
+pub mod Takeovers
+pub mod Losses
+pub mod Servers
