@@ -36,7 +36,7 @@ same-owner (Class c) (Tcp q) is = absurd (true≢false (sym is))
 same-owner (Class c) (Class d) is = ap Class (sym (eqb-true c d is))
 
 -- a numbered line that is found stands in the script under its number
-found-line : (test : Numbered → Bool) (lines : List FailLine) (start : ℕ) (l : Numbered) → find test (numbered start lines) ≡ Some l
+pub found-line : (test : Numbered → Bool) (lines : List FailLine) (start : ℕ) (l : Numbered) → find test (numbered start lines) ≡ Some l
     → (test l ≡ true) × (start ≤ l.number) × (slice_get lines (l.number - start) ≡ Some l.line)
 found-line test [] start l found = absurd (cc found)
 found-line test (first ∷ lines) start l found = by (test (record { number = start; line = first })) refl (λ later. found-line test lines (start + 1) l later) found

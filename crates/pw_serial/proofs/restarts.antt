@@ -1,3 +1,4 @@
 pub mod Counting
 pub mod Older
+pub mod Failures
 pub mod Few

@@ -35,7 +35,7 @@ count-less (suc n) p q more k low out here =
     (cases_eq k n)
 
 -- all of them have the property that is always true
-count-all : (n : ℕ) → count_below n (λ j. true) ≡ n
+pub count-all : (n : ℕ) → count_below n (λ j. true) ≡ n
 count-all zero = refl
 count-all (suc n) = let rest = count-all n in omega (arith, rest)
 
