@@ -10,9 +10,9 @@ work=${1:-$(mktemp -d)}
 program="$work/crates/bench_readers/out/bench_readers"
 
 build() {
+    mkdir -p "$work/crates/bench_readers/src"
     (cd "$here/.." && tar c --exclude=out crates crates.txt HANDLES) | tar x -C "$work"
     echo 'bench_readers: pw_base pw_code pw_number pw_picture pw_text pw_data pw_event pw_deck' >> "$work/crates.txt"
-    mkdir -p "$work/crates/bench_readers/src"
     cp "$here/readers/main.rt.txt" "$work/crates/bench_readers/src/main.rt"
     echo "bench: proving and building the program, which takes some minutes" >&2
     (cd "$work/crates/bench_readers" && rt run < /dev/null > "$work/build.log" 2>&1) || true
