@@ -1,13 +1,13 @@
 -- What entries keep of their pictures.
-use Rattle.std.proofs.Common.{◌≡◌, ℕ, zero, suc, ◌+◌, ◌<◌, List, [], ◌∷◌, length, take, drop, All, Option, Some, None, refl, sym, ap, ◌∙◌, subst, arith}
+use Rattle.std.proofs.Common.{◌≡◌, ℕ, suc, List, [], ◌∷◌, All, Option, Some, None, refl, sym, ap, ◌∙◌, subst, arith}
 use Rattle.std.specs.Prelude.{option_map, option_and_then}
 use Rattle.std.proofs.lemmas.List.Elements.{All-nil, All-cons, All-take, All-drop}
 use Rattle.pw_picture.specs.declared.picture.Picture.{Picture}
 use Rattle.pw_picture.specs.declared.picture.Picture.TheVariants.{Text, Number, Edited}
 use Rattle.pw_data.specs.declared.literal.Literal.{Literal}
 use Rattle.pw_data.specs.declared.entry.Entry.{Entry}
-use Rattle.pw_data.specs.Entries.{picture_of_kind, kind_of, picture_at, kind_at, IsKept}
-use Rattle.pw_data.specs.Laid.{initial_by, initial}
+use Rattle.pw_data.specs.Entries.{picture_of_kind, kind_of, picture_at, IsKept}
+use Rattle.pw_data.specs.Laid.{initial_by}
 use Rattle.pw_data.proofs.Cells.{Each}
 use Rattle.pw_data.proofs.Loops.{Cut}
 

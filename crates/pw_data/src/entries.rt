@@ -94,9 +94,30 @@ impl OwnFaults {
         ensures { result ≡ least known (only_if self.picture line BadPicture
             ++ (only_if self.entry line BadDataEntry ++ only_if self.name line NameTwice)) }
     {
-        let known = noted(known, self.picture, Fault { line, code: FaultCode::BadPicture });
-        let known = noted(known, self.entry, Fault { line, code: FaultCode::BadDataEntry });
-        noted(known, self.name, Fault { line, code: FaultCode::NameTwice })
+        let known = noted(
+            known,
+            self.picture,
+            Fault {
+                line,
+                code: FaultCode::BadPicture,
+            },
+        );
+        let known = noted(
+            known,
+            self.entry,
+            Fault {
+                line,
+                code: FaultCode::BadDataEntry,
+            },
+        );
+        noted(
+            known,
+            self.name,
+            Fault {
+                line,
+                code: FaultCode::NameTwice,
+            },
+        )
     }
 }
 

@@ -349,6 +349,7 @@ fn items_have_their_names_and_pictures(rt: HostRuntime) -> Result<(), Fail> {
     assert!(rt; layout.place(b"D").is_none());
     assert!(rt; layout.place(b"FILLER").is_none());
     assert!(rt; layout.place(b"").is_none());
+    assert!(rt; layout.place(b"A-NAME-OF-MORE-THAN-30-CHARACTERS").is_none());
     Ok(())
 }
 

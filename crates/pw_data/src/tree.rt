@@ -25,7 +25,11 @@ impl Entry {
     fn is_in_section_of(self, other: Entry) -> bool
         ensures { result ≡ same_section other self }
     {
-        if other.linked { self.linked } else { !self.linked }
+        if other.linked {
+            self.linked
+        } else {
+            !self.linked
+        }
     }
 
     /// Whether it may belong to another one.

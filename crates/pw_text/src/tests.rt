@@ -238,11 +238,23 @@ const REFUSED: &[(&[u8], u32, FaultCode)] = &[
     (b"\"AB", 1, FaultCode::UnclosedLiteral),
     (b"\"AB\r\nC\"", 1, FaultCode::UnclosedLiteral),
     (b"\"\"\"", 1, FaultCode::UnclosedLiteral),
-    (b"ABCDEFGHIJKLMNOPQRSTUVWXYZ-1234", 1, FaultCode::WordTooLong),
+    (
+        b"ABCDEFGHIJKLMNOPQRSTUVWXYZ-1234",
+        1,
+        FaultCode::WordTooLong,
+    ),
     (b"1234567890123456789", 1, FaultCode::NumberTooLong),
     (b"1234567890.123456789", 1, FaultCode::NumberTooLong),
-    (b"ABCDEFGHIJKLMNOPQRSTUVWXYZ-1234 \"A", 1, FaultCode::UnclosedLiteral),
-    (b"ABCDEFGHIJKLMNOPQRSTUVWXYZ-1234 #", 1, FaultCode::BadCharacter),
+    (
+        b"ABCDEFGHIJKLMNOPQRSTUVWXYZ-1234 \"A",
+        1,
+        FaultCode::UnclosedLiteral,
+    ),
+    (
+        b"ABCDEFGHIJKLMNOPQRSTUVWXYZ-1234 #",
+        1,
+        FaultCode::BadCharacter,
+    ),
     (
         b"1234567890123456789 ABCDEFGHIJKLMNOPQRSTUVWXYZ-1234",
         1,

@@ -1,4 +1,4 @@
-use Rattle.std.proofs.Common.{◌≡◌, length, Some, None, sym, ap, ◌∙◌}
+use Rattle.std.proofs.Common.{◌≡◌, Some, None, sym, ap, ◌∙◌}
 use Rattle.std.specs.Prelude.{find, option_copied}
 use Rattle.pw_data.specs.Names.{is_this_name}
 use Rattle.pw_data.specs.Index.{number_in}
