@@ -1,4 +1,5 @@
 pub mod Entry
+pub mod Fields
 pub mod Locks
 pub mod Names
 pub mod Path
