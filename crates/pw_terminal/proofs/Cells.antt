@@ -1,17 +1,17 @@
 -- Which cells fields write, and which they leave.
-use Rattle.std.proofs.Common.{◌≡◌, ℕ, zero, suc, ◌+◌, ◌-◌, ◌<◌, ◌≤◌, Bool, true, false, cond, ◌||◌, ◌==◌, List, [], ◌∷◌, ◌++◌, length, get_or, take, drop, replicate, All, refl, sym, ap, ◌∙◌, subst, arith}
-use Rattle.std.proofs.lemmas.List.{places, length-append, length-replicate, length-take, length-drop, take-append-drop}
+use Rattle.std.proofs.Common.{◌≡◌, ℕ, zero, suc, ◌+◌, ◌<◌, ◌≤◌, Bool, true, false, cond, ◌||◌, ◌==◌, List, [], ◌∷◌, ◌++◌, length, get_or, take, drop, All, refl, ap, ◌∙◌, arith}
+use Rattle.std.proofs.lemmas.List.{places, length-replicate, take-append-drop}
 use Rattle.std.proofs.lemmas.List.Elements.{All-head, All-tail}
 use Rattle.pw_picture.specs.declared.picture.Picture.{Picture}
 use Rattle.pw_picture.specs.declared.picture.Picture.TheVariants.{Text, Number, Edited}
-use Rattle.pw_picture.specs.Grammar.{size_of, digit_symbols}
-use Rattle.pw_picture.specs.Stored.{digits_of, chars_of, is_negative, read_of, size_at}
+use Rattle.pw_picture.specs.Grammar.{size_of}
+use Rattle.pw_picture.specs.Stored.{digits_of, chars_of}
 use Rattle.pw_picture.specs.Edited.{shown_from}
 use Rattle.pw_code.specs.declared.field.Field.{Field}
 use Rattle.pw_code.specs.declared.field.FieldKind.{FieldKind}
 use Rattle.pw_code.specs.declared.field.FieldKind.TheVariants.{Literal, Item}
 use Rattle.pw_code.specs.Screen.{IsWhole}
-use Rattle.pw_code.specs.Fields.{cells_of, IsInside, IsField}
+use Rattle.pw_code.specs.Fields.{cells_of, IsField}
 use Rattle.pw_terminal.specs.Shown.{place_of, written, as_shown, chars_at, text_of, is_put, with_field, with_fields, HasCell}
 use Rattle.pw_terminal.proofs.Written.{length-written, length-fitted}
 

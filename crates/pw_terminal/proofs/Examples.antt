@@ -1,13 +1,11 @@
 -- Fields and values that were worked out by hand.
-use Rattle.std.proofs.Common.{◌≡◌, Bool, true, false, [], ◌∷◌, Some, None, refl}
+use Rattle.std.proofs.Common.{◌≡◌, true, false, Some, None, refl}
 use Rattle.std.specs.Prelude.{codes}
-use Rattle.pw_picture.specs.declared.picture.Picture.{Picture}
-use Rattle.pw_picture.specs.declared.picture.Picture.TheVariants.{Text, Number, Edited}
+use Rattle.pw_picture.specs.declared.picture.Picture.TheVariants.{Number, Edited}
 use Rattle.pw_code.specs.declared.field.FieldKind.{FieldKind}
-use Rattle.pw_code.specs.declared.field.FieldKind.TheVariants.{Literal, Item}
+use Rattle.pw_code.specs.declared.field.FieldKind.TheVariants.{Item}
 use Rattle.pw_terminal.specs.Shown.{as_shown, text_of, place_of}
-use Rattle.pw_terminal.specs.Entries.{digits_in, is_value_for, answer_of}
-use Rattle.pw_terminal.specs.declared.entries.EntryAnswer.TheVariants.{Valid, BadKey, BadField}
+use Rattle.pw_terminal.specs.Entries.{digits_in, is_value_for}
 
 -- column 1 of row 24 is the cell 1,840
 row_24 : place_of 24 1 ≡ 1840

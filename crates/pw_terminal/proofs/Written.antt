@@ -1,9 +1,8 @@
 -- Texts that are written over cells.
-use Rattle.std.proofs.Common.{◌≡◌, ℕ, ◌+◌, ◌-◌, ◌≤◌, List, [], ◌++◌, length, take, drop, replicate, ◌∙◌, refl, sym, ap, arith, append-nil, append_assoc}
-use Rattle.std.proofs.lemmas.List.{length-append, length-drop, length-take, length-replicate, drop_all, take_all, take-append-drop}
+use Rattle.std.proofs.Common.{◌≡◌, ℕ, ◌+◌, ◌-◌, ◌≤◌, List, ◌++◌, length, take, replicate, ◌∙◌, refl, sym, ap, arith, append-nil, append_assoc}
+use Rattle.std.proofs.lemmas.List.{length-append, length-drop, length-take, length-replicate, drop_all, take_all}
 use Rattle.std.proofs.Math.Seq.{take-append-add}
 use Rattle.pw_picture.specs.Text.{fitted}
-use Rattle.pw_terminal.specs.Screen.{blank_cells}
 use Rattle.pw_terminal.specs.Shown.{written}
 
 -- to write a text over some of the cells keeps their number

@@ -1,5 +1,5 @@
 -- A field is behind the place or before it.
-use Rattle.std.proofs.Common.{◌≡◌, ◌∙◌, ap, sym, Some, None, Bool, ◌&&◌}
+use Rattle.std.proofs.Common.{◌∙◌, ap, Bool, ◌&&◌}
 use Rattle.std.specs.Prelude.{is_some}
 use Rattle.std.specs.List.{position}
 use Rattle.pw_code.specs.declared.field.Field.{Field}

@@ -1,5 +1,5 @@
 -- The cells stay whole.
-use Rattle.std.proofs.Common.{◌∙◌, ap, length, arith, sym}
+use Rattle.std.proofs.Common.{ap, length, arith}
 use Rattle.pw_terminal.proofs.Written.{length-written}
 use Rattle.pw_terminal.proofs.images.put.Goals as goal
 
