@@ -1,5 +1,6 @@
 pub mod Entry
 pub mod Limits
+pub mod Fields
 pub mod Locks
 pub mod Names
 pub mod Path

@@ -6,6 +6,7 @@ pub mod code;
 pub mod context;
 pub mod copies;
 pub mod entry;
+pub mod field;
 pub mod file;
 pub mod limits;
 pub mod lock;

@@ -1,5 +1,6 @@
 pub mod Edited
 pub mod Grammar
+pub mod Room
 pub mod Runs
 pub mod Stored
 pub mod Symbols

@@ -16,7 +16,7 @@ fn is_digit(symbol: u8) -> bool
 }
 
 /// How many of the symbols are digits.
-fn digit_symbols(symbols: &[u8]) -> usize
+pub fn digit_symbols(symbols: &[u8]) -> usize
     ensures { result ≡ digit_symbols symbols.now }
 {
     symbols.iter().filter(|symbol| is_digit(**symbol)).count()
@@ -34,7 +34,7 @@ fn before_point(symbols: &[u8]) -> usize
 }
 
 /// How many decimals a picture shows.
-fn places_of(symbols: &[u8]) -> usize
+pub fn places_of(symbols: &[u8]) -> usize
     ensures places { result ≡ places_of symbols.now }
     ensures bound { result ≤ digit_symbols symbols.now }
 {

@@ -10,6 +10,7 @@ pub mod laws;
 mod number;
 pub mod picture;
 mod read;
+mod room;
 mod run;
 mod runs;
 mod store;

@@ -21,15 +21,22 @@ pub enum Picture {
 }
 
 impl Picture {
-    /// How many characters an item of this picture has, 1 to 32,000.
+    /// How many characters an item of this picture has.
+    pub fn length(&self) -> usize
+        ensures { result ≡ size_of self.now }
+    {
+        match self {
+            Picture::Text { size } => *size as usize,
+            Picture::Number { digits, signed, .. } => *digits as usize + *signed as usize,
+            Picture::Edited { symbols } => symbols.len(),
+        }
+    }
+
+    /// The same as a number of 16 bits, 1 to 32,000.
     pub fn size(&self) -> u16
         requires { IsPicture self.now }
         ensures { result ≡ size_of self.now }
     {
-        match self {
-            Picture::Text { size } => *size,
-            Picture::Number { digits, signed, .. } => *digits as u16 + *signed as u16,
-            Picture::Edited { symbols } => symbols.len() as u16,
-        }
+        self.length() as u16
     }
 }

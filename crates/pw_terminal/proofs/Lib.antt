@@ -1,3 +1,6 @@
-pub mod Fitted
+pub mod Cells
+pub mod EntryLemmas
+pub mod Examples
 pub mod RowLines
 pub mod Trimmed
+pub mod Written

@@ -1,13 +1,10 @@
 -- What a screen shows, and how it is printed.
 use Rattle.std.specs.Prelude.{ℕ, zero, suc, ◌+◌, ◌/◌, ◌%◌, List, [], ◌∷◌, ◌++◌, take, drop, replicate, ◌==◌, if◌then◌else◌}
+use Rattle.pw_picture.specs.Text.{fitted}
 
 -- a screen of spaces
 abbrev pub blank_cells : List ℕ
 blank_cells = replicate 1920 32
-
--- a text cut or padded with spaces to a width
-abbrev pub fitted : ℕ → List ℕ → List ℕ
-fitted width text = take width (text ++ replicate width 32)
 
 -- the screen with a text on row 24, and its other rows as they were
 abbrev pub with_message : List ℕ → List ℕ → List ℕ

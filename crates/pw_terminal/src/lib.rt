@@ -1,7 +1,11 @@
-//! The screen of a terminal: what is put on it, and how it is printed.
+//! The screen of a terminal: what is put on it, how it is printed, and which entries are right for it.
 #![tactic(auto)]
 
+pub mod entries;
 pub mod images;
+pub mod laws;
 pub mod printing;
+pub mod show;
 #[cfg(test)]
 mod tests;
+mod values;

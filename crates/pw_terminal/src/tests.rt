@@ -1,7 +1,20 @@
+ghost use Rattle.std.specs.Prelude.{◌≡◌, ◌≤◌, false, length, All, IfOk, OnOk};
+ghost use Rattle.pw_picture.specs.Grammar.{size_of};
+ghost use Rattle.pw_code.specs.Fields.{IsItem, IsInside, IsField, is_source_of};
+
+use crate::entries::{EntryAnswer, advise, check_entry};
 use crate::images::{blank, message};
 use crate::printing::refresh_text;
+use crate::show::{show, write_item};
 use pw_base::bytes::Bytes;
+use pw_base::list::List;
+use pw_base::memory::Memory;
+use pw_code::entry::EntryLine;
+use pw_code::field::{Field, FieldKind, ScreenTable};
 use pw_code::screen::{CELLS, ScreenImage};
+use pw_picture::grammar::picture;
+use pw_picture::picture::Picture;
+use std::alloc::Global;
 use std::process::Abort;
 use std::test::Fail;
 
@@ -9,47 +22,391 @@ use std::test::Fail;
 fn expect_lines(
     rt: &(impl Abort + AllocGlobal),
     image: &ScreenImage,
-    lines: &[u8],
+    lines: &str,
 ) -> Result<(), Fail> {
     let text = refresh_text(rt.alloc(), image)?;
-    assert_eq!(rt; text.as_slice(), lines);
+    assert!(rt; text.as_slice() == lines.as_bytes(), "{lines}");
     Ok(())
 }
 
 #[test]
-fn a_blank_screen_has_no_lines(rt: HostRuntime) -> Result<(), Fail> {
-    let image = blank(rt.alloc())?;
-    expect_lines(&rt, &image, b"")
-}
-
-#[test]
-fn a_message_stands_on_row_24(rt: HostRuntime) -> Result<(), Fail> {
+fn messages_and_rows_are_printed(rt: HostRuntime) -> Result<(), Fail> {
     let mut image = blank(rt.alloc())?;
-    message(b"HELLO", &mut image);
-    expect_lines(&rt, &image, b"24|HELLO\n")?;
-    message(b"BYE", &mut image);
-    expect_lines(&rt, &image, b"24|BYE\n")
-}
-
-#[test]
-fn a_long_message_is_cut_to_80(rt: HostRuntime) -> Result<(), Fail> {
-    let mut image = blank(rt.alloc())?;
-    message(
-        b"123456789.123456789.123456789.123456789.123456789.123456789.123456789.123456789.1",
-        &mut image,
-    );
-    expect_lines(
-        &rt,
-        &image,
-        b"24|123456789.123456789.123456789.123456789.123456789.123456789.123456789.123456789.\n",
-    )
-}
-
-#[test]
-fn a_row_loses_the_spaces_at_its_end(rt: HostRuntime) -> Result<(), Fail> {
+    expect_lines(&rt, &image, "")?;
+    for (text, lines) in [
+        ("HELLO", "24|HELLO\n"),
+        ("BYE", "24|BYE\n"),
+        (
+            "123456789.123456789.123456789.123456789.123456789.123456789.123456789.123456789.1",
+            "24|123456789.123456789.123456789.123456789.123456789.123456789.123456789.123456789.\n",
+        ),
+        ("", ""),
+    ] {
+        message(text.as_bytes(), &mut image);
+        expect_lines(&rt, &image, lines)?;
+    }
     let mut cells = Bytes::from_vec(vec![in rt.alloc(); b' '; CELLS]?);
     cells.overwrite(2, b"MAIN  MENU  ");
     cells.overwrite(9 * 80, b"END");
-    let image = ScreenImage { cells };
-    expect_lines(&rt, &image, b"01|  MAIN  MENU\n10|END\n")
+    expect_lines(&rt, &ScreenImage { cells }, "01|  MAIN  MENU\n10|END\n")
+}
+
+/// Whether an item of one picture may be shown by a field of the other.
+fn is_source_of(field: &Picture, item: &Picture) -> bool
+    ensures { result ≡ is_source_of field.now item.now }
+{
+    match (field, item) {
+        (Picture::Text { .. }, Picture::Text { .. }) => true,
+        (Picture::Text { .. }, _) => false,
+        (_, Picture::Number { .. }) => true,
+        _ => false,
+    }
+}
+
+/// Asserts what a field shows of an item's characters, or where it does not show it: the pictures stand
+/// as `X(5) of X(3)`.
+fn expect_shown(
+    rt: &(impl Abort + AllocGlobal),
+    shows: bool,
+    pictures: &str,
+    chars: &str,
+    wanted: &str,
+) -> Result<(), Fail> {
+    let (field, item) = pictures.split_once(" of ").ok_or("no pictures")?;
+    let field = picture(rt.alloc(), field.as_bytes()).ok().ok_or("none")?;
+    let item = picture(rt.alloc(), item.as_bytes()).ok().ok_or("none")?;
+    let mut cells = [b'*'; 10];
+    assert!(rt; field.length() <= 10 && item.length() == chars.len());
+    assert!(rt; is_source_of(&field, &item));
+    let cells = &mut cells[..field.length()];
+    write_item(&field, 0, &item, shows, chars.as_bytes(), cells);
+    assert!(rt; &*cells == wanted.as_bytes(), "{pictures}: {chars}");
+    Ok(())
+}
+
+#[test]
+fn fields_show_their_items(rt: HostRuntime) -> Result<(), Fail> {
+    for (pictures, chars, wanted) in [
+        ("X(3) of X(3)", "ABC", "ABC"),
+        ("X(5) of X(3)", "ABC", "ABC  "),
+        ("X(2) of X(3)", "ABC", "AB"),
+        ("X of X(3)", "  C", " "),
+        ("9(4) of 9(4)", "0012", "0012"),
+        ("9(4) of 9(2)", "12", "0012"),
+        ("9(2) of 9(4)", "1234", "34"),
+        ("9(3) of S9(3)", "-005", "005"),
+        ("S9(3) of 9(3)", "005", "+005"),
+        ("S9(3) of S9(3)", "-005", "-005"),
+        ("S9(2) of S9(4)", "-1200", "+00"),
+        ("9(3)V99 of 9(3)", "123", "12300"),
+        ("9(3) of 9(3)V99", "12345", "123"),
+        ("9V9 of 9(3)V99", "12345", "34"),
+        ("S9V9 of S9V99", "-009", "+00"),
+        ("9(4) of 9(4)", "1 A4", "1004"),
+        ("S9(3) of S9(3)", "X005", "+005"),
+        ("V99 of V99", "45", "45"),
+        ("9(3) of V99", "45", "000"),
+        ("ZZ,ZZ9.99- of S9(5)V99", "-0123450", " 1,234.50-"),
+        ("ZZ,ZZ9.99- of S9(5)V99", "+0123450", " 1,234.50 "),
+        ("ZZ9 of 9(3)", "000", "  0"),
+        ("ZZZ of 9(3)", "000", "   "),
+        ("ZZ9 of 9(3)", "045", " 45"),
+        ("ZZ9 of 9(4)", "1234", "234"),
+        ("-ZZ9 of S9(3)", "-007", "-  7"),
+        ("-ZZ9 of S9(3)", "+007", "   7"),
+        ("-ZZ9 of S9(4)", "-1000", "   0"),
+        ("Z,ZZZ of 9(4)", "0999", "  999"),
+        ("Z,ZZZ of 9(4)", "1000", "1,000"),
+        ("9,999 of 9(4)", "0005", "0,005"),
+        ("9.9 of 9(2)V99", "1234", "2.3"),
+        (".99 of V9", "5", ".50"),
+        ("Z.99 of V99", "05", " .05"),
+        (",99 of 9(2)", "05", " 05"),
+        ("9- of S9", "-5", "5-"),
+        ("9- of 9", "5", "5 "),
+    ] {
+        expect_shown(&rt, true, pictures, chars, wanted)?;
+    }
+    expect_shown(&rt, false, "X(3) of X(3)", "ABC", "   ")?;
+    expect_shown(&rt, false, "9(2) of 9(2)", "12", "  ")?;
+    expect_shown(&rt, false, "ZZ9.9 of 9(3)", "123", "     ")?;
+    Ok(())
+}
+
+/// A field of a literal.
+fn literal(alloc: Global, row: u8, column: u8, text: &[u8]) -> Result<Field, Memory>
+    requires { IsInside row column (length text.now) }
+    ensures { IfOk result (λ field. IsField 25 field) }
+{
+    let text = Bytes::from_slice(alloc, text)?;
+    Ok(Field {
+        name: Bytes::new(alloc),
+        row,
+        column,
+        shown: FieldKind::Literal(text),
+        takes: false,
+    })
+}
+
+/// A field with USING of an item of the same picture.
+fn using(
+    alloc: Global,
+    name: &[u8],
+    row: u8,
+    picture: Picture,
+    at: u32,
+    source: Picture,
+) -> Result<Field, Memory>
+    requires item { IsItem 25 picture at source }
+    requires inside { IsInside row 10 (size_of picture) }
+    ensures { IfOk result (λ field. IsField 25 field) }
+{
+    let name = Bytes::from_slice(alloc, name)?;
+    let shown = FieldKind::Item {
+        picture,
+        at,
+        source,
+        show: true,
+    };
+    Ok(Field {
+        name,
+        row,
+        column: 10,
+        shown,
+        takes: true,
+    })
+}
+
+/// A number of so many digits.
+fn digits(digits: u8) -> Picture
+    ensures { result ≡ Picture.Number digits 0 false }
+{
+    Picture::Number {
+        digits,
+        places: 0,
+        signed: false,
+    }
+}
+
+/// A text of so many characters.
+fn text(size: u16) -> Picture
+    ensures { result ≡ Picture.Text size }
+{
+    Picture::Text { size }
+}
+
+/// Puts a field behind the others.
+fn push_field(fields: &mut List<Field>, field: Field) -> Result<(), Memory>
+    requires all { All (IsField 25) fields.old }
+    requires field { IsField 25 field }
+    ensures { OnOk result (All (IsField 25) fields.new) }
+{
+    fields.push(field)?;
+    Ok(())
+}
+
+/// The screen of orders, over a storage of 25 characters: a number, an item and a quantity from the
+/// second one on.
+fn order_screen(alloc: Global) -> Result<ScreenTable, Memory>
+    ensures { IfOk result (λ table. All (IsField 25) table.fields) }
+{
+    let name = Bytes::from_slice(alloc, b"O-SCREEN")?;
+    let mut fields = List::new(alloc);
+    push_field(&mut fields, literal(alloc, 1, 30, b"ORDER ENTRY")?)?;
+    push_field(&mut fields, literal(alloc, 3, 1, b"NUMBER")?)?;
+    let number = using(alloc, b"S-NUMBER", 3, digits(4), 1, digits(4))?;
+    push_field(&mut fields, number)?;
+    push_field(&mut fields, literal(alloc, 4, 1, b"ITEM")?)?;
+    let item = using(alloc, b"S-ITEM", 4, text(4), 5, text(4))?;
+    push_field(&mut fields, item)?;
+    push_field(&mut fields, literal(alloc, 5, 1, b"QTY")?)?;
+    let quantity = using(alloc, b"S-QTY", 5, digits(3), 9, digits(3))?;
+    push_field(&mut fields, quantity)?;
+    Ok(ScreenTable { name, fields })
+}
+
+/// An entry line with one pair.
+fn entry(alloc: Global, key: u8, name: &str, value: &str) -> Result<EntryLine, Memory> {
+    let name = Bytes::from_slice(alloc, name.as_bytes())?;
+    let value = Bytes::from_slice(alloc, value.as_bytes())?;
+    let mut fields = List::new(alloc);
+    fields.push((name, value))?;
+    Ok(EntryLine { key, fields })
+}
+
+#[test]
+fn order_screen_images(rt: HostRuntime) -> Result<(), Fail> {
+    let alloc = rt.alloc();
+    let table = order_screen(alloc)?;
+    let mut image = blank(alloc)?;
+    message(b"OLD", &mut image);
+    show(&table, b" 0000    000             ", true, &mut image);
+    expect_lines(
+        &rt,
+        &image,
+        "01|                             ORDER ENTRY\n03|NUMBER   0000\n04|ITEM\n05|QTY      000\n",
+    )?;
+    let right = entry(alloc, 1, "S-NUMBER", "12")?;
+    assert_eq!(rt;
+        check_entry(&table, &[1, 32], &right),
+        EntryAnswer::Valid(1)
+    );
+    advise(EntryAnswer::Valid(1), &right, &mut image);
+    show(&table, b" 0012    000             ", false, &mut image);
+    expect_lines(
+        &rt,
+        &image,
+        "01|                             ORDER ENTRY\n03|NUMBER   0012\n04|ITEM\n05|QTY      000\n",
+    )?;
+    let mut bare = blank(alloc)?;
+    show(&table, b" 0012BOLT005             ", false, &mut bare);
+    expect_lines(
+        &rt,
+        &bare,
+        "03|         0012\n04|         BOLT\n05|         005\n",
+    )
+}
+
+/// Asserts what an entry is, and what row 24 says then.
+fn expect_advice(
+    rt: &(impl Abort + AllocGlobal),
+    table: &ScreenTable,
+    key: u8,
+    value: &str,
+    wanted: EntryAnswer,
+    image: &mut ScreenImage,
+    lines: &str,
+) -> Result<(), Fail> {
+    let entry = entry(rt.alloc(), key, "S-NUMBER", value)?;
+    let answer = check_entry(table, &[1, 32, 1, 32], &entry);
+    assert_eq!(rt; answer, wanted, "{value}");
+    advise(answer, &entry, image);
+    expect_lines(rt, image, lines)
+}
+
+#[test]
+fn invalid_field_name(rt: HostRuntime) -> Result<(), Fail> {
+    let table = order_screen(rt.alloc())?;
+    let mut image = blank(rt.alloc())?;
+    let wrong = EntryAnswer::BadField(0);
+    let lines = "24|INVALID FIELD S-NUMBER\n";
+    expect_advice(&rt, &table, 1, "12345", wrong, &mut image, lines)?;
+    let right = EntryAnswer::Valid(2);
+    expect_advice(&rt, &table, 32, "", right, &mut image, lines)?;
+    let lines = "24|INVALID KEY\n";
+    expect_advice(
+        &rt,
+        &table,
+        9,
+        "12345",
+        EntryAnswer::BadKey,
+        &mut image,
+        lines,
+    )
+}
+
+/// A field of this picture that takes entries.
+fn taking(alloc: Global, name: &str, text: &str, takes: bool) -> Result<Field, Fail> {
+    let name = Bytes::from_slice(alloc, name.as_bytes())?;
+    let shown = FieldKind::Item {
+        picture: picture(alloc, text.as_bytes()).ok().ok_or("none")?,
+        at: 0,
+        source: digits(4),
+        show: true,
+    };
+    Ok(Field {
+        name,
+        row: 1,
+        column: 1,
+        shown,
+        takes,
+    })
+}
+
+/// A screen of fields with all kinds of pictures.
+fn value_screen(alloc: Global) -> Result<ScreenTable, Fail> {
+    let name = Bytes::from_slice(alloc, b"VALUES")?;
+    let mut fields = List::new(alloc);
+    fields.push(taking(alloc, "N", "9(4)", true)?)?;
+    fields.push(taking(alloc, "S", "S9(3)V99", true)?)?;
+    fields.push(taking(alloc, "V", "V99", true)?)?;
+    fields.push(taking(alloc, "E", "ZZ9.99-", true)?)?;
+    fields.push(taking(alloc, "P", "9.9", true)?)?;
+    fields.push(taking(alloc, "T", "X(3)", true)?)?;
+    fields.push(taking(alloc, "", "X(3)", true)?)?;
+    fields.push(taking(alloc, "O", "9(4)", false)?)?;
+    Ok(ScreenTable { name, fields })
+}
+
+/// Asserts whether a pair, as `N=+5`, is right, with a key that is the second and the last of four.
+fn expect_answer(
+    rt: &(impl Abort + AllocGlobal),
+    table: &ScreenTable,
+    pair: &str,
+    right: bool,
+) -> Result<(), Fail> {
+    let (name, value) = pair.split_once('=').ok_or("no pair")?;
+    let entry = entry(rt.alloc(), 3, name, value)?;
+    let wanted = if right {
+        EntryAnswer::Valid(2)
+    } else {
+        EntryAnswer::BadField(0)
+    };
+    assert_eq!(rt; check_entry(table, &[7, 3, 9, 3], &entry), wanted, "{pair}");
+    Ok(())
+}
+
+#[test]
+fn values_are_checked(rt: HostRuntime) -> Result<(), Fail> {
+    let table = value_screen(rt.alloc())?;
+    for (pair, right) in [
+        ("N=1234", true),
+        ("N=12345", false),
+        ("N=00005", false),
+        ("N=5", true),
+        ("N=+5", true),
+        ("N=-5", false),
+        ("N=5.", true),
+        ("N=.5", false),
+        ("N=1.0", false),
+        ("N=", true),
+        ("N=+", false),
+        ("N=.", false),
+        ("N=1 2", false),
+        ("N=12A", false),
+        ("N=+123", true),
+        ("N=+1234", false),
+        ("n=7", true),
+        ("S=123.45", true),
+        ("S=-12.34", true),
+        ("S=-123.4", true),
+        ("S=1234", false),
+        ("S=1.234", false),
+        ("S=+.5", true),
+        ("S=-5.", true),
+        ("S=-", false),
+        ("S=--5", false),
+        ("S=1.2.3", false),
+        ("S=123.456", false),
+        ("V=.5", true),
+        ("V=5", false),
+        ("V=05", false),
+        ("E=999.99-", false),
+        ("E=-99.99", true),
+        ("E=1234", false),
+        ("E=9.999", false),
+        ("P=-1", false),
+        ("P=+1", true),
+        ("P=1.5", true),
+        ("T=ABC", true),
+        ("T=ABCD", false),
+        ("T=", true),
+        ("FILLER=A", false),
+        ("=A", false),
+        ("X=A", false),
+        ("O=5", false),
+    ] {
+        expect_answer(&rt, &table, pair, right)?;
+    }
+    Ok(())
 }
