@@ -1,0 +1,10 @@
+pub mod Conditions
+pub mod Faults
+pub mod FileForms
+pub mod Forms
+pub mod Operands
+pub mod Pieces
+pub mod Procedures
+pub mod Readers
+pub mod Tree
+pub mod Words
