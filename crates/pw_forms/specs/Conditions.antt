@@ -36,6 +36,13 @@ operator = do
   first ← token
   operator_by first.kind first
 
+-- op b
+unfoldable pub compared : Operand → Bool → Reader Comparison
+compared left negated = do
+  op ← operator
+  right ← operand
+  pure (comparisons.Compare left negated op right)
+
 -- `a [IS] [NOT] NUMERIC`, or `a [IS] [NOT] op b`
 unfoldable pub comparison : Reader Comparison
 comparison = do
@@ -43,10 +50,7 @@ comparison = do
   eats (codes "IS")
   negated ← eats (codes "NOT")
   numeric ← eats (codes "NUMERIC")
-  if numeric then pure (comparisons.Numeric left negated) else (do
-    op ← operator
-    right ← operand
-    pure (comparisons.Compare left negated op right))
+  if numeric then pure (comparisons.Numeric left negated) else compared left negated
 
 -- comparisons of which each must hold
 unfoldable pub all : Reader (List Comparison)

@@ -1,11 +1,9 @@
 -- The forms of the file verbs, which servers alone have.
-use Rattle.std.specs.Prelude.{ℕ, ◌∷◌, Bool, true, false, ◌&&◌, ◌||◌, codes, drop, List, [], Option, Some, None, if◌then◌else◌}
-use Rattle.pw_text.specs.declared.token.Token.{Token}
-use Rattle.pw_forms.specs.declared.statement.Statement.{Statement}
+use Rattle.std.specs.Prelude.{ℕ, Bool, true, false, ◌&&◌, ◌||◌, codes, Option, None, if◌then◌else◌}
 use Rattle.pw_forms.specs.declared.statement.Statement.TheVariants as statement
 use Rattle.pw_forms.specs.declared.form.Form.{Form}
 use Rattle.pw_forms.specs.declared.form.Form.TheVariants.{Whole}
-use Rattle.pw_forms.specs.Readers.{Rest, Reader, ◌>>=◌, ◌>>◌, pure, fails, is_first_word, sees, eats, expects}
+use Rattle.pw_forms.specs.Readers.{Rest, Reader, ◌>>=◌, ◌>>◌, pure, sees, sees_third, eats, expects}
 use Rattle.pw_forms.specs.Operands.{operand, file_name}
 
 -- WITH LOCK, if it comes next
@@ -45,9 +43,7 @@ read_next line = do
 
 -- NEXT, a file and AFTER or WITH come next: else NEXT is itself the name of the file
 unfoldable pub sees_next : Rest → Bool
-sees_next rest =
-    sees (codes "NEXT") rest
-    && (is_first_word rest.text (drop 2 rest.tokens) (codes "AFTER") || is_first_word rest.text (drop 2 rest.tokens) (codes "WITH"))
+sees_next rest = sees (codes "NEXT") rest && (sees_third (codes "AFTER") rest || sees_third (codes "WITH") rest)
 
 -- the forms of READ
 unfoldable pub read_any : ℕ → Reader Form
@@ -62,12 +58,26 @@ of_servers found = λ rest. if rest.server then found rest else None
 unfoldable pub read : ℕ → Reader Form
 read line = of_servers (read_any line)
 
--- WRITE $RECEIVE FROM item, WRITE file FROM item
+-- WRITE $RECEIVE FROM item, behind $RECEIVE
+unfoldable pub reply : ℕ → Reader Form
+reply line = do
+  expects (codes "FROM")
+  from ← operand
+  pure (Whole (statement.Reply line from))
+
+-- WRITE file FROM item
+unfoldable pub write_file : ℕ → Reader Form
+write_file line = do
+  file ← file_name
+  expects (codes "FROM")
+  from ← operand
+  pure (Whole (statement.Write line file from))
+
+-- the forms of WRITE
 unfoldable pub write_any : ℕ → Reader Form
 write_any line = do
-  reply ← eats (codes "$RECEIVE")
-  if reply then (do expects (codes "FROM"); from ← operand; pure (Whole (statement.Reply line from)))
-      else (do file ← file_name; expects (codes "FROM"); from ← operand; pure (Whole (statement.Write line file from)))
+  message ← eats (codes "$RECEIVE")
+  if message then reply line else write_file line
 
 unfoldable pub write : ℕ → Reader Form
 write line = of_servers (write_any line)

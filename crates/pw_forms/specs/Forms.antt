@@ -28,8 +28,8 @@ abbrev pub most : ℕ
 most = 9999
 
 -- MOVE any TO item ..
-unfoldable pub move : ℕ → Reader Form
-move line = do
+unfoldable pub move_form : ℕ → Reader Form
+move_form line = do
   from ← operand
   expects (codes "TO")
   to ← some operand
@@ -69,15 +69,28 @@ if_form line = do
   eats (codes "THEN")
   pure (Opens (head.If line cond))
 
--- PERFORM p, PERFORM p num TIMES, PERFORM p UNTIL cond
+-- PERFORM p UNTIL cond, behind UNTIL
+unfoldable pub perform_until : ℕ → Word → Reader Form
+perform_until line paragraph = do
+  cond ← condition
+  pure (Whole (statement.PerformUntil line paragraph cond))
+
+-- PERFORM p num TIMES, behind the name
+unfoldable pub perform_times : ℕ → Word → Reader Form
+perform_times line paragraph = do
+  times ← operand
+  expects (codes "TIMES")
+  pure (Whole (statement.PerformTimes line paragraph times))
+
+-- PERFORM p, PERFORM p UNTIL cond, PERFORM p num TIMES
 unfoldable pub perform_one : ℕ → Reader Form
 perform_one line = do
   paragraph ← name
   until ← eats (codes "UNTIL")
-  if until then (do cond ← condition; pure (Whole (statement.PerformUntil line paragraph cond)))
+  if until then perform_until line paragraph
       else (λ rest.
-      if is_done rest then Some (Whole (statement.Perform line paragraph), rest)
-          else (do times ← operand; expects (codes "TIMES"); pure (Whole (statement.PerformTimes line paragraph times))) rest)
+        if is_done rest then Some (Whole (statement.Perform line paragraph), rest)
+        else perform_times line paragraph rest)
 
 -- PERFORM ONE OF p .. DEPENDING ON item, behind ONE
 unfoldable pub perform_one_of : ℕ → Reader Form
@@ -122,12 +135,17 @@ accept line = do
   at_most most (length keys)
   pure (Whole (statement.Accept line screen keys))
 
+-- USING item .., if it comes next
+unfoldable pub using : Reader (List Operand)
+using = do
+  found ← eats (codes "USING")
+  if found then some operand else pure []
+
 -- CALL program [USING item ..]
 unfoldable pub call : ℕ → Reader Form
 call line = do
   program ← program_name
-  using ← eats (codes "USING")
-  arguments ← if using then some operand else pure []
+  arguments ← using
   pure (Whole (statement.Call line program arguments))
 
 -- CODE n YIELDS item
@@ -167,7 +185,7 @@ form_by verb.Divide line = arithmetic line operation.Divide (codes "INTO")
 form_by verb.EndTransaction line = bare (statement.End line)
 form_by verb.Exit line = exit line
 form_by verb.If line = if_form line
-form_by verb.Move line = move line
+form_by verb.Move line = move_form line
 form_by verb.Multiply line = arithmetic line operation.Multiply (codes "BY")
 form_by verb.Perform line = perform line
 form_by verb.Read line = read line

@@ -1,5 +1,5 @@
 -- Operands, names and numbers of a form.
-use Rattle.std.specs.Prelude.{ℕ, ◌+◌, ◌-◌, ◌*◌, min, nat_le, List, [], ◌∷◌, ◌++◌, Bool, true, false, not, ◌&&◌, ◌||◌, ◌==◌, length, codes, Option, Some, None, fold, option_map, if◌then◌else◌}
+use Rattle.std.specs.Prelude.{ℕ, ◌+◌, ◌-◌, ◌*◌, min, nat_le, List, [], ◌∷◌, ◌++◌, Bool, true, false, not, ◌&&◌, ◌||◌, ◌==◌, length, codes, Option, Some, None, option_map, if◌then◌else◌}
 use Rattle.std.specs.List.{list_all}
 use Rattle.std.specs.Char.{is_ascii_digit}
 use Rattle.pw_words.specs.Words.{Word, place_of}
@@ -28,9 +28,14 @@ abbrev pub unquoted : Bool → List ℕ → List ℕ
 unquoted second [] = []
 unquoted second (byte ∷ bytes) = kept second byte ++ unquoted (is_first_quote second byte) bytes
 
--- the value of digits, where every value above 9,999 is as 10,000
+-- the value of digits behind those of a value, where every value above 9,999 is as 10,000
+abbrev pub value_from : ℕ → List ℕ → ℕ
+value_from value [] = value
+value_from value (digit ∷ digits) = value_from (min (10 * value + (digit - 48)) 10000) digits
+
+-- the value of digits
 abbrev pub value_of : List ℕ → ℕ
-value_of digits = fold (λ value digit. min (10 * value + (digit - 48)) 10000) 0 digits
+value_of digits = value_from 0 digits
 
 -- ---- items and other operands
 

@@ -44,6 +44,10 @@ is_first_word text (token ∷ tokens) word = is_the_word text token word
 unfoldable pub sees : Word → Rest → Bool
 sees word rest = is_first_word rest.text rest.tokens word
 
+-- the token behind the next two is this word
+unfoldable pub sees_third : Word → Rest → Bool
+sees_third word rest = is_first_word rest.text (drop 2 rest.tokens) word
+
 -- what is left behind the next token
 unfoldable pub behind : Rest → Rest
 behind rest = record rest { tokens = drop 1 rest.tokens }
@@ -56,9 +60,13 @@ token = λ rest. token_of rest.tokens rest
   token_of [] rest = None
   token_of (next ∷ tokens) rest = Some (next, behind rest)
 
+-- what is left behind the next token, where it is this word
+unfoldable pub past : Word → Rest → Rest
+past word rest = if sees word rest then behind rest else rest
+
 -- takes the next token where it is this word, and tells it
 abbrev pub eats : Word → Reader Bool
-eats word = λ rest. Some (sees word rest, if sees word rest then behind rest else rest)
+eats word = λ rest. Some (sees word rest, past word rest)
 
 -- takes this word
 unfoldable pub expects : Word → Reader (Unit {0})
@@ -73,9 +81,13 @@ is_first_kind (token ∷ tokens) kind = same_kind token.kind kind
 unfoldable pub sees_kind : TokenKind → Rest → Bool
 sees_kind kind rest = is_first_kind rest.tokens kind
 
+-- what is left behind the next token, where it is of this kind
+unfoldable pub past_kind : TokenKind → Rest → Rest
+past_kind kind rest = if sees_kind kind rest then behind rest else rest
+
 -- takes the next token where it is of this kind, and tells it
 abbrev pub takes : TokenKind → Reader Bool
-takes kind = λ rest. Some (sees_kind kind rest, if sees_kind kind rest then behind rest else rest)
+takes kind = λ rest. Some (sees_kind kind rest, past_kind kind rest)
 
 -- nothing is left
 unfoldable pub is_done : Rest → Bool

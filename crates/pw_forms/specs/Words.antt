@@ -1,5 +1,5 @@
 -- The words of a procedure.
-use Rattle.std.specs.Prelude.{ℕ, ◌-◌, List, [], ◌∷◌, Bool, true, false, not, ◌&&◌, ◌||◌, is_some, codes, slice_get, take, drop, Option, Some, None, unwrap_or, option_and_then}
+use Rattle.std.specs.Prelude.{ℕ, ◌-◌, List, [], ◌∷◌, Bool, true, false, not, ◌&&◌, ◌||◌, is_some, codes, slice_get, take, drop, Option, Some, None, unwrap_or}
 use Rattle.std.specs.Str.{str_to_ascii_uppercase}
 use denote.Enum.Bare.{sameb}
 use Rattle.pw_words.specs.Words.{Word, same_word, place_of}
@@ -49,9 +49,14 @@ marks =
     mark.Verb verb.Rewrite ∷ mark.Verb verb.Send ∷ mark.Verb verb.Stop ∷ mark.Verb verb.Subtract ∷
     mark.Verb verb.Write ∷ mark.Else ∷ mark.EndIf ∷ []
 
+-- the mark at a place
+abbrev pub mark_in : List Mark → ℕ → Mark
+mark_in found place = unwrap_or (slice_get found place) mark.Other
+
 -- what a word begins, by its place in the table
 abbrev pub mark_at : Option ℕ → Mark
-mark_at place = unwrap_or (option_and_then (slice_get marks) place) mark.Other
+mark_at None = mark.Other
+mark_at (Some place) = mark_in marks place
 
 -- what a token begins
 abbrev pub mark_of : Bool → List ℕ → Token → Mark

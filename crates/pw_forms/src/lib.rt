@@ -3,10 +3,17 @@
 #![tactic(auto)]
 
 pub mod cond;
+mod conditions;
+mod cursor;
+mod file_forms;
 mod form;
+mod forms;
 mod lack;
 pub mod lists;
+mod literal;
 mod mark;
 pub mod operand;
+mod operands;
 mod piece;
 pub mod statement;
+mod words;

@@ -7,7 +7,8 @@ use std::marker::Model;
 /// The most keys of an ACCEPT, and the most codes of a SEND.
 pub const MOST: usize = 9_999;
 
-/// The keys of an ACCEPT, at most 9,999: 1 to 16 for F1 to F16, and 17 to 32 for SF1 to SF16.
+/// The keys of an ACCEPT, at most 9,999, in their order: 1 to 16 for F1 to F16, and 17 to 32 for SF1 to
+/// SF16.
 #[derive(Debug, Drop)]
 pub struct Keys {
     keys: List<u8>,
@@ -26,7 +27,23 @@ impl Model for Keys {
     ghost invariant = { λ keys. length keys.keys ≤ 9999 };
 }
 
-/// One code of a SEND, 0 to 9999, and where the reply goes that has it.
+impl Keys {
+    pub fn new(keys: List<u8>) -> Keys
+        requires { length keys ≤ 9999 }
+        ensures { result ≡ keys }
+    {
+        Keys { keys }
+    }
+
+    pub fn as_slice(&self) -> &[u8]
+        ensures keys { result.now ≡ self.now }
+        ensures bound { length result.now ≤ 9999 }
+    {
+        self.keys.as_slice()
+    }
+}
+
+/// One code of a SEND, 0 to 9999, and the item to which a reply of this code goes.
 #[derive(Debug, Drop)]
 pub struct Code {
     pub number: u16,
@@ -41,7 +58,6 @@ pub struct Codes {
 
 impl Model for Codes {
     ghost use Rattle.std.specs.Prelude.{◌≤◌, List as ListOf, length};
-    ghost use Rattle.std.specs.Coded.{coded_list};
     ghost use Rattle.pw_forms.specs.declared.lists.Code.{Code};
 
     ghost Value = { ListOf Code };
@@ -49,4 +65,20 @@ impl Model for Codes {
     ghost view = { λ codes. codes.codes };
 
     ghost invariant = { λ codes. length codes.codes ≤ 9999 };
+}
+
+impl Codes {
+    pub fn new(codes: List<Code>) -> Codes
+        requires { length codes ≤ 9999 }
+        ensures { result ≡ codes }
+    {
+        Codes { codes }
+    }
+
+    pub fn as_slice(&self) -> &[Code]
+        ensures codes { result.now ≡ self.now }
+        ensures bound { length result.now ≤ 9999 }
+    {
+        self.codes.as_slice()
+    }
 }

@@ -1,0 +1,392 @@
+ghost use Rattle.std.specs.Prelude.{◌≡◌, codes};
+ghost use Rattle.pw_forms.specs.Readers.{Reads, some, up_to};
+ghost use Rattle.pw_forms.specs.Operands.{operand, name, key};
+ghost use Rattle.pw_forms.specs.Forms as spec;
+
+use crate::conditions::condition;
+use crate::cursor::Cursor;
+use crate::file_forms::{delete, read, rewrite, write};
+use crate::form::{Form, Head};
+use crate::lack::Lack;
+use crate::lists::{Code, Codes, Keys, MOST};
+use crate::mark::Verb;
+use crate::operand::Operand;
+use crate::operands::{code, key, name, operand, program_name};
+use crate::statement::{Arithmetic, Operation, Statement};
+use pw_base::bytes::Bytes;
+use pw_base::list::List;
+use std::alloc::Global;
+
+/// One operand or more, to the end.
+fn operands(alloc: Global, rest: &mut Cursor<'_>) -> Result<List<Operand>, Lack>
+    ensures { Reads (some operand rest.old) result rest.new }
+{
+    let mut found = List::new(alloc);
+    for _turn in 0..rest.left() {
+        found.push(operand(alloc, rest)?)?;
+        if rest.is_done() {
+            return Ok(found);
+        }
+    }
+    Err(Lack::NoForm)
+}
+
+/// `MOVE any TO item ..`
+#[tactic(auto, unfolding(crate::specs::Forms::move_form))]
+fn move_form(alloc: Global, line: u32, rest: &mut Cursor<'_>) -> Result<Form, Lack>
+    ensures { Reads (spec.move_form line rest.old) result rest.new }
+{
+    let from = operand(alloc, rest)?;
+    rest.expects(b"TO")?;
+    let to = operands(alloc, rest)?;
+    Ok(Form::Whole(Statement::Move { line, from, to }))
+}
+
+/// `GIVING item`, if it comes next.
+#[tactic(auto, unfolding(crate::specs::Forms::giving))]
+fn giving(alloc: Global, rest: &mut Cursor<'_>) -> Result<Option<Operand>, Lack>
+    ensures { Reads (spec.giving rest.old) result rest.new }
+{
+    if rest.eats(b"GIVING") {
+        Ok(Some(operand(alloc, rest)?))
+    } else {
+        Ok(None)
+    }
+}
+
+/// `ON SIZE ERROR`, if it comes next.
+#[tactic(auto, unfolding(crate::specs::Forms::on_size_error))]
+fn on_size_error(rest: &mut Cursor<'_>) -> Result<bool, Lack>
+    ensures { Reads (spec.on_size_error rest.old) result rest.new }
+{
+    if rest.eats(b"ON") {
+        rest.expects(b"SIZE")?;
+        rest.expects(b"ERROR")?;
+        Ok(true)
+    } else {
+        Ok(false)
+    }
+}
+
+/// Arithmetic, which `ON SIZE ERROR` makes one that opens a branch.
+fn arithmetic_by(line: u32, opens: bool, arithmetic: Arithmetic) -> Form
+    ensures { result ≡ spec.arithmetic_by line opens arithmetic }
+{
+    if opens {
+        Form::Opens(Head::OnSizeError { line, arithmetic })
+    } else {
+        Form::Whole(Statement::Arithmetic { line, arithmetic })
+    }
+}
+
+/// `num word num [GIVING item] [ON SIZE ERROR]`
+#[tactic(auto, unfolding(crate::specs::Forms::arithmetic))]
+fn arithmetic(
+    alloc: Global,
+    line: u32,
+    operation: Operation,
+    word: &[u8],
+    rest: &mut Cursor<'_>,
+) -> Result<Form, Lack>
+    ensures { Reads (spec.arithmetic line operation word.now rest.old) result rest.new }
+{
+    let first = operand(alloc, rest)?;
+    rest.expects(word)?;
+    let second = operand(alloc, rest)?;
+    let giving = giving(alloc, rest)?;
+    let opens = on_size_error(rest)?;
+    let arithmetic = Arithmetic {
+        operation,
+        first,
+        second,
+        giving,
+    };
+    Ok(arithmetic_by(line, opens, arithmetic))
+}
+
+/// `IF cond [THEN]`
+#[tactic(auto, unfolding(crate::specs::Forms::if_form))]
+fn if_form(alloc: Global, line: u32, rest: &mut Cursor<'_>) -> Result<Form, Lack>
+    ensures { Reads (spec.if_form line rest.old) result rest.new }
+{
+    let cond = condition(alloc, rest)?;
+    rest.eats(b"THEN");
+    Ok(Form::Opens(Head::If { line, cond }))
+}
+
+/// `PERFORM p UNTIL cond`, behind UNTIL.
+#[tactic(auto, unfolding(crate::specs::Forms::perform_until))]
+fn perform_until(
+    alloc: Global,
+    line: u32,
+    paragraph: Bytes,
+    rest: &mut Cursor<'_>,
+) -> Result<Form, Lack>
+    ensures { Reads (spec.perform_until line paragraph rest.old) result rest.new }
+{
+    let cond = condition(alloc, rest)?;
+    Ok(Form::Whole(Statement::PerformUntil {
+        line,
+        paragraph,
+        cond,
+    }))
+}
+
+/// `PERFORM p num TIMES`, behind the name.
+#[tactic(auto, unfolding(crate::specs::Forms::perform_times))]
+fn perform_times(
+    alloc: Global,
+    line: u32,
+    paragraph: Bytes,
+    rest: &mut Cursor<'_>,
+) -> Result<Form, Lack>
+    ensures { Reads (spec.perform_times line paragraph rest.old) result rest.new }
+{
+    let times = operand(alloc, rest)?;
+    rest.expects(b"TIMES")?;
+    Ok(Form::Whole(Statement::PerformTimes {
+        line,
+        paragraph,
+        times,
+    }))
+}
+
+/// `PERFORM p`, `PERFORM p UNTIL cond` or `PERFORM p num TIMES`
+#[tactic(auto, unfolding(crate::specs::Forms::perform_one))]
+fn perform_one(alloc: Global, line: u32, rest: &mut Cursor<'_>) -> Result<Form, Lack>
+    ensures { Reads (spec.perform_one line rest.old) result rest.new }
+{
+    let paragraph = name(alloc, rest)?;
+    if rest.eats(b"UNTIL") {
+        perform_until(alloc, line, paragraph, rest)
+    } else if rest.is_done() {
+        Ok(Form::Whole(Statement::Perform { line, paragraph }))
+    } else {
+        perform_times(alloc, line, paragraph, rest)
+    }
+}
+
+/// One name or more, up to DEPENDING.
+fn names(alloc: Global, rest: &mut Cursor<'_>) -> Result<List<Bytes>, Lack>
+    ensures { Reads (up_to (codes "DEPENDING") name rest.old) result rest.new }
+{
+    let mut found = List::new(alloc);
+    for _turn in 0..rest.left() {
+        found.push(name(alloc, rest)?)?;
+        if rest.eats(b"DEPENDING") {
+            return Ok(found);
+        }
+    }
+    Err(Lack::NoForm)
+}
+
+/// `PERFORM ONE OF p .. DEPENDING ON item`, behind ONE.
+#[tactic(auto, unfolding(crate::specs::Forms::perform_one_of))]
+fn perform_one_of(alloc: Global, line: u32, rest: &mut Cursor<'_>) -> Result<Form, Lack>
+    ensures { Reads (spec.perform_one_of line rest.old) result rest.new }
+{
+    rest.expects(b"OF")?;
+    let paragraphs = names(alloc, rest)?;
+    rest.expects(b"ON")?;
+    let position = operand(alloc, rest)?;
+    Ok(Form::Whole(Statement::PerformOneOf {
+        line,
+        paragraphs,
+        position,
+    }))
+}
+
+#[tactic(auto, unfolding(crate::specs::Forms::perform))]
+fn perform(alloc: Global, line: u32, rest: &mut Cursor<'_>) -> Result<Form, Lack>
+    ensures { Reads (spec.perform line rest.old) result rest.new }
+{
+    if rest.eats(b"ONE") {
+        perform_one_of(alloc, line, rest)
+    } else {
+        perform_one(alloc, line, rest)
+    }
+}
+
+/// `EXIT` or `EXIT PROGRAM`
+#[tactic(auto, unfolding(crate::specs::Forms::exit))]
+fn exit(line: u32, rest: &mut Cursor<'_>) -> Result<Form, Lack>
+    ensures { Reads (spec.exit line rest.old) result rest.new }
+{
+    if rest.eats(b"PROGRAM") {
+        Ok(Form::Whole(Statement::ExitProgram { line }))
+    } else {
+        Ok(Form::Whole(Statement::Exit { line }))
+    }
+}
+
+/// `STOP RUN`
+#[tactic(auto, unfolding(crate::specs::Forms::stop))]
+fn stop(line: u32, rest: &mut Cursor<'_>) -> Result<Form, Lack>
+    ensures { Reads (spec.stop line rest.old) result rest.new }
+{
+    rest.expects(b"RUN")?;
+    Ok(Form::Whole(Statement::StopRun { line }))
+}
+
+/// `DISPLAY BASE screen`, `DISPLAY screen` or `DISPLAY any`
+#[tactic(auto, unfolding(crate::specs::Forms::display))]
+fn display(alloc: Global, line: u32, rest: &mut Cursor<'_>) -> Result<Form, Lack>
+    ensures { Reads (spec.display line rest.old) result rest.new }
+{
+    if rest.eats(b"BASE") {
+        let screen = name(alloc, rest)?;
+        Ok(Form::Whole(Statement::DisplayBase { line, screen }))
+    } else {
+        let shown = operand(alloc, rest)?;
+        Ok(Form::Whole(Statement::Display { line, shown }))
+    }
+}
+
+/// One key or more, to the end.
+fn keys(alloc: Global, rest: &mut Cursor<'_>) -> Result<List<u8>, Lack>
+    ensures { Reads (some key rest.old) result rest.new }
+{
+    let mut found = List::new(alloc);
+    for _turn in 0..rest.left() {
+        found.push(key(rest)?)?;
+        if rest.is_done() {
+            return Ok(found);
+        }
+    }
+    Err(Lack::NoForm)
+}
+
+/// `ACCEPT screen UNTIL key ..`
+#[tactic(auto, unfolding(crate::specs::Forms::accept, crate::specs::Forms::at_most))]
+fn accept(alloc: Global, line: u32, rest: &mut Cursor<'_>) -> Result<Form, Lack>
+    ensures { Reads (spec.accept line rest.old) result rest.new }
+{
+    let screen = name(alloc, rest)?;
+    rest.expects(b"UNTIL")?;
+    let keys = keys(alloc, rest)?;
+    if keys.len() > MOST {
+        return Err(Lack::NoForm);
+    }
+    let keys = Keys::new(keys);
+    Ok(Form::Whole(Statement::Accept { line, screen, keys }))
+}
+
+/// `USING item ..`, if it comes next.
+#[tactic(auto, unfolding(crate::specs::Forms::using))]
+fn using(alloc: Global, rest: &mut Cursor<'_>) -> Result<List<Operand>, Lack>
+    ensures { Reads (spec.using rest.old) result rest.new }
+{
+    if rest.eats(b"USING") {
+        operands(alloc, rest)
+    } else {
+        Ok(List::new(alloc))
+    }
+}
+
+/// `CALL program [USING item ..]`
+#[tactic(auto, unfolding(crate::specs::Forms::call))]
+fn call(alloc: Global, line: u32, rest: &mut Cursor<'_>) -> Result<Form, Lack>
+    ensures { Reads (spec.call line rest.old) result rest.new }
+{
+    let program = program_name(alloc, rest)?;
+    let arguments = using(alloc, rest)?;
+    Ok(Form::Whole(Statement::Call {
+        line,
+        program,
+        arguments,
+    }))
+}
+
+/// `CODE n YIELDS item`
+#[tactic(auto, unfolding(crate::specs::Forms::code_clause))]
+fn code_clause(alloc: Global, rest: &mut Cursor<'_>) -> Result<Code, Lack>
+    ensures { Reads (spec.code_clause rest.old) result rest.new }
+{
+    rest.expects(b"CODE")?;
+    let number = code(rest)?;
+    rest.expects(b"YIELDS")?;
+    let yields = operand(alloc, rest)?;
+    Ok(Code { number, yields })
+}
+
+/// One code or more, to the end.
+fn code_clauses(alloc: Global, rest: &mut Cursor<'_>) -> Result<List<Code>, Lack>
+    ensures { Reads (some spec.code_clause rest.old) result rest.new }
+{
+    let mut found = List::new(alloc);
+    for _turn in 0..rest.left() {
+        found.push(code_clause(alloc, rest)?)?;
+        if rest.is_done() {
+            return Ok(found);
+        }
+    }
+    Err(Lack::NoForm)
+}
+
+/// `SEND item TO class REPLY CODE n YIELDS item [CODE n YIELDS item] ..`
+#[tactic(auto, unfolding(crate::specs::Forms::send, crate::specs::Forms::at_most))]
+fn send(alloc: Global, line: u32, rest: &mut Cursor<'_>) -> Result<Form, Lack>
+    ensures { Reads (spec.send line rest.old) result rest.new }
+{
+    let message = operand(alloc, rest)?;
+    rest.expects(b"TO")?;
+    let class = program_name(alloc, rest)?;
+    rest.expects(b"REPLY")?;
+    let codes = code_clauses(alloc, rest)?;
+    if codes.len() > MOST {
+        return Err(Lack::NoForm);
+    }
+    let codes = Codes::new(codes);
+    Ok(Form::Whole(Statement::Send {
+        line,
+        message,
+        class,
+        codes,
+    }))
+}
+
+/// A form that has nothing behind its verb.
+fn bare(statement: Statement) -> Result<Form, Lack>
+    ensures { result ≡ Ok (Form.Whole statement) }
+{
+    Ok(Form::Whole(statement))
+}
+
+/// The form of a verb.
+fn form_by(alloc: Global, verb: Verb, line: u32, rest: &mut Cursor<'_>) -> Result<Form, Lack>
+    ensures { Reads (spec.form_by verb line rest.old) result rest.new }
+{
+    match verb {
+        Verb::Accept => accept(alloc, line, rest),
+        Verb::AbortTransaction => bare(Statement::Abort { line }),
+        Verb::Add => arithmetic(alloc, line, Operation::Add, b"TO", rest),
+        Verb::BeginTransaction => bare(Statement::Begin { line }),
+        Verb::Call => call(alloc, line, rest),
+        Verb::Delete => delete(alloc, line, rest),
+        Verb::Display => display(alloc, line, rest),
+        Verb::Divide => arithmetic(alloc, line, Operation::Divide, b"INTO", rest),
+        Verb::EndTransaction => bare(Statement::End { line }),
+        Verb::Exit => exit(line, rest),
+        Verb::If => if_form(alloc, line, rest),
+        Verb::Move => move_form(alloc, line, rest),
+        Verb::Multiply => arithmetic(alloc, line, Operation::Multiply, b"BY", rest),
+        Verb::Perform => perform(alloc, line, rest),
+        Verb::Read => read(alloc, line, rest),
+        Verb::RestartTransaction => bare(Statement::Restart { line }),
+        Verb::Rewrite => rewrite(alloc, line, rest),
+        Verb::Send => send(alloc, line, rest),
+        Verb::Stop => stop(line, rest),
+        Verb::Subtract => arithmetic(alloc, line, Operation::Subtract, b"FROM", rest),
+        Verb::Write => write(alloc, line, rest),
+    }
+}
+
+/// The form of a piece, behind its verb and to its end.
+#[tactic(auto, unfolding(crate::specs::Forms::form))]
+pub fn form(alloc: Global, verb: Verb, line: u32, rest: &mut Cursor<'_>) -> Result<Form, Lack>
+    ensures { Reads (spec.form verb line rest.old) result rest.new }
+{
+    let found = form_by(alloc, verb, line, rest)?;
+    rest.ends()?;
+    Ok(found)
+}
