@@ -3,9 +3,10 @@ use Rattle.std.proofs.Common.{◌≡◌, ℕ, ◌<◌, List, length, Option, Non
 use Rattle.std.specs.Prelude.{IfSome, IfOk, nat_lt}
 use Rattle.std.specs.Io.KnownBytes.{Consumes}
 use Rattle.std.proofs.lemmas.Bool.Decides.{nat_tests}
+use Rattle.pw_base.specs.declared.fault_code.FaultCode.TheVariants.{InputTooLong}
 use Rattle.pw_base.specs.declared.memory.Memory.{Memory}
-use Rattle.pw_base.specs.declared.read_all.TheConstants.{MAX_INPUT}
-use Rattle.pw_base.specs.Outside.{Rose, WritesAll}
+use Rattle.pw_base.specs.Limits.{longest_input, most_entries}
+use Rattle.pw_base.specs.Outside.{WritesAll}
 use Rattle.pw_base.specs.declared.fault.Fault.{Fault}
 use Rattle.pw_display.specs.State.{starting}
 use Rattle.pw_display.specs.Step.{IsRun}
@@ -14,7 +15,6 @@ use Rattle.pw_deck.specs.Deck.{program_of, system_of}
 use Rattle.pw_report.specs.Report.{report_text}
 use Rattle.pathway.specs.declared.run.RunEnd.{RunEnd}
 use Rattle.pathway.specs.declared.run.RunEnd.TheVariants as end
-use Rattle.pathway.specs.declared.status.TheConstants.{MAX_ENTRIES}
 use Rattle.pathway.specs.declared.status.Status.{Status}
 use Rattle.pathway.specs.declared.status.Status.TheVariants as status
 use Rattle.pathway.specs.Commands.{takes, fault_line}
@@ -24,7 +24,7 @@ use Rattle.pathway.specs.Statuses.{Reports, Defines, Call, HasText, IsCutOff}
 use Rattle.pathway.proofs.Source.{behaves}
 
 -- the report of a finished run of a deck's system is one of the deck
-pub reports_finished : (bytes text : List ℕ) (texts : List (List ℕ)) → program_of bytes ≡ Ok texts → RunsTo (system_of texts) MAX_ENTRIES end.Finished text → Reports bytes true text
+pub reports_finished : (bytes text : List ℕ) (texts : List (List ℕ)) → program_of bytes ≡ Ok texts → RunsTo (system_of texts) most_entries end.Finished text → Reports bytes true text
 reports_finished bytes text texts deck r =
     let same = behaves texts in
     let run : IsRun (deck_system texts) starting r.log = subst (λ sys. IsRun sys starting r.log) same r.run in
@@ -40,7 +40,7 @@ reports_finished bytes text texts deck r =
     }
 
 -- the same of a log that is full
-pub reports_full : (bytes text : List ℕ) (texts : List (List ℕ)) → program_of bytes ≡ Ok texts → RunsTo (system_of texts) MAX_ENTRIES end.Limit text → Reports bytes false text
+pub reports_full : (bytes text : List ℕ) (texts : List (List ℕ)) → program_of bytes ≡ Ok texts → RunsTo (system_of texts) most_entries end.Limit text → Reports bytes false text
 reports_full bytes text texts deck r =
     let same = behaves texts in
     let run : IsRun (deck_system texts) starting r.log = subst (λ sys. IsRun sys starting r.log) same r.run in
@@ -55,7 +55,7 @@ reports_full bytes text texts deck r =
       full = λ e. r.ended.0;
     }
 
-pub defines_run : (bytes text : List ℕ) (texts : List (List ℕ)) (how : RunEnd) → program_of bytes ≡ Ok texts → RunsTo (system_of texts) MAX_ENTRIES how text → Defines (status_of how) bytes text
+pub defines_run : (bytes text : List ℕ) (texts : List (List ℕ)) (how : RunEnd) → program_of bytes ≡ Ok texts → RunsTo (system_of texts) most_entries how text → Defines (status_of how) bytes text
 defines_run bytes text texts end.Finished deck r = reports_finished bytes text texts deck r
 defines_run bytes text texts end.Limit deck r = reports_full bytes text texts deck r
 
@@ -66,33 +66,33 @@ refused_defines bytes fault (Ok output) deck is = rw is.0 (record { fault = faul
 refused_defines bytes fault (Err memory) deck is = tt
 
 -- an input that is longer than the longest has the fault 190 on line 0
-pub long_fault : (bytes : List ℕ) → MAX_INPUT < length bytes → program_of bytes ≡ Err (record { line = 0; code = 190 })
+pub long_fault : (bytes : List ℕ) → longest_input < length bytes → program_of bytes ≡ Err (record { line = 0; code = InputTooLong })
 long_fault bytes long =
-    let test : nat_lt MAX_INPUT (length bytes) ≡ true = grind (arith, nat_tests) in
+    let test : nat_lt longest_input (length bytes) ≡ true = grind (arith, nat_tests) in
     rw test refl
 
 -- more bytes were taken than the longest input has, so that more were left
-pub too_long : (left now : Option (List ℕ)) (taken : List ℕ) → Consumes left now taken → MAX_INPUT < length taken → (bytes : List ℕ) × IfSome left (λ had. had ≡ bytes) × (MAX_INPUT < length bytes)
+pub too_long : (left now : Option (List ℕ)) (taken : List ℕ) → Consumes left now taken → longest_input < length taken → (bytes : List ℕ) × IfSome left (λ had. had ≡ bytes) × (longest_input < length bytes)
 too_long None now taken gone long = (taken, tt, long)
 too_long (Some had) None taken gone long = absurd gone
 too_long (Some had) (Some rest) taken gone long = (had, refl, omega (arith, ap length gone, length-append taken rest))
 
 pub refused_long : (left : Option (List ℕ)) (refused : Result (Status × List ℕ) Memory) (result : Result (Status × List ℕ) Status)
-    → (bytes : List ℕ) × IfSome left (λ had. had ≡ bytes) × (MAX_INPUT < length bytes)
-    → IfOk refused (λ output. (output.0 ≡ status.Refused) × (output.1 ≡ fault_line (record { line = 0; code = 190 })))
+    → (bytes : List ℕ) × IfSome left (λ had. had ≡ bytes) × (longest_input < length bytes)
+    → IfOk refused (λ output. (output.0 ≡ status.Refused) × (output.1 ≡ fault_line (record { line = 0; code = InputTooLong })))
     → IfOk result (λ output. refused ≡ Ok output)
     → IfOk result (λ output. (bytes : List ℕ) × IfSome left (λ had. had ≡ bytes) × Defines output.0 bytes output.1)
 refused_long left refused (Ok output) long is same =
-    let whole = refused_defines long.0 (record { line = 0; code = 190 }) refused (long_fault long.0 long.2) is in
+    let whole = refused_defines long.0 (record { line = 0; code = InputTooLong }) refused (long_fault long.0 long.2) is in
     (long.0, long.1, rw same at whole)
 refused_long left refused (Err e) long is same = tt
 
--- a text that a sink took in part, at a fault of the sink
+-- a text that a sink took in part
 pub cut_off : (call : Call) (status : Status) (text : List ℕ) (result : Result Unit ℕ) (count : ℕ) → result ≡ Err count → HasText status call text
-    → Rose call.write_faults call.write_faults_then → WritesAll result text call.written call.written_then → IsCutOff call
-cut_off call status text result count is has rose writes =
+    → WritesAll result text call.written call.written_then → IsCutOff call
+cut_off call status text result count is has writes =
     let some = rw is at writes in
-    record { failed = rose; status = status; text = text; has = has; count = count; some = some.0; begun = some.1 }
+    record { status = status; text = text; has = has; count = count; some = some.0; begun = some.1 }
 
 -- the text of a status that a deck defines
 pub has_output : (call : Call) (status : Status) (text : List ℕ) → takes call.words ≡ true

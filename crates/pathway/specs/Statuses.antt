@@ -2,6 +2,7 @@
 use Rattle.std.specs.Prelude.{◌≡◌, ℕ, ◌<◌, List, length, take, Bool, true, false, Option, Ok, Err, IfSome}
 use Rattle.std.specs.Io.KnownBytes.{Appends, Keeps}
 use Rattle.pw_base.specs.declared.fault.Fault.{Fault}
+use Rattle.pw_base.specs.Limits.{most_entries}
 use Rattle.pw_base.specs.Outside.{Rose}
 use Rattle.pw_event.specs.declared.event.Event.{Event}
 use Rattle.pw_display.specs.State.{starting}
@@ -9,7 +10,6 @@ use Rattle.pw_display.specs.Step.{IsRun, after, is_finished}
 use Rattle.pw_display.specs.Serial.{IsSerializable}
 use Rattle.pw_deck.specs.Deck.{program_of, system_of}
 use Rattle.pw_report.specs.Report.{report_text}
-use Rattle.pathway.specs.declared.status.TheConstants.{MAX_ENTRIES}
 use Rattle.pathway.specs.declared.status.Status.{Status}
 use Rattle.pathway.specs.declared.status.Status.TheVariants.{Finished, Refused, Limit, ReadFault, WriteFault, Memory, Usage}
 use Rattle.pathway.specs.Numbers.{number_of}
@@ -26,7 +26,7 @@ pub record Reports (bytes : List ℕ) (done : Bool) (text : List ℕ) : Type 0 w
   pub serial : IsSerializable (deck_system texts) log
   pub finished : is_finished (deck_system texts) (after starting log) ≡ done
   pub is : text ≡ report_text (system_of texts) (deck_system texts) log
-  pub full : done ≡ false → length log ≡ MAX_ENTRIES
+  pub full : done ≡ false → length log ≡ most_entries
 
 -- the text is the line of the deck's first fault
 pub record IsRefused (bytes text : List ℕ) : Type 0 where
@@ -44,10 +44,10 @@ Defines WriteFault bytes text = ⊥
 Defines Memory bytes text = ⊥
 Defines Usage bytes text = ⊥
 
--- why a reading gives up: the source failed, or memory ran out
+-- why a reading gives up: the source failed, or memory ran out with the source's count of faults as it was
 abbrev pub GivesUp : Status → ℕ → ℕ → Type 0
 GivesUp ReadFault before now = Rose before now
-GivesUp Memory before now = Unit {0}
+GivesUp Memory before now = now ≡ before
 GivesUp Finished before now = ⊥
 GivesUp Limit before now = ⊥
 GivesUp Refused before now = ⊥
@@ -86,9 +86,8 @@ HasText status call text = IsOutput status call text
 abbrev pub Writes : Status → Call → Type 0
 Writes status call = (text : List ℕ) × HasText status call text × Appends call.written call.written_then text
 
--- the sink failed, and a beginning of the text was written
+-- a beginning of the text was written, which is not all
 pub record IsCutOff (call : Call) : Type 0 where
-  pub failed : Rose call.write_faults call.write_faults_then
   pub status : Status
   pub text : List ℕ
   pub has : HasText status call text
@@ -102,10 +101,17 @@ Means Finished call = Writes Finished call
 Means Limit call = Writes Limit call
 Means Refused call = Writes Refused call
 Means Usage call = Writes Usage call × Keeps call.left call.left_then
-Means ReadFault call = (takes call.words ≡ true) × Rose call.read_faults call.read_faults_then × Keeps call.written call.written_then
+Means ReadFault call = (takes call.words ≡ true) × Keeps call.written call.written_then
 Means WriteFault call = IsCutOff call
 Means Memory call = (takes call.words ≡ true) × Keeps call.written call.written_then
 
--- the answer of a call is the number of a status that means what happened
+-- how the counts of faults go on: the source's rises at ReadFault alone, the sink's at WriteFault alone, and each of
+-- them else is as it was
+abbrev pub Counts : Status → Call → Type 0
+Counts ReadFault call = Rose call.read_faults call.read_faults_then × (call.write_faults_then ≡ call.write_faults)
+Counts WriteFault call = (call.read_faults_then ≡ call.read_faults) × Rose call.write_faults call.write_faults_then
+Counts status call = (call.read_faults_then ≡ call.read_faults) × (call.write_faults_then ≡ call.write_faults)
+
+-- the answer of a call is the number of a status that means what happened, the counts of faults too
 abbrev pub Ends : Call → ℕ → Type 0
-Ends call answer = (status : Status) × (answer ≡ number_of status) × Means status call
+Ends call answer = (status : Status) × (answer ≡ number_of status) × Means status call × Counts status call

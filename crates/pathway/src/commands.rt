@@ -1,9 +1,10 @@
 ghost use Rattle.std.specs.Prelude.{◌≡◌, IfOk, map, string_bytes};
-ghost use Rattle.pathway.specs.Commands.{takes, refusal_text, fault_line, usage_line};
+ghost use Rattle.pathway.specs.Commands.{takes, fault_line, usage_line};
 
 use pw_base::bytes::Bytes;
 use pw_base::fault::Fault;
 use pw_base::memory::Memory;
+use pw_words::texts::refusal_text;
 use std::alloc::Global;
 
 /// Whether the words are the command's: the one word `run`.
@@ -23,23 +24,12 @@ pub fn usage_line() -> &'static [u8]
     b"USAGE: pathway run\n"
 }
 
-/// The text of a refusal's code.
-fn refusal_text(code: u16) -> &'static [u8]
-    ensures { result.now ≡ refusal_text code }
-{
-    if code == 190 {
-        b"INPUT TOO LONG"
-    } else {
-        b"NO SUCH FORM"
-    }
-}
-
 /// The line of a deck's first fault.
 pub fn fault_line(alloc: Global, fault: Fault) -> Result<Bytes, Memory>
     ensures { IfOk result (λ text. text ≡ fault_line fault) }
 {
     let Fault { line, code } = fault;
-    let words = format!(in alloc; "DECK FAULT LINE {line} CODE {code} ")?;
+    let words = format!(in alloc; "DECK FAULT LINE {line} CODE {} ", code.number())?;
     let mut text = Bytes::from_slice(alloc, words.as_bytes())?;
     text.extend(refusal_text(code))?;
     text.push(b'\n')?;

@@ -1,6 +1,9 @@
 //! The program: it reads a deck, runs it, and writes the report of the run.
 #![tactic(auto)]
 
+ghost use Rattle.std.specs.Prelude.{◌≡◌, drop, IfOk};
+ghost use Rattle.std.specs.Vec.Iter.{into_iter_items};
+
 mod commands;
 mod output;
 mod run;
@@ -14,28 +17,35 @@ use crate::top::pathway;
 use pw_base::memory::Memory;
 use pw_base::read_source::ReadSource;
 use pw_base::write_sink::WriteSink;
-use std::env;
+use std::alloc::Global;
+use std::env::{self, Args};
 use std::io::ErrorKind;
 use std::process::ExitCode;
 
-/// The words behind the program's name. Where they are not all text they are none of the command's.
-fn words_of(rt: &HostRuntime) -> Result<Vec<String>, Memory> {
-    let mut words = Vec::new(rt.alloc());
-    match env::args(rt) {
-        Ok(arguments) => {
-            for word in arguments.skip(1) {
-                words.push(word)?;
-            }
-        }
-        Err(fault) if fault.kind() == ErrorKind::OutOfMemory => return Err(Memory),
-        Err(_) => {}
+/// The words behind the first argument, which is the program's name.
+fn words_of(alloc: Global, mut arguments: Args) -> Result<Vec<String>, Memory>
+    ensures { IfOk result (λ words. words.items ≡ drop 1 (into_iter_items arguments)) }
+{
+    let mut words = Vec::new(alloc);
+    let _name = arguments.next();
+    while let Some(word) = arguments.next() {
+        words.push(word)?;
     }
     Ok(words)
 }
 
+/// The words of the command line. Where they are not all text they are none of the command's.
+fn command_words(rt: &HostRuntime) -> Result<Vec<String>, Memory> {
+    match env::args(rt) {
+        Ok(arguments) => words_of(rt.alloc(), arguments),
+        Err(fault) if fault.kind() == ErrorKind::OutOfMemory => Err(Memory),
+        Err(_) => Ok(Vec::new(rt.alloc())),
+    }
+}
+
 fn main(rt: HostRuntime) -> ExitCode {
     let alloc = rt.alloc();
-    let Ok(words) = words_of(&rt) else {
+    let Ok(words) = command_words(&rt) else {
         return ExitCode::from(Status::Memory.number());
     };
     let mut source = ReadSource::new(rt.stdin());

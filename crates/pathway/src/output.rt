@@ -1,4 +1,5 @@
-ghost use Rattle.std.specs.Prelude.{◌≡◌, ◌≤◌, List, ℕ, Ok, IfOk, IfErr, IfSome};
+ghost use Rattle.std.specs.Prelude.{◌≡◌, ◌≤◌, List, ℕ, Ok, IfOk, IfErr, IfSome, OnOk};
+ghost use Rattle.pw_base.specs.Limits.{most_entries};
 ghost use Rattle.pw_code.specs.Valid.{IsValid};
 ghost use Rattle.pathway.specs.Commands.{fault_line};
 ghost use Rattle.pathway.specs.Running.{RunsTo, status_of};
@@ -9,6 +10,7 @@ use crate::run::{RunEnd, run};
 use crate::status::{MAX_ENTRIES, Status};
 use pw_base::bytes::Bytes;
 use pw_base::fault::{Fault, Refusal};
+use pw_base::fault_code::FaultCode;
 use pw_base::memory::Memory;
 use pw_base::read_all::{ReadFault, read_all};
 use pw_base::source::Source;
@@ -18,15 +20,22 @@ use pw_report::report::report;
 use pw_world::world::World;
 use std::alloc::Global;
 
+/// The fault of an input that is too long.
+const TOO_LONG: Fault = Fault {
+    line: 0,
+    code: FaultCode::InputTooLong,
+};
+
 /// Reads the source and runs its deck: the status and its text, or the status of a call that has none.
 pub fn output_of<S: Source>(alloc: Global, source: &mut S) -> Result<(Status, Bytes), Status>
     ensures ok { IfOk result (λ output. (bytes : List ℕ) × IfSome (S.left source.old) (λ left. left ≡ bytes) × Defines output.0 bytes output.1) }
     ensures err { IfErr result (λ status. GivesUp status (S.faults source.old) (S.faults source.new)) }
+    ensures kept { OnOk result (S.faults source.new ≡ S.faults source.old) }
     ensures count { S.faults source.old ≤ S.faults source.new }
 {
     match read_all(alloc, source) {
         Ok(bytes) => or_memory(deck_output(alloc, bytes.as_slice())),
-        Err(ReadFault::TooLong) => or_memory(refused(alloc, Fault { line: 0, code: 190 })),
+        Err(ReadFault::TooLong) => or_memory(refused(alloc, TOO_LONG)),
         Err(ReadFault::Fault) => Err(Status::ReadFault),
         Err(ReadFault::Memory) => Err(Status::Memory),
     }
@@ -68,7 +77,7 @@ fn refused(alloc: Global, fault: Fault) -> Result<(Status, Bytes), Memory>
 /// Runs a system: how the run ended, and the report of it.
 fn run_output(alloc: Global, system: System) -> Result<(RunEnd, Bytes), Memory>
     requires { IsValid system }
-    ensures { IfOk result (λ output. RunsTo system MAX_ENTRIES output.0 output.1) }
+    ensures { IfOk result (λ output. RunsTo system most_entries output.0 output.1) }
 {
     let mut world = World::new(alloc, system, MAX_ENTRIES)?;
     let end = run(&mut world)?;

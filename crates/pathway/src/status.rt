@@ -1,8 +1,14 @@
 ghost use Rattle.std.specs.Prelude.{◌≡◌};
+ghost use Rattle.pw_base.specs.Limits.{most_entries};
 ghost use Rattle.pathway.specs.Numbers.{number_of};
 
 /// How many entries a log may have.
 pub const MAX_ENTRIES: u32 = 100_000;
+
+/// The entries of a log are as many as the table of limits says.
+pub fn entry_limit()
+    ensures { MAX_ENTRIES ≡ most_entries }
+{}
 
 /// How a call of the program ends.
 #[derive(Clone, Copy, Debug, PartialEq, Eq)]

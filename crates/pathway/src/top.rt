@@ -1,5 +1,5 @@
 ghost use Rattle.std.specs.Prelude.{◌≡◌, ◌≤◌, map, string_bytes};
-ghost use Rattle.pathway.specs.Statuses.{Ends, Means};
+ghost use Rattle.pathway.specs.Statuses.{Ends, Means, Counts};
 
 use crate::commands::{takes, usage_line};
 use crate::output::output_of;
@@ -14,7 +14,8 @@ use std::alloc::Global;
 ///
 /// The clause `ends` is the headline: where the deck has no fault the report is that of a run, and
 /// the screens are those of a machine that runs the log's serial order one block at a time. It has
-/// the cause of every status. All output is made before its first byte is written.
+/// the cause of every status: the source's count of faults rises at status 4 alone, and the sink's at
+/// status 5 alone. All output is made before its first byte is written.
 pub fn pathway<S: Source, K: Sink>(
     alloc: Global,
     words: &[String],
@@ -41,6 +42,17 @@ pub fn pathway<S: Source, K: Sink>(
 /// One call, by its status.
 fn call<S: Source, K: Sink>(alloc: Global, words: &[String], source: &mut S, sink: &mut K) -> Status
     ensures means { Means result (record {
+      words = map string_bytes words.now;
+      left = S.left source.old;
+      left_then = S.left source.new;
+      read_faults = S.faults source.old;
+      read_faults_then = S.faults source.new;
+      written = K.written sink.old;
+      written_then = K.written sink.new;
+      write_faults = K.faults sink.old;
+      write_faults_then = K.faults sink.new;
+    }) }
+    ensures counts { Counts result (record {
       words = map string_bytes words.now;
       left = S.left source.old;
       left_then = S.left source.new;

@@ -1,12 +1,13 @@
 -- The first fault, by line and then by code.
 use Rattle.std.specs.Prelude.{◌≡◌, ◌⊎◌, List, [], ◌∷◌, Bool, false, ◌&&◌, ◌||◌, nat_lt, ◌==◌, Option, Some, None, Result, Ok, Err, if◌then◌else◌}
 use Rattle.pw_base.specs.declared.fault.Fault.{Fault}
+use Rattle.pw_base.specs.FaultCodes.{number}
 use Rattle.pw_base.specs.declared.fault.Refusal.{Refusal}
 use Rattle.pw_base.specs.declared.fault.Refusal.TheVariants.{At, Memory}
 
--- a stands on an earlier line than b, or on the same line with a smaller code
+-- a stands on an earlier line than b, or on the same line with a code of a smaller number
 abbrev pub is_before : Fault → Fault → Bool
-is_before a b = nat_lt a.line b.line || (a.line == b.line && nat_lt a.code b.code)
+is_before a b = nat_lt a.line b.line || (a.line == b.line && nat_lt (number a.code) (number b.code))
 
 -- the first of a fault and of the one that is known, if any
 abbrev pub better : Option Fault → Fault → Option Fault

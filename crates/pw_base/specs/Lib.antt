@@ -1,4 +1,6 @@
+pub mod FaultCodes
 pub mod First
+pub mod Limits
 pub mod MemSink
 pub mod MemSource
 pub mod Outside

@@ -1,5 +1,5 @@
 -- What a source and a sink tell of themselves.
-use Rattle.std.specs.Prelude.{ℕ, ◌+◌, ◌-◌, ◌^◌, ◌≤◌, ◌<◌, ◌==◌, min, Bool, List, length, take, Option, Result, Ok, Err}
+use Rattle.std.specs.Prelude.{◌≡◌, ℕ, ◌+◌, ◌-◌, ◌^◌, ◌≤◌, ◌<◌, ◌==◌, min, Bool, List, length, take, Option, Result, Ok, Err}
 use Rattle.std.specs.List.{list_any}
 use Rattle.std.specs.Io.KnownBytes.{Consumes, Appends, Keeps, IsAtEnd}
 use Rattle.pw_base.specs.declared.source.Got.{Got}
@@ -14,6 +14,17 @@ counted count = min (count + 1) (2 ^ 64 - 1)
 -- a count of faults has risen, or stands at its type's end
 abbrev pub Rose : ℕ → ℕ → Type 0
 Rose before now = counted before ≤ now
+
+-- how the count of faults goes on at a read: it rises where the read fails, and else it stays
+abbrev pub CountsRead : Got → ℕ → ℕ → Type 0
+CountsRead (got.Got count) before now = now ≡ before
+CountsRead got.End before now = now ≡ before
+CountsRead got.Failed before now = Rose before now
+
+-- how the count of faults goes on at a write: it rises where the write fails, and else it stays
+abbrev pub CountsWrite : Took → ℕ → ℕ → Type 0
+CountsWrite (took.Took count) before now = now ≡ before
+CountsWrite took.Failed before now = Rose before now
 
 -- the count of faults after a read
 abbrev pub faults_after_read : Got → ℕ → ℕ
@@ -46,3 +57,8 @@ Writes took.Failed piece before now = Keeps before now
 abbrev pub WritesAll : Result Unit ℕ → List ℕ → Option (List ℕ) → Option (List ℕ) → Type 0
 WritesAll (Ok done) piece before now = Appends before now piece
 WritesAll (Err count) piece before now = (count < length piece) × Appends before now (take count piece)
+
+-- how the count of faults goes on at a writing of all: it rises at an Err, and else it stays
+abbrev pub CountsWriteAll : Result Unit ℕ → ℕ → ℕ → Type 0
+CountsWriteAll (Ok done) before now = now ≡ before
+CountsWriteAll (Err count) before now = Rose before now

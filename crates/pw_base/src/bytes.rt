@@ -61,8 +61,10 @@ impl Bytes {
         Bytes::from_slice(alloc, self.as_slice())
     }
 
-    /// The allocator of their memory.
-    pub fn allocator(&self) -> Global {
+    /// The allocator of their memory: there is one alone.
+    pub fn allocator(&self) -> Global
+        ensures { (alloc : Global) → result ≡ alloc }
+    {
         *self.bytes.allocator()
     }
 

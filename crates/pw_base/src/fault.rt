@@ -1,6 +1,7 @@
 ghost use Rattle.std.specs.Prelude.{◌≡◌};
 ghost use Rattle.pw_base.specs.First.{is_before, better, noted, least};
 
+use crate::fault_code::FaultCode;
 use crate::memory::Memory;
 use thiserror::Error;
 
@@ -9,15 +10,16 @@ use thiserror::Error;
 #[derive(Clone, Copy, Debug, PartialEq, Eq)]
 pub struct Fault {
     pub line: u32,
-    pub code: u16,
+    pub code: FaultCode,
 }
 
 impl Fault {
-    /// Whether this fault comes before the other: by line, and on one line by code.
+    /// Whether this fault comes before the other: by line, and on one line by the number of its code.
     pub fn is_before(self, other: Fault) -> bool
         ensures { result ≡ is_before self other }
     {
-        self.line < other.line || self.line == other.line && self.code < other.code
+        self.line < other.line
+            || self.line == other.line && self.code.number() < other.code.number()
     }
 }
 
@@ -46,7 +48,7 @@ pub fn noted(known: Option<Fault>, is_fault: bool, fault: Fault) -> Option<Fault
 #[derive(Clone, Copy, Debug, PartialEq, Eq, Drop, Error)]
 pub enum Refusal {
     #[error("fault {code} on line {line}")]
-    At { line: u32, code: u16 },
+    At { line: u32, code: FaultCode },
     #[error("out of memory")]
     Memory,
 }

@@ -4,6 +4,7 @@
 
 pub mod bytes;
 pub mod fault;
+pub mod fault_code;
 pub mod laws;
 pub mod list;
 pub mod mem_sink;

@@ -1,5 +1,5 @@
 ghost use Rattle.std.specs.Prelude.{◌≡◌, ◌<◌, ◌≤◌, [], IfOk, length};
-ghost use Rattle.pw_base.specs.Outside.{Writes, Rose};
+ghost use Rattle.pw_base.specs.Outside.{Writes, CountsWrite};
 
 use crate::memory::Memory;
 use crate::sink::{Sink, Took};
@@ -85,7 +85,7 @@ impl Sink for MemSink {
         requires { 0 < length piece.now }
         ensures writes { Writes result piece.now (Some self.old.written) (Some self.new.written) }
         ensures count { self.old.faults ≤ self.new.faults }
-        ensures cause { result ≡ Took.Failed → Rose self.old.faults self.new.faults }
+        ensures cause { CountsWrite result self.old.faults self.new.faults }
         ensures answer { result ≡ answer_of_write self.old (length piece.now) }
         ensures sink { self.new ≡ after_write self.old piece.now }
     {

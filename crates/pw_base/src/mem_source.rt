@@ -1,5 +1,5 @@
 ghost use Rattle.std.specs.Prelude.{◌≡◌, ◌<◌, ◌≤◌, IfOk, length};
-ghost use Rattle.pw_base.specs.Outside.{Reads, Rose};
+ghost use Rattle.pw_base.specs.Outside.{Reads, CountsRead};
 
 use crate::memory::Memory;
 use crate::source::{Got, Source};
@@ -55,19 +55,22 @@ impl MemSource {
 }
 
 impl Source for MemSource {
-    ghost use Rattle.std.specs.Prelude.{Some};
+    ghost use Rattle.std.specs.Prelude.{ℕ, Some};
     ghost use Rattle.pw_base.specs.MemSource.{answer_of_read, buffer_after_read, after_read};
 
     ghost left = { λ source. Some source.left };
 
     ghost faults = { λ source. source.faults };
 
+    ghost step = { λ before got now. (room : ℕ) × (got ≡ answer_of_read before room) × (now ≡ after_read before room) };
+
     /// Gives as many bytes as fit into the buffer, or fails and leaves the bytes as they were.
     fn read(&mut self, into: &mut [u8]) -> Got
         requires { 0 < length into.old }
         ensures reads { Reads result into.new (Some self.old.left) (Some self.new.left) }
         ensures count { self.old.faults ≤ self.new.faults }
-        ensures cause { result ≡ Got.Failed → Rose self.old.faults self.new.faults }
+        ensures cause { CountsRead result self.old.faults self.new.faults }
+        ensures step { (room : ℕ) × (result ≡ answer_of_read self.old room) × (self.new ≡ after_read self.old room) }
         ensures answer { result ≡ answer_of_read self.old (length into.old) }
         ensures buffer { into.new ≡ buffer_after_read self.old into.old }
         ensures source { self.new ≡ after_read self.old (length into.old) }

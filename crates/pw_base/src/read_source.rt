@@ -1,5 +1,5 @@
 ghost use Rattle.std.specs.Prelude.{◌≡◌, ◌<◌, ◌≤◌, length};
-ghost use Rattle.pw_base.specs.Outside.{Reads, Rose, faults_after_read};
+ghost use Rattle.pw_base.specs.Outside.{Reads, CountsRead, faults_after_read};
 
 use crate::source::{Got, Source};
 use std::io::Read;
@@ -35,14 +35,16 @@ impl<I: Read> Source for ReadSource<I> {
 
     ghost faults = { λ source. source.faults };
 
+    ghost step = { λ before got now. now.faults ≡ faults_after_read got before.faults };
+
     /// Reads once. A read of no bytes is the end, and any error is a failure.
     fn read(&mut self, into: &mut [u8]) -> Got
         requires { 0 < length into.old }
         ensures reads { Reads result into.new
             (I.remaining self.old.reader) (I.remaining self.new.reader) }
         ensures count { self.old.faults ≤ self.new.faults }
-        ensures cause { result ≡ Got.Failed → Rose self.old.faults self.new.faults }
-        ensures faults { self.new.faults ≡ faults_after_read result self.old.faults }
+        ensures cause { CountsRead result self.old.faults self.new.faults }
+        ensures step { self.new.faults ≡ faults_after_read result self.old.faults }
     {
         match self.reader.read(into) {
             Ok(0) => Got::End,

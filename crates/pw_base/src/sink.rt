@@ -1,5 +1,5 @@
-ghost use Rattle.std.specs.Prelude.{◌≡◌, ℕ, ◌<◌, ◌≤◌, List, Option, length};
-ghost use Rattle.pw_base.specs.Outside.{Writes, Rose};
+ghost use Rattle.std.specs.Prelude.{ℕ, ◌<◌, ◌≤◌, List, Option, length};
+ghost use Rattle.pw_base.specs.Outside.{Writes, CountsWrite};
 
 /// What a write answers: how many bytes it took, or that it failed.
 #[derive(Clone, Copy, Debug, PartialEq, Eq)]
@@ -19,5 +19,5 @@ pub trait Sink {
         requires { 0 < length piece.now }
         ensures writes { Writes result piece.now (written self.old) (written self.new) }
         ensures count { faults self.old ≤ faults self.new }
-        ensures cause { result ≡ Took.Failed → Rose (faults self.old) (faults self.new) };
+        ensures cause { CountsWrite result (faults self.old) (faults self.new) };
 }

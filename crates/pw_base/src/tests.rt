@@ -2,7 +2,8 @@ ghost use Rattle.std.specs.Prelude.{◌≡◌, ◌∷◌, [], IfOk, IfSome};
 
 use crate::bytes::Bytes;
 use crate::fault::{Fault, Refusal, better, noted};
-use crate::laws::first_fault_laws;
+use crate::fault_code::FaultCode;
+use crate::laws::{fault_code_laws, first_fault_laws};
 use crate::list::List;
 use crate::mem_sink::MemSink;
 use crate::mem_source::MemSource;
@@ -161,13 +162,32 @@ fn refused(fault: Fault) -> Result<(), Refusal> {
 }
 
 #[test]
-fn first_fault_is_kept(rt: HostRuntime) {
-    let early = Fault { line: 2, code: 310 };
-    let late = Fault { line: 3, code: 101 };
+fn first_fault_is_kept(rt: HostRuntime) -> Result<(), Fail> {
+    let early = Fault {
+        line: 2,
+        code: FaultCode::TooMany,
+    };
+    let late = Fault {
+        line: 3,
+        code: FaultCode::BadCharacter,
+    };
+    let same_line = Fault {
+        line: 3,
+        code: FaultCode::UnclosedLiteral,
+    };
+    let refusal = Refusal::At {
+        line: 2,
+        code: FaultCode::TooMany,
+    };
     assert_eq!(rt; better(Some(early), late), Some(early));
     assert_eq!(rt; better(Some(late), early), Some(early));
+    assert_eq!(rt; better(Some(same_line), late), Some(late));
     assert_eq!(rt; noted(None, false, early), None);
-    assert_eq!(rt; refused(early), Err(Refusal::At { line: 2, code: 310 }));
+    assert_eq!(rt; refused(early), Err(refusal));
+    let shown = format!(in rt.alloc(); "{refusal}")?;
+    assert_eq!(rt; shown.as_str(), "fault 196 on line 2");
     assert_eq!(rt; Refusal::from(Memory), Refusal::Memory);
     first_fault_laws();
+    fault_code_laws();
+    Ok(())
 }

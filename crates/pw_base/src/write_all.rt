@@ -1,5 +1,5 @@
-ghost use Rattle.std.specs.Prelude.{◌≡◌, ◌≤◌, IsErr};
-ghost use Rattle.pw_base.specs.Outside.{Rose, WritesAll};
+ghost use Rattle.std.specs.Prelude.{◌≤◌};
+ghost use Rattle.pw_base.specs.Outside.{CountsWriteAll, WritesAll};
 
 use crate::sink::{Sink, Took};
 
@@ -10,7 +10,7 @@ use crate::sink::{Sink, Took};
 pub fn write_all_of<K: Sink>(sink: &mut K, bytes: &[u8]) -> Result<(), usize>
     ensures writes { WritesAll result bytes.now (K.written sink.old) (K.written sink.new) }
     ensures count { K.faults sink.old ≤ K.faults sink.new }
-    ensures cause { IsErr result → Rose (K.faults sink.old) (K.faults sink.new) }
+    ensures cause { CountsWriteAll result (K.faults sink.old) (K.faults sink.new) }
 {
     let mut taken = 0;
     while taken < bytes.len() {

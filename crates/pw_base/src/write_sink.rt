@@ -1,5 +1,5 @@
 ghost use Rattle.std.specs.Prelude.{◌≡◌, ◌<◌, ◌≤◌, length};
-ghost use Rattle.pw_base.specs.Outside.{Writes, Rose, faults_after_write};
+ghost use Rattle.pw_base.specs.Outside.{Writes, CountsWrite, faults_after_write};
 
 use crate::sink::{Sink, Took};
 use std::io::Write;
@@ -40,7 +40,7 @@ impl<O: Write> Sink for WriteSink<O> {
         ensures writes { Writes result piece.now
             (O.contents self.old.writer) (O.contents self.new.writer) }
         ensures count { self.old.faults ≤ self.new.faults }
-        ensures cause { result ≡ Took.Failed → Rose self.old.faults self.new.faults }
+        ensures cause { CountsWrite result self.old.faults self.new.faults }
         ensures faults { self.new.faults ≡ faults_after_write result self.old.faults }
     {
         match self.writer.write(piece) {

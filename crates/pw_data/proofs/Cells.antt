@@ -11,7 +11,7 @@ use Rattle.pw_picture.specs.Text.{fitted}
 use Rattle.pw_text.specs.declared.token.Token.{Token}
 use Rattle.pw_data.specs.declared.literal.Literal.{Literal}
 use Rattle.pw_data.specs.declared.entry.Entry.{Entry}
-use Rattle.pw_data.specs.Parts.{bytes_of}
+use Rattle.pw_text.specs.Cursor.{spelling}
 use Rattle.pw_data.specs.Literals.{literal_of}
 use Rattle.pw_data.specs.Entries.{picture_at, kind_of, has_no_kind, size_at, count_at}
 use Rattle.pw_data.specs.Tree.{Forest, Empty, Node, stands_in, inside, past, forest}
@@ -109,7 +109,7 @@ length_initial-by value (Some (Edited symbols)) kind = absurd cc
 length_initial-at : (text : List ℕ) (value : Option Literal) (token : Option Token) → (is_some token && not (is_some (option_and_then kind_of (picture_at text token)))) ≡ false
     → length (initial_by value (picture_at text token)) ≡ size_at (picture_at text token)
 length_initial-at text value None kind = refl
-length_initial-at text value (Some token) kind = length_initial-by value (picture_of (bytes_of text token)) kind
+length_initial-at text value (Some token) kind = length_initial-by value (picture_of (spelling text token)) kind
 
 -- an item begins with as many characters as it has
 pub length-initial : (text : List ℕ) (e : Entry) → Good text e → length (initial text e) ≡ e.size

@@ -4,6 +4,7 @@ use Rattle.std.specs.Prelude.{◌&&◌, ◌||◌, nat_le, take_while, is_some, o
 use Rattle.std.specs.List.{list_all}
 use Rattle.std.proofs.lemmas.Bool.Decides.{nat_tests}
 use Rattle.std.proofs.lemmas.List.Elements.{All-nil, All-cons, All-append}
+use Rattle.pw_base.specs.declared.fault_code.FaultCode.TheVariants.{BadDataEntry}
 use Rattle.pw_picture.specs.declared.picture.Picture.{Picture}
 use Rattle.pw_picture.specs.declared.picture.Picture.TheVariants.{Text, Number, Edited}
 use Rattle.pw_picture.specs.Symbols.{longest, begins_with, bounded, symbols_behind}
@@ -14,10 +15,10 @@ use Rattle.pw_data.specs.declared.entry.Entry.{Entry}
 use Rattle.pw_data.specs.declared.item.Kind.{Kind}
 use Rattle.pw_data.specs.declared.item.Kind.TheVariants as kind
 use Rattle.pw_data.specs.declared.item.Table.{Table}
-use Rattle.pw_data.specs.Parts.{bytes_of}
-use Rattle.pw_data.specs.Entries.{picture_at, kind_of, has_picture, has_occurs, size_at}
+use Rattle.pw_text.specs.Cursor.{spelling}
+use Rattle.pw_data.specs.Entries.{picture_of_kind, picture_at, kind_of, has_picture, has_occurs, size_at}
 use Rattle.pw_data.specs.Tree.{Forest, Empty, Node, is_group, is_misplaced, tree_faults}
-use Rattle.pw_data.specs.Laid.{times, size_in, picture_of_kind, table_of, item_of, items_in}
+use Rattle.pw_data.specs.Laid.{times, size_in, table_of, item_of, items_in}
 use Rattle.pw_data.specs.Layouts.{FitsPicture}
 use Rattle.pw_data.proofs.Cells.{Good, AllIn}
 use Rattle.pw_data.proofs.Stores.{no_fault, no_faults, Placed, placed, no_members}
@@ -93,7 +94,7 @@ record Clause (token : Option Token) (k : Kind) (size : ℕ) : Type 0 where
 
 clause : (text : List ℕ) (token : Option Token) (k : Kind) → option_and_then kind_of (picture_at text token) ≡ Some k → Clause token k (size_at (picture_at text token))
 clause text None k is = absurd cc
-clause text (Some t) k is = record { some = refl; of_kind = kinded-picture (picture_of (bytes_of text t)) k (held (bytes_of text t)) is }
+clause text (Some t) k is = record { some = refl; of_kind = kinded-picture (picture_of (spelling text t)) k (held (spelling text t)) is }
 
 item-fits : (text : List ℕ) (at : ℕ) (table : Table) (e : Entry) (ms : Forest) → Good text e → (is_group ms ≡ true → has_picture e ≡ false) → FitsPicture (item_of text at (e.size + size_in ms) table e)
 item-fits text at table e ms good plain = λ k is.
@@ -108,7 +109,7 @@ items-fit text top table at around Empty all none = All-nil FitsPicture
 items-fit text top table at around (Node e ms r) all none =
     let size : ℕ = e.size + size_in ms in
     let own : Table = table_of around e.occurs size in
-    let here = no_fault (is_misplaced top table (is_group ms) e) e.line 121 (tree_faults false (table || has_occurs e) ms ++ tree_faults top table r) none in
+    let here = no_fault (is_misplaced top table (is_group ms) e) e.line BadDataEntry (tree_faults false (table || has_occurs e) ms ++ tree_faults top table r) none in
     let deeper = no_faults (tree_faults false (table || has_occurs e) ms) (tree_faults top table r) here.1 in
     let fine : Placed table e ms = placed top table e ms here.0 in
     All-cons FitsPicture (item_of text at size own e) (items_in text at own ms ++ items_in text (at + times e * size) around r) (item-fits text at own e ms all.0 fine.plain)

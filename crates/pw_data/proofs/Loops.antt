@@ -2,6 +2,7 @@
 use Rattle.std.proofs.Common.{◌≡◌, ℕ, ◌+◌, ◌*◌, ◌<◌, ◌≤◌, min, Bool, false, not, List, [], ◌∷◌, ◌++◌, length, take, drop, Option, Some, sym, ap, ◌∙◌, arith}
 use Rattle.std.specs.Prelude.{take_while, ◌||◌, ◌==◌}
 use Rattle.std.specs.List.{repeat}
+use Rattle.pw_base.specs.declared.fault_code.FaultCode.TheVariants.{BadDataEntry, StorageTooLarge}
 use Rattle.pw_base.specs.declared.fault.Fault.{Fault}
 use Rattle.pw_base.specs.First.{noted, least}
 use Rattle.pw_data.specs.declared.entry.Entry.{Entry}
@@ -27,13 +28,13 @@ module _ (rest : List Entry) (entry : Entry) (behind members next : List Entry) 
   trees = ap forest cut.rest_is ∙ forest-front entry behind members next count cut.count_is cut.members_is cut.next_is
 
   pub faults-further : (top table misplaced : Bool) (known noted_known next_known whole : Option Fault)
-      → misplaced ≡ is_misplaced top table (not (length members == 0)) entry → noted_known ≡ noted known misplaced (fault entry.line 121)
+      → misplaced ≡ is_misplaced top table (not (length members == 0)) entry → noted_known ≡ noted known misplaced (fault entry.line BadDataEntry)
       → next_known ≡ least noted_known (tree_faults false (table || has_occurs entry) (forest members))
       → least known (tree_faults top table (forest rest)) ≡ whole → least next_known (tree_faults top table (forest next)) ≡ whole
   faults-further top table misplaced known noted_known next_known whole misplaced_is noted_is next_known_is so_far =
       let inner : List Fault = tree_faults false (table || has_occurs entry) (forest members) in
       let wrong : misplaced ≡ is_misplaced top table (is_group (forest members)) entry = misplaced_is ∙ ap (λ group. is_misplaced top table group entry) (sym (is_group-forest members)) in
-      ap (λ k. least k (tree_faults top table (forest next))) (next_known_is ∙ ap (λ k. least k inner) (noted_is ∙ ap (λ b. noted known b (fault entry.line 121)) wrong))
+      ap (λ k. least k (tree_faults top table (forest next))) (next_known_is ∙ ap (λ k. least k inner) (noted_is ∙ ap (λ b. noted known b (fault entry.line BadDataEntry)) wrong))
       ∙ tree_faults-step top table known entry (forest members) (forest next) ∙ ap (λ f. least known (tree_faults top table f)) (sym trees) ∙ so_far
 
   pub size-further : (size extent inner whole : ℕ) → inner ≡ min (size_in (forest members)) (most + 1) → extent ≡ min (times entry * (entry.size + inner)) (most + 1)
@@ -47,7 +48,7 @@ module _ (rest : List Entry) (entry : Entry) (behind members next : List Entry) 
       sym (too_large-step size extent inner entry (forest members) (forest next) inner_is extent_is small) ∙ ap (too_large size) (sym trees) ∙ so_far
 
   pub too_large-stops : (size extent inner : ℕ) (whole : Option Fault) → inner ≡ min (size_in (forest members)) (most + 1) → extent ≡ min (times entry * (entry.size + inner)) (most + 1)
-      → size ≤ most → most < size + extent → too_large size (forest rest) ≡ whole → Some (fault entry.line 124) ≡ whole
+      → size ≤ most → most < size + extent → too_large size (forest rest) ≡ whole → Some (fault entry.line StorageTooLarge) ≡ whole
   too_large-stops size extent inner whole inner_is extent_is before large so_far =
       sym (too_large-found size extent inner entry (forest members) (forest next) inner_is extent_is before large) ∙ ap (too_large size) (sym trees) ∙ so_far
 

@@ -3,6 +3,7 @@ use Rattle.std.proofs.Common.{◌≡◌, ℕ, ◌+◌, ◌*◌, ◌<◌, ◌≤�
 use Rattle.std.specs.Prelude.{nat_lt, if◌then◌else◌}
 use Rattle.std.proofs.lemmas.Nat.{mul-le}
 use Rattle.std.proofs.lemmas.Bool.{ltb-true, ltb-false, lt-ltb, le-ltb}
+use Rattle.pw_base.specs.declared.fault_code.FaultCode.TheVariants.{StorageTooLarge}
 use Rattle.pw_data.specs.declared.entry.Entry.{Entry}
 use Rattle.pw_data.specs.Entries.{fault}
 use Rattle.pw_data.specs.Tree.{Forest, Empty, Node}
@@ -53,19 +54,19 @@ too_large-step size extent members_size entry members behind members_is extent_i
     let is : extent ≡ min whole (most + 1) = exact extent members_size entry members members_is extent_is in
     let same : whole ≡ extent = omega arith in
     let test : nat_lt most (size + whole) ≡ false = le-ltb most (size + whole) (omega arith) in
-    ap (λ b. if b then Some (fault entry.line 124) else too_large (size + whole) behind) test ∙ ap (λ n. too_large (size + n) behind) same
+    ap (λ b. if b then Some (fault entry.line StorageTooLarge) else too_large (size + whole) behind) test ∙ ap (λ n. too_large (size + n) behind) same
 
 pub too_large-found : (size extent members_size : ℕ) (entry : Entry) (members behind : Forest)
     → members_size ≡ min (size_in members) (most + 1) → extent ≡ min (times entry * (entry.size + members_size)) (most + 1)
-    → size ≤ most → most < size + extent → too_large size (Node entry members behind) ≡ Some (fault entry.line 124)
+    → size ≤ most → most < size + extent → too_large size (Node entry members behind) ≡ Some (fault entry.line StorageTooLarge)
 too_large-found size extent members_size entry members behind members_is extent_is before large =
     let whole : ℕ = times entry * (entry.size + size_in members) in
     let is : extent ≡ min whole (most + 1) = exact extent members_size entry members members_is extent_is in
     let test : nat_lt most (size + whole) ≡ true = lt-ltb most (size + whole) (omega arith) in
-    ap (λ b. if b then Some (fault entry.line 124) else too_large (size + whole) behind) test
+    ap (λ b. if b then Some (fault entry.line StorageTooLarge) else too_large (size + whole) behind) test
 
 too_large-none-by : (size whole : ℕ) (entry : Entry) (behind : Forest) (large : Bool) → nat_lt most (size + whole) ≡ large
-    → (if large then Some (fault entry.line 124) else too_large (size + whole) behind) ≡ None
+    → (if large then Some (fault entry.line StorageTooLarge) else too_large (size + whole) behind) ≡ None
     → (size + whole ≤ most → too_large (size + whole) behind ≡ None → size + whole + size_in behind ≤ most) → size + (whole + size_in behind) ≤ most
 too_large-none-by size whole entry behind true test none further = absurd cc
 too_large-none-by size whole entry behind false test none further = omega (arith, further (ltb-false most (size + whole) test) none)

@@ -1,6 +1,8 @@
 -- One entry after the other: what the first of some trees says, and what those behind it say.
 use Rattle.std.proofs.Common.{◌≡◌, ℕ, ◌+◌, ◌*◌, Bool, true, false, List, [], ◌∷◌, ◌++◌, Option, refl, sym, ap, ◌∙◌, append_assoc}
 use Rattle.std.specs.Prelude.{◌||◌}
+use Rattle.pw_base.specs.declared.fault_code.FaultCode.{FaultCode}
+use Rattle.pw_base.specs.declared.fault_code.FaultCode.TheVariants.{BadDataEntry}
 use Rattle.pw_base.specs.declared.fault.Fault.{Fault}
 use Rattle.pw_base.specs.First.{noted, least}
 use Rattle.pw_base.proofs.FirstFault.{least-append}
@@ -13,19 +15,19 @@ use Rattle.pw_data.specs.Laid.{times, size_in, table_of, item_of, items_in, init
 use Rattle.pw_data.specs.Tree.{Forest, Node, is_group, is_misplaced, tree_faults}
 
 -- a fault that may be one is noted, and the others come behind it
-pub least-only_if_front : (is_fault : Bool) (line code : ℕ) (known : Option Fault) (faults : List Fault)
+pub least-only_if_front : (is_fault : Bool) (line : ℕ) (code : FaultCode) (known : Option Fault) (faults : List Fault)
     → least known (only_if is_fault line code ++ faults) ≡ least (noted known is_fault (fault line code)) faults
 least-only_if_front true line code known faults = refl
 least-only_if_front false line code known faults = refl
 
 -- the faults of the first of some trees come in front of those behind it
 pub tree_faults-step : (top table : Bool) (known : Option Fault) (entry : Entry) (members behind : Forest)
-    → least (least (noted known (is_misplaced top table (is_group members) entry) (fault entry.line 121)) (tree_faults false (table || has_occurs entry) members)) (tree_faults top table behind)
+    → least (least (noted known (is_misplaced top table (is_group members) entry) (fault entry.line BadDataEntry)) (tree_faults false (table || has_occurs entry) members)) (tree_faults top table behind)
     ≡ least known (tree_faults top table (Node entry members behind))
 tree_faults-step top table known entry members behind =
     let wrong : Bool = is_misplaced top table (is_group members) entry in
-    sym (least-append (noted known wrong (fault entry.line 121)) (tree_faults false (table || has_occurs entry) members) (tree_faults top table behind))
-    ∙ sym (least-only_if_front wrong entry.line 121 known (tree_faults false (table || has_occurs entry) members ++ tree_faults top table behind))
+    sym (least-append (noted known wrong (fault entry.line BadDataEntry)) (tree_faults false (table || has_occurs entry) members) (tree_faults top table behind))
+    ∙ sym (least-only_if_front wrong entry.line BadDataEntry known (tree_faults false (table || has_occurs entry) members ++ tree_faults top table behind))
 
 -- the items of the first of some trees come in front of those behind it
 pub items_in-step : (text : List ℕ) (at : ℕ) (around : Table) (entry : Entry) (members behind : Forest) (before : List Item)

@@ -4,11 +4,13 @@ use Rattle.std.specs.Prelude.{◌||◌, option_map, option_and_then, option_to_l
 use Rattle.std.specs.List.{list_any}
 use Rattle.std.specs.Option.{option_or}
 use Rattle.std.proofs.lemmas.List.{append-nil}
+use Rattle.pw_base.specs.declared.fault_code.FaultCode.{FaultCode}
+use Rattle.pw_base.specs.declared.fault_code.FaultCode.TheVariants.{BadDataEntry, BadPicture, NameTwice}
 use Rattle.pw_base.specs.declared.fault.Fault.{Fault}
 use Rattle.pw_base.specs.First.{least, unless}
 use Rattle.pw_base.proofs.FirstFault.{least-none}
 use Rattle.pw_text.specs.declared.token.Token.{Token}
-use Rattle.pw_data.specs.declared.entry.Reading.{Reading}
+use Rattle.pw_data.specs.declared.reading.Reading.{Reading}
 use Rattle.pw_data.specs.declared.entry.Entry.{Entry}
 use Rattle.pw_data.specs.Parts.{Part, parts_of}
 use Rattle.pw_data.specs.Entries.{only_if, reading_of, line_of, proper_name, has_form, is_bad_picture, has_table_name, has_no_kind, is_bad_entry, is_bad_occurs, is_bad_value, entry_with, entry_of, part_faults, faults_of_parts, entries_of}
@@ -21,7 +23,7 @@ use Rattle.pw_data.proofs.Cells.{Good, Each, All-forest, joined-cells, length-ch
 use Rattle.pw_data.proofs.Held.{items-fit}
 use Rattle.pw_data.proofs.Stores.{no_faults, neither, Lie-cells}
 
-no_fault-here : (is_fault : Bool) (line code : ℕ) → only_if is_fault line code ≡ [] → is_fault ≡ false
+no_fault-here : (is_fault : Bool) (line : ℕ) (code : FaultCode) → only_if is_fault line code ≡ [] → is_fault ≡ false
 no_fault-here true line code none = absurd cc
 no_fault-here false line code none = refl
 
@@ -40,11 +42,11 @@ good-part : (server : Bool) (text : List ℕ) (part : Part) → part_faults serv
 good-part server text part none =
     let reading : Reading = reading_of server text part.tokens in
     let line : ℕ = line_of part.tokens in
-    let pictures : List Fault = only_if (list_any (is_bad_picture text) part.tokens) line 111 in
+    let pictures : List Fault = only_if (list_any (is_bad_picture text) part.tokens) line BadPicture in
     let wrong : Bool = not (has_form reading) || is_bad_entry text (entry_of server text part) in
-    let names : List Fault = only_if (has_table_name server text (option_and_then (proper_name text) reading.name)) line 122 in
-    let others = (no_faults pictures (only_if wrong line 121 ++ names) none).1 in
-    let fine : wrong ≡ false = no_fault-here wrong line 121 (no_faults (only_if wrong line 121) names others).0 in
+    let names : List Fault = only_if (has_table_name server text (option_and_then (proper_name text) reading.name)) line NameTwice in
+    let others = (no_faults pictures (only_if wrong line BadDataEntry ++ names) none).1 in
+    let fine : wrong ≡ false = no_fault-here wrong line BadDataEntry (no_faults (only_if wrong line BadDataEntry) names others).0 in
     good-by text part.linked line reading reading.level (neither (not (has_form reading)) (is_bad_entry text (entry_of server text part)) fine).1
 
 good-parts : (server : Bool) (text : List ℕ) (parts : List Part) → faults_of_parts server text parts ≡ [] → Each (Good text) (entries_of server text parts)

@@ -2,6 +2,8 @@
 use Rattle.std.proofs.Common.{◌≡◌, ℕ, zero, suc, ◌+◌, ◌-◌, ◌*◌, ◌≤◌, max, Bool, true, false, not, List, [], ◌∷◌, ◌++◌, length, Option, Some, None, refl, sym, ap, ◌∙◌, subst, append_assoc, arith, rules, length-append}
 use Rattle.std.specs.Prelude.{◌&&◌, ◌||◌, is_some, IsSome, slice_get, unwrap_or, if◌then◌else◌}
 use Rattle.std.proofs.lemmas.List.{append-nil}
+use Rattle.pw_base.specs.declared.fault_code.FaultCode.{FaultCode}
+use Rattle.pw_base.specs.declared.fault_code.FaultCode.TheVariants.{BadDataEntry}
 use Rattle.pw_base.specs.declared.fault.Fault.{Fault}
 use Rattle.pw_picture.specs.declared.picture.Picture.{Picture}
 use Rattle.pw_text.specs.declared.token.Token.{Token}
@@ -55,7 +57,7 @@ Lie-all items cells at size k around (Some n) each long first last alone =
     Lie-at items (at + (1 - 1) * size) (at + (k - 1) * around.step) (occurrences cells 1 (max n 1)) (omega arith ∙ ap (λ m. at + m * around.step) (sym none))
     (Lie-occurrences items cells at size (max n 1) each long 1 (max n 1) (omega arith) (omega arith))
 
-pub no_fault : (is_fault : Bool) (line code : ℕ) (faults : List Fault) → only_if is_fault line code ++ faults ≡ [] → (is_fault ≡ false) × (faults ≡ [])
+pub no_fault : (is_fault : Bool) (line : ℕ) (code : FaultCode) (faults : List Fault) → only_if is_fault line code ++ faults ≡ [] → (is_fault ≡ false) × (faults ≡ [])
 no_fault true line code faults none = absurd cc
 no_fault false line code faults none = (refl, none)
 
@@ -172,7 +174,7 @@ Lie-cells text items pre post top table at k around (Node e ms r) all none first
     let inner : List Item = items_in text at own ms in
     let outer : List Item = items_in text (at + times e * size) around r in
     let good : Good text e = all.0 in
-    let here = no_fault (is_misplaced top table (is_group ms) e) e.line 121 (tree_faults false (table || has_occurs e) ms ++ tree_faults top table r) none in
+    let here = no_fault (is_misplaced top table (is_group ms) e) e.line BadDataEntry (tree_faults false (table || has_occurs e) ms ++ tree_faults top table r) none in
     let deeper = no_faults (tree_faults false (table || has_occurs e) ms) (tree_faults top table r) here.1 in
     let fine : Placed table e ms = placed top table e ms here.0 in
     let in_front : items ≡ pre ++ (item ∷ (inner ++ (outer ++ post))) = items_is ∙ ap (λ xs. pre ++ (item ∷ xs)) (append_assoc inner outer post) in

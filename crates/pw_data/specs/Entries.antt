@@ -1,53 +1,50 @@
 -- What is read off the tokens of one entry.
-use Rattle.std.specs.Prelude.{ℕ, List, [], ◌∷◌, ◌++◌, flat_map, Bool, true, false, not, ◌&&◌, ◌||◌, nat_le, ◌==◌, is_some, codes, Option, Some, None, unwrap_or, option_map, option_and_then, option_to_list, if◌then◌else◌}
+use Rattle.std.specs.Option.{ForSome}
+use Rattle.std.specs.Prelude.{◌≡◌, ℕ, List, [], ◌∷◌, ◌++◌, flat_map, Bool, true, false, not, ◌&&◌, ◌||◌, nat_le, ◌==◌, is_some, codes, Option, Some, None, unwrap_or, option_map, option_and_then, option_to_list, slice_get, if◌then◌else◌}
 use Rattle.std.specs.List.{list_any}
+use Rattle.pw_base.specs.declared.fault_code.FaultCode.{FaultCode}
+use Rattle.pw_base.specs.declared.fault_code.FaultCode.TheVariants.{BadDataEntry, BadPicture, NameTwice}
 use Rattle.pw_base.specs.declared.fault.Fault.{Fault}
 use Rattle.pw_picture.specs.declared.picture.Picture.{Picture}
 use Rattle.pw_picture.specs.declared.picture.Picture.TheVariants as picture
-use Rattle.pw_picture.specs.Grammar.{picture_of, size_of}
+use Rattle.pw_picture.specs.Grammar.{IsPicture, picture_of, size_of}
+use Rattle.pw_text.specs.declared.token.TokenKind.TheVariants as kind_of_token
 use Rattle.pw_text.specs.declared.token.Token.{Token}
+use Rattle.pw_text.specs.Cursor.{Left, has_kind, spelling, is_the_word, behind}
 use Rattle.pw_data.specs.declared.literal.Literal.{Literal}
 use Rattle.pw_data.specs.declared.item.Kind.{Kind}
 use Rattle.pw_data.specs.declared.item.Kind.TheVariants as kind
-use Rattle.pw_data.specs.declared.entry.Reading.{Reading}
+use Rattle.pw_data.specs.declared.reading.Reading.{Reading}
 use Rattle.pw_data.specs.declared.entry.Entry.{Entry}
-use Rattle.pw_data.specs.Parts.{bytes_of, is_word, is_number, is_picture, is_the_word, is_table_word, Part}
+use Rattle.pw_data.specs.Parts.{left_of, is_table_word, Part}
 use Rattle.pw_data.specs.Literals.{whole_number, literal_of, holds}
-use Rattle.pw_data.specs.Clauses.{no_clauses, clauses_from}
+use Rattle.pw_data.specs.Clauses.{no_clauses, clauses_in}
 
 -- the level that a number is: 01 to 49 and 77 are levels
 abbrev pub level_of : ℕ → Option ℕ
 level_of n = if (nat_le 1 n && nat_le n 49) || n == 77 then Some n else None
 
--- the level in front
-abbrev pub level_at : List ℕ → List Token → Option ℕ
-level_at text [] = None
-level_at text (token ∷ behind) =
-    if is_number token.kind then option_and_then level_of (whole_number (bytes_of text token)) else None
+-- the level that a token is
+abbrev pub level_in : List ℕ → Token → Option ℕ
+level_in text token =
+    if has_kind kind_of_token.Number token then option_and_then level_of (whole_number (spelling text token)) else None
 
 -- the token may be a name: a word, but in requesters not $RECEIVE
 abbrev pub is_name : Bool → List ℕ → Token → Bool
-is_name server text token = is_word token.kind && (server || not (is_the_word text token (codes "$RECEIVE")))
+is_name server text token =
+    has_kind kind_of_token.Word token && (server || not (is_the_word text (codes "$RECEIVE") token))
 
--- the second token, where it may be a name
-abbrev pub name_at : Bool → List ℕ → List Token → Option Token
-name_at server text [] = None
-name_at server text (level ∷ []) = None
-name_at server text (level ∷ (token ∷ behind)) = if is_name server text token then Some token else None
-
--- the tokens behind the name
-abbrev pub behind_name : List Token → List Token
-behind_name [] = []
-behind_name (level ∷ []) = []
-behind_name (level ∷ (name ∷ behind)) = behind
+-- the name that a token is, where it may be one
+abbrev pub name_in : Bool → List ℕ → Token → Option Token
+name_in server text token = if is_name server text token then Some token else None
 
 -- the level, the name and the clauses of an entry, each where it has its form
-abbrev pub reading_of : Bool → List ℕ → List Token → Reading
-reading_of server text tokens =
+abbrev pub reading_of : Bool → Left → Reading
+reading_of server left =
     record {
-      level = level_at text tokens;
-      name = name_at server text tokens;
-      clauses = clauses_from text no_clauses 0 (behind_name tokens);
+      level = option_and_then (level_in left.text) (slice_get left.tokens 0);
+      name = option_and_then (name_in server left.text) (slice_get left.tokens 1);
+      clauses = clauses_in (behind 2 left);
     }
 
 -- the entry is a level, a name and clauses up to its period
@@ -56,20 +53,20 @@ has_form reading = is_some reading.level && (is_some reading.name && is_some rea
 
 -- the picture that a token is, where there is one
 abbrev pub picture_at : List ℕ → Option Token → Option Picture
-picture_at text token = option_and_then (λ t. picture_of (bytes_of text t)) token
+picture_at text token = option_and_then (λ t. picture_of (spelling text t)) token
 
 -- the token stands for a picture and is none
 abbrev pub is_bad_picture : List ℕ → Token → Bool
-is_bad_picture text token = is_picture token.kind && not (is_some (picture_of (bytes_of text token)))
+is_bad_picture text token = has_kind kind_of_token.Picture token && not (is_some (picture_of (spelling text token)))
 
 -- a name other than FILLER
 abbrev pub proper_name : List ℕ → Token → Option Token
-proper_name text token = if is_the_word text token (codes "FILLER") then None else Some token
+proper_name text token = if is_the_word text (codes "FILLER") token then None else Some token
 
 -- the name is a table word
 abbrev pub has_table_name : Bool → List ℕ → Option Token → Bool
 has_table_name server text None = false
-has_table_name server text (Some name) = is_table_word server (bytes_of text name)
+has_table_name server text (Some name) = is_table_word server (spelling text name)
 
 -- the number of occurrences that a number is: 1 to 1,000
 abbrev pub count_of : ℕ → Option ℕ
@@ -77,12 +74,18 @@ count_of n = if nat_le 1 n && nat_le n 1000 then Some n else None
 
 -- the number of an OCCURS, where it is one
 abbrev pub count_at : List ℕ → Option Token → Option ℕ
-count_at text token = option_and_then (λ t. option_and_then count_of (whole_number (bytes_of text t))) token
+count_at text token = option_and_then (λ t. option_and_then count_of (whole_number (spelling text t))) token
 
 -- the size of an item of the picture, and none without one
 abbrev pub size_at : Option Picture → ℕ
 size_at None = 0
 size_at (Some p) = size_of p
+
+-- the kind of an item with a picture: only an Edited one has none
+abbrev pub kind_of : Picture → Option Kind
+kind_of (picture.Text size) = Some (kind.Text size)
+kind_of (picture.Number digits places signed) = Some (kind.Number digits places signed)
+kind_of (picture.Edited symbols) = None
 
 -- the entry of a level
 abbrev pub entry_with : List ℕ → Bool → ℕ → Reading → ℕ → Entry
@@ -94,6 +97,7 @@ entry_with text linked line reading level =
       linked = linked;
       name = option_and_then (proper_name text) reading.name;
       clauses = clauses;
+      kind = option_and_then kind_of (picture_at text clauses.picture);
       size = size_at (picture_at text clauses.picture);
       occurs = count_at text clauses.occurs;
     }
@@ -106,7 +110,7 @@ line_of (token ∷ behind) = token.line
 -- the entry that the tokens are, where they have a level; where the clauses have another form, it has none
 abbrev pub entry_of : Bool → List ℕ → Part → Option Entry
 entry_of server text part =
-    let reading = reading_of server text part.tokens in
+    let reading = reading_of server (left_of text part.tokens) in
     option_map (entry_with text part.linked (line_of part.tokens) reading) reading.level
 
 -- 01 and 77 begin an item
@@ -125,15 +129,22 @@ has_value entry = is_some entry.clauses.value
 abbrev pub has_occurs : Entry → Bool
 has_occurs entry = is_some entry.clauses.occurs
 
--- the kind of an item with a picture: only an Edited one has none
-abbrev pub kind_of : Picture → Option Kind
-kind_of (picture.Text size) = Some (kind.Text size)
-kind_of (picture.Number digits places signed) = Some (kind.Number digits places signed)
-kind_of (picture.Edited symbols) = None
-
 -- the kind of an entry's item
 abbrev pub kind_at : List ℕ → Entry → Option Kind
 kind_at text entry = option_and_then kind_of (picture_at text entry.clauses.picture)
+
+-- the picture of a kind
+abbrev pub picture_of_kind : Kind → Picture
+picture_of_kind (kind.Text size) = picture.Text size
+picture_of_kind (kind.Number digits places signed) = picture.Number digits places signed
+
+-- the kind is that of a picture that there is
+abbrev pub IsKind : Kind → Type 0
+IsKind k = IsPicture (picture_of_kind k)
+
+-- the entry keeps what its picture says
+abbrev pub IsKept : List ℕ → Entry → Type 0
+IsKept text entry = (entry.kind ≡ kind_at text entry) × ForSome entry.kind IsKind
 
 -- there is a picture, but it is no Text and no Number: it is Edited, or none
 abbrev pub has_no_kind : List ℕ → Entry → Bool
@@ -166,23 +177,23 @@ is_bad_entry text None = false
 is_bad_entry text (Some entry) = has_bad_clause text entry
 
 -- the fault of a line
-abbrev pub fault : ℕ → ℕ → Fault
+abbrev pub fault : ℕ → FaultCode → Fault
 fault line code = record { line = line; code = code }
 
 -- a fault of a line, where it is one
-abbrev pub only_if : Bool → ℕ → ℕ → List Fault
+abbrev pub only_if : Bool → ℕ → FaultCode → List Fault
 only_if is_fault line code = if is_fault then fault line code ∷ [] else []
 
--- 111 for a picture that is none
--- 121 for an entry of another form, and for a clause that may not stand in it
--- 122 for a table word as a name
+-- BadPicture for a picture that is none
+-- BadDataEntry for an entry of another form, and for a clause that may not stand in it
+-- NameTwice for a table word as a name
 abbrev pub part_faults : Bool → List ℕ → Part → List Fault
 part_faults server text part =
-    let reading = reading_of server text part.tokens in
+    let reading = reading_of server (left_of text part.tokens) in
     let line = line_of part.tokens in
-    only_if (list_any (is_bad_picture text) part.tokens) line 111
-    ++ (only_if (not (has_form reading) || is_bad_entry text (entry_of server text part)) line 121
-    ++ only_if (has_table_name server text (option_and_then (proper_name text) reading.name)) line 122)
+    only_if (list_any (is_bad_picture text) part.tokens) line BadPicture
+    ++ (only_if (not (has_form reading) || is_bad_entry text (entry_of server text part)) line BadDataEntry
+    ++ only_if (has_table_name server text (option_and_then (proper_name text) reading.name)) line NameTwice)
 
 -- the faults that are read off the entries one by one
 abbrev pub faults_of_parts : Bool → List ℕ → List Part → List Fault

@@ -1,6 +1,7 @@
 -- The storage of items: where each lies, and the characters with which it begins.
 use Rattle.std.specs.Prelude.{ℕ, ◌+◌, ◌*◌, max, pos, List, [], ◌∷◌, ◌++◌, nat_lt, Option, Some, None, unwrap_or, option_and_then, if◌then◌else◌}
 use Rattle.std.specs.List.{repeat}
+use Rattle.pw_base.specs.declared.fault_code.FaultCode.TheVariants.{StorageTooLarge}
 use Rattle.pw_base.specs.declared.fault.Fault.{Fault}
 use Rattle.pw_number.specs.Number.{Number, number}
 use Rattle.pw_picture.specs.declared.picture.Picture.{Picture}
@@ -10,8 +11,6 @@ use Rattle.pw_picture.specs.Text.{fitted}
 use Rattle.pw_data.specs.declared.literal.Literal.{Literal}
 use Rattle.pw_data.specs.declared.literal.Literal.TheVariants as literal
 use Rattle.pw_data.specs.declared.entry.Entry.{Entry}
-use Rattle.pw_data.specs.declared.item.Kind.{Kind}
-use Rattle.pw_data.specs.declared.item.Kind.TheVariants as kind
 use Rattle.pw_data.specs.declared.item.Table.{Table}
 use Rattle.pw_data.specs.declared.item.Item.{Item}
 use Rattle.pw_data.specs.Literals.{literal_of}
@@ -28,21 +27,12 @@ abbrev pub size_in : Forest → ℕ
 size_in Empty = 0
 size_in (Node entry members behind) = times entry * (entry.size + size_in members) + size_in behind
 
--- the most characters of storage
-abbrev pub most : ℕ
-most = 32000
-
--- 124 at the first entry that begins an item and with which the storage is too large. before: the size of those before.
+-- StorageTooLarge at the first entry that begins an item and with which the storage is too large. before: the size of those before.
 abbrev pub too_large : ℕ → Forest → Option Fault
 too_large before Empty = None
 too_large before (Node entry members behind) =
     let size = before + times entry * (entry.size + size_in members) in
-    if nat_lt most size then Some (record { line = entry.line; code = 124 }) else too_large size behind
-
--- the picture of a kind
-abbrev pub picture_of_kind : Kind → Picture
-picture_of_kind (kind.Text size) = picture.Text size
-picture_of_kind (kind.Number digits places signed) = picture.Number digits places signed
+    if nat_lt most size then Some (record { line = entry.line; code = StorageTooLarge }) else too_large size behind
 
 -- the table in which an entry stands, of occurrences of a size: that of its own OCCURS, or the one around it
 abbrev pub table_of : Table → Option ℕ → ℕ → Table

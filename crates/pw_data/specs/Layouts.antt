@@ -11,10 +11,10 @@ use Rattle.pw_data.specs.declared.item.Table.{Table}
 use Rattle.pw_data.specs.declared.item.Item.{Item}
 use Rattle.pw_data.specs.declared.item.Place.{Place}
 use Rattle.pw_data.specs.Parts.{parts_of}
-use Rattle.pw_data.specs.Entries.{faults_of_parts, entries_of}
+use Rattle.pw_data.specs.Entries.{picture_of_kind, faults_of_parts, entries_of}
 use Rattle.pw_data.specs.Tree.{forest, tree_faults}
 use Rattle.pw_data.specs.Names.{is_this_name, clashes}
-use Rattle.pw_data.specs.Laid.{most, too_large, picture_of_kind, items_in, chars_in}
+use Rattle.pw_data.specs.Laid.{most, too_large, items_in, chars_in}
 
 -- a layout: its items in the order of their entries, and the characters with which they begin
 pub record Laid : Type 0 where

@@ -1,5 +1,6 @@
 pub mod Clauses
 pub mod Entries
+pub mod Index
 pub mod Laid
 pub mod Layouts
 pub mod Literals

@@ -14,7 +14,7 @@ use Rattle.pw_text.specs.declared.token.TokenKind.TheVariants as kind
 use Rattle.pw_text.specs.declared.token.Token.{Token}
 use Rattle.pw_data.specs.declared.literal.Literal.{Literal}
 use Rattle.pw_data.specs.declared.literal.Literal.TheVariants as literal
-use Rattle.pw_data.specs.Parts.{bytes_of}
+use Rattle.pw_text.specs.Cursor.{spelling}
 
 -- the byte, unless it is the second of two quotes
 abbrev pub kept : Bool → ℕ → List ℕ
@@ -70,7 +70,7 @@ literal_by _ bytes = None
 
 -- the literal that a token is
 abbrev pub literal_of : List ℕ → Token → Option Literal
-literal_of text token = literal_by token.kind (bytes_of text token)
+literal_of text token = literal_by token.kind (spelling text token)
 
 -- the number is kept, and is still the same when it is read
 abbrev pub holds_number : Picture → Number → Bool

@@ -3,15 +3,16 @@ use Rattle.std.specs.Prelude.{◌≡◌, ℕ, Vec, bytes_eq, List, [], ◌∷◌
 use Rattle.std.specs.List.{list_any}
 use Rattle.std.specs.Str.{str_to_ascii_lowercase}
 use Rattle.std.specs.BTreeSet.{BTreeSet}
+use Rattle.pw_base.specs.declared.fault_code.FaultCode.TheVariants.{NameTwice}
 use Rattle.pw_base.specs.declared.fault.Fault.{Fault}
 use Rattle.pw_words.specs.Words.{Word, same_word}
 use Rattle.pw_data.specs.declared.entry.Entry.{Entry}
-use Rattle.pw_data.specs.Parts.{bytes_of}
+use Rattle.pw_text.specs.Cursor.{spelling}
 use Rattle.pw_data.specs.Entries.{only_if}
 
 -- the name of an entry, where it has one
 abbrev pub name_of : List ℕ → Entry → Option Word
-name_of text entry = option_map (bytes_of text) entry.name
+name_of text entry = option_map (spelling text) entry.name
 
 -- there is a name, and it is this word
 abbrev pub is_this_name : Option Word → Word → Bool
@@ -32,8 +33,8 @@ abbrev pub HasNamesOf : {A : Type 0} → List ℕ → List Entry → BTreeSet (V
 HasNamesOf text entries names =
     (word : Word) → has_name names word ≡ list_any (λ entry. is_this_name (name_of text entry) word) entries
 
--- 122 for each entry with a name that one before it has
+-- NameTwice for each entry with a name that one before it has
 abbrev pub clashes : List ℕ → List Entry → List Entry → List Fault
 clashes text before [] = []
 clashes text before (entry ∷ entries) =
-    only_if (is_taken text before (name_of text entry)) entry.line 122 ++ clashes text (before ++ entry ∷ []) entries
+    only_if (is_taken text before (name_of text entry)) entry.line NameTwice ++ clashes text (before ++ entry ∷ []) entries

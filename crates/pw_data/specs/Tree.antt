@@ -1,7 +1,10 @@
 -- The items and their members.
 use Rattle.std.specs.Prelude.{List, [], ◌∷◌, ◌++◌, Bool, true, false, not, ◌&&◌, ◌||◌, nat_lt, ◌==◌, if◌then◌else◌}
+use Rattle.pw_base.specs.declared.fault_code.FaultCode.TheVariants.{BadDataEntry}
 use Rattle.pw_base.specs.declared.fault.Fault.{Fault}
 use Rattle.pw_data.specs.declared.entry.Entry.{Entry}
+use Rattle.pw_data.specs.declared.tree.Within.{Within}
+use Rattle.pw_data.specs.declared.tree.Within.TheVariants as within
 use Rattle.pw_data.specs.Entries.{begins_item, has_picture, has_value, has_occurs, only_if}
 
 -- the two stand in one section
@@ -48,9 +51,21 @@ is_misplaced top table group entry =
     || ((if group then has_picture entry || has_value entry else not (has_picture entry))
     || ((table && has_occurs entry) || ((table || has_occurs entry) && has_value entry)))
 
--- 121 for each entry whose place is a fault. top: the entries belong to none. table: they are inside an OCCURS.
+-- the entries belong to none
+abbrev pub is_top : Within → Bool
+is_top within.Nothing = true
+is_top within.Group = false
+is_top within.Table = false
+
+-- the entries are inside an OCCURS
+abbrev pub in_table : Within → Bool
+in_table within.Nothing = false
+in_table within.Group = false
+in_table within.Table = true
+
+-- BadDataEntry for each entry whose place is a fault. top: the entries belong to none. table: they are inside an OCCURS.
 abbrev pub tree_faults : Bool → Bool → Forest → List Fault
 tree_faults top table Empty = []
 tree_faults top table (Node entry members behind) =
-    only_if (is_misplaced top table (is_group members) entry) entry.line 121
+    only_if (is_misplaced top table (is_group members) entry) entry.line BadDataEntry
     ++ (tree_faults false (table || has_occurs entry) members ++ tree_faults top table behind)

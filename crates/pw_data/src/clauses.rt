@@ -1,8 +1,9 @@
-ghost use Rattle.std.specs.Prelude.{◌≡◌, ◌<◌, ◌≤◌, ◌+◌, IfSome, length};
-ghost use Rattle.pw_data.specs.Clauses.{no_clauses, added, optional, picture_behind, literal_behind, occurs_behind, clause_at, is_end, clauses_from};
+ghost use Rattle.std.specs.Prelude.{◌≡◌, ◌<◌, ◌≤◌, ◌||◌, IsSome, length, codes};
+ghost use Rattle.pw_text.specs.Cursor.{Reads, sees_word, after};
+ghost use Rattle.pw_data.specs.Clauses.{no_clauses, added, literal, picture_clause, value_clause, occurs_clause, one_clause, is_end, clauses_in};
 
-use crate::words::{is_literal, is_number, is_period, is_picture, is_the_word};
-use pw_text::token::Token;
+use pw_text::cursor::Cursor;
+use pw_text::token::{Token, TokenKind};
 
 /// The clauses of an entry, each by the token that says what it is: the picture, the literal of its
 /// VALUE, and the number of its OCCURS.
@@ -21,149 +22,136 @@ pub enum Clause {
     Occurs(Token),
 }
 
-/// A clause, and how many tokens it has.
-#[derive(Clone, Copy)]
-pub struct Sized {
-    pub clause: Clause,
-    pub size: usize,
-}
+impl Clauses {
+    /// No clause.
+    pub fn none() -> Clauses
+        ensures { result ≡ no_clauses }
+    {
+        Clauses {
+            picture: None,
+            value: None,
+            occurs: None,
+        }
+    }
 
-/// No clause.
-pub fn no_clauses() -> Clauses
-    ensures { result ≡ no_clauses }
-{
-    Clauses {
-        picture: None,
-        value: None,
-        occurs: None,
+    /// The clause and those before it. It is None where one of them is of its kind.
+    fn with(self, clause: Clause) -> Option<Clauses>
+        ensures { result ≡ added self clause }
+    {
+        match clause {
+            Clause::Picture(token) => match self.picture {
+                Some(_) => None,
+                None => Some(Clauses {
+                    picture: Some(token),
+                    ..self
+                }),
+            },
+            Clause::Value(token) => match self.value {
+                Some(_) => None,
+                None => Some(Clauses {
+                    value: Some(token),
+                    ..self
+                }),
+            },
+            Clause::Occurs(token) => match self.occurs {
+                Some(_) => None,
+                None => Some(Clauses {
+                    occurs: Some(token),
+                    ..self
+                }),
+            },
+        }
     }
 }
 
-/// The clause and those before it. It is None where one of them is of its kind.
-fn added(found: Clauses, clause: Clause) -> Option<Clauses>
-    ensures { result ≡ added found clause }
+/// Takes the next token, which has to be a literal.
+fn literal(cursor: &mut Cursor<'_>) -> Option<Token>
+    ensures value { Reads (literal cursor.old) result cursor.new }
+    ensures shorter { length cursor.new.tokens ≤ length cursor.old.tokens }
 {
-    match clause {
-        Clause::Picture(token) => match found.picture {
-            Some(_) => None,
-            None => Some(Clauses {
-                picture: Some(token),
-                ..found
-            }),
-        },
-        Clause::Value(token) => match found.value {
-            Some(_) => None,
-            None => Some(Clauses {
-                value: Some(token),
-                ..found
-            }),
-        },
-        Clause::Occurs(token) => match found.occurs {
-            Some(_) => None,
-            None => Some(Clauses {
-                occurs: Some(token),
-                ..found
-            }),
-        },
+    if cursor.sees(TokenKind::Number) {
+        cursor.next()
+    } else {
+        cursor.expect(TokenKind::Text)
     }
 }
 
-/// How many of the tokens in front are a word that may be left out.
-fn optional(text: &[u8], tokens: &[Token], word: &[u8]) -> usize
-    ensures value { result ≡ optional text.now tokens.now word.now }
-    ensures most { result ≤ 1 }
-    ensures bound { result ≤ length tokens.now }
+/// Reads what is behind PIC: a picture, and an IS before it or none.
+fn picture_clause(cursor: &mut Cursor<'_>) -> Option<Clause>
+    ensures value { Reads (picture_clause cursor.old) result cursor.new }
+    ensures shorter { length cursor.new.tokens ≤ length cursor.old.tokens }
 {
-    match tokens {
-        [token, ..] if is_the_word(text, *token, word) => 1,
-        _ => 0,
-    }
+    let _is = cursor.eat_word(b"IS");
+    Some(Clause::Picture(cursor.expect(TokenKind::Picture)?))
 }
 
-/// Behind so many tokens of its clause, a picture.
-fn picture_behind(size: usize, tokens: &[Token]) -> Option<Sized>
-    requires { size ≤ 2 }
-    ensures value { result ≡ picture_behind size tokens.now }
-    ensures bound { IfSome result (λ one. (0 < one.size) × (one.size ≤ size + length tokens.now)) }
+/// Reads what is behind VALUE: a literal, and an IS before it or none.
+fn value_clause(cursor: &mut Cursor<'_>) -> Option<Clause>
+    ensures value { Reads (value_clause cursor.old) result cursor.new }
+    ensures shorter { length cursor.new.tokens ≤ length cursor.old.tokens }
 {
-    match tokens {
-        [token, ..] if is_picture(token.kind) => Some(Sized {
-            clause: Clause::Picture(*token),
-            size: size + 1,
-        }),
-        _ => None,
-    }
+    let _is = cursor.eat_word(b"IS");
+    Some(Clause::Value(literal(cursor)?))
 }
 
-/// Behind so many tokens of its clause, a literal.
-fn literal_behind(size: usize, tokens: &[Token]) -> Option<Sized>
-    requires { size ≤ 2 }
-    ensures value { result ≡ literal_behind size tokens.now }
-    ensures bound { IfSome result (λ one. (0 < one.size) × (one.size ≤ size + length tokens.now)) }
+/// Reads what is behind OCCURS: a number, and a TIMES behind it or none.
+fn occurs_clause(cursor: &mut Cursor<'_>) -> Option<Clause>
+    ensures value { Reads (occurs_clause cursor.old) result cursor.new }
+    ensures shorter { length cursor.new.tokens ≤ length cursor.old.tokens }
 {
-    match tokens {
-        [token, ..] if is_literal(token.kind) => Some(Sized {
-            clause: Clause::Value(*token),
-            size: size + 1,
-        }),
-        _ => None,
-    }
+    let token = cursor.expect(TokenKind::Number)?;
+    let _times = cursor.eat_word(b"TIMES");
+    Some(Clause::Occurs(token))
 }
 
-/// Behind OCCURS, a number and an optional TIMES.
-fn occurs_behind(text: &[u8], tokens: &[Token]) -> Option<Sized>
-    ensures value { result ≡ occurs_behind text.now tokens.now }
-    ensures bound { IfSome result (λ one. (0 < one.size) × (one.size ≤ 1 + length tokens.now)) }
+/// Takes the word PIC or PICTURE, if it comes next. It gives whether it does.
+fn eat_pic(cursor: &mut Cursor<'_>) -> bool
+    ensures found { result ≡ (sees_word (codes "PIC") cursor.old || sees_word (codes "PICTURE") cursor.old) }
+    ensures left { cursor.new ≡ after (sees_word (codes "PIC") cursor.old || sees_word (codes "PICTURE") cursor.old) cursor.old }
 {
-    match tokens {
-        [token, behind @ ..] if is_number(token.kind) => Some(Sized {
-            clause: Clause::Occurs(*token),
-            size: 2 + optional(text, behind, b"TIMES"),
-        }),
-        _ => None,
+    let found = cursor.sees_word(b"PIC") || cursor.sees_word(b"PICTURE");
+    if found {
+        let _word = cursor.next();
     }
+    found
 }
 
-/// The clause in front of the tokens.
-fn clause_at(text: &[u8], tokens: &[Token]) -> Option<Sized>
-    ensures value { result ≡ clause_at text.now tokens.now }
-    ensures bound { IfSome result (λ one. (0 < one.size) × (one.size ≤ length tokens.now)) }
+/// Reads the clause in front.
+fn one_clause(cursor: &mut Cursor<'_>) -> Option<Clause>
+    ensures value { Reads (one_clause cursor.old) result cursor.new }
+    ensures shorter { IsSome result → length cursor.new.tokens < length cursor.old.tokens }
 {
-    let (token, behind) = tokens.split_first()?;
-    let size = optional(text, behind, b"IS");
-    let (_, rest) = behind.split_at(size);
-    if is_the_word(text, *token, b"PIC") || is_the_word(text, *token, b"PICTURE") {
-        picture_behind(1 + size, rest)
-    } else if is_the_word(text, *token, b"VALUE") {
-        literal_behind(1 + size, rest)
-    } else if is_the_word(text, *token, b"OCCURS") {
-        occurs_behind(text, behind)
+    if eat_pic(cursor) {
+        picture_clause(cursor)
+    } else if cursor.eat_word(b"VALUE") {
+        value_clause(cursor)
+    } else if cursor.eat_word(b"OCCURS") {
+        occurs_clause(cursor)
     } else {
         None
     }
 }
 
 /// Whether a period is all that is left.
-fn is_end(tokens: &[Token]) -> bool
-    ensures { result ≡ is_end tokens.now }
+fn is_end(cursor: &Cursor<'_>) -> bool
+    ensures { result ≡ is_end cursor.now.tokens }
 {
-    match tokens {
-        [token] => is_period(token.kind),
+    match cursor.tokens() {
+        [token] => token.kind.is(TokenKind::Period),
         _ => false,
     }
 }
 
 /// The clauses up to a period that is the last token. It is None where they have another form, or two
 /// of them are of one kind.
-pub fn clauses_of(text: &[u8], tokens: &[Token]) -> Option<Clauses>
-    ensures { result ≡ clauses_from text.now no_clauses 0 tokens.now }
+pub fn clauses_in(cursor: &Cursor<'_>) -> Option<Clauses>
+    ensures { result ≡ clauses_in cursor.now }
 {
-    let mut found = no_clauses();
-    let mut rest = tokens;
-    while !is_end(rest) {
-        let one = clause_at(text, rest)?;
-        found = added(found, one.clause)?;
-        rest = rest.split_at(one.size).1;
+    let mut found = Clauses::none();
+    let mut ahead = cursor.fork();
+    while !is_end(&ahead) {
+        let one = one_clause(&mut ahead)?;
+        found = found.with(one)?;
     }
     Some(found)
 }

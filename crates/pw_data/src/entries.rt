@@ -1,59 +1,153 @@
-ghost use Rattle.std.specs.Prelude.{◌≡◌, ◌++◌, ◌<◌, ◌≤◌, IfOk, OnOk, MatchResult, None, false, drop, length};
+ghost use Rattle.std.specs.Prelude.{◌≡◌, ◌++◌, ◌<◌, IfOk, OnOk, None, length, option_to_list};
+ghost use Rattle.std.specs.List.{list_any};
+ghost use Rattle.pw_base.specs.declared.fault_code.FaultCode.TheVariants.{BadPicture, BadDataEntry, NameTwice};
 ghost use Rattle.pw_base.specs.First.{least};
-ghost use Rattle.pw_data.specs.Parts.{parts_from, parts_of};
-ghost use Rattle.pw_data.specs.Entries.{faults_of_parts, entries_of};
+ghost use Rattle.pw_data.specs.Parts.{part_of, parts_from, parts_of};
+ghost use Rattle.pw_data.specs.Entries.{is_bad_picture, has_table_name, line_of, entry_of, only_if, part_faults, faults_of_parts, entries_of};
 
-use crate::entry::{Entry, read_part};
-use crate::parts::{entry_size, heading_size, is_heading, is_linkage};
-use pw_base::fault::Fault;
+use crate::entry::{Entry, entry_of, picture_at, proper_name};
+use crate::parts::{is_heading, take_entry, take_heading};
+use crate::reading::Reading;
+use crate::words::is_table_word;
+use pw_base::fault::{Fault, noted};
+use pw_base::fault_code::FaultCode;
 use pw_base::memory::Memory;
-use pw_text::token::Token;
+use pw_text::cursor::Cursor;
+use pw_text::token::{Token, TokenKind};
 use std::alloc::Global;
 
-/// What reading has found so far: whether it stands in LINKAGE, and the first fault.
+/// Whether a token stands for a picture and is none.
+fn is_bad_picture(alloc: Global, text: &[u8], token: Token) -> Result<bool, Memory>
+    ensures { IfOk result (λ bad. bad ≡ is_bad_picture text.now token) }
+{
+    if !token.kind.is(TokenKind::Picture) {
+        return Ok(false);
+    }
+    Ok(picture_at(alloc, text, Some(token))?.is_none())
+}
+
+/// Whether one of the tokens stands for a picture and is none.
+fn has_bad_picture(alloc: Global, part: &Cursor<'_>) -> Result<bool, Memory>
+    ensures { IfOk result (λ bad. bad ≡ list_any (is_bad_picture part.now.text) part.now.tokens) }
+{
+    for token in part.tokens() {
+        if is_bad_picture(alloc, part.text(), *token)? {
+            return Ok(true);
+        }
+    }
+    Ok(false)
+}
+
+/// Whether a name is a table word.
+fn has_table_name(server: bool, text: &[u8], name: Option<Token>) -> bool
+    ensures { result ≡ has_table_name server text.now name }
+{
+    match name {
+        Some(token) => is_table_word(server, token.spelling(text)),
+        None => false,
+    }
+}
+
+/// The first token's line, 0 where there is none.
+fn line_of(tokens: &[Token]) -> u32
+    ensures { result ≡ line_of tokens.now }
+{
+    match tokens {
+        [token, ..] => token.line,
+        [] => 0,
+    }
+}
+
+/// Which faults an entry has by itself.
 #[derive(Clone, Copy)]
+struct OwnFaults {
+    /// A picture that is none.
+    picture: bool,
+    /// Another form, or a clause that may not stand there.
+    entry: bool,
+    /// A table word as a name.
+    name: bool,
+}
+
+impl OwnFaults {
+    /// The first of the fault that is known and of these on a line.
+    fn noted(self, known: Option<Fault>, line: u32) -> Option<Fault>
+        ensures { result ≡ least known (only_if self.picture line BadPicture
+            ++ (only_if self.entry line BadDataEntry ++ only_if self.name line NameTwice)) }
+    {
+        let known = noted(known, self.picture, Fault { line, code: FaultCode::BadPicture });
+        let known = noted(known, self.entry, Fault { line, code: FaultCode::BadDataEntry });
+        noted(known, self.name, Fault { line, code: FaultCode::NameTwice })
+    }
+}
+
+/// Puts the entry behind the others.
+fn push_entry(entries: &mut Vec<Entry>, entry: Option<Entry>) -> Result<(), Memory>
+    ensures { OnOk result (entries.new.items ≡ entries.old.items ++ option_to_list entry) }
+{
+    if let Some(entry) = entry {
+        entries.push(entry)?;
+    }
+    Ok(())
+}
+
+/// What is read so far of the data sections of a server or of a requester.
 pub struct Found {
+    pub server: bool,
+    /// Whether reading stands in LINKAGE.
     pub linked: bool,
+    /// The entries that have a level.
+    pub entries: Vec<Entry>,
+    /// The first fault.
     pub known: Option<Fault>,
 }
 
-/// Reads the heading or the entry in front. It gives how many tokens that are.
-fn read_next(
-    alloc: Global,
-    server: bool,
-    text: &[u8],
-    tokens: &[Token],
-    found: &mut Found,
-    entries: &mut Vec<Entry>,
-) -> Result<usize, Memory>
-    requires { 0 < length tokens.now }
-    ensures some { IfOk result (λ size. 0 < size) }
-    ensures bound { IfOk result (λ size. size ≤ length tokens.now) }
-    ensures entries { IfOk result (λ size.
-        entries.new.items ++ entries_of server text.now (parts_from text.now found.new.linked 0 (drop size tokens.now))
-        ≡ entries.old.items ++ entries_of server text.now (parts_from text.now found.old.linked 0 tokens.now)) }
-    ensures faults { IfOk result (λ size.
-        least found.new.known
-        (faults_of_parts server text.now (parts_from text.now found.new.linked 0 (drop size tokens.now)))
-        ≡ least found.old.known
-        (faults_of_parts server text.now (parts_from text.now found.old.linked 0 tokens.now))) }
+/// Reads the tokens of one entry. It puts the entry behind the others, where it has a level, and notes
+/// the faults of the entry by itself: 111 for a picture that is none, 121 for another form or a clause
+/// that may not stand there, 122 for a table word as a name.
+fn read_part(alloc: Global, part: &Cursor<'_>, found: &mut Found) -> Result<(), Memory>
+    ensures entries { OnOk result (found.new.entries.items ≡ found.old.entries.items
+        ++ option_to_list (entry_of found.old.server part.now.text (part_of found.old.linked part.now.tokens))) }
+    ensures faults { OnOk result (found.new.known
+        ≡ least found.old.known (part_faults found.old.server part.now.text (part_of found.old.linked part.now.tokens))) }
+    ensures server { found.new.server ≡ found.old.server }
+    ensures linked { found.new.linked ≡ found.old.linked }
 {
-    if is_heading(text, tokens) {
-        found.linked = is_linkage(text, tokens);
-        return Ok(heading_size(tokens));
+    let text = part.text();
+    let reading = Reading::new(found.server, part);
+    let line = line_of(part.tokens());
+    let (entry, bad) = entry_of(alloc, text, found.linked, line, reading)?;
+    push_entry(&mut found.entries, entry)?;
+    let own = OwnFaults {
+        picture: has_bad_picture(alloc, part)?,
+        entry: !reading.has_form() || bad,
+        name: has_table_name(found.server, text, proper_name(text, reading.name)),
+    };
+    found.known = own.noted(found.known, line);
+    Ok(())
+}
+
+/// Reads the heading or the entry in front.
+fn read_next(alloc: Global, cursor: &mut Cursor<'_>, found: &mut Found) -> Result<(), Memory>
+    requires { 0 < length cursor.old.tokens }
+    ensures text { cursor.new.text ≡ cursor.old.text }
+    ensures shorter { OnOk result (length cursor.new.tokens < length cursor.old.tokens) }
+    ensures server { found.new.server ≡ found.old.server }
+    ensures entries { OnOk result (found.new.entries.items
+        ++ entries_of found.old.server cursor.old.text (parts_from cursor.old.text found.new.linked 0 cursor.new.tokens)
+        ≡ found.old.entries.items
+        ++ entries_of found.old.server cursor.old.text (parts_from cursor.old.text found.old.linked 0 cursor.old.tokens)) }
+    ensures faults { OnOk result (least found.new.known
+        (faults_of_parts found.old.server cursor.old.text (parts_from cursor.old.text found.new.linked 0 cursor.new.tokens))
+        ≡ least found.old.known
+        (faults_of_parts found.old.server cursor.old.text (parts_from cursor.old.text found.old.linked 0 cursor.old.tokens))) }
+{
+    if is_heading(cursor) {
+        found.linked = take_heading(cursor);
+        return Ok(());
     }
-    let size = entry_size(text, tokens);
-    let (part, _) = tokens.split_at(size);
-    found.known = read_part(
-        alloc,
-        server,
-        text,
-        found.linked,
-        part,
-        entries,
-        found.known,
-    )?;
-    Ok(size)
+    let part = take_entry(cursor);
+    read_part(alloc, &part, found)
 }
 
 /// The entries of the tokens that have a level, and the first of the faults that are read off each
@@ -68,15 +162,16 @@ pub fn read_entries(
     ensures faults { IfOk result (λ read.
         read.1 ≡ least None (faults_of_parts server text.now (parts_of text.now tokens.now))) }
 {
-    let mut entries = Vec::new(alloc);
+    let mut cursor = Cursor::new(text, tokens);
     let mut found = Found {
+        server,
         linked: false,
+        entries: Vec::new(alloc),
         known: None,
     };
-    let mut rest = tokens;
-    while !rest.is_empty() {
-        let size = read_next(alloc, server, text, rest, &mut found, &mut entries)?;
-        rest = rest.split_at(size).1;
+    while !cursor.is_empty() {
+        read_next(alloc, &mut cursor, &mut found)?;
     }
-    Ok((entries, found.known))
+    let Found { entries, known, .. } = found;
+    Ok((entries, known))
 }

@@ -1,38 +1,19 @@
-ghost use Rattle.std.specs.Prelude.{◌≡◌, ◌++◌, IfOk, OnOk, IfSome, option_map, option_and_then, option_to_list};
-ghost use Rattle.std.specs.List.{list_any};
-ghost use Rattle.pw_base.specs.First.{least};
+ghost use Rattle.std.specs.Prelude.{◌≡◌, IfOk, IfSome, option_map, option_and_then};
 ghost use Rattle.pw_picture.specs.Grammar.{IsPicture};
-ghost use Rattle.pw_data.specs.Parts.{part_of};
-ghost use Rattle.pw_data.specs.Entries.{level_of, level_at, is_name, name_at, behind_name, reading_of, has_form, picture_at, is_bad_picture, proper_name, has_table_name, count_at, size_at, entry_with, line_of, entry_of, begins_item, has_picture, has_value, has_occurs, has_no_kind, is_refused, is_bad_value, is_bad_occurs, has_bad_clause, is_bad_entry, fault, part_faults};
+ghost use Rattle.pw_data.specs.Entries.{picture_at, proper_name, count_at, size_at, entry_with, begins_item, has_picture, has_value, has_occurs, has_no_kind, is_refused, is_bad_value, is_bad_occurs, has_bad_clause, is_bad_entry, fault};
 
-use crate::clauses::{Clauses, clauses_of, no_clauses};
-use crate::item::kind_at;
+use crate::clauses::Clauses;
+use crate::item::{Kind, kind_at};
 use crate::literal::{Literal, holds, literal_of, whole_number};
-use crate::words::{bytes_of, is_number, is_picture, is_table_word, is_the_word, is_word};
-use pw_base::fault::{Fault, noted};
+use crate::reading::Reading;
+use pw_base::fault::Fault;
+use pw_base::fault_code::FaultCode;
 use pw_base::memory::Memory;
 use pw_picture::fault::PictureFault;
 use pw_picture::grammar::picture;
 use pw_picture::picture::Picture;
 use pw_text::token::Token;
 use std::alloc::Global;
-
-/// The code of a text that stands for a picture and is none.
-const BAD_PICTURE: u16 = 111;
-
-/// The code of an entry that is none.
-pub const BAD_ENTRY: u16 = 121;
-
-/// The code of a name that an earlier item has, and of a table word as a name.
-pub const NAME_TWICE: u16 = 122;
-
-/// The parts of an entry, each where it has its form: the level, the name, and the clauses.
-#[derive(Clone, Copy)]
-pub struct Reading {
-    pub level: Option<u8>,
-    pub name: Option<Token>,
-    pub clauses: Option<Clauses>,
-}
 
 /// An entry that has a level, 1 to 49 or 77.
 #[derive(Clone, Copy)]
@@ -46,101 +27,64 @@ pub struct Entry {
     pub name: Option<Token>,
     /// None where the entry is of another form.
     pub clauses: Clauses,
+    /// What the item holds by its picture, None without one and for one that is Edited.
+    pub kind: Option<Kind>,
     /// The size of the item that its picture says, 0 without one.
     pub size: u16,
     /// The number of its OCCURS, where it is 1 to 1,000.
     pub occurs: Option<u16>,
 }
 
-/// Whether an entry begins an item: 01 and 77 do.
-pub fn begins_item(entry: Entry) -> bool
-    ensures { result ≡ begins_item entry }
-{
-    entry.level == 1 || entry.level == 77
-}
-
-pub fn has_picture(entry: Entry) -> bool
-    ensures { result ≡ has_picture entry }
-{
-    entry.clauses.picture.is_some()
-}
-
-pub fn has_value(entry: Entry) -> bool
-    ensures { result ≡ has_value entry }
-{
-    entry.clauses.value.is_some()
-}
-
-pub fn has_occurs(entry: Entry) -> bool
-    ensures { result ≡ has_occurs entry }
-{
-    entry.clauses.occurs.is_some()
-}
-
-/// The level that a number is.
-fn level_of(number: u16) -> Option<u8>
-    ensures { result ≡ level_of number }
-{
-    if number >= 1 && number <= 49 || number == 77 {
-        Some(number as u8)
-    } else {
-        None
+impl Entry {
+    /// Whether it begins an item: 01 and 77 do.
+    pub fn begins_item(self) -> bool
+        ensures { result ≡ begins_item self }
+    {
+        self.level == 1 || self.level == 77
     }
-}
 
-/// The level in front.
-fn level_at(text: &[u8], tokens: &[Token]) -> Option<u8>
-    ensures { result ≡ level_at text.now tokens.now }
-{
-    match tokens {
-        [token, ..] if is_number(token.kind) => level_of(whole_number(bytes_of(text, *token))?),
-        _ => None,
+    pub fn has_picture(self) -> bool
+        ensures { result ≡ has_picture self }
+    {
+        self.clauses.picture.is_some()
     }
-}
 
-/// Whether a token may be a name.
-fn is_name(server: bool, text: &[u8], token: Token) -> bool
-    ensures { result ≡ is_name server text.now token }
-{
-    is_word(token.kind) && (server || !is_the_word(text, token, b"$RECEIVE"))
-}
-
-/// The second token, where it may be a name.
-fn name_at(server: bool, text: &[u8], tokens: &[Token]) -> Option<Token>
-    ensures { result ≡ name_at server text.now tokens.now }
-{
-    match tokens {
-        [_, token, ..] if is_name(server, text, *token) => Some(*token),
-        _ => None,
+    pub fn has_value(self) -> bool
+        ensures { result ≡ has_value self }
+    {
+        self.clauses.value.is_some()
     }
-}
 
-/// The tokens behind the name.
-fn behind_name(tokens: &[Token]) -> &[Token]
-    ensures { result.now ≡ behind_name tokens.now }
-{
-    match tokens {
-        [_, _, behind @ ..] => behind,
-        _ => &[],
+    pub fn has_occurs(self) -> bool
+        ensures { result ≡ has_occurs self }
+    {
+        self.clauses.occurs.is_some()
     }
-}
 
-/// The parts of an entry.
-fn reading_of(server: bool, text: &[u8], tokens: &[Token]) -> Reading
-    ensures { result ≡ reading_of server text.now tokens.now }
-{
-    Reading {
-        level: level_at(text, tokens),
-        name: name_at(server, text, tokens),
-        clauses: clauses_of(text, behind_name(tokens)),
+    /// Whether it has an OCCURS at level 01 or 77, or with a number outside 1 to 1,000.
+    fn is_bad_occurs(self) -> bool
+        ensures { result ≡ is_bad_occurs self }
+    {
+        self.has_occurs() && (self.begins_item() || self.occurs.is_none())
     }
-}
 
-/// Whether an entry is a level, a name and clauses up to its period.
-fn has_form(reading: Reading) -> bool
-    ensures { result ≡ has_form reading }
-{
-    reading.level.is_some() && (reading.name.is_some() && reading.clauses.is_some())
+    /// Whether there is a picture, but it is no Text and no Number.
+    fn has_no_kind(self, text: &[u8], picture: &Option<Picture>) -> bool
+        requires { picture.now ≡ picture_at text.now self.clauses.picture }
+        ensures { result ≡ has_no_kind text.now self }
+    {
+        self.has_picture() && kind_at(picture).is_none()
+    }
+
+    /// A fault of the entry.
+    pub fn fault(self, code: FaultCode) -> Fault
+        ensures { result ≡ fault self.line code }
+    {
+        Fault {
+            line: self.line,
+            code,
+        }
+    }
 }
 
 /// The picture that a token is, where there is one.
@@ -155,52 +99,20 @@ pub fn picture_at(
     let Some(token) = token else {
         return Ok(None);
     };
-    match picture(alloc, bytes_of(text, token)) {
+    match picture(alloc, token.spelling(text)) {
         Ok(picture) => Ok(Some(picture)),
         Err(PictureFault::Bad) => Ok(None),
         Err(PictureFault::Memory) => Err(Memory),
     }
 }
 
-/// Whether a token stands for a picture and is none.
-fn is_bad_picture(alloc: Global, text: &[u8], token: Token) -> Result<bool, Memory>
-    ensures { IfOk result (λ bad. bad ≡ is_bad_picture text.now token) }
-{
-    if !is_picture(token.kind) {
-        return Ok(false);
-    }
-    Ok(picture_at(alloc, text, Some(token))?.is_none())
-}
-
-/// Whether one of the tokens stands for a picture and is none.
-fn has_bad_picture(alloc: Global, text: &[u8], tokens: &[Token]) -> Result<bool, Memory>
-    ensures { IfOk result (λ bad. bad ≡ list_any (is_bad_picture text.now) tokens.now) }
-{
-    for token in tokens {
-        if is_bad_picture(alloc, text, *token)? {
-            return Ok(true);
-        }
-    }
-    Ok(false)
-}
-
 /// A name other than FILLER.
-fn proper_name(text: &[u8], name: Option<Token>) -> Option<Token>
+pub fn proper_name(text: &[u8], name: Option<Token>) -> Option<Token>
     ensures { result ≡ option_and_then (proper_name text.now) name }
 {
     match name {
-        Some(token) if !is_the_word(text, token, b"FILLER") => Some(token),
+        Some(token) if !token.is_the_word(text, b"FILLER") => Some(token),
         _ => None,
-    }
-}
-
-/// Whether a name is a table word.
-fn has_table_name(server: bool, text: &[u8], name: Option<Token>) -> bool
-    ensures { result ≡ has_table_name server text.now name }
-{
-    match name {
-        Some(token) => is_table_word(server, bytes_of(text, token)),
-        None => false,
     }
 }
 
@@ -208,7 +120,7 @@ fn has_table_name(server: bool, text: &[u8], name: Option<Token>) -> bool
 fn count_at(text: &[u8], token: Option<Token>) -> Option<u16>
     ensures { result ≡ count_at text.now token }
 {
-    let count = whole_number(bytes_of(text, token?))?;
+    let count = whole_number(token?.spelling(text))?;
     if count >= 1 && count <= 1000 {
         Some(count)
     } else {
@@ -225,24 +137,6 @@ fn size_at(picture: &Option<Picture>) -> u16
         Some(picture) => picture.size(),
         None => 0,
     }
-}
-
-/// The first token's line, 0 where there is none.
-fn line_of(tokens: &[Token]) -> u32
-    ensures { result ≡ line_of tokens.now }
-{
-    match tokens {
-        [token, ..] => token.line,
-        [] => 0,
-    }
-}
-
-/// Whether there is a picture, but it is no Text and no Number.
-fn has_no_kind(text: &[u8], entry: Entry, picture: &Option<Picture>) -> bool
-    requires { picture.now ≡ picture_at text.now entry.clauses.picture }
-    ensures { result ≡ has_no_kind text.now entry }
-{
-    has_picture(entry) && kind_at(picture).is_none()
 }
 
 /// Whether an item of the picture cannot hold the literal.
@@ -279,13 +173,6 @@ fn is_bad_value(
     Ok(is_refused(picture, &literal))
 }
 
-/// Whether there is an OCCURS at level 01 or 77, or with a number outside 1 to 1,000.
-fn is_bad_occurs(entry: Entry) -> bool
-    ensures { result ≡ is_bad_occurs entry }
-{
-    has_occurs(entry) && (begins_item(entry) || entry.occurs.is_none())
-}
-
 /// Whether there is a picture that is Edited, or an OCCURS or VALUE that may not stand in the entry.
 fn has_bad_clause(
     alloc: Global,
@@ -297,14 +184,14 @@ fn has_bad_clause(
     requires valid { IfSome picture.now (λ p. IsPicture p) }
     ensures { IfOk result (λ bad. bad ≡ has_bad_clause text.now entry) }
 {
-    if has_no_kind(text, entry, picture) || is_bad_occurs(entry) {
+    if entry.has_no_kind(text, picture) || entry.is_bad_occurs() {
         return Ok(true);
     }
     is_bad_value(alloc, text, entry, picture)
 }
 
 /// The entry of these parts, where they have a level, and whether a clause may not stand in it.
-fn entry_of(
+pub fn entry_of(
     alloc: Global,
     text: &[u8],
     linked: bool,
@@ -317,7 +204,7 @@ fn entry_of(
     let Some(level) = reading.level else {
         return Ok((None, false));
     };
-    let clauses = reading.clauses.unwrap_or(no_clauses());
+    let clauses = reading.clauses.unwrap_or(Clauses::none());
     let picture = picture_at(alloc, text, clauses.picture)?;
     let entry = Entry {
         line,
@@ -325,54 +212,10 @@ fn entry_of(
         linked,
         name: proper_name(text, reading.name),
         clauses,
+        kind: kind_at(&picture),
         size: size_at(&picture),
         occurs: count_at(text, clauses.occurs),
     };
     let bad = has_bad_clause(alloc, text, entry, &picture)?;
     Ok((Some(entry), bad))
-}
-
-/// Puts the entry behind the others.
-fn push_entry(entries: &mut Vec<Entry>, entry: Option<Entry>) -> Result<(), Memory>
-    ensures { OnOk result (entries.new.items ≡ entries.old.items ++ option_to_list entry) }
-{
-    if let Some(entry) = entry {
-        entries.push(entry)?;
-    }
-    Ok(())
-}
-
-/// Reads the tokens of one entry. It puts the entry behind the others, where it has a level, and gives
-/// the first of the fault that is known and of those of the entry by itself: 111 for a picture that is
-/// none, 121 for another form or a clause that may not stand there, 122 for a table word as a name.
-pub fn read_part(
-    alloc: Global,
-    server: bool,
-    text: &[u8],
-    linked: bool,
-    tokens: &[Token],
-    entries: &mut Vec<Entry>,
-    known: Option<Fault>,
-) -> Result<Option<Fault>, Memory>
-    ensures entries { OnOk result (entries.new.items
-        ≡ entries.old.items ++ option_to_list (entry_of server text.now (part_of linked tokens.now))) }
-    ensures faults { IfOk result (λ first.
-        first ≡ least known (part_faults server text.now (part_of linked tokens.now))) }
-{
-    let reading = reading_of(server, text, tokens);
-    let line = line_of(tokens);
-    let (entry, bad) = entry_of(alloc, text, linked, line, reading)?;
-    push_entry(entries, entry)?;
-    let bad_picture = has_bad_picture(alloc, text, tokens)?;
-    let table_name = has_table_name(server, text, proper_name(text, reading.name));
-    let known = noted(known, bad_picture, fault(line, BAD_PICTURE));
-    let known = noted(known, !has_form(reading) || bad, fault(line, BAD_ENTRY));
-    Ok(noted(known, table_name, fault(line, NAME_TWICE)))
-}
-
-/// The fault of a line.
-pub fn fault(line: u32, code: u16) -> Fault
-    ensures { result ≡ fault line code }
-{
-    Fault { line, code }
 }

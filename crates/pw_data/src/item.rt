@@ -1,6 +1,5 @@
 ghost use Rattle.std.specs.Prelude.{◌≡◌, option_and_then};
-ghost use Rattle.pw_data.specs.Entries.{kind_of};
-ghost use Rattle.pw_data.specs.Laid.{picture_of_kind};
+ghost use Rattle.pw_data.specs.Entries.{kind_of, picture_of_kind};
 
 use pw_base::bytes::Bytes;
 use pw_picture::picture::Picture;

@@ -1,12 +1,13 @@
-ghost use Rattle.std.specs.Prelude.{◌≡◌, ◌++◌, ◌+◌, ◌≤◌, IfOk, OnOk};
+ghost use Rattle.std.specs.Prelude.{◌≡◌, ◌++◌, ◌+◌, ◌≤◌, All, IfOk, OnOk};
+ghost use Rattle.pw_data.specs.Entries.{IsKept};
 ghost use Rattle.pw_data.specs.Tree.{forest};
 ghost use Rattle.pw_data.specs.Names.{name_of};
 ghost use Rattle.pw_data.specs.Laid.{size_in, most, table_of, item_of, items_in};
 
-use crate::entry::{Entry, picture_at};
-use crate::item::{Item, Table, kind_at};
+use crate::entry::Entry;
+use crate::item::{Item, Table};
 use crate::names::name_of;
-use crate::tree::{extent, member_count, size_of};
+use crate::tree::size_of;
 use pw_base::bytes::Bytes;
 use pw_base::memory::Memory;
 use std::alloc::Global;
@@ -40,14 +41,14 @@ fn item_of(
     table: Table,
     entry: Entry,
 ) -> Result<Item, Memory>
+    requires { IsKept text.now entry }
     ensures { IfOk result (λ item. item ≡ item_of text.now at size table entry) }
 {
-    let picture = picture_at(alloc, text, entry.clauses.picture)?;
     Ok(Item {
         name: copy_name(alloc, text, entry)?,
         level: entry.level,
         linked: entry.linked,
-        kind: kind_at(&picture),
+        kind: entry.kind,
         at,
         size,
         occurs: table.occurs,
@@ -65,20 +66,21 @@ pub fn lay(
     entries: &[Entry],
     items: &mut Vec<Item>,
 ) -> Result<(), Memory>
-    requires { at + size_in (forest entries.now) ≤ most }
+    requires size { at + size_in (forest entries.now) ≤ most }
+    requires kept { All (IsKept text.now) entries.now }
     ensures { OnOk result (items.new.items ≡ items.old.items ++ items_in text.now at around (forest entries.now)) }
 {
     let mut at = at;
     let mut rest = entries;
     while let Some((entry, behind)) = rest.split_first() {
-        let (members, next) = behind.split_at(member_count(*entry, behind));
+        let (members, next) = behind.split_at(entry.member_count(behind));
         let inner = size_of(members);
         let size = entry.size as u32 + inner;
         let table = table_of(around, entry.occurs, size);
         let item = item_of(alloc, text, at, size, table, *entry)?;
         items.push(item)?;
         lay(alloc, text, at, table, members, items)?;
-        at += extent(*entry, inner);
+        at += entry.extent(inner);
         rest = next;
     }
     Ok(())

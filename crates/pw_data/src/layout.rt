@@ -1,12 +1,16 @@
-ghost use Rattle.std.specs.Prelude.{◌≡◌, ◌≤◌, length, All, IfSome};
+ghost use Rattle.std.specs.Prelude.{◌≡◌, ◌≤◌, length, find, All, IfOk, IfSome, option_copied};
 ghost use Rattle.pw_data.specs.Laid.{most};
 ghost use Rattle.pw_data.specs.Names.{is_this_name};
 ghost use Rattle.pw_data.specs.Layouts.{IsSound, EndsBy, PlaceEndsBy, FitsPicture, PlaceFitsPicture, place_at, place_of};
 
+use crate::index::{Index, index_of, number_of};
 use crate::item::{Item, Place};
 use pw_base::bytes::Bytes;
 use pw_base::list::List;
+use pw_base::memory::Memory;
+use pw_text::token::MAX_WORD;
 use pw_words::table::is_same_word;
+use std::alloc::Global;
 use std::marker::Model;
 
 /// The items of a program's data in the order of their entries, and the characters with which they
@@ -16,44 +20,59 @@ use std::marker::Model;
 pub struct Layout {
     items: List<Item>,
     storage: Bytes,
+    /// The items by their names.
+    index: Index,
 }
 
 impl Model for Layout {
+    ghost use Rattle.pw_data.specs.Index.{IsIndexOf};
     ghost use Rattle.pw_data.specs.Layouts.{Laid, IsSound};
 
     ghost Value = { Laid };
 
     ghost view = { λ layout. record { items = layout.items; storage = layout.storage } };
 
-    ghost invariant = { λ layout. IsSound layout.items layout.storage };
+    ghost invariant = { λ layout. IsSound layout.items layout.storage × IsIndexOf layout.index layout.items };
 }
 
 impl Layout {
     /// The layout of these items and characters.
-    pub(crate) fn new(items: Vec<Item>, storage: Bytes) -> Layout
+    pub(crate) fn new(alloc: Global, items: Vec<Item>, storage: Bytes) -> Result<Layout, Memory>
         requires { IsSound items.items storage }
-        ensures items { result.items ≡ items.items }
-        ensures storage { result.storage ≡ storage }
+        ensures items { IfOk result (λ layout. layout.items ≡ items.items) }
+        ensures storage { IfOk result (λ layout. layout.storage ≡ storage) }
     {
-        Layout {
+        let index = index_of(alloc, items.as_slice())?;
+        Ok(Layout {
             items: List::from_vec(items),
             storage,
+            index,
+        })
+    }
+
+    /// The first item of a name, in either case. A name of more than 30 characters is no word of a text,
+    /// and is looked for from item to item.
+    fn item(&self, name: &[u8]) -> Option<&Item>
+        ensures { option_copied result ≡ find (λ item. is_this_name item.name name.now) self.now.items }
+    {
+        if name.len() > MAX_WORD {
+            return self
+                .items
+                .as_slice()
+                .iter()
+                .find(|item| is_called(item, name));
         }
+        self.items.get(number_of(&self.index, name)?)
     }
 
     /// Where the item of a name lies, in either case. It is None exactly where no item has the name. It
-    /// takes no memory.
+    /// takes no memory, and looks at few of the names, however many there are.
     pub fn place(&self, name: &[u8]) -> Option<Place>
         ensures place { result ≡ place_of self.now name.now }
         ensures within { IfSome result (λ place. PlaceEndsBy (length self.now.storage) place) }
         ensures picture { IfSome result PlaceFitsPicture }
     {
-        let item = self
-            .items
-            .as_slice()
-            .iter()
-            .find(|item| is_called(item, name))?;
-        Some(place_at(item))
+        Some(place_at(self.item(name)?))
     }
 
     /// The characters with which the storage begins: those of all items, one behind the other. It takes

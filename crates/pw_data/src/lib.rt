@@ -5,6 +5,7 @@
 mod clauses;
 mod entries;
 mod entry;
+mod index;
 pub mod item;
 pub mod laws;
 mod lay;
@@ -13,6 +14,7 @@ pub mod literal;
 mod names;
 mod parts;
 pub mod read;
+mod reading;
 mod storage;
 #[cfg(test)]
 mod tests;

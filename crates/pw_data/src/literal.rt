@@ -7,7 +7,6 @@ ghost use Rattle.pw_picture.specs.declared.picture.Picture.TheVariants.{Number a
 ghost use Rattle.pw_picture.specs.Symbols.{value_behind, begins_with};
 ghost use Rattle.pw_data.specs.Literals.{kept, is_first_quote, unquoted, whole_number, before_point, behind_point, has_sign, sign_size, number_with, number_of, literal_of, holds_number, holds};
 
-use crate::words::bytes_of;
 use pw_base::bytes::Bytes;
 use pw_base::memory::Memory;
 use pw_number::scaled::Scaled;
@@ -163,7 +162,7 @@ pub fn number_of(bytes: &[u8]) -> Option<Scaled>
 pub fn literal_of(alloc: Global, text: &[u8], token: Token) -> Result<Option<Literal>, Memory>
     ensures { IfOk result (λ literal. literal ≡ literal_of text.now token) }
 {
-    let bytes = bytes_of(text, token);
+    let bytes = token.spelling(text);
     match token.kind {
         TokenKind::Text => Ok(Some(Literal::Text(unquoted(alloc, bytes)?))),
         TokenKind::Number => match number_of(bytes) {

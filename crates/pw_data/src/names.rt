@@ -5,9 +5,9 @@ ghost use Rattle.pw_words.specs.Words.{same_word};
 ghost use Rattle.pw_data.specs.declared.entry.Entry.{Entry};
 ghost use Rattle.pw_data.specs.Names.{name_of, is_taken, has_name, HasNamesOf, clashes};
 
-use crate::entry::{Entry, NAME_TWICE, fault};
-use crate::words::bytes_of;
+use crate::entry::Entry;
 use pw_base::fault::{Fault, noted};
+use pw_base::fault_code::FaultCode;
 use pw_base::memory::Memory;
 use std::alloc::Global;
 use std::collections::BTreeSet;
@@ -17,13 +17,13 @@ pub fn name_of<'a>(text: &'a [u8], entry: Entry) -> Option<&'a [u8]>
     ensures { option_copied result ≡ name_of text.entry.now entry }
 {
     match entry.name {
-        Some(token) => Some(bytes_of(text, token)),
+        Some(token) => Some(token.spelling(text)),
         None => None,
     }
 }
 
 /// A name in lower case.
-fn in_lower_case(alloc: Global, name: &[u8]) -> Result<Vec<u8>, Memory>
+pub fn in_lower_case(alloc: Global, name: &[u8]) -> Result<Vec<u8>, Memory>
     ensures { IfOk result (λ folded. folded.items ≡ str_to_ascii_lowercase name.now) }
 {
     Ok(
@@ -77,7 +77,7 @@ pub fn clashes(
     let mut known = known;
     for entry in entries {
         let taken = put_name_of(alloc, text, *entry, &mut names)?;
-        known = noted(known, taken, fault(entry.line, NAME_TWICE));
+        known = noted(known, taken, entry.fault(FaultCode::NameTwice));
     }
     Ok(known)
 }

@@ -1,73 +1,65 @@
-ghost use Rattle.std.specs.Prelude.{◌≡◌, ◌<◌, ◌≤◌, length};
-ghost use Rattle.pw_data.specs.Parts.{is_heading, is_linkage, begins_with_period, heading_size, ends_entry, entry_size};
+ghost use Rattle.std.specs.Prelude.{◌≡◌, ◌<◌, ◌≤◌, true, length, take};
+ghost use Rattle.pw_text.specs.Cursor.{behind};
+ghost use Rattle.pw_data.specs.Parts.{is_heading, is_linkage, heading_size, ends_entry, entry_size};
 
-use crate::words::{is_period, is_the_word};
-use pw_text::token::Token;
+use pw_text::cursor::Cursor;
+use pw_text::token::{Token, TokenKind};
 
 /// Whether the two words that begin a section stand in front.
-pub fn is_heading(text: &[u8], tokens: &[Token]) -> bool
-    ensures { result ≡ is_heading text.now tokens.now }
+pub fn is_heading(cursor: &Cursor<'_>) -> bool
+    ensures { result ≡ is_heading cursor.now }
 {
-    match tokens {
-        [name, section, ..] => {
-            (is_the_word(text, *name, b"WORKING-STORAGE") || is_the_word(text, *name, b"LINKAGE"))
-                && is_the_word(text, *section, b"SECTION")
-        }
-        _ => false,
-    }
+    let mut ahead = cursor.fork();
+    let _name = ahead.next();
+    (cursor.sees_word(b"WORKING-STORAGE") || cursor.sees_word(b"LINKAGE"))
+        && ahead.sees_word(b"SECTION")
 }
 
-/// Whether the section of the heading in front is LINKAGE.
-pub fn is_linkage(text: &[u8], tokens: &[Token]) -> bool
-    ensures { result ≡ is_linkage text.now tokens.now }
+/// Takes the heading in front, its two words and a period behind them, where it is there. It gives
+/// whether its section is LINKAGE.
+pub fn take_heading(cursor: &mut Cursor<'_>) -> bool
+    ensures linked { result ≡ is_linkage cursor.old }
+    ensures left { cursor.new ≡ behind (heading_size cursor.old) cursor.old }
 {
-    match tokens {
-        [name, ..] => is_the_word(text, *name, b"LINKAGE"),
-        [] => false,
-    }
+    let linked = cursor.sees_word(b"LINKAGE");
+    let _name = cursor.next();
+    let _section = cursor.next();
+    let _period = cursor.eat(TokenKind::Period);
+    linked
 }
 
-fn begins_with_period(tokens: &[Token]) -> bool
-    ensures { result ≡ begins_with_period tokens.now }
+/// Whether an entry ends with a token. The cursor stands behind it.
+fn ends_entry(token: Token, ahead: &Cursor<'_>) -> bool
+    ensures { result ≡ ends_entry ahead.now.text token ahead.now.tokens }
 {
-    match tokens {
-        [token, ..] => is_period(token.kind),
-        [] => false,
-    }
-}
-
-/// How many tokens a heading has: its two words, and a period behind them, where it is there.
-pub fn heading_size(tokens: &[Token]) -> usize
-    requires { 2 ≤ length tokens.now }
-    ensures value { result ≡ heading_size tokens.now }
-    ensures some { 0 < result }
-    ensures bound { result ≤ length tokens.now }
-{
-    let (_, behind) = tokens.split_at(2);
-    if begins_with_period(behind) { 3 } else { 2 }
-}
-
-/// Whether an entry ends with a token.
-fn ends_entry(text: &[u8], token: Token, behind: &[Token]) -> bool
-    ensures { result ≡ ends_entry text.now token behind.now }
-{
-    is_period(token.kind) || is_heading(text, behind)
+    token.kind.is(TokenKind::Period) || is_heading(ahead)
 }
 
 /// How many tokens the entry in front has.
-pub fn entry_size(text: &[u8], tokens: &[Token]) -> usize
-    ensures value { result ≡ entry_size text.now tokens.now }
-    ensures some { 0 < length tokens.now → 0 < result }
-    ensures bound { result ≤ length tokens.now }
+fn entry_size(cursor: &Cursor<'_>) -> usize
+    ensures value { result ≡ entry_size cursor.now.text cursor.now.tokens }
+    ensures some { 0 < length cursor.now.tokens → 0 < result }
+    ensures bound { result ≤ length cursor.now.tokens }
 {
     let mut size = 0;
-    let mut rest = tokens;
-    while let Some((token, behind)) = rest.split_first() {
+    let mut ahead = cursor.fork();
+    while let Some(token) = ahead.next() {
         size += 1;
-        if ends_entry(text, *token, behind) {
+        if ends_entry(token, &ahead) {
             return size;
         }
-        rest = behind;
     }
     size
+}
+
+/// Takes the entry in front: the tokens up to its period, or up to the next heading or the last token
+/// where it has none.
+pub fn take_entry<'a>(cursor: &mut Cursor<'a>) -> Cursor<'a>
+    ensures text { result.text ≡ cursor.old.text }
+    ensures tokens { result.tokens ≡ take (entry_size cursor.old.text cursor.old.tokens) cursor.old.tokens }
+    ensures left { cursor.new ≡ behind (entry_size cursor.old.text cursor.old.tokens) cursor.old }
+    ensures some { 0 < length cursor.old.tokens → 0 < entry_size cursor.old.text cursor.old.tokens }
+{
+    let size = entry_size(cursor);
+    cursor.take(size)
 }

@@ -1,5 +1,6 @@
 ghost use Rattle.std.specs.Prelude.{◌≡◌, length, All, IfOk, None};
 ghost use Rattle.pw_base.specs.First.{Gives};
+ghost use Rattle.pw_data.specs.Entries.{IsKept};
 ghost use Rattle.pw_data.specs.Tree.{forest};
 ghost use Rattle.pw_data.specs.Laid.{too_large, size_in, items_in, chars_in};
 ghost use Rattle.pw_data.specs.Layouts.{FitsPicture, no_table, first_among, laid, layout_of};
@@ -11,7 +12,7 @@ use crate::lay::lay;
 use crate::layout::Layout;
 use crate::names::clashes;
 use crate::storage::chars_of;
-use crate::tree::{too_large, tree_faults};
+use crate::tree::{Within, too_large, tree_faults};
 use pw_base::fault::{Fault, Refusal};
 use pw_base::memory::Memory;
 use pw_text::token::Token;
@@ -27,7 +28,7 @@ fn first_fault(
 ) -> Result<Option<Fault>, Memory>
     ensures { IfOk result (λ first. first ≡ first_among text.now known entries.now) }
 {
-    let known = tree_faults(true, false, entries, known);
+    let known = tree_faults(Within::Nothing, entries, known);
     let known = clashes(alloc, text, entries, known)?;
     match known {
         Some(fault) => Ok(Some(fault)),
@@ -39,6 +40,7 @@ fn first_fault(
 fn laid(alloc: Global, text: &[u8], entries: &[Entry]) -> Result<Layout, Memory>
     requires small { too_large 0 (forest entries.now) ≡ None }
     requires size { length (chars_in text.now (forest entries.now)) ≡ size_in (forest entries.now) }
+    requires kept { All (IsKept text.now) entries.now }
     requires pictures { All FitsPicture (items_in text.now 0 no_table (forest entries.now)) }
     ensures { IfOk result (λ layout. layout ≡ laid text.now entries.now) }
 {
@@ -46,7 +48,7 @@ fn laid(alloc: Global, text: &[u8], entries: &[Entry]) -> Result<Layout, Memory>
     let outside = Table { occurs: 0, step: 0 };
     lay(alloc, text, 0, outside, entries, &mut items)?;
     let storage = chars_of(alloc, text, entries)?;
-    Ok(Layout::new(items, storage))
+    Layout::new(alloc, items, storage)
 }
 
 /// The layout of the data of a program. The tokens are those of WORKING-STORAGE SECTION and LINKAGE

@@ -1,15 +1,16 @@
-ghost use Rattle.std.specs.Prelude.{◌≡◌, ◌++◌, IfOk, OnOk, IfSome, IsTrue, option_and_then};
+ghost use Rattle.std.specs.Prelude.{◌≡◌, ◌++◌, All, ForSome, IfOk, OnOk, IsTrue, option_and_then, option_map};
 ghost use Rattle.std.specs.List.{repeat};
 ghost use Rattle.pw_picture.specs.Grammar.{IsPicture};
 ghost use Rattle.pw_picture.specs.Stored.{is_number, moved};
 ghost use Rattle.pw_picture.specs.Text.{fitted};
 ghost use Rattle.pw_data.specs.Literals.{literal_of};
 ghost use Rattle.pw_data.specs.Tree.{forest};
+ghost use Rattle.pw_data.specs.Entries.{IsKind, IsKept, picture_of_kind};
 ghost use Rattle.pw_data.specs.Laid.{times, text_in, number_in, initial_by, initial, chars_in};
 
-use crate::entry::{Entry, picture_at};
+use crate::entry::Entry;
+use crate::item::Kind;
 use crate::literal::{Literal, literal_of};
-use crate::tree::{member_count, times};
 use pw_base::bytes::Bytes;
 use pw_base::memory::Memory;
 use pw_number::scaled::Scaled;
@@ -68,30 +69,30 @@ fn number_chars(alloc: Global, picture: &Picture, number: Scaled) -> Result<Byte
     Ok(Bytes::from_vec(chars))
 }
 
-/// The characters with which an item of a picture begins.
+/// The characters with which an item of a kind begins.
 fn initial_by(
     alloc: Global,
     value: &Option<Literal>,
-    picture: &Option<Picture>,
+    kind: Option<Kind>,
 ) -> Result<Bytes, Memory>
-    requires { IfSome picture.now (λ p. IsPicture p) }
-    ensures { IfOk result (λ chars. chars ≡ initial_by value.now picture.now) }
+    requires { ForSome kind IsKind }
+    ensures { IfOk result (λ chars. chars ≡ initial_by value.now (option_map picture_of_kind kind)) }
 {
-    match picture {
-        Some(Picture::Text { size }) => text_chars(alloc, *size, text_in(value)),
-        Some(picture @ Picture::Number { .. }) => { number_chars(alloc, picture, number_in(value)) }
-        _ => Ok(Bytes::new(alloc)),
+    match kind {
+        Some(Kind::Text { size }) => text_chars(alloc, size, text_in(value)),
+        Some(kind) => number_chars(alloc, &kind.picture(), number_in(value)),
+        None => Ok(Bytes::new(alloc)),
     }
 }
 
 /// The characters with which an entry's item begins, none for a group: its VALUE as MOVE puts it, and
 /// without one spaces or zero.
 fn initial(alloc: Global, text: &[u8], entry: Entry) -> Result<Bytes, Memory>
+    requires { IsKept text.now entry }
     ensures { IfOk result (λ chars. chars ≡ initial text.now entry) }
 {
     let value = value_at(alloc, text, entry.clauses.value)?;
-    let picture = picture_at(alloc, text, entry.clauses.picture)?;
-    initial_by(alloc, &value, &picture)
+    initial_by(alloc, &value, entry.kind)
 }
 
 /// Puts a piece behind the characters, so many times.
@@ -106,15 +107,16 @@ fn repeat(chars: &mut Bytes, piece: &[u8], count: u32) -> Result<(), Memory>
 
 /// The characters with which the items of entries begin, one behind the other.
 pub fn chars_of(alloc: Global, text: &[u8], entries: &[Entry]) -> Result<Bytes, Memory>
+    requires { All (IsKept text.now) entries.now }
     ensures { IfOk result (λ chars. chars ≡ chars_in text.now (forest entries.now)) }
 {
     let mut chars = Bytes::new(alloc);
     let mut rest = entries;
     while let Some((entry, behind)) = rest.split_first() {
-        let (members, next) = behind.split_at(member_count(*entry, behind));
+        let (members, next) = behind.split_at(entry.member_count(behind));
         let mut piece = initial(alloc, text, *entry)?;
         piece.extend(chars_of(alloc, text, members)?.as_slice())?;
-        repeat(&mut chars, piece.as_slice(), times(*entry))?;
+        repeat(&mut chars, piece.as_slice(), entry.times())?;
         rest = next;
     }
     Ok(chars)

@@ -1,6 +1,7 @@
 -- Worked examples of the definitions.
 use Rattle.std.proofs.Common.{◌≡◌, ℕ, zero, suc, List, [], ◌∷◌, ◌++◌, true, false, Ok, Err, refl}
 use Rattle.std.specs.Prelude.{codes}
+use Rattle.pw_base.specs.declared.fault_code.FaultCode.TheVariants.{NoSuchForm}
 use Rattle.pw_deck.specs.Lines.{lines}
 use Rattle.pw_deck.specs.Deck.{texts_in, wrong_in, wrong_program, program_of, is_display}
 
@@ -33,30 +34,30 @@ unfolding lines texts_in wrong_in
 no_lf = refl
 
 -- A statement of another form is refused at its line.
-accept : program_of (ended (front ++ (codes "ACCEPT S." ∷ codes "STOP RUN." ∷ codes "?END" ∷ []))) ≡ Err (record { line = 13; code = 131 })
+accept : program_of (ended (front ++ (codes "ACCEPT S." ∷ codes "STOP RUN." ∷ codes "?END" ∷ []))) ≡ Err (record { line = 13; code = NoSuchForm })
 unfolding lines texts_in wrong_in
 accept = refl
 
 -- STOP RUN. wants a DISPLAY in front.
-no_display : program_of (ended (front ++ (codes "STOP RUN." ∷ codes "?END" ∷ []))) ≡ Err (record { line = 13; code = 131 })
+no_display : program_of (ended (front ++ (codes "STOP RUN." ∷ codes "?END" ∷ []))) ≡ Err (record { line = 13; code = NoSuchForm })
 unfolding lines texts_in wrong_in
 no_display = refl
 
 -- A line that is missing counts as the one behind the last.
-empty : program_of [] ≡ Err (record { line = 1; code = 131 })
+empty : program_of [] ≡ Err (record { line = 1; code = NoSuchForm })
 unfolding lines texts_in wrong_in
 empty = refl
 
-two_lines : program_of (ended (codes "?PATHCOM" ∷ codes "ADD TCP TCP-1" ∷ [])) ≡ Err (record { line = 3; code = 131 })
+two_lines : program_of (ended (codes "?PATHCOM" ∷ codes "ADD TCP TCP-1" ∷ [])) ≡ Err (record { line = 3; code = NoSuchForm })
 unfolding lines texts_in wrong_in
 two_lines = refl
 
-no_end : program_of (ended (front ++ (codes "DISPLAY \"A\"." ∷ codes "STOP RUN." ∷ []))) ≡ Err (record { line = 15; code = 131 })
+no_end : program_of (ended (front ++ (codes "DISPLAY \"A\"." ∷ codes "STOP RUN." ∷ []))) ≡ Err (record { line = 15; code = NoSuchForm })
 unfolding lines texts_in wrong_in
 no_end = refl
 
 -- A CR with no LF behind it is a byte of its line.
-cr_at_end : program_of (ended (front ++ (codes "DISPLAY \"A\"." ∷ codes "STOP RUN." ∷ [])) ++ (codes "?END" ++ 13 ∷ [])) ≡ Err (record { line = 15; code = 131 })
+cr_at_end : program_of (ended (front ++ (codes "DISPLAY \"A\"." ∷ codes "STOP RUN." ∷ [])) ++ (codes "?END" ++ 13 ∷ [])) ≡ Err (record { line = 15; code = NoSuchForm })
 unfolding lines texts_in wrong_in
 cr_at_end = refl
 

@@ -3,8 +3,9 @@ use Rattle.std.proofs.Common.{◌≡◌, ℕ, ◌+◌, ◌<◌, ◌≤◌, Bool,
 use Rattle.std.proofs.lemmas.Bool.{le-ltb, ne_eqb}
 use Rattle.std.specs.Bool.{◌==◌}
 use Rattle.std.specs.Str.{bytes_eq}
+use Rattle.pw_base.specs.declared.fault_code.FaultCode.TheVariants.{InputTooLong}
 use Rattle.pw_base.specs.declared.fault.Fault.{Fault}
-use Rattle.pw_base.specs.declared.read_all.TheConstants.{MAX_INPUT}
+use Rattle.pw_base.specs.Limits.{longest_input}
 use Rattle.pw_base.specs.declared.fault.Refusal.{Refusal}
 use Rattle.pw_base.specs.declared.fault.Refusal.TheVariants.{At, Memory}
 use Rattle.pw_base.specs.First.{least, unless, Refuses}
@@ -51,11 +52,11 @@ within line (w ∷ wanted) n (first ∷ more) e = within_by line n (bytes_eq fir
 abbrev judged : List ℕ → List ℕ → List (List ℕ) → Result (List (List ℕ)) Fault
 judged front behind texts = unless (least None (map no_such_form (front ++ behind))) texts
 
-short : (bytes : List ℕ) → length bytes ≤ MAX_INPUT → program_of bytes ≡ judged (wrong_in heading 1 (lines bytes)) (wrong_program (drop 12 (lines bytes))) (texts_in (drop 12 (lines bytes)))
-short bytes le = let e : ltb MAX_INPUT (length bytes) ≡ false = le-ltb MAX_INPUT (length bytes) le in
-    ap (λ t. unless (least None (cond t ((record { line = 0; code = 190 }) ∷ []) (map no_such_form (wrong_in heading 1 (lines bytes) ++ wrong_program (drop 12 (lines bytes)))))) (texts_in (drop 12 (lines bytes)))) e
+short : (bytes : List ℕ) → length bytes ≤ longest_input → program_of bytes ≡ judged (wrong_in heading 1 (lines bytes)) (wrong_program (drop 12 (lines bytes))) (texts_in (drop 12 (lines bytes)))
+short bytes le = let e : ltb longest_input (length bytes) ≡ false = le-ltb longest_input (length bytes) le in
+    ap (λ t. unless (least None (cond t ((record { line = 0; code = InputTooLong }) ∷ []) (map no_such_form (wrong_in heading 1 (lines bytes) ++ wrong_program (drop 12 (lines bytes)))))) (texts_in (drop 12 (lines bytes)))) e
 
-heading_wrong : (bytes : List ℕ) (line : ℕ) → length bytes ≤ MAX_INPUT → wrong_in heading 1 (lines bytes) ≡ line ∷ [] → program_of bytes ≡ Err (no_such_form line)
+heading_wrong : (bytes : List ℕ) (line : ℕ) → length bytes ≤ longest_input → wrong_in heading 1 (lines bytes) ≡ line ∷ [] → program_of bytes ≡ Err (no_such_form line)
 heading_wrong bytes line le e =
     let found = drop 12 (lines bytes) in
     let at : line < 13 = within line heading 1 (lines bytes) e in
@@ -63,30 +64,30 @@ heading_wrong bytes line le e =
     ∙ ap (λ front. judged front (wrong_program (drop 12 (lines bytes))) (texts_in (drop 12 (lines bytes)))) e
     ∙ ap (λ first. unless first (texts_in (drop 12 (lines bytes)))) (stays_end line (13 + shown_in found) (drop (shown_in found) found) (omega arith))
 
-program_wrong : (bytes : List ℕ) (line : ℕ) → length bytes ≤ MAX_INPUT → wrong_in heading 1 (lines bytes) ≡ [] → wrong_program (drop 12 (lines bytes)) ≡ line ∷ [] → program_of bytes ≡ Err (no_such_form line)
+program_wrong : (bytes : List ℕ) (line : ℕ) → length bytes ≤ longest_input → wrong_in heading 1 (lines bytes) ≡ [] → wrong_program (drop 12 (lines bytes)) ≡ line ∷ [] → program_of bytes ≡ Err (no_such_form line)
 program_wrong bytes line le e f =
     short bytes le
     ∙ ap (λ front. judged front (wrong_program (drop 12 (lines bytes))) (texts_in (drop 12 (lines bytes)))) e
     ∙ ap (λ behind. judged [] behind (texts_in (drop 12 (lines bytes)))) f
 
-good : (bytes : List ℕ) → length bytes ≤ MAX_INPUT → wrong_in heading 1 (lines bytes) ≡ [] → wrong_program (drop 12 (lines bytes)) ≡ [] → program_of bytes ≡ Ok (texts_in (drop 12 (lines bytes)))
+good : (bytes : List ℕ) → length bytes ≤ longest_input → wrong_in heading 1 (lines bytes) ≡ [] → wrong_program (drop 12 (lines bytes)) ≡ [] → program_of bytes ≡ Ok (texts_in (drop 12 (lines bytes)))
 good bytes le e f =
     short bytes le
     ∙ ap (λ front. judged front (wrong_program (drop 12 (lines bytes))) (texts_in (drop 12 (lines bytes)))) e
     ∙ ap (λ behind. judged [] behind (texts_in (drop 12 (lines bytes)))) f
 
 -- what is refused in the heading is the deck's first fault
-pub in_heading : (bytes : List ℕ) (refusal : Refusal) → length bytes ≤ MAX_INPUT → IsWrongLine refusal (wrong_in heading 1 (lines bytes)) → Refuses refusal (program_of bytes)
+pub in_heading : (bytes : List ℕ) (refusal : Refusal) → length bytes ≤ longest_input → IsWrongLine refusal (wrong_in heading 1 (lines bytes)) → Refuses refusal (program_of bytes)
 in_heading bytes Memory le h = tt
 in_heading bytes (At line code) le h = rw h.0 (heading_wrong bytes line le h.1)
 
 -- and what is refused behind a good heading
-pub in_program : (bytes : List ℕ) (found : List (List ℕ)) (refusal : Refusal) → length bytes ≤ MAX_INPUT → wrong_in heading 1 (lines bytes) ≡ [] → found ≡ drop 12 (lines bytes) → RefusesLine refusal (wrong_program found) → Refuses refusal (program_of bytes)
+pub in_program : (bytes : List ℕ) (found : List (List ℕ)) (refusal : Refusal) → length bytes ≤ longest_input → wrong_in heading 1 (lines bytes) ≡ [] → found ≡ drop 12 (lines bytes) → RefusesLine refusal (wrong_program found) → Refuses refusal (program_of bytes)
 in_program bytes found Memory le front place h = tt
 in_program bytes found (At line code) le front place h = rw h.0 (program_wrong bytes line le front (sym (ap wrong_program place) ∙ h.1))
 
 -- a deck with a good heading and a good program
-pub is_deck : (bytes : List ℕ) (found : List (List ℕ)) → length bytes ≤ MAX_INPUT → wrong_in heading 1 (lines bytes) ≡ [] → found ≡ drop 12 (lines bytes) → wrong_program found ≡ [] → program_of bytes ≡ Ok (texts_in found)
+pub is_deck : (bytes : List ℕ) (found : List (List ℕ)) → length bytes ≤ longest_input → wrong_in heading 1 (lines bytes) ≡ [] → found ≡ drop 12 (lines bytes) → wrong_program found ≡ [] → program_of bytes ≡ Ok (texts_in found)
 is_deck bytes found le front place h = good bytes le front (sym (ap wrong_program place) ∙ h) ∙ ap (λ f. Ok (texts_in f)) (sym place)
 
 -- a deck that is made of these instructions displays these texts

@@ -2,10 +2,11 @@
 use Rattle.std.specs.Prelude.{◌≡◌, ℕ, ◌+◌, ◌-◌, List, [], ◌∷◌, ◌++◌, length, take, drop, min, not, map, Bool, ◌&&◌, ◌==◌, nat_lt, nat_le, Option, None, Some, Result, codes, if◌then◌else◌}
 use Rattle.std.specs.List.{list_all}
 use Rattle.std.specs.Str.{bytes_eq}
+use Rattle.pw_base.specs.declared.fault_code.FaultCode.TheVariants.{InputTooLong, NoSuchForm}
 use Rattle.pw_base.specs.declared.fault.Fault.{Fault}
 use Rattle.pw_base.specs.declared.fault.Refusal.{Refusal}
 use Rattle.pw_base.specs.declared.fault.Refusal.TheVariants.{At, Memory}
-use Rattle.pw_base.specs.declared.read_all.TheConstants.{MAX_INPUT}
+use Rattle.pw_base.specs.Limits.{longest_input}
 use Rattle.pw_base.specs.First.{least, unless}
 use Rattle.pw_code.specs.declared.code.Instr.{Instr}
 use Rattle.pw_code.specs.declared.code.Instr.TheVariants.{Display, StopRun}
@@ -77,12 +78,12 @@ wrong_program found = wrong_end (13 + shown_in found) (drop (shown_in found) fou
 
 -- a fault of a line
 abbrev pub no_such_form : ℕ → Fault
-no_such_form line = record { line = line; code = 131 }
+no_such_form line = record { line = line; code = NoSuchForm }
 
 -- the faults of a deck: too long, or the lines that may not stand where they do
 abbrev pub faults : List ℕ → List Fault
 faults bytes =
-    if nat_lt MAX_INPUT (length bytes) then (record { line = 0; code = 190 }) ∷ []
+    if nat_lt longest_input (length bytes) then (record { line = 0; code = InputTooLong }) ∷ []
     else map no_such_form (wrong_in heading 1 (lines bytes) ++ wrong_program (drop 12 (lines bytes)))
 
 -- the texts that a deck's program displays one after the other, or the deck's first fault
@@ -92,7 +93,7 @@ program_of bytes = unless (least None (faults bytes)) (texts_in (drop 12 (lines 
 -- a refusal is 131 at the one line that is wrong
 abbrev pub IsWrongLine : Refusal → List ℕ → Type 0
 IsWrongLine Memory wrong = ⊥
-IsWrongLine (At line code) wrong = (code ≡ 131) × (wrong ≡ line ∷ [])
+IsWrongLine (At line code) wrong = (code ≡ NoSuchForm) × (wrong ≡ line ∷ [])
 
 -- the same, unless memory ran out
 abbrev pub RefusesLine : Refusal → List ℕ → Type 0

@@ -7,6 +7,7 @@ use crate::lines::skip_lines;
 use crate::program::instrs_in;
 use crate::system::system_with;
 use pw_base::fault::Refusal;
+use pw_base::fault_code::FaultCode;
 use pw_base::list::List;
 use pw_base::read_all::MAX_INPUT;
 use pw_code::code::Instr;
@@ -55,7 +56,10 @@ pub fn read_deck(alloc: Global, bytes: &[u8]) -> Result<Deck, Refusal>
     ensures fault { IfErr result (λ refusal. Refuses refusal (program_of bytes.now)) }
 {
     if bytes.len() > MAX_INPUT {
-        return Err(Refusal::At { line: 0, code: 190 });
+        return Err(Refusal::At {
+            line: 0,
+            code: FaultCode::InputTooLong,
+        });
     }
     let program = skip_lines(&HEADING, 1, bytes)?;
     let instrs = instrs_in(alloc, program)?;

@@ -2,6 +2,8 @@
 use Rattle.std.proofs.Common.{◌≡◌, ℕ, List, [], ◌∷◌, ◌++◌, Result, Ok, Err, refl}
 use Rattle.std.specs.Prelude.{codes}
 use Rattle.pw_base.specs.declared.fault.Fault.{Fault}
+use Rattle.pw_base.specs.declared.fault_code.FaultCode.{FaultCode}
+use Rattle.pw_base.specs.declared.fault_code.FaultCode.TheVariants.{BadCharacter, UnclosedLiteral}
 use Rattle.pw_text.specs.declared.token.TokenKind.{TokenKind}
 use Rattle.pw_text.specs.declared.token.TokenKind.TheVariants.{Word, Number, Text, Picture, Period, LeftParen, RightParen, LessEqual}
 use Rattle.pw_text.specs.declared.token.Token.{Token}
@@ -12,7 +14,7 @@ use Rattle.pw_text.specs.Tokens.{items_from, tokens_of}
 abbrev token : TokenKind → ℕ → ℕ → ℕ → Token
 token kind line start end = record { kind = kind; line = line; start = start; end = end }
 
-abbrev refused : ℕ → ℕ → Result (List Token) Fault
+abbrev refused : ℕ → FaultCode → Result (List Token) Fault
 refused line code = Err (record { line = line; code = code })
 
 a_move : tokens_of (codes "MOVE 12 TO A.") 1
@@ -45,15 +47,15 @@ unfolding items_from item_at line_item number_or_mark bad_bytes
 comment = refl
 
 -- the smaller code of a line is the first
-smaller_code : tokens_of (codes "ABCDEFGHIJKLMNOPQRSTUVWXYZ-1234 #") 7 ≡ refused 7 101
+smaller_code : tokens_of (codes "ABCDEFGHIJKLMNOPQRSTUVWXYZ-1234 #") 7 ≡ refused 7 BadCharacter
 unfolding items_from item_at line_item number_or_mark bad_bytes
 smaller_code = refl
 
 -- the earlier line is the first
-earlier_line : tokens_of (codes "\"A" ++ 10 ∷ codes "#") 7 ≡ refused 7 102
+earlier_line : tokens_of (codes "\"A" ++ 10 ∷ codes "#") 7 ≡ refused 7 UnclosedLiteral
 unfolding items_from item_at line_item number_or_mark bad_bytes quoted
 earlier_line = refl
 
-comment_with_bad_byte : tokens_of (codes "*" ++ 127 ∷ []) 7 ≡ refused 7 101
+comment_with_bad_byte : tokens_of (codes "*" ++ 127 ∷ []) 7 ≡ refused 7 BadCharacter
 unfolding items_from item_at line_item number_or_mark bad_bytes
 comment_with_bad_byte = refl

@@ -1,6 +1,7 @@
 -- The bytes of a text, and those that may not stand in its lines.
 use Rattle.std.specs.Prelude.{ℕ, ◌+◌, List, [], ◌∷◌, ◌++◌, Bool, false, not, ◌&&◌, ◌||◌, nat_lt, nat_le, ◌==◌, length, take_while, if◌then◌else◌}
 use Rattle.pw_base.specs.declared.fault.Fault.{Fault}
+use Rattle.pw_base.specs.declared.fault_code.FaultCode.TheVariants.{BadCharacter}
 
 -- A to Z or a to z
 abbrev pub is_letter : ℕ → Bool
@@ -61,7 +62,7 @@ line_behind b line = if b == 10 then line + 1 else line
 abbrev pub only_if : Bool → Fault → List Fault
 only_if is_fault fault = if is_fault then fault ∷ [] else []
 
--- 101 for each byte that may not stand in its line, from a line on
+-- BadCharacter for each byte that may not stand in its line, from a line on
 unfoldable pub bad_bytes : ℕ → List ℕ → List Fault
 bad_bytes line [] = []
-bad_bytes line (b ∷ bs) = only_if (is_bad (b ∷ bs)) (record { line = line; code = 101 }) ++ bad_bytes (line_behind b line) bs
+bad_bytes line (b ∷ bs) = only_if (is_bad (b ∷ bs)) (record { line = line; code = BadCharacter }) ++ bad_bytes (line_behind b line) bs

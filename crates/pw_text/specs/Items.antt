@@ -1,5 +1,8 @@
 -- What stands at the front of a text: a token, a fault, a gap or the end of a line.
 use Rattle.std.specs.Prelude.{ℕ, ◌+◌, ◌*◌, ◌≤◌, ◌<◌, List, [], ◌∷◌, Bool, true, false, ◌&&◌, ◌||◌, nat_lt, ◌==◌, Option, Some, None, codes, drop, length, take_while, if◌then◌else◌}
+use Rattle.pw_base.specs.declared.fault_code.FaultCode.{FaultCode}
+use Rattle.pw_base.specs.declared.fault_code.FaultCode.TheVariants.{BadCharacter, UnclosedLiteral, WordTooLong, NumberTooLong}
+use Rattle.pw_base.specs.Limits.{longest_word, most_digits}
 use Rattle.pw_words.specs.Words.{same_word}
 use Rattle.pw_text.specs.declared.token.TokenKind.{TokenKind}
 use Rattle.pw_text.specs.declared.token.TokenKind.TheVariants as kind
@@ -37,7 +40,7 @@ abbrev pub token : TokenKind → ℕ → Item
 token kind size = record { piece = piece.Token kind; size = size; next = InLine }
 
 -- a fault in bytes of a size
-abbrev pub fault : ℕ → ℕ → Item
+abbrev pub fault : FaultCode → ℕ → Item
 fault code size = record { piece = piece.Fault code; size = size; next = InLine }
 
 -- bytes that are no token
@@ -62,7 +65,7 @@ quoted false (b ∷ bs) =
 
 -- a text, or behind a quote that no other closes the rest of its line
 abbrev pub text_item : Option ℕ → List ℕ → Item
-text_item None behind = fault 102 (1 + run is_line_byte behind)
+text_item None behind = fault UnclosedLiteral (1 + run is_line_byte behind)
 text_item (Some size) behind = token kind.Text (1 + size)
 
 -- the word in front
@@ -73,16 +76,16 @@ word_at bytes = take_while is_word_byte bytes
 abbrev pub is_pic : List ℕ → Bool
 is_pic word = same_word word (codes "PIC") || same_word word (codes "PICTURE")
 
--- a word of at most 30 characters
+-- a word of at most so many characters as the longest
 abbrev pub word_item : List ℕ → Item
 word_item word =
-    if nat_lt 30 (length word) then fault 103 (length word)
+    if nat_lt longest_word (length word) then fault WordTooLong (length word)
     else (if is_pic word then record (token kind.Word (length word)) { next = BehindPic }
     else token kind.Word (length word))
 
 -- what a $ is, by the word behind it
 abbrev pub dollar_item : List ℕ → Item
-dollar_item word = if same_word word (codes "RECEIVE") then token kind.Word (1 + length word) else fault 101 1
+dollar_item word = if same_word word (codes "RECEIVE") then token kind.Word (1 + length word) else fault BadCharacter 1
 
 -- how many digits stand behind a point
 abbrev pub places_at : List ℕ → ℕ
@@ -93,7 +96,7 @@ places_at (b ∷ bs) = if b == 46 then run is_digit bs else 0
 abbrev pub number_of : ℕ → ℕ → ℕ → Item
 number_of sign whole places =
     let size = sign + (whole + (if places == 0 then 0 else 1 + places)) in
-    if nat_lt 18 (whole + places) then fault 104 size else token kind.Number size
+    if nat_lt most_digits (whole + places) then fault NumberTooLong size else token kind.Number size
 
 -- the number of these digits, with a sign of a size before them
 abbrev pub number_item : ℕ → List ℕ → Item
@@ -112,7 +115,7 @@ mark_item b behind =
     else (if b == 61 then token kind.Equal 1
     else (if b == 60 then or_equal kind.Less kind.LessEqual behind
     else (if b == 62 then or_equal kind.Greater kind.GreaterEqual behind
-    else fault 101 1)))))
+    else fault BadCharacter 1)))))
 
 -- a number or a mark
 unfoldable pub number_or_mark : List ℕ → Item

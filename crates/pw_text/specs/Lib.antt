@@ -1,3 +1,4 @@
 pub mod Bytes
+pub mod Cursor
 pub mod Items
 pub mod Tokens

@@ -3,9 +3,7 @@ ghost use Rattle.pw_base.specs.First.{least};
 ghost use Rattle.pw_text.specs.Bytes.{is_letter, is_digit, is_sign, is_signed, is_word_byte, is_separator, is_picture_byte, is_line_byte, run, begins_with, is_bad, line_behind, bad_bytes};
 
 use pw_base::fault::{Fault, noted};
-
-/// The code of a byte that may not stand where it does.
-pub const BAD_CHARACTER: u16 = 101;
+use pw_base::fault_code::FaultCode;
 
 pub fn is_letter(byte: u8) -> bool
     ensures { result ≡ is_letter byte }
@@ -140,7 +138,7 @@ pub fn first_bad_byte(text: &[u8], first_line: u32) -> Option<Fault>
     while let Some((byte, behind)) = rest.split_first() {
         let bad_character = Fault {
             line,
-            code: BAD_CHARACTER,
+            code: FaultCode::BadCharacter,
         };
         known = noted(known, is_bad(rest), bad_character);
         line = line_behind(*byte, line);

@@ -1,11 +1,11 @@
 use crate::token::TokenKind;
+use pw_base::fault_code::FaultCode;
 
 /// What stands at the front of a text.
 #[derive(Clone, Copy)]
 pub enum Piece {
     Token(TokenKind),
-    /// A fault, by its code.
-    Fault(u16),
+    Fault(FaultCode),
     /// A separator or a comment.
     Gap,
     LineEnd,

@@ -3,26 +3,13 @@ ghost use Rattle.pw_text.specs.Bytes.{is_digit, run};
 ghost use Rattle.pw_text.specs.Items.{quote_size, quotes, token, fault, gap, text_item, quoted, is_pic, word_at, word_item, dollar_item, places_at, number_of, number_item, or_equal, mark_item, number_or_mark, line_item, without_period, picture_of, picture_item, is_is, item_by, behind_space, item_at, Fits};
 
 use crate::bytes::{
-    BAD_CHARACTER, digit_count, is_digit, is_letter, is_separator, is_signed, line_size,
-    picture_at, word_at,
+    digit_count, is_digit, is_letter, is_separator, is_signed, line_size, picture_at, word_at,
 };
 use crate::item::{Item, Piece, Place};
 use crate::quoted::quoted;
-use crate::token::TokenKind;
+use crate::token::{MAX_DIGITS, MAX_WORD, TokenKind};
+use pw_base::fault_code::FaultCode;
 use pw_words::table::is_same_word;
-
-/// The code of a text that its line does not close.
-const UNCLOSED_LITERAL: u16 = 102;
-
-/// The code of a word of more than `MAX_WORD` characters.
-const WORD_TOO_LONG: u16 = 103;
-
-/// The code of a number of more than `MAX_DIGITS` digits.
-const NUMBER_TOO_LONG: u16 = 104;
-
-const MAX_WORD: usize = 30;
-
-const MAX_DIGITS: usize = 18;
 
 fn token(kind: TokenKind, size: usize) -> Item
     ensures { result ≡ token kind size }
@@ -34,7 +21,7 @@ fn token(kind: TokenKind, size: usize) -> Item
     }
 }
 
-fn fault(code: u16, size: usize) -> Item
+fn fault(code: FaultCode, size: usize) -> Item
     ensures { result ≡ fault code size }
 {
     Item {
@@ -63,7 +50,7 @@ fn text_item(behind: &[u8]) -> Item
     ensures quotes { quotes result.piece ≤ result.size }
 {
     match quoted(behind) {
-        None => fault(UNCLOSED_LITERAL, 1 + line_size(behind)),
+        None => fault(FaultCode::UnclosedLiteral, 1 + line_size(behind)),
         Some(size) => token(TokenKind::Text, 1 + size),
     }
 }
@@ -81,7 +68,7 @@ fn word_item(word: &[u8]) -> Item
     ensures quotes { quotes result.piece ≤ result.size }
 {
     if word.len() > MAX_WORD {
-        fault(WORD_TOO_LONG, word.len())
+        fault(FaultCode::WordTooLong, word.len())
     } else if is_pic(word) {
         Item {
             next: Place::BehindPic,
@@ -102,7 +89,7 @@ fn dollar_item(word: &[u8]) -> Item
     if is_same_word(word, b"RECEIVE") {
         token(TokenKind::Word, 1 + word.len())
     } else {
-        fault(BAD_CHARACTER, 1)
+        fault(FaultCode::BadCharacter, 1)
     }
 }
 
@@ -129,7 +116,7 @@ fn number_of(sign: usize, whole: usize, places: usize) -> Item
     let fraction = if places == 0 { 0 } else { 1 + places };
     let size = sign + (whole + fraction);
     if whole + places > MAX_DIGITS {
-        fault(NUMBER_TOO_LONG, size)
+        fault(FaultCode::NumberTooLong, size)
     } else {
         token(TokenKind::Number, size)
     }
@@ -176,7 +163,7 @@ fn mark_item(byte: u8, behind: &[u8]) -> Item
         b'=' => token(TokenKind::Equal, 1),
         b'<' => or_equal(TokenKind::Less, TokenKind::LessEqual, behind),
         b'>' => or_equal(TokenKind::Greater, TokenKind::GreaterEqual, behind),
-        _ => fault(BAD_CHARACTER, 1),
+        _ => fault(FaultCode::BadCharacter, 1),
     }
 }
 

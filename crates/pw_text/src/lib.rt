@@ -2,6 +2,7 @@
 #![tactic(auto)]
 
 mod bytes;
+pub mod cursor;
 mod item;
 mod items;
 mod quoted;

@@ -1,6 +1,7 @@
 use crate::token::TokenKind;
 use crate::tokens::tokens;
 use pw_base::fault::Refusal;
+use pw_base::fault_code::FaultCode;
 use pw_base::read_all::MAX_INPUT;
 use std::alloc::Global;
 use std::process::Abort;
@@ -215,40 +216,40 @@ const TEXTS_PICTURES_AND_MARKS: &[Read] = &[
 ];
 
 /// Texts, each with the line and the code of its refusal.
-const REFUSED: &[(&[u8], u32, u16)] = &[
-    (b"#", 1, 101),
-    (b"A\n#", 2, 101),
-    (b"- 5", 1, 101),
-    (b"+A", 1, 101),
-    (b"$REC", 1, 101),
-    (b"$RECEIVEX", 1, 101),
-    (b"A $ B", 1, 101),
-    (b" * A", 1, 101),
-    (b"?END", 1, 101),
-    (b"A\tB", 1, 101),
-    (b"*\x1f", 1, 101),
-    (b"A\n*\x7f", 2, 101),
-    (b"\"\xff\"", 1, 101),
-    (b"PIC X\x7f", 1, 101),
-    (b"A\rB", 1, 101),
-    (b"A\r", 1, 101),
-    (b"A\r\r\n", 1, 101),
-    (b"\"AB", 1, 102),
-    (b"\"AB\r\nC\"", 1, 102),
-    (b"\"\"\"", 1, 102),
-    (b"ABCDEFGHIJKLMNOPQRSTUVWXYZ-1234", 1, 103),
-    (b"1234567890123456789", 1, 104),
-    (b"1234567890.123456789", 1, 104),
-    (b"ABCDEFGHIJKLMNOPQRSTUVWXYZ-1234 \"A", 1, 102),
-    (b"ABCDEFGHIJKLMNOPQRSTUVWXYZ-1234 #", 1, 101),
+const REFUSED: &[(&[u8], u32, FaultCode)] = &[
+    (b"#", 1, FaultCode::BadCharacter),
+    (b"A\n#", 2, FaultCode::BadCharacter),
+    (b"- 5", 1, FaultCode::BadCharacter),
+    (b"+A", 1, FaultCode::BadCharacter),
+    (b"$REC", 1, FaultCode::BadCharacter),
+    (b"$RECEIVEX", 1, FaultCode::BadCharacter),
+    (b"A $ B", 1, FaultCode::BadCharacter),
+    (b" * A", 1, FaultCode::BadCharacter),
+    (b"?END", 1, FaultCode::BadCharacter),
+    (b"A\tB", 1, FaultCode::BadCharacter),
+    (b"*\x1f", 1, FaultCode::BadCharacter),
+    (b"A\n*\x7f", 2, FaultCode::BadCharacter),
+    (b"\"\xff\"", 1, FaultCode::BadCharacter),
+    (b"PIC X\x7f", 1, FaultCode::BadCharacter),
+    (b"A\rB", 1, FaultCode::BadCharacter),
+    (b"A\r", 1, FaultCode::BadCharacter),
+    (b"A\r\r\n", 1, FaultCode::BadCharacter),
+    (b"\"AB", 1, FaultCode::UnclosedLiteral),
+    (b"\"AB\r\nC\"", 1, FaultCode::UnclosedLiteral),
+    (b"\"\"\"", 1, FaultCode::UnclosedLiteral),
+    (b"ABCDEFGHIJKLMNOPQRSTUVWXYZ-1234", 1, FaultCode::WordTooLong),
+    (b"1234567890123456789", 1, FaultCode::NumberTooLong),
+    (b"1234567890.123456789", 1, FaultCode::NumberTooLong),
+    (b"ABCDEFGHIJKLMNOPQRSTUVWXYZ-1234 \"A", 1, FaultCode::UnclosedLiteral),
+    (b"ABCDEFGHIJKLMNOPQRSTUVWXYZ-1234 #", 1, FaultCode::BadCharacter),
     (
         b"1234567890123456789 ABCDEFGHIJKLMNOPQRSTUVWXYZ-1234",
         1,
-        103,
+        FaultCode::WordTooLong,
     ),
-    (b"\"A\x01", 1, 101),
-    (b"A\n\"A\n#", 2, 102),
-    (b"1234567890123456789\n#", 1, 104),
+    (b"\"A\x01", 1, FaultCode::BadCharacter),
+    (b"A\n\"A\n#", 2, FaultCode::UnclosedLiteral),
+    (b"1234567890123456789\n#", 1, FaultCode::NumberTooLong),
 ];
 
 /// Asserts that the text has these tokens.
@@ -315,7 +316,10 @@ fn texts_and_their_refusals(rt: HostRuntime) {
 
 #[test]
 fn lines_count_from_the_first(rt: HostRuntime) -> Result<(), Fail> {
-    let refusal = Refusal::At { line: 8, code: 101 };
+    let refusal = Refusal::At {
+        line: 8,
+        code: FaultCode::BadCharacter,
+    };
     assert_eq!(rt; tokens(rt.alloc(), b"A\n#", 7).err(), Some(refusal));
     let found = tokens(rt.alloc(), b"A\n\"B\"", 7)?;
     let places = found

@@ -1,5 +1,6 @@
 ghost use Rattle.std.specs.Prelude.{◌≡◌, ◌<◌, ◌≤◌, ◌+◌, ◌-◌, ◌^◌, ◌++◌, All, OnOk, IfOk, length};
 ghost use Rattle.pw_base.specs.First.{Gives, least};
+ghost use Rattle.pw_base.specs.Limits.{longest_input};
 ghost use Rattle.pw_text.specs.Items.{quote_size};
 ghost use Rattle.pw_text.specs.Tokens.{token_of, tokens_at, faults_at, line_after, tokens_of, LieBetween, StandsOn};
 
@@ -9,7 +10,6 @@ use crate::items::item_at;
 use crate::token::{Token, TokenKind};
 use pw_base::fault::{Fault, Refusal, better};
 use pw_base::memory::Memory;
-use pw_base::read_all::MAX_INPUT;
 use std::alloc::Global;
 
 /// How many bytes at each end of a token are no part of it.
@@ -88,8 +88,8 @@ fn line_after(piece: Piece, line: u32) -> u32
 /// digits. Lines end with LF or with CR and LF. Empty lines, and lines that begin with `*`, have no
 /// token.
 pub fn tokens(alloc: Global, text: &[u8], first_line: u32) -> Result<Vec<Token>, Refusal>
-    requires size { length text.now ≤ MAX_INPUT }
-    requires lines { (1 ≤ first_line) × (first_line ≤ MAX_INPUT + 1) }
+    requires size { length text.now ≤ longest_input }
+    requires lines { (1 ≤ first_line) × (first_line ≤ longest_input + 1) }
     ensures spans { IfOk result (λ tokens. LieBetween 0 tokens.items (length text.now)) }
     ensures lines { IfOk result (λ tokens. All (StandsOn first_line (first_line + length text.now)) tokens.items) }
     ensures tokens { Gives (λ tokens. tokens.items) result (tokens_of text.now first_line) }

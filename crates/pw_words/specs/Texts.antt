@@ -1,5 +1,6 @@
 -- The rows of the tables.
-use Rattle.std.specs.Prelude.{List, [], ◌∷◌, ◌++◌, codes}
+use Rattle.std.specs.Prelude.{List, [], ◌∷◌, ◌++◌, codes, map}
+use Rattle.pw_base.specs.FaultCodes.{fault_codes, text}
 use Rattle.pw_words.specs.Words.{Word}
 
 -- the words that begin a statement
@@ -46,14 +47,6 @@ pathcom_words =
     codes "SET" ∷ codes "ADD" ∷ codes "START" ∷ codes "TCP" ∷ codes "TERM" ∷ codes "SERVER" ∷ codes "INITIAL" ∷
     codes "PROGRAM" ∷ codes "MAXSERVERS" ∷ codes "MAXTMFRESTARTS" ∷ []
 
--- the texts of the refusals, by their codes
+-- the texts of the refusals, in the order of the fault codes
 abbrev pub refusal_texts : List Word
-refusal_texts =
-    codes "BAD CHARACTER" ∷ codes "UNCLOSED LITERAL" ∷ codes "WORD TOO LONG" ∷ codes "NUMBER TOO LONG" ∷
-    codes "BAD PICTURE" ∷ codes "BAD DATA ENTRY" ∷ codes "NAME TWICE" ∷ codes "UNKNOWN ITEM" ∷
-    codes "STORAGE TOO LARGE" ∷ codes "NO SUCH FORM" ∷ codes "NO IF" ∷ codes "PARAGRAPH TWICE" ∷
-    codes "FIELD OUTSIDE" ∷ codes "FIELDS OVERLAP" ∷ codes "BAD CLAUSE" ∷ codes "BAD DIVISION" ∷
-    codes "NOT FOR SERVERS" ∷ codes "UNKNOWN PARAGRAPH" ∷ codes "UNKNOWN NAME" ∷ codes "WRONG LENGTH" ∷
-    codes "WRONG KIND" ∷ codes "BAD LOG LINE" ∷ codes "BAD FAILURE LINE" ∷ codes "BAD COMMAND" ∷ codes "ADDED TWICE" ∷
-    codes "UNKNOWN OBJECT" ∷ codes "OUT OF RANGE" ∷ codes "BAD START" ∷ codes "INPUT TOO LONG" ∷ codes "BAD SECTION" ∷
-    codes "END MISSING" ∷ codes "SECTION TWICE" ∷ codes "BAD RECORD" ∷ codes "BAD ENTRY" ∷ codes "TOO MANY" ∷ []
+refusal_texts = map text fault_codes

@@ -28,7 +28,7 @@ impl<const N: usize> Table<N> {
     }
 
     /// The text at a place.
-    pub fn row(&self, place: usize) -> &[u8]
+    pub fn row(&self, place: usize) -> &'static [u8]
         requires { place < N }
         ensures { slice_get self.now place ≡ Some result.now }
     {

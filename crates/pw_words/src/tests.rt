@@ -1,4 +1,7 @@
-use crate::texts::{pathcom_words, refusal_texts, requester_words, server_words};
+use crate::texts::{
+    pathcom_words, refusal_text, refusal_text_laws, refusal_texts, requester_words, server_words,
+};
+use pw_base::fault_code::FaultCode;
 
 #[test]
 fn word_table_places(rt: HostRuntime) {
@@ -40,4 +43,14 @@ fn command_and_refusal_places(rt: HostRuntime) {
     assert_eq!(rt; texts.find(b"101"), None);
     assert_eq!(rt; texts.row(10), b"NO IF".as_slice());
     assert_eq!(rt; texts.row(34), b"TOO MANY".as_slice());
+    for (code, number, text) in [
+        (FaultCode::BadCharacter, 101, b"BAD CHARACTER".as_slice()),
+        (FaultCode::NoSuchForm, 131, b"NO SUCH FORM"),
+        (FaultCode::InputTooLong, 190, b"INPUT TOO LONG"),
+        (FaultCode::TooMany, 196, b"TOO MANY"),
+    ] {
+        assert_eq!(rt; code.number(), number);
+        assert_eq!(rt; refusal_text(code), text);
+    }
+    refusal_text_laws();
 }

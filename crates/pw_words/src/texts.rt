@@ -1,7 +1,10 @@
-ghost use Rattle.std.specs.Prelude.{◌≡◌};
+ghost use Rattle.std.specs.Prelude.{◌≡◌, Some, slice_get};
+ghost use Rattle.pw_base.specs.declared.fault_code.FaultCode.{FaultCode};
+ghost use Rattle.pw_base.specs.FaultCodes.{place, text};
 ghost use Rattle.pw_words.specs.Texts.{requester_words, server_words, pathcom_words, refusal_texts};
 
 use crate::table::Table;
+use pw_base::fault_code::FaultCode;
 
 /// The rows of a language: the verbs, the other words of both languages, and the given ones.
 macro_rules! language {
@@ -132,7 +135,7 @@ pub fn pathcom_words() -> Table<10>
     Table { rows: ROWS }
 }
 
-/// The texts of the refusals, in the order of their codes.
+/// The texts of the refusals, in the order of the fault codes. docs/FAULTS.md tells of each.
 pub fn refusal_texts() -> Table<35>
     ensures { result ≡ refusal_texts }
 {
@@ -175,3 +178,15 @@ pub fn refusal_texts() -> Table<35>
     ];
     Table { rows: ROWS }
 }
+
+/// The text of the refusal with a code.
+pub fn refusal_text(code: FaultCode) -> &'static [u8]
+    ensures { result.now ≡ text code }
+{
+    refusal_texts().row(code.place())
+}
+
+/// The order of the codes is that of the texts: each code's text stands at its place.
+pub fn refusal_text_laws()
+    ensures { (code : FaultCode) → slice_get refusal_texts (place code) ≡ Some (text code) }
+{}

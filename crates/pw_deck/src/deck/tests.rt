@@ -64,7 +64,10 @@ fn instr_count(outcome: Result<Deck, Refusal>) -> Result<usize, Refusal> {
 }
 
 fn no_such_form(line: u32) -> Option<Refusal> {
-    Some(Refusal::At { line, code: 131 })
+    Some(Refusal::At {
+        line,
+        code: FaultCode::NoSuchForm,
+    })
 }
 
 #[test]
@@ -192,7 +195,10 @@ fn refuses_headings(rt: HostRuntime) -> Result<(), Fail> {
     let mut bytes = vec![in alloc; b'A'; 16_777_216]?;
     assert_eq!(rt; read_deck(alloc, bytes.as_slice()).err(), no_such_form(1));
     bytes.push(b'A')?;
-    let too_long = Some(Refusal::At { line: 0, code: 190 });
+    let too_long = Some(Refusal::At {
+        line: 0,
+        code: FaultCode::InputTooLong,
+    });
     assert_eq!(rt; read_deck(alloc, bytes.as_slice()).err(), too_long);
     Ok(())
 }

@@ -1,5 +1,5 @@
 use Rattle.std.proofs.Common.{subst}
-use Rattle.pathway.specs.declared.status.TheConstants.{MAX_ENTRIES}
+use Rattle.pw_base.specs.Limits.{most_entries}
 use Rattle.pathway.specs.Running.{RunsTo}
 use Rattle.pathway.proofs.Outputs.{defines_run, refused_defines}
 use Rattle.pathway.proofs.output.deck_output.Goals as goal
@@ -9,7 +9,7 @@ returns-in_ok-end-in-Ok c =
     let deck = c.in-Ok.ensures.deck in
     rw c.status_of.ensures
     (defines_run c.args.bytes.now c.in_ok-end-in-Ok.text deck.0 c.in_ok-end-in-Ok.end deck.1
-    (subst (λ system. RunsTo system MAX_ENTRIES c.in_ok-end-in-Ok.end c.in_ok-end-in-Ok.text) deck.2 c.in_ok-end-in-Ok.ensures))
+    (subst (λ system. RunsTo system most_entries c.in_ok-end-in-Ok.end c.in_ok-end-in-Ok.text) deck.2 c.in_ok-end-in-Ok.ensures))
 
 pub returns-in-Err-At : goal.returns-in-Err-At
 returns-in-Err-At c =

@@ -18,5 +18,5 @@ loop-taken-preserved g c =
     record {
       within = omega (arith, wrote.1, length-drop {A = ℕ});
       written = subst (Appends before now) (take-then_rest c.loop-taken.taken c.in-Took.count c.args.bytes.now) (Appends-trans before _ now _ _ kept.written wrote.2);
-      count = omega arith;
+      count = c.in-Took.ensures.cause ∙ kept.count;
     }
