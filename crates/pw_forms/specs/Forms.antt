@@ -1,6 +1,10 @@
 -- The forms of statements: each reads what stands behind its verb, to the end of the piece.
 use Rattle.std.specs.Prelude.{ℕ, List, [], Bool, true, false, nat_le, length, codes, Option, Some, None, if◌then◌else◌}
 use Rattle.pw_words.specs.Words.{Word}
+use Rattle.pw_forms.specs.declared.mark.TransactionVerb.{TransactionVerb}
+use Rattle.pw_forms.specs.declared.mark.TransactionVerb.TheVariants as transactions
+use Rattle.pw_forms.specs.declared.mark.TerminalVerb.{TerminalVerb}
+use Rattle.pw_forms.specs.declared.mark.TerminalVerb.TheVariants as terminals
 use Rattle.pw_forms.specs.declared.mark.Verb.{Verb}
 use Rattle.pw_forms.specs.declared.mark.Verb.TheVariants as verb
 use Rattle.pw_forms.specs.declared.operand.Operand.{Operand}
@@ -17,7 +21,7 @@ use Rattle.pw_forms.specs.declared.form.Form.TheVariants.{Whole, Opens}
 use Rattle.pw_forms.specs.Readers.{Rest, Reader, ◌>>=◌, ◌>>◌, pure, fails, eats, expects, ends, is_done, some, up_to}
 use Rattle.pw_forms.specs.Operands.{operand, name, program_name, key, code}
 use Rattle.pw_forms.specs.Conditions.{condition}
-use Rattle.pw_forms.specs.FileForms.{read, write, rewrite, delete}
+use Rattle.pw_forms.specs.FileForms.{file_form}
 
 -- the list is no longer than an ACCEPT or a SEND may have it
 unfoldable pub at_most : ℕ → ℕ → Reader (Unit {0})
@@ -60,6 +64,7 @@ arithmetic line operation word = do
   second ← operand
   item ← giving
   opens ← on_size_error
+  ends
   pure (arithmetic_by line opens (record { operation = operation; first = first; second = second; giving = item }))
 
 -- IF cond [THEN]
@@ -67,12 +72,14 @@ unfoldable pub if_form : ℕ → Reader Form
 if_form line = do
   cond ← condition
   eats (codes "THEN")
+  ends
   pure (Opens (head.If line cond))
 
 -- PERFORM p UNTIL cond, behind UNTIL
 unfoldable pub perform_until : ℕ → Word → Reader Form
 perform_until line paragraph = do
   cond ← condition
+  ends
   pure (Whole (statement.PerformUntil line paragraph cond))
 
 -- PERFORM p num TIMES, behind the name
@@ -80,6 +87,7 @@ unfoldable pub perform_times : ℕ → Word → Reader Form
 perform_times line paragraph = do
   times ← operand
   expects (codes "TIMES")
+  ends
   pure (Whole (statement.PerformTimes line paragraph times))
 
 -- PERFORM p, PERFORM p UNTIL cond, PERFORM p num TIMES
@@ -99,6 +107,7 @@ perform_one_of line = do
   paragraphs ← up_to (codes "DEPENDING") name
   expects (codes "ON")
   position ← operand
+  ends
   pure (Whole (statement.PerformOneOf line paragraphs position))
 
 -- the four forms of PERFORM
@@ -111,20 +120,35 @@ perform line = do
 unfoldable pub exit : ℕ → Reader Form
 exit line = do
   program ← eats (codes "PROGRAM")
+  ends
   pure (Whole (if program then statement.ExitProgram line else statement.Exit line))
 
 -- STOP RUN
 unfoldable pub stop : ℕ → Reader Form
 stop line = do
   expects (codes "RUN")
+  ends
   pure (Whole (statement.StopRun line))
 
--- DISPLAY BASE screen, DISPLAY screen, DISPLAY any: the name of a screen reads as that of an item
+-- DISPLAY BASE screen, behind BASE
+unfoldable pub display_base : ℕ → Reader Form
+display_base line = do
+  screen ← name
+  ends
+  pure (Whole (statement.DisplayBase line screen))
+
+-- DISPLAY screen, DISPLAY any: the name of a screen reads as that of an item
+unfoldable pub display_any : ℕ → Reader Form
+display_any line = do
+  shown ← operand
+  ends
+  pure (Whole (statement.Display line shown))
+
+-- the forms of DISPLAY
 unfoldable pub display : ℕ → Reader Form
 display line = do
   base ← eats (codes "BASE")
-  if base then (do screen ← name; pure (Whole (statement.DisplayBase line screen)))
-      else (do shown ← operand; pure (Whole (statement.Display line shown)))
+  if base then display_base line else display_any line
 
 -- ACCEPT screen UNTIL key ..
 unfoldable pub accept : ℕ → Reader Form
@@ -135,11 +159,11 @@ accept line = do
   at_most most (length keys)
   pure (Whole (statement.Accept line screen keys))
 
--- USING item .., if it comes next
+-- USING item .., or nothing
 unfoldable pub using : Reader (List Operand)
 using = do
   found ← eats (codes "USING")
-  if found then some operand else pure []
+  if found then some operand else (do ends; pure [])
 
 -- CALL program [USING item ..]
 unfoldable pub call : ℕ → Reader Form
@@ -168,37 +192,41 @@ send line = do
   at_most most (length clauses)
   pure (Whole (statement.Send line message class clauses))
 
--- a form that has nothing behind its verb
-abbrev pub bare : Statement → Reader Form
-bare found = pure (Whole found)
+-- the word between the operands
+abbrev pub between : Operation → Word
+between operation.Add = codes "TO"
+between operation.Subtract = codes "FROM"
+between operation.Multiply = codes "BY"
+between operation.Divide = codes "INTO"
 
--- the form of a verb
-abbrev pub form_by : Verb → ℕ → Reader Form
-form_by verb.Accept line = accept line
-form_by verb.AbortTransaction line = bare (statement.Abort line)
-form_by verb.Add line = arithmetic line operation.Add (codes "TO")
-form_by verb.BeginTransaction line = bare (statement.Begin line)
-form_by verb.Call line = call line
-form_by verb.Delete line = delete line
-form_by verb.Display line = display line
-form_by verb.Divide line = arithmetic line operation.Divide (codes "INTO")
-form_by verb.EndTransaction line = bare (statement.End line)
-form_by verb.Exit line = exit line
-form_by verb.If line = if_form line
-form_by verb.Move line = move_form line
-form_by verb.Multiply line = arithmetic line operation.Multiply (codes "BY")
-form_by verb.Perform line = perform line
-form_by verb.Read line = read line
-form_by verb.RestartTransaction line = bare (statement.Restart line)
-form_by verb.Rewrite line = rewrite line
-form_by verb.Send line = send line
-form_by verb.Stop line = stop line
-form_by verb.Subtract line = arithmetic line operation.Subtract (codes "FROM")
-form_by verb.Write line = write line
+-- the statement of a verb of transactions
+abbrev pub transaction : TransactionVerb → ℕ → Statement
+transaction transactions.Begin line = statement.Begin line
+transaction transactions.End line = statement.End line
+transaction transactions.Abort line = statement.Abort line
+transaction transactions.Restart line = statement.Restart line
 
--- the form of a piece, behind its verb and to its end
-unfoldable pub form : Verb → ℕ → Reader Form
-form verb line = do
-  found ← form_by verb line
+-- BEGIN-TRANSACTION, END-TRANSACTION, ABORT-TRANSACTION, RESTART-TRANSACTION
+unfoldable pub transaction_form : TransactionVerb → ℕ → Reader Form
+transaction_form found line = do
   ends
-  pure found
+  pure (Whole (transaction found line))
+
+-- the form of a verb of requesters
+abbrev pub terminal_form : TerminalVerb → ℕ → Reader Form
+terminal_form terminals.Accept line = accept line
+terminal_form terminals.Call line = call line
+terminal_form terminals.Display line = display line
+terminal_form terminals.Send line = send line
+terminal_form (terminals.Transaction found) line = transaction_form found line
+
+-- the form of a verb, which reads the piece behind it to its end
+unfoldable pub form : Verb → ℕ → Reader Form
+form verb.Exit line = exit line
+form verb.If line = if_form line
+form verb.Move line = move_form line
+form verb.Perform line = perform line
+form verb.Stop line = stop line
+form (verb.Arithmetic operation) line = arithmetic line operation (between operation)
+form (verb.File found) line = file_form found line
+form (verb.Terminal found) line = terminal_form found line

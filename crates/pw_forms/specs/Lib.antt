@@ -1,7 +1,9 @@
+pub mod Blocks
 pub mod Conditions
 pub mod Faults
 pub mod FileForms
 pub mod Forms
+pub mod Names
 pub mod Operands
 pub mod Pieces
 pub mod Procedures

@@ -1,7 +1,6 @@
 -- The tokens of a procedure, cut into pieces, and what each piece is by its tokens alone.
-use Rattle.std.specs.Prelude.{ℕ, List, [], ◌∷◌, Bool, true, false, ◌&&◌, ◌||◌, Option, Some, None, if◌then◌else◌}
-use Rattle.pw_text.specs.declared.token.TokenKind.{TokenKind}
-use Rattle.pw_text.specs.declared.token.TokenKind.TheVariants as kind
+use Rattle.std.specs.Prelude.{ℕ, ◌+◌, List, [], ◌∷◌, ◌++◌, length, take_while, Bool, true, false, not, ◌&&◌, ◌||◌, Option, Some, None, if◌then◌else◌}
+use Rattle.pw_base.specs.declared.fault_code.FaultCode.TheVariants.{NameTwice, NoSuchForm, NotForServers}
 use Rattle.pw_text.specs.declared.token.Token.{Token}
 use Rattle.pw_forms.specs.declared.mark.Verb.{Verb}
 use Rattle.pw_forms.specs.declared.mark.Verb.TheVariants as verb
@@ -39,51 +38,62 @@ unfoldable pub cut : Bool → List ℕ → List Token → List (List Token)
 cut server text [] = []
 cut server text (token ∷ tokens) = before server text token (cut server text tokens)
 
+-- how many tokens stand in front of the next that begins a piece
+abbrev pub run_size : Bool → List ℕ → List Token → ℕ
+run_size server text tokens = length (take_while (λ token. not (begins_piece (mark_of server text token))) tokens)
+
+-- how many tokens the piece in front has
+abbrev pub piece_size : Bool → List ℕ → List Token → ℕ
+piece_size server text [] = 1
+piece_size server text (first ∷ tokens) = if is_period (mark_of server text first) then 1 else 1 + run_size server text tokens
+
+-- the first of the pieces
+abbrev pub first_piece : List (List Token) → List Token
+first_piece [] = []
+first_piece (piece ∷ pieces) = piece
+
 -- the first piece is a period
 abbrev pub period_follows : Bool → List ℕ → List (List Token) → Bool
-period_follows server text [] = false
-period_follows server text (piece ∷ pieces) = is_period (first_mark server text piece)
+period_follows server text pieces = is_period (first_mark server text (first_piece pieces))
+
+-- the tokens of pieces, one piece behind the other
+abbrev pub joined : List (List Token) → List Token
+joined [] = []
+joined (piece ∷ pieces) = piece ++ joined pieces
 
 -- ACCEPT, DISPLAY, CALL, SEND and the verbs of transactions are not for servers
 abbrev pub is_barred : Verb → Bool
-is_barred verb.Accept = true
-is_barred verb.Display = true
-is_barred verb.Call = true
-is_barred verb.Send = true
-is_barred verb.BeginTransaction = true
-is_barred verb.EndTransaction = true
-is_barred verb.AbortTransaction = true
-is_barred verb.RestartTransaction = true
+is_barred (verb.Terminal found) = true
 is_barred _ = false
 
 -- the piece that a form is, where there is one
 abbrev pub form_piece : Option (Form × Rest) → Piece
-form_piece None = pieces.Fault 131
+form_piece None = pieces.Fault NoSuchForm
 form_piece (Some (forms.Whole statement, rest)) = pieces.Whole statement
 form_piece (Some (forms.Opens head, rest)) = pieces.Opens head
 
 -- a verb and the tokens behind it
 abbrev pub verb_piece : Bool → List ℕ → ℕ → Verb → List Token → Piece
 verb_piece server text line verb tokens =
-    if server && is_barred verb then pieces.Fault 152
+    if server && is_barred verb then pieces.Fault NotForServers
     else form_piece (form verb line (record { server = server; text = text; tokens = tokens }))
 
 -- a word with nothing behind it
 abbrev pub alone : Piece → List Token → Piece
 alone piece [] = piece
-alone piece (token ∷ tokens) = pieces.Fault 131
+alone piece (token ∷ tokens) = pieces.Fault NoSuchForm
 
 -- the name of a paragraph
 abbrev pub name_piece : Bool → List ℕ → Token → Piece
 name_piece server text word =
-    if is_table_word server (bytes_of text word) then pieces.Fault 122
-    else if is_receive text word then pieces.Fault 131
+    if is_table_word server (bytes_of text word) then pieces.Fault NameTwice
+    else if is_receive text word then pieces.Fault NoSuchForm
     else pieces.Name (name_in text word)
 
 -- a run of other tokens: one word before a period is the name of a paragraph
 abbrev pub run_piece : Bool → List ℕ → Bool → Token → List Token → Piece
-run_piece server text followed word [] = if is_word word.kind && followed then name_piece server text word else pieces.Fault 131
-run_piece server text followed word (token ∷ tokens) = pieces.Fault 131
+run_piece server text followed word [] = if is_word word.kind && followed then name_piece server text word else pieces.Fault NoSuchForm
+run_piece server text followed word (token ∷ tokens) = pieces.Fault NoSuchForm
 
 -- what a piece is that begins with a token; followed: a period follows it
 abbrev pub piece_by : Mark → Bool → List ℕ → Bool → Token → List Token → Piece

@@ -16,6 +16,10 @@ pub record Behind : Type 0 where
   pub statements : List Statement
   pub paragraphs : List Paragraph
 
+-- nothing stands there
+abbrev pub nothing_behind : Behind
+nothing_behind = record { statements = []; paragraphs = [] }
+
 -- What stands from a piece on: a block of statements, and why it ends. It ends at a period or at the end of the
 -- text, or at an ELSE or END-IF of a branch that was opened before the piece.
 pub data Levels : Type 0 where
@@ -69,7 +73,7 @@ level_of line (pieces.Fault code) rest = rest
 
 -- what stands from the first of the pieces on
 unfoldable pub levels : List Placed → Levels
-levels [] = Closed [] (record { statements = []; paragraphs = [] })
+levels [] = Closed [] nothing_behind
 levels (next ∷ pieces) = level_of next.line next.piece (levels pieces)
 
 -- the procedure that pieces are

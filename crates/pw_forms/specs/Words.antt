@@ -8,7 +8,14 @@ use Rattle.pw_text.specs.declared.token.TokenKind.{TokenKind}
 use Rattle.pw_text.specs.declared.token.TokenKind.TheVariants as kind
 use Rattle.pw_text.specs.contracts.token.TokenKind.{the_type}
 use Rattle.pw_text.specs.declared.token.Token.{Token}
-use Rattle.pw_forms.specs.declared.mark.Verb.{Verb}
+use Rattle.pw_forms.specs.declared.statement.Operation.{Operation}
+use Rattle.pw_forms.specs.declared.statement.Operation.TheVariants as operations
+use Rattle.pw_forms.specs.declared.mark.FileVerb.{FileVerb}
+use Rattle.pw_forms.specs.declared.mark.FileVerb.TheVariants as files
+use Rattle.pw_forms.specs.declared.mark.TransactionVerb.{TransactionVerb}
+use Rattle.pw_forms.specs.declared.mark.TransactionVerb.TheVariants as transactions
+use Rattle.pw_forms.specs.declared.mark.TerminalVerb.{TerminalVerb}
+use Rattle.pw_forms.specs.declared.mark.TerminalVerb.TheVariants as terminals
 use Rattle.pw_forms.specs.declared.mark.Verb.TheVariants as verb
 use Rattle.pw_forms.specs.declared.mark.Mark.{Mark}
 use Rattle.pw_forms.specs.declared.mark.Mark.TheVariants as mark
@@ -39,15 +46,28 @@ table_place false word = place_of requester_words word
 abbrev pub is_table_word : Bool → Word → Bool
 is_table_word server word = is_some (table_place server word)
 
+-- a verb of arithmetic, of files, of terminals and of transactions
+abbrev pub arithmetic : Operation → Mark
+arithmetic operation = mark.Verb (verb.Arithmetic operation)
+
+abbrev pub file : FileVerb → Mark
+file found = mark.Verb (verb.File found)
+
+abbrev pub terminal : TerminalVerb → Mark
+terminal found = mark.Verb (verb.Terminal found)
+
+abbrev pub transaction : TransactionVerb → Mark
+transaction found = terminal (terminals.Transaction found)
+
 -- the words that begin a piece, in the order in which both tables begin with them
 abbrev pub marks : List Mark
 marks =
-    mark.Verb verb.Accept ∷ mark.Verb verb.AbortTransaction ∷ mark.Verb verb.Add ∷ mark.Verb verb.BeginTransaction ∷
-    mark.Verb verb.Call ∷ mark.Verb verb.Delete ∷ mark.Verb verb.Display ∷ mark.Verb verb.Divide ∷
-    mark.Verb verb.EndTransaction ∷ mark.Verb verb.Exit ∷ mark.Verb verb.If ∷ mark.Verb verb.Move ∷
-    mark.Verb verb.Multiply ∷ mark.Verb verb.Perform ∷ mark.Verb verb.Read ∷ mark.Verb verb.RestartTransaction ∷
-    mark.Verb verb.Rewrite ∷ mark.Verb verb.Send ∷ mark.Verb verb.Stop ∷ mark.Verb verb.Subtract ∷
-    mark.Verb verb.Write ∷ mark.Else ∷ mark.EndIf ∷ []
+    terminal terminals.Accept ∷ transaction transactions.Abort ∷ arithmetic operations.Add ∷
+    transaction transactions.Begin ∷ terminal terminals.Call ∷ file files.Delete ∷ terminal terminals.Display ∷
+    arithmetic operations.Divide ∷ transaction transactions.End ∷ mark.Verb verb.Exit ∷ mark.Verb verb.If ∷
+    mark.Verb verb.Move ∷ arithmetic operations.Multiply ∷ mark.Verb verb.Perform ∷ file files.Read ∷
+    transaction transactions.Restart ∷ file files.Rewrite ∷ terminal terminals.Send ∷ mark.Verb verb.Stop ∷
+    arithmetic operations.Subtract ∷ file files.Write ∷ mark.Else ∷ mark.EndIf ∷ []
 
 -- the mark at a place
 abbrev pub mark_in : List Mark → ℕ → Mark

@@ -5,6 +5,7 @@ ghost use Rattle.pw_forms.specs.FileForms as spec;
 use crate::cursor::Cursor;
 use crate::form::Form;
 use crate::lack::Lack;
+use crate::mark::FileVerb;
 use crate::operands::{file_name, operand};
 use crate::statement::Statement;
 use std::alloc::Global;
@@ -29,6 +30,7 @@ fn receive(alloc: Global, line: u32, rest: &mut Cursor<'_>) -> Result<Form, Lack
 {
     rest.expects(b"INTO")?;
     let into = operand(alloc, rest)?;
+    rest.ends()?;
     Ok(Form::Whole(Statement::Receive { line, into }))
 }
 
@@ -43,6 +45,7 @@ fn read_file(alloc: Global, line: u32, rest: &mut Cursor<'_>) -> Result<Form, La
     let key = operand(alloc, rest)?;
     rest.expects(b"INTO")?;
     let into = operand(alloc, rest)?;
+    rest.ends()?;
     Ok(Form::Whole(Statement::Read {
         line,
         file,
@@ -63,6 +66,7 @@ fn read_next(alloc: Global, line: u32, rest: &mut Cursor<'_>) -> Result<Form, La
     let after = operand(alloc, rest)?;
     rest.expects(b"INTO")?;
     let into = operand(alloc, rest)?;
+    rest.ends()?;
     Ok(Form::Whole(Statement::ReadNext {
         line,
         file,
@@ -80,9 +84,10 @@ fn sees_next(rest: &Cursor<'_>) -> bool
     rest.sees(b"NEXT") && (rest.sees_third(b"AFTER") || rest.sees_third(b"WITH"))
 }
 
-#[tactic(auto, unfolding(crate::specs::FileForms::read_any))]
-fn read_any(alloc: Global, line: u32, rest: &mut Cursor<'_>) -> Result<Form, Lack>
-    ensures { Reads (spec.read_any line rest.old) result rest.new }
+/// The forms of READ.
+#[tactic(auto, unfolding(crate::specs::FileForms::read))]
+fn read(alloc: Global, line: u32, rest: &mut Cursor<'_>) -> Result<Form, Lack>
+    ensures { Reads (spec.read line rest.old) result rest.new }
 {
     if sees_next(rest) {
         rest.expects(b"NEXT")?;
@@ -94,18 +99,6 @@ fn read_any(alloc: Global, line: u32, rest: &mut Cursor<'_>) -> Result<Form, Lac
     }
 }
 
-/// The forms of READ, in a server.
-#[tactic(auto, unfolding(crate::specs::FileForms::read))]
-pub fn read(alloc: Global, line: u32, rest: &mut Cursor<'_>) -> Result<Form, Lack>
-    ensures { Reads (spec.read line rest.old) result rest.new }
-{
-    if rest.is_server() {
-        read_any(alloc, line, rest)
-    } else {
-        Err(Lack::NoForm)
-    }
-}
-
 /// `WRITE $RECEIVE FROM item`, behind `$RECEIVE`.
 #[tactic(auto, unfolding(crate::specs::FileForms::reply))]
 fn reply(alloc: Global, line: u32, rest: &mut Cursor<'_>) -> Result<Form, Lack>
@@ -113,6 +106,7 @@ fn reply(alloc: Global, line: u32, rest: &mut Cursor<'_>) -> Result<Form, Lack>
 {
     rest.expects(b"FROM")?;
     let from = operand(alloc, rest)?;
+    rest.ends()?;
     Ok(Form::Whole(Statement::Reply { line, from }))
 }
 
@@ -124,12 +118,14 @@ fn write_file(alloc: Global, line: u32, rest: &mut Cursor<'_>) -> Result<Form, L
     let file = file_name(alloc, rest)?;
     rest.expects(b"FROM")?;
     let from = operand(alloc, rest)?;
+    rest.ends()?;
     Ok(Form::Whole(Statement::Write { line, file, from }))
 }
 
-#[tactic(auto, unfolding(crate::specs::FileForms::write_any))]
-fn write_any(alloc: Global, line: u32, rest: &mut Cursor<'_>) -> Result<Form, Lack>
-    ensures { Reads (spec.write_any line rest.old) result rest.new }
+/// The forms of WRITE.
+#[tactic(auto, unfolding(crate::specs::FileForms::write))]
+fn write(alloc: Global, line: u32, rest: &mut Cursor<'_>) -> Result<Form, Lack>
+    ensures { Reads (spec.write line rest.old) result rest.new }
 {
     if rest.eats(b"$RECEIVE") {
         reply(alloc, line, rest)
@@ -138,58 +134,47 @@ fn write_any(alloc: Global, line: u32, rest: &mut Cursor<'_>) -> Result<Form, La
     }
 }
 
-/// The forms of WRITE, in a server.
-#[tactic(auto, unfolding(crate::specs::FileForms::write))]
-pub fn write(alloc: Global, line: u32, rest: &mut Cursor<'_>) -> Result<Form, Lack>
-    ensures { Reads (spec.write line rest.old) result rest.new }
-{
-    if rest.is_server() {
-        write_any(alloc, line, rest)
-    } else {
-        Err(Lack::NoForm)
-    }
-}
-
-#[tactic(auto, unfolding(crate::specs::FileForms::rewrite_any))]
-fn rewrite_any(alloc: Global, line: u32, rest: &mut Cursor<'_>) -> Result<Form, Lack>
-    ensures { Reads (spec.rewrite_any line rest.old) result rest.new }
+/// `REWRITE file FROM item`
+#[tactic(auto, unfolding(crate::specs::FileForms::rewrite))]
+fn rewrite(alloc: Global, line: u32, rest: &mut Cursor<'_>) -> Result<Form, Lack>
+    ensures { Reads (spec.rewrite line rest.old) result rest.new }
 {
     let file = file_name(alloc, rest)?;
     rest.expects(b"FROM")?;
     let from = operand(alloc, rest)?;
+    rest.ends()?;
     Ok(Form::Whole(Statement::Rewrite { line, file, from }))
 }
 
-/// `REWRITE file FROM item`, in a server.
-#[tactic(auto, unfolding(crate::specs::FileForms::rewrite))]
-pub fn rewrite(alloc: Global, line: u32, rest: &mut Cursor<'_>) -> Result<Form, Lack>
-    ensures { Reads (spec.rewrite line rest.old) result rest.new }
-{
-    if rest.is_server() {
-        rewrite_any(alloc, line, rest)
-    } else {
-        Err(Lack::NoForm)
-    }
-}
-
-#[tactic(auto, unfolding(crate::specs::FileForms::delete_any))]
-fn delete_any(alloc: Global, line: u32, rest: &mut Cursor<'_>) -> Result<Form, Lack>
-    ensures { Reads (spec.delete_any line rest.old) result rest.new }
+/// `DELETE file KEY item`
+#[tactic(auto, unfolding(crate::specs::FileForms::delete))]
+fn delete(alloc: Global, line: u32, rest: &mut Cursor<'_>) -> Result<Form, Lack>
+    ensures { Reads (spec.delete line rest.old) result rest.new }
 {
     let file = file_name(alloc, rest)?;
     rest.expects(b"KEY")?;
     let key = operand(alloc, rest)?;
+    rest.ends()?;
     Ok(Form::Whole(Statement::Delete { line, file, key }))
 }
 
-/// `DELETE file KEY item`, in a server.
-#[tactic(auto, unfolding(crate::specs::FileForms::delete))]
-pub fn delete(alloc: Global, line: u32, rest: &mut Cursor<'_>) -> Result<Form, Lack>
-    ensures { Reads (spec.delete line rest.old) result rest.new }
+/// The form of a verb of files, which servers alone have.
+#[tactic(auto, unfolding(crate::specs::FileForms::file_form))]
+pub fn file_form(
+    alloc: Global,
+    verb: FileVerb,
+    line: u32,
+    rest: &mut Cursor<'_>,
+) -> Result<Form, Lack>
+    ensures { Reads (spec.file_form verb line rest.old) result rest.new }
 {
-    if rest.is_server() {
-        delete_any(alloc, line, rest)
-    } else {
-        Err(Lack::NoForm)
+    if !rest.is_server() {
+        return Err(Lack::NoForm);
+    }
+    match verb {
+        FileVerb::Delete => delete(alloc, line, rest),
+        FileVerb::Read => read(alloc, line, rest),
+        FileVerb::Rewrite => rewrite(alloc, line, rest),
+        FileVerb::Write => write(alloc, line, rest),
     }
 }

@@ -5,11 +5,11 @@ ghost use Rattle.pw_forms.specs.Forms as spec;
 
 use crate::conditions::condition;
 use crate::cursor::Cursor;
-use crate::file_forms::{delete, read, rewrite, write};
+use crate::file_forms::file_form;
 use crate::form::{Form, Head};
 use crate::lack::Lack;
 use crate::lists::{Code, Codes, Keys, MOST};
-use crate::mark::Verb;
+use crate::mark::{TerminalVerb, TransactionVerb, Verb};
 use crate::operand::Operand;
 use crate::operands::{code, key, name, operand, program_name};
 use crate::statement::{Arithmetic, Operation, Statement};
@@ -95,6 +95,7 @@ fn arithmetic(
     let second = operand(alloc, rest)?;
     let giving = giving(alloc, rest)?;
     let opens = on_size_error(rest)?;
+    rest.ends()?;
     let arithmetic = Arithmetic {
         operation,
         first,
@@ -111,6 +112,7 @@ fn if_form(alloc: Global, line: u32, rest: &mut Cursor<'_>) -> Result<Form, Lack
 {
     let cond = condition(alloc, rest)?;
     rest.eats(b"THEN");
+    rest.ends()?;
     Ok(Form::Opens(Head::If { line, cond }))
 }
 
@@ -125,6 +127,7 @@ fn perform_until(
     ensures { Reads (spec.perform_until line paragraph rest.old) result rest.new }
 {
     let cond = condition(alloc, rest)?;
+    rest.ends()?;
     Ok(Form::Whole(Statement::PerformUntil {
         line,
         paragraph,
@@ -144,6 +147,7 @@ fn perform_times(
 {
     let times = operand(alloc, rest)?;
     rest.expects(b"TIMES")?;
+    rest.ends()?;
     Ok(Form::Whole(Statement::PerformTimes {
         line,
         paragraph,
@@ -189,6 +193,7 @@ fn perform_one_of(alloc: Global, line: u32, rest: &mut Cursor<'_>) -> Result<For
     let paragraphs = names(alloc, rest)?;
     rest.expects(b"ON")?;
     let position = operand(alloc, rest)?;
+    rest.ends()?;
     Ok(Form::Whole(Statement::PerformOneOf {
         line,
         paragraphs,
@@ -212,7 +217,9 @@ fn perform(alloc: Global, line: u32, rest: &mut Cursor<'_>) -> Result<Form, Lack
 fn exit(line: u32, rest: &mut Cursor<'_>) -> Result<Form, Lack>
     ensures { Reads (spec.exit line rest.old) result rest.new }
 {
-    if rest.eats(b"PROGRAM") {
+    let program = rest.eats(b"PROGRAM");
+    rest.ends()?;
+    if program {
         Ok(Form::Whole(Statement::ExitProgram { line }))
     } else {
         Ok(Form::Whole(Statement::Exit { line }))
@@ -225,20 +232,38 @@ fn stop(line: u32, rest: &mut Cursor<'_>) -> Result<Form, Lack>
     ensures { Reads (spec.stop line rest.old) result rest.new }
 {
     rest.expects(b"RUN")?;
+    rest.ends()?;
     Ok(Form::Whole(Statement::StopRun { line }))
 }
 
-/// `DISPLAY BASE screen`, `DISPLAY screen` or `DISPLAY any`
+/// `DISPLAY BASE screen`, behind BASE.
+#[tactic(auto, unfolding(crate::specs::Forms::display_base))]
+fn display_base(alloc: Global, line: u32, rest: &mut Cursor<'_>) -> Result<Form, Lack>
+    ensures { Reads (spec.display_base line rest.old) result rest.new }
+{
+    let screen = name(alloc, rest)?;
+    rest.ends()?;
+    Ok(Form::Whole(Statement::DisplayBase { line, screen }))
+}
+
+/// `DISPLAY screen` or `DISPLAY any`
+#[tactic(auto, unfolding(crate::specs::Forms::display_any))]
+fn display_any(alloc: Global, line: u32, rest: &mut Cursor<'_>) -> Result<Form, Lack>
+    ensures { Reads (spec.display_any line rest.old) result rest.new }
+{
+    let shown = operand(alloc, rest)?;
+    rest.ends()?;
+    Ok(Form::Whole(Statement::Display { line, shown }))
+}
+
 #[tactic(auto, unfolding(crate::specs::Forms::display))]
 fn display(alloc: Global, line: u32, rest: &mut Cursor<'_>) -> Result<Form, Lack>
     ensures { Reads (spec.display line rest.old) result rest.new }
 {
     if rest.eats(b"BASE") {
-        let screen = name(alloc, rest)?;
-        Ok(Form::Whole(Statement::DisplayBase { line, screen }))
+        display_base(alloc, line, rest)
     } else {
-        let shown = operand(alloc, rest)?;
-        Ok(Form::Whole(Statement::Display { line, shown }))
+        display_any(alloc, line, rest)
     }
 }
 
@@ -271,7 +296,7 @@ fn accept(alloc: Global, line: u32, rest: &mut Cursor<'_>) -> Result<Form, Lack>
     Ok(Form::Whole(Statement::Accept { line, screen, keys }))
 }
 
-/// `USING item ..`, if it comes next.
+/// `USING item ..`, or nothing.
 #[tactic(auto, unfolding(crate::specs::Forms::using))]
 fn using(alloc: Global, rest: &mut Cursor<'_>) -> Result<List<Operand>, Lack>
     ensures { Reads (spec.using rest.old) result rest.new }
@@ -279,6 +304,7 @@ fn using(alloc: Global, rest: &mut Cursor<'_>) -> Result<List<Operand>, Lack>
     if rest.eats(b"USING") {
         operands(alloc, rest)
     } else {
+        rest.ends()?;
         Ok(List::new(alloc))
     }
 }
@@ -345,48 +371,76 @@ fn send(alloc: Global, line: u32, rest: &mut Cursor<'_>) -> Result<Form, Lack>
     }))
 }
 
-/// A form that has nothing behind its verb.
-fn bare(statement: Statement) -> Result<Form, Lack>
-    ensures { result ≡ Ok (Form.Whole statement) }
+/// The word between the operands.
+fn between(operation: Operation) -> &'static [u8]
+    ensures { result.now ≡ spec.between operation }
 {
-    Ok(Form::Whole(statement))
-}
-
-/// The form of a verb.
-fn form_by(alloc: Global, verb: Verb, line: u32, rest: &mut Cursor<'_>) -> Result<Form, Lack>
-    ensures { Reads (spec.form_by verb line rest.old) result rest.new }
-{
-    match verb {
-        Verb::Accept => accept(alloc, line, rest),
-        Verb::AbortTransaction => bare(Statement::Abort { line }),
-        Verb::Add => arithmetic(alloc, line, Operation::Add, b"TO", rest),
-        Verb::BeginTransaction => bare(Statement::Begin { line }),
-        Verb::Call => call(alloc, line, rest),
-        Verb::Delete => delete(alloc, line, rest),
-        Verb::Display => display(alloc, line, rest),
-        Verb::Divide => arithmetic(alloc, line, Operation::Divide, b"INTO", rest),
-        Verb::EndTransaction => bare(Statement::End { line }),
-        Verb::Exit => exit(line, rest),
-        Verb::If => if_form(alloc, line, rest),
-        Verb::Move => move_form(alloc, line, rest),
-        Verb::Multiply => arithmetic(alloc, line, Operation::Multiply, b"BY", rest),
-        Verb::Perform => perform(alloc, line, rest),
-        Verb::Read => read(alloc, line, rest),
-        Verb::RestartTransaction => bare(Statement::Restart { line }),
-        Verb::Rewrite => rewrite(alloc, line, rest),
-        Verb::Send => send(alloc, line, rest),
-        Verb::Stop => stop(line, rest),
-        Verb::Subtract => arithmetic(alloc, line, Operation::Subtract, b"FROM", rest),
-        Verb::Write => write(alloc, line, rest),
+    match operation {
+        Operation::Add => b"TO",
+        Operation::Subtract => b"FROM",
+        Operation::Multiply => b"BY",
+        Operation::Divide => b"INTO",
     }
 }
 
-/// The form of a piece, behind its verb and to its end.
+/// The statement of a verb of transactions.
+fn transaction(verb: TransactionVerb, line: u32) -> Statement
+    ensures { result ≡ spec.transaction verb line }
+{
+    match verb {
+        TransactionVerb::Begin => Statement::Begin { line },
+        TransactionVerb::End => Statement::End { line },
+        TransactionVerb::Abort => Statement::Abort { line },
+        TransactionVerb::Restart => Statement::Restart { line },
+    }
+}
+
+/// The form of a verb of transactions, which has nothing behind it.
+#[tactic(auto, unfolding(crate::specs::Forms::transaction_form))]
+fn transaction_form(
+    verb: TransactionVerb,
+    line: u32,
+    rest: &mut Cursor<'_>,
+) -> Result<Form, Lack>
+    ensures { Reads (spec.transaction_form verb line rest.old) result rest.new }
+{
+    rest.ends()?;
+    Ok(Form::Whole(transaction(verb, line)))
+}
+
+/// The form of a verb of requesters.
+fn terminal_form(
+    alloc: Global,
+    verb: TerminalVerb,
+    line: u32,
+    rest: &mut Cursor<'_>,
+) -> Result<Form, Lack>
+    ensures { Reads (spec.terminal_form verb line rest.old) result rest.new }
+{
+    match verb {
+        TerminalVerb::Accept => accept(alloc, line, rest),
+        TerminalVerb::Call => call(alloc, line, rest),
+        TerminalVerb::Display => display(alloc, line, rest),
+        TerminalVerb::Send => send(alloc, line, rest),
+        TerminalVerb::Transaction(verb) => transaction_form(verb, line, rest),
+    }
+}
+
+/// The form of a verb, which reads the piece behind it to its end.
 #[tactic(auto, unfolding(crate::specs::Forms::form))]
 pub fn form(alloc: Global, verb: Verb, line: u32, rest: &mut Cursor<'_>) -> Result<Form, Lack>
     ensures { Reads (spec.form verb line rest.old) result rest.new }
 {
-    let found = form_by(alloc, verb, line, rest)?;
-    rest.ends()?;
-    Ok(found)
+    match verb {
+        Verb::Exit => exit(line, rest),
+        Verb::If => if_form(alloc, line, rest),
+        Verb::Move => move_form(alloc, line, rest),
+        Verb::Perform => perform(alloc, line, rest),
+        Verb::Stop => stop(line, rest),
+        Verb::Arithmetic(operation) => {
+            arithmetic(alloc, line, operation, between(operation), rest)
+        }
+        Verb::File(verb) => file_form(alloc, verb, line, rest),
+        Verb::Terminal(verb) => terminal_form(alloc, verb, line, rest),
+    }
 }

@@ -2,6 +2,8 @@
 //! the language, and the tree of the statements is built.
 #![tactic(auto)]
 
+mod block;
+mod branch;
 pub mod cond;
 mod conditions;
 mod cursor;
@@ -12,8 +14,10 @@ mod lack;
 pub mod lists;
 mod literal;
 mod mark;
+mod names;
 pub mod operand;
 mod operands;
 mod piece;
+mod pieces;
 pub mod statement;
 mod words;

@@ -1,27 +1,44 @@
+use crate::statement::Operation;
+
+/// The verbs that servers alone have.
+#[derive(Clone, Copy, Debug, PartialEq, Eq)]
+pub enum FileVerb {
+    Delete,
+    Read,
+    Rewrite,
+    Write,
+}
+
+/// The verbs of transactions.
+#[derive(Clone, Copy, Debug, PartialEq, Eq)]
+pub enum TransactionVerb {
+    Begin,
+    End,
+    Abort,
+    Restart,
+}
+
+/// The verbs that requesters alone have.
+#[derive(Clone, Copy, Debug, PartialEq, Eq)]
+pub enum TerminalVerb {
+    Accept,
+    Call,
+    Display,
+    Send,
+    Transaction(TransactionVerb),
+}
+
 /// The words that begin a statement.
 #[derive(Clone, Copy, Debug, PartialEq, Eq)]
 pub enum Verb {
-    Accept,
-    AbortTransaction,
-    Add,
-    BeginTransaction,
-    Call,
-    Delete,
-    Display,
-    Divide,
-    EndTransaction,
     Exit,
     If,
     Move,
-    Multiply,
     Perform,
-    Read,
-    RestartTransaction,
-    Rewrite,
-    Send,
     Stop,
-    Subtract,
-    Write,
+    Arithmetic(Operation),
+    File(FileVerb),
+    Terminal(TerminalVerb),
 }
 
 /// What begins with a token.

@@ -1,6 +1,7 @@
 use crate::form::Head;
 use crate::statement::Statement;
 use pw_base::bytes::Bytes;
+use pw_base::fault_code::FaultCode;
 
 /// What a piece of a procedure is, by its tokens alone.
 #[derive(Drop)]
@@ -12,8 +13,8 @@ pub enum Piece {
     Opens(Head),
     Else,
     EndIf,
-    /// None of these, by the code of its fault.
-    Fault(u16),
+    /// None of these, but a fault of this code.
+    Fault(FaultCode),
 }
 
 /// A piece, and the line of its first token.

@@ -1,7 +1,8 @@
 ghost use Rattle.std.specs.Prelude.{◌≡◌, IfOk};
 ghost use Rattle.pw_forms.specs.Words.{same_kind, is_word, bytes_of, is_the_word, table_place, is_table_word, mark_in, mark_at, mark_of, begins_piece, is_receive, is_name, is_register, is_item_name, name_in};
 
-use crate::mark::{Mark, Verb};
+use crate::mark::{FileVerb, Mark, TerminalVerb, TransactionVerb, Verb};
+use crate::statement::Operation;
 use pw_base::bytes::Bytes;
 use pw_base::memory::Memory;
 use pw_text::token::{Token, TokenKind};
@@ -11,27 +12,27 @@ use std::alloc::Global;
 
 /// The words that begin a piece, in the order in which both tables begin with them.
 const MARKS: &[Mark] = &[
-    Mark::Verb(Verb::Accept),
-    Mark::Verb(Verb::AbortTransaction),
-    Mark::Verb(Verb::Add),
-    Mark::Verb(Verb::BeginTransaction),
-    Mark::Verb(Verb::Call),
-    Mark::Verb(Verb::Delete),
-    Mark::Verb(Verb::Display),
-    Mark::Verb(Verb::Divide),
-    Mark::Verb(Verb::EndTransaction),
+    Mark::Verb(Verb::Terminal(TerminalVerb::Accept)),
+    Mark::Verb(Verb::Terminal(TerminalVerb::Transaction(TransactionVerb::Abort))),
+    Mark::Verb(Verb::Arithmetic(Operation::Add)),
+    Mark::Verb(Verb::Terminal(TerminalVerb::Transaction(TransactionVerb::Begin))),
+    Mark::Verb(Verb::Terminal(TerminalVerb::Call)),
+    Mark::Verb(Verb::File(FileVerb::Delete)),
+    Mark::Verb(Verb::Terminal(TerminalVerb::Display)),
+    Mark::Verb(Verb::Arithmetic(Operation::Divide)),
+    Mark::Verb(Verb::Terminal(TerminalVerb::Transaction(TransactionVerb::End))),
     Mark::Verb(Verb::Exit),
     Mark::Verb(Verb::If),
     Mark::Verb(Verb::Move),
-    Mark::Verb(Verb::Multiply),
+    Mark::Verb(Verb::Arithmetic(Operation::Multiply)),
     Mark::Verb(Verb::Perform),
-    Mark::Verb(Verb::Read),
-    Mark::Verb(Verb::RestartTransaction),
-    Mark::Verb(Verb::Rewrite),
-    Mark::Verb(Verb::Send),
+    Mark::Verb(Verb::File(FileVerb::Read)),
+    Mark::Verb(Verb::Terminal(TerminalVerb::Transaction(TransactionVerb::Restart))),
+    Mark::Verb(Verb::File(FileVerb::Rewrite)),
+    Mark::Verb(Verb::Terminal(TerminalVerb::Send)),
     Mark::Verb(Verb::Stop),
-    Mark::Verb(Verb::Subtract),
-    Mark::Verb(Verb::Write),
+    Mark::Verb(Verb::Arithmetic(Operation::Subtract)),
+    Mark::Verb(Verb::File(FileVerb::Write)),
     Mark::Else,
     Mark::EndIf,
 ];
