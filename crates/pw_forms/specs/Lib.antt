@@ -1,4 +1,5 @@
 pub mod Blocks
+pub mod Built
 pub mod Conditions
 pub mod Faults
 pub mod FileForms

@@ -4,6 +4,8 @@
 
 mod block;
 mod branch;
+mod build;
+mod building;
 pub mod cond;
 mod conditions;
 mod cursor;
@@ -19,5 +21,7 @@ pub mod operand;
 mod operands;
 mod piece;
 mod pieces;
+pub mod read;
+mod reading;
 pub mod statement;
 mod words;
