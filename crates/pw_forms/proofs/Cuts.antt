@@ -1,11 +1,18 @@
 -- The pieces from the left: the first one, and those of what stands behind it.
-use Rattle.std.proofs.Common.{◌≡◌, ℕ, zero, suc, ◌+◌, ◌<◌, Bool, true, false, not, List, [], ◌∷◌, ◌++◌, length, take, drop, take_while, refl, sym, ap, ◌∙◌, arith}
+use Rattle.std.proofs.Common.{◌≡◌, ℕ, zero, suc, ◌+◌, ◌<◌, Bool, true, false, not, List, [], ◌∷◌, ◌++◌, length, take, drop, take_while, cond, refl, sym, ap, subst, ◌∙◌, arith}
+use Rattle.std.proofs.lemmas.List.Sums.{take_while-cons}
+use Rattle.std.specs.Prelude.{◌==◌, if◌then◌else◌}
 use Rattle.pw_text.specs.declared.token.Token.{Token}
 use Rattle.pw_forms.specs.declared.mark.Mark.{Mark}
 use Rattle.pw_forms.specs.declared.mark.Mark.TheVariants.{Verb, Else, EndIf, Period, Other}
 use Rattle.pw_forms.specs.declared.piece.Placed.{Placed}
 use Rattle.pw_forms.specs.Words.{mark_of, begins_piece}
 use Rattle.pw_forms.specs.Pieces.{is_period, first_mark, first_piece, before, cut, joined, run_size, piece_size, period_follows, placed, placed_all}
+
+-- some are left
+pub some_left : {A : Type 0} (list : List A) → false ≡ (length list == 0) → 0 < length list
+some_left [] some = absurd cc
+some_left (x ∷ xs) some = omega arith
 
 -- what begins no piece is no period
 no_period : (mark : Mark) → begins_piece mark ≡ false → is_period mark ≡ false
@@ -59,25 +66,46 @@ module _ (server : Bool) (text : List ℕ) where
   abbrev With_run : Token → List Token → ℕ → Type 0
   With_run token tokens size = before server text token (cut server text tokens) ≡ (token ∷ take size tokens) ∷ cut server text (drop size tokens)
 
+  run_size-begins : (next : Token) (tokens : List Token) → begins_piece (mark_of server text next) ≡ true → run_size server text (next ∷ tokens) ≡ 0
+  run_size-begins next tokens starts =
+      ap length (take_while-cons (λ token. not (begins_piece (mark_of server text token))) next tokens)
+      ∙ ap (λ b. length (cond (not b) (next ∷ take_while (λ token. not (begins_piece (mark_of server text token))) tokens) [])) starts
+
+  run_size-goes_on : (next : Token) (tokens : List Token) → begins_piece (mark_of server text next) ≡ false → run_size server text (next ∷ tokens) ≡ suc (run_size server text tokens)
+  run_size-goes_on next tokens starts =
+      ap length (take_while-cons (λ token. not (begins_piece (mark_of server text token))) next tokens)
+      ∙ ap (λ b. length (cond (not b) (next ∷ take_while (λ token. not (begins_piece (mark_of server text token))) tokens) [])) starts
+
   run-next : (token next : Token) (tokens : List Token) → is_period (mark_of server text token) ≡ false → (a : Bool) → begins_piece (mark_of server text next) ≡ a
       → (is_period (mark_of server text next) ≡ false → With_run next tokens (run_size server text tokens)) → With_run token (next ∷ tokens) (run_size server text (next ∷ tokens))
   unfolding cut
-  run-next token next tokens no true starts rest =
-      rw starts (before-apart token (before server text next (cut server text tokens)) (ap begins_piece (before-first next (cut server text tokens)) ∙ starts))
-  run-next token next tokens no false starts rest =
-      rw starts (ap (before server text token) (rest (no_period _ starts))
-      ∙ before-joins token (next ∷ take (run_size server text tokens) tokens) (cut server text (drop (run_size server text tokens) tokens)) no starts)
+  run-next token next tokens other true starts rest =
+      let P : ℕ → Type 0 = With_run token (next ∷ tokens) in
+      subst P (sym (run_size-begins next tokens starts))
+      (before-apart token (before server text next (cut server text tokens)) (ap begins_piece (before-first next (cut server text tokens)) ∙ starts))
+  run-next token next tokens other false starts rest =
+      let P : ℕ → Type 0 = With_run token (next ∷ tokens) in
+      subst P (sym (run_size-goes_on next tokens starts))
+      (ap (before server text token) (rest (no_period _ starts))
+      ∙ before-joins token (next ∷ take (run_size server text tokens) tokens) (cut server text (drop (run_size server text tokens) tokens)) other starts)
 
   with_run : (token : Token) (tokens : List Token) → is_period (mark_of server text token) ≡ false → With_run token tokens (run_size server text tokens)
   unfolding cut
-  with_run token [] no = refl
-  with_run token (next ∷ tokens) no = run-next token next tokens no (begins_piece (mark_of server text next)) refl (with_run next tokens)
+  with_run token [] other = refl
+  with_run token (next ∷ tokens) other = run-next token next tokens other (begins_piece (mark_of server text next)) refl (with_run next tokens)
 
   cut-by : (token : Token) (tokens : List Token) (a : Bool) → is_period (mark_of server text token) ≡ a → (size : ℕ) → size ≡ piece_size server text (token ∷ tokens)
       → cut server text (token ∷ tokens) ≡ take size (token ∷ tokens) ∷ cut server text (drop size (token ∷ tokens))
   unfolding cut
-  cut-by token tokens true is size size_is = rw (size_is, is) (before-period token (cut server text tokens) is)
-  cut-by token tokens false is size size_is = rw (size_is, is) (with_run token tokens is)
+  cut-by token tokens true is size size_is =
+      let one : size ≡ 1 = size_is ∙ ap (λ b. if b then 1 else 1 + run_size server text tokens) is in
+      let P : ℕ → Type 0 = λ n. before server text token (cut server text tokens) ≡ take n (token ∷ tokens) ∷ cut server text (drop n (token ∷ tokens)) in
+      subst P (sym one) (before-period token (cut server text tokens) is)
+  cut-by token tokens false is size size_is =
+      let more : 1 + run_size server text tokens ≡ suc (run_size server text tokens) = omega arith in
+      let run : size ≡ suc (run_size server text tokens) = size_is ∙ ap (λ b. if b then 1 else 1 + run_size server text tokens) is ∙ more in
+      let P : ℕ → Type 0 = λ n. before server text token (cut server text tokens) ≡ take n (token ∷ tokens) ∷ cut server text (drop n (token ∷ tokens)) in
+      subst P (sym run) (with_run token tokens is)
 
   -- the first piece, and those of what stands behind it
   pub cut-piece : (tokens : List Token) (size : ℕ) → 0 < length tokens → size ≡ piece_size server text tokens
@@ -108,3 +136,9 @@ module _ (server : Bool) (text : List ℕ) where
   unfolding cut
   cut-joined [] = refl
   cut-joined (token ∷ tokens) = before-joined token (cut server text tokens) ∙ ap (λ rest. token ∷ rest) (cut-joined tokens)
+
+  -- no token is left, and so no piece
+  pub no_pieces : (tokens : List Token) → length tokens ≡ 0 → placed_all server text (cut server text tokens) ≡ []
+  unfolding cut placed_all
+  no_pieces [] none = refl
+  no_pieces (token ∷ tokens) none = absurd (omega arith)

@@ -3,11 +3,12 @@ ghost use Rattle.std.specs.List.{list_any};
 ghost use Rattle.pw_forms.specs.Faults.{is_full, can_turn, fits, branches_after};
 ghost use Rattle.pw_forms.specs.Tree.{Behind, Levels, Closed, AtElse, AtEndIf, prepend, opened, closed};
 ghost use Rattle.pw_forms.specs.Blocks.{finished_head, branches, stands};
+ghost use Rattle.pw_forms.specs.declared.form.Head.TheVariants as heads;
 ghost use Rattle.pw_forms.specs.declared.piece.Piece.TheVariants as pieces;
 
 use crate::form::Head;
 use crate::branch::{Block, Open};
-use crate::statement::Statement;
+use crate::statement::{Arithmetic, Statement};
 use pw_base::list::List;
 use pw_base::memory::Memory;
 use std::alloc::Global;
@@ -15,6 +16,23 @@ use std::mem;
 
 /// The most branches that may be open at once.
 const MOST_OPEN: usize = 64;
+
+/// Arithmetic with ON SIZE ERROR and its two branches.
+fn on_size_error(
+    line: u32,
+    arithmetic: Arithmetic,
+    first: List<Statement>,
+    second: List<Statement>,
+) -> Statement
+    ensures { result ≡ closed (heads.OnSizeError line arithmetic) first second }
+{
+    Statement::OnSizeError {
+        line,
+        arithmetic,
+        first,
+        second,
+    }
+}
 
 /// The statement of a head and its two branches.
 fn closed(head: Head, first: List<Statement>, second: List<Statement>) -> Statement
@@ -27,12 +45,7 @@ fn closed(head: Head, first: List<Statement>, second: List<Statement>) -> Statem
             first,
             second,
         },
-        Head::OnSizeError { line, arithmetic } => Statement::OnSizeError {
-            line,
-            arithmetic,
-            first,
-            second,
-        },
+        Head::OnSizeError { line, arithmetic } => on_size_error(line, arithmetic, first, second),
     }
 }
 

@@ -13,6 +13,7 @@ mod file_forms;
 mod form;
 mod forms;
 mod lack;
+pub mod laws;
 pub mod lists;
 mod literal;
 mod mark;
@@ -23,5 +24,9 @@ mod piece;
 mod pieces;
 pub mod read;
 mod reading;
+#[cfg(test)]
+mod rows;
 pub mod statement;
+#[cfg(test)]
+mod tests;
 mod words;
