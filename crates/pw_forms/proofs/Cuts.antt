@@ -47,10 +47,10 @@ module _ (server : Bool) (text : List ℕ) where
   before-apart token [] starts = refl
   before-apart token (piece ∷ pieces) starts = before-apart_by token piece pieces (is_period (mark_of server text token)) refl starts
     where
-    before-apart_by : (token : Token) (piece : List Token) (pieces : List (List Token)) (a : Bool) → is_period (mark_of server text token) ≡ a
-        → begins_piece (first_mark server text piece) ≡ true → before server text token (piece ∷ pieces) ≡ (token ∷ []) ∷ (piece ∷ pieces)
-    before-apart_by token piece pieces true is starts = rw is refl
-    before-apart_by token piece pieces false is starts = rw (is, starts) refl
+      before-apart_by : (token : Token) (piece : List Token) (pieces : List (List Token)) (a : Bool) → is_period (mark_of server text token) ≡ a
+          → begins_piece (first_mark server text piece) ≡ true → before server text token (piece ∷ pieces) ≡ (token ∷ []) ∷ (piece ∷ pieces)
+      before-apart_by token piece pieces true is starts = rw is refl
+      before-apart_by token piece pieces false is starts = rw (is, starts) refl
 
   -- a period is not joined with what follows it
   before-period : (token : Token) (pieces : List (List Token)) → is_period (mark_of server text token) ≡ true
@@ -125,11 +125,11 @@ module _ (server : Bool) (text : List ℕ) where
   before-joined token [] = refl
   before-joined token (piece ∷ pieces) = before-joined_by token piece pieces (is_period (mark_of server text token)) (begins_piece (first_mark server text piece)) refl refl
     where
-    before-joined_by : (token : Token) (piece : List Token) (pieces : List (List Token)) (a b : Bool) → is_period (mark_of server text token) ≡ a
-        → begins_piece (first_mark server text piece) ≡ b → joined (before server text token (piece ∷ pieces)) ≡ token ∷ (piece ++ joined pieces)
-    before-joined_by token piece pieces true b is starts = rw is refl
-    before-joined_by token piece pieces false true is starts = rw (is, starts) refl
-    before-joined_by token piece pieces false false is starts = rw (is, starts) refl
+      before-joined_by : (token : Token) (piece : List Token) (pieces : List (List Token)) (a b : Bool) → is_period (mark_of server text token) ≡ a
+          → begins_piece (first_mark server text piece) ≡ b → joined (before server text token (piece ∷ pieces)) ≡ token ∷ (piece ++ joined pieces)
+      before-joined_by token piece pieces true b is starts = rw is refl
+      before-joined_by token piece pieces false true is starts = rw (is, starts) refl
+      before-joined_by token piece pieces false false is starts = rw (is, starts) refl
 
   -- the pieces joined are the tokens
   pub cut-joined : (tokens : List Token) → joined (cut server text tokens) ≡ tokens

@@ -38,9 +38,9 @@ any-branches_onto known (next ∷ all) = any-branches_onto (is_some next.first �
     ∙ any-swap (list_any (λ (other : Open). not (is_some other.first)) all) (not (is_some next.first)) (list_any not known)
     ∙ sym (any-group (not (is_some next.first)) (list_any (λ (other : Open). not (is_some other.first)) all) (list_any not known))
   where
-  any-group : (a b c : Bool) → ((a || b) || c) ≡ (a || (b || c))
-  any-group true b c = refl
-  any-group false b c = refl
+    any-group : (a b c : Bool) → ((a || b) || c) ≡ (a || (b || c))
+    any-group true b c = refl
+    any-group false b c = refl
 
 or-false : (a : Bool) → (a || false) ≡ a
 or-false true = refl
@@ -135,7 +135,7 @@ turns fewer all more top next block new x all_is more_is new_is none next_is =
     ∙ turned_by top.first none
     ∙ sym (pop fewer all top (prepend block (AtElse [] x)) all_is)
   where
-  turned_by : (first : Option (List Statement)) → is_some first ≡ false
-      → nested fewer (prepend top.before (with_else top.head (block ++ []) x)) ≡ nested fewer (prepend top.before (inside top.head first (prepend block (AtElse [] x))))
-  turned_by None is = refl
-  turned_by (Some first) is = absurd cc
+    turned_by : (first : Option (List Statement)) → is_some first ≡ false
+        → nested fewer (prepend top.before (with_else top.head (block ++ []) x)) ≡ nested fewer (prepend top.before (inside top.head first (prepend block (AtElse [] x))))
+    turned_by None is = refl
+    turned_by (Some first) is = absurd cc

@@ -36,8 +36,8 @@ with_front front behind = record behind { statements = front ++ behind.statement
 pub behind_period-prepend : (front : List Statement) (x : Levels) → behind_period (prepend front x) ≡ with_front front (behind_period x)
 behind_period-prepend front (Closed block behind) = ap (λ s. with_statements s behind) (append_assoc front block behind.statements)
   where
-  with_statements : List Statement → Behind → Behind
-  with_statements s behind = record behind { statements = s }
+    with_statements : List Statement → Behind → Behind
+    with_statements s behind = record behind { statements = s }
 behind_period-prepend front (AtElse block rest) = refl
 behind_period-prepend front (AtEndIf block rest) = refl
 
@@ -72,7 +72,7 @@ named-ok (Err memory) new old line name piece is begun none empty paragraphs = t
 pub ended-ok : (result : Result (Unit {0}) Memory) (paragraphs : List Paragraph) (begun : Option Begun) (new old : Block) (line : ℕ) (piece : Piece) → piece ≡ pieces.Period
     → OnOk result (new.open.items ≡ []) → OnOk result ((behind : Behind) → Closed new.current behind ≡ stands old (Closed [] behind))
     → OnOk result (fits (branches old.open.items) piece ≡ true → (x : Levels)
-      → paragraphs ++ completed begun (behind_period (stands new x)) ≡ paragraphs ++ completed begun (behind_period (stands old (level_of line piece x))))
+    → paragraphs ++ completed begun (behind_period (stands new x)) ≡ paragraphs ++ completed begun (behind_period (stands old (level_of line piece x))))
 ended-ok (Ok done) paragraphs begun new old line piece is none closes =
     λ fit x. ended paragraphs begun new old x none closes ∙ ap (λ p. paragraphs ++ completed begun (behind_period (stands old (level_of line p x)))) (sym is)
 ended-ok (Err memory) paragraphs begun new old line piece is none closes = tt
@@ -94,9 +94,9 @@ some-better : (known : Option Fault) (fault : Fault) → (first : Fault) × (bet
 some-better None fault = (fault, refl)
 some-better (Some known) fault = some-better_by (is_before fault known)
   where
-  some-better_by : (test : Bool) → (first : Fault) × (cond test (Some fault) (Some known) ≡ Some first)
-  some-better_by true = (fault, refl)
-  some-better_by false = (known, refl)
+    some-better_by : (test : Bool) → (first : Fault) × (cond test (Some fault) (Some known) ≡ Some first)
+    some-better_by true = (fault, refl)
+    some-better_by false = (known, refl)
 
 -- a piece that does not fit has a fault
 pub misfit : (taken : Word → Bool) (branches : List Bool) (piece : Piece) → fits branches piece ≡ false → (code : FaultCode) × (code_of taken branches piece ≡ Some code)
@@ -151,8 +151,8 @@ outcome-put new old next pieces first second first_is second_is known_is before_
     (λ unfit. let fault = misfit (before_of old).taken (before_of old).branches next.piece unfit in (fault.0, second_is ∙ fault.1))
     ∙ rw (first_is, second_is) refl
   where
-  with_paragraphs : List Paragraph → Procedure
-  with_paragraphs paragraphs = record { paragraphs = paragraphs }
+    with_paragraphs : List Paragraph → Procedure
+    with_paragraphs paragraphs = record { paragraphs = paragraphs }
 
 -- what a piece leaves, part by part
 pub before-after : (new old : Before) (piece : Piece) → new.begun ≡ (old.begun || is_name piece) → new.taken ≡ taken_after old.taken piece
@@ -160,8 +160,8 @@ pub before-after : (new old : Before) (piece : Piece) → new.begun ≡ (old.beg
 before-after new old piece begun taken branches_are = ap (λ b. with_parts b new.taken new.branches) begun
     ∙ ap (λ t. with_parts (old.begun || is_name piece) t new.branches) taken ∙ ap (λ bs. with_parts (old.begun || is_name piece) (taken_after old.taken piece) bs) branches_are
   where
-  with_parts : Bool → (Word → Bool) → List Bool → Before
-  with_parts b t bs = record { begun = b; taken = t; branches = bs }
+    with_parts : Bool → (Word → Bool) → List Bool → Before
+    with_parts b t bs = record { begun = b; taken = t; branches = bs }
 
 -- before the first piece nothing is left
 before-start : (reading : Reading) → reading.names.keys ≡ [] → reading.build.begun ≡ None → reading.build.block.open.items ≡ [] → before_of reading ≡ nothing
@@ -170,8 +170,8 @@ before-start reading keys begun none =
     ∙ ap (λ (ks : List (Vec ℕ _)). with_parts false (λ word. list_any (λ name. bytes_eq name.items word) ks) (branches reading.build.block.open.items)) keys
     ∙ ap (λ all. with_parts false (λ word. false) (branches all)) none
   where
-  with_parts : Bool → (Word → Bool) → List Bool → Before
-  with_parts b t bs = record { begun = b; taken = t; branches = bs }
+    with_parts : Bool → (Word → Bool) → List Bool → Before
+    with_parts b t bs = record { begun = b; taken = t; branches = bs }
 
 -- before the first piece
 pub outcome-start : (reading : Reading) (pieces : List Placed) → reading.known ≡ None → reading.names.keys ≡ []

@@ -27,7 +27,8 @@ inside head (Some first) rest = with_else head first rest
 
 -- an open branch with the statements before it, round what stands behind its last statement
 abbrev pub around : Open → Levels → Levels
-around open_branch rest = prepend open_branch.before (inside open_branch.head open_branch.first rest)
+around open_branch rest =
+    prepend open_branch.before (inside open_branch.head open_branch.first rest)
 
 -- the same of all open branches, from the outermost on
 unfoldable pub nested : List Open → Levels → Levels

@@ -16,11 +16,13 @@ use Rattle.pw_forms.specs.Blocks.{branches, stands}
 -- a paragraph that has begun, if any, with what stands behind its name
 abbrev pub completed : Option Begun → Behind → List Paragraph
 completed None behind = behind.paragraphs
-completed (Some begun) behind = (record { name = begun.name; line = begun.line; body = behind.statements }) ∷ behind.paragraphs
+completed (Some begun) behind =
+    (record { name = begun.name; line = begun.line; body = behind.statements }) ∷ behind.paragraphs
 
 -- the paragraphs so far, before what stands from the next piece on
 abbrev pub built : Build → Levels → List Paragraph
-built build rest = build.paragraphs ++ completed build.begun (behind_period (stands build.block rest))
+built build rest =
+    build.paragraphs ++ completed build.begun (behind_period (stands build.block rest))
 
 -- what the pieces so far leave
 abbrev pub before_of : Reading → Before

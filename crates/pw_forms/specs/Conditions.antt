@@ -16,9 +16,12 @@ use Rattle.pw_forms.specs.Operands.{operand}
 -- an operator that is a word
 unfoldable pub word_operator : Token → Reader Operator
 word_operator word = λ rest.
-    if is_the_word rest.text word (codes "EQUAL") then (do eats (codes "TO"); pure operators.Equal) rest
-    else if is_the_word rest.text word (codes "GREATER") then (do eats (codes "THAN"); pure operators.Greater) rest
-    else if is_the_word rest.text word (codes "LESS") then (do eats (codes "THAN"); pure operators.Less) rest
+    if is_the_word rest.text word (codes "EQUAL")
+    then (do eats (codes "TO"); pure operators.Equal) rest
+    else if is_the_word rest.text word (codes "GREATER")
+    then (do eats (codes "THAN"); pure operators.Greater) rest
+    else if is_the_word rest.text word (codes "LESS")
+    then (do eats (codes "THAN"); pure operators.Less) rest
     else None
 
 -- an operator that begins with a token

@@ -9,8 +9,8 @@ use Rattle.pw_forms.specs.declared.piece.Piece.{Piece}
 use Rattle.pw_forms.specs.declared.piece.Piece.TheVariants as pieces
 use Rattle.pw_forms.specs.declared.piece.Placed.{Placed}
 
--- What the pieces so far leave: whether a paragraph has begun, which names are taken, and of each open branch, from
--- the innermost on, whether it has its ELSE.
+-- What the pieces so far leave: whether a paragraph has begun, which names are taken, and of each
+-- open branch, from the innermost on, whether it has its ELSE.
 pub record Before : Type 0 where
   pub begun : Bool
   pub taken : Word → Bool
@@ -55,18 +55,21 @@ code_unless test code = if test then None else Some code
 -- the code of a piece's fault, if it has one, where these names are taken and these branches open
 abbrev pub code_of : (Word → Bool) → List Bool → Piece → Option FaultCode
 code_of taken branches (pieces.Name name) = code_unless (not (taken name)) ParagraphTwice
-code_of taken branches (pieces.Opens head) = code_unless (fits branches (pieces.Opens head)) NoSuchForm
+code_of taken branches (pieces.Opens head) =
+    code_unless (fits branches (pieces.Opens head)) NoSuchForm
 code_of taken branches pieces.Else = code_unless (fits branches pieces.Else) NoIf
 code_of taken branches pieces.EndIf = code_unless (fits branches pieces.EndIf) NoIf
 code_of taken branches pieces.Period = None
 code_of taken branches (pieces.Whole statement) = None
 code_of taken branches (pieces.Fault code) = Some code
 
--- the branches behind a piece: a name and a period close all, END-IF the innermost; a piece that does not fit leaves them
+-- The branches behind a piece: a name and a period close all, and END-IF the innermost. A piece that
+-- does not fit leaves them.
 abbrev pub branches_after : List Bool → Piece → List Bool
 branches_after branches (pieces.Name name) = []
 branches_after branches pieces.Period = []
-branches_after branches (pieces.Opens head) = if is_full branches then branches else false ∷ branches
+branches_after branches (pieces.Opens head) =
+    if is_full branches then branches else false ∷ branches
 branches_after branches pieces.Else = if can_turn branches then turned branches else branches
 branches_after branches pieces.EndIf = drop 1 branches
 branches_after branches (pieces.Whole statement) = branches
@@ -119,4 +122,5 @@ faults_of before next =
 -- the faults of pieces
 unfoldable pub faults_from : Before → List Placed → List Fault
 faults_from before [] = []
-faults_from before (next ∷ pieces) = faults_of before next ++ faults_from (after before next.piece) pieces
+faults_from before (next ∷ pieces) =
+    faults_of before next ++ faults_from (after before next.piece) pieces

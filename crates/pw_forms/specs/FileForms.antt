@@ -48,13 +48,17 @@ read_next line = do
 
 -- NEXT, a file and AFTER or WITH come next: else NEXT is itself the name of the file
 unfoldable pub sees_next : Rest → Bool
-sees_next rest = sees (codes "NEXT") rest && (sees_third (codes "AFTER") rest || sees_third (codes "WITH") rest)
+sees_next rest =
+    sees (codes "NEXT") rest
+    && (sees_third (codes "AFTER") rest || sees_third (codes "WITH") rest)
 
 -- the forms of READ
 unfoldable pub read : ℕ → Reader Form
 read line = λ rest.
     if sees_next rest then (do expects (codes "NEXT"); read_next line) rest
-    else (do message ← eats (codes "$RECEIVE"); if message then receive line else read_file line) rest
+    else (do
+      message ← eats (codes "$RECEIVE")
+      if message then receive line else read_file line) rest
 
 -- WRITE $RECEIVE FROM item, behind $RECEIVE
 unfoldable pub reply : ℕ → Reader Form

@@ -56,7 +56,8 @@ abbrev pub arithmetic_by : ℕ → Bool → Arithmetic → Form
 arithmetic_by line true found = Opens (head.OnSizeError line found)
 arithmetic_by line false found = Whole (statement.Arithmetic line found)
 
--- ADD num TO num, SUBTRACT num FROM num, MULTIPLY num BY num, DIVIDE num INTO num, each [GIVING item] [ON SIZE ERROR]
+-- ADD num TO num, SUBTRACT num FROM num, MULTIPLY num BY num, DIVIDE num INTO num,
+-- each [GIVING item] [ON SIZE ERROR]
 unfoldable pub arithmetic : ℕ → Operation → Word → Reader Form
 arithmetic line operation word = do
   first ← operand
@@ -65,7 +66,8 @@ arithmetic line operation word = do
   item ← giving
   opens ← on_size_error
   ends
-  pure (arithmetic_by line opens (record { operation = operation; first = first; second = second; giving = item }))
+  pure (arithmetic_by line opens
+      (record { operation = operation; first = first; second = second; giving = item }))
 
 -- IF cond [THEN]
 unfoldable pub if_form : ℕ → Reader Form
@@ -97,8 +99,8 @@ perform_one line = do
   until ← eats (codes "UNTIL")
   if until then perform_until line paragraph
       else (λ rest.
-        if is_done rest then Some (Whole (statement.Perform line paragraph), rest)
-        else perform_times line paragraph rest)
+      if is_done rest then Some (Whole (statement.Perform line paragraph), rest)
+      else perform_times line paragraph rest)
 
 -- PERFORM ONE OF p .. DEPENDING ON item, behind ONE
 unfoldable pub perform_one_of : ℕ → Reader Form

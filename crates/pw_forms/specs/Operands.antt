@@ -6,11 +6,12 @@ use Rattle.pw_words.specs.Words.{Word, place_of}
 use Rattle.pw_text.specs.declared.token.TokenKind.{TokenKind}
 use Rattle.pw_text.specs.declared.token.TokenKind.TheVariants as kind
 use Rattle.pw_text.specs.declared.token.Token.{Token}
+use Rattle.pw_text.specs.Cursor.{spelling}
 use Rattle.pw_forms.specs.declared.operand.Subscript.{Subscript}
 use Rattle.pw_forms.specs.declared.operand.Subscript.TheVariants as subscripts
 use Rattle.pw_forms.specs.declared.operand.Operand.{Operand}
 use Rattle.pw_forms.specs.declared.operand.Operand.TheVariants as operands
-use Rattle.pw_forms.specs.Words.{is_word, bytes_of, is_the_word, is_receive, is_name, is_item_name, name_in}
+use Rattle.pw_forms.specs.Words.{is_word, is_the_word, is_receive, is_name, is_item_name, name_in}
 use Rattle.pw_forms.specs.Readers.{Rest, Reader, ◌>>=◌, ◌>>◌, pure, fails, takes, token}
 
 -- ---- literals
@@ -23,7 +24,8 @@ kept second byte = if second then [] else byte ∷ []
 abbrev pub is_first_quote : Bool → ℕ → Bool
 is_first_quote second byte = not second && byte == 34
 
--- the characters of a text, where of two quotes one stands; second: the byte before was the first of two
+-- the characters of a text, where of two quotes one stands
+-- second: the byte before was the first of two
 abbrev pub unquoted : Bool → List ℕ → List ℕ
 unquoted second [] = []
 unquoted second (byte ∷ bytes) = kept second byte ++ unquoted (is_first_quote second byte) bytes
@@ -41,9 +43,11 @@ value_of digits = value_from 0 digits
 
 -- the value of a subscript: a number or the name of an item
 abbrev pub subscript_by : TokenKind → Token → Reader Subscript
-subscript_by kind.Number value = λ rest. Some (subscripts.Number (bytes_of rest.text value), rest)
+subscript_by kind.Number value = λ rest. Some (subscripts.Number (spelling rest.text value), rest)
 subscript_by _ value = λ rest.
-    if is_item_name rest.server rest.text value then Some (subscripts.Item (name_in rest.text value), rest) else None
+    if is_item_name rest.server rest.text value
+    then Some (subscripts.Item (name_in rest.text value), rest)
+    else None
 
 -- `(s)`, where a parenthesis opens
 unfoldable pub subscript_behind : Reader (Option Subscript)
@@ -64,15 +68,18 @@ item name = do
 -- SPACES or ZEROS, in each of their spellings
 unfoldable pub figurative : List ℕ → Token → Option Operand
 figurative text word =
-    if is_the_word text word (codes "SPACE") || is_the_word text word (codes "SPACES") then Some operands.Spaces
-    else if is_the_word text word (codes "ZERO") || (is_the_word text word (codes "ZEROS") || is_the_word text word (codes "ZEROES"))
+    if is_the_word text word (codes "SPACE") || is_the_word text word (codes "SPACES")
+    then Some operands.Spaces
+    else if is_the_word text word (codes "ZERO")
+    || (is_the_word text word (codes "ZEROS") || is_the_word text word (codes "ZEROES"))
     then Some operands.Zeros
     else None
 
 -- an operand that begins with a token
 abbrev pub operand_by : TokenKind → Token → Reader Operand
-operand_by kind.Number first = λ rest. Some (operands.Number (bytes_of rest.text first), rest)
-operand_by kind.Text first = λ rest. Some (operands.Text (unquoted false (bytes_of rest.text first)), rest)
+operand_by kind.Number first = λ rest. Some (operands.Number (spelling rest.text first), rest)
+operand_by kind.Text first = λ rest.
+    Some (operands.Text (unquoted false (spelling rest.text first)), rest)
 operand_by _ first = λ rest.
     if is_item_name rest.server rest.text first then item first rest
     else option_map (λ found. (found, rest)) (figurative rest.text first)
@@ -95,13 +102,18 @@ name = do
 unfoldable pub file_name : Reader Word
 file_name = do
   word ← token
-  (λ rest. if is_word word.kind && not (is_receive rest.text word) then Some (name_in rest.text word, rest) else None)
+  (λ rest.
+      if is_word word.kind && not (is_receive rest.text word)
+      then Some (name_in rest.text word, rest)
+      else None)
 
 -- the name of a program or a class: a word, or a text with exactly its characters
 abbrev pub program_by : TokenKind → Token → Reader Word
-program_by kind.Text first = λ rest. Some (unquoted false (bytes_of rest.text first), rest)
+program_by kind.Text first = λ rest. Some (unquoted false (spelling rest.text first), rest)
 program_by _ first = λ rest.
-    if is_word first.kind && not (is_receive rest.text first) then Some (name_in rest.text first, rest) else None
+    if is_word first.kind && not (is_receive rest.text first)
+    then Some (name_in rest.text first, rest)
+    else None
 
 unfoldable pub program_name : Reader Word
 program_name = do
@@ -111,10 +123,11 @@ program_name = do
 -- the names of the keys, by their numbers from 1 on
 abbrev pub key_words : List Word
 key_words =
-    codes "F1" ∷ codes "F2" ∷ codes "F3" ∷ codes "F4" ∷ codes "F5" ∷ codes "F6" ∷ codes "F7" ∷ codes "F8" ∷
-    codes "F9" ∷ codes "F10" ∷ codes "F11" ∷ codes "F12" ∷ codes "F13" ∷ codes "F14" ∷ codes "F15" ∷ codes "F16" ∷
-    codes "SF1" ∷ codes "SF2" ∷ codes "SF3" ∷ codes "SF4" ∷ codes "SF5" ∷ codes "SF6" ∷ codes "SF7" ∷ codes "SF8" ∷
-    codes "SF9" ∷ codes "SF10" ∷ codes "SF11" ∷ codes "SF12" ∷ codes "SF13" ∷ codes "SF14" ∷ codes "SF15" ∷
+    codes "F1" ∷ codes "F2" ∷ codes "F3" ∷ codes "F4" ∷ codes "F5" ∷ codes "F6" ∷ codes "F7" ∷
+    codes "F8" ∷ codes "F9" ∷ codes "F10" ∷ codes "F11" ∷ codes "F12" ∷ codes "F13" ∷
+    codes "F14" ∷ codes "F15" ∷ codes "F16" ∷ codes "SF1" ∷ codes "SF2" ∷ codes "SF3" ∷
+    codes "SF4" ∷ codes "SF5" ∷ codes "SF6" ∷ codes "SF7" ∷ codes "SF8" ∷ codes "SF9" ∷
+    codes "SF10" ∷ codes "SF11" ∷ codes "SF12" ∷ codes "SF13" ∷ codes "SF14" ∷ codes "SF15" ∷
     codes "SF16" ∷ []
 
 -- the number of the key that a word names
@@ -125,7 +138,10 @@ key_of word = option_map (λ place. place + 1) (place_of key_words word)
 unfoldable pub key : Reader ℕ
 key = do
   word ← token
-  (λ rest. if is_word word.kind then option_map (λ number. (number, rest)) (key_of (bytes_of rest.text word)) else None)
+  (λ rest.
+      if is_word word.kind
+      then option_map (λ number. (number, rest)) (key_of (spelling rest.text word))
+      else None)
 
 -- digits without a sign or a point, of a value of at most 9,999
 abbrev pub is_code : List ℕ → Bool
@@ -135,8 +151,11 @@ is_code bytes = list_all is_ascii_digit bytes && nat_le (value_of bytes) 9999
 unfoldable pub code : Reader ℕ
 code = do
   number ← token
-  (λ rest. if is_number number.kind && is_code (bytes_of rest.text number) then Some (value_of (bytes_of rest.text number), rest) else None)
+  (λ rest.
+      if is_number number.kind && is_code (spelling rest.text number)
+      then Some (value_of (spelling rest.text number), rest)
+      else None)
   where
-  is_number : TokenKind → Bool
-  is_number kind.Number = true
-  is_number _ = false
+    is_number : TokenKind → Bool
+    is_number kind.Number = true
+    is_number _ = false

@@ -3,9 +3,10 @@ use Rattle.std.specs.Prelude.{◌≡◌, ℕ, zero, suc, ◌==◌, Bool, true, f
 use Rattle.pw_words.specs.Words.{Word}
 use Rattle.pw_text.specs.declared.token.TokenKind.{TokenKind}
 use Rattle.pw_text.specs.declared.token.Token.{Token}
+use Rattle.pw_text.specs.Cursor.{same_kind}
 use Rattle.pw_forms.specs.declared.lack.Lack.{Lack}
 use Rattle.pw_forms.specs.declared.lack.Lack.TheVariants.{Memory, NoForm}
-use Rattle.pw_forms.specs.Words.{same_kind, is_the_word}
+use Rattle.pw_forms.specs.Words.{is_the_word}
 
 -- what is left of a piece, in the text of a server or of a requester
 pub record Rest : Type 0 where
@@ -56,9 +57,9 @@ behind rest = record rest { tokens = drop 1 rest.tokens }
 unfoldable pub token : Reader Token
 token = λ rest. token_of rest.tokens rest
   where
-  token_of : List Token → Rest → Option (Token × Rest)
-  token_of [] rest = None
-  token_of (next ∷ tokens) rest = Some (next, behind rest)
+    token_of : List Token → Rest → Option (Token × Rest)
+    token_of [] rest = None
+    token_of (next ∷ tokens) rest = Some (next, behind rest)
 
 -- what is left behind the next token, where it is this word
 unfoldable pub past : Word → Rest → Rest
@@ -108,7 +109,8 @@ unfoldable pub some_from : {A : Type 0} → Reader A → ℕ → List A → Read
 some_from one zero found = fails
 some_from one (suc n) found = do
   x ← one
-  (λ rest. if is_done rest then Some (found ++ x ∷ [], rest) else some_from one n (found ++ x ∷ []) rest)
+  (λ rest.
+      if is_done rest then Some (found ++ x ∷ [], rest) else some_from one n (found ++ x ∷ []) rest)
 
 abbrev pub some : {A : Type 0} → Reader A → Reader (List A)
 some one = λ rest. some_from one (left rest) [] rest

@@ -20,8 +20,8 @@ pub record Behind : Type 0 where
 abbrev pub nothing_behind : Behind
 nothing_behind = record { statements = []; paragraphs = [] }
 
--- What stands from a piece on: a block of statements, and why it ends. It ends at a period or at the end of the
--- text, or at an ELSE or END-IF of a branch that was opened before the piece.
+-- What stands from a piece on: a block of statements, and why it ends. It ends at a period or at the
+-- end of the text, or at an ELSE or END-IF of a branch that was opened before the piece.
 pub data Levels : Type 0 where
   Closed : (block : List Statement) → (behind : Behind) → Levels
   AtElse : (block : List Statement) → (inside : Levels) → Levels
@@ -36,9 +36,10 @@ prepend front (AtEndIf block inside) = AtEndIf (front ++ block) inside
 -- the statement that a head and its two branches are
 abbrev pub closed : Head → List Statement → List Statement → Statement
 closed (heads.If line cond) first second = statements.If line cond first second
-closed (heads.OnSizeError line arithmetic) first second = statements.OnSizeError line arithmetic first second
+closed (heads.OnSizeError line arithmetic) first second =
+    statements.OnSizeError line arithmetic first second
 
--- a branch that has its ELSE, and what stands from there on; the ELSE of an outer branch closes it too
+-- a branch that has its ELSE, and what stands from there on; an outer ELSE closes it too
 abbrev pub with_else : Head → List Statement → Levels → Levels
 with_else head first (Closed second behind) = Closed (closed head first second ∷ []) behind
 with_else head first (AtElse second inside) = AtElse (closed head first second ∷ []) inside
@@ -59,7 +60,10 @@ behind_period (AtEndIf block inside) = record { statements = block; paragraphs =
 -- a paragraph, and what stands behind its name
 abbrev pub paragraph : ℕ → Word → Behind → Behind
 paragraph line name behind =
-    record { statements = []; paragraphs = (record { name = name; line = line; body = behind.statements }) ∷ behind.paragraphs }
+    record {
+      statements = [];
+      paragraphs = (record { name = name; line = line; body = behind.statements }) ∷ behind.paragraphs;
+    }
 
 -- a piece, and what stands behind it
 abbrev pub level_of : ℕ → Piece → Levels → Levels

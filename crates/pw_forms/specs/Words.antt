@@ -1,13 +1,12 @@
 -- The words of a procedure.
 use Rattle.std.specs.Prelude.{ℕ, ◌-◌, List, [], ◌∷◌, Bool, true, false, not, ◌&&◌, ◌||◌, is_some, codes, slice_get, take, drop, Option, Some, None, unwrap_or}
 use Rattle.std.specs.Str.{str_to_ascii_uppercase}
-use denote.Enum.Bare.{sameb}
 use Rattle.pw_words.specs.Words.{Word, same_word, place_of}
 use Rattle.pw_words.specs.Texts.{requester_words, server_words}
 use Rattle.pw_text.specs.declared.token.TokenKind.{TokenKind}
 use Rattle.pw_text.specs.declared.token.TokenKind.TheVariants as kind
-use Rattle.pw_text.specs.contracts.token.TokenKind.{the_type}
 use Rattle.pw_text.specs.declared.token.Token.{Token}
+use Rattle.pw_text.specs.Cursor.{spelling}
 use Rattle.pw_forms.specs.declared.statement.Operation.{Operation}
 use Rattle.pw_forms.specs.declared.statement.Operation.TheVariants as operations
 use Rattle.pw_forms.specs.declared.mark.FileVerb.{FileVerb}
@@ -20,22 +19,14 @@ use Rattle.pw_forms.specs.declared.mark.Verb.TheVariants as verb
 use Rattle.pw_forms.specs.declared.mark.Mark.{Mark}
 use Rattle.pw_forms.specs.declared.mark.Mark.TheVariants as mark
 
--- the two kinds are one
-unfoldable pub same_kind : TokenKind → TokenKind → Bool
-same_kind = sameb the_type
-
 -- a word
 abbrev pub is_word : TokenKind → Bool
 is_word kind.Word = true
 is_word _ = false
 
--- the bytes of a token in its text, as far as it lies there
-abbrev pub bytes_of : List ℕ → Token → List ℕ
-bytes_of text token = take (token.end - token.start) (drop token.start text)
-
 -- the token is this word, in either case
 abbrev pub is_the_word : List ℕ → Token → Word → Bool
-is_the_word text token word = is_word token.kind && same_word (bytes_of text token) word
+is_the_word text token word = is_word token.kind && same_word (spelling text token) word
 
 -- the place of a word in the table of servers, or in that of requesters
 unfoldable pub table_place : Bool → Word → Option ℕ
@@ -63,11 +54,13 @@ transaction found = terminal (terminals.Transaction found)
 abbrev pub marks : List Mark
 marks =
     terminal terminals.Accept ∷ transaction transactions.Abort ∷ arithmetic operations.Add ∷
-    transaction transactions.Begin ∷ terminal terminals.Call ∷ file files.Delete ∷ terminal terminals.Display ∷
-    arithmetic operations.Divide ∷ transaction transactions.End ∷ mark.Verb verb.Exit ∷ mark.Verb verb.If ∷
-    mark.Verb verb.Move ∷ arithmetic operations.Multiply ∷ mark.Verb verb.Perform ∷ file files.Read ∷
-    transaction transactions.Restart ∷ file files.Rewrite ∷ terminal terminals.Send ∷ mark.Verb verb.Stop ∷
-    arithmetic operations.Subtract ∷ file files.Write ∷ mark.Else ∷ mark.EndIf ∷ []
+    transaction transactions.Begin ∷ terminal terminals.Call ∷ file files.Delete ∷
+    terminal terminals.Display ∷ arithmetic operations.Divide ∷ transaction transactions.End ∷
+    mark.Verb verb.Exit ∷ mark.Verb verb.If ∷ mark.Verb verb.Move ∷
+    arithmetic operations.Multiply ∷ mark.Verb verb.Perform ∷ file files.Read ∷
+    transaction transactions.Restart ∷ file files.Rewrite ∷ terminal terminals.Send ∷
+    mark.Verb verb.Stop ∷ arithmetic operations.Subtract ∷ file files.Write ∷ mark.Else ∷
+    mark.EndIf ∷ []
 
 -- the mark at a place
 abbrev pub mark_in : List Mark → ℕ → Mark
@@ -82,10 +75,10 @@ mark_at (Some place) = mark_in marks place
 abbrev pub mark_of : Bool → List ℕ → Token → Mark
 mark_of server text token = mark_by token.kind
   where
-  mark_by : TokenKind → Mark
-  mark_by kind.Period = mark.Period
-  mark_by kind.Word = mark_at (table_place server (bytes_of text token))
-  mark_by _ = mark.Other
+    mark_by : TokenKind → Mark
+    mark_by kind.Period = mark.Period
+    mark_by kind.Word = mark_at (table_place server (spelling text token))
+    mark_by _ = mark.Other
 
 -- the token begins a piece
 abbrev pub begins_piece : Mark → Bool
@@ -99,13 +92,15 @@ is_receive text token = is_the_word text token (codes "$RECEIVE")
 -- the token may be a name: a word that is neither a table word nor $RECEIVE
 abbrev pub is_name : Bool → List ℕ → Token → Bool
 is_name server text token =
-    is_word token.kind && (not (is_table_word server (bytes_of text token)) && not (is_receive text token))
+    is_word token.kind
+    && (not (is_table_word server (spelling text token)) && not (is_receive text token))
 
 -- a register is an item whose name is a table word
 abbrev pub is_register : Bool → List ℕ → Token → Bool
 is_register true text token = is_the_word text token (codes "FILE-STATUS")
 is_register false text token =
-    is_the_word text token (codes "TERMINATION-STATUS") || is_the_word text token (codes "RESTART-COUNTER")
+    is_the_word text token (codes "TERMINATION-STATUS")
+    || is_the_word text token (codes "RESTART-COUNTER")
 
 -- the token may be the name of an item
 abbrev pub is_item_name : Bool → List ℕ → Token → Bool
@@ -113,4 +108,4 @@ is_item_name server text token = is_name server text token || is_register server
 
 -- the name that a token is, in upper case
 abbrev pub name_in : List ℕ → Token → Word
-name_in text token = str_to_ascii_uppercase (bytes_of text token)
+name_in text token = str_to_ascii_uppercase (spelling text token)

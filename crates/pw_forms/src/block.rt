@@ -6,8 +6,8 @@ ghost use Rattle.pw_forms.specs.Blocks.{finished_head, branches, stands};
 ghost use Rattle.pw_forms.specs.declared.form.Head.TheVariants as heads;
 ghost use Rattle.pw_forms.specs.declared.piece.Piece.TheVariants as pieces;
 
-use crate::form::Head;
 use crate::branch::{Block, Open};
+use crate::form::Head;
 use crate::statement::{Arithmetic, Statement};
 use pw_base::list::List;
 use pw_base::memory::Memory;
@@ -49,8 +49,8 @@ fn closed(head: Head, first: List<Statement>, second: List<Statement>) -> Statem
     }
 }
 
-/// The statement of a head that closes: its last statements are those of its second branch where it has
-/// its ELSE, and else of its first.
+/// The statement of a head that closes: its last statements are those of its second branch where it
+/// has its ELSE, and else of its first.
 fn finished(
     alloc: Global,
     head: Head,
@@ -67,7 +67,8 @@ fn finished(
 
 /// The statements before a branch, and the one to which it closes.
 fn close(alloc: Global, top: Open, last: List<Statement>) -> Result<List<Statement>, Memory>
-    ensures { IfOk result (λ block. block ≡ top.before ++ finished_head top.head top.first last ∷ []) }
+    ensures { IfOk result (λ block.
+        block ≡ top.before ++ finished_head top.head top.first last ∷ []) }
 {
     let Open {
         head,
@@ -126,7 +127,8 @@ impl Block {
 
     /// Puts a statement behind the others.
     pub fn push(&mut self, statement: Statement) -> Result<(), Memory>
-        ensures branches { OnOk result (branches self.new.open.items ≡ branches self.old.open.items) }
+        ensures branches { OnOk result (branches self.new.open.items
+            ≡ branches self.old.open.items) }
         ensures stands { OnOk result ((x : Levels)
             → stands self.new x ≡ stands self.old (prepend (statement ∷ []) x)) }
     {
@@ -153,7 +155,7 @@ impl Block {
         Ok(())
     }
 
-    /// ELSE turns the innermost branch that has none yet, if there is one, and closes those inside it.
+    /// ELSE turns the innermost branch that has none yet, if there is one, and closes those inside.
     pub fn turn(&mut self, alloc: Global) -> Result<(), Memory>
         ensures branches { OnOk result (branches self.new.open.items
             ≡ branches_after (branches self.old.open.items) pieces.Else) }

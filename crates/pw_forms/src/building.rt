@@ -5,8 +5,8 @@ ghost use Rattle.pw_forms.specs.Blocks.{branches};
 ghost use Rattle.pw_forms.specs.Built.{completed, built};
 ghost use Rattle.pw_forms.specs.declared.statement.Paragraph.{Paragraph as ParagraphOf};
 
-use crate::build::{Begun, Build};
 use crate::branch::Block;
+use crate::build::{Begun, Build};
 use crate::piece::{Piece, Placed};
 use crate::statement::{Paragraph, Statement};
 use pw_base::bytes::Bytes;
@@ -49,8 +49,8 @@ impl Build {
         ensures begun { OnOk result (self.new.begun ≡ begun) }
         ensures open { OnOk result (self.new.block.open.items ≡ []) }
         ensures current { OnOk result (self.new.block.current ≡ []) }
-        ensures paragraphs { OnOk result ((behind : List ParagraphOf) → self.new.paragraphs ++ behind
-            ≡ built self.old (Closed [] (record { statements = []; paragraphs = behind }))) }
+        ensures paragraphs { OnOk result ((behind : List ParagraphOf)
+            → self.new.paragraphs ++ behind ≡ built self.old (Closed [] (record { statements = []; paragraphs = behind }))) }
     {
         self.block.close_all(alloc)?;
         let body = mem::replace(&mut self.block.current, List::new(alloc));
@@ -60,7 +60,8 @@ impl Build {
 
     /// Puts the next piece behind those so far.
     pub fn put(&mut self, alloc: Global, next: Placed) -> Result<(), Memory>
-        ensures begun { OnOk result (is_some self.new.begun ≡ (is_some self.old.begun || is_name next.piece)) }
+        ensures begun { OnOk result (is_some self.new.begun
+            ≡ (is_some self.old.begun || is_name next.piece)) }
         ensures branches { OnOk result (branches self.new.block.open.items
             ≡ branches_after (branches self.old.block.open.items) next.piece) }
         ensures built { OnOk result (fits (branches self.old.block.open.items) next.piece ≡ true

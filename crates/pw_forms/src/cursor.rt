@@ -2,7 +2,7 @@ ghost use Rattle.std.specs.Prelude.{◌≡◌};
 ghost use Rattle.pw_forms.specs.Readers.{Reads, sees, sees_third, past, behind, token, sees_kind, past_kind, expects, is_done, ends, left};
 
 use crate::lack::Lack;
-use crate::words::{is_the_word, same_kind};
+use crate::words::is_the_word;
 use pw_text::token::{Token, TokenKind};
 use std::marker::Model;
 
@@ -19,7 +19,11 @@ impl<'a> Model for Cursor<'a> {
 
     ghost Value = { Rest };
 
-    ghost view = { λ cursor. record { server = cursor.server; text = cursor.text.now; tokens = cursor.tokens.now } };
+    ghost view = { λ cursor. record {
+      server = cursor.server;
+      text = cursor.text.now;
+      tokens = cursor.tokens.now;
+    } };
 }
 
 impl<'a> Cursor<'a> {
@@ -139,7 +143,7 @@ impl<'a> Cursor<'a> {
         ensures { result ≡ sees_kind kind self.now }
     {
         match self.tokens {
-            [token, ..] => same_kind(token.kind, kind),
+            [token, ..] => token.kind.is(kind),
             [] => false,
         }
     }

@@ -397,11 +397,7 @@ fn transaction(verb: TransactionVerb, line: u32) -> Statement
 
 /// The form of a verb of transactions, which has nothing behind it.
 #[tactic(auto, unfolding(crate::specs::Forms::transaction_form))]
-fn transaction_form(
-    verb: TransactionVerb,
-    line: u32,
-    rest: &mut Cursor<'_>,
-) -> Result<Form, Lack>
+fn transaction_form(verb: TransactionVerb, line: u32, rest: &mut Cursor<'_>) -> Result<Form, Lack>
     ensures { Reads (spec.transaction_form verb line rest.old) result rest.new }
 {
     rest.ends()?;

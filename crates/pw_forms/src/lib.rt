@@ -1,5 +1,5 @@
-//! The procedures of programs: their text is cut into pieces, each piece is matched with the forms of
-//! the language, and the tree of the statements is built.
+//! The procedures of programs: their text is cut into pieces, each piece is matched with the forms
+//! of the language, and the tree of the statements is built.
 #![tactic(auto)]
 
 mod block;

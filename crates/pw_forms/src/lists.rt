@@ -7,8 +7,8 @@ use std::marker::Model;
 /// The most keys of an ACCEPT, and the most codes of a SEND.
 pub const MOST: usize = 9_999;
 
-/// The keys of an ACCEPT, at most 9,999, in their order: 1 to 16 for F1 to F16, and 17 to 32 for SF1 to
-/// SF16.
+/// The keys of an ACCEPT, at most 9,999, in their order: 1 to 16 for F1 to F16, and 17 to 32 for SF1
+/// to SF16.
 #[derive(Debug, Drop)]
 pub struct Keys {
     keys: List<u8>,

@@ -7,7 +7,7 @@ use crate::cursor::Cursor;
 use crate::lack::Lack;
 use crate::literal::{is_code, unquoted, value_of};
 use crate::operand::{Operand, Subscript};
-use crate::words::{bytes_of, is_item_name, is_name, is_receive, is_the_word, is_word, name_in};
+use crate::words::{is_item_name, is_name, is_receive, is_the_word, is_word, name_in, spelling};
 use pw_base::bytes::Bytes;
 use pw_text::token::{Token, TokenKind};
 use pw_words::table::is_same_word;
@@ -26,7 +26,7 @@ fn subscript_by(alloc: Global, rest: &Cursor<'_>, value: Token) -> Result<Subscr
 {
     match value.kind {
         TokenKind::Number => {
-            let digits = Bytes::from_slice(alloc, bytes_of(rest.text(), value))?;
+            let digits = Bytes::from_slice(alloc, spelling(rest.text(), value))?;
             Ok(Subscript::Number(digits))
         }
         _ => {
@@ -87,11 +87,11 @@ fn operand_by(alloc: Global, rest: &mut Cursor<'_>, first: Token) -> Result<Oper
 {
     match first.kind {
         TokenKind::Number => {
-            let digits = Bytes::from_slice(alloc, bytes_of(rest.text(), first))?;
+            let digits = Bytes::from_slice(alloc, spelling(rest.text(), first))?;
             Ok(Operand::Number(digits))
         }
         TokenKind::Text => {
-            let chars = unquoted(alloc, bytes_of(rest.text(), first))?;
+            let chars = unquoted(alloc, spelling(rest.text(), first))?;
             Ok(Operand::Text(chars))
         }
         _ => {
@@ -146,7 +146,7 @@ fn program_by(alloc: Global, rest: &Cursor<'_>, first: Token) -> Result<Bytes, L
     ensures { Reads (spec.program_by first.kind first rest.now) result rest.now }
 {
     match first.kind {
-        TokenKind::Text => Ok(unquoted(alloc, bytes_of(rest.text(), first))?),
+        TokenKind::Text => Ok(unquoted(alloc, spelling(rest.text(), first))?),
         _ => {
             if is_word(first.kind) && !is_receive(rest.text(), first) {
                 Ok(name_in(alloc, rest.text(), first)?)
@@ -157,8 +157,8 @@ fn program_by(alloc: Global, rest: &Cursor<'_>, first: Token) -> Result<Bytes, L
     }
 }
 
-/// The name of a program or a class: a word, which may be a table word, in upper case, or a text with
-/// exactly its characters.
+/// The name of a program or a class: a word, which may be a table word, in upper case, or a text
+/// with exactly its characters.
 #[tactic(auto, unfolding(crate::specs::Operands::program_name))]
 pub fn program_name(alloc: Global, rest: &mut Cursor<'_>) -> Result<Bytes, Lack>
     ensures { Reads (spec.program_name rest.old) result rest.new }
@@ -203,7 +203,7 @@ pub fn key(rest: &mut Cursor<'_>) -> Result<u8, Lack>
     if !is_word(word.kind) {
         return Err(Lack::NoForm);
     }
-    match key_of(bytes_of(rest.text(), word)) {
+    match key_of(spelling(rest.text(), word)) {
         Some(number) => Ok(number),
         None => Err(Lack::NoForm),
     }
@@ -215,7 +215,7 @@ pub fn code(rest: &mut Cursor<'_>) -> Result<u16, Lack>
     ensures { Reads (spec.code rest.old) result rest.new }
 {
     let number = rest.next()?;
-    let digits = bytes_of(rest.text(), number);
+    let digits = spelling(rest.text(), number);
     if matches!(number.kind, TokenKind::Number) && is_code(digits) {
         Ok(value_of(digits))
     } else {

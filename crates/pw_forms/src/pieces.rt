@@ -8,7 +8,7 @@ use crate::forms::form;
 use crate::lack::Lack;
 use crate::mark::{Mark, Verb};
 use crate::piece::{Piece, Placed};
-use crate::words::{begins_piece, bytes_of, is_receive, is_table_word, is_word, mark_of, name_in};
+use crate::words::{begins_piece, is_receive, is_table_word, is_word, mark_of, name_in, spelling};
 use pw_base::fault_code::FaultCode;
 use pw_base::memory::Memory;
 use pw_text::token::Token;
@@ -48,8 +48,8 @@ fn run_size(server: bool, text: &[u8], tokens: &[Token]) -> usize
         .count()
 }
 
-/// How many tokens the piece in front has: a verb, ELSE, END-IF or another token and those up to the
-/// next that begins a piece, or a period alone.
+/// How many tokens the piece in front has: a period alone, or another token with those up to the
+/// next that begins a piece.
 pub fn piece_size(server: bool, text: &[u8], tokens: &[Token]) -> usize
     requires { 0 < length tokens.now }
     ensures value { result ≡ spec.piece_size server text.now tokens.now }
@@ -102,7 +102,7 @@ fn verb_piece(
 fn name_piece(alloc: Global, server: bool, text: &[u8], word: Token) -> Result<Piece, Memory>
     ensures { IfOk result (λ piece. piece ≡ spec.name_piece server text.now word) }
 {
-    if is_table_word(server, bytes_of(text, word)) {
+    if is_table_word(server, spelling(text, word)) {
         Ok(Piece::Fault(FaultCode::NameTwice))
     } else if is_receive(text, word) {
         Ok(Piece::Fault(FaultCode::NoSuchForm))
@@ -120,7 +120,8 @@ fn run_piece(
     first: Token,
     tokens: &[Token],
 ) -> Result<Piece, Memory>
-    ensures { IfOk result (λ piece. piece ≡ spec.run_piece server text.now followed first tokens.now) }
+    ensures { IfOk result (λ piece.
+        piece ≡ spec.run_piece server text.now followed first tokens.now) }
 {
     if tokens.is_empty() && (is_word(first.kind) && followed) {
         name_piece(alloc, server, text, first)
@@ -139,7 +140,8 @@ fn piece_by(
     tokens: &[Token],
 ) -> Result<Piece, Memory>
     ensures { IfOk result (λ piece.
-        piece ≡ spec.piece_by (mark_of server text.now first) server text.now followed first tokens.now) }
+        piece ≡ spec.piece_by (mark_of server text.now first)
+        server text.now followed first tokens.now) }
 {
     match mark_of(server, text, first) {
         Mark::Verb(verb) => verb_piece(alloc, server, text, first.line, verb, tokens),

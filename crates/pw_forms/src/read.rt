@@ -7,9 +7,9 @@ ghost use Rattle.pw_forms.specs.Blocks.{branches};
 ghost use Rattle.pw_forms.specs.Procedures.{outcome_of, procedure_of};
 ghost use Rattle.pw_forms.specs.declared.piece.Placed.{Placed as PlacedPiece};
 
+use crate::branch::Block;
 use crate::build::Build;
 use crate::names::put_name;
-use crate::branch::Block;
 use crate::piece::{Piece, Placed};
 use crate::pieces::{begins_with_period, piece_size, placed};
 use crate::reading::Reading;
@@ -42,7 +42,7 @@ fn early(begun: bool, piece: &Piece) -> Option<FaultCode>
     code_unless(begun || is_name(piece), FaultCode::NoSuchForm)
 }
 
-/// The code of a piece's fault, if it has one. The name of a paragraph is put into the set of names.
+/// The code of a piece's fault, if it has one. The name of a paragraph is put into the set.
 fn code_of(
     alloc: Global,
     names: &mut BTreeSet<Vec<u8>>,
@@ -89,7 +89,8 @@ impl Reading {
 
     /// Reads the next piece.
     fn put(&mut self, alloc: Global, next: Placed) -> Result<(), Memory>
-        ensures { OnOk result ((pieces : List PlacedPiece) → outcome self.new pieces ≡ outcome self.old (next ∷ pieces)) }
+        ensures { OnOk result ((pieces : List PlacedPiece)
+            → outcome self.new pieces ≡ outcome self.old (next ∷ pieces)) }
     {
         let line = next.line;
         let early = early(self.build.begun.is_some(), &next.piece);
@@ -114,13 +115,13 @@ impl Reading {
 
 /// The procedure of a program, whose tokens are those of its PROCEDURE DIVISION behind the heading.
 ///
-/// It refuses exactly with the first fault, by line and on one line by code, where the fault of a piece
-/// stands at the line of its first token: 122 for a table word as the name of a paragraph; 131 for a
-/// piece that no form has, for a run of tokens that is no name of a paragraph, for what stands in front
-/// of the first paragraph, and for a piece that would open the 65th open branch; 132 for an ELSE or
-/// END-IF that finds no open branch; 133 for the name of a paragraph that an earlier one has; and, in a
-/// server, 152 in place of 131 for a piece that begins with ACCEPT, CALL, DISPLAY, SEND or a verb of
-/// transactions. The rules stand in `docs/PROCEDURE.md`.
+/// It refuses exactly with the first fault, by line and on one line by code, where the fault of a
+/// piece stands at the line of its first token: 122 for a table word as the name of a paragraph; 131
+/// for a piece that no form has, for a run of tokens that is no name of a paragraph, for what stands
+/// in front of the first paragraph, and for a piece that would open the 65th open branch; 132 for an
+/// ELSE or END-IF that finds no branch; 133 for the name of a paragraph that an earlier one has; and,
+/// in a server, 152 in place of 131 for a piece that begins with ACCEPT, CALL, DISPLAY, SEND or a verb
+/// of transactions. The rules stand in `docs/PROCEDURE.md`.
 pub fn procedure(
     alloc: Global,
     text: &[u8],

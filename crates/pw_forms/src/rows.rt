@@ -24,7 +24,10 @@ pub const REQUESTER: &[Good] = &[
     (b"DIVIDE 2 INTO A", b"ARITHMETIC"),
     (b"ADD \"X\" TO ZERO", b"ARITHMETIC"),
     (b"ADD 1 TO A ON SIZE ERROR", b"SIZE{|}"),
-    (b"DIVIDE A INTO B GIVING C ON SIZE ERROR EXIT", b"SIZE{EXIT |}"),
+    (
+        b"DIVIDE A INTO B GIVING C ON SIZE ERROR EXIT",
+        b"SIZE{EXIT |}",
+    ),
     (b"IF A = 1", b"IF{|}"),
     (b"IF A IS NOT > B THEN EXIT", b"IF{EXIT |}"),
     (b"IF A EQUAL TO B", b"IF{|}"),
@@ -42,7 +45,10 @@ pub const REQUESTER: &[Good] = &[
     (b"PERFORM P N (2) TIMES", b"TIMES"),
     (b"PERFORM P UNTIL A = 1 OR B = 2", b"UNTIL"),
     (b"PERFORM ONE OF P DEPENDING ON A", b"ONE"),
-    (b"PERFORM ONE OF P Q R DEPENDING ON TERMINATION-STATUS", b"ONE"),
+    (
+        b"PERFORM ONE OF P Q R DEPENDING ON TERMINATION-STATUS",
+        b"ONE",
+    ),
     (b"EXIT", b"EXIT"),
     (b"EXIT PROGRAM", b"PROGRAM"),
     (b"STOP RUN", b"STOP"),
@@ -58,7 +64,10 @@ pub const REQUESTER: &[Good] = &[
     (b"CALL \"hello\" USING A B (1)", b"CALL"),
     (b"CALL TO USING A", b"CALL"),
     (b"SEND A TO C REPLY CODE 0 YIELDS B", b"SEND"),
-    (b"SEND A TO \"C\" REPLY CODE 0009 YIELDS B CODE 9999 YIELDS C (1)", b"SEND"),
+    (
+        b"SEND A TO \"C\" REPLY CODE 0009 YIELDS B CODE 9999 YIELDS C (1)",
+        b"SEND",
+    ),
     (b"BEGIN-TRANSACTION", b"BEGIN"),
     (b"END-TRANSACTION", b"END"),
     (b"ABORT-TRANSACTION", b"ABORT"),
@@ -233,13 +242,31 @@ pub const TEXTS: &[Good] = &[
     (b"A. . EXIT.. . STOP RUN. B. EXIT", b"A:EXIT STOP B:EXIT "),
     (b"PIC-X.\nEXIT.", b"PIC-X:EXIT "),
     (b"A. IF B = 1 EXIT ELSE STOP RUN.", b"A:IF{EXIT |STOP } "),
-    (b"A. IF B = 1 IF C = 1 EXIT ELSE STOP RUN ELSE EXIT PROGRAM. EXIT.", b"A:IF{IF{EXIT |STOP } |PROGRAM } EXIT "),
+    (
+        b"A. IF B = 1 IF C = 1 EXIT ELSE STOP RUN ELSE EXIT PROGRAM. EXIT.",
+        b"A:IF{IF{EXIT |STOP } |PROGRAM } EXIT ",
+    ),
     (b"A. IF B = 1 IF C = 1 END-IF EXIT.", b"A:IF{IF{|} EXIT |} "),
-    (b"A. IF B = 1 THEN IF C = 1 EXIT ELSE END-IF ELSE STOP RUN END-IF EXIT.", b"A:IF{IF{EXIT |} |STOP } EXIT "),
-    (b"A. ADD 1 TO B ON SIZE ERROR EXIT ELSE STOP RUN END-IF EXIT.", b"A:SIZE{EXIT |STOP } EXIT "),
-    (b"A. IF B = 1 ADD 1 TO B ON SIZE ERROR ELSE EXIT ELSE STOP RUN.", b"A:IF{SIZE{|EXIT } |STOP } "),
-    (b"A. IF B = 1 IF C = 1 IF D = 1. EXIT. B. EXIT.", b"A:IF{IF{IF{|} |} |} EXIT B:EXIT "),
-    (b"A. IF B = 1 EXIT END-IF IF C = 1 EXIT ELSE STOP RUN.", b"A:IF{EXIT |} IF{EXIT |STOP } "),
+    (
+        b"A. IF B = 1 THEN IF C = 1 EXIT ELSE END-IF ELSE STOP RUN END-IF EXIT.",
+        b"A:IF{IF{EXIT |} |STOP } EXIT ",
+    ),
+    (
+        b"A. ADD 1 TO B ON SIZE ERROR EXIT ELSE STOP RUN END-IF EXIT.",
+        b"A:SIZE{EXIT |STOP } EXIT ",
+    ),
+    (
+        b"A. IF B = 1 ADD 1 TO B ON SIZE ERROR ELSE EXIT ELSE STOP RUN.",
+        b"A:IF{SIZE{|EXIT } |STOP } ",
+    ),
+    (
+        b"A. IF B = 1 IF C = 1 IF D = 1. EXIT. B. EXIT.",
+        b"A:IF{IF{IF{|} |} |} EXIT B:EXIT ",
+    ),
+    (
+        b"A. IF B = 1 EXIT END-IF IF C = 1 EXIT ELSE STOP RUN.",
+        b"A:IF{EXIT |} IF{EXIT |STOP } ",
+    ),
 ];
 
 /// Procedures that are refused.

@@ -36,7 +36,10 @@ pub enum Statement {
         to: List<Operand>,
     },
     /// Arithmetic without ON SIZE ERROR.
-    Arithmetic { line: u32, arithmetic: Arithmetic },
+    Arithmetic {
+        line: u32,
+        arithmetic: Arithmetic,
+    },
     /// Arithmetic with ON SIZE ERROR: `first` is done on a size error, else `second`.
     OnSizeError {
         line: u32,
@@ -52,7 +55,10 @@ pub enum Statement {
         second: List<Statement>,
     },
     /// `PERFORM paragraph`
-    Perform { line: u32, paragraph: Bytes },
+    Perform {
+        line: u32,
+        paragraph: Bytes,
+    },
     /// `PERFORM paragraph times TIMES`
     PerformTimes {
         line: u32,
@@ -72,15 +78,27 @@ pub enum Statement {
         position: Operand,
     },
     /// `EXIT`
-    Exit { line: u32 },
+    Exit {
+        line: u32,
+    },
     /// `EXIT PROGRAM`
-    ExitProgram { line: u32 },
+    ExitProgram {
+        line: u32,
+    },
     /// `STOP RUN`
-    StopRun { line: u32 },
+    StopRun {
+        line: u32,
+    },
     /// `DISPLAY BASE screen`
-    DisplayBase { line: u32, screen: Bytes },
+    DisplayBase {
+        line: u32,
+        screen: Bytes,
+    },
     /// `DISPLAY screen` or `DISPLAY shown`: the name of a screen stands here as that of an item.
-    Display { line: u32, shown: Operand },
+    Display {
+        line: u32,
+        shown: Operand,
+    },
     /// `ACCEPT screen UNTIL key ..`
     Accept {
         line: u32,
@@ -101,17 +119,31 @@ pub enum Statement {
         codes: Codes,
     },
     /// `BEGIN-TRANSACTION`
-    Begin { line: u32 },
+    Begin {
+        line: u32,
+    },
     /// `END-TRANSACTION`
-    End { line: u32 },
+    End {
+        line: u32,
+    },
     /// `ABORT-TRANSACTION`
-    Abort { line: u32 },
+    Abort {
+        line: u32,
+    },
     /// `RESTART-TRANSACTION`
-    Restart { line: u32 },
+    Restart {
+        line: u32,
+    },
     /// `READ $RECEIVE INTO into`
-    Receive { line: u32, into: Operand },
+    Receive {
+        line: u32,
+        into: Operand,
+    },
     /// `WRITE $RECEIVE FROM from`
-    Reply { line: u32, from: Operand },
+    Reply {
+        line: u32,
+        from: Operand,
+    },
     /// `READ file [WITH LOCK] KEY key INTO into`
     Read {
         line: u32,

@@ -1,7 +1,10 @@
 ghost use Rattle.std.specs.Prelude.{◌≤◌, length};
 
-use crate::rows::{Good, REFUSED, REQUESTER, REQUESTER_NO_FORM, Refused, SERVER, SERVER_BARRED, SERVER_NO_FORM, TEXTS};
 use crate::read::procedure;
+use crate::rows::{
+    Good, REFUSED, REQUESTER, REQUESTER_NO_FORM, Refused, SERVER, SERVER_BARRED, SERVER_NO_FORM,
+    TEXTS,
+};
 use crate::statement::{Procedure, Statement};
 use pw_base::bytes::Bytes;
 use pw_base::fault::Refusal;
@@ -64,20 +67,8 @@ fn word_of_another(statement: &Statement) -> &'static [u8] {
         Statement::Restart { .. } => b"RESTART",
         Statement::Receive { .. } => b"RECEIVE",
         Statement::Reply { .. } => b"REPLY",
-        Statement::Read { locking, .. } => {
-            if *locking {
-                b"READ-LOCK"
-            } else {
-                b"READ"
-            }
-        }
-        Statement::ReadNext { locking, .. } => {
-            if *locking {
-                b"NEXT-LOCK"
-            } else {
-                b"NEXT"
-            }
-        }
+        Statement::Read { locking, .. } => { if *locking { b"READ-LOCK" } else { b"READ" } }
+        Statement::ReadNext { locking, .. } => { if *locking { b"NEXT-LOCK" } else { b"NEXT" } }
         Statement::Write { .. } => b"WRITE",
         Statement::Rewrite { .. } => b"REWRITE",
         Statement::Delete { .. } => b"DELETE",
@@ -85,28 +76,29 @@ fn word_of_another(statement: &Statement) -> &'static [u8] {
     }
 }
 
-/// Shows a statement: its word, and its branches in braces.
-fn show_statement(statement: &Statement, depth: u32, shown: &mut Bytes) -> Result<(), Memory> {
-    shown.extend(word_of(statement))?;
+/// The two branches of a statement, if it has branches.
+fn branches_of(statement: &Statement) -> Option<(&[Statement], &[Statement])> {
     match statement {
         Statement::If { first, second, .. } | Statement::OnSizeError { first, second, .. } => {
-            shown.push(b'{')?;
-            show(first.as_slice(), depth, shown)?;
-            shown.push(b'|')?;
-            show(second.as_slice(), depth, shown)?;
-            shown.push(b'}')
+            Some((first.as_slice(), second.as_slice()))
         }
-        _ => Ok(()),
+        _ => None,
     }
 }
 
-/// Shows statements, down to a depth.
+/// Shows statements, down to a depth: each by its word, with its branches in braces.
 fn show(statements: &[Statement], depth: u32, shown: &mut Bytes) -> Result<(), Memory> {
-    if depth == 0 {
-        return Ok(());
-    }
     for statement in statements {
-        show_statement(statement, depth - 1, shown)?;
+        shown.extend(word_of(statement))?;
+        if let Some((first, second)) = branches_of(statement)
+            && depth > 0
+        {
+            shown.push(b'{')?;
+            show(first, depth - 1, shown)?;
+            shown.push(b'|')?;
+            show(second, depth - 1, shown)?;
+            shown.push(b'}')?;
+        }
         shown.push(b' ')?;
     }
     Ok(())
@@ -137,7 +129,11 @@ fn assert_good(rt: &impl Abort, alloc: Global, server: bool, good: &[Good]) -> R
         let text = around(alloc, piece)?;
         assert!(rt; text.len() <= MAX_INPUT);
         let shown = shown(alloc, &read(alloc, text.as_slice(), server)?)?;
-        assert_eq!(rt; shown.as_slice(), around_shown(alloc, word)?.as_slice(), "{piece:?}");
+        assert_eq!(rt;
+            shown.as_slice(),
+            around_shown(alloc, word)?.as_slice(),
+            "{piece:?}"
+        );
     }
     Ok(())
 }
@@ -161,7 +157,11 @@ fn assert_no_form(
     for piece in pieces {
         let text = around(alloc, piece)?;
         assert!(rt; text.len() <= MAX_INPUT);
-        assert_eq!(rt; refused(alloc, text.as_slice(), server), Some((2, code)), "{piece:?}");
+        assert_eq!(rt;
+            refused(alloc, text.as_slice(), server),
+            Some((2, code)),
+            "{piece:?}"
+        );
     }
     Ok(())
 }
@@ -170,7 +170,11 @@ fn assert_no_form(
 fn assert_refused(rt: &impl Abort, alloc: Global, rows: &[Refused]) {
     for (server, text, line, code) in rows {
         assert!(rt; text.len() <= MAX_INPUT);
-        assert_eq!(rt; refused(alloc, text, *server), Some((*line, *code)), "{text:?}");
+        assert_eq!(rt;
+            refused(alloc, text, *server),
+            Some((*line, *code)),
+            "{text:?}"
+        );
     }
 }
 
@@ -223,7 +227,10 @@ fn sixty_five_open_branches(rt: HostRuntime) -> Result<(), Fail> {
     let mut text = repeated(rt.alloc(), b"MAIN.\n", b"IF A = 1\n", 65)?;
     text.extend(b"DISPLAY \"X\".\n")?;
     assert!(rt; text.len() <= MAX_INPUT);
-    assert_eq!(rt; refused(rt.alloc(), text.as_slice(), false), Some((66, 131)));
+    assert_eq!(rt;
+        refused(rt.alloc(), text.as_slice(), false),
+        Some((66, 131))
+    );
     Ok(())
 }
 
@@ -231,10 +238,7 @@ fn sixty_five_open_branches(rt: HostRuntime) -> Result<(), Fail> {
 fn at_most_9999_keys_and_codes(rt: HostRuntime) -> Result<(), Fail> {
     let keys = b"P.\nACCEPT S UNTIL".as_slice();
     let codes = b"P.\nSEND A TO B REPLY".as_slice();
-    for (front, piece) in [
-        (keys, b" SF16".as_slice()),
-        (codes, b" CODE 0 YIELDS A"),
-    ] {
+    for (front, piece) in [(keys, b" SF16".as_slice()), (codes, b" CODE 0 YIELDS A")] {
         let text = repeated(rt.alloc(), front, piece, 9_999)?;
         assert!(rt; text.len() <= MAX_INPUT);
         assert_eq!(rt; refused(rt.alloc(), text.as_slice(), false), None);

@@ -1,5 +1,6 @@
 ghost use Rattle.std.specs.Prelude.{◌≡◌, IfOk};
-ghost use Rattle.pw_forms.specs.Words.{same_kind, is_word, bytes_of, is_the_word, table_place, is_table_word, mark_in, mark_at, mark_of, begins_piece, is_receive, is_name, is_register, is_item_name, name_in};
+ghost use Rattle.pw_text.specs.Cursor.{spelling};
+ghost use Rattle.pw_forms.specs.Words.{is_word, is_the_word, table_place, is_table_word, mark_in, mark_at, mark_of, begins_piece, is_receive, is_name, is_register, is_item_name, name_in};
 
 use crate::mark::{FileVerb, Mark, TerminalVerb, TransactionVerb, Verb};
 use crate::statement::Operation;
@@ -37,14 +38,6 @@ const MARKS: &[Mark] = &[
     Mark::EndIf,
 ];
 
-/// Whether two kinds are one.
-#[tactic(auto, unfolding(crate::specs::Words::same_kind))]
-pub fn same_kind(a: TokenKind, b: TokenKind) -> bool
-    ensures { result ≡ same_kind a b }
-{
-    a == b
-}
-
 /// Whether a token of this kind is a word.
 pub fn is_word(kind: TokenKind) -> bool
     ensures { result ≡ is_word kind }
@@ -53,8 +46,8 @@ pub fn is_word(kind: TokenKind) -> bool
 }
 
 /// The bytes of a token in its text, as far as it lies there.
-pub fn bytes_of<'a>(text: &'a [u8], token: Token) -> &'a [u8]
-    ensures { result.now ≡ bytes_of text.entry.now token }
+pub fn spelling<'a>(text: &'a [u8], token: Token) -> &'a [u8]
+    ensures { result.now ≡ spelling text.entry.now token }
 {
     let end = (token.end as usize).min(text.len());
     let start = (token.start as usize).min(end);
@@ -65,7 +58,7 @@ pub fn bytes_of<'a>(text: &'a [u8], token: Token) -> &'a [u8]
 pub fn is_the_word(text: &[u8], token: Token, word: &[u8]) -> bool
     ensures { result ≡ is_the_word text.now token word.now }
 {
-    is_word(token.kind) && is_same_word(bytes_of(text, token), word)
+    is_word(token.kind) && is_same_word(spelling(text, token), word)
 }
 
 /// The place of a word in the table of servers, or in that of requesters.
@@ -110,7 +103,7 @@ pub fn mark_of(server: bool, text: &[u8], token: Token) -> Mark
 {
     match token.kind {
         TokenKind::Period => Mark::Period,
-        TokenKind::Word => mark_at(table_place(server, bytes_of(text, token))),
+        TokenKind::Word => mark_at(table_place(server, spelling(text, token))),
         _ => Mark::Other,
     }
 }
@@ -134,7 +127,7 @@ pub fn is_name(server: bool, text: &[u8], token: Token) -> bool
     ensures { result ≡ is_name server text.now token }
 {
     is_word(token.kind)
-        && (!is_table_word(server, bytes_of(text, token)) && !is_receive(text, token))
+        && (!is_table_word(server, spelling(text, token)) && !is_receive(text, token))
 }
 
 /// Whether a token is a register: an item whose name is a table word.
@@ -160,7 +153,7 @@ pub fn is_item_name(server: bool, text: &[u8], token: Token) -> bool
 pub fn name_in(alloc: Global, text: &[u8], token: Token) -> Result<Bytes, Memory>
     ensures { IfOk result (λ name. name ≡ name_in text.now token) }
 {
-    let name = bytes_of(text, token)
+    let name = spelling(text, token)
         .iter()
         .map(|byte| byte.to_ascii_uppercase())
         .collect(alloc)?;

@@ -27,8 +27,8 @@ loop-top-preserved c =
       can = passed-can_turn c.pop.new.self.items c.loop-top.self.open.items c.in-Some.top c.in-Some.ensures.items some ∙ c.loop-top.invariant.can;
       branches = passed-turned c.pop.new.self.items c.loop-top.self.open.items c.in-Some.top c.in-Some.ensures.items some ∙ c.loop-top.invariant.branches;
       stands = λ x.
-        closes c.pop.new.self.items c.loop-top.self.open.items c.in-Some.top c.in_ok-self.field-0 c.replace-last.result (AtElse [] x) (AtElse [] x)
-        c.in-Some.ensures.items c.in_ok-self.ensures (closes-else _ _ _ x some)
-        ∙ ap (λ b. nested c.loop-top.self.open.items (prepend b (AtElse [] x))) c.replace-last.ensures.value
-        ∙ c.loop-top.invariant.stands x;
+          closes c.pop.new.self.items c.loop-top.self.open.items c.in-Some.top c.in_ok-self.field-0 c.replace-last.result (AtElse [] x) (AtElse [] x)
+          c.in-Some.ensures.items c.in_ok-self.ensures (closes-else _ _ _ x some)
+          ∙ ap (λ b. nested c.loop-top.self.open.items (prepend b (AtElse [] x))) c.replace-last.ensures.value
+          ∙ c.loop-top.invariant.stands x;
     }
