@@ -1,0 +1,144 @@
+-- The pieces from the left: the first one, and those of what stands behind it.
+use Rattle.std.proofs.Common.{◌≡◌, ℕ, zero, suc, ◌+◌, ◌<◌, Bool, true, false, not, List, [], ◌∷◌, ◌++◌, length, take, drop, take_while, cond, refl, sym, ap, subst, ◌∙◌, arith}
+use Rattle.std.proofs.lemmas.List.Sums.{take_while-cons}
+use Rattle.std.specs.Prelude.{◌==◌, if◌then◌else◌}
+use Rattle.pw_text.specs.declared.token.Token.{Token}
+use Rattle.pw_forms.specs.declared.mark.Mark.{Mark}
+use Rattle.pw_forms.specs.declared.mark.Mark.TheVariants.{Verb, Else, EndIf, Period, Other}
+use Rattle.pw_forms.specs.declared.piece.Placed.{Placed}
+use Rattle.pw_forms.specs.Words.{mark_of, begins_piece}
+use Rattle.pw_forms.specs.Pieces.{is_period, first_mark, first_piece, before, cut, joined, run_size, piece_size, period_follows, placed, placed_all}
+
+-- some are left
+pub some_left : {A : Type 0} (list : List A) → false ≡ (length list == 0) → 0 < length list
+some_left [] some = absurd cc
+some_left (x ∷ xs) some = omega arith
+
+-- what begins no piece is no period
+no_period : (mark : Mark) → begins_piece mark ≡ false → is_period mark ≡ false
+no_period (Verb verb) is = absurd cc
+no_period Else is = absurd cc
+no_period EndIf is = absurd cc
+no_period Period is = absurd cc
+no_period Other is = refl
+
+module _ (server : Bool) (text : List ℕ) where
+  before-first_by : (token : Token) (piece : List Token) (pieces : List (List Token)) (a b : Bool)
+      → is_period (mark_of server text token) ≡ a → begins_piece (first_mark server text piece) ≡ b
+      → first_mark server text (first_piece (before server text token (piece ∷ pieces))) ≡ mark_of server text token
+  before-first_by token piece pieces true b is starts = rw is refl
+  before-first_by token piece pieces false true is starts = rw (is, starts) refl
+  before-first_by token piece pieces false false is starts = rw (is, starts) refl
+
+  before-first : (token : Token) (pieces : List (List Token)) → first_mark server text (first_piece (before server text token pieces)) ≡ mark_of server text token
+  before-first token [] = refl
+  before-first token (piece ∷ pieces) =
+      before-first_by token piece pieces (is_period (mark_of server text token)) (begins_piece (first_mark server text piece)) refl refl
+
+  -- the first token of the first piece is the first token
+  cut-first : (tokens : List Token) → first_mark server text (first_piece (cut server text tokens)) ≡ first_mark server text tokens
+  unfolding cut
+  cut-first [] = refl
+  cut-first (token ∷ tokens) = before-first token (cut server text tokens)
+
+  -- a piece that begins on its own is not joined
+  before-apart : (token : Token) (pieces : List (List Token)) → begins_piece (first_mark server text (first_piece pieces)) ≡ true
+      → before server text token pieces ≡ (token ∷ []) ∷ pieces
+  before-apart token [] starts = refl
+  before-apart token (piece ∷ pieces) starts = before-apart_by token piece pieces (is_period (mark_of server text token)) refl starts
+    where
+      before-apart_by : (token : Token) (piece : List Token) (pieces : List (List Token)) (a : Bool) → is_period (mark_of server text token) ≡ a
+          → begins_piece (first_mark server text piece) ≡ true → before server text token (piece ∷ pieces) ≡ (token ∷ []) ∷ (piece ∷ pieces)
+      before-apart_by token piece pieces true is starts = rw is refl
+      before-apart_by token piece pieces false is starts = rw (is, starts) refl
+
+  -- a period is not joined with what follows it
+  before-period : (token : Token) (pieces : List (List Token)) → is_period (mark_of server text token) ≡ true
+      → before server text token pieces ≡ (token ∷ []) ∷ pieces
+  before-period token [] is = refl
+  before-period token (piece ∷ pieces) is = rw is refl
+
+  before-joins : (token : Token) (piece : List Token) (pieces : List (List Token)) → is_period (mark_of server text token) ≡ false
+      → begins_piece (first_mark server text piece) ≡ false → before server text token (piece ∷ pieces) ≡ (token ∷ piece) ∷ pieces
+  before-joins token piece pieces is starts = rw (is, starts) refl
+
+  -- a token with those behind it that begin no piece, as their number says
+  abbrev With_run : Token → List Token → ℕ → Type 0
+  With_run token tokens size = before server text token (cut server text tokens) ≡ (token ∷ take size tokens) ∷ cut server text (drop size tokens)
+
+  run_size-begins : (next : Token) (tokens : List Token) → begins_piece (mark_of server text next) ≡ true → run_size server text (next ∷ tokens) ≡ 0
+  run_size-begins next tokens starts =
+      ap length (take_while-cons (λ token. not (begins_piece (mark_of server text token))) next tokens)
+      ∙ ap (λ b. length (cond (not b) (next ∷ take_while (λ token. not (begins_piece (mark_of server text token))) tokens) [])) starts
+
+  run_size-goes_on : (next : Token) (tokens : List Token) → begins_piece (mark_of server text next) ≡ false → run_size server text (next ∷ tokens) ≡ suc (run_size server text tokens)
+  run_size-goes_on next tokens starts =
+      ap length (take_while-cons (λ token. not (begins_piece (mark_of server text token))) next tokens)
+      ∙ ap (λ b. length (cond (not b) (next ∷ take_while (λ token. not (begins_piece (mark_of server text token))) tokens) [])) starts
+
+  run-next : (token next : Token) (tokens : List Token) → is_period (mark_of server text token) ≡ false → (a : Bool) → begins_piece (mark_of server text next) ≡ a
+      → (is_period (mark_of server text next) ≡ false → With_run next tokens (run_size server text tokens)) → With_run token (next ∷ tokens) (run_size server text (next ∷ tokens))
+  unfolding cut
+  run-next token next tokens other true starts rest =
+      let P : ℕ → Type 0 = With_run token (next ∷ tokens) in
+      subst P (sym (run_size-begins next tokens starts))
+      (before-apart token (before server text next (cut server text tokens)) (ap begins_piece (before-first next (cut server text tokens)) ∙ starts))
+  run-next token next tokens other false starts rest =
+      let P : ℕ → Type 0 = With_run token (next ∷ tokens) in
+      subst P (sym (run_size-goes_on next tokens starts))
+      (ap (before server text token) (rest (no_period _ starts))
+      ∙ before-joins token (next ∷ take (run_size server text tokens) tokens) (cut server text (drop (run_size server text tokens) tokens)) other starts)
+
+  with_run : (token : Token) (tokens : List Token) → is_period (mark_of server text token) ≡ false → With_run token tokens (run_size server text tokens)
+  unfolding cut
+  with_run token [] other = refl
+  with_run token (next ∷ tokens) other = run-next token next tokens other (begins_piece (mark_of server text next)) refl (with_run next tokens)
+
+  cut-by : (token : Token) (tokens : List Token) (a : Bool) → is_period (mark_of server text token) ≡ a → (size : ℕ) → size ≡ piece_size server text (token ∷ tokens)
+      → cut server text (token ∷ tokens) ≡ take size (token ∷ tokens) ∷ cut server text (drop size (token ∷ tokens))
+  unfolding cut
+  cut-by token tokens true is size size_is =
+      let one : size ≡ 1 = size_is ∙ ap (λ b. if b then 1 else 1 + run_size server text tokens) is in
+      let P : ℕ → Type 0 = λ n. before server text token (cut server text tokens) ≡ take n (token ∷ tokens) ∷ cut server text (drop n (token ∷ tokens)) in
+      subst P (sym one) (before-period token (cut server text tokens) is)
+  cut-by token tokens false is size size_is =
+      let more : 1 + run_size server text tokens ≡ suc (run_size server text tokens) = omega arith in
+      let run : size ≡ suc (run_size server text tokens) = size_is ∙ ap (λ b. if b then 1 else 1 + run_size server text tokens) is ∙ more in
+      let P : ℕ → Type 0 = λ n. before server text token (cut server text tokens) ≡ take n (token ∷ tokens) ∷ cut server text (drop n (token ∷ tokens)) in
+      subst P (sym run) (with_run token tokens is)
+
+  -- the first piece, and those of what stands behind it
+  pub cut-piece : (tokens : List Token) (size : ℕ) → 0 < length tokens → size ≡ piece_size server text tokens
+      → cut server text tokens ≡ take size tokens ∷ cut server text (drop size tokens)
+  cut-piece [] size some is = absurd (omega arith)
+  cut-piece (token ∷ tokens) size some is = cut-by token tokens (is_period (mark_of server text token)) refl size is
+
+  -- what the first piece is, and what those behind it are
+  pub placed_all-piece : (tokens front behind : List Token) (size : ℕ) (followed : Bool) → 0 < length tokens → size ≡ piece_size server text tokens
+      → front ≡ take size tokens → behind ≡ drop size tokens → followed ≡ is_period (first_mark server text behind)
+      → placed_all server text (cut server text tokens) ≡ placed server text followed front ∷ placed_all server text (cut server text behind)
+  unfolding placed_all
+  placed_all-piece tokens front behind size followed some size_is front_is behind_is followed_is =
+      rw (cut-piece tokens size some size_is, front_is, followed_is, behind_is, cut-first (drop size tokens)) refl
+
+  before-joined : (token : Token) (pieces : List (List Token)) → joined (before server text token pieces) ≡ token ∷ joined pieces
+  before-joined token [] = refl
+  before-joined token (piece ∷ pieces) = before-joined_by token piece pieces (is_period (mark_of server text token)) (begins_piece (first_mark server text piece)) refl refl
+    where
+      before-joined_by : (token : Token) (piece : List Token) (pieces : List (List Token)) (a b : Bool) → is_period (mark_of server text token) ≡ a
+          → begins_piece (first_mark server text piece) ≡ b → joined (before server text token (piece ∷ pieces)) ≡ token ∷ (piece ++ joined pieces)
+      before-joined_by token piece pieces true b is starts = rw is refl
+      before-joined_by token piece pieces false true is starts = rw (is, starts) refl
+      before-joined_by token piece pieces false false is starts = rw (is, starts) refl
+
+  -- the pieces joined are the tokens
+  pub cut-joined : (tokens : List Token) → joined (cut server text tokens) ≡ tokens
+  unfolding cut
+  cut-joined [] = refl
+  cut-joined (token ∷ tokens) = before-joined token (cut server text tokens) ∙ ap (λ rest. token ∷ rest) (cut-joined tokens)
+
+  -- no token is left, and so no piece
+  pub no_pieces : (tokens : List Token) → length tokens ≡ 0 → placed_all server text (cut server text tokens) ≡ []
+  unfolding cut placed_all
+  no_pieces [] none = refl
+  no_pieces (token ∷ tokens) none = absurd (omega arith)

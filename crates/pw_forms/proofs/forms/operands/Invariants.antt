@@ -1,0 +1,7 @@
+use Rattle.std.proofs.Common.{◌≡◌, ◌-◌}
+use Rattle.pw_forms.specs.Readers.{some, some_from}
+use Rattle.pw_forms.specs.Operands.{operand}
+use Rattle.pw_forms.proofs.forms.operands.Given as goal
+
+abbrev pub invariant-loop-turn : goal.invariant-loop-turn
+invariant-loop-turn l = some operand l.initial.rest ≡ some_from operand (l._turn-end - l._turn) l.found l.rest

@@ -1,0 +1,13 @@
+pub mod Blocks
+pub mod Built
+pub mod Conditions
+pub mod Faults
+pub mod FileForms
+pub mod Forms
+pub mod Names
+pub mod Operands
+pub mod Pieces
+pub mod Procedures
+pub mod Readers
+pub mod Tree
+pub mod Words

@@ -1,0 +1,129 @@
+ghost use Rattle.std.specs.Prelude.{◌≡◌, codes};
+ghost use Rattle.pw_forms.specs.Readers.{Reads, separated};
+ghost use Rattle.pw_forms.specs.Conditions as spec;
+
+use crate::cond::{Comparison, Cond, Operator};
+use crate::cursor::Cursor;
+use crate::lack::Lack;
+use crate::operand::Operand;
+use crate::operands::operand;
+use crate::words::is_the_word;
+use pw_base::list::List;
+use pw_text::token::{Token, TokenKind};
+use std::alloc::Global;
+
+/// The operator that a word is.
+#[tactic(auto, unfolding(crate::specs::Conditions::word_operator))]
+fn word_operator(rest: &mut Cursor<'_>, word: Token) -> Result<Operator, Lack>
+    ensures { Reads (spec.word_operator word rest.old) result rest.new }
+{
+    if is_the_word(rest.text(), word, b"EQUAL") {
+        rest.eats(b"TO");
+        Ok(Operator::Equal)
+    } else if is_the_word(rest.text(), word, b"GREATER") {
+        rest.eats(b"THAN");
+        Ok(Operator::Greater)
+    } else if is_the_word(rest.text(), word, b"LESS") {
+        rest.eats(b"THAN");
+        Ok(Operator::Less)
+    } else {
+        Err(Lack::NoForm)
+    }
+}
+
+/// The operator that begins with a token.
+fn operator_by(rest: &mut Cursor<'_>, first: Token) -> Result<Operator, Lack>
+    ensures { Reads (spec.operator_by first.kind first rest.old) result rest.new }
+{
+    match first.kind {
+        TokenKind::Equal => Ok(Operator::Equal),
+        TokenKind::Less => Ok(Operator::Less),
+        TokenKind::Greater => Ok(Operator::Greater),
+        TokenKind::LessEqual => Ok(Operator::LessEqual),
+        TokenKind::GreaterEqual => Ok(Operator::GreaterEqual),
+        _ => word_operator(rest, first),
+    }
+}
+
+#[tactic(auto, unfolding(crate::specs::Conditions::operator))]
+fn operator(rest: &mut Cursor<'_>) -> Result<Operator, Lack>
+    ensures { Reads (spec.operator rest.old) result rest.new }
+{
+    let first = rest.next()?;
+    operator_by(rest, first)
+}
+
+/// The comparison of an operand with another one.
+#[tactic(auto, unfolding(crate::specs::Conditions::compared))]
+fn compared(
+    alloc: Global,
+    rest: &mut Cursor<'_>,
+    left: Operand,
+    negated: bool,
+) -> Result<Comparison, Lack>
+    ensures { Reads (spec.compared left negated rest.old) result rest.new }
+{
+    let operator = operator(rest)?;
+    let right = operand(alloc, rest)?;
+    Ok(Comparison::Compare {
+        left,
+        negated,
+        operator,
+        right,
+    })
+}
+
+#[tactic(auto, unfolding(crate::specs::Conditions::comparison))]
+fn comparison(alloc: Global, rest: &mut Cursor<'_>) -> Result<Comparison, Lack>
+    ensures { Reads (spec.comparison rest.old) result rest.new }
+{
+    let left = operand(alloc, rest)?;
+    rest.eats(b"IS");
+    let negated = rest.eats(b"NOT");
+    if rest.eats(b"NUMERIC") {
+        Ok(Comparison::Numeric {
+            operand: left,
+            negated,
+        })
+    } else {
+        compared(alloc, rest, left, negated)
+    }
+}
+
+/// Comparisons with AND between two of them.
+fn all(alloc: Global, rest: &mut Cursor<'_>) -> Result<List<Comparison>, Lack>
+    ensures { Reads (spec.all rest.old) result rest.new }
+{
+    let mut found = List::new(alloc);
+    for _turn in 0..rest.left() {
+        found.push(comparison(alloc, rest)?)?;
+        if !rest.eats(b"AND") {
+            return Ok(found);
+        }
+    }
+    Err(Lack::NoForm)
+}
+
+/// Lists of comparisons with OR between two of them.
+fn any(alloc: Global, rest: &mut Cursor<'_>) -> Result<List<List<Comparison>>, Lack>
+    ensures { Reads (separated (codes "OR") spec.all rest.old) result rest.new }
+{
+    let mut found = List::new(alloc);
+    for _turn in 0..rest.left() {
+        found.push(all(alloc, rest)?)?;
+        if !rest.eats(b"OR") {
+            return Ok(found);
+        }
+    }
+    Err(Lack::NoForm)
+}
+
+/// A condition: comparisons joined by AND and OR, AND first.
+#[tactic(auto, unfolding(crate::specs::Conditions::condition))]
+pub fn condition(alloc: Global, rest: &mut Cursor<'_>) -> Result<Cond, Lack>
+    ensures { Reads (spec.condition rest.old) result rest.new }
+{
+    Ok(Cond {
+        any: any(alloc, rest)?,
+    })
+}

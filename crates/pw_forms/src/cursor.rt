@@ -1,0 +1,175 @@
+ghost use Rattle.std.specs.Prelude.{◌≡◌};
+ghost use Rattle.pw_forms.specs.Readers.{Reads, sees, sees_third, past, behind, token, sees_kind, past_kind, expects, is_done, ends, left};
+
+use crate::lack::Lack;
+use crate::words::is_the_word;
+use pw_text::token::{Token, TokenKind};
+use std::marker::Model;
+
+/// What is left of a piece, in the text of a server or of a requester.
+#[derive(Drop)]
+pub struct Cursor<'a> {
+    server: bool,
+    text: &'a [u8],
+    tokens: &'a [Token],
+}
+
+impl<'a> Model for Cursor<'a> {
+    ghost use Rattle.pw_forms.specs.Readers.{Rest};
+
+    ghost Value = { Rest };
+
+    ghost view = { λ cursor. record {
+      server = cursor.server;
+      text = cursor.text.now;
+      tokens = cursor.tokens.now;
+    } };
+}
+
+impl<'a> Cursor<'a> {
+    pub fn new(server: bool, text: &'a [u8], tokens: &'a [Token]) -> Cursor<'a>
+        ensures { result ≡ record { server = server; text = text.now; tokens = tokens.now } }
+    {
+        Cursor {
+            server,
+            text,
+            tokens,
+        }
+    }
+
+    /// Whether the text is that of a server.
+    pub fn is_server(&self) -> bool
+        ensures { result ≡ self.now.server }
+    {
+        self.server
+    }
+
+    pub fn text(&self) -> &'a [u8]
+        ensures { result.now ≡ self.now.text }
+    {
+        self.text
+    }
+
+    /// How many tokens are left.
+    #[tactic(auto, unfolding(crate::specs::Readers::left))]
+    pub fn left(&self) -> usize
+        ensures { result ≡ left self.now }
+    {
+        self.tokens.len()
+    }
+
+    #[tactic(auto, unfolding(crate::specs::Readers::is_done))]
+    pub fn is_done(&self) -> bool
+        ensures { result ≡ is_done self.now }
+    {
+        self.tokens.is_empty()
+    }
+
+    /// Takes the next token.
+    #[tactic(auto, unfolding(crate::specs::Readers::token, crate::specs::Readers::behind))]
+    pub fn next(&mut self) -> Result<Token, Lack>
+        ensures { Reads (token self.old) result self.new }
+    {
+        match self.tokens {
+            [token, tokens @ ..] => {
+                self.tokens = tokens;
+                Ok(*token)
+            }
+            [] => Err(Lack::NoForm),
+        }
+    }
+
+    /// Passes over the next token.
+    #[tactic(auto, unfolding(crate::specs::Readers::behind))]
+    fn skip(&mut self)
+        ensures { self.new ≡ behind self.old }
+    {
+        if let [_, tokens @ ..] = self.tokens {
+            self.tokens = tokens;
+        }
+    }
+
+    /// Whether the next token is this word.
+    #[tactic(auto, unfolding(crate::specs::Readers::sees))]
+    pub fn sees(&self, word: &[u8]) -> bool
+        ensures { result ≡ sees word.now self.now }
+    {
+        match self.tokens {
+            [token, ..] => is_the_word(self.text, *token, word),
+            [] => false,
+        }
+    }
+
+    /// Whether the token behind the next two is this word.
+    #[tactic(auto, unfolding(crate::specs::Readers::sees_third))]
+    pub fn sees_third(&self, word: &[u8]) -> bool
+        ensures { result ≡ sees_third word.now self.now }
+    {
+        match self.tokens {
+            [_, _, token, ..] => is_the_word(self.text, *token, word),
+            _ => false,
+        }
+    }
+
+    /// Takes the next token where it is this word, and tells it.
+    #[tactic(auto, unfolding(crate::specs::Readers::past))]
+    pub fn eats(&mut self, word: &[u8]) -> bool
+        ensures found { result ≡ sees word.now self.old }
+        ensures rest { self.new ≡ past word.now self.old }
+    {
+        let found = self.sees(word);
+        if found {
+            self.skip();
+        }
+        found
+    }
+
+    /// Takes this word.
+    #[tactic(auto, unfolding(crate::specs::Readers::expects))]
+    pub fn expects(&mut self, word: &[u8]) -> Result<(), Lack>
+        ensures { Reads (expects word.now self.old) result self.new }
+    {
+        if self.sees(word) {
+            self.skip();
+            Ok(())
+        } else {
+            Err(Lack::NoForm)
+        }
+    }
+
+    /// Whether the next token is of this kind.
+    #[tactic(auto, unfolding(crate::specs::Readers::sees_kind))]
+    fn sees_kind(&self, kind: TokenKind) -> bool
+        ensures { result ≡ sees_kind kind self.now }
+    {
+        match self.tokens {
+            [token, ..] => token.kind.is(kind),
+            [] => false,
+        }
+    }
+
+    /// Takes the next token where it is of this kind, and tells it.
+    #[tactic(auto, unfolding(crate::specs::Readers::past_kind))]
+    pub fn takes(&mut self, kind: TokenKind) -> bool
+        ensures found { result ≡ sees_kind kind self.old }
+        ensures rest { self.new ≡ past_kind kind self.old }
+    {
+        let found = self.sees_kind(kind);
+        if found {
+            self.skip();
+        }
+        found
+    }
+
+    /// Whether the piece ends here.
+    #[tactic(auto, unfolding(crate::specs::Readers::ends))]
+    pub fn ends(&self) -> Result<(), Lack>
+        ensures { Reads (ends self.now) result self.now }
+    {
+        if self.is_done() {
+            Ok(())
+        } else {
+            Err(Lack::NoForm)
+        }
+    }
+}

@@ -1,0 +1,161 @@
+ghost use Rattle.std.specs.Prelude.{◌≡◌, IfOk};
+ghost use Rattle.pw_text.specs.Cursor.{spelling};
+ghost use Rattle.pw_forms.specs.Words.{is_word, is_the_word, table_place, is_table_word, mark_in, mark_at, mark_of, begins_piece, is_receive, is_name, is_register, is_item_name, name_in};
+
+use crate::mark::{FileVerb, Mark, TerminalVerb, TransactionVerb, Verb};
+use crate::statement::Operation;
+use pw_base::bytes::Bytes;
+use pw_base::memory::Memory;
+use pw_text::token::{Token, TokenKind};
+use pw_words::table::is_same_word;
+use pw_words::texts::{requester_words, server_words};
+use std::alloc::Global;
+
+/// The words that begin a piece, in the order in which both tables begin with them.
+const MARKS: &[Mark] = &[
+    Mark::Verb(Verb::Terminal(TerminalVerb::Accept)),
+    Mark::Verb(Verb::Terminal(TerminalVerb::Transaction(TransactionVerb::Abort))),
+    Mark::Verb(Verb::Arithmetic(Operation::Add)),
+    Mark::Verb(Verb::Terminal(TerminalVerb::Transaction(TransactionVerb::Begin))),
+    Mark::Verb(Verb::Terminal(TerminalVerb::Call)),
+    Mark::Verb(Verb::File(FileVerb::Delete)),
+    Mark::Verb(Verb::Terminal(TerminalVerb::Display)),
+    Mark::Verb(Verb::Arithmetic(Operation::Divide)),
+    Mark::Verb(Verb::Terminal(TerminalVerb::Transaction(TransactionVerb::End))),
+    Mark::Verb(Verb::Exit),
+    Mark::Verb(Verb::If),
+    Mark::Verb(Verb::Move),
+    Mark::Verb(Verb::Arithmetic(Operation::Multiply)),
+    Mark::Verb(Verb::Perform),
+    Mark::Verb(Verb::File(FileVerb::Read)),
+    Mark::Verb(Verb::Terminal(TerminalVerb::Transaction(TransactionVerb::Restart))),
+    Mark::Verb(Verb::File(FileVerb::Rewrite)),
+    Mark::Verb(Verb::Terminal(TerminalVerb::Send)),
+    Mark::Verb(Verb::Stop),
+    Mark::Verb(Verb::Arithmetic(Operation::Subtract)),
+    Mark::Verb(Verb::File(FileVerb::Write)),
+    Mark::Else,
+    Mark::EndIf,
+];
+
+/// Whether a token of this kind is a word.
+pub fn is_word(kind: TokenKind) -> bool
+    ensures { result ≡ is_word kind }
+{
+    matches!(kind, TokenKind::Word)
+}
+
+/// The bytes of a token in its text, as far as it lies there.
+pub fn spelling<'a>(text: &'a [u8], token: Token) -> &'a [u8]
+    ensures { result.now ≡ spelling text.entry.now token }
+{
+    let end = (token.end as usize).min(text.len());
+    let start = (token.start as usize).min(end);
+    &text[start..end]
+}
+
+/// Whether a token is this word, in either case.
+pub fn is_the_word(text: &[u8], token: Token, word: &[u8]) -> bool
+    ensures { result ≡ is_the_word text.now token word.now }
+{
+    is_word(token.kind) && is_same_word(spelling(text, token), word)
+}
+
+/// The place of a word in the table of servers, or in that of requesters.
+#[tactic(auto, unfolding(crate::specs::Words::table_place))]
+fn table_place(server: bool, word: &[u8]) -> Option<usize>
+    ensures { result ≡ table_place server word.now }
+{
+    if server {
+        server_words().find(word)
+    } else {
+        requester_words().find(word)
+    }
+}
+
+/// Whether the table has a word.
+pub fn is_table_word(server: bool, word: &[u8]) -> bool
+    ensures { result ≡ is_table_word server word.now }
+{
+    table_place(server, word).is_some()
+}
+
+/// The mark at a place.
+fn mark_in(marks: &[Mark], place: usize) -> Mark
+    ensures { result ≡ mark_in marks.now place }
+{
+    marks.get(place).copied().unwrap_or(Mark::Other)
+}
+
+/// What a word begins, by its place in the table.
+fn mark_at(place: Option<usize>) -> Mark
+    ensures { result ≡ mark_at place }
+{
+    match place {
+        Some(place) => mark_in(MARKS, place),
+        None => Mark::Other,
+    }
+}
+
+/// What a token begins.
+pub fn mark_of(server: bool, text: &[u8], token: Token) -> Mark
+    ensures { result ≡ mark_of server text.now token }
+{
+    match token.kind {
+        TokenKind::Period => Mark::Period,
+        TokenKind::Word => mark_at(table_place(server, spelling(text, token))),
+        _ => Mark::Other,
+    }
+}
+
+/// Whether a piece begins with a mark.
+pub fn begins_piece(mark: Mark) -> bool
+    ensures { result ≡ begins_piece mark }
+{
+    !matches!(mark, Mark::Other)
+}
+
+/// Whether a token is `$RECEIVE`.
+pub fn is_receive(text: &[u8], token: Token) -> bool
+    ensures { result ≡ is_receive text.now token }
+{
+    is_the_word(text, token, b"$RECEIVE")
+}
+
+/// Whether a token may be a name: a word that is neither a table word nor `$RECEIVE`.
+pub fn is_name(server: bool, text: &[u8], token: Token) -> bool
+    ensures { result ≡ is_name server text.now token }
+{
+    is_word(token.kind)
+        && (!is_table_word(server, spelling(text, token)) && !is_receive(text, token))
+}
+
+/// Whether a token is a register: an item whose name is a table word.
+fn is_register(server: bool, text: &[u8], token: Token) -> bool
+    ensures { result ≡ is_register server text.now token }
+{
+    if server {
+        is_the_word(text, token, b"FILE-STATUS")
+    } else {
+        is_the_word(text, token, b"TERMINATION-STATUS")
+            || is_the_word(text, token, b"RESTART-COUNTER")
+    }
+}
+
+/// Whether a token may be the name of an item.
+pub fn is_item_name(server: bool, text: &[u8], token: Token) -> bool
+    ensures { result ≡ is_item_name server text.now token }
+{
+    is_name(server, text, token) || is_register(server, text, token)
+}
+
+/// The name that a token is, in upper case.
+pub fn name_in(alloc: Global, text: &[u8], token: Token) -> Result<Bytes, Memory>
+    ensures { IfOk result (λ name. name ≡ name_in text.now token) }
+{
+    let name = spelling(text, token)
+        .iter()
+        .map(|byte| byte.to_ascii_uppercase())
+        .collect(alloc)?;
+    Ok(Bytes::from_vec(name))
+}
