@@ -1,5 +1,5 @@
 -- Which entries are printed together.
-use Rattle.std.specs.Prelude.{Bool, true, false, ◌||◌}
+use Rattle.std.specs.Prelude.{Bool, true, false}
 use Rattle.pw_event.specs.declared.event.Event.{Event}
 use Rattle.pw_event.specs.declared.event.Event.TheVariants.{Show, Key, CheckStart, CheckEnd, CheckCopy, Applied, Begin, Send, Again, Commit, Back, Restart, End}
 
