@@ -1,11 +1,13 @@
-ghost use Rattle.std.specs.Prelude.{◌≡◌, ◌≢◌, ℕ, ◌-◌, ◌<◌, ◌≤◌, List, [], ◌∷◌, ◌++◌, None, false, true};
+ghost use Rattle.std.specs.Prelude.{◌≡◌, ◌≢◌, ℕ, ◌-◌, ◌<◌, ◌≤◌, List, [], ◌+◌, ◌∷◌, ◌++◌, length, None, false, true};
 ghost use Rattle.std.specs.List.{Contains};
-ghost use Rattle.pw_event.specs.declared.event.Ending.TheVariants.{Lost};
+ghost use Rattle.pw_code.specs.declared.verb.Verb.TheVariants as verb;
+ghost use Rattle.pw_event.specs.declared.event.Cause.{Cause};
+ghost use Rattle.pw_event.specs.declared.event.Ending.TheVariants.{Lost, Suspended};
 ghost use Rattle.pw_event.specs.declared.event.Event.{Event};
 ghost use Rattle.pw_event.specs.declared.event.Event.TheVariants.{Commit, End, Reply};
 ghost use Rattle.pw_onecopy.specs.Behaviour.{Behaviour};
-ghost use Rattle.pw_onecopy.specs.IsBehaviour.{IsBehaviour};
-ghost use Rattle.pw_onecopy.specs.Path.{is_outside, unit_number};
+ghost use Rattle.pw_onecopy.specs.IsBehaviour.{IsBehaviour, IsPath};
+ghost use Rattle.pw_onecopy.specs.Path.{PathAnswer, is_outside, unit_number};
 ghost use Rattle.pw_onecopy.specs.Refreshes.{same_number};
 ghost use Rattle.pw_onecopy.specs.declared.refresh.Refresh.{Refresh};
 ghost use Rattle.pw_paired.specs.Headline.{IsSerializable};
@@ -63,4 +65,13 @@ pub fn guarded_pairs_are_kept()
 pub fn older_restarts_are_few()
     ensures { (sys : Behaviour) → IsBehaviour sys → (log : List Event) → IsRun sys log → (t n : ℕ) → t < sys.terminals
         → older_restarts_in t n log ≤ sys.terminals - 1 }
+{}
+
+/// Where each terminal may restart as often as there are other terminals and failure lines together, and no program ever
+/// asks to restart, no terminal is suspended in any run.
+pub fn enough_restarts_never_suspend()
+    ensures { (sys : Behaviour) → IsBehaviour sys
+        → ((t : ℕ) → t < sys.terminals → sys.terminals - 1 + length sys.script ≤ sys.max_restarts t)
+        → ((t : ℕ) (path : List PathAnswer) → IsPath sys t path → sys.ask t path ≢ verb.Redo)
+        → (before behind : List Event) (t : ℕ) (cause : Cause) → ¬ IsRun sys (before ++ End t (Suspended cause) ∷ behind) }
 {}
