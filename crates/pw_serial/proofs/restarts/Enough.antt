@@ -1,6 +1,6 @@
 -- Where the restarts that a deck allows are enough for its terminals and failures, no unit uses them up.
-use Rattle.std.proofs.Common.{◌≡◌, ◌≢◌, ℕ, ◌+◌, ◌-◌, ◌<◌, ◌≤◌, ⊎_elim, ◌⊎◌, inl, inr, Bool, true, false, List, [], ◌∷◌, ◌++◌, length, Option, Some, None, refl, ap, sym, subst, arith, ◌∙◌}
-use Rattle.std.proofs.lemmas.Bool.{cases_Bool, cases_eq}
+use Rattle.std.proofs.Common.{◌≡◌, ◌≢◌, ℕ, ◌+◌, ◌-◌, ◌<◌, ◌≤◌, ⊎_elim, ◌⊎◌, inl, inr, Bool, true, false, List, ◌∷◌, ◌++◌, length, Option, Some, None, refl, ap, sym, subst, arith, ◌∙◌}
+use Rattle.std.proofs.lemmas.Bool.{cases_eq}
 use Rattle.pw_code.specs.declared.verb.Verb.TheVariants as verb
 use Rattle.pw_event.specs.declared.event.Cause.{Cause}
 use Rattle.pw_event.specs.declared.event.Cause.TheVariants as cause
@@ -13,8 +13,8 @@ use Rattle.pw_onecopy.specs.IsBehaviour.{IsBehaviour, IsPath}
 use Rattle.pw_onecopy.specs.Path.{PathAnswer}
 use Rattle.pw_paired.specs.End.{LegalSuspended}
 use Rattle.pw_paired.specs.Failure.{Holds, LegalRedoCause, LegalRestart, awaited_after, with_start_path}
-use Rattle.pw_paired.specs.State.{Awaited, OpenUnit, State, Term, starting}
-use Rattle.pw_paired.specs.Step.{Fits, IsRun, Legal, after, change, effect}
+use Rattle.pw_paired.specs.State.{OpenUnit, State, Term, starting}
+use Rattle.pw_paired.specs.Step.{Fits, IsRun, Legal, after, effect}
 use Rattle.pw_paired.specs.Terminal.{path_of}
 use Rattle.pw_paired.specs.Units.{attempt_of}
 use Rattle.pw_progress.proofs.Pending.{pending-runs}
