@@ -13,8 +13,8 @@ pub data Actor : Type 0 where
   Pair : (p : ℕ) → Actor
   Class : (c : ℕ) → Actor
 
--- Whose step an entry is: FILE and REPLY are steps of a process, TAKE and FAIL SERVER of a class, RAISE, TAKEOVER, FAIL TCP,
--- CHECK COPY and APPLIED of a pair, and all others of a terminal.
+-- Whose step an entry is: FILE and REPLY are steps of a process, TAKE and FAIL SERVER of a class,
+-- RAISE, TAKEOVER, FAIL TCP, CHECK COPY and APPLIED of a pair, and all others of a terminal.
 abbrev pub actor_of : Behaviour → Event → Actor
 actor_of sys (Show t phase attempt k) = Terminal t
 actor_of sys (Key t k) = Terminal t

@@ -13,12 +13,14 @@ use Rattle.pw_runs.specs.Losses.{Breaks}
 abbrev pub IsGuarded : Behaviour → List Event → Type 0
 IsGuarded sys log =
     (before behind : List Event) (p : ℕ) (primary : Bool) (k : ℕ)
-    → log ≡ before ++ FailTcp p primary k ∷ behind → ¬ Breaks primary ((after sys before).modes p)
+    → log ≡ before ++ FailTcp p primary k ∷ behind
+    → ¬ Breaks primary ((after sys before).modes p)
 
 -- no entry of these commits a unit, behind this log
 abbrev pub NoneCommits : Behaviour → List Event → List Event → Type 0
 NoneCommits sys log more =
-    (first rest : List Event) (entry : Event) → more ≡ first ++ entry ∷ rest → commits_at (after sys (log ++ first)) entry ≡ false
+    (first rest : List Event) (entry : Event) → more ≡ first ++ entry ∷ rest
+    → commits_at (after sys (log ++ first)) entry ≡ false
 
 -- unit n of the terminal ends exactly once in the serial order of the log
 abbrev pub HasEndedOnce : Behaviour → List Event → ℕ → ℕ → Type 0

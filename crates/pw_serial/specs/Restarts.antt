@@ -1,5 +1,5 @@
 -- How often a unit restarts, by cause.
-use Rattle.std.specs.Prelude.{ℕ, ◌==◌, ◌&&◌, Bool, true, false, List, length, filter}
+use Rattle.std.specs.Prelude.{ℕ, ◌==◌, ◌&&◌, Bool, false, List, length, filter}
 use Rattle.pw_event.specs.declared.event.Cause.TheVariants.{Older}
 use Rattle.pw_event.specs.declared.event.Event.{Event}
 use Rattle.pw_event.specs.declared.event.Event.TheVariants.{Restart}

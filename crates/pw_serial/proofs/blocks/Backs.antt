@@ -1,5 +1,5 @@
 -- The machine follows BACK and RESTART.
-use Rattle.std.proofs.Common.{◌≡◌, ◌≢◌, ◌⊎◌, inl, inr, ⊎_elim, ℕ, suc, ◌+◌, ◌*◌, ◌<◌, ◌≤◌, true, false, is_none, List, [], ◌∷◌, ◌++◌, length, Option, Some, None, refl, ap, sym, subst, subst₂, append-nil, arith, ◌∙◌}
+use Rattle.std.proofs.Common.{◌≡◌, inl, inr, ⊎_elim, ℕ, suc, ◌+◌, ◌*◌, ◌<◌, ◌≤◌, true, false, is_none, List, [], ◌∷◌, ◌++◌, length, Option, Some, None, refl, ap, sym, subst, append-nil, arith, ◌∙◌}
 use Rattle.pw_code.specs.declared.verb.Verb.{Verb}
 use Rattle.pw_code.specs.declared.verb.Verb.TheVariants as verb
 use Rattle.pw_event.specs.declared.event.Cause.{Cause}
@@ -12,26 +12,26 @@ use Rattle.pw_onecopy.specs.IsBehaviour.{IsBehaviour}
 use Rattle.pw_onecopy.specs.declared.refresh.Refresh.{Refresh}
 use Rattle.pw_paired.specs.Failure.{LegalRestart, awaited_after, with_start_path, with_restart}
 use Rattle.pw_onecopy.specs.Attempt.{Attempt, attempt, attempt_with as attempt_given, answer_verb}
-use Rattle.pw_onecopy.specs.OneCopy.{IsSerialFrom, Machine, MayBe, Single, next_attempt, one_copy, run_blocks}
+use Rattle.pw_onecopy.specs.OneCopy.{Machine, Single, one_copy}
 use Rattle.pw_onecopy.specs.Path.{PathAnswer, Standing, is_outside, standing, unit_number}
 use Rattle.pw_onecopy.specs.Path as answer
 use Rattle.pw_paired.specs.Raising.{is_takeover}
-use Rattle.pw_onecopy.specs.Blocks.{Block, Aborted, Attempted, Restarted}
-use Rattle.pw_paired.specs.State.{Gone, LastEnded, OpenUnit, State, Term}
+use Rattle.pw_onecopy.specs.Blocks.{Aborted, Attempted, Restarted}
+use Rattle.pw_paired.specs.State.{LastEnded, OpenUnit, State, Term}
 use Rattle.pw_paired.specs.Step.{Fits, effect}
 use Rattle.pw_onecopy.specs.Behaviour.{Behaviour}
 use Rattle.pw_paired.specs.Terminal.{LegalBack, path_of}
 use Rattle.pw_paired.specs.Units.{attempt_of, committed_files, restarts_of}
 use Rattle.pw_serial.proofs.blocks.Fold.{Fold, fold_on}
-use Rattle.pw_serial.proofs.blocks.Following.{Follows, FollowsAll, Goes, running_refreshes}
+use Rattle.pw_serial.proofs.blocks.Following.{Follows, FollowsAll}
 use Rattle.pw_serial.proofs.blocks.Keys.{stands-at}
 use Rattle.pw_serial.proofs.blocks.Known.{Known}
 use Rattle.pw_serial.proofs.blocks.Others.{frontier-stays, shown-none}
 use Rattle.pw_serial.proofs.blocks.Own.{own-follows, plain-follows}
 use Rattle.pw_serial.proofs.blocks.Running.{AtWork, at-work, block-legal, next-is, numbered-at, running-idle}
 use Rattle.pw_serial.proofs.blocks.Units.{legal-last, machine-last, over-follows-unit, so-running, taken-is}
-use Rattle.pw_serial.proofs.screens.Numbers.{AreBounded, IsBefore, IsEarlier, next_at}
-use Rattle.pw_serial.proofs.screens.Once.{IsIn, in-left, in-parts}
+use Rattle.pw_serial.proofs.screens.Numbers.{AreBounded}
+use Rattle.pw_serial.proofs.screens.Once.{in-left, in-parts}
 use Rattle.pw_locking.specs.Records.{commits_at}
 
 module _ (sys : Behaviour) (b : IsBehaviour sys) (s : State) (f : Fold) (known : Known sys b s f) (all : FollowsAll sys s f)

@@ -1,5 +1,5 @@
 -- The machine follows where a terminal ends, and at the end of a log.
-use Rattle.std.proofs.Common.{◌≡◌, ◌≢◌, ⊎_elim, ℕ, ◌+◌, ◌<◌, ◌≤◌, Bool, true, false, List, [], ◌∷◌, ◌++◌, length, Option, Some, None, if◌then◌else◌, refl, ap, sym, subst, append-nil, append_assoc, arith, ◌∙◌}
+use Rattle.std.proofs.Common.{◌≡◌, ◌≢◌, ⊎_elim, ℕ, ◌<◌, ◌≤◌, false, List, [], ◌∷◌, ◌++◌, length, Option, Some, None, refl, ap, sym, subst, append-nil, append_assoc, arith, ◌∙◌}
 use Rattle.std.proofs.lemmas.Bool.{cases_eq, cond-false, cond-true, eq-eqb, ne_eqb}
 use Rattle.pw_code.specs.declared.verb.Verb.{Verb}
 use Rattle.pw_code.specs.declared.verb.Verb.TheVariants as verb
@@ -11,30 +11,28 @@ use Rattle.pw_runs.proofs.ends.EndsOnce.{stopped-idle}
 use Rattle.pw_onecopy.proofs.Update.{upd-other, upd-same}
 use Rattle.pw_onecopy.specs.IsBehaviour.{IsBehaviour, IsPath, Suits, SuitsFrom}
 use Rattle.pw_paired.specs.End.{LegalEnd, do_end, end_terminal}
-use Rattle.pw_onecopy.specs.OneCopy.{IsSerialFrom, LegalDone, Machine, MayEnd, Single, one_copy, run_blocks, single_behind}
-use Rattle.pw_onecopy.specs.Attempt.{attempt, BeginsUnit}
+use Rattle.pw_onecopy.specs.OneCopy.{LegalDone, Machine, MayEnd, Single, one_copy, run_blocks, single_behind}
+use Rattle.pw_onecopy.specs.Attempt.{attempt}
 use Rattle.pw_onecopy.specs.Path.{PathAnswer, Entry, entries_on}
 use Rattle.pw_paired.specs.Raising.{is_takeover, settle_mode}
-use Rattle.pw_onecopy.specs.Refreshes.{once, refreshes_of}
 use Rattle.pw_onecopy.specs.Blocks.{Block, Done, Left}
-use Rattle.pw_paired.specs.Serial.{left_block, left_blocks}
-use Rattle.pw_paired.specs.State.{Gone, LastEnded, OpenUnit, Paired, State, Term}
+use Rattle.pw_paired.specs.Serial.{left_block}
+use Rattle.pw_paired.specs.State.{Gone, OpenUnit, State, Term}
 use Rattle.pw_paired.specs.Step.{Fits, effect}
 use Rattle.pw_onecopy.specs.Behaviour.{Behaviour}
 use Rattle.pw_paired.specs.Terminal.{CanStep, path_of}
-use Rattle.pw_paired.specs.Units.{attempt_of, committed_files, leave_units, only, restarts_of}
+use Rattle.pw_paired.specs.Units.{attempt_of, committed_files, leave_units, only}
 use Rattle.pw_serial.proofs.blocks.Fold.{Fold, fold_on, run_blocks-append, serial-append}
-use Rattle.pw_serial.proofs.blocks.Following.{Follows, FollowsAll, Goes, IsStranger}
+use Rattle.pw_serial.proofs.blocks.Following.{Follows, FollowsAll, IsStranger}
 use Rattle.pw_serial.proofs.blocks.Known.{Known}
 use Rattle.pw_serial.proofs.blocks.Lefts.{LeftOne, left-ending, left-one, left_in, left_term}
 use Rattle.pw_serial.proofs.blocks.Losses.{over-follows, refreshes-left}
 use Rattle.pw_serial.proofs.blocks.Others.{follow-by, frontier-stays, other-follows, shown-none, stranger-follows}
 use Rattle.pw_serial.proofs.blocks.Quiet.{settled-there}
-use Rattle.pw_serial.proofs.blocks.Running.{AtWork, at-work, next-is, ready}
+use Rattle.pw_serial.proofs.blocks.Running.{at-work, next-is, ready}
 use Rattle.pw_serial.proofs.frontier.Frontier.{FrontierOk}
 use Rattle.pw_serial.proofs.frontier.Leads.{IsForced, Leads, Next, goes_on, is_there, next-of}
 use Rattle.pw_serial.proofs.frontier.Standing.{Where, closed, running, waiting, where-of}
-use Rattle.pw_runs.proofs.induction.Failed.{end-cases}
 use Rattle.pw_runs.proofs.induction.Views.{view_of}
 use Rattle.pw_locking.specs.Records.{commits_at}
 

@@ -1,8 +1,8 @@
 -- What is computed beside a log for the one-copy machine: the reading, the frontiers, the blocks and the refreshes so far.
-use Rattle.std.proofs.Common.{◌≡◌, ℕ, List, [], ◌∷◌, ◌++◌, true, refl, ap, sym, subst, append-nil, append_assoc, ◌∙◌}
+use Rattle.std.proofs.Common.{◌≡◌, ℕ, List, [], ◌∷◌, ◌++◌, true, refl, ap, sym, append-nil, append_assoc, ◌∙◌}
 use Rattle.pw_event.specs.declared.event.Event.{Event}
 use Rattle.pw_onecopy.specs.declared.refresh.Refresh.{Refresh}
-use Rattle.pw_onecopy.specs.OneCopy.{IsSerialFrom, LegalBlock, Machine, run_block, run_blocks}
+use Rattle.pw_onecopy.specs.OneCopy.{IsSerialFrom, Machine, run_block, run_blocks}
 use Rattle.pw_onecopy.specs.Path.{PathAnswer}
 use Rattle.pw_paired.specs.Shown.{refresh_of, refreshes, refreshes_from}
 use Rattle.pw_onecopy.specs.Blocks.{Block}

@@ -1,7 +1,7 @@
 -- How the one-copy machine follows the paired state.
 use Rattle.std.proofs.Common.{◌≡◌, ◌≢◌, ℕ, ◌<◌, false, List, [], ◌++◌, length, Option, Some, None}
 use Rattle.pw_onecopy.specs.declared.refresh.Refresh.{Refresh}
-use Rattle.pw_onecopy.specs.OneCopy.{IsSerial, Machine, Single, one_copy}
+use Rattle.pw_onecopy.specs.OneCopy.{IsSerial, Single, one_copy}
 use Rattle.pw_onecopy.specs.Attempt.{attempt}
 use Rattle.pw_onecopy.specs.Path.{PathAnswer, standing}
 use Rattle.pw_onecopy.specs.Refreshes.{once, refreshes_of}

@@ -1,5 +1,5 @@
 -- The machine follows KEY, AGAIN and BEGIN.
-use Rattle.std.proofs.Common.{◌≡◌, ◌≢◌, ⊎_elim, ℕ, zero, suc, ◌+◌, ◌<◌, ◌≤◌, true, false, List, [], ◌∷◌, ◌++◌, length, Option, Some, None, unwrap_or, refl, ap, sym, subst, append-nil, length-append, arith, ◌∙◌}
+use Rattle.std.proofs.Common.{◌≡◌, ◌≢◌, ℕ, suc, ◌+◌, ◌<◌, ◌≤◌, false, List, [], ◌∷◌, ◌++◌, length, Option, Some, None, unwrap_or, refl, ap, sym, subst, length-append, arith, ◌∙◌}
 use Rattle.pw_code.specs.declared.verb.Verb.{Verb}
 use Rattle.pw_code.specs.declared.verb.Verb.TheVariants as verb
 use Rattle.pw_event.specs.declared.event.Event.{Event}
@@ -15,14 +15,13 @@ use Rattle.pw_onecopy.specs.Attempt.{Attempt, attempt, attempt_with_served, answ
 use Rattle.pw_onecopy.specs.Path.{PathAnswer, Entry, Replied, Standing, entries_on, standing, unit_number}
 use Rattle.pw_paired.specs.Raising.{is_takeover}
 use Rattle.pw_paired.specs.Shown.{refresh_of}
-use Rattle.pw_onecopy.specs.Refreshes.{refreshes_of}
 use Rattle.pw_onecopy.specs.Blocks.{Block, Out}
 use Rattle.pw_paired.specs.Serial.{answers_at_begin, blocks_of, one_more}
 use Rattle.pw_onecopy.specs.Update.{upd}
 use Rattle.pw_paired.specs.State.{Gone, OpenUnit, State, Term}
 use Rattle.pw_paired.specs.Step.{Fits, effect}
 use Rattle.pw_onecopy.specs.Behaviour.{Behaviour, Served, Reply, Fault}
-use Rattle.pw_paired.specs.Terminal.{CanStep, LegalAgain, LegalBegin, LegalKey, unit_with_attempt, kept_reply, next_verb, path_of}
+use Rattle.pw_paired.specs.Terminal.{LegalAgain, LegalBegin, LegalKey, unit_with_attempt, kept_reply, next_verb, path_of}
 use Rattle.pw_paired.specs.Units.{attempt_of, committed_files, restarts_of}
 use Rattle.pw_serial.proofs.blocks.Fold.{Fold, fold_on}
 use Rattle.pw_serial.proofs.blocks.Following.{Follows, FollowsAll, Goes, running_refreshes}
@@ -32,7 +31,7 @@ use Rattle.pw_serial.proofs.blocks.Own.{own-follows, plain-follows, same-follows
 use Rattle.pw_serial.proofs.blocks.Running.{AtWork, at-work, running-idle, running-is}
 use Rattle.pw_serial.proofs.blocks.Screens.{out-is, out-running, out-short}
 use Rattle.pw_serial.proofs.frontier.Frontier.{FrontierOk}
-use Rattle.pw_serial.proofs.frontier.Leads.{IsForced, Leads, Next, goes_on, is_there, leads-short, next-of}
+use Rattle.pw_serial.proofs.frontier.Leads.{IsForced, Next, goes_on, is_there, leads-short, next-of}
 use Rattle.pw_serial.proofs.frontier.Standing.{Where, closed, grows, one-longer, running, waiting, where-of}
 use Rattle.pw_runs.proofs.induction.Views.{view_of}
 use Rattle.pw_serial.proofs.screens.Numbers.{AreBounded, covers-other, quiet-bounded}

@@ -1,12 +1,10 @@
 -- What is known behind every run, and what an entry leaves of the attempts of other terminals.
-use Rattle.std.proofs.Common.{◌≡◌, ◌≢◌, ℕ, ◌<◌, Bool, true, false, not, List, [], ◌∷◌, ◌++◌, filter, Option, Some, None, refl, ap, ap₂, sym, subst, subst₂, ◌∙◌}
-use Rattle.std.proofs.lemmas.Bool.{eqb-false, false≢true}
+use Rattle.std.proofs.Common.{◌≡◌, ℕ, ◌<◌, Bool, false, not, List, [], ◌∷◌, ◌++◌, filter, ap₂, sym, subst, subst₂, ◌∙◌}
 use Rattle.pw_event.specs.declared.event.Event.{Event}
 use Rattle.pw_files.specs.Records.{record_at}
 use Rattle.pw_runs.proofs.kept.Kept.{Inv}
-use Rattle.pw_onecopy.proofs.Update.{upd_elim}
 use Rattle.pw_onecopy.specs.IsBehaviour.{IsBehaviour}
-use Rattle.pw_onecopy.specs.Attempt.{IsAttempt, attempt}
+use Rattle.pw_onecopy.specs.Attempt.{attempt}
 use Rattle.pw_onecopy.specs.Path.{PathAnswer}
 use Rattle.pw_paired.specs.State.{BeforeImage, OpenUnit, State}
 use Rattle.pw_paired.specs.Step.{Fits, IsRun, Legal, after, effect}
@@ -15,7 +13,7 @@ use Rattle.pw_paired.specs.Units.{committed_files, restored_files}
 use Rattle.pw_attempts.proofs.alone.AloneEntries.{AllAlone, AloneAt}
 use Rattle.pw_attempts.proofs.alone.AloneRuns.{all-alone}
 use Rattle.pw_attempts.proofs.AttemptOps.{agree-by-locks}
-use Rattle.pw_attempts.proofs.Attempts.{SameAttempts, attempts-same}
+use Rattle.pw_attempts.proofs.Attempts.{attempts-same}
 use Rattle.pw_locking.proofs.records.Committed.{records-ok}
 use Rattle.pw_locking.proofs.records.Entries.{stays}
 use Rattle.pw_locking.proofs.Holding.{LocksOk, locks-ok}
@@ -29,7 +27,7 @@ use Rattle.pw_serial.proofs.frontier.Frontiers.{frontiers}
 use Rattle.pw_runs.proofs.induction.Runs.{after-more, carried-more, kept, run-more}
 use Rattle.pw_runs.proofs.induction.Views.{view_of}
 use Rattle.pw_locking.specs.Records.{commits_at}
-use Rattle.pw_locking.specs.Seen.{AreFiles, HaveSameAt}
+use Rattle.pw_locking.specs.Seen.{AreFiles}
 
 -- what is known of a state of a run
 pub record Known (sys : Behaviour) (b : IsBehaviour sys) (s : State) (f : Fold) : Type 0 where

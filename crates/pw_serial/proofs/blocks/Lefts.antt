@@ -1,10 +1,9 @@
 -- Attempts that are left, one after the other.
-use Rattle.std.proofs.Common.{◌≡◌, ◌≢◌, ℕ, zero, suc, ◌+◌, ◌<◌, ◌≤◌, ⊎_elim, Bool, true, false, is_none, List, [], ◌∷◌, ◌++◌, Option, Some, None, if◌then◌else◌, refl, ap, sym, subst, subst₂, append-nil, arith, ◌∙◌}
+use Rattle.std.proofs.Common.{◌≡◌, ◌≢◌, ℕ, zero, suc, ◌<◌, ◌≤◌, ⊎_elim, Bool, true, false, is_none, List, [], ◌∷◌, ◌++◌, Option, Some, None, if◌then◌else◌, refl, ap, sym, subst, subst₂, append-nil, arith, ◌∙◌}
 use Rattle.std.proofs.lemmas.Bool.{cases_eq, true≢false}
 use Rattle.pw_onecopy.proofs.Update.{upd-other, upd-same}
-use Rattle.pw_onecopy.specs.declared.refresh.Refresh.{Refresh}
 use Rattle.pw_onecopy.specs.Attempt.{IsAttempt, attempt}
-use Rattle.pw_onecopy.specs.OneCopy.{IsSerialFrom, LegalAttempted, Machine, Single, next_attempt, run_block, run_blocks, single_behind}
+use Rattle.pw_onecopy.specs.OneCopy.{IsSerialFrom, LegalAttempted, Machine, Single, run_blocks, single_behind}
 use Rattle.pw_onecopy.specs.Path.{PathAnswer, unit_number}
 use Rattle.pw_onecopy.specs.Blocks.{Block, Attempted, Left}
 use Rattle.pw_paired.specs.Serial.{Reading, left_block, left_blocks}

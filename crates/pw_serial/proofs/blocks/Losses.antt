@@ -1,39 +1,27 @@
 -- The machine follows where a pair is lost, and where a terminal ends.
-use Rattle.std.proofs.Common.{◌≡◌, ◌≢◌, ◌⊎◌, inl, inr, ⊎_elim, ℕ, ◌+◌, ◌<◌, ◌≤◌, Bool, true, false, not, ◌&&◌, is_none, List, [], ◌∷◌, ◌++◌, length, Option, Some, None, if◌then◌else◌, refl, ap, sym, subst, append-nil, append_assoc, arith, ◌∙◌}
-use Rattle.std.proofs.lemmas.Bool.{and_from, cases_Bool, cases_eq, cond-false, cond-true, eq-eqb, eqb-false, eqb-true, ne_eqb, true≢false}
-use Rattle.pw_code.specs.declared.verb.Verb.{Verb}
-use Rattle.pw_code.specs.declared.verb.Verb.TheVariants as verb
-use Rattle.pw_event.specs.declared.event.Ending.{Ending}
-use Rattle.pw_event.specs.declared.event.Ending.TheVariants as ending
+use Rattle.std.proofs.Common.{◌≡◌, ◌≢◌, inl, inr, ⊎_elim, ℕ, ◌<◌, ◌≤◌, Bool, true, false, not, ◌&&◌, List, [], ◌++◌, length, None, if◌then◌else◌, refl, ap, sym, subst, append-nil, arith, ◌∙◌}
+use Rattle.std.proofs.lemmas.Bool.{and_from, cases_eq, cond-true, eq-eqb, ne_eqb}
 use Rattle.pw_event.specs.declared.event.Event.{Event}
 use Rattle.pw_event.specs.declared.event.Event.TheVariants as event
-use Rattle.pw_runs.proofs.ends.EndsOnce.{stopped-idle}
 use Rattle.pw_runs.proofs.terms.KeepsPairs.{mode-of-other, mode-of-pair, not-of-pair, of-pair}
-use Rattle.pw_runs.proofs.terms.TermOk.{IsWorking}
-use Rattle.pw_onecopy.proofs.Update.{upd-other, upd-same}
-use Rattle.pw_onecopy.specs.IsBehaviour.{IsBehaviour, IsPath, Suits, SuitsFrom}
+use Rattle.pw_onecopy.proofs.Update.{upd-same}
+use Rattle.pw_onecopy.specs.IsBehaviour.{IsBehaviour}
 use Rattle.pw_onecopy.specs.declared.refresh.Refresh.{Refresh}
-use Rattle.pw_paired.specs.End.{LegalEnd, end_terminal}
 use Rattle.pw_paired.specs.Failure.{do_fail_tcp, lose_pair, is_of_pair}
-use Rattle.pw_onecopy.specs.OneCopy.{IsSerialFrom, LegalDone, Machine, MayEnd, Single, one_copy, run_block, run_blocks}
+use Rattle.pw_onecopy.specs.OneCopy.{Machine, Single, one_copy, run_blocks}
 use Rattle.pw_onecopy.specs.Attempt.{attempt}
-use Rattle.pw_onecopy.specs.Path.{PathAnswer, Entry, entries_on}
-use Rattle.pw_paired.specs.Raising.{is_takeover, settle_mode}
 use Rattle.pw_onecopy.specs.Refreshes.{once, refreshes_of}
-use Rattle.pw_onecopy.specs.Blocks.{Block, Done}
-use Rattle.pw_paired.specs.Serial.{is_gone, left_block, left_blocks}
-use Rattle.pw_paired.specs.State.{Alone, Down, Gone, LastEnded, Mode, OpenUnit, Paired, Raising, State, Term}
+use Rattle.pw_paired.specs.Serial.{is_gone, left_blocks}
+use Rattle.pw_paired.specs.State.{Gone, Mode, State, Term}
 use Rattle.pw_paired.specs.Step.{Fits, effect}
 use Rattle.pw_onecopy.specs.Behaviour.{Behaviour}
-use Rattle.pw_paired.specs.Terminal.{CanStep, path_of}
-use Rattle.pw_paired.specs.Units.{attempt_of, committed_files, leave_units, only, restarts_of}
-use Rattle.pw_serial.proofs.blocks.Fold.{Fold, fold_on, run_blocks-append, serial-append}
-use Rattle.pw_serial.proofs.blocks.Following.{Follows, FollowsAll, Goes, IsStranger, refreshes_so_far, running_refreshes}
+use Rattle.pw_paired.specs.Units.{attempt_of, committed_files}
+use Rattle.pw_serial.proofs.blocks.Fold.{Fold, fold_on}
+use Rattle.pw_serial.proofs.blocks.Following.{Follows, FollowsAll, IsStranger, refreshes_so_far, running_refreshes}
 use Rattle.pw_serial.proofs.blocks.Known.{Known}
-use Rattle.pw_serial.proofs.blocks.Lefts.{LeftAll, LeftOne, left-all, left-ending, left-one, left-refreshes, left_term}
+use Rattle.pw_serial.proofs.blocks.Lefts.{LeftAll, left-all, left-ending, left-refreshes, left_term}
 use Rattle.pw_serial.proofs.blocks.Others.{follow-by, frontier-stays, longest-kept, other-follows, shown-none, stranger-follows}
-use Rattle.pw_serial.proofs.blocks.Quiet.{settled-there}
-use Rattle.pw_serial.proofs.blocks.Running.{AtWork, at-work, ready, running-idle}
+use Rattle.pw_serial.proofs.blocks.Running.{at-work, ready, running-idle}
 use Rattle.pw_runs.proofs.induction.Views.{view_of}
 use Rattle.pw_serial.proofs.screens.Once.{IsIn}
 use Rattle.pw_locking.specs.Records.{commits_at}

@@ -1,7 +1,7 @@
 -- The machine follows terminals that an entry leaves as they were.
-use Rattle.std.proofs.Common.{◌≡◌, ◌≢◌, ℕ, ◌<◌, ◌≤◌, ⊎_elim, Bool, true, false, ◌&&◌, is_none, max, List, [], ◌∷◌, ◌++◌, length, filter, Option, Some, None, if◌then◌else◌, refl, ap, ap₂, sym, subst, append-nil, arith, ◌∙◌}
+use Rattle.std.proofs.Common.{◌≡◌, ◌≢◌, ℕ, ◌<◌, ◌≤◌, Bool, true, false, ◌&&◌, is_none, max, List, [], ◌++◌, length, Option, Some, None, if◌then◌else◌, refl, ap, sym, subst, append-nil, arith, ◌∙◌}
 use Rattle.std.specs.Prelude.{nat_lt}
-use Rattle.std.proofs.lemmas.Bool.{cases_Bool, ltb-false, ltb-true}
+use Rattle.std.proofs.lemmas.Bool.{ltb-false, ltb-true}
 use Rattle.pw_event.specs.declared.event.Event.{Event}
 use Rattle.pw_onecopy.specs.declared.refresh.Refresh.{Refresh}
 use Rattle.pw_onecopy.specs.IsBehaviour.{IsBehaviour}
@@ -11,14 +11,14 @@ use Rattle.pw_onecopy.specs.Path.{PathAnswer}
 use Rattle.pw_onecopy.specs.Refreshes.{once, refreshes_of}
 use Rattle.pw_paired.specs.Shown.{refresh_of}
 use Rattle.pw_onecopy.specs.Blocks.{Block}
-use Rattle.pw_paired.specs.Serial.{answers_behind, blocks_of, is_idle, longest_with}
+use Rattle.pw_paired.specs.Serial.{answers_behind, blocks_of}
 use Rattle.pw_paired.specs.State.{Gone, OpenUnit, State}
 use Rattle.pw_paired.specs.Step.{effect}
 use Rattle.pw_onecopy.specs.Behaviour.{Behaviour}
 use Rattle.pw_paired.specs.Terminal.{path_of}
 use Rattle.pw_paired.specs.Units.{attempt_of, committed_files, restarts_of}
 use Rattle.pw_serial.proofs.blocks.Fold.{Fold, fold_on, run_blocks-append, serial-append}
-use Rattle.pw_serial.proofs.blocks.Following.{Follows, FollowsAll, Goes, IsStranger, attempt_refreshes, refreshes_so_far, running_refreshes}
+use Rattle.pw_serial.proofs.blocks.Following.{Follows, FollowsAll, IsStranger, attempt_refreshes, refreshes_so_far, running_refreshes}
 use Rattle.pw_serial.proofs.blocks.Known.{Known}
 use Rattle.pw_serial.proofs.frontier.Frontier.{frontier_behind}
 use Rattle.pw_serial.proofs.frontier.Standing.{stays-put}

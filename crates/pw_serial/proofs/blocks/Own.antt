@@ -1,5 +1,5 @@
 -- The machine follows an entry of one terminal, where it follows this terminal.
-use Rattle.std.proofs.Common.{◌≡◌, ◌≢◌, ⊎_elim, ℕ, ◌+◌, ◌<◌, ◌≤◌, List, [], ◌∷◌, ◌++◌, length, filter, Option, Some, None, true, false, ◌==◌, cond, refl, ap, sym, subst, append-nil, arith, ◌∙◌}
+use Rattle.std.proofs.Common.{◌≡◌, ◌≢◌, ⊎_elim, ℕ, ◌<◌, ◌≤◌, List, [], ◌∷◌, ◌++◌, length, Some, None, ◌==◌, ap, sym, subst, append-nil, ◌∙◌}
 use Rattle.std.proofs.lemmas.Bool.{cases_eq, cond-false, cond-true, eq-eqb, ne_eqb}
 use Rattle.std.proofs.lemmas.List.Elements.{filter-append}
 use Rattle.pw_event.specs.declared.event.Event.{Event}
@@ -9,13 +9,11 @@ use Rattle.pw_onecopy.specs.OneCopy.{IsSerialFrom, Machine, Single, one_copy, ru
 use Rattle.pw_onecopy.specs.Attempt.{attempt}
 use Rattle.pw_onecopy.specs.Path.{PathAnswer}
 use Rattle.pw_onecopy.specs.Refreshes.{once, refreshes_of}
-use Rattle.pw_paired.specs.Shown.{refresh_of}
 use Rattle.pw_onecopy.specs.Blocks.{Block}
 use Rattle.pw_paired.specs.Serial.{blocks_of}
 use Rattle.pw_paired.specs.State.{Gone, Mode, OpenUnit, State, Term}
 use Rattle.pw_paired.specs.Step.{effect}
 use Rattle.pw_onecopy.specs.Behaviour.{Behaviour}
-use Rattle.pw_paired.specs.Terminal.{path_of}
 use Rattle.pw_paired.specs.Units.{attempt_of, committed_files, restarts_of}
 use Rattle.pw_serial.proofs.blocks.Fold.{Fold, fold_on}
 use Rattle.pw_serial.proofs.blocks.Following.{Follows, FollowsAll, Goes, IsStranger, refreshes_so_far, running_refreshes}

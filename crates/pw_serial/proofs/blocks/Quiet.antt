@@ -1,6 +1,6 @@
 -- The machine follows where an entry reads as nothing and puts no answer.
-use Rattle.std.proofs.Common.{◌≡◌, ◌≢◌, ◌⊎◌, inl, inr, ⊎_elim, ℕ, ◌<◌, ◌≤◌, Bool, true, false, not, ◌&&◌, is_none, List, [], length, Option, Some, None, if◌then◌else◌, refl, ap, sym, subst, arith, ◌∙◌}
-use Rattle.std.proofs.lemmas.Bool.{and_cases, and_left, and_right, cases_Bool, cases_eq, cond-false, cond-true, eq-eqb, ne_eqb, true≢false}
+use Rattle.std.proofs.Common.{◌≡◌, ◌≢◌, ◌⊎◌, inl, inr, ⊎_elim, ℕ, ◌<◌, ◌≤◌, Bool, true, false, not, ◌&&◌, [], length, Option, Some, None, if◌then◌else◌, refl, ap, sym, subst, arith, ◌∙◌}
+use Rattle.std.proofs.lemmas.Bool.{and_left, cases_Bool, cases_eq, cond-false, cond-true}
 use Rattle.pw_code.specs.declared.file.FileOp.{FileOp}
 use Rattle.pw_code.specs.declared.lock.LockMode.{LockMode}
 use Rattle.pw_event.specs.declared.event.Event.{Event}
@@ -9,12 +9,12 @@ use Rattle.pw_runs.proofs.terms.KeepsPairs.{not-of-pair, of-pair}
 use Rattle.pw_runs.proofs.terms.TermOk.{HasMessages}
 use Rattle.pw_onecopy.proofs.Update.{upd_elim, upd-same}
 use Rattle.pw_onecopy.specs.IsBehaviour.{IsBehaviour}
-use Rattle.pw_paired.specs.Failure.{lose_backup, do_fail_server, do_fail_tcp, lose_primary, lose_pair, is_live_of, is_of_pair, process_fails, resume_terminal}
-use Rattle.pw_paired.specs.Raising.{lacks_one, settled_mode, with_message, settle_mode}
+use Rattle.pw_paired.specs.Failure.{lose_backup, do_fail_tcp, lose_primary, lose_pair, is_live_of, is_of_pair, resume_terminal}
+use Rattle.pw_paired.specs.Raising.{lacks_one, with_message, settle_mode}
 use Rattle.pw_paired.specs.Serial.{Reading, is_gone, left_blocks}
 use Rattle.pw_paired.specs.Server.{do_file, do_operation}
 use Rattle.pw_onecopy.specs.Update.{upd}
-use Rattle.pw_paired.specs.State.{Alone, Down, Gone, Job, LastEnded, BackupCopy, Mode, OpenUnit, Paired, Raising, State, Term}
+use Rattle.pw_paired.specs.State.{Alone, Down, Gone, LastEnded, BackupCopy, Mode, OpenUnit, Paired, Raising, State, Term}
 use Rattle.pw_paired.specs.Step.{Fits, effect}
 use Rattle.pw_onecopy.specs.Behaviour.{Behaviour}
 use Rattle.pw_paired.specs.Terminal.{path_of}

@@ -1,5 +1,5 @@
 -- The machine follows a REPLY.
-use Rattle.std.proofs.Common.{◌≡◌, ◌≢◌, ⊎_elim, ℕ, suc, ◌+◌, ◌<◌, Bool, true, false, not, List, [], ◌∷◌, ◌++◌, filter, Option, Some, None, if◌then◌else◌, refl, ap, sym, subst, arith, ◌∙◌}
+use Rattle.std.proofs.Common.{◌≡◌, ℕ, suc, ◌+◌, true, false, List, [], ◌∷◌, ◌++◌, Option, Some, None, refl, ap, sym, subst, ◌∙◌}
 use Rattle.std.proofs.lemmas.Bool.{cond-false, cond-true, ne_eqb, true≢false}
 use Rattle.std.proofs.lemmas.List.{append_cancel_left}
 use Rattle.pw_code.specs.declared.verb.Verb.{Verb}
@@ -8,23 +8,21 @@ use Rattle.pw_event.specs.declared.event.Event.{Event}
 use Rattle.pw_event.specs.declared.event.Event.TheVariants as event
 use Rattle.pw_runs.proofs.kept.Failing.{out-job}
 use Rattle.pw_runs.proofs.terms.KeepsEnds.{OutOk}
-use Rattle.pw_runs.proofs.Paths.{Failed-plain, plain-outside}
 use Rattle.pw_runs.proofs.requests.Requests.{AtWork as ServerAtWork, Place, place_at_work}
 use Rattle.pw_onecopy.proofs.Update.{upd-other, upd-same}
 use Rattle.pw_onecopy.specs.IsBehaviour.{IsBehaviour}
 use Rattle.pw_onecopy.specs.Attempt.{Attempt, attempt, attempt_with_served, answer_verb}
-use Rattle.pw_onecopy.specs.OneCopy.{EndsCommitted, Machine, Single, one_copy, run_blocks}
+use Rattle.pw_onecopy.specs.OneCopy.{EndsCommitted, Machine, Single, one_copy}
 use Rattle.pw_onecopy.specs.Path.{PathAnswer, Failed, Replied, is_outside, unit_number}
 use Rattle.pw_paired.specs.Raising.{is_takeover}
-use Rattle.pw_paired.specs.Shown.{refresh_of}
 use Rattle.pw_onecopy.specs.Blocks.{Committed, Attempted}
 use Rattle.pw_paired.specs.Serial.{reply_commits}
 use Rattle.pw_paired.specs.Server.{LegalReply, do_reply, free_process, reply_of, server_verb}
-use Rattle.pw_paired.specs.State.{Gone, LastEnded, Mode, OpenUnit, State, Term}
+use Rattle.pw_paired.specs.State.{LastEnded, OpenUnit, State, Term}
 use Rattle.pw_paired.specs.Step.{Fits, effect}
 use Rattle.pw_onecopy.specs.Behaviour.{Behaviour, Served, Reply, Fault}
 use Rattle.pw_paired.specs.Terminal.{path_of}
-use Rattle.pw_paired.specs.Units.{give_answer, attempt_of, commit_unit, committed_files, only}
+use Rattle.pw_paired.specs.Units.{give_answer, commit_unit, committed_files, only}
 use Rattle.pw_attempts.proofs.alone.Alone.{AloneOk}
 use Rattle.pw_attempts.proofs.alone.AloneCommits.{reply-files}
 use Rattle.pw_attempts.proofs.alone.AloneOwn.{own-replied}
@@ -41,7 +39,6 @@ use Rattle.pw_serial.proofs.frontier.Frontier.{RunsFrom, fails, sends, transacts
 use Rattle.pw_serial.proofs.frontier.Standing.{Where, closed, running, waiting, where-of}
 use Rattle.pw_runs.proofs.induction.Served.{reply-cases}
 use Rattle.pw_locking.specs.Records.{commits_at}
-use Rattle.pw_locking.specs.Seen.{AreFiles}
 
 -- what a REPLY leaves
 data Replying (sys : Behaviour) (s : State) (c p t : ℕ) (fault : Option ℕ) (v : Verb) (x : State) : Type 0 where

@@ -1,19 +1,17 @@
 -- A running attempt in the machine that follows: its block is legal.
-use Rattle.std.proofs.Common.{◌≡◌, ◌≢◌, ℕ, suc, ◌+◌, ◌<◌, false, List, [], ◌∷◌, ◌++◌, Option, Some, None, refl, ap, sym, subst, subst₂, arith, ◌∙◌}
-use Rattle.pw_onecopy.specs.declared.refresh.Refresh.{Refresh}
+use Rattle.std.proofs.Common.{◌≡◌, ◌≢◌, ℕ, ◌<◌, List, [], Option, Some, None, refl, ap, sym, subst, subst₂, ◌∙◌}
 use Rattle.pw_onecopy.specs.IsBehaviour.{IsBehaviour}
 use Rattle.pw_onecopy.specs.Attempt.{IsAttempt, attempt, BeginsUnit}
-use Rattle.pw_onecopy.specs.OneCopy.{IsGoingOn, LegalAttempted, Machine, MayBe, Single, next_attempt, one_copy}
+use Rattle.pw_onecopy.specs.OneCopy.{LegalAttempted, Machine, MayBe, next_attempt, one_copy}
 use Rattle.pw_onecopy.specs.Path.{PathAnswer, standing, unit_number}
 use Rattle.pw_onecopy.specs.Blocks.{How, Left}
 use Rattle.pw_paired.specs.State.{Gone, OpenUnit, State}
 use Rattle.pw_onecopy.specs.Behaviour.{Behaviour}
-use Rattle.pw_paired.specs.Terminal.{path_of}
 use Rattle.pw_paired.specs.Units.{attempt_of, committed_files, restarts_of}
 use Rattle.pw_attempts.proofs.alone.AloneEntries.{AloneAt}
 use Rattle.pw_locking.proofs.records.Images.{restored-file}
 use Rattle.pw_serial.proofs.blocks.Fold.{Fold}
-use Rattle.pw_serial.proofs.blocks.Following.{Follows, FollowsAll, Goes, attempt_refreshes, refreshes_so_far, running_refreshes}
+use Rattle.pw_serial.proofs.blocks.Following.{FollowsAll, Goes, attempt_refreshes, running_refreshes}
 use Rattle.pw_serial.proofs.blocks.Known.{Known}
 use Rattle.pw_serial.proofs.frontier.Frontier.{FrontierOk}
 use Rattle.pw_runs.proofs.induction.Views.{view_of}

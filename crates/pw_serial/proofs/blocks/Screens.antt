@@ -1,5 +1,5 @@
 -- The machine follows a SHOW.
-use Rattle.std.proofs.Common.{◌≡◌, ◌≢◌, ◌⊎◌, inl, inr, ⊎_elim, ℕ, suc, ◌+◌, ◌<◌, ◌≤◌, Bool, true, false, ◌&&◌, is_none, List, [], ◌∷◌, ◌++◌, length, Option, Some, None, if◌then◌else◌, refl, ap, ap₂, sym, subst, append-nil, append_assoc, length-append, arith, ◌∙◌}
+use Rattle.std.proofs.Common.{◌≡◌, ◌≢◌, ⊎_elim, ℕ, suc, ◌+◌, ◌<◌, ◌≤◌, false, ◌&&◌, is_none, List, [], ◌∷◌, ◌++◌, length, Some, None, refl, ap, sym, subst, append-nil, append_assoc, length-append, arith, ◌∙◌}
 use Rattle.std.specs.Prelude.{nat_lt}
 use Rattle.std.proofs.lemmas.Bool.{and_from, and_left, and_right, cond-false, cond-true, le-ltb, lt-ltb}
 use Rattle.pw_code.specs.declared.verb.Verb.{Verb}
@@ -9,27 +9,27 @@ use Rattle.pw_event.specs.declared.event.Event.TheVariants as event
 use Rattle.pw_onecopy.proofs.Update.{upd-other, upd-same}
 use Rattle.pw_onecopy.specs.IsBehaviour.{IsBehaviour}
 use Rattle.pw_onecopy.specs.declared.refresh.Refresh.{Refresh}
-use Rattle.pw_onecopy.specs.OneCopy.{AsksOut, IsSerialFrom, LegalOut, Machine, Single, one_copy, single_behind_out, run_block, run_blocks}
-use Rattle.pw_onecopy.specs.Attempt.{Attempt, TakesAnswer, attempt, answer_verb, BeginsUnit}
-use Rattle.pw_onecopy.specs.Path.{PathAnswer, RefreshNumber, Shown, next_number, standing}
+use Rattle.pw_onecopy.specs.OneCopy.{AsksOut, IsSerialFrom, Machine, Single, one_copy, single_behind_out, run_blocks}
+use Rattle.pw_onecopy.specs.Attempt.{Attempt, attempt, answer_verb, BeginsUnit}
+use Rattle.pw_onecopy.specs.Path.{PathAnswer, RefreshNumber, Shown}
 use Rattle.pw_paired.specs.Raising.{is_takeover}
 use Rattle.pw_onecopy.specs.Refreshes.{next_refresh, once, refresh_numbered, refreshes_of}
 use Rattle.pw_onecopy.specs.Blocks.{Block, Out}
-use Rattle.pw_paired.specs.Serial.{is_idle, one_more, out_block}
-use Rattle.pw_paired.specs.State.{Gone, OpenUnit, Paired, State, Term}
+use Rattle.pw_paired.specs.Serial.{is_idle, out_block}
+use Rattle.pw_paired.specs.State.{Gone, OpenUnit, State, Term}
 use Rattle.pw_paired.specs.Step.{Fits, effect}
 use Rattle.pw_onecopy.specs.Behaviour.{Behaviour}
-use Rattle.pw_paired.specs.Terminal.{CanStep, LegalShow, path_of}
-use Rattle.pw_paired.specs.Units.{attempt_of, committed_files, restarts_of}
+use Rattle.pw_paired.specs.Terminal.{LegalShow, path_of}
+use Rattle.pw_paired.specs.Units.{attempt_of, committed_files}
 use Rattle.pw_serial.proofs.blocks.Fold.{Fold, fold_on}
 use Rattle.pw_serial.proofs.blocks.Following.{Follows, FollowsAll, Goes, refreshes_so_far, running_refreshes}
 use Rattle.pw_serial.proofs.blocks.Known.{Known}
 use Rattle.pw_serial.proofs.blocks.Others.{frontier-stays, longest-kept}
-use Rattle.pw_serial.proofs.blocks.Own.{own-follows, refreshes-more, refreshes-other, same-follows}
+use Rattle.pw_serial.proofs.blocks.Own.{own-follows, refreshes-more, refreshes-other}
 use Rattle.pw_serial.proofs.blocks.Running.{AtWork, at-work, numbered-at, running-idle, running-is}
 use Rattle.pw_serial.proofs.frontier.Frontier.{FrontierOk}
 use Rattle.pw_serial.proofs.frontier.Leads.{IsForced, Leads, Next, goes_on, is_there, leads-short, next-of}
-use Rattle.pw_serial.proofs.frontier.Standing.{Where, closed, grows, one-longer, running, stays-put, waiting, where-of}
+use Rattle.pw_serial.proofs.frontier.Standing.{Where, closed, grows, one-longer, running, waiting, where-of}
 use Rattle.pw_runs.proofs.induction.Views.{view_of}
 use Rattle.pw_serial.proofs.screens.Once.{IsIn, has_number, has-once, in-has, in-left, in-parts, in-right, once-new, once-there, parts-same}
 use Rattle.pw_serial.proofs.screens.Numbers.{Covers, covers-at, covers-shown, next-bounded, next-new}

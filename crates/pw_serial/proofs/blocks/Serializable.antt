@@ -1,5 +1,5 @@
 -- Every run is serializable, and refreshes of equal numbers are equal.
-use Rattle.std.proofs.Common.{◌≡◌, ◌≢◌, ◌⊎◌, inl, inr, ⊎_elim, ℕ, ◌<◌, ◌≤◌, true, false, List, [], ◌∷◌, ◌++◌, Option, Some, None, refl, ap, sym, subst, append-nil, arith, ◌∙◌}
+use Rattle.std.proofs.Common.{◌≡◌, ◌⊎◌, inl, inr, ⊎_elim, ℕ, ◌<◌, ◌≤◌, true, false, List, refl, ap, sym, subst, arith, ◌∙◌}
 use Rattle.std.proofs.lemmas.Bool.{cases_lt}
 use Rattle.pw_event.specs.declared.event.Event.{Event}
 use Rattle.pw_event.specs.declared.event.Event.TheVariants as event
@@ -9,16 +9,15 @@ use Rattle.pw_paired.specs.Headline.{IsSerializable}
 use Rattle.pw_onecopy.specs.OneCopy.{IsSerial, Machine, Single, beginning, one_copy, run_blocks}
 use Rattle.pw_onecopy.specs.Refreshes.{once, refreshes_of, same_number}
 use Rattle.pw_paired.specs.Shown.{refreshes}
-use Rattle.pw_onecopy.specs.Blocks.{Block}
 use Rattle.pw_paired.specs.Serial.{blocks, left_blocks}
-use Rattle.pw_paired.specs.State.{OpenUnit, State, starting}
-use Rattle.pw_paired.specs.Step.{Fits, IsRun, Legal, after, effect}
+use Rattle.pw_paired.specs.State.{State, starting}
+use Rattle.pw_paired.specs.Step.{Fits, IsRun, after, effect}
 use Rattle.pw_onecopy.specs.Behaviour.{Behaviour}
 use Rattle.pw_paired.specs.Units.{committed_files}
 use Rattle.pw_serial.proofs.blocks.Backs.{follows-back, follows-restart}
 use Rattle.pw_serial.proofs.blocks.Endings.{follows-end}
 use Rattle.pw_serial.proofs.blocks.Fold.{Fold, fold_after, fold_on, fold_starts, fold-blocks, fold-shown, run_blocks-append, serial-append}
-use Rattle.pw_serial.proofs.blocks.Following.{Follows, FollowsAll, IsStranger, refreshes_so_far}
+use Rattle.pw_serial.proofs.blocks.Following.{FollowsAll}
 use Rattle.pw_serial.proofs.blocks.Keys.{follows-again, follows-begin, follows-key}
 use Rattle.pw_serial.proofs.blocks.Known.{Known, committed-stay, known, known-next}
 use Rattle.pw_serial.proofs.blocks.Lefts.{LeftAll, left-all, left-ending, left_term}

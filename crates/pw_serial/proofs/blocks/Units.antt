@@ -1,49 +1,40 @@
 -- The machine follows REPLY, COMMIT, BACK and RESTART.
-use Rattle.std.proofs.Common.{◌≡◌, ◌≢◌, ◌⊎◌, inl, inr, ⊎_elim, ℕ, zero, suc, ◌+◌, ◌*◌, ◌<◌, ◌≤◌, Bool, true, false, ◌&&◌, is_none, not, List, [], ◌∷◌, ◌++◌, filter, length, Option, Some, None, if◌then◌else◌, refl, ap, sym, subst, subst₂, append-nil, append_assoc, length-append, arith, ◌∙◌}
+use Rattle.std.proofs.Common.{◌≡◌, ◌≢◌, ◌⊎◌, inl, inr, ⊎_elim, ℕ, suc, ◌+◌, Bool, true, false, ◌&&◌, is_none, List, [], ◌∷◌, ◌++◌, length, Some, None, if◌then◌else◌, refl, ap, sym, subst, append-nil, arith, ◌∙◌}
 use Rattle.std.specs.Prelude.{nat_lt}
-use Rattle.std.proofs.lemmas.Bool.{cases_Bool, cases_eq, cond-false, cond-true, eqb-true, eq-eqb, ne_eqb, true≢false}
+use Rattle.std.proofs.lemmas.Bool.{ne_eqb}
 use Rattle.pw_code.specs.declared.verb.Verb.{Verb}
 use Rattle.pw_code.specs.declared.verb.Verb.TheVariants as verb
-use Rattle.pw_event.specs.declared.event.Cause.{Cause}
 use Rattle.pw_event.specs.declared.event.Event.{Event}
 use Rattle.pw_event.specs.declared.event.Event.TheVariants as event
-use Rattle.pw_runs.proofs.kept.Failing.{out-job}
 use Rattle.pw_runs.proofs.terms.KeepsChecks as checks
-use Rattle.pw_runs.proofs.terms.KeepsEnds.{OutOk}
-use Rattle.pw_runs.proofs.terms.TermOk.{IsWorking, PathOk, RunningPath}
+use Rattle.pw_runs.proofs.terms.TermOk.{IsWorking, PathOk}
 use Rattle.pw_onecopy.proofs.Update.{upd-other, upd-same}
 use Rattle.pw_onecopy.specs.IsBehaviour.{IsBehaviour}
 use Rattle.pw_onecopy.specs.declared.refresh.Refresh.{Refresh}
-use Rattle.pw_paired.specs.Failure.{LegalRestart, with_restart}
-use Rattle.pw_onecopy.specs.Attempt.{Attempt, GoesOn, IsAttempt, TakesAnswer, attempt, attempt_with as attempt_given, answer_verb}
+use Rattle.pw_onecopy.specs.Attempt.{Attempt, IsAttempt, TakesAnswer, attempt, attempt_with as attempt_given, answer_verb}
 use Rattle.pw_onecopy.specs.OneCopy.{EndsCommitted, IsSerialFrom, LegalAttempted, Machine, MayBe, Single, next_attempt, one_copy, run_blocks, single_behind}
 use Rattle.pw_onecopy.specs.Path.{PathAnswer, Failed, Replied, is_outside, standing, unit_number}
 use Rattle.pw_onecopy.specs.Path as answer
 use Rattle.pw_paired.specs.Raising.{is_takeover}
 use Rattle.pw_onecopy.specs.Refreshes.{refreshes_of}
-use Rattle.pw_onecopy.specs.Blocks.{Block, Committed, Aborted, Attempted, How, Restarted}
-use Rattle.pw_paired.specs.Serial.{reply_commits}
-use Rattle.pw_paired.specs.Server.{LegalReply, do_reply, free_process, server_verb}
-use Rattle.pw_paired.specs.State.{Gone, LastEnded, Mode, OpenUnit, Paired, State, Term}
+use Rattle.pw_onecopy.specs.Blocks.{Committed, Attempted, How}
+use Rattle.pw_paired.specs.State.{LastEnded, Mode, OpenUnit, State, Term}
 use Rattle.pw_paired.specs.Step.{Fits, effect}
 use Rattle.pw_onecopy.specs.Behaviour.{Behaviour}
-use Rattle.pw_paired.specs.Terminal.{CanStep, LegalBack, LegalCommit, path_of}
-use Rattle.pw_paired.specs.Units.{give_answer, attempt_of, commit_unit, committed_files, only, restarts_of}
-use Rattle.pw_attempts.proofs.alone.AloneCommits.{commit-files, reply-files}
+use Rattle.pw_paired.specs.Terminal.{LegalCommit, path_of}
+use Rattle.pw_paired.specs.Units.{attempt_of, committed_files, only, restarts_of}
+use Rattle.pw_attempts.proofs.alone.AloneCommits.{commit-files}
 use Rattle.pw_locking.proofs.records.Images.{restored-file}
 use Rattle.pw_serial.proofs.blocks.Fold.{Fold, fold_on}
-use Rattle.pw_serial.proofs.blocks.Following.{Follows, FollowsAll, Goes, refreshes_so_far, running_refreshes}
-use Rattle.pw_serial.proofs.blocks.Keys.{quiet-more, silent-running, stands-at}
+use Rattle.pw_serial.proofs.blocks.Following.{Follows, FollowsAll, refreshes_so_far}
+use Rattle.pw_serial.proofs.blocks.Keys.{quiet-more, stands-at}
 use Rattle.pw_serial.proofs.blocks.Known.{Known, same-everywhere, same-refreshes}
-use Rattle.pw_serial.proofs.blocks.Others.{frontier-stays, shown-none}
+use Rattle.pw_serial.proofs.blocks.Others.{shown-none}
 use Rattle.pw_serial.proofs.blocks.Own.{own-follows, plain-follows}
 use Rattle.pw_serial.proofs.blocks.Running.{AtWork, at-work, block-legal, next-is, numbered-at, running-idle, running-is}
-use Rattle.pw_serial.proofs.frontier.Frontier.{FrontierOk, frontier_behind}
-use Rattle.pw_runs.proofs.induction.Served.{reply-cases}
+use Rattle.pw_serial.proofs.frontier.Frontier.{frontier_behind}
 use Rattle.pw_runs.proofs.induction.Views.{View, path_in, view_of}
-use Rattle.pw_serial.proofs.screens.Attempts.{Numbered}
-use Rattle.pw_serial.proofs.screens.Numbers.{AreBefore, AreBounded, Covers, IsBefore, IsEarlier, next_at}
-use Rattle.pw_serial.proofs.screens.Once.{IsIn, in-left, in-parts}
+use Rattle.pw_serial.proofs.screens.Numbers.{AreBounded}
 use Rattle.pw_locking.specs.Records.{commits_at}
 use Rattle.pw_locking.specs.Seen.{AreFiles}
 

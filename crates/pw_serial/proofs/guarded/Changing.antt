@@ -1,5 +1,5 @@
 -- Each entry that is no failure changes more of the state than its log.
-use Rattle.std.proofs.Common.{◌≡◌, ◌≢◌, ℕ, ◌+◌, ⊎_elim, Bool, true, false, List, [], ◌∷◌, ◌++◌, length, Option, Some, None, refl, ap, sym, length-append, arith, ◌∙◌}
+use Rattle.std.proofs.Common.{◌≡◌, ◌≢◌, ℕ, false, List, [], ◌∷◌, ◌++◌, length, Option, Some, None, refl, ap, sym, length-append, arith, ◌∙◌}
 use Rattle.pw_event.specs.declared.event.Ending.{Ending}
 use Rattle.pw_event.specs.declared.event.Ending.TheVariants as ending
 use Rattle.pw_event.specs.declared.event.Event.{Event}
@@ -17,7 +17,6 @@ use Rattle.pw_paired.specs.State.{Class, OpenUnit, State, Term}
 use Rattle.pw_paired.specs.Step.{Fits, IsRun, after, change}
 use Rattle.pw_paired.specs.Terminal.{message_of, next_verb, path_of, unit_with_attempt}
 use Rattle.pw_paired.specs.Units.{attempt_of}
-use Rattle.pw_runs.proofs.induction.Failed.{end-cases}
 use Rattle.pw_runs.proofs.induction.Served.{file-is, reply-cases}
 use Rattle.pw_runs.proofs.Runs.{IsRunFrom-split}
 use Rattle.pw_serial.proofs.blocks.Fold.{Fold, fold_after}

@@ -1,5 +1,5 @@
 -- A unit that has committed has ended exactly once.
-use Rattle.std.proofs.Common.{◌≡◌, ℕ, ◌+◌, ◌≤◌, Bool, true, List, [], ◌∷◌, ◌++◌, length, cond, ◌&&◌, ◌==◌, Option, Some, None, refl, ap, sym, subst, arith, ◌∙◌}
+use Rattle.std.proofs.Common.{◌≡◌, ℕ, ◌+◌, ◌≤◌, Bool, true, List, [], ◌∷◌, ◌++◌, length, cond, ◌&&◌, ◌==◌, None, refl, ap, arith, ◌∙◌}
 use Rattle.std.proofs.lemmas.Bool.{and_from, cond-true, eq-eqb}
 use Rattle.pw_event.specs.declared.event.Event.{Event}
 use Rattle.pw_event.specs.declared.event.Event.TheVariants as event
@@ -7,9 +7,9 @@ use Rattle.pw_onecopy.specs.Behaviour.{Behaviour}
 use Rattle.pw_onecopy.specs.Blocks.{Attempted, Block, Committed}
 use Rattle.pw_onecopy.specs.IsBehaviour.{IsBehaviour}
 use Rattle.pw_onecopy.specs.Path.{is_outside, unit_number}
-use Rattle.pw_paired.specs.Headline.{ends_unit, is_end_of}
-use Rattle.pw_paired.specs.Serial.{blocks, blocks_of, entry_blocks_from, left_blocks, read_on, reply_commits}
-use Rattle.pw_paired.specs.State.{State, starting}
+use Rattle.pw_paired.specs.Headline.{ends_unit}
+use Rattle.pw_paired.specs.Serial.{blocks, blocks_of, entry_blocks_from, left_blocks, read_on}
+use Rattle.pw_paired.specs.State.{starting}
 use Rattle.pw_paired.specs.Step.{IsRun, after, effect}
 use Rattle.pw_paired.specs.Terminal.{path_of}
 use Rattle.pw_runs.proofs.ends.Ends.{ends_in, ends_in-append}

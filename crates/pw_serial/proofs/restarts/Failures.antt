@@ -9,7 +9,7 @@ use Rattle.pw_event.specs.declared.event.Event.{Event}
 use Rattle.pw_event.specs.declared.event.Event.TheVariants as event
 use Rattle.pw_event.specs.declared.script.Owner.{Owner}
 use Rattle.pw_onecopy.specs.Behaviour.{Behaviour}
-use Rattle.pw_paired.specs.State.{State, starting}
+use Rattle.pw_paired.specs.State.{State}
 use Rattle.pw_paired.specs.Step.{IsRun, Legal, after, effect, line_due}
 use Rattle.pw_progress.proofs.PairSteps.{found-line}
 use Rattle.pw_runs.proofs.Tests.{and-second}
@@ -80,7 +80,7 @@ due-left sys log owner k due = by (next_failure sys.script log owner) refl due
           low,
           get-below sys.script (l.number - 1) l.line found.2,
           subst (λ (n : ℕ). not (list_any (is_fail_of n) log) ≡ true) (let back : l.number ≡ l.number - 1 + 1 = omega (arith, low) in back)
-          (and-second (is_same_owner (owner_of_line l.line) owner) (not (list_any (is_fail_of l.number) log)) found.0),
+              (and-second (is_same_owner (owner_of_line l.line) owner) (not (list_any (is_fail_of l.number) log)) found.0),
         )
       where
         number-is : (b : Bool) → cond b (Some l.number) None ≡ Some k → l.number ≡ k

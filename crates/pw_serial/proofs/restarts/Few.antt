@@ -1,5 +1,5 @@
 -- A unit restarts as the younger one at most as often as there are other terminals.
-use Rattle.std.proofs.Common.{◌≡◌, ◌≢◌, ℕ, ◌+◌, ◌-◌, ◌<◌, ◌≤◌, ⊎_elim, Bool, true, false, ◌&&◌, ◌==◌, cond, List, [], ◌∷◌, ◌++◌, length, filter, Option, Some, None, refl, ap, sym, subst, append-nil, append_assoc, length-append, arith, ◌∙◌}
+use Rattle.std.proofs.Common.{◌≡◌, ℕ, ◌+◌, ◌-◌, ◌<◌, ◌≤◌, ⊎_elim, Bool, true, false, ◌&&◌, ◌==◌, cond, List, [], ◌∷◌, ◌++◌, length, filter, Option, Some, None, refl, ap, sym, subst, append-nil, append_assoc, length-append, arith, ◌∙◌}
 use Rattle.std.proofs.lemmas.Bool.{and_from, and_left, and_right, cases_eq, cases_lt, eq-eqb, ne_eqb}
 use Rattle.std.proofs.lemmas.List.Elements.{filter-append}
 use Rattle.pw_event.specs.declared.event.Cause.{Cause}
@@ -49,6 +49,13 @@ count-entry t n log entry =
 not-older : (t n : ℕ) (entry : Event) → ((own m : ℕ) (kind : Cause) → entry ≡ event.Restart own m kind → ⊥) → is_older_restart_of t n entry ≡ false
 not-older t n (event.Restart own m kind) other = absurd (other own m kind refl)
 not-older t n entry other = refl
+
+-- the entry joins the log
+pub logged : (sys : Behaviour) (s : State) (entry : Event) (o : ℕ) → Goes s (change sys s entry) o → Goes s (effect sys s entry) o
+logged sys s entry o (stays units last) = stays units last
+logged sys s entry o (runs was now a c d e f g h j) = runs was now a c d e f g h j
+logged sys s entry o (opens now a c d e f g h) = opens now a c d e f g h
+logged sys s entry o (ends none number next) = ends none number next
 
 -- what the log counts of a terminal's units
 pub record Olders (sys : Behaviour) (t : ℕ) (s : State) : Type 0 where
@@ -228,15 +235,9 @@ module _ (sys : Behaviour) (b : IsBehaviour sys) (t : ℕ) (known : t < sys.term
   step-counts : (s : State) → Inv sys s → (entry : Event) → Fits sys s entry → BirthsOk (effect sys s entry).units (effect sys s entry).births → CountsOk sys t s → CountsOk sys t (effect sys s entry)
   step-counts s i (event.Restart own n kind) l births ok = record { births = births; over = over-restarted s i own n kind l ok; olders = olders-restarted s i own n kind l ok }
   step-counts s i entry l births ok =
-      let at : (o : ℕ) → Goes s (effect sys s entry) o = λ o. logged o (goes sys b s i o entry l (λ own n kind is. absurd (cc is))) in
+      let at : (o : ℕ) → Goes s (effect sys s entry) o = λ o. logged sys s entry o (goes sys b s i o entry l (λ own n kind is. absurd (cc is))) in
       let plain : (n : ℕ) → is_older_restart_of t n entry ≡ false = λ n. not-older t n entry (λ own m kind is. absurd (cc is)) in
       record { births = births; over = over-kept s i entry at plain ok; olders = olders-kept s i entry at plain ok }
-    where
-      logged : (o : ℕ) → Goes s (change sys s entry) o → Goes s (effect sys s entry) o
-      logged o (stays units last) = stays units last
-      logged o (runs was now a c d e f g h j) = runs was now a c d e f g h j
-      logged o (opens now a c d e f g h) = opens now a c d e f g h
-      logged o (ends none number next) = ends none number next
 
   pub counts-ok : (log : List Event) → IsRun sys log → CountsOk sys t (after sys log)
   counts-ok =

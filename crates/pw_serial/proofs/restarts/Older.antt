@@ -1,14 +1,12 @@
 -- The older units for which a unit may still restart grow fewer with each that it restarts for.
-use Rattle.std.proofs.Common.{◌≡◌, ◌≢◌, ℕ, ◌+◌, ◌<◌, ◌≤◌, ⊎_elim, Bool, true, false, not, ◌&&◌, ◌==◌, Option, Some, None, refl, ap, sym, subst, arith, ◌∙◌, List}
+use Rattle.std.proofs.Common.{◌≡◌, ◌≢◌, ℕ, ◌+◌, ◌<◌, ◌≤◌, ⊎_elim, Bool, true, false, not, ◌&&◌, ◌==◌, Option, Some, None, refl, ap, sym, subst, arith, ◌∙◌}
 use Rattle.std.specs.Prelude.{nat_lt}
 use Rattle.std.proofs.lemmas.Bool.{and_from, and_left, and_right, cases_Bool, cases_eq, eq-eqb, eqb-true, le-ltb, lt-ltb, ltb-true, true≢false}
 use Rattle.pw_event.specs.declared.event.Cause.{Cause}
 use Rattle.pw_event.specs.declared.event.Cause.TheVariants as cause
-use Rattle.pw_event.specs.declared.event.Event.{Event}
 use Rattle.pw_event.specs.declared.event.Event.TheVariants as event
 use Rattle.pw_onecopy.proofs.Update.{upd-other, upd-same}
 use Rattle.pw_onecopy.specs.Behaviour.{Behaviour}
-use Rattle.pw_onecopy.specs.Path.{PathAnswer}
 use Rattle.pw_paired.specs.Failure.{LegalRestart, awaited_after, with_restart}
 use Rattle.pw_paired.specs.State.{Awaited, OpenUnit, State}
 use Rattle.pw_paired.specs.Step.{effect}
@@ -120,14 +118,12 @@ module _ (sys : Behaviour) (s : State) (i : Inv sys s) (own n : ℕ) (kind : Cau
       let parts = free-parts (x.units o) now o is in
       was-free now l.unit o refl parts.0 parts.1 parts.2 (subst (λ (a : Option Awaited). is_awaited a o parts.0.number ≡ false) same parts.3))
 
--- a restart for an older unit: that one is no more among them
-module _ (sys : Behaviour) (s : State) (i : Inv sys s) (own n o m : ℕ) (l : LegalRestart sys s own n (cause.Older o m))
-    (over : (a : Awaited) → l.unit.awaits ≡ Some a → a.number ≤ (s.ended a.terminal).number) where
-  -- what the running unit awaited has ended
-  not-awaited : (j : ℕ) (v : OpenUnit) → s.units j ≡ Some v → is_awaited l.unit.awaits j v.number ≡ false
-  not-awaited j v is = by l.unit.awaits refl
+-- what the running unit awaited has ended: it awaits no open one
+module _ (sys : Behaviour) (s : State) (i : Inv sys s) (unit : OpenUnit) (over : (a : Awaited) → unit.awaits ≡ Some a → a.number ≤ (s.ended a.terminal).number) where
+  pub not-awaited : (j : ℕ) (v : OpenUnit) → s.units j ≡ Some v → is_awaited unit.awaits j v.number ≡ false
+  not-awaited j v is = by unit.awaits refl
     where
-      by : (awaits : Option Awaited) → l.unit.awaits ≡ awaits → is_awaited awaits j v.number ≡ false
+      by : (awaits : Option Awaited) → unit.awaits ≡ awaits → is_awaited awaits j v.number ≡ false
       by None none = refl
       by (Some a) some =
           ⊎_elim
@@ -141,6 +137,17 @@ module _ (sys : Behaviour) (s : State) (i : Inv sys s) (own n o m : ℕ) (l : Le
           (λ other. other)
           (cases_Bool (a.terminal == j && a.number == v.number))
 
+  -- an older open unit is one of them
+  pub free-there : (o : ℕ) (older : OpenUnit) → s.units o ≡ Some older → older.birth < unit.birth → 1 ≤ free sys s unit
+  free-there o older is low =
+      let less =
+      count-less sys.terminals (λ j. false) (is_free s unit) (λ j none. absurd (true≢false (sym none))) o (i.known o older is) refl
+      (free-of (s.units o) unit older o is low (not-awaited o older is)) in
+      omega (arith, less)
+
+-- a restart for an older unit: that one is no more among them
+module _ (sys : Behaviour) (s : State) (i : Inv sys s) (own n o m : ℕ) (l : LegalRestart sys s own n (cause.Older o m))
+    (over : (a : Awaited) → l.unit.awaits ≡ Some a → a.number ≤ (s.ended a.terminal).number) where
   pub free-less : free sys (x sys s i own n (cause.Older o m) l) (now sys s i own n (cause.Older o m) l) + 1 ≤ free sys s l.unit
   free-less =
       let older = l.caused.holds in
@@ -150,7 +157,7 @@ module _ (sys : Behaviour) (s : State) (i : Inv sys s) (own n o m : ℕ) (l : Le
       kept j parts.0 parts.1 parts.2)
       o (i.known o older.older older.is_open)
       gone
-      (free-of (s.units o) l.unit older.older o older.is_open older.is_older (not-awaited o older.older older.is_open))
+      (free-of (s.units o) l.unit older.older o older.is_open older.is_older (not-awaited sys s i l.unit over o older.older older.is_open))
     where
       kept : (j : ℕ) (v : OpenUnit) → (x sys s i own n (cause.Older o m) l).units j ≡ Some v → v.birth < l.unit.birth → is_free s l.unit j ≡ true
       kept j v v_is low =
@@ -161,7 +168,7 @@ module _ (sys : Behaviour) (s : State) (i : Inv sys s) (own n o m : ℕ) (l : Le
           let one : now sys s i own n (cause.Older o m) l ≡ v = cc (mine, there) in
           let b = ap (λ (w : OpenUnit). w.birth) one in
           absurd (omega (arith, b, low)))
-          (λ differ. let is = sym (upd-other s.units own _ j differ) ∙ v_is in free-of (s.units j) l.unit v j is low (not-awaited j v is))
+          (λ differ. let is = sym (upd-other s.units own _ j differ) ∙ v_is in free-of (s.units j) l.unit v j is low (not-awaited sys s i l.unit over j v is))
           (cases_eq j own)
 
       gone : is_free (x sys s i own n (cause.Older o m) l) (now sys s i own n (cause.Older o m) l) o ≡ false

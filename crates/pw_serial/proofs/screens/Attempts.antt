@@ -1,11 +1,11 @@
 -- The refreshes of an attempt by itself: their numbers rise, and each screen on its path is among them.
-use Rattle.std.proofs.Common.{◌≡◌, ◌≢◌, ℕ, zero, suc, ◌+◌, ◌*◌, inl, inr, ⊎_elim, true, false, is_none, List, [], ◌∷◌, ◌++◌, Option, Some, None, refl, ap, sym, subst, append-nil, append_assoc, arith, ◌∙◌}
+use Rattle.std.proofs.Common.{◌≡◌, ◌≢◌, ℕ, zero, suc, ◌+◌, ◌*◌, ⊎_elim, true, is_none, List, [], ◌∷◌, ◌++◌, Option, Some, None, refl, ap, sym, subst, append-nil, append_assoc, arith, ◌∙◌}
 use Rattle.pw_code.specs.declared.verb.Verb.{Verb}
 use Rattle.pw_code.specs.declared.verb.Verb.TheVariants as verb
 use Rattle.pw_runs.proofs.Paths.{reply-outside, standing-push}
 use Rattle.pw_onecopy.specs.IsBehaviour.{IsBehaviour, IsPath, Suits}
-use Rattle.pw_onecopy.specs.Attempt.{Attempt, GoesOn, IsAttempt, TakesAnswer, attempt, attempt_with_served, answer_verb, BeginsUnit}
-use Rattle.pw_onecopy.specs.Path.{PathAnswer, Begun, Dropped, Ended, Entry, Failed, Replied, Shown, Standing, entries_on, is_outside, standing_after_answer, number_at, standing_after_reply, standing, unit_number}
+use Rattle.pw_onecopy.specs.Attempt.{Attempt, IsAttempt, TakesAnswer, attempt, attempt_with_served, answer_verb, BeginsUnit}
+use Rattle.pw_onecopy.specs.Path.{PathAnswer, Begun, Dropped, Ended, Entry, Failed, Replied, Shown, Standing, entries_on, standing_after_answer, number_at, standing_after_reply, standing, unit_number}
 use Rattle.pw_onecopy.specs.Refreshes.{next_refresh}
 use Rattle.pw_onecopy.specs.Behaviour.{Behaviour, Served, Reply, Fault}
 use Rattle.pw_onecopy.specs.declared.refresh.Refresh.{Refresh}

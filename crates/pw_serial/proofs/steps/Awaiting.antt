@@ -1,21 +1,19 @@
 -- The unit that an open one awaits is open and older, until it has ended; and an open unit is one of a live terminal.
-use Rattle.std.proofs.Common.{◌≡◌, ◌≢◌, ℕ, ◌+◌, ◌<◌, ◌≤◌, ⊎_elim, Bool, true, false, List, Option, Some, None, if◌then◌else◌, refl, ap, sym, subst, arith, ◌∙◌}
+use Rattle.std.proofs.Common.{◌≡◌, ◌≢◌, ℕ, ◌+◌, ◌<◌, ⊎_elim, List, Option, Some, None, refl, ap, sym, subst, arith, ◌∙◌}
 use Rattle.std.proofs.lemmas.Bool.{cases_eq, cond-false, cond-true, eq-eqb, ne_eqb}
 use Rattle.pw_event.specs.declared.event.Cause.{Cause}
 use Rattle.pw_event.specs.declared.event.Cause.TheVariants as cause
-use Rattle.pw_event.specs.declared.event.Ending.TheVariants as ending
 use Rattle.pw_event.specs.declared.event.Event.{Event}
 use Rattle.pw_event.specs.declared.event.Event.TheVariants as event
 use Rattle.pw_onecopy.specs.Behaviour.{Behaviour}
 use Rattle.pw_onecopy.specs.IsBehaviour.{IsBehaviour}
-use Rattle.pw_onecopy.specs.Path.{PathAnswer, unit_number}
+use Rattle.pw_onecopy.specs.Path.{unit_number}
 use Rattle.pw_onecopy.proofs.Update.{upd-other, upd-same}
-use Rattle.pw_paired.specs.End.{LegalEnd}
-use Rattle.pw_paired.specs.Failure.{LegalRestart, awaited_after, do_fail_tcp, is_of_pair, with_restart}
-use Rattle.pw_paired.specs.State.{Awaited, LastEnded, OpenUnit, State, starting}
-use Rattle.pw_paired.specs.Step.{Fits, IsRun, Legal, after, change, effect}
+use Rattle.pw_paired.specs.Failure.{LegalRestart, awaited_after, with_restart}
+use Rattle.pw_paired.specs.State.{Awaited, LastEnded, OpenUnit, State}
+use Rattle.pw_paired.specs.Step.{Fits, IsRun, after, change, effect}
 use Rattle.pw_paired.specs.Terminal.{IsOver, LegalBegin, awaited_of, path_of, unit_with_attempt}
-use Rattle.pw_paired.specs.Units.{attempt_of, last_after_leaving, only}
+use Rattle.pw_paired.specs.Units.{last_after_leaving, only}
 use Rattle.pw_runs.proofs.induction.Failed.{end-cases, fail-cases, process-cases}
 use Rattle.pw_runs.proofs.induction.Runs.{holds-behind, kept}
 use Rattle.pw_runs.proofs.induction.Served.{file-is, reply-cases}

@@ -1,31 +1,29 @@
 -- An open unit is one of a live terminal.
-use Rattle.std.proofs.Common.{◌≡◌, ◌≢◌, ℕ, ◌<◌, ⊎_elim, Bool, true, false, List, Option, Some, None, if◌then◌else◌, refl, ap, sym, subst, ◌∙◌}
+use Rattle.std.proofs.Common.{◌≡◌, ◌≢◌, ℕ, ⊎_elim, Bool, true, false, List, Option, Some, None, if◌then◌else◌, refl, ap, sym, subst, ◌∙◌}
 use Rattle.std.proofs.lemmas.Bool.{cases_Bool, cases_eq, cond-false, cond-true, eq-eqb}
 use Rattle.pw_code.specs.declared.verb.Verb.{Verb}
-use Rattle.pw_code.specs.declared.verb.Verb.TheVariants as verb
 use Rattle.pw_event.specs.declared.event.Ending.{Ending}
 use Rattle.pw_event.specs.declared.event.Ending.TheVariants as ending
 use Rattle.pw_event.specs.declared.event.Event.{Event}
 use Rattle.pw_event.specs.declared.event.Event.TheVariants as event
-use Rattle.pw_onecopy.proofs.Update.{upd_elim, upd-other, upd-same}
+use Rattle.pw_onecopy.proofs.Update.{upd_elim, upd-other}
 use Rattle.pw_onecopy.specs.Attempt.{BeginsUnit}
 use Rattle.pw_onecopy.specs.Behaviour.{Behaviour}
 use Rattle.pw_onecopy.specs.IsBehaviour.{IsBehaviour}
 use Rattle.pw_onecopy.specs.Path.{PathAnswer}
 use Rattle.pw_onecopy.specs.Update.{upd}
-use Rattle.pw_paired.specs.End.{LegalEnd, LegalStopped, end_terminal}
+use Rattle.pw_paired.specs.End.{LegalStopped}
 use Rattle.pw_paired.specs.Failure.{is_live_of, resume_terminal, with_start_path}
 use Rattle.pw_paired.specs.Raising.{is_takeover}
-use Rattle.pw_paired.specs.State.{BackupCopy, Gone, LastEnded, OpenUnit, State, Term, starting}
+use Rattle.pw_paired.specs.State.{BackupCopy, LastEnded, OpenUnit, State, Term}
 use Rattle.pw_paired.specs.Step.{Fits, IsRun, after, change, effect}
 use Rattle.pw_paired.specs.Terminal.{path_of}
 use Rattle.pw_paired.specs.Units.{attempt_of, leave_units, only}
 use Rattle.pw_runs.proofs.ends.EndsOnce.{stopped-idle}
 use Rattle.pw_runs.proofs.induction.Failed.{end-cases, fail-cases, process-cases}
-use Rattle.pw_runs.proofs.induction.Runs.{holds-behind, kept}
+use Rattle.pw_runs.proofs.induction.Runs.{holds-behind}
 use Rattle.pw_runs.proofs.induction.Served.{file-is, reply-cases}
 use Rattle.pw_runs.proofs.induction.Views.{view_of}
-use Rattle.pw_runs.proofs.kept.Kept.{Inv}
 use Rattle.pw_runs.proofs.terms.KeepsPairs.{not-of-pair, of-pair}
 use Rattle.pw_serial.proofs.blocks.Fold.{Fold, fold_after}
 use Rattle.pw_serial.proofs.blocks.Known.{Known, known}

@@ -1,10 +1,8 @@
 -- A server at work has a step, or the younger of two units whose locks meet has one.
-use Rattle.std.proofs.Common.{◌≡◌, ◌≢◌, ◌⊎◌, inl, inr, ⊎_elim, ℕ, zero, suc, ◌+◌, ◌<◌, ◌≤◌, Bool, true, false, not, ◌&&◌, ◌==◌, map, filter, List, [], ◌∷◌, Option, Some, None, is_none, if◌then◌else◌, refl, ap, sym, subst, subst₂, arith, ◌∙◌}
+use Rattle.std.proofs.Common.{◌≡◌, ◌≢◌, ◌⊎◌, inl, inr, ⊎_elim, ℕ, ◌<◌, ◌≤◌, Bool, true, false, not, ◌&&◌, ◌==◌, map, filter, List, [], ◌∷◌, Option, Some, None, if◌then◌else◌, refl, ap, sym, subst, arith, ◌∙◌}
 use Rattle.std.specs.List.{AllByRecursion, list_any}
 use Rattle.std.proofs.lemmas.Bool.{and_from, cases_Bool, cases_eq, cases_lt, eq-eqb, or_left, or_right, true≢false}
-use Rattle.pw_class.specs.declared.request.Request.{Request}
 use Rattle.pw_code.specs.declared.file.FileCall.{FileCall}
-use Rattle.pw_code.specs.declared.unit.Unit as unit
 use Rattle.pw_code.specs.declared.verb.Verb.{Verb}
 use Rattle.pw_code.specs.declared.verb.Verb.TheVariants as verb
 use Rattle.pw_code.specs.Locks.{mode_of}
@@ -15,11 +13,10 @@ use Rattle.pw_event.specs.declared.event.Event.{Event}
 use Rattle.pw_event.specs.declared.event.Event.TheVariants as event
 use Rattle.pw_locks.specs.Conflicts.{conflict, exclude, holders, is_same_unit}
 use Rattle.pw_locks.specs.declared.lock.Lock.{Lock}
-use Rattle.pw_locking.proofs.Holding.{LocksOk}
 use Rattle.pw_locking.proofs.records.Images.{restored-file}
 use Rattle.pw_locking.specs.Held.{IsHeld}
 use Rattle.pw_locking.specs.Seen.{AreFiles, files_at, verb_at}
-use Rattle.pw_attempts.proofs.alone.Alone.{Calm, Mid, Serving}
+use Rattle.pw_attempts.proofs.alone.Alone.{Mid, Serving}
 use Rattle.pw_attempts.proofs.alone.AloneEntries.{AloneAt}
 use Rattle.pw_attempts.proofs.Attempts.{IsLast, Outcome, attempt-fine, faults, one-end, outcome, outcome-last, replies}
 use Rattle.pw_onecopy.specs.Attempt.{attempt}
@@ -27,7 +24,7 @@ use Rattle.pw_onecopy.specs.Behaviour.{Behaviour, Served}
 use Rattle.pw_onecopy.specs.IsBehaviour.{IsBehaviour}
 use Rattle.pw_onecopy.specs.Operation.{plain_op}
 use Rattle.pw_onecopy.specs.Path.{PathAnswer}
-use Rattle.pw_onecopy.specs.Play.{Play, play_after}
+use Rattle.pw_onecopy.specs.Play.{Play}
 use Rattle.pw_paired.specs.Failure.{Holds, IsCaused, Meets, unit_named}
 use Rattle.pw_paired.specs.Server.{Replies, answer_on, lock_of_job, server_verb}
 use Rattle.pw_paired.specs.State.{Gone, Job, OpenUnit, State}
@@ -40,7 +37,7 @@ use Rattle.pw_runs.proofs.Births.{births-ok}
 use Rattle.pw_runs.proofs.kept.Failing.{out-job}
 use Rattle.pw_runs.proofs.requests.Requests.{AtWork, Place, place_at_work}
 use Rattle.pw_runs.proofs.terms.KeepsEnds.{OutOk}
-use Rattle.pw_serial.proofs.blocks.Fold.{Fold, fold_after}
+use Rattle.pw_serial.proofs.blocks.Fold.{fold_after}
 use Rattle.pw_serial.proofs.blocks.Known.{Known, known}
 
 -- a lock of a running unit that conflicts

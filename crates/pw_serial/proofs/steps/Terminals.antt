@@ -1,5 +1,5 @@
 -- A live terminal that is up to date and calm has a step, or another actor has one for it.
-use Rattle.std.proofs.Common.{◌≡◌, ◌≢◌, ◌⊎◌, inl, inr, ⊎_elim, ℕ, zero, suc, ◌+◌, ◌<◌, ◌≤◌, Bool, true, false, ◌||◌, ◌==◌, is_none, List, [], ◌∷◌, ◌++◌, Option, Some, None, if◌then◌else◌, refl, ap, sym, subst, append-nil, append_assoc, arith, ◌∙◌}
+use Rattle.std.proofs.Common.{◌≡◌, ◌≢◌, ⊎_elim, ℕ, zero, suc, ◌+◌, ◌<◌, ◌≤◌, true, false, ◌||◌, is_none, List, [], ◌∷◌, ◌++◌, Option, Some, None, if◌then◌else◌, refl, ap, sym, subst, append-nil, append_assoc, arith, ◌∙◌}
 use Rattle.std.specs.List.{list_any}
 use Rattle.std.proofs.lemmas.Bool.{cases_Bool, cases_eq, cases_lt, false≢true, true≢false}
 use Rattle.pw_class.specs.Queue.{is_of, works_for}
@@ -16,7 +16,7 @@ use Rattle.pw_onecopy.specs.IsBehaviour.{IsAsked, IsBehaviour, IsPath, Suits, Su
 use Rattle.pw_onecopy.specs.Path.{PathAnswer, Begun, Dropped, Ended, Entry, Failed, Replied, Shown, entries_on, is_outside, next_number, unit_number}
 use Rattle.pw_paired.specs.Raising.{is_takeover}
 use Rattle.pw_paired.specs.Server.{first_free}
-use Rattle.pw_paired.specs.State.{Awaited, Gone, Job, LastEnded, OpenUnit, Paired, State}
+use Rattle.pw_paired.specs.State.{Awaited, Job, OpenUnit, State}
 use Rattle.pw_paired.specs.Step.{Fits, IsRun, after, is_finished, line_wanted}
 use Rattle.pw_paired.specs.Terminal.{CanStep, HoldsEnd, HoldsStart, IsOver, awaited_of, closing_answer, next_verb, path_of, path_with}
 use Rattle.pw_paired.specs.Units.{any_below, attempt_of, has_request, is_out, request_in, restarts_of}
@@ -26,10 +26,10 @@ use Rattle.pw_progress.specs.Running.{HasStep}
 use Rattle.pw_runs.proofs.induction.Views.{view_of}
 use Rattle.pw_runs.proofs.terms.KeepsChecks as checks
 use Rattle.pw_runs.proofs.terms.TermOk.{PathOk}
-use Rattle.pw_serial.proofs.blocks.Fold.{Fold, fold_after}
+use Rattle.pw_serial.proofs.blocks.Fold.{fold_after}
 use Rattle.pw_serial.proofs.blocks.Known.{Known, known}
-use Rattle.pw_serial.proofs.frontier.Frontier.{FrontierOk, RunsFrom, fails, sends, transacts}
-use Rattle.pw_serial.proofs.frontier.Leads.{IsForced, Leads, Next, goes_on, is_there, next-of}
+use Rattle.pw_serial.proofs.frontier.Frontier.{FrontierOk, fails, sends, transacts}
+use Rattle.pw_serial.proofs.frontier.Leads.{IsForced, Next, goes_on, is_there, next-of}
 use Rattle.pw_serial.proofs.frontier.Standing.{Where, closed, running, waiting, where-of}
 use Rattle.pw_serial.proofs.steps.Deciding.{end-decided, start-decided}
 use Rattle.pw_serial.proofs.steps.Servers.{caused-step, process-step}

@@ -1,5 +1,5 @@
 -- No unfinished run is stuck.
-use Rattle.std.proofs.Common.{◌≡◌, ◌≢◌, ◌⊎◌, inl, inr, ⊎_elim, ℕ, zero, suc, ◌+◌, ◌<◌, ◌≤◌, Bool, true, false, not, is_none, List, Option, Some, None, refl, ap, sym, subst, arith, ◌∙◌}
+use Rattle.std.proofs.Common.{◌≡◌, ℕ, zero, suc, ◌+◌, ◌<◌, Bool, true, false, not, is_none, List, Option, Some, None, refl, ap, sym, arith}
 use Rattle.std.proofs.lemmas.Bool.{true≢false}
 use Rattle.pw_event.specs.declared.event.Cause.{Cause}
 use Rattle.pw_event.specs.declared.event.Ending.{Ending}
@@ -8,13 +8,12 @@ use Rattle.pw_onecopy.specs.Behaviour.{Behaviour}
 use Rattle.pw_onecopy.specs.IsBehaviour.{IsBehaviour}
 use Rattle.pw_paired.specs.State.{Alone, Awaited, Down, Gone, Message, Mode, OpenUnit, Paired, Raising, State}
 use Rattle.pw_paired.specs.Step.{IsRun, after, is_finished, is_going_on}
-use Rattle.pw_paired.specs.Terminal.{CanStep, IsLive}
+use Rattle.pw_paired.specs.Terminal.{IsLive}
 use Rattle.pw_paired.specs.Units.{any_below}
 use Rattle.pw_progress.proofs.Lacking.{any_below-some}
 use Rattle.pw_progress.proofs.PairSteps.{message-steps, pair-steps, pending-steps}
 use Rattle.pw_progress.specs.Running.{HasStep}
-use Rattle.pw_serial.proofs.blocks.Fold.{fold_after}
-use Rattle.pw_serial.proofs.blocks.Known.{Known, known}
+use Rattle.pw_serial.proofs.blocks.Known.{known}
 use Rattle.pw_serial.proofs.steps.Awaiting.{awaits-ok}
 use Rattle.pw_serial.proofs.steps.Living.{live-ok}
 use Rattle.pw_serial.proofs.steps.Terminals.{terminal-step}
