@@ -1,0 +1,59 @@
+-- A file operation of a unit.
+use Rattle.std.specs.Prelude.{◌≡◌, ℕ, ◌<◌, ◌≤◌, ◌&&◌, Bool, true, false, not, List, ◌∷◌, length, if◌then◌else◌}
+use Rattle.std.specs.List.{list_any}
+use Rattle.std.specs.Option.{option_map}
+use Rattle.pw_code.specs.declared.file.FileCall.{FileCall}
+use Rattle.pw_code.specs.declared.unit.Unit as unit
+use Rattle.pw_files.specs.Records.{IsContent, record_at}
+use Rattle.pw_locks.specs.Conflicts.{conflict, is_same_unit}
+use Rattle.pw_locks.specs.declared.lock.Lock.{Lock}
+use Rattle.pw_paired.specs.Behaviour.{is_written}
+use Rattle.pw_paired.specs.Operation.{changes, key_of, lock_for, operated}
+use Rattle.pw_paired.specs.State.{upd, BeforeImage}
+use Rattle.pw_paired.specs.Units.{has_image}
+use Rattle.pw_tmf.specs.Told.{OpenUnit, Told}
+
+-- The file is one of the disc's, what is written has the length of a record, and another operation's
+-- key is as long as the file's keys.
+pub record IsCall (told : Told) (call : FileCall) : Type 0 where
+  pub file : call.file < told.file_count
+  pub content : is_written call.op ≡ true → IsContent (told.key_length call.file) call.content
+  pub key : is_written call.op ≡ false → length call.key ≡ told.key_length call.file
+  pub short_content : length call.content ≤ 4000
+  pub short_key : length call.key ≤ 255
+
+-- the lock that an operation takes for a unit now
+abbrev pub lock_now : Told → unit.Unit → FileCall → Lock
+lock_now told unit call = lock_for told.rule (told.key_length call.file) (told.files call.file) unit call
+
+-- the before-image that an operation of a terminal's unit makes
+abbrev pub image_now : Told → ℕ → FileCall → BeforeImage
+image_now told t call =
+    let key : List ℕ = key_of (told.key_length call.file) call.op call in
+    record {
+      terminal = t;
+      file = call.file;
+      key = key;
+      content = record_at (told.key_length call.file) (told.files call.file) key;
+    }
+
+-- The unit of a terminal with the before-image of what an operation changes, where it is the unit's
+-- first one at that key.
+abbrev pub with_image : Told → ℕ → FileCall → OpenUnit → OpenUnit
+with_image told t call unit =
+    let n : ℕ = told.key_length call.file in
+    if changes n (told.files call.file) call && not (has_image t call.file (key_of n call.op call) unit.before)
+    then record unit { before = image_now told t call ∷ unit.before }
+    else unit
+
+-- the lock is added, and the operation is done
+abbrev pub after_operation : Told → unit.Unit → FileCall → Told
+after_operation told unit call = record told {
+  files = upd told.files call.file (operated (told.key_length call.file) (told.files call.file) call);
+  locks = lock_now told unit call ∷ told.locks;
+  units = upd told.units unit.terminal (option_map (with_image told unit.terminal call) (told.units unit.terminal));
+}
+
+-- the lock that an operation of one unit would take now conflicts with a lock of another unit
+abbrev pub awaits : Told → unit.Unit → FileCall → unit.Unit → Bool
+awaits told unit call holder = list_any (λ held. is_same_unit held.unit holder && conflict (lock_now told unit call) held) told.locks
