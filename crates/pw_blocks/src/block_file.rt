@@ -50,6 +50,13 @@ impl BlockFile {
         })
     }
 
+    /// The length of the keys.
+    pub fn key_length(&self) -> usize
+        ensures { result ≡ self.now.key }
+    {
+        usize::from(self.key)
+    }
+
     /// The number of blocks.
     pub fn blocks(&self) -> usize
         ensures { result ≡ length self.now.blocks }

@@ -1,0 +1,5 @@
+pub mod Changes
+pub mod Drained
+pub mod Missing
+pub mod Reversed
+pub mod Stored

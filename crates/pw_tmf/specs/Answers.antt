@@ -12,7 +12,7 @@ use Rattle.pw_tmf.specs.declared.answer.DiscFault.TheVariants as fault
 use Rattle.pw_tmf.specs.declared.answer.Ended.{Ended}
 use Rattle.pw_tmf.specs.declared.answer.FileAnswer.{FileAnswer}
 use Rattle.pw_tmf.specs.declared.answer.FileAnswer.TheVariants as answer
-use Rattle.pw_tmf.specs.Operation.{after_operation, lock_now}
+use Rattle.pw_tmf.specs.Operation.{after_operation, answer_with, lock_now}
 use Rattle.pw_tmf.specs.Told.{Told}
 
 -- the count of faults rose, and all else stayed
@@ -30,7 +30,7 @@ Leaves fault.Memory old new = new ≡ old
 abbrev pub Operates : FileAnswer → Told → unit.Unit → FileCall → Told → Type 0
 Operates (answer.Done status content) old unit call new =
     (holders (lock_now old unit call) old.locks ≡ [])
-    × (record { status = status; content = content } ≡ answer_of (old.key_length call.file) (old.files call.file) call.op call)
+    × (answer_with status content ≡ answer_of (old.key_length call.file) (old.files call.file) call.op call)
     × (new ≡ after_operation old unit call)
 Operates (answer.Conflict holder) old unit call new = IsOldest holder (holders (lock_now old unit call) old.locks) × (new ≡ old)
 Operates answer.Failed old unit call new = HasFailed old new

@@ -1,5 +1,8 @@
 pub mod Answers
 pub mod Committed
 pub mod Operation
+pub mod Slots
+pub mod Starting
+pub mod Tmf
 pub mod Told
 pub mod Units

@@ -3,3 +3,10 @@
 
 pub mod answer;
 pub mod disc;
+mod image;
+mod images;
+mod open_unit;
+mod operation;
+mod settle;
+mod slot;
+mod store;
