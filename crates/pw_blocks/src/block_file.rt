@@ -52,7 +52,8 @@ impl BlockFile {
 
     /// The length of the keys.
     pub fn key_length(&self) -> usize
-        ensures { result ≡ self.now.key }
+        ensures length { result ≡ self.now.key }
+        ensures file { IsFile self.now.key (records_of self.now.blocks) }
     {
         usize::from(self.key)
     }

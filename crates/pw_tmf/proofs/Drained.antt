@@ -56,7 +56,13 @@ drained-same files now next images left d keys count same = record {
   fit = d.fit;
 }
 
+-- no image is left
+pub none-left : (left : List BeforeImage) → None ≡ slice_get left 0 → left ≡ []
+none-left [] is = refl
+none-left (x ∷ left) is = absurd (cc is)
+
 -- the images of two lists, one after the other
 pub restored-append : (key_length : ℕ → ℕ) (xs ys : List BeforeImage) (files : ℕ → List (List ℕ)) → restored key_length (xs ++ ys) files ≡ restored key_length ys (restored key_length xs files)
 restored-append key_length [] ys files = refl
-restored-append key_length (image ∷ xs) ys files = restored-append key_length xs ys _
+restored-append key_length (image ∷ xs) ys files =
+    restored-append key_length xs ys (upd files image.file (put_back (key_length image.file) (files image.file) image.key image.content))

@@ -1,7 +1,8 @@
 -- What the disc of a system tells before any unit has begun.
-use Rattle.std.specs.Prelude.{ℕ, List, [], ◌∷◌, length, slice_get, Option, Some, None}
+use Rattle.std.specs.Prelude.{◌≡◌, ℕ, List, [], ◌∷◌, length, slice_get, Option, Some, None}
 use Rattle.pw_code.specs.declared.file.FileInfo.{FileInfo}
 use Rattle.pw_code.specs.declared.system.System.{System}
+use Rattle.pw_blocks.specs.Blocks.{BlocksState, records_of}
 use Rattle.pw_files.specs.Records.{with_record}
 use Rattle.pw_tmf.specs.Told.{Told}
 
@@ -33,3 +34,15 @@ told_at_start system = record {
   ended = λ t. record { number = 0; reply = None };
   faults = 0;
 }
+
+-- the file stores the records of a system's file
+pub record IsStored (file : FileInfo) (made : BlocksState) : Type 0 where
+  pub key : made.key ≡ file.key
+  pub records : records_of made.blocks ≡ all_put file.key [] file.records
+
+-- the files store the records of a system's files, one by one
+abbrev pub AreStored : List FileInfo → List BlocksState → Type 0
+AreStored [] [] = Unit {0}
+AreStored [] (made ∷ others) = ⊥
+AreStored (file ∷ files) [] = ⊥
+AreStored (file ∷ files) (made ∷ others) = IsStored file made × AreStored files others

@@ -9,4 +9,6 @@ mod open_unit;
 mod operation;
 mod settle;
 mod slot;
+mod start;
 mod store;
+pub mod tmf;

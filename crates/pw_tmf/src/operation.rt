@@ -1,7 +1,7 @@
 ghost use Rattle.std.specs.Prelude.{◌≡◌, ◌<◌, None, true, false, IfOk, OnErr, OnOk, length};
 ghost use Rattle.std.specs.Option.{option_copied};
 ghost use Rattle.pw_blocks.specs.Blocks.{records_of};
-ghost use Rattle.pw_files.specs.Records.{IsContent, record_after, record_at};
+ghost use Rattle.pw_files.specs.Records.{IsContent, IsFile, record_after, record_at};
 ghost use Rattle.pw_paired.specs.Behaviour.{is_written};
 ghost use Rattle.pw_paired.specs.Operation.{answer_of, changes, found_key, is_change, key_of, operated, read_answer, span_of};
 ghost use Rattle.pw_paired.specs.State.{upd};
@@ -45,8 +45,10 @@ pub fn key_of<'a>(key_length: usize, call: &'a FileCall) -> &'a [u8]
 
 /// What an operation locks of its file.
 pub fn span_of(alloc: Global, file: &BlockFile, call: &FileCall) -> Result<Span, Memory>
-    ensures { IfOk result (λ span. span ≡ span_of file.now.key (records_of file.now.blocks) call.now.op call.now) }
+    ensures span { IfOk result (λ span. span ≡ span_of file.now.key (records_of file.now.blocks) call.now.op call.now) }
+    ensures file { IsFile file.now.key (records_of file.now.blocks) }
 {
+    let key_length = file.key_length();
     match call.op {
         FileOp::Next | FileOp::NextLock => Ok(Span::After {
             low: call.key.copy(alloc)?,
@@ -54,7 +56,7 @@ pub fn span_of(alloc: Global, file: &BlockFile, call: &FileCall) -> Result<Span,
         }),
         _ => Ok(Span::Point(Bytes::from_slice(
             alloc,
-            key_of(file.key_length(), call),
+            key_of(key_length, call),
         )?)),
     }
 }

@@ -1,4 +1,4 @@
-ghost use Rattle.std.specs.Prelude.{◌≡◌, [], IfOk, OnErr, OnOk, All, length, vec_len};
+ghost use Rattle.std.specs.Prelude.{◌≡◌, [], IfOk, OnErr, OnOk, All, length, reverse};
 ghost use Rattle.pw_blocks.specs.Blocks.{records_of};
 ghost use Rattle.pw_tmf.specs.Committed.{restored};
 ghost use Rattle.pw_tmf.specs.Tmf.{AreImages, all_pending, files_of, key_lengths, stored};
@@ -22,6 +22,25 @@ fn drain(files: &mut Vec<BlockFile>, images: &mut Images) -> Result<(), Memory>
     while let Some(image) = images.first() {
         put_back_in(files, image)?;
         images.drop_first();
+    }
+    Ok(())
+}
+
+/// Puts back what lists of images have, the last list first. An `Err` leaves those that are still to be put back.
+pub fn settle(files: &mut Vec<BlockFile>, pending: &mut Vec<Images>) -> Result<(), Memory>
+    requires { All (AreImages (key_lengths files.old.items) (length files.old.items)) pending.old.items }
+    ensures keys { key_lengths files.new.items ≡ key_lengths files.old.items }
+    ensures count { length files.new.items ≡ length files.old.items }
+    ensures files { files_of files.new.items (reverse pending.new.items)
+        ≡ files_of files.old.items (reverse pending.old.items) }
+    ensures images { All (AreImages (key_lengths files.old.items) (length files.old.items)) pending.new.items }
+    ensures ok { OnOk result (pending.new.items ≡ []) }
+{
+    while let Some(mut images) = pending.pop() {
+        if let Err(memory) = drain(files, &mut images) {
+            pending.push_reserved(images);
+            return Err(memory);
+        }
     }
     Ok(())
 }

@@ -14,7 +14,7 @@ returns-in-Some-clause-ok c =
     let file = c.index-file.result.now in
     let n = key_lengths files call.file in
     let records = stored files call.file in
-    let seen = seen-in files file call c.is_some.result c.requires.file c.index-file.ensures (seen-key file call c.key_length.result c.key_of-key.result.now c.find-found.result c.is_some.result c.key_length.ensures c.key_of-key.ensures c.find-found.ensures.record c.is_some.ensures) in
+    let seen = seen-in files file call c.is_some.result c.requires.file c.index-file.ensures (seen-key file call c.key_length.result c.key_of-key.result.now c.find-found.result c.is_some.result c.key_length.ensures.length c.key_of-key.ensures c.find-found.ensures.record c.is_some.ensures) in
     let refused : refusal call.op (has_key n records (key_of n call.op call)) ≡ Some c.in-Some.status = ap (refusal call.op) seen ∙ (sym c.refusal.ensures ∙ c.in-Some.is) in
     sym (upd-itself (stored files) call.file (operated n records call) (unchanged-records n records call (refused-changes n records call c.in-Some.status refused)))
 
@@ -25,6 +25,6 @@ returns-in-Some-clause-noted c =
     let file = c.index-file.result.now in
     let n = key_lengths files call.file in
     let records = stored files call.file in
-    let seen = seen-in files file call c.is_some.result c.requires.file c.index-file.ensures (seen-key file call c.key_length.result c.key_of-key.result.now c.find-found.result c.is_some.result c.key_length.ensures c.key_of-key.ensures c.find-found.ensures.record c.is_some.ensures) in
+    let seen = seen-in files file call c.is_some.result c.requires.file c.index-file.ensures (seen-key file call c.key_length.result c.key_of-key.result.now c.find-found.result c.is_some.result c.key_length.ensures.length c.key_of-key.ensures c.find-found.ensures.record c.is_some.ensures) in
     let refused : refusal call.op (has_key n records (key_of n call.op call)) ≡ Some c.in-Some.status = ap (refusal call.op) seen ∙ (sym c.refusal.ensures ∙ c.in-Some.is) in
     unchanged-unit n records c.args.terminal call c.args.slot.now (refused-changes n records call c.in-Some.status refused)

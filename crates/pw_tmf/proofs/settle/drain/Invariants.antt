@@ -4,8 +4,8 @@ use Rattle.pw_tmf.specs.Tmf.{AreImages, key_lengths, stored}
 use Rattle.pw_tmf.proofs.Drained.{IsDrained}
 use Rattle.pw_tmf.proofs.settle.drain.Given as goal
 
-abbrev pub invariant-loop-images : goal.invariant-loop-images
-invariant-loop-images l = IsDrained l.fn.files.items l.fn.images l.files.items l.images
+abbrev pub invariant-loop-image : goal.invariant-loop-image
+invariant-loop-image l = IsDrained l.fn.files.items l.fn.images l.files.items l.images
 
-abbrev pub decreases-loop-images : goal.decreases-loop-images
-decreases-loop-images l = length l.images
+abbrev pub decreases-loop-image : goal.decreases-loop-image
+decreases-loop-image l = length l.images
