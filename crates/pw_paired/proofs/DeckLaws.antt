@@ -1,20 +1,24 @@
 -- What holds of every deck holds of the worked ones.
-use Rattle.std.proofs.Common.{◌≡◌, ℕ, zero, suc, ◌+◌, Bool, true, false, List, [], ◌∷◌, ◌++◌, length, take, drop, codes, ◌==◌, slice_index_or, Option, Some, None, refl, ap, sym, subst, ◌∙◌, arith}
+use Rattle.std.proofs.Common.{◌≡◌, ℕ, zero, suc, ◌+◌, Bool, true, false, List, [], ◌∷◌, ◌++◌, length, take, drop, codes, ◌==◌, slice_index_or, Option, Some, None, refl, ap, sym, subst, arith}
 use Rattle.std.proofs.lemmas.Bool.{true≢false}
 use Rattle.std.proofs.lemmas.List.{length-append, length-take-le}
 use Rattle.std.proofs.lemmas.List.Elements.{All-cons, All-nil}
 use Rattle.std.specs.List.Sorted.{IsStrictlySortedBy}
 use Rattle.pw_files.proofs.RecordLemmas.{IsFile-empty}
 use Rattle.pw_code.specs.declared.file.FileCall.{FileCall}
+use Rattle.pw_code.specs.declared.file.FileOp.{FileOp}
+use Rattle.pw_code.specs.declared.file.FileOp.TheVariants.{Read, Next, Write, Rewrite, Delete, ReadLock, NextLock}
 use Rattle.pw_code.specs.declared.lock.LockRule.{LockRule}
 use Rattle.pw_code.specs.declared.verb.Verb.{Verb}
 use Rattle.pw_code.specs.declared.verb.Verb.TheVariants as verb
 use Rattle.pw_event.specs.declared.script.FailLine.{FailLine}
 use Rattle.pw_files.specs.Records.{IsContent, IsFile}
-use Rattle.pw_paired.specs.Behaviour.{IsBehaviour, IsAsked, ComesTo, Play, played, is_written}
-use Rattle.pw_paired.specs.DeckC.{Line, Sends, Begins, Ends, Drops, Redoes, deck, item, last_of, line_at, served_by, serves, spaces, stock, verb_at, verb_behind, with_one_more}
-use Rattle.pw_paired.specs.Path.{PathAnswer, Shown, Entry, Begun, Replied, Failed, Ended, Dropped, FileAnswer, is_outside}
-use Rattle.pw_paired.specs.System.{Sys}
+use Rattle.pw_onecopy.specs.IsBehaviour.{IsBehaviour, IsAsked, ComesTo, is_written}
+use Rattle.pw_onecopy.specs.Play.{Play, play_after}
+use Rattle.pw_paired.specs.DeckC.{Line, Sends, Begins, Ends, Drops, Redoes, deck, item, last_of, line_at, served_by, serves, spaces, stock, store, verb_at, verb_behind, with_one_more}
+use Rattle.pw_onecopy.specs.Operation.{key_of}
+use Rattle.pw_onecopy.specs.Path.{PathAnswer, Shown, Entry, Begun, Replied, Failed, Ended, Dropped, FileAnswer, is_outside}
+use Rattle.pw_onecopy.specs.Behaviour.{Behaviour}
 
 -- the last answer of a longer path
 last_of-push : (path : List PathAnswer) (answer : PathAnswer) → last_of (path ++ answer ∷ []) ≡ Some answer
@@ -74,32 +78,50 @@ length-more content =
     let five = length-take-le 5 (item content) (omega (arith, whole)) in
     omega (arith, sum, five)
 
-is-content : (content : List ℕ) → length content ≡ 6 → IsContent 2 content
-is-content content is = (omega (arith, is), omega (arith, is))
+-- an operation of a server names STOCK and has a key of its length; what it writes has the length of a record
+record CallOk (call : FileCall) : Type 0 where
+  there : call.file ≡ 0
+  keyed : length (key_of 2 call.op call) ≡ 2
+  content : is_written call.op ≡ true → IsContent 2 call.content
 
-written : (call known : FileCall) → verb.File known ≡ verb.File call → IsContent 2 known.content → IsContent 2 call.content
-written call known is content = subst (λ (x : FileCall). IsContent 2 x.content) (let same : known ≡ call = cc in same) content
+like_known : (call known : FileCall) → verb.File known ≡ verb.File call → CallOk known → CallOk call
+like_known call known is ok = subst CallOk (let same : known ≡ call = cc in same) ok
 
-unwritten : (call known : FileCall) → verb.File known ≡ verb.File call → is_written known.op ≡ false → is_written call.op ≡ true → ⊥
-unwritten call known is none writes = true≢false (sym writes ∙ (ap (λ (x : FileCall). is_written x.op) (let same : call ≡ known = cc in same) ∙ none))
+keyed : (op : FileOp) (content : List ℕ) → length content ≡ 6 → is_written op ≡ false → CallOk (record { file = 0; op = op; key = take 2 content; content = [] })
+keyed Read content six is = record { there = refl; keyed = length-take-le 2 content (omega (arith, six)); content = λ e. absurd (true≢false (sym e)) }
+keyed Next content six is = record { there = refl; keyed = length-take-le 2 content (omega (arith, six)); content = λ e. absurd (true≢false (sym e)) }
+keyed Delete content six is = record { there = refl; keyed = length-take-le 2 content (omega (arith, six)); content = λ e. absurd (true≢false (sym e)) }
+keyed ReadLock content six is = record { there = refl; keyed = length-take-le 2 content (omega (arith, six)); content = λ e. absurd (true≢false (sym e)) }
+keyed NextLock content six is = record { there = refl; keyed = length-take-le 2 content (omega (arith, six)); content = λ e. absurd (true≢false (sym e)) }
+keyed Write content six is = absurd (true≢false is)
+keyed Rewrite content six is = absurd (true≢false is)
 
-writes-content : (is_increment is_next : Bool) (content : List ℕ) (done : List FileAnswer) (call : FileCall) → length content ≡ 6
-    → serves is_increment is_next content done ≡ verb.File call → is_written call.op ≡ true → IsContent 2 call.content
-writes-content true is_next content [] call six is writes = absurd (unwritten call _ is refl writes)
-writes-content true is_next content (read ∷ []) call six is writes = written call _ is (is-content _ (length-more _))
-writes-content true is_next content (read ∷ rewritten ∷ done) call six is writes = absurd (cc is)
-writes-content false true content [] call six is writes = absurd (unwritten call _ is refl writes)
-writes-content false true content (read ∷ done) call six is writes = absurd (cc is)
-writes-content false false content [] call six is writes = written call _ is (is-content content six)
-writes-content false false content (put_in ∷ done) call six is writes = absurd (cc is)
+of-record : (op : FileOp) (content : List ℕ) → length content ≡ 6 → is_written op ≡ true → CallOk (record { file = 0; op = op; key = []; content = content })
+of-record Write content six is = record { there = refl; keyed = length-take-le 2 content (omega (arith, six)); content = λ e. (omega (arith, six), omega (arith, six)) }
+of-record Rewrite content six is = record { there = refl; keyed = length-take-le 2 content (omega (arith, six)); content = λ e. (omega (arith, six), omega (arith, six)) }
+of-record Read content six is = absurd (true≢false (sym is))
+of-record Next content six is = absurd (true≢false (sym is))
+of-record Delete content six is = absurd (true≢false (sym is))
+of-record ReadLock content six is = absurd (true≢false (sym is))
+of-record NextLock content six is = absurd (true≢false (sym is))
+
+call-ok : (is_increment is_next : Bool) (content : List ℕ) (done : List FileAnswer) (call : FileCall) → length content ≡ 6
+    → serves is_increment is_next content done ≡ verb.File call → CallOk call
+call-ok true is_next content [] call six is = like_known call _ is (keyed Read content six refl)
+call-ok true is_next content (read ∷ []) call six is = like_known call _ is (of-record Rewrite _ (length-more _) refl)
+call-ok true is_next content (read ∷ rewritten ∷ done) call six is = absurd (cc is)
+call-ok false true content [] call six is = like_known call _ is (keyed Next content six refl)
+call-ok false true content (read ∷ done) call six is = absurd (cc is)
+call-ok false false content [] call six is = like_known call _ is (of-record Write content six refl)
+call-ok false false content (put_in ∷ done) call six is = absurd (cc is)
 
 -- the system whose server is that of these letters
-abbrev of_letters : Bool → Bool → List ℕ → Sys → Sys
+abbrev of_letters : Bool → Bool → List ℕ → Behaviour → Behaviour
 of_letters is_increment is_next content sys = record sys { ops = λ c message done. serves is_increment is_next content done }
 
 -- the server's operations come to a reply within two
-two-add-up : (is_increment is_next : Bool) (content : List ℕ) (sys : Sys) (c : ℕ) (message : List ℕ) (files : ℕ → List (List ℕ))
-    → let at : Play = played (of_letters is_increment is_next content sys) c message files 2 in
+two-add-up : (is_increment is_next : Bool) (content : List ℕ) (sys : Behaviour) (c : ℕ) (message : List ℕ) (files : ℕ → List (List ℕ))
+    → let at : Play = play_after (of_letters is_increment is_next content sys) c message files 2 in
     ComesTo (served_by (serves is_increment is_next content at.done) at.files) (serves is_increment is_next content at.done) at.files
 two-add-up true is_next content sys c message files = (refl, refl)
 two-add-up false true content sys c message files = (refl, refl)
@@ -115,6 +137,10 @@ stock-is zero = record {
 }
 stock-is (suc f) = IsFile-empty 2 (omega arith, omega arith)
 
+deck-call : (message : List ℕ) (done : List FileAnswer) (call : FileCall) → store message done ≡ verb.File call → CallOk call
+deck-call message done call =
+    call-ok (slice_index_or message 0 0 == 73) (slice_index_or message 0 0 == 78) (item (drop 1 message)) done call (length-item (drop 1 message))
+
 -- what holds of every deck holds of these
 pub behaves : (terminals : ℕ) (lines : ℕ → List Line) (max_restarts : ℕ) (rule : LockRule) (script : List FailLine) → IsBehaviour (deck terminals lines max_restarts rule script)
 behaves terminals lines max_restarts rule script = record {
@@ -127,7 +153,10 @@ behaves terminals lines max_restarts rule script = record {
   fails = λ t c x message path is_path asks. ap (λ (last : Option PathAnswer). verb_behind (lines t) (is_outside (path ++ Failed x ∷ [])) last) (last_of-push path (Failed x));
   sends = λ t c message path is_path asks. let none = (behind (lines t) (is_outside path) (last_of path)).sends c message asks in omega (arith, none);
   staffed = λ c there. omega arith;
-  writes = λ c message done call there. writes-content (slice_index_or message 0 0 == 73) (slice_index_or message 0 0 == 78) (item (drop 1 message)) done call (length-item (drop 1 message));
+  pairs = λ t known. omega arith;
+  calls = λ c message done call there asks. let file = (deck-call message done call asks).there in omega (arith, file);
+  keys = λ c message done call there asks. (deck-call message done call asks).keyed;
+  writes = λ c message done call there asks. (deck-call message done call asks).content;
   adds_up = λ c message files there are_files. record {
     operations = 2;
     comes = two-add-up (slice_index_or message 0 0 == 73) (slice_index_or message 0 0 == 78) (item (drop 1 message)) (deck terminals lines max_restarts rule script) c message files;

@@ -1,9 +1,9 @@
 -- The one-copy machine is defined on the serial order of each worked log.
 use Rattle.std.proofs.Common.{refl, arith}
 use Rattle.pw_paired.specs.Logs.{older_unit_wins_deck, older_unit_wins, shared_readers_deck, shared_readers, span_lock_deck, span_lock, takeover_after_commit_deck, takeover_after_commit, takeover_answers_kept_reply_deck, takeover_answers_kept_reply, takeover_restarts_open_unit_deck, takeover_restarts_open_unit, pair_lost_while_raising_deck, pair_lost_while_raising, server_failure_restarts_unit_deck, server_failure_restarts_unit, redo_until_suspended_deck, redo_until_suspended, locks_outlive_reply_deck, locks_outlive_reply, dropped_transaction_deck, dropped_transaction, backup_failure_in_unit_deck, backup_failure_in_unit}
-use Rattle.pw_paired.specs.OneCopy.{IsSerial}
+use Rattle.pw_onecopy.specs.OneCopy.{IsSerial}
 use Rattle.pw_paired.specs.Serial.{blocks}
-use Rattle.pw_paired.specs.State.{upd}
+use Rattle.pw_onecopy.specs.Update.{upd}
 
 pub older_unit_wins-serial : IsSerial (older_unit_wins_deck 5) (blocks (older_unit_wins_deck 5) older_unit_wins)
 unfolding upd

@@ -5,9 +5,9 @@ use Rattle.pw_code.specs.declared.file.FileCall.{FileCall}
 use Rattle.pw_code.specs.declared.file.FileOp.TheVariants.{Read}
 use Rattle.pw_code.specs.declared.verb.Verb.{Verb}
 use Rattle.pw_code.specs.declared.verb.Verb.TheVariants as verb
-use Rattle.pw_paired.specs.Path.{PathAnswer}
-use Rattle.pw_paired.specs.State.{Gone, Job, Memory, Message, Open, Paired, Start, State}
-use Rattle.pw_paired.specs.System.{Sys}
+use Rattle.pw_onecopy.specs.Path.{PathAnswer}
+use Rattle.pw_paired.specs.State.{Gone, Job, BackupCopy, Message, OpenUnit, Paired, Start, State}
+use Rattle.pw_onecopy.specs.Behaviour.{Behaviour}
 use Rattle.pw_paired.specs.Terminal.{CanStep, HoldsEnd, HoldsStart, IsLive}
 
 abbrev pub request_in : List Request → Request
@@ -22,7 +22,7 @@ abbrev pub job_in : Option Job → Job
 job_in None = record { request = request_in []; done = [] }
 job_in (Some job) = job
 
-abbrev pub memory_in : Option Memory → Memory
+abbrev pub memory_in : Option BackupCopy → BackupCopy
 memory_in None = record { unit = 0; start = []; end = None }
 memory_in (Some memory) = memory
 
@@ -30,7 +30,7 @@ abbrev pub message_in : Option Message → Message
 message_in None = Start 0 []
 message_in (Some message) = message
 
-abbrev pub unit_in : Option Open → Open
+abbrev pub unit_in : Option OpenUnit → OpenUnit
 unit_in None = record { number = 0; birth = 0; restarts = 0; awaits = None; running = None }
 unit_in (Some unit) = unit
 
@@ -42,10 +42,10 @@ abbrev pub call_in : Verb → FileCall
 call_in (verb.File call) = call
 call_in _ = record { file = 0; op = Read; key = []; content = [] }
 
-pub is_live : {sys : Sys} {state : State} {t : ℕ} → t < sys.terminals → (state.terms t).ending ≡ None → IsLive sys state t
+pub is_live : {sys : Behaviour} {state : State} {t : ℕ} → t < sys.terminals → (state.terms t).ending ≡ None → IsLive sys state t
 is_live known going_on = record { known = known; going_on = going_on }
 
-pub can_step : {sys : Sys} {state : State} {t : ℕ} → t < sys.terminals → (state.terms t).ending ≡ None
+pub can_step : {sys : Behaviour} {state : State} {t : ℕ} → t < sys.terminals → (state.terms t).ending ≡ None
     → state.modes (sys.pair_of t) ≡ Paired → (state.terms t).pending ≡ None → CanStep sys state t
 can_step known going_on paired calm = record { live = is_live known going_on; paired = paired; calm = calm }
 

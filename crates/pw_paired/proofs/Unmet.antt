@@ -11,7 +11,8 @@ use Rattle.pw_paired.proofs.logs.SharedReaders.{s18}
 use Rattle.pw_paired.specs.Failure.{Meets, unit_named}
 use Rattle.pw_paired.specs.Logs.{shared_readers_deck}
 use Rattle.pw_paired.specs.Server.{lock_of_job, server_verb}
-use Rattle.pw_paired.specs.State.{upd, Class, Job}
+use Rattle.pw_onecopy.specs.Update.{upd}
+use Rattle.pw_paired.specs.State.{Class, Job}
 
 -- a job's operation conflicts with a lock of a unit
 abbrev meets_with : unit.Unit → Job → FileCall → Bool

@@ -8,9 +8,9 @@ use Rattle.pw_code.specs.declared.lock.LockRule.{LockRule}
 use Rattle.pw_code.specs.declared.verb.Verb.{Verb}
 use Rattle.pw_code.specs.declared.verb.Verb.TheVariants as verb
 use Rattle.pw_event.specs.declared.script.FailLine.{FailLine}
-use Rattle.pw_paired.specs.Behaviour.{Play, played}
-use Rattle.pw_paired.specs.Path.{PathAnswer, Shown, Entry, Begun, Replied, Failed, Ended, Dropped, FileAnswer, is_outside}
-use Rattle.pw_paired.specs.System.{Sys, Served, Reply, Fault}
+use Rattle.pw_onecopy.specs.Play.{Play, play_after}
+use Rattle.pw_onecopy.specs.Path.{PathAnswer, Shown, Entry, Begun, Replied, Failed, Ended, Dropped, FileAnswer, is_outside}
+use Rattle.pw_onecopy.specs.Behaviour.{Behaviour, Served, Reply, Fault}
 
 -- an entry line by its key: F1 with the message that its fields make, and F2 to F5
 pub data Line : Type 0 where
@@ -127,9 +127,10 @@ stock zero = codes "A10005" ∷ codes "B10007" ∷ []
 stock (suc f) = []
 
 -- the system of C with these entry lines, MAXTMFRESTARTS, rule and failure lines, but for what its server comes to
-abbrev pub deck_but_serve : ℕ → (ℕ → List Line) → ℕ → LockRule → List FailLine → Sys
+abbrev pub deck_but_serve : ℕ → (ℕ → List Line) → ℕ → LockRule → List FailLine → Behaviour
 deck_but_serve terminals lines max_restarts rule script = record {
   terminals = terminals;
+  pairs = 1;
   pair_of = λ t. 0;
   max_restarts = λ t. max_restarts;
   entries = λ t. length (lines t);
@@ -139,6 +140,7 @@ deck_but_serve terminals lines max_restarts rule script = record {
   processes = λ c. 2;
   ops = λ c message done. store message done;
   serve = λ c message files. Fault 201;
+  files = 1;
   key_length = λ f. 2;
   records = stock;
   rule = rule;
@@ -146,10 +148,10 @@ deck_but_serve terminals lines max_restarts rule script = record {
 }
 
 -- the server makes at most two operations
-abbrev pub with_serve : Sys → Sys
+abbrev pub with_serve : Behaviour → Behaviour
 with_serve sys = record sys {
-  serve = λ c message files. let at : Play = played sys c message files 2 in served_by (store message at.done) at.files;
+  serve = λ c message files. let at : Play = play_after sys c message files 2 in served_by (store message at.done) at.files;
 }
 
-abbrev pub deck : ℕ → (ℕ → List Line) → ℕ → LockRule → List FailLine → Sys
+abbrev pub deck : ℕ → (ℕ → List Line) → ℕ → LockRule → List FailLine → Behaviour
 deck terminals lines max_restarts rule script = with_serve (deck_but_serve terminals lines max_restarts rule script)

@@ -1,26 +1,28 @@
 -- The entries of restarts and failures: RESTART, FAIL TCP, FAIL SERVER and TAKEOVER.
-use Rattle.std.specs.Prelude.{◌≡◌, ℕ, ◌+◌, ◌-◌, ◌<◌, ◌==◌, ◌&&◌, Bool, true, false, List, [], Option, Some, None, is_none, is_some, unwrap_or, ◌⊎◌, slice_get, if◌then◌else◌}
+use Rattle.std.specs.Prelude.{◌≡◌, ℕ, zero, suc, ◌+◌, ◌<◌, ◌==◌, ◌&&◌, Bool, true, false, List, [], Option, Some, None, is_none, is_some, unwrap_or, ◌⊎◌, slice_get, if◌then◌else◌}
 use Rattle.std.specs.List.{list_any}
 use Rattle.pw_code.specs.declared.file.FileCall.{FileCall}
 use Rattle.pw_code.specs.declared.unit.Unit as unit
 use Rattle.pw_code.specs.declared.verb.Verb.TheVariants as verb
 use Rattle.pw_event.specs.declared.event.Cause.{Cause}
 use Rattle.pw_event.specs.declared.event.Cause.TheVariants.{Older, Takeover, Server, Redo}
+use Rattle.pw_event.specs.declared.script.FailLine.{FailLine}
 use Rattle.pw_event.specs.declared.script.FailLine.TheVariants as line
 use Rattle.pw_locks.specs.Conflicts.{conflict, is_same_unit}
-use Rattle.pw_paired.specs.Path.{PathAnswer}
+use Rattle.pw_onecopy.specs.Path.{PathAnswer}
 use Rattle.pw_paired.specs.Server.{at_process, lock_of_job, server_verb}
-use Rattle.pw_paired.specs.State.{upd, Mode, Alone, Raising, Paired, Down, Gone, Awaited, Job, LastEnded, Memory, Open, State, Term}
-use Rattle.pw_paired.specs.System.{Sys}
+use Rattle.pw_onecopy.specs.Update.{upd}
+use Rattle.pw_paired.specs.State.{Mode, Alone, Raising, Paired, Down, Gone, Awaited, Job, LastEnded, BackupCopy, OpenUnit, State, Term}
+use Rattle.pw_onecopy.specs.Behaviour.{Behaviour}
 use Rattle.pw_paired.specs.Terminal.{CanStep, next_verb}
-use Rattle.pw_paired.specs.Units.{attempt_of, backed_out, cancelled, left, only, released}
+use Rattle.pw_paired.specs.Units.{attempt_of, back_out_changes, cancel_requests, leave_units, only, release_locks}
 
 -- an open unit of a terminal, as locks name it
-abbrev pub unit_named : ℕ → Open → unit.Unit
+abbrev pub unit_named : ℕ → OpenUnit → unit.Unit
 unit_named t open_unit = record { terminal = t; number = open_unit.number; birth = open_unit.birth }
 
 -- the lock of the next file operation of a process for one unit conflicts with a lock of the other
-pub record Meets (sys : Sys) (state : State) (one other : unit.Unit) : Type 0 where
+pub record Meets (sys : Behaviour) (state : State) (one other : unit.Unit) : Type 0 where
   pub class : ℕ
   pub process : ℕ
   pub job : Job
@@ -33,8 +35,8 @@ pub record Meets (sys : Sys) (state : State) (one other : unit.Unit) : Type 0 wh
 
 -- OLDER o m: unit m of terminal o is open and older, the pair of t is not Gone, and the lock of the next file operation of
 -- a process for one of the two units conflicts with a lock of the other
-pub record LegalOlder (sys : Sys) (state : State) (t : ℕ) (own : Open) (o m : ℕ) : Type 0 where
-  pub older : Open
+pub record LegalOlder (sys : Behaviour) (state : State) (t : ℕ) (own : OpenUnit) (o m : ℕ) : Type 0 where
+  pub older : OpenUnit
   pub is_open : state.units o ≡ Some older
   pub number : older.number ≡ m
   pub is_older : older.birth < own.birth
@@ -42,29 +44,29 @@ pub record LegalOlder (sys : Sys) (state : State) (t : ℕ) (own : Open) (o m : 
   pub meets : Meets sys state (unit_named t own) (unit_named o older) ⊎ Meets sys state (unit_named o older) (unit_named t own)
 
 -- TAKEOVER p: it is pending, in mode Alone
-pub record LegalTakeoverCause (sys : Sys) (state : State) (t p : ℕ) : Type 0 where
+pub record LegalTakeoverCause (sys : Behaviour) (state : State) (t p : ℕ) : Type 0 where
   pub pending : (state.terms t).pending ≡ Some (Takeover p)
   pub alone : state.modes (sys.pair_of t) ≡ Alone
 
 -- SERVER k: it is pending, and the pair is Paired
-pub record LegalServerCause (sys : Sys) (state : State) (t k : ℕ) : Type 0 where
+pub record LegalServerCause (sys : Behaviour) (state : State) (t k : ℕ) : Type 0 where
   pub pending : (state.terms t).pending ≡ Some (Server k)
   pub paired : state.modes (sys.pair_of t) ≡ Paired
 
 -- REDO: t can step, and its next verb is Redo
-pub record LegalRedoCause (sys : Sys) (state : State) (t : ℕ) : Type 0 where
+pub record LegalRedoCause (sys : Behaviour) (state : State) (t : ℕ) : Type 0 where
   pub can : CanStep sys state t
   pub asks : next_verb sys state t ≡ verb.Redo
 
 -- the cause holds for the running attempt of a terminal's unit
-abbrev pub Holds : Sys → State → ℕ → Open → Cause → Type 0
+abbrev pub Holds : Behaviour → State → ℕ → OpenUnit → Cause → Type 0
 Holds sys state t own (Older o m) = LegalOlder sys state t own o m
 Holds sys state t own (Takeover p) = LegalTakeoverCause sys state t p
 Holds sys state t own (Server k) = LegalServerCause sys state t k
 Holds sys state t own Redo = LegalRedoCause sys state t
 
 -- an attempt of unit n of t runs, and the cause holds for it
-pub record IsCaused (sys : Sys) (state : State) (t n : ℕ) (cause : Cause) (unit : Open) : Type 0 where
+pub record IsCaused (sys : Behaviour) (state : State) (t n : ℕ) (cause : Cause) (unit : OpenUnit) : Type 0 where
   pub is_open : state.units t ≡ Some unit
   pub number : unit.number ≡ n
   pub start : List PathAnswer
@@ -72,99 +74,104 @@ pub record IsCaused (sys : Sys) (state : State) (t n : ℕ) (cause : Cause) (uni
   pub holds : Holds sys state t unit cause
 
 -- RESTART t n cause: an attempt of n runs, it has fewer than MAXTMFRESTARTS recorded restarts, and the cause holds
-pub record LegalRestart (sys : Sys) (state : State) (t n : ℕ) (cause : Cause) : Type 0 where
-  pub unit : Open
+pub record LegalRestart (sys : Behaviour) (state : State) (t n : ℕ) (cause : Cause) : Type 0 where
+  pub unit : OpenUnit
   pub caused : IsCaused sys state t n cause unit
   pub few : unit.restarts < sys.max_restarts t
 
 -- for OLDER the named unit is awaited; another cause leaves the awaited unit as it was
-abbrev pub awaiting : Cause → Option Awaited → Option Awaited
-awaiting (Older o m) awaited = Some (record { terminal = o; number = m })
-awaiting (Takeover p) awaited = awaited
-awaiting (Server k) awaited = awaited
-awaiting Redo awaited = awaited
+abbrev pub awaited_after : Cause → Option Awaited → Option Awaited
+awaited_after (Older o m) awaited = Some (record { terminal = o; number = m })
+awaited_after (Takeover p) awaited = awaited
+awaited_after (Server k) awaited = awaited
+awaited_after Redo awaited = awaited
 
 -- the restart is recorded
-abbrev pub restarted : Cause → Option Open → Option Open
-restarted cause None = None
-restarted cause (Some unit) = Some (record unit { restarts = unit.restarts + 1; awaits = awaiting cause unit.awaits; running = None })
+abbrev pub with_restart : Cause → Option OpenUnit → Option OpenUnit
+with_restart cause None = None
+with_restart cause (Some unit) = Some (record unit { restarts = unit.restarts + 1; awaits = awaited_after cause unit.awaits; running = None })
 
 -- the path is the start path, and nothing is pending
-abbrev pub back_at : Option (List PathAnswer) → Term → Term
-back_at None term = record term { pending = None }
-back_at (Some start) term = record term { path = start; pending = None }
+abbrev pub with_start_path : Option (List PathAnswer) → Term → Term
+with_start_path None term = record term { pending = None }
+with_start_path (Some start) term = record term { path = start; pending = None }
 
 -- changes are backed out, locks released and the request cancelled; the restart is recorded; the path is the start path
-abbrev pub do_restart : Sys → ℕ → Cause → State → State
-do_restart sys t cause state = record (cancelled (only t) (released (only t) (backed_out sys (only t) state))) {
-  units = upd state.units t (restarted cause (state.units t));
-  terms = upd state.terms t (back_at (attempt_of (state.units t)) (state.terms t));
+abbrev pub do_restart : Behaviour → ℕ → Cause → State → State
+do_restart sys t cause state = record (cancel_requests (only t) (release_locks (only t) (back_out_changes sys (only t) state))) {
+  units = upd state.units t (with_restart cause (state.units t));
+  terms = upd state.terms t (with_start_path (attempt_of (state.units t)) (state.terms t));
 }
 
 -- the terminal is of the pair
-abbrev pub is_of : Sys → ℕ → ℕ → Bool
+abbrev pub is_of : Behaviour → ℕ → ℕ → Bool
 is_of sys p t = sys.pair_of t == p
 
 -- what the backup of a pair holds, and the messages in flight to it, are gone
-abbrev pub without_backup : Sys → ℕ → State → State
+abbrev pub without_backup : Behaviour → ℕ → State → State
 without_backup sys p state = record state {
   memory = λ t. if is_of sys p t then None else state.memory t;
   flight = λ t. if is_of sys p t then None else state.flight t;
 }
 
--- a terminal whose path is gone: its path is empty
+-- a terminal whose path is gone: its path is empty, and nothing is pending for it
 abbrev pub without_path : Term → Term
-without_path term = record term { path = [] }
+without_path term = record term { path = []; pending = None }
 
--- Gone: memory, messages, paths and requests of the pair's terminals go, and all their open units are left
-abbrev pub gone : Sys → ℕ → State → State
-gone sys p state = record (left sys (is_of sys p) (without_backup sys p state)) {
+-- Gone: memory, messages, paths, pending causes and requests of the pair's terminals go, and all their open units are left
+abbrev pub lose_pair : Behaviour → ℕ → State → State
+lose_pair sys p state = record (leave_units sys (is_of sys p) (without_backup sys p state)) {
   modes = upd state.modes p Gone;
   terms = λ t. if is_of sys p t then without_path (state.terms t) else state.terms t;
 }
 
 -- Down: paths, messages in flight, requests and pending causes of the pair's terminals are gone
-abbrev pub down : Sys → ℕ → State → State
-down sys p state = record (cancelled (is_of sys p) state) {
+abbrev pub lose_primary : Behaviour → ℕ → State → State
+lose_primary sys p state = record (cancel_requests (is_of sys p) state) {
   modes = upd state.modes p Down;
-  terms = λ t. if is_of sys p t then record (without_path (state.terms t)) { pending = None } else state.terms t;
+  terms = λ t. if is_of sys p t then without_path (state.terms t) else state.terms t;
   flight = λ t. if is_of sys p t then None else state.flight t;
 }
 
 -- Alone again: memory and messages in flight are gone
-abbrev pub alone : Sys → ℕ → State → State
-alone sys p state = record (without_backup sys p state) { modes = upd state.modes p Alone }
+abbrev pub lose_backup : Behaviour → ℕ → State → State
+lose_backup sys p state = record (without_backup sys p state) { modes = upd state.modes p Alone }
 
 -- the primary fails in a mode
-abbrev pub primary_fails : Sys → ℕ → Mode → State → State
-primary_fails sys p Paired state = down sys p state
-primary_fails sys p Raising state = gone sys p state
-primary_fails sys p Alone state = gone sys p state
+abbrev pub primary_fails : Behaviour → ℕ → Mode → State → State
+primary_fails sys p Paired state = lose_primary sys p state
+primary_fails sys p Raising state = lose_pair sys p state
+primary_fails sys p Alone state = lose_pair sys p state
 primary_fails sys p Down state = state
 primary_fails sys p Gone state = state
 
 -- the backup fails in a mode
-abbrev pub backup_fails : Sys → ℕ → Mode → State → State
-backup_fails sys p Paired state = alone sys p state
-backup_fails sys p Raising state = alone sys p state
+abbrev pub backup_fails : Behaviour → ℕ → Mode → State → State
+backup_fails sys p Paired state = lose_backup sys p state
+backup_fails sys p Raising state = lose_backup sys p state
 backup_fails sys p Alone state = state
-backup_fails sys p Down state = gone sys p state
+backup_fails sys p Down state = lose_pair sys p state
 backup_fails sys p Gone state = state
 
+-- line k of the failure lines, counted from 1, if there is one
+abbrev pub fail_line : List FailLine → ℕ → Option FailLine
+fail_line lines zero = None
+fail_line lines (suc k) = slice_get lines k
+
 -- FAIL TCP p PRIMARY k, FAIL TCP p BACKUP k: line k is such a line. (That the line is due is asked in `Legal`.)
-pub record LegalFailTcp (sys : Sys) (p : ℕ) (primary : Bool) (k : ℕ) : Type 0 where
+pub record LegalFailTcp (sys : Behaviour) (p : ℕ) (primary : Bool) (k : ℕ) : Type 0 where
   pub after : ℕ
-  pub names : slice_get sys.script (k - 1) ≡ Some (line.Tcp p primary after)
+  pub names : fail_line sys.script k ≡ Some (line.Tcp p primary after)
 
 -- the member of the pair fails
-abbrev pub do_fail_tcp : Sys → ℕ → Bool → State → State
+abbrev pub do_fail_tcp : Behaviour → ℕ → Bool → State → State
 do_fail_tcp sys p true state = primary_fails sys p (state.modes p) state
 do_fail_tcp sys p false state = backup_fails sys p (state.modes p) state
 
 -- FAIL SERVER c i k: line k is such a line
-pub record LegalFailServer (sys : Sys) (c i k : ℕ) : Type 0 where
+pub record LegalFailServer (sys : Behaviour) (c i k : ℕ) : Type 0 where
   pub after : ℕ
-  pub names : slice_get sys.script (k - 1) ≡ Some (line.Server c i after)
+  pub names : fail_line sys.script k ≡ Some (line.Server c i after)
 
 -- the request at a process, if any, is cancelled, the process is free, and the cause is pending for its terminal
 abbrev pub process_fails : ℕ → ℕ → ℕ → Option Job → State → State
@@ -182,31 +189,31 @@ pub record LegalTakeover (state : State) (p : ℕ) : Type 0 where
   pub down : state.modes p ≡ Down
 
 -- where TMF's last ended unit is the memory's and the end path is there, the path is that; otherwise it is the start path
-abbrev pub resumed_path : Memory → LastEnded → List PathAnswer
+abbrev pub resumed_path : BackupCopy → LastEnded → List PathAnswer
 resumed_path memory last = if last.number == memory.unit then unwrap_or memory.end memory.start else memory.start
 
 -- an attempt of the unit runs
-abbrev pub runs_unit : ℕ → Option Open → Bool
+abbrev pub runs_unit : ℕ → Option OpenUnit → Bool
 runs_unit number None = false
 runs_unit number (Some unit) = unit.number == number && is_some unit.running
 
 -- a live terminal behind the takeover: its path is set by the memory and, where an attempt of the memory's unit still runs,
 -- the cause TAKEOVER p becomes pending
-abbrev pub resumed : ℕ → Option Memory → Option Open → LastEnded → Term → Term
-resumed p None unit last term = term
-resumed p (Some memory) unit last term = record term {
+abbrev pub resume_terminal : ℕ → Option BackupCopy → Option OpenUnit → LastEnded → Term → Term
+resume_terminal p None unit last term = term
+resume_terminal p (Some memory) unit last term = record term {
   path = resumed_path memory last;
   pending = if runs_unit memory.unit unit then Some (Takeover p) else term.pending;
 }
 
 -- the terminal is of the pair and has no ending
-abbrev pub is_live_of : Sys → ℕ → State → ℕ → Bool
+abbrev pub is_live_of : Behaviour → ℕ → State → ℕ → Bool
 is_live_of sys p state t = is_of sys p t && is_none (state.terms t).ending
 
 -- Alone; each live terminal's path is set, and then the memory of p's terminals is gone
-abbrev pub do_takeover : Sys → ℕ → State → State
+abbrev pub do_takeover : Behaviour → ℕ → State → State
 do_takeover sys p state = record state {
   modes = upd state.modes p Alone;
-  terms = λ t. if is_live_of sys p state t then resumed p (state.memory t) (state.units t) (state.ended t) (state.terms t) else state.terms t;
+  terms = λ t. if is_live_of sys p state t then resume_terminal p (state.memory t) (state.units t) (state.ended t) (state.terms t) else state.terms t;
   memory = λ t. if is_of sys p t then None else state.memory t;
 }

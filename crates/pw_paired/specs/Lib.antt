@@ -1,6 +1,3 @@
-pub mod Path
-pub mod System
-pub mod Operation
 pub mod State
 pub mod Units
 pub mod Terminal
@@ -9,11 +6,9 @@ pub mod Failure
 pub mod Raising
 pub mod End
 pub mod Step
-pub mod Refreshes
+pub mod Shown
 pub mod Serial
-pub mod OneCopy
 pub mod Headline
-pub mod Behaviour
 pub mod DeckC
 pub mod Logs
 pub mod Worked

@@ -3,9 +3,10 @@ use Rattle.std.specs.Prelude.{◌≡◌, ◌⊎◌, ℕ, ◌&&◌, Bool, true, f
 use Rattle.pw_event.specs.declared.event.Cause.{Cause}
 use Rattle.pw_event.specs.declared.event.Cause.TheVariants.{Takeover}
 use Rattle.pw_paired.specs.Failure.{is_live_of, is_of}
-use Rattle.pw_paired.specs.Path.{PathAnswer, unit_number}
-use Rattle.pw_paired.specs.State.{upd, Mode, Alone, Raising, Paired, Down, Gone, Memory, Message, Start, End, Copy, State}
-use Rattle.pw_paired.specs.System.{Sys}
+use Rattle.pw_onecopy.specs.Path.{PathAnswer, unit_number}
+use Rattle.pw_onecopy.specs.Update.{upd}
+use Rattle.pw_paired.specs.State.{Mode, Alone, Raising, Paired, Down, Gone, BackupCopy, Message, Start, End, Copy, State}
+use Rattle.pw_onecopy.specs.Behaviour.{Behaviour}
 use Rattle.pw_paired.specs.Terminal.{IsLive, path_of}
 use Rattle.pw_paired.specs.Units.{any_below, attempt_of}
 
@@ -16,20 +17,20 @@ is_takeover (Some (Takeover p)) = true
 is_takeover (Some _) = false
 
 -- RAISE p: Alone, a terminal of p is live, and no TAKEOVER cause is pending in p
-pub record LegalRaise (sys : Sys) (state : State) (p : ℕ) : Type 0 where
+pub record LegalRaise (sys : Behaviour) (state : State) (p : ℕ) : Type 0 where
   pub alone : state.modes p ≡ Alone
   pub wanted : any_below sys.terminals (is_live_of sys p state) ≡ true
   pub calm : any_below sys.terminals (λ t. is_of sys p t && is_takeover (state.terms t).pending) ≡ false
 
 -- Raising, with an empty memory
-abbrev pub do_raise : Sys → ℕ → State → State
+abbrev pub do_raise : Behaviour → ℕ → State → State
 do_raise sys p state = record state {
   modes = upd state.modes p Raising;
   memory = λ t. if is_of sys p t then None else state.memory t;
 }
 
 -- CHECK t COPY: the pair is Raising, t is live, memory lacks t, and nothing is in flight
-pub record LegalCheckCopy (sys : Sys) (state : State) (t : ℕ) : Type 0 where
+pub record LegalCheckCopy (sys : Behaviour) (state : State) (t : ℕ) : Type 0 where
   pub live : IsLive sys state t
   pub raising : state.modes (sys.pair_of t) ≡ Raising
   pub lacking : state.memory t ≡ None
@@ -44,43 +45,43 @@ abbrev pub do_check_copy : ℕ → State → State
 do_check_copy t state = record state { flight = upd state.flight t (Some (Copy (unit_number (copied_path state t)) (copied_path state t))) }
 
 -- APPLIED t: a message of t is in flight, and the pair is Raising or Paired
-pub record LegalApplied (sys : Sys) (state : State) (t : ℕ) : Type 0 where
+pub record LegalApplied (sys : Behaviour) (state : State) (t : ℕ) : Type 0 where
   pub message : Message
   pub flies : state.flight t ≡ Some message
   pub mode : (state.modes (sys.pair_of t) ≡ Raising) ⊎ (state.modes (sys.pair_of t) ≡ Paired)
 
 -- a memory with an end path
-abbrev pub with_end : List PathAnswer → Option Memory → Option Memory
+abbrev pub with_end : List PathAnswer → Option BackupCopy → Option BackupCopy
 with_end path None = None
 with_end path (Some memory) = Some (record memory { end = Some path })
 
 -- START and COPY replace memory and clear its end path; END sets its end path
-abbrev pub remembered : Option Message → Option Memory → Option Memory
-remembered None memory = memory
-remembered (Some (Start unit path)) memory = Some (record { unit = unit; start = path; end = None })
-remembered (Some (Copy unit path)) memory = Some (record { unit = unit; start = path; end = None })
-remembered (Some (End path)) memory = with_end path memory
+abbrev pub with_message : Option Message → Option BackupCopy → Option BackupCopy
+with_message None memory = memory
+with_message (Some (Start unit path)) memory = Some (record { unit = unit; start = path; end = None })
+with_message (Some (Copy unit path)) memory = Some (record { unit = unit; start = path; end = None })
+with_message (Some (End path)) memory = with_end path memory
 
 -- memory lacks a live terminal of the pair
-abbrev pub lacks_one : Sys → ℕ → State → Bool
+abbrev pub lacks_one : Behaviour → ℕ → State → Bool
 lacks_one sys p state = any_below sys.terminals (λ t. is_live_of sys p state t && not (is_some (state.memory t)))
 
 -- Raising becomes Paired where memory has every live terminal of the pair
-abbrev pub raised : Mode → Bool → Mode
-raised Raising false = Paired
-raised Raising true = Raising
-raised Alone lacks = Alone
-raised Paired lacks = Paired
-raised Down lacks = Down
-raised Gone lacks = Gone
+abbrev pub settled_mode : Mode → Bool → Mode
+settled_mode Raising false = Paired
+settled_mode Raising true = Raising
+settled_mode Alone lacks = Alone
+settled_mode Paired lacks = Paired
+settled_mode Down lacks = Down
+settled_mode Gone lacks = Gone
 
 -- the pair behind an entry that may have made its memory whole
-abbrev pub settled : Sys → ℕ → State → State
-settled sys p state = record state { modes = upd state.modes p (raised (state.modes p) (lacks_one sys p state)) }
+abbrev pub settle_mode : Behaviour → ℕ → State → State
+settle_mode sys p state = record state { modes = upd state.modes p (settled_mode (state.modes p) (lacks_one sys p state)) }
 
 -- the message is taken in
-abbrev pub do_applied : Sys → ℕ → State → State
-do_applied sys t state = settled sys (sys.pair_of t) (record state {
-  memory = upd state.memory t (remembered (state.flight t) (state.memory t));
+abbrev pub do_applied : Behaviour → ℕ → State → State
+do_applied sys t state = settle_mode sys (sys.pair_of t) (record state {
+  memory = upd state.memory t (with_message (state.flight t) (state.memory t));
   flight = upd state.flight t None;
 })

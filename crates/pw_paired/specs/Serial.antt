@@ -2,29 +2,17 @@
 use Rattle.std.specs.Prelude.{ℕ, zero, suc, ◌+◌, ◌&&◌, Bool, true, false, not, List, [], ◌∷◌, ◌++◌, length, max, nat_lt, Option, Some, None, is_none, if◌then◌else◌}
 use Rattle.pw_code.specs.declared.verb.Verb.{Verb}
 use Rattle.pw_code.specs.declared.verb.Verb.TheVariants as verb
-use Rattle.pw_event.specs.declared.event.Ending.{Ending}
 use Rattle.pw_event.specs.declared.event.Event.{Event}
 use Rattle.pw_event.specs.declared.event.Event.TheVariants.{Show, Key, Begin, Reply, Again, Commit, Back, Restart, FailTcp, End}
 use Rattle.pw_paired.specs.Failure.{is_of}
-use Rattle.pw_paired.specs.Path.{is_outside, unit_number}
-use Rattle.pw_paired.specs.State.{upd, Mode, Gone, Open, State, starting}
+use Rattle.pw_onecopy.specs.Path.{is_outside, unit_number}
+use Rattle.pw_onecopy.specs.Update.{upd}
+use Rattle.pw_paired.specs.State.{Mode, Gone, OpenUnit, State, starting}
 use Rattle.pw_paired.specs.Step.{effect}
-use Rattle.pw_paired.specs.System.{Sys}
+use Rattle.pw_onecopy.specs.Behaviour.{Behaviour}
 use Rattle.pw_paired.specs.Terminal.{next_verb, path_of}
 use Rattle.pw_paired.specs.Units.{attempt_of}
-
--- how an attempt of a unit is over
-pub data How : Type 0 where
-  Committed : How
-  Dropped : How
-  Restarted : How
-  Left : How
-
--- Out: one answer outside units. Ended: an attempt of unit n of t with j answers. Done: an ending.
-pub data Block : Type 0 where
-  Out : (t : ℕ) → Block
-  Ended : (t n : ℕ) (how : How) (j : ℕ) → Block
-  Done : (t : ℕ) (ending : Ending) → Block
+use Rattle.pw_onecopy.specs.Blocks.{Aborted, Attempted, Block, Committed, Done, Left, Out, Restarted}
 
 -- What the reading of a log keeps of each terminal: the length of the longest path that it had while no attempt of it was
 -- running, and how many answers entries have put on its path since the BEGIN entry of its attempt, that entry
@@ -47,7 +35,7 @@ abbrev pub one_more : ℕ → (ℕ → ℕ) → ℕ → ℕ
 one_more t answers = upd answers t (answers t + 1)
 
 -- the answers behind an entry
-abbrev pub answers_behind : Sys → State → Event → (ℕ → ℕ) → ℕ → ℕ
+abbrev pub answers_behind : Behaviour → State → Event → (ℕ → ℕ) → ℕ → ℕ
 answers_behind sys state (Begin t n r) answers = upd answers t (answers_at_begin (next_verb sys state t))
 answers_behind sys state (Show t phase attempt k) answers = one_more t answers
 answers_behind sys state (Key t k) answers = one_more t answers
@@ -66,7 +54,7 @@ abbrev pub longest_with : State → (ℕ → ℕ) → ℕ → ℕ
 longest_with state longest t = if is_idle state t then max (longest t) (length (path_of state t)) else longest t
 
 -- the reading behind an entry
-abbrev pub read_on : Sys → State → Event → Reading → Reading
+abbrev pub read_on : Behaviour → State → Event → Reading → Reading
 read_on sys state entry reading = record {
   longest = longest_with (effect sys state entry) reading.longest;
   answers = answers_behind sys state entry reading.answers;
@@ -74,20 +62,20 @@ read_on sys state entry reading = record {
 
 -- a SHOW or KEY outside a unit reads as Out where its path is longer than every path that the terminal had before while no
 -- attempt of it was running
-abbrev pub out_of : State → Reading → ℕ → List Block
-out_of state reading t =
+abbrev pub out_block : State → Reading → ℕ → List Block
+out_block state reading t =
     if is_idle state t && nat_lt (reading.longest t) (length (path_of state t) + 1) then Out t ∷ [] else []
 
 -- an attempt that runs is left
-abbrev pub left_of : ℕ → ℕ → Option Open → List Block
-left_of t j None = []
-left_of t j (Some unit) = if is_none unit.running then [] else Ended t unit.number Left j ∷ []
+abbrev pub left_block : ℕ → ℕ → Option OpenUnit → List Block
+left_block t j None = []
+left_block t j (Some unit) = if is_none unit.running then [] else Attempted t unit.number Left j ∷ []
 
 -- the running attempts of some terminals below n are left, in the order of terminals
-abbrev pub lefts : State → Reading → (ℕ → Bool) → ℕ → List Block
-lefts state reading whose zero = []
-lefts state reading whose (suc t) =
-    lefts state reading whose t ++ (if whose t then left_of t (reading.answers t) (state.units t) else [])
+abbrev pub left_blocks : State → Reading → (ℕ → Bool) → ℕ → List Block
+left_blocks state reading whose zero = []
+left_blocks state reading whose (suc t) =
+    left_blocks state reading whose t ++ (if whose t then left_block t (reading.answers t) (state.units t) else [])
 
 -- a mode is Gone
 abbrev pub is_gone : Mode → Bool
@@ -95,38 +83,38 @@ is_gone Gone = true
 is_gone _ = false
 
 -- the entry makes the pair Gone
-abbrev pub makes_gone : Sys → State → Event → ℕ → Bool
+abbrev pub makes_gone : Behaviour → State → Event → ℕ → Bool
 makes_gone sys state entry p = is_gone ((effect sys state entry).modes p) && not (is_gone (state.modes p))
 
 -- the REPLY OK of a unit that is one SEND commits it
 abbrev pub reply_commits : State → ℕ → Option ℕ → ℕ → List Block
-reply_commits state t None j = if is_outside (path_of state t) then Ended t (unit_number (path_of state t)) Committed j ∷ [] else []
+reply_commits state t None j = if is_outside (path_of state t) then Attempted t (unit_number (path_of state t)) Committed j ∷ [] else []
 reply_commits state t (Some x) j = []
 
 -- what an entry reads as, from the state before it; the reading is the one before it too
-abbrev pub blocks_of : Sys → State → Reading → Event → List Block
-blocks_of sys state reading (Show t phase attempt k) = out_of state reading t
-blocks_of sys state reading (Key t k) = out_of state reading t
-blocks_of sys state reading (Commit t n) = Ended t n Committed (reading.answers t + 1) ∷ []
+abbrev pub blocks_of : Behaviour → State → Reading → Event → List Block
+blocks_of sys state reading (Show t phase attempt k) = out_block state reading t
+blocks_of sys state reading (Key t k) = out_block state reading t
+blocks_of sys state reading (Commit t n) = Attempted t n Committed (reading.answers t + 1) ∷ []
 blocks_of sys state reading (Reply c i t fault) = reply_commits state t fault (reading.answers t + 1)
-blocks_of sys state reading (Back t n) = Ended t n Dropped (reading.answers t + 1) ∷ []
-blocks_of sys state reading (Restart t n cause) = Ended t n Restarted (reading.answers t) ∷ []
+blocks_of sys state reading (Back t n) = Attempted t n Aborted (reading.answers t + 1) ∷ []
+blocks_of sys state reading (Restart t n cause) = Attempted t n Restarted (reading.answers t) ∷ []
 blocks_of sys state reading (FailTcp p primary k) =
-    if makes_gone sys state (FailTcp p primary k) p then lefts state reading (is_of sys p) sys.terminals else []
-blocks_of sys state reading (End t ending) = left_of t (reading.answers t) (state.units t) ++ Done t ending ∷ []
+    if makes_gone sys state (FailTcp p primary k) p then left_blocks state reading (is_of sys p) sys.terminals else []
+blocks_of sys state reading (End t ending) = left_block t (reading.answers t) (state.units t) ++ Done t ending ∷ []
 blocks_of sys state reading _ = []
 
 -- the blocks that the entries of a log give, from a state on
-abbrev pub entry_blocks_from : Sys → State → Reading → List Event → List Block
+abbrev pub entry_blocks_from : Behaviour → State → Reading → List Event → List Block
 entry_blocks_from sys state reading [] = []
 entry_blocks_from sys state reading (entry ∷ log) =
     blocks_of sys state reading entry ++ entry_blocks_from sys (effect sys state entry) (read_on sys state entry reading) log
 
 -- at the end of a log each attempt that still runs is left, in the order of terminals (none runs behind a finished one)
-abbrev pub last_blocks_from : Sys → State → Reading → List Event → List Block
-last_blocks_from sys state reading [] = lefts state reading (λ t. true) sys.terminals
+abbrev pub last_blocks_from : Behaviour → State → Reading → List Event → List Block
+last_blocks_from sys state reading [] = left_blocks state reading (λ t. true) sys.terminals
 last_blocks_from sys state reading (entry ∷ log) = last_blocks_from sys (effect sys state entry) (read_on sys state entry reading) log
 
 -- the serial order of a log
-abbrev pub blocks : Sys → List Event → List Block
+abbrev pub blocks : Behaviour → List Event → List Block
 blocks sys log = entry_blocks_from sys (starting sys) reading_starts log ++ last_blocks_from sys (starting sys) reading_starts log

@@ -9,12 +9,13 @@ use Rattle.pw_code.specs.declared.verb.Verb.TheVariants as verb
 use Rattle.pw_code.specs.Locks.{mode_of}
 use Rattle.pw_locks.specs.Conflicts.{holders}
 use Rattle.pw_locks.specs.declared.lock.Lock.{Lock}
-use Rattle.pw_paired.specs.Operation.{answer_of, lock_for, operated, plain_op}
-use Rattle.pw_paired.specs.Path.{Replied, Failed, FileAnswer, is_outside, unit_number}
-use Rattle.pw_paired.specs.State.{upd, Class, Job, State}
-use Rattle.pw_paired.specs.System.{Sys}
+use Rattle.pw_onecopy.specs.Operation.{answer_of, lock_for, records_behind, plain_op}
+use Rattle.pw_onecopy.specs.Path.{Replied, Failed, FileAnswer, is_outside, unit_number}
+use Rattle.pw_onecopy.specs.Update.{upd}
+use Rattle.pw_paired.specs.State.{Class, Job, State}
+use Rattle.pw_onecopy.specs.Behaviour.{Behaviour}
 use Rattle.pw_paired.specs.Terminal.{path_of}
-use Rattle.pw_paired.specs.Units.{unit_of, with_image, commits, answered}
+use Rattle.pw_paired.specs.Units.{unit_of, with_image, commit_unit, give_answer}
 
 -- the free process of smallest number among the n from this one on, if there is one
 abbrev pub first_free : (ℕ → Option Job) → ℕ → ℕ → Option ℕ
@@ -22,7 +23,7 @@ first_free busy process zero = None
 first_free busy process (suc n) = if is_none (busy process) then Some process else first_free busy (process + 1) n
 
 -- TAKE c i t: a request of t is the first waiting one of c, and i is the free process of smallest number
-pub record LegalTake (sys : Sys) (state : State) (c i t : ℕ) : Type 0 where
+pub record LegalTake (sys : Behaviour) (state : State) (c i t : ℕ) : Type 0 where
   pub request : Request
   pub others : List Request
   pub first : (state.classes c).waiting ≡ request ∷ others
@@ -39,20 +40,20 @@ abbrev pub do_take : ℕ → ℕ → State → State
 do_take c i state = record state { classes = upd state.classes c (taken i (state.classes c).waiting (state.classes c)) }
 
 -- what the server at a job asks next
-abbrev pub server_verb : Sys → ℕ → Job → Verb
+abbrev pub server_verb : Behaviour → ℕ → Job → Verb
 server_verb sys c job = sys.ops c job.request.message job.done
 
 -- the lock that a job's operation takes
-abbrev pub lock_of_job : Sys → State → Job → FileCall → Lock
+abbrev pub lock_of_job : Behaviour → State → Job → FileCall → Lock
 lock_of_job sys state job call = lock_for sys.rule (sys.key_length call.file) (state.files call.file) (unit_of state job.request) call
 
 -- the answer of an operation on the files
-abbrev pub answer_on : Sys → State → FileCall → FileAnswer
+abbrev pub answer_on : Behaviour → State → FileCall → FileAnswer
 answer_on sys state call = answer_of (sys.key_length call.file) (state.files call.file) call.op call
 
 -- FILE c i op m f s: the server in process i next does op on f; m is the mode of its lock; no lock of another unit
 -- conflicts with that lock; s is the status
-pub record LegalFile (sys : Sys) (state : State) (c i : ℕ) (op : FileOp) (mode : LockMode) (f status : ℕ) : Type 0 where
+pub record LegalFile (sys : Behaviour) (state : State) (c i : ℕ) (op : FileOp) (mode : LockMode) (f status : ℕ) : Type 0 where
   pub job : Job
   pub at_work : (state.classes c).busy i ≡ Some job
   pub call : FileCall
@@ -71,27 +72,27 @@ with_answer answer job = record job { done = job.done ++ answer ∷ [] }
 abbrev pub at_process : ℕ → Option Job → Class → Class
 at_process i job class = record class { busy = upd class.busy i job }
 
--- the lock is added, and the operation is done
-abbrev pub do_operation : Sys → ℕ → ℕ → Job → FileCall → State → State
+-- the lock is added behind the others, and the operation is done
+abbrev pub do_operation : Behaviour → ℕ → ℕ → Job → FileCall → State → State
 do_operation sys c i job call state = record state {
-  files = upd state.files call.file (operated (sys.key_length call.file) (state.files call.file) call);
+  files = upd state.files call.file (records_behind (sys.key_length call.file) (state.files call.file) call);
   before = with_image sys state job.request.terminal call;
-  locks = lock_of_job sys state job call ∷ state.locks;
+  locks = state.locks ++ lock_of_job sys state job call ∷ [];
   classes = upd state.classes c (at_process i (Some (with_answer (answer_on sys state call) job)) (state.classes c));
 }
 
 -- where the server's verb is an operation
-abbrev pub do_verb : Sys → ℕ → ℕ → Job → Verb → State → State
+abbrev pub do_verb : Behaviour → ℕ → ℕ → Job → Verb → State → State
 do_verb sys c i job (verb.File call) state = do_operation sys c i job call state
 do_verb sys c i job _ state = state
 
 -- where a process is at work
-abbrev pub do_job : Sys → ℕ → ℕ → Option Job → State → State
+abbrev pub do_job : Behaviour → ℕ → ℕ → Option Job → State → State
 do_job sys c i None state = state
 do_job sys c i (Some job) state = do_verb sys c i job (server_verb sys c job) state
 
 -- the operation of process i is done
-abbrev pub do_file : Sys → ℕ → ℕ → State → State
+abbrev pub do_file : Behaviour → ℕ → ℕ → State → State
 do_file sys c i state = do_job sys c i ((state.classes c).busy i) state
 
 -- what the server must ask for a REPLY: a reply, or the run fault of the entry
@@ -101,33 +102,33 @@ Replies (verb.Fault code) (Some x) = code ≡ x
 Replies _ _ = ⊥
 
 -- REPLY c i t OK: the server in i replies to t. REPLY c i t FAULT x: the server in i has run fault x.
-pub record LegalReply (sys : Sys) (state : State) (c i t : ℕ) (fault : Option ℕ) : Type 0 where
+pub record LegalReply (sys : Behaviour) (state : State) (c i t : ℕ) (fault : Option ℕ) : Type 0 where
   pub job : Job
   pub at_work : (state.classes c).busy i ≡ Some job
   pub whose : job.request.terminal ≡ t
   pub replies : Replies (server_verb sys c job) fault
 
 -- process i is free
-abbrev pub freed : ℕ → ℕ → State → State
-freed c i state = record state { classes = upd state.classes c (at_process i None (state.classes c)) }
+abbrev pub free_process : ℕ → ℕ → State → State
+free_process c i state = record state { classes = upd state.classes c (at_process i None (state.classes c)) }
 
 -- the reply that a server makes at a process
 abbrev pub reply_of : Verb → List ℕ
 reply_of (verb.Reply reply) = reply
 reply_of _ = []
 
-abbrev pub reply_at : Sys → ℕ → Option Job → List ℕ
+abbrev pub reply_at : Behaviour → ℕ → Option Job → List ℕ
 reply_at sys c None = []
 reply_at sys c (Some job) = reply_of (server_verb sys c job)
 
 -- a unit that is one SEND commits, and TMF keeps the reply
-abbrev pub commits_send : ℕ → List ℕ → State → State
-commits_send t reply state =
-    if is_outside (path_of state t) then commits t (unit_number (path_of state t)) (Some reply) state else state
+abbrev pub commit_send : ℕ → List ℕ → State → State
+commit_send t reply state =
+    if is_outside (path_of state t) then commit_unit t (unit_number (path_of state t)) (Some reply) state else state
 
 -- i is free; for OK the path gets Replied and a unit that is one SEND commits, for FAULT x the path gets Failed(x)
-abbrev pub do_reply : Sys → ℕ → ℕ → ℕ → Option ℕ → State → State
+abbrev pub do_reply : Behaviour → ℕ → ℕ → ℕ → Option ℕ → State → State
 do_reply sys c i t None state =
     let reply : List ℕ = reply_at sys c ((state.classes c).busy i) in
-    answered t (Replied reply) (commits_send t reply (freed c i state))
-do_reply sys c i t (Some x) state = answered t (Failed x) (freed c i state)
+    give_answer t (Replied reply) (commit_send t reply (free_process c i state))
+do_reply sys c i t (Some x) state = give_answer t (Failed x) (free_process c i state)

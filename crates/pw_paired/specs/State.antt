@@ -1,16 +1,12 @@
 -- The state of the paired system.
-use Rattle.std.specs.Prelude.{ℕ, List, [], Option, None, cond, eqb}
+use Rattle.std.specs.Prelude.{ℕ, List, [], Option, None}
 use Rattle.pw_class.specs.declared.request.Request.{Request}
 use Rattle.pw_event.specs.declared.event.Cause.{Cause}
 use Rattle.pw_event.specs.declared.event.Ending.{Ending}
 use Rattle.pw_event.specs.declared.event.Event.{Event}
 use Rattle.pw_locks.specs.declared.lock.Lock.{Lock}
-use Rattle.pw_paired.specs.Path.{PathAnswer, FileAnswer}
-use Rattle.pw_paired.specs.System.{Sys}
-
--- a function changed at one place
-unfoldable pub upd : {A : Type 0} → (ℕ → A) → ℕ → A → ℕ → A
-upd f place value j = cond (eqb j place) value (f j)
+use Rattle.pw_onecopy.specs.Path.{PathAnswer, FileAnswer}
+use Rattle.pw_onecopy.specs.Behaviour.{Behaviour}
 
 -- the mode of a pair
 pub data Mode : Type 0 where
@@ -38,7 +34,7 @@ pub record Awaited : Type 0 where
 
 -- An open unit: its number on its terminal, its birth, its recorded restarts, the unit that it awaits, and the start
 -- path of the attempt that runs, if one does.
-pub record Open : Type 0 where
+pub record OpenUnit : Type 0 where
   pub number : ℕ
   pub birth : ℕ
   pub restarts : ℕ
@@ -68,7 +64,7 @@ pub record Class : Type 0 where
   pub busy : ℕ → Option Job
 
 -- what a backup holds of a terminal: a unit number, a start path and an optional end path
-pub record Memory : Type 0 where
+pub record BackupCopy : Type 0 where
   pub unit : ℕ
   pub start : List PathAnswer
   pub end : Option (List PathAnswer)
@@ -88,7 +84,7 @@ pub record State : Type 0 where
   pub before : List BeforeImage
   pub locks : List Lock
   -- the open unit of each terminal, and its last ended one
-  pub units : ℕ → Option Open
+  pub units : ℕ → Option OpenUnit
   pub ended : ℕ → LastEnded
   -- how many units have begun: the next birth
   pub births : ℕ
@@ -96,11 +92,11 @@ pub record State : Type 0 where
   pub terms : ℕ → Term
   -- the mode of each pair, and of each terminal what its backup holds and the message in flight
   pub modes : ℕ → Mode
-  pub memory : ℕ → Option Memory
+  pub memory : ℕ → Option BackupCopy
   pub flight : ℕ → Option Message
 
 -- the deck's files, empty paths, and all pairs alone
-abbrev pub starting : Sys → State
+abbrev pub starting : Behaviour → State
 starting sys = record {
   log = [];
   files = sys.records;

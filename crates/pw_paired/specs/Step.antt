@@ -8,7 +8,7 @@ use Rattle.pw_paired.specs.Failure.{LegalRestart, do_restart, LegalFailTcp, do_f
 use Rattle.pw_paired.specs.Raising.{LegalRaise, do_raise, LegalCheckCopy, do_check_copy, LegalApplied, do_applied}
 use Rattle.pw_paired.specs.Server.{LegalTake, do_take, LegalFile, do_file, LegalReply, do_reply}
 use Rattle.pw_paired.specs.State.{State, starting}
-use Rattle.pw_paired.specs.System.{Sys}
+use Rattle.pw_onecopy.specs.Behaviour.{Behaviour}
 use Rattle.pw_paired.specs.Terminal.{LegalShow, do_show, LegalKey, do_key, LegalCheckStart, do_check_start, LegalCheckEnd, do_check_end, LegalBegin, do_begin, LegalSend, do_send, LegalAgain, do_again, LegalCommit, do_commit, LegalBack, do_back}
 use Rattle.pw_paired.specs.Units.{any_below}
 
@@ -17,7 +17,7 @@ abbrev pub is_going_on : State → ℕ → Bool
 is_going_on state t = is_none (state.terms t).ending
 
 -- no terminal is live
-abbrev pub is_finished : Sys → State → Bool
+abbrev pub is_finished : Behaviour → State → Bool
 is_finished sys state = not (any_below sys.terminals (is_going_on state))
 
 -- the failure line that must be due for an entry: its own for a FAIL entry, none for every other one
@@ -27,11 +27,11 @@ line_wanted (FailServer c i k) = Some k
 line_wanted _ = None
 
 -- the line that is due for the pair or class that the entry belongs to
-abbrev pub line_due : Sys → State → Event → Option ℕ
+abbrev pub line_due : Behaviour → State → Event → Option ℕ
 line_due sys state entry = due_line sys.pair_of sys.script state.log (owner_of sys.pair_of entry)
 
 -- what an entry of each kind asks for
-abbrev pub Fits : Sys → State → Event → Type 0
+abbrev pub Fits : Behaviour → State → Event → Type 0
 Fits sys state (Show t phase attempt k) = LegalShow sys state t phase attempt k
 Fits sys state (Key t k) = LegalKey sys state t k
 Fits sys state (CheckStart t) = LegalCheckStart sys state t
@@ -55,13 +55,13 @@ Fits sys state (End t ending) = LegalEnd sys state t ending
 
 -- An entry is legal where the log is not finished, its kind fits and, while a failure line is due for its pair or class, it is
 -- that line's FAIL entry; a FAIL entry is legal only so.
-pub record Legal (sys : Sys) (state : State) (entry : Event) : Type 0 where
+pub record Legal (sys : Behaviour) (state : State) (entry : Event) : Type 0 where
   pub unfinished : is_finished sys state ≡ false
   pub due : line_due sys state entry ≡ line_wanted entry
   pub fits : Fits sys state entry
 
 -- what an entry of each kind does
-abbrev pub change : Sys → State → Event → State
+abbrev pub change : Behaviour → State → Event → State
 change sys state (Show t phase attempt k) = do_show t state
 change sys state (Key t k) = do_key t k state
 change sys state (CheckStart t) = do_check_start t state
@@ -84,28 +84,28 @@ change sys state (Raise p) = do_raise sys p state
 change sys state (End t ending) = do_end sys t ending state
 
 -- the state behind an entry, which joins the log
-abbrev pub effect : Sys → State → Event → State
+abbrev pub effect : Behaviour → State → Event → State
 effect sys state entry = record (change sys state entry) { log = state.log ++ entry ∷ [] }
 
 -- the step: from a state by an entry to one new state, where the entry is legal
-pub record Steps (sys : Sys) (state : State) (entry : Event) (next : State) : Type 0 where
+pub record Steps (sys : Behaviour) (state : State) (entry : Event) (next : State) : Type 0 where
   pub legal : Legal sys state entry
   pub is_next : next ≡ effect sys state entry
 
 -- each entry of the log is a step from the state before it
-abbrev pub IsRunFrom : Sys → State → List Event → Type 0
+abbrev pub IsRunFrom : Behaviour → State → List Event → Type 0
 IsRunFrom sys state [] = Unit {0}
 IsRunFrom sys state (entry ∷ log) = Legal sys state entry × IsRunFrom sys (effect sys state entry) log
 
 -- the state behind the entries of a log
-abbrev pub after_from : Sys → State → List Event → State
+abbrev pub after_from : Behaviour → State → List Event → State
 after_from sys state [] = state
 after_from sys state (entry ∷ log) = after_from sys (effect sys state entry) log
 
 -- the log is a run of the paired system
-abbrev pub IsRun : Sys → List Event → Type 0
+abbrev pub IsRun : Behaviour → List Event → Type 0
 IsRun sys log = IsRunFrom sys (starting sys) log
 
 -- the state after a log
-abbrev pub after : Sys → List Event → State
+abbrev pub after : Behaviour → List Event → State
 after sys log = after_from sys (starting sys) log

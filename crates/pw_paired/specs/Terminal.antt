@@ -3,18 +3,20 @@ use Rattle.std.specs.Prelude.{◌≡◌, ◌≢◌, ℕ, ◌+◌, ◌<◌, ◌�
 use Rattle.pw_class.specs.declared.request.Request.{Request}
 use Rattle.pw_code.specs.declared.verb.Verb.{Verb}
 use Rattle.pw_code.specs.declared.verb.Verb.TheVariants as verb
-use Rattle.pw_paired.specs.Path.{PathAnswer, Shown, Entry, Begun, Replied, Ended, Dropped, unit_number, is_outside, next_number, entries_on}
-use Rattle.pw_paired.specs.State.{upd, Paired, Awaited, Class, LastEnded, Memory, Start, End, Open, State}
-use Rattle.pw_paired.specs.System.{Sys}
-use Rattle.pw_paired.specs.Units.{attempt_of, restarts_of, is_out, commits, drops, answered}
+use Rattle.pw_onecopy.specs.Path.{PathAnswer, Shown, Entry, Begun, Replied, Ended, Dropped, unit_number, is_outside, next_number, entries_on}
+use Rattle.pw_onecopy.specs.Update.{upd}
+use Rattle.pw_paired.specs.State.{Paired, Awaited, Class, LastEnded, BackupCopy, Start, End, OpenUnit, State}
+use Rattle.pw_onecopy.specs.Behaviour.{Behaviour}
+use Rattle.pw_paired.specs.Units.{attempt_of, restarts_of, is_out, commit_unit, drop_unit, give_answer}
+use Rattle.pw_onecopy.specs.Attempt.{BeginsUnit}
 
 -- the terminal is started and has no ending
-pub record IsLive (sys : Sys) (state : State) (t : ℕ) : Type 0 where
+pub record IsLive (sys : Behaviour) (state : State) (t : ℕ) : Type 0 where
   pub known : t < sys.terminals
   pub going_on : (state.terms t).ending ≡ None
 
 -- t can step: it is live, its pair is Paired and no cause is pending for it
-pub record CanStep (sys : Sys) (state : State) (t : ℕ) : Type 0 where
+pub record CanStep (sys : Behaviour) (state : State) (t : ℕ) : Type 0 where
   pub live : IsLive sys state t
   pub paired : state.modes (sys.pair_of t) ≡ Paired
   pub calm : (state.terms t).pending ≡ None
@@ -24,29 +26,23 @@ abbrev pub path_of : State → ℕ → List PathAnswer
 path_of state t = (state.terms t).path
 
 -- what the terminal's program asks next
-abbrev pub next_verb : Sys → State → ℕ → Verb
+abbrev pub next_verb : Behaviour → State → ℕ → Verb
 next_verb sys state t = sys.ask t (path_of state t)
 
 -- no attempt of the terminal runs
 abbrev pub IsIdle : State → ℕ → Type 0
 IsIdle state t = attempt_of (state.units t) ≡ None
 
--- the verb begins a unit: it is Begin, or Send outside a transaction
-abbrev pub BeginsUnit : Verb → List PathAnswer → Type 0
-BeginsUnit verb.Begin path = Unit {0}
-BeginsUnit (verb.Send class message) path = is_outside path ≡ true
-BeginsUnit _ path = ⊥
-
 -- the memory of the terminal is of this unit number and start path, whatever its end path is
-pub record HoldsStart (memory : Option Memory) (number : ℕ) (path : List PathAnswer) : Type 0 where
-  pub held : Memory
+pub record HoldsStart (memory : Option BackupCopy) (number : ℕ) (path : List PathAnswer) : Type 0 where
+  pub held : BackupCopy
   pub is_held : memory ≡ Some held
   pub number_is : held.unit ≡ number
   pub path_is : held.start ≡ path
 
 -- the memory of the terminal has this end path
-pub record HoldsEnd (memory : Option Memory) (path : List PathAnswer) : Type 0 where
-  pub held : Memory
+pub record HoldsEnd (memory : Option BackupCopy) (path : List PathAnswer) : Type 0 where
+  pub held : BackupCopy
   pub is_held : memory ≡ Some held
   pub path_is : held.end ≡ Some path
 
@@ -56,22 +52,22 @@ IsOver ended None = Unit {0}
 IsOver ended (Some awaited) = awaited.number ≤ (ended awaited.terminal).number
 
 -- what an open unit awaits
-abbrev pub awaited_of : Option Open → Option Awaited
+abbrev pub awaited_of : Option OpenUnit → Option Awaited
 awaited_of None = None
 awaited_of (Some unit) = unit.awaits
 
 -- SHOW t phase.attempt.k: the next verb is Show, and the number is the path's next refresh number
-pub record LegalShow (sys : Sys) (state : State) (t phase attempt k : ℕ) : Type 0 where
+pub record LegalShow (sys : Behaviour) (state : State) (t phase attempt k : ℕ) : Type 0 where
   pub can : CanStep sys state t
   pub asks : next_verb sys state t ≡ verb.Show
   pub number : next_number (path_of state t) ≡ record { phase = phase; attempt = attempt; k = k }
 
 -- the path gets Shown
 abbrev pub do_show : ℕ → State → State
-do_show t state = answered t Shown state
+do_show t state = give_answer t Shown state
 
 -- KEY t k: the next verb is Accept, k - 1 entries are on the path, and the k-th entry line exists
-pub record LegalKey (sys : Sys) (state : State) (t k : ℕ) : Type 0 where
+pub record LegalKey (sys : Behaviour) (state : State) (t k : ℕ) : Type 0 where
   pub can : CanStep sys state t
   pub screen : ℕ
   pub asks : next_verb sys state t ≡ verb.Accept screen
@@ -80,11 +76,11 @@ pub record LegalKey (sys : Sys) (state : State) (t k : ℕ) : Type 0 where
 
 -- the path gets Entry(k)
 abbrev pub do_key : ℕ → ℕ → State → State
-do_key t k state = answered t (Entry k) state
+do_key t k state = give_answer t (Entry k) state
 
 -- CHECK t START: no attempt runs, the next verb begins a unit, TMF's last ended unit is not u, memory is not (u, path),
 -- and nothing is in flight
-pub record LegalCheckStart (sys : Sys) (state : State) (t : ℕ) : Type 0 where
+pub record LegalCheckStart (sys : Behaviour) (state : State) (t : ℕ) : Type 0 where
   pub can : CanStep sys state t
   pub idle : IsIdle state t
   pub begins : BeginsUnit (next_verb sys state t) (path_of state t)
@@ -97,10 +93,10 @@ abbrev pub do_check_start : ℕ → State → State
 do_check_start t state = record state { flight = upd state.flight t (Some (Start (unit_number (path_of state t)) (path_of state t))) }
 
 -- the answer with which a transaction ends at this verb, if it does
-abbrev pub closing : Verb → Option PathAnswer
-closing verb.End = Some Ended
-closing verb.Drop = Some Dropped
-closing _ = None
+abbrev pub closing_answer : Verb → Option PathAnswer
+closing_answer verb.End = Some Ended
+closing_answer verb.Drop = Some Dropped
+closing_answer _ = None
 
 -- the path with an answer, if there is one
 abbrev pub path_with : Option PathAnswer → List PathAnswer → List PathAnswer
@@ -108,25 +104,25 @@ path_with None path = path
 path_with (Some answer) path = path ++ answer ∷ []
 
 -- the path behind the end of the transaction
-abbrev pub closed_path : Sys → State → ℕ → List PathAnswer
-closed_path sys state t = path_with (closing (next_verb sys state t)) (path_of state t)
+abbrev pub closed_path : Behaviour → State → ℕ → List PathAnswer
+closed_path sys state t = path_with (closing_answer (next_verb sys state t)) (path_of state t)
 
 -- CHECK t END: the next verb is End or Drop, memory's end path is not the path with Ended or Dropped, and nothing is in
 -- flight
-pub record LegalCheckEnd (sys : Sys) (state : State) (t : ℕ) : Type 0 where
+pub record LegalCheckEnd (sys : Behaviour) (state : State) (t : ℕ) : Type 0 where
   pub can : CanStep sys state t
   pub answer : PathAnswer
-  pub closes : closing (next_verb sys state t) ≡ Some answer
+  pub closes : closing_answer (next_verb sys state t) ≡ Some answer
   pub lacking : ¬ HoldsEnd (state.memory t) (closed_path sys state t)
   pub free : state.flight t ≡ None
 
 -- that longer path is in flight
-abbrev pub do_check_end : Sys → ℕ → State → State
+abbrev pub do_check_end : Behaviour → ℕ → State → State
 do_check_end sys t state = record state { flight = upd state.flight t (Some (End (closed_path sys state t))) }
 
 -- BEGIN t n r: no attempt runs, the next verb begins a unit, n is u, TMF's last ended unit is not n, the awaited unit has
 -- ended, memory is (u, path), and r is the number of recorded restarts of unit n
-pub record LegalBegin (sys : Sys) (state : State) (t n r : ℕ) : Type 0 where
+pub record LegalBegin (sys : Behaviour) (state : State) (t n r : ℕ) : Type 0 where
   pub can : CanStep sys state t
   pub idle : IsIdle state t
   pub begins : BeginsUnit (next_verb sys state t) (path_of state t)
@@ -137,12 +133,12 @@ pub record LegalBegin (sys : Sys) (state : State) (t n r : ℕ) : Type 0 where
   pub restarts : r ≡ restarts_of (state.units t)
 
 -- the open unit with an attempt that runs from this path; a unit that was not open has this birth
-abbrev pub begun : ℕ → ℕ → List PathAnswer → Option Open → Open
-begun n birth path None = record { number = n; birth = birth; restarts = 0; awaits = None; running = Some path }
-begun n birth path (Some unit) = record unit { running = Some path }
+abbrev pub unit_with_attempt : ℕ → ℕ → List PathAnswer → Option OpenUnit → OpenUnit
+unit_with_attempt n birth path None = record { number = n; birth = birth; restarts = 0; awaits = None; running = Some path }
+unit_with_attempt n birth path (Some unit) = record unit { running = Some path }
 
 -- the next birth, behind a beginning
-abbrev pub births_after : Option Open → ℕ → ℕ
+abbrev pub births_after : Option OpenUnit → ℕ → ℕ
 births_after None births = births + 1
 births_after (Some unit) births = births
 
@@ -152,17 +148,17 @@ begun_path r verb.Begin path = path ++ Begun r ∷ []
 begun_path r _ path = path
 
 -- the attempt runs
-abbrev pub do_begin : Sys → ℕ → ℕ → ℕ → State → State
+abbrev pub do_begin : Behaviour → ℕ → ℕ → ℕ → State → State
 do_begin sys t n r state = record state {
-  units = upd state.units t (Some (begun n state.births (path_of state t) (state.units t)));
+  units = upd state.units t (Some (unit_with_attempt n state.births (path_of state t) (state.units t)));
   births = births_after (state.units t) state.births;
   terms = upd state.terms t (record (state.terms t) { path = begun_path r (next_verb sys state t) (path_of state t) });
 }
 
 -- SEND t n c: an attempt of n runs, the next verb is Send to c, and its request is not out
-pub record LegalSend (sys : Sys) (state : State) (t n c : ℕ) : Type 0 where
+pub record LegalSend (sys : Behaviour) (state : State) (t n c : ℕ) : Type 0 where
   pub can : CanStep sys state t
-  pub unit : Open
+  pub unit : OpenUnit
   pub is_open : state.units t ≡ Some unit
   pub number : unit.number ≡ n
   pub start : List PathAnswer
@@ -181,13 +177,13 @@ abbrev pub with_request : Request → Class → Class
 with_request request class = record class { waiting = class.waiting ++ request ∷ [] }
 
 -- the request is the last waiting one of the class
-abbrev pub do_send : Sys → ℕ → ℕ → ℕ → State → State
+abbrev pub do_send : Behaviour → ℕ → ℕ → ℕ → State → State
 do_send sys t n c state =
     let request : Request = record { terminal = t; unit = n; message = message_of (next_verb sys state t) } in
     record state { classes = upd state.classes c (with_request request (state.classes c)) }
 
 -- AGAIN t n: the next verb is Send outside a transaction, n is u, and TMF's last ended unit is n
-pub record LegalAgain (sys : Sys) (state : State) (t n : ℕ) : Type 0 where
+pub record LegalAgain (sys : Behaviour) (state : State) (t n : ℕ) : Type 0 where
   pub can : CanStep sys state t
   pub class : ℕ
   pub message : List ℕ
@@ -202,10 +198,10 @@ kept_reply last = unwrap_or last.reply []
 
 -- the path gets Replied with the kept reply
 abbrev pub do_again : ℕ → State → State
-do_again t state = answered t (Replied (kept_reply (state.ended t))) state
+do_again t state = give_answer t (Replied (kept_reply (state.ended t))) state
 
 -- COMMIT t n: the next verb is End, n is u, and memory's end path is the path with Ended
-pub record LegalCommit (sys : Sys) (state : State) (t n : ℕ) : Type 0 where
+pub record LegalCommit (sys : Behaviour) (state : State) (t n : ℕ) : Type 0 where
   pub can : CanStep sys state t
   pub asks : next_verb sys state t ≡ verb.End
   pub number : n ≡ unit_number (path_of state t)
@@ -213,15 +209,15 @@ pub record LegalCommit (sys : Sys) (state : State) (t n : ℕ) : Type 0 where
 
 -- unit n ends committed, and the path gets Ended
 abbrev pub do_commit : ℕ → ℕ → State → State
-do_commit t n state = answered t Ended (commits t n None state)
+do_commit t n state = give_answer t Ended (commit_unit t n None state)
 
 -- BACK t n: the next verb is Drop, n is u, and memory's end path is the path with Dropped
-pub record LegalBack (sys : Sys) (state : State) (t n : ℕ) : Type 0 where
+pub record LegalBack (sys : Behaviour) (state : State) (t n : ℕ) : Type 0 where
   pub can : CanStep sys state t
   pub asks : next_verb sys state t ≡ verb.Drop
   pub number : n ≡ unit_number (path_of state t)
   pub held : HoldsEnd (state.memory t) (path_of state t ++ Dropped ∷ [])
 
 -- unit n is backed out and ends, and the path gets Dropped
-abbrev pub do_back : Sys → ℕ → ℕ → State → State
-do_back sys t n state = answered t Dropped (drops sys t n state)
+abbrev pub do_back : Behaviour → ℕ → ℕ → State → State
+do_back sys t n state = give_answer t Dropped (drop_unit sys t n state)

@@ -1,6 +1,4 @@
-//! The paired system and the one-copy machine: definitions, and the laws that hold of every run.
+//! The paired system: its state, its steps and runs, and what a log means.
 #![tactic(auto)]
 
-pub mod laws;
-pub mod refresh;
 pub mod worked;

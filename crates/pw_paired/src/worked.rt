@@ -6,10 +6,10 @@ ghost use Rattle.pw_event.specs.declared.event.Cause.TheVariants.{Older, Redo};
 ghost use Rattle.pw_event.specs.declared.event.Ending.TheVariants.{NoEntries, Suspended, Lost};
 ghost use Rattle.pw_event.specs.declared.event.Event.TheVariants.{Begin, Commit, End, FailTcp, File, Raise, Restart};
 ghost use Rattle.pw_event.specs.declared.script.FailLine.{FailLine};
-ghost use Rattle.pw_paired.specs.Behaviour.{IsBehaviour};
+ghost use Rattle.pw_onecopy.specs.IsBehaviour.{IsBehaviour};
 ghost use Rattle.pw_paired.specs.DeckC.{Line, deck};
 ghost use Rattle.pw_paired.specs.Logs.{older_unit_wins_deck, older_unit_wins, shared_readers_deck, shared_readers, span_lock_deck, span_lock, takeover_after_commit_deck, takeover_after_commit, takeover_answers_kept_reply_deck, takeover_answers_kept_reply, takeover_restarts_open_unit_deck, takeover_restarts_open_unit, pair_lost_while_raising_deck, pair_lost_while_raising, server_failure_restarts_unit_deck, server_failure_restarts_unit, redo_until_suspended_deck, redo_until_suspended, locks_outlive_reply_deck, locks_outlive_reply, dropped_transaction_deck, dropped_transaction, backup_failure_in_unit_deck, backup_failure_in_unit, finished_deck};
-ghost use Rattle.pw_paired.specs.Serial.{Out, Ended, Done, Committed, Dropped, Restarted, Left};
+ghost use Rattle.pw_onecopy.specs.Blocks.{Out, Attempted, Done, Committed, Aborted, Restarted, Left};
 ghost use Rattle.pw_paired.specs.Step.{Legal, after};
 ghost use Rattle.pw_paired.specs.Worked.{WorksOut, shown};
 
@@ -17,53 +17,53 @@ ghost use Rattle.pw_paired.specs.Worked.{WorksOut, shown};
 pub fn worked_logs()
     ensures older_unit_wins_version_1 { WorksOut (older_unit_wins_deck 5) older_unit_wins
         (codes "A10007" ∷ codes "B10007" ∷ [])
-        (Out 0 ∷ Out 1 ∷ Ended 1 1 Restarted 0 ∷ Ended 0 1 Committed 1 ∷ Out 0 ∷ Ended 1 1 Committed 1 ∷ Out 1
+        (Out 0 ∷ Out 1 ∷ Attempted 1 1 Restarted 0 ∷ Attempted 0 1 Committed 1 ∷ Out 0 ∷ Attempted 1 1 Committed 1 ∷ Out 1
         ∷ Done 0 NoEntries ∷ Done 1 NoEntries ∷ [])
         (shown 0 2 0 1 (codes "00000000A10006") ∷ []) (shown 1 2 0 1 (codes "00000000A10007") ∷ []) }
     ensures shared_readers_version_2 { WorksOut shared_readers_deck shared_readers
         (codes "A10007" ∷ codes "B10007" ∷ [])
-        (Out 0 ∷ Out 1 ∷ Ended 1 1 Restarted 0 ∷ Ended 0 1 Committed 1 ∷ Out 0 ∷ Ended 1 1 Committed 1 ∷ Out 1
+        (Out 0 ∷ Out 1 ∷ Attempted 1 1 Restarted 0 ∷ Attempted 0 1 Committed 1 ∷ Out 0 ∷ Attempted 1 1 Committed 1 ∷ Out 1
         ∷ Done 0 NoEntries ∷ Done 1 NoEntries ∷ [])
         (shown 0 2 0 1 (codes "00000000A10006") ∷ []) (shown 1 2 0 1 (codes "00000000A10007") ∷ []) }
     ensures span_lock_refuses_younger_write { WorksOut span_lock_deck span_lock
         (codes "A10005" ∷ codes "B10007" ∷ [])
-        (Out 0 ∷ Out 1 ∷ Ended 1 1 Restarted 0 ∷ Ended 0 1 Left 2 ∷ [])
+        (Out 0 ∷ Out 1 ∷ Attempted 1 1 Restarted 0 ∷ Attempted 0 1 Left 2 ∷ [])
         [] [] }
     ensures takeover_after_commit { WorksOut takeover_after_commit_deck takeover_after_commit
         (codes "A10006" ∷ codes "B10007" ∷ [])
-        (Out 0 ∷ Ended 0 1 Committed 6 ∷ Done 0 NoEntries ∷ [])
+        (Out 0 ∷ Attempted 0 1 Committed 6 ∷ Done 0 NoEntries ∷ [])
         (shown 0 1 0 1 (codes "00000000A10006") ∷ []) [] }
     ensures takeover_answers_kept_reply { WorksOut takeover_answers_kept_reply_deck takeover_answers_kept_reply
         (codes "A10006" ∷ codes "B10007" ∷ [])
-        (Out 0 ∷ Ended 0 1 Committed 1 ∷ Out 0 ∷ Done 0 NoEntries ∷ [])
+        (Out 0 ∷ Attempted 0 1 Committed 1 ∷ Out 0 ∷ Done 0 NoEntries ∷ [])
         (shown 0 2 0 1 (codes "00000000A10006") ∷ []) [] }
     ensures takeover_restarts_open_unit { WorksOut takeover_restarts_open_unit_deck takeover_restarts_open_unit
         (codes "A10006" ∷ codes "B10007" ∷ [])
-        (Out 0 ∷ Ended 0 1 Restarted 4 ∷ Ended 0 1 Committed 6 ∷ Done 0 NoEntries ∷ [])
+        (Out 0 ∷ Attempted 0 1 Restarted 4 ∷ Attempted 0 1 Committed 6 ∷ Done 0 NoEntries ∷ [])
         (shown 0 1 0 1 (codes "00000000A10006") ∷ shown 0 1 1 1 (codes "00000000A10006") ∷ []) [] }
     ensures pair_lost_while_raising { WorksOut pair_lost_while_raising_deck pair_lost_while_raising
         (codes "A10006" ∷ codes "B10007" ∷ [])
-        (Out 0 ∷ Ended 0 1 Committed 6 ∷ Done 0 Lost ∷ [])
+        (Out 0 ∷ Attempted 0 1 Committed 6 ∷ Done 0 Lost ∷ [])
         (shown 0 1 0 1 (codes "00000000A10006") ∷ []) [] }
     ensures server_failure_restarts_unit { WorksOut server_failure_restarts_unit_deck server_failure_restarts_unit
         (codes "A10006" ∷ codes "B10007" ∷ [])
-        (Out 0 ∷ Ended 0 1 Restarted 0 ∷ Ended 0 1 Committed 1 ∷ Out 0 ∷ Done 0 NoEntries ∷ [])
+        (Out 0 ∷ Attempted 0 1 Restarted 0 ∷ Attempted 0 1 Committed 1 ∷ Out 0 ∷ Done 0 NoEntries ∷ [])
         (shown 0 2 0 1 (codes "00000000A10006") ∷ []) [] }
     ensures redo_until_suspended { WorksOut redo_until_suspended_deck redo_until_suspended
         (codes "A10005" ∷ codes "B10007" ∷ [])
-        (Out 0 ∷ Ended 0 1 Restarted 5 ∷ Ended 0 1 Left 5 ∷ Done 0 (Suspended Redo) ∷ [])
+        (Out 0 ∷ Attempted 0 1 Restarted 5 ∷ Attempted 0 1 Left 5 ∷ Done 0 (Suspended Redo) ∷ [])
         (shown 0 1 0 1 (codes "00000000A10006") ∷ shown 0 1 1 1 (codes "00000000A10006") ∷ []) [] }
     ensures locks_outlive_reply { WorksOut locks_outlive_reply_deck locks_outlive_reply
         (codes "A10005" ∷ codes "B10007" ∷ [])
-        (Out 0 ∷ Out 1 ∷ Ended 1 1 Restarted 0 ∷ Ended 0 1 Left 3 ∷ [])
+        (Out 0 ∷ Out 1 ∷ Attempted 1 1 Restarted 0 ∷ Attempted 0 1 Left 3 ∷ [])
         [] [] }
     ensures dropped_transaction { WorksOut dropped_transaction_deck dropped_transaction
         (codes "A10005" ∷ codes "B10007" ∷ [])
-        (Out 0 ∷ Ended 0 1 Dropped 6 ∷ Done 0 NoEntries ∷ [])
+        (Out 0 ∷ Attempted 0 1 Aborted 6 ∷ Done 0 NoEntries ∷ [])
         (shown 0 1 0 1 (codes "00000000A10006") ∷ []) [] }
     ensures backup_failure_in_unit { WorksOut backup_failure_in_unit_deck backup_failure_in_unit
         (codes "A10006" ∷ codes "B10007" ∷ [])
-        (Out 0 ∷ Ended 0 1 Committed 1 ∷ Out 0 ∷ Done 0 NoEntries ∷ [])
+        (Out 0 ∷ Attempted 0 1 Committed 1 ∷ Out 0 ∷ Done 0 NoEntries ∷ [])
         (shown 0 2 0 1 (codes "00000000A10006") ∷ []) [] }
 {}
 

@@ -8,15 +8,15 @@ use Rattle.pw_code.specs.declared.file.FileCall.{FileCall}
 use Rattle.pw_code.specs.declared.file.FileOp.{FileOp}
 use Rattle.pw_code.specs.declared.file.FileOp.TheVariants.{Read, Next, Write, Rewrite, Delete, ReadLock, NextLock}
 use Rattle.pw_files.specs.Records.{has_key, record_at}
-use Rattle.pw_paired.specs.Operation.{answer_of, change_answer, changes, is_change, key_of, operated, records_after}
-use Rattle.pw_paired.specs.Path.{FileAnswer}
+use Rattle.pw_onecopy.specs.Operation.{answer_of, change_answer, changes_records, is_change, key_of, records_behind, changed_records}
+use Rattle.pw_onecopy.specs.Path.{FileAnswer}
 use Rattle.pw_paired.specs.State.{BeforeImage}
 use Rattle.pw_paired.specs.Units.{has_image}
 use Rattle.pw_tmf.specs.Committed.{images_of}
 use Rattle.pw_tmf.specs.Operation.{answer_with, image_now, refusal, with_image}
 use Rattle.pw_tmf.specs.Slots.{SlotState, with_before, with_unit, without_last}
 use Rattle.pw_tmf.specs.Tmf.{key_lengths, stored}
-use Rattle.pw_tmf.specs.Told.{OpenUnit}
+use Rattle.pw_tmf.specs.Told.{ToldUnit}
 use Rattle.pw_tmf.proofs.Stored.{file-is}
 
 -- what a refusal says of an operation's answer
@@ -59,7 +59,7 @@ pub refused-answer : (n : ℕ) (records : List (List ℕ)) (call : FileCall) (st
 refused-answer n records call status h = (refused-op n records call.op call status h).answer
 
 pub refused-changes : (n : ℕ) (records : List (List ℕ)) (call : FileCall) (status : ℕ) → refusal call.op (has_key n records (key_of n call.op call)) ≡ Some status
-    → changes n records call ≡ false
+    → changes_records n records call ≡ false
 refused-changes n records call status h = and-false (is_change call.op) _ (refused-op n records call.op call status h).fails
 
 -- any other answers status 0
@@ -90,25 +90,25 @@ pub allowed-answer : (n : ℕ) (records : List (List ℕ)) (call : FileCall) →
 allowed-answer n records call = allowed-op n records call.op call
 
 pub allowed-changes : (n : ℕ) (records : List (List ℕ)) (call : FileCall) → is_change call.op ≡ true → refusal call.op (has_key n records (key_of n call.op call)) ≡ None
-    → changes n records call ≡ true
+    → changes_records n records call ≡ true
 allowed-changes n records call c h = and-true (is_change call.op) _ c (ap (λ (a : FileAnswer). a.status == 0) (allowed-op n records call.op call c h))
 
 -- a read changes nothing
-pub read-changes : (n : ℕ) (records : List (List ℕ)) (call : FileCall) → is_change call.op ≡ false → changes n records call ≡ false
+pub read-changes : (n : ℕ) (records : List (List ℕ)) (call : FileCall) → is_change call.op ≡ false → changes_records n records call ≡ false
 read-changes n records call h = ap (λ b. b && (answer_of n records call.op call).status == 0) h
 
-pub unchanged-records : (n : ℕ) (records : List (List ℕ)) (call : FileCall) → changes n records call ≡ false → operated n records call ≡ records
-unchanged-records n records call h = ap (λ b. cond b (records_after n records call.op call) records) h
+pub unchanged-records : (n : ℕ) (records : List (List ℕ)) (call : FileCall) → changes_records n records call ≡ false → records_behind n records call ≡ records
+unchanged-records n records call h = ap (λ b. cond b (changed_records n records call.op call) records) h
 
 -- the units of a terminal, of which the open one stays as it is
-with-same : (change : OpenUnit → OpenUnit) (slot : SlotState) → ((unit : OpenUnit) → change unit ≡ unit) → with_unit change slot ≡ slot
+with-same : (change : ToldUnit → ToldUnit) (slot : SlotState) → ((unit : ToldUnit) → change unit ≡ unit) → with_unit change slot ≡ slot
 with-same change slot same = by slot.open_unit refl
   where
-    by : (own : Option OpenUnit) → slot.open_unit ≡ own → with_unit change slot ≡ slot
-    by None is = ap (λ (o : Option OpenUnit). record slot { open_unit = option_map change o }) is ∙ ap (λ (o : Option OpenUnit). record slot { open_unit = o }) (sym is)
-    by (Some unit) is = ap (λ (o : Option OpenUnit). record slot { open_unit = option_map change o }) is ∙ (ap (λ (u : OpenUnit). record slot { open_unit = Some u }) (same unit) ∙ ap (λ (o : Option OpenUnit). record slot { open_unit = o }) (sym is))
+    by : (own : Option ToldUnit) → slot.open_unit ≡ own → with_unit change slot ≡ slot
+    by None is = ap (λ (o : Option ToldUnit). record slot { open_unit = option_map change o }) is ∙ ap (λ (o : Option ToldUnit). record slot { open_unit = o }) (sym is)
+    by (Some unit) is = ap (λ (o : Option ToldUnit). record slot { open_unit = option_map change o }) is ∙ (ap (λ (u : ToldUnit). record slot { open_unit = Some u }) (same unit) ∙ ap (λ (o : Option ToldUnit). record slot { open_unit = o }) (sym is))
 
-pub unchanged-unit : (n : ℕ) (records : List (List ℕ)) (t : ℕ) (call : FileCall) (slot : SlotState) → changes n records call ≡ false → slot ≡ with_unit (with_image n records t call) slot
+pub unchanged-unit : (n : ℕ) (records : List (List ℕ)) (t : ℕ) (call : FileCall) (slot : SlotState) → changes_records n records call ≡ false → slot ≡ with_unit (with_image n records t call) slot
 unchanged-unit n records t call slot h =
     sym (with-same (with_image n records t call) slot (λ unit. ap (λ b. cond (b && not (has_image t call.file (key_of n call.op call) unit.before)) (with_before (image_now n records t call) unit) unit) h))
 
@@ -117,31 +117,31 @@ pub again-unit : (n : ℕ) (records : List (List ℕ)) (t : ℕ) (call : FileCal
     → slot ≡ with_unit (with_image n records t call) slot
 again-unit n records t call slot h = by slot.open_unit refl
   where
-    by : (own : Option OpenUnit) → slot.open_unit ≡ own → slot ≡ with_unit (with_image n records t call) slot
-    by None is = ap (λ (o : Option OpenUnit). record slot { open_unit = o }) is ∙ sym (ap (λ (o : Option OpenUnit). record slot { open_unit = option_map (with_image n records t call) o }) is)
+    by : (own : Option ToldUnit) → slot.open_unit ≡ own → slot ≡ with_unit (with_image n records t call) slot
+    by None is = ap (λ (o : Option ToldUnit). record slot { open_unit = o }) is ∙ sym (ap (λ (o : Option ToldUnit). record slot { open_unit = option_map (with_image n records t call) o }) is)
     by (Some unit) is =
-        let there : has_image t call.file (key_of n call.op call) unit.before ≡ true = ap (λ (o : Option OpenUnit). has_image t call.file (key_of n call.op call) (images_of o)) (sym is) ∙ h in
+        let there : has_image t call.file (key_of n call.op call) unit.before ≡ true = ap (λ (o : Option ToldUnit). has_image t call.file (key_of n call.op call) (images_of o)) (sym is) ∙ h in
         let same : with_image n records t call unit ≡ unit =
-        ap (λ b. cond b (with_before (image_now n records t call) unit) unit) (and-false (changes n records call) _ (ap not there)) in
-        ap (λ (o : Option OpenUnit). record slot { open_unit = o }) is
-        ∙ sym (ap (λ (o : Option OpenUnit). record slot { open_unit = option_map (with_image n records t call) o }) is ∙ ap (λ (u : OpenUnit). record slot { open_unit = Some u }) same)
+        ap (λ b. cond b (with_before (image_now n records t call) unit) unit) (and-false (changes_records n records call) _ (ap not there)) in
+        ap (λ (o : Option ToldUnit). record slot { open_unit = o }) is
+        ∙ sym (ap (λ (o : Option ToldUnit). record slot { open_unit = option_map (with_image n records t call) o }) is ∙ ap (λ (u : ToldUnit). record slot { open_unit = Some u }) same)
 
 -- a change at a key that it has not
 pub first-unit : (n : ℕ) (records : List (List ℕ)) (t : ℕ) (call : FileCall) (slot : SlotState) → has_image t call.file (key_of n call.op call) (images_of slot.open_unit) ≡ false
-    → changes n records call ≡ true → with_unit (with_before (image_now n records t call)) slot ≡ with_unit (with_image n records t call) slot
+    → changes_records n records call ≡ true → with_unit (with_before (image_now n records t call)) slot ≡ with_unit (with_image n records t call) slot
 first-unit n records t call slot h ch = by slot.open_unit refl
   where
-    by : (own : Option OpenUnit) → slot.open_unit ≡ own → with_unit (with_before (image_now n records t call)) slot ≡ with_unit (with_image n records t call) slot
+    by : (own : Option ToldUnit) → slot.open_unit ≡ own → with_unit (with_before (image_now n records t call)) slot ≡ with_unit (with_image n records t call) slot
     by None is =
-        ap (λ (o : Option OpenUnit). record slot { open_unit = option_map (with_before (image_now n records t call)) o }) is
-        ∙ sym (ap (λ (o : Option OpenUnit). record slot { open_unit = option_map (with_image n records t call) o }) is)
+        ap (λ (o : Option ToldUnit). record slot { open_unit = option_map (with_before (image_now n records t call)) o }) is
+        ∙ sym (ap (λ (o : Option ToldUnit). record slot { open_unit = option_map (with_image n records t call) o }) is)
     by (Some unit) is =
-        let new : has_image t call.file (key_of n call.op call) unit.before ≡ false = ap (λ (o : Option OpenUnit). has_image t call.file (key_of n call.op call) (images_of o)) (sym is) ∙ h in
+        let new : has_image t call.file (key_of n call.op call) unit.before ≡ false = ap (λ (o : Option ToldUnit). has_image t call.file (key_of n call.op call) (images_of o)) (sym is) ∙ h in
         let same : with_image n records t call unit ≡ with_before (image_now n records t call) unit =
-        ap (λ b. cond b (with_before (image_now n records t call) unit) unit) (and-true (changes n records call) _ ch (ap not new)) in
-        ap (λ (o : Option OpenUnit). record slot { open_unit = option_map (with_before (image_now n records t call)) o }) is
-        ∙ (ap (λ (u : OpenUnit). record slot { open_unit = Some u }) (sym same)
-        ∙ sym (ap (λ (o : Option OpenUnit). record slot { open_unit = option_map (with_image n records t call) o }) is))
+        ap (λ b. cond b (with_before (image_now n records t call) unit) unit) (and-true (changes_records n records call) _ ch (ap not new)) in
+        ap (λ (o : Option ToldUnit). record slot { open_unit = option_map (with_before (image_now n records t call)) o }) is
+        ∙ (ap (λ (u : ToldUnit). record slot { open_unit = Some u }) (sym same)
+        ∙ sym (ap (λ (o : Option ToldUnit). record slot { open_unit = option_map (with_image n records t call) o }) is))
 
 -- whether a record was found for the key that an operation speaks of
 found-is : (found : Option (Bor (List ℕ))) → is_some found ≡ is_some (option_copied found)

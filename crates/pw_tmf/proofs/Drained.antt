@@ -3,7 +3,8 @@ use Rattle.std.proofs.Common.{◌≡◌, ℕ, ◌∙◌, refl, sym, ap, subst, L
 use Rattle.std.specs.Prelude.{All, slice_get}
 use Rattle.std.proofs.lemmas.List.Elements.{All-head, All-tail}
 use Rattle.pw_blocks.specs.Blocks.{BlocksState}
-use Rattle.pw_paired.specs.State.{upd, BeforeImage}
+use Rattle.pw_onecopy.specs.Update.{upd}
+use Rattle.pw_paired.specs.State.{BeforeImage}
 use Rattle.pw_paired.specs.Units.{put_back}
 use Rattle.pw_tmf.specs.Committed.{restored}
 use Rattle.pw_tmf.specs.Tmf.{AreImages, IsImage, key_lengths, stored}

@@ -1,7 +1,7 @@
 -- Lists of before-images that are put back, the last list first.
-use Rattle.std.proofs.Common.{◌≡◌, ℕ, ◌∙◌, refl, sym, ap, subst, List, [], ◌∷◌, ◌++◌, length}
+use Rattle.std.proofs.Common.{◌≡◌, ℕ, ◌∙◌, refl, sym, ap, subst, List, [], ◌∷◌, ◌++◌, length, Option, Some}
 use Rattle.std.specs.Prelude.{All, flat_map, reverse}
-use Rattle.std.proofs.lemmas.List.Elements.{All-append, All-append_left, All-append_right, All-head, All-nil, All-cons}
+use Rattle.std.proofs.lemmas.List.Elements.{All-pop, All-push}
 use Rattle.pw_blocks.specs.Blocks.{BlocksState}
 use Rattle.pw_paired.specs.State.{BeforeImage}
 use Rattle.pw_tmf.specs.Committed.{restored}
@@ -19,14 +19,10 @@ pub record IsSettling (files : List BlocksState) (pending : List (List BeforeIma
 module _ (files now : List BlocksState) (pending left rest : List (List BeforeImage)) (images : List BeforeImage) (is : left ≡ rest ++ images ∷ []) (d : IsSettling files pending now left) where
   -- the last list fits, and so do those before it
   last-fits-as : AreImages (key_lengths files) (length files) images
-  last-fits-as =
-      let P : List BeforeImage → Type 0 = AreImages (key_lengths files) (length files) in
-      All-head P images [] (All-append_right P rest (images ∷ []) (subst (All P) is d.fit))
+  last-fits-as = (All-pop (AreImages (key_lengths files) (length files)) left rest (Some images) is d.fit).1
 
   rest-fits : All (AreImages (key_lengths files) (length files)) rest
-  rest-fits =
-      let P : List BeforeImage → Type 0 = AreImages (key_lengths files) (length files) in
-      All-append_left P rest (images ∷ []) (subst (All P) is d.fit)
+  rest-fits = (All-pop (AreImages (key_lengths files) (length files)) left rest (Some images) is d.fit).0
 
   pub last-fits : AreImages (key_lengths now) (length now) images
   last-fits = subst (λ n. AreImages (key_lengths now) n images) (sym d.count) (subst (λ (k : ℕ → ℕ). AreImages k (length files) images) (sym d.keys) last-fits-as)
@@ -62,7 +58,7 @@ module _ (files now : List BlocksState) (pending left rest : List (List BeforeIm
           same = ap (λ xs. restored (key_lengths files) (all_pending xs) (stored next)) (ap reverse are ∙ reverse-push rest others)
               ∙ (restored-append (key_lengths files) others (all_pending (reverse rest)) (stored next)
               ∙ (ap (restored (key_lengths files) (all_pending (reverse rest))) same_as ∙ first-back));
-          fit = subst (All P) (sym are) (All-append P rest (others ∷ []) rest-fits (All-cons P others [] fits (All-nil P)));
+          fit = subst (All P) (sym are) (All-push P rest others rest-fits fits);
         }
 
 -- what is left once some lists were put back tells the same files

@@ -5,8 +5,8 @@ use Rattle.std.proofs.Math.Path.{fun_ext}
 use Rattle.std.proofs.lemmas.Bool.{cases_Bool, eqb-true, eqb-false}
 use Rattle.std.proofs.lemmas.List.{get_or-set_same, get_or-set_other, get_or_default}
 use Rattle.pw_blocks.specs.Blocks.{BlocksState, records_of}
-use Rattle.pw_paired.proofs.Upd.{upd_elim}
-use Rattle.pw_paired.specs.State.{upd}
+use Rattle.pw_onecopy.proofs.Update.{upd_elim}
+use Rattle.pw_onecopy.specs.Update.{upd}
 use Rattle.pw_tmf.specs.Tmf.{file_at, key_lengths, no_file, stored}
 
 -- one item of a list is changed

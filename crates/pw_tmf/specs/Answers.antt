@@ -5,7 +5,7 @@ use Rattle.pw_code.specs.declared.file.FileCall.{FileCall}
 use Rattle.pw_code.specs.declared.unit.Unit as unit
 use Rattle.pw_locks.specs.Conflicts.{holders}
 use Rattle.pw_locks.specs.Oldest.{IsOldest}
-use Rattle.pw_paired.specs.Operation.{answer_of}
+use Rattle.pw_onecopy.specs.Operation.{answer_of}
 use Rattle.pw_paired.specs.State.{LastEnded}
 use Rattle.pw_tmf.specs.declared.answer.DiscFault.{DiscFault}
 use Rattle.pw_tmf.specs.declared.answer.DiscFault.TheVariants as fault

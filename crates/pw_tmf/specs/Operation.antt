@@ -1,5 +1,5 @@
 -- A file operation of a unit.
-use Rattle.std.specs.Prelude.{◌≡◌, ℕ, ◌<◌, ◌≤◌, ◌&&◌, Bool, true, false, not, List, ◌∷◌, length, Option, None, Some, if◌then◌else◌}
+use Rattle.std.specs.Prelude.{◌≡◌, ℕ, ◌<◌, ◌≤◌, ◌&&◌, Bool, true, false, not, List, [], ◌∷◌, ◌++◌, length, Option, None, Some, if◌then◌else◌}
 use Rattle.std.specs.List.{list_any}
 use Rattle.std.specs.Option.{option_map}
 use Rattle.pw_code.specs.declared.file.FileCall.{FileCall}
@@ -9,12 +9,13 @@ use Rattle.pw_code.specs.declared.unit.Unit as unit
 use Rattle.pw_files.specs.Records.{IsContent, record_at}
 use Rattle.pw_locks.specs.Conflicts.{conflict, is_same_unit}
 use Rattle.pw_locks.specs.declared.lock.Lock.{Lock}
-use Rattle.pw_paired.specs.Behaviour.{is_written}
-use Rattle.pw_paired.specs.Operation.{changes, key_of, lock_for, operated}
-use Rattle.pw_paired.specs.Path.{FileAnswer}
-use Rattle.pw_paired.specs.State.{upd, BeforeImage}
+use Rattle.pw_onecopy.specs.IsBehaviour.{is_written}
+use Rattle.pw_onecopy.specs.Operation.{changes_records, key_of, lock_for, records_behind}
+use Rattle.pw_onecopy.specs.Path.{FileAnswer}
+use Rattle.pw_onecopy.specs.Update.{upd}
+use Rattle.pw_paired.specs.State.{BeforeImage}
 use Rattle.pw_paired.specs.Units.{has_image}
-use Rattle.pw_tmf.specs.Told.{OpenUnit, Told}
+use Rattle.pw_tmf.specs.Told.{ToldUnit, Told}
 
 -- The file is one of the disc's, what is written has the length of a record, and another operation's
 -- key is as long as the file's keys.
@@ -40,10 +41,10 @@ image_now n records t call = record {
 
 -- the operation changes a record, and is the first of these images' unit to do so at that key
 abbrev pub is_first_change : ℕ → List (List ℕ) → ℕ → FileCall → List BeforeImage → Bool
-is_first_change n records t call before = changes n records call && not (has_image t call.file (key_of n call.op call) before)
+is_first_change n records t call before = changes_records n records call && not (has_image t call.file (key_of n call.op call) before)
 
 -- the unit of a terminal with the before-image of what an operation changes, where it is the first
-abbrev pub with_image : ℕ → List (List ℕ) → ℕ → FileCall → OpenUnit → OpenUnit
+abbrev pub with_image : ℕ → List (List ℕ) → ℕ → FileCall → ToldUnit → ToldUnit
 with_image n records t call unit =
     if is_first_change n records t call unit.before
     then record unit { before = image_now n records t call ∷ unit.before }
@@ -63,8 +64,8 @@ answer_with status content = record { status = status; content = content }
 -- the lock is added, and the operation is done
 abbrev pub after_operation : Told → unit.Unit → FileCall → Told
 after_operation told unit call = record told {
-  files = upd told.files call.file (operated (told.key_length call.file) (told.files call.file) call);
-  locks = lock_now told unit call ∷ told.locks;
+  files = upd told.files call.file (records_behind (told.key_length call.file) (told.files call.file) call);
+  locks = told.locks ++ lock_now told unit call ∷ [];
   units = upd told.units unit.terminal (option_map (with_image (told.key_length call.file) (told.files call.file) unit.terminal call) (told.units unit.terminal));
 }
 

@@ -1,5 +1,5 @@
 -- What a TMF over files in blocks and a lock book is seen as, and what it tells.
-use Rattle.std.specs.Prelude.{◌≡◌, ℕ, ◌<◌, List, [], flat_map, reverse, length, slice_index_or, All, Option, Some, None}
+use Rattle.std.specs.Prelude.{◌≡◌, ℕ, ◌<◌, List, [], flat_map, length, slice_index_or, All, Option, Some, None}
 use Rattle.std.specs.Option.{IfSome}
 use Rattle.pw_blocks.specs.Blocks.{BlocksState, records_of}
 use Rattle.pw_code.specs.declared.lock.LockRule.{LockRule}
@@ -8,7 +8,7 @@ use Rattle.pw_locks.specs.declared.lock.Lock.{Lock}
 use Rattle.pw_paired.specs.State.{BeforeImage}
 use Rattle.pw_tmf.specs.Committed.{images_of, restored}
 use Rattle.pw_tmf.specs.Slots.{SlotState}
-use Rattle.pw_tmf.specs.Told.{OpenUnit, Told}
+use Rattle.pw_tmf.specs.Told.{ToldUnit, Told}
 
 -- The files as they lie in their blocks, and the before-images that are still to be put back there, in
 -- lists one after another; the locks in the order in which they were added; the units of each terminal.
@@ -48,7 +48,7 @@ abbrev pub files_of : List BlocksState → List (List BeforeImage) → ℕ → L
 files_of files pending = restored (key_lengths files) (all_pending pending) (stored files)
 
 -- the open unit of a terminal
-abbrev pub unit_at : List SlotState → ℕ → Option OpenUnit
+abbrev pub unit_at : List SlotState → ℕ → Option ToldUnit
 unit_at slots t = (slot_at slots t).open_unit
 
 -- what it tells
@@ -59,7 +59,7 @@ told_of state = record {
   file_count = length state.files;
   key_length = key_lengths state.files;
   files = files_of state.files state.pending;
-  locks = reverse state.locks;
+  locks = state.locks;
   units = unit_at state.slots;
   ended = λ t. (slot_at state.slots t).ended;
   faults = 0;
@@ -75,7 +75,7 @@ abbrev pub AreImages : (ℕ → ℕ) → ℕ → List BeforeImage → Type 0
 AreImages key_length files images = All (IsImage key_length files) images
 
 -- a terminal's open unit has this number
-abbrev pub HasNumber : ℕ → Option OpenUnit → Type 0
+abbrev pub HasNumber : ℕ → Option ToldUnit → Type 0
 HasNumber number None = ⊥
 HasNumber number (Some unit) = unit.number ≡ number
 

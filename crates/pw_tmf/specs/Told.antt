@@ -6,7 +6,7 @@ use Rattle.pw_paired.specs.State.{BeforeImage, LastEnded}
 
 -- An open unit: its number on its terminal, its birth, whether an attempt of it runs, and the
 -- before-images of what the running attempt has changed, the last one first.
-pub record OpenUnit : Type 0 where
+pub record ToldUnit : Type 0 where
   pub number : ℕ
   pub birth : ℕ
   pub running : Bool
@@ -22,10 +22,10 @@ pub record Told : Type 0 where
   pub key_length : ℕ → ℕ
   -- the records of each file with open changes
   pub files : ℕ → List (List ℕ)
-  -- the locks, the last one first
+  -- the locks in the order in which they were added
   pub locks : List Lock
   -- the open unit of each terminal, and its last ended one
-  pub units : ℕ → Option OpenUnit
+  pub units : ℕ → Option ToldUnit
   pub ended : ℕ → LastEnded
   -- the faults so far
   pub faults : ℕ

@@ -3,15 +3,15 @@ use Rattle.std.specs.Prelude.{◌≡◌, ◌≢◌, ℕ, ◌≤◌, ◌<◌, Boo
 use Rattle.std.specs.Option.{option_map}
 use Rattle.pw_code.specs.declared.unit.Unit as unit
 use Rattle.pw_locks.specs.declared.lock.Lock.{Lock}
-use Rattle.pw_paired.specs.State.{upd}
+use Rattle.pw_onecopy.specs.Update.{upd}
 use Rattle.pw_paired.specs.Units.{only}
 use Rattle.pw_tmf.specs.Committed.{images_of, restored}
-use Rattle.pw_tmf.specs.Told.{OpenUnit, Told}
+use Rattle.pw_tmf.specs.Told.{ToldUnit, Told}
 
 -- the unit is the open one of its terminal
 pub record IsOpen (told : Told) (unit : unit.Unit) : Type 0 where
   pub terminal : unit.terminal < told.terminals
-  pub open_unit : OpenUnit
+  pub open_unit : ToldUnit
   pub here : told.units unit.terminal ≡ Some open_unit
   pub number : open_unit.number ≡ unit.number
   pub birth : open_unit.birth ≡ unit.birth
@@ -22,7 +22,7 @@ pub record IsRunning (told : Told) (unit : unit.Unit) : Type 0 where
   pub runs : is_open.open_unit.running ≡ true
 
 -- a terminal's open unit, if any, is this one, and no attempt of it runs
-abbrev pub MayBegin : unit.Unit → Option OpenUnit → Type 0
+abbrev pub MayBegin : unit.Unit → Option ToldUnit → Type 0
 MayBegin unit None = Unit {0}
 MayBegin unit (Some own) = (own.number ≡ unit.number) × (own.birth ≡ unit.birth) × (own.running ≡ false)
 
@@ -33,10 +33,10 @@ pub record CanBegin (told : Told) (unit : unit.Unit) : Type 0 where
   pub number : 1 ≤ unit.number
   pub not_ended : (told.ended unit.terminal).number ≢ unit.number
   pub free : MayBegin unit (told.units unit.terminal)
-  pub births : (t : ℕ) (other : OpenUnit) → told.units t ≡ Some other → other.birth ≡ unit.birth → t ≡ unit.terminal
+  pub births : (t : ℕ) (other : ToldUnit) → told.units t ≡ Some other → other.birth ≡ unit.birth → t ≡ unit.terminal
 
 -- a unit at the beginning of an attempt
-abbrev pub opened : unit.Unit → OpenUnit
+abbrev pub opened : unit.Unit → ToldUnit
 opened unit = record { number = unit.number; birth = unit.birth; running = true; before = [] }
 
 -- an attempt of the unit runs
@@ -56,7 +56,7 @@ ended told unit reply = record told {
 }
 
 -- a unit between two attempts
-abbrev pub stopped : OpenUnit → OpenUnit
+abbrev pub stopped : ToldUnit → ToldUnit
 stopped unit = record unit { running = false; before = [] }
 
 -- the attempt of a unit is over: its locks are released

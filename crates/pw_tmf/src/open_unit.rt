@@ -18,9 +18,9 @@ pub struct OpenUnit {
 }
 
 impl Model for OpenUnit {
-    ghost use Rattle.pw_tmf.specs.Told.{OpenUnit as SeenUnit};
+    ghost use Rattle.pw_tmf.specs.Told.{ToldUnit};
 
-    ghost Value = { SeenUnit };
+    ghost Value = { ToldUnit };
 
     ghost view = { λ unit. record {
       number = unit.number;

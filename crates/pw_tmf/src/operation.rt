@@ -2,9 +2,9 @@ ghost use Rattle.std.specs.Prelude.{◌≡◌, ◌<◌, None, true, false, IfOk,
 ghost use Rattle.std.specs.Option.{option_copied};
 ghost use Rattle.pw_blocks.specs.Blocks.{records_of};
 ghost use Rattle.pw_files.specs.Records.{IsContent, IsFile, record_after, record_at};
-ghost use Rattle.pw_paired.specs.Behaviour.{is_written};
-ghost use Rattle.pw_paired.specs.Operation.{answer_of, changes, found_key, is_change, key_of, operated, read_answer, span_of};
-ghost use Rattle.pw_paired.specs.State.{upd};
+ghost use Rattle.pw_onecopy.specs.IsBehaviour.{is_written};
+ghost use Rattle.pw_onecopy.specs.Operation.{answer_of, changes_records, found_key, is_change, key_of, records_behind, read_answer, span_of};
+ghost use Rattle.pw_onecopy.specs.Update.{upd};
 ghost use Rattle.pw_paired.specs.Units.{has_image};
 ghost use Rattle.pw_tmf.specs.Operation.{answer_with, image_now, is_first_change, refusal, with_image};
 ghost use Rattle.pw_tmf.specs.Slots.{with_before, with_unit};
@@ -117,14 +117,14 @@ fn change_first(
     call: &FileCall,
 ) -> Result<(), Memory>
     requires file { call.now.file < length files.old.items }
-    requires changes { changes (key_lengths files.old.items call.now.file)
+    requires changes_records { changes_records (key_lengths files.old.items call.now.file)
         (stored files.old.items call.now.file) call.now ≡ true }
     requires content { is_written call.now.op ≡ true
         → IsContent (key_lengths files.old.items call.now.file) call.now.content }
     ensures keys { key_lengths files.new.items ≡ key_lengths files.old.items }
     ensures count { length files.new.items ≡ length files.old.items }
     ensures ok { OnOk result (stored files.new.items ≡ upd (stored files.old.items) call.now.file
-        (operated (key_lengths files.old.items call.now.file) (stored files.old.items call.now.file) call.now)) }
+        (records_behind (key_lengths files.old.items call.now.file) (stored files.old.items call.now.file) call.now)) }
     ensures noted { OnOk result (slot.new ≡ with_unit (with_before image) slot.old) }
     ensures err { OnErr result (stored files.new.items ≡ stored files.old.items) }
     ensures forgotten { OnErr result (slot.new ≡ slot.old) }
@@ -156,7 +156,7 @@ fn write(
     ensures answer { IfOk result (λ answer. answer_with answer.0 answer.1
         ≡ answer_of (key_lengths files.old.items call.now.file) (stored files.old.items call.now.file) call.now.op call.now) }
     ensures ok { OnOk result (stored files.new.items ≡ upd (stored files.old.items) call.now.file
-        (operated (key_lengths files.old.items call.now.file) (stored files.old.items call.now.file) call.now)) }
+        (records_behind (key_lengths files.old.items call.now.file) (stored files.old.items call.now.file) call.now)) }
     ensures noted { OnOk result (slot.new ≡ with_unit (with_image (key_lengths files.old.items call.now.file)
         (stored files.old.items call.now.file) terminal call.now) slot.old) }
     ensures err { OnErr result (stored files.new.items ≡ stored files.old.items) }
@@ -199,7 +199,7 @@ pub fn perform(
     ensures answer { IfOk result (λ answer. answer_with answer.0 answer.1
         ≡ answer_of (key_lengths files.old.items call.now.file) (stored files.old.items call.now.file) call.now.op call.now) }
     ensures ok { OnOk result (stored files.new.items ≡ upd (stored files.old.items) call.now.file
-        (operated (key_lengths files.old.items call.now.file) (stored files.old.items call.now.file) call.now)) }
+        (records_behind (key_lengths files.old.items call.now.file) (stored files.old.items call.now.file) call.now)) }
     ensures noted { OnOk result (slot.new ≡ with_unit (with_image (key_lengths files.old.items call.now.file)
         (stored files.old.items call.now.file) terminal call.now) slot.old) }
     ensures err { OnErr result (stored files.new.items ≡ stored files.old.items) }

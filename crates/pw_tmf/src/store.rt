@@ -1,9 +1,9 @@
 ghost use Rattle.std.specs.Prelude.{◌≡◌, ◌<◌, true, IfOk, IfSome, OnErr, OnOk, length};
 ghost use Rattle.pw_blocks.specs.Blocks.{records_of};
 ghost use Rattle.pw_files.specs.Records.{IsContent, with_record};
-ghost use Rattle.pw_paired.specs.Behaviour.{is_written};
-ghost use Rattle.pw_paired.specs.Operation.{changes, operated};
-ghost use Rattle.pw_paired.specs.State.{upd};
+ghost use Rattle.pw_onecopy.specs.IsBehaviour.{is_written};
+ghost use Rattle.pw_onecopy.specs.Operation.{changes_records, records_behind};
+ghost use Rattle.pw_onecopy.specs.Update.{upd};
 ghost use Rattle.pw_paired.specs.Units.{put_back};
 ghost use Rattle.pw_tmf.specs.Tmf.{IsImage, key_lengths, stored};
 
@@ -63,11 +63,11 @@ pub fn put_back_in(files: &mut Vec<BlockFile>, image: &Image) -> Result<(), Memo
 
 /// Does an operation that changes a record.
 fn change(file: &mut BlockFile, call: &FileCall) -> Result<(), Memory>
-    requires changes { changes file.old.key (records_of file.old.blocks) call.now ≡ true }
+    requires changes_records { changes_records file.old.key (records_of file.old.blocks) call.now ≡ true }
     requires content { is_written call.now.op ≡ true → IsContent file.old.key call.now.content }
     ensures key { file.new.key ≡ file.old.key }
     ensures ok { OnOk result (records_of file.new.blocks
-        ≡ operated file.old.key (records_of file.old.blocks) call.now) }
+        ≡ records_behind file.old.key (records_of file.old.blocks) call.now) }
     ensures err { OnErr result (records_of file.new.blocks ≡ records_of file.old.blocks) }
 {
     let alloc = call.content.allocator();
@@ -89,14 +89,14 @@ fn change(file: &mut BlockFile, call: &FileCall) -> Result<(), Memory>
 /// Does an operation that changes a record of one of the files.
 pub fn change_in(files: &mut Vec<BlockFile>, call: &FileCall) -> Result<(), Memory>
     requires file { call.now.file < length files.old.items }
-    requires changes { changes (key_lengths files.old.items call.now.file)
+    requires changes_records { changes_records (key_lengths files.old.items call.now.file)
         (stored files.old.items call.now.file) call.now ≡ true }
     requires content { is_written call.now.op ≡ true
         → IsContent (key_lengths files.old.items call.now.file) call.now.content }
     ensures keys { key_lengths files.new.items ≡ key_lengths files.old.items }
     ensures count { length files.new.items ≡ length files.old.items }
     ensures ok { OnOk result (stored files.new.items ≡ upd (stored files.old.items) call.now.file
-        (operated (key_lengths files.old.items call.now.file) (stored files.old.items call.now.file) call.now)) }
+        (records_behind (key_lengths files.old.items call.now.file) (stored files.old.items call.now.file) call.now)) }
     ensures err { OnErr result (stored files.new.items ≡ stored files.old.items) }
 {
     change(&mut files[call.file as usize], call)?;

@@ -7,7 +7,8 @@ use Rattle.pw_event.specs.declared.event.Event.TheVariants.{Key, CheckStart, Che
 use Rattle.pw_paired.proofs.Stepping.{request_in, others_in, job_in, memory_in, message_in, unit_in, path_in, call_in, can_step, is_live, lacks_start, paired_not_gone}
 use Rattle.pw_paired.specs.Logs.{span_lock, span_lock_deck}
 use Rattle.pw_paired.specs.Server.{server_verb}
-use Rattle.pw_paired.specs.State.{upd, State, starting}
+use Rattle.pw_onecopy.specs.Update.{upd}
+use Rattle.pw_paired.specs.State.{State, starting}
 use Rattle.pw_paired.specs.Step.{Legal, effect, IsRun}
 use Rattle.pw_paired.specs.Terminal.{next_verb, message_of}
 

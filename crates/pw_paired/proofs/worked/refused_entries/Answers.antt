@@ -2,7 +2,7 @@ use Rattle.std.proofs.Common.{refl, arith}
 use Rattle.pw_paired.proofs.Refused.{begin_ended, commit_unheld, conflicting_file, entry_of_finished, other_due, raise_when_down, restart_at_limit, restart_for_younger, restart_unmet, suspended_below_limit}
 use Rattle.pw_paired.proofs.Unmet.{unmet, unmet_other}
 use Rattle.pw_paired.proofs.worked.refused_entries.Goals as goal
-use Rattle.pw_paired.specs.State.{upd}
+use Rattle.pw_onecopy.specs.Update.{upd}
 
 pub returns : goal.returns
 unfolding upd

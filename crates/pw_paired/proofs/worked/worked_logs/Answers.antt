@@ -13,7 +13,7 @@ use Rattle.pw_paired.proofs.logs.LocksOutliveReply as locks_outlive_reply_log
 use Rattle.pw_paired.proofs.logs.DroppedTransaction as dropped_transaction_log
 use Rattle.pw_paired.proofs.logs.BackupFailureInUnit as backup_failure_in_unit_log
 use Rattle.pw_paired.proofs.worked.worked_logs.Goals as goal
-use Rattle.pw_paired.specs.State.{upd}
+use Rattle.pw_onecopy.specs.Update.{upd}
 
 pub returns : goal.returns
 unfolding upd

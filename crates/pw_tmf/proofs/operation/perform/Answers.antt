@@ -1,6 +1,6 @@
 use Rattle.std.proofs.Common.{◌≡◌, ap, sym, inl, inr, false}
-use Rattle.pw_paired.specs.Operation.{is_change, operated}
-use Rattle.pw_paired.specs.State.{upd}
+use Rattle.pw_onecopy.specs.Operation.{is_change, records_behind}
+use Rattle.pw_onecopy.specs.Update.{upd}
 use Rattle.pw_tmf.specs.Tmf.{key_lengths, stored}
 use Rattle.pw_tmf.proofs.Changes.{read-changes, unchanged-records}
 use Rattle.pw_tmf.proofs.Stored.{on-ok, upd-itself}
@@ -13,7 +13,7 @@ returns-in-Read-clause-ok c =
     let n = key_lengths files call.file in
     let records = stored files call.file in
     let reads : is_change call.op ≡ false = elim c.in-Read.is as (λ _. is_change call.op ≡ false) [ inl is ↦ ap is_change is | inr is ↦ ap is_change is ] in
-    on-ok c.read.result _ (sym (upd-itself (stored files) call.file (operated n records call) (unchanged-records n records call (read-changes n records call reads))))
+    on-ok c.read.result _ (sym (upd-itself (stored files) call.file (records_behind n records call) (unchanged-records n records call (read-changes n records call reads))))
 
 pub returns-in-Next-clause-ok : goal.returns-in-Next-clause-ok
 returns-in-Next-clause-ok c =
@@ -22,4 +22,4 @@ returns-in-Next-clause-ok c =
     let n = key_lengths files call.file in
     let records = stored files call.file in
     let reads : is_change call.op ≡ false = elim c.in-Next.is as (λ _. is_change call.op ≡ false) [ inl is ↦ ap is_change is | inr is ↦ ap is_change is ] in
-    on-ok c.read-in-Next.result _ (sym (upd-itself (stored files) call.file (operated n records call) (unchanged-records n records call (read-changes n records call reads))))
+    on-ok c.read-in-Next.result _ (sym (upd-itself (stored files) call.file (records_behind n records call) (unchanged-records n records call (read-changes n records call reads))))

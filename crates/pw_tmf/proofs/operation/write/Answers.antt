@@ -1,5 +1,5 @@
 use Rattle.std.proofs.Common.{◌≡◌, ◌∙◌, ap, sym, Some}
-use Rattle.pw_paired.specs.Operation.{changes, key_of, operated}
+use Rattle.pw_onecopy.specs.Operation.{changes_records, key_of, records_behind}
 use Rattle.pw_files.specs.Records.{has_key}
 use Rattle.pw_tmf.specs.Operation.{refusal}
 use Rattle.pw_tmf.specs.Tmf.{key_lengths, stored}
@@ -16,7 +16,7 @@ returns-in-Some-clause-ok c =
     let records = stored files call.file in
     let seen = seen-in files file call c.is_some.result c.requires.file c.index-file.ensures (seen-key file call c.key_length.result c.key_of-key.result.now c.find-found.result c.is_some.result c.key_length.ensures.length c.key_of-key.ensures c.find-found.ensures.record c.is_some.ensures) in
     let refused : refusal call.op (has_key n records (key_of n call.op call)) ≡ Some c.in-Some.status = ap (refusal call.op) seen ∙ (sym c.refusal.ensures ∙ c.in-Some.is) in
-    sym (upd-itself (stored files) call.file (operated n records call) (unchanged-records n records call (refused-changes n records call c.in-Some.status refused)))
+    sym (upd-itself (stored files) call.file (records_behind n records call) (unchanged-records n records call (refused-changes n records call c.in-Some.status refused)))
 
 pub returns-in-Some-clause-noted : goal.returns-in-Some-clause-noted
 returns-in-Some-clause-noted c =

@@ -1,7 +1,7 @@
 use Rattle.std.proofs.Common.{◌≡◌, ◌∙◌, ap, sym, subst}
 use Rattle.std.specs.Prelude.{slice_set, slice_index_or}
 use Rattle.pw_blocks.specs.Blocks.{BlocksState, records_of}
-use Rattle.pw_paired.specs.State.{upd}
+use Rattle.pw_onecopy.specs.Update.{upd}
 use Rattle.pw_paired.specs.Units.{put_back}
 use Rattle.pw_tmf.specs.Tmf.{file_at, stored}
 use Rattle.pw_tmf.proofs.Stored.{file-is, stored-set}

@@ -1,0 +1,10 @@
+pub mod Alone
+pub mod AloneOwn
+pub mod AloneEntries
+pub mod AloneSteps
+pub mod AloneServers
+pub mod AloneFails
+pub mod AloneCommits
+pub mod AloneRuns
+pub mod Locked
+pub mod LockedRecords

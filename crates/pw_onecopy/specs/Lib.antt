@@ -1,0 +1,10 @@
+pub mod Path
+pub mod Behaviour
+pub mod Update
+pub mod Operation
+pub mod Play
+pub mod IsBehaviour
+pub mod Refreshes
+pub mod Blocks
+pub mod Attempt
+pub mod OneCopy

@@ -1,9 +1,0 @@
-use Rattle.pw_paired.proofs.Births.{births-ok}
-use Rattle.pw_paired.proofs.laws.birth_laws.Goals as goal
-
-pub returns : goal.returns
-returns c = record {
-  single = λ sys log t one other first second. cc;
-  below = λ sys log. (births-ok sys log).below;
-  apart = λ sys log. (births-ok sys log).apart;
-}

@@ -1,5 +1,0 @@
-use Rattle.std.proofs.Common.{sym, ◌∙◌}
-use Rattle.pw_paired.proofs.laws.step_laws.Goals as goal
-
-pub returns : goal.returns
-returns c sys state entry one other first second = first.is_next ∙ sym second.is_next

@@ -1,0 +1,7 @@
+pub mod JobCases
+pub mod BeginsOnce
+pub mod OpenThen
+pub mod Pending
+pub mod Lacking
+pub mod PairSteps
+pub mod Losing

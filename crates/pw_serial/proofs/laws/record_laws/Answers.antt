@@ -1,5 +1,0 @@
-use Rattle.pw_serial.proofs.Committed.{are-files, commits-alone, records-ok}
-use Rattle.pw_serial.proofs.laws.record_laws.Goals as goal
-
-pub returns : goal.returns
-returns c = record { file = are-files; stay = commits-alone; covered = λ sys b log run. (records-ok sys b log run).locked }

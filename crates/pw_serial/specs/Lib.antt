@@ -1,4 +1,0 @@
-pub mod Held
-pub mod Records
-pub mod Seen
-pub mod Running
