@@ -1,5 +1,5 @@
 -- What the disc of a system tells before any unit has begun.
-use Rattle.std.specs.Prelude.{◌≡◌, ℕ, List, [], ◌∷◌, length, slice_get, Option, Some, None}
+use Rattle.std.specs.Prelude.{ℕ, List, [], ◌∷◌, length, slice_get, Option, Some, None}
 use Rattle.pw_code.specs.declared.file.FileInfo.{FileInfo}
 use Rattle.pw_code.specs.declared.system.System.{System}
 use Rattle.pw_blocks.specs.Blocks.{BlocksState, records_of}
@@ -11,15 +11,21 @@ abbrev pub all_put : ℕ → List (List ℕ) → List (List ℕ) → List (List 
 all_put n records [] = records
 all_put n records (content ∷ contents) = all_put n (with_record n records content) contents
 
--- the length of a file's keys: 1 for a file that is not there
+-- the length of the keys of a system's file, and its records in the order of their keys
+abbrev pub key_in_system : FileInfo → ℕ
+key_in_system file = file.key
+
+abbrev pub records_in_system : FileInfo → List (List ℕ)
+records_in_system file = all_put file.key [] file.records
+
+-- the same, 1 and none for a file that is not there
 abbrev pub key_of_file : Option FileInfo → ℕ
 key_of_file None = 1
-key_of_file (Some file) = file.key
+key_of_file (Some file) = key_in_system file
 
--- the records of a file in the order of their keys: none for a file that is not there
 abbrev pub records_of_file : Option FileInfo → List (List ℕ)
 records_of_file None = []
-records_of_file (Some file) = all_put file.key [] file.records
+records_of_file (Some file) = records_in_system file
 
 -- the system's files and rule, and no unit
 abbrev pub told_at_start : System → Told
@@ -35,14 +41,9 @@ told_at_start system = record {
   faults = 0;
 }
 
--- the file stores the records of a system's file
-pub record IsStored (file : FileInfo) (made : BlocksState) : Type 0 where
-  pub key : made.key ≡ file.key
-  pub records : records_of made.blocks ≡ all_put file.key [] file.records
+-- the same of a file in blocks
+abbrev pub key_in : BlocksState → ℕ
+key_in file = file.key
 
--- the files store the records of a system's files, one by one
-abbrev pub AreStored : List FileInfo → List BlocksState → Type 0
-AreStored [] [] = Unit {0}
-AreStored [] (made ∷ others) = ⊥
-AreStored (file ∷ files) [] = ⊥
-AreStored (file ∷ files) (made ∷ others) = IsStored file made × AreStored files others
+abbrev pub records_in : BlocksState → List (List ℕ)
+records_in file = records_of file.blocks

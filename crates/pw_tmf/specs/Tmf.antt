@@ -1,5 +1,5 @@
 -- What a TMF over files in blocks and a lock book is seen as, and what it tells.
-use Rattle.std.specs.Prelude.{◌≡◌, ℕ, ◌<◌, List, [], flat_map, length, slice_index_or, All, Option, Some, None}
+use Rattle.std.specs.Prelude.{◌≡◌, ℕ, ◌<◌, List, [], ◌∷◌, ◌++◌, flat_map, length, slice_index_or, All, Option, Some, None}
 use Rattle.std.specs.Option.{IfSome}
 use Rattle.pw_blocks.specs.Blocks.{BlocksState, records_of}
 use Rattle.pw_code.specs.declared.lock.LockRule.{LockRule}
@@ -64,6 +64,11 @@ told_of state = record {
   ended = λ t. (slot_at state.slots t).ended;
   faults = 0;
 }
+
+-- the lists with the before-images of an open unit behind them
+abbrev pub with_images : List (List BeforeImage) → Option ToldUnit → List (List BeforeImage)
+with_images lists None = lists
+with_images lists (Some unit) = lists ++ unit.before ∷ []
 
 -- the image is of one of the files, and its content is one of that file
 pub record IsImage (key_length : ℕ → ℕ) (files : ℕ) (image : BeforeImage) : Type 0 where

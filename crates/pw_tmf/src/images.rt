@@ -1,9 +1,13 @@
-ghost use Rattle.std.specs.Prelude.{◌≡◌, ◌≢◌, [], ◌∷◌, drop, slice_get, IfOk, OnErr, OnOk};
+ghost use Rattle.std.specs.Prelude.{◌≡◌, [], ◌∷◌, All, drop, slice_get, IfOk, OnErr, OnOk};
 ghost use Rattle.std.specs.Option.{option_copied};
+ghost use Rattle.pw_blocks.specs.Blocks.{records_of};
 ghost use Rattle.pw_paired.specs.Units.{has_image};
+ghost use Rattle.pw_tmf.specs.Committed.{FitsFile, all_put_back};
 
 use crate::image::Image;
+use crate::store::put_back_if;
 use pw_base::memory::Memory;
+use pw_blocks::block_file::BlockFile;
 use std::alloc::Global;
 use std::marker::Model;
 
@@ -61,6 +65,21 @@ impl Images {
         ensures { result ≡ has_image terminal file key.now self.now }
     {
         has_at(&self.images, terminal, file, key)
+    }
+
+    /// Puts back, in a file of this number, what those of that file have.
+    pub fn put_back_in(&self, number: u32, file: &mut BlockFile) -> Result<(), Memory>
+        requires { All (FitsFile number file.old.key) self.now }
+        ensures key { file.new.key ≡ file.old.key }
+        ensures ok { OnOk result (records_of file.new.blocks
+            ≡ all_put_back file.old.key number self.now (records_of file.old.blocks)) }
+    {
+        let mut left = self.images.len();
+        while left > 0 {
+            left -= 1;
+            put_back_if(file, number, &self.images[left])?;
+        }
+        Ok(())
     }
 
     /// An equal value.

@@ -2,6 +2,8 @@
 #![tactic(auto)]
 
 pub mod answer;
+mod committed;
+mod copies;
 pub mod disc;
 mod image;
 mod images;
@@ -10,5 +12,6 @@ mod operation;
 mod settle;
 mod slot;
 mod start;
+mod stop;
 mod store;
 pub mod tmf;

@@ -1,4 +1,4 @@
-ghost use Rattle.std.specs.Prelude.{◌≡◌, [], IfOk, OnErr, OnOk, All, length, reverse};
+ghost use Rattle.std.specs.Prelude.{◌≡◌, ◌↔◌, [], IsTrue, OnErr, OnOk, All, length, reverse};
 ghost use Rattle.pw_blocks.specs.Blocks.{records_of};
 ghost use Rattle.pw_tmf.specs.Committed.{restored};
 ghost use Rattle.pw_tmf.specs.Tmf.{AreImages, all_pending, files_of, key_lengths, stored};
@@ -43,4 +43,11 @@ pub fn settle(files: &mut Vec<BlockFile>, pending: &mut Vec<Images>) -> Result<(
         }
     }
     Ok(())
+}
+
+/// Whether nothing is to be put back.
+pub fn is_settled(pending: &[Images]) -> bool
+    ensures { IsTrue result ↔ (pending.now ≡ []) }
+{
+    pending.is_empty()
 }

@@ -1,8 +1,9 @@
-ghost use Rattle.std.specs.Prelude.{◌≡◌, ◌≤◌, ◌∷◌, None, Some, drop, IfOk, IsSome, OnErr, OnOk};
+ghost use Rattle.std.specs.Prelude.{◌≡◌, ◌≤◌, None, Some, All, IfOk, OnErr, OnOk};
 ghost use Rattle.std.specs.Option.{option_copied, option_map};
+ghost use Rattle.pw_blocks.specs.Blocks.{records_of};
 ghost use Rattle.pw_paired.specs.Units.{has_image};
 ghost use Rattle.pw_tmf.specs.Answers.{ended_unit};
-ghost use Rattle.pw_tmf.specs.Committed.{images_of};
+ghost use Rattle.pw_tmf.specs.Committed.{FitsFile, all_put_back, images_of};
 ghost use Rattle.pw_tmf.specs.Slots.{backed_out_slot, ended_slot, images_in, with_before, with_unit, without_last};
 ghost use Rattle.pw_tmf.specs.Units.{opened};
 
@@ -12,6 +13,7 @@ use crate::images::Images;
 use crate::open_unit::OpenUnit;
 use pw_base::bytes::Bytes;
 use pw_base::memory::Memory;
+use pw_blocks::block_file::BlockFile;
 use pw_code::unit::Unit;
 use std::alloc::Global;
 use std::marker::Model;
@@ -120,13 +122,16 @@ impl Slot {
         }
     }
 
-    /// The before-images of the open unit, None exactly where there is none.
-    pub fn images(&self) -> Option<&Images>
-        ensures { option_copied result ≡ option_map images_in self.now.open_unit }
+    /// Puts back, in a file of this number, what the before-images of that file have.
+    pub fn put_back_in(&self, number: u32, file: &mut BlockFile) -> Result<(), Memory>
+        requires { All (FitsFile number file.old.key) (images_of self.now.open_unit) }
+        ensures key { file.new.key ≡ file.old.key }
+        ensures ok { OnOk result (records_of file.new.blocks
+            ≡ all_put_back file.old.key number (images_of self.now.open_unit) (records_of file.old.blocks)) }
     {
         match &self.open_unit {
-            Some(unit) => Some(unit.images()),
-            None => None,
+            Some(unit) => unit.images().put_back_in(number, file),
+            None => Ok(()),
         }
     }
 

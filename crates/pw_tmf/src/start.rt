@@ -1,16 +1,16 @@
-ghost use Rattle.std.specs.Prelude.{◌≡◌, All, IfOk, List as ListOf, ℕ, [], replicate};
+ghost use Rattle.std.specs.Prelude.{◌≡◌, All, IfOk, List as ListOf, ℕ, [], map, replicate};
 ghost use Rattle.pw_blocks.specs.Blocks.{BlocksState, records_of};
 ghost use Rattle.pw_code.specs.Valid.{IsDeckFile};
 ghost use Rattle.pw_files.specs.Records.{IsContent, IsKeyLength};
-ghost use Rattle.pw_tmf.specs.Starting.{AreStored, all_put};
+ghost use Rattle.pw_tmf.specs.Starting.{all_put, key_in, key_in_system, records_in, records_in_system};
 ghost use Rattle.pw_tmf.specs.Tmf.{no_slot};
 
 use crate::slot::Slot;
+use crate::store::put;
 use pw_base::bytes::Bytes;
 use pw_base::memory::Memory;
 use pw_blocks::block_file::BlockFile;
 use pw_code::file::FileInfo;
-use pw_files::record_file::RecordFile;
 use std::alloc::Global;
 
 /// A file of these records.
@@ -22,9 +22,7 @@ fn file_of(alloc: Global, key: u16, records: &[Bytes]) -> Result<BlockFile, Memo
 {
     let mut file = BlockFile::new(alloc, key)?;
     for content in records {
-        if !file.insert(content.copy(alloc)?)? {
-            file.replace(content.copy(alloc)?)?;
-        }
+        put(&mut file, content)?;
     }
     Ok(file)
 }
@@ -32,7 +30,8 @@ fn file_of(alloc: Global, key: u16, records: &[Bytes]) -> Result<BlockFile, Memo
 /// The files of a system.
 pub fn files_of(alloc: Global, files: &[FileInfo]) -> Result<Vec<BlockFile>, Memory>
     requires { All IsDeckFile files.now }
-    ensures { IfOk result (λ made. AreStored files.now made.items) }
+    ensures keys { IfOk result (λ made. map key_in made.items ≡ map key_in_system files.now) }
+    ensures records { IfOk result (λ made. map records_in made.items ≡ map records_in_system files.now) }
 {
     let mut made = Vec::new(alloc);
     for file in files {

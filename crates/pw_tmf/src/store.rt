@@ -5,6 +5,7 @@ ghost use Rattle.pw_onecopy.specs.IsBehaviour.{is_written};
 ghost use Rattle.pw_onecopy.specs.Operation.{changes_records, records_behind};
 ghost use Rattle.pw_onecopy.specs.Update.{upd};
 ghost use Rattle.pw_paired.specs.Units.{put_back};
+ghost use Rattle.pw_tmf.specs.Committed.{FitsFile, put_back_if};
 ghost use Rattle.pw_tmf.specs.Tmf.{IsImage, key_lengths, stored};
 
 use crate::image::Image;
@@ -15,7 +16,7 @@ use pw_code::file::{FileCall, FileOp};
 use pw_files::record_file::RecordFile;
 
 /// Puts a content in its place, whether there is a record with its key or not.
-fn put(file: &mut BlockFile, content: &Bytes) -> Result<(), Memory>
+pub fn put(file: &mut BlockFile, content: &Bytes) -> Result<(), Memory>
     requires { IsContent file.old.key content.now }
     ensures key { file.new.key ≡ file.old.key }
     ensures ok { OnOk result (records_of file.new.blocks
@@ -45,6 +46,19 @@ fn put_back(file: &mut BlockFile, image: &Image) -> Result<(), Memory>
             Ok(())
         }
     }
+}
+
+/// Puts back what an image has, where it is of the file of this number.
+pub fn put_back_if(file: &mut BlockFile, number: u32, image: &Image) -> Result<(), Memory>
+    requires { FitsFile number file.old.key image.now }
+    ensures key { file.new.key ≡ file.old.key }
+    ensures ok { OnOk result (records_of file.new.blocks
+        ≡ put_back_if file.old.key number image.now (records_of file.old.blocks)) }
+{
+    if image.file() == number {
+        put_back(file, image)?;
+    }
+    Ok(())
 }
 
 /// Puts back what an image has in the file that it is of.

@@ -1,18 +1,21 @@
-ghost use Rattle.std.specs.Prelude.{◌≡◌, ◌≢◌, ◌<◌, [], All, IfErr, IfOk, OnErr, OnOk, length};
+ghost use Rattle.std.specs.Prelude.{◌≡◌, [], All, IfErr, IfOk, Ok, OnErr, OnOk};
 ghost use Rattle.pw_code.specs.Valid.{IsValid};
-ghost use Rattle.pw_tmf.specs.Answers.{Operates};
+ghost use Rattle.pw_tmf.specs.Answers.{Leaves, Operates};
 ghost use Rattle.pw_tmf.specs.Operation.{IsCall};
 ghost use Rattle.pw_tmf.specs.Starting.{told_at_start};
-ghost use Rattle.pw_tmf.specs.Tmf.{all_pending, told_of};
-ghost use Rattle.pw_tmf.specs.Units.{AreApart, CanBackOut, IsRunning, all_backed_out};
+ghost use Rattle.pw_tmf.specs.Tmf.{told_of};
+ghost use Rattle.pw_tmf.specs.Units.{AreApart, CanBackOut, IsRunning, all_backed_out, ended};
 
 use crate::answer::{DiscFault, Ended, FileAnswer};
+use crate::committed::put_all_back;
+use crate::copies::{copy_files, copy_lists, copy_slots};
 use crate::disc::Disc;
 use crate::images::Images;
 use crate::operation::{perform, span_of};
-use crate::settle::settle;
+use crate::settle::{is_settled, settle};
 use crate::slot::Slot;
 use crate::start::{files_of, slots_of};
+use crate::stop::stop;
 use pw_base::bytes::Bytes;
 use pw_base::memory::Memory;
 use pw_blocks::block_file::BlockFile;
@@ -109,6 +112,37 @@ impl Tmf {
         }
     }
 
+    /// Backs out units where nothing is to be put back, and leaves their changes to be put back. An `Err` leaves all that
+    /// is told.
+    fn back_out_settled(&mut self, units: &[Unit], ends: bool) -> Result<(), Memory>
+        requires settled { self.old.pending ≡ [] }
+        requires apart { AreApart units.now }
+        requires units { All (CanBackOut ends (told_of self.old)) units.now }
+        ensures ok { OnOk result (told_of self.new ≡ all_backed_out ends (told_of self.old) units.now) }
+        ensures err { OnErr result (told_of self.new ≡ told_of self.old) }
+    {
+        let mut lists = Vec::with_capacity(*self.files.allocator(), units.len())?;
+        for unit in units {
+            stop(&mut self.book, &mut self.slots, &mut lists, unit, ends);
+        }
+        lists.reverse();
+        self.pending = lists;
+        Ok(())
+    }
+
+    /// An equal value.
+    pub fn copy(&self, alloc: Global) -> Result<Tmf, Memory>
+        ensures { IfOk result (λ tmf. tmf ≡ self.now) }
+    {
+        Ok(Tmf {
+            rule: self.rule,
+            files: copy_files(alloc, &self.files)?,
+            pending: copy_lists(alloc, &self.pending)?,
+            book: self.book.copy(alloc)?,
+            slots: copy_slots(alloc, &self.slots)?,
+        })
+    }
+
     /// Does an operation. An `Err` leaves all that is told.
     fn try_operate(&mut self, unit: &Unit, call: &FileCall) -> Result<FileAnswer, Memory>
         requires unit { IsRunning (told_of self.old) unit.now }
@@ -118,5 +152,64 @@ impl Tmf {
     {
         self.settle()?;
         self.operate_settled(unit, call)
+    }
+}
+
+impl Disc for Tmf {
+    ghost told = { told_of };
+
+    fn begin(&mut self, unit: &Unit) -> Result<(), DiscFault> {
+        let alloc = *self.files.allocator();
+        self.slots[unit.terminal as usize].begin(alloc, unit);
+        Ok(())
+    }
+
+    fn operate(&mut self, unit: &Unit, call: &FileCall) -> FileAnswer {
+        match self.try_operate(unit, call) {
+            Ok(answer) => answer,
+            Err(Memory) => FileAnswer::Memory,
+        }
+    }
+
+    /// Takes no memory, and answers Ok.
+    fn commit(&mut self, unit: &Unit, reply: Option<Bytes>) -> Result<(), DiscFault>
+        requires { IsRunning (told_of self.old) unit.now }
+        ensures answer { result ≡ Ok tt }
+        ensures ok { OnOk result (told_of self.new ≡ ended (told_of self.old) unit.now reply) }
+        ensures err { IfErr result (λ fault. Leaves fault (told_of self.old) (told_of self.new)) }
+    {
+        self.book.release(unit);
+        self.slots[unit.terminal as usize].end(reply);
+        Ok(())
+    }
+
+    fn back_out(&mut self, units: &[Unit], ends: bool) -> Result<(), DiscFault> {
+        self.settle()?;
+        self.back_out_settled(units, ends)?;
+        let _ = self.settle();
+        Ok(())
+    }
+
+    fn ended(&self, terminal: u32) -> Option<&Ended> {
+        self.slots[terminal as usize].ended()
+    }
+
+    fn committed(&self, alloc: Global, file: u32) -> Result<Vec<Bytes>, Memory> {
+        if !is_settled(&self.pending) {
+            return Err(Memory);
+        }
+        let mut copy = self.files[file as usize].copy(alloc)?;
+        put_all_back(&mut copy, file, &self.slots)?;
+        Ok(copy.records(alloc)?.into_vec())
+    }
+
+    fn awaits(&self, unit: &Unit, call: &FileCall, holder: &Unit) -> Result<bool, Memory> {
+        if !is_settled(&self.pending) {
+            return Err(Memory);
+        }
+        let alloc = *self.files.allocator();
+        let span = span_of(alloc, &self.files[call.file as usize], call)?;
+        let mode = mode_of(self.rule, &call.op);
+        Ok(self.book.overlaps(holder, call.file, &span, mode))
     }
 }
