@@ -3,8 +3,8 @@ use Rattle.std.proofs.Common.{◌≡◌, ◌≢◌, ℕ, ◌+◌, ◌-◌, ◌<�
 use Rattle.std.specs.Prelude.{All, reverse, slice_index_or}
 use Rattle.std.specs.Option.{IfSome}
 use Rattle.std.proofs.lemmas.Bool.{cases_Bool, eq-eqb, eqb-true, eqb-false, ne_eqb}
-use Rattle.std.proofs.lemmas.List.{take_more}
-use Rattle.std.proofs.lemmas.List.Elements.{All-weaker}
+use Rattle.std.proofs.lemmas.List.{reverse-reverse, take_more}
+use Rattle.std.proofs.lemmas.List.Elements.{All-get_or, All-weaker}
 use Rattle.pw_files.specs.Records.{IsContent}
 use Rattle.pw_onecopy.proofs.Update.{upd_elim, upd-same, upd-other}
 use Rattle.pw_onecopy.specs.Update.{upd}
@@ -12,7 +12,7 @@ use Rattle.pw_paired.specs.State.{BeforeImage}
 use Rattle.pw_paired.specs.Units.{put_back}
 use Rattle.pw_tmf.specs.Committed.{FitsFile, all_put_back, images_below, images_of, put_back_if, restored}
 use Rattle.pw_tmf.specs.Tmf.{AreImages, IsImage}
-use Rattle.pw_tmf.proofs.Reversed.{reverse-push}
+use Rattle.pw_tmf.proofs.Reversed.{All-reverse, reverse-push}
 
 pub all_put_back-append : (n file : ℕ) (xs ys : List BeforeImage) (records : List (List ℕ)) → all_put_back n file (xs ++ ys) records ≡ all_put_back n file ys (all_put_back n file xs records)
 all_put_back-append n file [] ys records = refl
@@ -53,3 +53,7 @@ put-last n file images left image records some within is =
     let more : take left images ≡ take (left - 1) images ++ image ∷ [] =
     ap (λ k. take k images) before ∙ (take_more images (left - 1) image lt ∙ ap (λ x. take (left - 1) images ++ x ∷ []) (sym is)) in
     ap (λ xs. all_put_back n file xs records) (ap reverse more ∙ reverse-push (take (left - 1) images) image)
+
+-- the image at a place fits where all of the reversed list do
+pub fits-at : (P : BeforeImage → Type 0) (images : List BeforeImage) (i : ℕ) (image : BeforeImage) → i < length images → image ≡ slice_index_or images i image → All P (reverse images) → P image
+fits-at P images i image lt is h = subst P (sym is) (All-get_or P images i image lt (subst (All P) (reverse-reverse images) (All-reverse P (reverse images) h)))

@@ -161,6 +161,7 @@ same-terminals true told u = refl
 same-terminals false told u = refl
 
 pub can-still : (ends other : Bool) (told : Told) (u v : unit.Unit) → v.terminal ≢ u.terminal → CanBackOut ends told v → CanBackOut ends (backed_out other told u) v
+unfolding open-still
 can-still true other told u v apart can = open-still told u v (backed_out other told u) (same-terminals other told u) (others-stay other told u v) apart can
 can-still false other told u v apart can = record { is_open = open-still told u v (backed_out other told u) (same-terminals other told u) (others-stay other told u v) apart can.is_open; runs = can.runs }
 

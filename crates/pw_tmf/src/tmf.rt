@@ -122,8 +122,10 @@ impl Tmf {
         ensures err { OnErr result (told_of self.new ≡ told_of self.old) }
     {
         let mut lists = Vec::with_capacity(*self.files.allocator(), units.len())?;
-        for unit in units {
+        let mut left = units;
+        while let Some((unit, others)) = left.split_first() {
             stop(&mut self.book, &mut self.slots, &mut lists, unit, ends);
+            left = others;
         }
         lists.reverse();
         self.pending = lists;

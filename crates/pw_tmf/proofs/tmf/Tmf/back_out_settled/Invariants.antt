@@ -1,4 +1,4 @@
-use Rattle.std.proofs.Common.{◌≡◌, ℕ, ◌+◌, ◌≤◌, Bool, List, drop, length, vec_len}
+use Rattle.std.proofs.Common.{◌≡◌, ℕ, ◌+◌, ◌≤◌, Bool, List, length, vec_len}
 use Rattle.std.specs.Prelude.{vec_capacity}
 use Rattle.pw_code.specs.declared.unit.Unit as unit
 use Rattle.pw_tmf.specs.Tmf.{TmfState, told_of}
@@ -14,6 +14,9 @@ pub record IsStopping (ends : Bool) (final : Told) (state : TmfState) (rest : Li
 
 abbrev pub invariant-loop-unit : goal.invariant-loop-unit
 invariant-loop-unit l =
-    IsStopping l.ends (all_backed_out l.ends (told_of l.fn.self) l.units)
+    IsStopping l.ends (all_backed_out l.ends (told_of l.fn.self) l.fn.units)
     (record { rule = l.self-inside.rule; files = l.self-inside.files.items; pending = l.lists.items; locks = l.self-inside.book; slots = l.self-inside.slots.items })
-    (drop l.unit-index l.units) (vec_len l.lists) (vec_capacity l.lists)
+    l.left (vec_len l.lists) (vec_capacity l.lists)
+
+abbrev pub decreases-loop-unit : goal.decreases-loop-unit
+decreases-loop-unit l = length l.left

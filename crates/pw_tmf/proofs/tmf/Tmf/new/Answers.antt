@@ -20,7 +20,7 @@ returns c =
     let records : map records_in made ≡ map records_in_system system.files = c.in_ok-files_of.ensures.records ∙ ap (map records_in_system) c.as_slice.ensures in
     told-is (told_at_start system) _ _ _ _ _ _ _
     (ap length slots_are ∙ (length-replicate c.len.result no_slot ∙ c.len.ensures))
-    (sym (length-map key_in made) ∙ (ap length keys ∙ length-map key_in_system system.files))
+    (sym (length-map made key_in) ∙ (ap length keys ∙ length-map system.files key_in_system))
     (fun_ext (same-at key_in key_in_system key_of_file no_file refl (λ y. refl) made system.files keys))
     (settled-files made (reverse c.new.result.items) (ap reverse c.new.ensures.items) ∙ fun_ext (same-at records_in records_in_system records_of_file no_file refl (λ y. refl) made system.files records))
     c.in_ok-new.ensures
