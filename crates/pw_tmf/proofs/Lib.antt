@@ -11,3 +11,4 @@ pub mod Settling
 pub mod Starting
 pub mod Stopped
 pub mod Stored
+pub mod WithFaults

@@ -1,5 +1,6 @@
 pub mod Answers
 pub mod Committed
+pub mod Faulty
 pub mod Operation
 pub mod Slots
 pub mod Starting

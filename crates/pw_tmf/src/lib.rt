@@ -5,6 +5,7 @@ pub mod answer;
 mod committed;
 mod copies;
 pub mod disc;
+pub mod faulty;
 mod image;
 mod images;
 mod open_unit;
