@@ -11,4 +11,5 @@ pub mod Settling
 pub mod Starting
 pub mod Stopped
 pub mod Stored
+pub mod TwoUnitLemmas
 pub mod WithFaults

@@ -6,4 +6,5 @@ pub mod Slots
 pub mod Starting
 pub mod Tmf
 pub mod Told
+pub mod TwoUnits
 pub mod Units

@@ -15,4 +15,6 @@ mod slot;
 mod start;
 mod stop;
 mod store;
+#[cfg(test)]
+mod tests;
 pub mod tmf;
