@@ -11,5 +11,6 @@ pub mod Settling
 pub mod Starting
 pub mod Stopped
 pub mod Stored
+pub mod SystemLemmas
 pub mod TwoUnitLemmas
 pub mod WithFaults

@@ -1,5 +1,5 @@
 -- A disc of two terminals and one file, with a unit of each terminal, as the tests have it.
-use Rattle.std.specs.Prelude.{◌≡◌, ℕ, ◌≤◌, true, false, List, [], ◌∷◌, length, None}
+use Rattle.std.specs.Prelude.{◌≡◌, ℕ, ◌≤◌, true, false, List, [], ◌∷◌, codes, length, None}
 use Rattle.pw_code.specs.declared.file.FileCall.{FileCall}
 use Rattle.pw_code.specs.declared.file.FileInfo.{FileInfo}
 use Rattle.pw_code.specs.declared.system.System.{System}
@@ -8,6 +8,10 @@ use Rattle.pw_files.specs.Records.{IsContent}
 use Rattle.pw_onecopy.specs.IsBehaviour.{is_written}
 use Rattle.pw_tmf.specs.Told.{Told}
 use Rattle.pw_tmf.specs.Units.{IsRunning}
+
+-- a file with keys of 2 characters and one record
+abbrev pub stock_file : FileInfo
+stock_file = record { name = codes "STOCK"; key = 2; records = codes "AA one" ∷ [] }
 
 -- a system of two terminals, and of one file whose keys have 2 characters
 pub record IsTestSystem (system : System) : Type 0 where

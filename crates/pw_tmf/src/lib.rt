@@ -8,6 +8,7 @@ pub mod disc;
 pub mod faulty;
 mod image;
 mod images;
+pub mod laws;
 mod open_unit;
 mod operation;
 mod settle;
@@ -15,6 +16,5 @@ mod slot;
 mod start;
 mod stop;
 mod store;
-#[cfg(test)]
-mod tests;
+pub mod tests;
 pub mod tmf;

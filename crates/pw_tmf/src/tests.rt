@@ -1,8 +1,8 @@
-ghost use Rattle.std.specs.Prelude.{◌≡◌, ◌<◌, ◌≤◌, [], ◌∷◌, false, length, IfOk, OnOk};
+ghost use Rattle.std.specs.Prelude.{◌≡◌, ◌<◌, ◌≤◌, [], ◌∷◌, true, false, length, IfOk, OnOk};
 ghost use Rattle.pw_code.specs.Valid.{IsValid};
 ghost use Rattle.pw_onecopy.specs.IsBehaviour.{is_written};
 ghost use Rattle.pw_tmf.specs.Tmf.{told_of};
-ghost use Rattle.pw_tmf.specs.TwoUnits.{AreBoth, IsFresh, IsTestCall, IsTestSystem};
+ghost use Rattle.pw_tmf.specs.TwoUnits.{AreBoth, IsFresh, IsTestCall, IsTestSystem, stock_file};
 
 use crate::answer::{DiscFault, FileAnswer};
 use crate::disc::Disc;
@@ -60,38 +60,75 @@ fn terminal(alloc: Global, name: &[u8]) -> Result<TermInfo, Memory>
     })
 }
 
-/// A system of two terminals, and of one file with keys of 2 characters and a record.
-fn system(alloc: Global) -> Result<System, Memory>
-    ensures valid { IfOk result IsValid }
-    ensures parts { IfOk result IsTestSystem }
+/// A system of these parts.
+fn system_of(
+    alloc: Global,
+    programs: List<Code>,
+    files: List<FileInfo>,
+    tcps: List<Bytes>,
+    terminals: List<TermInfo>,
+) -> System
+    ensures { result ≡ record {
+      programs = programs;
+      servers = [];
+      classes = [];
+      files = files;
+      tcps = tcps;
+      terminals = terminals;
+      rule = LockRule.ReadersShare;
+    } }
 {
-    let program = Code {
-        name: bytes(alloc, b"KEYS")?,
-        instrs: List::new(alloc),
-    };
-    let file = FileInfo {
+    System {
+        programs,
+        servers: List::new(alloc),
+        classes: List::new(alloc),
+        files,
+        tcps,
+        terminals,
+        rule: LockRule::ReadersShare,
+    }
+}
+
+/// The file STOCK with keys of 2 characters and one record.
+fn stock(alloc: Global) -> Result<FileInfo, Memory>
+    ensures { IfOk result (λ file. file ≡ stock_file) }
+{
+    Ok(FileInfo {
         name: bytes(alloc, b"STOCK")?,
         key: 2,
         records: list_of(alloc, bytes(alloc, b"AA one")?)?,
-    };
+    })
+}
+
+/// A program without instructions.
+fn program(alloc: Global) -> Result<Code, Memory>
+    ensures { IfOk result (λ code. code.instrs ≡ []) }
+{
+    Ok(Code {
+        name: bytes(alloc, b"KEYS")?,
+        instrs: List::new(alloc),
+    })
+}
+
+/// A system of two terminals and that file.
+fn system(alloc: Global) -> Result<System, Memory>
+    ensures { IfOk result (λ system. IsValid system × IsTestSystem system) }
+{
+    let programs = list_of(alloc, program(alloc)?)?;
+    let files = list_of(alloc, stock(alloc)?)?;
+    let tcps = list_of(alloc, bytes(alloc, b"TCP-1")?)?;
     let mut terminals = list_of(alloc, terminal(alloc, b"T1")?)?;
     terminals.push(terminal(alloc, b"T2")?)?;
-    Ok(System {
-        programs: list_of(alloc, program)?,
-        servers: List::new(alloc),
-        classes: List::new(alloc),
-        files: list_of(alloc, file)?,
-        tcps: list_of(alloc, bytes(alloc, b"TCP-1")?)?,
-        terminals,
-        rule: LockRule::ReadersShare,
-    })
+    Ok(system_of(alloc, programs, files, tcps, terminals))
 }
 
 /// Its disc, on which no unit has begun.
 fn started(alloc: Global) -> Result<Tmf, Memory>
     ensures { IfOk result (λ tmf. IsFresh (told_of tmf)) }
 {
-    Tmf::new(alloc, &system(alloc)?)
+    let made = system(alloc)?;
+    let tmf = Tmf::new(alloc, &made)?;
+    Ok(tmf)
 }
 
 /// An operation on the first file by a key of 2 characters.
@@ -110,6 +147,7 @@ fn by_key(alloc: Global, op: FileOp, key: &[u8]) -> Result<FileCall, Memory>
 
 /// An operation that writes a record of the first file.
 fn writing(alloc: Global, op: FileOp, content: &[u8]) -> Result<FileCall, Memory>
+    requires op { is_written op ≡ true }
     requires content { (2 ≤ length content.now) × (length content.now ≤ 100) }
     ensures { IfOk result IsTestCall }
 {

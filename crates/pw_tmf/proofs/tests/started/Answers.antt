@@ -4,4 +4,4 @@ use Rattle.pw_tmf.proofs.TwoUnitLemmas.{fresh-start}
 use Rattle.pw_tmf.proofs.tests.started.Goals as goal
 
 pub returns : goal.returns
-returns c = ?
+returns c = subst IsFresh (sym c.in_ok-tmf.ensures) (fresh-start c.in_ok-made.made c.in_ok-made.ensures.1)
