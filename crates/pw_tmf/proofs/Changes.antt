@@ -1,6 +1,6 @@
 -- Operations that change a record, and the before-images that they leave.
-use Rattle.std.proofs.Common.{◌≡◌, ℕ, ◌<◌, ◌∙◌, length, sym, ap, subst, refl, Bool, true, false, not, ◌&&◌, ◌==◌, cond, List, ◌∷◌, Option, Some, None}
-use Rattle.std.specs.Prelude.{drop, is_some, slice_index_or, if◌then◌else◌}
+use Rattle.std.proofs.Common.{◌≡◌, ℕ, ◌<◌, ◌∙◌, length, sym, ap, refl, Bool, true, false, not, ◌&&◌, ◌==◌, cond, List, Option, Some, None}
+use Rattle.std.specs.Prelude.{is_some, slice_index_or}
 use Rattle.std.specs.Borrow.{Bor}
 use Rattle.std.specs.Option.{option_copied, option_map}
 use Rattle.pw_blocks.specs.Blocks.{BlocksState, records_of}
@@ -8,13 +8,12 @@ use Rattle.pw_code.specs.declared.file.FileCall.{FileCall}
 use Rattle.pw_code.specs.declared.file.FileOp.{FileOp}
 use Rattle.pw_code.specs.declared.file.FileOp.TheVariants.{Read, Next, Write, Rewrite, Delete, ReadLock, NextLock}
 use Rattle.pw_files.specs.Records.{has_key, record_at}
-use Rattle.pw_onecopy.specs.Operation.{answer_of, change_answer, changes_records, is_change, key_of, records_behind, changed_records}
+use Rattle.pw_onecopy.specs.Operation.{answer_of, changes_records, is_change, key_of, records_behind, changed_records}
 use Rattle.pw_onecopy.specs.Path.{FileAnswer}
-use Rattle.pw_paired.specs.State.{BeforeImage}
 use Rattle.pw_paired.specs.Units.{has_image}
 use Rattle.pw_tmf.specs.Committed.{images_of}
 use Rattle.pw_tmf.specs.Operation.{answer_with, image_now, refusal, with_image}
-use Rattle.pw_tmf.specs.Slots.{SlotState, with_before, with_unit, without_last}
+use Rattle.pw_tmf.specs.Slots.{SlotState, with_before, with_unit}
 use Rattle.pw_tmf.specs.Tmf.{key_lengths, stored}
 use Rattle.pw_tmf.specs.Told.{ToldUnit}
 use Rattle.pw_tmf.proofs.Stored.{file-is}

@@ -7,8 +7,7 @@ use Rattle.pw_locks.specs.declared.lock.Lock.{Lock}
 use Rattle.pw_paired.specs.State.{BeforeImage}
 use Rattle.pw_tmf.specs.Committed.{images_of}
 use Rattle.pw_tmf.specs.Slots.{SlotState}
-use Rattle.pw_tmf.specs.Tmf.{AreImages, IsHeld, IsTmf, TmfState, all_pending, file_at, files_of, key_lengths, no_slot, slot_at, stored, told_of, unit_at}
-use Rattle.pw_tmf.specs.Told.{Told}
+use Rattle.pw_tmf.specs.Tmf.{AreImages, IsTmf, TmfState, files_of, key_lengths, no_slot, slot_at, told_of}
 use Rattle.pw_tmf.proofs.Operated.{told-is}
 
 -- a slot that is read at its place

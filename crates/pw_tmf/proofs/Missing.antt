@@ -1,6 +1,6 @@
 -- A key that no record has: the records without it are all of them.
-use Rattle.std.proofs.Common.{◌≡◌, ℕ, ◌∙◌, sym, ap, subst, refl, Option, Some, None, Ok, true, false, Bool, cond, List, [], ◌∷◌, ◌++◌, map, take}
-use Rattle.std.specs.Prelude.{filter, All, is_some}
+use Rattle.std.proofs.Common.{◌≡◌, ℕ, ◌∙◌, sym, ap, subst, refl, Option, Some, None, Ok, true, false, Bool, List, [], ◌∷◌, map, take}
+use Rattle.std.specs.Prelude.{All, is_some}
 use Rattle.std.specs.List.{AllByRecursion}
 use Rattle.std.specs.List.Sorted.{IsStrictlySortedBy}
 use Rattle.std.specs.Ordering.{is_lt, is_eq, is_gt}

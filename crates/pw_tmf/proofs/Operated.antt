@@ -23,7 +23,7 @@ use Rattle.pw_paired.specs.State.{BeforeImage, LastEnded}
 use Rattle.pw_tmf.specs.Committed.{images_of}
 use Rattle.pw_tmf.specs.Operation.{after_operation, image_now, is_first_change, lock_now, with_image}
 use Rattle.pw_tmf.specs.Slots.{SlotState, with_unit}
-use Rattle.pw_tmf.specs.Tmf.{AreImages, HasNumber, IsHeld, IsImage, IsTmf, TmfState, file_at, files_of, key_lengths, no_slot, slot_at, stored, told_of, unit_at}
+use Rattle.pw_tmf.specs.Tmf.{AreImages, HasNumber, IsHeld, IsImage, IsTmf, TmfState, files_of, key_lengths, no_slot, slot_at, stored, told_of, unit_at}
 use Rattle.pw_tmf.specs.Told.{Told, ToldUnit}
 use Rattle.pw_tmf.proofs.Stored.{file-is, get-set, upd-itself}
 

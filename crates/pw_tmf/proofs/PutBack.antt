@@ -1,16 +1,16 @@
 -- Before-images that are put back in one file.
-use Rattle.std.proofs.Common.{◌≡◌, ◌≢◌, ℕ, ◌+◌, ◌-◌, ◌<◌, ◌≤◌, zero, suc, ◌∙◌, ⊎_elim, refl, sym, ap, subst, Bool, true, false, ◌==◌, cond, List, [], ◌∷◌, ◌++◌, length, take, get_or, arith, Option, Some, None}
+use Rattle.std.proofs.Common.{◌≡◌, ◌≢◌, ℕ, ◌+◌, ◌-◌, ◌<◌, ◌≤◌, ◌∙◌, ⊎_elim, refl, sym, ap, subst, ◌==◌, cond, List, [], ◌∷◌, ◌++◌, length, take, arith}
 use Rattle.std.specs.Prelude.{All, reverse, slice_index_or}
 use Rattle.std.specs.Option.{IfSome}
-use Rattle.std.proofs.lemmas.Bool.{cases_Bool, eq-eqb, eqb-true, eqb-false, ne_eqb}
+use Rattle.std.proofs.lemmas.Bool.{cases_Bool, eqb-true, eqb-false}
 use Rattle.std.proofs.lemmas.List.{reverse-reverse, take_more}
 use Rattle.std.proofs.lemmas.List.Elements.{All-get_or, All-weaker}
 use Rattle.pw_files.specs.Records.{IsContent}
-use Rattle.pw_onecopy.proofs.Update.{upd_elim, upd-same, upd-other}
+use Rattle.pw_onecopy.proofs.Update.{upd-same, upd-other}
 use Rattle.pw_onecopy.specs.Update.{upd}
 use Rattle.pw_paired.specs.State.{BeforeImage}
 use Rattle.pw_paired.specs.Units.{put_back}
-use Rattle.pw_tmf.specs.Committed.{FitsFile, all_put_back, images_below, images_of, put_back_if, restored}
+use Rattle.pw_tmf.specs.Committed.{FitsFile, all_put_back, put_back_if, restored}
 use Rattle.pw_tmf.specs.Tmf.{AreImages, IsImage}
 use Rattle.pw_tmf.proofs.Reversed.{All-reverse, reverse-push}
 

@@ -1,6 +1,6 @@
 -- Lists of before-images that are put back, the last list first.
-use Rattle.std.proofs.Common.{◌≡◌, ℕ, ◌∙◌, refl, sym, ap, subst, List, [], ◌∷◌, ◌++◌, length, Option, Some}
-use Rattle.std.specs.Prelude.{All, flat_map, reverse}
+use Rattle.std.proofs.Common.{◌≡◌, ℕ, ◌∙◌, sym, ap, subst, List, [], ◌∷◌, ◌++◌, length, Some}
+use Rattle.std.specs.Prelude.{All, reverse}
 use Rattle.std.proofs.lemmas.List.Elements.{All-pop, All-push}
 use Rattle.pw_blocks.specs.Blocks.{BlocksState}
 use Rattle.pw_paired.specs.State.{BeforeImage}

@@ -1,7 +1,6 @@
 -- Files and units at the start.
-use Rattle.std.proofs.Common.{◌≡◌, ℕ, zero, suc, ◌∙◌, refl, sym, ap, List, [], ◌∷◌, ◌++◌, map, length, replicate, Option, None, Some}
+use Rattle.std.proofs.Common.{◌≡◌, ℕ, zero, suc, ◌∙◌, refl, sym, ap, List, [], ◌∷◌, ◌++◌, map, replicate, Option, None, Some}
 use Rattle.std.specs.Prelude.{slice_get, slice_index_or}
-use Rattle.std.proofs.Math.Path.{fun_ext}
 use Rattle.pw_files.specs.Records.{with_record}
 use Rattle.pw_tmf.specs.Starting.{all_put}
 

@@ -1,15 +1,15 @@
 -- What is told, and what holds, where a unit's attempt is over.
-use Rattle.std.proofs.Common.{◌≡◌, ◌≢◌, ℕ, ◌<◌, ◌∙◌, ◌⊎◌, ⊎_elim, refl, sym, ap, subst, Bool, true, false, not, ◌&&◌, ◌==◌, cond, List, [], ◌∷◌, ◌++◌, length, filter, append-nil, Option, Some, None}
-use Rattle.std.specs.Prelude.{All, flat_map, slice_set, slice_index_or}
+use Rattle.std.proofs.Common.{◌≡◌, ◌≢◌, ℕ, ◌<◌, ◌∙◌, ⊎_elim, refl, sym, ap, subst, Bool, true, false, not, ◌&&◌, ◌==◌, cond, List, [], ◌∷◌, ◌++◌, length, filter, append-nil, Option, Some, None}
+use Rattle.std.specs.Prelude.{All, slice_set}
 use Rattle.std.specs.Option.{option_map}
-use Rattle.std.proofs.lemmas.Bool.{cases_Bool, eq-eqb, eqb-true, eqb-false, true≢false}
+use Rattle.std.proofs.lemmas.Bool.{cases_Bool, eq-eqb, eqb-true, true≢false}
 use Rattle.std.proofs.lemmas.Grind.{flat_map-append}
 use Rattle.std.proofs.lemmas.List.{length-set}
-use Rattle.std.proofs.lemmas.List.Elements.{All-head, All-tail, All-nil, All-cons, All-get_or, All-push, All-set, All-weaker}
+use Rattle.std.proofs.lemmas.List.Elements.{All-head, All-tail, All-nil, All-cons, All-get_or, All-push, All-set}
 use Rattle.pw_code.specs.declared.unit.Unit as unit
 use Rattle.pw_locks.specs.Conflicts.{is_same_unit}
 use Rattle.pw_locks.specs.declared.lock.Lock.{Lock}
-use Rattle.pw_onecopy.proofs.Update.{upd_elim, upd-other}
+use Rattle.pw_onecopy.proofs.Update.{upd-other}
 use Rattle.pw_onecopy.specs.Update.{upd}
 use Rattle.pw_paired.specs.State.{BeforeImage, LastEnded}
 use Rattle.pw_paired.specs.Units.{only}
@@ -17,7 +17,7 @@ use Rattle.pw_tmf.specs.Committed.{images_of, restored}
 use Rattle.pw_tmf.specs.Slots.{SlotState, backed_out_slot, ended_slot, ended_with_reply}
 use Rattle.pw_tmf.specs.Tmf.{AreImages, HasNumber, IsHeld, IsTmf, TmfState, all_pending, files_of, key_lengths, no_slot, slot_at, stored, told_of, unit_at, with_images}
 use Rattle.pw_tmf.specs.Told.{Told, ToldUnit}
-use Rattle.pw_tmf.specs.Units.{CanBackOut, IsOpen, IsRunning, backed_out, ended, over, released, stopped, undone}
+use Rattle.pw_tmf.specs.Units.{CanBackOut, IsOpen, backed_out, ended, over, released, stopped, undone}
 use Rattle.pw_tmf.proofs.Drained.{restored-append}
 use Rattle.pw_tmf.proofs.Operated.{told-is}
 use Rattle.pw_tmf.proofs.Stored.{get-set, upd-itself}

@@ -1,8 +1,7 @@
 -- The stored records of files, of which one is changed.
-use Rattle.std.proofs.Common.{◌≡◌, ◌≢◌, ℕ, ◌<◌, ◌∙◌, ⊎_elim, refl, sym, ap, subst, List, [], ◌∷◌, length, Result, Ok, Err}
+use Rattle.std.proofs.Common.{◌≡◌, ℕ, ◌<◌, ◌∙◌, refl, sym, ap, List, length, Result, Ok, Err}
 use Rattle.std.specs.Prelude.{slice_set, slice_index_or, OnOk}
 use Rattle.std.proofs.Math.Path.{fun_ext}
-use Rattle.std.proofs.lemmas.Bool.{cases_Bool, eqb-true, eqb-false}
 use Rattle.std.proofs.lemmas.List.{get_or-set_same, get_or-set_other, get_or_default}
 use Rattle.pw_blocks.specs.Blocks.{BlocksState, records_of}
 use Rattle.pw_onecopy.proofs.Update.{upd_elim}

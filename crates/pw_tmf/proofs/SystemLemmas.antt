@@ -1,6 +1,6 @@
 -- The system of the tests is valid.
-use Rattle.std.proofs.Common.{◌≡◌, ◌≤◌, ◌<◌, ℕ, List, [], ◌∷◌, length, ◌++◌, ◌∙◌, ap, arith, refl, sym, subst}
-use Rattle.std.specs.Prelude.{◌^◌, All, codes, take}
+use Rattle.std.proofs.Common.{◌≡◌, ◌<◌, ℕ, List, [], ◌∷◌, length, ◌++◌, ◌∙◌, ap, arith, refl, sym, subst}
+use Rattle.std.specs.Prelude.{◌^◌, codes, take}
 use Rattle.std.specs.List.{IsDistinct}
 use Rattle.std.specs.Str.{bytes_eq}
 use Rattle.std.proofs.lemmas.List.Elements.{All-nil, All-cons}
@@ -42,7 +42,7 @@ test-valid code empty =
     record {
       programs = All-cons HasPlaces code [] (subst (λ (is : List Instr). length is < 2 ^ 32) (sym empty) (omega arith)) (All-nil HasPlaces);
       servers = All-nil HasPlaces;
-      terminals = All-cons (IsTerminal system) (terminal_named (codes "T1")) _ (one (codes "T1")) (All-cons (IsTerminal system) (terminal_named (codes "T2")) [] (one (codes "T2")) (All-nil (IsTerminal system)));
+      terminals = All-cons (IsTerminal system) (terminal_named (codes "T1")) (terminal_named (codes "T2") ∷ []) (one (codes "T1")) (All-cons (IsTerminal system) (terminal_named (codes "T2")) [] (one (codes "T2")) (All-nil (IsTerminal system)));
       classes = All-nil (IsClass system);
       files = All-cons IsDeckFile stock_file [] (record {
         key = (omega arith, omega arith);

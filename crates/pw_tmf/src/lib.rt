@@ -16,5 +16,6 @@ mod slot;
 mod start;
 mod stop;
 mod store;
-pub mod tests;
+#[cfg(test)]
+mod tests;
 pub mod tmf;

@@ -54,10 +54,7 @@ pub fn span_of(alloc: Global, file: &BlockFile, call: &FileCall) -> Result<Span,
             low: call.key.copy(alloc)?,
             high: found_key(alloc, file, call)?,
         }),
-        _ => Ok(Span::Point(Bytes::from_slice(
-            alloc,
-            key_of(key_length, call),
-        )?)),
+        _ => Ok(Span::Point(Bytes::from_slice(alloc, key_of(key_length, call))?)),
     }
 }
 
@@ -86,11 +83,7 @@ fn copied(alloc: Global, found: Option<&[u8]>) -> Result<Option<Bytes>, Memory>
 }
 
 /// What a read answers that found this record, if any: status 0, or the one for a missing record.
-fn read(
-    alloc: Global,
-    found: Option<&[u8]>,
-    missing: u16,
-) -> Result<(u16, Option<Bytes>), Memory>
+fn read(alloc: Global, found: Option<&[u8]>, missing: u16) -> Result<(u16, Option<Bytes>), Memory>
     ensures { IfOk result (λ answer. answer_with answer.0 answer.1 ≡ read_answer missing (option_copied found.entry)) }
 {
     let status = if found.is_some() { 0 } else { missing };

@@ -68,7 +68,7 @@ pub fn put_back_in(files: &mut Vec<BlockFile>, image: &Image) -> Result<(), Memo
     ensures count { length files.new.items ≡ length files.old.items }
     ensures ok { OnOk result (stored files.new.items ≡ upd (stored files.old.items) image.now.file
         (put_back (key_lengths files.old.items image.now.file) (stored files.old.items image.now.file)
-            image.now.key image.now.content)) }
+        image.now.key image.now.content)) }
     ensures err { OnErr result (stored files.new.items ≡ stored files.old.items) }
 {
     put_back(&mut files[image.file() as usize], image)?;

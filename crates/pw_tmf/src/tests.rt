@@ -26,6 +26,7 @@ const OLDER: Unit = Unit {
     number: 1,
     birth: 0,
 };
+
 const YOUNGER: Unit = Unit {
     terminal: 1,
     number: 1,
@@ -174,7 +175,12 @@ fn expect_done(rt: &impl Abort, answer: FileAnswer, status: u16, content: Option
 }
 
 /// The committed records of the first file.
-fn expect_records<D: Disc>(rt: &impl Abort, alloc: Global, disc: &D, records: &[&[u8]]) -> Result<(), Memory>
+fn expect_records<D: Disc>(
+    rt: &impl Abort,
+    alloc: Global,
+    disc: &D,
+    records: &[&[u8]],
+) -> Result<(), Memory>
     requires { 0 < (D.told disc.now).file_count }
 {
     let committed = disc.committed(alloc, 0)?;

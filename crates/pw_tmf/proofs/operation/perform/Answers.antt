@@ -1,6 +1,5 @@
 use Rattle.std.proofs.Common.{◌≡◌, ap, sym, inl, inr, false}
 use Rattle.pw_onecopy.specs.Operation.{is_change, records_behind}
-use Rattle.pw_onecopy.specs.Update.{upd}
 use Rattle.pw_tmf.specs.Tmf.{key_lengths, stored}
 use Rattle.pw_tmf.proofs.Changes.{read-changes, unchanged-records}
 use Rattle.pw_tmf.proofs.Stored.{on-ok, upd-itself}

@@ -1,9 +1,9 @@
 use Rattle.std.proofs.Common.{◌≡◌, ◌∙◌, ap, sym, Some}
-use Rattle.pw_onecopy.specs.Operation.{changes_records, key_of, records_behind}
+use Rattle.pw_onecopy.specs.Operation.{key_of, records_behind}
 use Rattle.pw_files.specs.Records.{has_key}
 use Rattle.pw_tmf.specs.Operation.{refusal}
 use Rattle.pw_tmf.specs.Tmf.{key_lengths, stored}
-use Rattle.pw_tmf.proofs.Changes.{refused-answer, refused-changes, seen-in, seen-key, unchanged-records, unchanged-unit}
+use Rattle.pw_tmf.proofs.Changes.{refused-changes, seen-in, seen-key, unchanged-records, unchanged-unit}
 use Rattle.pw_tmf.proofs.Stored.{upd-itself}
 use Rattle.pw_tmf.proofs.operation.write.Goals as goal
 

@@ -1,6 +1,4 @@
-use Rattle.std.proofs.Common.{◌≡◌, ℕ, length}
-use Rattle.pw_tmf.specs.Committed.{restored}
-use Rattle.pw_tmf.specs.Tmf.{AreImages, key_lengths, stored}
+use Rattle.std.proofs.Common.{length}
 use Rattle.pw_tmf.proofs.Drained.{IsDrained}
 use Rattle.pw_tmf.proofs.settle.drain.Given as goal
 

@@ -1,4 +1,3 @@
-use Rattle.std.proofs.Common.{length}
 use Rattle.pw_tmf.proofs.Settling.{IsSettling}
 use Rattle.pw_tmf.proofs.settle.settle.Given as goal
 

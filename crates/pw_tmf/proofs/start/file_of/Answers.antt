@@ -1,4 +1,4 @@
-use Rattle.std.proofs.Common.{◌≡◌, ◌∙◌, ◌+◌, ◌<◌, ◌++◌, ◌∷◌, [], ap, sym, length, take, arith}
+use Rattle.std.proofs.Common.{◌≡◌, ◌∙◌, ◌+◌, ◌<◌, ◌++◌, ◌∷◌, [], ap, sym, length, take}
 use Rattle.std.proofs.lemmas.List.{take_more}
 use Rattle.pw_blocks.specs.Blocks.{records_of}
 use Rattle.pw_files.specs.Records.{with_record}

@@ -1,7 +1,5 @@
-use Rattle.std.proofs.Common.{◌≡◌, ◌∙◌, ◌+◌, ◌<◌, ◌++◌, ◌∷◌, [], ap, sym, subst, length, map, take}
+use Rattle.std.proofs.Common.{◌≡◌, ◌∙◌, ◌+◌, ◌<◌, ◌++◌, ◌∷◌, [], ap, sym, length, map, take}
 use Rattle.std.proofs.lemmas.List.{take_more}
-use Rattle.pw_blocks.specs.Blocks.{BlocksState}
-use Rattle.pw_code.specs.declared.file.FileInfo.{FileInfo}
 use Rattle.pw_tmf.specs.Starting.{all_put, key_in, key_in_system, records_in, records_in_system}
 use Rattle.pw_tmf.proofs.Starting.{push-both}
 use Rattle.pw_tmf.proofs.start.files_of.Goals as goal

@@ -1,6 +1,5 @@
 use Rattle.std.proofs.Common.{◌≡◌, ◌∙◌, ◌∷◌, [], ap, sym, subst}
 use Rattle.std.specs.Prelude.{codes}
-use Rattle.pw_code.specs.declared.system.System.{System}
 use Rattle.pw_code.specs.Valid.{IsValid}
 use Rattle.pw_tmf.specs.TwoUnits.{IsTestSystem}
 use Rattle.pw_tmf.proofs.SystemLemmas.{built-is, pushed-two, terminal_named, test-parts, test-valid, test_system}

@@ -1,4 +1,4 @@
-use Rattle.std.proofs.Common.{◌≡◌, ◌∙◌, ◌-◌, ◌<◌, ◌≤◌, ap, sym, subst, length, take, arith}
+use Rattle.std.proofs.Common.{◌∙◌, ◌-◌, ◌<◌, ap, sym, subst, length, take, arith}
 use Rattle.std.specs.Prelude.{All, reverse}
 use Rattle.pw_blocks.specs.Blocks.{records_of}
 use Rattle.pw_tmf.specs.Committed.{FitsFile, all_put_back, put_back_if}

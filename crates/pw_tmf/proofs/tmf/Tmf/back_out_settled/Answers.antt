@@ -2,7 +2,7 @@ use Rattle.std.proofs.Common.{◌≡◌, ◌∷◌, ap, length, refl, List, arit
 use Rattle.pw_code.specs.declared.unit.Unit as unit
 use Rattle.pw_tmf.specs.Tmf.{TmfState, told_of}
 use Rattle.pw_tmf.specs.Units.{all_backed_out}
-use Rattle.pw_tmf.proofs.BackedOut.{next-open, one-more}
+use Rattle.pw_tmf.proofs.BackedOut.{one-more}
 use Rattle.pw_tmf.proofs.tmf.Tmf.back_out_settled.Goals as goal
 
 pub loop-unit-preserved : goal.loop-unit-preserved

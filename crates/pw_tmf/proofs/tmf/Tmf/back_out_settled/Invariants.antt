@@ -1,4 +1,4 @@
-use Rattle.std.proofs.Common.{◌≡◌, ℕ, ◌+◌, ◌≤◌, Bool, List, length, vec_len}
+use Rattle.std.proofs.Common.{ℕ, ◌+◌, ◌≤◌, Bool, List, length, vec_len}
 use Rattle.std.specs.Prelude.{vec_capacity}
 use Rattle.pw_code.specs.declared.unit.Unit as unit
 use Rattle.pw_tmf.specs.Tmf.{TmfState, told_of}

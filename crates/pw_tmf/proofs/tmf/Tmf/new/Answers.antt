@@ -1,8 +1,7 @@
-use Rattle.std.proofs.Common.{◌≡◌, ℕ, ◌∙◌, ap, sym, refl, List, [], map, length, replicate}
+use Rattle.std.proofs.Common.{◌≡◌, ℕ, ◌∙◌, ap, sym, refl, List, map, length, replicate}
 use Rattle.std.specs.Prelude.{reverse}
 use Rattle.std.proofs.Math.Path.{fun_ext}
 use Rattle.std.proofs.lemmas.List.{length-map, length-replicate}
-use Rattle.pw_code.specs.declared.file.FileInfo.{FileInfo}
 use Rattle.pw_tmf.specs.Slots.{SlotState}
 use Rattle.pw_tmf.specs.Starting.{key_in, key_in_system, key_of_file, records_in, records_in_system, records_of_file, told_at_start}
 use Rattle.pw_tmf.specs.Tmf.{no_file, no_slot, slot_at, unit_at}

@@ -1,8 +1,6 @@
-use Rattle.std.proofs.Common.{◌≡◌, ℕ, List, ◌<◌, ◌∙◌, ap, sym, subst, refl, [], ◌∷◌, ◌++◌, length}
-use Rattle.std.specs.Prelude.{IsNone, reverse, slice_set, slice_index_or}
+use Rattle.std.proofs.Common.{◌≡◌, ℕ, List, ◌<◌, ◌∙◌, ap, sym, subst, refl, [], length}
+use Rattle.std.specs.Prelude.{IsNone, reverse, slice_set}
 use Rattle.pw_blocks.specs.Blocks.{BlocksState, records_of}
-use Rattle.pw_code.specs.declared.lock.LockRule.{LockRule}
-use Rattle.pw_code.specs.Locks.{mode_of}
 use Rattle.pw_files.specs.Records.{IsFile}
 use Rattle.pw_locks.specs.Conflicts.{holders, lock_of}
 use Rattle.pw_locks.specs.declared.lock.Lock.{Lock}
@@ -10,8 +8,7 @@ use Rattle.pw_locks.specs.Oldest.{IsOldest}
 use Rattle.pw_onecopy.specs.Operation.{answer_of}
 use Rattle.pw_tmf.specs.Operation.{after_operation, answer_with, lock_now, with_image}
 use Rattle.pw_tmf.specs.Slots.{SlotState, with_unit}
-use Rattle.pw_tmf.specs.Tmf.{HasNumber, IsTmf, TmfState, file_at, files_of, key_lengths, slot_at, stored, told_of, unit_at}
-use Rattle.pw_tmf.specs.Told.{Told}
+use Rattle.pw_tmf.specs.Tmf.{HasNumber, IsTmf, TmfState, files_of, key_lengths, slot_at, stored, told_of, unit_at}
 use Rattle.pw_tmf.proofs.Kept.{IsTmf-kept, slot-is, slot-stays, taken-back}
 use Rattle.pw_tmf.proofs.Operated.{IsTmf-behind, lock-is, operated-told, settled-files}
 use Rattle.pw_tmf.proofs.Stored.{file-is}
@@ -25,10 +22,9 @@ returns-in-Some-clause-ok c =
     let settled : state.pending ≡ [] = ap (λ (s : TmfState). s.pending) c.self.view_is ∙ c.requires.settled in
     let within : call.file < length state.files = subst (λ (s : TmfState). call.file < length s.files) (sym c.self.view_is) c.requires.call.file in
     let lock : lock_now (told_of state) u call ≡ lock_of u call.file c.in_ok-span.span c.mode_of-mode.result =
-    lock-is state c.index.result.now u call c.in_ok-span.span c.mode_of-mode.result settled within c.index.ensures c.in_ok-span.ensures.span c.mode_of-mode.ensures in
-    (
+    lock-is state c.index.result.now u call c.in_ok-span.span c.mode_of-mode.result settled within c.index.ensures c.in_ok-span.ensures.span c.mode_of-mode.ensures in (
       subst (λ (s : TmfState). IsOldest c.in-Some.holder (holders (lock_now (told_of s) u call) s.locks)) c.self.view_is
-      (subst (λ l. IsOldest c.in-Some.holder (holders l state.locks)) (sym lock) c.in-Some.ensures.oldest),
+          (subst (λ l. IsOldest c.in-Some.holder (holders l state.locks)) (sym lock) c.in-Some.ensures.oldest),
       refl,
     )
 
@@ -86,12 +82,11 @@ returns-in-Ok-clause-ok c =
     let noted : slot' ≡ with_unit (with_image (key_lengths state.files call.file) (stored state.files call.file) u.terminal call) (slot_at state.slots u.terminal) =
     c.in-Ok.ensures.noted ∙ ap (with_unit (with_image (key_lengths state.files call.file) (stored state.files call.file) u.terminal call)) (sym here) in
     let lock_eq : lock_now (told_of state) u call ≡ lock =
-    lock-is state file u call c.in_ok-span.span c.mode_of-mode.result settled within c.index.ensures c.in_ok-span.ensures.span c.mode_of-mode.ensures in
-    (
+    lock-is state file u call c.in_ok-span.span c.mode_of-mode.result settled within c.index.ensures c.in_ok-span.ensures.span c.mode_of-mode.ensures in (
       subst (λ (s : TmfState). holders (lock_now (told_of s) u call) s.locks ≡ []) c.self.view_is (ap (λ l. holders l state.locks) lock_eq ∙ c.conflict.ensures.none.0 (subst IsNone (sym c.in_default.is) refl)),
       subst (λ (s : TmfState). answer_with c.in-Ok.status c.in-Ok.content ≡ answer_of (key_lengths s.files call.file) (files_of s.files s.pending call.file) call.op call) c.self.view_is
-      (c.in-Ok.ensures.answer ∙ sym (ap (λ (g : ℕ → List (List ℕ)). answer_of (key_lengths state.files call.file) (g call.file) call.op call) (settled-files state.files state.pending settled))),
+          (c.in-Ok.ensures.answer ∙ sym (ap (λ (g : ℕ → List (List ℕ)). answer_of (key_lengths state.files call.file) (g call.file) call.op call) (settled-files state.files state.pending settled))),
       ap (λ (ls : List Lock). told_of (record { rule = state.rule; files = files'; pending = state.pending; locks = ls; slots = slice_set state.slots u.terminal slot' })) c.in_ok-add.ensures.ok
-      ∙ (operated-told state u call files' slot' lock settled c.perform.ensures.keys c.perform.ensures.count lt noted c.in-Ok.ensures.ok lock_eq
-      ∙ ap (λ (s : TmfState). after_operation (told_of s) u call) c.self.view_is),
+          ∙ (operated-told state u call files' slot' lock settled c.perform.ensures.keys c.perform.ensures.count lt noted c.in-Ok.ensures.ok lock_eq
+          ∙ ap (λ (s : TmfState). after_operation (told_of s) u call) c.self.view_is),
     )

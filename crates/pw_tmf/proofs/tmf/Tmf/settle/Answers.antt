@@ -1,4 +1,4 @@
-use Rattle.std.proofs.Common.{◌≡◌, ap, subst, List, length}
+use Rattle.std.proofs.Common.{subst, List, length}
 use Rattle.std.specs.Prelude.{All, reverse}
 use Rattle.std.proofs.lemmas.List.{reverse-reverse}
 use Rattle.pw_paired.specs.State.{BeforeImage}

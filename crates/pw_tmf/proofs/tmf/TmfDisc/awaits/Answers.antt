@@ -1,4 +1,4 @@
-use Rattle.std.proofs.Common.{◌≡◌, ◌<◌, ◌∙◌, ◌&&◌, ap, sym, subst, [], List, length}
+use Rattle.std.proofs.Common.{◌≡◌, ◌<◌, ◌∙◌, ◌&&◌, ap, sym, subst, [], length}
 use Rattle.std.specs.Prelude.{reverse}
 use Rattle.std.specs.List.{list_any}
 use Rattle.pw_locks.specs.Conflicts.{conflict, is_same_unit, lock_of}

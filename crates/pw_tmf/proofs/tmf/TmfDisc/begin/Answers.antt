@@ -1,10 +1,10 @@
-use Rattle.std.proofs.Common.{◌≡◌, ℕ, ◌<◌, ◌∙◌, ap, sym, subst, refl, length, Some}
-use Rattle.std.specs.Prelude.{reverse, slice_set}
+use Rattle.std.proofs.Common.{◌≡◌, ◌<◌, ◌∙◌, ap, sym, subst, refl, length}
+use Rattle.std.specs.Prelude.{reverse}
 use Rattle.std.proofs.lemmas.List.{length-set}
 use Rattle.pw_onecopy.specs.Update.{upd}
 use Rattle.pw_tmf.specs.Slots.{SlotState}
 use Rattle.pw_tmf.specs.Tmf.{TmfState, no_slot, slot_at, told_of, unit_at}
-use Rattle.pw_tmf.specs.Units.{begun, opened}
+use Rattle.pw_tmf.specs.Units.{begun}
 use Rattle.pw_tmf.proofs.Kept.{slot-is}
 use Rattle.pw_tmf.proofs.Operated.{told-is}
 use Rattle.pw_tmf.proofs.Stored.{get-set, upd-itself}

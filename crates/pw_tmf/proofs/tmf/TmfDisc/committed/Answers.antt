@@ -1,13 +1,12 @@
 use Rattle.std.proofs.Common.{◌≡◌, ℕ, ◌<◌, ◌∙◌, ap, sym, subst, [], List, length}
-use Rattle.std.specs.Prelude.{All, reverse}
-use Rattle.std.proofs.lemmas.List.Elements.{All-weaker}
+use Rattle.std.specs.Prelude.{reverse}
 use Rattle.pw_blocks.specs.Blocks.{BlocksState, records_of}
 use Rattle.pw_paired.specs.State.{BeforeImage}
-use Rattle.pw_tmf.specs.Committed.{FitsFile, all_put_back, committed, images_below, images_of, restored}
+use Rattle.pw_tmf.specs.Committed.{all_put_back, committed, images_below, restored}
 use Rattle.pw_tmf.specs.Slots.{SlotState}
-use Rattle.pw_tmf.specs.Tmf.{AreImages, TmfState, file_at, files_of, key_lengths, stored, told_of, unit_at}
+use Rattle.pw_tmf.specs.Tmf.{TmfState, file_at, key_lengths, stored, told_of, unit_at}
 use Rattle.pw_tmf.proofs.Operated.{settled-files}
-use Rattle.pw_tmf.proofs.PutBack.{fits-file, restored-at}
+use Rattle.pw_tmf.proofs.PutBack.{restored-at}
 use Rattle.pw_tmf.proofs.Stored.{file-is}
 use Rattle.pw_tmf.proofs.tmf.TmfDisc.committed.Goals as goal
 
