@@ -6,3 +6,4 @@ pub mod PieceLemmas
 pub mod PutLemmas
 pub mod RoundLemmas
 pub mod SeatLemmas
+pub mod SplitLemmas

@@ -2,3 +2,4 @@ pub mod Blocks
 pub mod Cuts
 pub mod Packing
 pub mod Seats
+pub mod Splits

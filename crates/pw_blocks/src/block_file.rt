@@ -1,10 +1,12 @@
 ghost use Rattle.std.specs.Prelude.{◌≡◌, ◌≢◌, ◌↔◌, ◌-◌, ◌≤◌, List as ListOf, ℕ, [], ◌∷◌, All, IfOk, IsTrue, OnOk, OnErr, take, drop, suc, not, length, slice_get, slice_index_or};
 ghost use Rattle.std.specs.Option.{option_copied};
 ghost use Rattle.pw_files.specs.Files.{if_done};
-ghost use Rattle.pw_files.specs.Records.{IsContent, IsFile, IsKeyLength, has_key, with_record};
+ghost use Rattle.pw_files.specs.Records.{IsContent, IsFile, IsKeyLength, has_key, with_record, without_key};
 ghost use Rattle.pw_blocks.specs.Blocks.{BlocksState, IsHome, records_of, with_blocks};
+ghost use Rattle.pw_blocks.specs.Cuts.{IsCut};
 ghost use Rattle.pw_blocks.specs.Packing.{IsBlock, unpacked};
 ghost use Rattle.pw_blocks.specs.Seats.{IsSeat};
+ghost use Rattle.pw_blocks.specs.Splits.{IfChanged, IsTaken, IsWritten};
 
 use crate::block::Block;
 use crate::cut::{Cut, cut_at};
@@ -48,6 +50,14 @@ impl BlockFile {
             index: Vec::new(alloc),
             blocks: Vec::new(alloc),
         })
+    }
+
+    /// The length of the keys.
+    pub fn key_length(&self) -> usize
+        ensures length { result ≡ self.now.key }
+        ensures file { IsFile self.now.key (records_of self.now.blocks) }
+    {
+        usize::from(self.key)
     }
 
     /// The number of blocks.
@@ -105,6 +115,8 @@ impl BlockFile {
     /// The place of the block round a key, and what lies round the key in it.
     fn seek(&self, key: &[u8]) -> (usize, Cut<'_>)
         ensures seat { IsSeat self.now.key self.now.blocks key.now result.0 result.1 }
+        ensures home { IsHome self.now.key self.now.blocks key.now result.0 }
+        ensures cut { IsCut self.now.key (slice_index_or self.now.blocks result.0 []) key.now result.1 }
         ensures within { result.0 ≤ length self.now.blocks - 1 }
         ensures file { IsFile self.now.key (records_of self.now.blocks) }
     {
@@ -159,6 +171,8 @@ impl BlockFile {
             (records_of self.old.blocks) }
         ensures key { self.new.key ≡ self.old.key }
         ensures file { IsFile self.new.key (records_of self.new.blocks) }
+        ensures blocks { IfChanged result (IsWritten self.old.key self.old.blocks content.now self.new.blocks)
+            (self.new.blocks ≡ self.old.blocks) }
     {
         let alloc = *self.blocks.allocator();
         let (place, cut) = self.seek(&content[..usize::from(self.key)]);
@@ -191,15 +205,49 @@ impl RecordFile for BlockFile {
         }
     }
 
-    fn insert(&mut self, content: Bytes) -> Result<bool, Memory> {
+    /// Its block stays one where the content fits into it, and else becomes two, or three where the content fits beside
+    /// neither part.
+    fn insert(&mut self, content: Bytes) -> Result<bool, Memory>
+        requires { IsContent self.old.key content }
+        ensures answer { let n = self.old.key in
+            IfOk result (λ is_new. is_new ≡ not (has_key n (records_of self.old.blocks) (take n content))) }
+        ensures records { records_of self.new.blocks ≡ if_done result
+            (with_record self.old.key (records_of self.old.blocks) content) (records_of self.old.blocks) }
+        ensures key_length { self.new.key ≡ self.old.key }
+        ensures file { IsFile self.new.key (records_of self.new.blocks) }
+        ensures blocks { IfChanged result (IsWritten self.old.key self.old.blocks content self.new.blocks)
+            (self.new.blocks ≡ self.old.blocks) }
+    {
         self.write(content.as_slice(), false)
     }
 
-    fn replace(&mut self, content: Bytes) -> Result<bool, Memory> {
+    /// Its block stays one where the content fits into it, and else becomes two, or three where the content fits beside
+    /// neither part.
+    fn replace(&mut self, content: Bytes) -> Result<bool, Memory>
+        requires { IsContent self.old.key content }
+        ensures answer { let n = self.old.key in
+            IfOk result (λ is_there. is_there ≡ has_key n (records_of self.old.blocks) (take n content)) }
+        ensures records { records_of self.new.blocks ≡ if_done result
+            (with_record self.old.key (records_of self.old.blocks) content) (records_of self.old.blocks) }
+        ensures key_length { self.new.key ≡ self.old.key }
+        ensures file { IsFile self.new.key (records_of self.new.blocks) }
+        ensures blocks { IfChanged result (IsWritten self.old.key self.old.blocks content self.new.blocks)
+            (self.new.blocks ≡ self.old.blocks) }
+    {
         self.write(content.as_slice(), true)
     }
 
-    fn remove(&mut self, key: &[u8]) -> Result<bool, Memory> {
+    /// Its block stays one, and goes away exactly where this was its last record.
+    fn remove(&mut self, key: &[u8]) -> Result<bool, Memory>
+        ensures answer { IfOk result (λ is_there.
+            is_there ≡ has_key self.old.key (records_of self.old.blocks) key.now) }
+        ensures records { records_of self.new.blocks ≡ if_done result
+            (without_key self.old.key (records_of self.old.blocks) key.now) (records_of self.old.blocks) }
+        ensures key_length { self.new.key ≡ self.old.key }
+        ensures file { IsFile self.new.key (records_of self.new.blocks) }
+        ensures blocks { IfChanged result (IsTaken self.old.key self.old.blocks key.now self.new.blocks)
+            (self.new.blocks ≡ self.old.blocks) }
+    {
         let alloc = *self.blocks.allocator();
         let (place, cut) = self.seek(key);
         if cut.here.is_none() {

@@ -1,6 +1,7 @@
 ghost use Rattle.std.specs.Prelude.{◌≡◌, ◌≢◌, ◌≤◌, ◌+◌, ◌++◌, ◌∷◌, [], All, IfOk, length, map};
 ghost use Rattle.pw_blocks.specs.Blocks.{first_key, records_of};
 ghost use Rattle.pw_blocks.specs.Packing.{IsBlock, unpacked};
+ghost use Rattle.pw_blocks.specs.Splits.{joined, split};
 
 use crate::block::{BLOCK, Block};
 use pw_base::bytes::Bytes;
@@ -21,6 +22,7 @@ pub fn pieces(
     ensures records { IfOk result (λ blocks. records_of blocks.items
         ≡ unpacked before.now ++ content.now ∷ unpacked behind.now) }
     ensures none_empty { IfOk result (λ blocks. All (λ block. block ≢ []) blocks.items) }
+    ensures split { IfOk result (λ blocks. blocks.items ≡ split (unpacked before.now) content.now (unpacked behind.now)) }
 {
     let size = content.len() + 2;
     let mut blocks = Vec::new(alloc);
@@ -51,6 +53,7 @@ pub fn rest(alloc: Global, before: &[u8], behind: &[u8]) -> Result<Vec<Block>, M
     ensures records { IfOk result (λ blocks. records_of blocks.items
         ≡ unpacked before.now ++ unpacked behind.now) }
     ensures none_empty { IfOk result (λ blocks. All (λ block. block ≢ []) blocks.items) }
+    ensures joined { IfOk result (λ blocks. blocks.items ≡ joined (unpacked before.now) (unpacked behind.now)) }
 {
     let mut blocks = Vec::new(alloc);
     if !before.is_empty() || !behind.is_empty() {

@@ -1,4 +1,4 @@
-ghost use Rattle.std.specs.Prelude.{◌≡◌, ◌↔◌, ◌++◌, ◌∷◌, [], not, ◌&&◌, filter, IfOk, IfSome, IsNone, OnOk, OnErr};
+ghost use Rattle.std.specs.Prelude.{◌≡◌, ◌↔◌, ◌++◌, ◌∷◌, [], not, ◌&&◌, ◌-◌, filter, length, take, IfOk, IfSome, IsNone, OnOk, OnErr};
 ghost use Rattle.std.specs.List.{list_any};
 ghost use Rattle.pw_locks.specs.Oldest.{IsOldest};
 
@@ -75,6 +75,13 @@ impl LockBook {
             mode,
         })?;
         Ok(())
+    }
+
+    /// Takes away the lock that was added last, if there is one. It takes no memory.
+    pub fn take_back(&mut self)
+        ensures { self.new ≡ take (length self.old - 1) self.old }
+    {
+        self.locks.pop();
     }
 
     /// Takes away all locks of `unit`, and no others. It takes no memory.

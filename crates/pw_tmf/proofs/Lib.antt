@@ -1,0 +1,16 @@
+pub mod Awaiting
+pub mod BackedOut
+pub mod Changes
+pub mod Drained
+pub mod Kept
+pub mod Missing
+pub mod Operated
+pub mod PutBack
+pub mod Reversed
+pub mod Settling
+pub mod Starting
+pub mod Stopped
+pub mod Stored
+pub mod SystemLemmas
+pub mod TwoUnitLemmas
+pub mod WithFaults

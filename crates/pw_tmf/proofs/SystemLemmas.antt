@@ -1,0 +1,79 @@
+-- The system of the tests is valid.
+use Rattle.std.proofs.Common.{◌≡◌, ◌<◌, ℕ, List, [], ◌∷◌, length, ◌++◌, ◌∙◌, ap, arith, refl, sym, subst}
+use Rattle.std.specs.Prelude.{◌^◌, codes, take}
+use Rattle.std.specs.List.{IsDistinct}
+use Rattle.std.specs.Str.{bytes_eq}
+use Rattle.std.proofs.lemmas.List.Elements.{All-nil, All-cons}
+use Rattle.pw_code.specs.declared.code.Code.{Code}
+use Rattle.pw_code.specs.declared.code.Instr.{Instr}
+use Rattle.pw_code.specs.declared.file.FileInfo.{FileInfo}
+use Rattle.pw_code.specs.declared.lock.LockRule.TheVariants.{ReadersShare}
+use Rattle.pw_code.specs.declared.system.System.{System}
+use Rattle.pw_code.specs.declared.system.TermInfo.{TermInfo}
+use Rattle.pw_files.specs.Records.{IsContent}
+use Rattle.pw_code.specs.Valid.{HasKey, HasPlaces, IsClass, IsDeckFile, IsTerminal, IsValid}
+use Rattle.pw_code.proofs.NameLemmas.{AreNames-none, AreNames-one, AreNames-two}
+use Rattle.pw_tmf.specs.TwoUnits.{IsTestSystem, stock_file}
+
+-- a terminal of the first pair and program
+abbrev pub terminal_named : List ℕ → TermInfo
+terminal_named name = record { name = name; tcp = 0; program = 0; max_restarts = 5; entries = [] }
+
+-- the parts of the system
+abbrev pub test_system : Code → System
+test_system code = record {
+  programs = code ∷ [];
+  servers = [];
+  classes = [];
+  files = stock_file ∷ [];
+  tcps = codes "TCP-1" ∷ [];
+  terminals = terminal_named (codes "T1") ∷ terminal_named (codes "T2") ∷ [];
+  rule = ReadersShare;
+}
+
+one-key : IsDistinct bytes_eq (take 2 (codes "AA one") ∷ [])
+unfolding IsDistinct
+one-key = (tt, tt)
+
+pub test-valid : (code : Code) → code.instrs ≡ [] → IsValid (test_system code)
+test-valid code empty =
+    let system : System = test_system code in
+    let one : (name : List ℕ) → IsTerminal system (terminal_named name) = λ name. record { pair = omega arith; program = omega arith; restarts = omega arith; few = omega arith; keys = All-nil HasKey } in
+    record {
+      programs = All-cons HasPlaces code [] (subst (λ (is : List Instr). length is < 2 ^ 32) (sym empty) (omega arith)) (All-nil HasPlaces);
+      servers = All-nil HasPlaces;
+      terminals = All-cons (IsTerminal system) (terminal_named (codes "T1")) (terminal_named (codes "T2") ∷ []) (one (codes "T1")) (All-cons (IsTerminal system) (terminal_named (codes "T2")) [] (one (codes "T2")) (All-nil (IsTerminal system)));
+      classes = All-nil (IsClass system);
+      files = All-cons IsDeckFile stock_file [] (record {
+        key = (omega arith, omega arith);
+        contents = All-cons (IsContent 2) (codes "AA one") [] (omega arith, omega arith) (All-nil (IsContent 2));
+        distinct = one-key;
+      }) (All-nil IsDeckFile);
+      names = record {
+        tcps = AreNames-one (codes "TCP-1") refl;
+        terminals = AreNames-two (codes "T1") (codes "T2") refl refl refl;
+        classes = AreNames-none;
+        files = AreNames-one (codes "STOCK") refl;
+      };
+      few = record { programs = omega arith; servers = omega arith; classes = omega arith; files = omega arith; tcps = omega arith; terminals = omega arith };
+    }
+
+pub test-parts : (code : Code) → IsTestSystem (test_system code)
+test-parts code = record { terminals = refl; file = stock_file; files = refl; key = refl }
+
+-- a system of these parts
+abbrev pub built : List Code → List FileInfo → List (List ℕ) → List TermInfo → System
+built programs files tcps terminals = record { programs = programs; servers = []; classes = []; files = files; tcps = tcps; terminals = terminals; rule = ReadersShare }
+
+pub built-is : (code : Code) (programs : List Code) (files : List FileInfo) (tcps : List (List ℕ)) (terminals : List TermInfo)
+    → programs ≡ code ∷ [] → files ≡ stock_file ∷ [] → tcps ≡ codes "TCP-1" ∷ [] → terminals ≡ terminal_named (codes "T1") ∷ terminal_named (codes "T2") ∷ []
+    → built programs files tcps terminals ≡ test_system code
+built-is code programs files tcps terminals p f t s =
+    ap (λ x. built x files tcps terminals) p
+    ∙ (ap (λ x. built (code ∷ []) x tcps terminals) f
+    ∙ (ap (λ x. built (code ∷ []) (stock_file ∷ []) x terminals) t
+    ∙ ap (λ x. built (code ∷ []) (stock_file ∷ []) (codes "TCP-1" ∷ []) x) s))
+
+-- two items, of which the second is pushed
+pub pushed-two : {A : Type 0} (xs ys : List A) (x y v w : A) → xs ≡ x ∷ [] → ys ≡ xs ++ y ∷ [] → x ≡ v → y ≡ w → ys ≡ v ∷ w ∷ []
+pushed-two xs ys x y v w a b c d = b ∙ (ap (λ zs. zs ++ y ∷ []) a ∙ (ap (λ z. z ∷ y ∷ []) c ∙ ap (λ z. v ∷ z ∷ []) d))

@@ -1,0 +1,10 @@
+pub mod Answers
+pub mod Committed
+pub mod Faulty
+pub mod Operation
+pub mod Slots
+pub mod Starting
+pub mod Tmf
+pub mod Told
+pub mod TwoUnits
+pub mod Units

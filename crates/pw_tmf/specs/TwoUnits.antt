@@ -1,0 +1,52 @@
+-- A disc of two terminals and one file, with a unit of each terminal, as the tests have it.
+use Rattle.std.specs.Prelude.{◌≡◌, ℕ, ◌≤◌, true, false, [], ◌∷◌, codes, length, None}
+use Rattle.pw_code.specs.declared.file.FileCall.{FileCall}
+use Rattle.pw_code.specs.declared.file.FileInfo.{FileInfo}
+use Rattle.pw_code.specs.declared.system.System.{System}
+use Rattle.pw_code.specs.declared.unit.Unit as unit
+use Rattle.pw_files.specs.Records.{IsContent}
+use Rattle.pw_onecopy.specs.IsBehaviour.{is_written}
+use Rattle.pw_tmf.specs.Told.{Told}
+use Rattle.pw_tmf.specs.Units.{IsRunning}
+
+-- a file with keys of 2 characters and one record
+abbrev pub stock_file : FileInfo
+stock_file = record { name = codes "STOCK"; key = 2; records = codes "AA one" ∷ [] }
+
+-- a system of two terminals, and of one file whose keys have 2 characters
+pub record IsTestSystem (system : System) : Type 0 where
+  pub terminals : length system.terminals ≡ 2
+  pub file : FileInfo
+  pub files : system.files ≡ file ∷ []
+  pub key : file.key ≡ 2
+
+-- its disc at the start
+pub record IsFresh (told : Told) : Type 0 where
+  pub terminals : told.terminals ≡ 2
+  pub files : told.file_count ≡ 1
+  pub key : told.key_length 0 ≡ 2
+  pub units : (t : ℕ) → told.units t ≡ None
+  pub ended : (t : ℕ) → (told.ended t).number ≡ 0
+
+-- a unit of the first terminal, and a younger one of the second
+abbrev pub older_unit : unit.Unit
+older_unit = record { terminal = 0; number = 1; birth = 0 }
+
+abbrev pub younger_unit : unit.Unit
+younger_unit = record { terminal = 1; number = 1; birth = 1 }
+
+-- attempts of both run
+pub record AreBoth (told : Told) : Type 0 where
+  pub terminals : told.terminals ≡ 2
+  pub files : told.file_count ≡ 1
+  pub key : told.key_length 0 ≡ 2
+  pub older : IsRunning told older_unit
+  pub younger : IsRunning told younger_unit
+
+-- an operation on the file
+pub record IsTestCall (call : FileCall) : Type 0 where
+  pub file : call.file ≡ 0
+  pub content : is_written call.op ≡ true → IsContent 2 call.content
+  pub key : is_written call.op ≡ false → length call.key ≡ 2
+  pub short_content : length call.content ≤ 4000
+  pub short_key : length call.key ≤ 255

@@ -1,0 +1,21 @@
+//! The units of terminals, their changes of files and their locks.
+#![tactic(auto)]
+
+pub mod answer;
+mod committed;
+mod copies;
+pub mod disc;
+pub mod faulty;
+mod image;
+mod images;
+pub mod laws;
+mod open_unit;
+mod operation;
+mod settle;
+mod slot;
+mod start;
+mod stop;
+mod store;
+#[cfg(test)]
+mod tests;
+pub mod tmf;

@@ -1,0 +1,217 @@
+ghost use Rattle.std.specs.Prelude.{◌≡◌, [], All, IfErr, IfOk, Ok, OnErr, OnOk};
+ghost use Rattle.pw_code.specs.Valid.{IsValid};
+ghost use Rattle.pw_tmf.specs.Answers.{Leaves, Operates};
+ghost use Rattle.pw_tmf.specs.Operation.{IsCall};
+ghost use Rattle.pw_tmf.specs.Starting.{told_at_start};
+ghost use Rattle.pw_tmf.specs.Tmf.{told_of};
+ghost use Rattle.pw_tmf.specs.Units.{AreApart, CanBackOut, IsRunning, all_backed_out, ended};
+
+use crate::answer::{DiscFault, Ended, FileAnswer};
+use crate::committed::put_all_back;
+use crate::copies::{copy_files, copy_lists, copy_slots};
+use crate::disc::Disc;
+use crate::images::Images;
+use crate::operation::{perform, span_of};
+use crate::settle::{is_settled, settle};
+use crate::slot::Slot;
+use crate::start::{files_of, slots_of};
+use crate::stop::stop;
+use pw_base::bytes::Bytes;
+use pw_base::memory::Memory;
+use pw_blocks::block_file::BlockFile;
+use pw_code::file::FileCall;
+use pw_code::lock::{LockRule, mode_of};
+use pw_code::system::System;
+use pw_code::unit::Unit;
+use pw_locks::book::LockBook;
+use std::alloc::Global;
+use std::marker::Model;
+
+/// The records of a system's files in blocks, with the units that change them and their locks.
+///
+/// What units that were backed out have changed is put back at once where there is memory for it, and else before
+/// anything else is done.
+#[derive(Debug, Drop)]
+pub struct Tmf {
+    rule: LockRule,
+    files: Vec<BlockFile>,
+    /// What is still to be put back, the last list first.
+    pending: Vec<Images>,
+    book: LockBook,
+    slots: Vec<Slot>,
+}
+
+impl Model for Tmf {
+    ghost use Rattle.std.specs.Prelude.{reverse};
+    ghost use Rattle.pw_tmf.specs.Tmf.{IsTmf, TmfState};
+
+    ghost Value = { TmfState };
+
+    ghost view = { λ tmf. record {
+      rule = tmf.rule;
+      files = tmf.files.items;
+      pending = reverse tmf.pending.items;
+      locks = tmf.book;
+      slots = tmf.slots.items;
+    } };
+
+    ghost invariant = { λ tmf. IsTmf (record {
+      rule = tmf.rule;
+      files = tmf.files.items;
+      pending = reverse tmf.pending.items;
+      locks = tmf.book;
+      slots = tmf.slots.items;
+    }) };
+}
+
+impl Tmf {
+    /// The records of a valid system's files, where no unit has begun.
+    pub fn new(alloc: Global, system: &System) -> Result<Tmf, Memory>
+        requires { IsValid system.now }
+        ensures { IfOk result (λ tmf. told_of tmf ≡ told_at_start system.now) }
+    {
+        Ok(Tmf {
+            rule: system.rule,
+            files: files_of(alloc, system.files.as_slice())?,
+            pending: Vec::new(alloc),
+            book: LockBook::new(alloc)?,
+            slots: slots_of(alloc, system.terminals.len())?,
+        })
+    }
+
+    /// Puts back what is still to be put back. It changes nothing that is told.
+    fn settle(&mut self) -> Result<(), Memory>
+        ensures told { told_of self.new ≡ told_of self.old }
+        ensures ok { OnOk result (self.new.pending ≡ []) }
+    {
+        settle(&mut self.files, &mut self.pending)
+    }
+
+    /// Does an operation where nothing is to be put back. An `Err` leaves all that is told.
+    fn operate_settled(&mut self, unit: &Unit, call: &FileCall) -> Result<FileAnswer, Memory>
+        requires settled { self.old.pending ≡ [] }
+        requires unit { IsRunning (told_of self.old) unit.now }
+        requires call { IsCall (told_of self.old) call.now }
+        ensures ok { IfOk result (λ answer. Operates answer (told_of self.old) unit.now call.now (told_of self.new)) }
+        ensures err { OnErr result (told_of self.new ≡ told_of self.old) }
+    {
+        let alloc = *self.files.allocator();
+        let span = span_of(alloc, &self.files[call.file as usize], call)?;
+        let mode = mode_of(self.rule, &call.op);
+        if let Some(holder) = self.book.conflict(unit, call.file, &span, mode) {
+            return Ok(FileAnswer::Conflict(holder));
+        }
+        self.book.add(unit, call.file, span, mode)?;
+        let slot = &mut self.slots[unit.terminal as usize];
+        match perform(alloc, &mut self.files, slot, unit.terminal, call) {
+            Ok((status, content)) => Ok(FileAnswer::Done { status, content }),
+            Err(memory) => {
+                self.book.take_back();
+                Err(memory)
+            }
+        }
+    }
+
+    /// Backs out units where nothing is to be put back, and leaves their changes to be put back. An `Err` leaves all that
+    /// is told.
+    fn back_out_settled(&mut self, units: &[Unit], ends: bool) -> Result<(), Memory>
+        requires settled { self.old.pending ≡ [] }
+        requires apart { AreApart units.now }
+        requires units { All (CanBackOut ends (told_of self.old)) units.now }
+        ensures ok { OnOk result (told_of self.new ≡ all_backed_out ends (told_of self.old) units.now) }
+        ensures err { OnErr result (told_of self.new ≡ told_of self.old) }
+    {
+        let mut lists = Vec::with_capacity(*self.files.allocator(), units.len())?;
+        let mut left = units;
+        while let Some((unit, others)) = left.split_first() {
+            stop(&mut self.book, &mut self.slots, &mut lists, unit, ends);
+            left = others;
+        }
+        lists.reverse();
+        self.pending = lists;
+        Ok(())
+    }
+
+    /// An equal value.
+    pub fn copy(&self, alloc: Global) -> Result<Tmf, Memory>
+        ensures { IfOk result (λ tmf. tmf ≡ self.now) }
+    {
+        Ok(Tmf {
+            rule: self.rule,
+            files: copy_files(alloc, &self.files)?,
+            pending: copy_lists(alloc, &self.pending)?,
+            book: self.book.copy(alloc)?,
+            slots: copy_slots(alloc, &self.slots)?,
+        })
+    }
+
+    /// Does an operation. An `Err` leaves all that is told.
+    fn try_operate(&mut self, unit: &Unit, call: &FileCall) -> Result<FileAnswer, Memory>
+        requires unit { IsRunning (told_of self.old) unit.now }
+        requires call { IsCall (told_of self.old) call.now }
+        ensures ok { IfOk result (λ answer. Operates answer (told_of self.old) unit.now call.now (told_of self.new)) }
+        ensures err { OnErr result (told_of self.new ≡ told_of self.old) }
+    {
+        self.settle()?;
+        self.operate_settled(unit, call)
+    }
+}
+
+impl Disc for Tmf {
+    ghost told = { told_of };
+
+    fn begin(&mut self, unit: &Unit) -> Result<(), DiscFault> {
+        let alloc = *self.files.allocator();
+        self.slots[unit.terminal as usize].begin(alloc, unit);
+        Ok(())
+    }
+
+    fn operate(&mut self, unit: &Unit, call: &FileCall) -> FileAnswer {
+        match self.try_operate(unit, call) {
+            Ok(answer) => answer,
+            Err(Memory) => FileAnswer::Memory,
+        }
+    }
+
+    /// Takes no memory, and answers Ok.
+    fn commit(&mut self, unit: &Unit, reply: Option<Bytes>) -> Result<(), DiscFault>
+        requires { IsRunning (told_of self.old) unit.now }
+        ensures answer { result ≡ Ok tt }
+        ensures ok { OnOk result (told_of self.new ≡ ended (told_of self.old) unit.now reply) }
+        ensures err { IfErr result (λ fault. Leaves fault (told_of self.old) (told_of self.new)) }
+    {
+        self.book.release(unit);
+        self.slots[unit.terminal as usize].end(reply);
+        Ok(())
+    }
+
+    fn back_out(&mut self, units: &[Unit], ends: bool) -> Result<(), DiscFault> {
+        self.settle()?;
+        self.back_out_settled(units, ends)?;
+        let _ = self.settle();
+        Ok(())
+    }
+
+    fn ended(&self, terminal: u32) -> Option<&Ended> {
+        self.slots[terminal as usize].ended()
+    }
+
+    fn committed(&self, alloc: Global, file: u32) -> Result<Vec<Bytes>, Memory> {
+        if !is_settled(&self.pending) {
+            return Err(Memory);
+        }
+        let mut copy = self.files[file as usize].copy(alloc)?;
+        put_all_back(&mut copy, file, &self.slots)?;
+        Ok(copy.records(alloc)?.into_vec())
+    }
+
+    fn awaits(&self, unit: &Unit, call: &FileCall, holder: &Unit) -> Result<bool, Memory> {
+        if !is_settled(&self.pending) {
+            return Err(Memory);
+        }
+        let alloc = *self.files.allocator();
+        let span = span_of(alloc, &self.files[call.file as usize], call)?;
+        let mode = mode_of(self.rule, &call.op);
+        Ok(self.book.overlaps(holder, call.file, &span, mode))
+    }
+}
