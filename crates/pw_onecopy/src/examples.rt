@@ -8,8 +8,8 @@ ghost use Rattle.pw_onecopy.specs.OneCopy.{Machine, next_attempt, run_block};
 ghost use Rattle.pw_onecopy.specs.Operation.{answer_of, records_behind, span_of};
 ghost use Rattle.pw_onecopy.specs.Path.{Begun, Dropped, Ended, Replied, Shown, next_number};
 
-/// Refresh numbers by hand: outside units the phase is twice the number of units ended; inside the n-th one it is 2n - 1,
-/// with the restarts of its attempt; and k counts from 1 in each.
+/// Refresh numbers by hand: outside units the phase is twice the number of units ended; inside the
+/// n-th one it is 2n - 1, with the restarts of its attempt; and k counts from 1 in each.
 pub fn number_examples()
     ensures start { next_number [] ≡ record { phase = 0; attempt = 0; k = 1 } }
     ensures second { next_number (Shown ∷ []) ≡ record { phase = 0; attempt = 0; k = 2 } }
@@ -19,22 +19,28 @@ pub fn number_examples()
         ≡ record { phase = 2; attempt = 0; k = 1 } }
     ensures dropped { next_number (Begun 0 ∷ Dropped ∷ Begun 1 ∷ [])
         ≡ record { phase = 3; attempt = 1; k = 1 } }
-    ensures sent { next_number (Shown ∷ Replied [] ∷ []) ≡ record { phase = 2; attempt = 0; k = 1 } }
+    ensures sent { next_number (Shown ∷ Replied [] ∷ [])
+        ≡ record { phase = 2; attempt = 0; k = 1 } }
 {}
 
-/// Operations by hand, on two records with keys of one character: READ NEXT locks up to the key found, or all keys above
-/// where none is found, and then has status 1; WRITE of a key that is there and REWRITE of one that is not change nothing.
+/// Operations by hand, on two records with keys of one character: READ NEXT locks up to the key
+/// found, or all keys above where none is found, and then has status 1; WRITE of a key that is
+/// there and REWRITE of one that is not change nothing.
 pub fn operation_examples()
     ensures found { span_of 1 (codes "A1" ∷ codes "C1" ∷ []) Next
-        (record { file = 0; op = Next; key = codes "A"; content = [] }) ≡ After (codes "A") (Some (codes "C")) }
+        (record { file = 0; op = Next; key = codes "A"; content = [] })
+        ≡ After (codes "A") (Some (codes "C")) }
     ensures none_found { span_of 1 (codes "A1" ∷ codes "C1" ∷ []) Next
         (record { file = 0; op = Next; key = codes "C"; content = [] }) ≡ After (codes "C") None }
     ensures at_end { answer_of 1 (codes "A1" ∷ codes "C1" ∷ []) Next
-        (record { file = 0; op = Next; key = codes "C"; content = [] }) ≡ record { status = 1; content = None } }
+        (record { file = 0; op = Next; key = codes "C"; content = [] })
+        ≡ record { status = 1; content = None } }
     ensures duplicate { records_behind 1 (codes "A1" ∷ codes "C1" ∷ [])
-        (record { file = 0; op = Write; key = []; content = codes "C2" }) ≡ codes "A1" ∷ codes "C1" ∷ [] }
+        (record { file = 0; op = Write; key = []; content = codes "C2" })
+        ≡ codes "A1" ∷ codes "C1" ∷ [] }
     ensures missing { records_behind 1 (codes "A1" ∷ codes "C1" ∷ [])
-        (record { file = 0; op = Rewrite; key = []; content = codes "B2" }) ≡ codes "A1" ∷ codes "C1" ∷ [] }
+        (record { file = 0; op = Rewrite; key = []; content = codes "B2" })
+        ≡ codes "A1" ∷ codes "C1" ∷ [] }
     ensures written { records_behind 1 (codes "A1" ∷ codes "C1" ∷ [])
         (record { file = 0; op = Write; key = []; content = codes "B2" })
         ≡ codes "A1" ∷ codes "B2" ∷ codes "C1" ∷ [] }

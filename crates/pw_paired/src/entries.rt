@@ -7,9 +7,10 @@ ghost use Rattle.pw_paired.specs.Server.{free_process};
 ghost use Rattle.pw_paired.specs.State.{BackupCopy, Down, Gone, LastEnded, OpenUnit, State, Term};
 ghost use Rattle.pw_paired.specs.Units.{has_request, leave_units};
 
-/// A takeover goes on behind the unit that the backup holds where TMF has ended it and the backup holds its end path, and
-/// at the unit's start path where TMF has not; it lets a cause become pending for an attempt of that unit alone. What a
-/// new backup is told of a running attempt is its start path.
+/// A takeover goes on behind the unit that the backup holds where TMF has ended it and the backup
+/// holds its end path, and at the unit's start path where TMF has not; it lets a cause become
+/// pending for an attempt of that unit alone. What a new backup is told of a running attempt is its
+/// start path.
 pub fn backup_laws()
     ensures start { (held : BackupCopy) (last : LastEnded)
         → last.number ≢ held.unit → resumed_path held last ≡ held.start }
@@ -22,9 +23,10 @@ pub fn backup_laws()
         → state.units t ≡ Some unit → unit.running ≡ Some start → copied_path state t ≡ start }
 {}
 
-/// A failed primary takes the requests of its terminals along, from every class. A backup that fails before it has taken
-/// over leaves the pair Gone. A terminal of a lost pair has no path and no pending cause, and TMF keeps no reply of a unit
-/// that is left. A process that is free again has released no lock. No FAIL entry is of line 0.
+/// A failed primary takes the requests of its terminals along, from every class. A backup that
+/// fails before it has taken over leaves the pair Gone. A terminal of a lost pair has no path and
+/// no pending cause, and TMF keeps no reply of a unit that is left. A process that is free again
+/// has released no lock. No FAIL entry is of line 0.
 pub fn failure_laws()
     ensures requests { (sys : Behaviour) (state : State) (p c t : ℕ) → sys.pair_of t ≡ p
         → has_request t (sys.processes c) ((lose_primary sys p state).classes c) ≡ false }
