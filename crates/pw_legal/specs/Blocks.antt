@@ -1,4 +1,5 @@
--- Whether a block is legal in the one-copy machine, and it is defined on a list of blocks, as tests that compute.
+-- Whether a block is legal in the one-copy machine, and it is defined on a list of blocks, as tests
+-- that compute.
 use Rattle.std.specs.Prelude.{ℕ, zero, suc, ◌==◌, ◌&&◌, nat_lt, Bool, true, false, not, List, [], ◌∷◌, Option, Some, is_none}
 use Rattle.pw_code.specs.declared.verb.Verb.{Verb}
 use Rattle.pw_code.specs.declared.verb.Verb.TheVariants as verb

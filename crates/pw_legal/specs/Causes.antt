@@ -1,5 +1,5 @@
--- Whether a cause holds and a restart is legal, as tests that compute. A process is looked for among the processes of the
--- system's classes; in a run no other one works.
+-- Whether a cause holds and a restart is legal, as tests that compute. A process is looked for
+-- among the processes of the system's classes; in a run no other one works.
 use Rattle.std.specs.Prelude.{ℕ, ◌+◌, ◌<◌, ◌≤◌, ◌≡◌, ◌==◌, ◌&&◌, ◌||◌, nat_lt, Bool, true, false, not, Some, is_some}
 use Rattle.std.specs.List.{list_any}
 use Rattle.pw_code.specs.declared.file.FileCall.{FileCall}

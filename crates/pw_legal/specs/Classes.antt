@@ -18,7 +18,8 @@ is_legal_take sys state c i t =
     first_with (λ request. request.terminal == t) (state.classes c).waiting
     && is_same_number (first_free (state.classes c).busy 1 (sys.processes c)) (Some i)
 
--- the call is that of the entry, with its answer, and no lock of another unit conflicts with its lock
+-- the call is that of the entry, with its answer, and no lock of another unit conflicts with its
+-- lock
 abbrev pub is_call : Behaviour → State → FileOp → LockMode → ℕ → ℕ → Job → FileCall → Bool
 is_call sys state op mode f status job call =
     is_same_op op (plain_op call.op) && (is_same_mode mode (mode_of sys.rule call.op)

@@ -35,7 +35,8 @@ fits sys state (Takeover p) = is_legal_takeover state p
 fits sys state (Raise p) = is_legal_raise sys state p
 fits sys state (End t ending) = is_legal_end sys state t ending
 
--- The entry is legal: the log is not finished, the kind fits, and the failure line that is due is the entry's own.
+-- The entry is legal: the log is not finished, the kind fits, and the failure line that is due is
+-- the entry's own.
 unfoldable pub is_legal : Behaviour → State → Event → Bool
 is_legal sys state entry =
     not (is_finished sys state)

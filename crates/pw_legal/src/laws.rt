@@ -12,8 +12,9 @@ ghost use Rattle.pw_legal.specs.Causes.{JobsAreThere};
 ghost use Rattle.pw_legal.specs.Legality.{is_by_conflict, is_legal, is_run};
 ghost use Rattle.pw_legal.specs.Values.{is_same_path};
 
-/// An entry that passes the test is legal, and a legal one passes it: a restart or a suspension by a conflict of locks
-/// where only processes of the system's classes work, and every other entry in every state.
+/// An entry that passes the test is legal, and a legal one passes it: a restart or a suspension by
+/// a conflict of locks where only processes of the system's classes work, and every other entry in
+/// every state.
 pub fn legality_laws()
     ensures sound { (sys : Behaviour) (state : State) (entry : Event)
         → is_legal sys state entry ≡ true → Legal sys state entry }
@@ -22,8 +23,8 @@ pub fn legality_laws()
         → Legal sys state entry → is_legal sys state entry ≡ true }
 {}
 
-/// In every run of a deck only processes of the system's classes work, so the test of legality misses nothing; and a log
-/// is a run exactly where each of its entries passes.
+/// In every run of a deck only processes of the system's classes work, so the test of legality
+/// misses nothing; and a log is a run exactly where each of its entries passes.
 pub fn run_laws()
     ensures jobs { (sys : Behaviour) → IsBehaviour sys → (log : List Event) → IsRun sys log
         → JobsAreThere sys (after sys log) }
@@ -39,8 +40,8 @@ pub fn path_laws()
     ensures { (one other : List PathAnswer) → (is_same_path one other ≡ true) ↔ (one ≡ other) }
 {}
 
-/// A block that passes the test is legal in the one-copy machine, and a legal one passes it; the machine is defined on a
-/// list of blocks exactly where each passes.
+/// A block that passes the test is legal in the one-copy machine, and a legal one passes it; the
+/// machine is defined on a list of blocks exactly where each passes.
 pub fn block_laws()
     ensures blocks { (sys : Behaviour) (machine : Machine) (block : Block)
         → (is_legal_block sys machine block ≡ true) ↔ LegalBlock sys machine block }

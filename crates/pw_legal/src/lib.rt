@@ -1,4 +1,5 @@
-//! Legality as a test that computes: of the entries of the paired system, and of the blocks of the one-copy machine.
+//! Legality as a test that computes: of the entries of the paired system, and of the blocks of the
+//! one-copy machine.
 #![tactic(auto)]
 
 pub mod laws;

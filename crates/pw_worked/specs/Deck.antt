@@ -1,5 +1,6 @@
--- The worked decks: terminals with programs of two kinds, one pair, a class STORE with two processes, and a file STOCK. Of a
--- screen they have the characters of row 24 alone. It is deck C, but for its advisories and its STOP RUN, with some letters more.
+-- The worked decks: terminals with programs of two kinds, one pair, a class STORE with two
+-- processes, and a file STOCK. Of a screen they have the characters of row 24 alone. It is deck C,
+-- but for its advisories and its STOP RUN, with some letters more.
 use Rattle.std.specs.Prelude.{ℕ, zero, suc, ◌+◌, ◌-◌, ◌==◌, nat_lt, Bool, true, false, List, [], ◌∷◌, ◌++◌, codes, bytes_eq, length, take, drop, slice_index_or, Option, Some, None, unwrap_or, if◌then◌else◌}
 use Rattle.pw_code.specs.declared.file.FileCall.{FileCall}
 use Rattle.pw_code.specs.declared.file.FileOp.{FileOp}
@@ -23,8 +24,9 @@ pub data Line : Type 0 where
   Drops : Line
   Redoes : Line
 
--- Keys: deck C's program with these entry lines. It takes a line and, by its key, sends the message to STORE and displays the
--- reply, or begins, ends, drops or restarts a transaction. Displays: a DISPLAY of each text, and STOP RUN.
+-- Keys: deck C's program with these entry lines. It takes a line and, by its key, sends the message
+-- to STORE and displays the reply, or begins, ends, drops or restarts a transaction. Displays: a
+-- DISPLAY of each text, and STOP RUN.
 pub data Program : Type 0 where
   Keys : (lines : List Line) → Program
   Displays : (texts : List (List ℕ)) → Program
@@ -90,8 +92,9 @@ entries_of (Displays texts) = 0
 
 -- The server of STORE.
 
--- What a message asks of the server. Does: one operation on STOCK, whose status and record it replies. Increments: a read by
--- this operation and a REWRITE of the record with 1 more, which it replies. Breaks: this run fault.
+-- What a message asks of the server. Does: one operation on STOCK, whose status and record it
+-- replies. Increments: a read by this operation and a REWRITE of the record with 1 more, which it
+-- replies. Breaks: this run fault.
 pub data Task : Type 0 where
   Does : (op : FileOp) → Task
   Increments : (op : FileOp) → Task
@@ -101,7 +104,8 @@ pub data Task : Type 0 where
 abbrev pub has_letter : List ℕ → List ℕ → Bool
 has_letter letter message = bytes_eq (take 1 message) letter
 
--- The task of a message by its letter: those of deck C, L and M for reads WITH LOCK, K for I with such a read, and X
+-- The task of a message by its letter: those of deck C, L and M for reads WITH LOCK, K for I with
+-- such a read, and X
 abbrev pub task_of : List ℕ → Task
 task_of message =
     if has_letter (codes "R") message then Does Read
@@ -158,7 +162,8 @@ asked_for (Increments op) content (read ∷ rewritten ∷ done) =
     verb.Reply (reply_with rewritten.status (with_one_more (unwrap_or read.content content)))
 asked_for (Breaks code) content done = verb.Fault code
 
--- what the server of a class asks on a message: that of STORE by the message's letter and its record
+-- what the server of a class asks on a message: that of STORE by the message's letter and its
+-- record
 abbrev pub asked_of : ℕ → List ℕ → List FileAnswer → Verb
 asked_of zero message done = asked_for (task_of message) (item (drop 1 message)) done
 asked_of (suc c) message done = verb.Stop
@@ -171,7 +176,8 @@ served_by _ files = Fault 0
 
 -- The deck.
 
--- what a worked deck is made of: the program of each terminal, MAXTMFRESTARTS, the rule of locking and the failure lines
+-- what a worked deck is made of: the program of each terminal, MAXTMFRESTARTS, the rule of locking
+-- and the failure lines
 pub record Setting : Type 0 where
   pub programs : List Program
   pub max_restarts : ℕ

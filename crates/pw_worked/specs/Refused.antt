@@ -2,6 +2,7 @@
 use Rattle.std.specs.Prelude.{[], ◌∷◌, Option, Some, None}
 use Rattle.pw_event.specs.declared.event.Cause.{Cause}
 use Rattle.pw_event.specs.declared.event.Event.TheVariants.{Takeover}
+use Rattle.pw_onecopy.specs.Behaviour.{Behaviour}
 use Rattle.pw_onecopy.specs.Path.{Entry}
 use Rattle.pw_paired.specs.State.{Raising, State}
 use Rattle.pw_paired.specs.Step.{effect}
@@ -26,5 +27,5 @@ holding_another_unit =
 -- what is pending for its terminal behind the takeover
 abbrev pub pending_after_takeover : Option Cause
 pending_after_takeover =
-    let next : State = effect (deck takeover_restarts_open_unit.setting) holding_another_unit (Takeover 0) in
-    (next.terms 0).pending
+    let sys : Behaviour = deck takeover_restarts_open_unit.setting in
+    ((effect sys holding_another_unit (Takeover 0)).terms 0).pending

@@ -29,8 +29,8 @@ abbrev pub shown : ℕ → ℕ → ℕ → ℕ → List ℕ → Refresh
 shown t phase attempt k row =
     record { terminal = t; phase = phase; attempt = attempt; k = k; image = row }
 
--- A log with its deck, and what was worked out by hand: the committed records of STOCK behind it, its serial order, and the
--- refreshes of T1 and of T2, each number counted once.
+-- A log with its deck, and what was worked out by hand: the committed records of STOCK behind it,
+-- its serial order, and the refreshes of T1 and of T2, each number counted once.
 pub record WorkedLog : Type 0 where
   pub setting : Setting
   pub log : List Event
@@ -39,8 +39,8 @@ pub record WorkedLog : Type 0 where
   pub first : List Refresh
   pub second : List Refresh
 
--- The log is a run, with these records, this serial order and these refreshes. The one-copy machine is defined on the order,
--- and has the same records and refreshes.
+-- The log is a run, with these records, this serial order and these refreshes. The one-copy machine
+-- is defined on the order, and has the same records and refreshes.
 pub record WorksOut (w : WorkedLog) : Type 0 where
   pub is_run : IsRun (deck w.setting) w.log
   pub stock : committed_files (deck w.setting) (after (deck w.setting) w.log) 0 ≡ w.stock

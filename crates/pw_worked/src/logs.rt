@@ -5,8 +5,8 @@ ghost use Rattle.pw_worked.specs.logs.Servers as servers;
 ghost use Rattle.pw_worked.specs.logs.Takeovers as takeovers;
 ghost use Rattle.pw_worked.specs.logs.Units as units;
 
-/// Two units that lock the same records: the logs are runs, with the records, serial orders and screens that were worked
-/// out for them.
+/// Two units that lock the same records: the logs are runs, with the records, serial orders and
+/// screens that were worked out for them.
 pub fn lock_logs()
     ensures older_unit_wins_version_1 { WorksOut locks.older_unit_wins }
     ensures shared_readers_version_2 { WorksOut locks.shared_readers }
@@ -19,7 +19,8 @@ pub fn lock_logs()
     ensures next_with_lock_goes_no_further { WorksOut locks.next_with_lock_goes_no_further }
 {}
 
-/// One terminal without failures: what operations answer and do, and how units and the terminal end.
+/// One terminal without failures: what operations answer and do, and how units and the terminal
+/// end.
 pub fn unit_logs()
     ensures two_displays { WorksOut units.two_displays }
     ensures duplicate_missing_and_end_of_file { WorksOut units.duplicate_missing_and_end_of_file }
@@ -60,6 +61,6 @@ pub fn loss_logs()
 /// Processes that fail.
 pub fn server_logs()
     ensures server_failure_restarts_unit { WorksOut servers.server_failure_restarts_unit }
-    ensures failing_idle_process_changes_nothing { WorksOut servers.failing_idle_process_changes_nothing }
+    ensures failing_idle_process_changes_nothing { WorksOut servers.idle_process_fails }
     ensures server_cause_waits_for_backup { WorksOut servers.server_cause_waits_for_backup }
 {}

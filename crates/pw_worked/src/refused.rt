@@ -17,9 +17,9 @@ ghost use Rattle.pw_worked.specs.logs.Units.{redo_until_suspended};
 ghost use Rattle.pw_worked.specs.Refused.{pending_after_takeover, raising_before_restart};
 ghost use Rattle.pw_worked.specs.Worked.{IsBarred, IsNoStep, IsRefused, one_terminal};
 
-/// What is no step behind the entries of a worked log before it, where two units lock the same records: an operation whose
-/// lock conflicts, a restart without a conflict, for a younger unit, beyond the limit or, as a suspension, below it, and a
-/// beginning while the awaited unit is open.
+/// What is no step behind the entries of a worked log before it, where two units lock the same
+/// records: an operation whose lock conflicts, a restart without a conflict, for a younger unit,
+/// beyond the limit or, as a suspension, below it, and a beginning while the awaited unit is open.
 pub fn refused_locks()
     ensures shared_readers_rewrite_20 { IsNoStep shared_readers 19
         (File 0 1 Rewrite Exclusive 0 0) }
@@ -41,7 +41,8 @@ pub fn refused_locks()
         (take 18 older_unit_wins.log) (End 1 (Suspended (cause.Older 0 1))) }
 {}
 
-/// What is no step behind the entries of a worked log before it, where a member or a process fails or a checkpoint lacks.
+/// What is no step behind the entries of a worked log before it, where a member or a process fails
+/// or a checkpoint lacks.
 pub fn refused_entries()
     ensures show_of_another_number_14 { IsNoStep takeover_after_commit 13 (Show 0 0 0 1) }
     ensures entry_line_before_its_turn_15 { IsNoStep takeover_after_commit 14 (Key 0 2) }
@@ -66,16 +67,17 @@ pub fn refused_entries()
     }) [] (FailTcp 0 true 1) }
 {}
 
-/// In states to which no run comes: no unit restarts by a TAKEOVER cause in a pair that is not Alone, and a takeover lets
-/// none become pending for an attempt of another unit than the one that the backup holds.
+/// In states to which no run comes: no unit restarts by a TAKEOVER cause in a pair that is not
+/// Alone, and a takeover lets none become pending for an attempt of another unit than the one that
+/// the backup holds.
 pub fn states_of_no_run()
     ensures takeover_cause_while_raising { ¬ Legal (deck takeover_restarts_open_unit.setting)
         raising_before_restart (Restart 0 1 (cause.Takeover 0)) }
     ensures cause_of_another_unit { pending_after_takeover ≡ None }
 {}
 
-/// What the one-copy machine does not run behind a list of blocks: a restart at the limit, and another block than Done
-/// behind an attempt that was left.
+/// What the one-copy machine does not run behind a list of blocks: a restart at the limit, and
+/// another block than Done behind an attempt that was left.
 pub fn barred_blocks()
     ensures restart_at_the_limit { IsBarred redo_until_suspended.setting
         (Out 0 ∷ Attempted 0 1 Restarted 5 ∷ []) (Attempted 0 1 Restarted 5) }

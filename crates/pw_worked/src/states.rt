@@ -5,8 +5,9 @@ ghost use Rattle.pw_worked.specs.logs.Takeovers.{takeover_frees_process};
 ghost use Rattle.pw_worked.specs.logs.Units.{committed_transaction, dropped_transaction, open_unit_is_left, server_breaks};
 ghost use Rattle.pw_worked.specs.Worked.{state_at};
 
-/// What no later entry reads, behind worked logs: a lost pair's terminals have no path and no pending cause, and TMF keeps
-/// the reply of a unit that is one SEND and has committed, and of no other.
+/// What no later entry reads, behind worked logs: a lost pair's terminals have no path and no
+/// pending cause, and TMF keeps the reply of a unit that is one SEND and has committed, and of no
+/// other.
 pub fn worked_states()
     ensures lost_while_down { (state_at pair_lost_while_down 14).terms 0
         ≡ record { path = []; pending = None; ending = None } }

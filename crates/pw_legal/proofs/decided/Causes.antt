@@ -1,5 +1,5 @@
--- The tests of causes and restarts decide what they say; where they look for a process, they miss none where only processes of
--- the system's classes work.
+-- The tests of causes and restarts decide what they say; where they look for a process, they miss
+-- none where only processes of the system's classes work.
 use Rattle.std.proofs.Common.{◌≡◌, ℕ, ◌+◌, ◌-◌, ◌<◌, Bool, true, List, Option, Some, Decides, refl, ap, ◌∙◌, arith}
 use Rattle.pw_code.specs.declared.file.FileCall.{FileCall}
 use Rattle.pw_code.specs.declared.unit.Unit as unit

@@ -1,5 +1,5 @@
--- Worked logs of two units that lock the same records. T1 is terminal 0, T2 is terminal 1, TCP-1 is pair 0, STORE is class 0 and
--- STOCK is file 0.
+-- Worked logs of two units that lock the same records. T1 is terminal 0, T2 is terminal 1, TCP-1 is
+-- pair 0, STORE is class 0 and STOCK is file 0.
 use Rattle.std.specs.Prelude.{ℕ, List, [], ◌∷◌, ◌++◌, codes, take, None}
 use Rattle.pw_code.specs.declared.file.FileOp.TheVariants.{Read, Next, Rewrite}
 use Rattle.pw_code.specs.declared.lock.LockMode.TheVariants.{Shared, Exclusive}
@@ -40,7 +40,8 @@ entries_to_two_takes =
     Applied 0 ∷ Applied 1 ∷ Begin 0 1 0 ∷ Begin 1 1 0 ∷ Send 0 1 0 ∷ Send 1 1 0 ∷ Take 0 1 0 ∷
     Take 0 2 1 ∷ []
 
--- Under AllExclusive the younger unit restarts where its lock would conflict, and begins again when the older one has ended.
+-- Under AllExclusive the younger unit restarts where its lock would conflict, and begins again when
+-- the older one has ended.
 abbrev pub older_unit_wins : WorkedLog
 older_unit_wins = record {
   setting = two_increment 5 AllExclusive;
@@ -55,7 +56,8 @@ older_unit_wins = record {
   second = shown 1 2 0 1 (codes "00000000A10007") ∷ [];
 }
 
--- Under ReadersShare both units read A1, and the younger one restarts where the older one would rewrite it.
+-- Under ReadersShare both units read A1, and the younger one restarts where the older one would
+-- rewrite it.
 abbrev pub shared_readers : WorkedLog
 shared_readers = record {
   setting = two_increment 5 ReadersShare;
@@ -90,7 +92,8 @@ suspended_version_1 = suspended_at_limit AllExclusive (take 18 older_unit_wins.l
 abbrev pub suspended_version_2 : WorkedLog
 suspended_version_2 = suspended_at_limit ReadersShare (take 19 shared_readers.log)
 
--- T1 has read the record after A1, B1, and so locks all keys up to it: the younger unit of T2 cannot write A5.
+-- T1 has read the record after A1, B1, and so locks all keys up to it: the younger unit of T2
+-- cannot write A5.
 abbrev pub span_lock : WorkedLog
 span_lock = record {
   setting = record (two_terminals (Begins ∷ Sends (codes "NA10000") ∷
@@ -132,7 +135,8 @@ with_lock_reads_exclusive = record {
   second = [];
 }
 
--- A READ NEXT WITH LOCK behind A1 locks exclusively up to the record that it finds, B1: the younger unit cannot read B1.
+-- A READ NEXT WITH LOCK behind A1 locks exclusively up to the record that it finds, B1: the younger
+-- unit cannot read B1.
 abbrev pub next_with_lock_reaches_the_found : WorkedLog
 next_with_lock_reaches_the_found = record {
   setting = two_terminals (Begins ∷ Sends (codes "MA10000") ∷ []) (Sends (codes "RB10000") ∷ []) [];

@@ -52,8 +52,8 @@ pair_lost_while_down = record {
 abbrev pub pair_lost_with_cause : WorkedLog
 pair_lost_with_cause = record {
   setting =
-      one_terminal (increments_a1 ∷ []) (line.Server 0 1 1 ∷ line.Tcp 0 false 8 ∷ line.Tcp 0 true 9 ∷
-      []);
+      one_terminal (increments_a1 ∷ [])
+      (line.Server 0 1 1 ∷ line.Tcp 0 false 8 ∷ line.Tcp 0 true 9 ∷ []);
   log =
       entries_to_begin ++ (Send 0 1 0 ∷ Take 0 1 0 ∷ FailServer 0 1 1 ∷ FailTcp 0 false 2 ∷
       FailTcp 0 true 3 ∷ End 0 Lost ∷ []);
@@ -63,8 +63,8 @@ pair_lost_with_cause = record {
   second = [];
 }
 
--- A pair is lost with two open units, of which T2's is the older: they are left in the order of terminals, and later
--- failures change nothing.
+-- A pair is lost with two open units, of which T2's is the older: they are left in the order of
+-- terminals, and later failures change nothing.
 abbrev pub pair_lost_with_two_units : WorkedLog
 pair_lost_with_two_units = record {
   setting =

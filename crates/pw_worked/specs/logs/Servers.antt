@@ -31,8 +31,8 @@ server_failure_restarts_unit = record {
 }
 
 -- A process that works for none fails: nothing changes.
-abbrev pub failing_idle_process_changes_nothing : WorkedLog
-failing_idle_process_changes_nothing = record {
+abbrev pub idle_process_fails : WorkedLog
+idle_process_fails = record {
   setting = one_terminal (increments_a1 ∷ []) (line.Server 0 2 1 ∷ []);
   log =
       entries_to_begin ++ (Send 0 1 0 ∷ Take 0 1 0 ∷ FailServer 0 2 1 ∷ (read_and_rewrite
@@ -43,7 +43,8 @@ failing_idle_process_changes_nothing = record {
   second = [];
 }
 
--- The process of a unit fails, and then the backup: the unit restarts when the pair is Paired again.
+-- The process of a unit fails, and then the backup: the unit restarts when the pair is Paired
+-- again.
 abbrev pub server_cause_waits_for_backup : WorkedLog
 server_cause_waits_for_backup = record {
   setting = one_terminal (increments_a1 ∷ []) (line.Server 0 1 1 ∷ line.Tcp 0 false 8 ∷ []);

@@ -19,7 +19,8 @@ transaction = Begins ∷ increments_a1 ∷ Ends ∷ []
 abbrev pub entries_to_commit : List Event
 entries_to_commit = Key 0 3 ∷ CheckEnd 0 ∷ Applied 0 ∷ Commit 0 1 ∷ []
 
--- the entries of the second attempt of a transaction, whose first restarted by a takeover, up to the end of the terminal
+-- the entries of the second attempt of a transaction, whose first restarted by a takeover, up to
+-- the end of the terminal
 abbrev pub second_attempt : List Event
 second_attempt =
     Restart 0 1 (cause.Takeover 0) ∷ (backup_entries ++ (Begin 0 1 1 ∷
@@ -38,7 +39,8 @@ takeover_after_commit = record {
   second = [];
 }
 
--- The primary fails behind a SEND that has committed: the takeover goes back before it, and TMF answers it again.
+-- The primary fails behind a SEND that has committed: the takeover goes back before it, and TMF
+-- answers it again.
 abbrev pub takeover_answers_kept_reply : WorkedLog
 takeover_answers_kept_reply = record {
   setting = one_terminal (increments_a1 ∷ []) (line.Tcp 0 true 9 ∷ []);
@@ -64,7 +66,8 @@ takeover_restarts_open_unit = record {
   second = [];
 }
 
--- The primary fails when the backup holds the end path of a unit that has not ended: its unit restarts all the same.
+-- The primary fails when the backup holds the end path of a unit that has not ended: its unit
+-- restarts all the same.
 abbrev pub takeover_before_commit : WorkedLog
 takeover_before_commit = record {
   setting = one_terminal transaction (line.Tcp 0 true 13 ∷ []);
@@ -92,8 +95,9 @@ takeover_frees_process = record {
   second = [];
 }
 
--- The unit of T2 has restarted for the older one of T1 when the primary fails, and the backup still holds the end path of
--- its attempt: the takeover goes to its start path. T1's unit restarts too and is left; then T2's begins again.
+-- The unit of T2 has restarted for the older one of T1 when the primary fails, and the backup still
+-- holds the end path of its attempt: the takeover goes to its start path. T1's unit restarts too
+-- and is left; then T2's begins again.
 abbrev pub takeover_passes_stale_end : WorkedLog
 takeover_passes_stale_end = record {
   setting = two_terminals (Begins ∷ increments_a1 ∷ []) transaction (line.Tcp 0 true 22 ∷ []);
@@ -154,8 +158,8 @@ backup_failure_in_unit = record {
   second = [];
 }
 
--- The backup fails inside a transaction: the new one is told the start path of the attempt, so the unit begins again without
--- another message.
+-- The backup fails inside a transaction: the new one is told the start path of the attempt, so the
+-- unit begins again without another message.
 abbrev pub backup_failure_in_transaction : WorkedLog
 backup_failure_in_transaction = record {
   setting = record (one_terminal (Begins ∷ Redoes ∷ []) (line.Tcp 0 false 7 ∷
@@ -170,8 +174,8 @@ backup_failure_in_transaction = record {
   second = [];
 }
 
--- The primary fails again before the takeover, and the backup when there is none: nothing changes. It fails while it is raised:
--- the pair is Alone again.
+-- The primary fails again before the takeover, and the backup when there is none: nothing changes.
+-- It fails while it is raised: the pair is Alone again.
 abbrev pub failures_without_effect : WorkedLog
 failures_without_effect = record {
   setting =

@@ -1,4 +1,5 @@
--- Worked logs of one terminal without failures: what its operations answer and do, and how its units and the terminal end.
+-- Worked logs of one terminal without failures: what its operations answer and do, and how its
+-- units and the terminal end.
 use Rattle.std.specs.Prelude.{ℕ, ◌+◌, List, [], ◌∷◌, ◌++◌, codes, None, Some}
 use Rattle.pw_code.specs.declared.file.FileOp.TheVariants.{Read, Next, Write, Rewrite, Delete}
 use Rattle.pw_code.specs.declared.lock.LockMode.TheVariants.{Shared, Exclusive}
@@ -21,7 +22,8 @@ deck_stock = codes "A10005" ∷ codes "B10007" ∷ []
 abbrev pub backup_entries : List Event
 backup_entries = Raise 0 ∷ CheckCopy 0 ∷ Applied 0 ∷ []
 
--- the entries of a unit that is one SEND, from its entry line on: its number, the line's number, and what the server does
+-- the entries of a unit that is one SEND, from its entry line on: its number, the line's number,
+-- and what the server does
 abbrev pub unit_of_one_send : ℕ → ℕ → List Event → List Event
 unit_of_one_send n k operations =
     Key 0 k ∷ CheckStart 0 ∷ Applied 0 ∷ Begin 0 n 0 ∷ Send 0 n 0 ∷ Take 0 1 0 ∷ (operations
@@ -31,7 +33,8 @@ unit_of_one_send n k operations =
 abbrev pub entries_to_begin : List Event
 entries_to_begin = backup_entries ++ (Key 0 1 ∷ CheckStart 0 ∷ Applied 0 ∷ Begin 0 1 0 ∷ [])
 
--- the entries of a SEND of unit 1 in it, from entry line k on: the attempt's restarts, what the server does and the refresh
+-- the entries of a SEND of unit 1 in it, from entry line k on: the attempt's restarts, what the
+-- server does and the refresh
 abbrev pub send_inside : ℕ → ℕ → List Event → ℕ → List Event
 send_inside r k operations shows =
     Key 0 k ∷ Send 0 1 0 ∷ Take 0 1 0 ∷ (operations ++ Reply 0 1 0 None ∷ Show 0 1 r shows ∷ [])
@@ -60,7 +63,8 @@ two_displays = record {
   second = [];
 }
 
--- A WRITE of a key that is there has status 10, a DELETE of one that is not 11, a READ NEXT behind the last one 1.
+-- A WRITE of a key that is there has status 10, a DELETE of one that is not 11, a READ NEXT behind
+-- the last one 1.
 abbrev pub duplicate_missing_and_end_of_file : WorkedLog
 duplicate_missing_and_end_of_file = record {
   setting =
@@ -80,7 +84,8 @@ duplicate_missing_and_end_of_file = record {
   second = [];
 }
 
--- A READ, a REWRITE and a READ WITH LOCK of a key that is not there have status 11, a READ NEXT WITH LOCK behind the last one 1.
+-- A READ, a REWRITE and a READ WITH LOCK of a key that is not there have status 11, a READ NEXT
+-- WITH LOCK behind the last one 1.
 abbrev pub missing_records : WorkedLog
 missing_records = record {
   setting =
@@ -150,7 +155,8 @@ committed_transaction = record {
   second = [];
 }
 
--- A transaction is dropped: the record that it wrote is gone, and the one that it deleted is there again.
+-- A transaction is dropped: the record that it wrote is gone, and the one that it deleted is there
+-- again.
 abbrev pub dropped_transaction : WorkedLog
 dropped_transaction = record {
   setting =

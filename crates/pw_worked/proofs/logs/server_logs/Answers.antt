@@ -11,6 +11,6 @@ pub returns : goal.returns
 unfolding upd is_legal is_legal_block meets
 returns c = record {
   server_failure_restarts_unit = works servers.server_failure_restarts_unit refl refl refl refl refl refl refl refl refl;
-  failing_idle_process_changes_nothing = works servers.failing_idle_process_changes_nothing refl refl refl refl refl refl refl refl refl;
+  failing_idle_process_changes_nothing = works servers.idle_process_fails refl refl refl refl refl refl refl refl refl;
   server_cause_waits_for_backup = works servers.server_cause_waits_for_backup refl refl refl refl refl refl refl refl refl;
 }
