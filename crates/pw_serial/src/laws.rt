@@ -62,11 +62,11 @@ pub fn guarded_pairs_are_kept()
         → IsRun sys (before ++ Reply c i t None ∷ more)
         → is_outside (path_of (after sys before) t) ≡ true
         → HasEndedOnce sys (before ++ Reply c i t None ∷ more) t
-            (unit_number (path_of (after sys before) t)) }
+        (unit_number (path_of (after sys before) t)) }
     ensures records { (sys : Behaviour) → IsBehaviour sys → (log more : List Event)
         → IsRun sys (log ++ more) → NoneCommits sys log more
         → (f : ℕ) → committed_files sys (after sys (log ++ more)) f
-            ≡ committed_files sys (after sys log) f }
+        ≡ committed_files sys (after sys log) f }
     ensures changes { (sys : Behaviour) → IsBehaviour sys → (log : List Event) (entry : Event)
         → IsRun sys (log ++ entry ∷ []) → is_fail entry ≡ false
         → change sys (after sys log) entry ≢ after sys log }
@@ -84,7 +84,7 @@ pub fn older_restarts_are_few()
 pub fn enough_restarts_never_suspend()
     ensures { (sys : Behaviour) → IsBehaviour sys
         → ((t : ℕ) → t < sys.terminals
-            → sys.terminals - 1 + length sys.script ≤ sys.max_restarts t)
+        → sys.terminals - 1 + length sys.script ≤ sys.max_restarts t)
         → ((t : ℕ) (path : List PathAnswer) → IsPath sys t path → sys.ask t path ≢ verb.Redo)
         → (before behind : List Event) (t : ℕ) (cause : Cause)
         → ¬ IsRun sys (before ++ End t (Suspended cause) ∷ behind) }
