@@ -1,17 +1,20 @@
 -- What single entries do, in every state.
-use Rattle.std.proofs.Common.{◌≡◌, ◌≢◌, ℕ, zero, suc, ◌+◌, ◌==◌, ◌&&◌, ◌||◌, Bool, true, false, cond, not, List, [], ◌∷◌, Option, Some, None, filter, is_some, unwrap_or, refl, ap, ap₂, sym, ◌∙◌}
+use Rattle.std.proofs.Common.{◌≡◌, ◌≢◌, ℕ, zero, suc, ◌+◌, ◌==◌, ◌&&◌, ◌||◌, ◌<◌, ◌≤◌, Bool, true, false, cond, not, List, [], ◌∷◌, Option, Some, None, filter, is_none, is_some, length, unwrap_or, refl, ap, ap₂, sym, subst, arith, ◌∙◌}
+use Rattle.std.specs.Prelude.{nat_lt}
 use Rattle.std.specs.List.{list_any}
-use Rattle.std.proofs.lemmas.Bool.{cond-false, cond-true, eq-eqb, eqb-true, ne_eqb, true≢false}
+use Rattle.std.proofs.lemmas.Bool.{and_left, and_right, cond-false, cond-true, eq-eqb, eqb-true, le-ltb, ne_eqb, true≢false}
 use Rattle.pw_class.specs.Queue.{is_of, works_for}
 use Rattle.pw_class.specs.declared.request.Request.{Request}
 use Rattle.pw_event.specs.declared.event.Cause.TheVariants.{Takeover}
 use Rattle.pw_onecopy.proofs.Update.{upd-same}
+use Rattle.pw_onecopy.specs.Blocks.{Out}
 use Rattle.pw_onecopy.specs.Behaviour.{Behaviour}
 use Rattle.pw_onecopy.specs.Path.{PathAnswer}
 use Rattle.pw_paired.specs.Failure.{LegalFailServer, LegalFailTcp, backup_fails, do_fail_tcp, is_of_pair, lose_pair, lose_primary, resume_terminal, resumed_path}
 use Rattle.pw_paired.specs.Raising.{copied_path}
-use Rattle.pw_paired.specs.State.{BackupCopy, Down, Gone, Job, LastEnded, Mode, OpenUnit, State, Term}
-use Rattle.pw_paired.specs.Terminal.{path_of}
+use Rattle.pw_paired.specs.Serial.{Reading, is_idle, out_block}
+use Rattle.pw_paired.specs.State.{Awaited, BackupCopy, Down, Gone, Job, LastEnded, Mode, OpenUnit, State, Term}
+use Rattle.pw_paired.specs.Terminal.{IsOver, LegalBegin, awaited_of, path_of}
 use Rattle.pw_paired.specs.Units.{any_below, attempt_of, freed_of, has_request, last_after_leaving, leave_units, request_in}
 
 -- a takeover goes to the start path of a unit that TMF has not ended
@@ -104,3 +107,23 @@ no-member-line sys p primary legal = let names = legal.names in cc names
 -- and none of a process
 pub no-process-line : (sys : Behaviour) (c i : ℕ) → ¬ LegalFailServer sys c i 0
 no-process-line sys c i legal = let names = legal.names in cc names
+
+-- nothing reads as Out while an attempt runs
+pub out-within : (state : State) (reading : Reading) (t : ℕ) (start : List PathAnswer) → attempt_of (state.units t) ≡ Some start
+    → out_block state reading t ≡ []
+out-within state reading t start runs =
+    cond-false (is_idle state t && nat_lt (reading.longest t) (length (path_of state t) + 1)) (Out t ∷ []) []
+    (and_left (is_idle state t) (nat_lt (reading.longest t) (length (path_of state t) + 1)) (ap is_none runs))
+
+-- nor where the path was longer before
+pub out-known : (state : State) (reading : Reading) (t : ℕ) → length (path_of state t) < reading.longest t → out_block state reading t ≡ []
+out-known state reading t longer =
+    cond-false (is_idle state t && nat_lt (reading.longest t) (length (path_of state t) + 1)) (Out t ∷ []) []
+    (and_right (is_idle state t) (nat_lt (reading.longest t) (length (path_of state t) + 1))
+    (le-ltb (reading.longest t) (length (path_of state t) + 1) (omega (arith, longer))))
+
+-- a unit that begins again awaits one that has ended
+pub begins-over : (sys : Behaviour) (state : State) (t n r : ℕ) (unit : OpenUnit) (awaited : Awaited) → LegalBegin sys state t n r
+    → state.units t ≡ Some unit → unit.awaits ≡ Some awaited → awaited.number ≤ (state.ended awaited.terminal).number
+begins-over sys state t n r unit awaited l is awaits =
+    subst (IsOver state.ended) (ap awaited_of is ∙ awaits) l.over

@@ -9,7 +9,8 @@ use Rattle.pw_paired.specs.Serial.{blocks}
 use Rattle.pw_paired.specs.Step.{after}
 use Rattle.pw_runs.specs.Losses.{Breaks}
 
--- no FAIL TCP entry of the log is of the primary in mode Raising or Alone, or of the backup in mode Down
+-- no FAIL TCP entry of the log is of the primary in mode Raising or Alone, or of the backup in
+-- mode Down
 abbrev pub IsGuarded : Behaviour → List Event → Type 0
 IsGuarded sys log =
     (before behind : List Event) (p : ℕ) (primary : Bool) (k : ℕ)

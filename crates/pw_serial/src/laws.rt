@@ -46,10 +46,11 @@ pub fn unfinished_runs_have_a_step()
         → (actor : Actor) × ActorSteps sys (after sys log) actor }
 {}
 
-/// What failures leave. Where no FAIL TCP entry of a run is of the primary in mode Raising or Alone,
-/// or of the backup in mode Down, no pair is Gone and no terminal lost. A commit that was entered
-/// stays, whatever fails: its unit has ended exactly once, and the committed records stay until
-/// another unit commits. And an entry that is no failure changes more of the state than its log.
+/// What failures leave. Where no FAIL TCP entry of a run is of the primary in mode Raising or
+/// Alone, or of the backup in mode Down, no pair is Gone and no terminal lost. A commit that was
+/// entered stays, whatever fails: its unit has ended exactly once, and the committed records stay
+/// until another unit commits. And an entry that is no failure changes more of the state than its
+/// log.
 pub fn guarded_pairs_are_kept()
     ensures pairs { (sys : Behaviour) (log : List Event) → IsGuarded sys log
         → (p : ℕ) → (after sys log).modes p ≢ Gone }
@@ -62,11 +63,11 @@ pub fn guarded_pairs_are_kept()
         → IsRun sys (before ++ Reply c i t None ∷ more)
         → is_outside (path_of (after sys before) t) ≡ true
         → HasEndedOnce sys (before ++ Reply c i t None ∷ more) t
-            (unit_number (path_of (after sys before) t)) }
+        (unit_number (path_of (after sys before) t)) }
     ensures records { (sys : Behaviour) → IsBehaviour sys → (log more : List Event)
         → IsRun sys (log ++ more) → NoneCommits sys log more
         → (f : ℕ) → committed_files sys (after sys (log ++ more)) f
-            ≡ committed_files sys (after sys log) f }
+        ≡ committed_files sys (after sys log) f }
     ensures changes { (sys : Behaviour) → IsBehaviour sys → (log : List Event) (entry : Event)
         → IsRun sys (log ++ entry ∷ []) → is_fail entry ≡ false
         → change sys (after sys log) entry ≢ after sys log }
@@ -79,12 +80,12 @@ pub fn older_restarts_are_few()
         → (t n : ℕ) → t < sys.terminals → older_restarts_in t n log ≤ sys.terminals - 1 }
 {}
 
-/// Where each terminal may restart as often as there are other terminals and failure lines together,
-/// and no program ever asks to restart, no terminal is suspended in any run.
+/// Where each terminal may restart as often as there are other terminals and failure lines
+/// together, and no program ever asks to restart, no terminal is suspended in any run.
 pub fn enough_restarts_never_suspend()
     ensures { (sys : Behaviour) → IsBehaviour sys
         → ((t : ℕ) → t < sys.terminals
-            → sys.terminals - 1 + length sys.script ≤ sys.max_restarts t)
+        → sys.terminals - 1 + length sys.script ≤ sys.max_restarts t)
         → ((t : ℕ) (path : List PathAnswer) → IsPath sys t path → sys.ask t path ≢ verb.Redo)
         → (before behind : List Event) (t : ℕ) (cause : Cause)
         → ¬ IsRun sys (before ++ End t (Suspended cause) ∷ behind) }

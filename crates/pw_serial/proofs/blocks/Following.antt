@@ -23,7 +23,7 @@ running_refreshes sys t files j (Some unit) = attempt_refreshes sys t files j un
 
 -- a terminal of the machine that goes on: its path is the frontier, its r the recorded restarts, and its refreshes lie before
 -- the next one and hold each screen of its path
-pub record Goes (sys : Behaviour) (t : ℕ) (single : Single) (frontier : List PathAnswer) (unit : Option OpenUnit) : Type 0 where
+pub record GoesOn (sys : Behaviour) (t : ℕ) (single : Single) (frontier : List PathAnswer) (unit : Option OpenUnit) : Type 0 where
   pub path : single.path ≡ frontier
   pub restarts : single.restarts ≡ restarts_of unit
   pub not_left : single.is_left ≡ false
@@ -37,7 +37,7 @@ refreshes_so_far sys s f t single = single.refreshes ++ running_refreshes sys t 
 -- a terminal of the machine follows the terminal
 pub record Follows (sys : Behaviour) (s : State) (f : Fold) (t : ℕ) (single : Single) : Type 0 where
   pub ending : single.ending ≡ (s.terms t).ending
-  pub goes : (s.terms t).ending ≡ None → s.modes (sys.pair_of t) ≢ Gone → Goes sys t single (f.frontier t) (s.units t)
+  pub goes : (s.terms t).ending ≡ None → s.modes (sys.pair_of t) ≢ Gone → GoesOn sys t single (f.frontier t) (s.units t)
   pub longest : f.reading.longest t ≡ length (f.frontier t)
   pub screens : once (refreshes_of t f.shown) ≡ refreshes_so_far sys s f t single
   pub each : (x : Refresh) → IsIn x (refreshes_of t f.shown) → IsIn x (refreshes_so_far sys s f t single)

@@ -24,7 +24,7 @@ use Rattle.pw_onecopy.specs.Behaviour.{Behaviour, Served, Reply, Fault}
 use Rattle.pw_paired.specs.Terminal.{LegalAgain, LegalBegin, LegalKey, unit_with_attempt, kept_reply, next_verb, path_of}
 use Rattle.pw_paired.specs.Units.{attempt_of, committed_files, restarts_of}
 use Rattle.pw_serial.proofs.blocks.Fold.{Fold, fold_on}
-use Rattle.pw_serial.proofs.blocks.Following.{Follows, FollowsAll, Goes, running_refreshes}
+use Rattle.pw_serial.proofs.blocks.Following.{Follows, FollowsAll, GoesOn, running_refreshes}
 use Rattle.pw_serial.proofs.blocks.Known.{Known}
 use Rattle.pw_serial.proofs.blocks.Others.{frontier-stays, shown-none}
 use Rattle.pw_serial.proofs.blocks.Own.{own-follows, plain-follows, same-follows}
@@ -146,7 +146,7 @@ module _ (sys : Behaviour) (b : IsBehaviour sys) (s : State) (f : Fold) (known :
     ok : FrontierOk sys t (view_of sys s t) (f.frontier t)
     ok = known.frontiers t l.can.live.known l.can.live.going_on there
 
-    goes : Goes sys t (machine.terms t) (f.frontier t) (s.units t)
+    goes : GoesOn sys t (machine.terms t) (f.frontier t) (s.units t)
     goes = (all.terms t l.can.live.known).goes l.can.live.going_on there
 
     files : committed_files sys (effect sys s key) ≡ committed_files sys s

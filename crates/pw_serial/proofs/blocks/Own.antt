@@ -16,7 +16,7 @@ use Rattle.pw_paired.specs.Step.{effect}
 use Rattle.pw_onecopy.specs.Behaviour.{Behaviour}
 use Rattle.pw_paired.specs.Units.{attempt_of, committed_files, restarts_of}
 use Rattle.pw_serial.proofs.blocks.Fold.{Fold, fold_on}
-use Rattle.pw_serial.proofs.blocks.Following.{Follows, FollowsAll, Goes, IsStranger, refreshes_so_far, running_refreshes}
+use Rattle.pw_serial.proofs.blocks.Following.{Follows, FollowsAll, GoesOn, IsStranger, refreshes_so_far, running_refreshes}
 use Rattle.pw_serial.proofs.blocks.Known.{Known}
 use Rattle.pw_serial.proofs.blocks.Others.{follow-by, frontier-stays, longest-kept, other-follows, stranger-follows}
 use Rattle.pw_runs.proofs.induction.Views.{view_of}
@@ -92,7 +92,7 @@ module _ (sys : Behaviour) (b : IsBehaviour sys) (s : State) (f : Fold) (known :
 
   -- the terminal itself, with this terminal of the machine, where nothing new is shown
   pub plain-follows : (single : Single) → single.ending ≡ (next.terms t).ending
-      → ((next.terms t).ending ≡ None → next.modes (sys.pair_of t) ≢ Gone → Goes sys t single (now.frontier t) (next.units t))
+      → ((next.terms t).ending ≡ None → next.modes (sys.pair_of t) ≢ Gone → GoesOn sys t single (now.frontier t) (next.units t))
       → refreshes_so_far sys next now t single ≡ refreshes_so_far sys s f t (machine.terms t)
       → refreshes_of t now.shown ≡ refreshes_of t f.shown → Follows sys next now t single
   plain-follows single ending goes so_far shown = record {

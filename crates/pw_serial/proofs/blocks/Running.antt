@@ -11,7 +11,7 @@ use Rattle.pw_paired.specs.Units.{attempt_of, committed_files, restarts_of}
 use Rattle.pw_attempts.proofs.alone.AloneEntries.{AloneAt}
 use Rattle.pw_locking.proofs.records.Images.{restored-file}
 use Rattle.pw_serial.proofs.blocks.Fold.{Fold}
-use Rattle.pw_serial.proofs.blocks.Following.{FollowsAll, Goes, attempt_refreshes, running_refreshes}
+use Rattle.pw_serial.proofs.blocks.Following.{FollowsAll, GoesOn, attempt_refreshes, running_refreshes}
 use Rattle.pw_serial.proofs.blocks.Known.{Known}
 use Rattle.pw_serial.proofs.frontier.Frontier.{FrontierOk}
 use Rattle.pw_runs.proofs.induction.Views.{view_of}
@@ -37,7 +37,7 @@ module _ (sys : Behaviour) (b : IsBehaviour sys) (s : State) (f : Fold) (known :
     pub going_on : (s.terms t).ending ≡ None
     pub there : s.modes (sys.pair_of t) ≢ Gone
     pub frontier : FrontierOk sys t (view_of sys s t) (f.frontier t)
-    pub goes : Goes sys t (machine.terms t) (f.frontier t) (s.units t)
+    pub goes : GoesOn sys t (machine.terms t) (f.frontier t) (s.units t)
     pub at : AloneAt sys b s f.reading.answers t u q
     pub path_is : (machine.terms t).path ≡ q
     pub restarts_is : (machine.terms t).restarts ≡ u.restarts

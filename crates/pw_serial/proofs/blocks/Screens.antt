@@ -22,7 +22,7 @@ use Rattle.pw_onecopy.specs.Behaviour.{Behaviour}
 use Rattle.pw_paired.specs.Terminal.{LegalShow, path_of}
 use Rattle.pw_paired.specs.Units.{attempt_of, committed_files}
 use Rattle.pw_serial.proofs.blocks.Fold.{Fold, fold_on}
-use Rattle.pw_serial.proofs.blocks.Following.{Follows, FollowsAll, Goes, refreshes_so_far, running_refreshes}
+use Rattle.pw_serial.proofs.blocks.Following.{Follows, FollowsAll, GoesOn, refreshes_so_far, running_refreshes}
 use Rattle.pw_serial.proofs.blocks.Known.{Known}
 use Rattle.pw_serial.proofs.blocks.Others.{frontier-stays, longest-kept}
 use Rattle.pw_serial.proofs.blocks.Own.{own-follows, refreshes-more, refreshes-other}
@@ -84,7 +84,7 @@ module _ (sys : Behaviour) (b : IsBehaviour sys) (s : State) (f : Fold) (known :
   follows : Follows sys s f t (machine.terms t)
   follows = all.terms t here
 
-  goes : Goes sys t (machine.terms t) (f.frontier t) (s.units t)
+  goes : GoesOn sys t (machine.terms t) (f.frontier t) (s.units t)
   goes = follows.goes l.can.live.going_on there
 
   abbrev so_far : List Refresh
@@ -108,7 +108,7 @@ module _ (sys : Behaviour) (b : IsBehaviour sys) (s : State) (f : Fold) (known :
 
   -- a new refresh is counted
   counted-new : (single : Single) → single.ending ≡ (s.terms t).ending
-      → ((s.terms t).ending ≡ None → s.modes (sys.pair_of t) ≢ Gone → Goes sys t single (now.frontier t) (s.units t))
+      → ((s.terms t).ending ≡ None → s.modes (sys.pair_of t) ≢ Gone → GoesOn sys t single (now.frontier t) (s.units t))
       → refreshes_so_far sys next now t single ≡ so_far ++ r ∷ [] → has_number r so_far ≡ false → Follows sys next now t single
   counted-new single ending going is none = record {
     ending = ending ∙ sym ending-same;
@@ -126,7 +126,7 @@ module _ (sys : Behaviour) (b : IsBehaviour sys) (s : State) (f : Fold) (known :
 
   -- an old one is not
   counted-old : (single : Single) → single.ending ≡ (s.terms t).ending
-      → ((s.terms t).ending ≡ None → s.modes (sys.pair_of t) ≢ Gone → Goes sys t single (now.frontier t) (s.units t))
+      → ((s.terms t).ending ≡ None → s.modes (sys.pair_of t) ≢ Gone → GoesOn sys t single (now.frontier t) (s.units t))
       → refreshes_so_far sys next now t single ≡ so_far → IsIn r so_far → Follows sys next now t single
   counted-old single ending going is old = record {
     ending = ending ∙ sym ending-same;

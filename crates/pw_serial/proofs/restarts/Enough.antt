@@ -27,7 +27,7 @@ use Rattle.pw_serial.proofs.restarts.Failures.{fails-more, fails_in, few-fails}
 use Rattle.pw_serial.proofs.restarts.Few.{CountsOk, counts-ok, logged}
 use Rattle.pw_serial.proofs.restarts.Older.{free, free-less, free-other, free-room, free-same, free-stays, free-there, now-is}
 use Rattle.pw_serial.proofs.restarts.Owing.{Owes, owed-behind, pends, sinks}
-use Rattle.pw_serial.proofs.steps.Awaiting.{Goes, ends, goes, opens, runs, stays}
+use Rattle.pw_serial.proofs.steps.Awaiting.{UnitMoves, ends, unit-moves, opens, runs, stays}
 use Rattle.pw_serial.specs.Guarded.{is_fail}
 
 -- Restarts are paid by older units and failures: what a unit has had, the older units that it may still restart for, and
@@ -46,7 +46,7 @@ module _ (sys : Behaviour) (b : IsBehaviour sys) (never : NoRedo sys) (t : ℕ) 
   redo-never s i own l = never own (path_of s own) (path_ok-is _ (s.units own) (can_path sys b s i.terms own l.can)) l.asks
 
   -- behind an entry that is no restart
-  module _ (s : State) (entry : Event) (births : CountsOk sys t s) (goes_at : (o : ℕ) → Goes s (effect sys s entry) o)
+  module _ (s : State) (entry : Event) (births : CountsOk sys t s) (goes_at : (o : ℕ) → UnitMoves s (effect sys s entry) o)
       (pending : (kind : Cause) → (s.terms t).pending ≡ Some kind → s.units t ≢ None)
       (back : (Owes sys (effect sys s entry) t → Owes sys s t) ⊎ (is_fail entry ≡ true)) (ok : Paid sys t s) where
     abbrev x : State
@@ -76,7 +76,7 @@ module _ (sys : Behaviour) (b : IsBehaviour sys) (never : NoRedo sys) (t : ℕ) 
     paid-kept : Paid sys t x
     paid-kept = by (goes_at t)
       where
-        by : Goes s x t → Paid sys t x
+        by : UnitMoves s x t → Paid sys t x
         by (stays units last) = record {
           low = λ u is.
               let less = free-stays sys s x births.births t u u (sym units ∙ is) refl refl goes_at in
@@ -203,7 +203,7 @@ module _ (sys : Behaviour) (b : IsBehaviour sys) (never : NoRedo sys) (t : ℕ) 
       by : (entry : Event) → Fits sys s entry → Paid sys t (effect sys s entry)
       by (event.Restart own n kind) l = paid-restarted s i own n kind l births ok
       by entry l =
-          paid-kept s entry births (λ o. logged sys s entry o (goes sys b s i o entry l (λ own n kind is. absurd (cc is))))
+          paid-kept s entry births (λ o. logged sys s entry o (unit-moves sys b s i o entry l (λ own n kind is. absurd (cc is))))
           (λ kind is none. let runs_now = pending-runs sys b log run t kind is in absurd (let there = runs_now.is_open in cc (there, none)))
           (back entry l (is_fail entry) refl) ok
 

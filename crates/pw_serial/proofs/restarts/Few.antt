@@ -20,7 +20,7 @@ use Rattle.pw_runs.proofs.induction.Runs.{after-more, holds-behind, kept}
 use Rattle.pw_runs.proofs.kept.Kept.{Inv}
 use Rattle.pw_serial.proofs.restarts.Counting.{weight}
 use Rattle.pw_serial.proofs.restarts.Older.{free, free-less, free-other, free-room, free-same, free-stays, now-is}
-use Rattle.pw_serial.proofs.steps.Awaiting.{Goes, ends, goes, opens, runs, stays}
+use Rattle.pw_serial.proofs.steps.Awaiting.{UnitMoves, ends, unit-moves, opens, runs, stays}
 use Rattle.pw_serial.specs.Restarts.{is_older_restart_of, older_restarts_in}
 
 -- what a running unit awaited has ended
@@ -28,7 +28,7 @@ abbrev pub RunsOver : State → Type 0
 RunsOver s = (t : ℕ) (u : OpenUnit) (q : List PathAnswer) (a : Awaited) → s.units t ≡ Some u → u.running ≡ Some q → u.awaits ≡ Some a → a.number ≤ (s.ended a.terminal).number
 
 -- ended numbers do not fall
-rises : {s x : State} {o : ℕ} → Goes s x o → (s.ended o).number ≤ (x.ended o).number
+rises : {s x : State} {o : ℕ} → UnitMoves s x o → (s.ended o).number ≤ (x.ended o).number
 rises (stays units last) = omega (arith, last)
 rises (runs was now a c d e f last g h) = omega (arith, last)
 rises (opens now a c d last e f g) = omega (arith, last)
@@ -51,7 +51,7 @@ not-older t n (event.Restart own m kind) other = absurd (other own m kind refl)
 not-older t n entry other = refl
 
 -- the entry joins the log
-pub logged : (sys : Behaviour) (s : State) (entry : Event) (o : ℕ) → Goes s (change sys s entry) o → Goes s (effect sys s entry) o
+pub logged : (sys : Behaviour) (s : State) (entry : Event) (o : ℕ) → UnitMoves s (change sys s entry) o → UnitMoves s (effect sys s entry) o
 logged sys s entry o (stays units last) = stays units last
 logged sys s entry o (runs was now a c d e f g h j) = runs was now a c d e f g h j
 logged sys s entry o (opens now a c d e f g h) = opens now a c d e f g h
@@ -72,7 +72,7 @@ pub record CountsOk (sys : Behaviour) (t : ℕ) (s : State) : Type 0 where
 
 module _ (sys : Behaviour) (b : IsBehaviour sys) (t : ℕ) (known : t < sys.terminals) where
   -- behind an entry that is no restart
-  module _ (s : State) (i : Inv sys s) (entry : Event) (goes_at : (o : ℕ) → Goes s (effect sys s entry) o) (other : (n : ℕ) → is_older_restart_of t n entry ≡ false) (ok : CountsOk sys t s) where
+  module _ (s : State) (i : Inv sys s) (entry : Event) (goes_at : (o : ℕ) → UnitMoves s (effect sys s entry) o) (other : (n : ℕ) → is_older_restart_of t n entry ≡ false) (ok : CountsOk sys t s) where
     abbrev x : State
     x = effect sys s entry
 
@@ -82,7 +82,7 @@ module _ (sys : Behaviour) (b : IsBehaviour sys) (t : ℕ) (known : t < sys.term
         up : (s.ended a.terminal).number ≤ (x.ended a.terminal).number
         up = rises (goes_at a.terminal)
 
-        by : Goes s x o → a.number ≤ (x.ended a.terminal).number
+        by : UnitMoves s x o → a.number ≤ (x.ended a.terminal).number
         by (stays units last) = let low = ok.over o u q a (sym units ∙ is) runs_q awaits in omega (arith, low, up)
         by (runs was now was_is now_is c d e f g over_it) =
             let same : now ≡ u = cc (now_is, is) in
@@ -97,7 +97,7 @@ module _ (sys : Behaviour) (b : IsBehaviour sys) (t : ℕ) (known : t < sys.term
     olders-kept : Olders sys t x
     olders-kept = by (goes_at t)
       where
-        by : Goes s x t → Olders sys t x
+        by : UnitMoves s x t → Olders sys t x
         by (stays units last) = record {
           past = λ n low. let c = same-count n in let was = ok.olders.past n (omega (arith, low, last)) in omega (arith, c, was);
           now = λ u is.
@@ -235,7 +235,7 @@ module _ (sys : Behaviour) (b : IsBehaviour sys) (t : ℕ) (known : t < sys.term
   step-counts : (s : State) → Inv sys s → (entry : Event) → Fits sys s entry → BirthsOk (effect sys s entry).units (effect sys s entry).births → CountsOk sys t s → CountsOk sys t (effect sys s entry)
   step-counts s i (event.Restart own n kind) l births ok = record { births = births; over = over-restarted s i own n kind l ok; olders = olders-restarted s i own n kind l ok }
   step-counts s i entry l births ok =
-      let at : (o : ℕ) → Goes s (effect sys s entry) o = λ o. logged sys s entry o (goes sys b s i o entry l (λ own n kind is. absurd (cc is))) in
+      let at : (o : ℕ) → UnitMoves s (effect sys s entry) o = λ o. logged sys s entry o (unit-moves sys b s i o entry l (λ own n kind is. absurd (cc is))) in
       let plain : (n : ℕ) → is_older_restart_of t n entry ≡ false = λ n. not-older t n entry (λ own m kind is. absurd (cc is)) in
       record { births = births; over = over-kept s i entry at plain ok; olders = olders-kept s i entry at plain ok }
 

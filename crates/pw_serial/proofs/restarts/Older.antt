@@ -14,7 +14,7 @@ use Rattle.pw_runs.proofs.Births.{BirthsOk}
 use Rattle.pw_runs.proofs.Tests.{and-first, and-second}
 use Rattle.pw_runs.proofs.kept.Kept.{Inv}
 use Rattle.pw_serial.proofs.restarts.Counting.{count_below, count-less, count-more, count-room}
-use Rattle.pw_serial.proofs.steps.Awaiting.{Goes, ends, opens, runs, stays}
+use Rattle.pw_serial.proofs.steps.Awaiting.{UnitMoves, ends, opens, runs, stays}
 
 -- the awaited unit is this one
 abbrev pub is_awaited : Option Awaited → ℕ → ℕ → Bool
@@ -50,12 +50,12 @@ free-of unit u v o is older other =
 -- a unit that is as old and awaits the same
 module _ (sys : Behaviour) (s x : State) (births : BirthsOk s.units s.births) (t : ℕ) (was u : OpenUnit) (was_is : s.units t ≡ Some was) (birth : u.birth ≡ was.birth) where
   -- behind an entry that is no restart
-  stays-free : u.awaits ≡ was.awaits → (o : ℕ) → Goes s x o → is_free x u o ≡ true → is_free s was o ≡ true
-  stays-free awaits o goes is =
+  stays-free : u.awaits ≡ was.awaits → (o : ℕ) → UnitMoves s x o → is_free x u o ≡ true → is_free s was o ≡ true
+  stays-free awaits o moved is =
       let parts = free-parts (x.units o) u o is in
-      by goes parts.0 parts.1 parts.2 (subst (λ (a : Option Awaited). is_awaited a o parts.0.number ≡ false) awaits parts.3)
+      by moved parts.0 parts.1 parts.2 (subst (λ (a : Option Awaited). is_awaited a o parts.0.number ≡ false) awaits parts.3)
     where
-      by : Goes s x o → (v : OpenUnit) → x.units o ≡ Some v → v.birth < u.birth → is_awaited was.awaits o v.number ≡ false → is_free s was o ≡ true
+      by : UnitMoves s x o → (v : OpenUnit) → x.units o ≡ Some v → v.birth < u.birth → is_awaited was.awaits o v.number ≡ false → is_free s was o ≡ true
       by (stays units last) v v_is older other = free-of (s.units o) was v o (sym units ∙ v_is) (omega (arith, older, birth)) other
       by (runs old now old_is now_is birth_is number_is awaits_is last restarts over) v v_is older other =
           let same : now ≡ v = cc (now_is, v_is) in
@@ -70,8 +70,8 @@ module _ (sys : Behaviour) (s x : State) (births : BirthsOk s.units s.births) (t
           omega (arith, b, birth_is, low, older, birth))
       by (ends none number next) v v_is older other = absurd (cc (none, v_is))
 
-  pub free-stays : u.awaits ≡ was.awaits → ((o : ℕ) → Goes s x o) → free sys x u ≤ free sys s was
-  free-stays awaits goes = count-more sys.terminals (is_free x u) (is_free s was) (λ o. stays-free awaits o (goes o))
+  pub free-stays : u.awaits ≡ was.awaits → ((o : ℕ) → UnitMoves s x o) → free sys x u ≤ free sys s was
+  free-stays awaits unit-moves = count-more sys.terminals (is_free x u) (is_free s was) (λ o. stays-free awaits o (unit-moves o))
 
 -- a unit that has just opened
 pub free-room : (sys : Behaviour) (x : State) (t : ℕ) (u : OpenUnit) → t < sys.terminals → x.units t ≡ Some u → free sys x u + 1 ≤ sys.terminals

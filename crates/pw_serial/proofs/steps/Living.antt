@@ -29,7 +29,7 @@ use Rattle.pw_serial.proofs.blocks.Fold.{Fold, fold_after}
 use Rattle.pw_serial.proofs.blocks.Known.{Known, known}
 use Rattle.pw_serial.proofs.frontier.Frontier.{FrontierOk}
 use Rattle.pw_serial.proofs.frontier.Standing.{Where, closed, running, waiting, where-of}
-use Rattle.pw_serial.proofs.steps.Awaiting.{Goes, ends, goes, opens, runs, stays}
+use Rattle.pw_serial.proofs.steps.Awaiting.{UnitMoves, ends, unit-moves, opens, runs, stays}
 
 module _ (sys : Behaviour) (s : State) (t : ℕ) where
   abbrev SameEnding : State → Type 0
@@ -85,7 +85,7 @@ LiveOk s = (t : ℕ) (u : OpenUnit) → s.units t ≡ Some u → (s.terms t).end
 
 module _ (sys : Behaviour) (b : IsBehaviour sys) (s : State) (f : Fold) (k : Known sys b s f) (ok : LiveOk s) where
   -- the units that an entry leaves open
-  by-goes : (x : State) (t : ℕ) (u : OpenUnit) → Goes s x t → x.units t ≡ Some u → (s.terms t).ending ≡ None
+  by-goes : (x : State) (t : ℕ) (u : OpenUnit) → UnitMoves s x t → x.units t ≡ Some u → (s.terms t).ending ≡ None
   by-goes x t u (stays units last) is = ok t u (sym units ∙ is)
   by-goes x t u (runs was now was_is now_is a c d e f g) is = ok t was was_is
   by-goes x t u (opens now none now_is awaits last live restarts birth_is) is = live
@@ -133,7 +133,7 @@ module _ (sys : Behaviour) (b : IsBehaviour sys) (s : State) (f : Fold) (k : Kno
       ending-stays sys s t (event.Restart own n kind) l (λ o e e_is. absurd (cc e_is)) ∙ ok t l.unit (ap s.units same ∙ l.caused.is_open))
       (λ differ is. ending-stays sys s t (event.Restart own n kind) l (λ o e e_is. absurd (cc e_is)) ∙ ok t u is)
   keeps-live entry l =
-      λ t u is. ending-stays sys s t entry l (λ o e e_is. absurd (cc e_is)) ∙ by-goes (change sys s entry) t u (goes sys b s k.inv t entry l (λ o n kind e_is. absurd (cc e_is))) is
+      λ t u is. ending-stays sys s t entry l (λ o e e_is. absurd (cc e_is)) ∙ by-goes (change sys s entry) t u (unit-moves sys b s k.inv t entry l (λ o n kind e_is. absurd (cc e_is))) is
 
 pub live-ok : (sys : Behaviour) → IsBehaviour sys → (log : List Event) → IsRun sys log → LiveOk (after sys log)
 live-ok sys b =
