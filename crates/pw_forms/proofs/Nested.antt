@@ -1,5 +1,5 @@
 -- Open branches, and what stands behind them.
-use Rattle.std.proofs.Common.{◌≡◌, ℕ, suc, ◌+◌, List, [], ◌∷◌, ◌++◌, length, Bool, true, false, not, Option, Some, None, refl, sym, ap, ◌∙◌, append_assoc, arith}
+use Rattle.std.proofs.Common.{◌≡◌, ◌+◌, List, [], ◌∷◌, ◌++◌, length, Bool, true, false, not, Option, Some, None, refl, sym, ap, ◌∙◌, append_assoc, arith}
 use Rattle.std.specs.Prelude.{◌||◌, is_some}
 use Rattle.std.specs.List.{list_any}
 use Rattle.std.proofs.lemmas.List.{append-nil}
@@ -7,7 +7,7 @@ use Rattle.pw_forms.specs.declared.form.Head.{Head}
 use Rattle.pw_forms.specs.declared.statement.Statement.{Statement}
 use Rattle.pw_forms.specs.declared.branch.Open.{Open}
 use Rattle.pw_forms.specs.Faults.{can_turn, turned}
-use Rattle.pw_forms.specs.Tree.{Behind, Levels, Closed, AtElse, AtEndIf, prepend, with_else, opened, closed, behind_period}
+use Rattle.pw_forms.specs.Tree.{Behind, Levels, Closed, AtElse, AtEndIf, prepend, with_else, closed}
 use Rattle.pw_forms.specs.Blocks.{finished_head, branches_onto, branches, inside, around, nested}
 
 -- ---- whether the branches have their ELSE

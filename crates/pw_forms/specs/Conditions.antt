@@ -1,5 +1,5 @@
 -- Conditions.
-use Rattle.std.specs.Prelude.{List, Bool, true, false, codes, Option, Some, None, if◌then◌else◌}
+use Rattle.std.specs.Prelude.{List, Bool, codes, None, if◌then◌else◌}
 use Rattle.pw_text.specs.declared.token.TokenKind.{TokenKind}
 use Rattle.pw_text.specs.declared.token.TokenKind.TheVariants as kind
 use Rattle.pw_text.specs.declared.token.Token.{Token}
@@ -10,7 +10,7 @@ use Rattle.pw_forms.specs.declared.cond.Comparison.{Comparison}
 use Rattle.pw_forms.specs.declared.cond.Comparison.TheVariants as comparisons
 use Rattle.pw_forms.specs.declared.cond.Cond.{Cond}
 use Rattle.pw_forms.specs.Words.{is_the_word}
-use Rattle.pw_forms.specs.Readers.{Rest, Reader, ◌>>=◌, ◌>>◌, pure, fails, token, eats, separated}
+use Rattle.pw_forms.specs.Readers.{Reader, ◌>>=◌, ◌>>◌, pure, token, eats, separated}
 use Rattle.pw_forms.specs.Operands.{operand}
 
 -- an operator that is a word

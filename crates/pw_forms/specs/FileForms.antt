@@ -1,5 +1,5 @@
 -- The forms of the file verbs, which servers alone have.
-use Rattle.std.specs.Prelude.{ℕ, Bool, true, false, ◌&&◌, ◌||◌, codes, Option, None, if◌then◌else◌}
+use Rattle.std.specs.Prelude.{ℕ, Bool, true, false, ◌&&◌, ◌||◌, codes, None, if◌then◌else◌}
 use Rattle.pw_forms.specs.declared.mark.FileVerb.{FileVerb}
 use Rattle.pw_forms.specs.declared.mark.FileVerb.TheVariants as files
 use Rattle.pw_forms.specs.declared.statement.Statement.TheVariants as statement

@@ -14,11 +14,10 @@ use Rattle.pw_forms.specs.declared.statement.Operation.TheVariants as operation
 use Rattle.pw_forms.specs.declared.statement.Arithmetic.{Arithmetic}
 use Rattle.pw_forms.specs.declared.statement.Statement.{Statement}
 use Rattle.pw_forms.specs.declared.statement.Statement.TheVariants as statement
-use Rattle.pw_forms.specs.declared.form.Head.{Head}
 use Rattle.pw_forms.specs.declared.form.Head.TheVariants as head
 use Rattle.pw_forms.specs.declared.form.Form.{Form}
 use Rattle.pw_forms.specs.declared.form.Form.TheVariants.{Whole, Opens}
-use Rattle.pw_forms.specs.Readers.{Rest, Reader, ◌>>=◌, ◌>>◌, pure, fails, eats, expects, ends, is_done, some, up_to}
+use Rattle.pw_forms.specs.Readers.{Reader, ◌>>=◌, ◌>>◌, pure, fails, eats, expects, ends, is_done, some, up_to}
 use Rattle.pw_forms.specs.Operands.{operand, name, program_name, key, code}
 use Rattle.pw_forms.specs.Conditions.{condition}
 use Rattle.pw_forms.specs.FileForms.{file_form}

@@ -1,5 +1,5 @@
 -- The words of a procedure.
-use Rattle.std.specs.Prelude.{ℕ, ◌-◌, List, [], ◌∷◌, Bool, true, false, not, ◌&&◌, ◌||◌, is_some, codes, slice_get, take, drop, Option, Some, None, unwrap_or}
+use Rattle.std.specs.Prelude.{ℕ, List, [], ◌∷◌, Bool, true, false, not, ◌&&◌, ◌||◌, is_some, codes, slice_get, Option, Some, None, unwrap_or}
 use Rattle.std.specs.Str.{str_to_ascii_uppercase}
 use Rattle.pw_words.specs.Words.{Word, same_word, place_of}
 use Rattle.pw_words.specs.Texts.{requester_words, server_words}

@@ -1,7 +1,6 @@
-use Rattle.std.proofs.Common.{◌≡◌, [], length, drop, refl, sym, ap, ◌∙◌, arith}
-use Rattle.std.proofs.lemmas.List.{nil_from_length}
+use Rattle.std.proofs.Common.{[], drop, sym, ap, ◌∙◌}
 use Rattle.pw_forms.specs.Tree.{AtEndIf, prepend}
-use Rattle.pw_forms.specs.Blocks.{branches, nested}
+use Rattle.pw_forms.specs.Blocks.{nested}
 use Rattle.pw_forms.proofs.Nested.{branches-push, closes, closes-end}
 use Rattle.pw_forms.proofs.branch.Block.end.Goals as goal
 

@@ -1,6 +1,6 @@
-use Rattle.std.proofs.Common.{◌≡◌, [], sym, ap, ◌∙◌}
+use Rattle.std.proofs.Common.{sym, ap, ◌∙◌}
 use Rattle.pw_forms.specs.Tree.{opened, prepend}
-use Rattle.pw_forms.specs.Blocks.{branches, nested}
+use Rattle.pw_forms.specs.Blocks.{nested}
 use Rattle.pw_forms.proofs.Nested.{branches-push, opens}
 use Rattle.pw_forms.proofs.branch.Block.open_branch.Goals as goal
 
