@@ -74,6 +74,7 @@ module _ (sys : Behaviour) (b : IsBehaviour sys) (s : State) (f : Fold) (known :
     ended_is : ((effect sys s back).ended t).number ≡ unit_number (path_of s t)
     ended_is = ap (λ (x : LastEnded). x.number) (upd-same s.ended t _ t refl) ∙ l.number
 
+    -- the machine follows a BACK
     pub follows-back : FollowsAll sys (effect sys s back) (fold_on sys s back f)
     follows-back =
         let is_last = machine-last sys b s f known all stay back known' t who.open_unit who.start who.is_open who.runs works untaken verb.Drop l.asks tt (λ e. absurd (cc e)) (upd-same s.units t None t refl) ended_is refl (ap (λ (x : Term). x.ending) (upd-same s.terms t _ t refl)) in
@@ -143,6 +144,7 @@ module _ (sys : Behaviour) (b : IsBehaviour sys) (s : State) (f : Fold) (known :
         outside None is = refl
         outside (Some m) is = absurd (cc is)
 
+    -- the machine follows a RESTART
     pub follows-restart : FollowsAll sys (effect sys s restart) (fold_on sys s restart f)
     follows-restart =
         let next_at_it = next-is sys b s f known all t u q w (f.reading.answers t) in

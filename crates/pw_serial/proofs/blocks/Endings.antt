@@ -42,6 +42,7 @@ suits-from sys t before [] rest a suits = subst (λ (p : List PathAnswer). Suits
 suits-from sys t before (first ∷ path) rest a suits =
     subst (λ (p : List PathAnswer). Suits sys t p (sys.ask t p) a) (append_assoc before (first ∷ []) path) (suits-from sys t (before ++ first ∷ []) path rest a suits.1)
 
+-- an answer on a path is one to the verb before it
 pub suits-at : (sys : Behaviour) (t : ℕ) (path rest : List PathAnswer) (a : PathAnswer) → IsPath sys t (path ++ a ∷ rest) → Suits sys t path (sys.ask t path) a
 suits-at sys t path rest a is_path = suits-from sys t [] path rest a is_path.suits
 
@@ -50,6 +51,7 @@ pub left-idle : (sys : Behaviour) (t : ℕ) (files : ℕ → List (List ℕ)) (j
 left-idle sys t files j None single idle = refl
 left-idle sys t files j (Some u) single idle = ap (λ (r : Option (List PathAnswer)). left_in sys t files j r single) idle
 
+-- an attempt that is left is over in the machine
 pub left-running : (sys : Behaviour) (t : ℕ) (files : ℕ → List (List ℕ)) (j : ℕ) (unit : Option OpenUnit) (single : Single) (u : OpenUnit) (q : List PathAnswer) → unit ≡ Some u → u.running ≡ Some q
     → left_term sys t files j unit single ≡ single_behind Left (attempt sys t single.path files single.restarts j) single
 left-running sys t files j unit single u q is runs =

@@ -17,6 +17,7 @@ use Rattle.pw_runs.proofs.induction.Runs.{carried, carried_from}
 use Rattle.pw_runs.proofs.induction.Views.{view_of}
 use Rattle.pw_attempts.specs.Answers.{answers_after, answers_from}
 
+-- the reading, the frontier of each terminal, the blocks and the refreshes so far
 pub record Fold : Type 0 where
   pub reading : Reading
   pub frontier : ℕ → List PathAnswer
@@ -46,6 +47,7 @@ module _ (sys : Behaviour) where
   fold-frontier-from s f t [] = refl
   fold-frontier-from s f t (entry ∷ log) = fold-frontier-from (effect sys s entry) (fold_on sys s entry f) t log
 
+  -- its frontiers are those of the log
   pub fold-frontier : (t : ℕ) (log : List Event) → (fold_after sys log).frontier t ≡ frontier_after sys t log
   fold-frontier t log = fold-frontier-from (starting sys) fold_starts t log
 
@@ -53,9 +55,11 @@ module _ (sys : Behaviour) where
   fold-answers-from s f [] = refl
   fold-answers-from s f (entry ∷ log) = fold-answers-from (effect sys s entry) (fold_on sys s entry f) log
 
+  -- its answers are those of the log
   pub fold-answers : (log : List Event) → (fold_after sys log).reading.answers ≡ answers_after sys log
   fold-answers log = fold-answers-from (starting sys) fold_starts log
 
+  -- its blocks behind more entries
   pub fold-order-from : (s : State) (f : Fold) (log : List Event) → (carried_from sys (fold_on sys) s f log).order ≡ f.order ++ entry_blocks_from sys s f.reading log
   fold-order-from s f [] = sym (append-nil f.order)
   fold-order-from s f (entry ∷ log) =
@@ -80,6 +84,7 @@ module _ (sys : Behaviour) where
       fold-shown-from (effect sys s entry) (fold_on sys s entry f) log
       ∙ append_assoc f.shown (refresh_of sys s entry) (refreshes_from sys (effect sys s entry) log)
 
+  -- its refreshes are those of the log
   pub fold-shown : (log : List Event) → (fold_after sys log).shown ≡ refreshes sys log
   fold-shown log = fold-shown-from (starting sys) fold_starts log
 
@@ -88,6 +93,7 @@ module _ (sys : Behaviour) where
   run_blocks-append machine [] more = refl
   run_blocks-append machine (block ∷ order) more = run_blocks-append (run_block sys machine block) order more
 
+  -- an order in two parts is legal where each part is
   pub serial-append : (machine : Machine) (order more : List Block) → IsSerialFrom sys machine order → IsSerialFrom sys (run_blocks sys machine order) more
       → IsSerialFrom sys machine (order ++ more)
   serial-append machine [] more serial rest = rest

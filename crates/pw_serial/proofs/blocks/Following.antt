@@ -17,6 +17,7 @@ abbrev pub attempt_refreshes : Behaviour → ℕ → (ℕ → List (List ℕ)) �
 attempt_refreshes sys t files j r None = []
 attempt_refreshes sys t files j r (Some start) = (attempt sys t start files r j).refreshes
 
+-- the same of an open unit, if there is one
 abbrev pub running_refreshes : Behaviour → ℕ → (ℕ → List (List ℕ)) → ℕ → Option OpenUnit → List Refresh
 running_refreshes sys t files j None = []
 running_refreshes sys t files j (Some unit) = attempt_refreshes sys t files j unit.restarts unit.running

@@ -29,6 +29,7 @@ in-own t (y ∷ list) x own (inr there) = by (y.terminal == t) (in-own t list x 
     by true rest = inr rest
     by false rest = rest
 
+-- refreshes of one terminal with equal numbers have equal images
 pub equal-numbers-equal-images : (sys : Behaviour) → IsBehaviour sys → (log : List Event) → IsRun sys log → (one other : Refresh)
     → Contains (refreshes sys log) one → Contains (refreshes sys log) other → one.terminal ≡ other.terminal
     → same_number one other ≡ true → one.image ≡ other.image

@@ -42,6 +42,7 @@ served-quiet : (served : Served) (at : Attempt) → (attempt_with_served served 
 served-quiet (Reply reply files) at = refl
 served-quiet (Fault x) at = refl
 
+-- a verb that shows nothing leaves the refreshes of an attempt
 pub verb-quiet : (sys : Behaviour) (t r : ℕ) (files : ℕ → List (List ℕ)) (at : Attempt) (v : Verb) → v ≢ verb.Show → (answer_verb sys t r files v at).refreshes ≡ at.refreshes
 verb-quiet sys t r files at verb.Show other = absurd (other refl)
 verb-quiet sys t r files at (verb.Accept screen) other = refl
@@ -86,12 +87,15 @@ module _ (sys : Behaviour) (b : IsBehaviour sys) (s : State) (f : Fold) (known :
     own-term : next.terms t ≡ record (s.terms t) { path = path ++ a ∷ [] }
     own-term = ap (λ (x : ℕ → Term). x t) terms ∙ upd-same s.terms t _ t refl
 
+    -- the terminal's path has the answer
     pub new-path : path_of next t ≡ path ++ a ∷ []
     new-path = ap (λ (x : Term). x.path) own-term
 
+    -- its ending is as it was
     pub ending-same : (next.terms t).ending ≡ (s.terms t).ending
     ending-same = ap (λ (x : Term). x.ending) own-term
 
+    -- units are as they were
     pub units-same : next.units t ≡ s.units t
     units-same = ap (λ (u : ℕ → Option OpenUnit). u t) units
 
@@ -210,6 +214,7 @@ module _ (sys : Behaviour) (b : IsBehaviour sys) (s : State) (f : Fold) (known :
     only-entry (Entry n) forced = ap (λ (m : ℕ). Entry m) (forced ∙ sym l.next)
     only-entry a forced = absurd forced
 
+    -- the machine follows a KEY
     pub follows-key : FollowsAll sys (effect sys s key) (fold_on sys s key f)
     follows-key = by (where-of (s.units t) (ok.stands (rw l.can.paired tt) (ap is_takeover l.can.calm)))
       where
@@ -282,6 +287,7 @@ module _ (sys : Behaviour) (b : IsBehaviour sys) (s : State) (f : Fold) (known :
   begun-parts n birth p None = (refl, refl)
   begun-parts n birth p (Some u) = (refl, refl)
 
+  -- the machine follows a BEGIN
   pub follows-begin : (t n r : ℕ) → LegalBegin sys s t n r → FollowsAll sys (effect sys s (event.Begin t n r)) (fold_on sys s (event.Begin t n r) f)
   follows-begin t n r l =
       let entry : Event = event.Begin t n r in

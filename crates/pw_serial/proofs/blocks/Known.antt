@@ -37,6 +37,7 @@ pub record Known (sys : Behaviour) (b : IsBehaviour sys) (s : State) (f : Fold) 
   pub alone : AllAlone sys b s f.reading.answers
   pub frontiers : (t : ℕ) → t < sys.terminals → FrontierAt sys t (view_of sys s t) (f.frontier t)
 
+-- all of it is known behind every run
 pub known : (sys : Behaviour) (b : IsBehaviour sys) (log : List Event) → IsRun sys log → Known sys b (after sys log) (fold_after sys log)
 known sys b log run = record {
   inv = kept sys b log run;
@@ -69,6 +70,7 @@ committed-stay sys b s i ok entry none fits =
 -- where a unit of other terminals commits, a running attempt is the same one on the records behind it
 module _ (sys : Behaviour) (b : IsBehaviour sys) (s after_it : State) (answers : ℕ → ℕ) (ok : RecordsOk sys s.files s.before s.locks) (locks : LocksOk s.units s.locks) (t : ℕ) (whose : ℕ → Bool) (spared : whose t ≡ false)
     (files : after_it.files ≡ s.files) (before : after_it.before ≡ filter (λ image. not (whose image.terminal)) s.before) (are : AreFiles sys (committed_files sys after_it)) where
+  -- committed records that keep an attempt alone keep its refreshes
   pub same-refreshes : (unit : OpenUnit) (q : List PathAnswer) → AloneAt sys b s answers t unit q
       → (attempt sys t q (committed_files sys after_it) unit.restarts (answers t)).refreshes ≡ (attempt sys t q (committed_files sys s) unit.restarts (answers t)).refreshes
   same-refreshes unit q at =

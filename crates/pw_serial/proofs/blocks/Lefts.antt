@@ -17,10 +17,12 @@ abbrev pub left_in : Behaviour → ℕ → (ℕ → List (List ℕ)) → ℕ →
 left_in sys t files j None single = single
 left_in sys t files j (Some start) single = single_behind Left (attempt sys t single.path files single.restarts j) single
 
+-- the same of an open unit, if there is one
 abbrev pub left_term : Behaviour → ℕ → (ℕ → List (List ℕ)) → ℕ → Option OpenUnit → Single → Single
 left_term sys t files j None single = single
 left_term sys t files j (Some unit) single = left_in sys t files j unit.running single
 
+-- such a block leaves the ending
 pub left-ending : (sys : Behaviour) (t : ℕ) (files : ℕ → List (List ℕ)) (j : ℕ) (unit : Option OpenUnit) (single : Single) → (left_term sys t files j unit single).ending ≡ single.ending
 left-ending sys t files j None single = refl
 left-ending sys t files j (Some u) single = by u.running
@@ -61,6 +63,7 @@ module _ (sys : Behaviour) where
     pub own : (run_blocks sys m more).terms t ≡ left_term sys t m.files j unit (m.terms t)
     pub others : (o : ℕ) → o ≢ t → (run_blocks sys m more).terms o ≡ m.terms o
 
+  -- one attempt is left
   pub left-one : (m : Machine) (t j : ℕ) (unit : Option OpenUnit) → ((u : OpenUnit) (q : List PathAnswer) → unit ≡ Some u → u.running ≡ Some q → LegalAttempted sys m t u.number Left j)
       → LeftOne m t j unit (left_block t j unit)
   left-one m t j None legal = record { serial = tt; files = refl; own = refl; others = λ o differ. refl }
@@ -125,6 +128,7 @@ module _ (sys : Behaviour) where
           above = λ t high. ap (λ (x : Machine). x.terms t) run ∙ (one.others t (λ at. absurd (omega (arith, high, at))) ∙ all.above t (omega (arith, high)));
         }
 
+    -- all of them are
     pub left-all : (n : ℕ) → LeftAll s reading m whose n
     left-all zero = record { serial = tt; files = refl; own = λ t below. absurd (omega (arith, below)); spared = λ t other. refl; above = λ t high. refl }
     left-all (suc n) = one-more n (left-all n) (whose n) refl

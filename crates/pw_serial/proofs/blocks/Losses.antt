@@ -48,6 +48,7 @@ module _ (sys : Behaviour) (b : IsBehaviour sys) (s : State) (f : Fold) (known :
     abbrev now : Fold
     now = fold_on sys s entry f
 
+    -- a terminal that goes on no more is followed by its ending and refreshes alone
     pub over-follows : (t : ℕ) → t < sys.terminals → (single : Single) → single.ending ≡ (next.terms t).ending
         → ((next.terms t).ending ≡ None → next.modes (sys.pair_of t) ≢ Gone → ⊥)
         → attempt_of (next.units t) ≡ None → refreshes_of t now.shown ≡ refreshes_of t f.shown

@@ -28,6 +28,7 @@ refreshes-more t shown r own =
     filter-append (λ (x : Refresh). x.terminal == t) shown (r ∷ [])
     ∙ ap (λ (l : List Refresh). refreshes_of t shown ++ l) (cond-true (r.terminal == t) (r ∷ []) [] (eq-eqb r.terminal t own))
 
+-- a refresh of another terminal changes nothing
 pub refreshes-other : (t : ℕ) (shown : List Refresh) (r : Refresh) → (r.terminal ≡ t → ⊥) → refreshes_of t (shown ++ r ∷ []) ≡ refreshes_of t shown
 refreshes-other t shown r other =
     filter-append (λ (x : Refresh). x.terminal == t) shown (r ∷ [])

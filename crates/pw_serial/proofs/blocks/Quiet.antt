@@ -37,6 +37,7 @@ pub put-there : (modes : ℕ → Mode) (p q : ℕ) (mode : Mode) → modes p ≢
 put-there modes p q mode there =
     upd_elim modes p mode q (λ (m : Mode). m ≢ Gone → modes q ≢ Gone) (λ same _ lose_pair. there (ap modes (sym same) ∙ lose_pair)) (λ _ stays. stays)
 
+-- a pair that is not lost was not lost before it settled
 pub settled-there : (sys : Behaviour) (s : State) (p q : ℕ) → (settle_mode sys p s).modes q ≢ Gone → s.modes q ≢ Gone
 settled-there sys s p q =
     upd_elim s.modes p _ q (λ (m : Mode). m ≢ Gone → s.modes q ≢ Gone)
@@ -49,6 +50,7 @@ pub data Outcome (sys : Behaviour) (s : State) (p : ℕ) (x : State) : Type 0 wh
   is_lost : (primary : Bool) → Breaks primary (s.modes p) → x ≡ lose_pair sys p s → Outcome sys s p x
   is_alone : HasMessages (s.modes p) → x ≡ lose_backup sys p s → Outcome sys s p x
 
+-- each failure of a member has one
 pub outcome : (sys : Behaviour) (s : State) (p : ℕ) (primary : Bool) → Outcome sys s p (do_fail_tcp sys p primary s)
 outcome sys s p primary =
     fail-cases sys s (Outcome sys s p) p (nothing refl) (λ paired. is_down paired refl) (λ which breaks. is_lost which breaks refl) (λ has. is_alone has refl) primary
@@ -68,26 +70,33 @@ none-left sys s reading p mode (inr same) =
 
 module _ (sys : Behaviour) (b : IsBehaviour sys) (s : State) (f : Fold) (known : Known sys b s f) (all : FollowsAll sys s f)
     (stay : (entry : Event) → commits_at s entry ≡ false → Fits sys s entry → committed_files sys (effect sys s entry) ≡ committed_files sys s) where
+  -- the machine follows a CHECK START
   pub follows-check-start : (t : ℕ) → Fits sys s (event.CheckStart t) → FollowsAll sys (effect sys s (event.CheckStart t)) (fold_on sys s (event.CheckStart t) f)
   follows-check-start t l = still-follows sys b s f (event.CheckStart t) known refl refl refl (stay (event.CheckStart t) refl l) (λ o. refl) (λ o. refl) (λ o there. there) refl all
 
+  -- the machine follows a CHECK END
   pub follows-check-end : (t : ℕ) → Fits sys s (event.CheckEnd t) → FollowsAll sys (effect sys s (event.CheckEnd t)) (fold_on sys s (event.CheckEnd t) f)
   follows-check-end t l = still-follows sys b s f (event.CheckEnd t) known refl refl refl (stay (event.CheckEnd t) refl l) (λ o. refl) (λ o. refl) (λ o there. there) refl all
 
+  -- the machine follows a CHECK COPY
   pub follows-check-copy : (t : ℕ) → Fits sys s (event.CheckCopy t) → FollowsAll sys (effect sys s (event.CheckCopy t)) (fold_on sys s (event.CheckCopy t) f)
   follows-check-copy t l = still-follows sys b s f (event.CheckCopy t) known refl refl refl (stay (event.CheckCopy t) refl l) (λ o. refl) (λ o. refl) (λ o there. there) refl all
 
+  -- the machine follows an APPLIED
   pub follows-applied : (t : ℕ) → Fits sys s (event.Applied t) → FollowsAll sys (effect sys s (event.Applied t)) (fold_on sys s (event.Applied t) f)
   follows-applied t l =
       still-follows sys b s f (event.Applied t) known refl refl refl (stay (event.Applied t) refl l) (λ o. refl) (λ o. refl)
       (λ o. settled-there sys (record s { memory = upd s.memory t (with_message (s.flight t) (s.memory t)); flight = upd s.flight t None }) (sys.pair_of t) (sys.pair_of o)) refl all
 
+  -- the machine follows a SEND
   pub follows-send : (t n c : ℕ) → Fits sys s (event.Send t n c) → FollowsAll sys (effect sys s (event.Send t n c)) (fold_on sys s (event.Send t n c) f)
   follows-send t n c l = still-follows sys b s f (event.Send t n c) known refl refl refl (stay (event.Send t n c) refl l) (λ o. refl) (λ o. refl) (λ o there. there) refl all
 
+  -- the machine follows a TAKE
   pub follows-take : (c i t : ℕ) → Fits sys s (event.Take c i t) → FollowsAll sys (effect sys s (event.Take c i t)) (fold_on sys s (event.Take c i t) f)
   follows-take c i t l = still-follows sys b s f (event.Take c i t) known refl refl refl (stay (event.Take c i t) refl l) (λ o. refl) (λ o. refl) (λ o there. there) refl all
 
+  -- the machine follows a FILE
   pub follows-file : (c i : ℕ) (op : FileOp) (mode : LockMode) (file status : ℕ) → Fits sys s (event.File c i op mode file status)
       → FollowsAll sys (effect sys s (event.File c i op mode file status)) (fold_on sys s (event.File c i op mode file status) f)
   follows-file c i op mode file status l =
@@ -103,6 +112,7 @@ module _ (sys : Behaviour) (b : IsBehaviour sys) (s : State) (f : Fold) (known :
     modes : x.modes ≡ s.modes
     units : x.units ≡ s.units
 
+  -- the machine follows a FAIL SERVER
   pub follows-fail-server : (c i k : ℕ) → Fits sys s (event.FailServer c i k) → FollowsAll sys (effect sys s (event.FailServer c i k)) (fold_on sys s (event.FailServer c i k) f)
   follows-fail-server c i k l =
       let left = process-cases sys s Kept c i k (record { ending = λ o. refl; path = λ o. refl; modes = refl; units = refl })
@@ -115,6 +125,7 @@ module _ (sys : Behaviour) (b : IsBehaviour sys) (s : State) (f : Fold) (known :
       still-follows sys b s f (event.FailServer c i k) known refl refl refl (stay (event.FailServer c i k) refl l) left.ending left.path
       (λ o. subst (λ (m : ℕ → Mode). m (sys.pair_of o) ≢ Gone → s.modes (sys.pair_of o) ≢ Gone) (sym left.modes) (λ there. there)) left.units all
 
+  -- the machine follows a RAISE
   pub follows-raise : (p : ℕ) → Fits sys s (event.Raise p) → FollowsAll sys (effect sys s (event.Raise p)) (fold_on sys s (event.Raise p) f)
   follows-raise p l =
       still-follows sys b s f (event.Raise p) known refl refl refl (stay (event.Raise p) refl l) (λ o. refl) (λ o. refl)

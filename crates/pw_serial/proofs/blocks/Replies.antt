@@ -191,6 +191,7 @@ module _ (sys : Behaviour) (b : IsBehaviour sys) (s : State) (f : Fold) (known :
         (over-follows-unit sys b s f known all stay entry known' t out.unit out.start out.is_open out.runs out.working untaken (verb.Send c l.job.request.message) out.asks tt (λ e. absurd (cc e)) no-unit-now ended_is modes going
         new-path (shown-none sys b s f entry refl t)))
 
+  -- the machine follows it
   pub follows-reply : Known sys b next now → FollowsAll sys next now
   follows-reply known' = by (replying sys s c p t fault l)
     where

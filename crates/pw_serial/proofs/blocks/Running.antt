@@ -23,6 +23,7 @@ pub running-idle : (sys : Behaviour) (t : ℕ) (files : ℕ → List (List ℕ))
 running-idle sys t files j None idle = refl
 running-idle sys t files j (Some u) idle = ap (attempt_refreshes sys t files j u.restarts) idle
 
+-- the refreshes of a running attempt are those of the attempt alone
 pub running-is : (sys : Behaviour) (t : ℕ) (files : ℕ → List (List ℕ)) (j : ℕ) (unit : Option OpenUnit) (u : OpenUnit) (q : List PathAnswer) → unit ≡ Some u → u.running ≡ Some q
     → running_refreshes sys t files j unit ≡ (attempt sys t q files u.restarts j).refreshes
 running-is sys t files j unit u q is runs = ap (running_refreshes sys t files j) is ∙ ap (attempt_refreshes sys t files j u.restarts) runs
@@ -43,6 +44,7 @@ module _ (sys : Behaviour) (b : IsBehaviour sys) (s : State) (f : Fold) (known :
     pub restarts_is : (machine.terms t).restarts ≡ u.restarts
     pub number_is : u.number ≡ unit_number (machine.terms t).path
 
+  -- a running attempt has all of this
   pub at-work : (t : ℕ) (u : OpenUnit) (q : List PathAnswer) → s.units t ≡ Some u → u.running ≡ Some q → AtWork t u q
   at-work t u q is runs =
       let here : t < sys.terminals = known.inv.known t u is in
@@ -68,6 +70,7 @@ module _ (sys : Behaviour) (b : IsBehaviour sys) (s : State) (f : Fold) (known :
       ap (λ (p : List PathAnswer). attempt sys t p machine.files (machine.terms t).restarts j) w.path_is
       ∙ (ap (λ (x : ℕ → List (List ℕ)). attempt sys t q x (machine.terms t).restarts j) all.files ∙ ap (λ (r : ℕ). attempt sys t q (committed_files sys s) r j) w.restarts_is)
 
+  -- what is an attempt on the committed records is one on the files of the machine
   pub attempt-is : (t : ℕ) (u : OpenUnit) (q : List PathAnswer) → (w : AtWork t u q) → (j : ℕ) → IsAttempt sys t q (committed_files sys s) u.restarts j
       → IsAttempt sys t (machine.terms t).path machine.files (machine.terms t).restarts j
   attempt-is t u q w j is =

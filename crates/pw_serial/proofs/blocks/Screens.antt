@@ -41,11 +41,13 @@ out-is s f t idle longer =
     cond-true (is_idle s t && nat_lt (f.reading.longest t) (length (path_of s t) + 1)) (Out t ∷ []) []
     (and_from (is_idle s t) (nat_lt (f.reading.longest t) (length (path_of s t) + 1)) (ap is_none idle) (lt-ltb (f.reading.longest t) (length (path_of s t) + 1) longer))
 
+-- a path that is no longer reads as nothing
 pub out-short : (s : State) (f : Fold) (t : ℕ) → length (path_of s t) + 1 ≤ f.reading.longest t → out_block s f.reading t ≡ []
 out-short s f t short =
     cond-false (is_idle s t && nat_lt (f.reading.longest t) (length (path_of s t) + 1)) (Out t ∷ []) []
     (and_right (is_idle s t) (nat_lt (f.reading.longest t) (length (path_of s t) + 1)) (le-ltb (f.reading.longest t) (length (path_of s t) + 1) short))
 
+-- nor does one while an attempt runs
 pub out-running : (s : State) (f : Fold) (t : ℕ) (q : List PathAnswer) → attempt_of (s.units t) ≡ Some q → out_block s f.reading t ≡ []
 out-running s f t q runs =
     cond-false (is_idle s t && nat_lt (f.reading.longest t) (length (path_of s t) + 1)) (Out t ∷ []) []
@@ -264,6 +266,7 @@ module _ (sys : Behaviour) (b : IsBehaviour sys) (s : State) (f : Fold) (known :
   only-shown Shown forced = refl
   only-shown a forced = absurd forced
 
+  -- the machine follows a SHOW
   pub follows-show : FollowsAll sys next now
   follows-show = by (where-of (s.units t) (ok.stands (rw l.can.paired tt) (ap is_takeover l.can.calm)))
     where

@@ -118,6 +118,7 @@ module _ (sys : Behaviour) (b : IsBehaviour sys) where
     started : (t : ℕ) → (t < sys.terminals) ⊎ (¬ (t < sys.terminals))
     started t = ⊎_elim (λ here. inl here) (λ high. inr (λ here. absurd (omega (arith, here, high)))) (cases_lt t sys.terminals)
 
+    -- the run is serializable
     pub is-serializable : IsSerializable sys log
     is-serializable = record {
       legal = subst (IsSerial sys) (sym (fold-blocks sys log)) (serial-append sys (beginning sys) f.order (left_blocks s f.reading (λ t. true) sys.terminals) all.serial some.serial);

@@ -54,6 +54,7 @@ module _ (sys : Behaviour) (b : IsBehaviour sys) (s : State) (f : Fold) (known :
   abbrev so_far : ℕ → List Refresh
   so_far t = refreshes_so_far sys s f t (machine.terms t)
 
+  -- the refreshes so far, with those of the running attempt
   pub so-running : (t : ℕ) (u : OpenUnit) (q : List PathAnswer) → s.units t ≡ Some u → u.running ≡ Some q
       → so_far t ≡ (machine.terms t).refreshes ++ (attempt sys t q (committed_files sys s) u.restarts (f.reading.answers t)).refreshes
   so-running t u q is runs = ap (λ (l : List Refresh). (machine.terms t).refreshes ++ l) (running-is sys t (committed_files sys s) (f.reading.answers t) (s.units t) u q is runs)
@@ -118,6 +119,7 @@ module _ (sys : Behaviour) (b : IsBehaviour sys) (s : State) (f : Fold) (known :
     pub machine-last : next_attempt sys machine t (j + 1) ≡ last
     machine-last = ap (next_attempt sys machine t) one ∙ next-is sys b s f known all t u q w (suc j)
 
+    -- the block of the whole attempt is legal
     pub legal-last : (n : ℕ) (how : How) → n ≡ unit_number (path_of s t) → MayBe sys t (machine.terms t) last how → IsSerialFrom sys machine (Attempted t n how (j + 1) ∷ [])
     legal-last n how same may_be = (
       subst (λ (m : ℕ). LegalAttempted sys machine t n how m) (sym one)
@@ -150,6 +152,7 @@ module _ (sys : Behaviour) (b : IsBehaviour sys) (s : State) (f : Fold) (known :
     abbrev taken : Single
     taken = record (machine.terms t) { path = last.path; restarts = 0; refreshes = (machine.terms t).refreshes ++ last.refreshes }
 
+    -- the machine follows the terminal whose unit is over
     pub over-follows-unit : (path_of next t ≡ last.path) → refreshes_of t now.shown ≡ refreshes_of t f.shown → Follows sys next now t taken
     over-follows-unit same shown =
         plain-follows sys b s f known all entry t w.here taken ((all.terms t w.here).ending ∙ sym going)
@@ -209,6 +212,7 @@ module _ (sys : Behaviour) (b : IsBehaviour sys) (s : State) (f : Fold) (known :
     ended_is : ((effect sys s commit).ended t).number ≡ unit_number (path_of s t)
     ended_is = ap (λ (x : LastEnded). x.number) (upd-same s.ended t _ t refl) ∙ l.number
 
+    -- the machine follows a COMMIT
     pub follows-commit : FollowsAll sys (effect sys s commit) (fold_on sys s commit f)
     follows-commit =
         let is_last = machine-last commit known' t who.open_unit who.start who.is_open who.runs works untaken verb.End l.asks tt (λ e. absurd (cc e)) (upd-same s.units t None t refl) ended_is refl (ap (λ (x : Term). x.ending) (upd-same s.terms t _ t refl)) in

@@ -32,6 +32,7 @@ abbrev pub StandsIn : Behaviour → ℕ → ℕ → Option (List PathAnswer) →
 StandsIn sys t r None path frontier = path ≡ frontier
 StandsIn sys t r (Some start) path frontier = RunsFrom sys t r frontier path
 
+-- the same of an open unit, if there is one
 abbrev pub Stands : Behaviour → ℕ → LastEnded → Option OpenUnit → List PathAnswer → List PathAnswer → Type 0
 Stands sys t last None path frontier = Leads sys t last path frontier
 Stands sys t last (Some unit) path frontier = StandsIn sys t unit.restarts unit.running path frontier

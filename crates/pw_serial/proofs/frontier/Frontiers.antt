@@ -43,6 +43,7 @@ module _ (sys : Behaviour) (b : IsBehaviour sys) (t : ℕ) (v w : View) (frontie
   able-path : Able sys t v → IsPath sys t (path_in v)
   able-path able = path_ok-is _ v.unit (term.path_ok able.going_on (rw able.paired tt) (ap is_takeover able.calm))
 
+  -- each move keeps it
   pub frontier-kept : Moves sys t v w → FrontierAt sys t w (frontier_behind v w frontier)
   frontier-kept (move.stays is) = at v is (λ live there. put v v frontier (ok live there))
   frontier-kept (move.settles lacks has is) = at _ is (λ live there. settles-kept sys b t v frontier (ok live (raised-there v.mode lacks there)) term lacks)

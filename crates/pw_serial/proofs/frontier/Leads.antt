@@ -52,6 +52,7 @@ pub data Next (sys : Behaviour) (t : ℕ) (last : LastEnded) (path frontier : Li
   is_there : path ≡ frontier → Next sys t last path frontier
   goes_on : (a : PathAnswer) → IsForced last path (sys.ask t path) a → Leads sys t last (path ++ a ∷ []) frontier → Next sys t last path frontier
 
+-- a path that leads has one
 pub next-of : {sys : Behaviour} {t : ℕ} {last : LastEnded} {path frontier : List PathAnswer} → Leads sys t last path frontier → Next sys t last path frontier
 next-of {sys = sys} {t = t} {last = last} {path = path} {frontier = frontier} leads = by leads.rest leads.whole leads.forced
   where
@@ -74,6 +75,7 @@ begins-none last path (verb.Fault x) a begins new forced = absurd begins
 begins-none last path (verb.File call) a begins new forced = absurd begins
 begins-none last path (verb.Reply reply) a begins new forced = absurd begins
 
+-- a path that leads and begins a unit that has not ended is the frontier
 pub leads-whole : {sys : Behaviour} {t : ℕ} {last : LastEnded} {path frontier : List PathAnswer} → Leads sys t last path frontier
     → BeginsUnit (sys.ask t path) path → last.number ≢ unit_number path → path ≡ frontier
 leads-whole {sys = sys} {t = t} {last = last} {path = path} {frontier = frontier} leads begins new = by (next-of leads)

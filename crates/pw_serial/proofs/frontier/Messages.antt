@@ -49,6 +49,7 @@ module _ (sys : Behaviour) (b : IsBehaviour sys) (t : ℕ) (v : View) (frontier 
     abbrev sent : View
     sent = record v { flight = Some message }
 
+    -- a message that is sent keeps it
     pub sent-kept : FrontierOk sys t sent (frontier_behind v sent frontier)
     sent-kept = put v sent frontier (record {
       base = ok.base;
@@ -200,6 +201,7 @@ module _ (sys : Behaviour) (b : IsBehaviour sys) (t : ℕ) (v : View) (frontier 
     taken-kept (Copy n p) is f flies = start-taken (Copy n p) n p refl flies.0 flies.1
     taken-kept (End p) is f flies = end-taken p f.0 f.1 flies
 
+    -- a message that is taken in keeps it
     pub applied-kept : (message : Message) → v.flight ≡ Some message → FrontierOk sys t (taken message) (frontier_behind v (taken message) frontier)
     applied-kept message is = put v (taken message) frontier (taken-kept message is (term.flight_ok message is) (ok.flies message is))
 
@@ -289,6 +291,7 @@ module _ (sys : Behaviour) (b : IsBehaviour sys) (t : ℕ) (v : View) (frontier 
             and_from (u.number == held.unit) (is_some u.running) (eq-eqb u.number held.unit (sym (term.memory_unit held u is_held is))) (ap is_some runs) in
             absurd (true≢false (sym (ap is_takeover (cond-true (runs_unit held.unit (Some u)) (Some (cause.Takeover p)) v.term.pending here)) ∙ untaken))
 
+    -- a takeover keeps it
     pub taken-over-kept : FrontierOk sys t after (frontier_behind v after frontier)
     taken-over-kept = put v after frontier (record {
       base = ok.base;

@@ -28,6 +28,7 @@ stays-put v w frontier short = by (attempt_of w.unit) refl
         cond-false (is_none (attempt_of w.unit) && nat_lt (length frontier) (length (path_in w))) (path_in w) frontier
         (and_left (is_none (attempt_of w.unit)) (nat_lt (length frontier) (length (path_in w))) (ap is_none runs))
 
+-- an entry behind which the frontier is as it was
 pub put : {sys : Behaviour} {t : ℕ} (v w : View) (frontier : List PathAnswer) → FrontierOk sys t w frontier → FrontierOk sys t w (frontier_behind v w frontier)
 put {sys = sys} {t = t} v w frontier ok = subst (FrontierOk sys t w) (sym (stays-put v w frontier ok.short)) ok
 
@@ -37,10 +38,12 @@ grows v w frontier idle longer =
     cond-true (is_none (attempt_of w.unit) && nat_lt (length frontier) (length (path_in w))) (path_in w) frontier
     (and_from (is_none (attempt_of w.unit)) (nat_lt (length frontier) (length (path_in w))) (ap is_none idle) (lt-ltb (length frontier) (length (path_in w)) longer))
 
+-- the frontier grows to a longer path
 pub grown : {sys : Behaviour} {t : ℕ} (v w : View) (frontier : List PathAnswer) → attempt_of w.unit ≡ None → length frontier < length (path_in w)
     → FrontierOk sys t w (path_in w) → FrontierOk sys t w (frontier_behind v w frontier)
 grown {sys = sys} {t = t} v w frontier idle longer ok = subst (FrontierOk sys t w) (sym (grows v w frontier idle longer)) ok
 
+-- a path with one answer more is longer
 pub one-longer : (path : List PathAnswer) (a : PathAnswer) → length path < length (path ++ a ∷ [])
 one-longer path a = let sum = length-append path (a ∷ []) in omega (arith, sum)
 
@@ -56,11 +59,13 @@ where-in : {sys : Behaviour} {t : ℕ} {last : LastEnded} {path frontier : List 
 where-in unit None is at = waiting unit refl is at
 where-in unit (Some start) is at = running unit start refl is at
 
+-- a terminal stands in one of these places
 pub where-of : {sys : Behaviour} {t : ℕ} {last : LastEnded} {path frontier : List PathAnswer} (unit : Option OpenUnit) → Stands sys t last unit path frontier
     → Where sys t last unit path frontier
 where-of None at = closed refl at
 where-of (Some unit) at = where-in unit unit.running refl at
 
+-- and stands where one of them holds
 pub to-stand : {sys : Behaviour} {t : ℕ} {last : LastEnded} {unit : Option OpenUnit} {path frontier : List PathAnswer} → Where sys t last unit path frontier
     → Stands sys t last unit path frontier
 to-stand {sys = sys} {t = t} {last = last} {path = path} {frontier = frontier} (closed none leads) =
@@ -86,12 +91,14 @@ ends-moved other none ends = record {
   which = ⊎_elim (λ earlier. inl earlier) (λ now. absurd (none now.1.answer now.1.closes)) ends.which;
 }
 
+-- a message in flight stays as it should be where the path moves
 pub flies-moved : (sys : Behaviour) (t : ℕ) (last : LastEnded) (unit : Option OpenUnit) (memory : Option BackupCopy) (frontier path other : List PathAnswer) (message : Message)
     → NoClose sys t path → IsFlying sys t last unit memory frontier path message → IsFlying sys t last unit memory frontier other message
 flies-moved sys t last unit memory frontier path other (Start n p) none flies = tt
 flies-moved sys t last unit memory frontier path other (Copy n p) none flies = flies
 flies-moved sys t last unit memory frontier path other (End p) none flies = record { open_unit = flies.open_unit; is_open = flies.is_open; ends = ends-moved other none flies.ends; later = flies.later }
 
+-- a verb that does not close ends no transaction
 pub none-of-verb : (sys : Behaviour) (t : ℕ) (path : List PathAnswer) (v : Verb) → sys.ask t path ≡ v → closing_answer v ≡ None → NoClose sys t path
 none-of-verb sys t path v asks none a closes = absurd (let same = ap closing_answer asks in cc (same, none, closes))
 
@@ -109,6 +116,7 @@ raised-works Paired lacks works = tt
 raised-works Down lacks works = works
 raised-works Gone lacks works = works
 
+-- a pair that has messages had them before it settled
 pub raised-has : (mode : Mode) (lacks : Bool) → HasMessages (settled_mode mode lacks) → HasMessages mode
 raised-has Alone lacks has = has
 raised-has Raising lacks has = tt
@@ -116,6 +124,7 @@ raised-has Paired lacks has = tt
 raised-has Down lacks has = has
 raised-has Gone lacks has = has
 
+-- a pair that is Alone was so
 pub raised-alone : (mode : Mode) (lacks : Bool) → settled_mode mode lacks ≡ Alone → mode ≡ Alone
 raised-alone Alone lacks is = refl
 raised-alone Raising true is = is
@@ -124,9 +133,11 @@ raised-alone Paired lacks is = is
 raised-alone Down lacks is = is
 raised-alone Gone lacks is = is
 
+-- a pair that is not lost was not
 pub raised-there : (mode : Mode) (lacks : Bool) → settled_mode mode lacks ≢ Gone → mode ≢ Gone
 raised-there mode lacks there gone = there (ap (λ (m : Mode). settled_mode m lacks) gone)
 
+-- a pair that has messages works
 pub messages-work : (mode : Mode) → HasMessages mode → IsWorking mode
 messages-work Raising has = tt
 messages-work Paired has = tt
@@ -134,6 +145,7 @@ messages-work Alone has = absurd has
 messages-work Down has = absurd has
 messages-work Gone has = absurd has
 
+-- a pair that works is not lost
 pub works-there : (mode : Mode) → IsWorking mode → mode ≢ Gone
 works-there mode works gone = subst IsWorking gone works
 

@@ -97,6 +97,7 @@ module _ (sys : Behaviour) (b : IsBehaviour sys) (t : ℕ) (v : View) (frontier 
       later = flies.later;
     }
 
+    -- a BEGIN keeps it
     pub begin-kept : FrontierOk sys t after (frontier_behind v after frontier)
     begin-kept =
         let parts = begun-parts (unit_number (path_in v)) birth (path_in v) v.unit in
@@ -199,6 +200,7 @@ module _ (sys : Behaviour) (b : IsBehaviour sys) (t : ℕ) (v : View) (frontier 
         let restarts = ap (λ (x : OpenUnit). x.restarts) one in
         ⊎_elim (λ earlier. absurd (omega (arith, same, below, earlier, restarts))) (λ now. let this = now.0 in absurd (omega (arith, same, below, this, restarts))) flies.ends.which
 
+    -- COMMIT and BACK keep it
     pub close-kept : FrontierOk sys t over_it (frontier_behind v over_it frontier)
     close-kept =
         unit-over who.open_unit who.start who.is_open who.runs a None
@@ -260,6 +262,7 @@ module _ (sys : Behaviour) (b : IsBehaviour sys) (t : ℕ) (v : View) (frontier 
     flies-served (Copy n p) f flies = (leads-served p (flies.1 w.unit w.is_open), λ u is. absurd (cc is))
     flies-served (End p) f flies = absurd (let asks = flies.ends.asks in let sent = from.1 in cc (asks, sent))
 
+    -- the reply of a unit that is one SEND keeps it
     pub serve-kept : FrontierOk sys t served (frontier_behind v served frontier)
     serve-kept =
         let stands = reply-outside reply (path_in v) outside in
@@ -307,6 +310,7 @@ module _ (sys : Behaviour) (b : IsBehaviour sys) (t : ℕ) (v : View) (frontier 
       later = flies.later;
     }
 
+    -- a RESTART keeps it
     pub restart-kept : FrontierOk sys t back (frontier_behind v back frontier)
     restart-kept = put v back frontier (record {
       base = record { rest = ok.base.rest; number = ok.base.number; begins = λ u is. ok.base.begins unit is_open; start = λ q now. absurd (cc now) };

@@ -109,6 +109,7 @@ module _ (sys : Behaviour) (b : IsBehaviour sys) (s : State) (f : Fold) (k : Kno
   changes (event.Raise p) l plain same = absurd (let now = sym (upd-same s.modes p _ p refl) ∙ ap (λ (x : State). x.modes p) same in let alone = l.alone in cc (now, alone))
   changes (event.End t e) l plain same = absurd (let now = sym (end-set t e l) ∙ ap (λ (x : State). (x.terms t).ending) same in let live = end-live t e l in cc (now, live))
 
+-- an entry that is no failure changes the state
 pub entry-changes : (sys : Behaviour) → IsBehaviour sys → (log : List Event) (entry : Event) → IsRun sys (log ++ entry ∷ []) → is_fail entry ≡ false
     → change sys (after sys log) entry ≢ after sys log
 entry-changes sys b log entry run plain =

@@ -53,11 +53,13 @@ one-end t n j =
     ap (λ (x : Bool). length (cond x (Attempted t n Committed j ∷ []) []))
     (and_from (t == t) (n == n && ends_unit Committed) (eq-eqb t t refl) (and_from (n == n) (ends_unit Committed) (eq-eqb n n refl) refl))
 
+-- a COMMIT has ended its unit exactly once
 pub commit-ended : (sys : Behaviour) → IsBehaviour sys → (before more : List Event) (t n : ℕ) → IsRun sys (before ++ event.Commit t n ∷ more)
     → HasEndedOnce sys (before ++ event.Commit t n ∷ more) t n
 commit-ended sys b before more t n run =
     has-ended sys b before more (event.Commit t n) t n run (one-end t n ((fold_after sys before).reading.answers t + 1))
 
+-- and so has the reply of a unit that is one SEND
 pub send-ended : (sys : Behaviour) → IsBehaviour sys → (before more : List Event) (c i t : ℕ) → IsRun sys (before ++ event.Reply c i t None ∷ more)
     → is_outside (path_of (after sys before) t) ≡ true
     → HasEndedOnce sys (before ++ event.Reply c i t None ∷ more) t (unit_number (path_of (after sys before) t))

@@ -43,6 +43,7 @@ stay-from sys b s i ok (entry ∷ more) run none =
     (λ first rest other is. none (entry ∷ first) rest other (ap (λ (l : List Event). entry ∷ l) is))
     ∙ committed-stay sys b s i ok entry (none [] more entry refl) run.0.fits
 
+-- the committed records stay while nothing commits
 pub records-stay : (sys : Behaviour) → IsBehaviour sys → (log more : List Event) → IsRun sys (log ++ more) → NoneCommits sys log more
     → (f : ℕ) → committed_files sys (after sys (log ++ more)) f ≡ committed_files sys (after sys log) f
 records-stay sys b log more run none f =

@@ -7,6 +7,7 @@ abbrev pub weight : Bool → ℕ
 weight true = 1
 weight false = 0
 
+-- how many numbers below n pass the test
 abbrev pub count_below : ℕ → (ℕ → Bool) → ℕ
 count_below zero has = 0
 count_below (suc n) has = count_below n has + weight (has n)

@@ -207,6 +207,7 @@ module _ (sys : Behaviour) (b : IsBehaviour sys) (never : NoRedo sys) (t : ℕ) 
           (λ kind is none. let runs_now = pending-runs sys b log run t kind is in absurd (let there = runs_now.is_open in cc (there, none)))
           (back entry l (is_fail entry) refl) ok
 
+  -- it is so behind every run
   pub paid-ok : (log : List Event) → IsRun sys log → Paid sys t (after sys log)
   paid-ok = holds-behind sys (Paid sys t) step-paid (record { low = λ u is. absurd (cc is); owing = λ u is owes. absurd (cc is) })
 

@@ -112,6 +112,7 @@ module _ (sys : Behaviour) where
       let less = count-more (length sys.script) (is_left (s.log ++ entry ∷ [])) (is_left s.log) (left-behind s.log entry) in
       omega (arith, more, none, less, ok)
 
+  -- so a run has at most as many failures as the script has lines
   pub few-fails : (log : List Event) → IsRun sys log → fails_in (after sys log).log ≤ length sys.script
   few-fails log run =
       let ok : Fails (after sys log) =

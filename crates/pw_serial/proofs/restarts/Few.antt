@@ -239,6 +239,7 @@ module _ (sys : Behaviour) (b : IsBehaviour sys) (t : ℕ) (known : t < sys.term
       let plain : (n : ℕ) → is_older_restart_of t n entry ≡ false = λ n. not-older t n entry (λ own m kind is. absurd (cc is)) in
       record { births = births; over = over-kept s i entry at plain ok; olders = olders-kept s i entry at plain ok }
 
+  -- all of it holds behind every run
   pub counts-ok : (log : List Event) → IsRun sys log → CountsOk sys t (after sys log)
   counts-ok =
       holds-behind sys (CountsOk sys t)
@@ -256,6 +257,7 @@ log-from : (sys : Behaviour) (s : State) (log : List Event) → (after_from sys 
 log-from sys s [] = sym (append-nil s.log)
 log-from sys s (entry ∷ log) = log-from sys (effect sys s entry) log ∙ append_assoc s.log (entry ∷ []) log
 
+-- so such restarts are fewer than the terminals
 pub older-few : (sys : Behaviour) → IsBehaviour sys → (log : List Event) → IsRun sys log → (t n : ℕ) → t < sys.terminals → older_restarts_in t n log ≤ sys.terminals - 1
 older-few sys b log run t n known =
     let ok = (counts-ok sys b t known log run).olders in

@@ -26,6 +26,7 @@ abbrev pub is_older_in : Option OpenUnit → OpenUnit → ℕ → Bool
 is_older_in None u o = false
 is_older_in (Some v) u o = nat_lt v.birth u.birth && not (is_awaited u.awaits o v.number)
 
+-- the terminal has such a unit
 abbrev pub is_free : State → OpenUnit → ℕ → Bool
 is_free s u o = is_older_in (s.units o) u o
 
@@ -43,6 +44,7 @@ free-parts (Some v) u o is =
     not-true true e = absurd (true≢false (sym e))
     not-true false e = refl
 
+-- where an older unit is not awaited, the test passes
 pub free-of : (unit : Option OpenUnit) (u v : OpenUnit) (o : ℕ) → unit ≡ Some v → v.birth < u.birth → is_awaited u.awaits o v.number ≡ false → is_older_in unit u o ≡ true
 free-of unit u v o is older other =
     ap (λ (x : Option OpenUnit). is_older_in x u o) is ∙ and_from (nat_lt v.birth u.birth) (not (is_awaited u.awaits o v.number)) (lt-ltb v.birth u.birth older) (ap not other)
@@ -70,6 +72,7 @@ module _ (sys : Behaviour) (s x : State) (births : BirthsOk s.units s.births) (t
           omega (arith, b, birth_is, low, older, birth))
       by (ends none number next) v v_is older other = absurd (cc (none, v_is))
 
+  -- it may restart for no more units than before
   pub free-stays : u.awaits ≡ was.awaits → ((o : ℕ) → UnitMoves s x o) → free sys x u ≤ free sys s was
   free-stays awaits unit-moves = count-more sys.terminals (is_free x u) (is_free s was) (λ o. stays-free awaits o (unit-moves o))
 
@@ -87,6 +90,7 @@ module _ (sys : Behaviour) (s : State) (i : Inv sys s) (own n : ℕ) (kind : Cau
   abbrev now : OpenUnit
   now = record l.unit { restarts = l.unit.restarts + 1; awaits = awaited_after kind l.unit.awaits; running = None }
 
+  -- the unit behind the restart
   pub now-is : x.units own ≡ Some now
   now-is = upd-same s.units own _ own refl ∙ ap (with_restart kind) l.caused.is_open
 
@@ -120,6 +124,7 @@ module _ (sys : Behaviour) (s : State) (i : Inv sys s) (own n : ℕ) (kind : Cau
 
 -- what the running unit awaited has ended: it awaits no open one
 module _ (sys : Behaviour) (s : State) (i : Inv sys s) (unit : OpenUnit) (over : (a : Awaited) → unit.awaits ≡ Some a → a.number ≤ (s.ended a.terminal).number) where
+  -- no open unit is the one that it awaits
   pub not-awaited : (j : ℕ) (v : OpenUnit) → s.units j ≡ Some v → is_awaited unit.awaits j v.number ≡ false
   not-awaited j v is = by unit.awaits refl
     where
@@ -148,6 +153,7 @@ module _ (sys : Behaviour) (s : State) (i : Inv sys s) (unit : OpenUnit) (over :
 -- a restart for an older unit: that one is no more among them
 module _ (sys : Behaviour) (s : State) (i : Inv sys s) (own n o m : ℕ) (l : LegalRestart sys s own n (cause.Older o m))
     (over : (a : Awaited) → l.unit.awaits ≡ Some a → a.number ≤ (s.ended a.terminal).number) where
+  -- the restart leaves one less
   pub free-less : free sys (x sys s i own n (cause.Older o m) l) (now sys s i own n (cause.Older o m) l) + 1 ≤ free sys s l.unit
   free-less =
       let older = l.caused.holds in

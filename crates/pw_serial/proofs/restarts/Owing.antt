@@ -105,6 +105,7 @@ module _ (sys : Behaviour) (s : State) (t : ℕ) where
       by false other there = pends k there
   taken-over p l (sinks u q down is runs) = sinks u q (other-mode p Alone (λ e. absurd (cc e)) down) is runs
 
+  -- an entry that is no failure makes nothing owed
   pub owed : (entry : Event) → Fits sys s entry → is_fail entry ≡ false → Owed (change sys s entry)
   owed (event.Show own phase attempt k) l none = make (same-pending own _ refl) (λ d. d) (λ u q d is r. is)
   owed (event.Key own k) l none = make (same-pending own _ refl) (λ d. d) (λ u q d is r. is)

@@ -24,6 +24,7 @@ served-steps : (sys : Behaviour) (t r c : ℕ) (message : List ℕ) (at : Attemp
 served-steps sys t r c message at (Reply reply files) asks = goes_on (Replied reply) tt (rw asks tt) refl refl
 served-steps sys t r c message at (Fault x) asks = goes_on (Failed x) tt (rw asks tt) refl refl
 
+-- each verb that takes an answer is such a step
 pub verb-steps : (sys : Behaviour) (t r : ℕ) (files : ℕ → List (List ℕ)) (at : Attempt) (v : Verb) → sys.ask t at.path ≡ v → TakesAnswer sys t at.path v → Steps sys t r at (answer_verb sys t r files v at)
 verb-steps sys t r files at verb.Begin asks takes = begins asks refl refl
 verb-steps sys t r files at verb.Show asks takes = shows asks refl refl
@@ -149,6 +150,7 @@ module _ (sys : Behaviour) (b : IsBehaviour sys) (t r : ℕ) (q : List PathAnswe
           (sent-stays a (sys.ask t q) refl begins_it quiet (subst (λ (p : List PathAnswer). Suits sys t p (sys.ask t p) a) is suits) (ap unit_number (sym moved_path) ∙ same))
       go stands same (faulty x faults) = absurd (subst (λ (v : Verb). Suits sys t at.path v a) faults suits)
 
+  -- an attempt is so numbered
   pub numbered : (files : ℕ → List (List ℕ)) → AreFiles sys files → AreBounded r (standing q) before → Covers sys t q before → (j : ℕ) → IsAttempt sys t q files r j
       → Numbered sys t r q before (attempt sys t q files r j)
   numbered files are bounded covers zero is = record {

@@ -24,6 +24,7 @@ IsEarlier r at x = (at.within ≡ None) × (x.phase ≡ 2 * at.ended + 1) × (x.
 abbrev pub AreBounded : ℕ → Standing → List Refresh → Type 0
 AreBounded r at list = (x : Refresh) → IsIn x list → IsBefore x (next_at at) ⊎ IsEarlier r at x
 
+-- each refresh lies before the next one
 abbrev pub AreBefore : Standing → List Refresh → Type 0
 AreBefore at list = (x : Refresh) → IsIn x list → IsBefore x (next_at at)
 
@@ -41,6 +42,7 @@ shown-next at (Some r) x (inl low) = inl low
 shown-next at (Some r) x (inr (same, inl low)) = inr (same, inl low)
 shown-next at (Some r) x (inr (same, inr (attempt, low))) = inr (same, inr (attempt, omega (arith, low)))
 
+-- refreshes lie before the next number behind Shown too
 pub shown-bounded : (r : ℕ) (at : Standing) (list : List Refresh) → AreBounded r at list → AreBounded r (standing_after_answer at Shown) list
 shown-bounded r at list bounded x there = ⊎_elim (λ low. inl (shown-next at at.within x low)) (λ earlier. inr earlier) (bounded x there)
 
@@ -166,6 +168,7 @@ append-none : (xs : List PathAnswer) → xs ++ [] ≡ xs
 append-none [] = refl
 append-none (x ∷ xs) = ap (λ (l : List PathAnswer). x ∷ l) (append-none xs)
 
+-- the refreshes of a path in two parts
 pub shown-append : (sys : Behaviour) (t : ℕ) (before path more : List PathAnswer) → shown_on sys t before (path ++ more) ≡ shown_on sys t before path ++ shown_on sys t (before ++ path) more
 shown-append sys t before [] more = ap (λ (p : List PathAnswer). shown_on sys t p more) (sym (append-none before))
 shown-append sys t before (a ∷ path) more =
@@ -177,6 +180,7 @@ shown-append sys t before (a ∷ path) more =
 abbrev pub Covers : Behaviour → ℕ → List PathAnswer → List Refresh → Type 0
 Covers sys t path list = (x : Refresh) → IsIn x (shown_on sys t [] path) → IsIn x list
 
+-- one screen more, with its refresh
 pub covers-shown : (sys : Behaviour) (t : ℕ) (path : List PathAnswer) (list : List Refresh) → Covers sys t path list → Covers sys t (path ++ Shown ∷ []) (list ++ next_refresh sys t path ∷ [])
 covers-shown sys t path list covers x there =
     ⊎_elim (λ old. in-left x list (next_refresh sys t path ∷ []) (covers x old)) (λ new. in-right x list (next_refresh sys t path ∷ []) new)
@@ -191,6 +195,7 @@ not-shown (Failed x) r other = refl
 not-shown Ended r other = refl
 not-shown Dropped r other = refl
 
+-- another answer shows no screen
 pub covers-other : (sys : Behaviour) (t : ℕ) (path : List PathAnswer) (a : PathAnswer) (list : List Refresh) → (a ≡ Shown → ⊥) → Covers sys t path list → Covers sys t (path ++ a ∷ []) list
 covers-other sys t path a list other covers x there =
     ⊎_elim (λ old. covers x old) (λ new. absurd (subst (IsIn x) (not-shown a (next_refresh sys t path) other) new))

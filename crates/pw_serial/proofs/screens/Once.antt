@@ -15,15 +15,18 @@ abbrev pub IsIn : Refresh → List Refresh → Type 0
 IsIn x [] = ⊥
 IsIn x (y ∷ list) = (x ≡ y) ⊎ IsIn x list
 
+-- what is in the first part is in both
 pub in-left : (x : Refresh) (xs ys : List Refresh) → IsIn x xs → IsIn x (xs ++ ys)
 in-left x [] ys there = absurd there
 in-left x (y ∷ xs) ys (inl here) = inl here
 in-left x (y ∷ xs) ys (inr there) = inr (in-left x xs ys there)
 
+-- and what is in the second
 pub in-right : (x : Refresh) (xs ys : List Refresh) → IsIn x ys → IsIn x (xs ++ ys)
 in-right x [] ys there = there
 in-right x (y ∷ xs) ys there = inr (in-right x xs ys there)
 
+-- what is in both is in one of them
 pub in-parts : (x : Refresh) (xs ys : List Refresh) → IsIn x (xs ++ ys) → IsIn x xs ⊎ IsIn x ys
 in-parts x [] ys there = inr there
 in-parts x (y ∷ xs) ys (inl here) = inl (inl here)
@@ -38,11 +41,13 @@ same-parts a b is =
       eqb-true a.k b.k (and-second (a.attempt == b.attempt) (a.k == b.k) rest),
     )
 
+-- numbers with equal parts are the same
 pub parts-same : (a b : Refresh) → a.phase ≡ b.phase → a.attempt ≡ b.attempt → a.k ≡ b.k → same_number a b ≡ true
 parts-same a b phase attempt k =
     and_from (a.phase == b.phase) (a.attempt == b.attempt && a.k == b.k) (eq-eqb a.phase b.phase phase)
     (and_from (a.attempt == b.attempt) (a.k == b.k) (eq-eqb a.attempt b.attempt attempt) (eq-eqb a.k b.k k))
 
+-- in either order
 pub same-back : (a b : Refresh) → same_number a b ≡ true → same_number b a ≡ true
 same-back a b is = let parts = same-parts a b is in parts-same b a (sym parts.0) (sym parts.1) (sym parts.2)
 
@@ -67,6 +72,7 @@ module _ (r : Refresh) where
   kept : (x : Refresh) → same_number r x ≡ false → others x (r ∷ []) ≡ r ∷ []
   kept x differs = ⊎_elim (λ same. absurd (true≢false (sym (same-back x r same) ∙ differs))) (λ other. cond-false (same_number x r) [] (r ∷ []) other) (cases_Bool (same_number x r))
 
+  -- a refresh with a new number is counted
   pub once-new : (xs : List Refresh) → has_number r xs ≡ false → once (xs ++ r ∷ []) ≡ once xs ++ r ∷ []
   once-new [] none = refl
   once-new (x ∷ xs) none =
@@ -74,6 +80,7 @@ module _ (r : Refresh) where
       ap (λ (l : List Refresh). x ∷ l)
       (ap (others x) (once-new xs parts.1) ∙ (others-append x (once xs) (r ∷ []) ∙ ap (λ (l : List Refresh). others x (once xs) ++ l) (kept x parts.0)))
 
+  -- one with a number that is there is not
   pub once-there : (xs : List Refresh) → has_number r xs ≡ true → once (xs ++ r ∷ []) ≡ once xs
   once-there [] there = absurd (false≢true there)
   once-there (x ∷ xs) there =
@@ -108,6 +115,7 @@ has-others r x (y ∷ ys) differs = by (same_number x y) refl (has-others r x ys
         not-same (inr other) = other
     by false is rest = ap (λ (b : Bool). same_number r y || b) rest
 
+-- the same numbers are there
 pub has-once : (r : Refresh) (xs : List Refresh) → has_number r (once xs) ≡ has_number r xs
 has-once r [] = refl
 has-once r (x ∷ xs) = by (has-once r xs) (cases_Bool (same_number r x))
@@ -132,6 +140,7 @@ in-others z x (y ∷ ys) there = by (in-others z x ys) (same_number x y) refl th
     by rest_of false is (inl here) = (inl here, ap (same_number x) here ∙ is)
     by rest_of false is (inr there) = let rest = rest_of there in (inr rest.0, rest.1)
 
+-- refreshes with the same number that are counted are one
 pub once-one : (xs : List Refresh) (a b : Refresh) → IsIn a (once xs) → IsIn b (once xs) → same_number a b ≡ true → a ≡ b
 once-one [] a b one other same = absurd one
 once-one (x ∷ xs) a b (inl one) (inl other) same = one ∙ sym other

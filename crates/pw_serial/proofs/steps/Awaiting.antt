@@ -56,6 +56,7 @@ module _ (sys : Behaviour) (b : IsBehaviour sys) (s : State) (i : Inv sys s) (t 
       by None is = opens (unit_with_attempt n s.births (path_of s t) None) is (upd-same s.units t _ t refl ∙ ap (λ (u : Option OpenUnit). Some (unit_with_attempt n s.births (path_of s t) u)) is) refl refl l.can.live.going_on refl refl
       by (Some u) is = runs u (unit_with_attempt n s.births (path_of s t) (Some u)) is (upd-same s.units t _ t refl ∙ ap (λ (x : Option OpenUnit). Some (unit_with_attempt n s.births (path_of s t) x)) is) refl refl refl refl refl (subst (λ (x : Option OpenUnit). IsOver s.ended (awaited_of x)) is l.over)
 
+  -- each entry but a restart moves a unit so
   pub unit-moves : (entry : Event) → Fits sys s entry → ((own n : ℕ) (kind : Cause) → entry ≡ event.Restart own n kind → ⊥) → UnitMoves s (change sys s entry) t
   unit-moves (event.Show own phase attempt k) l other = stays refl refl
   unit-moves (event.Key own k) l other = stays refl refl
@@ -212,6 +213,7 @@ module _ (sys : Behaviour) (b : IsBehaviour sys) where
       logged : AwaitsOk (change sys s entry) → AwaitsOk (effect sys s entry)
       logged kept_ok t u a is awaits less = kept_ok t u a is awaits less
 
+  -- it is so behind every run
   pub awaits-ok : (log : List Event) → IsRun sys log → AwaitsOk (after sys log)
   awaits-ok =
       holds-behind sys AwaitsOk (λ log run entry legal ok. keeps-awaits (after sys log) (kept sys b log run) entry legal.fits ok)

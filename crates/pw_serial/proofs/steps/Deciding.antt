@@ -36,6 +36,7 @@ answer-decided (Failed x) b = inr (λ e. absurd (cc e))
 answer-decided Ended b = inr (λ e. absurd (cc e))
 answer-decided Dropped b = inr (λ e. absurd (cc e))
 
+-- two paths are one, or not
 pub path-decided : (p q : List PathAnswer) → (p ≡ q) ⊎ (p ≢ q)
 path-decided [] [] = inl refl
 path-decided [] (b ∷ q) = inr (λ e. absurd (cc e))
@@ -67,6 +68,7 @@ end-in held path (Some end) is =
     (λ differ. inr (λ h. differ (let held_is = h.is_held in let one : held ≡ h.held = cc held_is in let there = ap (λ (m : BackupCopy). m.end) one in let path_is = h.path_is in cc (is, there, path_is))))
     (path-decided end path)
 
+-- the backup holds this end path, or not
 pub end-decided : (memory : Option BackupCopy) (path : List PathAnswer) → HoldsEnd memory path ⊎ (¬ HoldsEnd memory path)
 end-decided None path = inr (λ h. absurd (let is = h.is_held in cc is))
 end-decided (Some held) path = end-in held path held.end refl

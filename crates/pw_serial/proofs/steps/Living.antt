@@ -80,6 +80,7 @@ module _ (sys : Behaviour) (s : State) (t : ℕ) where
   ending-stays (event.Raise p) l other = refl
   ending-stays (event.End own e) l other = absurd (other own e refl)
 
+-- the terminal of an open unit has no ending
 abbrev pub LiveOk : State → Type 0
 LiveOk s = (t : ℕ) (u : OpenUnit) → s.units t ≡ Some u → (s.terms t).ending ≡ None
 
@@ -135,6 +136,7 @@ module _ (sys : Behaviour) (b : IsBehaviour sys) (s : State) (f : Fold) (k : Kno
   keeps-live entry l =
       λ t u is. ending-stays sys s t entry l (λ o e e_is. absurd (cc e_is)) ∙ by-goes (change sys s entry) t u (unit-moves sys b s k.inv t entry l (λ o n kind e_is. absurd (cc e_is))) is
 
+-- it is so behind every run
 pub live-ok : (sys : Behaviour) → IsBehaviour sys → (log : List Event) → IsRun sys log → LiveOk (after sys log)
 live-ok sys b =
     holds-behind sys LiveOk (λ log run entry legal ok. keeps-live sys b (after sys log) (fold_after sys log) (known sys b log run) ok entry legal.fits) (λ t u is. absurd (cc is))

@@ -247,5 +247,6 @@ module _ (sys : Behaviour) (b : IsBehaviour sys) (log : List Event) (run : IsRun
     by-verb (verb.File call) asks = absurd (subst IsAsked asks (b.asks t path is-path))
     by-verb (verb.Reply reply) asks = absurd (subst IsAsked asks (b.asks t path is-path))
 
+    -- so an entry is legal
     pub terminal-step : HasStep sys s
     terminal-step = by-verb (next_verb sys s t) refl

@@ -78,6 +78,7 @@ module _ (sys : Behaviour) (b : IsBehaviour sys) (log : List Event) (run : IsRun
   bound t None none = (0, λ u is. absurd (cc (none, is)))
   bound t (Some v) is = (v.birth + 1, λ u u_is. let same : u ≡ v = cc (u_is, is) in let birth = ap (λ (x : OpenUnit). x.birth) same in omega (arith, birth))
 
+  -- an entry is legal
   pub has-step : HasStep sys s
   has-step =
       let one = some-live in
