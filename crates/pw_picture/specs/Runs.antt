@@ -8,6 +8,7 @@ abbrev pub spread : List Run → List ℕ
 spread [] = []
 spread (run ∷ runs) = replicate run.count run.symbol ++ spread runs
 
--- a count with what belongs to it: one that is longer than every picture is cut to one more than the longest
+-- a count with what belongs to it: one that is longer than every picture is cut to one more than
+-- the longest
 abbrev pub capped : ℕ × ℕ → ℕ × ℕ
 capped found = (min found.0 (longest + 1), found.1)

@@ -28,7 +28,8 @@ abbrev pub decimals_in : List ℕ → Option ℕ
 decimals_in [] = Some 0
 decimals_in (point ∷ digits) = if point == 46 && list_all is_ascii_digit digits then Some (length digits) else None
 
--- how many digits a number has before and behind its point: an optional sign, then digits with an optional point
+-- how many digits a number has before and behind its point: an optional sign, then digits with
+-- an optional point
 abbrev pub digits_in : List ℕ → Option (ℕ × ℕ)
 digits_in value =
     let body = behind_sign value in
@@ -45,7 +46,8 @@ has_room picture (Some digits) =
 abbrev pub is_number_for : Picture → List ℕ → Bool
 is_number_for picture value = has_room picture (digits_in value) && (has_sign picture || not (begins_with 45 value))
 
--- a value that a field may be given: not longer than the field, and, where that is no Text, empty or a number for it
+-- a value that a field may be given: not longer than the field, and, where that is no Text,
+-- empty or a number for it
 abbrev pub is_value_for : FieldKind → List ℕ → Bool
 is_value_for (Literal text) value = false
 is_value_for (Item picture at source show) value =
@@ -63,7 +65,8 @@ is_right fields pair = list_any (λ field. is_entry_field pair.0 field && is_val
 abbrev pub is_wrong : List Field → List ℕ × List ℕ → Bool
 is_wrong fields pair = not (is_right fields pair)
 
--- the key's first position in the list, counted from 1, or what is wrong first: the key, then a pair, counted from 0
+-- the key's first position in the list, counted from 1, or what is wrong first: the key, then a
+-- pair, counted from 0
 abbrev pub answer_of : Option ℕ → Option ℕ → EntryAnswer
 answer_of None wrong = BadKey
 answer_of (Some place) None = Valid (place + 1)

@@ -24,7 +24,8 @@ written place text cells = take place cells ++ (text ++ drop (place + length tex
 abbrev pub chars_at : ℕ → Picture → List ℕ → List ℕ
 chars_at at source storage = take (size_of source) (drop at storage)
 
--- an item's characters as a field's picture shows them: a text cut or padded, a number moved or edited
+-- an item's characters as a field's picture shows them: a text cut or padded, a number moved or
+-- edited
 abbrev pub as_shown : Picture → Picture → List ℕ → List ℕ
 as_shown (Text size) source chars = fitted size chars
 as_shown (Number digits places signed) source chars = moved (Number digits places signed) (read_of source chars)

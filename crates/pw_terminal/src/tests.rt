@@ -9,6 +9,7 @@ use crate::show::{show, write_item};
 use pw_base::bytes::Bytes;
 use pw_base::list::List;
 use pw_base::memory::Memory;
+use pw_code::copies::Duplicate;
 use pw_code::entry::EntryLine;
 use pw_code::field::{Field, FieldKind, ScreenTable};
 use pw_code::screen::{CELLS, ScreenImage};
@@ -286,7 +287,7 @@ fn expect_advice(
 
 #[test]
 fn invalid_field_name(rt: HostRuntime) -> Result<(), Fail> {
-    let table = order_screen(rt.alloc())?;
+    let table = order_screen(rt.alloc())?.copy(rt.alloc())?;
     let mut image = blank(rt.alloc())?;
     let wrong = EntryAnswer::BadField(0);
     let lines = "24|INVALID FIELD S-NUMBER\n";
