@@ -139,6 +139,9 @@ fn release_takes_all_locks_of_the_unit(rt: HostRuntime) -> Result<(), Fail> {
     };
     book.add(&later, 2, span_of(alloc, At("A"))?, Exclusive)?;
     let whole = book.copy(alloc)?;
+    add_row(alloc, &mut book, (2, 3, At("A"), Exclusive))?;
+    book.take_back();
+    assert_eq!(rt; holder_for(alloc, &book, (9, 3, At("A"), Exclusive))?, None);
     book.release(&unit_of(1));
     assert_eq!(rt; holder_for(alloc, &book, (9, 0, At("A"), Exclusive))?, None);
     assert_eq!(rt; holder_for(alloc, &book, (9, 1, At("N"), Exclusive))?, None);

@@ -282,11 +282,35 @@ fn expect_commit<D: Disc>(rt: &impl Abort, alloc: Global, disc: &mut D) -> Resul
     Ok(())
 }
 
+/// Reads share a lock with reads and bar writes, and a READ NEXT bars a later write into its span.
+fn expect_modes<D: Disc>(rt: &impl Abort, alloc: Global, disc: &mut D) -> Result<(), Fail>
+    requires { IsFresh (D.told disc.old) }
+{
+    let read = by_key(alloc, FileOp::Read, b"AA")?;
+    let locking = by_key(alloc, FileOp::ReadLock, b"AA")?;
+    let rewrite = writing(alloc, FileOp::Rewrite, b"AA two")?;
+    let next = by_key(alloc, FileOp::Next, b"AA")?;
+    let within = writing(alloc, FileOp::Write, b"BB two")?;
+    let outside = writing(alloc, FileOp::Write, b"A0 two")?;
+    begin_both(disc)?;
+    expect_done(rt, younger_does(disc, &read), 0, Some(b"AA one"));
+    expect_done(rt, older_does(disc, &read), 0, Some(b"AA one"));
+    assert!(rt; matches!(older_does(disc, &rewrite), FileAnswer::Conflict(YOUNGER)));
+    assert!(rt; matches!(older_does(disc, &locking), FileAnswer::Conflict(YOUNGER)));
+    assert!(rt; matches!(younger_does(disc, &locking), FileAnswer::Conflict(OLDER)));
+    expect_done(rt, younger_does(disc, &next), 1, None);
+    assert!(rt; matches!(older_does(disc, &within), FileAnswer::Conflict(YOUNGER)));
+    expect_done(rt, older_does(disc, &outside), 0, None);
+    Ok(())
+}
+
 #[test]
 fn units_stand_apart_until_they_end(rt: HostRuntime) -> Result<(), Fail> {
     let alloc = rt.alloc();
     let mut tmf = started(alloc)?;
     let mut copy = tmf.copy(alloc)?;
+    let mut other = tmf.copy(alloc)?;
+    expect_modes(&rt, alloc, &mut other)?;
     expect_conflict(&rt, alloc, &mut tmf)?;
     expect_commit(&rt, alloc, &mut copy)?;
     Ok(())
