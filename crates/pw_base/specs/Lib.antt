@@ -1,5 +1,6 @@
 pub mod FaultCodes
 pub mod First
+pub mod Lengths
 pub mod Limits
 pub mod MemSink
 pub mod MemSource

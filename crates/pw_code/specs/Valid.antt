@@ -2,7 +2,7 @@
 use Rattle.std.specs.Prelude.{◌<◌, ◌≤◌, ◌^◌, length, map, take, All}
 use Rattle.std.specs.List.{IsDistinct}
 use Rattle.std.specs.Str.{bytes_eq}
-use Rattle.pw_files.specs.Records.{IsKeyLength, IsContent}
+use Rattle.pw_base.specs.Lengths.{IsKeyLength, IsContent}
 use Rattle.pw_code.specs.Entry.{Entry}
 use Rattle.pw_code.specs.Limits.{most_programs, most_servers, most_classes, most_processes, most_files, most_tcps, most_terminals, most_restarts, most_entry_lines, last_key}
 use Rattle.pw_code.specs.Names.{AreNames}

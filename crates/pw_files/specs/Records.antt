@@ -1,9 +1,10 @@
 -- The records of a file, in the order of their keys.
-use Rattle.std.specs.Prelude.{ℕ, ◌≤◌, Bool, List, ◌∷◌, ◌++◌, Option, is_some, length, take, map, filter, find, slice_get, All}
+use Rattle.std.specs.Prelude.{ℕ, Bool, List, ◌∷◌, ◌++◌, Option, is_some, take, map, filter, find, slice_get, All}
 use Rattle.std.specs.List.Sorted.{IsStrictlySortedBy}
 use Rattle.std.specs.Ordering.{nat_cmp, is_lt, is_eq, is_gt}
 use Rattle.std.specs.declared.cmp.Ordering.{Ordering}
 use Rattle.std.specs.Cmp.Lexicographic.{slice_cmp}
+pub use Rattle.pw_base.specs.Lengths.{IsKeyLength, IsContent}
 
 -- how two keys compare, byte by byte
 abbrev pub key_cmp : List ℕ → List ℕ → Ordering
@@ -40,14 +41,6 @@ with_record n records content = below n records (take n content) ++ content ∷ 
 -- the records without the one with this key, if any
 abbrev pub without_key : ℕ → List (List ℕ) → List ℕ → List (List ℕ)
 without_key n records key = below n records key ++ above n records key
-
--- a key may have this many bytes
-abbrev pub IsKeyLength : ℕ → Type 0
-IsKeyLength n = (1 ≤ n) × (n ≤ 255)
-
--- a content has a whole key, and at most 4,000 bytes
-abbrev pub IsContent : ℕ → List ℕ → Type 0
-IsContent n content = (n ≤ length content) × (length content ≤ 4000)
 
 -- the key has a length that keys may have, each content has a length that contents may have, and the keys rise
 pub record IsFile (n : ℕ) (records : List (List ℕ)) : Type 0 where
