@@ -1,0 +1,7 @@
+mod Sent
+mod Standings
+mod Moves
+mod Replies
+mod Worlds
+mod Events
+mod Agrees
