@@ -5,3 +5,4 @@ mod Replies
 mod Worlds
 mod Events
 mod Agrees
+mod Restarts

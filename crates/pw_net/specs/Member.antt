@@ -9,6 +9,7 @@ use Rattle.pw_net.specs.declared.message.Mark.{Mark}
 use Rattle.pw_net.specs.declared.message.Mark.TheVariants as mark
 use Rattle.pw_net.specs.declared.message.Net.{Net}
 use Rattle.pw_net.specs.declared.message.NetId.{NetId}
+use Rattle.pw_net.specs.declared.message.NetWord.{NetWord}
 use Rattle.pw_net.specs.declared.message.NetWord.TheVariants.{Prepare}
 use Rattle.pw_net.specs.declared.standing.Standing.{Standing}
 use Rattle.pw_net.specs.declared.standing.Standing.TheVariants.{Collecting, Prepared, Committed, Aborted}
@@ -69,10 +70,13 @@ start member others = record {
   messages = told_each member.system (own_id member (member.last + 1)) Prepare others;
 }
 
+-- a word about the transaction, from a system
+abbrev pub heard : Member → NetId → ℕ → NetWord → Outcome
+heard member id system word = replied member id (on_word member.system id system word (standing_of member id))
+
 -- handle: a message for this member
 abbrev pub handle : Member → Net → Outcome
-handle member message = replied member message.id
-    (on_word member.system message.id message.from message.word (standing_of member message.id))
+handle member message = heard member message.id message.from message.word
 
 -- refuse: no vote will be given
 abbrev pub refuse : Member → NetId → Outcome
