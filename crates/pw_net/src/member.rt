@@ -102,7 +102,14 @@ impl Member {
         ensures sent { IfOk result (λ messages. messages.items ≡ (heard self.old id system word).messages) }
         ensures err { OnErr result (self.new ≡ self.old) }
     {
-        let reply = on_word(self.alloc, self.system, id, system, word, self.standings.get(&id))?;
+        let reply = on_word(
+            self.alloc,
+            self.system,
+            id,
+            system,
+            word,
+            self.standings.get(&id),
+        )?;
         self.take(id, reply)
     }
 

@@ -67,7 +67,13 @@ pub fn says(alloc: Global, own: u32, id: NetId, word: NetWord, to: u32) -> Resul
 }
 
 /// The same word to each of these systems, in order.
-pub fn told_each(alloc: Global, own: u32, id: NetId, word: NetWord, others: &[u32]) -> Result<Vec<Net>, Memory>
+pub fn told_each(
+    alloc: Global,
+    own: u32,
+    id: NetId,
+    word: NetWord,
+    others: &[u32],
+) -> Result<Vec<Net>, Memory>
     ensures { IfOk result (λ messages. messages.items ≡ told_each own id word others.now) }
 {
     let mut messages = Vec::new(alloc);

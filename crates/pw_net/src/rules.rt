@@ -12,7 +12,12 @@ use pw_base::memory::Memory;
 use std::alloc::Global;
 
 /// Votes, and stays with its vote.
-fn on_prepare(alloc: Global, own: u32, id: NetId, standing: Option<&Standing>) -> Result<Reply, Memory>
+fn on_prepare(
+    alloc: Global,
+    own: u32,
+    id: NetId,
+    standing: Option<&Standing>,
+) -> Result<Reply, Memory>
     ensures { IfOk result (λ reply. reply ≡ on_prepare own id (option_copied standing.entry)) }
 {
     match standing {
@@ -28,7 +33,13 @@ fn on_prepare(alloc: Global, own: u32, id: NetId, standing: Option<&Standing>) -
 }
 
 /// Counts the vote of a system; the last one commits.
-fn counted(alloc: Global, own: u32, id: NetId, system: u32, ballot: &Ballot) -> Result<Reply, Memory>
+fn counted(
+    alloc: Global,
+    own: u32,
+    id: NetId,
+    system: u32,
+    ballot: &Ballot,
+) -> Result<Reply, Memory>
     ensures { IfOk result (λ reply. reply ≡ counted own id ballot.now.others (still_missing system ballot.now)) }
 {
     let left = ballot.still_missing(alloc, system)?;
@@ -43,7 +54,13 @@ fn counted(alloc: Global, own: u32, id: NetId, system: u32, ballot: &Ballot) -> 
 }
 
 /// Counts the vote, or tells how the transaction ended.
-fn on_yes(alloc: Global, own: u32, id: NetId, system: u32, standing: Option<&Standing>) -> Result<Reply, Memory>
+fn on_yes(
+    alloc: Global,
+    own: u32,
+    id: NetId,
+    system: u32,
+    standing: Option<&Standing>,
+) -> Result<Reply, Memory>
     ensures { IfOk result (λ reply. reply ≡ on_yes own id system (option_copied standing.entry)) }
 {
     match standing {
@@ -55,7 +72,12 @@ fn on_yes(alloc: Global, own: u32, id: NetId, system: u32, standing: Option<&Sta
 }
 
 /// The home aborts while it collects votes.
-pub fn on_end(alloc: Global, own: u32, id: NetId, standing: Option<&Standing>) -> Result<Reply, Memory>
+pub fn on_end(
+    alloc: Global,
+    own: u32,
+    id: NetId,
+    standing: Option<&Standing>,
+) -> Result<Reply, Memory>
     ensures { IfOk result (λ reply. reply ≡ on_end own id (option_copied standing.entry)) }
 {
     match standing {
@@ -75,9 +97,10 @@ fn on_commit(alloc: Global, standing: Option<&Standing>) -> Reply
 {
     match standing {
         Some(Standing::Prepared) => becomes(alloc, Standing::Committed),
-        Some(Standing::Collecting(_)) | Some(Standing::Committed) | Some(Standing::Aborted) | None => {
-            silence(alloc)
-        }
+        Some(Standing::Collecting(_))
+        | Some(Standing::Committed)
+        | Some(Standing::Aborted)
+        | None => { silence(alloc) }
     }
 }
 
@@ -87,12 +110,19 @@ fn on_abort(alloc: Global, standing: Option<&Standing>) -> Reply
 {
     match standing {
         Some(Standing::Prepared) | None => becomes(alloc, Standing::Aborted),
-        Some(Standing::Collecting(_)) | Some(Standing::Committed) | Some(Standing::Aborted) => silence(alloc),
+        Some(Standing::Collecting(_)) | Some(Standing::Committed) | Some(Standing::Aborted) =>
+            silence(alloc),
     }
 }
 
 /// Tells how the transaction ended.
-fn on_ask(alloc: Global, own: u32, id: NetId, system: u32, standing: Option<&Standing>) -> Result<Reply, Memory>
+fn on_ask(
+    alloc: Global,
+    own: u32,
+    id: NetId,
+    system: u32,
+    standing: Option<&Standing>,
+) -> Result<Reply, Memory>
     ensures { IfOk result (λ reply. reply ≡ on_ask own id system (option_copied standing.entry)) }
 {
     match standing {
@@ -104,7 +134,14 @@ fn on_ask(alloc: Global, own: u32, id: NetId, system: u32, standing: Option<&Sta
 
 /// What a message with this word about the transaction, from a system, comes to. Yes, No and Ask are for the
 /// transaction's home.
-pub fn on_word(alloc: Global, own: u32, id: NetId, system: u32, word: NetWord, standing: Option<&Standing>) -> Result<Reply, Memory>
+pub fn on_word(
+    alloc: Global,
+    own: u32,
+    id: NetId,
+    system: u32,
+    word: NetWord,
+    standing: Option<&Standing>,
+) -> Result<Reply, Memory>
     ensures { IfOk result (λ reply. reply ≡ on_word own id system word (option_copied standing.entry)) }
 {
     match word {
@@ -152,13 +189,19 @@ pub fn on_refuse(alloc: Global, own: u32, id: NetId, standing: Option<&Standing>
 }
 
 /// What is prepared asks its home.
-pub fn on_wait(alloc: Global, own: u32, id: NetId, standing: Option<&Standing>) -> Result<Reply, Memory>
+pub fn on_wait(
+    alloc: Global,
+    own: u32,
+    id: NetId,
+    standing: Option<&Standing>,
+) -> Result<Reply, Memory>
     ensures { IfOk result (λ reply. reply ≡ on_wait own id (option_copied standing.entry)) }
 {
     match standing {
         Some(Standing::Prepared) => says(alloc, own, id, NetWord::Ask, id.home),
-        Some(Standing::Collecting(_)) | Some(Standing::Committed) | Some(Standing::Aborted) | None => {
-            Ok(silence(alloc))
-        }
+        Some(Standing::Collecting(_))
+        | Some(Standing::Committed)
+        | Some(Standing::Aborted)
+        | None => { Ok(silence(alloc)) }
     }
 }
