@@ -1,5 +1,5 @@
 -- What a pass over the standings leaves.
-use Rattle.std.proofs.Common.{◌≡◌, List, [], ◌∷◌, Bool, true, cond, map, refl, ap, ap₂, ◌∙◌}
+use Rattle.std.proofs.Common.{◌≡◌, List, [], ◌∷◌, Bool, true, cond, map, ap, ap₂, ◌∙◌}
 use Rattle.std.specs.Map.Calls.{RetainsPairs}
 use Rattle.pw_net.specs.Rules.{restarted}
 use Rattle.pw_net.specs.declared.message.NetId.{NetId}
