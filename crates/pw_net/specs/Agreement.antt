@@ -9,7 +9,8 @@ use Rattle.pw_net.specs.declared.message.NetWord.{NetWord}
 
 -- the event is the start that takes the transaction's number, with these others
 abbrev pub Takes : World → NetEvent → NetId → List ℕ → Type 0
-Takes world (Start system own) id others = (id ≡ own_id (world.members system) ((world.members system).last + 1)) × (others ≡ own)
+Takes world (Start system own) id others =
+    (id ≡ own_id (world.members system) ((world.members system).last + 1)) × (others ≡ own)
 Takes world (Refuse system other) id others = ⊥
 Takes world (Ask system other) id others = ⊥
 Takes world (GiveUp system number) id others = ⊥
@@ -19,11 +20,13 @@ Takes world (Deliver k) id others = ⊥
 -- one of these events, from a world on, is that start
 abbrev pub Begins : World → List NetEvent → NetId → List ℕ → Type 0
 Begins world [] id others = ⊥
-Begins world (event ∷ events) id others = Takes world event id others ⊎ Begins (effect world event) events id others
+Begins world (event ∷ events) id others =
+    Takes world event id others ⊎ Begins (effect world event) events id others
 
 -- the system is one of the others of the start that took the transaction's number
 abbrev pub IsOther : List NetEvent → NetId → ℕ → Type 0
-IsOther events id system = (others : List ℕ) × Begins first_world events id others × Contains others system
+IsOther events id system =
+    (others : List ℕ) × Begins first_world events id others × Contains others system
 
 -- the systems of a transaction are its home and the others
 abbrev pub IsSystemOf : List NetEvent → NetId → ℕ → Type 0
@@ -40,4 +43,5 @@ IsFrom word id system message = (message.word ≡ word) × (message.id ≡ id) �
 
 -- the system is prepared or committed
 abbrev pub HasPrepared : World → ℕ → NetId → Type 0
-HasPrepared world system id = (mark_at world system id ≡ Some Prepared) ⊎ (mark_at world system id ≡ Some Committed)
+HasPrepared world system id =
+    (mark_at world system id ≡ Some Prepared) ⊎ (mark_at world system id ≡ Some Committed)

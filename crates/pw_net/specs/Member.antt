@@ -14,7 +14,8 @@ use Rattle.pw_net.specs.declared.message.NetWord.TheVariants.{Prepare}
 use Rattle.pw_net.specs.declared.standing.Standing.{Standing}
 use Rattle.pw_net.specs.declared.standing.Standing.TheVariants.{Collecting, Prepared, Committed, Aborted}
 
--- its system, the last number that it began, and the standing of each transaction, by home and number
+-- its system, the last number that it began, and the standing of each transaction, by home and
+-- number
 pub record Member : Type 0 where
   pub system : ℕ
   pub last : ℕ
@@ -48,11 +49,13 @@ pub record Outcome : Type 0 where
 -- the member with this standing of the transaction, where there is a new one
 abbrev pub turned : Member → NetId → Option Standing → Member
 turned member id None = member
-turned member id (Some standing) = record member { standings = insert_entry id_order member.standings id standing }
+turned member id (Some standing) =
+    record member { standings = insert_entry id_order member.standings id standing }
 
 -- what a reply about the transaction comes to
 abbrev pub replied : Member → NetId → Reply → Outcome
-replied member id reply = record { member = turned member id reply.turns; messages = reply.messages }
+replied member id reply =
+    record { member = turned member id reply.turns; messages = reply.messages }
 
 -- a member without marks
 abbrev pub first_member : ℕ → Member
@@ -72,7 +75,8 @@ start member others = record {
 
 -- a word about the transaction, from a system
 abbrev pub heard : Member → NetId → ℕ → NetWord → Outcome
-heard member id system word = replied member id (on_word member.system id system word (standing_of member id))
+heard member id system word =
+    replied member id (on_word member.system id system word (standing_of member id))
 
 -- handle: a message for this member
 abbrev pub handle : Member → Net → Outcome

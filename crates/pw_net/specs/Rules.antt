@@ -47,13 +47,16 @@ on_prepare own id (Some Aborted) = says own id No id.home
 
 -- the last vote commits
 abbrev pub counted : ℕ → NetId → List ℕ → List ℕ → Reply
-counted own id others [] = record { turns = Some Committed; messages = told_each own id Commit others }
-counted own id others (system ∷ systems) = becomes (Collecting (record { others = others; missing = system ∷ systems }))
+counted own id others [] =
+    record { turns = Some Committed; messages = told_each own id Commit others }
+counted own id others (system ∷ systems) =
+    becomes (Collecting (record { others = others; missing = system ∷ systems }))
 
 -- Yes of a system, at the home: counts the vote, or tells how the transaction ended
 abbrev pub on_yes : ℕ → NetId → ℕ → Option Standing → Reply
 on_yes own id system None = silence
-on_yes own id system (Some (Collecting ballot)) = counted own id ballot.others (still_missing system ballot)
+on_yes own id system (Some (Collecting ballot)) =
+    counted own id ballot.others (still_missing system ballot)
 on_yes own id system (Some Prepared) = silence
 on_yes own id system (Some Committed) = says own id Commit system
 on_yes own id system (Some Aborted) = says own id Abort system
@@ -61,7 +64,8 @@ on_yes own id system (Some Aborted) = says own id Abort system
 -- the home aborts while it collects votes
 abbrev pub on_end : ℕ → NetId → Option Standing → Reply
 on_end own id None = silence
-on_end own id (Some (Collecting ballot)) = record { turns = Some Aborted; messages = told_each own id Abort ballot.others }
+on_end own id (Some (Collecting ballot)) =
+    record { turns = Some Aborted; messages = told_each own id Abort ballot.others }
 on_end own id (Some Prepared) = silence
 on_end own id (Some Committed) = silence
 on_end own id (Some Aborted) = silence
@@ -112,7 +116,8 @@ on_wait own id (Some Prepared) = says own id Ask id.home
 on_wait own id (Some Committed) = silence
 on_wait own id (Some Aborted) = silence
 
--- what a restart leaves of a standing: votes that were collected are lost, and the transaction is aborted
+-- what a restart leaves of a standing: votes that were collected are lost, and the transaction
+-- is aborted
 abbrev pub restarted : Standing → Standing
 restarted (Collecting ballot) = Aborted
 restarted Prepared = Prepared

@@ -5,12 +5,14 @@ use Rattle.pw_net.specs.declared.message.Mark.{Mark}
 use Rattle.pw_net.specs.declared.message.Net.{Net}
 use Rattle.pw_net.specs.declared.message.NetId.{NetId}
 
--- the member of each system, and all messages ever sent; a net of n systems is one whose events name 1 to n alone
+-- the member of each system, and all messages ever sent; a net of n systems is one whose events
+-- name 1 to n alone
 pub record World : Type 0 where
   pub members : ℕ → Member
   pub sent : List Net
 
--- the calls of a member, and the delivery of the k-th message sent, from 1; it may come never, often, in any order
+-- the calls of a member, and the delivery of the k-th message sent, from 1; it may come never,
+-- often, in any order
 pub data NetEvent : Type 0 where
   Start : (system : ℕ) (others : List ℕ) → NetEvent
   Refuse : (system : ℕ) (id : NetId) → NetEvent
@@ -46,7 +48,8 @@ effect world (Start system others) = done world system (start (world.members sys
 effect world (Refuse system id) = done world system (refuse (world.members system) id)
 effect world (Ask system id) = done world system (ask (world.members system) id)
 effect world (GiveUp system number) = done world system (give_up (world.members system) number)
-effect world (Restart system) = record world { members = with_member world.members system (restart (world.members system)) }
+effect world (Restart system) =
+    record world { members = with_member world.members system (restart (world.members system)) }
 effect world (Deliver k) = delivered world (message_at world.sent k)
 
 -- no marks, and nothing sent
