@@ -1,0 +1,8 @@
+mod Sent
+mod Standings
+mod Moves
+mod Replies
+mod Worlds
+mod Events
+mod Agrees
+mod Restarts

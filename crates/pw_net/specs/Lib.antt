@@ -1,0 +1,5 @@
+pub mod Agreement
+pub mod Ballot
+pub mod Member
+pub mod Rules
+pub mod World

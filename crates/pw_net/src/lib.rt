@@ -1,0 +1,12 @@
+//! Two-phase commit over several systems: what a member does, and that no two systems of a transaction disagree.
+#![tactic(auto)]
+
+mod ballot;
+pub mod laws;
+pub mod member;
+pub mod message;
+mod reply;
+mod rules;
+mod standing;
+#[cfg(test)]
+mod tests;
