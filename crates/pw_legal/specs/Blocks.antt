@@ -7,8 +7,7 @@ use Rattle.pw_event.specs.declared.event.Ending.{Ending}
 use Rattle.pw_event.specs.declared.event.Ending.TheVariants as ending
 use Rattle.pw_onecopy.specs.Attempt.{Attempt, attempt}
 use Rattle.pw_onecopy.specs.OneCopy.{Machine, Single, beginning, next_attempt, run_block}
-use Rattle.pw_onecopy.specs.Path.{PathAnswer, Replied, entries_on, unit_number}
-use Rattle.pw_onecopy.specs.Path as answer
+use Rattle.pw_onecopy.specs.Path.{PathAnswer, Replied, Dropped, Ended, entries_on, unit_number}
 use Rattle.pw_onecopy.specs.Blocks.{Block, Out, Attempted, Done, How, Committed, Aborted, Restarted, Left}
 use Rattle.pw_onecopy.specs.Behaviour.{Behaviour}
 use Rattle.pw_legal.specs.Values.{is_same_answer, some_with}
@@ -47,14 +46,14 @@ asks_out sys t path _ = false
 
 -- the attempt's last answer is Ended, or Replied for one SEND
 abbrev pub ends_committed : Verb → Option PathAnswer → Bool
-ends_committed asked (Some answer.Ended) = true
+ends_committed asked (Some Ended) = true
 ends_committed (verb.Send class message) (Some (Replied reply)) = true
 ends_committed _ _ = false
 
 -- how an attempt may be over
 abbrev pub may_be : Behaviour → ℕ → Single → Attempt → How → Bool
 may_be sys t single at Committed = ends_committed (sys.ask t single.path) at.last
-may_be sys t single at Aborted = some_with (λ last. is_same_answer last answer.Dropped) at.last
+may_be sys t single at Aborted = some_with (λ last. is_same_answer last Dropped) at.last
 may_be sys t single at Restarted = nat_lt single.restarts (sys.max_restarts t)
 may_be sys t single at Left = true
 

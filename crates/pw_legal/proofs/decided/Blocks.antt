@@ -10,8 +10,7 @@ use Rattle.pw_legal.proofs.decided.Verbs as asked
 use Rattle.pw_legal.specs.Blocks as test
 use Rattle.pw_onecopy.specs.OneCopy.{AsksOut, EndsCommitted, IsGoingOn, IsSerial, IsSerialFrom, LegalBlock, Machine, MayBe, MayEnd, Single, beginning, next_attempt, run_block}
 use Rattle.pw_onecopy.specs.Attempt.{Attempt, GoesOn, IsAttempt, TakesAnswer, attempt}
-use Rattle.pw_onecopy.specs.Path.{PathAnswer, entries_on, unit_number}
-use Rattle.pw_onecopy.specs.Path as answer
+use Rattle.pw_onecopy.specs.Path.{PathAnswer, Dropped, Ended, Replied, entries_on, unit_number}
 use Rattle.pw_onecopy.specs.Blocks.{Block, Out, Attempted, Done, How, Committed, Aborted, Restarted, Left}
 use Rattle.pw_onecopy.specs.Behaviour.{Behaviour}
 
@@ -45,15 +44,15 @@ out sys t path (verb.Accept screen) = below (entries_on path) (sys.entries t)
 out sys t path _ = no (λ h. absurd h)
 
 committed : (v : Verb) (last : Option PathAnswer) → Decides (test.ends_committed v last) (EndsCommitted v last)
-committed v (Some answer.Ended) = yes tt
-committed (verb.Send class message) (Some (answer.Replied reply)) = yes tt
+committed v (Some Ended) = yes tt
+committed (verb.Send class message) (Some (Replied reply)) = yes tt
 committed _ _ = no (λ h. absurd h)
 
 over : (sys : Behaviour) (t : ℕ) (single : Single) (at : Attempt) (how : How) → Decides (test.may_be sys t single at how) (MayBe sys t single at how)
 over sys t single at Committed = committed (sys.ask t single.path) at.last
 over sys t single at Aborted =
-    like (one_with (λ (last : PathAnswer). same_answer last answer.Dropped) at.last)
-    (λ h. h.1 ∙ ap (λ (a : PathAnswer). Some a) h.2) (λ e. (answer.Dropped, e, refl))
+    like (one_with (λ (last : PathAnswer). same_answer last Dropped) at.last)
+    (λ h. h.1 ∙ ap (λ (a : PathAnswer). Some a) h.2) (λ e. (Dropped, e, refl))
 over sys t single at Restarted = below single.restarts (sys.max_restarts t)
 over sys t single at Left = yes tt
 

@@ -13,8 +13,7 @@ use Rattle.pw_onecopy.specs.IsBehaviour.{IsBehaviour}
 use Rattle.pw_onecopy.specs.declared.refresh.Refresh.{Refresh}
 use Rattle.pw_onecopy.specs.Attempt.{Attempt, IsAttempt, TakesAnswer, attempt, attempt_with as attempt_given, answer_verb}
 use Rattle.pw_onecopy.specs.OneCopy.{EndsCommitted, IsSerialFrom, LegalAttempted, Machine, MayBe, Single, next_attempt, one_copy, run_blocks, single_behind}
-use Rattle.pw_onecopy.specs.Path.{PathAnswer, Failed, Replied, is_outside, standing, unit_number}
-use Rattle.pw_onecopy.specs.Path as answer
+use Rattle.pw_onecopy.specs.Path.{PathAnswer, Failed, Replied, Ended, is_outside, standing, unit_number}
 use Rattle.pw_paired.specs.Raising.{is_takeover}
 use Rattle.pw_onecopy.specs.Refreshes.{refreshes_of}
 use Rattle.pw_onecopy.specs.Blocks.{Committed, Attempted, How}
@@ -203,11 +202,11 @@ module _ (sys : Behaviour) (b : IsBehaviour sys) (s : State) (f : Fold) (known :
     stands : path_of s t ≡ before_it.path
     stands = stands-at sys b s f known all stay t who.open_unit who.start (at-work sys b s f known all t who.open_unit who.start who.is_open who.runs) works untaken
 
-    final_is : final ≡ attempt_given answer.Ended before_it
+    final_is : final ≡ attempt_given Ended before_it
     final_is = ap (λ (x : Verb). answer_verb sys t who.open_unit.restarts (committed_files sys s) x before_it) (ap (sys.ask t) (sym stands) ∙ l.asks)
 
     new-path : path_of (effect sys s commit) t ≡ final.path
-    new-path = ap (λ (x : Term). x.path) (upd-same s.terms t _ t refl) ∙ (ap (λ (p : List PathAnswer). p ++ answer.Ended ∷ []) stands ∙ ap (λ (x : Attempt). x.path) (sym final_is))
+    new-path = ap (λ (x : Term). x.path) (upd-same s.terms t _ t refl) ∙ (ap (λ (p : List PathAnswer). p ++ Ended ∷ []) stands ∙ ap (λ (x : Attempt). x.path) (sym final_is))
 
     ended_is : ((effect sys s commit).ended t).number ≡ unit_number (path_of s t)
     ended_is = ap (λ (x : LastEnded). x.number) (upd-same s.ended t _ t refl) ∙ l.number

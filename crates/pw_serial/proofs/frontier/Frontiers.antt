@@ -5,8 +5,7 @@ use Rattle.pw_runs.proofs.terms.KeepsChecks.{path_ok-is}
 use Rattle.pw_runs.proofs.Paths.{Dropped-closing, Ended-closing}
 use Rattle.pw_runs.proofs.terms.TermOk.{HasMessages}
 use Rattle.pw_onecopy.specs.IsBehaviour.{IsBehaviour, IsPath}
-use Rattle.pw_onecopy.specs.Path.{PathAnswer}
-use Rattle.pw_onecopy.specs.Path as answer
+use Rattle.pw_onecopy.specs.Path.{PathAnswer, Dropped, Ended}
 use Rattle.pw_paired.specs.Raising.{is_takeover}
 use Rattle.pw_paired.specs.State.{Copy, End, Start, starting}
 use Rattle.pw_paired.specs.Step.{IsRun, after}
@@ -64,11 +63,11 @@ module _ (sys : Behaviour) (b : IsBehaviour sys) (t : ℕ) (v w : View) (frontie
       at _ is (λ live there. again-kept sys b t v frontier (able-ok able) term able class message asks number)
   frontier-kept (move.commits able asks holds is) =
       at _ is (λ live there.
-      close-kept sys b t v frontier (able-ok able) term able answer.Ended Ended-closing (b.ends t (path_in v) (able-path able) asks) (rw asks tt)
+      close-kept sys b t v frontier (able-ok able) term able Ended Ended-closing (b.ends t (path_in v) (able-path able) asks) (rw asks tt)
       (λ c message sends. absurd (cc (asks, sends))) (λ x faults. absurd (cc (asks, faults))) holds)
   frontier-kept (move.drops able asks holds is) =
       at _ is (λ live there.
-      close-kept sys b t v frontier (able-ok able) term able answer.Dropped Dropped-closing (b.drops t (path_in v) (able-path able) asks) (rw asks tt)
+      close-kept sys b t v frontier (able-ok able) term able Dropped Dropped-closing (b.drops t (path_in v) (able-path able) asks) (rw asks tt)
       (λ c message sends. absurd (cc (asks, sends))) (λ x faults. absurd (cc (asks, faults))) holds)
   frontier-kept (move.restarts unit is_open start runs kind few is) = at _ is (λ live there. restart-kept sys b t v frontier (ok live there) term unit is_open start runs kind)
   frontier-kept (move.goes_down paired is) = at _ is (λ live there. down-kept sys b t v frontier (ok live (λ gone. absurd (cc (gone, paired)))) term)
