@@ -1,9 +1,10 @@
 #!/usr/bin/env bash
 # What the readers cost at three sizes each, in microseconds of processor time for each thing that is read; by how much
-# that cost grows from the smallest size to the largest; and by how much it may grow: by 1.2, and where names are found
-# in an ordered map by the logarithm of their number besides. Look-ups are the time of a run with them less that of one
-# without them, and tokens that of a run less that of making the text. It is no part of the gate. It proves and builds a
-# program of its own in a temporary folder first.
+# that cost grows from the smallest size to the largest; and by how much it may grow: by 1.2, and where names are looked
+# up by the logarithm of their number besides. Look-ups are the time of a run with them less that of one without them,
+# tokens that of a run less that of making the text, and what a procedure has less that of its tokens. Sentences are 1, 4
+# and 16 MiB of text; keys stand in one ACCEPT; branches are opened inside one another, as deep as the size says, and
+# closed again. It is no part of the gate. It proves and builds a program of its own in a temporary folder first.
 set -eu
 here=$(cd "$(dirname "$0")" && pwd)
 work=${1:-$(mktemp -d)}
@@ -12,8 +13,10 @@ program="$work/crates/bench_readers/out/bench_readers"
 build() {
     mkdir -p "$work/crates/bench_readers/src"
     (cd "$here/.." && tar c --exclude=out crates crates.txt HANDLES) | tar x -C "$work"
-    echo 'bench_readers: pw_base pw_code pw_number pw_picture pw_text pw_data pw_event pw_deck' >> "$work/crates.txt"
-    cp "$here/readers/main.rt.txt" "$work/crates/bench_readers/src/main.rt"
+    echo 'bench_readers: pw_base pw_code pw_number pw_picture pw_words pw_text pw_data pw_forms pw_event pw_deck' >> "$work/crates.txt"
+    for part in main procedures texts; do
+        cp "$here/readers/$part.rt.txt" "$work/crates/bench_readers/src/$part.rt"
+    done
     echo "bench: proving and building the program, which takes some minutes" >&2
     (cd "$work/crates/bench_readers" && rt run < /dev/null > "$work/build.log" 2>&1) || true
     [ -x "$program" ] || { cat "$work/build.log" >&2; exit 1; }
@@ -42,7 +45,7 @@ while read -r reader base total small middle large; do
     done | awk -v name="$reader" '
         { cost[NR] = $1 / $2; size[NR] = $3 }
         END {
-            allowed = name ~ /layout|pictures|look-ups/ ? 1.2 * log(size[3]) / log(size[1]) : 1.2
+            allowed = name == "look-ups" ? 1.2 * log(size[3]) / log(size[1]) : 1.2
             printf "%s %d %d %d %.3f %.3f %.3f %.2f %.2f\n", name, size[1], size[2], size[3], cost[1], cost[2], cost[3], cost[3] / cost[1], allowed
         }'
 done << 'READERS'
@@ -52,4 +55,8 @@ pictures - 256000 1000 4000 16000
 look-ups layout 96000 2000 8000 32000
 editing - 12800000 2000 8000 31998
 log-lines - 2048000 2000 8000 32000
+sentences sentence-tokens 1766016 55188 220752 883008
+paragraphs paragraph-tokens 1024000 2000 8000 32000
+keys key-tokens 5119488 624 2499 9999
+branches branch-tokens 2048 4 16 64
 READERS

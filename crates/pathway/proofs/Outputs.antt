@@ -1,5 +1,5 @@
 -- What a deck and a call give.
-use Rattle.std.proofs.Common.{◌≡◌, ℕ, ◌<◌, List, length, Option, None, Some, true, false, Result, Ok, Err, refl, ap, ◌∙◌, subst, arith, length-append}
+use Rattle.std.proofs.Common.{◌≡◌, ℕ, ◌<◌, List, length, Option, None, Some, Bool, true, false, cond, Result, Ok, Err, refl, ap, ◌∙◌, subst, arith, length-append}
 use Rattle.std.specs.Prelude.{IfSome, IfOk, nat_lt}
 use Rattle.std.specs.Io.KnownBytes.{Consumes}
 use Rattle.std.proofs.lemmas.Bool.Decides.{nat_tests}
@@ -8,6 +8,9 @@ use Rattle.pw_base.specs.declared.memory.Memory.{Memory}
 use Rattle.pw_base.specs.Limits.{longest_input, most_entries}
 use Rattle.pw_base.specs.Outside.{WritesAll}
 use Rattle.pw_base.specs.declared.fault.Fault.{Fault}
+use Rattle.pw_command.specs.declared.words.Command.{Command}
+use Rattle.pw_command.specs.declared.words.Command.TheVariants as command
+use Rattle.pw_command.specs.declared.words.Words.{Words}
 use Rattle.pw_display.specs.State.{starting}
 use Rattle.pw_display.specs.Step.{IsRun}
 use Rattle.pw_display.proofs.Serializes.{serializes}
@@ -17,10 +20,10 @@ use Rattle.pathway.specs.declared.run.RunEnd.{RunEnd}
 use Rattle.pathway.specs.declared.run.RunEnd.TheVariants as end
 use Rattle.pathway.specs.declared.status.Status.{Status}
 use Rattle.pathway.specs.declared.status.Status.TheVariants as status
-use Rattle.pathway.specs.Commands.{takes, fault_line}
+use Rattle.pathway.specs.Commands.{is_built, if_built, said, fault_line}
 use Rattle.pathway.specs.Running.{RunsTo, status_of}
 use Rattle.pathway.specs.Source.{deck_system}
-use Rattle.pathway.specs.Statuses.{Reports, Defines, Call, HasText, IsCutOff}
+use Rattle.pathway.specs.Statuses.{Reports, Defines, Call, HasText, IsCutOff, OfDeck, OutputBy}
 use Rattle.pathway.proofs.Source.{behaves}
 
 -- the report of a finished run of a deck's system is one of the deck
@@ -81,10 +84,10 @@ pub refused_long : (left : Option (List ℕ)) (refused : Result (Status × List 
     → (bytes : List ℕ) × IfSome left (λ had. had ≡ bytes) × (longest_input < length bytes)
     → IfOk refused (λ output. (output.0 ≡ status.Refused) × (output.1 ≡ fault_line (record { line = 0; code = InputTooLong })))
     → IfOk result (λ output. refused ≡ Ok output)
-    → IfOk result (λ output. (bytes : List ℕ) × IfSome left (λ had. had ≡ bytes) × Defines output.0 bytes output.1)
+    → IfOk result (λ output. OfDeck left output.0 output.1)
 refused_long left refused (Ok output) long is same =
     let whole = refused_defines long.0 (record { line = 0; code = InputTooLong }) refused (long_fault long.0 long.2) is in
-    (long.0, long.1, rw same at whole)
+    record { bytes = long.0; read = long.1; defined = rw same at whole }
 refused_long left refused (Err e) long is same = tt
 
 -- a text that a sink took in part
@@ -94,13 +97,37 @@ cut_off call status text result count is has writes =
     let some = rw is at writes in
     record { status = status; text = text; has = has; count = count; some = some.0; begun = some.1 }
 
--- the text of a status that a deck defines
-pub has_output : (call : Call) (status : Status) (text : List ℕ) → takes call.words ≡ true
-    → (bytes : List ℕ) × IfSome call.left (λ had. had ≡ bytes) × Defines status bytes text → HasText status call text
-has_output call status.Finished text words o = record { words = words; bytes = o.0; read = o.1; defined = o.2 }
-has_output call status.Limit text words o = record { words = words; bytes = o.0; read = o.1; defined = o.2 }
-has_output call status.Refused text words o = record { words = words; bytes = o.0; read = o.1; defined = o.2 }
-has_output call status.ReadFault text words o = absurd o.2
-has_output call status.WriteFault text words o = absurd o.2
-has_output call status.Memory text words o = absurd o.2
-has_output call status.Usage text words o = absurd o.2
+-- a status that no deck defines, and that is not Finished, has no text
+no_other : (which_status : Status) → (which_status ≡ status.Finished → ⊥) → ((bytes text : List ℕ) → Defines which_status bytes text → ⊥)
+    → (words : Words) (which : Command) (left left_then : Option (List ℕ)) (text : List ℕ) → OutputBy which words left left_then which_status text → ⊥
+no_other s other none words command.Run left left_then text o = none o.bytes text o.defined
+no_other s other none words command.Gen left left_then text o = other o.finished
+no_other s other none words command.Trial left left_then text o = o
+no_other s other none words command.Check left left_then text o = o
+no_other s other none words command.Verify left left_then text o = o
+no_other s other none words command.Disc left left_then text o = o
+no_other s other none words command.Trail left left_then text o = o
+no_other s other none words command.Status left left_then text o = o
+no_other s other none words command.Expand left left_then text o = o
+
+-- the text of a status that the words and the source define
+pub has_output : (call : Call) (status : Status) (text : List ℕ) (words : Words) → said call.words ≡ Some words
+    → OutputBy words.command words call.left call.left_then status text → HasText status call text
+has_output call status.Finished text words say o = record { words = words; say = say; output = o }
+has_output call status.Limit text words say o = record { words = words; say = say; output = o }
+has_output call status.Refused text words say o = record { words = words; say = say; output = o }
+has_output call status.ReadFault text words say o = record { words = words; say = say; output = o }
+has_output call status.WriteFault text words say o = record { words = words; say = say; output = o }
+has_output call status.Memory text words say o = record { words = words; say = say; output = o }
+has_output call status.Usage text words say o = absurd (no_other status.Usage (λ e. absurd (cc e)) (λ bytes t d. d) words words.command call.left call.left_then text o)
+
+built_by : (words built : Words) (test : Bool) → is_built words.command ≡ test → Some built ≡ cond test (Some words) None → is_built built.command ≡ true
+built_by words built true is same =
+    let words_are : built ≡ words = cc in
+    ap (λ (w : Words). is_built w.command) words_are ∙ is
+built_by words built false is same = absurd (cc same)
+
+-- what is said is of a command that is built
+pub built_of : (found : Option Words) (words : Words) → Some words ≡ if_built found → is_built words.command ≡ true
+built_of None words same = absurd (cc same)
+built_of (Some found) words same = built_by found words (is_built found.command) refl same

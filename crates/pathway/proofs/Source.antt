@@ -1,6 +1,6 @@
 -- The code of a deck behaves as its program.
 use Rattle.std.proofs.Common.{◌≡◌, ℕ, zero, suc, ◌+◌, List, [], ◌∷◌, refl, ap, ◌∙◌, arith}
-use Rattle.pw_code.specs.declared.code.Instr.{Instr}
+use Rattle.pw_code.specs.declared.instr.Instr.{Instr}
 use Rattle.pw_code.specs.declared.verb.Answer.{Answer}
 use Rattle.pw_terminal.specs.Screen.{blank_cells, with_message}
 use Rattle.pw_machine.specs.Running.{instr_at, behind, asked_by, place_after, verb_at, place_at_verb, code_ask, code_image}

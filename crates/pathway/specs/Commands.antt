@@ -1,19 +1,31 @@
 -- The words of the command line, and the lines that are written where no report is.
-use Rattle.std.specs.Prelude.{ℕ, List, [], ◌∷◌, ◌++◌, Bool, false, codes}
+use Rattle.std.specs.Prelude.{ℕ, List, [], ◌∷◌, ◌++◌, Bool, true, false, codes, Option, None, Some, if◌then◌else◌}
 use Rattle.std.specs.Fmt.{decimal}
 use Rattle.pw_base.specs.declared.fault.Fault.{Fault}
 use Rattle.pw_base.specs.FaultCodes.{number, text}
-use Rattle.std.specs.Str.{bytes_eq}
+use Rattle.pw_command.specs.CommandLine.{command_of}
+use Rattle.pw_command.specs.declared.words.Command.{Command}
+use Rattle.pw_command.specs.declared.words.Command.TheVariants as command
+use Rattle.pw_command.specs.declared.words.Words.{Words}
 
--- the words are the one word `run`
-abbrev pub takes : List (List ℕ) → Bool
-takes [] = false
-takes (word ∷ []) = bytes_eq word (codes "run")
-takes (word ∷ next ∷ words) = false
+-- the commands that are built
+abbrev pub is_built : Command → Bool
+is_built command.Run = true
+is_built command.Gen = true
+is_built _ = false
 
--- the line that is written where the words are not the command's
+-- what words say, where their command is built
+abbrev pub if_built : Option Words → Option Words
+if_built None = None
+if_built (Some said) = if is_built said.command then Some said else None
+
+-- what the words say, if they are those of a command that is built
+abbrev pub said : List (List ℕ) → Option Words
+said words = if_built (command_of words)
+
+-- the line that is written where the words say nothing
 abbrev pub usage_line : List ℕ
-usage_line = codes "USAGE: pathway run\n"
+usage_line = codes "USAGE: pathway run|gen [--workers N] [--events N] [--seed N] [--terms N] [--at N]\n"
 
 -- the line of a deck's first fault
 abbrev pub fault_line : Fault → List ℕ

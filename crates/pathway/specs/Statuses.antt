@@ -1,10 +1,14 @@
 -- The table of statuses: where each comes, and what is written then.
-use Rattle.std.specs.Prelude.{◌≡◌, ℕ, ◌<◌, List, length, take, Bool, true, false, Option, Ok, Err, IfSome}
+use Rattle.std.specs.Prelude.{◌≡◌, ℕ, ◌<◌, List, length, take, Bool, true, false, Option, None, Some, Ok, Err, IfSome}
 use Rattle.std.specs.Io.KnownBytes.{Appends, Keeps}
 use Rattle.pw_base.specs.declared.fault.Fault.{Fault}
 use Rattle.pw_base.specs.Limits.{most_entries}
 use Rattle.pw_base.specs.Outside.{Rose}
+use Rattle.pw_command.specs.declared.words.Command.{Command}
+use Rattle.pw_command.specs.declared.words.Command.TheVariants as command
+use Rattle.pw_command.specs.declared.words.Words.{Words}
 use Rattle.pw_event.specs.declared.event.Event.{Event}
+use Rattle.pw_gen.specs.Generated.{generated}
 use Rattle.pw_display.specs.State.{starting}
 use Rattle.pw_display.specs.Step.{IsRun, after, is_finished}
 use Rattle.pw_display.specs.Serial.{IsSerializable}
@@ -14,7 +18,7 @@ use Rattle.pathway.specs.declared.status.Status.{Status}
 use Rattle.pathway.specs.declared.status.Status.TheVariants.{Finished, Refused, Limit, ReadFault, WriteFault, Memory, Usage}
 use Rattle.pathway.specs.Numbers.{number_of}
 use Rattle.pathway.specs.Source.{deck_system}
-use Rattle.pathway.specs.Commands.{takes, usage_line, fault_line}
+use Rattle.pathway.specs.Commands.{said, usage_line, fault_line}
 
 -- The headline. The deck has no fault, the log is a run of it, the one-copy machine runs the log's serial order
 -- and shows its screens, each numbered refresh counted once, and the text is the report of the log.
@@ -66,16 +70,37 @@ pub record Call : Type 0 where
   pub write_faults : ℕ
   pub write_faults_then : ℕ
 
--- the text of a status, for the bytes that the source had left, where it tells them
-pub record IsOutput (status : Status) (call : Call) (text : List ℕ) : Type 0 where
-  pub words : takes call.words ≡ true
+-- what a deck's bytes define, which are those that the source had left, where it tells them
+pub record OfDeck (left : Option (List ℕ)) (status : Status) (text : List ℕ) : Type 0 where
   pub bytes : List ℕ
-  pub read : IfSome call.left (λ left. left ≡ bytes)
+  pub read : IfSome left (λ had. had ≡ bytes)
   pub defined : Defines status bytes text
 
--- the usage line is the text of words that are not the command's
+-- the text is the generated deck, and the source was not read
+pub record OfSeed (said : Words) (left left_then : Option (List ℕ)) (status : Status) (text : List ℕ) : Type 0 where
+  pub finished : status ≡ Finished
+  pub deck : text ≡ generated said.seed said.terms
+  pub unread : Keeps left left_then
+
+-- the text of a status, by the command
+abbrev pub OutputBy : Command → Words → Option (List ℕ) → Option (List ℕ) → Status → List ℕ → Type 0
+OutputBy command.Run said left left_then status text = OfDeck left status text
+OutputBy command.Gen said left left_then status text = OfSeed said left left_then status text
+OutputBy _ said left left_then status text = ⊥
+
+-- the text of a status, for words that say something
+pub record IsOutput (status : Status) (call : Call) (text : List ℕ) : Type 0 where
+  pub words : Words
+  pub say : said call.words ≡ Some words
+  pub output : OutputBy words.command words call.left call.left_then status text
+
+-- the words ask for a run
+abbrev pub AsksRun : Call → Type 0
+AsksRun call = (words : Words) × (said call.words ≡ Some words) × (words.command ≡ command.Run)
+
+-- the usage line is the text of words that say nothing
 abbrev pub IsUsage : Call → List ℕ → Type 0
-IsUsage call text = (takes call.words ≡ false) × (text ≡ usage_line)
+IsUsage call text = (said call.words ≡ None) × (text ≡ usage_line)
 
 -- which text a status has
 abbrev pub HasText : Status → Call → List ℕ → Type 0
@@ -101,9 +126,9 @@ Means Finished call = Writes Finished call
 Means Limit call = Writes Limit call
 Means Refused call = Writes Refused call
 Means Usage call = Writes Usage call × Keeps call.left call.left_then
-Means ReadFault call = (takes call.words ≡ true) × Keeps call.written call.written_then
+Means ReadFault call = AsksRun call × Keeps call.written call.written_then
 Means WriteFault call = IsCutOff call
-Means Memory call = (takes call.words ≡ true) × Keeps call.written call.written_then
+Means Memory call = Keeps call.written call.written_then
 
 -- how the counts of faults go on: the source's rises at ReadFault alone, the sink's at WriteFault alone, and each of
 -- them else is as it was

@@ -1,27 +1,41 @@
 ghost use Rattle.std.specs.Prelude.{◌≡◌, IfOk, map, string_bytes};
-ghost use Rattle.pathway.specs.Commands.{takes, fault_line, usage_line};
+ghost use Rattle.pathway.specs.Commands.{is_built, said, fault_line, usage_line};
 
 use pw_base::bytes::Bytes;
 use pw_base::fault::Fault;
 use pw_base::memory::Memory;
+use pw_command::read::read_words;
+use pw_command::words::{Command, Words, WordsFault};
 use pw_words::texts::refusal_text;
 use std::alloc::Global;
 
-/// Whether the words are the command's: the one word `run`.
-pub fn takes(words: &[String]) -> bool
-    ensures { result ≡ takes (map string_bytes words.now) }
+/// Whether a command is built.
+fn is_built(command: Command) -> bool
+    ensures { result ≡ is_built command }
 {
-    match words {
-        [word] => word.as_str() == "run",
+    match command {
+        Command::Run | Command::Gen => true,
         _ => false,
     }
 }
 
-/// The line that is written where the words are not the command's.
+/// What the words say; None exactly where they are not those of a command that is built.
+pub fn said(alloc: Global, words: &[String]) -> Result<Option<Words>, Memory>
+    ensures { IfOk result (λ words_say. words_say ≡ said (map string_bytes words.now)) }
+{
+    match read_words(alloc, words) {
+        Ok(said) if is_built(said.command) => Ok(Some(said)),
+        Ok(_) => Ok(None),
+        Err(WordsFault::Refused) => Ok(None),
+        Err(WordsFault::Memory) => Err(Memory),
+    }
+}
+
+/// The line that is written where the words say nothing.
 pub fn usage_line() -> &'static [u8]
     ensures { result.now ≡ usage_line }
 {
-    b"USAGE: pathway run\n"
+    b"USAGE: pathway run|gen [--workers N] [--events N] [--seed N] [--terms N] [--at N]\n"
 }
 
 /// The line of a deck's first fault.

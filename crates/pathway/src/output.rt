@@ -1,9 +1,10 @@
-ghost use Rattle.std.specs.Prelude.{◌≡◌, ◌≤◌, List, ℕ, Ok, IfOk, IfErr, IfSome, OnOk};
+ghost use Rattle.std.specs.Prelude.{◌≡◌, ◌≤◌, true, Ok, IfOk, IfErr, OnOk};
 ghost use Rattle.pw_base.specs.Limits.{most_entries};
 ghost use Rattle.pw_code.specs.Valid.{IsValid};
-ghost use Rattle.pathway.specs.Commands.{fault_line};
+ghost use Rattle.pw_gen.specs.Generated.{generated};
+ghost use Rattle.pathway.specs.Commands.{is_built, fault_line};
 ghost use Rattle.pathway.specs.Running.{RunsTo, status_of};
-ghost use Rattle.pathway.specs.Statuses.{Defines, GivesUp};
+ghost use Rattle.pathway.specs.Statuses.{Defines, GivesUp, OfDeck, OutputBy};
 
 use crate::commands::fault_line;
 use crate::run::{RunEnd, run};
@@ -15,7 +16,9 @@ use pw_base::memory::Memory;
 use pw_base::read_all::{ReadFault, read_all};
 use pw_base::source::Source;
 use pw_code::system::System;
+use pw_command::words::{Command, Words};
 use pw_deck::deck::read_deck;
+use pw_gen::generate::generate;
 use pw_report::report::report;
 use pw_world::world::World;
 use std::alloc::Global;
@@ -26,9 +29,37 @@ const TOO_LONG: Fault = Fault {
     code: FaultCode::InputTooLong,
 };
 
+/// The status and the text of a command that is built, or the status of a call that has none.
+pub fn output_by<S: Source>(
+    alloc: Global,
+    said: Words,
+    source: &mut S,
+) -> Result<(Status, Bytes), Status>
+    requires { is_built said.command ≡ true }
+    ensures ok { IfOk result (λ output. OutputBy said.command said (S.left source.old) (S.left source.new) output.0 output.1) }
+    ensures err { IfErr result (λ status. GivesUp status (S.faults source.old) (S.faults source.new)) }
+    ensures run { IfErr result (λ status. status ≡ Status.ReadFault → said.command ≡ Command.Run) }
+    ensures kept { OnOk result (S.faults source.new ≡ S.faults source.old) }
+    ensures count { S.faults source.old ≤ S.faults source.new }
+{
+    match said.command {
+        Command::Run => output_of(alloc, source),
+        Command::Gen => or_memory(generated(alloc, said)),
+        _ => unreachable!(),
+    }
+}
+
+/// The generated deck.
+fn generated(alloc: Global, said: Words) -> Result<(Status, Bytes), Memory>
+    ensures { IfOk result (λ output. (output.0 ≡ Status.Finished) × (output.1 ≡ generated said.seed said.terms)) }
+{
+    let deck = generate(alloc, said.seed, said.terms)?;
+    Ok((Status::Finished, deck))
+}
+
 /// Reads the source and runs its deck: the status and its text, or the status of a call that has none.
-pub fn output_of<S: Source>(alloc: Global, source: &mut S) -> Result<(Status, Bytes), Status>
-    ensures ok { IfOk result (λ output. (bytes : List ℕ) × IfSome (S.left source.old) (λ left. left ≡ bytes) × Defines output.0 bytes output.1) }
+fn output_of<S: Source>(alloc: Global, source: &mut S) -> Result<(Status, Bytes), Status>
+    ensures ok { IfOk result (λ output. OfDeck (S.left source.old) output.0 output.1) }
     ensures err { IfErr result (λ status. GivesUp status (S.faults source.old) (S.faults source.new)) }
     ensures kept { OnOk result (S.faults source.new ≡ S.faults source.old) }
     ensures count { S.faults source.old ≤ S.faults source.new }

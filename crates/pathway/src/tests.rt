@@ -52,6 +52,9 @@ fn outcome(
 
 const TWO_DISPLAYS: &[u8] = b"DISPLAY \"ONE\".\nDISPLAY \"TWO\".\nSTOP RUN.\n";
 
+const USAGE: &str =
+    "USAGE: pathway run|gen [--workers N] [--events N] [--seed N] [--terms N] [--at N]\n";
+
 const TWO_DISPLAYS_REPORT: &str = "SERIAL
 OUT T1
 OUT T1
@@ -107,11 +110,30 @@ fn usage_source_and_sink_faults(rt: HostRuntime) -> Result<(), Fail> {
     let alloc = rt.alloc();
     let deck = deck(alloc, TWO_DISPLAYS)?;
     let deck = deck.as_slice();
-    for texts in [["fly"].as_slice(), &[], &["run", "run"], &["Run"]] {
+    for texts in [
+        ["fly"].as_slice(),
+        &[],
+        &["run", "run"],
+        &["Run"],
+        &["run", "--workers", "17"],
+        &["--help"],
+        &["expand"],
+    ] {
         let (status, written) = outcome(alloc, texts, deck, &[], 1_000, &[])?;
         assert_eq!(rt; status, 7);
-        assert_eq!(rt; written.as_slice(), b"USAGE: pathway run\n".as_slice());
+        assert_eq!(rt; written.as_slice(), USAGE.as_bytes());
     }
+    for texts in [
+        ["run", "--workers", "1"].as_slice(),
+        &["--at=3", "run", "--seed", "+04"],
+    ] {
+        let (status, written) = outcome(alloc, texts, deck, &[], 1_000, &[])?;
+        assert_eq!(rt; status, 0);
+        assert_eq!(rt; written.as_slice(), TWO_DISPLAYS_REPORT.as_bytes());
+    }
+    let (status, written) = outcome(alloc, &["gen", "--terms", "1"], deck, &[1], 1_000, &[])?;
+    assert_eq!(rt; status, 0);
+    assert_eq!(rt; written.len(), 2_006);
     let (status, written) = outcome(alloc, &["run"], deck, &[1], 1_000, &[])?;
     assert_eq!(rt; status, 4);
     assert_eq!(rt; written.len(), 0);

@@ -1,16 +1,17 @@
 ghost use Rattle.std.specs.Prelude.{◌≡◌, ◌≤◌, map, string_bytes};
 ghost use Rattle.pathway.specs.Statuses.{Ends, Means, Counts};
 
-use crate::commands::{takes, usage_line};
-use crate::output::output_of;
+use crate::commands::{said, usage_line};
+use crate::output::output_by;
 use crate::status::Status;
+use pw_base::memory::Memory;
 use pw_base::sink::Sink;
 use pw_base::source::Source;
 use pw_base::write_all::write_all_of;
 use std::alloc::Global;
 
 /// The program: by the words after its name it reads a deck from the source, runs it, and writes the
-/// report of the run to the sink. It answers the exit status.
+/// report of the run to the sink; or it writes the generated deck. It answers the exit status.
 ///
 /// The clause `ends` is the headline: where the deck has no fault the report is that of a run, and
 /// the screens are those of a machine that runs the log's serial order one block at a time. It has
@@ -66,13 +67,17 @@ fn call<S: Source, K: Sink>(alloc: Global, words: &[String], source: &mut S, sin
     ensures read_count { S.faults source.old ≤ S.faults source.new }
     ensures write_count { K.faults sink.old ≤ K.faults sink.new }
 {
-    if !takes(words) {
-        return match write_all_of(sink, usage_line()) {
-            Ok(()) => Status::Usage,
-            Err(_) => Status::WriteFault,
-        };
-    }
-    let (status, text) = match output_of(alloc, source) {
+    let said = match said(alloc, words) {
+        Ok(Some(said)) => said,
+        Ok(None) => {
+            return match write_all_of(sink, usage_line()) {
+                Ok(()) => Status::Usage,
+                Err(_) => Status::WriteFault,
+            };
+        }
+        Err(Memory) => return Status::Memory,
+    };
+    let (status, text) = match output_by(alloc, said, source) {
         Ok(output) => output,
         Err(status) => return status,
     };

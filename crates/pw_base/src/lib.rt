@@ -3,6 +3,7 @@
 #![tactic(auto)]
 
 pub mod bytes;
+mod bytes_order;
 pub mod fault;
 pub mod fault_code;
 pub mod laws;

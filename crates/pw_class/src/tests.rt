@@ -17,11 +17,15 @@ use std::test::Fail;
 
 /// The program of a server that does nothing.
 fn server(alloc: Global) -> Result<Code, Memory>
-    ensures { IfOk result (λ code. code.instrs ≡ []) }
+    ensures instrs { IfOk result (λ code. code.instrs ≡ []) }
+    ensures storage { IfOk result (λ code. code.storage ≡ []) }
+    ensures linkage { IfOk result (λ code. code.linkage ≡ []) }
 {
     Ok(Code {
         name: Bytes::from_slice(alloc, b"SERVER")?,
         instrs: List::new(alloc),
+        storage: Bytes::new(alloc),
+        linkage: List::new(alloc),
     })
 }
 
@@ -50,6 +54,7 @@ fn system_of(alloc: Global, classes: List<ClassInfo>) -> Result<System, Memory>
     Ok(System {
         programs: List::new(alloc),
         servers,
+        screens: List::new(alloc),
         classes,
         files: List::new(alloc),
         tcps: List::new(alloc),

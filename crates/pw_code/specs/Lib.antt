@@ -1,8 +1,13 @@
+pub mod Contexts
 pub mod Entry
-pub mod Limits
 pub mod Fields
+pub mod Instrs
+pub mod Limits
 pub mod Locks
 pub mod Names
 pub mod Path
+pub mod Places
 pub mod Screen
+pub mod Spelling
+pub mod Thin
 pub mod Valid

@@ -1,9 +1,11 @@
 -- A system whose numbers name what is there, and which keeps the limits.
-use Rattle.std.specs.Prelude.{◌<◌, ◌≤◌, ◌^◌, length, map, take, All}
+use Rattle.std.specs.Prelude.{ℕ, ◌+◌, ◌<◌, ◌≤◌, ◌^◌, Bool, true, false, length, map, take, All}
 use Rattle.std.specs.List.{IsDistinct}
 use Rattle.std.specs.Str.{bytes_eq}
 use Rattle.pw_base.specs.Lengths.{IsKeyLength, IsContent}
+use Rattle.pw_base.specs.Limits.{most_storage}
 use Rattle.pw_code.specs.Entry.{Entry}
+use Rattle.pw_code.specs.Instrs.{AreInstrs}
 use Rattle.pw_code.specs.Limits.{most_programs, most_servers, most_classes, most_processes, most_files, most_tcps, most_terminals, most_restarts, most_entry_lines, last_key}
 use Rattle.pw_code.specs.Names.{AreNames}
 use Rattle.pw_code.specs.declared.code.Code.{Code}
@@ -12,9 +14,16 @@ use Rattle.pw_code.specs.declared.system.ClassInfo.{ClassInfo}
 use Rattle.pw_code.specs.declared.system.System.{System}
 use Rattle.pw_code.specs.declared.system.TermInfo.{TermInfo}
 
--- the places of a program, and the one behind its last instruction, fit a `u32`
-abbrev pub HasPlaces : Code → Type 0
-HasPlaces code = length code.instrs < 2 ^ 32
+-- an item of a program's linkage lies in its storage
+abbrev pub IsLinked : ℕ → ℕ × ℕ → Type 0
+IsLinked storage item = item.0 + item.1 ≤ storage
+
+-- The code of a server or of a terminal's program. Its places, and the one behind its last instruction, fit a `u32`.
+pub record IsCode (server : Bool) (system : System) (code : Code) : Type 0 where
+  pub places : length code.instrs < 2 ^ 32
+  pub instrs : AreInstrs server system code code.instrs
+  pub storage : length code.storage ≤ most_storage
+  pub linkage : All (IsLinked (length code.storage)) code.linkage
 
 -- the key of an entry line is F1 to F16 or SF1 to SF16
 abbrev pub HasKey : Entry → Type 0
@@ -51,6 +60,7 @@ pub record HasNames (system : System) : Type 0 where
 pub record HasFew (system : System) : Type 0 where
   pub programs : length system.programs ≤ most_programs
   pub servers : length system.servers ≤ most_servers
+  pub screens : length system.screens < 2 ^ 32
   pub classes : length system.classes ≤ most_classes
   pub files : length system.files ≤ most_files
   pub tcps : length system.tcps ≤ most_tcps
@@ -58,8 +68,8 @@ pub record HasFew (system : System) : Type 0 where
 
 -- the system is one that a deck may say
 pub record IsValid (system : System) : Type 0 where
-  pub programs : All HasPlaces system.programs
-  pub servers : All HasPlaces system.servers
+  pub programs : All (IsCode false system) system.programs
+  pub servers : All (IsCode true system) system.servers
   pub terminals : All (IsTerminal system) system.terminals
   pub classes : All (IsClass system) system.classes
   pub files : All IsDeckFile system.files

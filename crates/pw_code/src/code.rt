@@ -1,32 +1,25 @@
 use crate::copies::Duplicate;
+use crate::instr::Instr;
 use pw_base::bytes::Bytes;
 use pw_base::list::List;
 use pw_base::memory::Memory;
 use std::alloc::Global;
 
-/// One instruction of a program.
-#[derive(Debug, Drop)]
-pub enum Instr {
-    /// Puts a text on row 24 and shows the screen.
-    Display(Bytes),
-    /// Ends the program, and so its terminal.
-    StopRun,
-}
-
-impl Duplicate for Instr {
-    fn copy(&self, alloc: Global) -> Result<Instr, Memory> {
-        match self {
-            Instr::Display(text) => Ok(Instr::Display(text.copy(alloc)?)),
-            Instr::StopRun => Ok(Instr::StopRun),
-        }
-    }
-}
-
-/// A compiled program. Behind its last instruction it acts as at `StopRun`.
+/// A compiled program.
 #[derive(Debug, Drop)]
 pub struct Code {
     pub name: Bytes,
     pub instrs: List<Instr>,
+    /// The characters with which its items begin, at most 32,000.
+    pub storage: Bytes,
+    /// Where in the storage each of the items lies into which arguments are copied, and its size.
+    pub linkage: List<(u32, u32)>,
+}
+
+impl Duplicate for (u32, u32) {
+    fn copy(&self, _alloc: Global) -> Result<(u32, u32), Memory> {
+        Ok(*self)
+    }
 }
 
 impl Duplicate for Code {
@@ -34,6 +27,8 @@ impl Duplicate for Code {
         Ok(Code {
             name: self.name.copy(alloc)?,
             instrs: self.instrs.copy(alloc)?,
+            storage: self.storage.copy(alloc)?,
+            linkage: self.linkage.copy(alloc)?,
         })
     }
 }

@@ -3,13 +3,19 @@
 #![tactic(auto)]
 
 pub mod code;
+pub mod cond;
 pub mod context;
 pub mod copies;
 pub mod entry;
 pub mod field;
 pub mod file;
+pub mod instr;
 pub mod limits;
+pub mod links;
 pub mod lock;
+pub mod operand;
+pub mod place;
+pub mod same;
 pub mod screen;
 pub mod system;
 #[cfg(test)]

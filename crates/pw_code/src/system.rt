@@ -3,6 +3,7 @@ ghost use Rattle.std.specs.Prelude.{◌≡◌, IfOk};
 use crate::code::Code;
 use crate::copies::Duplicate;
 use crate::entry::EntryLine;
+use crate::field::ScreenTable;
 use crate::file::FileInfo;
 use crate::lock::LockRule;
 use pw_base::bytes::Bytes;
@@ -83,14 +84,16 @@ impl Duplicate for ClassInfo {
     }
 }
 
-/// What a deck says. Programs, classes, files, pairs and terminals are named by their numbers, from 0, in order
-/// of declaration.
+/// What a deck says. Programs, screens, classes, files, pairs and terminals are named by their numbers, from 0,
+/// in order of declaration; screens are numbered through all programs.
 #[derive(Debug, Drop)]
 pub struct System {
     /// The programs of terminals.
     pub programs: List<Code>,
     /// The programs of servers.
     pub servers: List<Code>,
+    /// The screens of the programs of terminals.
+    pub screens: List<ScreenTable>,
     pub classes: List<ClassInfo>,
     pub files: List<FileInfo>,
     /// The names of the pairs.
@@ -107,6 +110,7 @@ impl System {
         Ok(System {
             programs: self.programs.copy(alloc)?,
             servers: self.servers.copy(alloc)?,
+            screens: self.screens.copy(alloc)?,
             classes: self.classes.copy(alloc)?,
             files: self.files.copy(alloc)?,
             tcps: self.tcps.copy(alloc)?,

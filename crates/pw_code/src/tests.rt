@@ -1,11 +1,15 @@
 ghost use Rattle.std.specs.Prelude.{◌≡◌, ◌<◌, ◌∷◌, [], IfOk};
 
-use crate::code::{Code, Instr};
-use crate::context::Context;
+use crate::code::Code;
+use crate::cond::{Comparison, Cond, Operator};
+use crate::context::{Context, Frame, Return};
 use crate::entry::EntryLine;
 use crate::file::FileInfo;
+use crate::instr::Instr;
 use crate::limits::limit_laws;
 use crate::lock::LockRule;
+use crate::operand::Operand;
+use crate::place::{Kind, Place, Register, Subscript, Table};
 use crate::screen::{CELLS, ScreenImage};
 use crate::system::{ClassInfo, System, TermInfo};
 use pw_base::bytes::Bytes;
@@ -24,16 +28,43 @@ fn screen_with(alloc: Global, place: usize) -> Result<ScreenImage, Memory>
     Ok(ScreenImage { cells })
 }
 
-/// A program at work, with a cell other than a space on its screen at `place`.
-fn context_with(alloc: Global, place: usize) -> Result<Context, Memory>
+/// A program at work that called another, with a cell other than a space on its screen at `place`.
+fn context_with(alloc: Global, place: usize, turns: u64) -> Result<Context, Memory>
     requires { place < 1920 }
 {
+    let mut frames = list_of(alloc, frame(alloc, 2, 0)?)?;
+    frames.push(frame(alloc, 1, turns)?)?;
     Ok(Context {
+        termination: 1,
+        restarts: 2,
+        file_status: 0,
+        phase: 3,
+        attempt: 2,
         shown: 3,
+        entries: 7,
+        units: 1,
+        in_unit: true,
+        mode: 0,
+        fault: 0,
         at_verb: false,
+        count: 12,
         screen: screen_with(alloc, place)?,
-        program: 2,
+        frames,
+    })
+}
+
+/// A program that is active in a PERFORM with so many turns left.
+fn frame(alloc: Global, program: u16, turns: u64) -> Result<Frame, Memory> {
+    let active = Return {
+        resume: 6,
+        until: 9,
+        turns,
+    };
+    Ok(Frame {
+        program,
         at: 5,
+        storage: Bytes::from_slice(alloc, b"0005AB")?,
+        returns: list_of(alloc, active)?,
     })
 }
 
@@ -44,35 +75,19 @@ fn expect_same(rt: &impl Abort, one: &Context, other: &Context, same: bool) {
 }
 
 #[test]
-fn a_copy_is_the_same(rt: HostRuntime) -> Result<(), Fail> {
-    let context = context_with(rt.alloc(), 1919)?;
-    let copy = context.copy(rt.alloc())?;
+fn a_copy_is_the_same_until_a_part_changes(rt: HostRuntime) -> Result<(), Fail> {
+    let context = context_with(rt.alloc(), 1919, 4)?;
+    let mut copy = context.copy(rt.alloc())?;
     expect_same(&rt, &context, &copy, true);
     expect_same(&rt, &context, &context.duplicate()?, true);
+    expect_same(&rt, &context, &context_with(rt.alloc(), 1919, 5)?, false);
+    expect_same(&rt, &context, &context_with(rt.alloc(), 1918, 4)?, false);
+    copy.frames = List::new(rt.alloc());
+    expect_same(&rt, &context, &copy, false);
+    let mut copy = context.duplicate()?;
+    copy.count = 13;
+    expect_same(&rt, &context, &copy, false);
     limit_laws();
-    Ok(())
-}
-
-#[test]
-fn each_field_counts(rt: HostRuntime) -> Result<(), Fail> {
-    let context = context_with(rt.alloc(), 1919)?;
-    let mut other = context_with(rt.alloc(), 1919)?;
-    expect_same(&rt, &context, &other, true);
-    other.shown = 4;
-    expect_same(&rt, &context, &other, false);
-    other.shown = 3;
-    other.at_verb = true;
-    expect_same(&rt, &context, &other, false);
-    other.at_verb = false;
-    other.program = 1;
-    expect_same(&rt, &context, &other, false);
-    other.program = 2;
-    other.at = 6;
-    expect_same(&rt, &context, &other, false);
-    other.at = 5;
-    expect_same(&rt, &context, &other, true);
-    other.screen = screen_with(rt.alloc(), 1918)?;
-    expect_same(&rt, &context, &other, false);
     Ok(())
 }
 
@@ -95,13 +110,49 @@ fn list_of<T: Drop>(alloc: Global, item: T) -> Result<List<T>, Memory>
     Ok(list)
 }
 
-/// A program of two instructions.
+/// A place of four digits in a table.
+fn place() -> Place {
+    Place {
+        at: 2,
+        size: 4,
+        kind: Kind::Number {
+            digits: 4,
+            places: 0,
+            signed: false,
+        },
+        table: Some(Table {
+            subscript: Subscript::Register(Register::Termination),
+            occurs: 1,
+            step: 4,
+        }),
+    }
+}
+
+/// A program that moves a text, compares it with SPACES and stops.
 fn code(alloc: Global, name: &[u8]) -> Result<Code, Memory> {
-    let text = Bytes::from_slice(alloc, b"HELLO")?;
-    let mut instrs = list_of(alloc, Instr::Display(text))?;
+    let text = Operand::Text(Bytes::from_slice(alloc, b"HELLO")?);
+    let to = list_of(alloc, place())?;
+    let test = Comparison::Compare {
+        left: Operand::Item(place()),
+        negated: true,
+        operator: Operator::Less,
+        right: Operand::Spaces,
+    };
+    let cond = Cond {
+        any: list_of(alloc, list_of(alloc, test)?)?,
+    };
+    let mut instrs = list_of(alloc, Instr::Move { from: text, to })?;
+    instrs.push(Instr::JumpUnless(cond, 1))?;
     instrs.push(Instr::StopRun)?;
     let name = Bytes::from_slice(alloc, name)?;
-    Ok(Code { name, instrs })
+    let storage = Bytes::from_slice(alloc, b"AB0000")?;
+    let linkage = list_of(alloc, (2, 4))?;
+    Ok(Code {
+        name,
+        instrs,
+        storage,
+        linkage,
+    })
 }
 
 /// A terminal with one entry line.
@@ -138,6 +189,7 @@ fn system(alloc: Global) -> Result<System, Memory> {
     Ok(System {
         programs: list_of(alloc, code(alloc, b"KEYS")?)?,
         servers: list_of(alloc, code(alloc, b"STORE-P")?)?,
+        screens: List::new(alloc),
         classes: list_of(alloc, class)?,
         files: list_of(alloc, file)?,
         tcps: list_of(alloc, Bytes::from_slice(alloc, b"TCP-1")?)?,
@@ -153,7 +205,19 @@ fn a_system_copy_has_its_parts(rt: HostRuntime) -> Result<(), Fail> {
         panic!(rt; "not one server");
     };
     assert_eq!(rt; server.name.as_slice(), b"STORE-P".as_slice());
-    assert_eq!(rt; server.instrs.len(), 2);
+    assert_eq!(rt; server.storage.as_slice(), b"AB0000".as_slice());
+    assert_eq!(rt; server.linkage.as_slice(), [(2, 4)].as_slice());
+    let [
+        Instr::Move { from, to },
+        Instr::JumpUnless(_, over),
+        Instr::StopRun,
+    ] = server.instrs.as_slice()
+    else {
+        panic!(rt; "not the instructions");
+    };
+    assert!(rt; matches!(from, Operand::Text(_)));
+    assert_eq!(rt; to.as_slice(), [place()].as_slice());
+    assert_eq!(rt; *over, 1);
     let [file] = copy.files.as_slice() else {
         panic!(rt; "not one file");
     };

@@ -3,17 +3,14 @@ use Rattle.std.proofs.Common.{◌≡◌, ℕ, suc, ◌+◌, ◌<◌, Bool, true,
 use Rattle.std.specs.Prelude.{Vec, bytes_eq, is_some, slice_get, find, if◌then◌else◌}
 use Rattle.std.specs.Option.{option_or}
 use Rattle.std.specs.Str.{str_to_ascii_lowercase}
-use Rattle.std.specs.Ordering.{is_eq, nat_cmp}
-use Rattle.std.specs.Cmp.Lexicographic.{slice_cmp, texts_ties}
-use Rattle.std.specs.BTreeMap.{BTreeMap, insert_entry, get_by}
+use Rattle.std.specs.Cmp.Lexicographic.{bytes_decides}
+use Rattle.indexmap.specs.IndexMap.{IndexMap, insert_entry, get_by}
 use Rattle.std.specs.Map.{lookup}
-use Rattle.std.specs.declared.cmp.Ordering.{Ordering}
-use Rattle.std.specs.declared.cmp.Ordering.TheVariants.{Less, Equal, Greater}
 use Rattle.pw_words.specs.Words.{Word, same_word}
 use Rattle.pw_data.specs.declared.item.Item.{Item}
 use Rattle.pw_data.specs.Names.{is_this_name}
 use Rattle.pw_data.specs.Index.{number_of, number_in, Indexes}
-use Rattle.pw_data.proofs.Named.{bytes_eq-swap, equal_bytes}
+use Rattle.pw_data.proofs.Named.{bytes_eq-swap}
 
 -- an entry that does not pass is passed over
 skipped : {X : Type 0} (b : Bool) (x : X) (o : Option X) → is_some (cond b (Some x) o) ≡ false → (b ≡ false) × (is_some o ≡ false)
@@ -21,32 +18,26 @@ skipped true x o none = absurd cc
 skipped false x o none = (refl, none)
 
 -- a look-up by a test that equal keys pass alike, where a key is put
-module _ {K X : Type 0} (cmp : K → K → Ordering) (test : K → Bool) (k : K) (v : X) (alike : (x : K) → cmp k x ≡ Equal → test k ≡ test x) where
-  new-by : (e : K × X) (es : List (K × X)) (o : Ordering) → cmp k e.0 ≡ o → test k ≡ true → is_some (lookup test (e ∷ es)) ≡ false
-      → (is_some (lookup test es) ≡ false → lookup test (insert_entry cmp es k v) ≡ Some v) → lookup test (insert_entry cmp (e ∷ es) k v) ≡ Some v
-  new-by e es Less is hits none rest = rw (is, hits) refl
-  new-by e es Equal is hits none rest = let at : test e.0 ≡ true = sym (alike e.0 is) ∙ hits in rw (is, at) refl
-  new-by e es Greater is hits none rest = let past = skipped (test e.0) e.1 (lookup test es) none in rw (is, past.0) (rest past.1)
+module _ {K X : Type 0} (eq : K → K → Bool) (test : K → Bool) (k : K) (v : X) (alike : (x : K) → eq k x ≡ true → test k ≡ test x) where
+  new-by : (e : K × X) (es : List (K × X)) (b : Bool) → eq k e.0 ≡ b → test k ≡ true → is_some (lookup test (e ∷ es)) ≡ false
+      → (is_some (lookup test es) ≡ false → lookup test (insert_entry eq es k v) ≡ Some v) → lookup test (insert_entry eq (e ∷ es) k v) ≡ Some v
+  new-by e es true is hits none rest = let at : test e.0 ≡ true = sym (alike e.0 is) ∙ hits in rw (is, at) refl
+  new-by e es false is hits none rest = let past = skipped (test e.0) e.1 (lookup test es) none in rw (is, past.0) (rest past.1)
 
   -- the key is found, where none was
-  lookup-new : (es : List (K × X)) → test k ≡ true → is_some (lookup test es) ≡ false → lookup test (insert_entry cmp es k v) ≡ Some v
+  lookup-new : (es : List (K × X)) → test k ≡ true → is_some (lookup test es) ≡ false → lookup test (insert_entry eq es k v) ≡ Some v
   lookup-new [] hits none = rw hits refl
-  lookup-new (e ∷ es) hits none = new-by e es (cmp k e.0) refl hits none (lookup-new es hits)
+  lookup-new (e ∷ es) hits none = new-by e es (eq k e.0) refl hits none (lookup-new es hits)
 
-  other-by : (e : K × X) (es : List (K × X)) (o : Ordering) → cmp k e.0 ≡ o → test k ≡ false → lookup test (insert_entry cmp es k v) ≡ lookup test es
-      → lookup test (insert_entry cmp (e ∷ es) k v) ≡ lookup test (e ∷ es)
-  other-by e es Less is misses rest = rw (is, misses) refl
-  other-by e es Equal is misses rest = let at : test e.0 ≡ false = sym (alike e.0 is) ∙ misses in rw (is, at) refl
-  other-by e es Greater is misses rest = rw is (ap (λ found. cond (test e.0) (Some e.1) found) rest)
+  other-by : (e : K × X) (es : List (K × X)) (b : Bool) → eq k e.0 ≡ b → test k ≡ false → lookup test (insert_entry eq es k v) ≡ lookup test es
+      → lookup test (insert_entry eq (e ∷ es) k v) ≡ lookup test (e ∷ es)
+  other-by e es true is misses rest = let at : test e.0 ≡ false = sym (alike e.0 is) ∙ misses in rw (is, at) refl
+  other-by e es false is misses rest = rw is (ap (λ found. cond (test e.0) (Some e.1) found) rest)
 
   -- what does not look for the key finds what it found
-  lookup-other : (es : List (K × X)) → test k ≡ false → lookup test (insert_entry cmp es k v) ≡ lookup test es
+  lookup-other : (es : List (K × X)) → test k ≡ false → lookup test (insert_entry eq es k v) ≡ lookup test es
   lookup-other [] misses = rw misses refl
-  lookup-other (e ∷ es) misses = other-by e es (cmp k e.0) refl misses (lookup-other es misses)
-
-lookup-alike : {K X : Type 0} (test other : K → Bool) (es : List (K × X)) → ((x : K) → test x ≡ other x) → lookup test es ≡ lookup other es
-lookup-alike test other [] alike = refl
-lookup-alike test other (e ∷ es) alike = ap (λ b. cond b (Some e.1) (lookup test es)) (alike e.0) ∙ ap (λ found. cond (other e.0) (Some e.1) found) (lookup-alike test other es alike)
+  lookup-other (e ∷ es) misses = other-by e es (eq k e.0) refl misses (lookup-other es misses)
 
 none-of : {X : Type 0} (o : Option X) → is_some o ≡ false → o ≡ None
 none-of None none = refl
@@ -56,42 +47,37 @@ or-none : {X : Type 0} (o : Option X) → o ≡ option_or o None
 or-none None = refl
 or-none (Some x) = refl
 
-equal_from : (o : Ordering) → is_eq o ≡ true → o ≡ Equal
-equal_from Less is = absurd cc
-equal_from Equal is = refl
-equal_from Greater is = absurd cc
-
-module _ {A : Type 0} (index next : BTreeMap (Vec ℕ A) ℕ) (key : Vec ℕ A) (name : Word) (number : ℕ) (key_is : key.items ≡ str_to_ascii_lowercase name)
-    (next_is : next.entries ≡ insert_entry (λ x y. slice_cmp nat_cmp x.items y.items) index.entries key number)
-    (fresh : is_some (get_by (λ x. slice_cmp nat_cmp key.items x.items) index) ≡ false) where
+module _ {A S : Type 0} (index next : IndexMap (Vec ℕ A) ℕ S) (key : Vec ℕ A) (name : Word) (number : ℕ) (key_is : key.items ≡ str_to_ascii_lowercase name)
+    (next_is : next.entries ≡ insert_entry (λ x y. bytes_eq x.items y.items) index.entries key number)
+    (fresh : is_some (get_by (λ x. bytes_eq key.items x.items) index) ≡ false) where
   -- the key is found by the words that are the name
-  found_by : (word : Word) → is_eq (slice_cmp nat_cmp (str_to_ascii_lowercase word) key.items) ≡ same_word name word
-  found_by word = sym (texts_ties (str_to_ascii_lowercase word) key.items) ∙ bytes_eq-swap (str_to_ascii_lowercase word) key.items ∙ ap (λ bytes. bytes_eq bytes (str_to_ascii_lowercase word)) key_is
+  found_by : (word : Word) → bytes_eq (str_to_ascii_lowercase word) key.items ≡ same_word name word
+  found_by word = bytes_eq-swap (str_to_ascii_lowercase word) key.items ∙ ap (λ bytes. bytes_eq bytes (str_to_ascii_lowercase word)) key_is
 
-  alike : (word : Word) (x : Vec ℕ A) → slice_cmp nat_cmp key.items x.items ≡ Equal → is_eq (slice_cmp nat_cmp (str_to_ascii_lowercase word) key.items) ≡ is_eq (slice_cmp nat_cmp (str_to_ascii_lowercase word) x.items)
-  alike word x equal = ap (λ bytes. is_eq (slice_cmp nat_cmp (str_to_ascii_lowercase word) bytes)) (equal_bytes key.items x.items equal)
+  alike : (word : Word) (x : Vec ℕ A) → bytes_eq key.items x.items ≡ true → bytes_eq (str_to_ascii_lowercase word) key.items ≡ bytes_eq (str_to_ascii_lowercase word) x.items
+  alike word x equal = ap (bytes_eq (str_to_ascii_lowercase word)) ((bytes_decides key.items x.items).0 equal)
 
-  none_yet : (word : Word) → is_eq (slice_cmp nat_cmp (str_to_ascii_lowercase word) key.items) ≡ true → is_some (number_of index word) ≡ false
+  none_yet : (word : Word) → bytes_eq (str_to_ascii_lowercase word) key.items ≡ true → is_some (number_of index word) ≡ false
   none_yet word hits =
-      let same : str_to_ascii_lowercase word ≡ key.items = equal_bytes (str_to_ascii_lowercase word) key.items (equal_from (slice_cmp nat_cmp (str_to_ascii_lowercase word) key.items) hits) in
-      ap (λ bytes. is_some (get_by (λ x. slice_cmp nat_cmp bytes x.items) index)) same ∙ fresh
+      let same : str_to_ascii_lowercase word ≡ key.items = (bytes_decides (str_to_ascii_lowercase word) key.items).0 hits in
+      ap (λ bytes. is_some (get_by (λ x. bytes_eq bytes x.items) index)) same ∙ fresh
 
-  by : (word : Word) (b : Bool) → is_eq (slice_cmp nat_cmp (str_to_ascii_lowercase word) key.items) ≡ b
+  by : (word : Word) (b : Bool) → bytes_eq (str_to_ascii_lowercase word) key.items ≡ b
       → number_of next word ≡ option_or (number_of index word) (if b then Some number else None)
   by word true hits =
       let none : number_of index word ≡ None = none-of (number_of index word) (none_yet word hits) in
-      ap (λ es. lookup (λ (x : Vec ℕ A). is_eq (slice_cmp nat_cmp (str_to_ascii_lowercase word) x.items)) es) next_is
-      ∙ lookup-new (λ x y. slice_cmp nat_cmp x.items y.items) (λ x. is_eq (slice_cmp nat_cmp (str_to_ascii_lowercase word) x.items)) key number (alike word) index.entries hits (none_yet word hits)
+      ap (λ es. lookup (λ (x : Vec ℕ A). bytes_eq (str_to_ascii_lowercase word) x.items) es) next_is
+      ∙ lookup-new (λ x y. bytes_eq x.items y.items) (λ x. bytes_eq (str_to_ascii_lowercase word) x.items) key number (alike word) index.entries hits (none_yet word hits)
       ∙ ap (λ o. option_or o (Some number)) (sym none)
   by word false misses =
-      ap (λ es. lookup (λ (x : Vec ℕ A). is_eq (slice_cmp nat_cmp (str_to_ascii_lowercase word) x.items)) es) next_is
-      ∙ lookup-other (λ x y. slice_cmp nat_cmp x.items y.items) (λ x. is_eq (slice_cmp nat_cmp (str_to_ascii_lowercase word) x.items)) key number (alike word) index.entries misses
+      ap (λ es. lookup (λ (x : Vec ℕ A). bytes_eq (str_to_ascii_lowercase word) x.items) es) next_is
+      ∙ lookup-other (λ x y. bytes_eq x.items y.items) (λ x. bytes_eq (str_to_ascii_lowercase word) x.items) key number (alike word) index.entries misses
       ∙ or-none (number_of index word)
 
   -- an index with one name more
   pub number_of-insert : (word : Word) → number_of next word ≡ option_or (number_of index word) (if same_word name word then Some number else None)
   number_of-insert word =
-      by word (is_eq (slice_cmp nat_cmp (str_to_ascii_lowercase word) key.items)) refl
+      by word (bytes_eq (str_to_ascii_lowercase word) key.items) refl
       ∙ ap (λ b. option_or (number_of index word) (if b then Some number else None)) (found_by word)
 
 -- a name that is there stays before that of the next item
@@ -102,7 +88,7 @@ or-next (Some n) true number rest = refl
 or-next (Some n) false number rest = refl
 
 -- one item further
-pub index-further : {A : Type 0} (before now : BTreeMap (Vec ℕ A) ℕ) (number : ℕ) (item : Item) (items : List Item) (word : Word) → Indexes item.name number before now
+pub index-further : {A S : Type 0} (before now : IndexMap (Vec ℕ A) ℕ S) (number : ℕ) (item : Item) (items : List Item) (word : Word) → Indexes item.name number before now
     → option_or (number_of now word) (number_in (number + 1) items word) ≡ option_or (number_of before word) (number_in number (item ∷ items) word)
 index-further before now number item items word puts =
     ap (λ o. option_or o (number_in (number + 1) items word)) (puts word)

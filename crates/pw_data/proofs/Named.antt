@@ -1,51 +1,18 @@
--- Sets of names.
-use Rattle.std.proofs.Common.{◌≡◌, ℕ, Bool, true, false, not, List, [], ◌∷◌, ◌++◌, Option, Some, Result, Ok, Err, IfOk, OnOk, refl, sym, ap, ◌∙◌}
-use Rattle.std.specs.Prelude.{◌||◌, Vec, bytes_eq}
+-- Names of entries.
+use Rattle.std.proofs.Common.{◌≡◌, ℕ, Bool, true, false, List, [], ◌∷◌, ◌++◌, Option, Some, Result, Ok, Err, IfOk, OnOk, refl, sym, ap, ◌∙◌}
+use Rattle.std.specs.Prelude.{◌||◌, bytes_eq}
 use Rattle.std.specs.List.{list_any}
 use Rattle.std.specs.Str.{str_to_ascii_lowercase}
-use Rattle.std.specs.Ordering.{is_eq, nat_cmp}
-use Rattle.std.specs.Cmp.Lexicographic.{slice_cmp, texts_ties, bytes_decides}
+use Rattle.std.specs.Cmp.Lexicographic.{bytes_decides}
 use Rattle.std.proofs.lemmas.Bool.Decides.{same_from_decides}
-use Rattle.std.specs.BTreeSet.{BTreeSet, insert_key, contains}
-use Rattle.std.specs.declared.cmp.Ordering.{Ordering}
-use Rattle.std.specs.declared.cmp.Ordering.TheVariants.{Less, Equal, Greater}
 use Rattle.pw_base.specs.declared.memory.Memory.{Memory}
 use Rattle.pw_words.specs.Words.{Word, same_word}
+use Rattle.pw_words.specs.Names.{has_name as has_name_as_written}
 use Rattle.pw_data.specs.declared.entry.Entry.{Entry}
 use Rattle.pw_data.specs.Names.{name_of, is_this_name, is_taken, has_name, HasNamesOf}
 
--- a test that equal keys pass alike is passed by the new key or an old one
-module _ {K : Type 0} (cmp : K → K → Ordering) (test : K → Bool) (k : K) (alike : (x : K) → cmp k x ≡ Equal → test k ≡ test x) where
-  either-same : (a b c : Bool) → a ≡ b → (b || c) ≡ (a || (b || c))
-  either-same true b c is = ap (λ x. x || c) (sym is)
-  either-same false b c is = refl
-
-  either-swap : (a b c : Bool) → c ≡ (a || b) → (x : Bool) → (x || c) ≡ (a || (x || b))
-  either-swap true b c is true = refl
-  either-swap false b c is true = refl
-  either-swap true b c is false = is
-  either-swap false b c is false = is
-
-  any-insert_by : (x : K) (xs : List K) (o : Ordering) → cmp k x ≡ o → list_any test (insert_key cmp xs k) ≡ (test k || list_any test xs)
-      → list_any test (insert_key cmp (x ∷ xs) k) ≡ (test k || list_any test (x ∷ xs))
-  any-insert_by x xs Less is rest = rw is refl
-  any-insert_by x xs Equal is rest = rw is (either-same (test k) (test x) (list_any test xs) (alike x is))
-  any-insert_by x xs Greater is rest = rw is (either-swap (test k) (list_any test xs) (list_any test (insert_key cmp xs k)) rest (test x))
-
-  any-insert : (xs : List K) → list_any test (insert_key cmp xs k) ≡ (test k || list_any test xs)
-  any-insert [] = refl
-  any-insert (x ∷ xs) = any-insert_by x xs (cmp k x) refl (any-insert xs)
-
-any-alike : {K : Type 0} (test other : K → Bool) (xs : List K) → ((x : K) → test x ≡ other x) → list_any test xs ≡ list_any other xs
-any-alike test other [] alike = refl
-any-alike test other (x ∷ xs) alike = ap (λ b. b || list_any test xs) (alike x) ∙ ap (λ b. other x || b) (any-alike test other xs alike)
-
 pub bytes_eq-swap : (xs ys : List ℕ) → bytes_eq xs ys ≡ bytes_eq ys xs
 bytes_eq-swap xs ys = same_from_decides (bytes_eq xs ys) (bytes_eq ys xs) (bytes_decides xs ys) (λ h. sym ((bytes_decides ys xs).0 h), λ is. (bytes_decides ys xs).1 (sym is))
-
--- bytes that compare as equal are equal
-pub equal_bytes : (xs ys : List ℕ) → slice_cmp nat_cmp xs ys ≡ Equal → xs ≡ ys
-equal_bytes xs ys is = (bytes_decides xs ys).0 (texts_ties xs ys ∙ ap is_eq is)
 
 any-behind-by : (a b c : Bool) → c ≡ (b || a) → (x : Bool) → (x || c) ≡ (b || (x || a))
 any-behind-by a true c is true = refl
@@ -56,39 +23,27 @@ any-behind : (test : Entry → Bool) (xs : List Entry) (x : Entry) → list_any 
 any-behind test [] x = refl
 any-behind test (y ∷ ys) x = any-behind-by (list_any test ys) (test x) (list_any test (ys ++ x ∷ [])) (any-behind test ys x) (test y)
 
--- a set has a name that is in it
-pub contains-has_name : {A : Type 0} (names : BTreeSet (Vec ℕ A)) (key : Vec ℕ A) (word : Word) → key.items ≡ str_to_ascii_lowercase word
-    → contains (λ x y. slice_cmp nat_cmp x.items y.items) names key ≡ has_name names word
-contains-has_name names key word is =
-    any-alike (λ x. is_eq (slice_cmp nat_cmp key.items x.items)) (λ x. bytes_eq x.items (str_to_ascii_lowercase word)) names.keys
-    (λ x. sym (texts_ties key.items x.items) ∙ bytes_eq-swap key.items x.items ∙ ap (bytes_eq x.items) is)
-
--- a set with one name more
-pub has_name-insert : {A : Type 0} (names next : BTreeSet (Vec ℕ A)) (key : Vec ℕ A) (name word : Word) → key.items ≡ str_to_ascii_lowercase name
-    → next.keys ≡ insert_key (λ x y. slice_cmp nat_cmp x.items y.items) names.keys key → has_name next word ≡ (same_word name word || has_name names word)
-has_name-insert names next key name word is next_is =
-    let test = λ (x : Vec ℕ _). bytes_eq x.items (str_to_ascii_lowercase word) in
-    ap (list_any test) next_is
-    ∙ any-insert (λ x y. slice_cmp nat_cmp x.items y.items) test key (λ x equal. ap (λ bytes. bytes_eq bytes (str_to_ascii_lowercase word)) (equal_bytes key.items x.items equal)) names.keys
-    ∙ ap (λ bytes. bytes_eq bytes (str_to_ascii_lowercase word) || has_name names word) is
+-- one name more, in lower case
+pub named-folded : (result : Result Bool Memory) (names next : List Word) (name key : Word) → key ≡ str_to_ascii_lowercase name
+    → OnOk result ((word : Word) → has_name_as_written next word ≡ (bytes_eq key word || has_name_as_written names word))
+    → OnOk result ((word : Word) → has_name next word ≡ (same_word name word || has_name names word))
+named-folded (Ok taken) names next name key key_is is =
+    λ word. is (str_to_ascii_lowercase word) ∙ ap (λ k. bytes_eq k (str_to_ascii_lowercase word) || has_name names word) key_is
+named-folded (Err memory) names next name key key_is is = tt
 
 -- whether the name of an entry is taken, by a set of the names of those before it
-pub taken-by_set : {A : Type 0} (text : List ℕ) (entries : List Entry) (name : Word) (names : BTreeSet (Vec ℕ A)) → HasNamesOf text entries names → has_name names name ≡ is_taken text entries (Some name)
+pub taken-by_set : (text : List ℕ) (entries : List Entry) (name : Word) (names : List Word) → HasNamesOf text entries names → has_name names name ≡ is_taken text entries (Some name)
 taken-by_set text entries name names has = has name
 
 -- one name more
-pub HasNamesOf-more : {A : Type 0} (text : List ℕ) (entries : List Entry) (entry : Entry) (name : Option Word) (names next : BTreeSet (Vec ℕ A)) → name ≡ name_of text entry
+pub HasNamesOf-more : (text : List ℕ) (entries : List Entry) (entry : Entry) (name : Option Word) (names next : List Word) → name ≡ name_of text entry
     → ((word : Word) → has_name next word ≡ (is_this_name name word || has_name names word)) → HasNamesOf text entries names → HasNamesOf text (entries ++ entry ∷ []) next
 HasNamesOf-more text entries entry name names next name_is next_is has word =
     next_is word ∙ ap (λ n. is_this_name n word || has_name names word) name_is ∙ ap (λ b. is_this_name (name_of text entry) word || b) (has word)
     ∙ sym (any-behind (λ e. is_this_name (name_of text e) word) entries entry)
 
-pub not_twice : (b : Bool) → not (not b) ≡ b
-not_twice true = refl
-not_twice false = refl
-
 -- the same of an entry with a name, by what putting the name there gives
-module _ {A : Type 0} (text : List ℕ) (entry : Entry) (name : Word) (names next : BTreeSet (Vec ℕ A)) (name_is : Some name ≡ name_of text entry) where
+module _ (text : List ℕ) (entry : Entry) (name : Word) (names next : List Word) (name_is : Some name ≡ name_of text entry) where
   pub named-taken : (result : Result Bool Memory) (entries : List Entry) → IfOk result (λ taken. taken ≡ has_name names name) → HasNamesOf text entries names
       → IfOk result (λ taken. taken ≡ is_taken text entries (name_of text entry))
   named-taken (Ok taken) entries is has = is ∙ taken-by_set text entries name names has ∙ ap (is_taken text entries) name_is

@@ -1,28 +1,26 @@
 -- Items by their names: an index says which is the first of each name.
-use Rattle.std.specs.Prelude.{◌≡◌, ℕ, Vec, List, Option, None, Some, if◌then◌else◌}
+use Rattle.std.specs.Prelude.{◌≡◌, ℕ, Vec, bytes_eq, List, Option, None, Some, if◌then◌else◌}
 use Rattle.std.specs.List.{position_from}
 use Rattle.std.specs.Option.{option_or}
-use Rattle.std.specs.Ordering.{nat_cmp}
-use Rattle.std.specs.Cmp.Lexicographic.{slice_cmp}
 use Rattle.std.specs.Str.{str_to_ascii_lowercase}
-use Rattle.std.specs.BTreeMap.{BTreeMap, get_by}
+use Rattle.indexmap.specs.IndexMap.{IndexMap, get_by}
 use Rattle.pw_words.specs.Words.{Word}
 use Rattle.pw_data.specs.declared.item.Item.{Item}
 use Rattle.pw_data.specs.Names.{is_this_name}
 
 -- what a map from names in lower case has for a name
-abbrev pub number_of : {A : Type 0} → BTreeMap (Vec ℕ A) ℕ → Word → Option ℕ
-number_of index name = get_by (λ key. slice_cmp nat_cmp (str_to_ascii_lowercase name) key.items) index
+abbrev pub number_of : {A S : Type 0} → IndexMap (Vec ℕ A) ℕ S → Word → Option ℕ
+number_of index name = get_by (λ key. bytes_eq (str_to_ascii_lowercase name) key.items) index
 
 -- the number of the first item of a name, where the items are numbered from one on
 abbrev pub number_in : ℕ → List Item → Word → Option ℕ
 number_in first items name = position_from (λ item. is_this_name item.name name) first items
 
 -- the map has the number of the first item of each name, and no other
-abbrev pub IsIndexOf : {A : Type 0} → BTreeMap (Vec ℕ A) ℕ → List Item → Type 0
+abbrev pub IsIndexOf : {A S : Type 0} → IndexMap (Vec ℕ A) ℕ S → List Item → Type 0
 IsIndexOf index items = (name : Word) → number_of index name ≡ number_in 0 items name
 
 -- the second map has a number besides for the name, if any, unless the first has one
-abbrev pub Indexes : {A : Type 0} → Option Word → ℕ → BTreeMap (Vec ℕ A) ℕ → BTreeMap (Vec ℕ A) ℕ → Type 0
+abbrev pub Indexes : {A S : Type 0} → Option Word → ℕ → IndexMap (Vec ℕ A) ℕ S → IndexMap (Vec ℕ A) ℕ S → Type 0
 Indexes name number before now =
     (word : Word) → number_of now word ≡ option_or (number_of before word) (if is_this_name name word then Some number else None)

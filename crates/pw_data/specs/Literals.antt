@@ -1,5 +1,6 @@
 -- What literals and whole numbers say.
-use Rattle.std.specs.Prelude.{ℕ, ◌+◌, ◌-◌, min, nat_le, List, [], ◌∷◌, ◌++◌, Bool, false, not, ◌&&◌, ◌||◌, ◌==◌, length, drop, take_while, Option, Some, None, option_map, if◌then◌else◌}
+pub use Rattle.pw_text.specs.Literals.{kept, is_first_quote, unquoted}
+use Rattle.std.specs.Prelude.{ℕ, ◌+◌, ◌-◌, min, nat_le, List, ◌++◌, Bool, false, not, ◌&&◌, ◌||◌, ◌==◌, length, drop, take_while, Option, Some, None, option_map, if◌then◌else◌}
 use Rattle.std.specs.List.{list_all}
 use Rattle.std.specs.Char.{is_ascii_digit}
 use Rattle.std.specs.Ordering.{is_eq}
@@ -15,19 +16,6 @@ use Rattle.pw_text.specs.declared.token.Token.{Token}
 use Rattle.pw_data.specs.declared.literal.Literal.{Literal}
 use Rattle.pw_data.specs.declared.literal.Literal.TheVariants as literal
 use Rattle.pw_text.specs.Cursor.{spelling}
-
--- the byte, unless it is the second of two quotes
-abbrev pub kept : Bool → ℕ → List ℕ
-kept second byte = if second then [] else byte ∷ []
-
--- a quote that is not the second of two is the first of two
-abbrev pub is_first_quote : Bool → ℕ → Bool
-is_first_quote second byte = not second && byte == 34
-
--- the characters of a text, where of two quotes one stands; second: the byte before was the first of two
-abbrev pub unquoted : Bool → List ℕ → List ℕ
-unquoted second [] = []
-unquoted second (byte ∷ bytes) = kept second byte ++ unquoted (is_first_quote second byte) bytes
 
 -- the value of digits without a sign or a point; every value above 1,000 is as 1,001
 abbrev pub whole_number : List ℕ → Option ℕ

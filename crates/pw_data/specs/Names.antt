@@ -1,11 +1,11 @@
 -- Names that two items have.
-use Rattle.std.specs.Prelude.{◌≡◌, ℕ, Vec, bytes_eq, List, [], ◌∷◌, ◌++◌, Bool, false, Option, Some, None, option_map}
+use Rattle.std.specs.Prelude.{◌≡◌, ℕ, List, [], ◌∷◌, ◌++◌, Bool, false, Option, Some, None, option_map}
 use Rattle.std.specs.List.{list_any}
 use Rattle.std.specs.Str.{str_to_ascii_lowercase}
-use Rattle.std.specs.BTreeSet.{BTreeSet}
 use Rattle.pw_base.specs.declared.fault_code.FaultCode.TheVariants.{NameTwice}
 use Rattle.pw_base.specs.declared.fault.Fault.{Fault}
 use Rattle.pw_words.specs.Words.{Word, same_word}
+use Rattle.pw_words.specs.Names.{has_name as has_name_as_written}
 use Rattle.pw_data.specs.declared.entry.Entry.{Entry}
 use Rattle.pw_text.specs.Cursor.{spelling}
 use Rattle.pw_data.specs.Entries.{only_if}
@@ -24,12 +24,12 @@ abbrev pub is_taken : List ℕ → List Entry → Option Word → Bool
 is_taken text entries None = false
 is_taken text entries (Some name) = list_any (λ entry. is_this_name (name_of text entry) name) entries
 
--- one of the names that a set has in lower case is this word
-abbrev pub has_name : {A : Type 0} → BTreeSet (Vec ℕ A) → Word → Bool
-has_name names word = list_any (λ name. bytes_eq name.items (str_to_ascii_lowercase word)) names.keys
+-- one of the names, which are in lower case, is this word
+abbrev pub has_name : List Word → Word → Bool
+has_name names word = has_name_as_written names (str_to_ascii_lowercase word)
 
--- the set has the names of some entries
-abbrev pub HasNamesOf : {A : Type 0} → List ℕ → List Entry → BTreeSet (Vec ℕ A) → Type 0
+-- the names are those of some entries
+abbrev pub HasNamesOf : List ℕ → List Entry → List Word → Type 0
 HasNamesOf text entries names =
     (word : Word) → has_name names word ≡ list_any (λ entry. is_this_name (name_of text entry) word) entries
 

@@ -7,13 +7,13 @@ ghost use Rattle.pw_data.specs.Index.{number_of, IsIndexOf, Indexes};
 
 use crate::item::Item;
 use crate::names::in_lower_case;
+use indexmap::IndexMap;
 use pw_base::memory::Memory;
 use pw_text::token::MAX_WORD;
 use std::alloc::Global;
-use std::collections::BTreeMap;
 
 /// The number of the first item of each name, from 0, by the name in lower case.
-pub type Index = BTreeMap<Vec<u8>, usize>;
+pub type Index = IndexMap<Vec<u8>, usize>;
 
 /// Puts the number of a name, unless the name is there.
 fn put_number(alloc: Global, name: &[u8], number: usize, index: &mut Index) -> Result<(), Memory>
@@ -41,7 +41,7 @@ fn put_item(alloc: Global, item: &Item, number: usize, index: &mut Index) -> Res
 pub fn index_of(alloc: Global, items: &[Item]) -> Result<Index, Memory>
     ensures { IfOk result (λ index. IsIndexOf index items.now) }
 {
-    let mut index = BTreeMap::new(alloc);
+    let mut index = IndexMap::new(alloc);
     let mut number = 0;
     for item in items {
         put_item(alloc, item, number, &mut index)?;

@@ -5,12 +5,13 @@ ghost use Rattle.pw_picture.specs.Grammar.{IsPicture};
 ghost use Rattle.pw_picture.specs.Stored.{is_number, read_of};
 ghost use Rattle.pw_picture.specs.declared.picture.Picture.TheVariants.{Number as NumberPicture};
 ghost use Rattle.pw_picture.specs.Symbols.{value_behind, begins_with};
-ghost use Rattle.pw_data.specs.Literals.{kept, is_first_quote, unquoted, whole_number, before_point, behind_point, has_sign, sign_size, number_with, number_of, literal_of, holds_number, holds};
+ghost use Rattle.pw_data.specs.Literals.{whole_number, before_point, behind_point, has_sign, sign_size, number_with, number_of, literal_of, holds_number, holds};
 
 use pw_base::bytes::Bytes;
 use pw_base::memory::Memory;
 use pw_number::scaled::Scaled;
 use pw_picture::picture::Picture;
+pub use pw_text::literal::unquoted;
 use pw_text::token::{Token, TokenKind};
 use std::alloc::Global;
 use std::cmp::Ordering;
@@ -20,33 +21,6 @@ use std::cmp::Ordering;
 pub enum Literal {
     Text(Bytes),
     Number(Scaled),
-}
-
-/// Puts a byte of a text behind its characters, unless it is the second of two quotes. It gives
-/// whether the next byte is the second of two.
-fn push_char(chars: &mut Bytes, second: bool, byte: u8) -> Result<bool, Memory>
-    ensures chars { OnOk result (chars.new ≡ chars.old ++ kept second byte) }
-    ensures next { IfOk result (λ next. next ≡ is_first_quote second byte) }
-{
-    if second {
-        return Ok(false);
-    }
-    chars.push(byte)?;
-    Ok(byte == b'"')
-}
-
-/// The characters of a text: of two quotes one stands.
-pub fn unquoted(alloc: Global, bytes: &[u8]) -> Result<Bytes, Memory>
-    ensures { IfOk result (λ chars. chars ≡ unquoted false bytes.now) }
-{
-    let mut chars = Bytes::new(alloc);
-    let mut second = false;
-    let mut rest = bytes;
-    while let Some((byte, behind)) = rest.split_first() {
-        second = push_char(&mut chars, second, *byte)?;
-        rest = behind;
-    }
-    Ok(chars)
 }
 
 /// The value of digits, where a value above 1,000 counts as 1,001.

@@ -9,8 +9,8 @@ use crate::entry::Entry;
 use pw_base::fault::{Fault, noted};
 use pw_base::fault_code::FaultCode;
 use pw_base::memory::Memory;
+use pw_words::names::Names;
 use std::alloc::Global;
-use std::collections::BTreeSet;
 
 /// The name of an entry.
 pub fn name_of<'a>(text: &'a [u8], entry: Entry) -> Option<&'a [u8]>
@@ -34,24 +34,18 @@ pub fn in_lower_case(alloc: Global, name: &[u8]) -> Result<Vec<u8>, Memory>
 }
 
 /// Puts a name into a set of names in lower case. It gives whether the name was there.
-fn put_name(alloc: Global, name: &[u8], names: &mut BTreeSet<Vec<u8>>) -> Result<bool, Memory>
+fn put_name(alloc: Global, name: &[u8], names: &mut Names) -> Result<bool, Memory>
     ensures taken { IfOk result (λ taken. taken ≡ has_name names.old name.now) }
     ensures names { OnOk result ((word : List ℕ)
         → has_name names.new word ≡ (same_word name.now word || has_name names.old word)) }
 {
     let key = in_lower_case(alloc, name)?;
-    let is_new = names.insert(key)?;
-    Ok(!is_new)
+    names.put(key)
 }
 
 /// Puts the name of an entry, where it has one, into a set of names in lower case. It gives whether the
 /// name was there.
-fn put_name_of(
-    alloc: Global,
-    text: &[u8],
-    entry: Entry,
-    names: &mut BTreeSet<Vec<u8>>,
-) -> Result<bool, Memory>
+fn put_name_of(alloc: Global, text: &[u8], entry: Entry, names: &mut Names) -> Result<bool, Memory>
     ensures taken { (entries : List Entry) → HasNamesOf text.now entries names.old
         → IfOk result (λ taken. taken ≡ is_taken text.now entries (name_of text.now entry)) }
     ensures names { OnOk result ((entries : List Entry) → HasNamesOf text.now entries names.old
@@ -73,7 +67,7 @@ pub fn clashes(
 ) -> Result<Option<Fault>, Memory>
     ensures { IfOk result (λ first. first ≡ least known (clashes text.now [] entries.now)) }
 {
-    let mut names = BTreeSet::new(alloc);
+    let mut names = Names::new(alloc);
     let mut known = known;
     for entry in entries {
         let taken = put_name_of(alloc, text, *entry, &mut names)?;

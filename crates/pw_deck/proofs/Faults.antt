@@ -9,7 +9,7 @@ use Rattle.pw_base.specs.Limits.{longest_input}
 use Rattle.pw_base.specs.declared.fault.Refusal.{Refusal}
 use Rattle.pw_base.specs.declared.fault.Refusal.TheVariants.{At, Memory}
 use Rattle.pw_base.specs.First.{least, unless, Refuses}
-use Rattle.pw_code.specs.declared.code.Instr.{Instr}
+use Rattle.pw_code.specs.declared.instr.Instr.{Instr}
 use Rattle.pw_deck.specs.declared.deck.Deck.{Deck}
 use Rattle.pw_deck.specs.Lines.{lines}
 use Rattle.pw_deck.specs.Deck.{heading, stop_run, deck_end, texts_in, wrong_in, wrong_end, shown_in, wrong_program, no_such_form, program_of, IsWrongLine, RefusesLine, instrs_of, system_with, system_of}

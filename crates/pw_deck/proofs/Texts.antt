@@ -5,8 +5,9 @@ use Rattle.std.proofs.lemmas.Slice.Eq.{bytes_eq-Decides}
 use Rattle.std.specs.Bool.{◌==◌}
 use Rattle.std.specs.Str.{bytes_eq}
 use Rattle.pw_base.specs.declared.fault.Refusal.{Refusal}
-use Rattle.pw_code.specs.declared.code.Instr.{Instr}
-use Rattle.pw_code.specs.declared.code.Instr.TheVariants.{Display, StopRun}
+use Rattle.pw_code.specs.declared.instr.Instr.{Instr}
+use Rattle.pw_code.specs.declared.instr.Instr.TheVariants.{StopRun}
+use Rattle.pw_code.specs.Thin.{shows}
 use Rattle.pw_deck.specs.Deck.{is_display, text_in, first_text, texts_in, wrong_in, wrong_end, shown_in, wrong_program, instrs_of, RefusesLine, stop_run, deck_end}
 
 no_text_by : (t : Bool) (text : List ℕ) (texts : List (List ℕ)) → None ≡ cond t (Some text) None → cond t (text ∷ texts) [] ≡ []
@@ -29,11 +30,11 @@ one_text [] shown some = absurd cc
 one_text (line ∷ rest) shown some = one_text_by (is_display line) (text_in line) shown (texts_in rest) some
 
 -- the next DISPLAY line's text goes behind the instructions so far
-pub text_pushed : (all found behind : List (List ℕ)) (shown : List ℕ) (before after : List Instr) → Some shown ≡ first_text found → behind ≡ drop 1 found → after ≡ before ++ Display shown ∷ [] → map Display (texts_in all) ≡ before ++ map Display (texts_in found)
-    → map Display (texts_in all) ≡ after ++ map Display (texts_in behind)
+pub text_pushed : (all found behind : List (List ℕ)) (shown : List ℕ) (before after : List Instr) → Some shown ≡ first_text found → behind ≡ drop 1 found → after ≡ before ++ shows shown ∷ [] → map shows (texts_in all) ≡ before ++ map shows (texts_in found)
+    → map shows (texts_in all) ≡ after ++ map shows (texts_in behind)
 text_pushed all found behind shown before after some next pushed texts =
     let one : texts_in found ≡ shown ∷ texts_in behind = one_text found shown some ∙ ap (λ f. shown ∷ texts_in f) (sym next) in
-    texts ∙ ap (λ t. before ++ map Display t) one ∙ sym (append_assoc before (Display shown ∷ []) (map Display (texts_in behind))) ∙ ap (λ l. l ++ map Display (texts_in behind)) (sym pushed)
+    texts ∙ ap (λ t. before ++ map shows t) one ∙ sym (append_assoc before (shows shown ∷ []) (map shows (texts_in behind))) ∙ ap (λ l. l ++ map shows (texts_in behind)) (sym pushed)
 
 -- and what is behind it is one line further
 pub line_further : (all found behind : List (List ℕ)) (instr : Instr) (before after : List Instr) → behind ≡ drop 1 found → after ≡ before ++ instr ∷ [] → found ≡ drop (length before) all → behind ≡ drop (length after) all
@@ -42,7 +43,7 @@ line_further all found behind instr before after next pushed place =
     next ∙ ap (drop 1) place ∙ drop-drop 1 (length before) all ∙ ap (λ n. drop n all) more
 
 -- where the DISPLAY lines end, the end's fault is the program's
-pub wrong_is : (all rest : List (List ℕ)) (instrs : List Instr) (n : ℕ) → map Display (texts_in all) ≡ instrs ++ map Display (texts_in rest) → rest ≡ drop (length instrs) all → length instrs + 13 ≡ n → min 1000 (length instrs + length (texts_in rest)) ≡ length instrs
+pub wrong_is : (all rest : List (List ℕ)) (instrs : List Instr) (n : ℕ) → map shows (texts_in all) ≡ instrs ++ map shows (texts_in rest) → rest ≡ drop (length instrs) all → length instrs + 13 ≡ n → min 1000 (length instrs + length (texts_in rest)) ≡ length instrs
     → wrong_program all ≡ wrong_end n rest
 wrong_is all rest instrs n texts place count last =
     let total : length (texts_in all) ≡ length instrs + length (texts_in rest) = simp (length-map, length-append) at (ap length texts) in
@@ -62,11 +63,11 @@ end_by false n [] h = refl
 end_by false n (line ∷ rest) h = stop_by (bytes_eq line stop_run) line rest n refl h
 
 -- where the end is good, no further text stands
-pub all_instrs : (all rest : List (List ℕ)) (n : ℕ) (instrs : List Instr) (finished : Result (List Instr) Refusal) → map Display (texts_in all) ≡ instrs ++ map Display (texts_in rest)
+pub all_instrs : (all rest : List (List ℕ)) (n : ℕ) (instrs : List Instr) (finished : Result (List Instr) Refusal) → map shows (texts_in all) ≡ instrs ++ map shows (texts_in rest)
     → OnOk finished (wrong_end n rest ≡ []) → IfOk finished (λ found. found ≡ instrs ++ StopRun ∷ []) → IfOk finished (λ found. found ≡ instrs_of (texts_in all))
 all_instrs all rest n instrs (Err refusal) texts good is = tt
 all_instrs all rest n instrs (Ok found) texts good is =
-    let none : map Display (texts_in all) ≡ instrs = texts ∙ ap (λ t. instrs ++ map Display t) (end_by (n == 13) n rest good) ∙ append-nil instrs in
+    let none : map shows (texts_in all) ≡ instrs = texts ∙ ap (λ t. instrs ++ map shows t) (end_by (n == 13) n rest good) ∙ append-nil instrs in
     is ∙ ap (λ l. l ++ StopRun ∷ []) (sym none)
 
 -- where two lists of wrong lines are the same, what is said of one is said of the other

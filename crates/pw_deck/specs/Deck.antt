@@ -8,8 +8,9 @@ use Rattle.pw_base.specs.declared.fault.Refusal.{Refusal}
 use Rattle.pw_base.specs.declared.fault.Refusal.TheVariants.{At, Memory}
 use Rattle.pw_base.specs.Limits.{longest_input}
 use Rattle.pw_base.specs.First.{least, unless}
-use Rattle.pw_code.specs.declared.code.Instr.{Instr}
-use Rattle.pw_code.specs.declared.code.Instr.TheVariants.{Display, StopRun}
+use Rattle.pw_code.specs.declared.instr.Instr.{Instr}
+use Rattle.pw_code.specs.declared.instr.Instr.TheVariants.{StopRun}
+use Rattle.pw_code.specs.Thin.{shows}
 use Rattle.pw_code.specs.declared.lock.LockRule.TheVariants.{ReadersShare}
 use Rattle.pw_code.specs.declared.system.System.{System}
 use Rattle.pw_deck.specs.Lines.{lines}
@@ -102,13 +103,14 @@ RefusesLine (At line code) wrong = IsWrongLine (At line code) wrong
 
 -- the instructions of a program that displays these texts and stops
 abbrev pub instrs_of : List (List ℕ) → List Instr
-instrs_of texts = map Display texts ++ StopRun ∷ []
+instrs_of texts = map shows texts ++ StopRun ∷ []
 
 -- the system of a deck whose program has these instructions: a unit may restart 5 times, and nothing is keyed in
 abbrev pub system_with : List Instr → System
 system_with instrs = record {
-  programs = (record { name = codes "HELLO"; instrs = instrs }) ∷ [];
+  programs = (record { name = codes "HELLO"; instrs = instrs; storage = []; linkage = [] }) ∷ [];
   servers = [];
+  screens = [];
   classes = [];
   files = [];
   tcps = codes "TCP-1" ∷ [];

@@ -10,7 +10,7 @@ use pw_base::fault::Refusal;
 use pw_base::fault_code::FaultCode;
 use pw_base::list::List;
 use pw_base::read_all::MAX_INPUT;
-use pw_code::code::Instr;
+use pw_code::instr::Instr;
 use pw_code::system::System;
 use std::alloc::Global;
 

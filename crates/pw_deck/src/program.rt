@@ -1,7 +1,8 @@
 ghost use Rattle.std.specs.Prelude.{◌≡◌, ◌+◌, ◌^◌, ◌<◌, ◌≤◌, ◌∷◌, ◌++◌, [], Bool, true, false, length, drop, map, MatchOption, IfSome, IfOk, IfErr, OnOk, OnErr};
 ghost use Rattle.std.specs.List.{list_all};
 ghost use Rattle.std.specs.Option.{option_map};
-ghost use Rattle.pw_code.specs.declared.code.Instr.TheVariants.{Display, StopRun};
+ghost use Rattle.pw_code.specs.declared.instr.Instr.TheVariants.{StopRun};
+ghost use Rattle.pw_code.specs.Thin.{shows};
 ghost use Rattle.pw_deck.specs.Lines.{lines};
 ghost use Rattle.pw_deck.specs.Deck.{is_text_byte, is_text, is_display, text_in, first_text, texts_in, wrong_end, wrong_program, instrs_of, RefusesLine};
 
@@ -10,7 +11,8 @@ use crate::refusal::no_such_form;
 use pw_base::bytes::Bytes;
 use pw_base::fault::Refusal;
 use pw_base::list::List;
-use pw_code::code::Instr;
+use pw_code::instr::Instr;
+use pw_code::operand::Operand;
 use std::alloc::Global;
 
 /// The line of the first statement, behind the twelve of the heading.
@@ -69,12 +71,12 @@ fn next_text(rest: &[u8]) -> Option<(&[u8], &[u8])>
 
 /// Puts the instruction that displays a text behind the others. An `Err` leaves them as they were.
 fn push_text(alloc: Global, instrs: &mut List<Instr>, text: &[u8]) -> Result<(), Refusal>
-    ensures ok { OnOk result (instrs.new ≡ instrs.old ++ Display text.now ∷ []) }
+    ensures ok { OnOk result (instrs.new ≡ instrs.old ++ shows text.now ∷ []) }
     ensures err { OnErr result (instrs.new ≡ instrs.old) }
     ensures memory { IfErr result (λ refusal. refusal ≡ Refusal.Memory) }
 {
     let text = Bytes::from_slice(alloc, text)?;
-    instrs.push(Instr::Display(text))?;
+    instrs.push(Instr::Display(Operand::Text(text)))?;
     Ok(())
 }
 

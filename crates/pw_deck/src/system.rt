@@ -4,7 +4,8 @@ ghost use Rattle.pw_deck.specs.Deck.{system_with};
 use pw_base::bytes::Bytes;
 use pw_base::list::List;
 use pw_base::memory::Memory;
-use pw_code::code::{Code, Instr};
+use pw_code::code::Code;
+use pw_code::instr::Instr;
 use pw_code::lock::LockRule;
 use pw_code::system::{System, TermInfo};
 use std::alloc::Global;
@@ -28,6 +29,8 @@ pub fn system_with(alloc: Global, instrs: List<Instr>) -> Result<System, Memory>
     let code = Code {
         name: Bytes::from_slice(alloc, b"HELLO")?,
         instrs,
+        storage: Bytes::new(alloc),
+        linkage: List::new(alloc),
     };
     let terminal = TermInfo {
         name: Bytes::from_slice(alloc, b"T1")?,
@@ -39,6 +42,7 @@ pub fn system_with(alloc: Global, instrs: List<Instr>) -> Result<System, Memory>
     Ok(System {
         programs: list_of(alloc, code)?,
         servers: List::new(alloc),
+        screens: List::new(alloc),
         classes: List::new(alloc),
         files: List::new(alloc),
         tcps: list_of(alloc, Bytes::from_slice(alloc, b"TCP-1")?)?,

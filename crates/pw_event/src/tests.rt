@@ -71,6 +71,7 @@ pub(crate) fn system_under(alloc: Global, rule: LockRule) -> Result<System, Memo
     Ok(System {
         programs: List::new(alloc),
         servers: List::new(alloc),
+        screens: List::new(alloc),
         classes,
         files,
         tcps,

@@ -1,7 +1,6 @@
 -- One piece after the other.
 use Rattle.std.proofs.Common.{◌≡◌, ℕ, List, [], ◌∷◌, ◌++◌, Bool, true, false, cond, Option, Some, None, Result, Ok, Err, OnOk, refl, sym, ap, ◌∙◌, append_assoc}
-use Rattle.std.specs.Prelude.{◌||◌, Vec, bytes_eq, is_some}
-use Rattle.std.specs.List.{list_any}
+use Rattle.std.specs.Prelude.{◌||◌, is_some}
 use Rattle.pw_base.specs.declared.memory.Memory.{Memory}
 use Rattle.pw_base.specs.declared.fault.Fault.{Fault}
 use Rattle.pw_base.specs.declared.fault_code.FaultCode.{FaultCode}
@@ -23,7 +22,7 @@ use Rattle.pw_forms.specs.Faults.{Before, nothing, is_name, fits, code_unless, c
 use Rattle.pw_forms.specs.Tree.{Behind, nothing_behind, Levels, Closed, AtElse, AtEndIf, prepend, behind_period, level_of, levels}
 use Rattle.pw_forms.specs.Blocks.{branches, stands}
 use Rattle.pw_forms.proofs.Nested.{nested-nil, prepend-nil}
-use Rattle.pw_forms.specs.Names.{has_name}
+use Rattle.pw_words.specs.Names.{has_name}
 use Rattle.pw_forms.specs.Procedures.{outcome_of}
 use Rattle.pw_forms.specs.Built.{completed, built, before_of, outcome}
 
@@ -164,17 +163,17 @@ before-after new old piece begun taken branches_are = ap (λ b. with_parts b new
     with_parts b t bs = record { begun = b; taken = t; branches = bs }
 
 -- before the first piece nothing is left
-before-start : (reading : Reading) → reading.names.keys ≡ [] → reading.build.begun ≡ None → reading.build.block.open.items ≡ [] → before_of reading ≡ nothing
+before-start : (reading : Reading) → reading.names ≡ [] → reading.build.begun ≡ None → reading.build.block.open.items ≡ [] → before_of reading ≡ nothing
 before-start reading keys begun none =
     ap (λ b. with_parts (is_some b) (has_name reading.names) (branches reading.build.block.open.items)) begun
-    ∙ ap (λ (ks : List (Vec ℕ _)). with_parts false (λ word. list_any (λ name. bytes_eq name.items word) ks) (branches reading.build.block.open.items)) keys
+    ∙ ap (λ names. with_parts false (has_name names) (branches reading.build.block.open.items)) keys
     ∙ ap (λ all. with_parts false (λ word. false) (branches all)) none
   where
     with_parts : Bool → (Word → Bool) → List Bool → Before
     with_parts b t bs = record { begun = b; taken = t; branches = bs }
 
 -- before the first piece
-pub outcome-start : (reading : Reading) (pieces : List Placed) → reading.known ≡ None → reading.names.keys ≡ []
+pub outcome-start : (reading : Reading) (pieces : List Placed) → reading.known ≡ None → reading.names ≡ []
     → reading.build.paragraphs ≡ [] → reading.build.begun ≡ None → reading.build.block.open.items ≡ [] → reading.build.block.current ≡ []
     → outcome reading pieces ≡ outcome_of pieces
 outcome-start reading pieces known keys paragraphs begun none empty =

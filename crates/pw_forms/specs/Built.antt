@@ -2,13 +2,13 @@
 use Rattle.std.specs.Prelude.{List, ◌∷◌, ◌++◌, is_some, Option, Some, None, Result}
 use Rattle.pw_base.specs.declared.fault.Fault.{Fault}
 use Rattle.pw_base.specs.First.{least, unless}
+use Rattle.pw_words.specs.Names.{has_name}
 use Rattle.pw_forms.specs.declared.statement.Paragraph.{Paragraph}
 use Rattle.pw_forms.specs.declared.statement.Procedure.{Procedure}
 use Rattle.pw_forms.specs.declared.piece.Placed.{Placed}
 use Rattle.pw_forms.specs.declared.build.Begun.{Begun}
 use Rattle.pw_forms.specs.declared.build.Build.{Build}
 use Rattle.pw_forms.specs.declared.reading.Reading.{Reading}
-use Rattle.pw_forms.specs.Names.{has_name}
 use Rattle.pw_forms.specs.Faults.{Before, faults_from}
 use Rattle.pw_forms.specs.Tree.{Behind, Levels, behind_period, levels}
 use Rattle.pw_forms.specs.Blocks.{branches, stands}

@@ -4,7 +4,6 @@ pub mod Conditions
 pub mod Faults
 pub mod FileForms
 pub mod Forms
-pub mod Names
 pub mod Operands
 pub mod Pieces
 pub mod Procedures

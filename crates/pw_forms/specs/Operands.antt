@@ -1,5 +1,6 @@
 -- Operands, names and numbers of a form.
-use Rattle.std.specs.Prelude.{ℕ, ◌+◌, ◌-◌, ◌*◌, min, nat_le, List, [], ◌∷◌, ◌++◌, Bool, true, false, not, ◌&&◌, ◌||◌, ◌==◌, codes, Option, Some, None, option_map, if◌then◌else◌}
+pub use Rattle.pw_text.specs.Literals.{kept, is_first_quote, unquoted}
+use Rattle.std.specs.Prelude.{ℕ, ◌+◌, ◌-◌, ◌*◌, min, nat_le, List, [], ◌∷◌, Bool, true, false, not, ◌&&◌, ◌||◌, codes, Option, Some, None, option_map, if◌then◌else◌}
 use Rattle.std.specs.List.{list_all}
 use Rattle.std.specs.Char.{is_ascii_digit}
 use Rattle.pw_words.specs.Words.{Word, place_of}
@@ -15,20 +16,6 @@ use Rattle.pw_forms.specs.Words.{is_word, is_the_word, is_receive, is_name, is_i
 use Rattle.pw_forms.specs.Readers.{Reader, ◌>>=◌, pure, fails, takes, token}
 
 -- ---- literals
-
--- the byte, unless it is the second of two quotes
-abbrev pub kept : Bool → ℕ → List ℕ
-kept second byte = if second then [] else byte ∷ []
-
--- a quote that is not the second of two is the first of two
-abbrev pub is_first_quote : Bool → ℕ → Bool
-is_first_quote second byte = not second && byte == 34
-
--- the characters of a text, where of two quotes one stands
--- second: the byte before was the first of two
-abbrev pub unquoted : Bool → List ℕ → List ℕ
-unquoted second [] = []
-unquoted second (byte ∷ bytes) = kept second byte ++ unquoted (is_first_quote second byte) bytes
 
 -- the value of digits behind those of a value, where every value above 9,999 is as 10,000
 abbrev pub value_from : ℕ → List ℕ → ℕ

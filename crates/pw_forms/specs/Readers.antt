@@ -1,9 +1,9 @@
 -- Readers of the tokens of a piece, and the steps that every form is made of.
-use Rattle.std.specs.Prelude.{◌≡◌, ℕ, zero, suc, ◌==◌, Bool, false, List, [], ◌∷◌, ◌++◌, length, drop, Option, Some, None, Result, Ok, Err, if◌then◌else◌}
+use Rattle.std.specs.Prelude.{◌≡◌, ℕ, zero, suc, ◌==◌, Bool, List, [], ◌∷◌, ◌++◌, length, drop, Option, Some, None, Result, Ok, Err, if◌then◌else◌}
 use Rattle.pw_words.specs.Words.{Word}
 use Rattle.pw_text.specs.declared.token.TokenKind.{TokenKind}
 use Rattle.pw_text.specs.declared.token.Token.{Token}
-use Rattle.pw_text.specs.Cursor.{same_kind}
+use Rattle.pw_text.specs.Cursor.{begins_with, has_kind}
 use Rattle.pw_forms.specs.declared.lack.Lack.{Lack}
 use Rattle.pw_forms.specs.declared.lack.Lack.TheVariants.{Memory, NoForm}
 use Rattle.pw_forms.specs.Words.{is_the_word}
@@ -38,8 +38,7 @@ fails = λ rest. None
 
 -- the next token is this word
 abbrev pub is_first_word : List ℕ → List Token → Word → Bool
-is_first_word text [] word = false
-is_first_word text (token ∷ tokens) word = is_the_word text token word
+is_first_word text tokens word = begins_with (λ token. is_the_word text token word) tokens
 
 -- the next token is this word
 unfoldable pub sees : Word → Rest → Bool
@@ -75,8 +74,7 @@ expects word = λ rest. if sees word rest then Some (tt, behind rest) else None
 
 -- the next token is of this kind
 abbrev pub is_first_kind : List Token → TokenKind → Bool
-is_first_kind [] kind = false
-is_first_kind (token ∷ tokens) kind = same_kind token.kind kind
+is_first_kind tokens kind = begins_with (has_kind kind) tokens
 
 -- the next token is of this kind
 unfoldable pub sees_kind : TokenKind → Rest → Bool

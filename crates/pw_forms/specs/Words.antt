@@ -1,12 +1,12 @@
 -- The words of a procedure.
 use Rattle.std.specs.Prelude.{ℕ, List, [], ◌∷◌, Bool, true, false, not, ◌&&◌, ◌||◌, is_some, codes, slice_get, Option, Some, None, unwrap_or}
 use Rattle.std.specs.Str.{str_to_ascii_uppercase}
-use Rattle.pw_words.specs.Words.{Word, same_word, place_of}
+use Rattle.pw_words.specs.Words.{Word, place_of}
 use Rattle.pw_words.specs.Texts.{requester_words, server_words}
 use Rattle.pw_text.specs.declared.token.TokenKind.{TokenKind}
 use Rattle.pw_text.specs.declared.token.TokenKind.TheVariants as kind
 use Rattle.pw_text.specs.declared.token.Token.{Token}
-use Rattle.pw_text.specs.Cursor.{spelling}
+use Rattle.pw_text.specs.Cursor.{same_kind, spelling, is_the_word as is_word_of}
 use Rattle.pw_forms.specs.declared.statement.Operation.{Operation}
 use Rattle.pw_forms.specs.declared.statement.Operation.TheVariants as operations
 use Rattle.pw_forms.specs.declared.mark.FileVerb.{FileVerb}
@@ -21,12 +21,11 @@ use Rattle.pw_forms.specs.declared.mark.Mark.TheVariants as mark
 
 -- a word
 abbrev pub is_word : TokenKind → Bool
-is_word kind.Word = true
-is_word _ = false
+is_word found = same_kind found kind.Word
 
 -- the token is this word, in either case
 abbrev pub is_the_word : List ℕ → Token → Word → Bool
-is_the_word text token word = is_word token.kind && same_word (spelling text token) word
+is_the_word text token word = is_word_of text word token
 
 -- the place of a word in the table of servers, or in that of requesters
 unfoldable pub table_place : Bool → Word → Option ℕ

@@ -7,7 +7,6 @@ use crate::cursor::Cursor;
 use crate::lack::Lack;
 use crate::operand::Operand;
 use crate::operands::operand;
-use crate::words::is_the_word;
 use pw_base::list::List;
 use pw_text::token::{Token, TokenKind};
 use std::alloc::Global;
@@ -17,13 +16,13 @@ use std::alloc::Global;
 fn word_operator(rest: &mut Cursor<'_>, word: Token) -> Result<Operator, Lack>
     ensures { Reads (spec.word_operator word rest.old) result rest.new }
 {
-    if is_the_word(rest.text(), word, b"EQUAL") {
+    if word.is_the_word(rest.text(), b"EQUAL") {
         rest.eats(b"TO");
         Ok(Operator::Equal)
-    } else if is_the_word(rest.text(), word, b"GREATER") {
+    } else if word.is_the_word(rest.text(), b"GREATER") {
         rest.eats(b"THAN");
         Ok(Operator::Greater)
-    } else if is_the_word(rest.text(), word, b"LESS") {
+    } else if word.is_the_word(rest.text(), b"LESS") {
         rest.eats(b"THAN");
         Ok(Operator::Less)
     } else {

@@ -2,16 +2,16 @@ ghost use Rattle.std.specs.Prelude.{◌≡◌};
 ghost use Rattle.pw_forms.specs.Readers.{Reads, sees, sees_third, past, behind, token, sees_kind, past_kind, expects, is_done, ends, left};
 
 use crate::lack::Lack;
-use crate::words::is_the_word;
+use pw_text::cursor::Cursor as TokenCursor;
 use pw_text::token::{Token, TokenKind};
 use std::marker::Model;
 
-/// What is left of a piece, in the text of a server or of a requester.
+/// What is left of a piece, in the text of a server or of a requester: a cursor over its tokens, whose
+/// steps give that no form has what stands there where they find none.
 #[derive(Drop)]
 pub struct Cursor<'a> {
     server: bool,
-    text: &'a [u8],
-    tokens: &'a [Token],
+    left: TokenCursor<'a>,
 }
 
 impl<'a> Model for Cursor<'a> {
@@ -21,8 +21,8 @@ impl<'a> Model for Cursor<'a> {
 
     ghost view = { λ cursor. record {
       server = cursor.server;
-      text = cursor.text.now;
-      tokens = cursor.tokens.now;
+      text = cursor.left.text;
+      tokens = cursor.left.tokens;
     } };
 }
 
@@ -32,8 +32,7 @@ impl<'a> Cursor<'a> {
     {
         Cursor {
             server,
-            text,
-            tokens,
+            left: TokenCursor::new(text, tokens),
         }
     }
 
@@ -47,7 +46,7 @@ impl<'a> Cursor<'a> {
     pub fn text(&self) -> &'a [u8]
         ensures { result.now ≡ self.now.text }
     {
-        self.text
+        self.left.text()
     }
 
     /// How many tokens are left.
@@ -55,27 +54,23 @@ impl<'a> Cursor<'a> {
     pub fn left(&self) -> usize
         ensures { result ≡ left self.now }
     {
-        self.tokens.len()
+        self.left.len()
     }
 
     #[tactic(auto, unfolding(crate::specs::Readers::is_done))]
     pub fn is_done(&self) -> bool
         ensures { result ≡ is_done self.now }
     {
-        self.tokens.is_empty()
+        self.left.is_empty()
     }
 
     /// Takes the next token.
-    #[tactic(auto, unfolding(crate::specs::Readers::token, crate::specs::Readers::behind))]
     pub fn next(&mut self) -> Result<Token, Lack>
         ensures { Reads (token self.old) result self.new }
     {
-        match self.tokens {
-            [token, tokens @ ..] => {
-                self.tokens = tokens;
-                Ok(*token)
-            }
-            [] => Err(Lack::NoForm),
+        match self.left.next() {
+            Some(token) => Ok(token),
+            None => Err(Lack::NoForm),
         }
     }
 
@@ -84,9 +79,7 @@ impl<'a> Cursor<'a> {
     fn skip(&mut self)
         ensures { self.new ≡ behind self.old }
     {
-        if let [_, tokens @ ..] = self.tokens {
-            self.tokens = tokens;
-        }
+        let _token = self.left.next();
     }
 
     /// Whether the next token is this word.
@@ -94,10 +87,7 @@ impl<'a> Cursor<'a> {
     pub fn sees(&self, word: &[u8]) -> bool
         ensures { result ≡ sees word.now self.now }
     {
-        match self.tokens {
-            [token, ..] => is_the_word(self.text, *token, word),
-            [] => false,
-        }
+        self.left.sees_word(word)
     }
 
     /// Whether the token behind the next two is this word.
@@ -105,8 +95,8 @@ impl<'a> Cursor<'a> {
     pub fn sees_third(&self, word: &[u8]) -> bool
         ensures { result ≡ sees_third word.now self.now }
     {
-        match self.tokens {
-            [_, _, token, ..] => is_the_word(self.text, *token, word),
+        match self.left.tokens() {
+            [_, _, token, ..] => token.is_the_word(self.left.text(), word),
             _ => false,
         }
     }
@@ -142,10 +132,7 @@ impl<'a> Cursor<'a> {
     fn sees_kind(&self, kind: TokenKind) -> bool
         ensures { result ≡ sees_kind kind self.now }
     {
-        match self.tokens {
-            [token, ..] => token.kind.is(kind),
-            [] => false,
-        }
+        self.left.sees(kind)
     }
 
     /// Takes the next token where it is of this kind, and tells it.

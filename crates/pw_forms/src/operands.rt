@@ -5,10 +5,11 @@ ghost use Rattle.pw_forms.specs.Operands as spec;
 
 use crate::cursor::Cursor;
 use crate::lack::Lack;
-use crate::literal::{is_code, unquoted, value_of};
+use crate::literal::{is_code, value_of};
 use crate::operand::{Operand, Subscript};
-use crate::words::{is_item_name, is_name, is_receive, is_the_word, is_word, name_in, spelling};
+use crate::words::{is_item_name, is_name, is_receive, name_in};
 use pw_base::bytes::Bytes;
+use pw_text::literal::unquoted;
 use pw_text::token::{Token, TokenKind};
 use pw_words::table::is_same_word;
 use std::alloc::Global;
@@ -26,7 +27,7 @@ fn subscript_by(alloc: Global, rest: &Cursor<'_>, value: Token) -> Result<Subscr
 {
     match value.kind {
         TokenKind::Number => {
-            let digits = Bytes::from_slice(alloc, spelling(rest.text(), value))?;
+            let digits = Bytes::from_slice(alloc, value.spelling(rest.text()))?;
             Ok(Subscript::Number(digits))
         }
         _ => {
@@ -70,10 +71,10 @@ fn item(alloc: Global, rest: &mut Cursor<'_>, name: Token) -> Result<Operand, La
 fn figurative(text: &[u8], word: Token) -> Option<Operand>
     ensures { result ≡ spec.figurative text.now word }
 {
-    if is_the_word(text, word, b"SPACE") || is_the_word(text, word, b"SPACES") {
+    if word.is_the_word(text, b"SPACE") || word.is_the_word(text, b"SPACES") {
         Some(Operand::Spaces)
-    } else if is_the_word(text, word, b"ZERO")
-        || (is_the_word(text, word, b"ZEROS") || is_the_word(text, word, b"ZEROES"))
+    } else if word.is_the_word(text, b"ZERO")
+        || (word.is_the_word(text, b"ZEROS") || word.is_the_word(text, b"ZEROES"))
     {
         Some(Operand::Zeros)
     } else {
@@ -87,11 +88,11 @@ fn operand_by(alloc: Global, rest: &mut Cursor<'_>, first: Token) -> Result<Oper
 {
     match first.kind {
         TokenKind::Number => {
-            let digits = Bytes::from_slice(alloc, spelling(rest.text(), first))?;
+            let digits = Bytes::from_slice(alloc, first.spelling(rest.text()))?;
             Ok(Operand::Number(digits))
         }
         TokenKind::Text => {
-            let chars = unquoted(alloc, spelling(rest.text(), first))?;
+            let chars = unquoted(alloc, first.spelling(rest.text()))?;
             Ok(Operand::Text(chars))
         }
         _ => {
@@ -134,7 +135,7 @@ pub fn file_name(alloc: Global, rest: &mut Cursor<'_>) -> Result<Bytes, Lack>
     ensures { Reads (spec.file_name rest.old) result rest.new }
 {
     let word = rest.next()?;
-    if is_word(word.kind) && !is_receive(rest.text(), word) {
+    if word.kind.is(TokenKind::Word) && !is_receive(rest.text(), word) {
         Ok(name_in(alloc, rest.text(), word)?)
     } else {
         Err(Lack::NoForm)
@@ -146,9 +147,9 @@ fn program_by(alloc: Global, rest: &Cursor<'_>, first: Token) -> Result<Bytes, L
     ensures { Reads (spec.program_by first.kind first rest.now) result rest.now }
 {
     match first.kind {
-        TokenKind::Text => Ok(unquoted(alloc, spelling(rest.text(), first))?),
+        TokenKind::Text => Ok(unquoted(alloc, first.spelling(rest.text()))?),
         _ => {
-            if is_word(first.kind) && !is_receive(rest.text(), first) {
+            if first.kind.is(TokenKind::Word) && !is_receive(rest.text(), first) {
                 Ok(name_in(alloc, rest.text(), first)?)
             } else {
                 Err(Lack::NoForm)
@@ -200,10 +201,10 @@ pub fn key(rest: &mut Cursor<'_>) -> Result<u8, Lack>
     ensures { Reads (spec.key rest.old) result rest.new }
 {
     let word = rest.next()?;
-    if !is_word(word.kind) {
+    if !word.kind.is(TokenKind::Word) {
         return Err(Lack::NoForm);
     }
-    match key_of(spelling(rest.text(), word)) {
+    match key_of(word.spelling(rest.text())) {
         Some(number) => Ok(number),
         None => Err(Lack::NoForm),
     }
@@ -215,7 +216,7 @@ pub fn code(rest: &mut Cursor<'_>) -> Result<u16, Lack>
     ensures { Reads (spec.code rest.old) result rest.new }
 {
     let number = rest.next()?;
-    let digits = spelling(rest.text(), number);
+    let digits = number.spelling(rest.text());
     if matches!(number.kind, TokenKind::Number) && is_code(digits) {
         Ok(value_of(digits))
     } else {

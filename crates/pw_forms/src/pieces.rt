@@ -8,10 +8,10 @@ use crate::forms::form;
 use crate::lack::Lack;
 use crate::mark::{Mark, Verb};
 use crate::piece::{Piece, Placed};
-use crate::words::{begins_piece, is_receive, is_table_word, is_word, mark_of, name_in, spelling};
+use crate::words::{begins_piece, is_receive, is_table_word, mark_of, name_in};
 use pw_base::fault_code::FaultCode;
 use pw_base::memory::Memory;
-use pw_text::token::Token;
+use pw_text::token::{Token, TokenKind};
 use std::alloc::Global;
 
 fn is_period(mark: Mark) -> bool
@@ -102,7 +102,7 @@ fn verb_piece(
 fn name_piece(alloc: Global, server: bool, text: &[u8], word: Token) -> Result<Piece, Memory>
     ensures { IfOk result (λ piece. piece ≡ spec.name_piece server text.now word) }
 {
-    if is_table_word(server, spelling(text, word)) {
+    if is_table_word(server, word.spelling(text)) {
         Ok(Piece::Fault(FaultCode::NameTwice))
     } else if is_receive(text, word) {
         Ok(Piece::Fault(FaultCode::NoSuchForm))
@@ -123,7 +123,7 @@ fn run_piece(
     ensures { IfOk result (λ piece.
         piece ≡ spec.run_piece server text.now followed first tokens.now) }
 {
-    if tokens.is_empty() && (is_word(first.kind) && followed) {
+    if tokens.is_empty() && (first.kind.is(TokenKind::Word) && followed) {
         name_piece(alloc, server, text, first)
     } else {
         Ok(Piece::Fault(FaultCode::NoSuchForm))

@@ -1,6 +1,6 @@
 ghost use Rattle.std.specs.Prelude.{◌≡◌, ◌∷◌, [], List, IfOk, OnOk};
 ghost use Rattle.pw_base.specs.First.{least, Gives};
-ghost use Rattle.pw_forms.specs.Names.{has_name};
+ghost use Rattle.pw_words.specs.Names.{has_name};
 ghost use Rattle.pw_forms.specs.Faults.{is_name, early, code_unless, code_of, taken_after, fault_at};
 ghost use Rattle.pw_forms.specs.Built.{outcome};
 ghost use Rattle.pw_forms.specs.Blocks.{branches};
@@ -18,8 +18,8 @@ use pw_base::fault::{Fault, Refusal, better};
 use pw_base::fault_code::FaultCode;
 use pw_base::memory::Memory;
 use pw_text::token::Token;
+use pw_words::names::Names;
 use std::alloc::Global;
-use std::collections::BTreeSet;
 
 /// Whether a piece is the name of a paragraph.
 fn is_name(piece: &Piece) -> bool
@@ -45,7 +45,7 @@ fn early(begun: bool, piece: &Piece) -> Option<FaultCode>
 /// The code of a piece's fault, if it has one. The name of a paragraph is put into the set.
 fn code_of(
     alloc: Global,
-    names: &mut BTreeSet<Vec<u8>>,
+    names: &mut Names,
     block: &Block,
     piece: &Piece,
 ) -> Result<Option<FaultCode>, Memory>
@@ -82,7 +82,7 @@ impl Reading {
     {
         Reading {
             known: None,
-            names: BTreeSet::new(alloc),
+            names: Names::new(alloc),
             build: Build::new(alloc),
         }
     }

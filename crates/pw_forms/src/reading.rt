@@ -1,11 +1,11 @@
 use crate::build::Build;
 use pw_base::fault::Fault;
-use std::collections::BTreeSet;
+use pw_words::names::Names;
 
 /// What reading has found so far: the first fault, the names of the paragraphs, and the paragraphs.
 #[derive(Drop)]
 pub struct Reading {
     pub known: Option<Fault>,
-    pub names: BTreeSet<Vec<u8>>,
+    pub names: Names,
     pub build: Build,
 }

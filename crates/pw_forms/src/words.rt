@@ -1,13 +1,11 @@
 ghost use Rattle.std.specs.Prelude.{◌≡◌, IfOk};
-ghost use Rattle.pw_text.specs.Cursor.{spelling};
-ghost use Rattle.pw_forms.specs.Words.{is_word, is_the_word, table_place, is_table_word, mark_in, mark_at, mark_of, begins_piece, is_receive, is_name, is_register, is_item_name, name_in};
+ghost use Rattle.pw_forms.specs.Words.{table_place, is_table_word, mark_in, mark_at, mark_of, begins_piece, is_receive, is_name, is_register, is_item_name, name_in};
 
 use crate::mark::{FileVerb, Mark, TerminalVerb, TransactionVerb, Verb};
 use crate::statement::Operation;
 use pw_base::bytes::Bytes;
 use pw_base::memory::Memory;
 use pw_text::token::{Token, TokenKind};
-use pw_words::table::is_same_word;
 use pw_words::texts::{requester_words, server_words};
 use std::alloc::Global;
 
@@ -37,29 +35,6 @@ const MARKS: &[Mark] = &[
     Mark::Else,
     Mark::EndIf,
 ];
-
-/// Whether a token of this kind is a word.
-pub fn is_word(kind: TokenKind) -> bool
-    ensures { result ≡ is_word kind }
-{
-    matches!(kind, TokenKind::Word)
-}
-
-/// The bytes of a token in its text, as far as it lies there.
-pub fn spelling<'a>(text: &'a [u8], token: Token) -> &'a [u8]
-    ensures { result.now ≡ spelling text.entry.now token }
-{
-    let end = (token.end as usize).min(text.len());
-    let start = (token.start as usize).min(end);
-    &text[start..end]
-}
-
-/// Whether a token is this word, in either case.
-pub fn is_the_word(text: &[u8], token: Token, word: &[u8]) -> bool
-    ensures { result ≡ is_the_word text.now token word.now }
-{
-    is_word(token.kind) && is_same_word(spelling(text, token), word)
-}
 
 /// The place of a word in the table of servers, or in that of requesters.
 #[tactic(auto, unfolding(crate::specs::Words::table_place))]
@@ -103,7 +78,7 @@ pub fn mark_of(server: bool, text: &[u8], token: Token) -> Mark
 {
     match token.kind {
         TokenKind::Period => Mark::Period,
-        TokenKind::Word => mark_at(table_place(server, spelling(text, token))),
+        TokenKind::Word => mark_at(table_place(server, token.spelling(text))),
         _ => Mark::Other,
     }
 }
@@ -119,15 +94,15 @@ pub fn begins_piece(mark: Mark) -> bool
 pub fn is_receive(text: &[u8], token: Token) -> bool
     ensures { result ≡ is_receive text.now token }
 {
-    is_the_word(text, token, b"$RECEIVE")
+    token.is_the_word(text, b"$RECEIVE")
 }
 
 /// Whether a token may be a name: a word that is neither a table word nor `$RECEIVE`.
 pub fn is_name(server: bool, text: &[u8], token: Token) -> bool
     ensures { result ≡ is_name server text.now token }
 {
-    is_word(token.kind)
-        && (!is_table_word(server, spelling(text, token)) && !is_receive(text, token))
+    token.kind.is(TokenKind::Word)
+        && (!is_table_word(server, token.spelling(text)) && !is_receive(text, token))
 }
 
 /// Whether a token is a register: an item whose name is a table word.
@@ -135,10 +110,10 @@ fn is_register(server: bool, text: &[u8], token: Token) -> bool
     ensures { result ≡ is_register server text.now token }
 {
     if server {
-        is_the_word(text, token, b"FILE-STATUS")
+        token.is_the_word(text, b"FILE-STATUS")
     } else {
-        is_the_word(text, token, b"TERMINATION-STATUS")
-            || is_the_word(text, token, b"RESTART-COUNTER")
+        token.is_the_word(text, b"TERMINATION-STATUS")
+            || token.is_the_word(text, b"RESTART-COUNTER")
     }
 }
 
@@ -153,7 +128,8 @@ pub fn is_item_name(server: bool, text: &[u8], token: Token) -> bool
 pub fn name_in(alloc: Global, text: &[u8], token: Token) -> Result<Bytes, Memory>
     ensures { IfOk result (λ name. name ≡ name_in text.now token) }
 {
-    let name = spelling(text, token)
+    let name = token
+        .spelling(text)
         .iter()
         .map(|byte| byte.to_ascii_uppercase())
         .collect(alloc)?;

@@ -1,3 +1,6 @@
 pub mod Holders
 pub mod Order
 pub mod Overlaps
+pub mod Searching
+pub mod Reaching
+pub mod Registers

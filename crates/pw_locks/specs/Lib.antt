@@ -1,4 +1,9 @@
 pub mod Conflicts
+pub mod Indexes
 pub mod Keys
 pub mod Oldest
+pub mod Places
+pub mod Reach
+pub mod Register
+pub mod Searches
 pub mod Spans

@@ -2,28 +2,42 @@ ghost use Rattle.std.specs.Prelude.{◌≡◌, ◌↔◌, ◌++◌, ◌∷◌, [
 ghost use Rattle.std.specs.List.{list_any};
 ghost use Rattle.pw_locks.specs.Oldest.{IsOldest};
 
-use crate::lock::{Lock, is_same_unit};
-use crate::oldest::noted;
+use crate::lock::Lock;
+use crate::reach::oldest;
+use crate::register::Register;
+use crate::release::release;
+use crate::search::{Holders, Sought};
 use crate::span::Span;
+use crate::storing::{number_after, store};
 use pw_base::memory::Memory;
 use pw_code::lock::LockMode;
 use pw_code::unit::Unit;
 use std::alloc::Global;
+use std::collections::BTreeMap;
 use std::marker::Model;
 
 /// The locks that units hold. Contracts see them in the order in which they were added.
+///
+/// Each lock has a number that rises with each `add`. The locks are found by their files and keys and by their units, so
+/// that no call walks the locks of other files, and `release` those of other units.
 #[derive(Debug, Drop)]
 pub struct LockBook {
-    locks: Vec<Lock>,
+    alloc: Global,
+    locks: BTreeMap<u64, Lock>,
+    register: Register,
 }
 
 impl Model for LockBook {
     ghost use Rattle.std.specs.Prelude.{List};
+    ghost use Rattle.std.specs.BTreeMap.{values};
+    ghost use Rattle.pw_locks.specs.Register.{IsRegistered};
     ghost use Rattle.pw_locks.specs.declared.lock.Lock.{Lock as HeldLock};
 
     ghost Value = { List HeldLock };
 
-    ghost view = { λ book. book.locks.items };
+    ghost view = { λ book. values book.locks };
+
+    ghost invariant = { λ book. IsRegistered book.locks book.register };
 }
 
 impl LockBook {
@@ -34,7 +48,9 @@ impl LockBook {
         ensures { IfOk result (λ book. book ≡ []) }
     {
         Ok(LockBook {
-            locks: Vec::new(alloc),
+            alloc,
+            locks: BTreeMap::new(alloc),
+            register: Register::new(alloc),
         })
     }
 
@@ -46,11 +62,13 @@ impl LockBook {
         ensures oldest { IfSome result (λ holder.
             IsOldest holder (holders (lock_of unit.now file span.now mode) self.now)) }
     {
-        let mut oldest = None;
-        for held in self.locks.iter() {
-            oldest = noted(oldest, held.conflicts(unit, file, span, mode), held.unit);
-        }
-        oldest
+        let sought = Sought {
+            holders: Holders::AllBut(*unit),
+            file,
+            span,
+            mode,
+        };
+        oldest(&self.register.places, &self.locks, &sought)
     }
 
     /// Whether `holder` holds a lock that conflicts with one of any other unit on `span` of `file` in this mode.
@@ -59,8 +77,13 @@ impl LockBook {
         ensures { result ≡
             list_any (λ held. is_same_unit held.unit holder.now && exclude file span.now mode held) self.now }
     {
-        self.locks.iter().any(|held| is_same_unit(&held.unit, holder)
-            && held.excludes(file, span, mode))
+        let sought = Sought {
+            holders: Holders::Only(*holder),
+            file,
+            span,
+            mode,
+        };
+        oldest(&self.register.places, &self.locks, &sought).is_some()
     }
 
     /// Puts a lock of `unit` beside the others. An `Err` leaves the locks as they were.
@@ -68,37 +91,46 @@ impl LockBook {
         ensures ok { OnOk result (self.new ≡ self.old ++ lock_of unit.now file span mode ∷ []) }
         ensures err { OnErr result (self.new ≡ self.old) }
     {
-        self.locks.push(Lock {
+        let number = number_after(&self.locks)?;
+        let lock = Lock {
             unit: *unit,
             file,
             span,
             mode,
-        })?;
-        Ok(())
+        };
+        store(
+            self.alloc,
+            &mut self.locks,
+            &mut self.register,
+            number,
+            lock,
+        )
     }
 
     /// Takes away the lock that was added last, if there is one. It takes no memory.
     pub fn take_back(&mut self)
         ensures { self.new ≡ take (length self.old - 1) self.old }
     {
-        self.locks.pop();
+        if let Some((number, lock)) = self.locks.pop_last() {
+            self.register.strike(number, &lock);
+        }
     }
 
     /// Takes away all locks of `unit`, and no others. It takes no memory.
     pub fn release(&mut self, unit: &Unit)
         ensures { self.new ≡ filter (λ held. not (is_same_unit held.unit unit.now)) self.old }
     {
-        self.locks.retain(|held| !is_same_unit(&held.unit, unit));
+        release(&mut self.locks, &mut self.register, unit);
     }
 
     /// An equal value.
     pub fn copy(&self, alloc: Global) -> Result<LockBook, Memory>
         ensures { IfOk result (λ book. book ≡ self.now) }
     {
-        let mut locks = Vec::new(alloc);
-        for held in self.locks.iter() {
-            locks.push(held.copy(alloc)?)?;
+        let mut book = LockBook::new(alloc)?;
+        for held in self.locks.values() {
+            book.add(&held.unit, held.file, held.span.copy(alloc)?, held.mode)?;
         }
-        Ok(LockBook { locks })
+        Ok(book)
     }
 }

@@ -2,10 +2,18 @@
 #![tactic(auto)]
 
 pub mod book;
+pub mod index;
 mod keys;
 pub mod laws;
 pub mod lock;
+mod notes;
 mod oldest;
+mod places;
+mod reach;
+mod register;
+mod release;
+mod search;
 pub mod span;
+mod storing;
 #[cfg(test)]
 mod tests;

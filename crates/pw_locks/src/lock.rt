@@ -1,5 +1,5 @@
 ghost use Rattle.std.specs.Prelude.{◌≡◌, IfOk};
-ghost use Rattle.pw_locks.specs.Conflicts.{is_same_unit, are_both_shared, exclude, conflict, lock_of};
+ghost use Rattle.pw_locks.specs.Conflicts.{is_same_unit, are_both_shared, exclude};
 
 use crate::span::Span;
 use pw_base::memory::Memory;
@@ -37,13 +37,6 @@ impl Lock {
         ensures { result ≡ exclude file span.now mode self.now }
     {
         file == self.file && (span.overlaps(&self.span) && !are_both_shared(mode, self.mode))
-    }
-
-    /// Whether this lock conflicts with one of `unit` on `span` of `file` in this mode.
-    pub fn conflicts(&self, unit: &Unit, file: u32, span: &Span, mode: LockMode) -> bool
-        ensures { result ≡ conflict (lock_of unit.now file span.now mode) self.now }
-    {
-        !is_same_unit(unit, &self.unit) && self.excludes(file, span, mode)
     }
 
     /// An equal value.

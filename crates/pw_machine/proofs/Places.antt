@@ -5,8 +5,8 @@ use Rattle.std.specs.Option.{option_copied}
 use Rattle.std.proofs.lemmas.Option.{unwrap_or-slice_get}
 use Rattle.std.proofs.lemmas.List.{get_or_default}
 use Rattle.pw_code.specs.declared.code.Code.{Code}
-use Rattle.pw_code.specs.declared.code.Instr.{Instr}
-use Rattle.pw_code.specs.declared.code.Instr.TheVariants.{StopRun}
+use Rattle.pw_code.specs.declared.instr.Instr.{Instr}
+use Rattle.pw_code.specs.declared.instr.Instr.TheVariants.{StopRun}
 use Rattle.pw_code.specs.declared.system.System.{System}
 use Rattle.pw_machine.specs.Running.{instr_at}
 use Rattle.pw_machine.specs.Contexts.{instrs_of}

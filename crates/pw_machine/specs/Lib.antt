@@ -1,2 +1,6 @@
-pub mod Running
+pub mod Beside
+pub mod Config
 pub mod Contexts
+pub mod Running
+pub mod Statements
+pub mod Views

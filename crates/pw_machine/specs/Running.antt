@@ -1,7 +1,8 @@
--- What compiled code answers to a path.
+-- What code that only displays texts and stops answers to a path. At any other instruction it stops.
 use Rattle.std.specs.Prelude.{ℕ, ◌+◌, List, [], ◌∷◌, slice_index_or}
-use Rattle.pw_code.specs.declared.code.Instr.{Instr}
-use Rattle.pw_code.specs.declared.code.Instr.TheVariants.{Display, StopRun}
+use Rattle.pw_code.specs.declared.instr.Instr.{Instr}
+use Rattle.pw_code.specs.declared.instr.Instr.TheVariants.{Display, StopRun}
+use Rattle.pw_code.specs.declared.operand.Operand.TheVariants.{Text}
 use Rattle.pw_code.specs.declared.verb.Verb.{Verb}
 use Rattle.pw_code.specs.declared.verb.Verb.TheVariants.{Show, Stop}
 use Rattle.pw_code.specs.declared.verb.Answer.{Answer}
@@ -18,13 +19,13 @@ instr_at instrs at = slice_index_or instrs at StopRun
 
 -- the place behind an instruction
 abbrev pub behind : Instr → Place → Place
-behind (Display text) place = record { at = place.at + 1; screen = with_message text place.screen }
-behind StopRun place = place
+behind (Display (Text text)) place = record { at = place.at + 1; screen = with_message text place.screen }
+behind _ place = place
 
 -- the verb that an instruction asks
 abbrev pub asked_by : Instr → Verb
-asked_by (Display text) = Show
-asked_by StopRun = Stop
+asked_by (Display (Text text)) = Show
+asked_by _ = Stop
 
 -- the place of a program that starts
 abbrev pub first_place : Place

@@ -1,6 +1,20 @@
-//! The machine that runs compiled code, from a context at an answer to its next verb.
+//! The machine that runs compiled code.
 #![tactic(auto)]
 
-pub mod machine;
+mod arithmetic;
+mod compare;
+mod conditions;
+mod moves;
+mod numbers;
+mod reading;
+mod registers;
+mod spot;
+mod statements;
 #[cfg(test)]
 mod tests;
+mod texts;
+pub mod thin;
+mod top;
+mod turns;
+mod value;
+mod verbs;

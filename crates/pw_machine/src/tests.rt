@@ -1,13 +1,17 @@
-ghost use Rattle.std.specs.Prelude.{◌≡◌, ◌<◌, ◌^◌, length, IfOk};
+ghost use Rattle.std.specs.Prelude.{◌≡◌, ◌<◌, ◌^◌, length, IfOk, IsTrue};
+ghost use Rattle.std.specs.List.{list_all};
+ghost use Rattle.pw_code.specs.Thin.{is_thin};
 ghost use Rattle.pw_code.specs.Valid.{IsValid};
 
-use crate::machine::{answer, start, verb};
+use crate::thin::{answer, start, verb};
 use pw_base::bytes::Bytes;
 use pw_base::list::List;
 use pw_base::memory::Memory;
-use pw_code::code::{Code, Instr};
+use pw_code::code::Code;
 use pw_code::context::Context;
+use pw_code::instr::Instr;
 use pw_code::lock::LockRule;
+use pw_code::operand::Operand;
 use pw_code::system::System;
 use pw_code::verb::{Answer, Verb};
 use pw_terminal::printing::refresh_text;
@@ -17,16 +21,23 @@ use std::test::Fail;
 
 /// A system of one program.
 fn system_of(alloc: Global, instrs: List<Instr>) -> Result<System, Memory>
-    requires { length instrs < 2 ^ 32 }
+    requires short { length instrs < 2 ^ 32 }
+    requires thin { IsTrue (list_all is_thin instrs) }
     ensures valid { IfOk result (λ system. IsValid system) }
     ensures one { IfOk result (λ system. length system.programs ≡ 1) }
 {
     let name = Bytes::from_slice(alloc, b"MAIN")?;
     let mut programs = List::new(alloc);
-    programs.push(Code { name, instrs })?;
+    programs.push(Code {
+        name,
+        instrs,
+        storage: Bytes::new(alloc),
+        linkage: List::new(alloc),
+    })?;
     Ok(System {
         programs,
         servers: List::new(alloc),
+        screens: List::new(alloc),
         classes: List::new(alloc),
         files: List::new(alloc),
         tcps: List::new(alloc),
@@ -35,14 +46,22 @@ fn system_of(alloc: Global, instrs: List<Instr>) -> Result<System, Memory>
     })
 }
 
+/// The display of a text.
+fn display(alloc: Global, text: &[u8]) -> Result<Instr, Memory>
+    ensures { IfOk result (λ instr. instr ≡ Instr.Display (Operand.Text text.now)) }
+{
+    let text = Bytes::from_slice(alloc, text)?;
+    Ok(Instr::Display(Operand::Text(text)))
+}
+
 /// A program that displays two texts and stops.
 fn one_two(alloc: Global) -> Result<System, Memory>
     ensures valid { IfOk result (λ system. IsValid system) }
     ensures one { IfOk result (λ system. length system.programs ≡ 1) }
 {
     let mut instrs = List::new(alloc);
-    instrs.push(Instr::Display(Bytes::from_slice(alloc, b"ONE")?))?;
-    instrs.push(Instr::Display(Bytes::from_slice(alloc, b"TWO")?))?;
+    instrs.push(display(alloc, b"ONE")?)?;
+    instrs.push(display(alloc, b"TWO")?)?;
     instrs.push(Instr::StopRun)?;
     system_of(alloc, instrs)
 }
@@ -87,11 +106,11 @@ fn a_program_without_instructions_stops(rt: HostRuntime) -> Result<(), Fail> {
 #[test]
 fn a_context_behind_the_last_instruction_stops(rt: HostRuntime) -> Result<(), Fail> {
     let mut instrs = List::new(rt.alloc());
-    instrs.push(Instr::Display(Bytes::from_slice(rt.alloc(), b"ONE")?))?;
+    instrs.push(display(rt.alloc(), b"ONE")?)?;
     let system = system_of(rt.alloc(), instrs)?;
     let mut context = start(rt.alloc(), &system, 0)?;
-    context.at = 1;
+    assert!(rt; matches!(verb(&system, &mut context)?, Verb::Show));
+    answer(&system, &mut context, Answer::Shown)?;
     assert!(rt; matches!(verb(&system, &mut context)?, Verb::Stop));
-    assert_eq!(rt; context.at, 1);
     Ok(())
 }

@@ -42,6 +42,7 @@ fn one_terminal(alloc: Global) -> Result<System, Memory>
     Ok(System {
         programs: List::new(alloc),
         servers: List::new(alloc),
+        screens: List::new(alloc),
         classes: List::new(alloc),
         files: List::new(alloc),
         tcps: List::new(alloc),

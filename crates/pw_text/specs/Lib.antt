@@ -1,4 +1,5 @@
 pub mod Bytes
 pub mod Cursor
 pub mod Items
+pub mod Literals
 pub mod Tokens

@@ -5,6 +5,7 @@ mod bytes;
 pub mod cursor;
 mod item;
 mod items;
+pub mod literal;
 mod quoted;
 #[cfg(test)]
 mod tests;

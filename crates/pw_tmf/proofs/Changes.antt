@@ -10,9 +10,9 @@ use Rattle.pw_code.specs.declared.file.FileOp.TheVariants.{Read, Next, Write, Re
 use Rattle.pw_files.specs.Records.{has_key, record_at}
 use Rattle.pw_onecopy.specs.Operation.{answer_of, changes_records, is_change, key_of, records_behind, changed_records}
 use Rattle.pw_onecopy.specs.Path.{FileAnswer}
-use Rattle.pw_paired.specs.Units.{has_image}
+use Rattle.pw_paired.specs.Units.{has_image, image_before}
 use Rattle.pw_tmf.specs.Committed.{images_of}
-use Rattle.pw_tmf.specs.Operation.{answer_with, image_now, refusal, with_image}
+use Rattle.pw_tmf.specs.Operation.{answer_with, refusal, with_image}
 use Rattle.pw_tmf.specs.Slots.{SlotState, with_before, with_unit}
 use Rattle.pw_tmf.specs.Tmf.{key_lengths, stored}
 use Rattle.pw_tmf.specs.Told.{ToldUnit}
@@ -109,7 +109,7 @@ with-same change slot same = by slot.open_unit refl
 
 pub unchanged-unit : (n : ℕ) (records : List (List ℕ)) (t : ℕ) (call : FileCall) (slot : SlotState) → changes_records n records call ≡ false → slot ≡ with_unit (with_image n records t call) slot
 unchanged-unit n records t call slot h =
-    sym (with-same (with_image n records t call) slot (λ unit. ap (λ b. cond (b && not (has_image t call.file (key_of n call.op call) unit.before)) (with_before (image_now n records t call) unit) unit) h))
+    sym (with-same (with_image n records t call) slot (λ unit. ap (λ b. cond (b && not (has_image t call.file (key_of n call.op call) unit.before)) (with_before (image_before n records t call) unit) unit) h))
 
 -- a change at a key that the unit has changed before
 pub again-unit : (n : ℕ) (records : List (List ℕ)) (t : ℕ) (call : FileCall) (slot : SlotState) → has_image t call.file (key_of n call.op call) (images_of slot.open_unit) ≡ true
@@ -121,24 +121,24 @@ again-unit n records t call slot h = by slot.open_unit refl
     by (Some unit) is =
         let there : has_image t call.file (key_of n call.op call) unit.before ≡ true = ap (λ (o : Option ToldUnit). has_image t call.file (key_of n call.op call) (images_of o)) (sym is) ∙ h in
         let same : with_image n records t call unit ≡ unit =
-        ap (λ b. cond b (with_before (image_now n records t call) unit) unit) (and-false (changes_records n records call) _ (ap not there)) in
+        ap (λ b. cond b (with_before (image_before n records t call) unit) unit) (and-false (changes_records n records call) _ (ap not there)) in
         ap (λ (o : Option ToldUnit). record slot { open_unit = o }) is
         ∙ sym (ap (λ (o : Option ToldUnit). record slot { open_unit = option_map (with_image n records t call) o }) is ∙ ap (λ (u : ToldUnit). record slot { open_unit = Some u }) same)
 
 -- a change at a key that it has not
 pub first-unit : (n : ℕ) (records : List (List ℕ)) (t : ℕ) (call : FileCall) (slot : SlotState) → has_image t call.file (key_of n call.op call) (images_of slot.open_unit) ≡ false
-    → changes_records n records call ≡ true → with_unit (with_before (image_now n records t call)) slot ≡ with_unit (with_image n records t call) slot
+    → changes_records n records call ≡ true → with_unit (with_before (image_before n records t call)) slot ≡ with_unit (with_image n records t call) slot
 first-unit n records t call slot h ch = by slot.open_unit refl
   where
-    by : (own : Option ToldUnit) → slot.open_unit ≡ own → with_unit (with_before (image_now n records t call)) slot ≡ with_unit (with_image n records t call) slot
+    by : (own : Option ToldUnit) → slot.open_unit ≡ own → with_unit (with_before (image_before n records t call)) slot ≡ with_unit (with_image n records t call) slot
     by None is =
-        ap (λ (o : Option ToldUnit). record slot { open_unit = option_map (with_before (image_now n records t call)) o }) is
+        ap (λ (o : Option ToldUnit). record slot { open_unit = option_map (with_before (image_before n records t call)) o }) is
         ∙ sym (ap (λ (o : Option ToldUnit). record slot { open_unit = option_map (with_image n records t call) o }) is)
     by (Some unit) is =
         let new : has_image t call.file (key_of n call.op call) unit.before ≡ false = ap (λ (o : Option ToldUnit). has_image t call.file (key_of n call.op call) (images_of o)) (sym is) ∙ h in
-        let same : with_image n records t call unit ≡ with_before (image_now n records t call) unit =
-        ap (λ b. cond b (with_before (image_now n records t call) unit) unit) (and-true (changes_records n records call) _ ch (ap not new)) in
-        ap (λ (o : Option ToldUnit). record slot { open_unit = option_map (with_before (image_now n records t call)) o }) is
+        let same : with_image n records t call unit ≡ with_before (image_before n records t call) unit =
+        ap (λ b. cond b (with_before (image_before n records t call) unit) unit) (and-true (changes_records n records call) _ ch (ap not new)) in
+        ap (λ (o : Option ToldUnit). record slot { open_unit = option_map (with_before (image_before n records t call)) o }) is
         ∙ (ap (λ (u : ToldUnit). record slot { open_unit = Some u }) (sym same)
         ∙ sym (ap (λ (o : Option ToldUnit). record slot { open_unit = option_map (with_image n records t call) o }) is))
 

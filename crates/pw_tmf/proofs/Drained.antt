@@ -5,15 +5,14 @@ use Rattle.std.proofs.lemmas.List.Elements.{All-head, All-tail}
 use Rattle.pw_blocks.specs.Blocks.{BlocksState}
 use Rattle.pw_onecopy.specs.Update.{upd}
 use Rattle.pw_paired.specs.State.{BeforeImage}
-use Rattle.pw_paired.specs.Units.{put_back}
-use Rattle.pw_tmf.specs.Committed.{restored}
+use Rattle.pw_paired.specs.Units.{put_back, restored_files}
 use Rattle.pw_tmf.specs.Tmf.{AreImages, IsImage, key_lengths, stored}
 
 -- some of the images have been put back, and these are left
 pub record IsDrained (files : List BlocksState) (images : List BeforeImage) (now : List BlocksState) (left : List BeforeImage) : Type 0 where
   pub keys : key_lengths now ≡ key_lengths files
   pub count : length now ≡ length files
-  pub same : restored (key_lengths files) left (stored now) ≡ restored (key_lengths files) images (stored files)
+  pub same : restored_files (key_lengths files) left (stored now) ≡ restored_files (key_lengths files) images (stored files)
   pub fit : AreImages (key_lengths files) (length files) left
 
 -- nothing has been put back yet
@@ -43,7 +42,7 @@ drained-more files now next images (x ∷ left) image is d keys count put =
     record {
       keys = keys ∙ d.keys;
       count = count ∙ d.count;
-      same = ap (restored (key_lengths files) left) put_x ∙ d.same;
+      same = ap (restored_files (key_lengths files) left) put_x ∙ d.same;
       fit = All-tail (IsImage (key_lengths files) (length files)) x left d.fit;
     }
 
@@ -53,7 +52,7 @@ pub drained-same : (files now next : List BlocksState) (images left : List Befor
 drained-same files now next images left d keys count same = record {
   keys = keys ∙ d.keys;
   count = count ∙ d.count;
-  same = ap (restored (key_lengths files) left) same ∙ d.same;
+  same = ap (restored_files (key_lengths files) left) same ∙ d.same;
   fit = d.fit;
 }
 
@@ -63,7 +62,7 @@ none-left [] is = refl
 none-left (x ∷ left) is = absurd (cc is)
 
 -- the images of two lists, one after the other
-pub restored-append : (key_length : ℕ → ℕ) (xs ys : List BeforeImage) (files : ℕ → List (List ℕ)) → restored key_length (xs ++ ys) files ≡ restored key_length ys (restored key_length xs files)
+pub restored-append : (key_length : ℕ → ℕ) (xs ys : List BeforeImage) (files : ℕ → List (List ℕ)) → restored_files key_length (xs ++ ys) files ≡ restored_files key_length ys (restored_files key_length xs files)
 restored-append key_length [] ys files = refl
 restored-append key_length (image ∷ xs) ys files =
     restored-append key_length xs ys (upd files image.file (put_back (key_length image.file) (files image.file) image.key image.content))

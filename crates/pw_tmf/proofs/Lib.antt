@@ -5,6 +5,7 @@ pub mod Drained
 pub mod Kept
 pub mod Missing
 pub mod Operated
+pub mod PlacedLemmas
 pub mod PutBack
 pub mod Reversed
 pub mod Settling
@@ -12,5 +13,6 @@ pub mod Starting
 pub mod Stopped
 pub mod Stored
 pub mod SystemLemmas
+pub mod Telling
 pub mod TwoUnitLemmas
 pub mod WithFaults

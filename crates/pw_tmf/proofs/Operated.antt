@@ -20,8 +20,9 @@ use Rattle.pw_onecopy.specs.Operation.{key_of, records_behind, span_of}
 use Rattle.pw_onecopy.proofs.Update.{upd_elim}
 use Rattle.pw_onecopy.specs.Update.{upd}
 use Rattle.pw_paired.specs.State.{BeforeImage, LastEnded}
+use Rattle.pw_paired.specs.Units.{image_before, is_first_change}
 use Rattle.pw_tmf.specs.Committed.{images_of}
-use Rattle.pw_tmf.specs.Operation.{after_operation, image_now, is_first_change, lock_now, with_image}
+use Rattle.pw_tmf.specs.Operation.{after_operation, lock_now, with_image}
 use Rattle.pw_tmf.specs.Slots.{SlotState, with_unit}
 use Rattle.pw_tmf.specs.Tmf.{AreImages, HasNumber, IsHeld, IsImage, IsTmf, TmfState, files_of, key_lengths, no_slot, slot_at, stored, told_of, unit_at}
 use Rattle.pw_tmf.specs.Told.{Told, ToldUnit}
@@ -90,7 +91,7 @@ module _ (state : TmfState) (u : unit.Unit) (call : FileCall) (files' : List Blo
   number-stays number h = subst (λ (x : SlotState). HasNumber number x.open_unit) (sym noted) (by (slot_at state.slots u.terminal).open_unit h)
     where
       kept : (n : ℕ) (records : List (List ℕ)) (t : ℕ) (own : ToldUnit) (b : Bool) → own.number ≡ number
-          → (cond b (record own { before = image_now n records t call ∷ own.before }) own).number ≡ number
+          → (cond b (record own { before = image_before n records t call ∷ own.before }) own).number ≡ number
       kept n records t own true h = h
       kept n records t own false h = h
 
@@ -117,11 +118,11 @@ module _ (state : TmfState) (u : unit.Unit) (call : FileCall) (files' : List Blo
       P : BeforeImage → Type 0
       P = IsImage (key_lengths state.files) (length state.files)
 
-      image : P (image_now n records u.terminal call)
+      image : P (image_before n records u.terminal call)
       image = record { file = within; content = found-fits n records (key_of n call.op call) file }
 
-      more : (own : ToldUnit) (b : Bool) → All P own.before → All P (cond b (record own { before = image_now n records u.terminal call ∷ own.before }) own).before
-      more own true h = All-cons P (image_now n records u.terminal call) own.before image h
+      more : (own : ToldUnit) (b : Bool) → All P own.before → All P (cond b (record own { before = image_before n records u.terminal call ∷ own.before }) own).before
+      more own true h = All-cons P (image_before n records u.terminal call) own.before image h
       more own false h = h
 
       by : (own : Option ToldUnit) → All P (images_of own) → All P (images_of (option_map (with_image n records u.terminal call) own))

@@ -9,8 +9,8 @@ use Rattle.pw_files.specs.Records.{IsContent}
 use Rattle.pw_onecopy.proofs.Update.{upd-same, upd-other}
 use Rattle.pw_onecopy.specs.Update.{upd}
 use Rattle.pw_paired.specs.State.{BeforeImage}
-use Rattle.pw_paired.specs.Units.{put_back}
-use Rattle.pw_tmf.specs.Committed.{FitsFile, all_put_back, put_back_if, restored}
+use Rattle.pw_paired.specs.Units.{put_back, restored_files}
+use Rattle.pw_tmf.specs.Committed.{FitsFile, all_put_back, put_back_if}
 use Rattle.pw_tmf.specs.Tmf.{AreImages, IsImage}
 use Rattle.pw_tmf.proofs.Reversed.{All-reverse, reverse-push}
 
@@ -33,7 +33,7 @@ one-restored key_length image files file =
     (cases_Bool (image.file == file))
 
 -- the images that are put back in all files, seen in one
-pub restored-at : (key_length : ℕ → ℕ) (images : List BeforeImage) (files : ℕ → List (List ℕ)) (file : ℕ) → restored key_length images files file ≡ all_put_back (key_length file) file images (files file)
+pub restored-at : (key_length : ℕ → ℕ) (images : List BeforeImage) (files : ℕ → List (List ℕ)) (file : ℕ) → restored_files key_length images files file ≡ all_put_back (key_length file) file images (files file)
 restored-at key_length [] files file = refl
 restored-at key_length (image ∷ images) files file =
     restored-at key_length images (upd files image.file (put_back (key_length image.file) (files image.file) image.key image.content)) file

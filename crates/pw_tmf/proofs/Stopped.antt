@@ -12,12 +12,12 @@ use Rattle.pw_locks.specs.declared.lock.Lock.{Lock}
 use Rattle.pw_onecopy.proofs.Update.{upd-other}
 use Rattle.pw_onecopy.specs.Update.{upd}
 use Rattle.pw_paired.specs.State.{BeforeImage, LastEnded}
-use Rattle.pw_paired.specs.Units.{only}
-use Rattle.pw_tmf.specs.Committed.{images_of, restored}
+use Rattle.pw_paired.specs.Units.{only, restored_files, without_locks}
+use Rattle.pw_tmf.specs.Committed.{images_of}
 use Rattle.pw_tmf.specs.Slots.{SlotState, backed_out_slot, ended_slot, ended_with_reply}
 use Rattle.pw_tmf.specs.Tmf.{AreImages, HasNumber, IsHeld, IsTmf, TmfState, all_pending, files_of, key_lengths, no_slot, slot_at, stored, told_of, unit_at, with_images}
 use Rattle.pw_tmf.specs.Told.{Told, ToldUnit}
-use Rattle.pw_tmf.specs.Units.{CanBackOut, IsOpen, backed_out, ended, over, released, stopped, undone}
+use Rattle.pw_tmf.specs.Units.{CanBackOut, IsOpen, backed_out, ended, over, stopped, undone}
 use Rattle.pw_tmf.proofs.Drained.{restored-append}
 use Rattle.pw_tmf.proofs.Operated.{told-is}
 use Rattle.pw_tmf.proofs.Stored.{get-set, upd-itself}
@@ -56,7 +56,7 @@ module _ (state : TmfState) (u : unit.Unit) (own : ToldUnit) (here : unit_at sta
       (λ is. ap (λ b. not (b && (held.unit.number == u.number))) is ∙ ap not (sym is))
       (cases_Bool (held.unit.terminal == u.terminal))
 
-  pub same-locks : filter (others u) state.locks ≡ released u.terminal state.locks
+  pub same-locks : filter (others u) state.locks ≡ without_locks (only u.terminal) state.locks
   same-locks = filter-same (IsHeld state.slots) (others u) (λ held. not (only u.terminal held.unit.terminal)) same-test state.locks ok.locks
 
   -- the locks that stay are of other terminals
@@ -86,7 +86,7 @@ module _ (state : TmfState) (u : unit.Unit) (own : ToldUnit) (here : unit_at sta
       told-is (record (ended told u reply) { faults = 0 }) _ _ _ _ _ _ _
       (length-set state.slots u.terminal (ended_slot reply (slot_at state.slots u.terminal)) ∙ sym terminals)
       (sym count) (sym keys) (sym files)
-      (same-locks ∙ ap (released u.terminal) (sym locks))
+      (same-locks ∙ ap (without_locks (only u.terminal)) (sym locks))
       (get-set (λ (x : SlotState). x.open_unit) state.slots u.terminal (ended_slot reply (slot_at state.slots u.terminal)) no_slot lt ∙ ap (λ (g : ℕ → Option ToldUnit). upd g u.terminal None) (sym units))
       (get-set (λ (x : SlotState). x.ended) state.slots u.terminal (ended_slot reply (slot_at state.slots u.terminal)) no_slot lt
       ∙ (ap (λ (o : Option ToldUnit). upd (λ t. (slot_at state.slots t).ended) u.terminal (ended_with_reply reply o (slot_at state.slots u.terminal).ended)) here
@@ -102,19 +102,19 @@ module _ (state : TmfState) (u : unit.Unit) (own : ToldUnit) (here : unit_at sta
       told-is (record (over told u) { faults = 0 }) _ _ _ _ _ _ _
       (length-set state.slots u.terminal (backed_out_slot false (slot_at state.slots u.terminal)) ∙ sym terminals)
       (sym count) (sym keys) (sym files)
-      (same-locks ∙ ap (released u.terminal) (sym locks))
+      (same-locks ∙ ap (without_locks (only u.terminal)) (sym locks))
       (get-set (λ (x : SlotState). x.open_unit) state.slots u.terminal (backed_out_slot false (slot_at state.slots u.terminal)) no_slot lt
       ∙ ap (λ (g : ℕ → Option ToldUnit). upd g u.terminal (option_map stopped (g u.terminal))) (sym units))
       (get-set (λ (x : SlotState). x.ended) state.slots u.terminal (backed_out_slot false (slot_at state.slots u.terminal)) no_slot lt
       ∙ (upd-itself (λ t. (slot_at state.slots t).ended) u.terminal (slot_at state.slots u.terminal).ended refl ∙ sym last))
 
   -- what is put back next
-  files-undone : files_of state.files (with_images state.pending (unit_at state.slots u.terminal)) ≡ restored (key_lengths state.files) (images_of (unit_at state.slots u.terminal)) (files_of state.files state.pending)
+  files-undone : files_of state.files (with_images state.pending (unit_at state.slots u.terminal)) ≡ restored_files (key_lengths state.files) (images_of (unit_at state.slots u.terminal)) (files_of state.files state.pending)
   files-undone =
       ap (λ (o : Option ToldUnit). files_of state.files (with_images state.pending o)) here
-      ∙ (ap (λ xs. restored (key_lengths state.files) xs (stored state.files)) (flat_map-append (λ (images : List BeforeImage). images) state.pending (own.before ∷ []) ∙ ap (λ xs. all_pending state.pending ++ xs) (append-nil own.before))
+      ∙ (ap (λ xs. restored_files (key_lengths state.files) xs (stored state.files)) (flat_map-append (λ (images : List BeforeImage). images) state.pending (own.before ∷ []) ∙ ap (λ xs. all_pending state.pending ++ xs) (append-nil own.before))
       ∙ (restored-append (key_lengths state.files) (all_pending state.pending) own.before (stored state.files)
-      ∙ sym (ap (λ (o : Option ToldUnit). restored (key_lengths state.files) (images_of o) (files_of state.files state.pending)) here)))
+      ∙ sym (ap (λ (o : Option ToldUnit). restored_files (key_lengths state.files) (images_of o) (files_of state.files state.pending)) here)))
 
   -- the state where it is backed out
   abbrev pub backing : Bool → TmfState

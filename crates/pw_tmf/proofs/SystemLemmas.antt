@@ -1,17 +1,17 @@
 -- The system of the tests is valid.
-use Rattle.std.proofs.Common.{◌≡◌, ◌<◌, ℕ, List, [], ◌∷◌, length, ◌++◌, ◌∙◌, ap, arith, refl, sym, subst}
+use Rattle.std.proofs.Common.{◌≡◌, ◌<◌, ℕ, List, [], ◌∷◌, length, ◌++◌, ◌∙◌, ap, true, false, arith, refl, sym}
 use Rattle.std.specs.Prelude.{◌^◌, codes, take}
 use Rattle.std.specs.List.{IsDistinct}
 use Rattle.std.specs.Str.{bytes_eq}
 use Rattle.std.proofs.lemmas.List.Elements.{All-nil, All-cons}
 use Rattle.pw_code.specs.declared.code.Code.{Code}
-use Rattle.pw_code.specs.declared.code.Instr.{Instr}
 use Rattle.pw_code.specs.declared.file.FileInfo.{FileInfo}
 use Rattle.pw_code.specs.declared.lock.LockRule.TheVariants.{ReadersShare}
 use Rattle.pw_code.specs.declared.system.System.{System}
 use Rattle.pw_code.specs.declared.system.TermInfo.{TermInfo}
 use Rattle.pw_files.specs.Records.{IsContent}
-use Rattle.pw_code.specs.Valid.{HasKey, HasPlaces, IsClass, IsDeckFile, IsTerminal, IsValid}
+use Rattle.pw_code.specs.Valid.{HasKey, IsCode, IsClass, IsDeckFile, IsTerminal, IsValid}
+use Rattle.pw_code.proofs.Codes.{IsCode-empty}
 use Rattle.pw_code.proofs.NameLemmas.{AreNames-none, AreNames-one, AreNames-two}
 use Rattle.pw_tmf.specs.TwoUnits.{IsTestSystem, stock_file}
 
@@ -24,6 +24,7 @@ abbrev pub test_system : Code → System
 test_system code = record {
   programs = code ∷ [];
   servers = [];
+  screens = [];
   classes = [];
   files = stock_file ∷ [];
   tcps = codes "TCP-1" ∷ [];
@@ -35,13 +36,13 @@ one-key : IsDistinct bytes_eq (take 2 (codes "AA one") ∷ [])
 unfolding IsDistinct
 one-key = (tt, tt)
 
-pub test-valid : (code : Code) → code.instrs ≡ [] → IsValid (test_system code)
-test-valid code empty =
+pub test-valid : (code : Code) → code.instrs ≡ [] → code.storage ≡ [] → code.linkage ≡ [] → IsValid (test_system code)
+test-valid code empty no_storage no_linkage =
     let system : System = test_system code in
     let one : (name : List ℕ) → IsTerminal system (terminal_named name) = λ name. record { pair = omega arith; program = omega arith; restarts = omega arith; few = omega arith; keys = All-nil HasKey } in
     record {
-      programs = All-cons HasPlaces code [] (subst (λ (is : List Instr). length is < 2 ^ 32) (sym empty) (omega arith)) (All-nil HasPlaces);
-      servers = All-nil HasPlaces;
+      programs = All-cons (IsCode false system) code [] (IsCode-empty false system code empty no_storage no_linkage) (All-nil (IsCode false system));
+      servers = All-nil (IsCode true system);
       terminals = All-cons (IsTerminal system) (terminal_named (codes "T1")) (terminal_named (codes "T2") ∷ []) (one (codes "T1")) (All-cons (IsTerminal system) (terminal_named (codes "T2")) [] (one (codes "T2")) (All-nil (IsTerminal system)));
       classes = All-nil (IsClass system);
       files = All-cons IsDeckFile stock_file [] (record {
@@ -55,7 +56,7 @@ test-valid code empty =
         classes = AreNames-none;
         files = AreNames-one (codes "STOCK") refl;
       };
-      few = record { programs = omega arith; servers = omega arith; classes = omega arith; files = omega arith; tcps = omega arith; terminals = omega arith };
+      few = record { programs = omega arith; servers = omega arith; screens = omega arith; classes = omega arith; files = omega arith; tcps = omega arith; terminals = omega arith };
     }
 
 pub test-parts : (code : Code) → IsTestSystem (test_system code)
@@ -63,7 +64,7 @@ test-parts code = record { terminals = refl; file = stock_file; files = refl; ke
 
 -- a system of these parts
 abbrev pub built : List Code → List FileInfo → List (List ℕ) → List TermInfo → System
-built programs files tcps terminals = record { programs = programs; servers = []; classes = []; files = files; tcps = tcps; terminals = terminals; rule = ReadersShare }
+built programs files tcps terminals = record { programs = programs; servers = []; screens = []; classes = []; files = files; tcps = tcps; terminals = terminals; rule = ReadersShare }
 
 pub built-is : (code : Code) (programs : List Code) (files : List FileInfo) (tcps : List (List ℕ)) (terminals : List TermInfo)
     → programs ≡ code ∷ [] → files ≡ stock_file ∷ [] → tcps ≡ codes "TCP-1" ∷ [] → terminals ≡ terminal_named (codes "T1") ∷ terminal_named (codes "T2") ∷ []

@@ -2,17 +2,9 @@
 use Rattle.std.specs.Prelude.{◌≡◌, ◌==◌, ℕ, zero, suc, List, [], ◌∷◌, ◌++◌, Option, Some, None, if◌then◌else◌}
 use Rattle.std.specs.Option.{IfSome}
 use Rattle.pw_files.specs.Records.{IsContent}
-use Rattle.pw_onecopy.specs.Update.{upd}
 use Rattle.pw_paired.specs.State.{BeforeImage}
-use Rattle.pw_paired.specs.Units.{put_back}
+use Rattle.pw_paired.specs.Units.{put_back, restored_files}
 use Rattle.pw_tmf.specs.Told.{ToldUnit, Told}
-
--- the files with before-images put back, one after the other
-abbrev pub restored : (ℕ → ℕ) → List BeforeImage → (ℕ → List (List ℕ)) → ℕ → List (List ℕ)
-restored key_length [] files = files
-restored key_length (image ∷ images) files =
-    restored key_length images
-    (upd files image.file (put_back (key_length image.file) (files image.file) image.key image.content))
 
 -- the before-images of an open unit
 abbrev pub images_of : Option ToldUnit → List BeforeImage
@@ -26,7 +18,7 @@ images_below units (suc n) = images_below units n ++ images_of (units n)
 
 -- the committed records of each file
 abbrev pub committed : Told → ℕ → List (List ℕ)
-committed told = restored told.key_length (images_below told.units told.terminals) told.files
+committed told = restored_files told.key_length (images_below told.units told.terminals) told.files
 
 -- the records of one file with a before-image put back, where it is one of that file
 abbrev pub put_back_if : ℕ → ℕ → BeforeImage → List (List ℕ) → List (List ℕ)

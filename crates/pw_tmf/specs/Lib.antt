@@ -2,8 +2,10 @@ pub mod Answers
 pub mod Committed
 pub mod Faulty
 pub mod Operation
+pub mod Placed
 pub mod Slots
 pub mod Starting
+pub mod Tells
 pub mod Tmf
 pub mod Told
 pub mod TwoUnits

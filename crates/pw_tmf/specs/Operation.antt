@@ -1,53 +1,37 @@
 -- A file operation of a unit.
-use Rattle.std.specs.Prelude.{◌≡◌, ℕ, ◌<◌, ◌≤◌, ◌&&◌, Bool, true, false, not, List, [], ◌∷◌, ◌++◌, length, Option, None, Some, if◌then◌else◌}
+use Rattle.std.specs.Prelude.{◌≡◌, ℕ, ◌<◌, ◌&&◌, Bool, true, false, List, [], ◌∷◌, ◌++◌, length, Option, None, Some, if◌then◌else◌}
 use Rattle.std.specs.List.{list_any}
 use Rattle.std.specs.Option.{option_map}
 use Rattle.pw_code.specs.declared.file.FileCall.{FileCall}
 use Rattle.pw_code.specs.declared.file.FileOp.{FileOp}
 use Rattle.pw_code.specs.declared.file.FileOp.TheVariants.{Write, Rewrite, Delete}
 use Rattle.pw_code.specs.declared.unit.Unit as unit
-use Rattle.pw_files.specs.Records.{IsContent, record_at}
+use Rattle.pw_files.specs.Records.{IsContent}
 use Rattle.pw_locks.specs.Conflicts.{conflict, is_same_unit}
 use Rattle.pw_locks.specs.declared.lock.Lock.{Lock}
 use Rattle.pw_onecopy.specs.IsBehaviour.{is_written}
-use Rattle.pw_onecopy.specs.Operation.{changes_records, key_of, lock_for, records_behind}
+use Rattle.pw_onecopy.specs.Operation.{lock_for, records_behind}
 use Rattle.pw_onecopy.specs.Path.{FileAnswer}
 use Rattle.pw_onecopy.specs.Update.{upd}
-use Rattle.pw_paired.specs.State.{BeforeImage}
-use Rattle.pw_paired.specs.Units.{has_image}
+use Rattle.pw_paired.specs.Units.{image_before, is_first_change}
 use Rattle.pw_tmf.specs.Told.{ToldUnit, Told}
 
 -- The file is one of the disc's, what is written has the length of a record, and another operation's
--- key is as long as the file's keys.
+-- key is as long as the file's keys. Nothing is asked of a field that the operation does not use.
 pub record IsCall (told : Told) (call : FileCall) : Type 0 where
   pub file : call.file < told.file_count
   pub content : is_written call.op ≡ true → IsContent (told.key_length call.file) call.content
   pub key : is_written call.op ≡ false → length call.key ≡ told.key_length call.file
-  pub short_content : length call.content ≤ 4000
-  pub short_key : length call.key ≤ 255
 
 -- the lock that an operation takes for a unit now
 abbrev pub lock_now : Told → unit.Unit → FileCall → Lock
 lock_now told unit call = lock_for told.rule (told.key_length call.file) (told.files call.file) unit call
 
--- the before-image that an operation of a terminal's unit makes on these records
-abbrev pub image_now : ℕ → List (List ℕ) → ℕ → FileCall → BeforeImage
-image_now n records t call = record {
-  terminal = t;
-  file = call.file;
-  key = key_of n call.op call;
-  content = record_at n records (key_of n call.op call);
-}
-
--- the operation changes a record, and is the first of these images' unit to do so at that key
-abbrev pub is_first_change : ℕ → List (List ℕ) → ℕ → FileCall → List BeforeImage → Bool
-is_first_change n records t call before = changes_records n records call && not (has_image t call.file (key_of n call.op call) before)
-
 -- the unit of a terminal with the before-image of what an operation changes, where it is the first
 abbrev pub with_image : ℕ → List (List ℕ) → ℕ → FileCall → ToldUnit → ToldUnit
 with_image n records t call unit =
     if is_first_change n records t call unit.before
-    then record unit { before = image_now n records t call ∷ unit.before }
+    then record unit { before = image_before n records t call ∷ unit.before }
     else unit
 
 -- why a WRITE, REWRITE or DELETE is refused, by whether there is a record with its key

@@ -6,7 +6,8 @@ use Rattle.pw_code.specs.declared.lock.LockRule.{LockRule}
 use Rattle.pw_files.specs.Records.{IsContent}
 use Rattle.pw_locks.specs.declared.lock.Lock.{Lock}
 use Rattle.pw_paired.specs.State.{BeforeImage}
-use Rattle.pw_tmf.specs.Committed.{images_of, restored}
+use Rattle.pw_paired.specs.Units.{restored_files}
+use Rattle.pw_tmf.specs.Committed.{images_of}
 use Rattle.pw_tmf.specs.Slots.{SlotState}
 use Rattle.pw_tmf.specs.Told.{ToldUnit, Told}
 
@@ -45,7 +46,7 @@ all_pending pending = flat_map (λ images. images) pending
 
 -- the records of each file
 abbrev pub files_of : List BlocksState → List (List BeforeImage) → ℕ → List (List ℕ)
-files_of files pending = restored (key_lengths files) (all_pending pending) (stored files)
+files_of files pending = restored_files (key_lengths files) (all_pending pending) (stored files)
 
 -- the open unit of a terminal
 abbrev pub unit_at : List SlotState → ℕ → Option ToldUnit

@@ -1,5 +1,5 @@
 -- A disc of two terminals and one file, with a unit of each terminal, as the tests have it.
-use Rattle.std.specs.Prelude.{◌≡◌, ℕ, ◌≤◌, true, false, [], ◌∷◌, codes, length, None}
+use Rattle.std.specs.Prelude.{◌≡◌, ◌≢◌, ℕ, true, false, [], ◌∷◌, codes, length, None}
 use Rattle.pw_code.specs.declared.file.FileCall.{FileCall}
 use Rattle.pw_code.specs.declared.file.FileInfo.{FileInfo}
 use Rattle.pw_code.specs.declared.system.System.{System}
@@ -35,18 +35,18 @@ older_unit = record { terminal = 0; number = 1; birth = 0 }
 abbrev pub younger_unit : unit.Unit
 younger_unit = record { terminal = 1; number = 1; birth = 1 }
 
--- attempts of both run
+-- attempts of both run, no other unit is open, and none has ended
 pub record AreBoth (told : Told) : Type 0 where
   pub terminals : told.terminals ≡ 2
   pub files : told.file_count ≡ 1
   pub key : told.key_length 0 ≡ 2
   pub older : IsRunning told older_unit
   pub younger : IsRunning told younger_unit
+  pub others : (t : ℕ) → t ≢ 0 → t ≢ 1 → told.units t ≡ None
+  pub ended : (t : ℕ) → (told.ended t).number ≡ 0
 
 -- an operation on the file
 pub record IsTestCall (call : FileCall) : Type 0 where
   pub file : call.file ≡ 0
   pub content : is_written call.op ≡ true → IsContent 2 call.content
   pub key : is_written call.op ≡ false → length call.key ≡ 2
-  pub short_content : length call.content ≤ 4000
-  pub short_key : length call.key ≤ 255

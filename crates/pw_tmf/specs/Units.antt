@@ -1,11 +1,10 @@
 -- How units begin, end and are backed out.
-use Rattle.std.specs.Prelude.{◌≡◌, ◌≢◌, ℕ, ◌≤◌, ◌<◌, Bool, true, false, not, List, [], ◌∷◌, filter, All, Option, Some, None}
+use Rattle.std.specs.Prelude.{◌≡◌, ◌≢◌, ℕ, ◌≤◌, ◌<◌, Bool, true, false, List, [], ◌∷◌, All, Option, Some, None}
 use Rattle.std.specs.Option.{option_map}
 use Rattle.pw_code.specs.declared.unit.Unit as unit
-use Rattle.pw_locks.specs.declared.lock.Lock.{Lock}
 use Rattle.pw_onecopy.specs.Update.{upd}
-use Rattle.pw_paired.specs.Units.{only}
-use Rattle.pw_tmf.specs.Committed.{images_of, restored}
+use Rattle.pw_paired.specs.Units.{only, restored_files, without_locks}
+use Rattle.pw_tmf.specs.Committed.{images_of}
 use Rattle.pw_tmf.specs.Told.{ToldUnit, Told}
 
 -- the unit is the open one of its terminal
@@ -43,14 +42,10 @@ opened unit = record { number = unit.number; birth = unit.birth; running = true;
 abbrev pub begun : Told → unit.Unit → Told
 begun told unit = record told { units = upd told.units unit.terminal (Some (opened unit)) }
 
--- the locks without those of a terminal's unit
-abbrev pub released : ℕ → List Lock → List Lock
-released t locks = filter (λ lock. not (only t lock.unit.terminal)) locks
-
 -- a unit ends: its locks are released, and it is the last ended one of its terminal
 abbrev pub ended : Told → unit.Unit → Option (List ℕ) → Told
 ended told unit reply = record told {
-  locks = released unit.terminal told.locks;
+  locks = without_locks (only unit.terminal) told.locks;
   units = upd told.units unit.terminal None;
   ended = upd told.ended unit.terminal (record { number = unit.number; reply = reply });
 }
@@ -62,13 +57,13 @@ stopped unit = record unit { running = false; before = [] }
 -- the attempt of a unit is over: its locks are released
 abbrev pub over : Told → unit.Unit → Told
 over told unit = record told {
-  locks = released unit.terminal told.locks;
+  locks = without_locks (only unit.terminal) told.locks;
   units = upd told.units unit.terminal (option_map stopped (told.units unit.terminal));
 }
 
 -- the changes of a unit are put back
 abbrev pub undone : Told → unit.Unit → Told
-undone told unit = record told { files = restored told.key_length (images_of (told.units unit.terminal)) told.files }
+undone told unit = record told { files = restored_files told.key_length (images_of (told.units unit.terminal)) told.files }
 
 -- a unit is backed out: it ends, or stays open without an attempt
 abbrev pub backed_out : Bool → Told → unit.Unit → Told

@@ -1,6 +1,6 @@
-ghost use Rattle.std.specs.Prelude.{◌≡◌, ◌==◌, ◌&&◌, IfOk, Option};
+ghost use Rattle.std.specs.Prelude.{◌≡◌, IfOk, Option};
 ghost use Rattle.std.specs.Option.{option_copied};
-ghost use Rattle.std.specs.Str.{bytes_eq};
+ghost use Rattle.pw_tmf.specs.Placed.{is_image_at};
 
 use pw_base::bytes::Bytes;
 use pw_base::memory::Memory;
@@ -11,8 +11,8 @@ use std::marker::Model;
 #[derive(Debug, Drop)]
 pub struct Image {
     terminal: u32,
-    file: u32,
-    key: Bytes,
+    /// The number of the file, and the key.
+    place: (u32, Bytes),
     content: Option<Bytes>,
 }
 
@@ -23,20 +23,19 @@ impl Model for Image {
 
     ghost view = { λ image. record {
       terminal = image.terminal;
-      file = image.file;
-      key = image.key;
+      file = image.place.0;
+      key = image.place.1;
       content = image.content;
     } };
 }
 
 impl Image {
-    pub fn new(terminal: u32, file: u32, key: Bytes, content: Option<Bytes>) -> Image
-        ensures { result ≡ record { terminal = terminal; file = file; key = key; content = content } }
+    pub fn new(terminal: u32, place: (u32, Bytes), content: Option<Bytes>) -> Image
+        ensures { result ≡ record { terminal = terminal; file = place.0; key = place.1; content = content } }
     {
         Image {
             terminal,
-            file,
-            key,
+            place,
             content,
         }
     }
@@ -45,13 +44,27 @@ impl Image {
     pub fn file(&self) -> u32
         ensures { result ≡ self.now.file }
     {
-        self.file
+        self.place.0
     }
 
     pub fn key(&self) -> &[u8]
         ensures { result.now ≡ self.now.key }
     {
-        self.key.as_slice()
+        self.place.1.as_slice()
+    }
+
+    /// The number of the file, and the key.
+    pub fn place(&self) -> &(u32, Bytes)
+        ensures { result.now ≡ (self.now.file, self.now.key) }
+    {
+        &self.place
+    }
+
+    /// The same, copied.
+    pub fn copy_place(&self, alloc: Global) -> Result<(u32, Bytes), Memory>
+        ensures { IfOk result (λ place. place ≡ (self.now.file, self.now.key)) }
+    {
+        Ok((self.place.0, self.place.1.copy(alloc)?))
     }
 
     /// What was there, None exactly where nothing was.
@@ -62,10 +75,11 @@ impl Image {
     }
 
     /// Whether it is the one of this terminal's unit at a key of a file.
-    pub fn is_at(&self, terminal: u32, file: u32, key: &[u8]) -> bool
-        ensures { result ≡ (self.now.terminal == terminal && (self.now.file == file && bytes_eq self.now.key key.now)) }
+    pub fn is_at(&self, terminal: u32, place: &(u32, Bytes)) -> bool
+        ensures { result ≡ is_image_at terminal place.now.0 place.now.1 self.now }
     {
-        self.terminal == terminal && (self.file == file && self.key.as_slice() == key)
+        self.terminal == terminal
+            && (self.place.0 == place.0 && self.place.1.as_slice() == place.1.as_slice())
     }
 
     /// An equal value.
@@ -74,8 +88,7 @@ impl Image {
     {
         Ok(Image {
             terminal: self.terminal,
-            file: self.file,
-            key: self.key.copy(alloc)?,
+            place: self.copy_place(alloc)?,
             content: copy_if_any(alloc, &self.content)?,
         })
     }

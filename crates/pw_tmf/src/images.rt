@@ -1,13 +1,17 @@
 ghost use Rattle.std.specs.Prelude.{◌≡◌, [], ◌∷◌, All, drop, slice_get, IfOk, OnErr, OnOk};
+ghost use Rattle.std.specs.List.{list_any};
 ghost use Rattle.std.specs.Option.{option_copied};
 ghost use Rattle.pw_blocks.specs.Blocks.{records_of};
 ghost use Rattle.pw_paired.specs.Units.{has_image};
 ghost use Rattle.pw_tmf.specs.Committed.{FitsFile, all_put_back};
+ghost use Rattle.pw_tmf.specs.Placed.{is_found_at};
 
 use crate::image::Image;
 use crate::store::put_back_if;
+use pw_base::bytes::Bytes;
 use pw_base::memory::Memory;
 use pw_blocks::block_file::BlockFile;
+use pw_locks::index::Index;
 use std::alloc::Global;
 use std::marker::Model;
 
@@ -16,15 +20,20 @@ use std::marker::Model;
 #[derive(Debug, Drop)]
 pub struct Images {
     images: Vec<Image>,
+    /// The places in that list of those at each key of a file.
+    places: Index<(u32, Bytes)>,
 }
 
 impl Model for Images {
     ghost use Rattle.std.specs.Prelude.{List, reverse};
     ghost use Rattle.pw_paired.specs.State.{BeforeImage};
+    ghost use Rattle.pw_tmf.specs.Placed.{AreFiled};
 
     ghost Value = { List BeforeImage };
 
     ghost view = { λ images. reverse images.images.items };
+
+    ghost invariant = { λ images. AreFiled images.images.items images.places.numbers };
 }
 
 impl Images {
@@ -34,6 +43,7 @@ impl Images {
     {
         Images {
             images: Vec::new(alloc),
+            places: Index::new(alloc),
         }
     }
 
@@ -49,6 +59,9 @@ impl Images {
         ensures ok { OnOk result (self.new ≡ image ∷ self.old) }
         ensures err { OnErr result (self.new ≡ self.old) }
     {
+        let alloc = *self.images.allocator();
+        let number = self.images.len() as u64;
+        self.places.put(alloc, image.copy_place(alloc)?, number)?;
         self.images.push(image)?;
         Ok(())
     }
@@ -57,14 +70,20 @@ impl Images {
     pub fn drop_first(&mut self)
         ensures { self.new ≡ drop 1 self.old }
     {
-        self.images.pop();
+        if let Some(image) = self.images.pop() {
+            self.places
+                .take_out(image.place(), self.images.len() as u64);
+        }
     }
 
     /// Whether there is one of this terminal's unit at a key of a file.
-    pub fn has(&self, terminal: u32, file: u32, key: &[u8]) -> bool
-        ensures { result ≡ has_image terminal file key.now self.now }
+    pub fn has(&self, terminal: u32, place: &(u32, Bytes)) -> bool
+        ensures { result ≡ has_image terminal place.now.0 place.now.1 self.now }
     {
-        has_at(&self.images, terminal, file, key)
+        match self.places.numbers.get(place) {
+            Some(numbers) => is_one_at(&self.images, numbers, terminal, place),
+            None => false,
+        }
     }
 
     /// Puts back, in a file of this number, what those of that file have.
@@ -86,17 +105,30 @@ impl Images {
     pub fn copy(&self, alloc: Global) -> Result<Images, Memory>
         ensures { IfOk result (λ images. images ≡ self.now) }
     {
-        let mut images = Vec::new(alloc);
+        let mut images = Images::new(alloc);
         for image in self.images.iter() {
             images.push(image.copy(alloc)?)?;
         }
-        Ok(Images { images })
+        Ok(images)
     }
 }
 
-/// Whether one of these is of this terminal's unit at a key of a file.
-fn has_at(images: &[Image], terminal: u32, file: u32, key: &[u8]) -> bool
-    ensures { result ≡ has_image terminal file key.now images.now }
+/// Whether the image at a place in the list, if there is one, is of this terminal's unit at a key of a file.
+fn is_it_at(images: &[Image], number: u64, terminal: u32, place: &(u32, Bytes)) -> bool
+    ensures { result ≡ is_found_at terminal place.now.0 place.now.1 (slice_get images.now number) }
 {
-    images.iter().any(|image| image.is_at(terminal, file, key))
+    match images.get(number as usize) {
+        Some(image) => image.is_at(terminal, place),
+        None => false,
+    }
+}
+
+/// Whether one of the images at these places in the list is of this terminal's unit at a key of a file.
+fn is_one_at(images: &[Image], numbers: &[u64], terminal: u32, place: &(u32, Bytes)) -> bool
+    ensures { result ≡ list_any
+        (λ n. is_found_at terminal place.now.0 place.now.1 (slice_get images.now n)) numbers.now }
+{
+    numbers
+        .iter()
+        .any(|number| is_it_at(images, *number, terminal, place))
 }

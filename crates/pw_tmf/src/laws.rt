@@ -1,17 +1,35 @@
-ghost use Rattle.std.specs.Prelude.{◌≡◌, ℕ, List};
+ghost use Rattle.std.specs.Prelude.{◌≡◌, ℕ, List, Option, Some, true, false};
 ghost use Rattle.pw_code.specs.declared.file.FileCall.{FileCall};
-ghost use Rattle.pw_paired.specs.State.{BeforeImage, State};
-ghost use Rattle.pw_paired.specs.Units.{image_before, only, release_locks, restored_files};
-ghost use Rattle.pw_tmf.specs.Committed.{restored};
-ghost use Rattle.pw_tmf.specs.Operation.{image_now};
-ghost use Rattle.pw_tmf.specs.Units.{released};
+ghost use Rattle.pw_code.specs.declared.unit.Unit.{Unit};
+ghost use Rattle.pw_event.specs.declared.event.Cause.{Cause};
+ghost use Rattle.pw_onecopy.specs.Behaviour.{Behaviour};
+ghost use Rattle.pw_onecopy.specs.Path.{PathAnswer};
+ghost use Rattle.pw_paired.specs.Failure.{do_restart};
+ghost use Rattle.pw_paired.specs.Server.{do_operation};
+ghost use Rattle.pw_paired.specs.State.{Job, OpenUnit, State};
+ghost use Rattle.pw_paired.specs.Terminal.{IsIdle, do_begin};
+ghost use Rattle.pw_paired.specs.Units.{commit_unit, drop_unit, unit_of};
+ghost use Rattle.pw_tmf.specs.Operation.{after_operation};
+ghost use Rattle.pw_tmf.specs.Tells.{Tells, begun_as, unit_begun};
+ghost use Rattle.pw_tmf.specs.Told.{Told};
+ghost use Rattle.pw_tmf.specs.Units.{backed_out, begun, ended};
 
-/// What a disc tells of files, locks and before-images is what the paired system says of them: before-images are put back
-/// alike, a unit's locks are released alike, and an operation makes the same before-image.
+/// A disc that tells the files, locks and units of a state of the paired system tells them behind an entry too, once the
+/// entry's call is made: BEGIN begins the unit, FILE operates, COMMIT and the REPLY that ends one SEND commit, BACK
+/// backs out and ends, and RESTART backs out and leaves the unit open.
 pub fn told_laws()
-    ensures files { (key_length : ℕ → ℕ) (images : List BeforeImage) (files : ℕ → List (List ℕ))
-        → restored_files key_length images files ≡ restored key_length images files }
-    ensures locks { (state : State) (t : ℕ) → (release_locks (only t) state).locks ≡ released t state.locks }
-    ensures image { (n t : ℕ) (records : List (List ℕ)) (call : FileCall)
-        → image_before n records t call ≡ image_now n records t call }
+    ensures begins { (sys : Behaviour) (state : State) (told : Told) (t n r : ℕ) → Tells sys state told
+        → IsIdle state t → (unit_begun state t n).number ≡ n
+        → Tells sys (do_begin sys t n r state) (begun told (begun_as state t n)) }
+    ensures operates { (sys : Behaviour) (state : State) (told : Told) (c i : ℕ) (job : Job) (call : FileCall)
+        (own : OpenUnit) (start : List PathAnswer) → Tells sys state told
+        → state.units job.request.terminal ≡ Some own → own.running ≡ Some start
+        → Tells sys (do_operation sys c i job call state) (after_operation told (unit_of state job.request) call) }
+    ensures commits { (sys : Behaviour) (state : State) (told : Told) (unit : Unit) (reply : Option (List ℕ))
+        → Tells sys state told
+        → Tells sys (commit_unit unit.terminal unit.number reply state) (ended told unit reply) }
+    ensures drops { (sys : Behaviour) (state : State) (told : Told) (unit : Unit) → Tells sys state told
+        → Tells sys (drop_unit sys unit.terminal unit.number state) (backed_out true told unit) }
+    ensures restarts { (sys : Behaviour) (state : State) (told : Told) (unit : Unit) (cause : Cause) → Tells sys state told
+        → Tells sys (do_restart sys unit.terminal cause state) (backed_out false told unit) }
 {}

@@ -5,8 +5,8 @@ ghost use Rattle.pw_files.specs.Records.{IsContent, IsFile, record_after, record
 ghost use Rattle.pw_onecopy.specs.IsBehaviour.{is_written};
 ghost use Rattle.pw_onecopy.specs.Operation.{answer_of, changes_records, found_key, is_change, key_of, records_behind, read_answer, span_of};
 ghost use Rattle.pw_onecopy.specs.Update.{upd};
-ghost use Rattle.pw_paired.specs.Units.{has_image};
-ghost use Rattle.pw_tmf.specs.Operation.{answer_with, image_now, is_first_change, refusal, with_image};
+ghost use Rattle.pw_paired.specs.Units.{has_image, image_before, is_first_change};
+ghost use Rattle.pw_tmf.specs.Operation.{answer_with, refusal, with_image};
 ghost use Rattle.pw_tmf.specs.Slots.{with_before, with_unit};
 ghost use Rattle.pw_tmf.specs.Tmf.{key_lengths, stored};
 
@@ -161,15 +161,11 @@ fn write(
     if let Some(status) = refusal(call.op, found.is_some()) {
         return Ok((status, None));
     }
-    if slot.has_image(terminal, call.file, key) {
+    let place = (call.file, Bytes::from_slice(alloc, key)?);
+    if slot.has_image(terminal, &place) {
         change_in(files, call)?;
     } else {
-        let image = Image::new(
-            terminal,
-            call.file,
-            Bytes::from_slice(alloc, key)?,
-            copied(alloc, found)?,
-        );
+        let image = Image::new(terminal, place, copied(alloc, found)?);
         change_first(files, slot, image, call)?;
     }
     Ok((0, None))

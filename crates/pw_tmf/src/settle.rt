@@ -1,6 +1,6 @@
 ghost use Rattle.std.specs.Prelude.{◌≡◌, ◌↔◌, [], IsTrue, OnErr, OnOk, All, length, reverse};
 ghost use Rattle.pw_blocks.specs.Blocks.{records_of};
-ghost use Rattle.pw_tmf.specs.Committed.{restored};
+ghost use Rattle.pw_paired.specs.Units.{restored_files};
 ghost use Rattle.pw_tmf.specs.Tmf.{AreImages, all_pending, files_of, key_lengths, stored};
 
 use crate::images::Images;
@@ -14,8 +14,8 @@ fn drain(files: &mut Vec<BlockFile>, images: &mut Images) -> Result<(), Memory>
     requires { AreImages (key_lengths files.old.items) (length files.old.items) images.old }
     ensures keys { key_lengths files.new.items ≡ key_lengths files.old.items }
     ensures count { length files.new.items ≡ length files.old.items }
-    ensures files { restored (key_lengths files.old.items) images.new (stored files.new.items)
-        ≡ restored (key_lengths files.old.items) images.old (stored files.old.items) }
+    ensures files { restored_files (key_lengths files.old.items) images.new (stored files.new.items)
+        ≡ restored_files (key_lengths files.old.items) images.old (stored files.old.items) }
     ensures images { AreImages (key_lengths files.old.items) (length files.old.items) images.new }
     ensures ok { OnOk result (images.new ≡ []) }
 {

@@ -93,11 +93,11 @@ impl Slot {
     }
 
     /// Whether the open unit has a before-image at a key of a file.
-    pub fn has_image(&self, terminal: u32, file: u32, key: &[u8]) -> bool
-        ensures { result ≡ has_image terminal file key.now (images_of self.now.open_unit) }
+    pub fn has_image(&self, terminal: u32, place: &(u32, Bytes)) -> bool
+        ensures { result ≡ has_image terminal place.now.0 place.now.1 (images_of self.now.open_unit) }
     {
         match &self.open_unit {
-            Some(unit) => unit.images().has(terminal, file, key),
+            Some(unit) => unit.images().has(terminal, place),
             None => false,
         }
     }

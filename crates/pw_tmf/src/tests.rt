@@ -72,6 +72,7 @@ fn system_of(
     ensures { result ≡ record {
       programs = programs;
       servers = [];
+      screens = [];
       classes = [];
       files = files;
       tcps = tcps;
@@ -82,6 +83,7 @@ fn system_of(
     System {
         programs,
         servers: List::new(alloc),
+        screens: List::new(alloc),
         classes: List::new(alloc),
         files,
         tcps,
@@ -103,11 +105,15 @@ fn stock(alloc: Global) -> Result<FileInfo, Memory>
 
 /// A program without instructions.
 fn program(alloc: Global) -> Result<Code, Memory>
-    ensures { IfOk result (λ code. code.instrs ≡ []) }
+    ensures instrs { IfOk result (λ code. code.instrs ≡ []) }
+    ensures storage { IfOk result (λ code. code.storage ≡ []) }
+    ensures linkage { IfOk result (λ code. code.linkage ≡ []) }
 {
     Ok(Code {
         name: bytes(alloc, b"KEYS")?,
         instrs: List::new(alloc),
+        storage: Bytes::new(alloc),
+        linkage: List::new(alloc),
     })
 }
 
@@ -235,6 +241,39 @@ fn back_out_both<D: Disc>(disc: &mut D) -> Result<(), DiscFault>
     disc.back_out(&[OLDER, YOUNGER], false)
 }
 
+/// Backs the younger unit out, and begins its next attempt.
+fn restart_younger<D: Disc>(disc: &mut D) -> Result<(), DiscFault>
+    requires { AreBoth (D.told disc.old) }
+    ensures { OnOk result (AreBoth (D.told disc.new)) }
+{
+    disc.back_out(&[YOUNGER], false)?;
+    disc.begin(&YOUNGER)?;
+    Ok(())
+}
+
+/// Backs the younger unit out, and it ends.
+fn drop_younger<D: Disc>(disc: &mut D) -> Result<(), DiscFault>
+    requires { AreBoth (D.told disc.old) }
+    ensures files { OnOk result (0 < (D.told disc.new).file_count) }
+    ensures terminals { OnOk result ((D.told disc.new).terminals ≡ 2) }
+{
+    disc.back_out(&[YOUNGER], true)
+}
+
+/// The last ended unit of the second terminal is its first one, with this reply.
+fn expect_ended<D: Disc>(rt: &impl Abort, disc: &D, reply: Option<&[u8]>)
+    requires { (D.told disc.now).terminals ≡ 2 }
+{
+    assert!(rt; disc.ended(0).is_none());
+    match disc.ended(1) {
+        Some(unit) => {
+            assert_eq!(rt; unit.number, 1);
+            assert_eq!(rt; unit.reply.as_ref().map(|text| text.as_slice()), reply);
+        }
+        None => panic!(rt; "none has ended"),
+    }
+}
+
 /// Commits the younger unit.
 fn commit<D: Disc>(disc: &mut D, reply: Bytes) -> Result<(), DiscFault>
     requires { AreBoth (D.told disc.old) }
@@ -277,9 +316,51 @@ fn expect_commit<D: Disc>(rt: &impl Abort, alloc: Global, disc: &mut D) -> Resul
     expect_done(rt, older_does(disc, &next), 1, None);
     commit(disc, bytes(alloc, b"0000")?)?;
     expect_records(rt, alloc, disc, &[b"AA one", b"BB two"])?;
-    assert!(rt; disc.ended(0).is_none());
-    assert_eq!(rt; disc.ended(1).map(|unit| unit.number), Some(1));
+    expect_ended(rt, disc, Some(b"0000"));
     Ok(())
+}
+
+/// A unit that restarts has its records as they were committed, and writes again; what it has written goes where it is
+/// backed out and ends, and no reply is kept.
+fn expect_restart<D: Disc>(rt: &impl Abort, alloc: Global, disc: &mut D) -> Result<(), Fail>
+    requires { IsFresh (D.told disc.old) }
+{
+    let write = writing(alloc, FileOp::Write, b"BB two")?;
+    let again = writing(alloc, FileOp::Write, b"BB three")?;
+    let rewrite = writing(alloc, FileOp::Rewrite, b"AA two")?;
+    let read = by_key(alloc, FileOp::Read, b"BB")?;
+    begin_both(disc)?;
+    expect_done(rt, younger_does(disc, &write), 0, None);
+    expect_done(rt, younger_does(disc, &rewrite), 0, None);
+    restart_younger(disc)?;
+    expect_done(rt, older_does(disc, &read), 11, None);
+    assert!(rt; matches!(younger_does(disc, &again), FileAnswer::Conflict(OLDER)));
+    expect_done(rt, younger_does(disc, &rewrite), 0, None);
+    expect_records(rt, alloc, disc, &[b"AA one"])?;
+    drop_younger(disc)?;
+    expect_records(rt, alloc, disc, &[b"AA one"])?;
+    expect_ended(rt, disc, None);
+    Ok(())
+}
+
+/// Which of these calls is the first to fail: 1 a begin, 2 the operation, 3 the end; 0 is none.
+fn first_failure<D: Disc>(alloc: Global, disc: &mut D, commits: bool) -> Result<u8, Memory>
+    requires { IsFresh (D.told disc.old) }
+{
+    let write = writing(alloc, FileOp::Write, b"BB two")?;
+    let reply = bytes(alloc, b"0000")?;
+    if begin_both(disc).is_err() {
+        return Ok(1);
+    }
+    if let FileAnswer::Failed = younger_does(disc, &write) {
+        return Ok(2);
+    }
+    let end = if commits {
+        commit(disc, reply)
+    } else {
+        back_out_both(disc)
+    };
+    Ok(if end.is_err() { 3 } else { 0 })
 }
 
 /// Reads share a lock with reads and bar writes, and a READ NEXT bars a later write into its span.
@@ -301,26 +382,53 @@ fn expect_modes<D: Disc>(rt: &impl Abort, alloc: Global, disc: &mut D) -> Result
     expect_done(rt, younger_does(disc, &next), 1, None);
     assert!(rt; matches!(older_does(disc, &within), FileAnswer::Conflict(YOUNGER)));
     expect_done(rt, older_does(disc, &outside), 0, None);
+    assert!(rt; matches!(younger_does(disc, &outside), FileAnswer::Conflict(OLDER)));
     Ok(())
 }
 
 #[test]
-fn units_stand_apart_until_they_end(rt: HostRuntime) -> Result<(), Fail> {
+fn reads_share_and_writes_stand_alone(rt: HostRuntime) -> Result<(), Fail> {
     let alloc = rt.alloc();
     let mut tmf = started(alloc)?;
-    let mut copy = tmf.copy(alloc)?;
-    let mut other = tmf.copy(alloc)?;
-    expect_modes(&rt, alloc, &mut other)?;
-    expect_conflict(&rt, alloc, &mut tmf)?;
-    expect_commit(&rt, alloc, &mut copy)?;
-    Ok(())
+    expect_modes(&rt, alloc, &mut tmf)
 }
 
 #[test]
-fn a_faulty_disc_fails_as_told(rt: HostRuntime) -> Result<(), Fail> {
+fn before_images_are_put_back(rt: HostRuntime) -> Result<(), Fail> {
+    let alloc = rt.alloc();
+    let mut tmf = started(alloc)?;
+    expect_conflict(&rt, alloc, &mut tmf)
+}
+
+#[test]
+fn commit_keeps_the_reply(rt: HostRuntime) -> Result<(), Fail> {
+    let alloc = rt.alloc();
+    let mut tmf = started(alloc)?;
+    expect_commit(&rt, alloc, &mut tmf)
+}
+
+#[test]
+fn unit_restarts_and_writes_again(rt: HostRuntime) -> Result<(), Fail> {
+    let alloc = rt.alloc();
+    let mut tmf = started(alloc)?;
+    expect_restart(&rt, alloc, &mut tmf)
+}
+
+#[test]
+fn a_faulty_disc_fails_at_each_call(rt: HostRuntime) -> Result<(), Fail> {
     let alloc = rt.alloc();
     let tmf = started(alloc)?;
-    let mut faulty = Faulty::new(alloc, tmf, &[2])?;
-    assert_eq!(rt; begin_both(&mut faulty), Err(DiscFault::Failed));
+    for (call, commits, failure) in [
+        (1, true, 1),
+        (2, true, 1),
+        (3, true, 2),
+        (4, true, 3),
+        (4, false, 3),
+        (5, true, 0),
+        (5, false, 0),
+    ] {
+        let mut faulty = Faulty::new(alloc, tmf.copy(alloc)?, &[call])?;
+        assert_eq!(rt; first_failure(alloc, &mut faulty, commits)?, failure);
+    }
     Ok(())
 }

@@ -1,2 +1,4 @@
+pub mod Index
+pub mod Names
 pub mod Texts
 pub mod Words

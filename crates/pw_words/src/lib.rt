@@ -1,6 +1,8 @@
 //! Tables of words: the words of the language and of the commands, and the texts of the refusals.
+//! Sets of names.
 #![tactic(auto)]
 
+pub mod names;
 pub mod table;
 #[cfg(test)]
 mod tests;

@@ -1,7 +1,9 @@
+use crate::names::Names;
 use crate::texts::{
     pathcom_words, refusal_text, refusal_text_laws, refusal_texts, requester_words, server_words,
 };
 use pw_base::fault_code::FaultCode;
+use std::test::Fail;
 
 #[test]
 fn word_table_places(rt: HostRuntime) {
@@ -53,4 +55,22 @@ fn command_and_refusal_places(rt: HostRuntime) {
         assert_eq!(rt; refusal_text(code), text);
     }
     refusal_text_laws();
+}
+
+#[test]
+fn names_stand_once(rt: HostRuntime) -> Result<(), Fail> {
+    let alloc = rt.alloc();
+    let mut names = Names::new(alloc);
+    for (name, taken) in [
+        (b"MAIN".as_slice(), false),
+        (b"main", false),
+        (b"", false),
+        (b"MAIN", true),
+        (b"", true),
+        (b"MAINS", false),
+    ] {
+        let put = names.put(Vec::from_slice(alloc, name)?)?;
+        assert_eq!(rt; put, taken, "{name:?}");
+    }
+    Ok(())
 }

@@ -96,7 +96,39 @@ pub fn requester_words() -> Table<68>
         b"TERMINATION-STATUS",
         b"RESTART-COUNTER",
     ];
-    Table { rows: ROWS }
+    const INDEX: &[&[u8]] = &[
+        &[],
+        &[0, 1, 2, 24, 61],
+        &[3, 35, 60],
+        &[4, 64],
+        &[5, 6, 7, 45, 58],
+        &[8, 9, 21, 22, 29, 40],
+        &[34, 53],
+        &[30, 37],
+        &[],
+        &[10, 27, 36],
+        &[],
+        &[],
+        &[31],
+        &[11, 12],
+        &[26, 28],
+        &[25, 38, 43, 44, 57],
+        &[13, 46, 54, 55],
+        &[],
+        &[14, 15, 16, 47, 63, 67],
+        &[17, 18, 19, 39, 48, 49, 59],
+        &[23, 32, 33, 41, 66],
+        &[42, 62],
+        &[56],
+        &[20],
+        &[],
+        &[65],
+        &[50, 51, 52],
+    ];
+    Table {
+        rows: ROWS,
+        index: INDEX,
+    }
 }
 
 /// The words of a server: the verbs, then the other words of both languages, then its own, of
@@ -113,7 +145,39 @@ pub fn server_words() -> Table<67>
         b"WITH",
         b"LOCK",
     ];
-    Table { rows: ROWS }
+    const INDEX: &[&[u8]] = &[
+        &[60],
+        &[0, 1, 2, 24, 63],
+        &[3, 35],
+        &[4],
+        &[5, 6, 7, 45, 58],
+        &[8, 9, 21, 22, 29, 40],
+        &[34, 53, 64],
+        &[30, 37],
+        &[],
+        &[10, 27, 36],
+        &[],
+        &[62],
+        &[31, 66],
+        &[11, 12],
+        &[26, 28, 61],
+        &[25, 38, 43, 44, 57],
+        &[13, 46, 54, 55],
+        &[],
+        &[14, 15, 16, 47],
+        &[17, 18, 19, 39, 48, 49, 59],
+        &[23, 32, 33, 41],
+        &[42],
+        &[56],
+        &[20, 65],
+        &[],
+        &[],
+        &[50, 51, 52],
+    ];
+    Table {
+        rows: ROWS,
+        index: INDEX,
+    }
 }
 
 /// The words of the commands.
@@ -132,7 +196,33 @@ pub fn pathcom_words() -> Table<10>
         b"MAXSERVERS",
         b"MAXTMFRESTARTS",
     ];
-    Table { rows: ROWS }
+    const INDEX: &[&[u8]] = &[
+        &[],
+        &[1],
+        &[],
+        &[],
+        &[],
+        &[],
+        &[],
+        &[],
+        &[],
+        &[6],
+        &[],
+        &[],
+        &[],
+        &[8, 9],
+        &[],
+        &[],
+        &[7],
+        &[],
+        &[],
+        &[0, 2, 5],
+        &[3, 4],
+    ];
+    Table {
+        rows: ROWS,
+        index: INDEX,
+    }
 }
 
 /// The texts of the refusals, in the order of the fault codes. docs/FAULTS.md tells of each.
@@ -176,7 +266,36 @@ pub fn refusal_texts() -> Table<35>
         b"BAD ENTRY",
         b"TOO MANY",
     ];
-    Table { rows: ROWS }
+    const INDEX: &[&[u8]] = &[
+        &[],
+        &[24],
+        &[0, 4, 5, 14, 15, 21, 22, 23, 27, 29, 32, 33],
+        &[],
+        &[],
+        &[30],
+        &[12, 13],
+        &[],
+        &[],
+        &[28],
+        &[],
+        &[],
+        &[],
+        &[],
+        &[3, 6, 9, 10, 16],
+        &[26],
+        &[11],
+        &[],
+        &[],
+        &[8, 31],
+        &[34],
+        &[1, 7, 17, 18, 25],
+        &[],
+        &[2, 19, 20],
+    ];
+    Table {
+        rows: ROWS,
+        index: INDEX,
+    }
 }
 
 /// The text of the refusal with a code.

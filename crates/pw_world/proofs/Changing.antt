@@ -1,8 +1,9 @@
 -- The laws of steps and stamps.
 use Rattle.std.proofs.Common.{◌≡◌, ℕ, ◌+◌, ◌<◌, List, [], ◌∷◌, ◌++◌, length, None, Some, Bool, true, false, refl, sym, ap, ◌∙◌, subst, arith, length-append}
 use Rattle.std.proofs.lemmas.Bool.{eqb-true, eq-eqb}
-use Rattle.pw_code.specs.declared.code.Instr.{Instr}
-use Rattle.pw_code.specs.declared.code.Instr.TheVariants.{Display, StopRun}
+use Rattle.pw_code.specs.declared.instr.Instr.{Instr}
+use Rattle.pw_code.specs.declared.instr.Instr.TheVariants.{Display}
+use Rattle.pw_code.specs.declared.operand.Operand.TheVariants.{Text}
 use Rattle.pw_code.specs.declared.verb.Answer.TheVariants.{Shown}
 use Rattle.pw_code.specs.Path.{refreshes_on}
 use Rattle.pw_event.specs.declared.event.Ending.{Ending}
@@ -22,11 +23,11 @@ use Rattle.pw_world.proofs.Pushes.{state-push, stamp-own, stamp-other, term-show
 -- both verbs have their step
 verb-step : (world : Told) (t : ℕ) → CanStep (behaviour world.system) (state_after world.log) t → (instr : Instr)
     → next_verb (behaviour world.system) (state_after world.log) t ≡ asked_by instr → HasStep world t
-verb-step world t can (Display text) asks = (
+verb-step world t can (Display (Text text)) asks = (
   Show t 0 0 (refreshes_on ((state_after world.log).terms t).path + 1),
   record { legal = record { can = can; asks = asks; phase_is = refl; attempt_is = refl; k_is = refl }; owner = eq-eqb t t refl },
 )
-verb-step world t can StopRun asks = (End t Stopped, record { legal = record { can = can; asks = ap Some asks }; owner = eq-eqb t t refl })
+verb-step world t can _ asks = (End t Stopped, record { legal = record { can = can; asks = ap Some asks }; owner = eq-eqb t t refl })
 
 pub live-step : (world : Told) (t : ℕ) → t < length world.system.terminals → IsLive world t → HasStep world t
 live-step world t lt live = verb-step world t (record { known = lt; live = live }) _ refl

@@ -130,7 +130,7 @@ claimed system log made kept limit t k found =
       stamp = seated.stamp;
       work = ap work_of seated.context;
       runs = rw is (λ x same. let here : context_after system (program_of system t) ((state_after log).terms t).path ≡ x = cc in
-          subst (CanRun system) here (record { known = (k.valid.terminals t _ known).program; answered = refl }));
+          subst (CanRun system) here (record { one = refl; known = (k.valid.terminals t _ known).program; answered = refl }));
     }
 
 -- a terminal whose seat has not ended leaves the log unfinished

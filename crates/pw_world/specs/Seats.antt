@@ -1,5 +1,6 @@
 -- The seats of a world's terminals.
 use Rattle.std.specs.Prelude.{ℕ, List, [], Bool, false, not, ◌||◌, slice_index_or}
+use Rattle.pw_machine.specs.Contexts.{context_at}
 use Rattle.pw_world.specs.declared.seat.Seat.{Seat}
 
 -- its terminal has ended
@@ -16,4 +17,4 @@ with_out out seat = record seat { out = out }
 
 -- the seat at a place
 abbrev pub seat_at : List Seat → ℕ → Seat
-seat_at seats at = slice_index_or seats at (record { context = record { shown = 0; at_verb = false; screen = []; program = 0; at = 0 }; stamp = 0; out = false; ended = false })
+seat_at seats at = slice_index_or seats at (record { context = context_at 0 false [] 0 0; stamp = 0; out = false; ended = false })

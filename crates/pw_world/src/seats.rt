@@ -7,7 +7,7 @@ ghost use Rattle.pw_world.specs.Seats.{has_ended, is_free, with_out, seat_at};
 use crate::seat::Seat;
 use pw_base::memory::Memory;
 use pw_code::system::System;
-use pw_machine::machine::start;
+use pw_machine::thin::start;
 use std::alloc::Global;
 
 /// The seats of a system's terminals at first.

@@ -8,7 +8,7 @@ use pw_base::memory::Memory;
 use pw_code::context::Context;
 use pw_code::system::System;
 use pw_code::verb::Verb;
-use pw_machine::machine::verb;
+use pw_machine::thin::verb;
 use std::snapshot::Snapshot;
 
 /// Who makes a step.

@@ -1,5 +1,6 @@
-ghost use Rattle.std.specs.Prelude.{◌≡◌, ◌<◌, ◌≤◌, [], length, map, All, IfOk};
+ghost use Rattle.std.specs.Prelude.{◌≡◌, ◌<◌, ◌≤◌, codes, [], ◌∷◌, length, map, All, IfOk};
 ghost use Rattle.pw_code.specs.Names.{AreNames};
+ghost use Rattle.pw_code.specs.Thin.{shows};
 ghost use Rattle.pw_code.specs.Valid.{IsValid};
 ghost use Rattle.pw_world.specs.Actors.{terminal_at};
 
@@ -8,8 +9,10 @@ use crate::world::{Applied, Claim, World};
 use pw_base::bytes::Bytes;
 use pw_base::list::List;
 use pw_base::memory::Memory;
-use pw_code::code::{Code, Instr};
+use pw_code::code::Code;
+use pw_code::instr::Instr;
 use pw_code::lock::LockRule;
+use pw_code::operand::Operand;
 use pw_code::system::{System, TermInfo};
 use pw_display::refresh::Refresh;
 use pw_event::event::{Ending, Event};
@@ -18,16 +21,31 @@ use std::alloc::Global;
 use std::process::Abort;
 use std::test::Fail;
 
+/// The display of a text.
+fn display(alloc: Global, text: &[u8]) -> Result<Instr, Memory>
+    ensures { IfOk result (λ instr. instr ≡ shows text.now) }
+{
+    let text = Bytes::from_slice(alloc, text)?;
+    Ok(Instr::Display(Operand::Text(text)))
+}
+
 /// A program of DISPLAY "ONE", DISPLAY "TWO" and STOP RUN.
 fn code(alloc: Global) -> Result<Code, Memory>
-    ensures { IfOk result (λ code. length code.instrs ≡ 3) }
+    ensures instrs { IfOk result (λ code. code.instrs ≡ shows (codes "ONE") ∷ (shows (codes "TWO") ∷ (Instr.StopRun ∷ []))) }
+    ensures storage { IfOk result (λ code. code.storage ≡ []) }
+    ensures linkage { IfOk result (λ code. code.linkage ≡ []) }
 {
     let mut instrs = List::new(alloc);
-    instrs.push(Instr::Display(Bytes::from_slice(alloc, b"ONE")?))?;
-    instrs.push(Instr::Display(Bytes::from_slice(alloc, b"TWO")?))?;
+    instrs.push(display(alloc, b"ONE")?)?;
+    instrs.push(display(alloc, b"TWO")?)?;
     instrs.push(Instr::StopRun)?;
     let name = Bytes::from_slice(alloc, b"PROGRAM")?;
-    Ok(Code { name, instrs })
+    Ok(Code {
+        name,
+        instrs,
+        storage: Bytes::new(alloc),
+        linkage: List::new(alloc),
+    })
 }
 
 /// A terminal of the first pair, with the first program.
@@ -62,6 +80,7 @@ fn system_of(alloc: Global, terminals: List<TermInfo>) -> Result<System, Memory>
     Ok(System {
         programs,
         servers: List::new(alloc),
+        screens: List::new(alloc),
         classes: List::new(alloc),
         files: List::new(alloc),
         tcps,

@@ -19,7 +19,7 @@ use pw_code::system::System;
 use pw_code::verb::{Answer, Verb};
 use pw_display::refresh::Refresh;
 use pw_event::event::{Ending, Event};
-use pw_machine::machine::answer;
+use pw_machine::thin::answer;
 use std::alloc::Global;
 use std::marker::Model;
 

@@ -1,5 +1,6 @@
 use super::*;
-use pw_code::code::Instr;
+use pw_code::instr::Instr;
+use pw_code::operand::Operand;
 use std::alloc::AllocError;
 use std::test::Fail;
 
@@ -77,7 +78,7 @@ fn reads_hello(rt: HostRuntime) -> Result<(), Fail> {
         return Err("one program")?;
     };
     assert_eq!(rt; code.name.as_slice(), b"HELLO".as_slice());
-    let [Instr::Display(text), Instr::StopRun] = code.instrs.as_slice() else {
+    let [Instr::Display(Operand::Text(text)), Instr::StopRun] = code.instrs.as_slice() else {
         return Err("two instructions")?;
     };
     assert_eq!(rt; text.as_slice(), b"HELLO".as_slice());

@@ -23,4 +23,4 @@ returns-clause-deck c =
     says c.args.bytes.now (texts_in found) c.in_ok-instrs.instrs c.deck_with.result (is_deck c.args.bytes.now found c.if-bytes-gt-MAX_INPUT.false c.in_ok-program.ensures.good c.in_ok-program.ensures.rest c.in_ok-instrs.ensures.good) c.in_ok-instrs.ensures.instrs c.deck_with.ensures.deck
 
 pub returns-clause-valid : goal.returns-clause-valid
-returns-clause-valid c = valid_deck c.in_ok-instrs.instrs c.deck_with.result c.in_ok-instrs.ensures.short c.deck_with.ensures.deck
+returns-clause-valid c = valid_deck (texts_in (lines c.in_ok-program.program.now)) c.in_ok-instrs.instrs c.deck_with.result c.in_ok-instrs.ensures.instrs c.in_ok-instrs.ensures.short c.deck_with.ensures.deck

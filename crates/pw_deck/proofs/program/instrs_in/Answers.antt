@@ -1,6 +1,6 @@
 -- One DISPLAY line after the other, and then the end.
 use Rattle.std.proofs.Common.{◌≡◌, length, length-append, ap, ◌∙◌, arith}
-use Rattle.pw_code.specs.declared.code.Instr.TheVariants.{Display}
+use Rattle.pw_code.specs.Thin.{shows}
 use Rattle.pw_deck.specs.Lines.{lines}
 use Rattle.pw_deck.specs.Deck.{wrong_program, wrong_end}
 use Rattle.pw_deck.proofs.Texts.{no_text, wrong_is, text_pushed, line_further, all_instrs, ends_well, ends_wrong}
@@ -26,7 +26,7 @@ returns-in_default-clause-wrong c =
 pub loop-line-preserved : goal.loop-line-preserved
 loop-line-preserved c = record {
   texts = text_pushed (lines c.args.text.now) (lines c.loop-line.rest.now) (lines c.in-Some.behind.now) c.in-Some.shown.now c.loop-line.instrs c.push_text.new.instrs c.in-Some.ensures.text c.in-Some.ensures.behind c.in_ok-push_text.ensures.ok c.loop-line.invariant.texts;
-  place = line_further (lines c.args.text.now) (lines c.loop-line.rest.now) (lines c.in-Some.behind.now) (Display c.in-Some.shown.now) c.loop-line.instrs c.push_text.new.instrs c.in-Some.ensures.behind c.in_ok-push_text.ensures.ok c.loop-line.invariant.place;
+  place = line_further (lines c.args.text.now) (lines c.loop-line.rest.now) (lines c.in-Some.behind.now) (shows c.in-Some.shown.now) c.loop-line.instrs c.push_text.new.instrs c.in-Some.ensures.behind c.in_ok-push_text.ensures.ok c.loop-line.invariant.place;
   count = omega (arith, simp length-append at (ap length c.in_ok-push_text.ensures.ok));
 }
 

@@ -12,4 +12,4 @@ returns c =
     c.system_of.ensures
     ∙ built-is code _ _ _ _ c.in_ok-programs.ensures (c.in_ok-files.ensures ∙ ap (λ x. x ∷ []) c.in_ok-stock.ensures) (c.in_ok-tcps.ensures ∙ ap (λ x. x ∷ []) c.in_ok-bytes.ensures)
     (pushed-two _ _ _ _ (terminal_named (codes "T1")) (terminal_named (codes "T2")) c.in_ok-terminals.ensures c.in_ok-push.ensures.ok c.in_ok-terminal.ensures c.in_ok-terminal-2.ensures) in
-    (subst IsValid (sym is) (test-valid code c.in_ok-program.ensures), subst IsTestSystem (sym is) (test-parts code))
+    (subst IsValid (sym is) (test-valid code c.in_ok-program.ensures.instrs c.in_ok-program.ensures.storage c.in_ok-program.ensures.linkage), subst IsTestSystem (sym is) (test-parts code))

@@ -6,4 +6,4 @@ use Rattle.pw_forms.proofs.reading.Reading.new.Goals as goal
 pub returns : goal.returns
 returns c = λ pieces.
     let start : Reading = record { known = None; names = c.new.result; build = c.new-2.result } in
-    outcome-start start pieces refl c.new.ensures.empty c.new-2.ensures.paragraphs c.new-2.ensures.begun c.new-2.ensures.open c.new-2.ensures.current
+    outcome-start start pieces refl c.new.ensures c.new-2.ensures.paragraphs c.new-2.ensures.begun c.new-2.ensures.open c.new-2.ensures.current

@@ -2,7 +2,8 @@ use Rattle.std.proofs.Common.{◌≡◌, ℕ, ◌<◌, ◌∙◌, ap, sym, subst
 use Rattle.std.specs.Prelude.{reverse}
 use Rattle.pw_blocks.specs.Blocks.{BlocksState, records_of}
 use Rattle.pw_paired.specs.State.{BeforeImage}
-use Rattle.pw_tmf.specs.Committed.{all_put_back, committed, images_below, restored}
+use Rattle.pw_paired.specs.Units.{restored_files}
+use Rattle.pw_tmf.specs.Committed.{all_put_back, committed, images_below}
 use Rattle.pw_tmf.specs.Slots.{SlotState}
 use Rattle.pw_tmf.specs.Tmf.{TmfState, file_at, key_lengths, stored, told_of, unit_at}
 use Rattle.pw_tmf.proofs.Operated.{settled-files}
@@ -25,5 +26,5 @@ returns c =
     ∙ (ap (λ (ss : List SlotState). all_put_back copy.key file (images_below (unit_at ss) (length ss)) (records_of copy.blocks)) c.deref-2.ensures.value
     ∙ (ap (λ (s : BlocksState). all_put_back s.key file images (records_of s.blocks)) copied
     ∙ (sym (restored-at (key_lengths state.files) images (stored state.files) file)
-    ∙ (sym (ap (λ (g : ℕ → List (List ℕ)). restored (key_lengths state.files) images g file) (settled-files state.files state.pending (ap reverse nothing)))
+    ∙ (sym (ap (λ (g : ℕ → List (List ℕ)). restored_files (key_lengths state.files) images g file) (settled-files state.files state.pending (ap reverse nothing)))
     ∙ ap (λ (s : TmfState). committed (told_of s) file) c.self.view_is))))))

@@ -1,0 +1,7 @@
+//! The words of the command line, read by one simple command of `clap`.
+#![tactic(auto)]
+
+pub mod read;
+#[cfg(test)]
+mod tests;
+pub mod words;

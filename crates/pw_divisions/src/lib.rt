@@ -1,0 +1,12 @@
+//! How the source of a program is divided: its divisions, the sections of its data, and the entries of
+//! a section.
+#![tactic(auto)]
+
+pub mod data;
+pub mod divisions;
+pub mod entries;
+pub mod names;
+mod steps;
+#[cfg(test)]
+mod tests;
+mod using;

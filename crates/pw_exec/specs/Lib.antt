@@ -1,0 +1,15 @@
+pub mod Answers
+pub mod Calls
+pub mod Conditions
+pub mod Config
+pub mod Contexts
+pub mod Entries
+pub mod Moves
+pub mod OfSystem
+pub mod Reading
+pub mod Runs
+pub mod Samples
+pub mod Steps
+pub mod Told
+pub mod Turns
+pub mod Values

@@ -1,0 +1,22 @@
+ghost use Rattle.std.specs.Prelude.{◌≡◌, [], ◌∷◌, ◌++◌, true, List};
+ghost use Rattle.pw_code.specs.declared.context.Context.{Context};
+ghost use Rattle.pw_code.specs.declared.system.System.{System};
+ghost use Rattle.pw_code.specs.declared.verb.Answer.{Answer};
+ghost use Rattle.pw_code.specs.declared.verb.Verb.{Verb};
+ghost use Rattle.pw_exec.specs.Config.{Config};
+ghost use Rattle.pw_exec.specs.Contexts.{RunsOn, Takes};
+ghost use Rattle.pw_exec.specs.Runs.{Comes, StandsFrom, at_verb};
+
+/// A context that runs on to its next verb still stands for its answers; one that takes an answer stands for one
+/// more. At a verb one context alone stands for given answers.
+pub fn context_laws()
+    ensures runs { (system : System) (start : Config) (answers : List Answer) (old new : Context) (verb : Verb)
+        → StandsFrom system start answers old → RunsOn system old new verb → StandsFrom system start answers new }
+    ensures answers { (system : System) (start : Config) (answers : List Answer) (a : Answer) (old new : Context)
+        → StandsFrom system start answers old → old.at_verb ≡ true → Takes system a old new
+        → StandsFrom system start (answers ++ a ∷ []) new }
+    ensures one { (system : System) (start : Config) (answers : List Answer) (a b : Context)
+        → StandsFrom system start answers a → StandsFrom system start answers b
+        → a.at_verb ≡ true → b.at_verb ≡ true → a ≡ b }
+    ensures starts { (system : System) (start : Config) → Comes system start [] start }
+{}

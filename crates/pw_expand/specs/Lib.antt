@@ -1,0 +1,5 @@
+pub mod Events
+pub mod Numbers
+pub mod Printed
+pub mod Schedule
+pub mod Systems

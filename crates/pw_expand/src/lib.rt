@@ -1,0 +1,12 @@
+//! Schedules of transactions over several systems: reading them, and the messages and marks that they make.
+#![tactic(auto)]
+
+pub mod event;
+pub mod fault;
+mod line;
+mod number;
+pub mod play;
+mod print;
+pub mod systems;
+#[cfg(test)]
+mod tests;

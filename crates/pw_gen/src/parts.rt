@@ -1,0 +1,107 @@
+//! The lines that stand in every generated deck.
+
+/// The commands before those of the terminals.
+pub const COMMANDS: [&[u8]; 10] = [
+    b"?PATHCOM",
+    b"SET SERVER PROGRAM STORE-P",
+    b"SET SERVER MAXSERVERS 4",
+    b"ADD SERVER STORE",
+    b"ADD TCP TCP-1",
+    b"START TCP TCP-1",
+    b"ADD TCP TCP-2",
+    b"START TCP TCP-2",
+    b"SET TERM INITIAL KEYS",
+    b"SET TERM MAXTMFRESTARTS 64",
+];
+
+/// The section of the requester KEYS.
+pub const REQUESTER: [&[u8]; 39] = [
+    b"?SCREEN-COBOL KEYS",
+    b"IDENTIFICATION DIVISION.",
+    b"PROGRAM-ID. KEYS.",
+    b"DATA DIVISION.",
+    b"WORKING-STORAGE SECTION.",
+    b"01 MSG.",
+    b"  02 M-OP PIC X.",
+    b"  02 M-REC.",
+    b"    03 M-KEY PIC XX.",
+    b"    03 M-N PIC 9(4).",
+    b"01 ANS.",
+    b"  02 A-CODE PIC 9(4).",
+    b"  02 A-STATUS PIC 9(4).",
+    b"  02 A-REC PIC X(6).",
+    b"SCREEN SECTION.",
+    b"01 ASK.",
+    b"  02 FILLER AT 1, 1 VALUE \"OP KEY N\".",
+    b"  02 F-OP AT 2, 1 PIC X USING M-OP.",
+    b"  02 F-KEY AT 2, 4 PIC XX USING M-KEY.",
+    b"  02 F-N AT 2, 8 PIC 9(4) USING M-N.",
+    b"PROCEDURE DIVISION.",
+    b"P1.",
+    b"  PERFORM P2 UNTIL M-OP = \"Z\".",
+    b"  STOP RUN.",
+    b"P2.",
+    b"  ACCEPT ASK UNTIL F1, F2, F3, F4, F5.",
+    b"  PERFORM ONE OF P3, P4, P5, P6, P7",
+    b"    DEPENDING ON TERMINATION-STATUS.",
+    b"P3.",
+    b"  SEND MSG TO STORE REPLY CODE 0 YIELDS ANS.",
+    b"  DISPLAY ANS.",
+    b"P4.",
+    b"  BEGIN-TRANSACTION.",
+    b"P5.",
+    b"  END-TRANSACTION.",
+    b"P6.",
+    b"  ABORT-TRANSACTION.",
+    b"P7.",
+    b"  RESTART-TRANSACTION.",
+];
+
+/// The section of the server STORE-P.
+pub const SERVER: [&[u8]; 27] = [
+    b"?SERVER STORE-P",
+    b"IDENTIFICATION DIVISION.",
+    b"PROGRAM-ID. STORE-P.",
+    b"DATA DIVISION.",
+    b"WORKING-STORAGE SECTION.",
+    b"01 MSG.",
+    b"  02 M-OP PIC X.",
+    b"  02 M-REC.",
+    b"    03 M-KEY PIC XX.",
+    b"    03 M-N PIC 9(4).",
+    b"01 ANS.",
+    b"  02 A-CODE PIC 9(4).",
+    b"  02 A-STATUS PIC 9(4).",
+    b"  02 A-REC PIC X(6).",
+    b"PROCEDURE DIVISION.",
+    b"P1.",
+    b"  READ $RECEIVE INTO MSG.",
+    b"  IF M-OP = \"R\" READ STOCK KEY M-KEY INTO A-REC.",
+    b"  IF M-OP = \"N\" READ NEXT STOCK AFTER M-KEY INTO A-REC.",
+    b"  IF M-OP = \"W\" WRITE STOCK FROM M-REC.",
+    b"  IF M-OP = \"U\" REWRITE STOCK FROM M-REC.",
+    b"  IF M-OP = \"D\" DELETE STOCK KEY M-KEY.",
+    b"  IF M-OP = \"I\" READ STOCK KEY M-KEY INTO M-REC",
+    b"    ADD 1 TO M-N REWRITE STOCK FROM M-REC",
+    b"    MOVE M-REC TO A-REC.",
+    b"  MOVE FILE-STATUS TO A-STATUS.",
+    b"  WRITE $RECEIVE FROM ANS.",
+];
+
+/// The section of the file STOCK.
+pub const STOCK: [&[u8]; 11] = [
+    b"?FILE STOCK KEY 2",
+    b"A00000",
+    b"A10000",
+    b"A20000",
+    b"A30000",
+    b"A40000",
+    b"A50000",
+    b"A60000",
+    b"A70000",
+    b"A80000",
+    b"A90000",
+];
+
+/// The one failure line, and the end.
+pub const ENDING: [&[u8]; 3] = [b"?FAIL", b"TCP TCP-1 PRIMARY AFTER 200", b"?END"];

@@ -1,0 +1,69 @@
+ghost use Rattle.std.specs.Prelude.{◌≡◌, ◌+◌, ◌<◌, ◌*◌, ◌++◌, ◌∷◌, [], length, true, IfOk, IsTrue, OnOk, OnErr, ◌↔◌};
+ghost use Rattle.std.specs.Prelude.{if◌then◌else◌};
+ghost use Rattle.std.specs.List.{list_all};
+ghost use Rattle.pw_image.specs.Records.{numbered, differs, record_at, changed_records, lies_in, with_record, patched};
+
+use crate::changed::{Changed, Changes};
+use crate::records::{RECORD, record_at, record_count};
+use pw_base::bytes::Bytes;
+use pw_base::memory::Memory;
+use std::alloc::Global;
+
+/// The records of the new image that differ from those of the old one. It costs the bytes of one image.
+pub fn changes(alloc: Global, old: &[u8], new: &[u8]) -> Result<Changes, Memory>
+    requires { length old.now ≡ length new.now }
+    ensures { IfOk result (λ changes. changes ≡ changed_records old.now new.now) }
+{
+    let Ok(count) = u32::try_from(record_count(new)) else {
+        return Err(Memory);
+    };
+    let mut changed = Vec::new(alloc);
+    for number in 0..count {
+        add_changed(alloc, &mut changed, old, new, number)?;
+    }
+    Ok(Changes::from_records(changed))
+}
+
+/// Puts a record of the new image behind the others, where it differs from that of the old one. An `Err` leaves the
+/// list as it was.
+fn add_changed(
+    alloc: Global,
+    changed: &mut Vec<Changed>,
+    old: &[u8],
+    new: &[u8],
+    number: u32,
+) -> Result<(), Memory>
+    requires length { length old.now ≡ length new.now }
+    requires within { 64 * number < length new.now }
+    ensures ok { OnOk result (changed.new.items ≡ changed.old.items
+        ++ (if differs old.now (numbered new.now number) then numbered new.now number ∷ [] else [])) }
+    ensures err { OnErr result (changed.new.items ≡ changed.old.items) }
+{
+    let record = record_at(new, number as usize);
+    if record_at(old, number as usize) == record {
+        return Ok(());
+    }
+    let bytes = Bytes::from_slice(alloc, record)?;
+    changed.push(Changed { number, bytes })?;
+    Ok(())
+}
+
+/// The image with each of the records in its place. It costs the bytes of the image.
+pub fn patch(alloc: Global, old: &[u8], changes: &Changes) -> Result<Bytes, Memory>
+    requires { list_all (lies_in old.now) changes.now ≡ true }
+    ensures { IfOk result (λ image. image ≡ patched old.now changes.now) }
+{
+    let mut image = Bytes::from_slice(alloc, old)?;
+    for changed in changes.as_slice() {
+        put(&mut image, changed);
+    }
+    Ok(image)
+}
+
+/// Puts a record in its place.
+fn put(image: &mut Bytes, changed: &Changed)
+    requires { lies_in image.old changed.now ≡ true }
+    ensures { image.new ≡ with_record image.old changed.now }
+{
+    image.overwrite(RECORD * changed.number as usize, changed.bytes.as_slice());
+}

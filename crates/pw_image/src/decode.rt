@@ -1,0 +1,106 @@
+ghost use Rattle.std.specs.Prelude.{◌≡◌, drop, take, if◌then◌else◌, bytes_eq, IfOk};
+ghost use Rattle.std.specs.Option.{option_copied};
+ghost use Rattle.pw_code.specs.declared.context.Context.{Context};
+ghost use Rattle.pw_image.specs.Format.{IsImageOf};
+ghost use Rattle.pw_image.specs.Image.{mark};
+ghost use Rattle.pw_image.specs.Counts.{seen_counts};
+ghost use Rattle.pw_image.specs.Reading.{Gives, context_at, context_in, counts_at};
+
+use crate::counts::Counts;
+use crate::fault::ImageFault;
+use crate::reading::{read_frames, read_screen, read_truth, read_u16, read_u32};
+use pw_code::context::Context;
+use std::alloc::Global;
+
+/// The numbers that begin an image, and the rest.
+#[tactic(auto, unfolding(crate::specs::Reading::counts_at))]
+fn read_counts(bytes: &[u8]) -> Result<(Counts, &[u8]), ImageFault>
+    ensures { Gives (λ x. (seen_counts x.0, x.1.now)) result (counts_at bytes.now) }
+{
+    let (termination, rest) = read_u16(bytes)?;
+    let (restarts, rest) = read_u32(rest)?;
+    let (phase, rest) = read_u32(rest)?;
+    let (attempt, rest) = read_u32(rest)?;
+    let (shown, rest) = read_u32(rest)?;
+    let (entries, rest) = read_u32(rest)?;
+    let (units, rest) = read_u32(rest)?;
+    let counts = Counts {
+        termination,
+        restarts,
+        phase,
+        attempt,
+        shown,
+        entries,
+        units,
+    };
+    Ok((counts, rest))
+}
+
+/// A context at an answer, and the rest.
+#[tactic(auto, unfolding(crate::specs::Reading::context_at))]
+fn read_context(alloc: Global, bytes: &[u8]) -> Result<(Context, &[u8]), ImageFault>
+    ensures { Gives (λ x. (x.0, x.1.now)) result (context_at bytes.now) }
+{
+    let (counts, rest) = read_counts(bytes)?;
+    let (in_unit, rest) = read_truth(rest)?;
+    let (mode, rest) = read_truth(rest)?;
+    let (screen, rest) = read_screen(alloc, rest)?;
+    let (frames, rest) = read_frames(alloc, rest)?;
+    let context = Context {
+        termination: counts.termination,
+        restarts: counts.restarts,
+        file_status: 0,
+        phase: counts.phase,
+        attempt: counts.attempt,
+        shown: counts.shown,
+        entries: counts.entries,
+        units: counts.units,
+        in_unit: in_unit == 1,
+        mode,
+        fault: 0,
+        at_verb: false,
+        count: 0,
+        screen,
+        frames,
+    };
+    Ok((context, rest))
+}
+
+/// The bytes behind the mark, if the mark is there.
+fn behind_mark(bytes: &[u8]) -> Option<&[u8]>
+    ensures { option_copied result ≡ (if bytes_eq (take 3 bytes.now) mark then Some (drop 3 bytes.now) else None) }
+{
+    match bytes {
+        [0x50, 0x57, 0x01, rest @ ..] => Some(rest),
+        _ => None,
+    }
+}
+
+/// The context that the bytes are read as.
+#[tactic(auto, unfolding(crate::specs::Reading::context_in))]
+fn read_image(alloc: Global, bytes: &[u8]) -> Result<Context, ImageFault>
+    ensures context { IfOk result (λ context. context_in bytes.now ≡ Some context) }
+    ensures bad { result ≡ Err ImageFault.Bad → context_in bytes.now ≡ None }
+{
+    let Some(rest) = behind_mark(bytes) else {
+        return Err(ImageFault::Bad);
+    };
+    let (context, rest) = read_context(alloc, rest)?;
+    if !rest.is_empty() {
+        return Err(ImageFault::Bad);
+    }
+    Ok(context)
+}
+
+/// The context that an image is of. It is `Bad` exactly where the bytes are no image; docs/IMAGE.md has the format.
+pub fn decode(alloc: Global, bytes: &[u8]) -> Result<Context, ImageFault>
+    // What is read has these bytes as its image.
+    ensures image { IfOk result (IsImageOf bytes.now) }
+    // Bytes are bad only where they are the image of no context.
+    ensures bad { result ≡ Err ImageFault.Bad → (context : Context) → ¬ IsImageOf bytes.now context }
+
+    ensures reads { IfOk result (λ context. context_in bytes.now ≡ Some context) }
+    ensures none { result ≡ Err ImageFault.Bad → context_in bytes.now ≡ None }
+{
+    read_image(alloc, bytes)
+}

@@ -1,0 +1,14 @@
+//! Checkpoint images: the bytes of a context, both ways, and the records of an image that changed.
+#![tactic(auto)]
+
+pub mod changed;
+pub mod changes;
+mod counts;
+pub mod decode;
+pub mod encode;
+pub mod fault;
+pub mod laws;
+mod reading;
+mod records;
+#[cfg(test)]
+mod tests;

@@ -1,0 +1,41 @@
+-- A terminal's path gets an answer, and its context is the one that was given that answer.
+use Rattle.std.proofs.Common.{◌≡◌, ℕ, List, [], ◌∷◌, ◌++◌, Some, refl, sym, subst, ◌∙◌}
+use Rattle.std.specs.Prelude.{slice_get}
+use Rattle.pw_code.specs.declared.context.Context.{Context}
+use Rattle.pw_code.specs.declared.system.System.{System}
+use Rattle.pw_code.specs.declared.system.TermInfo.{TermInfo}
+use Rattle.pw_event.specs.declared.script.FailLine.{FailLine}
+use Rattle.pw_exec.specs.OfSystem.{behaviour}
+use Rattle.pw_kept.specs.Changes.{at_terminal, with_context}
+use Rattle.pw_kept.specs.Kept.{Kept}
+use Rattle.pw_kept.specs.Stands.{Stands, StandsForPath, StandsForTerminal}
+use Rattle.pw_kept.proofs.Components.{ending-stays, pairs-same, some_is, tells-same, terminal-changed}
+use Rattle.pw_onecopy.specs.Path.{PathAnswer}
+use Rattle.pw_paired.specs.State.{State, Term}
+use Rattle.pw_paired.specs.Terminal.{path_of}
+use Rattle.pw_paired.specs.Units.{give_answer}
+
+pub answered : (system : System) (script : List FailLine) (state : State) (kept : Kept) (t : ℕ) (terminal : TermInfo) (answer : PathAnswer) (new : Context)
+    → Stands system script state kept → slice_get system.terminals t ≡ Some terminal → StandsForPath system terminal (path_of state t ++ answer ∷ []) new
+    → Stands system script (give_answer t answer state) (at_terminal t (with_context new) kept)
+answered system script state kept t terminal answer new stands there path = record {
+  terminals = terminal-changed system state.modes state.terms state.units kept.terminals t after (with_context new (kept.terminals t)) stands.terminals
+      (λ info here.
+      let old : StandsForTerminal system info (state.modes info.tcp) (state.terms t) (state.units t) (kept.terminals t) = stands.terminals t info here in
+      record {
+        path = subst (λ x. StandsForPath system x (path_of state t ++ answer ∷ []) new) (some_is (sym there ∙ here)) path;
+        there = λ works lives. refl;
+        start = old.start;
+        restarts = old.restarts;
+        awaits = old.awaits;
+        pending = old.pending;
+        ending = old.ending;
+      });
+  disc = tells-same (behaviour script system) state (give_answer t answer state) kept.disc refl refl refl refl refl stands.disc;
+  classes = stands.classes;
+  pairs = pairs-same system state.modes state.terms _ state.memory state.flight kept.pairs (ending-stays state.terms t after refl) stands.pairs;
+  births = stands.births;
+}
+  where
+    after : Term
+    after = record (state.terms t) { path = path_of state t ++ answer ∷ [] }

@@ -1,0 +1,13 @@
+pub mod Answered
+pub mod Applied
+pub mod Built
+pub mod Checked
+pub mod Classes
+pub mod Components
+pub mod Ending
+pub mod Raised
+pub mod Restarted
+pub mod Seats
+pub mod Served
+pub mod Settled
+pub mod UnitChanges

@@ -1,0 +1,152 @@
+-- A pair is Paired behind an entry where its memory lacks no live terminal.
+use Rattle.std.proofs.Common.{◌≡◌, ℕ, ◌<◌, ◌==◌, ◌&&◌, List, Option, Some, None, Bool, true, false, not, refl, sym, ap, ◌∙◌, length, ⊎_elim, arith, true≢false, is_some, is_none}
+use Rattle.std.specs.Prelude.{slice_get}
+use Rattle.std.specs.List.{list_any}
+use Rattle.std.proofs.lemmas.List.Elements.{All-weaker}
+use Rattle.std.proofs.lemmas.Option.{slice_get_cases, slice_get_within}
+use Rattle.std.proofs.lemmas.Bool.{eq-eqb, eqb-true}
+use Rattle.pw_code.specs.declared.system.System.{System}
+use Rattle.pw_event.specs.declared.event.Ending.{Ending}
+use Rattle.pw_event.specs.declared.script.FailLine.{FailLine}
+use Rattle.pw_exec.specs.OfSystem.{behaviour}
+use Rattle.pw_kept.specs.Stands.{StandsForHeld, StandsForPair, StandsForSeat, StandsIfAny, has_flights, mode_as, works}
+use Rattle.pw_kept.proofs.Components.{TerminalsStand, pair-of}
+use Rattle.pw_kept.proofs.Seats.{any-so, any-then}
+use Rattle.pw_pair.specs.Pairs as pair
+use Rattle.pw_pair.specs.Pairs.{SeenPair, settled}
+use Rattle.pw_pair.specs.Seats.{is_lacking, is_seat_of}
+use Rattle.pw_pair.specs.declared.backup.Held.{Held}
+use Rattle.pw_pair.specs.declared.seat.Seat.{Seat}
+use Rattle.pw_paired.specs.Failure.{is_live_of}
+use Rattle.pw_paired.specs.Raising.{lacks_one, settled_mode}
+use Rattle.pw_paired.specs.State.{Mode, Alone, Raising, Paired, Down, Gone, BackupCopy, OpenUnit, State, Term}
+use Rattle.pw_kept.specs.Kept.{KeptTerminal}
+use Rattle.pw_progress.proofs.Lacking.{any_below-some, any_below-true}
+
+-- ---- modes
+
+mode-settles : (at : Mode) (lacks : Bool) → pair.settled_mode (mode_as at) lacks ≡ mode_as (settled_mode at lacks)
+mode-settles Alone lacks = refl
+mode-settles Raising true = refl
+mode-settles Raising false = refl
+mode-settles Paired lacks = refl
+mode-settles Down lacks = refl
+mode-settles Gone lacks = refl
+
+flights-settle : (at : Mode) (lacks : Bool) → has_flights (settled_mode at lacks) ≡ has_flights at
+flights-settle Alone lacks = refl
+flights-settle Raising true = refl
+flights-settle Raising false = refl
+flights-settle Paired lacks = refl
+flights-settle Down lacks = refl
+flights-settle Gone lacks = refl
+
+pub works-settle : (at : Mode) (lacks : Bool) → works (settled_mode at lacks) ≡ works at
+works-settle Alone lacks = refl
+works-settle Raising true = refl
+works-settle Raising false = refl
+works-settle Paired lacks = refl
+works-settle Down lacks = refl
+works-settle Gone lacks = refl
+
+-- terminals stand on where a member works only if one did
+pub terminals-work : (system : System) (modes new : ℕ → Mode) (terms : ℕ → Term) (units : ℕ → Option OpenUnit) (kept : ℕ → KeptTerminal)
+    → ((p : ℕ) → works (new p) ≡ true → works (modes p) ≡ true) → TerminalsStand system modes terms units kept → TerminalsStand system new terms units kept
+terminals-work system modes new terms units kept only old t info here =
+    let o = old t info here in
+    record {
+      path = o.path;
+      there = λ works lives. o.there (only info.tcp works) lives;
+      start = o.start;
+      restarts = o.restarts;
+      awaits = o.awaits;
+      pending = o.pending;
+      ending = o.ending;
+    }
+
+-- ---- what is lacking
+
+-- a terminal is lacking on both sides
+lacking-same : (R : BackupCopy → Held → Type 0) (ending : Option Ending) (copy : Option BackupCopy) (held : Option Held) → StandsIfAny R copy held
+    → (not (is_some ending) && not (is_some held)) ≡ (is_none ending && not (is_some copy))
+lacking-same R None None None h = refl
+lacking-same R None (Some copy) (Some held) h = refl
+lacking-same R None None (Some held) h = absurd h
+lacking-same R None (Some copy) None h = absurd h
+lacking-same R (Some ending) copy held h = refl
+
+both-of : (a b c : Bool) → ((a && b) && c) ≡ true → (a ≡ true) × ((b && c) ≡ true)
+both-of true b c e = (refl, e)
+both-of false b c e = absurd (true≢false (sym e))
+
+all-of : (a b c : Bool) → a ≡ true → (b && c) ≡ true → ((a && b) && c) ≡ true
+all-of true b c a e = e
+all-of false b c a e = absurd (true≢false (sym a))
+
+same-truth : (a b : Bool) → (a ≡ true → b ≡ true) → (b ≡ true → a ≡ true) → a ≡ b
+same-truth true b there back = sym (there refl)
+same-truth false true there back = back refl
+same-truth false false there back = refl
+
+-- a place that is there is below the length
+below-length : {X : Type 0} (xs : List X) (i : ℕ) (x : X) → slice_get xs i ≡ Some x → i < length xs
+below-length xs i x e = slice_get_within xs i x e
+
+there-is : {X : Type 0} (xs : List X) (i : ℕ) → i < length xs → (x : X) × (slice_get xs i ≡ Some x)
+there-is xs i lt = ⊎_elim (λ w. (w.0, w.2)) (λ past. absurd (omega (arith, lt, past.0))) (slice_get_cases xs i).1
+
+lacks-same : (system : System) (script : List FailLine) (p : ℕ) (at : Mode) (state : State) (seen : SeenPair)
+    → StandsForPair system p at state.terms state.memory state.flight seen
+    → list_any is_lacking seen.seats ≡ lacks_one (behaviour script system) p state
+lacks-same system script p at state seen stands = same-truth (list_any is_lacking seen.seats) (lacks_one (behaviour script system) p state)
+    (any-so Stood is_lacking (lacks_one (behaviour script system) p state ≡ true) seen.seats stands.seats
+    (λ seat s lacks. any_below-true (length system.terminals) lacking seat.terminal (below-length system.terminals seat.terminal s.info s.here)
+    (all-of (own seat.terminal) (is_none (state.terms seat.terminal).ending) (not (is_some (state.memory seat.terminal)))
+    (eq-eqb _ _ (pair-of system script seat.terminal s.info s.here ∙ s.of_pair))
+    (sym (seat-lacks seat s) ∙ lacks))))
+    (λ lacks.
+    let one = any_below-some (length system.terminals) lacking lacks in
+    let parts = both-of (own one.0) (is_none (state.terms one.0).ending) (not (is_some (state.memory one.0))) one.2 in
+    let info = there-is system.terminals one.0 one.1 in
+    any-then Stood (is_seat_of one.0) is_lacking seen.seats stands.seats
+    (λ seat s is. seat-lacks seat s ∙ ap (λ t. is_none (state.terms t).ending && not (is_some (state.memory t))) (eqb-true seat.terminal one.0 is) ∙ parts.1)
+    (stands.every one.0 info.0 info.1 (sym (pair-of system script one.0 info.0 info.1) ∙ eqb-true _ _ parts.0)))
+  where
+    Stood : Seat → Type 0
+    Stood = StandsForSeat system p at state.terms state.memory state.flight
+
+    own : ℕ → Bool
+    own t = (behaviour script system).pair_of t == p
+
+    lacking : ℕ → Bool
+    lacking t = is_live_of (behaviour script system) p state t && not (is_some (state.memory t))
+
+    seat-lacks : (seat : Seat) → StandsForSeat system p at state.terms state.memory state.flight seat → is_lacking seat ≡ (is_none (state.terms seat.terminal).ending && not (is_some (state.memory seat.terminal)))
+    seat-lacks seat s =
+        ap (λ b. not b && not (is_some seat.memory)) s.dropped
+        ∙ lacking-same (StandsForHeld system s.info) (state.terms seat.terminal).ending (state.memory seat.terminal) seat.memory s.memory_is
+
+-- the pair settles with the paired system
+pub settles : (system : System) (script : List FailLine) (p : ℕ) (at : Mode) (state : State) (seen : SeenPair)
+    → StandsForPair system p at state.terms state.memory state.flight seen
+    → StandsForPair system p (settled_mode at (lacks_one (behaviour script system) p state)) state.terms state.memory state.flight (settled seen)
+settles system script p at state seen old = record {
+  mode_is =
+      ap (λ b. pair.settled_mode seen.mode b) (lacks-same system script p at state seen old)
+      ∙ ap (λ m. pair.settled_mode m lacks) old.mode_is ∙ mode-settles at lacks;
+  seats = All-weaker (StandsForSeat system p at state.terms state.memory state.flight) (StandsForSeat system p (settled_mode at lacks) state.terms state.memory state.flight)
+      (λ seat s. record {
+        info = s.info;
+        here = s.here;
+        of_pair = s.of_pair;
+        dropped = s.dropped;
+        names = s.names;
+        memory_is = s.memory_is;
+        flight_is = s.flight_is;
+        at_rest = λ calm. s.at_rest (sym (flights-settle at lacks) ∙ calm);
+      }) seen.seats old.seats;
+  every = old.every;
+}
+  where
+    lacks : Bool
+    lacks = lacks_one (behaviour script system) p state

@@ -1,0 +1,6 @@
+pub mod Cut
+pub mod Folds
+pub mod Numbers
+pub mod Runs
+pub mod Steps
+pub mod Uppers

@@ -1,0 +1,7 @@
+//! The lines of a deck, and the words, names and numbers that stand in them.
+#![tactic(auto)]
+
+pub mod line;
+#[cfg(test)]
+mod tests;
+pub mod word;

@@ -1,0 +1,12 @@
+//! A lane from a primary to its backup. The primary's end gives a receipt for each message that it sends, and the
+//! backup's end gives the receipt's message. docs/LINK.md has the rule.
+#![tactic(auto)]
+
+mod ends;
+mod rule;
+#[cfg(test)]
+mod tests;
+mod types;
+
+pub use ends::lane;
+pub use types::{BackupEnd, PrimaryEnd, Receipt};

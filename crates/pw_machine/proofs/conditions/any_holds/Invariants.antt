@@ -1,0 +1,11 @@
+-- What was found so far, with those that are left, is what all give.
+use Rattle.std.proofs.Common.{◌≡◌, Some, drop}
+use Rattle.std.specs.Prelude.{◌||◌}
+use Rattle.pw_exec.specs.Conditions.{any_holds, of_both}
+use Rattle.pw_machine.specs.Views.{registers_by}
+use Rattle.pw_machine.proofs.conditions.any_holds.Given as goal
+
+abbrev pub invariant-loop-all : goal.invariant-loop-all
+invariant-loop-all l =
+    of_both (λ a b. a || b) (Some l.holds) (any_holds (registers_by l.registers) l.storage (drop l.all-index l.lists))
+    ≡ any_holds (registers_by l.registers) l.storage l.lists

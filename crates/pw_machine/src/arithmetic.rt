@@ -1,0 +1,87 @@
+ghost use Rattle.std.specs.Prelude.{◌≡◌, ℕ, ◌≤◌, ◌<◌, ◌+◌, ◌^◌, Some, None, length, unsigned_abs, if◌then◌else◌};
+ghost use Rattle.std.specs.Bool.{OnFalse};
+ghost use Rattle.pw_code.specs.Places.{picture_of};
+ghost use Rattle.pw_exec.specs.Moves.{operated, places_of, stored_in, stored_by};
+ghost use Rattle.pw_machine.specs.Views.{spot_by, IsSpot};
+
+use crate::spot::Spot;
+use pw_code::instr::Operation;
+use pw_code::place::Kind;
+use pw_number::scaled::Scaled;
+use pw_number::size_error::SizeError;
+use pw_picture::picture::Picture;
+
+/// The result of an operation of the first operand on the second. A quotient has these places.
+fn operated(
+    operation: Operation,
+    places: u8,
+    first: Scaled,
+    second: Scaled,
+) -> Result<Scaled, SizeError>
+    requires places { places ≤ 18 }
+    requires first { unsigned_abs first.units < 10 ^ 18 }
+    requires second { unsigned_abs second.units < 10 ^ 18 }
+    ensures { result ≡ operated operation places first second }
+{
+    match operation {
+        Operation::Add => second.add(first),
+        Operation::Subtract => second.subtract(first),
+        Operation::Multiply => second.multiply(first),
+        Operation::Divide => second.divide(first, places),
+    }
+}
+
+/// The places of a receiver.
+fn places_of(kind: Kind) -> u8
+    ensures { (size : ℕ) → result ≡ places_of (picture_of kind size) }
+{
+    match kind {
+        Kind::Number { places, .. } => places,
+        _ => 0,
+    }
+}
+
+/// Stores a number in a spot, or says that it is a size error, which leaves all as it is.
+fn stored_by(storage: &mut [u8], spot: Spot, value: Scaled) -> bool
+    requires { IsSpot (length storage.old) spot }
+    ensures stored { (if result then Some storage.new else None) ≡ stored_by (picture_of spot.kind spot.size) (spot_by spot) value storage.old }
+    ensures same { OnFalse result (storage.new ≡ storage.old) }
+{
+    match spot.kind {
+        Kind::Number {
+            digits,
+            places,
+            signed,
+        } => {
+            let picture = Picture::Number {
+                digits,
+                places,
+                signed,
+            };
+            let into = &mut storage[spot.at..spot.at + spot.size];
+            picture.store(value, into).is_ok()
+        }
+        _ => false,
+    }
+}
+
+/// Does an operation, whose result a spot receives, or says that it is a size error, which leaves all as it is.
+pub fn computed(
+    storage: &mut [u8],
+    operation: Operation,
+    first: Scaled,
+    second: Scaled,
+    receiver: Spot,
+) -> bool
+    requires spot { IsSpot (length storage.old) receiver }
+    requires first { unsigned_abs first.units < 10 ^ 18 }
+    requires second { unsigned_abs second.units < 10 ^ 18 }
+    ensures stored { (if result then Some storage.new else None)
+        ≡ stored_in (spot_by receiver) (operated operation (places_of (picture_of receiver.kind receiver.size)) first second) storage.old }
+    ensures same { OnFalse result (storage.new ≡ storage.old) }
+{
+    match operated(operation, places_of(receiver.kind), first, second) {
+        Ok(value) => stored_by(storage, receiver, value),
+        Err(_) => false,
+    }
+}

@@ -1,0 +1,106 @@
+ghost use Rattle.std.specs.Prelude.{◌≡◌, ◌≤◌, ◌<◌, ◌+◌, ◌&&◌, ◌||◌, List, ℕ, length};
+ghost use Rattle.pw_code.specs.Places.{IsOperand};
+ghost use Rattle.pw_exec.specs.Conditions.{are_numbers, is_zeros, compared, text_order, beside};
+ghost use Rattle.pw_exec.specs.Reading.{value_in};
+ghost use Rattle.pw_exec.specs.Values.{is_number};
+ghost use Rattle.pw_machine.specs.Beside.{fill_of, char_beside, size_beside};
+ghost use Rattle.pw_machine.specs.Views.{taken_by, IsTaken};
+
+use crate::spot::Taken;
+use crate::texts::{text_char, text_len};
+use crate::value::number_of;
+use pw_code::operand::Operand;
+use pw_code::place::Kind;
+use std::cmp::Ordering;
+
+/// SPACES and ZEROS fill: the character that fills.
+pub fn fill_of(operand: &Operand, found: Taken) -> Option<u8>
+    ensures { (storage : List ℕ) → result ≡ fill_of (value_in storage (taken_by operand.now found)) }
+{
+    match found {
+        Taken::Fixed => match operand {
+            Operand::Number { .. } | Operand::Text(_) => None,
+            Operand::Zeros => Some(b'0'),
+            _ => Some(b' '),
+        },
+        _ => None,
+    }
+}
+
+/// The character at a place of an operand beside another.
+fn char_beside(storage: &[u8], operand: &Operand, found: Taken, place: usize) -> u8
+    requires { IsTaken (length storage.now) found }
+    ensures { result ≡ char_beside (value_in storage.now (taken_by operand.now found)) place }
+{
+    match fill_of(operand, found) {
+        Some(fill) => fill,
+        None => text_char(storage, operand, found, place),
+    }
+}
+
+/// As many characters as two operands have beside each other.
+fn size_beside(storage: &[u8], left: &Operand, a: Taken, right: &Operand, b: Taken) -> usize
+    requires left { IsTaken (length storage.now) a }
+    requires right { IsTaken (length storage.now) b }
+    ensures { result ≡ size_beside (value_in storage.now (taken_by left.now a)) (value_in storage.now (taken_by right.now b)) }
+{
+    match (fill_of(left, a), fill_of(right, b)) {
+        (None, None) => text_len(storage, left, a).max(text_len(storage, right, b)),
+        (None, Some(_)) => text_len(storage, left, a),
+        (Some(_), None) => text_len(storage, right, b),
+        (Some(_), Some(_)) => 1,
+    }
+}
+
+/// How two operands compare as texts, by their bytes.
+fn text_order(storage: &[u8], left: &Operand, a: Taken, right: &Operand, b: Taken) -> Ordering
+    requires left { IsTaken (length storage.now) a }
+    requires right { IsTaken (length storage.now) b }
+    ensures { let one = value_in storage.now (taken_by left.now a) in let two = value_in storage.now (taken_by right.now b) in
+        result ≡ text_order (beside one two) (beside two one) }
+{
+    let size = size_beside(storage, left, a, right, b);
+    for place in 0..size {
+        let one = char_beside(storage, left, a, place);
+        let two = char_beside(storage, right, b, place);
+        if one != two {
+            return one.cmp(&two);
+        }
+    }
+    Ordering::Equal
+}
+
+/// Whether an operand is a number.
+fn is_number(operand: &Operand, found: Taken) -> bool
+    ensures { (storage : List ℕ) → result ≡ is_number (value_in storage (taken_by operand.now found)) }
+{
+    match found {
+        Taken::Stored(spot) => matches!(spot.kind, Kind::Number { .. }),
+        Taken::Register { .. } => true,
+        Taken::Fixed => matches!(operand, Operand::Number { .. }),
+    }
+}
+
+/// Whether an operand is ZEROS.
+fn is_zeros(operand: &Operand, found: Taken) -> bool
+    ensures { (storage : List ℕ) → result ≡ is_zeros (value_in storage (taken_by operand.now found)) }
+{
+    fill_of(operand, found) == Some(b'0')
+}
+
+/// How two operands compare: numbers by value, all else as texts.
+pub fn compared(storage: &[u8], left: &Operand, a: Taken, right: &Operand, b: Taken) -> Ordering
+    requires left { IsTaken (length storage.now) a }
+    requires right { IsTaken (length storage.now) b }
+    requires one { IsOperand (length storage.now) left.now }
+    requires two { IsOperand (length storage.now) right.now }
+    ensures { result ≡ compared (value_in storage.now (taken_by left.now a)) (value_in storage.now (taken_by right.now b)) }
+{
+    let numbers = (is_number(left, a) && (is_number(right, b) || is_zeros(right, b)))
+        || (is_zeros(left, a) && is_number(right, b));
+    if numbers {
+        number_of(storage, left, a).compare(&number_of(storage, right, b))
+    } else {
+        text_order(storage, left, a, right, b)
+    }
+}

@@ -1,0 +1,133 @@
+ghost use Rattle.std.specs.Prelude.{◌≡◌, ◌≤◌, ◌<◌, Some, length, All, List, ℕ};
+ghost use Rattle.std.specs.Char.{is_ascii_digit};
+ghost use Rattle.std.specs.List.{list_all};
+ghost use Rattle.pw_code.specs.Places.{IsOperand, IsComparison, IsCond, picture_of};
+ghost use Rattle.pw_exec.specs.Conditions.{holds_by, is_numeric, is_numeric_item, are_signed_digits, comparison_holds, all_hold, any_holds, holds};
+ghost use Rattle.pw_exec.specs.Reading.{value_in};
+ghost use Rattle.pw_machine.specs.Views.{registers_by, taken_by, IsTaken};
+
+use crate::compare::compared;
+use crate::numbers::chars_at;
+use crate::reading::taken;
+use crate::registers::Registers;
+use crate::spot::Taken;
+use pw_base::list::List;
+use pw_code::cond::{Comparison, Cond, Operator};
+use pw_code::operand::Operand;
+use pw_code::place::Kind;
+use std::cmp::Ordering;
+
+/// Whether a comparison holds by this operator.
+fn holds_by(operator: Operator, found: Ordering) -> bool
+    ensures { result ≡ holds_by operator found }
+{
+    match operator {
+        Operator::Equal => found.is_eq(),
+        Operator::Less => found.is_lt(),
+        Operator::Greater => found.is_gt(),
+        Operator::LessEqual => found.is_le(),
+        Operator::GreaterEqual => found.is_ge(),
+    }
+}
+
+/// Whether all characters are digits.
+fn are_digits(chars: &[u8]) -> bool
+    ensures { result ≡ list_all is_ascii_digit chars.now }
+{
+    chars.iter().all(|char| char.is_ascii_digit())
+}
+
+/// Whether the characters are digits behind a sign.
+fn are_signed_digits(chars: &[u8]) -> bool
+    ensures { result ≡ are_signed_digits chars.now }
+{
+    match chars {
+        [] => false,
+        [sign, digits @ ..] => (*sign == b'+' || *sign == b'-') && are_digits(digits),
+    }
+}
+
+/// Whether an item's characters are numeric.
+fn is_numeric_item(kind: Kind, chars: &[u8]) -> bool
+    ensures { (size : ℕ) → result ≡ is_numeric_item (picture_of kind size) chars.now }
+{
+    match kind {
+        Kind::Number { signed: true, .. } => are_signed_digits(chars),
+        _ => are_digits(chars),
+    }
+}
+
+/// Whether an operand is numeric.
+fn is_numeric(storage: &[u8], operand: &Operand, found: Taken) -> bool
+    requires { IsTaken (length storage.now) found }
+    ensures { result ≡ is_numeric (value_in storage.now (taken_by operand.now found)) }
+{
+    match found {
+        Taken::Stored(spot) => is_numeric_item(spot.kind, chars_at(storage, spot.at, spot.size)),
+        Taken::Register { .. } => true,
+        Taken::Fixed => match operand {
+            Operand::Number { .. } | Operand::Zeros => true,
+            Operand::Text(chars) => are_digits(chars.as_slice()),
+            _ => false,
+        },
+    }
+}
+
+/// Whether a comparison holds at this moment, None exactly where a subscript is outside.
+fn comparison_holds(registers: Registers, storage: &[u8], one: &Comparison) -> Option<bool>
+    requires { IsComparison (length storage.now) one.now }
+    ensures { result ≡ comparison_holds (registers_by registers) storage.now one.now }
+{
+    match one {
+        Comparison::Compare {
+            left,
+            negated,
+            operator,
+            right,
+        } => {
+            let a = taken(registers, storage, left)?;
+            let b = taken(registers, storage, right)?;
+            let found = compared(storage, left, a, right, b);
+            Some(holds_by(*operator, found) != *negated)
+        }
+        Comparison::Numeric { operand, negated } => {
+            let a = taken(registers, storage, operand)?;
+            Some(is_numeric(storage, operand, a) != *negated)
+        }
+    }
+}
+
+/// Whether each of the comparisons holds, None exactly where a subscript is outside. All of them are read,
+/// whatever one gives.
+fn all_hold(registers: Registers, storage: &[u8], all: &[Comparison]) -> Option<bool>
+    requires { All (IsComparison (length storage.now)) all.now }
+    ensures { result ≡ all_hold (registers_by registers) storage.now all.now }
+{
+    let mut holds = true;
+    for one in all {
+        let found = comparison_holds(registers, storage, one)?;
+        holds = holds && found;
+    }
+    Some(holds)
+}
+
+/// Whether in one of the lists each comparison holds, None exactly where a subscript is outside.
+fn any_holds(registers: Registers, storage: &[u8], lists: &[List<Comparison>]) -> Option<bool>
+    requires { All (All (IsComparison (length storage.now))) lists.now }
+    ensures { result ≡ any_holds (registers_by registers) storage.now lists.now }
+{
+    let mut holds = false;
+    for all in lists {
+        let found = all_hold(registers, storage, all.as_slice())?;
+        holds = holds || found;
+    }
+    Some(holds)
+}
+
+/// Whether a condition holds at this moment, None exactly where a subscript is outside.
+pub fn holds(registers: Registers, storage: &[u8], cond: &Cond) -> Option<bool>
+    requires { IsCond (length storage.now) cond.now }
+    ensures { result ≡ holds (registers_by registers) storage.now cond.now }
+{
+    any_holds(registers, storage, cond.any.as_slice())
+}

@@ -1,0 +1,97 @@
+ghost use Rattle.std.specs.Prelude.{◌≡◌, ◌≤◌, ◌<◌, ◌+◌, ◌-◌, ◌*◌, ◌^◌, Some, None, length, take, drop, unsigned_abs, IfSome, option_map, if◌then◌else◌};
+ghost use Rattle.pw_picture.specs.Stored.{read_of};
+ghost use Rattle.pw_code.specs.Places.{HasDigits, IsSubscript, IsTableAt, IsPlace, IsOperand};
+ghost use Rattle.pw_code.specs.Instrs.{digits_of_register};
+ghost use Rattle.pw_code.specs.declared.operand.Operand.{Operand};
+ghost use Rattle.pw_exec.specs.Reading.{Fixed, register_value, subscript_of, occurrence_at, at_this_moment, spot_of, taken};
+ghost use Rattle.pw_exec.specs.Values as values;
+ghost use Rattle.pw_machine.specs.Views.{registers_by, spot_by, taken_by, IsSpot, IsTaken};
+
+use crate::numbers::{chars_at, digits_in, whole_part};
+use crate::registers::Registers;
+use crate::spot::{Spot, Taken};
+use pw_code::operand::Operand;
+use pw_code::place::{Place, Register, Subscript, Table};
+
+/// The value of a subscript.
+fn subscript_of(registers: Registers, storage: &[u8], subscript: Subscript) -> u128
+    requires { IsSubscript (length storage.now) subscript }
+    ensures { result ≡ subscript_of (registers_by registers) storage.now subscript }
+{
+    match subscript {
+        Subscript::Number(number) => number as u128,
+        Subscript::Item { at, digits, places } => {
+            let chars = chars_at(storage, at as usize, digits as usize);
+            whole_part(digits_in(chars, places))
+        }
+        Subscript::Register(register) => registers.value(register) as u128,
+    }
+}
+
+/// Where the k-th occurrence of an item begins, None exactly outside 1 to OCCURS.
+fn occurrence_at(at: usize, table: Table, k: u128) -> Option<usize>
+    requires { at + (table.occurs - 1) * table.step < 2 ^ 63 }
+    ensures { result ≡ occurrence_at at table k }
+{
+    if k >= 1 && k <= table.occurs as u128 {
+        Some(at + (k as usize - 1) * table.step as usize)
+    } else {
+        None
+    }
+}
+
+/// Where the occurrence begins that is meant at this moment.
+fn at_this_moment(registers: Registers, storage: &[u8], place: Place) -> Option<usize>
+    requires { IsPlace (length storage.now) place }
+    ensures at { result ≡ at_this_moment (registers_by registers) storage.now place.at place.table }
+    ensures inside { IfSome result (λ at. at + place.size ≤ length storage.now) }
+{
+    match place.table {
+        None => Some(place.at as usize),
+        Some(table) => {
+            let k = subscript_of(registers, storage, table.subscript);
+            occurrence_at(place.at as usize, table, k)
+        }
+    }
+}
+
+/// The spot of a place, None exactly where its subscript is outside.
+pub fn spot_of(registers: Registers, storage: &[u8], place: Place) -> Option<Spot>
+    requires { IsPlace (length storage.now) place }
+    ensures spot { option_map spot_by result ≡ spot_of (registers_by registers) storage.now place }
+    ensures inside { IfSome result (IsSpot (length storage.now)) }
+{
+    let at = at_this_moment(registers, storage, place)?;
+    Some(Spot {
+        at,
+        size: place.size as usize,
+        kind: place.kind,
+    })
+}
+
+/// A register as it is read.
+fn register_taken(registers: Registers, register: Register) -> Taken
+    ensures taken { (one : Operand) → taken_by one result ≡ Fixed (values.Register (digits_of_register register) (register_value (registers_by registers) register)) }
+    ensures few { IsTaken 0 result }
+{
+    Taken::Register {
+        digits: match register {
+            Register::Restarts => 5,
+            _ => 4,
+        },
+        value: registers.value(register),
+    }
+}
+
+/// An operand at this moment, None exactly where its subscript is outside.
+pub fn taken(registers: Registers, storage: &[u8], operand: &Operand) -> Option<Taken>
+    requires { IsOperand (length storage.now) operand.now }
+    ensures taken { option_map (taken_by operand.now) result ≡ taken (registers_by registers) storage.now operand.now }
+    ensures inside { IfSome result (IsTaken (length storage.now)) }
+{
+    match operand {
+        Operand::Item(place) => Some(Taken::Stored(spot_of(registers, storage, *place)?)),
+        Operand::Register(register) => Some(register_taken(registers, *register)),
+        _ => Some(Taken::Fixed),
+    }
+}

@@ -1,0 +1,92 @@
+ghost use Rattle.std.specs.Prelude.{◌≡◌, ◌≢◌, true, ◌≤◌, ◌+◌, Some, None, [], ◌∷◌, map, length, All, IfOk, IfSome, option_map, if◌then◌else◌};
+ghost use Rattle.std.specs.Bool.{OnFalse};
+ghost use Rattle.pw_code.specs.Places.{IsOperand, IsPlace};
+ghost use Rattle.pw_exec.specs.Moves.{moves};
+ghost use Rattle.pw_exec.specs.Reading.{spots_of};
+ghost use Rattle.pw_code.specs.Instrs.{IsArithmetic};
+ghost use Rattle.pw_machine.specs.Statements.{moved_all, computed_all};
+ghost use Rattle.pw_machine.specs.Views.{registers_by, spot_by, taken_by, IsSpot, IsTaken};
+
+use crate::arithmetic::computed;
+use crate::moves::move_value;
+use crate::reading::{spot_of, taken};
+use crate::registers::Registers;
+use crate::spot::{Spot, Taken};
+use crate::value::number_of;
+use pw_base::memory::Memory;
+use pw_code::instr::Arithmetic;
+use pw_code::operand::Operand;
+use pw_code::place::Place;
+use std::alloc::Global;
+
+/// The spots of places, None exactly where the subscript of one is outside.
+fn spots_of(
+    alloc: Global,
+    registers: Registers,
+    storage: &[u8],
+    places: &[Place],
+) -> Result<Option<Vec<Spot>>, Memory>
+    requires { All (IsPlace (length storage.now)) places.now }
+    ensures spots { IfOk result (λ found. option_map (λ spots. map spot_by spots.items) found ≡ spots_of (registers_by registers) storage.now places.now) }
+    ensures inside { IfOk result (λ found. IfSome found (λ spots. All (IsSpot (length storage.now)) spots.items)) }
+{
+    let mut spots = Vec::new(alloc);
+    for place in places {
+        let Some(spot) = spot_of(registers, storage, *place) else {
+            return Ok(None);
+        };
+        spots.push(spot)?;
+    }
+    Ok(Some(spots))
+}
+
+/// Moves to each of the spots, from left to right.
+fn move_to_each(storage: &mut [u8], from: &Operand, source: Taken, targets: &[Spot])
+    requires operand { IsOperand (length storage.old) from.now }
+    requires source { IsTaken (length storage.old) source }
+    requires targets { All (IsSpot (length storage.old)) targets.now }
+    ensures { storage.new ≡ moves (taken_by from.now source) (map spot_by targets.now) storage.old }
+{
+    for target in targets {
+        move_value(storage, from, source, *target);
+    }
+}
+
+/// MOVE: the source and all the targets are taken first. It is false exactly where a subscript is outside, and then
+/// nothing is moved. It takes memory only for more than one target.
+pub fn move_all(
+    alloc: Global,
+    registers: Registers,
+    storage: &mut [u8],
+    from: &Operand,
+    to: &[Place],
+) -> Result<bool, Memory>
+    requires from { IsOperand (length storage.old) from.now }
+    requires to { All (IsPlace (length storage.old)) to.now }
+    ensures moved { IfOk result (λ done. (if done then Some storage.new else None) ≡ moved_all (registers_by registers) storage.old from.now to.now) }
+    ensures same { IfOk result (λ done. OnFalse done (storage.new ≡ storage.old)) }
+{
+    let Some(source) = taken(registers, storage, from) else {
+        return Ok(false);
+    };
+    let Some(targets) = spots_of(alloc, registers, storage, to)? else {
+        return Ok(false);
+    };
+    move_to_each(storage, from, source, targets.as_slice());
+    Ok(true)
+}
+
+/// Arithmetic: both operands and the receiver are taken first, None exactly where a subscript is outside. It is
+/// false on a size error. Nothing is stored then.
+pub fn compute(registers: Registers, storage: &mut [u8], arithmetic: &Arithmetic) -> Option<bool>
+    requires { IsArithmetic (length storage.old) arithmetic.now }
+    ensures stored { option_map (λ done. (if done then Some storage.new else None)) result ≡ computed_all (registers_by registers) storage.old arithmetic.now }
+    ensures same { result ≢ Some true → storage.new ≡ storage.old }
+{
+    let first = taken(registers, storage, &arithmetic.first)?;
+    let second = taken(registers, storage, &arithmetic.second)?;
+    let receiver = spot_of(registers, storage, arithmetic.receiver)?;
+    let one = number_of(storage, &arithmetic.first, first);
+    let two = number_of(storage, &arithmetic.second, second);
+    Some(computed(storage, arithmetic.operation, one, two, receiver))
+}

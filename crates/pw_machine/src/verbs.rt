@@ -1,0 +1,51 @@
+ghost use Rattle.std.specs.Prelude.{◌≡◌, ◌≤◌, ◌<◌, ◌+◌, ◌^◌, true, nat_lt, length, if◌then◌else◌};
+ghost use Rattle.pw_exec.specs.Calls as programs;
+ghost use Rattle.pw_exec.specs.Config as config;
+ghost use Rattle.pw_machine.specs.Config.{config_of};
+
+use crate::top::Top;
+use crate::turns::fault;
+use pw_code::context::Context;
+use pw_code::system::System;
+
+/// Stands at its next verb.
+pub fn ask(context: &mut Context)
+    ensures { context.new ≡ record context.old { at_verb = true } }
+{
+    context.at_verb = true;
+}
+
+/// BEGIN-TRANSACTION, which in a transaction is NESTED.
+pub fn begin(context: &mut Context)
+    ensures { context.new ≡ (if context.old.in_unit then record context.old { fault = 205; at_verb = true } else record context.old { at_verb = true }) }
+{
+    if context.in_unit {
+        fault(context, 205);
+    } else {
+        ask(context);
+    }
+}
+
+/// END-, ABORT- and RESTART-TRANSACTION, each of which outside a transaction is NOUNIT.
+pub fn ask_in_unit(context: &mut Context)
+    ensures { context.new ≡ (if context.old.in_unit then record context.old { at_verb = true } else record context.old { fault = 206; at_verb = true }) }
+{
+    if context.in_unit {
+        ask(context);
+    } else {
+        fault(context, 206);
+    }
+}
+
+/// STOP RUN, and the end of a program that no other called: in a server NOREPLY, in a transaction OPENUNIT.
+pub fn stop(system: &System, top: &Top, context: &mut Context)
+    ensures { config_of top.now context.new ≡ programs.stops system.now (config_of top.now context.old) }
+{
+    if top.program as usize >= system.programs.len() {
+        fault(context, 209);
+    } else if context.in_unit {
+        fault(context, 207);
+    } else {
+        ask(context);
+    }
+}

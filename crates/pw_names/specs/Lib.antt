@@ -1,0 +1,10 @@
+pub mod Index
+pub mod Exact
+pub mod Flaws
+pub mod Calls
+pub mod Outer
+pub mod Wants
+pub mod Lines
+pub mod Order
+pub mod Faults
+pub mod Names

@@ -1,0 +1,20 @@
+//! The names of a deck's programs: whether each stands for something, whether each operand has its
+//! kind and length, and whether each CALL fits the program that it calls.
+#![tactic(auto)]
+
+mod calls;
+mod forms;
+mod index;
+mod known;
+pub mod laws;
+pub mod names;
+mod operands;
+mod outside;
+#[cfg(test)]
+mod rows;
+mod scope;
+mod statements;
+#[cfg(test)]
+mod tests;
+mod verbs;
+mod wanted;

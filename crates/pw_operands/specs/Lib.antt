@@ -1,0 +1,4 @@
+pub mod Variables
+pub mod Scope
+pub mod Uses
+pub mod Resolved

@@ -1,0 +1,6 @@
+pub mod Adding
+pub mod At
+pub mod Images
+pub mod Moving
+pub mod Room
+pub mod Sound

@@ -1,0 +1,30 @@
+-- The seat at the terminal's place is changed, and the others stay.
+use Rattle.std.proofs.Common.{◌≡◌, refl, sym, ap, true, cond, ◌+◌, ◌-◌, ◌∙◌, arith}
+use Rattle.pw_pair.specs.Seats.{applied, is_built, is_lacking, is_sound}
+use Rattle.pw_pair.proofs.Sound.{applied-sound, built-whole}
+use Rattle.pw_pair.proofs.At.{changed-seat, default-at, kept-seat, seat-passes, seat-sound, within-at}
+use Rattle.pw_pair.proofs.seats.Seats.apply.Goals as goal
+
+pub returns-in_default : goal.returns-in_default
+returns-in_default c = default-at c.self.inside.places c.self.inside.seats.items c.args.self.now c.args.terminal c.self.view_is c.self.invariant.places_are applied (sym c.get.ensures.value ∙ sym c.copied.ensures ∙ c.in_default.is)
+
+pub index_mut-seat-requires : goal.index_mut-seat-requires
+index_mut-seat-requires c = let lt = within-at c.self.inside.places c.self.inside.seats.items c.args.self.now c.args.terminal c.self.view_is c.self.invariant.places_are c.in-Some.place (sym c.get.ensures.value ∙ sym c.copied.ensures ∙ c.in-Some.is) in omega (arith, lt, c.self.inside.seats.ok.0)
+
+pub apply-requires : goal.apply-requires
+apply-requires c =
+    built-whole c.index_mut-seat.result.now
+    (seat-sound c.self.inside.places c.self.inside.seats.items c.args.self.now c.args.terminal c.self.view_is c.self.invariant.places_are c.in-Some.place (sym c.get.ensures.value ∙ sym c.copied.ensures ∙ c.in-Some.is) c.index_mut-seat.result.now c.index_mut-seat.ensures.value c.self.inside.lacking c.self.invariant)
+    (seat-passes c.self.inside.places c.self.inside.seats.items c.args.self.now c.args.terminal c.self.view_is c.self.invariant.places_are c.in-Some.place (sym c.get.ensures.value ∙ sym c.copied.ensures ∙ c.in-Some.is) c.index_mut-seat.result.now c.index_mut-seat.ensures.value is_built c.requires)
+
+pub invariant_of-self : goal.invariant_of-self
+invariant_of-self c =
+    kept-seat c.self.inside.places c.self.inside.seats.items c.args.self.now c.args.terminal c.self.view_is c.self.invariant.places_are c.in-Some.place (sym c.get.ensures.value ∙ sym c.copied.ensures ∙ c.in-Some.is) c.index_mut-seat.result.now c.index_mut-seat.ensures.value
+    c.self.inside.lacking _ c.apply.new.self c.self.invariant (ap (λ s. s.terminal) c.apply.ensures)
+    (λ h. ap is_sound c.apply.ensures ∙ applied-sound c.index_mut-seat.result.now h)
+    (c.recount-self-inside.ensures ∙ ap (λ b. c.self.inside.lacking + cond b 1 0 - cond c.is_lacking-before.result 1 0) c.is_lacking-after.ensures ∙ ap (λ b. c.self.inside.lacking + cond (is_lacking c.apply.new.self) 1 0 - cond b 1 0) c.is_lacking-before.ensures)
+
+pub returns : goal.returns
+returns c =
+    changed-seat c.self.inside.places c.self.inside.seats.items c.args.self.now c.args.terminal c.self.view_is c.self.invariant.places_are c.in-Some.place (sym c.get.ensures.value ∙ sym c.copied.ensures ∙ c.in-Some.is) c.index_mut-seat.result.now c.index_mut-seat.ensures.value
+    applied c.apply.new.self c.apply.ensures

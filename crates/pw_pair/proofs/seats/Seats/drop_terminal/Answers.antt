@@ -1,0 +1,23 @@
+-- The seat at the terminal's place is changed, and the others stay.
+use Rattle.std.proofs.Common.{◌≡◌, refl, sym, ap, true, cond, ◌+◌, ◌-◌, ◌∙◌, arith}
+use Rattle.pw_pair.specs.Seats.{dropped, is_lacking, is_sound}
+use Rattle.pw_pair.proofs.At.{changed-seat, default-at, kept-seat, seat-has, seat-terminal, within-at}
+use Rattle.pw_pair.proofs.seats.Seats.drop_terminal.Goals as goal
+
+pub returns-in_default : goal.returns-in_default
+returns-in_default c = default-at c.self.inside.places c.self.inside.seats.items c.args.self.now c.args.terminal c.self.view_is c.self.invariant.places_are dropped (sym c.get.ensures.value ∙ sym c.copied.ensures ∙ c.in_default.is)
+
+pub index_mut-seat-requires : goal.index_mut-seat-requires
+index_mut-seat-requires c = let lt = within-at c.self.inside.places c.self.inside.seats.items c.args.self.now c.args.terminal c.self.view_is c.self.invariant.places_are c.in-Some.place (sym c.get.ensures.value ∙ sym c.copied.ensures ∙ c.in-Some.is) in omega (arith, lt, c.self.inside.seats.ok.0)
+
+pub invariant_of-self : goal.invariant_of-self
+invariant_of-self c =
+    kept-seat c.self.inside.places c.self.inside.seats.items c.args.self.now c.args.terminal c.self.view_is c.self.invariant.places_are c.in-Some.place (sym c.get.ensures.value ∙ sym c.copied.ensures ∙ c.in-Some.is) c.index_mut-seat.result.now c.index_mut-seat.ensures.value
+    c.self.inside.lacking _ c.drop_terminal.new.self c.self.invariant (ap (λ s. s.terminal) c.drop_terminal.ensures)
+    (λ h. ap is_sound c.drop_terminal.ensures)
+    (c.recount-self-inside.ensures ∙ ap (λ b. c.self.inside.lacking + cond b 1 0 - cond c.is_lacking-before.result 1 0) c.is_lacking-after.ensures ∙ ap (λ b. c.self.inside.lacking + cond (is_lacking c.drop_terminal.new.self) 1 0 - cond b 1 0) c.is_lacking-before.ensures)
+
+pub returns : goal.returns
+returns c =
+    changed-seat c.self.inside.places c.self.inside.seats.items c.args.self.now c.args.terminal c.self.view_is c.self.invariant.places_are c.in-Some.place (sym c.get.ensures.value ∙ sym c.copied.ensures ∙ c.in-Some.is) c.index_mut-seat.result.now c.index_mut-seat.ensures.value
+    dropped c.drop_terminal.new.self c.drop_terminal.ensures

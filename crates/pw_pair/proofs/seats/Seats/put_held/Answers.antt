@@ -1,0 +1,31 @@
+-- The seat at the terminal's place is changed, and the others stay.
+use Rattle.std.proofs.Common.{◌≡◌, refl, sym, ap, true, cond, ◌+◌, ◌-◌, ◌∙◌, arith}
+use Rattle.pw_pair.specs.Seats.{is_lacking, is_sound, with_held}
+use Rattle.pw_pair.proofs.Sound.{held-sound}
+use Rattle.pw_pair.specs.Rooms.{is_used}
+use Rattle.pw_pair.proofs.At.{changed-seat, default-at, kept-seat, one-more, seat-has, seat-terminal, within-at}
+use Rattle.pw_pair.proofs.seats.Seats.put_held.Goals as goal
+
+pub returns-in_default-clause-seats : goal.returns-in_default-clause-seats
+returns-in_default-clause-seats c = default-at c.self.inside.places c.self.inside.seats.items c.args.self.now c.args.held.terminal c.self.view_is c.self.invariant.places_are (with_held c.args.held) (sym c.get.ensures.value ∙ sym c.copied.ensures ∙ c.in_default.is)
+
+pub index_mut-seat-requires : goal.index_mut-seat-requires
+index_mut-seat-requires c = let lt = within-at c.self.inside.places c.self.inside.seats.items c.args.self.now c.args.held.terminal c.self.view_is c.self.invariant.places_are c.in-Some.place (sym c.get.ensures.value ∙ sym c.copied.ensures ∙ c.in-Some.is) in omega (arith, lt, c.self.inside.seats.ok.0)
+
+pub invariant_of-self : goal.invariant_of-self
+invariant_of-self c =
+    kept-seat c.self.inside.places c.self.inside.seats.items c.args.self.now c.args.held.terminal c.self.view_is c.self.invariant.places_are c.in-Some.place (sym c.get.ensures.value ∙ sym c.copied.ensures ∙ c.in-Some.is) c.index_mut-seat.result.now c.index_mut-seat.ensures.value
+    c.self.inside.lacking _ c.put_held.new.self c.self.invariant (ap (λ s. s.terminal) c.put_held.ensures)
+    (λ h. ap is_sound c.put_held.ensures ∙ held-sound c.args.held c.index_mut-seat.result.now (sym (seat-terminal c.self.inside.places c.self.inside.seats.items c.args.self.now c.args.held.terminal c.self.view_is c.self.invariant.places_are c.in-Some.place (sym c.get.ensures.value ∙ sym c.copied.ensures ∙ c.in-Some.is) c.index_mut-seat.result.now c.index_mut-seat.ensures.value)) c.requires)
+    (c.recount-self-inside.ensures ∙ ap (λ b. c.self.inside.lacking + cond b 1 0 - cond c.is_lacking-before.result 1 0) c.is_lacking-after.ensures ∙ ap (λ b. c.self.inside.lacking + cond (is_lacking c.put_held.new.self) 1 0 - cond b 1 0) c.is_lacking-before.ensures)
+
+pub returns-clause-seats : goal.returns-clause-seats
+returns-clause-seats c =
+    changed-seat c.self.inside.places c.self.inside.seats.items c.args.self.now c.args.held.terminal c.self.view_is c.self.invariant.places_are c.in-Some.place (sym c.get.ensures.value ∙ sym c.copied.ensures ∙ c.in-Some.is) c.index_mut-seat.result.now c.index_mut-seat.ensures.value
+    (with_held c.args.held) c.put_held.new.self c.put_held.ensures
+
+pub returns-clause-used : goal.returns-clause-used
+returns-clause-used c =
+    let lt = within-at c.self.inside.places c.self.inside.seats.items c.args.self.now c.args.held.terminal c.self.view_is c.self.invariant.places_are
+    c.in-Some.place (sym c.get.ensures.value ∙ sym c.copied.ensures ∙ c.in-Some.is) in
+    one-more is_used c.self.inside.seats.items c.args.self.now c.in-Some.place c.index_mut-seat.result.now c.put_held.new.self c.self.view_is lt

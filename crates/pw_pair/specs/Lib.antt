@@ -1,0 +1,6 @@
+pub mod Bodies
+pub mod Pairs
+pub mod Places
+pub mod Rooms
+pub mod Seats
+pub mod Takeover

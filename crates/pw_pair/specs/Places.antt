@@ -1,0 +1,26 @@
+-- Where the seat of each terminal is.
+use Rattle.std.specs.Prelude.{◌≡◌, ℕ, ◌<◌, ◌^◌, ◌+◌, ◌-◌, true, List, map, length, slice_index, count_by, Some, if◌then◌else◌, Bool}
+use Rattle.std.specs.BTreeMap.{BTreeMap, get}
+use Rattle.std.specs.List.{list_all}
+use Rattle.std.specs.Ordering.{nat_cmp}
+use Rattle.pw_pair.specs.Seats.{is_lacking, is_sound}
+use Rattle.pw_pair.specs.declared.seat.Seat.{Seat}
+
+-- the terminals of seats
+abbrev pub terminals_of : List Seat → List ℕ
+terminals_of seats = map (λ seat. seat.terminal) seats
+
+-- The map has the place of each terminal of the list, and no other.
+pub record ArePlaces (places : BTreeMap ℕ ℕ) (terminals : List ℕ) : Type 0 where
+  pub here : (k : ℕ) → k < length terminals
+      → get nat_cmp places (slice_index terminals k) ≡ Some k
+  pub there : (terminal k : ℕ) → get nat_cmp places terminal ≡ Some k
+      → (k < length terminals) × (slice_index terminals k ≡ terminal)
+
+-- What seats keep: each terminal has one, which the map finds; each is sound; and so many are of live
+-- terminals that the memory lacks.
+pub record AreSeats (seats : List Seat) (places : BTreeMap ℕ ℕ) (lacking : ℕ) : Type 0 where
+  pub places_are : ArePlaces places (terminals_of seats)
+  pub sound : list_all is_sound seats ≡ true
+  pub lacks : lacking ≡ count_by is_lacking seats
+  pub few : length seats < 2 ^ 32

@@ -1,0 +1,14 @@
+//! The pair of a terminal control process: its mode, what its backup holds of each terminal, and the checkpoint messages
+//! in flight. Images are bytes here.
+#![tactic(auto)]
+
+pub mod backup;
+mod link;
+pub mod message;
+pub mod mode;
+pub mod pair;
+pub mod resumed;
+mod seat;
+mod seats;
+#[cfg(test)]
+mod tests;

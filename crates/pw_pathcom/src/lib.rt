@@ -1,0 +1,10 @@
+//! The commands of a deck: what they set, add and start.
+#![tactic(auto)]
+
+pub mod commands;
+pub mod objects;
+pub mod pathcom;
+mod reading;
+#[cfg(test)]
+mod tests;
+mod verb;

@@ -1,0 +1,5 @@
+mod ApartLaws
+mod Marks
+mod Readings
+mod Sound
+mod Steps

@@ -1,0 +1,125 @@
+-- What stands behind the name of a screen and of a field.
+use Rattle.std.specs.Prelude.{ℕ, zero, suc, length, Bool, false, ◌&&◌, ◌||◌, ◌==◌, is_some, codes, Option, Some, None, option_and_then, option_map, if◌then◌else◌}
+use Rattle.pw_text.specs.declared.token.TokenKind.TheVariants as kind
+use Rattle.pw_text.specs.declared.token.Token.{Token}
+use Rattle.pw_text.specs.Cursor.{Left, Reader, ◌>>=◌, pure, spelling, sees_word, behind, after, eat_word, expect, expect_word}
+use Rattle.pw_data.specs.Literals.{whole_number}
+use Rattle.pw_data.specs.Clauses.{is_end}
+use Rattle.pw_screen.specs.declared.clauses.Clause.{Clause}
+use Rattle.pw_screen.specs.declared.clauses.Clause.TheVariants as clause
+use Rattle.pw_screen.specs.declared.clauses.Clauses.{Clauses}
+use Rattle.pw_screen.specs.declared.body.At.{At}
+use Rattle.pw_screen.specs.declared.body.Body.{Body}
+
+-- the value, where there is one
+abbrev pub given : {A : Type 0} → Option A → Reader A
+given value = λ left. option_map (λ v. (v, left)) value
+
+-- digits without a sign or a point, by their value; every value above 1,000 is as 1,001
+abbrev pub whole : Reader ℕ
+whole = λ left. (do
+  token ← expect kind.Number
+  given (whole_number (spelling left.text token))) left
+
+-- behind SIZE, the numbers 24 and 80, and a period as the last token
+abbrev pub is_size_end : Option (At × Left) → Bool
+is_size_end None = false
+is_size_end (Some found) = (found.0.row == 24 && found.0.column == 80) && is_end found.1.tokens
+
+-- two whole numbers
+abbrev pub position : Reader At
+position = do
+  row ← whole
+  column ← whole
+  pure (record { row = row; column = column })
+
+-- behind the name of a screen: BASE or not, SIZE 24, 80 or not, and a period as the last token
+abbrev pub is_screen_end : Left → Bool
+is_screen_end left =
+    let rest = after (sees_word (codes "BASE") left) left in
+    if sees_word (codes "SIZE") rest
+    then is_size_end (position (behind 1 rest))
+    else is_end rest.tokens
+
+-- no clause
+abbrev pub no_clauses : Clauses
+no_clauses = record { picture = None; value = None; from = None; to = None; using = None }
+
+-- the clause and those before it, where none of them is of its kind
+abbrev pub added : Clauses → Clause → Option Clauses
+added found (clause.Picture token) =
+    if is_some found.picture then None else Some (record found { picture = Some token })
+added found (clause.Value token) =
+    if is_some found.value then None else Some (record found { value = Some token })
+added found (clause.From token) =
+    if is_some found.from then None else Some (record found { from = Some token })
+added found (clause.To token) =
+    if is_some found.to then None else Some (record found { to = Some token })
+added found (clause.Using token) =
+    if is_some found.using then None else Some (record found { using = Some token })
+
+-- behind PIC, a picture; IS may stand before it
+abbrev pub picture_clause : Reader Clause
+picture_clause = do
+  is ← eat_word (codes "IS")
+  token ← expect kind.Picture
+  pure (clause.Picture token)
+
+-- behind VALUE, a text; IS may stand before it
+abbrev pub value_clause : Reader Clause
+value_clause = do
+  is ← eat_word (codes "IS")
+  token ← expect kind.Text
+  pure (clause.Value token)
+
+-- behind FROM, TO or USING, a word
+abbrev pub item_clause : (Token → Clause) → Reader Clause
+item_clause clause_of = do
+  token ← expect kind.Word
+  pure (clause_of token)
+
+-- the clause in front
+abbrev pub one_clause : Reader Clause
+one_clause left =
+    if sees_word (codes "PIC") left || sees_word (codes "PICTURE") left
+    then picture_clause (behind 1 left)
+    else if sees_word (codes "VALUE") left then value_clause (behind 1 left)
+    else if sees_word (codes "FROM") left then item_clause clause.From (behind 1 left)
+    else if sees_word (codes "TO") left then item_clause clause.To (behind 1 left)
+    else if sees_word (codes "USING") left then item_clause clause.Using (behind 1 left)
+    else None
+
+-- the clause in front is added to those before it, and reading goes on behind it
+abbrev pub with_clause : Clauses → Option (Clause × Left)
+    → (Clauses → Left → Option Clauses) → Option Clauses
+with_clause found None next = None
+with_clause found (Some one) next =
+    option_and_then (λ clauses. next clauses one.1) (added found one.0)
+
+-- The clauses up to a period that is the last token, each kind at most once. The number bounds the clauses; each has a
+-- token, so the number of tokens is enough.
+unfoldable pub clauses_from : ℕ → Clauses → Left → Option Clauses
+clauses_from zero found left = None
+clauses_from (suc turns) found left =
+    if is_end left.tokens then Some found
+    else with_clause found (one_clause left) (clauses_from turns)
+
+-- the clauses of all that is left
+abbrev pub clauses_in : Left → Option Clauses
+clauses_in left = clauses_from (length left.tokens) no_clauses left
+
+-- AT, a row and a column
+abbrev pub place : Reader At
+place = do
+  at ← expect_word (codes "AT")
+  position
+
+-- a place with clauses behind it
+abbrev pub body_by : Option (At × Left) → Option Body
+body_by None = None
+body_by (Some found) =
+    option_map (λ clauses. record { at = found.0; clauses = clauses }) (clauses_in found.1)
+
+-- behind the name of a field: AT row, column and clauses, up to a period as the last token
+abbrev pub body_of : Left → Option Body
+body_of left = body_by (place left)

@@ -1,0 +1,18 @@
+//! The screen section of a requester: its screens and their fields.
+#![tactic(auto)]
+
+mod body;
+mod build;
+mod building;
+mod cells;
+mod clauses;
+mod entries;
+mod entry;
+mod field;
+pub mod laws;
+pub mod read;
+mod reading;
+mod shown;
+mod taken;
+#[cfg(test)]
+mod tests;

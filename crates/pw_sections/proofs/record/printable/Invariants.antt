@@ -1,0 +1,14 @@
+use Rattle.std.proofs.Common.{◌≡◌, ◌+◌, ◌≤◌, length}
+use Rattle.pw_lines.specs.Lines.{lines}
+use Rattle.pw_lines.specs.Steps.{each_line}
+use Rattle.pw_sections.specs.Records.{printable_line, printable}
+use Rattle.pw_sections.proofs.record.printable.Given as goal
+
+abbrev pub invariant-loop-line : goal.invariant-loop-line
+invariant-loop-line l = record {
+  so_far : each_line printable_line l.number (tt {0}) (lines l.rest) ≡ printable l.text l.first_line;
+  number : l.number + length l.rest ≤ l.first_line + length l.text;
+}
+
+abbrev pub decreases-loop-line : goal.decreases-loop-line
+decreases-loop-line l = length l.rest

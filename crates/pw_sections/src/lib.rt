@@ -1,0 +1,11 @@
+//! The sections of a deck: where each begins and ends, what its section line says, and the lines of
+//! those that are no source.
+#![tactic(auto)]
+
+pub mod entry;
+pub mod heading;
+mod key;
+pub mod part;
+pub mod record;
+#[cfg(test)]
+mod tests;

@@ -1,0 +1,12 @@
+pub mod Stores
+pub mod Terminals
+pub mod Requesters
+pub mod Budget
+pub mod Servers
+pub mod Resolved
+pub mod storage
+pub mod Stored
+pub mod Decks
+pub mod Behaviours
+pub mod sides
+pub mod trees

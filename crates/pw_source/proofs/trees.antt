@@ -1,0 +1,10 @@
+pub mod Trees
+pub mod Found
+pub mod Taken
+pub mod Loops
+pub mod Entries
+pub mod Forms
+pub mod Finished
+pub mod Statements
+pub mod Programs
+pub mod Suited

@@ -1,0 +1,8 @@
+//! A terminal's work in its control process: which step comes next for a program at its verb.
+#![tactic(auto)]
+
+pub mod laws;
+pub mod step;
+pub mod terminal;
+#[cfg(test)]
+mod tests;

@@ -1,0 +1,8 @@
+//! A disk that may crash: what a read gives now, and what a crash at this moment may leave.
+#![tactic(auto)]
+
+pub mod disk;
+pub mod fault;
+pub mod mem_disk;
+#[cfg(test)]
+mod tests;
