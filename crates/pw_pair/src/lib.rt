@@ -3,7 +3,7 @@
 #![tactic(auto)]
 
 pub mod backup;
-mod link;
+pub mod link;
 pub mod message;
 pub mod mode;
 pub mod pair;
