@@ -1,4 +1,6 @@
 pub mod Bodies
+pub mod Called
+pub mod Follows
 pub mod Pairs
 pub mod Places
 pub mod Rooms

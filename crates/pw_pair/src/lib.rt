@@ -3,6 +3,7 @@
 #![tactic(auto)]
 
 pub mod backup;
+pub mod laws;
 pub mod link;
 pub mod message;
 pub mod mode;

@@ -270,13 +270,18 @@ fn takeover_by_the_last_ended_unit(rt: HostRuntime) -> Result<(), Fail> {
     Ok(())
 }
 
+/// A value that another thread may have.
+fn handed_over<T: Send>(value: T) -> T {
+    value
+}
+
 /// The task of a terminal's message in flight, built outside the pair.
 fn built_outside(pair: &Pair, alloc: Global, terminal: u32) -> Result<LinkDone, Fail> {
     if !pair.is_waiting(terminal) {
         return Err("no message waits".into());
     }
-    let task = pair.lend(terminal)?;
-    Ok(build(alloc, task)?)
+    let task = handed_over(pair.lend(terminal)?);
+    Ok(handed_over(build(alloc, task)?))
 }
 
 #[test]
