@@ -10,8 +10,9 @@ use pw_image::changes::patch;
 use std::alloc::Global;
 use std::marker::Model;
 
-/// The work of building the image of a message outside its pair: copies of the message and of the start image that the
-/// backup holds of its terminal. A message of changes has that start image beside it, and they fit it.
+/// The work of building the image of a message outside its pair: copies of the message and of the
+/// start image that the backup holds of its terminal. A message of changes has that start image
+/// beside it, and they fit it (docs/PAIRS.md).
 #[derive(Debug, Drop)]
 pub struct LinkTask {
     /// The number of the terminal.
@@ -28,7 +29,11 @@ impl Model for LinkTask {
 
     ghost Value = { SeenTask };
 
-    ghost view = { λ task. record { terminal = task.terminal; message = task.message; held = task.held } };
+    ghost view = { λ task. record {
+      terminal = task.terminal;
+      message = task.message;
+      held = task.held;
+    } };
 
     ghost invariant = { λ task. fits_held task.held task.message.body ≡ true };
 }
@@ -53,10 +58,20 @@ impl Model for LinkDone {
     ghost invariant = { λ done. done.image ≡ image_for done.task };
 }
 
-/// Builds the whole image that the message of a task stands for. It costs the bytes of that image; for want of memory
-/// the task is spent.
+impl LinkDone {
+    /// The number of the terminal.
+    pub fn terminal(&self) -> u32
+        ensures { result ≡ self.now.task.terminal }
+    {
+        self.task.terminal
+    }
+}
+
+/// Builds the whole image that the message of a task stands for. It costs the bytes of that image;
+/// for want of memory the task is spent.
 pub fn build(alloc: Global, task: LinkTask) -> Result<LinkDone, Memory>
-    ensures { IfOk result (λ done. done ≡ record { task = task; image = image_in task.held task.message.body }) }
+    ensures { IfOk result (λ done. done
+        ≡ record { task = task; image = image_in task.held task.message.body }) }
 {
     let image = whole(alloc, task.held.as_ref(), &task.message.body)?;
     Ok(LinkDone { task, image })

@@ -116,8 +116,8 @@ impl Pair {
         }
     }
 
-    /// The work of building the terminal's message in flight: a copy of the message, and of the start image that is held
-    /// of the terminal.
+    /// The work of building the terminal's message in flight: a copy of the message, and of the
+    /// start image that is held of the terminal.
     pub fn lend(&self, terminal: u32) -> Result<LinkTask, Memory>
         requires { passes is_waiting (seat_of terminal self.now) ≡ true }
         ensures { IfOk result (λ task. waiting_task terminal self.now ≡ Some task) }
@@ -126,11 +126,14 @@ impl Pair {
         self.seats.task(alloc, terminal)
     }
 
-    /// Files the image of a task that is done, and says whether it did: exactly where the terminal's message in flight is
-    /// not built, and it and the start image that is held are those of the task. It takes no memory.
+    /// Files the image of a task that is done, and says whether it did: exactly where the terminal's
+    /// message in flight is not built, and it and the start image that is held are those of the
+    /// task. It takes no memory.
     pub fn give_back(&mut self, done: LinkDone) -> bool
-        ensures files { IsTrue result ↔ (waiting_task done.task.terminal self.old ≡ Some done.task) }
-        ensures filed { result ≡ true → self.new ≡ changed_at done.task.terminal built self.old }
+        ensures files { IsTrue result
+            ↔ (waiting_task done.task.terminal self.old ≡ Some done.task) }
+        ensures filed { result ≡ true
+            → self.new ≡ changed_at done.task.terminal built self.old }
         ensures late { result ≡ false → self.new ≡ self.old }
     {
         let LinkDone { task, image } = done;

@@ -184,7 +184,8 @@ impl Seats {
     /// The task of the terminal's message in flight, which is not built.
     pub fn task(&self, alloc: Global, terminal: u32) -> Result<LinkTask, Memory>
         requires { passes is_waiting (find (is_seat_of terminal) self.now) ≡ true }
-        ensures { IfOk result (λ task. task_at (find (is_seat_of terminal) self.now) ≡ Some task) }
+        ensures { IfOk result
+            (λ task. task_at (find (is_seat_of terminal) self.now) ≡ Some task) }
     {
         match self.get(terminal) {
             Some(seat) => seat.task(alloc),
@@ -194,7 +195,8 @@ impl Seats {
 
     /// Whether a message of the task's terminal is in flight that is not built, and this is its task.
     pub fn has_task(&self, task: &LinkTask) -> bool
-        ensures { IsTrue result ↔ (task_at (find (is_seat_of task.now.terminal) self.now) ≡ Some task.now) }
+        ensures { IsTrue result
+            ↔ (task_at (find (is_seat_of task.now.terminal) self.now) ≡ Some task.now) }
     {
         match self.get(task.terminal) {
             Some(seat) => seat.has_task(task),

@@ -284,25 +284,29 @@ fn built_outside(pair: &Pair, alloc: Global, terminal: u32) -> Result<LinkDone, 
     Ok(handed_over(build(alloc, task)?))
 }
 
+/// How many records a task that is done carries, None where it carries a whole image.
+fn records_in(done: &LinkDone) -> Option<usize> {
+    let task = &done.task;
+    match &task.message.body {
+        Body::Whole(_) => None,
+        Body::Delta(changes) => Some(changes.as_slice().len()),
+    }
+}
+
 #[test]
 fn built_outside_and_given_back(rt: HostRuntime) -> Result<(), Fail> {
     let alloc = rt.alloc();
     let first = Call::Send(CheckKind::Copy, 4, 1);
     let end = Call::Send(CheckKind::End, 4, 5);
-    for (calls, call, whole, length) in [
-        (&RAISED[..], first, true, 0),
-        (&FULL[..], end, false, 1),
-    ] {
+    for (calls, call, length) in [(&RAISED[..], first, None), (&FULL[..], end, Some(1))] {
         let mut pair = behind(&rt, calls)?;
         make(&mut pair, alloc, call)?;
         let done = built_outside(&pair, alloc, 4)?;
-        assert_eq!(rt; done.task.terminal, 4);
-        assert_eq!(rt; done.task.held.is_none(), whole);
-        match &done.task.message.body {
-            Body::Whole(_) => assert!(rt; whole),
-            Body::Delta(changes) => assert_eq!(rt; changes.as_slice().len(), length),
-        }
-        assert!(rt; pair.is_waiting(4) && pair.give_back(done) && pair.built(4));
+        assert_eq!(rt; done.terminal(), 4);
+        assert_eq!(rt; records_in(&done), length);
+        assert!(rt; pair.is_waiting(4));
+        let filed = pair.give_back(done);
+        assert!(rt; filed && pair.built(4));
         let applied = make(&mut pair, alloc, Call::Deliver(4))?;
         assert!(rt; applied);
         assert!(rt; pair.holds(4) && !pair.in_flight(4));

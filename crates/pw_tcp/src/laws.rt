@@ -21,25 +21,31 @@ pub fn step_laws()
         → (entry : Event) → stepper_of entry ≡ Some t → Fits sys state entry → makes_way entry ≡ true }
 {}
 
-/// In every state of a run of a deck the next step of a live terminal whose pair has a member at work may be asked
-/// for, and what the state has of it fits together. So the entry that the step names fits its kind; where it waits,
-/// no entry of its own fits but one that makes way for an older unit; and where no member works, none fits but such
-/// a one and the ending of a terminal whose pair is lost.
+/// In every state of a run of a deck the next step of a live terminal whose pair has a member at
+/// work may be asked for, and what the state has of it fits together. So the entry that the step
+/// names fits its kind; where it waits, no entry of its own fits but one that makes way for an older
+/// unit; and where no member works, none fits but such a one and the ending of a terminal whose pair
+/// is lost.
 pub fn run_laws()
-    ensures may { (sys : Behaviour) → IsBehaviour sys → (log : List Event) → IsRun sys log → (t : ℕ)
-        → IsLive sys (after sys log) t → HasMember ((after sys log).modes (sys.pair_of t))
-        → MayStep sys (after sys log) t }
-    ensures together { (sys : Behaviour) → IsBehaviour sys → (log : List Event) → IsRun sys log → (t : ℕ)
-        → IsLive sys (after sys log) t → HasMember ((after sys log).modes (sys.pair_of t))
-        → FitsTogether sys (after sys log) t }
-    ensures fits { (sys : Behaviour) → IsBehaviour sys → (log : List Event) → IsRun sys log → (t : ℕ)
-        → IsLive sys (after sys log) t → HasMember ((after sys log).modes (sys.pair_of t))
-        → IfSome (entry_of sys (after sys log) t (next_step_in sys (after sys log) t)) (Fits sys (after sys log)) }
-    ensures waits { (sys : Behaviour) → IsBehaviour sys → (log : List Event) → IsRun sys log → (t : ℕ)
-        → IsLive sys (after sys log) t → HasMember ((after sys log).modes (sys.pair_of t))
+    ensures may { (sys : Behaviour) → IsBehaviour sys → (log : List Event) → IsRun sys log
+        → (t : ℕ) → IsLive sys (after sys log) t
+        → HasMember ((after sys log).modes (sys.pair_of t)) → MayStep sys (after sys log) t }
+    ensures together { (sys : Behaviour) → IsBehaviour sys → (log : List Event) → IsRun sys log
+        → (t : ℕ) → IsLive sys (after sys log) t
+        → HasMember ((after sys log).modes (sys.pair_of t)) → FitsTogether sys (after sys log) t }
+    ensures fits { (sys : Behaviour) → IsBehaviour sys → (log : List Event) → IsRun sys log
+        → (t : ℕ) → IsLive sys (after sys log) t
+        → HasMember ((after sys log).modes (sys.pair_of t))
+        → IfSome (entry_of sys (after sys log) t (next_step_in sys (after sys log) t))
+        (Fits sys (after sys log)) }
+    ensures waits { (sys : Behaviour) → IsBehaviour sys → (log : List Event) → IsRun sys log
+        → (t : ℕ) → IsLive sys (after sys log) t
+        → HasMember ((after sys log).modes (sys.pair_of t))
         → next_step_in sys (after sys log) t ≡ Wait
         → (entry : Event) → stepper_of entry ≡ Some t → Fits sys (after sys log) entry
         → makes_way entry ≡ true }
-    ensures rests { (sys : Behaviour) (state : State) (t : ℕ) → ¬ HasMember (state.modes (sys.pair_of t))
-        → (entry : Event) → stepper_of entry ≡ Some t → Fits sys state entry → makes_way entry ≡ true }
+    ensures rests { (sys : Behaviour) (state : State) (t : ℕ)
+        → ¬ HasMember (state.modes (sys.pair_of t))
+        → (entry : Event) → stepper_of entry ≡ Some t → Fits sys state entry
+        → makes_way entry ≡ true }
 {}

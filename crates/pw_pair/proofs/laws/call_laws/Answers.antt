@@ -1,8 +1,8 @@
--- The laws of a pair.
+-- The laws of the calls of a pair.
 use Rattle.pw_pair.proofs.Beginning as beginning
 use Rattle.pw_pair.proofs.Calling as calling
 use Rattle.pw_pair.proofs.Following as following
-use Rattle.pw_pair.proofs.laws.pair_laws.Goals as goal
+use Rattle.pw_pair.proofs.laws.call_laws.Goals as goal
 
 pub returns-clause-starts : goal.returns-clause-starts
 returns-clause-starts c = beginning.starts
