@@ -1,3 +1,10 @@
+pub mod Arrivals
+pub mod Asked
 pub mod Changes
+pub mod ClassTests
 pub mod Kept
+pub mod Members
+pub mod PairTests
 pub mod Stands
+pub mod TerminalTests
+pub mod Tested
