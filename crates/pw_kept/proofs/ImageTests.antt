@@ -155,7 +155,7 @@ module _ (system : System) (script : List FailLine) (state : State) (own : Kept)
     info = asking.placed.info
 
     begins : kept.begins_unit (verb_in system context) (not context.in_unit) ≡ verbs.begins_unit (next_verb sys state t) (path_of state t)
-    begins = ap₂ (λ v o. kept.begins_unit v o) asking.says.verb asking.says.outside ∙ begins-as (next_verb sys state t) (path_of state t)
+    begins = ap₂ (λ v o. kept.begins_unit v o) asking.says.verb asking.says.counts.outside ∙ begins-as (next_verb sys state t) (path_of state t)
 
     idle : is_none (own.terminals t).start ≡ is_none (attempt_of (state.units t))
     idle = none-same (StandsForPath system info) (attempt_of (state.units t)) (own.terminals t).start (stands.terminals t info asking.placed.here).start
@@ -167,7 +167,7 @@ module _ (system : System) (script : List FailLine) (state : State) (own : Kept)
         let seat = seat-held system script state own stands t asking.placed in
         ap (λ o. some_with (λ c. passes (seats.holds_start (unit_in context) (image_of c)) (seat_at system own t)) o) is
         ∙ (ap (passes (seats.holds_start (unit_in context) (image_of behind))) seat.1
-        ∙ (ap (λ u. seats.has_start u (image_of behind) seat.0.memory) asking.says.unit
+        ∙ (ap (λ u. seats.has_start u (image_of behind) seat.0.memory) asking.says.counts.unit
         ∙ held-start system state t info (unit_number (path_of state t)) (path_of state t) behind (state.memory t) seat.0.memory refl tells seat.2))
 
     held-where : legal.can_step sys state t ≡ true → kept.begins_unit (verb_in system context) (not context.in_unit) ≡ true
@@ -187,7 +187,7 @@ module _ (system : System) (script : List FailLine) (state : State) (own : Kept)
         (λ can.
         ap₂ (λ a b. a && b) idle
         (and-where _ _ _ (λ starts.
-        ap₂ (λ a b. a && b) (ap₂ (λ e u. not (e == u)) (ended system script state own stands t asking) asking.says.unit)
+        ap₂ (λ a b. a && b) (ap₂ (λ e u. not (e == u)) (ended system script state own stands t asking) asking.says.counts.unit)
         (ap₂ (λ a b. not a && b) (held-where can starts) flying))
         ∙ ap (λ b. b && rest) begins))
       where
@@ -200,7 +200,7 @@ module _ (system : System) (script : List FailLine) (state : State) (own : Kept)
         (λ can.
         ap₂ (λ a b. a && b) idle
         (and-where _ _ _ (λ starts.
-        ap₂ (λ u b. n == u && b) asking.says.unit
+        ap₂ (λ u b. n == u && b) asking.says.counts.unit
         (ap₂ (λ a b. a && b) (ap (λ e. not (e == n)) (ended system script state own stands t asking))
         (ap₂ (λ a b. a && b) over
         (ap₂ (λ a b. a && b) (held-where can starts) (ap (λ k. r == k) (stands.terminals t info asking.placed.here).restarts)))))
@@ -235,7 +235,7 @@ module _ (system : System) (script : List FailLine) (state : State) (own : Kept)
     pub commit-same : (n : ℕ) → may_commit system own t n ≡ is_legal_commit sys state t n
     commit-same n =
         where-is system script state own stands t at _ _
-        (and-where _ _ _ (λ ends. ap₂ (λ u b. n == u && b) at.says.unit (ends-held (ends-verb (verb_in system at.context) ends)))
+        (and-where _ _ _ (λ ends. ap₂ (λ u b. n == u && b) at.says.counts.unit (ends-held (ends-verb (verb_in system at.context) ends)))
         ∙ ap (λ v. asks_end v && rest) at.says.verb)
       where
         rest : Bool
@@ -244,7 +244,7 @@ module _ (system : System) (script : List FailLine) (state : State) (own : Kept)
     pub back-same : (n : ℕ) → may_back system own t n ≡ is_legal_back sys state t n
     back-same n =
         where-is system script state own stands t at _ _
-        (and-where _ _ _ (λ drops. ap₂ (λ u b. n == u && b) at.says.unit (drops-held (drops-verb (verb_in system at.context) drops)))
+        (and-where _ _ _ (λ drops. ap₂ (λ u b. n == u && b) at.says.counts.unit (drops-held (drops-verb (verb_in system at.context) drops)))
         ∙ ap (λ v. asks_drop v && rest) at.says.verb)
       where
         rest : Bool

@@ -3,11 +3,13 @@ pub mod Among
 pub mod Answered
 pub mod Applied
 pub mod Arrived
+pub mod Behind
 pub mod Built
 pub mod Cancelled
 pub mod Checked
 pub mod Classes
 pub mod Components
+pub mod EachEntry
 pub mod Emptied
 pub mod Ending
 pub mod Failing
@@ -15,8 +17,10 @@ pub mod ImageTests
 pub mod Leaving
 pub mod OfRuns
 pub mod Raised
+pub mod Replying
 pub mod Restarted
 pub mod Seats
+pub mod Sending
 pub mod Served
 pub mod Serving
 pub mod Settled
@@ -24,3 +28,4 @@ pub mod Starting
 pub mod TakenOver
 pub mod Testing
 pub mod UnitChanges
+pub mod Working

@@ -82,7 +82,7 @@ module _ (system : System) (script : List FailLine) (state : State) (own : Kept)
       count = ap processes_by here
 
   module _ (c i : ℕ) (serving : IsServing system script state own c i) where
-    at-work : at_process (own.queues c) i ≡ Some serving.job.request
+    pub at-work : at_process (own.queues c) i ≡ Some serving.job.request
     at-work =
         let old : StandsForClass system serving.info (state.classes c) (own.queues c) (own.jobs c) = stands.classes c serving.info serving.here in
         let place = old.within i (rw serving.works refl) in

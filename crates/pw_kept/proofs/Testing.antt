@@ -212,10 +212,10 @@ module _ (system : System) (script : List FailLine) (state : State) (own : Kept)
     pub show-same : (phase attempt k : ℕ) → may_show system own t phase attempt k ≡ is_legal_show (behaviour script system) state t phase attempt k
     show-same phase attempt k =
         where-is _ _
-        (ap₂ (λ v n. asks_show v && is_same_refresh n (record { phase = phase; attempt = attempt; k = k })) asking.says.verb asking.says.number)
+        (ap₂ (λ v n. asks_show v && is_same_refresh n (record { phase = phase; attempt = attempt; k = k })) asking.says.verb asking.says.counts.number)
 
     pub key-same : (k : ℕ) → may_key system own t k ≡ is_legal_key (behaviour script system) state t k
-    key-same k = where-is _ _ (ap₂ (λ v e. asks_accept v && (k == e + 1 && nat_le k (entries_of system t))) asking.says.verb asking.says.entries)
+    key-same k = where-is _ _ (ap₂ (λ v e. asks_accept v && (k == e + 1 && nat_le k (entries_of system t))) asking.says.verb asking.says.counts.entries)
 
     pub send-same : (n c : ℕ) → may_send system own t n c ≡ is_legal_send (behaviour script system) state t n c
     send-same n c =
@@ -227,13 +227,13 @@ module _ (system : System) (script : List FailLine) (state : State) (own : Kept)
     again-same n =
         where-is _ _
         (ap₂ (λ a b. a && b) (ap asks_send asking.says.verb)
-        (ap₂ (λ a b. a && b) asking.says.outside (ap₂ (λ u e. n == u && e == n) asking.says.unit ended)))
+        (ap₂ (λ a b. a && b) asking.says.counts.outside (ap₂ (λ u e. n == u && e == n) asking.says.counts.unit ended)))
 
     pub stop-same : may_stop system own t ≡ is_legal_end (behaviour script system) state t Stopped
     stop-same = where-is _ _ (ap asks_stop asking.says.verb)
 
     pub entries-same : may_end_entries system own t ≡ is_legal_end (behaviour script system) state t NoEntries
-    entries-same = where-is _ _ (ap₂ (λ v e. asks_accept v && e == entries_of system t) asking.says.verb asking.says.entries)
+    entries-same = where-is _ _ (ap₂ (λ v e. asks_accept v && e == entries_of system t) asking.says.verb asking.says.counts.entries)
 
     pub fault-same : (x : ℕ) → may_fault system own t x ≡ is_legal_end (behaviour script system) state t (Fault x)
     fault-same x = where-is _ _ (ap (asks_fault x) asking.says.verb)

@@ -37,11 +37,15 @@ number_in context =
 abbrev pub unit_in : Context → ℕ
 unit_in context = context.units + 1
 
--- a context at the verb behind a path says what the path says
-pub record SaysOf (sys : Behaviour) (system : System) (t : ℕ) (path : List PathAnswer)
-    (context : Context) : Type 0 where
-  pub verb : verb_in system context ≡ sys.ask t path
+-- the counts of a context are those of a path
+pub record CountsOf (path : List PathAnswer) (context : Context) : Type 0 where
   pub unit : unit_in context ≡ unit_number path
   pub outside : not context.in_unit ≡ is_outside path
   pub number : number_in context ≡ next_number path
   pub entries : context.entries ≡ entries_on path
+
+-- a context at the verb behind a path says what the path says
+pub record SaysOf (sys : Behaviour) (system : System) (t : ℕ) (path : List PathAnswer)
+    (context : Context) : Type 0 where
+  pub verb : verb_in system context ≡ sys.ask t path
+  pub counts : CountsOf path context

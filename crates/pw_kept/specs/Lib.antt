@@ -2,8 +2,10 @@ pub mod Arrivals
 pub mod Asked
 pub mod Changes
 pub mod ClassTests
+pub mod Entered
 pub mod Kept
 pub mod Members
+pub mod Needs
 pub mod PairTests
 pub mod Stands
 pub mod TerminalTests

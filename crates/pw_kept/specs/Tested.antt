@@ -8,8 +8,9 @@ use Rattle.pw_code.specs.declared.verb.Answer.TheVariants as answer
 use Rattle.pw_code.specs.declared.verb.Verb.TheVariants as verb
 use Rattle.pw_event.specs.declared.script.FailLine.{FailLine}
 use Rattle.pw_exec.specs.OfSystem.{behaviour}
-use Rattle.pw_image.specs.Image.{image_of}
-use Rattle.pw_kept.specs.Asked.{SaysOf, answered_with, verb_in}
+use Rattle.pw_image.specs.Image.{HasImage, image_of}
+use Rattle.pw_image.specs.Values.{HasValues}
+use Rattle.pw_kept.specs.Asked.{CountsOf, SaysOf, answered_with, verb_in}
 use Rattle.pw_kept.specs.Kept.{Kept}
 use Rattle.pw_kept.specs.Stands.{IsPathImage}
 use Rattle.pw_kept.specs.TerminalTests.{begins_unit}
@@ -67,8 +68,14 @@ pub record IsAskingEnd (system : System) (script : List FailLine) (state : State
       → TellsEnd system state t asking.placed.info (path_of state t ++ Dropped ∷ [])
       (answered_with system answer.Dropped asking.context)
 
--- A server works in the process for a unit that is open; its context stands at its verb, and says
--- there what its job says.
+-- A context can go to a backup as the image of a path.
+pub record Carries (path : List PathAnswer) (context : Context) : Type 0 where
+  pub has_image : HasImage context
+  pub has_values : HasValues context
+  pub counts : CountsOf path context
+
+-- A server works in the process for a unit of which an attempt runs; its context stands at its verb,
+-- and says there what its job says.
 pub record IsServing (system : System) (script : List FailLine) (state : State) (kept : Kept)
     (c i : ℕ) : Type 0 where
   pub info : ClassInfo
@@ -77,6 +84,9 @@ pub record IsServing (system : System) (script : List FailLine) (state : State) 
   pub works : (state.classes c).busy i ≡ Some job
   pub context : Context
   pub ready : kept.jobs c i ≡ Some context
+  pub at_verb : context.at_verb ≡ true
   pub says : verb_in system context ≡ server_verb (behaviour script system) c job
   pub own : OpenUnit
   pub is_open : state.units job.request.terminal ≡ Some own
+  pub start : List PathAnswer
+  pub runs : own.running ≡ Some start

@@ -2,6 +2,7 @@
 #![tactic(auto)]
 
 pub mod ends;
+pub mod entering;
 pub mod failures;
 pub mod laws;
 pub mod legality;
