@@ -6,6 +6,7 @@ pub mod Arrived
 pub mod Behind
 pub mod Built
 pub mod Cancelled
+pub mod Causing
 pub mod Checked
 pub mod Classes
 pub mod Components

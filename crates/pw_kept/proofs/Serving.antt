@@ -88,7 +88,7 @@ module _ (system : System) (script : List FailLine) (state : State) (own : Kept)
         let place = old.within i (rw serving.works refl) in
         ap (λ q. at_process q i) old.queue_is ∙ (works-queue serving.info.processes i (state.classes c) place.0 place.1 ∙ ap request_in serving.works)
 
-    where-works : (test : Request → Context → Bool) → works_where own c i test ≡ test serving.job.request serving.context
+    pub where-works : (test : Request → Context → Bool) → works_where own c i test ≡ test serving.job.request serving.context
     where-works test =
         ap (λ o. some_with (λ request. some_with (test request) (own.jobs c i)) o) at-work
         ∙ ap (some_with (test serving.job.request)) serving.ready
@@ -99,7 +99,7 @@ module _ (system : System) (script : List FailLine) (state : State) (own : Kept)
         ∙ (ap (λ v. serving.job.request.terminal == t && replies v fault) serving.says
         ∙ ap (some_with (λ job. job.request.terminal == t && replies (server_verb (behaviour script system) c job) fault)) (sym serving.works))
 
-    unit-same : unit_at own serving.job.request.terminal serving.job.request.unit ≡ unit_of state serving.job.request
+    pub unit-same : unit_at own serving.job.request.terminal serving.job.request.unit ≡ unit_of state serving.job.request
     unit-same =
         ap (λ b. record { terminal = serving.job.request.terminal; number = serving.job.request.unit; birth = b })
         (ap (λ o. birth_for o own.births) (stands.disc.units serving.job.request.terminal ∙ ap (option_map (as_told (images_by serving.job.request.terminal state.before))) serving.is_open)

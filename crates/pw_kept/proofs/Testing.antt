@@ -42,14 +42,14 @@ use Rattle.pw_runs.proofs.requests.Queues.{has-queue}
 
 -- ---- modes
 
-paired-as : (m : Mode) → kept.is_paired (mode_as m) ≡ values.is_paired m
+pub paired-as : (m : Mode) → kept.is_paired (mode_as m) ≡ values.is_paired m
 paired-as Alone = refl
 paired-as Raising = refl
 paired-as Paired = refl
 paired-as Down = refl
 paired-as Gone = refl
 
-alone-as : (m : Mode) → is_alone (mode_as m) ≡ values.is_alone m
+pub alone-as : (m : Mode) → is_alone (mode_as m) ≡ values.is_alone m
 alone-as Alone = refl
 alone-as Raising = refl
 alone-as Paired = refl
@@ -70,7 +70,7 @@ down-as Paired = refl
 down-as Down = refl
 down-as Gone = refl
 
-gone-as : (m : Mode) → is_gone (mode_as m) ≡ serial.is_gone m
+pub gone-as : (m : Mode) → is_gone (mode_as m) ≡ serial.is_gone m
 gone-as Alone = refl
 gone-as Raising = refl
 gone-as Paired = refl
@@ -84,7 +84,7 @@ sending-as Paired = refl
 sending-as Down = refl
 sending-as Gone = refl
 
-any-same : (n : ℕ) (f g : ℕ → Bool) → ((j : ℕ) → j < n → f j ≡ g j) → any_below n f ≡ any_below n g
+pub any-same : (n : ℕ) (f g : ℕ → Bool) → ((j : ℕ) → j < n → f j ≡ g j) → any_below n f ≡ any_below n g
 any-same zero f g same = refl
 any-same (suc n) f g same = ap₂ (λ a b. a || b) (any-same n f g (λ j low. same j (omega (arith, low)))) (same n (omega arith))
 
@@ -113,7 +113,7 @@ module _ (system : System) (script : List FailLine) (state : State) (own : Kept)
     tcp : number_by (λ (info : TermInfo). info.tcp) (slice_get system.terminals t) ≡ placed.info.tcp
     tcp = ap (number_by (λ (info : TermInfo). info.tcp)) placed.here
 
-    own-mode : (pair_of system own t).mode ≡ mode_as (state.modes ((behaviour script system).pair_of t))
+    pub own-mode : (pair_of system own t).mode ≡ mode_as (state.modes ((behaviour script system).pair_of t))
     own-mode = ap (λ p. (own.pairs p).mode) tcp ∙ (mode-is placed.info.tcp placed.pair ∙ ap (λ p. mode_as (state.modes p)) (sym tcp))
 
     live-same : is_live system own t ≡ legal.is_live (behaviour script system) state t

@@ -1,5 +1,6 @@
 pub mod Arrivals
 pub mod Asked
+pub mod CauseTests
 pub mod Changes
 pub mod ClassTests
 pub mod Entered

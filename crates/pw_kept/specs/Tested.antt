@@ -6,6 +6,8 @@ use Rattle.pw_code.specs.declared.system.System.{System}
 use Rattle.pw_code.specs.declared.system.TermInfo.{TermInfo}
 use Rattle.pw_code.specs.declared.verb.Answer.TheVariants as answer
 use Rattle.pw_code.specs.declared.verb.Verb.TheVariants as verb
+use Rattle.pw_event.specs.declared.event.Cause.{Cause}
+use Rattle.pw_event.specs.declared.event.Cause.TheVariants.{Older, Redo}
 use Rattle.pw_event.specs.declared.script.FailLine.{FailLine}
 use Rattle.pw_exec.specs.OfSystem.{behaviour}
 use Rattle.pw_image.specs.Image.{HasImage, image_of}
@@ -90,3 +92,12 @@ pub record IsServing (system : System) (script : List FailLine) (state : State) 
   pub is_open : state.units job.request.terminal ≡ Some own
   pub start : List PathAnswer
   pub runs : own.running ≡ Some start
+
+-- what a cause is tested by: for REDO the terminal's program stands at its verb, for OLDER each
+-- server at work does
+abbrev pub CauseTested : System → List FailLine → State → Kept → ℕ → Cause → Type 0
+CauseTested system script state kept t (Older o m) =
+    (c i : ℕ) (job : Job) → (state.classes c).busy i ≡ Some job
+    → IsServing system script state kept c i
+CauseTested system script state kept t Redo = IsAsking system script state kept t
+CauseTested system script state kept t _ = Unit {0}

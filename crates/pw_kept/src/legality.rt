@@ -3,15 +3,18 @@ ghost use Rattle.pw_code.specs.declared.file.FileOp.{FileOp};
 ghost use Rattle.pw_code.specs.declared.lock.LockMode.{LockMode};
 ghost use Rattle.pw_code.specs.declared.system.ClassInfo.{ClassInfo};
 ghost use Rattle.pw_code.specs.declared.system.System.{System};
-ghost use Rattle.pw_event.specs.declared.event.Ending.TheVariants.{Fault, Lost, NoEntries, Stopped};
+ghost use Rattle.pw_event.specs.declared.event.Cause.{Cause};
+ghost use Rattle.pw_event.specs.declared.event.Ending.TheVariants.{Fault, Lost, NoEntries, Stopped, Suspended};
 ghost use Rattle.pw_event.specs.declared.script.FailLine.{FailLine};
 ghost use Rattle.pw_exec.specs.OfSystem.{behaviour};
+ghost use Rattle.pw_kept.specs.CauseTests.{may_restart, may_suspend};
 ghost use Rattle.pw_kept.specs.ClassTests.{may_file, may_reply, may_take};
 ghost use Rattle.pw_kept.specs.Kept.{Kept};
 ghost use Rattle.pw_kept.specs.PairTests.{may_apply, may_copy, may_lose, may_raise, may_take_over};
 ghost use Rattle.pw_kept.specs.Stands.{Stands};
 ghost use Rattle.pw_kept.specs.TerminalTests.{may_again, may_back, may_begin, may_check_end, may_check_start, may_commit, may_end_entries, may_fault, may_key, may_send, may_show, may_stop};
-ghost use Rattle.pw_kept.specs.Tested.{IsAsking, IsAskingEnd, IsAskingStart, IsPlaced, IsServing};
+ghost use Rattle.pw_kept.specs.Tested.{CauseTested, IsAsking, IsAskingEnd, IsAskingStart, IsPlaced, IsServing};
+ghost use Rattle.pw_legal.specs.Causes.{is_legal_restart};
 ghost use Rattle.pw_legal.specs.Classes.{is_legal_file, is_legal_reply, is_legal_take};
 ghost use Rattle.pw_legal.specs.Pairs.{is_legal_applied, is_legal_check_copy, is_legal_end, is_legal_raise, is_legal_takeover};
 ghost use Rattle.pw_legal.specs.Terminals.{is_legal_again, is_legal_back, is_legal_begin, is_legal_check_end, is_legal_check_start, is_legal_commit, is_legal_key, is_legal_send, is_legal_show};
@@ -93,4 +96,15 @@ pub fn class_laws()
     ensures reply { (system : System) (script : List FailLine) (state : State) (kept : Kept) (c i t : ℕ) (fault : Option ℕ)
         → Stands system script state kept → IsServing system script state kept c i
         → may_reply system kept c i t fault ≡ is_legal_reply (behaviour script system) state c i t fault }
+{}
+
+/// RESTART and END SUSPENDED: the test of what is kept says whether the entry is legal by its kind, for REDO where the
+/// terminal's program stands at its verb, and for OLDER where each server at work does.
+pub fn cause_laws()
+    ensures restart { (system : System) (script : List FailLine) (state : State) (kept : Kept) (t n : ℕ) (cause : Cause)
+        → Stands system script state kept → IsPlaced system t → CauseTested system script state kept t cause
+        → may_restart system kept t n cause ≡ is_legal_restart (behaviour script system) state t n cause }
+    ensures suspend { (system : System) (script : List FailLine) (state : State) (kept : Kept) (t : ℕ) (cause : Cause)
+        → Stands system script state kept → IsPlaced system t → CauseTested system script state kept t cause
+        → may_suspend system kept t cause ≡ is_legal_end (behaviour script system) state t (Suspended cause) }
 {}
