@@ -1,2 +1,2 @@
-mod RunLemmas
+pub mod RunLemmas
 mod Standing
