@@ -1,5 +1,5 @@
 -- The open units of some terminals are left by backing them out, one after the other.
-use Rattle.std.proofs.Common.{◌≡◌, ◌≢◌, ⊎_elim, ℕ, ◌==◌, Bool, true, false, not, cond, List, [], ◌∷◌, filter, Option, Some, None, refl, sym, ap, subst, ◌∙◌}
+use Rattle.std.proofs.Common.{◌≡◌, ◌≢◌, ⊎_elim, ℕ, ◌<◌, ◌==◌, Bool, true, false, not, cond, List, [], ◌∷◌, filter, Option, Some, None, refl, sym, ap, subst, ◌∙◌}
 use Rattle.std.specs.Prelude.{All, IsSome, is_some}
 use Rattle.std.specs.List.{AllByRecursion, IsDistinct, cons_option, list_any}
 use Rattle.std.specs.Option.{option_map}
@@ -15,8 +15,8 @@ use Rattle.pw_paired.specs.State.{BeforeImage, LastEnded, OpenUnit, State}
 use Rattle.pw_paired.specs.Units.{attempt_of, drop_unit, has_image, last_after_leaving, leave_units, only, restored_files}
 use Rattle.pw_tmf.specs.Leaving.{AreSingle, CanLeave, HaveOpen, IsKeyed, is_among, open_units, unit_told}
 use Rattle.pw_tmf.specs.Tells.{Tells, as_told, images_by}
-use Rattle.pw_tmf.specs.Told.{Told}
-use Rattle.pw_tmf.specs.Units.{AreApart, all_backed_out, backed_out}
+use Rattle.pw_tmf.specs.Told.{Told, ToldUnit}
+use Rattle.pw_tmf.specs.Units.{AreApart, CanBackOut, all_backed_out, backed_out}
 use Rattle.pw_tmf.proofs.Leaving.{drop-false, none-of-theirs, none-passes, tells-rest, tells-same}
 use Rattle.pw_tmf.proofs.Telling.{tells-drop}
 
@@ -172,6 +172,50 @@ tells-all sys whose (u ∷ us) state told h keyed single held apart own theirs e
     (every j yes (subst (λ (o : Option OpenUnit). IsSome o) (upd-other state.units u.terminal None j other) some)))
     (cases_eq j u.terminal)))
 
+-- ---- the units that a disc is asked for
+
+module _ (told : Told) where
+  -- what holds without the unit, and with it, holds of both
+  with-unit : (P : List unit.Unit → Type 0) (t : ℕ) (rest : List unit.Unit) → P rest
+      → ((own : ToldUnit) → told.units t ≡ Some own → P (record { terminal = t; number = own.number; birth = own.birth } ∷ rest))
+      → P (cons_option (unit_told t (told.units t)) rest)
+  with-unit P t rest without one = by (told.units t) refl
+    where
+      by : (o : Option ToldUnit) → told.units t ≡ o → P (cons_option (unit_told t o) rest)
+      by None is = without
+      by (Some own) is = one own is
+
+  none-of-other : (t : ℕ) (terminals : List ℕ) → AllByRecursion (λ s. (t == s) ≡ false) terminals → All (λ (u : unit.Unit). u.terminal ≢ t) (open_units told terminals)
+  none-of-other t [] all = All-nil (λ (u : unit.Unit). u.terminal ≢ t)
+  none-of-other t (s ∷ terminals) all =
+      let P : unit.Unit → Type 0 = λ u. u.terminal ≢ t in
+      let rest : All P (open_units told terminals) = none-of-other t terminals all.1 in
+      with-unit (All P) s (open_units told terminals) rest
+      (λ own is. All-cons P (record { terminal = s; number = own.number; birth = own.birth }) (open_units told terminals) (λ same. eqb-false t s all.0 (sym same)) rest)
+
+  -- those of different terminals are apart
+  pub are-apart : (terminals : List ℕ) → IsDistinct (λ a b. a == b) terminals → AreApart (open_units told terminals)
+  unfolding IsDistinct
+  are-apart [] distinct = tt
+  are-apart (t ∷ terminals) distinct =
+      let rest : AreApart (open_units told terminals) = are-apart terminals distinct.1 in
+      with-unit AreApart t (open_units told terminals) rest (λ own is. (none-of-other t terminals distinct.0, rest))
+
+  -- they can be backed out
+  pub can-back-out : (terminals : List ℕ) → AllByRecursion (λ t. t < told.terminals) terminals → All (CanBackOut true told) (open_units told terminals)
+  can-back-out [] all = All-nil (CanBackOut true told)
+  can-back-out (t ∷ terminals) all =
+      let rest : All (CanBackOut true told) (open_units told terminals) = can-back-out terminals all.1 in
+      with-unit (All (CanBackOut true told)) t (open_units told terminals) rest
+      (λ own is.
+      All-cons (CanBackOut true told) (record { terminal = t; number = own.number; birth = own.birth }) (open_units told terminals)
+      (record { terminal = all.0; open_unit = own; here = is; number = refl; birth = refl }) rest)
+
+-- the units of different terminals may be left at once
+pub may-leave : (told : Told) (terminals : List ℕ) → IsDistinct (λ a b. a == b) terminals → All (λ t. t < told.terminals) terminals
+    → AreApart (open_units told terminals) × All (CanBackOut true told) (open_units told terminals)
+may-leave told terminals distinct few = (are-apart told terminals distinct, can-back-out told terminals (recursion_from_All (λ t. t < told.terminals) terminals few))
+
 -- ---- the open units of terminals
 
 module _ (sys : Behaviour) (state : State) (told : Told) (h : Tells sys state told) where
@@ -203,26 +247,6 @@ module _ (sys : Behaviour) (state : State) (told : Told) (h : Tells sys state to
       first-too P t rest None is p all = none-here (AllByRecursion (λ (u : unit.Unit). P u.terminal)) t rest is all
       first-too P t rest (Some own) is p all = one-here (AllByRecursion (λ (u : unit.Unit). P u.terminal)) t rest own is (p, all)
 
-  -- the units of different terminals
-  are-apart : (terminals : List ℕ) → IsDistinct (λ a b. a == b) terminals → AreApart (open_units told terminals)
-  unfolding IsDistinct
-  are-apart [] distinct = tt
-  are-apart (t ∷ terminals) distinct =
-      let differ : AllByRecursion (λ (s : ℕ). s ≢ t) terminals = all-differ t terminals distinct.0 in
-      apart-first t (open_units told terminals) (state.units t) refl (all-from (open_units told terminals) (all-terminals (λ s. s ≢ t) terminals differ)) (are-apart terminals distinct.1)
-    where
-      all-differ : (t : ℕ) (terminals : List ℕ) → AllByRecursion (λ s. (t == s) ≡ false) terminals → AllByRecursion (λ (s : ℕ). s ≢ t) terminals
-      all-differ t [] all = tt
-      all-differ t (s ∷ terminals) all = (λ same. eqb-false t s all.0 (sym same), all-differ t terminals all.1)
-
-      all-from : (us : List unit.Unit) → AllByRecursion (λ (u : unit.Unit). u.terminal ≢ t) us → All (λ (u : unit.Unit). u.terminal ≢ t) us
-      all-from [] all = All-nil (λ (u : unit.Unit). u.terminal ≢ t)
-      all-from (u ∷ us) all = All-cons (λ (u : unit.Unit). u.terminal ≢ t) u us all.0 (all-from us all.1)
-
-      apart-first : (t : ℕ) (rest : List unit.Unit) (o : Option OpenUnit) → state.units t ≡ o → All (λ (u : unit.Unit). u.terminal ≢ t) rest → AreApart rest → Goal AreApart t rest
-      apart-first t rest None is all apart = none-here AreApart t rest is apart
-      apart-first t rest (Some own) is all apart = one-here AreApart t rest own is (all, apart)
-
   -- each of the terminals that has an open unit has one of these
   is-there : (terminals : List ℕ) (j : ℕ) → IsSome (state.units j) → is_among terminals j ≡ true → is_one_of (open_units told terminals) j ≡ true
   is-there [] j some among = among
@@ -248,7 +272,7 @@ tells-leave sys state told whose terminals h can have =
     (recursion_from_All (IsKeyed sys.key_length) state.before can.keyed)
     can.single
     (recursion_from_All (λ lock. IsSome (state.units lock.unit.terminal)) state.locks can.held)
-    (are-apart sys state told h terminals have.distinct)
+    (are-apart told terminals have.distinct)
     (are-own sys state told h terminals)
     (all-terminals sys state told h (λ t. whose t ≡ true) terminals (recursion_from_All (λ t. whose t ≡ true) terminals have.theirs))
     (λ t yes some. is-there sys state told h terminals t some (have.every t yes some))

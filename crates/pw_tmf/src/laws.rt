@@ -1,4 +1,5 @@
-ghost use Rattle.std.specs.Prelude.{◌≡◌, ℕ, Bool, List, [], ◌∷◌, None, Option, Some, true, false};
+ghost use Rattle.std.specs.Prelude.{◌≡◌, ◌==◌, ◌<◌, ℕ, All, Bool, List, [], ◌∷◌, None, Option, Some, true, false};
+ghost use Rattle.std.specs.List.{IsDistinct};
 ghost use Rattle.pw_code.specs.declared.file.FileCall.{FileCall};
 ghost use Rattle.pw_code.specs.declared.unit.Unit.{Unit};
 ghost use Rattle.pw_event.specs.declared.event.Cause.{Cause};
@@ -13,7 +14,7 @@ ghost use Rattle.pw_tmf.specs.Leaving.{CanLeave, HaveOpen, open_units};
 ghost use Rattle.pw_tmf.specs.Operation.{after_operation};
 ghost use Rattle.pw_tmf.specs.Tells.{Tells, begun_as, unit_begun};
 ghost use Rattle.pw_tmf.specs.Told.{Told};
-ghost use Rattle.pw_tmf.specs.Units.{all_backed_out, backed_out, begun, ended};
+ghost use Rattle.pw_tmf.specs.Units.{AreApart, CanBackOut, all_backed_out, backed_out, begun, ended};
 
 /// A disc that tells the files, locks and units of a state of the paired system tells them behind an entry too, once the
 /// entry's call is made: BEGIN begins the unit, FILE operates, COMMIT and the REPLY that ends one SEND commit, BACK
@@ -36,7 +37,8 @@ pub fn told_laws()
 {}
 
 /// A disc that tells a state tells it behind units that are left too, once these are backed out: one terminal's own unit,
-/// the unit of a terminal if one is open, or the open units of several terminals, in whatever order.
+/// the unit of a terminal if one is open, or the open units of several terminals, in whatever order. The open units of
+/// different terminals may be backed out.
 pub fn leaving_laws()
     ensures own { (sys : Behaviour) (state : State) (told : Told) (unit : Unit) (own : OpenUnit) → Tells sys state told
         → state.units unit.terminal ≡ Some own → own.number ≡ unit.number
@@ -47,4 +49,7 @@ pub fn leaving_laws()
     ensures several { (sys : Behaviour) (state : State) (told : Told) (whose : ℕ → Bool) (terminals : List ℕ)
         → Tells sys state told → CanLeave sys state → HaveOpen whose state terminals
         → Tells sys (leave_units sys whose state) (all_backed_out true told (open_units told terminals)) }
+    ensures may { (told : Told) (terminals : List ℕ) → IsDistinct (λ a b. a == b) terminals
+        → All (λ t. t < told.terminals) terminals
+        → AreApart (open_units told terminals) × All (CanBackOut true told) (open_units told terminals) }
 {}

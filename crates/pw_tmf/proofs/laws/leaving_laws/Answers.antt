@@ -1,4 +1,4 @@
-use Rattle.pw_tmf.proofs.LeftUnits.{tells-leave, tells-one, tells-own}
+use Rattle.pw_tmf.proofs.LeftUnits.{may-leave, tells-leave, tells-one, tells-own}
 use Rattle.pw_tmf.proofs.laws.leaving_laws.Goals as goal
 
 pub returns-clause-own : goal.returns-clause-own
@@ -9,3 +9,6 @@ returns-clause-one c = tells-one
 
 pub returns-clause-several : goal.returns-clause-several
 returns-clause-several c = tells-leave
+
+pub returns-clause-may : goal.returns-clause-may
+returns-clause-may c = may-leave
