@@ -2,11 +2,12 @@
 #![tactic(auto)]
 
 pub mod event;
+pub mod expand;
 pub mod fault;
 mod line;
 mod number;
 pub mod play;
-mod print;
+pub mod print;
 pub mod systems;
 #[cfg(test)]
 mod tests;
