@@ -23,6 +23,7 @@ use Rattle.pw_kept.proofs.Components.{tells-same}
 use Rattle.pw_kept.proofs.Ending.{end-stands, left-at}
 use Rattle.pw_kept.proofs.Failing.{fails-stands}
 use Rattle.pw_kept.proofs.Leaving.{cancel-stands, left-stands}
+use Rattle.pw_kept.proofs.OfRuns.{can-leave, knows-all, whole-down}
 use Rattle.pw_kept.proofs.Raised.{raise-stands}
 use Rattle.pw_kept.proofs.Restarted.{restart-stands}
 use Rattle.pw_kept.proofs.Sending.{back-enters, begin-enters, begin-send-enters, check-copy-enters, check-drop-enters, check-end-enters, check-start-enters, commit-enters, send-enters}
@@ -30,12 +31,14 @@ use Rattle.pw_kept.proofs.Served as served
 use Rattle.pw_kept.proofs.TakenOver.{takeover-stands}
 use Rattle.pw_kept.proofs.Working.{file-enters, reply-any-enters, take-enters}
 use Rattle.pw_onecopy.specs.Attempt.{BeginsUnit}
+use Rattle.pw_onecopy.specs.IsBehaviour.{IsBehaviour}
 use Rattle.pw_onecopy.specs.Path.{PathAnswer}
 use Rattle.pw_paired.specs.End.{do_end, leave_unit_at}
 use Rattle.pw_paired.specs.Failure.{is_of_pair}
 use Rattle.pw_paired.specs.Raising.{do_applied, lacks_one}
-use Rattle.pw_paired.specs.State.{Down, State}
-use Rattle.pw_paired.specs.Step.{Fits, Legal, change, effect}
+use Rattle.pw_paired.specs.State.{Down, State, starting}
+use Rattle.pw_paired.specs.Step.{Fits, IsRun, Legal, after, change, effect}
+use Rattle.pw_runs.proofs.Runs.{after_from-append}
 use Rattle.pw_paired.specs.Terminal.{LegalBegin, LegalCheckEnd, closing_answer, do_begin, do_check_end, next_verb, path_of}
 use Rattle.pw_tmf.specs.Leaving.{CanLeave}
 
@@ -130,3 +133,12 @@ pub entry-enters : (system : System) (script : List FailLine) (members : ℕ →
 entry-enters system script members state kept entry stands are knows may whole legal needs =
     logged system script (change (behaviour script system) state entry) (entered system members entry kept) (state.log ++ entry ∷ [])
     (changed system script members state kept stands are knows may whole entry legal.fits needs)
+
+pub next-enters : (system : System) (script : List FailLine) (members : ℕ → List ℕ) (log : List Event) (kept : Kept) (entry : Event) → IsBehaviour (behaviour script system) → IsRun (behaviour script system) log
+    → ((p : ℕ) → AreOf system p (members p)) → Stands system script (after (behaviour script system) log) kept → Legal (behaviour script system) (after (behaviour script system) log) entry
+    → Needs system script (after (behaviour script system) log) kept entry
+    → Stands system script (after (behaviour script system) (log ++ entry ∷ [])) (entered system members entry kept)
+next-enters system script members log kept entry b run are stands legal needs =
+    subst (λ s. Stands system script s (entered system members entry kept)) (sym (after_from-append (behaviour script system) (starting (behaviour script system)) log (entry ∷ [])))
+    (entry-enters system script members (after (behaviour script system) log) kept entry stands are
+    (knows-all (behaviour script system) b log run) (can-leave (behaviour script system) b log run) (whole-down (behaviour script system) b log run) legal needs)

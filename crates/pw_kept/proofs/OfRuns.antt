@@ -1,24 +1,30 @@
 -- What the laws ask of states holds in runs.
 use Rattle.std.proofs.Common.{◌≡◌, ℕ, zero, suc, ◌<◌, ◌&&◌, List, [], ◌∷◌, ◌++◌, Option, Some, None, Bool, true, false, not, is_some, is_none, refl, sym, ap, subst, ◌∙◌, append_assoc, arith}
-use Rattle.std.specs.Prelude.{All}
+use Rattle.std.specs.Prelude.{All, IsSome}
 use Rattle.std.specs.List.{AllByRecursion}
 use Rattle.std.proofs.lemmas.Bool.{eqb-true, or_from}
-use Rattle.std.proofs.lemmas.List.Elements.{All-from_recursion}
+use Rattle.std.proofs.lemmas.List.Elements.{All-from_recursion, All-weaker}
 use Rattle.pw_class.specs.declared.request.Request.{Request}
 use Rattle.pw_event.specs.declared.event.Ending.{Ending}
 use Rattle.pw_event.specs.declared.event.Event.{Event}
 use Rattle.pw_kept.specs.Members.{KnowsAll}
+use Rattle.pw_locking.specs.Held.{IsHeld}
+use Rattle.pw_locking.proofs.Holding.{held}
+use Rattle.pw_locking.proofs.records.Committed.{records-ok}
+use Rattle.pw_locking.proofs.records.Images.{ImageOk}
+use Rattle.pw_locks.specs.declared.lock.Lock.{Lock}
 use Rattle.pw_onecopy.specs.Behaviour.{Behaviour}
 use Rattle.pw_onecopy.specs.IsBehaviour.{IsBehaviour}
 use Rattle.pw_paired.specs.Failure.{is_of_pair}
 use Rattle.pw_paired.specs.Raising.{lacks_one}
-use Rattle.pw_paired.specs.State.{Down, BackupCopy, Job, State}
+use Rattle.pw_paired.specs.State.{Down, BackupCopy, BeforeImage, Job, State}
 use Rattle.pw_paired.specs.Step.{IsRun, after}
 use Rattle.pw_paired.specs.Units.{any_below}
 use Rattle.pw_runs.proofs.induction.Runs.{kept}
 use Rattle.pw_runs.proofs.kept.Kept.{Inv}
 use Rattle.pw_runs.proofs.requests.Requests.{place_in_line, place_of_job, sent_of}
 use Rattle.pw_runs.proofs.terms.TermOk.{HasMemory}
+use Rattle.pw_tmf.specs.Leaving.{CanLeave, HasKey, IsKeyed}
 
 module _ (sys : Behaviour) (s : State) (i : Inv sys s) where
   -- each waiting request, behind those before it
@@ -64,3 +70,22 @@ whole-down sys b log run p down =
 
     i : Inv sys s
     i = kept sys b log run
+
+-- ---- units can be left in any order
+
+keyed-one : (sys : Behaviour) (image : BeforeImage) → ImageOk sys image → IsKeyed sys.key_length image
+keyed-one sys image ok = by image.content refl
+  where
+    by : (content : Option (List ℕ)) → image.content ≡ content → HasKey (sys.key_length image.file) image.key content
+    by None is = tt
+    by (Some c) is = ok.key c is
+
+pub can-leave : (sys : Behaviour) → IsBehaviour sys → (log : List Event) → IsRun sys log → CanLeave sys (after sys log)
+can-leave sys b log run =
+    let ok = records-ok sys b log run in
+    record {
+      keyed = All-weaker (ImageOk sys) (IsKeyed sys.key_length) (keyed-one sys) (after sys log).before (All-from_recursion (ImageOk sys) (after sys log).before ok.images);
+      single = ok.single;
+      held = All-weaker (IsHeld (after sys log).units) (λ (lock : Lock). IsSome ((after sys log).units lock.unit.terminal)) (λ lock h. rw h.is_open refl) (after sys log).locks
+          (All-from_recursion (IsHeld (after sys log).units) (after sys log).locks (held sys b log run));
+    }

@@ -1,5 +1,5 @@
 -- What the calls of a world answer, and what they leave.
-use Rattle.std.specs.Prelude.{◌≡◌, ◌≢◌, ℕ, ◌<◌, List, [], ◌∷◌, ◌++◌, Bool, true, false, Option, Some, None, length, if◌then◌else◌, Result, Ok, Err}
+use Rattle.std.specs.Prelude.{◌≡◌, ◌≢◌, ◌⊎◌, ℕ, ◌<◌, List, [], ◌∷◌, ◌++◌, Bool, true, false, Option, Some, None, length, if◌then◌else◌, Result, Ok, Err}
 use Rattle.pw_base.specs.declared.memory.Memory.{Memory}
 use Rattle.pw_code.specs.declared.context.Context.{Context}
 use Rattle.pw_event.specs.declared.event.Event.{Event}
@@ -7,6 +7,7 @@ use Rattle.pw_event.specs.declared.event.Event.TheVariants as event
 use Rattle.pw_kept.specs.Changes.{kept_ran, with_job}
 use Rattle.pw_kept.specs.Entered.{entered}
 use Rattle.pw_kept.specs.Kept.{Kept}
+use Rattle.pw_kept.specs.TerminalTests.{seat_at}
 use Rattle.pw_monitor_world.specs.Actors.{IsActor, is_same_actor}
 use Rattle.pw_monitor_world.specs.Enabled.{HasStep, IsEnabled, MayWork}
 use Rattle.pw_monitor_world.specs.Seen.{Seen, finished, state_of, sys_of, work_of}
@@ -21,8 +22,8 @@ use Rattle.pw_monitor_world.specs.declared.task.Actor.{Actor}
 use Rattle.pw_monitor_world.specs.declared.task.Actor.TheVariants.{Terminal, Process, Pair, Class}
 use Rattle.pw_monitor_world.specs.declared.task.Outcome.{Outcome}
 use Rattle.pw_monitor_world.specs.declared.task.Task.{Task}
-use Rattle.pw_pair.specs.Pairs.{passes, seat_of}
-use Rattle.pw_pair.specs.Seats.{is_waiting}
+use Rattle.pw_pair.specs.Pairs.{passes}
+use Rattle.pw_pair.specs.Seats.{is_built, is_waiting}
 use Rattle.pw_paired.specs.Step.{Legal}
 
 -- ---- claim
@@ -40,11 +41,11 @@ pub record IsWork (world : Seen) (task : Task) : Type 0 where
   pub stamp : IsStamp (sys_of world) world.log task.actor task.stamp
   pub work : task.work ≡ work_of world task.actor
 
--- the log is not finished, each actor that may work is out, and one is
+-- the log is not finished, and each actor that may work is out; there is one that may
 pub record IsIdle (world : Seen) : Type 0 where
   pub unfinished : finished world ≡ false
   pub each : (actor : Actor) → IsActor world.system actor → MayWork world actor → world.out actor ≡ true
-  pub one : (actor : Actor) × (IsActor world.system actor × (world.out actor ≡ true))
+  pub one : (actor : Actor) × (IsActor world.system actor × MayWork world actor)
 
 -- what `claim` answers, and the world that it leaves
 abbrev pub Claims : Seen → Result Claim Memory → Seen → Type 0
@@ -76,16 +77,23 @@ pub record IsUnbuilt (world : Seen) (actor : Actor) : Type 0 where
   pub p : ℕ
   pub pair : actor ≡ Pair p
   pub each : (entry : Event) → IsEnabled world actor entry
-      → (t : ℕ) × ((entry ≡ event.Applied t) × (passes is_waiting (seat_of t (world.kept.pairs p)) ≡ true))
+      → (t : ℕ) × ((entry ≡ event.Applied t)
+      × (passes is_waiting (seat_at world.system world.kept t) ≡ true))
 
--- the world with its actor's context run on, where the outcome has run it
+-- the kept context of the actor is this one, at its verb
 abbrev pub run_on : Actor → Option Context → Kept → Kept
 run_on (Terminal t) (Some work) kept = kept_ran t work kept
 run_on (Process c i) (Some work) kept = with_job c i (Some work) kept
 run_on actor work kept = kept
 
+-- where the kept context stood at an answer it stands at the outcome's verb now
+abbrev pub ran_from : Option Context → Outcome → Kept → Kept
+ran_from None outcome kept = kept
+ran_from (Some given) outcome kept = run_on outcome.actor outcome.work kept
+
 abbrev pub ran : Seen → Outcome → Seen
-ran world outcome = record world { kept = run_on outcome.actor outcome.work world.kept }
+ran world outcome =
+    record world { kept = ran_from (work_of world outcome.actor) outcome world.kept }
 
 -- the outcome passes: no fault was answered, there is room, the stamps agree, and the outcome is one of the context
 -- that is kept
@@ -110,14 +118,24 @@ Comes world outcome applied.Held =
     IsAccepted world outcome × (¬ HasStep (ran world outcome) outcome.actor)
 Comes world outcome applied.Unbuilt =
     IsAccepted world outcome × IsUnbuilt (ran world outcome) outcome.actor
-Comes world outcome applied.DiscFault = Unit {0}
+Comes world outcome applied.DiscFault =
+    (world.failed ≡ true)
+    ⊎ (IsAccepted world outcome × (HasStep (ran world outcome) outcome.actor × (¬ IsUnbuilt (ran world outcome) outcome.actor)))
 Comes world outcome applied.Memory = Unit {0}
+
+-- a message that is taken in is built: no image is built here
+abbrev pub IsBuilt : Seen → Event → Type 0
+IsBuilt world (event.Applied t) = passes is_built (seat_at world.system world.kept t) ≡ true
+IsBuilt world _ = Unit {0}
 
 -- one more entry, a step of the actor, and what is kept follows it; the lists have the terminals of each pair
 pub record Pushes (members : ℕ → List ℕ) (world new : Seen) (actor : Actor) (entry : Event) : Type 0 where
   pub enabled : IsEnabled world actor entry
-  pub log : new.log ≡ world.log ++ entry ∷ []
-  pub kept : new.kept ≡ entered world.system members entry world.kept
+  pub built : IsBuilt world entry
+  pub is : new ≡ record world {
+    log = world.log ++ entry ∷ [];
+    kept = entered world.system members entry world.kept;
+  }
 
 -- a fault was answered, and the disc's count is above that at `new`; all else stays
 pub record FailsOnly (world new : Seen) : Type 0 where
@@ -131,7 +149,7 @@ pub record FailsOnly (world new : Seen) : Type 0 where
 -- on, and that the disc's count may rise
 abbrev pub LeavesApplied : (ℕ → List ℕ) → Seen → Outcome → Applied → Seen → Type 0
 LeavesApplied members world outcome applied.Done new =
-    (entry : Event) × Pushes members (ran world outcome) new outcome.actor entry
+    (entry : Event) × Pushes members (with_out outcome.actor false (ran world outcome)) new outcome.actor entry
 LeavesApplied members world outcome applied.Held new = new ≡ with_out outcome.actor false (ran world outcome)
 LeavesApplied members world outcome applied.DiscFault new = FailsOnly (with_out outcome.actor false world) new
 LeavesApplied members world outcome _ new = new ≡ with_out outcome.actor false world
@@ -145,7 +163,16 @@ EnterComes world entry enter.NotAStep = (world.failed ≡ false) × (¬ Legal (s
 EnterComes world entry enter.DiscFault = Unit {0}
 EnterComes world entry enter.Memory = Unit {0}
 
+-- system, script, limit, who is out, and the disc's count at `new` are the same
+pub record IsSameWorld (world new : Seen) : Type 0 where
+  pub system : new.system ≡ world.system
+  pub script : new.script ≡ world.script
+  pub limit : new.limit ≡ world.limit
+  pub out : (actor : Actor) → new.out actor ≡ world.out actor
+  pub faults : new.faults ≡ world.faults
+
 -- what `enter` leaves: it may run programs on, so that what is kept stands for the same state as before
 abbrev pub LeavesEntered : Seen → Event → answer.Entered → Seen → Type 0
-LeavesEntered world entry enter.Done new = new.log ≡ world.log ++ entry ∷ []
-LeavesEntered world entry _ new = new.log ≡ world.log
+LeavesEntered world entry enter.Done new =
+    IsSameWorld world new × (new.log ≡ world.log ++ entry ∷ [])
+LeavesEntered world entry _ new = IsSameWorld world new × (new.log ≡ world.log)

@@ -2,5 +2,6 @@
 #![tactic(auto)]
 
 pub mod answers;
+pub mod due;
 pub mod laws;
 pub mod task;
