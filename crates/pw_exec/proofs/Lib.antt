@@ -1,2 +1,3 @@
-mod RunLemmas
+pub mod Progress
+pub mod RunLemmas
 mod Standing

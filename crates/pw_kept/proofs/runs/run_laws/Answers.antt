@@ -1,0 +1,8 @@
+use Rattle.pw_kept.proofs.OfRuns.{knows-all, whole-down}
+use Rattle.pw_kept.proofs.runs.run_laws.Goals as goal
+
+pub returns-clause-knows : goal.returns-clause-knows
+returns-clause-knows c = knows-all
+
+pub returns-clause-whole : goal.returns-clause-whole
+returns-clause-whole c = whole-down

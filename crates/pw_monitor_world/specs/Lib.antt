@@ -1,0 +1,6 @@
+pub mod Actors
+pub mod Answers
+pub mod Enabled
+pub mod Seen
+pub mod Stamps
+pub mod Tasks
