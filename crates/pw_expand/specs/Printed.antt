@@ -11,6 +11,8 @@ use Rattle.pw_net.specs.declared.message.NetId.{NetId}
 use Rattle.pw_net.specs.declared.message.NetWord.{NetWord}
 use Rattle.pw_net.specs.declared.message.NetWord.TheVariants.{Prepare, Yes, No, Commit, Abort, Ask}
 use Rattle.pw_expand.specs.Schedule.{Schedule, schedule_of}
+use Rattle.pw_expand.specs.declared.expand.Ending.{Ending}
+use Rattle.pw_expand.specs.declared.expand.Ending.TheVariants.{Expanded, Refused}
 
 -- how a message's word is spelled
 abbrev pub word_text : NetWord → List ℕ
@@ -80,3 +82,8 @@ expanded bytes = text_of (schedule_of bytes)
 -- what is written for a schedule whose fault stands at a line
 abbrev pub fault_line : ℕ → List ℕ
 fault_line number = line (codes "SCHEDULE" ∷ codes "FAULT" ∷ codes "LINE" ∷ decimal number ∷ [])
+
+-- how a schedule is answered, and what is written then
+abbrev pub answered : Result (List ℕ) ℕ → Ending × List ℕ
+answered (Ok text) = (Expanded, text)
+answered (Err number) = (Refused, fault_line number)

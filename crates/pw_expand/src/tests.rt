@@ -1,4 +1,4 @@
-use crate::expand::expand;
+use crate::expand::{Ending, answer, expand};
 use crate::fault::ScheduleFault;
 use crate::line::event_in;
 use pw_base::bytes::Bytes;
@@ -118,6 +118,10 @@ fn fault_of(alloc: Global, schedule: &[u8]) -> Option<u32> {
 fn first_fault_is_told(rt: HostRuntime) -> Result<(), Fail> {
     for &(schedule, line) in FAULTS {
         assert_eq!(rt; fault_of(rt.alloc(), schedule), Some(line));
+        let (ending, text) = answer(rt.alloc(), schedule)?;
+        assert_eq!(rt; ending, Ending::Refused);
+        let wanted = format!(in rt.alloc(); "SCHEDULE FAULT LINE {line}\n")?;
+        assert_eq!(rt; text.as_slice(), wanted.as_bytes());
     }
     Ok(())
 }

@@ -5,4 +5,4 @@ mod Moves
 mod Replies
 mod Worlds
 mod Events
-mod Agrees
+pub mod Agrees

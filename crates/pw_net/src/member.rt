@@ -11,9 +11,10 @@ use std::alloc::Global;
 use std::collections::BTreeMap;
 use std::marker::Model;
 
-/// One system's part in transactions over several systems. Contracts see its system, the last number that it began,
-/// and how it stands to each transaction, by home and number. Each call answers the messages to send, in order, or
-/// `Memory`, which leaves the member as it was. The rules stand in docs/NET.md.
+/// One system's part in transactions over several systems. Contracts see its system, the last
+/// number that it began, and how it stands to each transaction, by home and number. Each call
+/// answers the messages to send, in order, or `Memory`, which leaves the member as it was. The
+/// rules stand in docs/NET.md.
 #[derive(Debug, Drop)]
 pub struct Member {
     alloc: Global,
@@ -94,8 +95,8 @@ impl Member {
         Ok(marks)
     }
 
-    /// Puts the new standing of a transaction, which is to collect votes only where it did. An `Err` leaves the member
-    /// as it was.
+    /// Puts the new standing of a transaction, which is to collect votes only where it did. An
+    /// `Err` leaves the member as it was.
     fn turn(&mut self, id: NetId, standing: Standing) -> Result<(), Memory>
         requires { OpensNone (standing_of self.old id) (Some standing) }
         ensures ok { OnOk result (self.new ≡ turned self.old id (Some standing)) }
@@ -119,8 +120,8 @@ impl Member {
         Ok(messages)
     }
 
-    /// Begins a transaction with these other systems: takes the next number, from 1, and sends Prepare to each. They
-    /// are to be different ones without itself, 1 to 7.
+    /// Begins a transaction with these other systems: takes the next number, from 1, and sends
+    /// Prepare to each. They are to be different ones without itself, 1 to 7.
     pub fn start(&mut self, others: &[u32]) -> Result<Vec<Net>, Memory>
         requires { self.old.last < 4294967295 }
         ensures after { OnOk result (self.new ≡ (start self.old others.now).member) }
@@ -213,8 +214,8 @@ impl Member {
         self.take(id, reply)
     }
 
-    /// A restart: each transaction whose votes were collected is aborted. It takes no memory, and the same time
-    /// however many marks there are.
+    /// A restart: each transaction whose votes were collected is aborted. It takes no memory, and
+    /// the same time however many marks there are.
     pub fn restart(&mut self)
         ensures { self.new ≡ restart self.old }
     {

@@ -27,7 +27,8 @@ impl Standing {
         }
     }
 
-    /// What stands since the last restart, where votes for numbers up to one are lost: then it is `aborted`.
+    /// What stands since the last restart, where votes for numbers up to one are lost: then it is
+    /// `aborted`.
     pub fn since<'a>(&'a self, aborted: &'a Standing, lost: u32, number: u32) -> &'a Standing
         requires { aborted.now ≡ Aborted }
         ensures { result.now ≡ since lost number self.now }
