@@ -1,4 +1,4 @@
-ghost use Rattle.std.specs.Prelude.{◌≡◌, ◌<◌, ℕ, Bool, List, length};
+ghost use Rattle.std.specs.Prelude.{◌<◌, ℕ, Bool, List, length};
 ghost use Rattle.pw_code.specs.declared.system.System.{System};
 ghost use Rattle.pw_event.specs.declared.script.FailLine.{FailLine};
 ghost use Rattle.pw_exec.specs.OfSystem.{behaviour};

@@ -1,4 +1,4 @@
-ghost use Rattle.std.specs.Prelude.{◌≡◌, ℕ, List};
+ghost use Rattle.std.specs.Prelude.{List};
 ghost use Rattle.pw_code.specs.declared.system.System.{System};
 ghost use Rattle.pw_event.specs.declared.event.Event.{Event};
 ghost use Rattle.pw_event.specs.declared.script.FailLine.{FailLine};
