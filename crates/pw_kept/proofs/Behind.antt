@@ -1,34 +1,28 @@
 -- What is kept behind an entry stands for the state behind it.
-use Rattle.std.proofs.Common.{◌≡◌, ℕ, ◌+◌, ◌-◌, List, [], ◌∷◌, ◌++◌, length, get_or, take, Option, Some, None, true, refl, sym, ap, ap₂, subst, ◌∙◌, arith}
-use Rattle.std.specs.Prelude.{IsSome, slice_get, unwrap_or, option_map}
+use Rattle.std.proofs.Common.{◌≡◌, ℕ, ◌+◌, ◌-◌, List, [], ◌∷◌, ◌++◌, length, get_or, take, Some, None, refl, sym, ap, ap₂, subst, ◌∙◌, arith}
+use Rattle.std.specs.Prelude.{option_map}
 use Rattle.std.proofs.Math.Seq.{take-append_seam}
 use Rattle.std.proofs.lemmas.List.{get_or_push, length_push}
 use Rattle.pw_code.specs.declared.context.Context.{Context}
-use Rattle.pw_code.specs.declared.context.Frame.{Frame}
 use Rattle.pw_code.specs.declared.system.System.{System}
 use Rattle.pw_code.specs.declared.system.TermInfo.{TermInfo}
 use Rattle.pw_code.specs.declared.verb.Answer.{Answer}
 use Rattle.pw_code.specs.declared.verb.Answer.TheVariants as answer
-use Rattle.pw_code.specs.declared.verb.Verb.{Verb}
-use Rattle.pw_code.specs.declared.verb.Verb.TheVariants as verb
 use Rattle.pw_event.specs.declared.script.FailLine.{FailLine}
 use Rattle.pw_exec.specs.Answers.{put}
 use Rattle.pw_exec.specs.Config.{Config, closed, frame_at}
 use Rattle.pw_exec.specs.Contexts.{Takes}
-use Rattle.pw_exec.specs.OfSystem.{behaviour, entry_at, number_by, told}
-use Rattle.pw_image.specs.Format.{IsImageOf}
-use Rattle.pw_image.specs.Image.{image_of}
+use Rattle.pw_exec.specs.OfSystem.{behaviour, entry_at, told}
 use Rattle.pw_kept.specs.Arrivals.{IsReady, StandsForPath}
-use Rattle.pw_kept.specs.Asked.{answered_with, opened, unit_in, verb_in}
-use Rattle.pw_kept.specs.Changes.{at_terminal, attempted, kept_check, with_attempt, with_context, without_unit}
+use Rattle.pw_kept.specs.Asked.{answered_with, opened, verb_in}
+use Rattle.pw_kept.specs.Changes.{with_context}
 use Rattle.pw_kept.specs.Entered.{answer_terminal, answering, entered_again, entered_key, entered_show, lines_of, verb_of}
-use Rattle.pw_kept.specs.Kept.{Kept, KeptTerminal}
-use Rattle.pw_kept.specs.Stands.{IsPathImage, IsReadyIfAny, Stands, StandsForKnown, StandsIfAny, works}
-use Rattle.pw_kept.specs.Tested.{Carries, IsAsking, IsPlaced}
+use Rattle.pw_kept.specs.Kept.{Kept}
+use Rattle.pw_kept.specs.Stands.{IsReadyIfAny, Stands}
+use Rattle.pw_kept.specs.Tested.{IsAsking}
 use Rattle.pw_kept.proofs.Answered.{answered}
 use Rattle.pw_kept.proofs.Arrived.{answered-one}
-use Rattle.pw_kept.proofs.Components.{pair-of}
-use Rattle.pw_onecopy.specs.Path.{Begun, Dropped, Ended, Entry, PathAnswer, Replied, Shown, unit_number}
+use Rattle.pw_onecopy.specs.Path.{Entry, PathAnswer, Replied, Shown}
 use Rattle.pw_onecopy.specs.Update.{upd}
 use Rattle.pw_paired.specs.State.{LastEnded, State}
 use Rattle.pw_paired.specs.Terminal.{do_again, do_key, do_show, kept_reply, next_verb, path_of}

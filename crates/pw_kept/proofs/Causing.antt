@@ -1,11 +1,9 @@
 -- The tests of causes are those of the state.
-use Rattle.std.proofs.Common.{◌≡◌, ℕ, zero, suc, ◌+◌, ◌<◌, ◌≤◌, ◌==◌, ◌&&◌, ◌||◌, nat_lt, List, Option, Some, None, Bool, true, false, not, is_some, refl, sym, ap, ap₂, subst, ◌∙◌, length, arith}
+use Rattle.std.proofs.Common.{◌≡◌, ℕ, ◌+◌, ◌<◌, ◌==◌, ◌&&◌, ◌||◌, nat_lt, List, Option, Some, None, Bool, not, is_some, refl, sym, ap, ap₂, subst, ◌∙◌, length, arith}
 use Rattle.std.specs.Prelude.{slice_get}
 use Rattle.std.specs.List.{list_any}
 use Rattle.std.specs.Option.{option_map}
 use Rattle.pw_class.specs.Queue.{at_process}
-use Rattle.pw_class.specs.declared.request.Request.{Request}
-use Rattle.pw_code.specs.declared.context.Context.{Context}
 use Rattle.pw_code.specs.declared.file.FileCall.{FileCall}
 use Rattle.pw_code.specs.declared.lock.LockRule.{LockRule}
 use Rattle.pw_code.specs.declared.system.ClassInfo.{ClassInfo}
@@ -27,13 +25,13 @@ use Rattle.pw_kept.specs.Kept.{Kept}
 use Rattle.pw_kept.specs.PairTests.{is_alone, is_gone}
 use Rattle.pw_kept.specs.Stands.{Stands, StandsForClass}
 use Rattle.pw_kept.specs.TerminalTests.{is_paired}
-use Rattle.pw_kept.specs.Tested.{CauseTested, IsAsking, IsPlaced, IsServing}
+use Rattle.pw_kept.specs.Tested.{CauseTested, IsPlaced, IsServing}
 use Rattle.pw_kept.proofs.Agreeing.{there-is}
 use Rattle.pw_kept.proofs.Components.{some_is}
 use Rattle.pw_kept.proofs.Serving.{unit-same, where-works}
 use Rattle.pw_kept.proofs.Testing.{alone-as, any-same, gone-as, own-mode, paired-as, where-is}
 use Rattle.pw_legal.specs.Causes as legal
-use Rattle.pw_legal.specs.Causes.{is_caused, is_legal_restart, job_meets}
+use Rattle.pw_legal.specs.Causes.{is_legal_restart, job_meets}
 use Rattle.pw_legal.specs.Pairs.{is_legal_end}
 use Rattle.pw_legal.specs.Values.{is_server_by, is_takeover_by, some_with}
 use Rattle.pw_legal.specs.Verbs.{asks_file, asks_redo}
@@ -41,8 +39,6 @@ use Rattle.pw_locks.specs.Conflicts.{conflict, is_same_unit}
 use Rattle.pw_locks.specs.declared.lock.Lock.{Lock}
 use Rattle.pw_onecopy.specs.Operation.{lock_for}
 use Rattle.pw_paired.specs.Failure.{unit_named}
-use Rattle.pw_paired.specs.Serial as serial
-use Rattle.pw_paired.specs.Server.{server_verb}
 use Rattle.pw_paired.specs.State.{BeforeImage, Job, OpenUnit, State}
 use Rattle.pw_paired.specs.Units.{request_in, restarts_of}
 use Rattle.pw_runs.proofs.requests.Queues.{works-queue}

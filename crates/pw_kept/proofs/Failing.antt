@@ -1,9 +1,7 @@
 -- A member of a pair fails.
-use Rattle.std.proofs.Common.{◌≡◌, ◌≢◌, ℕ, ◌<◌, ◌==◌, List, Option, Some, None, Bool, true, false, cond, refl, sym, ap, subst, ◌∙◌, length, ⊎_elim, true≢false}
-use Rattle.std.specs.Prelude.{slice_get}
+use Rattle.std.proofs.Common.{◌≡◌, ◌≢◌, ℕ, ◌<◌, List, Option, None, Bool, true, false, cond, refl, sym, ap, subst, ◌∙◌, length, ⊎_elim, true≢false}
 use Rattle.std.proofs.lemmas.Bool.{cases_eq, eq-eqb, ne_eqb}
 use Rattle.pw_code.specs.declared.system.System.{System}
-use Rattle.pw_code.specs.declared.system.TermInfo.{TermInfo}
 use Rattle.pw_event.specs.declared.script.FailLine.{FailLine}
 use Rattle.pw_exec.specs.OfSystem.{behaviour}
 use Rattle.pw_kept.specs.Changes.{at_each, at_pair, backup_lost, cancel, kept_fail_tcp, leave, primary_lost, without_path}
@@ -17,7 +15,7 @@ use Rattle.pw_kept.proofs.Settled.{terminals-work}
 use Rattle.pw_onecopy.specs.Update.{upd}
 use Rattle.pw_onecopy.proofs.Update.{upd-other, upd-same, upd_elim}
 use Rattle.pw_pair.specs.Pairs as pair
-use Rattle.pw_pair.specs.Pairs.{SeenPair, in_mode}
+use Rattle.pw_pair.specs.Pairs.{in_mode}
 use Rattle.pw_pair.specs.Seats.{without_backup, without_flight}
 use Rattle.pw_paired.specs.Failure as paired
 use Rattle.pw_paired.specs.Failure.{backup_fails, do_fail_tcp, is_of_pair, lose_backup, lose_pair, lose_primary, primary_fails}

@@ -1,6 +1,6 @@
 -- The tests of what is kept that compare images are those of the state, which compare paths.
 use Rattle.std.proofs.Common.{◌≡◌, ℕ, ◌==◌, ◌&&◌, List, [], ◌∷◌, ◌++◌, Option, Some, None, Bool, true, false, not, is_some, is_none, refl, sym, ap, ap₂, subst, ◌∙◌, bytes_eq}
-use Rattle.std.specs.Prelude.{IsSome, slice_get}
+use Rattle.std.specs.Prelude.{IsSome}
 use Rattle.std.proofs.lemmas.Bool.{eqb-true}
 use Rattle.std.proofs.lemmas.Slice.Eq.{bytes_eq-Decides}
 use Rattle.pw_code.specs.declared.context.Context.{Context}
@@ -15,10 +15,10 @@ use Rattle.pw_image.specs.Image.{image_of}
 use Rattle.pw_kept.specs.Arrivals.{StandsForPath}
 use Rattle.pw_kept.specs.Asked.{answered_with, unit_in, verb_in}
 use Rattle.pw_kept.specs.Kept.{Kept}
-use Rattle.pw_kept.specs.Stands.{IsPathImage, Stands, StandsForHeld, StandsForKnown, StandsIfAny}
+use Rattle.pw_kept.specs.Stands.{IsPathImage, Stands, StandsForHeld, StandsIfAny}
 use Rattle.pw_kept.specs.TerminalTests as kept
-use Rattle.pw_kept.specs.TerminalTests.{can_where, end_held, flies, may_back, may_begin, may_check_end, may_check_start, may_commit, seat_at, start_held}
-use Rattle.pw_kept.specs.Tested.{IsAsking, IsAskingEnd, IsAskingStart, IsPlaced, TellsEnd, TellsStart}
+use Rattle.pw_kept.specs.TerminalTests.{end_held, flies, may_back, may_begin, may_check_end, may_check_start, may_commit, seat_at, start_held}
+use Rattle.pw_kept.specs.Tested.{IsAsking, IsAskingEnd, IsAskingStart, TellsEnd, TellsStart}
 use Rattle.pw_kept.proofs.Arrived.{one-context}
 use Rattle.pw_kept.proofs.Testing.{ended, flies-same, not-some, seat-held, where-can-is, where-is}
 use Rattle.pw_kept.proofs.UnitChanges.{has-context}
@@ -34,8 +34,8 @@ use Rattle.pw_onecopy.specs.Path.{PathAnswer, Dropped, Ended, is_outside, unit_n
 use Rattle.pw_pair.specs.Pairs.{passes}
 use Rattle.pw_pair.specs.Seats as seats
 use Rattle.pw_pair.specs.declared.backup.Held.{Held}
-use Rattle.pw_paired.specs.State.{BackupCopy, LastEnded, State}
-use Rattle.pw_paired.specs.Terminal.{awaited_of, closed_path, closing_answer, next_verb, path_of, path_with}
+use Rattle.pw_paired.specs.State.{BackupCopy, State}
+use Rattle.pw_paired.specs.Terminal.{awaited_of, closing_answer, next_verb, path_of, path_with}
 use Rattle.pw_paired.specs.Units.{attempt_of, restarts_of}
 
 -- ---- small things

@@ -1,13 +1,13 @@
 -- What the laws ask of states holds in runs.
-use Rattle.std.proofs.Common.{◌≡◌, ℕ, zero, suc, ◌<◌, ◌&&◌, List, [], ◌∷◌, ◌++◌, Option, Some, None, Bool, true, false, not, is_some, is_none, refl, sym, ap, subst, ◌∙◌, append_assoc, arith}
-use Rattle.std.specs.Prelude.{All, IsSome}
+use Rattle.std.proofs.Common.{◌≡◌, ℕ, zero, suc, ◌+◌, ◌<◌, ◌≤◌, ◌&&◌, List, [], ◌∷◌, ◌++◌, Option, Some, None, Bool, true, false, not, is_some, is_none, refl, sym, ap, subst, ◌∙◌, append_assoc, arith}
+use Rattle.std.specs.Prelude.{IsSome}
 use Rattle.std.specs.List.{AllByRecursion}
 use Rattle.std.proofs.lemmas.Bool.{eqb-true, or_from}
 use Rattle.std.proofs.lemmas.List.Elements.{All-from_recursion, All-weaker}
 use Rattle.pw_class.specs.declared.request.Request.{Request}
 use Rattle.pw_event.specs.declared.event.Ending.{Ending}
 use Rattle.pw_event.specs.declared.event.Event.{Event}
-use Rattle.pw_kept.specs.Members.{KnowsAll}
+use Rattle.pw_kept.specs.Members.{KnowsAll, RunsFor}
 use Rattle.pw_locking.specs.Held.{IsHeld}
 use Rattle.pw_locking.proofs.Holding.{held}
 use Rattle.pw_locking.proofs.records.Committed.{records-ok}
@@ -16,14 +16,16 @@ use Rattle.pw_locks.specs.declared.lock.Lock.{Lock}
 use Rattle.pw_onecopy.specs.Behaviour.{Behaviour}
 use Rattle.pw_onecopy.specs.IsBehaviour.{IsBehaviour}
 use Rattle.pw_paired.specs.Failure.{is_of_pair}
-use Rattle.pw_paired.specs.Raising.{lacks_one}
-use Rattle.pw_paired.specs.State.{Down, BackupCopy, BeforeImage, Job, State}
+use Rattle.pw_onecopy.specs.Path.{PathAnswer, unit_number}
+use Rattle.pw_paired.specs.Raising.{is_takeover, lacks_one}
+use Rattle.pw_paired.specs.State.{Down, BackupCopy, BeforeImage, Job, OpenUnit, State}
 use Rattle.pw_paired.specs.Step.{IsRun, after}
-use Rattle.pw_paired.specs.Units.{any_below}
+use Rattle.pw_paired.specs.Terminal.{LegalBegin, path_of}
+use Rattle.pw_paired.specs.Units.{any_below, attempt_of}
 use Rattle.pw_runs.proofs.induction.Runs.{kept}
 use Rattle.pw_runs.proofs.kept.Kept.{Inv}
 use Rattle.pw_runs.proofs.requests.Requests.{place_in_line, place_of_job, sent_of}
-use Rattle.pw_runs.proofs.terms.TermOk.{HasMemory}
+use Rattle.pw_runs.proofs.terms.TermOk.{HasMemory, IsWorking, PathOf, PathOk, RestingPath, TermOk}
 use Rattle.pw_tmf.specs.Leaving.{CanLeave, HasKey, IsKeyed}
 
 module _ (sys : Behaviour) (s : State) (i : Inv sys s) where
@@ -89,3 +91,33 @@ can-leave sys b log run =
       held = All-weaker (IsHeld (after sys log).units) (λ (lock : Lock). IsSome ((after sys log).units lock.unit.terminal)) (λ lock h. rw h.is_open refl) (after sys log).locks
           (All-from_recursion (IsHeld (after sys log).units) (after sys log).locks (held sys b log run));
     }
+
+-- ---- units
+
+-- a unit that begins again has its number
+pub begins-same : (sys : Behaviour) → IsBehaviour sys → (log : List Event) → IsRun sys log → (t n r : ℕ) → LegalBegin sys (after sys log) t n r → (own : OpenUnit) → (after sys log).units t ≡ Some own → own.number ≡ n
+begins-same sys b log run t n r legal own is =
+    let unit = ok.unit_ok own is in
+    let path : PathOf sys t (s.ended t).number own.running (path_of s t) =
+    subst (λ (o : Option OpenUnit). PathOk sys t (s.ended t).number o (path_of s t)) is
+    (ok.path_ok legal.can.live.going_on (subst IsWorking (sym legal.can.paired) tt) (ap is_takeover legal.can.calm)) in
+    let rests : RestingPath sys t ((s.ended t).number + 1) ((s.ended t).number + 1) (path_of s t) =
+    subst (λ (o : Option (List PathAnswer)). PathOf sys t (s.ended t).number o (path_of s t)) (sym (ap attempt_of is) ∙ legal.idle) path in
+    let first : own.number ≡ (s.ended t).number + 1 = unit.number in
+    let second : n ≡ unit_number (path_of s t) = legal.number in
+    let low : (s.ended t).number + 1 ≤ unit_number (path_of s t) = rests.low_is in
+    let high : unit_number (path_of s t) ≤ (s.ended t).number + 1 = rests.high_is in
+    omega (arith, first, second, low, high)
+  where
+    s : State
+    s = after sys log
+
+    ok : TermOk sys t (s.ended t).number (s.units t) (s.memory t) (s.flight t) (s.terms t) (s.modes (sys.pair_of t))
+    ok = (kept sys b log run).terms t legal.can.live.known
+
+-- a server works for a running attempt
+pub works-for : (sys : Behaviour) → IsBehaviour sys → (log : List Event) → IsRun sys log → (c i : ℕ) (job : Job) → ((after sys log).classes c).busy i ≡ Some job → RunsFor sys (after sys log) c job
+works-for sys b log run c i job works =
+    let inv = kept sys b log run in
+    let out = inv.out job.request.terminal _ (ap sent_of (place_of_job inv.requests works refl)) in
+    record { unit = out.unit; is_open = out.is_open; number = out.number; start = out.start; runs = out.runs; asks = out.asks }

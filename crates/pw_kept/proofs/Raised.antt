@@ -1,5 +1,5 @@
 -- All seats of a pair are changed.
-use Rattle.std.proofs.Common.{◌≡◌, ℕ, List, None, true, refl, sym, ap, ◌∙◌}
+use Rattle.std.proofs.Common.{◌≡◌, ℕ, List, None, true, refl, ap, ◌∙◌}
 use Rattle.pw_code.specs.declared.system.System.{System}
 use Rattle.pw_event.specs.declared.script.FailLine.{FailLine}
 use Rattle.pw_exec.specs.OfSystem.{behaviour}

@@ -15,7 +15,7 @@ use Rattle.pw_kept.specs.Stands.{Stands}
 use Rattle.pw_kept.proofs.Answered.{answered}
 use Rattle.pw_kept.proofs.Served.{freed-stands}
 use Rattle.pw_kept.proofs.UnitChanges.{ends-stands}
-use Rattle.pw_onecopy.specs.Path.{Failed, PathAnswer, Replied, is_outside, unit_number}
+use Rattle.pw_onecopy.specs.Path.{Failed, Replied, is_outside, unit_number}
 use Rattle.pw_paired.specs.Server as paired
 use Rattle.pw_paired.specs.Server.{do_reply, reply_at}
 use Rattle.pw_paired.specs.State.{Job, State}

@@ -1,11 +1,10 @@
 -- What is kept behind a CHECK, a BEGIN, a SEND and the end of a unit stands for the state behind it.
 use Rattle.std.proofs.Common.{◌≡◌, ℕ, List, [], ◌∷◌, ◌++◌, Option, Some, None, true, refl, sym, ap, subst, ◌∙◌}
-use Rattle.std.specs.Prelude.{option_map, slice_get, unwrap_or}
+use Rattle.std.specs.Prelude.{option_map, unwrap_or}
 use Rattle.pw_code.specs.declared.context.Context.{Context}
 use Rattle.pw_code.specs.declared.system.System.{System}
 use Rattle.pw_code.specs.declared.system.TermInfo.{TermInfo}
 use Rattle.pw_code.specs.declared.verb.Answer.TheVariants as answer
-use Rattle.pw_code.specs.declared.verb.Verb.{Verb}
 use Rattle.pw_code.specs.declared.verb.Verb.TheVariants as verb
 use Rattle.pw_event.specs.declared.script.FailLine.{FailLine}
 use Rattle.pw_exec.specs.OfSystem.{behaviour, number_by}
@@ -27,7 +26,7 @@ use Rattle.pw_onecopy.specs.Update.{upd}
 use Rattle.pw_pair.specs.declared.message.CheckKind.TheVariants as kind
 use Rattle.pw_paired.specs.Raising.{LegalCheckCopy, copied_path, do_check_copy}
 use Rattle.pw_paired.specs.State.{Copy, End, OpenUnit, Start, State}
-use Rattle.pw_paired.specs.Terminal.{LegalBack, LegalBegin, LegalCheckEnd, LegalCheckStart, LegalCommit, LegalSend, closed_path, closing_answer, do_back, do_begin, do_check_end, do_check_start, do_commit, do_send, message_of, next_verb, path_of, path_with}
+use Rattle.pw_paired.specs.Terminal.{LegalBegin, LegalCheckEnd, LegalCheckStart, LegalSend, closed_path, closing_answer, do_back, do_begin, do_check_end, do_check_start, do_commit, do_send, message_of, next_verb, path_of, path_with}
 use Rattle.pw_paired.specs.Units.{attempt_of}
 use Rattle.pw_tmf.specs.Units.{backed_out, begun, ended}
 

@@ -1,5 +1,5 @@
 -- The tests of a class are those of the state.
-use Rattle.std.proofs.Common.{◌≡◌, ℕ, ◌==◌, ◌&&◌, List, Option, Some, None, Bool, true, false, refl, sym, ap, ap₂, subst, ◌∙◌}
+use Rattle.std.proofs.Common.{◌≡◌, ℕ, ◌==◌, ◌&&◌, List, Option, Some, Bool, true, false, refl, sym, ap, ◌∙◌}
 use Rattle.std.specs.Prelude.{slice_get}
 use Rattle.std.specs.Option.{option_map}
 use Rattle.std.proofs.lemmas.Bool.{and_from, eq-eqb, eqb-true}
@@ -35,7 +35,7 @@ use Rattle.pw_locks.specs.declared.lock.Lock.{Lock}
 use Rattle.pw_onecopy.specs.Operation.{answer_of, lock_for, plain_op}
 use Rattle.pw_paired.specs.Queues.{queue_of}
 use Rattle.pw_paired.specs.Server.{LegalTake, server_verb}
-use Rattle.pw_paired.specs.State.{Class, Job, State}
+use Rattle.pw_paired.specs.State.{State}
 use Rattle.pw_paired.specs.Units.{birth_of, request_in, unit_of}
 use Rattle.pw_runs.proofs.requests.Queues.{got-queue, taken-queue, works-queue}
 use Rattle.pw_tmf.specs.Tells.{as_told, images_by}

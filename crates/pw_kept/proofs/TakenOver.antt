@@ -6,27 +6,22 @@ use Rattle.std.specs.Option.{option_map}
 use Rattle.std.proofs.lemmas.Bool.{cases_eq, eq-eqb, eqb-true, ne_eqb}
 use Rattle.std.proofs.lemmas.Option.{slice_get_within}
 use Rattle.std.proofs.lemmas.List.Elements.{All-head, All-tail}
-use Rattle.pw_code.specs.declared.context.Context.{Context}
 use Rattle.pw_code.specs.declared.system.System.{System}
 use Rattle.pw_code.specs.declared.system.TermInfo.{TermInfo}
-use Rattle.pw_event.specs.declared.event.Cause.{Cause}
 use Rattle.pw_event.specs.declared.event.Cause.TheVariants.{Takeover}
 use Rattle.pw_event.specs.declared.event.Ending.{Ending}
 use Rattle.pw_event.specs.declared.script.FailLine.{FailLine}
 use Rattle.pw_exec.specs.OfSystem.{behaviour}
-use Rattle.pw_image.specs.Format.{IsImageOf}
 use Rattle.pw_image.specs.Reading.{context_in}
 use Rattle.pw_image.proofs.ImageForms.{read-again}
-use Rattle.pw_kept.specs.Arrivals.{StandsForPath}
-use Rattle.pw_kept.specs.Changes.{kept_takeover, memory_in, resumed, resumed_live, runs_told, taken_over}
+use Rattle.pw_kept.specs.Changes.{kept_takeover, memory_in, resumed, resumed_live, runs_told}
 use Rattle.pw_kept.specs.Kept.{Kept, KeptTerminal}
 use Rattle.pw_kept.specs.Members.{AreOf}
 use Rattle.pw_kept.specs.Stands.{IsPathImage, Stands, StandsForHeld, StandsForKnown, StandsForPair, StandsForSeat, StandsForTerminal, StandsIfAny, has_flights}
 use Rattle.pw_kept.proofs.Among.{among-is}
-use Rattle.pw_kept.proofs.Components.{TerminalsStand, pair-changed, pair-of, some_is, tells-same}
+use Rattle.pw_kept.proofs.Components.{pair-changed, pair-of, some_is, tells-same}
 use Rattle.pw_kept.proofs.Emptied.{emptied, with-others, with-own}
 use Rattle.pw_onecopy.specs.Path.{PathAnswer}
-use Rattle.pw_onecopy.specs.Update.{upd}
 use Rattle.pw_onecopy.proofs.Update.{upd-other, upd-same}
 use Rattle.pw_pair.specs.Pairs.{SeenPair, after_take, seat_of}
 use Rattle.pw_pair.specs.Seats.{is_seat_of}

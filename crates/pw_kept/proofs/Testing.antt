@@ -3,18 +3,15 @@ use Rattle.std.proofs.Common.{◌≡◌, ℕ, zero, suc, ◌+◌, ◌<◌, ◌==
 use Rattle.std.specs.Prelude.{slice_get}
 use Rattle.pw_class.specs.Queue as queue
 use Rattle.pw_code.specs.declared.context.Context.{Context}
-use Rattle.pw_code.specs.declared.system.ClassInfo.{ClassInfo}
 use Rattle.pw_code.specs.declared.system.System.{System}
 use Rattle.pw_code.specs.declared.system.TermInfo.{TermInfo}
-use Rattle.pw_code.specs.declared.verb.Verb.{Verb}
 use Rattle.pw_event.specs.declared.event.Ending.TheVariants.{Fault, Lost, NoEntries, Stopped}
 use Rattle.pw_event.specs.declared.script.FailLine.{FailLine}
 use Rattle.pw_exec.specs.OfSystem.{behaviour, number_by, processes_by}
-use Rattle.pw_kept.specs.Asked.{number_in, unit_in, verb_in}
-use Rattle.pw_kept.specs.Changes.{memory_in, runs_told}
+use Rattle.pw_kept.specs.Changes.{runs_told}
 use Rattle.pw_kept.specs.Kept.{Kept}
 use Rattle.pw_kept.specs.PairTests.{is_alone, is_down, is_gone, is_in, is_raising, is_sending, may_apply, may_copy, may_lose, may_raise, may_take_over}
-use Rattle.pw_kept.specs.Stands.{Stands, StandsForClass, StandsForHeld, StandsForMessage, StandsForPair, StandsForSeat, StandsIfAny, mode_as}
+use Rattle.pw_kept.specs.Stands.{Stands, StandsForClass, StandsForHeld, StandsForPair, StandsForSeat, StandsIfAny, mode_as}
 use Rattle.pw_kept.specs.TerminalTests as kept
 use Rattle.pw_kept.specs.TerminalTests.{can_where, entries_of, flies, is_live, may_again, may_end_entries, may_fault, may_key, may_send, may_show, may_stop, pair_of, seat_at}
 use Rattle.pw_kept.specs.Tested.{IsAsking, IsPlaced}
@@ -27,15 +24,13 @@ use Rattle.pw_legal.specs.Terminals.{is_legal_again, is_legal_key, is_legal_send
 use Rattle.pw_legal.specs.Values as values
 use Rattle.pw_legal.specs.Values.{is_same_refresh, some_with}
 use Rattle.pw_legal.specs.Verbs.{asks_accept, asks_fault, asks_send, asks_send_to, asks_show, asks_stop}
-use Rattle.pw_onecopy.specs.Path.{RefreshNumber}
-use Rattle.pw_pair.specs.Pairs.{SeenPair, passes, seat_of}
-use Rattle.pw_pair.specs.Seats.{has_memory, is_flying, is_seat_of}
+use Rattle.pw_pair.specs.Pairs.{passes, seat_of}
+use Rattle.pw_pair.specs.Seats.{has_memory, is_flying}
 use Rattle.pw_pair.specs.declared.seat.Seat.{Seat}
-use Rattle.pw_paired.specs.Failure.{is_live_of, is_of_pair, runs_unit}
+use Rattle.pw_paired.specs.Failure.{is_live_of, is_of_pair}
 use Rattle.pw_paired.specs.Raising.{is_takeover}
 use Rattle.pw_paired.specs.Serial as serial
 use Rattle.pw_paired.specs.State.{Mode, Alone, Raising, Paired, Down, Gone, LastEnded, State}
-use Rattle.pw_paired.specs.Terminal.{next_verb, path_of}
 use Rattle.pw_paired.specs.Units as units
 use Rattle.pw_paired.specs.Units.{any_below}
 use Rattle.pw_runs.proofs.requests.Queues.{has-queue}

@@ -1,9 +1,8 @@
 -- What is kept behind a TAKE, a FILE and a REPLY stands for the state behind it.
-use Rattle.std.proofs.Common.{◌≡◌, ℕ, List, [], ◌∷◌, ◌++◌, map, Option, Some, None, Bool, true, false, not, cond, refl, sym, ap, ap₂, subst, ◌∙◌}
+use Rattle.std.proofs.Common.{◌≡◌, ℕ, List, [], ◌∷◌, ◌++◌, map, Option, Some, None, Bool, true, false, cond, refl, sym, ap, ap₂, subst, ◌∙◌}
 use Rattle.std.specs.Prelude.{slice_get}
 use Rattle.std.proofs.lemmas.List.{map-append}
 use Rattle.pw_class.specs.Queue.{Queue}
-use Rattle.pw_class.specs.declared.request.Request.{Request}
 use Rattle.pw_code.specs.declared.context.Context.{Context}
 use Rattle.pw_code.specs.declared.file.FileCall.{FileCall}
 use Rattle.pw_code.specs.declared.file.FileOp.{FileOp}
@@ -11,20 +10,19 @@ use Rattle.pw_code.specs.declared.lock.LockMode.{LockMode}
 use Rattle.pw_code.specs.declared.system.ClassInfo.{ClassInfo}
 use Rattle.pw_code.specs.declared.system.System.{System}
 use Rattle.pw_code.specs.declared.verb.Answer.TheVariants as answer
-use Rattle.pw_code.specs.declared.verb.Verb.{Verb}
 use Rattle.pw_code.specs.declared.verb.Verb.TheVariants as verb
 use Rattle.pw_event.specs.declared.script.FailLine.{FailLine}
 use Rattle.pw_exec.specs.Answers.{put}
-use Rattle.pw_exec.specs.Config.{closed, starting_server}
+use Rattle.pw_exec.specs.Config.{starting_server}
 use Rattle.pw_exec.specs.OfSystem.{behaviour, file_told}
-use Rattle.pw_exec.specs.Runs.{StandsForFiles, StandsFrom, at_verb}
+use Rattle.pw_exec.specs.Runs.{StandsForFiles, at_verb}
 use Rattle.pw_exec.specs.Steps.{step}
 use Rattle.pw_exec.proofs.RunLemmas as lemmas
 use Rattle.pw_kept.specs.Arrivals.{StandsForPath}
-use Rattle.pw_kept.specs.Asked.{answered_with, unit_in, verb_in}
+use Rattle.pw_kept.specs.Asked.{answered_with, verb_in}
 use Rattle.pw_kept.specs.Changes.{free_process, kept_file, kept_take, unit_at, without_unit}
 use Rattle.pw_kept.specs.Entered.{answer_on, entered_file, entered_reply, entered_take, file_at, file_by, is_outside_at, replies_last, replies_to, reply_by, started_on, unit_of_ready}
-use Rattle.pw_kept.specs.Kept.{Kept, KeptTerminal}
+use Rattle.pw_kept.specs.Kept.{Kept}
 use Rattle.pw_kept.specs.Stands.{Stands, StandsForJob, StandsIfAny}
 use Rattle.pw_kept.specs.Tested.{IsAsking, IsServing}
 use Rattle.pw_kept.proofs.Behind.{answering-is, behind, takes-one}
@@ -36,7 +34,7 @@ use Rattle.pw_onecopy.specs.Operation.{answer_of}
 use Rattle.pw_onecopy.specs.Path.{Failed, FileAnswer, Replied, is_outside, unit_number}
 use Rattle.pw_onecopy.specs.Update.{upd}
 use Rattle.pw_paired.specs.Server as paired
-use Rattle.pw_paired.specs.Server.{LegalFile, LegalReply, LegalTake, do_file, do_reply, do_take, reply_at, reply_of, server_verb, with_answer}
+use Rattle.pw_paired.specs.Server.{LegalFile, LegalTake, do_file, do_reply, do_take, reply_at, reply_of, server_verb, with_answer}
 use Rattle.pw_paired.specs.State.{Job, State}
 use Rattle.pw_paired.specs.Terminal.{path_of}
 use Rattle.pw_tmf.specs.Units.{ended}

@@ -3,8 +3,11 @@ use Rattle.std.specs.Prelude.{◌≡◌, ℕ, ◌==◌, ◌<◌, List, All, Some
 use Rattle.std.specs.List.{IsDistinct}
 use Rattle.pw_code.specs.declared.system.System.{System}
 use Rattle.pw_code.specs.declared.system.TermInfo.{TermInfo}
+use Rattle.pw_code.specs.declared.verb.Verb.TheVariants as verb
 use Rattle.pw_onecopy.specs.Behaviour.{Behaviour}
+use Rattle.pw_onecopy.specs.Path.{PathAnswer}
 use Rattle.pw_paired.specs.State.{Job, OpenUnit, State}
+use Rattle.pw_paired.specs.Terminal.{next_verb}
 use Rattle.pw_tmf.specs.Leaving.{is_among}
 
 -- the terminal is one of the pair
@@ -27,3 +30,13 @@ pub record KnowsAll (sys : Behaviour) (state : State) : Type 0 where
       → All (λ request. request.terminal < sys.terminals) (state.classes c).waiting
   pub busy : (c i : ℕ) (job : Job) → (state.classes c).busy i ≡ Some job
       → job.request.terminal < sys.terminals
+
+-- A server of a class works for a unit of which an attempt runs, and whose terminal's program asks
+-- for the request.
+pub record RunsFor (sys : Behaviour) (state : State) (c : ℕ) (job : Job) : Type 0 where
+  pub unit : OpenUnit
+  pub is_open : state.units job.request.terminal ≡ Some unit
+  pub number : job.request.unit ≡ unit.number
+  pub start : List PathAnswer
+  pub runs : unit.running ≡ Some start
+  pub asks : next_verb sys state job.request.terminal ≡ verb.Send c job.request.message

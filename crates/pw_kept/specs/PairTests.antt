@@ -1,5 +1,5 @@
 -- Whether the entries of a pair and END LOST are legal, computed from what is kept.
-use Rattle.std.specs.Prelude.{ℕ, ◌==◌, ◌&&◌, ◌||◌, Bool, true, false, not, length, is_none, is_some, slice_get}
+use Rattle.std.specs.Prelude.{ℕ, ◌==◌, ◌&&◌, Bool, true, false, not, length, is_none, slice_get}
 use Rattle.pw_code.specs.declared.system.System.{System}
 use Rattle.pw_exec.specs.OfSystem.{number_by}
 use Rattle.pw_kept.specs.Kept.{Kept}

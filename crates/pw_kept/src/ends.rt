@@ -11,10 +11,14 @@ ghost use Rattle.pw_paired.specs.End.{do_end};
 ghost use Rattle.pw_paired.specs.State.{State};
 ghost use Rattle.pw_tmf.specs.Leaving.{CanLeave};
 
-/// END, with each ending: what is kept stands for the state behind the entry. An open unit is left but at STOPPED and LOST.
+/// END, with each ending: what is kept stands for the state behind the entry. An open unit is left
+/// but at STOPPED and LOST.
 pub fn end_laws()
-    ensures end { (system : System) (script : List FailLine) (state : State) (kept : Kept) (t : ℕ) (ending : Ending)
-        (terminal : TermInfo) → Stands system script state kept → slice_get system.terminals t ≡ Some terminal
+    ensures end { (system : System) (script : List FailLine) (state : State) (kept : Kept) (t : ℕ)
+        (ending : Ending)
+        (terminal : TermInfo) → Stands system script state kept
+        → slice_get system.terminals t ≡ Some terminal
         → CanLeave (behaviour script system) state
-        → Stands system script (do_end (behaviour script system) t ending state) (kept_end terminal.tcp t ending kept) }
+        → Stands system script (do_end (behaviour script system) t ending state)
+        (kept_end terminal.tcp t ending kept) }
 {}

@@ -1,4 +1,4 @@
-ghost use Rattle.std.specs.Prelude.{◌≡◌, ℕ, List};
+ghost use Rattle.std.specs.Prelude.{List};
 ghost use Rattle.pw_code.specs.declared.system.System.{System};
 ghost use Rattle.pw_event.specs.declared.event.Event.{Event};
 ghost use Rattle.pw_event.specs.declared.script.FailLine.{FailLine};
@@ -8,6 +8,7 @@ ghost use Rattle.pw_paired.specs.State.{State};
 
 /// What is kept stands for a state whatever its log is.
 pub fn log_laws()
-    ensures log { (system : System) (script : List FailLine) (state : State) (kept : Kept) (log : List Event)
+    ensures log { (system : System) (script : List FailLine) (state : State) (kept : Kept)
+        (log : List Event)
         → Stands system script state kept → Stands system script (record state { log = log }) kept }
 {}

@@ -1,4 +1,5 @@
-//! What a monitor keeps of a running system, and the state of the paired system for which that stands.
+//  What a monitor keeps of a running system, and the state of the paired system for which that
+// stands.
 #![tactic(auto)]
 
 pub mod ends;

@@ -10,10 +10,14 @@ ghost use Rattle.pw_kept.specs.Stands.{Stands};
 ghost use Rattle.pw_paired.specs.Failure.{LegalRestart, do_restart};
 ghost use Rattle.pw_paired.specs.State.{State};
 
-/// RESTART: what is kept stands for the state behind the entry. The terminal goes on with the context of its start.
+/// RESTART: what is kept stands for the state behind the entry. The terminal goes on with the
+/// context of its start.
 pub fn restart_laws()
-    ensures restart { (system : System) (script : List FailLine) (state : State) (kept : Kept) (t n : ℕ) (cause : Cause)
-        (terminal : TermInfo) → Stands system script state kept → slice_get system.terminals t ≡ Some terminal
+    ensures restart { (system : System) (script : List FailLine) (state : State) (kept : Kept)
+        (t n : ℕ) (cause : Cause)
+        (terminal : TermInfo) → Stands system script state kept
+        → slice_get system.terminals t ≡ Some terminal
         → LegalRestart (behaviour script system) state t n cause
-        → Stands system script (do_restart (behaviour script system) t cause state) (kept_restart t n cause kept) }
+        → Stands system script (do_restart (behaviour script system) t cause state)
+        (kept_restart t n cause kept) }
 {}

@@ -17,46 +17,63 @@ ghost use Rattle.pw_paired.specs.Server.{LegalFile, LegalReply, LegalTake, answe
 ghost use Rattle.pw_paired.specs.State.{OpenUnit, State};
 ghost use Rattle.pw_paired.specs.Terminal.{path_of};
 
-/// TAKE, FILE, REPLY and FAIL SERVER: what is kept stands for the state behind the entry. TAKE is given the context of a
-/// server that starts on the message, FILE that of the server with one more answer, REPLY that of the terminal with its
-/// answer. A FILE is for a unit of which an attempt runs.
+/// TAKE, FILE, REPLY and FAIL SERVER: what is kept stands for the state behind the entry. TAKE is
+/// given the context of a server that starts on the message, FILE that of the server with one more
+/// answer, REPLY that of the terminal with its answer. A FILE is for a unit of which an attempt
+/// runs.
 pub fn server_laws()
-    ensures take { (system : System) (script : List FailLine) (state : State) (kept : Kept) (c i t : ℕ)
+    ensures take { (system : System) (script : List FailLine) (state : State) (kept : Kept)
+        (c i t : ℕ)
         (info : ClassInfo) (new : Context) → Stands system script state kept
-        → slice_get system.classes c ≡ Some info → (legal : LegalTake (behaviour script system) state c i t)
+        → slice_get system.classes c ≡ Some info → (legal : LegalTake
+        (behaviour script system) state c i t)
         → StandsForJob system info (record { request = legal.request; done = [] }) new
         → Stands system script (do_take c i state) (kept_take c i new kept) }
-    ensures file { (system : System) (script : List FailLine) (state : State) (kept : Kept) (c i : ℕ) (op : FileOp)
-        (mode : LockMode) (f status : ℕ) (info : ClassInfo) (own : OpenUnit) (start : List PathAnswer) (new : Context)
+    ensures file { (system : System) (script : List FailLine) (state : State) (kept : Kept)
+        (c i : ℕ) (op : FileOp)
+        (mode : LockMode) (f status : ℕ) (info : ClassInfo) (own : OpenUnit)
+        (start : List PathAnswer) (new : Context)
         → Stands system script state kept → slice_get system.classes c ≡ Some info
         → (legal : LegalFile (behaviour script system) state c i op mode f status)
         → state.units legal.job.request.terminal ≡ Some own → own.running ≡ Some start
-        → StandsForJob system info (with_answer (answer_on (behaviour script system) state legal.call) legal.job) new
+        → StandsForJob system info (with_answer (answer_on
+        (behaviour script system) state legal.call) legal.job) new
         → Stands system script (do_file (behaviour script system) c i state)
         (kept_file c i legal.job.request legal.call new kept) }
-    ensures reply { (system : System) (script : List FailLine) (state : State) (kept : Kept) (c i t : ℕ)
+    ensures reply { (system : System) (script : List FailLine) (state : State) (kept : Kept)
+        (c i t : ℕ)
         (info : ClassInfo) (terminal : TermInfo) (new : Context) → Stands system script state kept
         → slice_get system.classes c ≡ Some info → slice_get system.terminals t ≡ Some terminal
-        → LegalReply (behaviour script system) state c i t None → is_outside (path_of state t) ≡ false
+        → LegalReply (behaviour script system) state c i t None → is_outside
+        (path_of state t) ≡ false
         → StandsForPath system terminal
-        (path_of state t ++ Replied (reply_at (behaviour script system) c ((state.classes c).busy i)) ∷ []) new
-        → Stands system script (do_reply (behaviour script system) c i t None state) (kept_reply c i t new kept) }
-    ensures reply_ends { (system : System) (script : List FailLine) (state : State) (kept : Kept) (c i t : ℕ)
-        (info : ClassInfo) (terminal : TermInfo) (reply : List ℕ) (new : Context) → Stands system script state kept
+        (path_of state t ++ Replied (reply_at (behaviour script system) c
+        ((state.classes c).busy i)) ∷ []) new
+        → Stands system script (do_reply (behaviour script system) c i t None state)
+        (kept_reply c i t new kept) }
+    ensures reply_ends { (system : System) (script : List FailLine) (state : State) (kept : Kept)
+        (c i t : ℕ)
+        (info : ClassInfo) (terminal : TermInfo) (reply : List ℕ) (new : Context)
+        → Stands system script state kept
         → slice_get system.classes c ≡ Some info → slice_get system.terminals t ≡ Some terminal
-        → LegalReply (behaviour script system) state c i t None → is_outside (path_of state t) ≡ true
+        → LegalReply (behaviour script system) state c i t None → is_outside
+        (path_of state t) ≡ true
         → reply ≡ reply_at (behaviour script system) c ((state.classes c).busy i)
         → StandsForPath system terminal (path_of state t ++ Replied reply ∷ []) new
         → Stands system script (do_reply (behaviour script system) c i t None state)
         (kept_reply_ends c i t (unit_number (path_of state t)) reply new kept) }
-    ensures fault { (system : System) (script : List FailLine) (state : State) (kept : Kept) (c i t x : ℕ)
+    ensures fault { (system : System) (script : List FailLine) (state : State) (kept : Kept)
+        (c i t x : ℕ)
         (info : ClassInfo) (terminal : TermInfo) (new : Context) → Stands system script state kept
         → slice_get system.classes c ≡ Some info → slice_get system.terminals t ≡ Some terminal
         → LegalReply (behaviour script system) state c i t (Some x)
         → StandsForPath system terminal (path_of state t ++ Failed x ∷ []) new
-        → Stands system script (do_reply (behaviour script system) c i t (Some x) state) (kept_reply c i t new kept) }
-    ensures fails { (system : System) (script : List FailLine) (state : State) (kept : Kept) (c i k : ℕ)
-        (info : ClassInfo) → Stands system script state kept → slice_get system.classes c ≡ Some info
+        → Stands system script (do_reply (behaviour script system) c i t (Some x) state)
+        (kept_reply c i t new kept) }
+    ensures fails { (system : System) (script : List FailLine) (state : State) (kept : Kept)
+        (c i k : ℕ)
+        (info : ClassInfo) → Stands system script state kept
+        → slice_get system.classes c ≡ Some info
         → 1 ≤ i → i ≤ info.processes
         → Stands system script (do_fail_server c i k state) (kept_fail_server c i k kept) }
 {}

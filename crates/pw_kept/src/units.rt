@@ -13,34 +13,49 @@ ghost use Rattle.pw_onecopy.specs.Path.{Begun, Dropped, Ended};
 ghost use Rattle.pw_paired.specs.State.{OpenUnit, State};
 ghost use Rattle.pw_paired.specs.Terminal.{LegalBack, LegalBegin, LegalCommit, LegalSend, do_back, do_begin, do_commit, do_send, message_of, next_verb, path_of};
 
-/// BEGIN, SEND, COMMIT and BACK: what is kept stands for the state behind the entry. A unit that is open has the number
-/// that it begins again with. BEGIN of a transaction is given the context behind Begin; that of one SEND changes no path.
+/// BEGIN, SEND, COMMIT and BACK: what is kept stands for the state behind the entry. A unit that is
+/// open has the number that it begins again with. BEGIN of a transaction is given the context
+/// behind Begin; that of one SEND changes no path.
 pub fn unit_laws()
-    ensures begin { (system : System) (script : List FailLine) (state : State) (kept : Kept) (t n r : ℕ)
+    ensures begin { (system : System) (script : List FailLine) (state : State) (kept : Kept)
+        (t n r : ℕ)
         (terminal : TermInfo) (next : Context) → Stands system script state kept
-        → slice_get system.terminals t ≡ Some terminal → LegalBegin (behaviour script system) state t n r
+        → slice_get system.terminals t ≡ Some terminal → LegalBegin
+        (behaviour script system) state t n r
         → ((own : OpenUnit) → state.units t ≡ Some own → own.number ≡ n)
         → next_verb (behaviour script system) state t ≡ verb.Begin
         → StandsForPath system terminal (path_of state t ++ Begun r ∷ []) next
-        → Stands system script (do_begin (behaviour script system) t n r state) (kept_begin t n next kept) }
-    ensures begin_send { (system : System) (script : List FailLine) (state : State) (kept : Kept) (t n r c : ℕ)
+        → Stands system script (do_begin (behaviour script system) t n r state)
+        (kept_begin t n next kept) }
+    ensures begin_send { (system : System) (script : List FailLine) (state : State) (kept : Kept)
+        (t n r c : ℕ)
         (message : List ℕ) (terminal : TermInfo) → Stands system script state kept
-        → slice_get system.terminals t ≡ Some terminal → LegalBegin (behaviour script system) state t n r
+        → slice_get system.terminals t ≡ Some terminal → LegalBegin
+        (behaviour script system) state t n r
         → ((own : OpenUnit) → state.units t ≡ Some own → own.number ≡ n)
         → next_verb (behaviour script system) state t ≡ verb.Send c message
-        → Stands system script (do_begin (behaviour script system) t n r state) (kept_begin_send t n kept) }
-    ensures send { (system : System) (script : List FailLine) (state : State) (kept : Kept) (t n c : ℕ)
-        (message : List ℕ) → Stands system script state kept → LegalSend (behaviour script system) state t n c
+        → Stands system script (do_begin (behaviour script system) t n r state)
+        (kept_begin_send t n kept) }
+    ensures send { (system : System) (script : List FailLine) (state : State) (kept : Kept)
+        (t n c : ℕ)
+        (message : List ℕ) → Stands system script state kept → LegalSend
+        (behaviour script system) state t n c
         → message ≡ message_of (next_verb (behaviour script system) state t)
-        → Stands system script (do_send (behaviour script system) t n c state) (kept_send t n c message kept) }
-    ensures commit { (system : System) (script : List FailLine) (state : State) (kept : Kept) (t n : ℕ)
+        → Stands system script (do_send (behaviour script system) t n c state)
+        (kept_send t n c message kept) }
+    ensures commit { (system : System) (script : List FailLine) (state : State) (kept : Kept)
+        (t n : ℕ)
         (terminal : TermInfo) (new : Context) → Stands system script state kept
-        → slice_get system.terminals t ≡ Some terminal → LegalCommit (behaviour script system) state t n
+        → slice_get system.terminals t ≡ Some terminal → LegalCommit
+        (behaviour script system) state t n
         → StandsForPath system terminal (path_of state t ++ Ended ∷ []) new
         → Stands system script (do_commit t n state) (kept_commit t n new kept) }
-    ensures back { (system : System) (script : List FailLine) (state : State) (kept : Kept) (t n : ℕ)
+    ensures back { (system : System) (script : List FailLine) (state : State) (kept : Kept)
+        (t n : ℕ)
         (terminal : TermInfo) (new : Context) → Stands system script state kept
-        → slice_get system.terminals t ≡ Some terminal → LegalBack (behaviour script system) state t n
+        → slice_get system.terminals t ≡ Some terminal → LegalBack
+        (behaviour script system) state t n
         → StandsForPath system terminal (path_of state t ++ Dropped ∷ []) new
-        → Stands system script (do_back (behaviour script system) t n state) (kept_back t n new kept) }
+        → Stands system script (do_back (behaviour script system) t n state)
+        (kept_back t n new kept) }
 {}

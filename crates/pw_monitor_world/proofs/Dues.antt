@@ -1,5 +1,5 @@
 -- The book of failure lines says what the log says.
-use Rattle.std.proofs.Common.{◌≡◌, ◌≢◌, ℕ, zero, suc, ◌+◌, ◌<◌, ◌==◌, ◌&&◌, ◌||◌, List, [], ◌∷◌, ◌++◌, length, filter, find, get_or, set, Option, Some, None, Bool, true, false, not, cond, refl, sym, ap, ap₂, subst, ◌∙◌, ⊎_elim, arith}
+use Rattle.std.proofs.Common.{◌≡◌, ◌≢◌, ℕ, zero, suc, ◌+◌, ◌<◌, ◌==◌, ◌&&◌, ◌||◌, List, [], ◌∷◌, ◌++◌, length, filter, find, get_or, set, take, Option, Some, None, Bool, true, false, not, cond, refl, sym, ap, ap₂, subst, ◌∙◌, ⊎_elim, arith}
 use Rattle.std.specs.List.{list_any}
 use Rattle.std.proofs.lemmas.Bool.{cases_eq, eq-eqb, ne_eqb}
 use Rattle.std.proofs.lemmas.List.{get_or-replicate, get_or-set_other, get_or-set_same, length-replicate, length-set}
@@ -159,3 +159,15 @@ first-is tcps classes pair_of lines = record {
   tcps_are = λ p low. get_or-replicate tcps p 0 0 low;
   classes_are = λ c low. get_or-replicate classes c 0 0 low;
 }
+
+-- ---- the lines one after the other
+
+pub opened-more : (k i : ℕ) (lines : List FailLine) (d : FailLine) → i < length lines → opened_from k (take (i + 1) lines) ≡ opened_from k (take i lines) ++ record { number = k + i; line = get_or lines i d } ∷ []
+opened-more k i [] d low = absurd (omega (arith, low))
+opened-more k zero (line ∷ lines) d low = let e : k ≡ k + 0 = omega arith in ap (λ n. record { number = n; line = line } ∷ []) e
+opened-more k (suc i) (line ∷ lines) d low =
+    let e : k + 1 + i ≡ k + suc i = omega arith in
+    let f : suc i + 1 ≡ suc (i + 1) = omega arith in
+    ap (λ n. opened_from k (take n (line ∷ lines))) f
+    ∙ ap (λ xs. record { number = k; line = line } ∷ xs)
+    (opened-more (k + 1) i lines d (omega (arith, low)) ∙ ap (λ n. opened_from (k + 1) (take i lines) ++ record { number = n; line = get_or lines i d } ∷ []) e)

@@ -3,7 +3,8 @@ use crate::task::Task;
 /// What `claim` answers.
 #[derive(Debug, Drop)]
 pub enum Claim {
-    /// A task of an actor that is not out and may work. The actor is out until an outcome for it is applied.
+    /// A task of an actor that is not out and may work. The actor is out until an outcome for it is
+    /// applied.
     Work(Task),
     /// Every actor that may work is out, and there is one.
     Idle,

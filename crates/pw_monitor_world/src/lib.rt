@@ -1,4 +1,5 @@
-//! The monitor's world over the whole paired system: who acts, what a world answers, and what contracts see of it.
+//  The monitor's world over the whole paired system: who acts, what a world answers, and what
+// contracts see of it.
 #![tactic(auto)]
 
 pub mod answers;

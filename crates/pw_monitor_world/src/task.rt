@@ -18,7 +18,8 @@ pub enum Actor {
     Class(u32),
 }
 
-/// What is to be done for an actor outside the world: its program is to run on, where there is work.
+/// What is to be done for an actor outside the world: its program is to run on, where there is
+/// work.
 #[derive(Debug, Drop)]
 pub struct Task {
     pub actor: Actor,
@@ -30,8 +31,8 @@ pub struct Task {
 
 /// What came of a task: the work that it was given, and the verb to which the work ran on.
 ///
-/// The type keeps that the three are there together or not at all, and that the verb and the work are what the
-/// machine makes of the given work, over the system that only contracts see.
+/// The type keeps that the three are there together or not at all, and that the verb and the work
+/// are what the machine makes of the given work, over the system that only contracts see.
 #[derive(Drop)]
 pub struct Outcome {
     pub actor: Actor,

@@ -1,4 +1,4 @@
-use Rattle.pw_kept.proofs.OfRuns.{can-leave, knows-all, whole-down}
+use Rattle.pw_kept.proofs.OfRuns.{begins-same, can-leave, knows-all, whole-down, works-for}
 use Rattle.pw_kept.proofs.runs.run_laws.Goals as goal
 
 pub returns-clause-knows : goal.returns-clause-knows
@@ -9,3 +9,9 @@ returns-clause-leaves c = can-leave
 
 pub returns-clause-whole : goal.returns-clause-whole
 returns-clause-whole c = whole-down
+
+pub returns-clause-begins : goal.returns-clause-begins
+returns-clause-begins c = begins-same
+
+pub returns-clause-serves : goal.returns-clause-serves
+returns-clause-serves c = works-for
