@@ -11,7 +11,7 @@ pub mod laws;
 mod lay;
 pub mod layout;
 pub mod literal;
-mod names;
+pub mod names;
 mod parts;
 pub mod read;
 mod reading;

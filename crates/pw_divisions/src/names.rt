@@ -1,5 +1,4 @@
 ghost use Rattle.std.specs.Prelude.{◌≡◌, ◌||◌, false, IfOk, OnOk};
-ghost use Rattle.std.specs.Str.{str_to_ascii_lowercase};
 ghost use Rattle.pw_words.specs.Words.{Word, same_word};
 ghost use Rattle.pw_data.specs.Entries.{level_of as level_by, level_in, name_in, proper_name};
 ghost use Rattle.pw_data.specs.Names.{has_name};
@@ -8,13 +7,11 @@ ghost use Rattle.pw_divisions.specs.Names.{level_of, name_of, own_name_of, upper
 use pw_base::bytes::Bytes;
 use pw_base::memory::Memory;
 use pw_data::literal::whole_number;
+use pw_data::names::in_lower_case;
 use pw_text::cursor::Cursor;
 use pw_text::token::{Token, TokenKind};
+use pw_words::names::Names;
 use std::alloc::Global;
-use std::collections::BTreeSet;
-
-/// Names in lower case.
-pub type Names = BTreeSet<Vec<u8>>;
 
 /// The level that a number is.
 fn level_by(number: u16) -> Option<u8>
@@ -88,35 +85,26 @@ pub fn upper_name(alloc: Global, text: &[u8], token: Token) -> Result<Bytes, Mem
     Ok(Bytes::from_vec(name))
 }
 
-/// A name in lower case.
-fn in_lower_case(alloc: Global, name: &[u8]) -> Result<Vec<u8>, Memory>
-    ensures { IfOk result (λ folded. folded.items ≡ str_to_ascii_lowercase name.now) }
-{
-    Ok(
-        name.iter()
-            .map(|byte| byte.to_ascii_lowercase())
-            .collect(alloc)?,
-    )
-}
-
-/// Whether a name is among names.
+/// Whether a name is among names in lower case.
 pub fn has_name(alloc: Global, names: &Names, name: &[u8]) -> Result<bool, Memory>
     ensures { IfOk result (λ found. found ≡ has_name names.now name.now) }
 {
-    Ok(names.contains(&in_lower_case(alloc, name)?))
+    let key = in_lower_case(alloc, name)?;
+    Ok(names.has(&key))
 }
 
-/// Puts a name among names. It gives whether the name was there.
+/// Puts a name among names in lower case. It gives whether the name was there.
 fn put(alloc: Global, name: &[u8], names: &mut Names) -> Result<bool, Memory>
     ensures taken { IfOk result (λ taken. taken ≡ has_name names.old name.now) }
     ensures names { OnOk result ((word : Word)
         → has_name names.new word ≡ (same_word name.now word || has_name names.old word)) }
 {
-    let is_new = names.insert(in_lower_case(alloc, name)?)?;
-    Ok(!is_new)
+    let key = in_lower_case(alloc, name)?;
+    names.put(key)
 }
 
-/// Puts the name that a token is, where there is one, among names. It gives whether it was there.
+/// Puts the name that a token is, where there is one, among names in lower case. It gives whether it
+/// was there.
 pub fn put_name(
     alloc: Global,
     text: &[u8],

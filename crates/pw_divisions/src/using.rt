@@ -5,13 +5,13 @@ ghost use Rattle.pw_divisions.specs.Steps.{Steps};
 ghost use Rattle.pw_divisions.specs.Divisions.{parameter_by, parameter_of, parameters, is_parameter, one_or_more, used_names, using_names, begins_procedure, period_behind, procedure_heading};
 
 use crate::entries::take_entry;
-use crate::names::{Names, has_name, level_of, own_name_of, put_name};
+use crate::names::{has_name, level_of, own_name_of, put_name};
 use crate::steps::{period, word};
 use pw_base::memory::Memory;
 use pw_text::cursor::Cursor;
 use pw_text::token::{Token, TokenKind};
+use pw_words::names::Names;
 use std::alloc::Global;
-use std::collections::BTreeSet;
 
 /// The name of an entry of LINKAGE SECTION that USING may name: that of an entry of level 01.
 fn parameter_of(entry: &Cursor<'_>) -> Option<Token>
@@ -28,7 +28,7 @@ fn parameter_of(entry: &Cursor<'_>) -> Option<Token>
 fn parameters(alloc: Global, text: &[u8], linkage: &[Token]) -> Result<Names, Memory>
     ensures { IfOk result (λ names. has_name names ≡ parameters text.now linkage.now) }
 {
-    let mut names = BTreeSet::new(alloc);
+    let mut names = Names::new(alloc);
     let mut cursor = Cursor::new(text, linkage);
     while !cursor.is_empty() {
         let entry = take_entry(&mut cursor);

@@ -3,6 +3,7 @@ mod Digits
 mod Dues
 mod Ends
 mod Failures
+mod Given
 mod Grammar
 mod Keyed
 mod Leaves

@@ -3,6 +3,7 @@ use Rattle.std.specs.Prelude.{ℕ, ◌≡◌, ◌+◌, List, [], ◌∷◌, Bool
 use Rattle.std.specs.Fmt.{decimal}
 use Rattle.std.specs.Str.{bytes_eq, str_to_ascii_uppercase}
 use Rattle.std.specs.Str.Parse.{digits_value}
+use Rattle.std.specs.List.{slice_split}
 use Rattle.std.specs.Option.{option_map}
 use Rattle.pw_code.specs.declared.file.FileOp.{FileOp}
 use Rattle.pw_code.specs.declared.file.FileOp.TheVariants.{Read, Next, Write, Rewrite, Delete}
@@ -408,3 +409,11 @@ GivesUnlessMemory (Err Memory) defined = Unit {0}
 GivesUnlessMemory (Err Bad) defined = defined ≡ Err Bad
 GivesUnlessMemory (Err Unknown) defined = defined ≡ Err Unknown
 GivesUnlessMemory (Ok value) defined = defined ≡ Ok value
+
+-- the entry that a line of the log says, without its number; Bad outside the grammar, Unknown in it where nothing is so named
+abbrev pub entry_in : System → List ℕ → Result Event EventFault
+entry_in system line = event_of system (slice_split (λ b. b == 32) line)
+
+-- what a failure line says
+abbrev pub failure_in : System → List ℕ → Result FailLine EventFault
+failure_in system line = fail_of system (slice_split (λ b. b == 32) line)

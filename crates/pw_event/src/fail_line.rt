@@ -2,7 +2,7 @@ ghost use Rattle.std.specs.Prelude.{◌≡◌, map, IfOk};
 ghost use Rattle.std.specs.Str.{str_to_ascii_uppercase};
 ghost use Rattle.pw_code.specs.Valid.{HasNames, HasFew};
 ghost use Rattle.pw_event.specs.Fails.{ReadsFail};
-ghost use Rattle.pw_event.specs.Parsing.{fail_process, tcp_line, fail_class, class_line, fail_line_of, fail_of, GivesUnlessMemory};
+ghost use Rattle.pw_event.specs.Parsing.{fail_process, tcp_line, fail_class, class_line, fail_line_of, fail_of, failure_in, GivesUnlessMemory};
 
 use crate::fault::EventFault;
 use crate::fields::{after, member, named, number};
@@ -129,7 +129,8 @@ impl SystemNames<'_> {
     /// The name may stand in either case. It answers `Bad` exactly where the line is outside the grammar, and
     /// `Unknown` exactly where it is in the grammar and the name or the number of the process is not the system's.
     pub fn read_fail(&self, alloc: Global, line: &[u8]) -> Result<FailLine, EventFault>
-        ensures { ReadsFail self.now line.now result }
+        ensures reads { ReadsFail self.now line.now result }
+        ensures gives { GivesUnlessMemory result (failure_in self.now line.now) }
     {
         let _ = &self.system;
         let words = words(alloc, line)?;
@@ -142,7 +143,8 @@ impl SystemNames<'_> {
 pub fn read_fail(alloc: Global, system: &System, line: &[u8]) -> Result<FailLine, EventFault>
     requires names { HasNames system.now }
     requires few { HasFew system.now }
-    ensures { ReadsFail system.now line.now result }
+    ensures reads { ReadsFail system.now line.now result }
+    ensures gives { GivesUnlessMemory result (failure_in system.now line.now) }
 {
     SystemNames::new(alloc, system)?.read_fail(alloc, line)
 }

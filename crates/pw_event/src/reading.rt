@@ -1,6 +1,6 @@
 ghost use Rattle.std.specs.Prelude.{◌≡◌, map};
 ghost use Rattle.pw_code.specs.Valid.{HasNames, HasFew};
-ghost use Rattle.pw_event.specs.Parsing.{line_of, event_of};
+ghost use Rattle.pw_event.specs.Parsing.{line_of, event_of, entry_in, GivesUnlessMemory};
 ghost use Rattle.pw_event.specs.Reading.{Reads};
 
 use crate::causes::{end, restart};
@@ -74,7 +74,8 @@ impl SystemNames<'_> {
     /// are taken as they stand. It answers `Bad` exactly where the line is outside the grammar, and `Unknown` exactly
     /// where it is in the grammar and a name or the number of a process is not the system's.
     pub fn read_event(&self, alloc: Global, line: &[u8]) -> Result<Event, EventFault>
-        ensures { Reads self.now line.now result }
+        ensures reads { Reads self.now line.now result }
+        ensures gives { GivesUnlessMemory result (entry_in self.now line.now) }
     {
         let _ = &self.system;
         let words = words(alloc, line)?;
@@ -87,7 +88,8 @@ impl SystemNames<'_> {
 pub fn read_event(alloc: Global, system: &System, line: &[u8]) -> Result<Event, EventFault>
     requires names { HasNames system.now }
     requires few { HasFew system.now }
-    ensures { Reads system.now line.now result }
+    ensures reads { Reads system.now line.now result }
+    ensures gives { GivesUnlessMemory result (entry_in system.now line.now) }
 {
     SystemNames::new(alloc, system)?.read_event(alloc, line)
 }

@@ -1,2 +1,4 @@
-mod RunLemmas
+pub mod Bounds
+pub mod Progress
+pub mod RunLemmas
 mod Standing

@@ -1,8 +1,6 @@
 -- How answers are put in.
-use Rattle.std.specs.Prelude.{ℕ, ◌+◌, ◌*◌, ◌==◌, ◌&&◌, true, false, List, length, take, position, slice_get, Option, Some, None, option_map, option_and_then, if◌then◌else◌}
-use Rattle.std.specs.Char.{is_ascii_digit}
-use Rattle.std.specs.List.{list_all}
-use Rattle.pw_picture.specs.Stored.{value_of}
+use Rattle.pw_source.specs.Sends as sends
+use Rattle.std.specs.Prelude.{ℕ, ◌+◌, ◌*◌, ◌==◌, true, false, List, position, slice_get, Option, Some, None, option_map, option_and_then, if◌then◌else◌}
 use Rattle.pw_terminal.specs.Entries.{check, with_advice}
 use Rattle.pw_terminal.specs.declared.entries.EntryAnswer.{EntryAnswer}
 use Rattle.pw_terminal.specs.declared.entries.EntryAnswer.TheVariants.{Valid}
@@ -17,7 +15,7 @@ use Rattle.pw_code.specs.declared.place.Place.{Place}
 use Rattle.pw_code.specs.declared.system.System.{System}
 use Rattle.pw_code.specs.declared.verb.Answer.{Answer}
 use Rattle.pw_code.specs.declared.verb.Answer.TheVariants as answer
-use Rattle.pw_exec.specs.Config.{Config, on, over, with_storage, code_of}
+use Rattle.pw_exec.specs.Config.{Config, on, over, with_storage, code_of, has_fault}
 use Rattle.pw_exec.specs.Entries.{entered}
 use Rattle.pw_exec.specs.Moves.{move_text}
 use Rattle.pw_exec.specs.Reading.{Spot, registers_of, spot_of}
@@ -77,16 +75,10 @@ reply_taken rest = if rest.in_unit then answered rest else unit_ended rest
 
 -- ---- a reply
 
--- the code of a reply: its first 4 characters, where they are digits
-abbrev pub code_in : List ℕ → Option ℕ
-code_in reply =
-    let chars = take 4 reply in
-    if length chars == 4 && list_all is_ascii_digit chars then Some (value_of 0 chars) else None
-
 -- the place, from 0, of the first CODE equal to the reply's code
 abbrev pub place_among : List ReplyCode → List ℕ → Option ℕ
 place_among codes reply =
-    option_and_then (λ code. position (λ one. one.number == code) codes) (code_in reply)
+    option_and_then (λ code. position (λ one. one.number == code) codes) (sends.code_of reply)
 
 -- that place, with the spot to which the reply goes
 abbrev pub spot_among : Config → List ReplyCode → ℕ → Option (ℕ × Spot)
@@ -134,41 +126,59 @@ abbrev pub read_done : Place → ℕ → Option (List ℕ) → Config → Config
 read_done into status content c =
     file_done (spot_of (registers_of c.rest) c.top.storage into) status content c
 
--- ---- the answer to an instruction, which changes nothing where the instruction does not ask for
--- it
+-- ---- the answer to an instruction; one that does not ask stays
+
+-- it goes on with what a terminal's verb was answered
+abbrev pub passed : Config → Config
+passed c = on (record c { rest = answered c.rest })
+
+abbrev pub entry_put : ScreenTable → List ℕ → Answer → Config → Config
+entry_put table keys (answer.Entry line) c = entry_checked table line (check table keys line) c
+entry_put table keys _ c = passed c
+
+abbrev pub reply_put : List ReplyCode → Answer → Config → Config
+reply_put codes (answer.Replied reply) c = replied codes reply c
+reply_put codes (answer.Failed code) c = failed code c
+reply_put codes _ c = over 1 (record c { rest = answered c.rest })
+
+abbrev pub begin_put : Answer → Config → Config
+begin_put (answer.Begun r) c = on (record c { rest = unit_begun r c.rest })
+begin_put _ c = passed c
+
+abbrev pub unit_end_put : Config → Config
+unit_end_put c = on (record c { rest = unit_ended c.rest })
+
+-- of a server's verb
+abbrev pub file_passed : Config → Config
+file_passed c = on (record c { rest = record c.rest { at_verb = false } })
+
+abbrev pub read_put : Place → Answer → Config → Config
+read_put into (answer.FileDone status content) c = read_done into status content c
+read_put into _ c = file_passed c
+
+abbrev pub file_put : Answer → Config → Config
+file_put (answer.FileDone status content) c = file_done None status content c
+file_put _ c = file_passed c
 
 abbrev pub answered_by : System → Option Instr → Answer → Config → Config
-answered_by system (Some (DisplayScreen screen base)) answer.Shown c = on (shown c)
-answered_by system (Some (Display one)) answer.Shown c = on (shown c)
-answered_by system (Some (Accept screen keys)) (answer.Entry line) c =
-    let table = screen_at system screen in entry_checked table line (check table keys line) c
-answered_by system (Some (Send class message codes)) (answer.Replied reply) c =
-    replied codes reply c
-answered_by system (Some (Send class message codes)) (answer.Failed code) c = failed code c
-answered_by system (Some Begin) (answer.Begun r) c = on (record c { rest = unit_begun r c.rest })
-answered_by system (Some End) answer.Ended c = on (record c { rest = unit_ended c.rest })
-answered_by system (Some Abort) answer.Dropped c = on (record c { rest = unit_ended c.rest })
-answered_by system (Some (Read file locking key into)) (answer.FileDone status content) c =
-    read_done into status content c
-answered_by system (Some (ReadNext file locking after into)) (answer.FileDone status content) c =
-    read_done into status content c
-answered_by system (Some (Write file from)) (answer.FileDone status content) c =
-    file_done None status content c
-answered_by system (Some (Rewrite file from)) (answer.FileDone status content) c =
-    file_done None status content c
-answered_by system (Some (Delete file key)) (answer.FileDone status content) c =
-    file_done None status content c
-answered_by system _ _ c = c
+answered_by system (Some (DisplayScreen screen base)) a c = on (shown c)
+answered_by system (Some (Display one)) a c = on (shown c)
+answered_by system (Some (Accept screen keys)) a c = entry_put (screen_at system screen) keys a c
+answered_by system (Some (Send class message codes)) a c = reply_put codes a c
+answered_by system (Some Begin) a c = begin_put a c
+answered_by system (Some End) a c = unit_end_put c
+answered_by system (Some Abort) a c = unit_end_put c
+answered_by system (Some (Read file locking key into)) a c = read_put into a c
+answered_by system (Some (ReadNext file locking after into)) a c = read_put into a c
+answered_by system (Some (Write file from)) a c = file_put a c
+answered_by system (Some (Rewrite file from)) a c = file_put a c
+answered_by system (Some (Delete file key)) a c = file_put a c
+answered_by system _ a c = c
 
--- an advisory takes only that it was shown
-abbrev pub advised : Answer → Config → Config
-advised answer.Shown c = shown c
-advised _ c = c
-
--- an answer is put in: where a run fault stands, none is
+-- an answer is put in: an advisory takes only that it was shown, and where a run fault stands none
+-- is taken
 abbrev pub put : System → Answer → Config → Config
 put system a c =
-    if c.rest.fault == 0
-    then (if c.rest.mode == 1 then advised a c
-    else answered_by system (slice_get (code_of system c).instrs c.top.at) a c)
-    else c
+    if has_fault c.rest then c
+    else if c.rest.mode == 1 then shown c
+    else answered_by system (slice_get (code_of system c).instrs c.top.at) a c

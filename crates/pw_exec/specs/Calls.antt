@@ -1,4 +1,5 @@
 -- CALL, and how a called program is left.
+pub use Rattle.pw_source.specs.Runs.{most_calls, most_active}
 use Rattle.std.specs.Prelude.{ℕ, ◌+◌, nat_lt, Bool, true, false, List, [], ◌∷◌, ◌++◌, length, take, drop, map, sum_by, Option, Some, None, slice_get, if◌then◌else◌}
 use Rattle.pw_picture.specs.Stored.{digits_of, value_of}
 use Rattle.pw_terminal.specs.Shown.{written}
@@ -11,14 +12,6 @@ use Rattle.pw_code.specs.declared.system.System.{System}
 use Rattle.pw_exec.specs.Config.{Config, code_at, is_server, frame_at, asks, faults}
 use Rattle.pw_exec.specs.Reading.{Registers, registers_of, Spot, chars_at, put_at, spots_of}
 use Rattle.pw_exec.specs.Turns.{split_last}
-
--- the most CALLs that are active in a terminal
-abbrev pub most_calls : ℕ
-most_calls = 8
-
--- the most characters of storage of the programs that are active in a terminal
-abbrev pub most_active : ℕ
-most_active = 64000
 
 -- the characters of the items of a program, and of all programs at work
 abbrev pub items_of : System → Frame → ℕ

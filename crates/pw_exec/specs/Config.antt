@@ -1,5 +1,6 @@
 -- Where a run of compiled code stands, and how it goes on from there.
-use Rattle.std.specs.Prelude.{ℕ, ◌+◌, ◌-◌, nat_lt, Bool, true, false, List, [], ◌∷◌, ◌++◌, length, Option, Some, None, slice_index_or, if◌then◌else◌}
+pub use Rattle.pw_source.specs.State.{most_counted}
+use Rattle.std.specs.Prelude.{ℕ, ◌+◌, ◌-◌, ◌==◌, ◌||◌, not, nat_lt, Bool, true, false, List, [], ◌∷◌, ◌++◌, length, Option, Some, None, slice_index_or, if◌then◌else◌}
 use Rattle.pw_terminal.specs.Screen.{blank_cells}
 use Rattle.pw_code.specs.Instrs.{no_code, program_at}
 use Rattle.pw_code.specs.declared.code.Code.{Code}
@@ -72,10 +73,6 @@ starting_server system server message =
 
 -- ---- how it goes on
 
--- the most statements and turns between two answers
-abbrev pub most_counted : ℕ
-most_counted = 100000
-
 -- at its next verb
 abbrev pub asks : Config → Config
 asks c = record c { rest = record c.rest { at_verb = true } }
@@ -83,6 +80,10 @@ asks c = record c { rest = record c.rest { at_verb = true } }
 -- at a run fault
 abbrev pub faults : ℕ → Config → Config
 faults code c = record c { rest = record c.rest { fault = code; at_verb = true } }
+
+-- a run fault is its own, or one of a server that is to be told
+abbrev pub has_fault : Context → Bool
+has_fault context = not (context.fault == 0) || context.mode == 2
 
 -- a statement or a turn begins: it counts one, and where it would be number 100,001 it is LOOP
 abbrev pub counted : (Config → Config) → Config → Config

@@ -9,7 +9,7 @@ pub mod OfSystem
 pub mod Reading
 pub mod Runs
 pub mod Samples
+pub mod Sound
 pub mod Steps
 pub mod Told
 pub mod Turns
-pub mod Values

@@ -1,15 +1,16 @@
 -- MOVE and arithmetic.
+pub use Rattle.pw_source.specs.Arithmetic.{places_of}
+pub use Rattle.pw_source.specs.Moves.{moved_chars}
 use Rattle.std.specs.Prelude.{ℕ, List, [], ◌∷◌, Option, Some, None, Result, Ok, Err, if◌then◌else◌}
 use Rattle.pw_number.specs.Number.{Number}
 use Rattle.pw_number.specs.Arithmetic.{sized, sum, difference, product, cut, divided}
 use Rattle.pw_number.specs.declared.size_error.SizeError.{SizeError}
 use Rattle.pw_picture.specs.declared.picture.Picture.{Picture}
-use Rattle.pw_picture.specs.Room.{decimals_of}
 use Rattle.pw_picture.specs.Stored.{is_kept, moved}
 use Rattle.pw_code.specs.declared.instr.Arithmetic.{Arithmetic}
 use Rattle.pw_code.specs.declared.instr.Operation.{Operation}
 use Rattle.pw_code.specs.declared.instr.Operation.TheVariants as operation
-use Rattle.pw_exec.specs.Values.{Value, Text', number_of, moved_chars}
+use Rattle.pw_source.specs.Values.{Value, Text', number_of}
 use Rattle.pw_exec.specs.Reading.{Registers, Spot, put_at, Taken, value_in, read, spot_of}
 
 -- ---- MOVE
@@ -38,11 +39,6 @@ operated operation.Add places first second = sized (sum second first)
 operated operation.Subtract places first second = sized (difference second first)
 operated operation.Multiply places first second = sized (cut 18 (product second first))
 operated operation.Divide places first second = divided places second first
-
--- the places of a receiver
-abbrev pub places_of : Option Picture → ℕ
-places_of None = 0
-places_of (Some p) = decimals_of p
 
 -- the storage with a result in the receiver; none on a size error
 abbrev pub stored_by : Option Picture → Spot → Number → List ℕ → Option (List ℕ)

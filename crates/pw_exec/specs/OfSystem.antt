@@ -1,20 +1,17 @@
 -- The behaviour of a system by its codes: what its terminals ask and show, and what its servers do.
-use Rattle.std.specs.Prelude.{ℕ, zero, suc, ◌+◌, ◌-◌, List, [], length, map, fold, slice_get, unwrap_or, Option, Some, None}
-use Rattle.pw_files.specs.Records.{with_record}
+pub use Rattle.pw_source.specs.Runs.{entry_at, told, file_told}
+pub use Rattle.pw_source.specs.OfDeck.{number_by, processes_by, records_by}
+use Rattle.pw_source.specs.Program.{key_length_by}
+use Rattle.std.specs.Prelude.{ℕ, zero, suc, ◌+◌, List, [], length, map, slice_get, Option, Some, None}
 use Rattle.pw_event.specs.declared.script.FailLine.{FailLine}
 use Rattle.pw_onecopy.specs.Behaviour.{Behaviour, Served}
 use Rattle.pw_onecopy.specs.Behaviour as served
 use Rattle.pw_onecopy.specs.Operation.{answer_of, records_behind}
-use Rattle.pw_onecopy.specs.Path.{PathAnswer, Shown, Begun, Replied, Failed, Ended, Dropped, FileAnswer}
-use Rattle.pw_onecopy.specs.Path as path
+use Rattle.pw_onecopy.specs.Path.{PathAnswer, FileAnswer}
 use Rattle.pw_onecopy.specs.Update.{upd}
-use Rattle.pw_code.specs.Entry.{Entry}
-use Rattle.pw_code.specs.declared.file.FileInfo.{FileInfo}
 use Rattle.pw_code.specs.declared.system.ClassInfo.{ClassInfo}
 use Rattle.pw_code.specs.declared.system.System.{System}
 use Rattle.pw_code.specs.declared.system.TermInfo.{TermInfo}
-use Rattle.pw_code.specs.declared.verb.Answer.{Answer}
-use Rattle.pw_code.specs.declared.verb.Answer.TheVariants as answer
 use Rattle.pw_code.specs.declared.verb.Verb.{Verb}
 use Rattle.pw_code.specs.declared.verb.Verb.TheVariants as verb
 use Rattle.pw_exec.specs.Answers.{put}
@@ -23,20 +20,6 @@ use Rattle.pw_exec.specs.Runs.{after}
 use Rattle.pw_exec.specs.Steps.{verb_of}
 
 -- ---- terminals
-
--- the k-th entry line
-abbrev pub entry_at : List Entry → ℕ → Entry
-entry_at lines k = unwrap_or (slice_get lines (k - 1)) (record { key = 0; fields = [] })
-
--- what an answer of a path tells the program
-abbrev pub told : List Entry → PathAnswer → Answer
-told lines Shown = answer.Shown
-told lines (path.Entry k) = answer.Entry (entry_at lines k)
-told lines (Begun r) = answer.Begun r
-told lines (Replied reply) = answer.Replied reply
-told lines (Failed code) = answer.Failed code
-told lines Ended = answer.Ended
-told lines Dropped = answer.Dropped
 
 -- where a terminal's program stands after a path
 abbrev pub terminal_after : System → TermInfo → List PathAnswer → Config
@@ -53,15 +36,7 @@ abbrev pub image_of : System → Option TermInfo → List PathAnswer → List �
 image_of system None path = []
 image_of system (Some terminal) path = (terminal_after system terminal path).rest.screen
 
--- a number of a terminal, and 0 where there is none
-abbrev pub number_by : (TermInfo → ℕ) → Option TermInfo → ℕ
-number_by of None = 0
-number_by of (Some terminal) = of terminal
-
 -- ---- servers
-
-abbrev pub file_told : FileAnswer → Answer
-file_told found = answer.FileDone found.status found.content
 
 -- where a server stands on a message, behind a list of file answers
 abbrev pub server_after : System → ClassInfo → List ℕ → List FileAnswer → Config
@@ -74,11 +49,7 @@ operation_of system None message done = verb.Fault 0
 operation_of system (Some class) message done =
     verb_of system (server_after system class message done)
 
--- the key length of a file, and 1 where there is none
-abbrev pub key_length_by : Option FileInfo → ℕ
-key_length_by None = 1
-key_length_by (Some file) = file.key
-
+-- the key length of a file
 abbrev pub key_length : System → ℕ → ℕ
 key_length system f = key_length_by (slice_get system.files f)
 
@@ -105,16 +76,6 @@ abbrev pub served_alone : System → Option ClassInfo → List ℕ → (ℕ → 
 served_alone system None message files = served.Fault 0
 served_alone system (Some class) message files =
     serves system (most_counted + 1) (server_after system class message []) files
-
--- the processes of a class
-abbrev pub processes_by : Option ClassInfo → ℕ
-processes_by None = 0
-processes_by (Some class) = class.processes
-
--- the records of a file in the order of their keys
-abbrev pub records_by : Option FileInfo → List (List ℕ)
-records_by None = []
-records_by (Some file) = fold (with_record file.key) [] file.records
 
 -- the behaviour of a system with failure lines
 abbrev pub behaviour : List FailLine → System → Behaviour

@@ -1,4 +1,7 @@
 -- How operands are read: subscripts are taken once, when an instruction begins.
+pub use Rattle.pw_source.specs.State.{Registers}
+pub use Rattle.pw_source.specs.Store.{Spot}
+pub use Rattle.pw_source.specs.Operands.{Taken, Stored, Fixed, one_more}
 use Rattle.std.specs.Prelude.{ℕ, ◌+◌, ◌-◌, ◌*◌, ◌&&◌, nat_le, false, List, [], ◌∷◌, take, drop, Option, Some, None, option_map, if◌then◌else◌}
 use Rattle.pw_picture.specs.declared.picture.Picture.{Picture}
 use Rattle.pw_picture.specs.declared.picture.Picture.TheVariants as picture
@@ -15,14 +18,9 @@ use Rattle.pw_code.specs.declared.place.Subscript.{Subscript}
 use Rattle.pw_code.specs.declared.place.Subscript.TheVariants as subscript
 use Rattle.pw_code.specs.declared.place.Table.{Table}
 use Rattle.pw_terminal.specs.Shown.{written}
-use Rattle.pw_exec.specs.Values.{Value, Chars, Register, Number', Text', Spaces', Zeros', whole_part}
+use Rattle.pw_source.specs.Values.{Value, Chars, Register, Number', Text', Spaces', Zeros', whole_part}
 
 -- ---- registers
-
-pub record Registers : Type 0 where
-  pub termination : ℕ
-  pub restarts : ℕ
-  pub file_status : ℕ
 
 -- those of a context
 abbrev pub registers_of : Context → Registers
@@ -39,12 +37,6 @@ register_value registers register.Restarts = registers.restarts
 register_value registers register.FileStatus = registers.file_status
 
 -- ---- spots
-
--- where one occurrence of an item lies, and its picture; a group has none
-pub record Spot : Type 0 where
-  pub at : ℕ
-  pub size : ℕ
-  pub picture : Option Picture
 
 -- the characters of a spot
 abbrev pub chars_at : Spot → List ℕ → List ℕ
@@ -80,12 +72,6 @@ abbrev pub spot_of : Registers → List ℕ → Place → Option Spot
 spot_of registers storage place =
     option_map (spot_at place) (at_this_moment registers storage place.at place.table)
 
--- one spot more
-abbrev pub one_more : {A : Type 0} → Option A → Option (List A) → Option (List A)
-one_more None rest = None
-one_more (Some first) None = None
-one_more (Some first) (Some rest) = Some (first ∷ rest)
-
 -- the spots of places
 abbrev pub spots_of : Registers → List ℕ → List Place → Option (List Spot)
 spots_of registers storage [] = Some []
@@ -93,11 +79,6 @@ spots_of registers storage (place ∷ places) =
     one_more (spot_of registers storage place) (spots_of registers storage places)
 
 -- ---- operands
-
--- an operand once its subscript was taken: what is in a spot, or what does not change
-pub data Taken : Type 0 where
-  Stored : (spot : Spot) → Taken
-  Fixed : (value : Value) → Taken
 
 -- an operand at this moment; none where its subscript is outside
 abbrev pub taken : Registers → List ℕ → Operand → Option Taken

@@ -17,11 +17,11 @@ use Rattle.pw_code.specs.declared.verb.Verb.{Verb}
 use Rattle.pw_code.specs.declared.verb.Verb.TheVariants as verb
 use Rattle.pw_exec.specs.Calls.{calls, leaves, stops}
 use Rattle.pw_exec.specs.Conditions.{holds}
-use Rattle.pw_exec.specs.Config.{Config, code_of, asks, faults, counted, on, over, with_storage, with_taken}
+use Rattle.pw_exec.specs.Config.{Config, code_of, has_fault, asks, faults, counted, on, over, with_storage, with_taken}
 use Rattle.pw_exec.specs.Moves.{operands_of, result_of, moves, move_text}
 use Rattle.pw_exec.specs.Reading.{Spot, Taken, registers_of, spot_of, spots_of, taken, read}
 use Rattle.pw_exec.specs.Turns.{turn, turns, tested, chosen, at_position, ends}
-use Rattle.pw_exec.specs.Values.{Value, as_it_stands, number_of, whole_part}
+use Rattle.pw_source.specs.Values.{Value, as_it_stands, number_of, whole_part}
 
 -- ---- operands of the program at work
 
@@ -90,49 +90,58 @@ receives system into c =
     (with_storage
     (move_text (drop (length (code_of system d).storage) d.top.storage) item d.top.storage) d)) c
 
--- one instruction; behind the last one the program is left
+-- what a statement does once it has begun; the instructions of control are none
+abbrev pub does : System → Instr → Config → Config
+does system (JumpUnless cond n) = λ c. with_taken (holds_here c cond) (branch n) c
+does system (Move from to) = move_all from to
+does system (Compute a) = computes a on on
+does system (OnSizeError a n) = computes a on (over n)
+does system (Perform paragraph) = λ c. turn (c.top.at + 1) paragraph 0 c
+does system (PerformTimes paragraph times) =
+    λ c.
+    with_taken (read_here c times) (λ value. turns paragraph (whole_part (number_of value))) c
+does system (PerformOneOf paragraphs position) =
+    λ c.
+    with_taken (read_here c position) (λ value.
+    chosen (at_position paragraphs (whole_part (number_of value)))) c
+does system Exit = on
+does system ExitProgram = leaves system
+does system StopRun = stops system
+does system (DisplayScreen screen base) =
+    λ c. shows (with_screen base c.top.storage (screen_at system screen) c.rest.screen) c
+does system (Display one) =
+    λ c.
+    with_taken (read_here c one) (λ value d.
+    shows (with_message (as_it_stands value) d.rest.screen) d) c
+does system (Accept screen keys) = asks
+does system (Call program arguments keeps) =
+    λ c. with_taken (spots_here c arguments) (calls system program keeps) c
+does system (Send class message codes) = sends message codes
+does system Begin = λ c. if c.rest.in_unit then faults 205 c else asks c
+does system End = λ c. if c.rest.in_unit then asks c else faults 206 c
+does system Abort = λ c. if c.rest.in_unit then asks c else faults 206 c
+does system Restart = λ c. if c.rest.in_unit then asks c else faults 206 c
+does system (Receive into) = receives system into
+does system (Reply from) = operates from
+does system (Read file locking key into) = reads key into
+does system (ReadNext file locking after into) = reads after into
+does system (Write file from) = operates from
+does system (Rewrite file from) = operates from
+does system (Delete file key) = operates key
+does system (Jump n) = λ c. c
+does system (ParagraphEnd start) = λ c. c
+does system (Until paragraph cond) = λ c. c
+does system NoCode = λ c. c
+
+-- one instruction: a statement counts one, and control none; behind the last one the program is
+-- left
 abbrev pub act : System → Option Instr → Config → Config
 act system None = leaves system
 act system (Some (Jump n)) = over n
-act system (Some (JumpUnless cond n)) = counted (λ c. with_taken (holds_here c cond) (branch n) c)
 act system (Some (ParagraphEnd start)) = ends start
-act system (Some (Move from to)) = counted (move_all from to)
-act system (Some (Compute a)) = counted (computes a on on)
-act system (Some (OnSizeError a n)) = counted (computes a on (over n))
-act system (Some (Perform paragraph)) = counted (λ c. turn (c.top.at + 1) paragraph 0 c)
-act system (Some (PerformTimes paragraph times)) =
-    counted (λ c.
-    with_taken (read_here c times) (λ value. turns paragraph (whole_part (number_of value))) c)
 act system (Some (Until paragraph cond)) = λ c. tested paragraph (holds_here c cond) c
-act system (Some (PerformOneOf paragraphs position)) =
-    counted (λ c.
-    with_taken (read_here c position) (λ value.
-    chosen (at_position paragraphs (whole_part (number_of value)))) c)
-act system (Some Exit) = counted on
-act system (Some ExitProgram) = counted (leaves system)
-act system (Some StopRun) = counted (stops system)
-act system (Some (DisplayScreen screen base)) =
-    counted (λ c. shows (with_screen base c.top.storage (screen_at system screen) c.rest.screen) c)
-act system (Some (Display one)) =
-    counted (λ c.
-    with_taken (read_here c one) (λ value d.
-    shows (with_message (as_it_stands value) d.rest.screen) d) c)
-act system (Some (Accept screen keys)) = counted asks
-act system (Some (Call program arguments keeps)) =
-    counted (λ c. with_taken (spots_here c arguments) (calls system program keeps) c)
-act system (Some (Send class message codes)) = counted (sends message codes)
 act system (Some NoCode) = faults 204
-act system (Some Begin) = counted (λ c. if c.rest.in_unit then faults 205 c else asks c)
-act system (Some End) = counted (λ c. if c.rest.in_unit then asks c else faults 206 c)
-act system (Some Abort) = counted (λ c. if c.rest.in_unit then asks c else faults 206 c)
-act system (Some Restart) = counted (λ c. if c.rest.in_unit then asks c else faults 206 c)
-act system (Some (Receive into)) = counted (receives system into)
-act system (Some (Reply from)) = counted (operates from)
-act system (Some (Read file locking key into)) = counted (reads key into)
-act system (Some (ReadNext file locking after into)) = counted (reads after into)
-act system (Some (Write file from)) = counted (operates from)
-act system (Some (Rewrite file from)) = counted (operates from)
-act system (Some (Delete file key)) = counted (operates key)
+act system (Some statement) = counted (does system statement)
 
 -- the instruction at which the program at work stands
 abbrev pub instr_of : System → Config → Option Instr
@@ -184,6 +193,6 @@ asked_by _ c = verb.Stop
 -- the verb
 abbrev pub verb_of : System → Config → Verb
 verb_of system c =
-    if c.rest.fault == 0
-    then (if c.rest.mode == 1 then verb.Show else asked_by (instr_of system c) c)
-    else verb.Fault c.rest.fault
+    if has_fault c.rest then verb.Fault c.rest.fault
+    else if c.rest.mode == 1 then verb.Show
+    else asked_by (instr_of system c) c

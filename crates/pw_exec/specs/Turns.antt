@@ -1,12 +1,9 @@
 -- PERFORM: each turn counts one, and then the depth is looked at.
+pub use Rattle.pw_source.specs.Runs.{most_performs}
 use Rattle.std.specs.Prelude.{ℕ, ◌+◌, ◌-◌, ◌==◌, nat_lt, Bool, true, false, List, [], ◌∷◌, ◌++◌, length, Option, Some, None, slice_get, if◌then◌else◌}
 use Rattle.pw_code.specs.declared.context.Return.{Return}
 use Rattle.pw_code.specs.declared.instr.Turn.{Turn}
 use Rattle.pw_exec.specs.Config.{Config, on, faults, counted}
-
--- the most PERFORMs that are active in a program
-abbrev pub most_performs : ℕ
-most_performs = 64
 
 -- a list without its last item, and that item
 abbrev pub last_behind : {A : Type 0} → A → Option (List A × A) → Option (List A × A)

@@ -1,11 +1,12 @@
-ghost use Rattle.std.specs.Prelude.{◌≡◌, [], ◌∷◌, ◌++◌, true, List};
+ghost use Rattle.std.specs.Prelude.{◌≡◌, ℕ, [], ◌∷◌, ◌++◌, true, List};
+ghost use Rattle.pw_code.specs.Valid.{IsValid};
 ghost use Rattle.pw_code.specs.declared.context.Context.{Context};
 ghost use Rattle.pw_code.specs.declared.system.System.{System};
 ghost use Rattle.pw_code.specs.declared.verb.Answer.{Answer};
 ghost use Rattle.pw_code.specs.declared.verb.Verb.{Verb};
-ghost use Rattle.pw_exec.specs.Config.{Config};
+ghost use Rattle.pw_exec.specs.Config.{Config, starting, starting_server};
 ghost use Rattle.pw_exec.specs.Contexts.{RunsOn, Takes};
-ghost use Rattle.pw_exec.specs.Runs.{Comes, StandsFrom, at_verb};
+ghost use Rattle.pw_exec.specs.Runs.{Comes, StandsFrom, after, at_verb};
 
 /// A context that runs on to its next verb still stands for its answers; one that takes an answer stands for one
 /// more. At a verb one context alone stands for given answers.
@@ -19,4 +20,14 @@ pub fn context_laws()
         → StandsFrom system start answers a → StandsFrom system start answers b
         → a.at_verb ≡ true → b.at_verb ≡ true → a ≡ b }
     ensures starts { (system : System) (start : Config) → Comes system start [] start }
+{}
+
+/// The verb that follows answers is the one to which the code comes: fewer steps than are made come before it.
+pub fn verb_laws()
+    ensures terminals { (system : System) (program : ℕ) (answers : List Answer) (at : Config)
+        → IsValid system → Comes system (starting system program) answers at → at_verb at ≡ true
+        → after system (starting system program) answers ≡ at }
+    ensures servers { (system : System) (server : ℕ) (message : List ℕ) (answers : List Answer) (at : Config)
+        → IsValid system → Comes system (starting_server system server message) answers at → at_verb at ≡ true
+        → after system (starting_server system server message) answers ≡ at }
 {}

@@ -1,4 +1,4 @@
 pub mod Counts
-pub mod Digits
 pub mod Kept
 pub mod Plays
+pub mod Texts

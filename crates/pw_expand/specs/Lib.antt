@@ -1,4 +1,5 @@
 pub mod Events
+pub mod Laws
 pub mod Numbers
 pub mod Printed
 pub mod Schedule

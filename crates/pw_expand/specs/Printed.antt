@@ -1,5 +1,5 @@
 -- What a net world is printed as, and the output for a schedule.
-use Rattle.std.specs.Prelude.{ℕ, zero, suc, ◌+◌, List, [], ◌∷◌, ◌++◌, codes, Result, Ok, Err}
+use Rattle.std.specs.Prelude.{ℕ, zero, suc, ◌+◌, List, [], ◌∷◌, ◌++◌, map, codes, Result, Ok, Err}
 use Rattle.std.specs.Fmt.{decimal}
 use Rattle.std.specs.List.{join_with_byte}
 use Rattle.pw_net.specs.Member.{Member, mark_in}
@@ -10,8 +10,9 @@ use Rattle.pw_net.specs.declared.message.Net.{Net}
 use Rattle.pw_net.specs.declared.message.NetId.{NetId}
 use Rattle.pw_net.specs.declared.message.NetWord.{NetWord}
 use Rattle.pw_net.specs.declared.message.NetWord.TheVariants.{Prepare, Yes, No, Commit, Abort, Ask}
-use Rattle.pw_net.specs.declared.standing.Standing.{Standing}
 use Rattle.pw_expand.specs.Schedule.{Schedule, schedule_of}
+use Rattle.pw_expand.specs.declared.expand.Ending.{Ending}
+use Rattle.pw_expand.specs.declared.expand.Ending.TheVariants.{Expanded, Refused}
 
 -- how a message's word is spelled
 abbrev pub word_text : NetWord → List ℕ
@@ -49,17 +50,21 @@ abbrev pub mark_line : ℕ → NetId → Mark → List ℕ
 mark_line system id mark =
     line (codes "MARK" ∷ decimal system ∷ decimal id.home ∷ decimal id.number ∷ mark_text mark ∷ [])
 
--- the lines of a system's marks, which stand by home and number
-unfoldable pub marks_of : ℕ → List (NetId × Standing) → List ℕ
-marks_of system [] = []
-marks_of system (entry ∷ entries) =
-    mark_line system entry.0 (mark_in entry.1) ++ marks_of system entries
+-- the lines of marks at a system
+unfoldable pub mark_lines : ℕ → List (NetId × Mark) → List ℕ
+mark_lines system [] = []
+mark_lines system (entry ∷ entries) =
+    mark_line system entry.0 entry.1 ++ mark_lines system entries
+
+-- the marks of a member, by home and number
+abbrev pub marks_of : Member → List (NetId × Mark)
+marks_of member = map {B = NetId × Mark} (λ entry. (entry.0, mark_in entry.1)) member.standings
 
 -- the lines of the marks of systems 1 to n
 unfoldable pub marks_to : (ℕ → Member) → ℕ → List ℕ
 marks_to members zero = []
 marks_to members (suc n) =
-    marks_to members n ++ marks_of (n + 1) (members (n + 1)).standings
+    marks_to members n ++ mark_lines (n + 1) (marks_of (members (n + 1)))
 
 -- the messages of a net of so many systems in order, and then its marks
 abbrev pub world_text : ℕ → World → List ℕ
@@ -73,3 +78,12 @@ text_of (Ok schedule) = Ok (world_text schedule.systems (after schedule.events))
 -- what an input expands to, or the line of its fault
 abbrev pub expanded : List ℕ → Result (List ℕ) ℕ
 expanded bytes = text_of (schedule_of bytes)
+
+-- what is written for a schedule whose fault stands at a line
+abbrev pub fault_line : ℕ → List ℕ
+fault_line number = line (codes "SCHEDULE" ∷ codes "FAULT" ∷ codes "LINE" ∷ decimal number ∷ [])
+
+-- how a schedule is answered, and what is written then
+abbrev pub answered : Result (List ℕ) ℕ → Ending × List ℕ
+answered (Ok text) = (Expanded, text)
+answered (Err number) = (Refused, fault_line number)

@@ -6,8 +6,8 @@ use thiserror::Error;
 /// Why a schedule gives no text.
 #[derive(Clone, Copy, Debug, PartialEq, Eq, Error)]
 pub enum ScheduleFault {
-    /// The first line that is faulty, from 1; 0 for an input over the limit. Where the first line is missing, it is the
-    /// number of lines plus 1.
+    /// The first line that is faulty, from 1; 0 for an input over the limit. Where the first line
+    /// is missing, it is the number of lines plus 1.
     #[error("SCHEDULE FAULT LINE {line}")]
     At { line: u32 },
     #[error("out of memory")]

@@ -1,12 +1,15 @@
-//! Schedules of transactions over several systems: reading them, and the messages and marks that they make.
+//! Schedules of transactions over several systems: reading them, and the messages and marks that
+//! they make.
 #![tactic(auto)]
 
 pub mod event;
+pub mod expand;
 pub mod fault;
+pub mod laws;
 mod line;
 mod number;
 pub mod play;
-mod print;
+pub mod print;
 pub mod systems;
 #[cfg(test)]
 mod tests;

@@ -1,21 +1,13 @@
-ghost use Rattle.std.specs.Prelude.{◌≡◌, ◌<◌, ◌≤◌, ◌^◌, length, map, IfOk, true};
-ghost use Rattle.std.specs.List.{list_all};
-ghost use Rattle.std.specs.Char.{is_ascii_digit};
+ghost use Rattle.std.specs.Prelude.{◌≡◌, map, IfOk};
 ghost use Rattle.std.specs.Option.{option_map};
-ghost use Rattle.std.specs.Str.Parse.{digits_value};
 ghost use Rattle.pw_expand.specs.Numbers.{is_count, count_in, counts_in};
 
 use pw_base::memory::Memory;
+use pw_lines::word::{are_digits, value_of};
 use std::alloc::Global;
 
 /// The most digits of a number.
 const MAX_DIGITS: usize = 10;
-
-fn are_digits(word: &[u8]) -> bool
-    ensures { result ≡ list_all is_ascii_digit word.now }
-{
-    word.iter().all(|byte| byte.is_ascii_digit())
-}
 
 /// Whether a word is 1 to 10 digits, of which the first is no zero.
 fn is_count(word: &[u8]) -> bool
@@ -25,19 +17,6 @@ fn is_count(word: &[u8]) -> bool
         [first, ..] => *first != b'0' && (word.len() <= MAX_DIGITS && are_digits(word)),
         [] => false,
     }
-}
-
-/// The number that digits write.
-fn value_of(word: &[u8]) -> u64
-    requires few { length word.now ≤ 10 }
-    requires digits { list_all is_ascii_digit word.now ≡ true }
-    ensures { result ≡ digits_value 10 word.now }
-{
-    let mut value = 0;
-    for byte in word {
-        value = value * 10 + u64::from(*byte - b'0');
-    }
-    value
 }
 
 /// The number from 1 to 4,294,967,295 that a word is, None exactly where it is none.

@@ -41,7 +41,8 @@ fn play_event(
     }
 }
 
-/// Does what a line says, where so many lines of events may still come. It gives how many may come behind it.
+/// Does what a line says, where so many lines of events may still come. It gives how many may come
+/// behind it.
 fn play_line(
     alloc: Global,
     world: &mut Systems,
@@ -94,7 +95,8 @@ fn play_events(
     Ok(())
 }
 
-/// Takes the first line, which has a number, and then the events behind it. It gives how many systems there are.
+/// Takes the first line, which has a number, and then the events behind it. It gives how many
+/// systems there are.
 fn play_from(
     alloc: Global,
     world: &mut Systems,
@@ -120,8 +122,8 @@ fn play_from(
     }
 }
 
-/// Does the events of the schedule that a text of at most 16 MiB is (docs/NET.md). It gives how many systems there are,
-/// and refuses exactly with the line of the schedule's first fault.
+/// Does the events of the schedule that a text of at most 16 MiB is (docs/EXPAND.md). It gives how
+/// many systems there are, and refuses exactly with the line of the schedule's first fault.
 fn play(alloc: Global, world: &mut Systems, text: &[u8]) -> Result<u32, ScheduleFault>
     requires few { length text.now ≤ longest_input }
     requires begun { HasBegun 0 (world_of world.old.members.entries world.old.sent.items) }
@@ -141,8 +143,8 @@ fn play(alloc: Global, world: &mut Systems, text: &[u8]) -> Result<u32, Schedule
     Err(ScheduleFault::At { line: number })
 }
 
-/// The net world of a schedule, and how many systems it has (docs/NET.md). It refuses exactly with the line of the
-/// schedule's first fault, which is 0 for an input over the limit.
+/// The net world of a schedule, and how many systems it has (docs/EXPAND.md). It refuses exactly
+/// with the line of the schedule's first fault, which is 0 for an input over the limit.
 pub fn play_schedule(alloc: Global, bytes: &[u8]) -> Result<(u32, Systems), ScheduleFault>
     ensures ok { IfOk result (λ shown. schedule_played first_world (schedule_of bytes.now)
         ≡ Ok (shown.0, world_of shown.1.members.entries shown.1.sent.items)) }

@@ -1,6 +1,8 @@
-ghost use Rattle.std.specs.Prelude.{◌≡◌, ◌+◌, ◌++◌, OnOk};
-ghost use Rattle.pw_expand.specs.Printed.{word_text, mark_text, sent_line, sent_lines, mark_line};
+ghost use Rattle.std.specs.Prelude.{◌≡◌, ◌+◌, ◌++◌, IfOk, OnOk};
+ghost use Rattle.pw_expand.specs.Printed.{word_text, mark_text, sent_line, sent_lines, mark_line, mark_lines, marks_of, marks_to, world_text, fault_line};
+ghost use Rattle.pw_expand.specs.Systems.{member_in, world_of};
 
+use crate::systems::Systems;
 use pw_base::bytes::Bytes;
 use pw_base::memory::Memory;
 use pw_net::message::{Mark, Net, NetId, NetWord};
@@ -45,7 +47,7 @@ fn put_sent(alloc: Global, text: &mut Bytes, k: usize, message: &Net) -> Result<
 
 /// Puts the lines of all messages behind a text.
 #[tactic(auto, unfolding(crate::specs::Printed::sent_lines))]
-pub fn put_all_sent(alloc: Global, text: &mut Bytes, sent: &[Net]) -> Result<(), Memory>
+fn put_all_sent(alloc: Global, text: &mut Bytes, sent: &[Net]) -> Result<(), Memory>
     ensures { OnOk result (text.new ≡ text.old ++ sent_lines 1 sent.now) }
 {
     for (place, message) in sent.iter().enumerate() {
@@ -55,7 +57,7 @@ pub fn put_all_sent(alloc: Global, text: &mut Bytes, sent: &[Net]) -> Result<(),
 }
 
 /// Puts the line of a mark at a system behind a text.
-pub fn put_mark(
+fn put_mark(
     alloc: Global,
     text: &mut Bytes,
     system: u32,
@@ -68,4 +70,67 @@ pub fn put_mark(
     let NetId { home, number } = id;
     let line = format!(in alloc; "MARK {system} {home} {number} {mark}\n")?;
     text.extend(line.as_bytes())
+}
+
+/// Puts the lines of marks at a system behind a text.
+#[tactic(auto, unfolding(crate::specs::Printed::mark_lines))]
+fn put_marks(
+    alloc: Global,
+    text: &mut Bytes,
+    system: u32,
+    marks: &[(NetId, Mark)],
+) -> Result<(), Memory>
+    ensures { OnOk result (text.new ≡ text.old ++ mark_lines system marks.now) }
+{
+    for (id, mark) in marks {
+        put_mark(alloc, text, system, *id, *mark)?;
+    }
+    Ok(())
+}
+
+/// Puts the lines of a system's marks behind a text.
+#[tactic(auto, unfolding(crate::specs::Printed::mark_lines))]
+fn put_system(alloc: Global, text: &mut Bytes, world: &Systems, system: u32) -> Result<(), Memory>
+    ensures { OnOk result (text.new ≡ text.old ++ mark_lines system (marks_of (member_in world.now.members.entries system))) }
+{
+    let Some(member) = world.members.get(&system) else {
+        return Ok(());
+    };
+    let marks = member.marks()?;
+    put_marks(alloc, text, system, marks.as_slice())
+}
+
+/// Puts the lines of the marks of systems 1 to n behind a text.
+#[tactic(auto, unfolding(crate::specs::Printed::marks_to))]
+fn put_all_marks(
+    alloc: Global,
+    text: &mut Bytes,
+    world: &Systems,
+    systems: u32,
+) -> Result<(), Memory>
+    ensures { OnOk result (text.new ≡ text.old ++ marks_to (member_in world.now.members.entries) systems) }
+{
+    for place in 0..systems {
+        put_system(alloc, text, world, place + 1)?;
+    }
+    Ok(())
+}
+
+/// The lines of a net of so many systems: its messages in order, and then its marks
+/// (docs/EXPAND.md).
+pub fn world_text(alloc: Global, world: &Systems, systems: u32) -> Result<Bytes, Memory>
+    ensures { IfOk result (λ text. text ≡ world_text systems (world_of world.now.members.entries world.now.sent.items)) }
+{
+    let mut text = Bytes::new(alloc);
+    put_all_sent(alloc, &mut text, world.sent.as_slice())?;
+    put_all_marks(alloc, &mut text, world, systems)?;
+    Ok(text)
+}
+
+/// The line that is written for a schedule whose first fault stands at a line.
+pub fn fault_line(alloc: Global, number: u32) -> Result<Bytes, Memory>
+    ensures { IfOk result (λ text. text ≡ fault_line number) }
+{
+    let line = format!(in alloc; "SCHEDULE FAULT LINE {number}\n")?;
+    Bytes::from_slice(alloc, line.as_bytes())
 }

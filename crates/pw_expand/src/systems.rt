@@ -11,8 +11,8 @@ use pw_net::message::Net;
 use std::alloc::Global;
 use std::collections::BTreeMap;
 
-/// The net world that events make: the member of each system that has done something, and all messages ever sent, in
-/// order. An `Err` of a call says nothing of what is left.
+/// The net world that events make: the member of each system that has done something, and all
+/// messages ever sent, in order. An `Err` of a call says nothing of what is left.
 #[derive(Debug, Drop)]
 pub struct Systems {
     alloc: Global,

@@ -1,11 +1,7 @@
+use crate::expand::{Ending, answer, expand};
 use crate::fault::ScheduleFault;
 use crate::line::event_in;
-use crate::play::play_schedule;
-use crate::print::put_all_sent;
-use crate::systems::Systems;
 use pw_base::bytes::Bytes;
-use pw_base::memory::Memory;
-use pw_net::message::{Mark, NetId};
 use std::alloc::Global;
 use std::test::Fail;
 
@@ -63,44 +59,37 @@ fn lines_name_events(rt: HostRuntime) -> Result<(), Fail> {
     Ok(())
 }
 
-/// Whether a world has sent these messages.
-fn sent_are(alloc: Global, world: &Systems, wanted: &[u8]) -> Result<bool, Memory> {
-    let mut text = Bytes::new(alloc);
-    put_all_sent(alloc, &mut text, world.sent.as_slice())?;
-    Ok(text.as_slice() == wanted)
-}
-
-/// The mark of the first transaction of system 1 at a system.
-fn mark_at(world: &Systems, system: u32) -> Option<Mark> {
-    world
-        .members
-        .get(&system)?
-        .mark(NetId { home: 1, number: 1 })
-}
-
-#[test]
-fn prepared_member_asks(rt: HostRuntime) -> Result<(), Fail> {
-    let schedule =
-        b"SYSTEMS 3\nSTART 1 2 3\nDELIVER 1\nDELIVER 2\nDELIVER 3\nDELIVER 4\nRESTART 2\nASK 2 1 1\nDELIVER 7\n";
-    let wanted =
-        b"SENT 1 PREPARE 1 2 1 1\nSENT 2 PREPARE 1 3 1 1\nSENT 3 YES 2 1 1 1\nSENT 4 YES 3 1 1 1\nSENT 5 COMMIT 1 2 1 1\nSENT 6 COMMIT 1 3 1 1\nSENT 7 ASK 2 1 1 1\nSENT 8 COMMIT 1 2 1 1\n";
-    let (_systems, world) = play_schedule(rt.alloc(), schedule)?;
-    assert!(rt; sent_are(rt.alloc(), &world, wanted)?);
-    assert_eq!(rt; mark_at(&world, 1), Some(Mark::Committed));
-    assert_eq!(rt; mark_at(&world, 2), Some(Mark::Prepared));
-    assert_eq!(rt; mark_at(&world, 3), Some(Mark::Prepared));
-    Ok(())
-}
+/// Schedules, and what they expand to.
+const OUTPUTS: &[(&[u8], &[u8])] = &[
+    // a prepared member asks its home
+    (
+        b"SYSTEMS 3\nSTART 1 2 3\nDELIVER 1\nDELIVER 2\nDELIVER 3\nDELIVER 4\nRESTART 2\nASK 2 1 1\nDELIVER 7\n",
+        b"SENT 1 PREPARE 1 2 1 1\nSENT 2 PREPARE 1 3 1 1\nSENT 3 YES 2 1 1 1\nSENT 4 YES 3 1 1 1\nSENT 5 COMMIT 1 2 1 1\nSENT 6 COMMIT 1 3 1 1\nSENT 7 ASK 2 1 1 1\nSENT 8 COMMIT 1 2 1 1\nMARK 1 1 1 COMMITTED\nMARK 2 1 1 PREPARED\nMARK 3 1 1 PREPARED\n",
+    ),
+    // a restarted home aborts
+    (
+        b"SYSTEMS 2\nSTART 1 2\nDELIVER 1\nRESTART 1\nDELIVER 2\nDELIVER 3\nDELIVER 2\n",
+        b"SENT 1 PREPARE 1 2 1 1\nSENT 2 YES 2 1 1 1\nSENT 3 ABORT 1 2 1 1\nSENT 4 ABORT 1 2 1 1\nMARK 1 1 1 ABORTED\nMARK 2 1 1 ABORTED\n",
+    ),
+    // marks by system, home and number
+    (
+        b"SYSTEMS 3\nREFUSE 2 3 7\nSTART 2 1\nREFUSE 2 1 12\nREFUSE 2 1 3\nSTART 1 3",
+        b"SENT 1 PREPARE 2 1 2 1\nSENT 2 PREPARE 1 3 1 1\nMARK 1 1 1 COLLECTING\nMARK 2 1 3 ABORTED\nMARK 2 1 12 ABORTED\nMARK 2 2 1 COLLECTING\nMARK 2 3 7 ABORTED\n",
+    ),
+    // nothing happens
+    (b"SYSTEMS 2", b""),
+    (
+        b"  \nSYSTEMS 8\nDELIVER 1\nASK 1 2 3\nGIVEUP 8 1\nRESTART 8\n",
+        b"",
+    ),
+];
 
 #[test]
-fn restarted_home_aborts(rt: HostRuntime) -> Result<(), Fail> {
-    let schedule = b"SYSTEMS 2\nSTART 1 2\nDELIVER 1\nRESTART 1\nDELIVER 2\nDELIVER 3\nDELIVER 2\n";
-    let wanted =
-        b"SENT 1 PREPARE 1 2 1 1\nSENT 2 YES 2 1 1 1\nSENT 3 ABORT 1 2 1 1\nSENT 4 ABORT 1 2 1 1\n";
-    let (_systems, world) = play_schedule(rt.alloc(), schedule)?;
-    assert!(rt; sent_are(rt.alloc(), &world, wanted)?);
-    assert_eq!(rt; mark_at(&world, 1), Some(Mark::Aborted));
-    assert_eq!(rt; mark_at(&world, 2), Some(Mark::Aborted));
+fn schedules_expand(rt: HostRuntime) -> Result<(), Fail> {
+    for &(schedule, wanted) in OUTPUTS {
+        let text = expand(rt.alloc(), schedule)?;
+        assert_eq!(rt; text.as_slice(), wanted);
+    }
     Ok(())
 }
 
@@ -119,7 +108,7 @@ const FAULTS: &[(&[u8], u32)] = &[
 
 /// The line of a schedule's fault.
 fn fault_of(alloc: Global, schedule: &[u8]) -> Option<u32> {
-    match play_schedule(alloc, schedule) {
+    match expand(alloc, schedule) {
         Err(ScheduleFault::At { line }) => Some(line),
         _ => None,
     }
@@ -129,6 +118,10 @@ fn fault_of(alloc: Global, schedule: &[u8]) -> Option<u32> {
 fn first_fault_is_told(rt: HostRuntime) -> Result<(), Fail> {
     for &(schedule, line) in FAULTS {
         assert_eq!(rt; fault_of(rt.alloc(), schedule), Some(line));
+        let (ending, text) = answer(rt.alloc(), schedule)?;
+        assert_eq!(rt; ending, Ending::Refused);
+        let wanted = format!(in rt.alloc(); "SCHEDULE FAULT LINE {line}\n")?;
+        assert_eq!(rt; text.as_slice(), wanted.as_bytes());
     }
     Ok(())
 }

@@ -1,6 +1,11 @@
-ghost use Rattle.std.specs.Prelude.{◌≡◌, true};
+ghost use Rattle.std.specs.Prelude.{◌≡◌, ◌↔◌, true, IfOk, IsTrue};
 
 use pw_base::bytes::Bytes;
+use pw_base::list::List;
+use pw_base::memory::Memory;
+use pw_code::copies::Duplicate;
+use pw_code::same::Same;
+use std::alloc::Global;
 use std::marker::Model;
 
 /// A record of an image that is to be put in the place of another.
@@ -15,7 +20,23 @@ pub struct Changed {
 /// Some records of an image, with rising numbers. Contracts see them in order.
 #[derive(Debug, Drop)]
 pub struct Changes {
-    changed: Vec<Changed>,
+    changed: List<Changed>,
+}
+
+impl Duplicate for Changed {
+    fn copy(&self, alloc: Global) -> Result<Changed, Memory> {
+        let bytes = self.bytes.copy(alloc)?;
+        Ok(Changed {
+            number: self.number,
+            bytes,
+        })
+    }
+}
+
+impl Same for Changed {
+    fn is_same(&self, other: &Changed) -> bool {
+        self.number == other.number && self.bytes.is_same(&other.bytes)
+    }
 }
 
 impl Model for Changes {
@@ -25,9 +46,9 @@ impl Model for Changes {
 
     ghost Value = { List Changed };
 
-    ghost view = { λ changes. changes.changed.items };
+    ghost view = { λ changes. changes.changed };
 
-    ghost invariant = { λ changes. is_rising changes.changed.items ≡ true };
+    ghost invariant = { λ changes. is_rising changes.changed ≡ true };
 }
 
 impl Changes {
@@ -38,7 +59,24 @@ impl Changes {
         requires { is_rising changed.items ≡ true }
         ensures { result ≡ changed.items }
     {
-        Changes { changed }
+        Changes {
+            changed: List::from_vec(changed),
+        }
+    }
+
+    /// An equal list. It costs the bytes of the records.
+    pub fn copy(&self, alloc: Global) -> Result<Changes, Memory>
+        ensures { IfOk result (λ copy. copy ≡ self.now) }
+    {
+        let changed = self.changed.copy(alloc)?;
+        Ok(Changes { changed })
+    }
+
+    /// Whether the two are equal.
+    pub fn is_same(&self, other: &Changes) -> bool
+        ensures { IsTrue result ↔ (self.now ≡ other.now) }
+    {
+        self.changed.is_same(&other.changed)
     }
 
     /// The records, in order.

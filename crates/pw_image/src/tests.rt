@@ -244,3 +244,21 @@ fn equal_images_no_change(rt: HostRuntime) -> Result<(), Fail> {
     }
     Ok(())
 }
+
+#[test]
+fn copies_of_changes(rt: HostRuntime) -> Result<(), Fail> {
+    let alloc = rt.alloc();
+    let old = [0u8; 130];
+    let one = changes(alloc, &old, &[1u8; 130])?;
+    let copy = one.copy(alloc)?;
+    assert!(rt; copy.is_same(&one) && one.is_same(&copy));
+    assert_eq!(rt; copy.as_slice().len(), 3);
+    for other in [
+        changes(alloc, &old, &[2u8; 130])?,
+        changes(alloc, &old, &old)?,
+        changes(alloc, &[0u8; 129], &[1u8; 129])?,
+    ] {
+        assert!(rt; !one.is_same(&other));
+    }
+    Ok(())
+}

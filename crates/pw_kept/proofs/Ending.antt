@@ -1,24 +1,29 @@
 -- A terminal ends.
-use Rattle.std.proofs.Common.{◌≡◌, ℕ, List, Some, None, Bool, true, refl, sym, ap, subst, ◌∙◌}
+use Rattle.std.proofs.Common.{◌≡◌, ℕ, List, [], ◌∷◌, Some, None, Bool, true, refl, sym, ap, subst, ◌∙◌}
 use Rattle.std.specs.Prelude.{slice_get}
 use Rattle.pw_code.specs.declared.system.System.{System}
 use Rattle.pw_code.specs.declared.system.TermInfo.{TermInfo}
 use Rattle.pw_event.specs.declared.event.Ending.{Ending}
+use Rattle.pw_event.specs.declared.event.Ending.TheVariants.{Fault, Lost, NoEntries, Stopped, Suspended}
 use Rattle.pw_event.specs.declared.script.FailLine.{FailLine}
 use Rattle.pw_exec.specs.OfSystem.{behaviour}
-use Rattle.pw_kept.specs.Changes.{at_pair, at_terminal}
+use Rattle.pw_kept.specs.Changes.{at_pair, at_terminal, leave, leave_at}
 use Rattle.pw_kept.specs.Kept.{Kept}
 use Rattle.pw_kept.specs.Stands.{Stands, StandsForPair, StandsForSeat, works}
+use Rattle.pw_kept.proofs.Agreeing.{only-agrees-in, tells-alone}
 use Rattle.pw_kept.proofs.Components.{apart, pair-changed, pair-of, seat-same, tells-same, terminal-changed}
+use Rattle.pw_kept.proofs.Leaving.{left-stands}
 use Rattle.pw_kept.proofs.Seats.{all-at, keeps-terminal, still-there}
 use Rattle.pw_kept.proofs.Settled.{settles, terminals-work, works-settle}
 use Rattle.pw_onecopy.specs.Update.{upd}
 use Rattle.pw_onecopy.proofs.Update.{upd-other, upd-same, upd_elim}
 use Rattle.pw_pair.specs.Pairs.{SeenPair, after_drop, changed_at, settled}
 use Rattle.pw_pair.specs.Seats.{dropped}
-use Rattle.pw_paired.specs.End.{end_terminal}
+use Rattle.pw_paired.specs.End.{end_terminal, leave_unit_at}
 use Rattle.pw_paired.specs.Raising.{lacks_one, settle_mode, settled_mode}
 use Rattle.pw_paired.specs.State.{Mode, State, Term}
+use Rattle.pw_paired.specs.Units.{leave_units, only}
+use Rattle.pw_tmf.specs.Leaving.{CanLeave}
 
 -- the pair, before it settles
 left : (system : System) (p : ℕ) (at : Mode) (state : State) (pair : SeenPair) (t : ℕ) (ending : Ending)
@@ -65,7 +70,7 @@ end-stands system script state kept t info ending stands there =
           (terminal-changed system state.modes state.terms state.units kept.terminals t term (record (kept.terminals t) { pending = None; ending = Some ending }) stands.terminals
           (λ own here.
           let old = stands.terminals t own here in
-          record { path = old.path; there = λ works lives. absurd (cc lives); start = old.start; restarts = old.restarts; awaits = old.awaits; pending = refl; ending = refl }));
+          record { path = old.path; ready = old.ready; there = λ works lives. absurd (cc lives); start = old.start; restarts = old.restarts; awaits = old.awaits; pending = refl; ending = refl }));
       disc = tells-same (behaviour script system) state _ kept.disc refl refl refl refl refl stands.disc;
       classes = stands.classes;
       pairs = pair-changed system state.modes state.terms behind.terms state.memory behind.memory state.flight behind.flight kept.pairs info.tcp at (settled (changed_at t dropped (kept.pairs info.tcp)))
@@ -91,3 +96,15 @@ end-stands system script state kept t info ending stands there =
 
     at : Mode
     at = settled_mode (state.modes info.tcp) lacks
+
+-- behind the leaving of the terminal's unit
+module _ (system : System) (script : List FailLine) (state : State) (kept : Kept) (t : ℕ) (stands : Stands system script state kept) (may : CanLeave (behaviour script system) state) where
+  left-alone : Stands system script (leave_units (behaviour script system) (only t) state) (leave (t ∷ []) kept)
+  left-alone = left-stands system script state kept (only t) (t ∷ []) stands (only-agrees-in system state t) (tells-alone system script state kept t may stands)
+
+  pub left-at : (ending : Ending) → Stands system script (leave_unit_at (behaviour script system) t ending state) (leave_at t ending kept)
+  left-at Stopped = stands
+  left-at NoEntries = left-alone
+  left-at (Fault x) = left-alone
+  left-at (Suspended cause) = left-alone
+  left-at Lost = stands

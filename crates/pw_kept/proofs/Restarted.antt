@@ -9,9 +9,10 @@ use Rattle.pw_code.specs.declared.system.TermInfo.{TermInfo}
 use Rattle.pw_event.specs.declared.event.Cause.{Cause}
 use Rattle.pw_event.specs.declared.script.FailLine.{FailLine}
 use Rattle.pw_exec.specs.OfSystem.{behaviour}
+use Rattle.pw_kept.specs.Arrivals.{StandsForPath}
 use Rattle.pw_kept.specs.Changes.{job_without, kept_restart, restarted, unit_at}
 use Rattle.pw_kept.specs.Kept.{Kept, KeptTerminal}
-use Rattle.pw_kept.specs.Stands.{Stands, StandsForClass, StandsForJob, StandsForKnown, StandsForPath, StandsForTerminal, StandsIfAny}
+use Rattle.pw_kept.specs.Stands.{Stands, StandsForClass, StandsForJob, StandsForKnown, StandsForTerminal, StandsIfAny}
 use Rattle.pw_kept.proofs.Components.{ending-stays, pairs-same, terminal-and-unit}
 use Rattle.pw_onecopy.specs.Path.{PathAnswer}
 use Rattle.pw_paired.specs.Failure.{awaited_after, do_restart, with_restart, with_start_path}
@@ -37,6 +38,7 @@ at-start system info at term own unit start cause kept is_open runs old =
     let k = known system info start kept.start begins in
     record {
       path = k.0;
+      ready = tt;
       there = λ works lives. k.1;
       start = tt;
       restarts = ap (λ n. n + 1) old.restarts;

@@ -2,7 +2,7 @@
 use Rattle.std.proofs.Common.{◌≡◌, ℕ, zero, suc, ◌+◌, ◌<◌, ◌≤◌, List, [], ◌∷◌, Option, Some, None, true, false, cond, is_none, refl, sym, ap, subst, ◌∙◌, arith}
 use Rattle.std.specs.Prelude.{IsSome, slice_get}
 use Rattle.std.specs.Option.{option_map}
-use Rattle.pw_class.specs.Queue.{after_take, at_process, with_free}
+use Rattle.pw_class.specs.Queue.{Queue, after_take, at_process, with_free}
 use Rattle.pw_class.specs.declared.request.Request.{Request}
 use Rattle.pw_code.specs.declared.context.Context.{Context}
 use Rattle.pw_code.specs.declared.file.FileCall.{FileCall}
@@ -12,7 +12,7 @@ use Rattle.pw_code.specs.declared.verb.Verb.TheVariants as verb
 use Rattle.pw_event.specs.declared.event.Cause.TheVariants.{Server}
 use Rattle.pw_event.specs.declared.script.FailLine.{FailLine}
 use Rattle.pw_exec.specs.OfSystem.{behaviour, processes_by}
-use Rattle.pw_kept.specs.Changes.{birth_for, free_process, kept_fail_server, kept_file, kept_take, process_stops}
+use Rattle.pw_kept.specs.Changes.{birth_for, free_process, kept_fail_server, kept_file, kept_take, process_stops, with_job}
 use Rattle.pw_kept.specs.Kept.{Kept}
 use Rattle.pw_kept.specs.Stands.{Stands, StandsForClass, StandsForJob, StandsIfAny}
 use Rattle.pw_kept.proofs.Classes.{class-changed}
@@ -158,7 +158,7 @@ pending-stands system script state kept t k stands = record {
   terminals = terminal-changed system state.modes state.terms state.units kept.terminals t _ (record (kept.terminals t) { pending = Some (Server k) }) stands.terminals
       (λ info here.
       let old = stands.terminals t info here in
-      record { path = old.path; there = old.there; start = old.start; restarts = old.restarts; awaits = old.awaits; pending = refl; ending = old.ending });
+      record { path = old.path; ready = old.ready; there = old.there; start = old.start; restarts = old.restarts; awaits = old.awaits; pending = refl; ending = old.ending });
   disc = tells-same (behaviour script system) state _ kept.disc refl refl refl refl refl stands.disc;
   classes = stands.classes;
   pairs = pairs-same system state.modes state.terms _ state.memory state.flight kept.pairs (ending-stays state.terms t _ refl) stands.pairs;
@@ -176,3 +176,33 @@ fails-stands system script state kept c i k info stands there low high =
     by : (o : Option Job) → Stands system script (process_fails c i k o state) (process_stops c i k (request_in o) kept)
     by None = stands
     by (Some job) = pending-stands system script (paired.free_process c i state) (free_process c i kept) job.request.terminal k (freed-stands system script state kept c i info stands there (low, high))
+
+-- ---- no entry: a server has run on
+
+-- the context of one process is another one
+another-job : (system : System) (info : ClassInfo) (class : Class) (queue : Queue) (jobs : ℕ → Option Context) (i : ℕ) (job : Job) (new : Context) → class.busy i ≡ Some job → StandsForJob system info job new
+    → StandsForClass system info class queue jobs → StandsForClass system info class queue (upd jobs i (Some new))
+another-job system info class queue jobs i job new works goes old = record {
+  queue_is = old.queue_is;
+  works_on = λ j. upd_elim jobs i (Some new) j (StandsIfAny (StandsForJob system info) (class.busy j))
+      (λ is. subst (λ o. StandsIfAny (StandsForJob system info) o (Some new)) (sym (ap class.busy is ∙ works)) goes)
+      (λ ne. old.works_on j);
+  within = old.within;
+}
+
+pub ran-job : (system : System) (script : List FailLine) (state : State) (kept : Kept) (c i : ℕ) (info : ClassInfo) (job : Job) (new : Context) → Stands system script state kept → slice_get system.classes c ≡ Some info
+    → (state.classes c).busy i ≡ Some job → StandsForJob system info job new → Stands system script state (with_job c i (Some new) kept)
+ran-job system script state kept c i info job new stands there works goes = record {
+  terminals = stands.terminals;
+  disc = stands.disc;
+  classes = λ d other here.
+      upd_elim kept.jobs c (upd (kept.jobs c) i (Some new)) d (StandsForClass system other (state.classes d) (kept.queues d))
+      (λ is.
+      subst (λ x. StandsForClass system other (state.classes x) (kept.queues x) (upd (kept.jobs c) i (Some new))) (sym is)
+      (another-job system other (state.classes c) (kept.queues c) (kept.jobs c) i job new works
+      (subst (λ x. StandsForJob system x job new) (some_is (sym there ∙ (ap (slice_get system.classes) (sym is) ∙ here))) goes)
+      (stands.classes c other (ap (slice_get system.classes) (sym is) ∙ here))))
+      (λ ne. stands.classes d other here);
+  pairs = stands.pairs;
+  births = stands.births;
+}

@@ -56,6 +56,7 @@ terminals-work system modes new terms units kept only old t info here =
     let o = old t info here in
     record {
       path = o.path;
+      ready = o.ready;
       there = λ works lives. o.there (only info.tcp works) lives;
       start = o.start;
       restarts = o.restarts;

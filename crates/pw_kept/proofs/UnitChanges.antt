@@ -1,6 +1,6 @@
 -- Units begin and end.
 use Rattle.std.proofs.Common.{◌≡◌, ℕ, List, [], ◌∷◌, ◌++◌, Option, Some, None, refl, sym, ap, subst, ◌∙◌}
-use Rattle.std.specs.Prelude.{slice_get}
+use Rattle.std.specs.Prelude.{IsSome, slice_get}
 use Rattle.std.specs.Option.{option_map}
 use Rattle.pw_class.specs.declared.request.Request.{Request}
 use Rattle.pw_class.specs.Queue as queue
@@ -9,16 +9,18 @@ use Rattle.pw_code.specs.declared.system.System.{System}
 use Rattle.pw_code.specs.declared.system.TermInfo.{TermInfo}
 use Rattle.pw_event.specs.declared.script.FailLine.{FailLine}
 use Rattle.pw_exec.specs.OfSystem.{behaviour}
-use Rattle.pw_kept.specs.Changes.{at_terminal, birth_for, births_behind, kept_back, kept_begin, kept_send, unit_at, with_context, without_unit}
+use Rattle.pw_kept.specs.Arrivals.{StandsForPath}
+use Rattle.pw_kept.specs.Changes.{at_terminal, attempted, birth_for, births_behind, kept_back, kept_begin, kept_begin_send, kept_send, unit_at, with_attempt, with_context, without_unit}
 use Rattle.pw_kept.specs.Kept.{Kept, KeptTerminal}
-use Rattle.pw_kept.specs.Stands.{Stands, StandsForPath, StandsIfAny}
+use Rattle.pw_kept.specs.Stands.{Stands, StandsForKnown, StandsForTerminal, StandsIfAny, works}
 use Rattle.pw_kept.proofs.Classes.{class-changed}
-use Rattle.pw_kept.proofs.Components.{TerminalsStand, ending-stays, pairs-same, some_is, tells-same, terminal-and-unit}
-use Rattle.pw_onecopy.specs.Path.{Dropped, PathAnswer}
+use Rattle.pw_kept.proofs.Components.{TerminalsStand, ending-stays, pair-of, pairs-same, some_is, tells-same, terminal-and-unit}
+use Rattle.pw_code.specs.declared.verb.Verb.TheVariants as verb
+use Rattle.pw_onecopy.specs.Path.{Begun, Dropped, PathAnswer}
 use Rattle.pw_onecopy.specs.Update.{upd}
 use Rattle.pw_onecopy.proofs.Update.{upd-other, upd-same}
 use Rattle.pw_paired.specs.State.{BeforeImage, Mode, OpenUnit, State, Term}
-use Rattle.pw_paired.specs.Terminal.{IsIdle, awaited_of, begun_path, births_after, do_back, do_begin, do_send, message_of, next_verb, path_of, unit_with_attempt, with_request}
+use Rattle.pw_paired.specs.Terminal.{CanStep, IsIdle, awaited_of, begun_path, births_after, do_back, do_begin, do_send, message_of, next_verb, path_of, unit_with_attempt, with_request}
 use Rattle.pw_paired.specs.Units.{give_answer, commit_unit, drop_unit, restarts_of}
 use Rattle.pw_tmf.specs.Tells.{Tells, as_told, images_by, unit_begun}
 use Rattle.pw_tmf.specs.Units.{begun, ended}
@@ -32,6 +34,7 @@ unit-over system modes terms units kept t terminal answer new stands there path 
     terminal-and-unit system modes terms units kept t _ None (without_unit (with_context new (kept t))) stands
     (λ info here. record {
       path = subst (λ x. StandsForPath system x ((terms t).path ++ answer ∷ []) new) (some_is (sym there ∙ here)) path;
+      ready = tt;
       there = λ works lives. refl;
       start = tt;
       restarts = refl;
@@ -88,25 +91,26 @@ awaits-is : (n births : ℕ) (path : List PathAnswer) (own : Option OpenUnit) �
 awaits-is n births path None = refl
 awaits-is n births path (Some own) = refl
 
-pub begin-stands : (system : System) (script : List FailLine) (state : State) (kept : Kept) (t n r : ℕ) (terminal : TermInfo) (start next : Context) → Stands system script state kept → slice_get system.terminals t ≡ Some terminal
+-- the context of the start is the one so far
+kept-start : (system : System) (info : TermInfo) (path : List PathAnswer) (context : Option Context) → StandsForKnown system info path context → IsSome context
+    → StandsIfAny (StandsForPath system info) (Some path) context
+kept-start system info path None known some = absurd (cc some)
+kept-start system info path (Some context) known some = known
+
+-- a terminal that can step has a context
+pub has-context : (system : System) (script : List FailLine) (state : State) (kept : Kept) (t : ℕ) (info : TermInfo) → Stands system script state kept → slice_get system.terminals t ≡ Some info
+    → CanStep (behaviour script system) state t → IsSome (kept.terminals t).context
+has-context system script state kept t info stands here can =
+    (stands.terminals t info here).there (ap (λ p. works (state.modes p)) (sym (pair-of system script t info here)) ∙ ap works can.paired) can.live.going_on
+
+begins : (system : System) (script : List FailLine) (state : State) (kept : Kept) (t n r : ℕ) (change : KeptTerminal → KeptTerminal) → Stands system script state kept
     → IsIdle state t → ((own : OpenUnit) → state.units t ≡ Some own → own.number ≡ n)
-    → StandsForPath system terminal (path_of state t) start → StandsForPath system terminal (begun_path r (next_verb (behaviour script system) state t) (path_of state t)) next
-    → Stands system script (do_begin (behaviour script system) t n r state) (kept_begin t n start next kept)
-begin-stands system script state kept t n r terminal start next stands there idle number from goes = record {
-  terminals = terminal-and-unit system state.modes state.terms state.units kept.terminals t _ (Some unit) (record (kept.terminals t) { context = Some next; start = Some start }) stands.terminals
-      (λ info here.
-      let old = stands.terminals t info here in
-      let is : terminal ≡ info = some_is (sym there ∙ here) in
-      record {
-        path = subst (λ x. StandsForPath system x (begun_path r (next_verb (behaviour script system) state t) (path_of state t)) next) is goes;
-        there = λ works lives. refl;
-        start = subst (λ o. StandsIfAny (StandsForPath system info) o (Some start)) (sym (attempt-is n state.births (path_of state t) (state.units t)))
-            (subst (λ x. StandsForPath system x (path_of state t) start) is from);
-        restarts = old.restarts ∙ sym (restarts-is n state.births (path_of state t) (state.units t));
-        awaits = old.awaits ∙ sym (awaits-is n state.births (path_of state t) (state.units t));
-        pending = old.pending;
-        ending = old.ending;
-      });
+    → ((info : TermInfo) → slice_get system.terminals t ≡ Some info
+    → StandsForTerminal system info (state.modes info.tcp) (record (state.terms t) { path = begun_path r (next_verb (behaviour script system) state t) (path_of state t) })
+    (Some (unit_with_attempt n state.births (path_of state t) (state.units t))) (change (kept.terminals t)))
+    → Stands system script (do_begin (behaviour script system) t n r state) (with_attempt t n change kept)
+begins system script state kept t n r change stands idle number fits = record {
+  terminals = terminal-and-unit system state.modes state.terms state.units kept.terminals t _ (Some unit) (change (kept.terminals t)) stands.terminals fits;
   disc = subst (λ b. Tells (behaviour script system) (do_begin (behaviour script system) t n r state) (begun kept.disc (record { terminal = t; number = n; birth = b }))) (sym birth)
       (tells-begin (behaviour script system) state kept.disc t n r stands.disc idle (number-is n state.births (path_of state t) (state.units t) number));
   classes = stands.classes;
@@ -122,6 +126,53 @@ begin-stands system script state kept t n r terminal start next stands there idl
         ap (λ o. birth_for o kept.births) (stands.disc.units t)
         ∙ (ap (birth_for (option_map (as_told (images_by t state.before)) (state.units t))) stands.births
         ∙ birth-same (images_by t state.before) n state.births (path_of state t) (state.units t))
+
+module _ (system : System) (script : List FailLine) (state : State) (kept : Kept) (t n r : ℕ) (terminal : TermInfo) (stands : Stands system script state kept) (there : slice_get system.terminals t ≡ Some terminal)
+    (can : CanStep (behaviour script system) state t) (idle : IsIdle state t) (number : (own : OpenUnit) → state.units t ≡ Some own → own.number ≡ n) where
+  abbrev unit : OpenUnit
+  unit = unit_with_attempt n state.births (path_of state t) (state.units t)
+
+  started : (info : TermInfo) → slice_get system.terminals t ≡ Some info → StandsIfAny (StandsForPath system info) unit.running (kept.terminals t).context
+  started info here =
+      subst (λ o. StandsIfAny (StandsForPath system info) o (kept.terminals t).context) (sym (attempt-is n state.births (path_of state t) (state.units t)))
+      (kept-start system info (path_of state t) (kept.terminals t).context (stands.terminals t info here).path (has-context system script state kept t info stands here can))
+
+  pub begin-stands : (next : Context) → next_verb (behaviour script system) state t ≡ verb.Begin → StandsForPath system terminal (path_of state t ++ Begun r ∷ []) next
+      → Stands system script (do_begin (behaviour script system) t n r state) (kept_begin t n next kept)
+  begin-stands next asks goes =
+      begins system script state kept t n r (λ own. with_context next (attempted own)) stands idle number
+      (λ info here.
+      let old = stands.terminals t info here in
+      let is : terminal ≡ info = some_is (sym there ∙ here) in
+      let path : begun_path r (next_verb (behaviour script system) state t) (path_of state t) ≡ path_of state t ++ Begun r ∷ [] = ap (λ v. begun_path r v (path_of state t)) asks in
+      record {
+        path = rw path (subst (λ x. StandsForPath system x (path_of state t ++ Begun r ∷ []) next) is goes);
+        ready = tt;
+        there = λ works lives. refl;
+        start = started info here;
+        restarts = old.restarts ∙ sym (restarts-is n state.births (path_of state t) (state.units t));
+        awaits = old.awaits ∙ sym (awaits-is n state.births (path_of state t) (state.units t));
+        pending = old.pending;
+        ending = old.ending;
+      })
+
+  pub begin-send-stands : (class : ℕ) (message : List ℕ) → next_verb (behaviour script system) state t ≡ verb.Send class message
+      → Stands system script (do_begin (behaviour script system) t n r state) (kept_begin_send t n kept)
+  begin-send-stands class message asks =
+      begins system script state kept t n r attempted stands idle number
+      (λ info here.
+      let old = stands.terminals t info here in
+      let path : begun_path r (next_verb (behaviour script system) state t) (path_of state t) ≡ path_of state t = ap (λ v. begun_path r v (path_of state t)) asks in
+      record {
+        path = rw path old.path;
+        ready = rw path old.ready;
+        there = old.there;
+        start = started info here;
+        restarts = old.restarts ∙ sym (restarts-is n state.births (path_of state t) (state.units t));
+        awaits = old.awaits ∙ sym (awaits-is n state.births (path_of state t) (state.units t));
+        pending = old.pending;
+        ending = old.ending;
+      })
 
 -- ---- SEND
 

@@ -1,27 +1,33 @@
 -- What an entry of each kind does to what is kept. A new context is an argument.
-use Rattle.std.specs.Prelude.{ℕ, ◌+◌, ◌==◌, ◌&&◌, Bool, true, false, List, [], ◌∷◌, Option, Some, None, is_none, if◌then◌else◌}
-use Rattle.std.specs.List.{filter_map, list_any}
+use Rattle.std.specs.Prelude.{ℕ, ◌+◌, ◌==◌, ◌&&◌, Bool, true, false, List, [], ◌∷◌, map, Option, Some, None, is_none, if◌then◌else◌}
+use Rattle.std.specs.List.{list_any}
+use Rattle.pw_class.specs.Book.{first_queue, queue_at}
 use Rattle.pw_class.specs.Queue.{Queue, after_take, at_process, with_free, with_request, without, works_for}
 use Rattle.pw_class.specs.declared.request.Request.{Request}
 use Rattle.pw_code.specs.declared.context.Context.{Context}
 use Rattle.pw_code.specs.declared.file.FileCall.{FileCall}
+use Rattle.pw_code.specs.declared.system.System.{System}
 use Rattle.pw_code.specs.declared.unit.Unit.{Unit}
 use Rattle.pw_event.specs.declared.event.Cause.{Cause}
 use Rattle.pw_event.specs.declared.event.Cause.TheVariants.{Server, Takeover}
 use Rattle.pw_event.specs.declared.event.Ending.{Ending}
 use Rattle.pw_event.specs.declared.event.Ending.TheVariants.{Stopped, NoEntries, Fault, Suspended, Lost}
+use Rattle.pw_image.specs.Reading.{context_in}
 use Rattle.pw_kept.specs.Kept.{Kept, KeptTerminal}
 use Rattle.pw_onecopy.specs.Update.{upd}
 use Rattle.pw_pair.specs.Pairs as pair
 use Rattle.pw_pair.specs.Pairs.{SeenPair, after_applied, after_drop, after_raise, after_send, seat_of}
+use Rattle.pw_pair.specs.Seats.{seats_with}
+use Rattle.pw_pair.specs.Takeover.{resumed_image}
 use Rattle.pw_pair.specs.declared.backup.Held.{Held}
 use Rattle.pw_pair.specs.declared.message.CheckMessage.{CheckMessage}
 use Rattle.pw_pair.specs.declared.mode.Mode.{Mode}
 use Rattle.pw_pair.specs.declared.mode.Mode.TheVariants.{Alone, Raising, Paired, Down, Gone}
 use Rattle.pw_pair.specs.declared.seat.Seat.{Seat}
 use Rattle.pw_paired.specs.Failure.{awaited_after}
+use Rattle.pw_tmf.specs.Leaving.{is_among, open_units}
 use Rattle.pw_tmf.specs.Operation.{after_operation}
-use Rattle.pw_tmf.specs.Told.{ToldUnit}
+use Rattle.pw_tmf.specs.Told.{Told, ToldUnit}
 use Rattle.pw_tmf.specs.Units.{all_backed_out, backed_out, begun, ended}
 
 -- ---- places
@@ -44,19 +50,53 @@ abbrev pub with_job : ℕ → ℕ → Option Context → Kept → Kept
 with_job c i context kept =
     record kept { jobs = upd kept.jobs c (upd (kept.jobs c) i context) }
 
--- the terminal goes on with a context
+-- the terminal goes on with a context, which has an answer more
 abbrev pub with_context : Context → KeptTerminal → KeptTerminal
-with_context new terminal = record terminal { context = Some new }
+with_context new terminal = record terminal { context = Some new; ready = None }
+
+-- its program has run on to the next verb
+abbrev pub with_ready : Context → KeptTerminal → KeptTerminal
+with_ready new terminal = record terminal { ready = Some new }
 
 -- no unit of the terminal is open
 abbrev pub without_unit : KeptTerminal → KeptTerminal
 without_unit terminal = record terminal { start = None; restarts = 0; awaits = None }
 
--- the terminal is one of these
-abbrev pub is_among : List ℕ → ℕ → Bool
-is_among terminals t = list_any (λ one. one == t) terminals
+-- ---- the start
+
+-- a terminal before its first entry
+abbrev pub first_terminal : Context → KeptTerminal
+first_terminal context = record {
+  context = Some context;
+  ready = None;
+  start = None;
+  restarts = 0;
+  awaits = None;
+  pending = None;
+  ending = None;
+}
+
+-- a pair of these terminals, before it is raised
+abbrev pub first_pair : List ℕ → SeenPair
+first_pair terminals = record { mode = Alone; seats = seats_with [] terminals }
+
+-- before the first entry: each terminal is at the start of its program, each pair works alone, and
+-- no unit has begun
+abbrev pub kept_start : System → (ℕ → List ℕ) → (ℕ → Context) → Told → Kept
+kept_start system members contexts disc = record {
+  terminals = λ t. first_terminal (contexts t);
+  disc = disc;
+  queues = queue_at (map first_queue system.classes);
+  jobs = λ c i. None;
+  pairs = λ p. first_pair (members p);
+  births = 0;
+}
 
 -- ---- terminals at their own verbs
+
+-- no entry: a program has run on
+abbrev pub kept_ran : ℕ → Context → Kept → Kept
+kept_ran t new kept = at_terminal t (with_ready new) kept
 
 -- SHOW and KEY: the context that was answered is kept
 abbrev pub kept_show : ℕ → Context → Kept → Kept
@@ -96,14 +136,24 @@ abbrev pub unit_at : Kept → ℕ → ℕ → Unit
 unit_at kept t n =
     record { terminal = t; number = n; birth = birth_for (kept.disc.units t) kept.births }
 
--- BEGIN: the attempt runs from a start, and goes on behind it
-abbrev pub kept_begin : ℕ → ℕ → Context → Context → Kept → Kept
-kept_begin t n start next kept = record kept {
+-- the attempt runs: its start is the context so far
+abbrev pub attempted : KeptTerminal → KeptTerminal
+attempted own = record own { start = own.context }
+
+-- an attempt of the unit begins
+abbrev pub with_attempt : ℕ → ℕ → (KeptTerminal → KeptTerminal) → Kept → Kept
+with_attempt t n change kept = record (at_terminal t change kept) {
   disc = begun kept.disc (unit_at kept t n);
   births = births_behind (kept.disc.units t) kept.births;
-  terminals = upd kept.terminals t
-      (record (kept.terminals t) { context = Some next; start = Some start });
 }
+
+-- BEGIN of a transaction: its program goes on behind Begin
+abbrev pub kept_begin : ℕ → ℕ → Context → Kept → Kept
+kept_begin t n next kept = with_attempt t n (λ own. with_context next (attempted own)) kept
+
+-- BEGIN of one SEND: its program stands where it stood
+abbrev pub kept_begin_send : ℕ → ℕ → Kept → Kept
+kept_begin_send t n kept = with_attempt t n attempted kept
 
 -- SEND: the request waits behind the others
 abbrev pub kept_send : ℕ → ℕ → ℕ → List ℕ → Kept → Kept
@@ -185,6 +235,7 @@ at_each terminals change kept = record kept {
 abbrev pub restarted : Cause → KeptTerminal → KeptTerminal
 restarted cause own = record own {
   context = own.start;
+  ready = None;
   start = None;
   restarts = own.restarts + 1;
   awaits = awaited_after cause own.awaits;
@@ -197,21 +248,15 @@ kept_restart t n cause kept = record (at_terminal t (restarted cause) (cancel (t
   disc = backed_out false kept.disc (unit_at kept t n);
 }
 
--- the open unit of a terminal, as the disc is asked for it
-abbrev pub unit_told : ℕ → Option ToldUnit → Option Unit
-unit_told t None = None
-unit_told t (Some own) = Some (record { terminal = t; number = own.number; birth = own.birth })
-
 -- the open units of these terminals are left
 abbrev pub leave : List ℕ → Kept → Kept
 leave terminals kept = record (at_each terminals (λ t. without_unit) (cancel terminals kept)) {
-  disc = all_backed_out true kept.disc
-      (filter_map (λ t. unit_told t (kept.disc.units t)) terminals);
+  disc = all_backed_out true kept.disc (open_units kept.disc terminals);
 }
 
 -- a terminal whose path is gone
 abbrev pub without_path : KeptTerminal → KeptTerminal
-without_path own = record own { context = None; pending = None }
+without_path own = record own { context = None; ready = None; pending = None }
 
 -- the primary of a pair of these terminals fails in a mode
 abbrev pub primary_lost : Mode → List ℕ → Kept → Kept
@@ -259,26 +304,31 @@ abbrev pub runs_told : ℕ → Option ToldUnit → Bool
 runs_told number None = false
 runs_told number (Some unit) = unit.number == number && unit.running
 
--- a live terminal behind the takeover, with the context of what was held of it
-abbrev pub resumed : ℕ → Option Held → Option ToldUnit → Option Context → KeptTerminal → KeptTerminal
-resumed p None unit context own = own
-resumed p (Some held) unit context own = record own {
-  context = context;
+-- A live terminal behind the takeover, whose last ended unit has this number: it goes on with the
+-- context whose image was held.
+abbrev pub resumed : ℕ → Option Held → Option ToldUnit → ℕ → KeptTerminal → KeptTerminal
+resumed p None unit last own = own
+resumed p (Some held) unit last own = record own {
+  context = context_in (resumed_image held last);
+  ready = None;
   pending = if runs_told held.unit unit then Some (Takeover p) else own.pending;
 }
 
 -- the same where the terminal has no ending
-abbrev pub resumed_live : ℕ → Option Held → Option ToldUnit → Option Context → KeptTerminal
-    → KeptTerminal
-resumed_live p held unit context own =
-    if is_none own.ending then resumed p held unit context own else own
+abbrev pub resumed_live : ℕ → Option Held → Option ToldUnit → ℕ → KeptTerminal → KeptTerminal
+resumed_live p held unit last own =
+    if is_none own.ending then resumed p held unit last own else own
 
--- TAKEOVER: the terminals of the pair go on with these contexts, and the memory leaves
-abbrev pub kept_takeover : ℕ → List ℕ → (ℕ → Option Context) → Kept → Kept
-kept_takeover p terminals contexts kept =
-    at_pair p pair.after_take
-    (at_each terminals
-    (λ t. resumed_live p (memory_in (seat_of t (kept.pairs p))) (kept.disc.units t) (contexts t)) kept)
+-- a terminal of the pair behind the takeover
+abbrev pub taken_over : ℕ → Kept → ℕ → KeptTerminal → KeptTerminal
+taken_over p kept t =
+    resumed_live p (memory_in (seat_of t (kept.pairs p))) (kept.disc.units t)
+    (kept.disc.ended t).number
+
+-- TAKEOVER: the terminals of the pair go on, and the memory leaves
+abbrev pub kept_takeover : ℕ → List ℕ → Kept → Kept
+kept_takeover p terminals kept =
+    at_pair p pair.after_take (at_each terminals (taken_over p kept) kept)
 
 -- ---- END
 

@@ -10,9 +10,11 @@ use Rattle.pw_tmf.specs.Told.{Told}
 
 -- what is kept of a terminal
 pub record KeptTerminal : Type 0 where
-  -- the context of its path, none where the path is gone
+  -- the context of its path at the last answer, none where the path is gone
   pub context : Option Context
-  -- the context of the start path of the attempt that runs, if one does
+  -- the same at its next verb, where it has run on to that
+  pub ready : Option Context
+  -- the context of the start path of the attempt that runs, if one does, at its last answer
   pub start : Option Context
   -- the recorded restarts of its open unit, and the unit that this one awaits
   pub restarts : ℕ

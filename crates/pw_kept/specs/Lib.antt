@@ -1,3 +1,13 @@
+pub mod Arrivals
+pub mod Asked
+pub mod CauseTests
 pub mod Changes
+pub mod ClassTests
+pub mod Entered
 pub mod Kept
+pub mod Members
+pub mod Needs
+pub mod PairTests
 pub mod Stands
+pub mod TerminalTests
+pub mod Tested

@@ -7,9 +7,10 @@ use Rattle.pw_code.specs.declared.system.ClassInfo.{ClassInfo}
 use Rattle.pw_code.specs.declared.system.System.{System}
 use Rattle.pw_code.specs.declared.system.TermInfo.{TermInfo}
 use Rattle.pw_event.specs.declared.script.FailLine.{FailLine}
-use Rattle.pw_exec.specs.OfSystem.{behaviour, file_told, told}
-use Rattle.pw_exec.specs.Runs.{StandsFor, StandsForFiles}
+use Rattle.pw_exec.specs.OfSystem.{behaviour, file_told}
+use Rattle.pw_exec.specs.Runs.{StandsForFiles}
 use Rattle.pw_image.specs.Format.{IsImageOf}
+use Rattle.pw_kept.specs.Arrivals.{IsReady, StandsForPath}
 use Rattle.pw_kept.specs.Kept.{Kept, KeptTerminal}
 use Rattle.pw_onecopy.specs.Path.{PathAnswer}
 use Rattle.pw_pair.specs.Bodies.{image_in}
@@ -62,11 +63,6 @@ mode_as Gone = mode.Gone
 
 -- ---- paths
 
--- a context stands for a path of the terminal
-abbrev pub StandsForPath : System → TermInfo → List PathAnswer → Context → Type 0
-StandsForPath system terminal path context =
-    StandsFor system terminal.program (map (told terminal.entries) path) context
-
 -- the bytes are the image of a context that stands for a path of the terminal
 pub record IsPathImage (system : System) (terminal : TermInfo) (path : List PathAnswer)
     (bytes : List ℕ) : Type 0 where
@@ -81,12 +77,18 @@ abbrev pub StandsForKnown : System → TermInfo → List PathAnswer → Option C
 StandsForKnown system terminal path None = path ≡ []
 StandsForKnown system terminal path (Some context) = StandsForPath system terminal path context
 
+-- where it has run on, it stands at the verb behind the path
+abbrev pub IsReadyIfAny : System → TermInfo → List PathAnswer → Option Context → Type 0
+IsReadyIfAny system terminal path None = Unit {0}
+IsReadyIfAny system terminal path (Some context) = IsReady system terminal path context
+
 -- What is kept of a terminal stands for its path, its open unit, its cause and its ending. While a
 -- member of its pair works, a terminal that goes on has a context; and the attempt that runs always
 -- has that of its start path.
 pub record StandsForTerminal (system : System) (terminal : TermInfo) (at : Mode) (term : Term)
     (unit : Option OpenUnit) (kept : KeptTerminal) : Type 0 where
   pub path : StandsForKnown system terminal term.path kept.context
+  pub ready : IsReadyIfAny system terminal term.path kept.ready
   pub there : works at ≡ true → term.ending ≡ None → IsSome kept.context
   pub start : StandsIfAny (StandsForPath system terminal) (attempt_of unit) kept.start
   pub restarts : kept.restarts ≡ restarts_of unit

@@ -2,9 +2,15 @@
 #![tactic(auto)]
 
 pub mod ends;
+pub mod entering;
+pub mod failures;
 pub mod laws;
+pub mod legality;
 pub mod pairs;
 pub mod restarts;
+pub mod runs;
 pub mod servers;
+pub mod starts;
+pub mod takeovers;
 pub mod terminals;
 pub mod units;

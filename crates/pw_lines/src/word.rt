@@ -106,7 +106,8 @@ pub fn name_in(alloc: Global, word: &[u8]) -> Result<Option<Bytes>, Memory>
     }
 }
 
-fn are_digits(word: &[u8]) -> bool
+/// Whether each byte of a word is a digit.
+pub fn are_digits(word: &[u8]) -> bool
     ensures { result ≡ list_all is_ascii_digit word.now }
 {
     word.iter().all(|byte| byte.is_ascii_digit())
@@ -122,15 +123,15 @@ fn is_number(word: &[u8]) -> bool
     }
 }
 
-/// The number that digits write.
-fn value_of(word: &[u8]) -> u32
-    requires few { length word.now ≤ 9 }
+/// The number that at most 10 digits write.
+pub fn value_of(word: &[u8]) -> u64
+    requires few { length word.now ≤ 10 }
     requires digits { list_all is_ascii_digit word.now ≡ true }
     ensures { result ≡ digits_value 10 word.now }
 {
     let mut value = 0;
     for byte in word {
-        value = value * 10 + u32::from(*byte - b'0');
+        value = value * 10 + u64::from(*byte - b'0');
     }
     value
 }
@@ -140,7 +141,7 @@ pub fn number_in(word: &[u8]) -> Option<u32>
     ensures { result ≡ number_in word.now }
 {
     if is_number(word) {
-        Some(value_of(word))
+        Some(value_of(word) as u32)
     } else {
         None
     }

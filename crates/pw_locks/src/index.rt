@@ -12,11 +12,13 @@ pub struct Index<K: Ord> {
     pub numbers: BTreeMap<K, Vec<u64>>,
 }
 
-/// Takes a number from a list. All other numbers stay.
+/// Takes a number from a list in which numbers rise, as those of locks and of places do. All other numbers stay.
 fn drop_number(numbers: &mut Vec<u64>, number: u64)
     ensures { (n : ℕ) → n ≢ number → has numbers.old.items n ≡ true → has numbers.new.items n ≡ true }
 {
-    numbers.retain(|filed| *filed != number);
+    if let Ok(place) = numbers.binary_search(&number) {
+        numbers.remove(place);
+    }
 }
 
 impl<K: Ord + Drop> Index<K> {

@@ -11,7 +11,7 @@ use Rattle.std.proofs.lemmas.List.{get_or_past, length-replicate}
 use Rattle.pw_picture.specs.Text.{fitted}
 use Rattle.pw_terminal.proofs.Written.{length-fitted, fitted-same}
 use Rattle.pw_exec.specs.Conditions.{text_order, beside, length_of}
-use Rattle.pw_exec.specs.Values.{Value, Chars, Register, Number', Text', Spaces', Zeros', text_of}
+use Rattle.pw_source.specs.Values.{Value, Chars, Register, Number', Text', Spaces', Zeros', text_of}
 use Rattle.pw_machine.specs.Beside.{char_beside, size_beside}
 use Rattle.pw_machine.proofs.TextLemmas.{split}
 

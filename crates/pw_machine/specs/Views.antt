@@ -6,7 +6,7 @@ use Rattle.pw_code.specs.declared.operand.Operand.{Operand}
 use Rattle.pw_code.specs.declared.operand.Operand.TheVariants as operand
 use Rattle.pw_exec.specs.Reading.{Registers, Spot}
 use Rattle.pw_exec.specs.Reading as reading
-use Rattle.pw_exec.specs.Values.{Register, Number', Text', Spaces', Zeros'}
+use Rattle.pw_source.specs.Values.{Register, Number', Text', Spaces', Zeros'}
 use Rattle.pw_machine.specs.declared.registers.Registers as own
 use Rattle.pw_machine.specs.declared.spot.Spot as spots
 use Rattle.pw_machine.specs.declared.spot.Taken as takens

@@ -2,7 +2,7 @@ ghost use Rattle.std.specs.Prelude.{◌≡◌, ◌≤◌, ◌<◌, ◌+◌, ◌&
 ghost use Rattle.pw_code.specs.Places.{IsOperand};
 ghost use Rattle.pw_exec.specs.Conditions.{are_numbers, is_zeros, compared, text_order, beside};
 ghost use Rattle.pw_exec.specs.Reading.{value_in};
-ghost use Rattle.pw_exec.specs.Values.{is_number};
+ghost use Rattle.pw_source.specs.Values.{is_number};
 ghost use Rattle.pw_machine.specs.Beside.{fill_of, char_beside, size_beside};
 ghost use Rattle.pw_machine.specs.Views.{taken_by, IsTaken};
 

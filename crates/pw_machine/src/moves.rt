@@ -5,7 +5,7 @@ ghost use Rattle.pw_code.specs.Places.{IsOperand, picture_of};
 ghost use Rattle.pw_terminal.specs.Shown.{written};
 ghost use Rattle.pw_exec.specs.Moves.{move_value};
 ghost use Rattle.pw_exec.specs.Reading.{value_in};
-ghost use Rattle.pw_exec.specs.Values.{text_in, text_of, without_sign};
+ghost use Rattle.pw_source.specs.Values.{text_in, text_of, without_sign};
 ghost use Rattle.pw_machine.specs.Views.{spot_by, taken_by, IsSpot, IsTaken};
 
 use crate::compare::fill_of;

@@ -4,7 +4,7 @@ ghost use Rattle.pw_code.specs.Places.{HasDigits, IsSubscript, IsTableAt, IsPlac
 ghost use Rattle.pw_code.specs.Instrs.{digits_of_register};
 ghost use Rattle.pw_code.specs.declared.operand.Operand.{Operand};
 ghost use Rattle.pw_exec.specs.Reading.{Fixed, register_value, subscript_of, occurrence_at, at_this_moment, spot_of, taken};
-ghost use Rattle.pw_exec.specs.Values as values;
+ghost use Rattle.pw_source.specs.Values as values;
 ghost use Rattle.pw_machine.specs.Views.{registers_by, spot_by, taken_by, IsSpot, IsTaken};
 
 use crate::numbers::{chars_at, digits_in, whole_part};

@@ -3,7 +3,7 @@ ghost use Rattle.std.specs.Char.{is_ascii_digit};
 ghost use Rattle.pw_picture.specs.Stored.{digits_of};
 ghost use Rattle.pw_code.specs.Places.{IsOperand, picture_of};
 ghost use Rattle.pw_exec.specs.Reading.{value_in};
-ghost use Rattle.pw_exec.specs.Values.{text_of, without_sign};
+ghost use Rattle.pw_source.specs.Values.{text_of, without_sign};
 ghost use Rattle.pw_machine.specs.Views.{taken_by, IsSpot, IsTaken};
 
 use crate::spot::{Spot, Taken};

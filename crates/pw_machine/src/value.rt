@@ -2,7 +2,7 @@ ghost use Rattle.std.specs.Prelude.{◌≡◌, ◌≤◌, ◌<◌, ◌+◌, ◌-
 ghost use Rattle.pw_number.specs.Number.{number};
 ghost use Rattle.pw_code.specs.Places.{IsOperand, picture_of};
 ghost use Rattle.pw_exec.specs.Reading.{value_in, chars_at};
-ghost use Rattle.pw_exec.specs.Values.{number_of, number_of_text, number_of_item, text_of};
+ghost use Rattle.pw_source.specs.Values.{number_of, number_of_text, number_of_item, text_of};
 ghost use Rattle.pw_machine.specs.Views.{spot_by, taken_by, IsSpot, IsTaken};
 
 use crate::numbers::{chars_at, digits_in};

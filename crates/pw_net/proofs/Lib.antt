@@ -1,8 +1,8 @@
 mod Sent
 mod Standings
+mod Kept
 mod Moves
 mod Replies
 mod Worlds
 mod Events
-mod Agrees
-mod Restarts
+pub mod Agrees

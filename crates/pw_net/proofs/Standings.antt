@@ -33,7 +33,7 @@ then-equal Less p e = absurd (cc e)
 then-equal Equal p e = (refl, e)
 then-equal Greater p e = absurd (cc e)
 
-id-exact : (a b : NetId) → id_order a b ≡ Equal → a ≡ b
+pub id-exact : (a b : NetId) → id_order a b ≡ Equal → a ≡ b
 id-exact a b e =
     let parts = then-equal (nat_cmp a.home b.home) (nat_cmp a.number b.number) e in
     let home = exact_unsigned a.home b.home parts.0 in
@@ -61,17 +61,17 @@ at-apart a b ne = apart (cases_Bool (is_at (id_order a) b))
     apart (inl is) = absurd (ne (id-exact a b (eq-from (id_order a b) is)))
     apart (inr differ) = differ
 
-abbrev Entries : Type 0
+abbrev pub Entries : Type 0
 Entries = List (NetId × Standing)
 
 -- what is found at a transaction behind the change of one
-abbrev Found : NetId → Entries → Option Standing → Type 0
+abbrev pub Found : NetId → Entries → Option Standing → Type 0
 Found id entries standing = lookup (is_at (id_order id)) entries ≡ standing
 
-found-first : (id key : NetId) (x : Standing) (es : Entries) → id ≡ key → Found id ((key, x) ∷ es) (Some x)
+pub found-first : (id key : NetId) (x : Standing) (es : Entries) → id ≡ key → Found id ((key, x) ∷ es) (Some x)
 found-first id key x es is = cond-true (is_at (id_order id) key) (Some x) (lookup (is_at (id_order id)) es) (subst (λ k. is_at (id_order id) k ≡ true) is (at-same id))
 
-found-later : (id key : NetId) (x : Standing) (es : Entries) → id ≢ key → Found id ((key, x) ∷ es) (lookup (is_at (id_order id)) es)
+pub found-later : (id key : NetId) (x : Standing) (es : Entries) → id ≢ key → Found id ((key, x) ∷ es) (lookup (is_at (id_order id)) es)
 found-later id key x es ne = cond-false (is_at (id_order id) key) (Some x) (lookup (is_at (id_order id)) es) (at-apart id key ne)
 
 found-same : (id : NetId) (x : Standing) (es : Entries) → Found id (insert_entry id_order es id x) (Some x)

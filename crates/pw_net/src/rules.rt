@@ -132,8 +132,8 @@ fn on_ask(
     }
 }
 
-/// What a message with this word about the transaction, from a system, comes to. Yes, No and Ask are for the
-/// transaction's home.
+/// What a message with this word about the transaction, from a system, comes to. Yes, No and Ask
+/// are for the transaction's home.
 pub fn on_word(
     alloc: Global,
     own: u32,

@@ -1,6 +1,7 @@
 ghost use Rattle.std.specs.Prelude.{◌≡◌};
 ghost use Rattle.pw_net.specs.Member.{mark_in};
-ghost use Rattle.pw_net.specs.Rules.{restarted};
+ghost use Rattle.pw_net.specs.Kept.{since};
+ghost use Rattle.pw_net.specs.declared.standing.Standing.TheVariants.{Aborted};
 
 use crate::ballot::Ballot;
 use crate::message::Mark;
@@ -26,12 +27,15 @@ impl Standing {
         }
     }
 
-    /// What a restart leaves: votes that were collected are lost, and the transaction is aborted.
-    pub fn restart(&mut self)
-        ensures { self.new ≡ restarted self.old }
+    /// What stands since the last restart, where votes for numbers up to one are lost: then it is
+    /// `aborted`.
+    pub fn since<'a>(&'a self, aborted: &'a Standing, lost: u32, number: u32) -> &'a Standing
+        requires { aborted.now ≡ Aborted }
+        ensures { result.now ≡ since lost number self.now }
     {
-        if let Standing::Collecting(_) = self {
-            *self = Standing::Aborted;
+        match self {
+            Standing::Collecting(_) if number <= lost => aborted,
+            standing => standing,
         }
     }
 }

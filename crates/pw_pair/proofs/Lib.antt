@@ -1,6 +1,10 @@
 pub mod Adding
 pub mod At
+pub mod Beginning
+pub mod Calling
+pub mod Following
 pub mod Images
 pub mod Moving
 pub mod Room
+pub mod Seating
 pub mod Sound

@@ -1,6 +1,10 @@
 pub mod Bodies
+pub mod Called
+pub mod Follows
 pub mod Pairs
 pub mod Places
 pub mod Rooms
 pub mod Seats
+pub mod SeenTask
 pub mod Takeover
+pub mod Tasks

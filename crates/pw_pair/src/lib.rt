@@ -3,7 +3,8 @@
 #![tactic(auto)]
 
 pub mod backup;
-mod link;
+pub mod laws;
+pub mod link;
 pub mod message;
 pub mod mode;
 pub mod pair;

@@ -3,6 +3,7 @@ ghost use Rattle.pw_pair.specs.Bodies.{is_image};
 ghost use Rattle.pw_pair.specs.Seats.{built, has_memory, holds_end, holds_start, is_built, is_flying, is_waiting, seats_with, without_backup};
 
 use crate::backup::{Backup, Held};
+use crate::link::{LinkDone, LinkTask};
 use crate::message::CheckMessage;
 use crate::mode::Mode;
 use crate::seats::Seats;
@@ -35,6 +36,7 @@ impl Model for Pair {
 impl Pair {
     ghost use Rattle.pw_pair.specs.Pairs.{after_applied, after_drop, after_put_back, after_raise, after_send, after_take, backup_fails, changed_at, in_mode, memory_of, primary_fails, passes, seat_of, settled};
     ghost use Rattle.pw_pair.specs.Rooms.{MaySend, NeedsNoRoom};
+    ghost use Rattle.pw_pair.specs.Tasks.{waiting_task};
 
     /// A pair in Alone with these terminals, none of which has ended.
     pub fn new(alloc: Global, terminals: &[u32]) -> Result<Pair, Memory>
@@ -112,6 +114,34 @@ impl Pair {
             Some(seat) => seat.is_built(),
             None => false,
         }
+    }
+
+    /// The work of building the terminal's message in flight: a copy of the message, and of the
+    /// start image that is held of the terminal.
+    pub fn lend(&self, terminal: u32) -> Result<LinkTask, Memory>
+        requires { passes is_waiting (seat_of terminal self.now) ≡ true }
+        ensures { IfOk result (λ task. waiting_task terminal self.now ≡ Some task) }
+    {
+        let alloc = *self.room.allocator();
+        self.seats.task(alloc, terminal)
+    }
+
+    /// Files the image of a task that is done, and says whether it did: exactly where the terminal's
+    /// message in flight is not built, and it and the start image that is held are those of the
+    /// task. It takes no memory.
+    pub fn give_back(&mut self, done: LinkDone) -> bool
+        ensures files { IsTrue result
+            ↔ (waiting_task done.task.terminal self.old ≡ Some done.task) }
+        ensures filed { result ≡ true
+            → self.new ≡ changed_at done.task.terminal built self.old }
+        ensures late { result ≡ false → self.new ≡ self.old }
+    {
+        let LinkDone { task, image } = done;
+        if !self.seats.has_task(&task) {
+            return false;
+        }
+        self.seats.put_image(task.terminal, image);
+        true
     }
 
     /// Builds the terminal's message in flight, which carries its whole image from then on. An `Err` leaves the pair as

@@ -1,9 +1,16 @@
-ghost use Rattle.std.specs.Prelude.{◌≡◌, true};
-ghost use Rattle.pw_pair.specs.Seats.{applied, built, dropped, flies_whole, holds_end, holds_start, is_built, is_lacking, is_waiting, new_seat, stands_for, with_carried, with_held, with_kind, without_backup, without_flight};
+ghost use Rattle.std.specs.Prelude.{◌≡◌, ◌↔◌, true, Some, IfOk, IsTrue};
+ghost use Rattle.std.specs.Option.{option_copied};
+ghost use Rattle.pw_pair.specs.Seats.{applied, built, dropped, flies_whole, holds_end, holds_start, is_built, is_lacking, is_sound, is_waiting, new_seat, stands_for, start_of, with_carried, with_held, with_kind, without_backup, without_flight};
+ghost use Rattle.pw_pair.specs.Tasks.{task_of};
 
 use crate::backup::Held;
+use crate::link::LinkTask;
 use crate::message::{Body, Carried, CheckKind};
 use pw_base::bytes::Bytes;
+use pw_base::memory::Memory;
+use pw_code::copies::Duplicate;
+use pw_code::same::Same;
+use std::alloc::Global;
 
 /// A message in flight.
 #[derive(Debug, Drop)]
@@ -173,6 +180,61 @@ impl Seat {
                 None => false,
             },
             None => false,
+        }
+    }
+
+    /// The start image that is held.
+    pub fn start(&self) -> Option<&Bytes>
+        ensures { option_copied result ≡ start_of self.now.memory }
+    {
+        match &self.memory {
+            Some(held) => Some(&held.start),
+            None => None,
+        }
+    }
+
+    /// The task of the message in flight, which is not built.
+    pub fn task(&self, alloc: Global) -> Result<LinkTask, Memory>
+        requires waiting { is_waiting self.now ≡ true }
+        requires sound { is_sound self.now ≡ true }
+        ensures { IfOk result (λ task. task_of self.now ≡ Some task) }
+    {
+        let message = match &self.flight {
+            Some(flight) => flight.message.copy(alloc)?,
+            None => unreachable!(),
+        };
+        let held = match self.start() {
+            Some(start) => Some(start.copy(alloc)?),
+            None => None,
+        };
+        Ok(LinkTask {
+            terminal: self.terminal,
+            message,
+            held,
+        })
+    }
+
+    /// Whether a message is in flight that is not built, and this is its task.
+    pub fn has_task(&self, task: &LinkTask) -> bool
+        ensures { IsTrue result ↔ (task_of self.now ≡ Some task.now) }
+    {
+        let Some(flight) = &self.flight else {
+            return false;
+        };
+        self.terminal == task.terminal
+            && !flight.built
+            && flight.message.is_same(&task.message)
+            && self.has_start(&task.held)
+    }
+
+    /// Whether the start image that is held is this, or neither is there.
+    fn has_start(&self, start: &Option<Bytes>) -> bool
+        ensures { IsTrue result ↔ (start_of self.now.memory ≡ start.now) }
+    {
+        match (self.start(), start) {
+            (Some(held), Some(start)) => held.is_same(start),
+            (None, None) => true,
+            _ => false,
         }
     }
 }

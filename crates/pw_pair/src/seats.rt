@@ -1,4 +1,4 @@
-ghost use Rattle.std.specs.Prelude.{◌≡◌, ◌&&◌, ◌<◌, ◌≤◌, ◌^◌, ◌+◌, ◌-◌, ◌++◌, option_to_list, vec_len, vec_capacity, if◌then◌else◌, [], count_by, find, length, map, slice_index_or, true, false, Some, None, IfOk, IfSome, IfNone, OnOk, OnErr, is_some};
+ghost use Rattle.std.specs.Prelude.{◌≡◌, ◌↔◌, ◌&&◌, ◌<◌, ◌≤◌, ◌^◌, ◌+◌, ◌-◌, ◌++◌, option_to_list, vec_len, vec_capacity, if◌then◌else◌, [], count_by, find, length, map, slice_index_or, true, false, Some, None, IfOk, IfSome, IfNone, OnOk, OnErr, IsTrue, is_some};
 ghost use Rattle.std.specs.List.{list_any, list_all};
 ghost use Rattle.std.specs.Option.{option_copied};
 ghost use Rattle.pw_pair.specs.Bodies.{body_of};
@@ -8,7 +8,7 @@ ghost use Rattle.pw_pair.specs.declared.seat.Seat.{Seat as SeenSeat};
 ghost use Rattle.pw_pair.specs.Seats.{is_lacking, start_of, without_backup, without_flight};
 
 use crate::backup::Held;
-use crate::link::whole;
+use crate::link::{LinkTask, whole};
 use crate::message::{Body, Carried, CheckKind};
 use crate::seat::Seat;
 use pw_base::bytes::Bytes;
@@ -52,9 +52,10 @@ fn recount(lacking: usize, before: bool, after: bool) -> usize
 }
 
 impl Seats {
-    ghost use Rattle.pw_pair.specs.Seats.{applied, at_terminal, built, dropped, held_is_sound, is_built, is_flying, is_seat_of, is_sound, put_each, put_held, seats_with, stands_for, with_message, with_terminal};
+    ghost use Rattle.pw_pair.specs.Seats.{applied, at_terminal, built, dropped, held_is_sound, is_built, is_flying, is_seat_of, is_sound, is_waiting, put_each, put_held, seats_with, stands_for, with_message, with_terminal};
     ghost use Rattle.pw_pair.specs.Bodies.{is_image};
     ghost use Rattle.pw_pair.specs.Pairs.{passes};
+    ghost use Rattle.pw_pair.specs.Tasks.{task_at};
 
     /// The seats of some terminals, in the order in which they are named first.
     pub fn new(alloc: Global, terminals: &[u32]) -> Result<Seats, Memory>
@@ -175,8 +176,31 @@ impl Seats {
             return Err(Memory);
         };
         match &seat.flight {
-            Some(flight) => whole(alloc, &seat.memory, &flight.message.body),
+            Some(flight) => whole(alloc, seat.start(), &flight.message.body),
             None => Err(Memory),
+        }
+    }
+
+    /// The task of the terminal's message in flight, which is not built.
+    pub fn task(&self, alloc: Global, terminal: u32) -> Result<LinkTask, Memory>
+        requires { passes is_waiting (find (is_seat_of terminal) self.now) ≡ true }
+        ensures { IfOk result
+            (λ task. task_at (find (is_seat_of terminal) self.now) ≡ Some task) }
+    {
+        match self.get(terminal) {
+            Some(seat) => seat.task(alloc),
+            None => unreachable!(),
+        }
+    }
+
+    /// Whether a message of the task's terminal is in flight that is not built, and this is its task.
+    pub fn has_task(&self, task: &LinkTask) -> bool
+        ensures { IsTrue result
+            ↔ (task_at (find (is_seat_of task.now.terminal) self.now) ≡ Some task.now) }
+    {
+        match self.get(task.terminal) {
+            Some(seat) => seat.has_task(task),
+            None => false,
         }
     }
 

@@ -2,7 +2,8 @@ ghost use Rattle.std.specs.Prelude.{◌≡◌, true};
 ghost use Rattle.pw_pair.specs.Bodies.{is_image};
 ghost use Rattle.pw_pair.specs.Rooms.{MaySend};
 
-use crate::message::{CheckKind, CheckMessage};
+use crate::link::{LinkDone, build};
+use crate::message::{Body, CheckKind, CheckMessage};
 use crate::mode::Mode;
 use crate::pair::Pair;
 use pw_base::bytes::Bytes;
@@ -71,6 +72,7 @@ enum Call {
     Raise,
     Send(CheckKind, u32, u8),
     Deliver(u32),
+    Build,
     End(u32),
     PrimaryFails,
     BackupFails,
@@ -97,6 +99,12 @@ fn make(pair: &mut Pair, alloc: Global, call: Call) -> Result<bool, Fail> {
             return send(pair, alloc, message);
         }
         Call::Deliver(terminal) => return deliver(pair, terminal),
+        Call::Build => {
+            if !pair.is_waiting(4) {
+                return Ok(false);
+            }
+            pair.build_here(4)?;
+        }
         Call::End(terminal) => pair.drop_terminal(terminal),
         Call::PrimaryFails => pair.fail_primary(),
         Call::BackupFails => pair.fail_backup(),
@@ -258,6 +266,91 @@ fn takeover_by_the_last_ended_unit(rt: HostRuntime) -> Result<(), Fail> {
             assert_eq!(rt; one.context.shown, wanted, "{with_end} {ended}");
             assert_eq!(rt; one.unit, 1);
         }
+    }
+    Ok(())
+}
+
+/// A value that another thread may have.
+fn handed_over<T: Send>(value: T) -> T {
+    value
+}
+
+/// The task of a terminal's message in flight, built outside the pair.
+fn built_outside(pair: &Pair, alloc: Global, terminal: u32) -> Result<LinkDone, Fail> {
+    if !pair.is_waiting(terminal) {
+        return Err("no message waits".into());
+    }
+    let task = handed_over(pair.lend(terminal)?);
+    Ok(handed_over(build(alloc, task)?))
+}
+
+/// How many records a task that is done carries, None where it carries a whole image.
+fn records_in(done: &LinkDone) -> Option<usize> {
+    let task = &done.task;
+    match &task.message.body {
+        Body::Whole(_) => None,
+        Body::Delta(changes) => Some(changes.as_slice().len()),
+    }
+}
+
+#[test]
+fn built_outside_and_given_back(rt: HostRuntime) -> Result<(), Fail> {
+    let alloc = rt.alloc();
+    let first = Call::Send(CheckKind::Copy, 4, 1);
+    let end = Call::Send(CheckKind::End, 4, 5);
+    for (calls, call, length) in [(&RAISED[..], first, None), (&FULL[..], end, Some(1))] {
+        let mut pair = behind(&rt, calls)?;
+        make(&mut pair, alloc, call)?;
+        let done = built_outside(&pair, alloc, 4)?;
+        assert_eq!(rt; done.terminal(), 4);
+        assert_eq!(rt; records_in(&done), length);
+        assert!(rt; pair.is_waiting(4));
+        let filed = pair.give_back(done);
+        assert!(rt; filed && pair.built(4));
+        let applied = make(&mut pair, alloc, Call::Deliver(4))?;
+        assert!(rt; applied);
+        assert!(rt; pair.holds(4) && !pair.in_flight(4));
+    }
+    Ok(())
+}
+
+/// A task that was lent for the end image 5 of terminal 4, behind the calls that came between.
+fn given_back_behind(
+    rt: &(impl Abort + AllocGlobal),
+    between: &[Call],
+) -> Result<(bool, bool), Fail> {
+    let mut pair = behind(rt, &FULL)?;
+    make(&mut pair, rt.alloc(), Call::Send(CheckKind::End, 4, 5))?;
+    let done = built_outside(&pair, rt.alloc(), 4)?;
+    for call in between {
+        make(&mut pair, rt.alloc(), *call)?;
+    }
+    let filed = pair.give_back(done);
+    Ok((filed, pair.built(4)))
+}
+
+#[test]
+fn tasks_out_of_date_change_nothing(rt: HostRuntime) -> Result<(), Fail> {
+    let again = Call::Send(CheckKind::End, 4, 5);
+    let other = Call::Send(CheckKind::End, 4, 6);
+    let start = Call::Send(CheckKind::Start, 4, 5);
+    let delivered = Call::Deliver(4);
+    let failed = Call::BackupFails;
+    for (between, filed, built) in [
+        (&[][..], true, true),
+        (&[other][..], false, false),
+        (&[start][..], false, false),
+        (&[delivered][..], false, false),
+        (&[delivered, again][..], true, true),
+        (&[start, delivered, again][..], false, false),
+        (&[Call::Build][..], false, true),
+        (&[failed][..], false, false),
+        (&[Call::PrimaryFails][..], false, false),
+        (&[Call::End(4)][..], false, false),
+    ] {
+        let (was_filed, is_built) = given_back_behind(&rt, between)?;
+        assert_eq!(rt; was_filed, filed, "{between:?}");
+        assert_eq!(rt; is_built, built, "{between:?}");
     }
     Ok(())
 }

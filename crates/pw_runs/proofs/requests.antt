@@ -1,3 +1,4 @@
+pub mod Cancelling
 pub mod Classes
-pub mod Requests
 pub mod Queues
+pub mod Requests

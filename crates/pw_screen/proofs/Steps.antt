@@ -1,10 +1,7 @@
 -- One entry further: what is taken behind it, and what comes out.
 use mathlib.Core.Path.{fun_ext}
 use Rattle.std.proofs.Common.{◌≡◌, ℕ, Bool, true, false, List, [], ◌∷◌, ◌++◌, Option, Some, None, Result, Ok, Err, IfOk, OnOk, refl, sym, ap, ◌∙◌}
-use Rattle.std.specs.Prelude.{◌||◌, Vec, bytes_eq}
-use Rattle.std.specs.List.{list_any}
-use Rattle.std.specs.Str.{str_to_ascii_lowercase}
-use Rattle.std.specs.declared.alloc.Global.{Global}
+use Rattle.std.specs.Prelude.{◌||◌}
 use Rattle.pw_base.specs.declared.memory.Memory.{Memory}
 use Rattle.pw_base.specs.declared.fault.Fault.{Fault}
 use Rattle.pw_base.specs.First.{least, unless}
@@ -39,12 +36,12 @@ names-more text (Some token) taken items = fun_ext (λ word. or-assoc (same_word
 
 -- what an entry that begins a screen leaves
 pub after-screen : (laid : Laid) (old new : Taken) (part : Left) (found : Entry) → begins_screen part ≡ true
-    → has_name new.names ≡ with_name part.text (name_of part) (has_name old.names) → new.begun ≡ true → new.fields.keys ≡ [] → new.used ≡ None
+    → has_name new.names ≡ with_name part.text (name_of part) (has_name old.names) → new.begun ≡ true → new.fields ≡ [] → new.used ≡ None
     → before_of laid new ≡ after (before_of laid old) part found
 after-screen laid old new part found begins names begun none unused =
     ap (λ b. parts b (λ word. has_name new.names word || is_item laid word) (has_name new.fields) (used_by new.used)) begun
     ∙ ap (λ n. parts true n (has_name new.fields) (used_by new.used)) (ap (λ n. λ word. n word || is_item laid word) names ∙ names-more part.text (name_of part) (has_name old.names) (is_item laid))
-    ∙ ap (λ (keys : List (Vec ℕ Global)). parts true all (λ word. list_any (λ name. bytes_eq name.items (str_to_ascii_lowercase word)) keys) (used_by new.used)) none
+    ∙ ap (λ (keys : List Word). parts true all (has_name keys) (used_by new.used)) none
     ∙ ap (λ u. parts true all (λ word. false) (used_by u)) unused
     ∙ rw begins refl
   where

@@ -19,9 +19,10 @@ use pw_base::fault_code::FaultCode;
 use pw_base::memory::Memory;
 use pw_data::layout::Layout;
 use pw_data::words::is_table_word;
-use pw_divisions::names::{Names, level_of, name_of, own_name_of, put_name, upper_name};
+use pw_divisions::names::{level_of, name_of, own_name_of, put_name, upper_name};
 use pw_text::cursor::Cursor;
 use pw_text::token::{Token, TokenKind};
+use pw_words::names::Names;
 use std::alloc::Global;
 
 /// Whether a level is 01.

@@ -21,8 +21,8 @@ use pw_data::layout::Layout;
 use pw_divisions::entries::take_entry;
 use pw_text::cursor::Cursor;
 use pw_text::token::Token;
+use pw_words::names::Names;
 use std::alloc::Global;
-use std::collections::BTreeSet;
 
 /// The first token's line, 0 where there is none.
 fn line_of(tokens: &[Token]) -> u32
@@ -51,8 +51,8 @@ impl Taken {
     {
         Taken {
             begun: false,
-            names: BTreeSet::new(alloc),
-            fields: BTreeSet::new(alloc),
+            names: Names::new(alloc),
+            fields: Names::new(alloc),
             used: None,
         }
     }
@@ -68,7 +68,7 @@ impl Taken {
         if begins_screen(part) {
             let found = read_screen(alloc, layout, part, &mut self.names)?;
             self.begun = true;
-            self.fields = BTreeSet::new(alloc);
+            self.fields = Names::new(alloc);
             self.used = None;
             Ok(found)
         } else {

@@ -1,5 +1,5 @@
 use crate::cells::Cells;
-use pw_divisions::names::Names;
+use pw_words::names::Names;
 
 /// What the entries so far leave: whether a screen has begun, the names of the screens, those of the
 /// fields of the last one, and which of its cells its fields have.

@@ -76,8 +76,8 @@ abbrev pub with_taken : {A : Type 0} → Option A → State → (A → Out) → 
 with_taken None s next = faults 203 s
 with_taken (Some found) s next = next found
 
--- one operand more
-abbrev pub one_more : Option Taken → Option (List Taken) → Option (List Taken)
+-- one more of some, where there is each
+abbrev pub one_more : {A : Type 0} → Option A → Option (List A) → Option (List A)
 one_more None rest = None
 one_more (Some first) None = None
 one_more (Some first) (Some rest) = Some (first ∷ rest)

@@ -1,12 +1,11 @@
 -- What operands say, as texts and as numbers.
-use Rattle.std.specs.Prelude.{ℕ, ◌+◌, ◌-◌, ◌/◌, ◌^◌, ◌==◌, not, Bool, true, false, pos, List, length, drop, take_while, filter, replicate, codes, unsigned_abs, Option, Some, if◌then◌else◌}
+pub use Rattle.pw_code.specs.Spelling.{number_in}
+use Rattle.std.specs.Prelude.{ℕ, ◌-◌, ◌/◌, ◌^◌, Bool, true, false, pos, List, length, drop, filter, replicate, codes, unsigned_abs, Option, Some, if◌then◌else◌}
 use Rattle.std.specs.Char.{is_ascii_digit}
 use Rattle.pw_number.specs.Number.{Number, number}
-use Rattle.pw_number.specs.Sign.{signed}
 use Rattle.pw_picture.specs.declared.picture.Picture.{Picture}
 use Rattle.pw_picture.specs.declared.picture.Picture.TheVariants as picture
 use Rattle.pw_picture.specs.Stored.{value_of, read_of, digits_of, is_negative}
-use Rattle.pw_picture.specs.Symbols.{begins_with}
 use Rattle.pw_picture.specs.Text.{fitted}
 
 -- An operand as it is read: the characters of an item, with its picture, of which a group has none;
@@ -53,16 +52,6 @@ text_in size Zeros' = replicate size 48
 text_in size other = fitted size (text_of other)
 
 -- ---- numbers
-
--- the digits behind the point
-abbrev pub decimals_in : List ℕ → List ℕ
-decimals_in spelling = drop (length (take_while (λ char. not (char == 46)) spelling) + 1) spelling
-
--- the number that a literal or an entry is: an optional sign, and digits with an optional point
-abbrev pub number_in : List ℕ → Number
-number_in spelling =
-    number (signed (begins_with 45 spelling) (value_of 0 (filter is_ascii_digit spelling)))
-    (length (decimals_in spelling))
 
 -- the whole part of a number's value, and 0 for one below zero
 abbrev pub whole_part : Number → ℕ

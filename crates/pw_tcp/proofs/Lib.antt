@@ -1,2 +1,5 @@
 pub mod Fitting
+pub mod Known
+pub mod Resting
+pub mod Running
 pub mod Waiting

@@ -1,3 +1,4 @@
 pub mod Entries
 pub mod InState
 pub mod NextStep
+pub mod Refreshes

@@ -2,6 +2,7 @@
 #![tactic(auto)]
 
 pub mod laws;
+pub mod refresh;
 pub mod step;
 pub mod terminal;
 #[cfg(test)]

@@ -1,10 +1,15 @@
 ghost use Rattle.std.specs.Prelude.{◌≡◌, ◌↔◌, IsTrue, true, false};
 ghost use Rattle.pw_tcp.specs.NextStep.{BeginsAnew, MayAsk, RunsWhere};
 
+use crate::refresh::refresh;
 use crate::step::{TcpStep, next_step};
 use crate::terminal::{Note, Pending, Terminal};
 use pw_base::bytes::Bytes;
+use pw_base::list::List;
+use pw_code::context::Context;
+use pw_code::screen::ScreenImage;
 use pw_code::verb::Verb;
+use std::alloc::Global;
 use std::process::Abort;
 
 /// Whether a terminal's program may ask this.
@@ -323,5 +328,46 @@ fn pending_causes(rt: HostRuntime) {
                 ],
             );
         }
+    }
+}
+
+/// A program at work with these registers.
+fn context(alloc: Global, phase: u32, attempt: u32, shown: u32) -> Context {
+    Context {
+        termination: 0,
+        restarts: 0,
+        file_status: 0,
+        phase,
+        attempt,
+        shown,
+        entries: 0,
+        units: 0,
+        in_unit: phase % 2 == 1,
+        mode: 0,
+        fault: 0,
+        at_verb: true,
+        count: 0,
+        screen: ScreenImage {
+            cells: Bytes::new(alloc),
+        },
+        frames: List::new(alloc),
+    }
+}
+
+#[test]
+fn refresh_numbers(rt: HostRuntime) {
+    for (phase, attempt, shown, number) in [
+        (0, 0, 0, (0, 0, 1)),
+        (0, 0, 2, (0, 0, 3)),
+        (1, 0, 0, (1, 0, 1)),
+        (1, 2, 0, (1, 2, 1)),
+        (3, 1, 4, (3, 1, 5)),
+        (4, 0, 0, (4, 0, 1)),
+        (4, 0, 4_294_967_294, (4, 0, 4_294_967_295)),
+    ] {
+        assert_eq!(rt;
+            refresh(&context(rt.alloc(), phase, attempt, shown)),
+            number
+        );
     }
 }

@@ -1,8 +1,11 @@
+pub mod Around
 pub mod Awaiting
 pub mod BackedOut
 pub mod Changes
 pub mod Drained
 pub mod Kept
+pub mod Leaving
+pub mod LeftUnits
 pub mod Missing
 pub mod Operated
 pub mod PlacedLemmas

@@ -19,7 +19,7 @@ all_put_back-append n file [] ys records = refl
 all_put_back-append n file (image ∷ xs) ys records = all_put_back-append n file xs ys (put_back_if n file image records)
 
 -- one image, in all files and in one
-one-restored : (key_length : ℕ → ℕ) (image : BeforeImage) (files : ℕ → List (List ℕ)) (file : ℕ)
+pub one-restored : (key_length : ℕ → ℕ) (image : BeforeImage) (files : ℕ → List (List ℕ)) (file : ℕ)
     → upd files image.file (put_back (key_length image.file) (files image.file) image.key image.content) file ≡ put_back_if (key_length file) file image (files file)
 one-restored key_length image files file =
     ⊎_elim

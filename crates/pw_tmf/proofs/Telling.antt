@@ -25,10 +25,10 @@ use Rattle.pw_tmf.specs.Tells.{Tells, as_told, begun_as, images_by, unit_begun}
 use Rattle.pw_tmf.specs.Told.{ToldUnit, Told}
 use Rattle.pw_tmf.specs.Units.{backed_out, begun, ended, opened, stopped}
 
-only-same : (t : ℕ) → only t t ≡ true
+pub only-same : (t : ℕ) → only t t ≡ true
 only-same t = grind (arith, nat_tests)
 
-only-other : (t u : ℕ) → u ≢ t → only t u ≡ false
+pub only-other : (t u : ℕ) → u ≢ t → only t u ≡ false
 only-other t u ne = grind (arith, nat_tests, ne)
 
 -- ---- the before-images of a terminal

@@ -44,14 +44,14 @@ younger-can told f = record {
 }
 
 -- a unit that has just begun
-begun-runs : (told : Told) (u : unit.Unit) → u.terminal < told.terminals → IsRunning (begun told u) u
+pub begun-runs : (told : Told) (u : unit.Unit) → u.terminal < told.terminals → IsRunning (begun told u) u
 begun-runs told u lt = record {
   is_open = record { terminal = lt; open_unit = opened u; here = upd-same told.units u.terminal (Some (opened u)) u.terminal refl; number = refl; birth = refl };
   runs = refl;
 }
 
 -- and another one
-begun-other : (told : Told) (u v : unit.Unit) → v.terminal ≢ u.terminal → IsRunning told v → IsRunning (begun told u) v
+pub begun-other : (told : Told) (u v : unit.Unit) → v.terminal ≢ u.terminal → IsRunning told v → IsRunning (begun told u) v
 begun-other told u v apart is = record {
   is_open = record {
     terminal = is.is_open.terminal;
@@ -90,7 +90,7 @@ still-own : (told : Told) (u v : unit.Unit) (call : FileCall) (own : ToldUnit) (
 still-own told u v call own true new is n b r = (ap (λ (x : ToldUnit). x.number) is ∙ n, ap (λ (x : ToldUnit). x.birth) is ∙ b, ap (λ (x : ToldUnit). x.running) is ∙ r)
 still-own told u v call own false new is n b r = (ap (λ (x : ToldUnit). x.number) is ∙ n, ap (λ (x : ToldUnit). x.birth) is ∙ b, ap (λ (x : ToldUnit). x.running) is ∙ r)
 
-still-runs : (told : Told) (u v : unit.Unit) (call : FileCall) → IsRunning told v → IsRunning (after_operation told u call) v
+pub still-runs : (told : Told) (u v : unit.Unit) (call : FileCall) → IsRunning told v → IsRunning (after_operation told u call) v
 still-runs told u v call is =
     let n : ℕ = told.key_length call.file in
     let records : List (List ℕ) = told.files call.file in
@@ -123,14 +123,14 @@ still-runs told u v call is =
     (cases_Bool (v.terminal == u.terminal))
 
 -- more faults change nothing of that
-faulty-runs : (told : Told) (v : unit.Unit) (n : ℕ) → IsRunning told v → IsRunning (record told { faults = n }) v
+pub faulty-runs : (told : Told) (v : unit.Unit) (n : ℕ) → IsRunning told v → IsRunning (record told { faults = n }) v
 faulty-runs told v n is = record {
   is_open = record { terminal = is.is_open.terminal; open_unit = is.is_open.open_unit; here = is.is_open.here; number = is.is_open.number; birth = is.is_open.birth };
   runs = is.runs;
 }
 
 -- where no unit is open, none is behind a change of one
-none-changed : (units : ℕ → Option ToldUnit) (k : ℕ) (change : ToldUnit → ToldUnit) (t : ℕ) → units t ≡ None → upd units k (option_map change (units k)) t ≡ None
+pub none-changed : (units : ℕ → Option ToldUnit) (k : ℕ) (change : ToldUnit → ToldUnit) (t : ℕ) → units t ≡ None → upd units k (option_map change (units k)) t ≡ None
 none-changed units k change t none =
     upd_elim units k (option_map change (units k)) t (λ o. o ≡ None)
     (λ same. ap (option_map change) (ap units (sym same) ∙ none))

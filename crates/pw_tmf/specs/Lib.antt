@@ -1,6 +1,7 @@
 pub mod Answers
 pub mod Committed
 pub mod Faulty
+pub mod Leaving
 pub mod Operation
 pub mod Placed
 pub mod Slots

@@ -41,4 +41,11 @@ impl Names {
         let is_new = self.names.insert(name)?;
         Ok(!is_new)
     }
+
+    /// Whether a name is there.
+    pub fn has(&self, name: &[u8]) -> bool
+        ensures { result ≡ has_name self.now name.now }
+    {
+        self.names.contains(name)
+    }
 }

@@ -1,12 +1,13 @@
-use Rattle.std.proofs.Common.{not, ap, ◌∙◌}
-use Rattle.pw_data.proofs.Named.{not_twice, contains-has_name, has_name-insert}
+use Rattle.std.proofs.Common.{◌≡◌, List, ℕ, subst}
+use Rattle.std.specs.Prelude.{IfOk}
+use Rattle.pw_words.specs.Names.{has_name as has_name_as_written}
+use Rattle.pw_data.proofs.Named.{named-folded}
 use Rattle.pw_divisions.proofs.names.put.Goals as goal
 
 pub returns-clause-taken : goal.returns-clause-taken
 returns-clause-taken c =
-    ap not c.in_ok-is_new.ensures.added ∙ not_twice _
-    ∙ contains-has_name c.args.names.now c.in_ok-in_lower_case.field-0 c.args.name.now c.in_ok-in_lower_case.ensures
+    let P : List ℕ → Type 0 = λ key. IfOk c.put.result (λ taken. taken ≡ has_name_as_written c.args.names.now key) in
+    subst P c.in_ok-key.ensures c.put.ensures.taken
 
 pub returns-clause-names : goal.returns-clause-names
-returns-clause-names c = λ word.
-    has_name-insert c.args.names.now c.insert.new.self c.in_ok-in_lower_case.field-0 c.args.name.now word c.in_ok-in_lower_case.ensures c.in_ok-is_new.ensures.keys
+returns-clause-names c = named-folded c.put.result c.args.names.now c.put.new.self c.args.name.now c.in_ok-key.key.items c.in_ok-key.ensures c.put.ensures.words

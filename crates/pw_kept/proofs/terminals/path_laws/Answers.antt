@@ -1,14 +1,28 @@
-use Rattle.std.proofs.Common.{[], ◌∷◌, map, sym, subst}
-use Rattle.std.proofs.lemmas.List.{map-append}
+use Rattle.std.proofs.Common.{refl}
 use Rattle.pw_exec.specs.Config.{starting}
-use Rattle.pw_exec.specs.OfSystem.{told}
-use Rattle.pw_exec.specs.Runs.{StandsFrom}
+use Rattle.pw_kept.proofs.Arrived.{answered-one, at-its-verb, one-context, one-ready, runs-on, stands-behind, stands-ready}
 use Rattle.pw_kept.proofs.terminals.path_laws.Goals as goal
 
-pub returns : goal.returns
-returns c = record {
-  answered = λ system terminal path answer old new stands at took.
-      subst (λ answers. StandsFrom system (starting system terminal.program) answers new)
-      (sym (map-append (told terminal.entries) path (answer ∷ [])))
-      (c.context_laws.ensures.answers system (starting system terminal.program) (map (told terminal.entries) path) (told terminal.entries answer) old new stands at took);
-}
+pub returns-clause-starts : goal.returns-clause-starts
+returns-clause-starts c system terminal = record { at = starting system terminal.program; arrives = refl; is = refl }
+
+pub returns-clause-runs : goal.returns-clause-runs
+returns-clause-runs c = runs-on
+
+pub returns-clause-answered : goal.returns-clause-answered
+returns-clause-answered c = answered-one
+
+pub returns-clause-one : goal.returns-clause-one
+returns-clause-one c = one-context
+
+pub returns-clause-one_ready : goal.returns-clause-one_ready
+returns-clause-one_ready c = one-ready
+
+pub returns-clause-at_verb : goal.returns-clause-at_verb
+returns-clause-at_verb c = at-its-verb
+
+pub returns-clause-stands : goal.returns-clause-stands
+returns-clause-stands c = stands-behind
+
+pub returns-clause-ready : goal.returns-clause-ready
+returns-clause-ready c = stands-ready

@@ -1,11 +1,15 @@
 use Rattle.std.proofs.Common.{None}
 use Rattle.pw_onecopy.specs.Path.{Ended}
-use Rattle.pw_kept.proofs.UnitChanges.{back-stands, begin-stands, ends-stands, send-stands}
+use Rattle.pw_kept.proofs.UnitChanges.{back-stands, begin-send-stands, begin-stands, ends-stands, send-stands}
 use Rattle.pw_kept.proofs.units.unit_laws.Goals as goal
 
 pub returns-clause-begin : goal.returns-clause-begin
-returns-clause-begin c system script state kept t n r terminal start next stands here legal number from goes =
-    begin-stands system script state kept t n r terminal start next stands here legal.idle number from goes
+returns-clause-begin c system script state kept t n r terminal next stands here legal number asks goes =
+    begin-stands system script state kept t n r terminal stands here legal.can legal.idle number next asks goes
+
+pub returns-clause-begin_send : goal.returns-clause-begin_send
+returns-clause-begin_send c system script state kept t n r class message terminal stands here legal number asks =
+    begin-send-stands system script state kept t n r terminal stands here legal.can legal.idle number class message asks
 
 pub returns-clause-send : goal.returns-clause-send
 returns-clause-send c system script state kept t n class message stands legal is = send-stands system script state kept t n class message stands is

@@ -1,20 +1,29 @@
-use Rattle.std.proofs.Common.{◌≡◌, ◌≢◌, ℕ, List, [], ◌∷◌, Bool, true, false, not, nat_eq, cond, rules, refl, arith}
-use Rattle.std.specs.Prelude.{filter}
-use Rattle.std.proofs.lemmas.Fn.{filter_same}
+use Rattle.std.proofs.Common.{◌≡◌, ◌≢◌, ℕ, zero, suc, ◌<◌, ◌||◌, ◌++◌, List, [], ◌∷◌, Bool, true, false, nat_eq, length, take, drop, refl, subst, arith}
+use Rattle.std.specs.Prelude.{slice_index_or}
+use Rattle.std.specs.FinMap.{nat_cmp-IsAntisymmetric}
 use Rattle.std.proofs.lemmas.Bool.Decides.{nat_tests}
 use Rattle.pw_locks.specs.Indexes.{has}
 use Rattle.pw_locks.proofs.index.drop_number.Goals as goal
 
-kept_there : (n m : ℕ) (b : Bool) (xs ys : List ℕ) → (nat_eq n m ≡ true → b ≡ true) → (has xs n ≡ true → has ys n ≡ true) → has (m ∷ xs) n ≡ true → has (cond b (m ∷ ys) ys) n ≡ true
-kept_there n m b xs ys here there h =
-    elim (nat_eq n m) as (λ t. nat_eq n m ≡ t → has (cond b (m ∷ ys) ys) n ≡ true) [
-      | true ↦ λ is. rw (here is) (rw is)
-      | false ↦ λ is. let rest : has xs n ≡ true = (rw is at h) in elim b as (λ t. has (cond t (m ∷ ys) ys) n ≡ true) [ true ↦ rw is (there rest) | false ↦ there rest ]
-    ] refl
+-- the others stay where one number is taken from its place
+others_stay : (xs : List ℕ) (i number n : ℕ) → i < length xs → slice_index_or xs i 0 ≡ number → n ≢ number → has xs n ≡ true → has (take i xs ++ drop (suc i) xs) n ≡ true
+others_stay [] i number n lt is ne h = absurd (omega (arith, lt))
+others_stay (x ∷ xs) zero number n lt is ne h =
+    let other : nat_eq n x ≡ false = grind (arith, nat_tests, is, ne) in
+    rw other at h
+others_stay (x ∷ xs) (suc i) number n lt is ne h =
+    elim (nat_eq n x) as (λ b. (b || has xs n) ≡ true → (b || has (take i xs ++ drop (suc i) xs) n) ≡ true) [
+      | true ↦ λ _. refl
+      | false ↦ λ rest. others_stay xs i number n (omega (arith, lt)) is ne rest
+    ] h
 
-others_stay : (number n : ℕ) (xs : List ℕ) → n ≢ number → has xs n ≡ true → has (filter (λ m. not (nat_eq m number)) xs) n ≡ true
-others_stay number n [] ne h = h
-others_stay number n (m ∷ xs) ne h = kept_there n m (not (nat_eq m number)) xs (filter (λ m. not (nat_eq m number)) xs) (λ is. grind (arith, nat_tests, is, ne)) (others_stay number n xs ne) h
 
-pub returns : goal.returns
-returns c = λ n ne h. rw (filter_same _ (λ m. not (nat_eq m c.args.number)) _ (λ x b f' k. search rules) _ _ c.retain.ensures.filtered) (others_stay c.args.number n c.args.numbers.now.items ne h)
+pub returns-in-Ok : goal.returns-in-Ok
+returns-in-Ok c = λ n ne h.
+    let value : c.deref.result.now ≡ c.args.numbers.now.items = c.deref.ensures.value in
+    let within : c.in-Ok.place < length c.deref.result.now = c.in-Ok.ensures.bound in
+    let is : slice_index_or c.deref.result.now c.in-Ok.place 0 ≡ c.args.number = nat_cmp-IsAntisymmetric _ _ (c.in-Ok.ensures.ok 0) in
+    rw c.remove.ensures.items
+    (others_stay c.args.numbers.now.items c.in-Ok.place c.args.number n
+    (subst (λ (xs : List ℕ). c.in-Ok.place < length xs) value within)
+    (subst (λ (xs : List ℕ). slice_index_or xs c.in-Ok.place 0 ≡ c.args.number) value is) ne h)

@@ -3,7 +3,7 @@ use Rattle.std.proofs.Common.{◌≡◌, ◌<◌, length, [], sym, ◌∙◌, ar
 use Rattle.pw_picture.specs.Text.{fitted}
 use Rattle.pw_terminal.proofs.Written.{length-fitted}
 use Rattle.pw_exec.specs.Reading.{value_in}
-use Rattle.pw_exec.specs.Values.{text_of}
+use Rattle.pw_source.specs.Values.{text_of}
 use Rattle.pw_machine.specs.Views.{taken_by}
 use Rattle.pw_machine.proofs.BesideLemmas.{get_or-fitted}
 use Rattle.pw_machine.proofs.MoveLemmas.{written-more}

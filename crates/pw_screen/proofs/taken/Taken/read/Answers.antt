@@ -5,7 +5,7 @@ use Rattle.pw_screen.proofs.taken.Taken.read.Goals as goal
 pub returns-in_ok-found-clause-after : goal.returns-in_ok-found-clause-after
 returns-in_ok-found-clause-after c =
     after-screen c.args.layout.now c.args.self.now (record { begun = true; names = c.read_screen.new.names; fields = c.new.result; used = None }) c.args.part.now c.in_ok-found.found
-    (sym c.begins_screen.ensures ∙ c.if-begins_screen.true) c.in_ok-found.ensures.names refl c.new.ensures.empty refl
+    (sym c.begins_screen.ensures ∙ c.if-begins_screen.true) c.in_ok-found.ensures.names refl c.new.ensures refl
 
 pub returns-else-begins_screen-clause-after : goal.returns-else-begins_screen-clause-after
 returns-else-begins_screen-clause-after c =

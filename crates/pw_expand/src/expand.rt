@@ -1,0 +1,42 @@
+ghost use Rattle.std.specs.Prelude.{◌≡◌, IfErr, IfOk, Ok};
+ghost use Rattle.pw_expand.specs.Printed.{answered, expanded};
+ghost use Rattle.pw_expand.specs.Systems.{IsFaultOf};
+
+use crate::fault::ScheduleFault;
+use crate::play::play_schedule;
+use crate::print::{fault_line, world_text};
+use pw_base::bytes::Bytes;
+use pw_base::memory::Memory;
+use std::alloc::Global;
+
+/// How a schedule is answered.
+#[derive(Clone, Copy, Debug, PartialEq, Eq)]
+pub enum Ending {
+    /// It has no fault: its messages and marks are written.
+    Expanded,
+    /// It has a fault, whose line is written.
+    Refused,
+}
+
+/// The output for a schedule: a line for each message that its events send, and then one for each
+/// mark that they leave (docs/EXPAND.md). It refuses exactly with the line of the schedule's first
+/// fault, which is 0 for an input over the limit.
+pub fn expand(alloc: Global, bytes: &[u8]) -> Result<Bytes, ScheduleFault>
+    ensures ok { IfOk result (λ text. expanded bytes.now ≡ Ok text) }
+    ensures err { IfErr result (λ fault. IsFaultOf fault (expanded bytes.now)) }
+{
+    let (systems, world) = play_schedule(alloc, bytes)?;
+    let text = world_text(alloc, &world, systems)?;
+    Ok(text)
+}
+
+/// How a schedule is answered, and what is written then (docs/EXPAND.md).
+pub fn answer(alloc: Global, bytes: &[u8]) -> Result<(Ending, Bytes), Memory>
+    ensures { IfOk result (λ answer. (answer.0, answer.1) ≡ answered (expanded bytes.now)) }
+{
+    match expand(alloc, bytes) {
+        Ok(text) => Ok((Ending::Expanded, text)),
+        Err(ScheduleFault::At { line }) => Ok((Ending::Refused, fault_line(alloc, line)?)),
+        Err(ScheduleFault::Memory) => Err(Memory),
+    }
+}

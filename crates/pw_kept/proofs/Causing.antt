@@ -1,0 +1,148 @@
+-- The tests of causes are those of the state.
+use Rattle.std.proofs.Common.{◌≡◌, ℕ, zero, suc, ◌+◌, ◌<◌, ◌≤◌, ◌==◌, ◌&&◌, ◌||◌, nat_lt, List, Option, Some, None, Bool, true, false, not, is_some, refl, sym, ap, ap₂, subst, ◌∙◌, length, arith}
+use Rattle.std.specs.Prelude.{slice_get}
+use Rattle.std.specs.List.{list_any}
+use Rattle.std.specs.Option.{option_map}
+use Rattle.pw_class.specs.Queue.{at_process}
+use Rattle.pw_class.specs.declared.request.Request.{Request}
+use Rattle.pw_code.specs.declared.context.Context.{Context}
+use Rattle.pw_code.specs.declared.file.FileCall.{FileCall}
+use Rattle.pw_code.specs.declared.lock.LockRule.{LockRule}
+use Rattle.pw_code.specs.declared.system.ClassInfo.{ClassInfo}
+use Rattle.pw_code.specs.declared.system.System.{System}
+use Rattle.pw_code.specs.declared.unit.Unit as unit
+use Rattle.pw_code.specs.declared.verb.Verb.{Verb}
+use Rattle.pw_code.specs.declared.verb.Verb.TheVariants as verb
+use Rattle.pw_event.specs.declared.event.Cause.{Cause}
+use Rattle.pw_event.specs.declared.event.Cause.TheVariants.{Older, Takeover, Server, Redo}
+use Rattle.pw_event.specs.declared.event.Ending.TheVariants.{Suspended}
+use Rattle.pw_event.specs.declared.script.FailLine.{FailLine}
+use Rattle.pw_exec.specs.OfSystem.{behaviour, processes_by}
+use Rattle.pw_kept.specs.Asked.{verb_in}
+use Rattle.pw_kept.specs.CauseTests as kept
+use Rattle.pw_kept.specs.CauseTests.{call_meets, is_older, may_restart, may_suspend, most_restarts, work_meets}
+use Rattle.pw_kept.specs.Changes.{unit_at}
+use Rattle.pw_kept.specs.ClassTests.{works_where}
+use Rattle.pw_kept.specs.Kept.{Kept}
+use Rattle.pw_kept.specs.PairTests.{is_alone, is_gone}
+use Rattle.pw_kept.specs.Stands.{Stands, StandsForClass}
+use Rattle.pw_kept.specs.TerminalTests.{is_paired}
+use Rattle.pw_kept.specs.Tested.{CauseTested, IsAsking, IsPlaced, IsServing}
+use Rattle.pw_kept.proofs.Agreeing.{there-is}
+use Rattle.pw_kept.proofs.Components.{some_is}
+use Rattle.pw_kept.proofs.Serving.{unit-same, where-works}
+use Rattle.pw_kept.proofs.Testing.{alone-as, any-same, gone-as, own-mode, paired-as, where-is}
+use Rattle.pw_legal.specs.Causes as legal
+use Rattle.pw_legal.specs.Causes.{is_caused, is_legal_restart, job_meets}
+use Rattle.pw_legal.specs.Pairs.{is_legal_end}
+use Rattle.pw_legal.specs.Values.{is_server_by, is_takeover_by, some_with}
+use Rattle.pw_legal.specs.Verbs.{asks_file, asks_redo}
+use Rattle.pw_locks.specs.Conflicts.{conflict, is_same_unit}
+use Rattle.pw_locks.specs.declared.lock.Lock.{Lock}
+use Rattle.pw_onecopy.specs.Operation.{lock_for}
+use Rattle.pw_paired.specs.Failure.{unit_named}
+use Rattle.pw_paired.specs.Serial as serial
+use Rattle.pw_paired.specs.Server.{server_verb}
+use Rattle.pw_paired.specs.State.{BeforeImage, Job, OpenUnit, State}
+use Rattle.pw_paired.specs.Units.{request_in, restarts_of}
+use Rattle.pw_runs.proofs.requests.Queues.{works-queue}
+use Rattle.pw_tmf.specs.Tells.{as_told, images_by}
+use Rattle.pw_tmf.specs.Told.{ToldUnit}
+
+-- a test of what a disc tells of a unit is one of the unit
+told-same : (before : List BeforeImage) (f : ToldUnit → Bool) (g : OpenUnit → Bool) (o : Option OpenUnit) → ((own : OpenUnit) → o ≡ Some own → f (as_told before own) ≡ g own) → some_with f (option_map (as_told before) o) ≡ some_with g o
+told-same before f g None same = refl
+told-same before f g (Some own) same = same own refl
+
+module _ (system : System) (script : List FailLine) (state : State) (own : Kept) (stands : Stands system script state own) where
+  module _ (c i : ℕ) (serving : IsServing system script state own c i) (one other : unit.Unit) where
+    module _ (call : FileCall) where
+      abbrev body : LockRule → (ℕ → ℕ) → (ℕ → List (List ℕ)) → List Lock → unit.Unit → Bool
+      body rule keys files locks mine = list_any (λ held. is_same_unit held.unit other && conflict (lock_for rule (keys call.file) (files call.file) mine call) held) locks
+
+      call-same : call_meets own other serving.job.request call ≡ legal.call_meets (behaviour script system) state other serving.job call
+      call-same =
+          ap (λ r. body r own.disc.key_length own.disc.files own.disc.locks (unit_at own serving.job.request.terminal serving.job.request.unit)) stands.disc.rule
+          ∙ (ap (λ k. body (behaviour script system).rule k own.disc.files own.disc.locks (unit_at own serving.job.request.terminal serving.job.request.unit)) stands.disc.keys
+          ∙ (ap (λ x. body (behaviour script system).rule (behaviour script system).key_length x own.disc.locks (unit_at own serving.job.request.terminal serving.job.request.unit)) stands.disc.files
+          ∙ (ap (λ l. body (behaviour script system).rule (behaviour script system).key_length state.files l (unit_at own serving.job.request.terminal serving.job.request.unit)) stands.disc.locks
+          ∙ ap (body (behaviour script system).rule (behaviour script system).key_length state.files state.locks) (unit-same system script state own stands c i serving))))
+
+    by-verb : (v : Verb) → asks_file (call_meets own other serving.job.request) v ≡ asks_file (legal.call_meets (behaviour script system) state other serving.job) v
+    by-verb (verb.File call) = call-same call
+    by-verb verb.Show = refl
+    by-verb (verb.Accept screen) = refl
+    by-verb verb.Begin = refl
+    by-verb (verb.Send class message) = refl
+    by-verb verb.End = refl
+    by-verb verb.Drop = refl
+    by-verb verb.Redo = refl
+    by-verb verb.Stop = refl
+    by-verb (verb.Fault code) = refl
+    by-verb (verb.Reply reply) = refl
+
+    work-same : works_where own c i (work_meets system own one other) ≡ job_meets (behaviour script system) state one other c serving.job
+    work-same =
+        where-works system script state own stands c i serving (work_meets system own one other)
+        ∙ ap (λ b. serving.job.request.terminal == one.terminal && (serving.job.request.unit == one.number && b))
+        (by-verb (verb_in system serving.context) ∙ ap (asks_file (legal.call_meets (behaviour script system) state other serving.job)) serving.says)
+
+  module _ (all : (c i : ℕ) (job : Job) → (state.classes c).busy i ≡ Some job → IsServing system script state own c i) (one other : unit.Unit) where
+    -- a process of a class
+    process-same : (c i : ℕ) (info : ClassInfo) → slice_get system.classes c ≡ Some info → i < info.processes
+        → works_where own c (i + 1) (work_meets system own one other) ≡ some_with (job_meets (behaviour script system) state one other c) ((state.classes c).busy (i + 1))
+    process-same c i info here low = by ((state.classes c).busy (i + 1)) refl
+      where
+        at : at_process (own.queues c) (i + 1) ≡ request_in ((state.classes c).busy (i + 1))
+        at =
+            let old : StandsForClass system info (state.classes c) (own.queues c) (own.jobs c) = stands.classes c info here in
+            ap (λ q. at_process q (i + 1)) old.queue_is ∙ works-queue info.processes (i + 1) (state.classes c) (omega arith) (omega (arith, low))
+
+        by : (o : Option Job) → (state.classes c).busy (i + 1) ≡ o → works_where own c (i + 1) (work_meets system own one other) ≡ some_with (job_meets (behaviour script system) state one other c) o
+        by None is = ap (some_with (λ request. some_with (work_meets system own one other request) (own.jobs c (i + 1)))) (at ∙ ap request_in is)
+        by (Some job) is =
+            let serving = all c (i + 1) job is in
+            work-same c (i + 1) serving one other ∙ ap (job_meets (behaviour script system) state one other c) (some_is (sym serving.works ∙ is))
+
+    meets-same : kept.meets system own one other ≡ legal.meets (behaviour script system) state one other
+    unfolding legal.meets
+    meets-same =
+        any-same (length system.classes) _ _ (λ c low.
+        let info = there-is system.classes c low in
+        any-same (processes_by (slice_get system.classes c)) _ _ (λ i few. process-same c i info.0 info.1 (subst (λ n. i < n) (ap processes_by info.1) few)))
+
+  module _ (t : ℕ) (placed : IsPlaced system t) (unit : OpenUnit) where
+    older-same : ((c i : ℕ) (job : Job) → (state.classes c).busy i ≡ Some job → IsServing system script state own c i) → (o m : ℕ)
+        → is_older system own t (as_told (images_by t state.before) unit) o m ≡ legal.is_legal_older (behaviour script system) state t unit o m
+    older-same all o m =
+        ap (some_with _) (stands.disc.units o)
+        ∙ told-same (images_by o state.before) _ _ (state.units o) (λ older is.
+        ap (λ b. older.number == m && (nat_lt older.birth unit.birth && b))
+        (ap₂ (λ g b. not g && b) (ap is_gone (own-mode system script state own stands t placed) ∙ gone-as (state.modes ((behaviour script system).pair_of t)))
+        (ap₂ (λ a b. a || b) (meets-same all (unit_named t unit) (unit_named o older)) (meets-same all (unit_named o older) (unit_named t unit)))))
+
+    holds-same : (cause : Cause) → CauseTested system script state own t cause → kept.holds system own t (as_told (images_by t state.before) unit) cause ≡ legal.holds (behaviour script system) state t unit cause
+    holds-same (Older o m) tested = older-same tested o m
+    holds-same (Takeover p) tested =
+        ap₂ (λ c m. some_with (is_takeover_by p) c && m) (stands.terminals t placed.info placed.here).pending
+        (ap is_alone (own-mode system script state own stands t placed) ∙ alone-as (state.modes ((behaviour script system).pair_of t)))
+    holds-same (Server k) tested =
+        ap₂ (λ c m. some_with (is_server_by k) c && m) (stands.terminals t placed.info placed.here).pending
+        (ap is_paired (own-mode system script state own stands t placed) ∙ paired-as (state.modes ((behaviour script system).pair_of t)))
+    holds-same Redo tested = where-is system script state own stands t tested _ _ (ap asks_redo tested.says.verb)
+
+  module _ (t : ℕ) (placed : IsPlaced system t) (cause : Cause) (tested : CauseTested system script state own t cause) where
+    restarts-same : (unit : OpenUnit) → state.units t ≡ Some unit → (own.terminals t).restarts ≡ unit.restarts
+    restarts-same unit is = (stands.terminals t placed.info placed.here).restarts ∙ ap restarts_of is
+
+    pub restart-same : (n : ℕ) → may_restart system own t n cause ≡ is_legal_restart (behaviour script system) state t n cause
+    restart-same n =
+        ap (some_with _) (stands.disc.units t)
+        ∙ told-same (images_by t state.before) _ _ (state.units t) (λ unit is.
+        ap₂ (λ h r. unit.number == n && ((is_some unit.running && h) && nat_lt r (most_restarts system t))) (holds-same t placed unit cause tested) (restarts-same unit is))
+
+    pub suspend-same : may_suspend system own t cause ≡ is_legal_end (behaviour script system) state t (Suspended cause)
+    suspend-same =
+        ap (some_with _) (stands.disc.units t)
+        ∙ told-same (images_by t state.before) _ _ (state.units t) (λ unit is.
+        ap₂ (λ h r. (is_some unit.running && h) && r == most_restarts system t) (holds-same t placed unit cause tested) (restarts-same unit is))

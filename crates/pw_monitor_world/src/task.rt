@@ -1,0 +1,48 @@
+ghost use Rattle.pw_monitor_world.specs.Tasks.{RanOn};
+
+use pw_code::context::Context;
+use pw_code::system::System;
+use pw_code::verb::Verb;
+use std::snapshot::Snapshot;
+
+/// Who makes a step. Terminals, pairs and classes count from 0, processes from 1.
+#[derive(Clone, Copy, Debug, PartialEq, Eq)]
+pub enum Actor {
+    /// A terminal at its own verb.
+    Terminal(u32),
+    /// A process of a class, at work on a request.
+    Process { class: u32, process: u32 },
+    /// A pair, which raises a backup, sends copies, takes messages in, fails and takes over.
+    Pair(u32),
+    /// A class, which hands requests to its processes, and whose processes fail.
+    Class(u32),
+}
+
+/// What is to be done for an actor outside the world: its program is to run on, where there is work.
+#[derive(Debug, Drop)]
+pub struct Task {
+    pub actor: Actor,
+    /// The length of the log when the actor's state last changed.
+    pub stamp: u64,
+    /// The context from which its program is to run on.
+    pub work: Option<Context>,
+}
+
+/// What came of a task: the work that it was given, and the verb to which the work ran on.
+///
+/// The type keeps that the three are there together or not at all, and that the verb and the work are what the
+/// machine makes of the given work, over the system that only contracts see.
+#[derive(Drop)]
+pub struct Outcome {
+    pub actor: Actor,
+    /// The stamp of its task.
+    pub stamp: u64,
+    /// The work of its task, as it was.
+    pub given: Option<Context>,
+    pub verb: Option<Verb>,
+    /// The work at the verb.
+    pub work: Option<Context>,
+    /// The system, for contracts only.
+    pub over: Snapshot<System>,
+    pub ghost ran: { ∥ RanOn over.value given verb work ∥₁ },
+}

@@ -1,0 +1,4 @@
+pub mod Body
+pub mod Format
+pub mod Stored
+pub mod Values

@@ -1,0 +1,13 @@
+//! The audit trail: what the units of terminals have changed, on a disk from which it is recovered after a crash.
+#![tactic(auto)]
+
+pub mod append;
+pub mod changes;
+pub mod fault;
+pub mod log;
+mod piece;
+mod read;
+pub mod recover;
+mod store;
+pub mod synced;
+mod write;
