@@ -1,12 +1,13 @@
 //! The code of programs: what each statement of a requester or of a server becomes.
 #![tactic(auto)]
 
+pub mod compile;
 mod conditions;
 mod emit;
 mod numbers;
 mod operands;
 mod plan;
-pub mod program;
+mod program;
 mod sizes;
 mod statements;
 #[cfg(test)]

@@ -36,7 +36,7 @@ fn linkage_of(alloc: Global, layout: &Layout, names: &[Bytes]) -> Result<List<(u
 }
 
 /// The code of a program with these parts.
-pub fn code_of(
+pub(crate) fn code_of(
     alloc: Global,
     name: &[u8],
     layout: &Layout,
