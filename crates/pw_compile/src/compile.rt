@@ -9,7 +9,8 @@ use pw_scobol::requester::Requester;
 use pw_server::server::Server;
 use std::alloc::Global;
 
-/// The code of a requester whose names resolve, where its screens are numbered from `first_screen` on.
+/// The code of a requester whose names resolve, where its screens are numbered from
+/// `first_screen` on.
 pub fn compile(
     alloc: Global,
     program: &Requester,
@@ -17,7 +18,8 @@ pub fn compile(
     first_screen: u32,
 ) -> Result<Code, Memory>
     ensures { IfOk result (λ code. code ≡ code_of program.now.name program.now.layout
-        program.now.screens program.now.using program.now.procedure.paragraphs first_screen links.now) }
+        program.now.screens program.now.using program.now.procedure.paragraphs first_screen
+        links.now) }
 {
     code_of(
         alloc,

@@ -1,5 +1,6 @@
 ghost use Rattle.std.specs.Prelude.{◌≡◌, map, IfOk};
-ghost use Rattle.pw_compile.specs.Conditions.{operator_of, comparison_of, cond_of, operation_of, receiver_by, arithmetic_of};
+ghost use Rattle.pw_compile.specs.Conditions.{operator_of, comparison_of, cond_of};
+ghost use Rattle.pw_compile.specs.Conditions.{operation_of, receiver_by, arithmetic_of};
 
 use crate::operands::{operand_of, place_in};
 use pw_base::list::List;

@@ -202,7 +202,8 @@ impl<'a> Plan<'a> {
 
     /// The instructions of the program.
     pub fn instrs(&self, alloc: Global) -> Result<List<Instr>, Memory>
-        ensures { IfOk result (λ instrs. instrs ≡ procedure_code self.now 0 self.now.paragraphs) }
+        ensures { IfOk result (λ instrs. instrs
+            ≡ procedure_code self.now 0 self.now.paragraphs) }
     {
         let mut code = List::new(alloc);
         self.emit_all(alloc, &mut code, self.paragraphs)?;

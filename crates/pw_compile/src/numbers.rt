@@ -1,4 +1,5 @@
-ghost use Rattle.std.specs.Prelude.{◌≡◌, ◌+◌, ◌*◌, ◌≤◌, min, pos, filter, IfOk, unwrap_or, if◌then◌else◌};
+ghost use Rattle.std.specs.Prelude.{◌≡◌, ◌+◌, ◌*◌, ◌≤◌, min};
+ghost use Rattle.std.specs.Prelude.{pos, filter, IfOk, unwrap_or, if◌then◌else◌};
 ghost use Rattle.std.specs.Char.{is_ascii_digit};
 ghost use Rattle.pw_picture.specs.Stored.{value_of, digit_of};
 ghost use Rattle.pw_number.specs.Number.{number};
@@ -9,7 +10,8 @@ use pw_base::memory::Memory;
 use pw_data::literal::number_of;
 use pw_number::scaled::Scaled;
 
-/// The sum of two sizes or places. It is an `Err` where it does not fit, where the code would have no
+/// The sum of two sizes or places. It is an `Err` where it does not fit, where the code would
+/// have no
 /// memory either.
 pub fn add(a: u32, b: u32) -> Result<u32, Memory>
     ensures { IfOk result (λ sum. sum ≡ a + b) }

@@ -1,5 +1,6 @@
 ghost use Rattle.std.specs.Prelude.{◌≡◌, map, IfOk};
-ghost use Rattle.pw_compile.specs.Operands.{register_named, kind_of, index_at, subscript_of, table_of, placed, no_place, place_in, operand_by, operand_of};
+ghost use Rattle.pw_compile.specs.Operands.{register_named, kind_of, index_at, subscript_of, table_of};
+ghost use Rattle.pw_compile.specs.Operands.{placed, no_place, place_in, operand_by, operand_of};
 ghost use Rattle.pw_data.specs.Layouts.{place_of};
 
 use crate::numbers::{number_in, value_of};

@@ -13,7 +13,8 @@ use pw_data::layout::Layout;
 use pw_forms::statement::Paragraph;
 use std::marker::Model;
 
-/// What the code of a program goes by: its data, screens and paragraphs, where its paragraphs begin and
+/// What the code of a program goes by: its data, screens and paragraphs, where its paragraphs
+/// begin and
 /// end, the number of its first screen, and what it may name besides what is its own.
 #[derive(Drop)]
 pub struct Plan<'a> {

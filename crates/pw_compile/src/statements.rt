@@ -1,5 +1,6 @@
 ghost use Rattle.std.specs.Prelude.{◌≡◌, map, true, IfOk};
-ghost use Rattle.pw_compile.specs.Emitted.{has_screen, is_by_register, keeps, display_by, display_of, call_of, reply_code, places_of};
+ghost use Rattle.pw_compile.specs.Emitted.{has_screen, is_by_register, keeps, display_by};
+ghost use Rattle.pw_compile.specs.Emitted.{display_of, call_of, reply_code, places_of};
 ghost use Rattle.pw_compile.specs.Operands.{operand_of, place_in};
 ghost use Rattle.pw_compile.specs.Conditions.{cond_of};
 ghost use Rattle.pw_compile.specs.Plan.{turn_of, class_of, file_of, screen_of};
