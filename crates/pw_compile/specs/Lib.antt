@@ -1,0 +1,6 @@
+pub mod Conditions
+pub mod Emitted
+pub mod Operands
+pub mod Plan
+pub mod Programs
+pub mod Sizes

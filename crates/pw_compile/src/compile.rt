@@ -1,0 +1,51 @@
+ghost use Rattle.std.specs.Prelude.{◌≡◌, [], IfOk};
+ghost use Rattle.pw_compile.specs.Programs.{code_of};
+
+use crate::program::code_of;
+use pw_base::memory::Memory;
+use pw_code::code::Code;
+use pw_code::links::Links;
+use pw_scobol::requester::Requester;
+use pw_server::server::Server;
+use std::alloc::Global;
+
+/// The code of a requester whose names resolve, where its screens are numbered from
+/// `first_screen` on.
+pub fn compile(
+    alloc: Global,
+    program: &Requester,
+    links: &Links,
+    first_screen: u32,
+) -> Result<Code, Memory>
+    ensures { IfOk result (λ code. code ≡ code_of program.now.name program.now.layout
+        program.now.screens program.now.using program.now.procedure.paragraphs first_screen
+        links.now) }
+{
+    code_of(
+        alloc,
+        program.name.as_slice(),
+        &program.layout,
+        program.screens.as_slice(),
+        program.using.as_slice(),
+        program.procedure.paragraphs.as_slice(),
+        first_screen,
+        links,
+    )
+}
+
+/// The code of a server whose names resolve.
+pub fn compile_server(alloc: Global, program: &Server, links: &Links) -> Result<Code, Memory>
+    ensures { IfOk result (λ code. code ≡ code_of program.now.name program.now.layout [] []
+        program.now.procedure.paragraphs 0 links.now) }
+{
+    code_of(
+        alloc,
+        program.name.as_slice(),
+        &program.layout,
+        &[],
+        &[],
+        program.procedure.paragraphs.as_slice(),
+        0,
+        links,
+    )
+}

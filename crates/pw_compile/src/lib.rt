@@ -1,0 +1,15 @@
+//! The code of programs: what each statement of a requester or of a server becomes.
+#![tactic(auto)]
+
+pub mod compile;
+mod conditions;
+mod emit;
+mod numbers;
+mod operands;
+mod plan;
+mod program;
+mod sizes;
+mod statements;
+#[cfg(test)]
+mod tests;
+mod turns;

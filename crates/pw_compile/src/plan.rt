@@ -1,0 +1,151 @@
+ghost use Rattle.std.specs.Prelude.{◌≡◌, bytes_eq, position, IfOk};
+ghost use Rattle.pw_compile.specs.Plan.{turn_of, screen_of, program_of, class_of, file_of};
+ghost use Rattle.pw_compile.specs.Emitted.{has_screen};
+
+use crate::numbers::{add, as_number};
+use pw_base::bytes::Bytes;
+use pw_base::memory::Memory;
+use pw_code::field::ScreenTable;
+use pw_code::file::FileInfo;
+use pw_code::instr::Turn;
+use pw_code::links::Links;
+use pw_data::layout::Layout;
+use pw_forms::statement::Paragraph;
+use std::marker::Model;
+
+/// What the code of a program goes by: its data, screens and paragraphs, where its paragraphs
+/// begin and
+/// end, the number of its first screen, and what it may name besides what is its own.
+#[derive(Drop)]
+pub struct Plan<'a> {
+    pub layout: &'a Layout,
+    pub screens: &'a [ScreenTable],
+    pub paragraphs: &'a [Paragraph],
+    pub turns: &'a [Turn],
+    pub first: u32,
+    pub links: &'a Links,
+}
+
+impl<'a> Model for Plan<'a> {
+    ghost use Rattle.pw_compile.specs.Plan.{Plan};
+    ghost use Rattle.pw_forms.specs.contracts.statement.Statement as statement;
+    ghost use Rattle.std.specs.Coded.{codes};
+
+    ghost Value = { Plan };
+
+    ghost coded = { Prim.hlevel (codes, statement.the_row.coded) };
+
+    ghost view = { λ plan. record {
+      layout = plan.layout.now;
+      screens = plan.screens.now;
+      paragraphs = plan.paragraphs.now;
+      turns = plan.turns.now;
+      first = plan.first;
+      links = plan.links.now;
+    } };
+}
+
+/// Whether a paragraph has this name.
+fn is_paragraph(paragraph: &Paragraph, name: &[u8]) -> bool
+    ensures { result ≡ bytes_eq paragraph.now.name name.now }
+{
+    paragraph.name.as_slice() == name
+}
+
+/// Whether a screen has this name.
+fn is_screen(screen: &ScreenTable, name: &[u8]) -> bool
+    ensures { result ≡ bytes_eq screen.now.name name.now }
+{
+    screen.name.as_slice() == name
+}
+
+/// Whether a file has this name.
+fn is_file(file: &FileInfo, name: &[u8]) -> bool
+    ensures { result ≡ bytes_eq file.now.name name.now }
+{
+    file.name.as_slice() == name
+}
+
+/// Whether a name is this one.
+fn is_name(one: &Bytes, name: &[u8]) -> bool
+    ensures { result ≡ bytes_eq one.now name.now }
+{
+    one.as_slice() == name
+}
+
+/// The place of the paragraph of a name.
+fn place_of_paragraph(paragraphs: &[Paragraph], name: &[u8]) -> Option<usize>
+    ensures { result ≡ position (λ one. bytes_eq one.name name.now) paragraphs.now }
+{
+    paragraphs.iter().position(|one| is_paragraph(one, name))
+}
+
+/// The place of the screen of a name.
+fn place_of_screen(screens: &[ScreenTable], name: &[u8]) -> Option<usize>
+    ensures { result ≡ position (λ one. bytes_eq one.name name.now) screens.now }
+{
+    screens.iter().position(|one| is_screen(one, name))
+}
+
+/// The place of the file of a name.
+fn place_of_file(files: &[FileInfo], name: &[u8]) -> Option<usize>
+    ensures { result ≡ position (λ one. bytes_eq one.name name.now) files.now }
+{
+    files.iter().position(|one| is_file(one, name))
+}
+
+/// The place of a name.
+fn place_of_name(names: &[Bytes], name: &[u8]) -> Option<usize>
+    ensures { result ≡ position (λ one. bytes_eq one name.now) names.now }
+{
+    names.iter().position(|one| is_name(one, name))
+}
+
+impl<'a> Plan<'a> {
+    /// Where the paragraph of a name begins and ends.
+    pub fn turn(&self, name: &[u8]) -> Turn
+        ensures { result ≡ turn_of self.now name.now }
+    {
+        let number = place_of_paragraph(self.paragraphs, name).unwrap_or(0);
+        self.turns
+            .get(number)
+            .copied()
+            .unwrap_or(Turn { start: 0, end: 0 })
+    }
+
+    /// Whether the program has a screen of a name.
+    pub fn has_screen(&self, name: &[u8]) -> bool
+        ensures { result ≡ has_screen self.now.screens name.now }
+    {
+        place_of_screen(self.screens, name).is_some()
+    }
+
+    /// The number of the screen of a name, through all programs.
+    pub fn screen(&self, name: &[u8]) -> Result<u32, Memory>
+        ensures { IfOk result (λ number. number ≡ screen_of self.now name.now) }
+    {
+        let own = place_of_screen(self.screens, name).unwrap_or(0);
+        add(self.first, as_number(own)?)
+    }
+
+    /// The number of the program of a name.
+    pub fn program(&self, name: &[u8]) -> Result<u32, Memory>
+        ensures { IfOk result (λ number. number ≡ program_of self.now name.now) }
+    {
+        as_number(place_of_name(self.links.programs.as_slice(), name).unwrap_or(0))
+    }
+
+    /// The number of the class of a name.
+    pub fn class(&self, name: &[u8]) -> Result<u32, Memory>
+        ensures { IfOk result (λ number. number ≡ class_of self.now name.now) }
+    {
+        as_number(place_of_name(self.links.classes.as_slice(), name).unwrap_or(0))
+    }
+
+    /// The number of the file of a name.
+    pub fn file(&self, name: &[u8]) -> Result<u32, Memory>
+        ensures { IfOk result (λ number. number ≡ file_of self.now name.now) }
+    {
+        as_number(place_of_file(self.links.files.as_slice(), name).unwrap_or(0))
+    }
+}
