@@ -168,9 +168,10 @@ stops_grows system c = by_test c _ _ (is_server system c) (plain c _ refl refl r
 
 -- the last of the programs that wait goes on
 all_front : {A : Type 0} (P : A → Type 0) (xs : List A) (x : A) → All P (xs ++ x ∷ []) → All P xs × P x
-all_front P xs x all =
-    (λ k d lt. subst P (get_or-append xs (x ∷ []) d k lt) (all k d (simp length-append (omega (arith, lt)))),
-    subst P (get_or-append_seam xs x [] x) (all (length xs) x (simp length-append (omega arith))))
+all_front P xs x all = (
+  λ k d lt. subst P (get_or-append xs (x ∷ []) d k lt) (all k d (simp length-append (omega (arith, lt)))),
+  subst P (get_or-append_seam xs x [] x) (all (length xs) x (simp length-append (omega arith))),
+)
 
 left_shallow : (system : System) (before : List Frame) (last : Frame) (c : Config) → split_last c.rest.frames ≡ Some (before, last)
     → Shallow c → Shallow (returned system before last c)

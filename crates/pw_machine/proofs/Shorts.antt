@@ -1,15 +1,17 @@
 -- The numbers that operands say have at most 18 digits.
-use Rattle.std.proofs.Common.{◌≡◌, ℕ, zero, suc, ◌+◌, ◌*◌, ◌^◌, ◌<◌, ◌≤◌, Bool, true, false, List, [], ◌∷◌, length, unsigned_abs, refl, subst, arith}
-use Rattle.std.proofs.Math.Nat.{pow-le-pow_right, pow-succ', mul-le-mul_right}
+use Rattle.std.proofs.Common.{◌≡◌, ℕ, zero, suc, ◌+◌, ◌*◌, ◌/◌, ◌^◌, ◌<◌, ◌≤◌, Bool, true, false, List, [], ◌∷◌, length, unsigned_abs, refl, subst, arith}
+use Rattle.std.proofs.Math.Nat.{div-le_self, pow-le-pow_right, pow-succ', mul-le-mul_right}
 use Rattle.std.specs.Prelude.{if◌then◌else◌, IfSome}
 use Rattle.std.proofs.lemmas.Bool.Decides.{nat_tests}
+use Rattle.pw_number.specs.Number.{Number as Amount}
 use Rattle.pw_number.specs.Sign.{signed}
 use Rattle.pw_picture.specs.declared.picture.Picture.TheVariants.{Number as NumberPicture}
 use Rattle.pw_picture.specs.Grammar.{IsPicture, size_of}
 use Rattle.pw_code.specs.Places.{picture_of}
 use Rattle.pw_code.specs.declared.place.Kind.{Kind}
 use Rattle.pw_code.specs.declared.place.Kind.TheVariants.{Number}
-use Rattle.pw_picture.specs.Stored.{digit_of, value_of, read_of, number_of_chars}
+use Rattle.pw_picture.specs.Stored.{digit_of, value_of, is_negative, read_of, number_of_chars}
+use Rattle.pw_source.specs.Values.{whole_part}
 
 -- a digit is below ten
 digit_of-below : (char : ℕ) → digit_of char ≤ 9
@@ -21,7 +23,7 @@ step v d power le =
     omega (arith, mul-le-mul_right power less)
 
 -- a value has as many digits as characters
-value_of-below : (v : ℕ) (chars : List ℕ) → value_of v chars < (v + 1) * 10 ^ length chars
+pub value_of-below : (v : ℕ) (chars : List ℕ) → value_of v chars < (v + 1) * 10 ^ length chars
 value_of-below v [] = omega arith
 value_of-below v (char ∷ chars) =
     let more = value_of-below (10 * v + digit_of char) chars in
@@ -33,7 +35,7 @@ pub value_of-short : (chars : List ℕ) → length chars ≤ 18 → value_of 0 c
 value_of-short chars few = omega (arith, value_of-below 0 chars, pow-le-pow_right {n = 10} (omega arith) few)
 
 -- the size of a signed number
-abs-signed : (negative : Bool) (size : ℕ) → unsigned_abs (signed negative size) ≡ size
+pub abs-signed : (negative : Bool) (size : ℕ) → unsigned_abs (signed negative size) ≡ size
 abs-signed false size = refl
 abs-signed true zero = refl
 abs-signed true (suc size) = refl
@@ -53,3 +55,14 @@ kind-short kind size digits places sign chars is fits long =
     let P : Kind → Type 0 = λ k. IfSome (picture_of k size) (λ p. IsPicture p × (size_of p ≡ size)) in
     let here : P (Number digits places sign) = subst P is fits in
     read_of-short digits places sign chars (omega (arith, here.1, long)) here.0.1
+
+-- the whole part of a number has no more digits than the number
+pub whole_short : (n : Amount) → unsigned_abs n.units < 10 ^ 18 → whole_part n < 10 ^ 18
+whole_short n few = pick (is_negative n)
+  where
+    less : unsigned_abs n.units / 10 ^ n.places ≤ unsigned_abs n.units
+    less = div-le_self (unsigned_abs n.units) (10 ^ n.places)
+
+    pick : (b : Bool) → (if b then 0 else unsigned_abs n.units / 10 ^ n.places) < 10 ^ 18
+    pick true = omega arith
+    pick false = omega (arith, less, few)

@@ -2,5 +2,6 @@ pub mod Beside
 pub mod Config
 pub mod Contexts
 pub mod Running
+pub mod Stack
 pub mod Statements
 pub mod Views

@@ -2,6 +2,7 @@
 #![tactic(auto)]
 
 mod arithmetic;
+mod arms;
 mod compare;
 mod conditions;
 mod moves;
@@ -16,5 +17,6 @@ mod texts;
 pub mod thin;
 mod top;
 mod turns;
+mod units;
 mod value;
 mod verbs;

@@ -3,6 +3,7 @@ ghost use Rattle.pw_exec.specs.Config.{most_counted};
 ghost use Rattle.pw_exec.specs.Config as config;
 ghost use Rattle.pw_exec.specs.Turns as paragraphs;
 ghost use Rattle.pw_machine.specs.Config.{config_of};
+ghost use Rattle.pw_machine.specs.Stack.{StaysAt};
 
 use crate::top::Top;
 use pw_base::memory::Memory;
@@ -53,7 +54,8 @@ pub fn turn(
     paragraph: Turn,
     left: u64,
 ) -> Result<(), Memory>
-    ensures { IfOk result (λ _. config_of top.new context.new ≡ paragraphs.turn resume paragraph left (config_of top.old context.old)) }
+    ensures config { IfOk result (λ _. config_of top.new context.new ≡ paragraphs.turn resume paragraph left (config_of top.old context.old)) }
+    ensures stays { StaysAt (config_of top.old context.old) (config_of top.new context.new) }
 {
     if count(context) {
         if top.returns.len() < MOST_PERFORMS {
@@ -78,7 +80,8 @@ pub fn turns(
     times: u64,
 ) -> Result<(), Memory>
     requires { top.old.at + 1 < 2 ^ 32 }
-    ensures { IfOk result (λ _. config_of top.new context.new ≡ paragraphs.turns paragraph times (config_of top.old context.old)) }
+    ensures config { IfOk result (λ _. config_of top.new context.new ≡ paragraphs.turns paragraph times (config_of top.old context.old)) }
+    ensures stays { StaysAt (config_of top.old context.old) (config_of top.new context.new) }
 {
     if times == 0 {
         go_over(top, 0);
@@ -119,8 +122,9 @@ pub fn chosen(
     position: u128,
 ) -> Result<(), Memory>
     requires { top.old.at + 1 < 2 ^ 32 }
-    ensures { IfOk result (λ _. config_of top.new context.new
+    ensures config { IfOk result (λ _. config_of top.new context.new
         ≡ paragraphs.chosen (paragraphs.at_position all.now position) (config_of top.old context.old)) }
+    ensures stays { StaysAt (config_of top.old context.old) (config_of top.new context.new) }
 {
     match at_position(all, position) {
         Some(paragraph) => turn(top, context, top.at + 1, paragraph, 0),

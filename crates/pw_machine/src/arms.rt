@@ -1,0 +1,145 @@
+//! What statements do to the program at work, once they have begun.
+
+ghost use Rattle.std.specs.Prelude.{◌≡◌, ◌≤◌, ◌<◌, ◌+◌, ◌^◌, length, option_map, All, IfOk, IfSome};
+ghost use Rattle.pw_code.specs.Instrs.{IsArithmetic};
+ghost use Rattle.pw_code.specs.Places.{IsOperand, IsPlace, IsCond};
+ghost use Rattle.pw_source.specs.Values.{whole_part, number_of};
+ghost use Rattle.pw_exec.specs.Config.{with_taken, over};
+ghost use Rattle.pw_exec.specs.Steps as steps;
+ghost use Rattle.pw_exec.specs.Turns as paragraphs;
+ghost use Rattle.pw_machine.specs.Config.{config_of};
+ghost use Rattle.pw_machine.specs.Stack.{StaysAt};
+
+use crate::conditions::holds;
+use crate::numbers::whole_part;
+use crate::reading::taken;
+use crate::registers::Registers;
+use crate::statements::{compute, move_all};
+use crate::top::Top;
+use crate::turns::{chosen, fault, go_over, turns};
+use crate::value::number_of;
+use pw_base::memory::Memory;
+use pw_code::cond::Cond;
+use pw_code::context::Context;
+use pw_code::instr::{Arithmetic, Turn};
+use pw_code::operand::Operand;
+use pw_code::place::Place;
+
+/// IF: goes on where the condition holds, and else behind so many instructions.
+pub fn branch(top: &mut Top, context: &mut Context, cond: &Cond, over: u32)
+    requires cond { IsCond (length top.old.storage.items) cond.now }
+    requires place { top.old.at + 1 + over < 2 ^ 32 }
+    ensures config { config_of top.new context.new
+        ≡ with_taken (steps.holds_here (config_of top.old context.old) cond.now) (steps.branch over) (config_of top.old context.old) }
+    ensures stays { StaysAt (config_of top.old context.old) (config_of top.new context.new) }
+{
+    match holds(Registers::of(context), top.storage.as_slice(), cond) {
+        Some(true) => go_over(top, 0),
+        Some(false) => go_over(top, over),
+        None => fault(context, 203),
+    }
+}
+
+/// MOVE.
+pub fn move_to(
+    top: &mut Top,
+    context: &mut Context,
+    from: &Operand,
+    to: &[Place],
+) -> Result<(), Memory>
+    requires from { IsOperand (length top.old.storage.items) from.now }
+    requires to { All (IsPlace (length top.old.storage.items)) to.now }
+    requires place { top.old.at + 1 < 2 ^ 32 }
+    ensures config { IfOk result (λ _. config_of top.new context.new ≡ steps.move_all from.now to.now (config_of top.old context.old)) }
+    ensures stays { StaysAt (config_of top.old context.old) (config_of top.new context.new) }
+{
+    let alloc = context.screen.cells.allocator();
+    let registers = Registers::of(context);
+    if move_all(alloc, registers, top.storage.as_mut_slice(), from, to)? {
+        go_over(top, 0);
+    } else {
+        fault(context, 203);
+    }
+    Ok(())
+}
+
+/// Arithmetic: goes on behind so many instructions on a size error, and behind others else.
+pub fn calculate(
+    top: &mut Top,
+    context: &mut Context,
+    arithmetic: &Arithmetic,
+    on_error: u32,
+    no_error: u32,
+)
+    requires arithmetic { IsArithmetic (length top.old.storage.items) arithmetic.now }
+    requires on_error { top.old.at + 1 + on_error < 2 ^ 32 }
+    requires no_error { top.old.at + 1 + no_error < 2 ^ 32 }
+    ensures config { config_of top.new context.new
+        ≡ steps.computes arithmetic.now (over on_error) (over no_error) (config_of top.old context.old) }
+    ensures stays { StaysAt (config_of top.old context.old) (config_of top.new context.new) }
+{
+    let registers = Registers::of(context);
+    match compute(registers, top.storage.as_mut_slice(), arithmetic) {
+        Some(true) => go_over(top, no_error),
+        Some(false) => go_over(top, on_error),
+        None => fault(context, 203),
+    }
+}
+
+/// The whole part of an operand's number, None exactly where its subscript is outside.
+#[tactic(auto, using(crate::proofs::Shorts::whole_short))]
+fn whole_of(top: &Top, context: &Context, operand: &Operand) -> Option<u128>
+    requires { IsOperand (length top.now.storage.items) operand.now }
+    ensures short { IfSome result (λ whole. whole < 10 ^ 18) }
+    ensures whole { result ≡ option_map (λ value. whole_part (number_of value)) (steps.read_here (config_of top.now context.now) operand.now) }
+{
+    let storage = top.storage.as_slice();
+    let found = taken(Registers::of(context), storage, operand)?;
+    Some(whole_part(number_of(storage, operand, found)))
+}
+
+/// PERFORM so many TIMES.
+pub fn perform_times(
+    top: &mut Top,
+    context: &mut Context,
+    turn: Turn,
+    times: &Operand,
+) -> Result<(), Memory>
+    requires times { IsOperand (length top.old.storage.items) times.now }
+    requires place { top.old.at + 1 < 2 ^ 32 }
+    ensures config { IfOk result (λ _. config_of top.new context.new
+        ≡ with_taken (steps.read_here (config_of top.old context.old) times.now)
+        (λ value. paragraphs.turns turn (whole_part (number_of value))) (config_of top.old context.old)) }
+    ensures stays { StaysAt (config_of top.old context.old) (config_of top.new context.new) }
+{
+    match whole_of(top, context, times) {
+        Some(count) => turns(top, context, turn, count as u64),
+        None => {
+            fault(context, 203);
+            Ok(())
+        }
+    }
+}
+
+/// PERFORM ONE OF some paragraphs.
+pub fn perform_one_of(
+    top: &mut Top,
+    context: &mut Context,
+    all: &[Turn],
+    position: &Operand,
+) -> Result<(), Memory>
+    requires position { IsOperand (length top.old.storage.items) position.now }
+    requires place { top.old.at + 1 < 2 ^ 32 }
+    ensures config { IfOk result (λ _. config_of top.new context.new
+        ≡ with_taken (steps.read_here (config_of top.old context.old) position.now)
+        (λ value. paragraphs.chosen (paragraphs.at_position all.now (whole_part (number_of value)))) (config_of top.old context.old)) }
+    ensures stays { StaysAt (config_of top.old context.old) (config_of top.new context.new) }
+{
+    match whole_of(top, context, position) {
+        Some(place) => chosen(top, context, all, place),
+        None => {
+            fault(context, 203);
+            Ok(())
+        }
+    }
+}
