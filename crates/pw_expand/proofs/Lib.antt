@@ -1,4 +1,5 @@
 pub mod Counts
 pub mod Kept
+pub mod Long
 pub mod Plays
 pub mod Texts

@@ -1,5 +1,5 @@
 -- What holds of the output for a schedule, whatever its events are.
-use Rattle.std.specs.Prelude.{◌≡◌, ◌≢◌, ◌⊎◌, ℕ, List, Some, Ok}
+use Rattle.std.specs.Prelude.{◌≡◌, ◌≢◌, ℕ, List, Some, Ok}
 use Rattle.pw_net.specs.Agreement.{IsSystemOf, IsOther, HasPrepared}
 use Rattle.pw_net.specs.World.{after, mark_at}
 use Rattle.pw_net.specs.declared.message.Mark.TheVariants.{Committed, Aborted}

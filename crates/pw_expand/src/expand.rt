@@ -1,4 +1,5 @@
-ghost use Rattle.std.specs.Prelude.{◌≡◌, IfErr, IfOk, Ok};
+ghost use Rattle.std.specs.Prelude.{◌≡◌, ◌≤◌, IfErr, IfOk, Ok, OnOk};
+ghost use Rattle.pw_expand.specs.Answers.{GivesUp, IsAnswered};
 ghost use Rattle.pw_expand.specs.Printed.{answered, expanded};
 ghost use Rattle.pw_expand.specs.Systems.{IsFaultOf};
 
@@ -7,6 +8,8 @@ use crate::play::play_schedule;
 use crate::print::{fault_line, world_text};
 use pw_base::bytes::Bytes;
 use pw_base::memory::Memory;
+use pw_base::read_all::{ReadFault, read_all};
+use pw_base::source::Source;
 use std::alloc::Global;
 
 /// How a schedule is answered.
@@ -38,5 +41,22 @@ pub fn answer(alloc: Global, bytes: &[u8]) -> Result<(Ending, Bytes), Memory>
         Ok(text) => Ok((Ending::Expanded, text)),
         Err(ScheduleFault::At { line }) => Ok((Ending::Refused, fault_line(alloc, line)?)),
         Err(ScheduleFault::Memory) => Err(Memory),
+    }
+}
+
+/// How the schedule that a source has left is answered, and what is written then. An input over the
+/// limit is refused as any schedule with a fault. Nothing is answered only where the source failed,
+/// which its count tells, or memory ran out.
+pub fn answer_source<S: Source>(alloc: Global, source: &mut S) -> Result<(Ending, Bytes), ReadFault>
+    ensures ok { IfOk result (λ answer. IsAnswered (S.left source.old) answer.0 answer.1) }
+    ensures err { IfErr result (λ fault. GivesUp fault (S.faults source.old) (S.faults source.new)) }
+    ensures kept { OnOk result (S.faults source.new ≡ S.faults source.old) }
+    ensures count { S.faults source.old ≤ S.faults source.new }
+{
+    match read_all(alloc, source) {
+        Ok(bytes) => Ok(answer(alloc, bytes.as_slice())?),
+        Err(ReadFault::TooLong) => Ok((Ending::Refused, fault_line(alloc, 0)?)),
+        Err(ReadFault::Fault) => Err(ReadFault::Fault),
+        Err(ReadFault::Memory) => Err(ReadFault::Memory),
     }
 }

@@ -1,7 +1,9 @@
-use crate::expand::{Ending, answer, expand};
+use crate::expand::{Ending, answer, answer_source, expand};
 use crate::fault::ScheduleFault;
 use crate::line::event_in;
 use pw_base::bytes::Bytes;
+use pw_base::mem_source::MemSource;
+use pw_base::read_all::ReadFault;
 use std::alloc::Global;
 use std::test::Fail;
 
@@ -136,5 +138,17 @@ fn ten_thousand_lines_and_no_more(rt: HostRuntime) -> Result<(), Fail> {
     assert_eq!(rt; fault_of(rt.alloc(), schedule.as_slice()), None);
     schedule.extend(b"DELIVER 2")?;
     assert_eq!(rt; fault_of(rt.alloc(), schedule.as_slice()), Some(10_003));
+    Ok(())
+}
+
+#[test]
+fn sources_are_answered(rt: HostRuntime) -> Result<(), Fail> {
+    let mut source = MemSource::new(rt.alloc(), b"SYSTEMS 2\nREFUSE 1 2 3\n", &[])?;
+    let (ending, text) = answer_source(rt.alloc(), &mut source)?;
+    assert_eq!(rt; ending, Ending::Expanded);
+    assert_eq!(rt; text.as_slice(), b"MARK 1 2 3 ABORTED\n".as_slice());
+    let mut failing = MemSource::new(rt.alloc(), b"SYSTEMS 2\n", &[1])?;
+    let fault = answer_source(rt.alloc(), &mut failing).err();
+    assert_eq!(rt; fault, Some(ReadFault::Fault));
     Ok(())
 }
