@@ -7,10 +7,11 @@ use crate::terminal::{Note, Pending, Terminal};
 use pw_base::bytes::Bytes;
 use pw_base::list::List;
 use pw_code::context::Context;
-use pw_code::screen::ScreenImage;
+use pw_code::screen::{CELLS, ScreenImage};
 use pw_code::verb::Verb;
 use std::alloc::Global;
 use std::process::Abort;
+use std::test::Fail;
 
 /// Whether a terminal's program may ask this.
 fn may_ask(verb: &Verb) -> bool
@@ -332,8 +333,8 @@ fn pending_causes(rt: HostRuntime) {
 }
 
 /// A program at work with these registers.
-fn context(alloc: Global, phase: u32, attempt: u32, shown: u32) -> Context {
-    Context {
+fn context(alloc: Global, phase: u32, attempt: u32, shown: u32) -> Result<Context, Fail> {
+    Ok(Context {
         termination: 0,
         restarts: 0,
         file_status: 0,
@@ -348,14 +349,14 @@ fn context(alloc: Global, phase: u32, attempt: u32, shown: u32) -> Context {
         at_verb: true,
         count: 0,
         screen: ScreenImage {
-            cells: Bytes::new(alloc),
+            cells: Bytes::from_vec(vec![in alloc; b' '; CELLS]?),
         },
         frames: List::new(alloc),
-    }
+    })
 }
 
 #[test]
-fn refresh_numbers(rt: HostRuntime) {
+fn refresh_numbers(rt: HostRuntime) -> Result<(), Fail> {
     for (phase, attempt, shown, number) in [
         (0, 0, 0, (0, 0, 1)),
         (0, 0, 2, (0, 0, 3)),
@@ -365,9 +366,8 @@ fn refresh_numbers(rt: HostRuntime) {
         (4, 0, 0, (4, 0, 1)),
         (4, 0, 4_294_967_294, (4, 0, 4_294_967_295)),
     ] {
-        assert_eq!(rt;
-            refresh(&context(rt.alloc(), phase, attempt, shown)),
-            number
-        );
+        let context = context(rt.alloc(), phase, attempt, shown)?;
+        assert_eq!(rt; refresh(&context), number);
     }
+    Ok(())
 }
