@@ -8,6 +8,7 @@ pub mod log;
 mod piece;
 mod read;
 pub mod recover;
+pub mod run;
 mod store;
 pub mod synced;
 mod write;
