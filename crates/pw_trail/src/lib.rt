@@ -11,4 +11,6 @@ pub mod recover;
 pub mod run;
 mod store;
 pub mod synced;
+#[cfg(test)]
+mod tests;
 mod write;
