@@ -3,6 +3,7 @@ mod Commits
 mod Framing
 mod Logging
 mod Loop
+mod Prefixes
 mod Reading
 mod Recovering
 mod Stages

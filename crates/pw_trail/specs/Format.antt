@@ -47,3 +47,8 @@ framed body = to_be_bytes w32 (length body) ++ body
 abbrev pub with_last : Result (List UnitChanges) ℕ → UnitChanges → Result (List UnitChanges) ℕ
 with_last (Ok units) unit = Ok (units ++ unit ∷ [])
 with_last (Err place) unit = Err place
+
+-- and with some more
+abbrev pub with_units : Result (List UnitChanges) ℕ → List UnitChanges → Result (List UnitChanges) ℕ
+with_units (Ok units) more = Ok (units ++ more)
+with_units (Err place) more = Err place

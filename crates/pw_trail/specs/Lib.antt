@@ -1,4 +1,5 @@
 pub mod Body
 pub mod Format
+pub mod OneFile
 pub mod Stored
 pub mod Values

@@ -8,6 +8,9 @@ pub mod log;
 mod piece;
 mod read;
 pub mod recover;
+pub mod run;
 mod store;
 pub mod synced;
+#[cfg(test)]
+mod tests;
 mod write;

@@ -1,4 +1,4 @@
-ghost use Rattle.std.specs.Prelude.{◌≡◌, ◌⊎◌, ℕ, ◌≤◌, List, [], true, false, All, Ok, Err, IfOk, IfErr, OnOk, IsErrOf};
+ghost use Rattle.std.specs.Prelude.{◌≡◌, ◌⊎◌, ◌↔◌, ℕ, ◌≤◌, List, [], true, false, All, Ok, Err, IfOk, IfErr, OnOk, IsErrOf, IsTrue};
 ghost use Rattle.pw_base.specs.Outside.{Rose};
 ghost use Rattle.pw_volume.specs.Crash.{NoMore};
 ghost use Rattle.pw_trail.specs.Body.{fits};
@@ -8,6 +8,7 @@ ghost use Rattle.pw_trail.specs.Stored.{HasUnits, Keeps};
 use crate::append::append;
 use crate::changes::UnitChanges;
 use crate::fault::OpenFault;
+use crate::read::fit;
 use crate::recover::{Recovery, recover};
 use crate::synced::Synced;
 use pw_base::list::List;
@@ -37,7 +38,7 @@ impl<D: Disk> Log<D> {
         files: List<FileInfo>,
         into: &mut R,
     ) -> Result<Log<D>, (D, OpenFault)>
-        requires files { R.files into.old ≡ files }
+        requires accepts { R.accepts into.old files }
         requires none { R.taken into.old [] }
         ensures opened { IfOk result (λ log. (log.is_broken ≡ false) × (log.files ≡ files)
             × HasUnits (R.taken into.new) (units_in files (D.bytes disk))
@@ -105,6 +106,13 @@ impl<S: Synced> Log<S> {
                 Err(WriteFault::Failed)
             }
         }
+    }
+
+    /// Whether each change of a unit is of one of the files.
+    pub fn fits(&self, unit: &UnitChanges) -> bool
+        ensures { IsTrue result ↔ All (λ change. fits self.now.files change ≡ true) unit.now.changes }
+    {
+        fit(self.files.as_slice(), unit.changes.as_slice())
     }
 
     /// Gives the disk back.

@@ -1,4 +1,4 @@
-ghost use Rattle.std.specs.Prelude.{◌≡◌, true, All, IfOk};
+ghost use Rattle.std.specs.Prelude.{◌≡◌, ◌↔◌, true, All, IfOk, IsTrue};
 ghost use Rattle.std.specs.Int.{w32};
 ghost use Rattle.pw_image.specs.Reading.{byte_at, is_truth, many_at, number_at};
 ghost use Rattle.pw_trail.specs.Body.{Gives, change_at, changes_at, fits, fits_file, kind_byte, any_change_at, piece_at, unit_at, unit_in};
@@ -81,6 +81,13 @@ fn fits(files: &[FileInfo], change: &Change) -> bool
         Some(file) => fits_file(file, change.kind, change.bytes.as_slice()),
         None => false,
     }
+}
+
+/// Whether each change is of one of the files.
+pub fn fit(files: &[FileInfo], changes: &[Change]) -> bool
+    ensures { IsTrue result ↔ All (λ change. fits files.now change ≡ true) changes.now }
+{
+    changes.iter().all(|change| fits(files, change))
 }
 
 /// The change of one of the files at the front, and the rest.

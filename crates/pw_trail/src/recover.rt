@@ -4,7 +4,7 @@ ghost use Rattle.pw_code.specs.declared.file.FileInfo.{FileInfo};
 ghost use Rattle.pw_volume.specs.Crash.{NoMore, Only};
 ghost use Rattle.pw_trail.specs.Body.{fits, unit_in};
 ghost use Rattle.pw_trail.specs.Format.{units_in};
-ghost use Rattle.pw_trail.specs.Stored.{HasTakenOne, IsFound, IsRecovered};
+ghost use Rattle.pw_trail.specs.Stored.{HasTakenOne, IsAccepted, IsFound, IsRecovered};
 ghost use Rattle.pw_trail.specs.declared.changes.UnitChanges.{UnitChanges};
 
 use crate::changes::UnitChanges;
@@ -19,17 +19,17 @@ use std::alloc::Global;
 
 /// What takes the units of a trail as they are read, in their order.
 pub trait Recovery {
-    /// The files whose changes it takes.
-    ghost files: { Self → List FileInfo };
+    /// It takes changes of these files.
+    ghost accepts: { Self → List FileInfo → Type 0 };
 
     /// These units were taken.
     ghost taken: { Self → List UnitChanges → Type 0 };
 
     /// Takes the next unit.
     fn take(&mut self, unit: &UnitChanges) -> Result<(), Memory>
-        requires { All (λ change. fits (files self.old) change ≡ true) unit.now.changes }
+        requires { IsAccepted (accepts self.old) unit.now }
         ensures ok { OnOk result ((units : List UnitChanges) → taken self.old units → taken self.new (units ++ unit.now ∷ [])) }
-        ensures files { files self.new ≡ files self.old };
+        ensures accepts { (files : List FileInfo) → accepts self.old files → accepts self.new files };
 }
 
 /// Hands on the unit of a record's body whose gate is at a place.
@@ -40,9 +40,9 @@ fn take_unit<R: Recovery>(
     at: u64,
     into: &mut R,
 ) -> Result<(), OpenFault>
-    requires { R.files into.old ≡ files.now }
+    requires { R.accepts into.old files.now }
     ensures ok { OnOk result (HasTakenOne (unit_in files.now body.now) (R.taken into.old) (R.taken into.new)) }
-    ensures files { R.files into.new ≡ files.now }
+    ensures accepts { R.accepts into.new files.now }
     ensures damaged { (place : ℕ) → IsErrOf result (OpenFault.Damaged place)
         → (place ≡ at) × (unit_in files.now body.now ≡ None) }
     ensures failed { IsErrOf result OpenFault.Failed → ⊥ }
@@ -66,7 +66,7 @@ fn read_units<D: Disk, R: Recovery>(
     total: u64,
     into: &mut R,
 ) -> Result<u64, OpenFault>
-    requires files { R.files into.old ≡ files.now }
+    requires accepts { R.accepts into.old files.now }
     requires total { total ≡ length (D.bytes disk.old) }
     requires none { R.taken into.old [] }
     ensures found { IfOk result (λ end. IsFound files.now (D.bytes disk.old) (R.taken into.new) end) }
@@ -99,7 +99,7 @@ pub fn recover<D: Disk, R: Recovery>(
     files: &[FileInfo],
     into: &mut R,
 ) -> Result<u64, OpenFault>
-    requires files { R.files into.old ≡ files.now }
+    requires accepts { R.accepts into.old files.now }
     requires none { R.taken into.old [] }
     ensures recovered { IfOk result (λ end. IsRecovered files.now (D.bytes disk.old) (R.taken into.new)
         (D.bytes disk.new) (D.may_leave disk.new) end) }

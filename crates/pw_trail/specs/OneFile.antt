@@ -1,0 +1,7 @@
+-- The files of a deck with one file, as the tests have them.
+use Rattle.std.specs.Prelude.{List, [], ◌∷◌, codes}
+use Rattle.pw_code.specs.declared.file.FileInfo.{FileInfo}
+
+-- its keys have 2 characters, and it has no record
+abbrev pub one_file : List FileInfo
+one_file = record { name = codes "STOCK"; key = 2; records = [] } ∷ []
