@@ -17,7 +17,6 @@ others_stay (x ∷ xs) (suc i) number n lt is ne h =
       | false ↦ λ rest. others_stay xs i number n (omega (arith, lt)) is ne rest
     ] h
 
-
 pub returns-in-Ok : goal.returns-in-Ok
 returns-in-Ok c = λ n ne h.
     let value : c.deref.result.now ≡ c.args.numbers.now.items = c.deref.ensures.value in
