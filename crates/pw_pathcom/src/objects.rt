@@ -192,8 +192,18 @@ fn noted_line(
     }
 }
 
-/// The first of the STARTs that may not be.
-fn first_bad_start(
+/// The first of the ADDs of what is not there: a terminal whose TCP was not added before it, and one, or
+/// a class, whose program is not there or was not set. It takes no memory.
+pub fn first_unknown(commands: &Commands, programs: &[Bytes], servers: &[Bytes]) -> Option<Fault>
+    ensures { result ≡ least None (unknown commands.now programs.now servers.now) }
+{
+    let best = noted_terminals(None, commands, programs);
+    noted_classes(best, commands, servers)
+}
+
+/// The first of the STARTs that may not be, in the text of the commands, whose first line has the
+/// number `first_line`.
+pub fn first_bad_start(
     alloc: Global,
     commands: &Commands,
     text: &[u8],
@@ -243,7 +253,6 @@ pub fn objects(
     requires lines { (1 ≤ first_line) × (first_line ≤ longest_input + 1) }
     ensures { Gives (λ done. done) result (objects_of commands.now text.now first_line programs.now servers.now) }
 {
-    let best = noted_terminals(None, commands, programs);
-    unless(noted_classes(best, commands, servers))?;
+    unless(first_unknown(commands, programs, servers))?;
     unless(first_bad_start(alloc, commands, text, first_line)?)
 }

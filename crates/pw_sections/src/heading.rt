@@ -16,7 +16,7 @@ pub enum Heading {
     Pathcom,
     Requester(Bytes),
     Server(Bytes),
-    File(Bytes, u32),
+    File(Bytes, u16),
     Entries(Bytes),
     Fail,
     Log,
@@ -61,7 +61,9 @@ fn file_heading(is_file: bool, name: Option<Bytes>, key: Option<u32>) -> Option<
     ensures { result ≡ file_heading is_file name key }
 {
     match (is_file, name, key) {
-        (true, Some(name), Some(key)) if key >= 1 && key <= 255 => Some(Heading::File(name, key)),
+        (true, Some(name), Some(key)) if key >= 1 && key <= 255 => Some(Heading::File(
+            name, key as u16,
+        )),
         _ => None,
     }
 }

@@ -1,4 +1,4 @@
-ghost use Rattle.std.specs.Prelude.{◌≡◌, ◌==◌, ◌&&◌, ◌∷◌, [], ◌<◌, ◌≤◌, length, MatchOption, IfSome};
+ghost use Rattle.std.specs.Prelude.{◌≡◌, ◌==◌, ◌+◌, ◌&&◌, ◌∷◌, [], ◌<◌, ◌≤◌, length, MatchOption, IfSome};
 ghost use Rattle.pw_sections.specs.Parts.{cut, sections, front, IsAtSection};
 
 /// Whether a byte begins a section line.
@@ -31,6 +31,7 @@ pub fn split_front(text: &[u8]) -> (&[u8], &[u8])
     ensures front { result.0.now ≡ front text.now }
     ensures sections { sections result.1.now ≡ sections text.now }
     ensures at_section { IsAtSection result.1.now }
+    ensures joined { length result.0.now + length result.1.now ≡ length text.now }
 {
     text.split_at(front_size(text, true))
 }
@@ -41,6 +42,7 @@ pub fn next_section(text: &[u8]) -> Option<(&[u8], &[u8])>
     ensures cases { MatchOption result (sections text.now ≡ []) (λ found. sections text.now ≡ found.0.now ∷ sections found.1.now) }
     ensures shorter { IfSome result (λ found. length found.1.now < length text.now) }
     ensures at_section { IfSome result (λ found. IsAtSection found.1.now) }
+    ensures joined { IfSome result (λ found. length found.0.now + length found.1.now ≡ length text.now) }
 {
     if text.is_empty() {
         return None;
