@@ -11,6 +11,8 @@ use Rattle.pw_base.specs.declared.fault.Fault.{Fault}
 use Rattle.pw_command.specs.declared.words.Command.{Command}
 use Rattle.pw_command.specs.declared.words.Command.TheVariants as command
 use Rattle.pw_command.specs.declared.words.Words.{Words}
+use Rattle.pw_expand.specs.declared.expand.Ending.{Ending}
+use Rattle.pw_expand.specs.declared.expand.Ending.TheVariants as ending
 use Rattle.pw_display.specs.State.{starting}
 use Rattle.pw_display.specs.Step.{IsRun}
 use Rattle.pw_display.proofs.Serializes.{serializes}
@@ -22,6 +24,7 @@ use Rattle.pathway.specs.declared.status.Status.{Status}
 use Rattle.pathway.specs.declared.status.Status.TheVariants as status
 use Rattle.pathway.specs.Commands.{is_built, if_built, said, fault_line}
 use Rattle.pathway.specs.Running.{RunsTo, status_of}
+use Rattle.pathway.specs.Schedules.{status_by}
 use Rattle.pathway.specs.Source.{deck_system}
 use Rattle.pathway.specs.Statuses.{Reports, Defines, Call, HasText, IsCutOff, OfDeck, OutputBy}
 use Rattle.pathway.proofs.Source.{behaves}
@@ -97,18 +100,22 @@ cut_off call status text result count is has writes =
     let some = rw is at writes in
     record { status = status; text = text; has = has; count = count; some = some.0; begun = some.1 }
 
--- a status that no deck defines, and that is not Finished, has no text
-no_other : (which_status : Status) → (which_status ≡ status.Finished → ⊥) → ((bytes text : List ℕ) → Defines which_status bytes text → ⊥)
-    → (words : Words) (which : Command) (left left_then : Option (List ℕ)) (text : List ℕ) → OutputBy which words left left_then which_status text → ⊥
-no_other s other none words command.Run left left_then text o = none o.bytes text o.defined
-no_other s other none words command.Gen left left_then text o = other o.finished
-no_other s other none words command.Trial left left_then text o = o
-no_other s other none words command.Check left left_then text o = o
-no_other s other none words command.Verify left left_then text o = o
-no_other s other none words command.Disc left left_then text o = o
-no_other s other none words command.Trail left left_then text o = o
-no_other s other none words command.Status left left_then text o = o
-no_other s other none words command.Expand left left_then text o = o
+-- a schedule that is answered has another status than Usage
+no_usage_by : (how : Ending) → status.Usage ≡ status_by how → ⊥
+no_usage_by ending.Expanded same = absurd (cc same)
+no_usage_by ending.Refused same = absurd (cc same)
+
+-- no words that say something have an output of Usage
+no_usage : (words : Words) (which : Command) (left left_then : Option (List ℕ)) (text : List ℕ) → OutputBy which words left left_then status.Usage text → ⊥
+no_usage words command.Run left left_then text o = o.defined
+no_usage words command.Gen left left_then text o = absurd (cc o.finished)
+no_usage words command.Trial left left_then text o = o
+no_usage words command.Check left left_then text o = o
+no_usage words command.Verify left left_then text o = o
+no_usage words command.Disc left left_then text o = o
+no_usage words command.Trail left left_then text o = o
+no_usage words command.Status left left_then text o = o
+no_usage words command.Expand left left_then text o = no_usage_by o.ending o.is
 
 -- the text of a status that the words and the source define
 pub has_output : (call : Call) (status : Status) (text : List ℕ) (words : Words) → said call.words ≡ Some words
@@ -119,7 +126,7 @@ has_output call status.Refused text words say o = record { words = words; say = 
 has_output call status.ReadFault text words say o = record { words = words; say = say; output = o }
 has_output call status.WriteFault text words say o = record { words = words; say = say; output = o }
 has_output call status.Memory text words say o = record { words = words; say = say; output = o }
-has_output call status.Usage text words say o = absurd (no_other status.Usage (λ e. absurd (cc e)) (λ bytes t d. d) words words.command call.left call.left_then text o)
+has_output call status.Usage text words say o = absurd (no_usage words words.command call.left call.left_then text o)
 
 built_by : (words built : Words) (test : Bool) → is_built words.command ≡ test → Some built ≡ cond test (Some words) None → is_built built.command ≡ true
 built_by words built true is same =

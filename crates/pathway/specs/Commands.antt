@@ -12,7 +12,14 @@ use Rattle.pw_command.specs.declared.words.Words.{Words}
 abbrev pub is_built : Command → Bool
 is_built command.Run = true
 is_built command.Gen = true
+is_built command.Expand = true
 is_built _ = false
+
+-- the commands that read the source
+abbrev pub reads_source : Command → Bool
+reads_source command.Gen = false
+reads_source command.Trial = false
+reads_source _ = true
 
 -- what words say, where their command is built
 abbrev pub if_built : Option Words → Option Words
@@ -25,7 +32,7 @@ said words = if_built (command_of words)
 
 -- the line that is written where the words say nothing
 abbrev pub usage_line : List ℕ
-usage_line = codes "USAGE: pathway run|gen [--workers N] [--events N] [--seed N] [--terms N] [--at N]\n"
+usage_line = codes "USAGE: pathway run|gen|expand [--workers N] [--events N] [--seed N] [--terms N] [--at N]\n"
 
 -- the line of a deck's first fault
 abbrev pub fault_line : Fault → List ℕ

@@ -18,7 +18,8 @@ use Rattle.pathway.specs.declared.status.Status.{Status}
 use Rattle.pathway.specs.declared.status.Status.TheVariants.{Finished, Refused, Limit, ReadFault, WriteFault, Memory, Usage}
 use Rattle.pathway.specs.Numbers.{number_of}
 use Rattle.pathway.specs.Source.{deck_system}
-use Rattle.pathway.specs.Commands.{said, usage_line, fault_line}
+use Rattle.pathway.specs.Commands.{said, usage_line, fault_line, reads_source}
+use Rattle.pathway.specs.Schedules.{OfSchedule}
 
 -- The headline. The deck has no fault, the log is a run of it, the one-copy machine runs the log's serial order
 -- and shows its screens, each numbered refresh counted once, and the text is the report of the log.
@@ -86,6 +87,7 @@ pub record OfSeed (said : Words) (left left_then : Option (List ℕ)) (status : 
 abbrev pub OutputBy : Command → Words → Option (List ℕ) → Option (List ℕ) → Status → List ℕ → Type 0
 OutputBy command.Run said left left_then status text = OfDeck left status text
 OutputBy command.Gen said left left_then status text = OfSeed said left left_then status text
+OutputBy command.Expand said left left_then status text = OfSchedule left status text
 OutputBy _ said left left_then status text = ⊥
 
 -- the text of a status, for words that say something
@@ -94,9 +96,9 @@ pub record IsOutput (status : Status) (call : Call) (text : List ℕ) : Type 0 w
   pub say : said call.words ≡ Some words
   pub output : OutputBy words.command words call.left call.left_then status text
 
--- the words ask for a run
-abbrev pub AsksRun : Call → Type 0
-AsksRun call = (words : Words) × (said call.words ≡ Some words) × (words.command ≡ command.Run)
+-- the words ask for a command that reads the source
+abbrev pub AsksSource : Call → Type 0
+AsksSource call = (words : Words) × (said call.words ≡ Some words) × (reads_source words.command ≡ true)
 
 -- the usage line is the text of words that say nothing
 abbrev pub IsUsage : Call → List ℕ → Type 0
@@ -126,7 +128,7 @@ Means Finished call = Writes Finished call
 Means Limit call = Writes Limit call
 Means Refused call = Writes Refused call
 Means Usage call = Writes Usage call × Keeps call.left call.left_then
-Means ReadFault call = AsksRun call × Keeps call.written call.written_then
+Means ReadFault call = AsksSource call × Keeps call.written call.written_then
 Means WriteFault call = IsCutOff call
 Means Memory call = Keeps call.written call.written_then
 

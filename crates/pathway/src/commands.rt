@@ -14,7 +14,7 @@ fn is_built(command: Command) -> bool
     ensures { result ≡ is_built command }
 {
     match command {
-        Command::Run | Command::Gen => true,
+        Command::Run | Command::Gen | Command::Expand => true,
         _ => false,
     }
 }
@@ -35,7 +35,7 @@ pub fn said(alloc: Global, words: &[String]) -> Result<Option<Words>, Memory>
 pub fn usage_line() -> &'static [u8]
     ensures { result.now ≡ usage_line }
 {
-    b"USAGE: pathway run|gen [--workers N] [--events N] [--seed N] [--terms N] [--at N]\n"
+    b"USAGE: pathway run|gen|expand [--workers N] [--events N] [--seed N] [--terms N] [--at N]\n"
 }
 
 /// The line of a deck's first fault.

@@ -1,4 +1,5 @@
-//! The program: it reads a deck, runs it, and writes the report of the run.
+//! The program: it runs a deck and writes the report of the run, generates a deck, or answers a
+//! schedule of transactions over several systems.
 #![tactic(auto)]
 
 ghost use Rattle.std.specs.Prelude.{◌≡◌, drop, IfOk};
@@ -7,6 +8,7 @@ ghost use Rattle.std.specs.Vec.Iter.{into_iter_items};
 mod commands;
 mod output;
 mod run;
+mod schedule;
 mod status;
 #[cfg(test)]
 mod tests;

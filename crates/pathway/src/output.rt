@@ -2,12 +2,13 @@ ghost use Rattle.std.specs.Prelude.{◌≡◌, ◌≤◌, true, Ok, IfOk, IfErr,
 ghost use Rattle.pw_base.specs.Limits.{most_entries};
 ghost use Rattle.pw_code.specs.Valid.{IsValid};
 ghost use Rattle.pw_gen.specs.Generated.{generated};
-ghost use Rattle.pathway.specs.Commands.{is_built, fault_line};
+ghost use Rattle.pathway.specs.Commands.{is_built, fault_line, reads_source};
 ghost use Rattle.pathway.specs.Running.{RunsTo, status_of};
 ghost use Rattle.pathway.specs.Statuses.{Defines, GivesUp, OfDeck, OutputBy};
 
 use crate::commands::fault_line;
 use crate::run::{RunEnd, run};
+use crate::schedule::schedule_output;
 use crate::status::{MAX_ENTRIES, Status};
 use pw_base::bytes::Bytes;
 use pw_base::fault::{Fault, Refusal};
@@ -38,13 +39,14 @@ pub fn output_by<S: Source>(
     requires { is_built said.command ≡ true }
     ensures ok { IfOk result (λ output. OutputBy said.command said (S.left source.old) (S.left source.new) output.0 output.1) }
     ensures err { IfErr result (λ status. GivesUp status (S.faults source.old) (S.faults source.new)) }
-    ensures run { IfErr result (λ status. status ≡ Status.ReadFault → said.command ≡ Command.Run) }
+    ensures reads { IfErr result (λ status. status ≡ Status.ReadFault → reads_source said.command ≡ true) }
     ensures kept { OnOk result (S.faults source.new ≡ S.faults source.old) }
     ensures count { S.faults source.old ≤ S.faults source.new }
 {
     match said.command {
         Command::Run => output_of(alloc, source),
         Command::Gen => or_memory(generated(alloc, said)),
+        Command::Expand => schedule_output(alloc, source),
         _ => unreachable!(),
     }
 }

@@ -13,9 +13,10 @@ pub fn entry_limit()
 /// How a call of the program ends.
 #[derive(Clone, Copy, Debug, PartialEq, Eq)]
 pub enum Status {
-    /// Every terminal has ended. The report is written.
+    /// Every terminal has ended, the deck is generated, or the schedule has no fault. The report, the
+    /// deck, or the messages and marks are written.
     Finished,
-    /// The deck has a fault. Its line is written.
+    /// The deck or the schedule has a fault. Its line is written.
     Refused,
     /// The log has as many entries as it may, and is not finished. The report is written.
     Limit,

@@ -53,7 +53,7 @@ fn outcome(
 const TWO_DISPLAYS: &[u8] = b"DISPLAY \"ONE\".\nDISPLAY \"TWO\".\nSTOP RUN.\n";
 
 const USAGE: &str =
-    "USAGE: pathway run|gen [--workers N] [--events N] [--seed N] [--terms N] [--at N]\n";
+    "USAGE: pathway run|gen|expand [--workers N] [--events N] [--seed N] [--terms N] [--at N]\n";
 
 const TWO_DISPLAYS_REPORT: &str = "SERIAL
 OUT T1
@@ -102,6 +102,9 @@ fn input_too_long(rt: HostRuntime) -> Result<(), Fail> {
         written.as_slice(),
         b"DECK FAULT LINE 0 CODE 190 INPUT TOO LONG\n".as_slice()
     );
+    let (status, written) = outcome(rt.alloc(), &["expand"], spaces.as_slice(), &[], 1_000, &[])?;
+    assert_eq!(rt; status, 2);
+    assert_eq!(rt; written.as_slice(), b"SCHEDULE FAULT LINE 0\n".as_slice());
     Ok(())
 }
 
@@ -117,7 +120,9 @@ fn usage_source_and_sink_faults(rt: HostRuntime) -> Result<(), Fail> {
         &["Run"],
         &["run", "--workers", "17"],
         &["--help"],
-        &["expand"],
+        &["check"],
+        &["Expand"],
+        &["expand", "--seed", "-1"],
     ] {
         let (status, written) = outcome(alloc, texts, deck, &[], 1_000, &[])?;
         assert_eq!(rt; status, 7);
@@ -140,5 +145,44 @@ fn usage_source_and_sink_faults(rt: HostRuntime) -> Result<(), Fail> {
     let (status, written) = outcome(alloc, &["run"], deck, &[], 3, &[2])?;
     assert_eq!(rt; status, 5);
     assert_eq!(rt; written.as_slice(), b"SER".as_slice());
+    Ok(())
+}
+
+/// Schedules, the status of each, and what is written for it.
+const SCHEDULES: &[(&[u8], u8, &[u8])] = &[
+    // a prepared member asks its home
+    (
+        b"SYSTEMS 3\nSTART 1 2 3\nDELIVER 1\nDELIVER 2\nDELIVER 3\nDELIVER 4\nRESTART 2\nASK 2 1 1\nDELIVER 7\n",
+        0,
+        b"SENT 1 PREPARE 1 2 1 1\nSENT 2 PREPARE 1 3 1 1\nSENT 3 YES 2 1 1 1\nSENT 4 YES 3 1 1 1\nSENT 5 COMMIT 1 2 1 1\nSENT 6 COMMIT 1 3 1 1\nSENT 7 ASK 2 1 1 1\nSENT 8 COMMIT 1 2 1 1\nMARK 1 1 1 COMMITTED\nMARK 2 1 1 PREPARED\nMARK 3 1 1 PREPARED\n",
+    ),
+    // a restarted home aborts
+    (
+        b"SYSTEMS 2\nSTART 1 2\nDELIVER 1\nRESTART 1\nDELIVER 2\nDELIVER 3\nDELIVER 2\n",
+        0,
+        b"SENT 1 PREPARE 1 2 1 1\nSENT 2 YES 2 1 1 1\nSENT 3 ABORT 1 2 1 1\nSENT 4 ABORT 1 2 1 1\nMARK 1 1 1 ABORTED\nMARK 2 1 1 ABORTED\n",
+    ),
+    // nothing happens
+    (b"SYSTEMS 2\n", 0, b""),
+    // a line names a system that is not there, and no line names the systems
+    (b"SYSTEMS 2\nSTART 1 3\n", 2, b"SCHEDULE FAULT LINE 2\n"),
+    (b"", 2, b"SCHEDULE FAULT LINE 1\n"),
+];
+
+#[test]
+fn schedules_are_answered(rt: HostRuntime) -> Result<(), Fail> {
+    let alloc = rt.alloc();
+    for &(schedule, wanted_status, wanted) in SCHEDULES {
+        let (status, written) = outcome(alloc, &["expand"], schedule, &[], 1_000, &[])?;
+        assert_eq!(rt; status, wanted_status);
+        assert_eq!(rt; written.as_slice(), wanted);
+    }
+    let schedule = b"SYSTEMS 2\nREFUSE 1 2 3\n".as_slice();
+    let (status, written) = outcome(alloc, &["expand"], schedule, &[1], 1_000, &[])?;
+    assert_eq!(rt; status, 4);
+    assert_eq!(rt; written.len(), 0);
+    let (status, written) = outcome(alloc, &["expand"], schedule, &[], 7, &[2])?;
+    assert_eq!(rt; status, 5);
+    assert_eq!(rt; written.as_slice(), b"MARK 1 ".as_slice());
     Ok(())
 }

@@ -1,0 +1,36 @@
+ghost use Rattle.std.specs.Prelude.{◌≡◌, ◌≤◌, IfOk, IfErr, OnOk};
+ghost use Rattle.pathway.specs.Schedules.{OfSchedule, status_by};
+ghost use Rattle.pathway.specs.Statuses.{GivesUp};
+
+use crate::status::Status;
+use pw_base::bytes::Bytes;
+use pw_base::read_all::ReadFault;
+use pw_base::source::Source;
+use pw_expand::expand::{Ending, answer_source};
+use std::alloc::Global;
+
+/// Reads the schedule of the source: the status and the text that answer it (docs/EXPAND.md), or the
+/// status of a call that has none.
+pub fn schedule_output<S: Source>(alloc: Global, source: &mut S) -> Result<(Status, Bytes), Status>
+    ensures ok { IfOk result (λ output. OfSchedule (S.left source.old) output.0 output.1) }
+    ensures err { IfErr result (λ status. GivesUp status (S.faults source.old) (S.faults source.new)) }
+    ensures kept { OnOk result (S.faults source.new ≡ S.faults source.old) }
+    ensures count { S.faults source.old ≤ S.faults source.new }
+{
+    match answer_source(alloc, source) {
+        Ok((ending, text)) => Ok((status_by(ending), text)),
+        Err(ReadFault::Fault) => Err(Status::ReadFault),
+        Err(ReadFault::Memory) => Err(Status::Memory),
+        Err(ReadFault::TooLong) => unreachable!(),
+    }
+}
+
+/// The status of a schedule that is answered so.
+fn status_by(ending: Ending) -> Status
+    ensures { result ≡ status_by ending }
+{
+    match ending {
+        Ending::Expanded => Status::Finished,
+        Ending::Refused => Status::Refused,
+    }
+}
