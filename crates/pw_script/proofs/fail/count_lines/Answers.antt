@@ -1,0 +1,21 @@
+use Rattle.std.proofs.Common.{arith, rules, sym, ◌∙◌}
+use Rattle.pw_base.specs.First.{Refuses}
+use Rattle.pw_lines.proofs.Folds.{no_lines, none_taken, one_taken, one_refused}
+use Rattle.pw_script.specs.Fail.{failure_counted, failures_counted}
+use Rattle.pw_script.proofs.fail.count_lines.Goals as goal
+
+pub returns-in_err-count : goal.returns-in_err-count
+returns-in_err-count c =
+    let refused : Refuses c.in_err-count.field-0.0 (failures_counted c.args.text.now c.args.first_line) =
+    one_refused _ failure_counted c.loop-line.number c.loop-line.count _ _ _ _ c.in-Some.ensures.cases c.in_err-count.ensures.gives c.loop-line.invariant.so_far in
+    search rules
+
+pub loop-line-preserved : goal.loop-line-preserved
+loop-line-preserved c = record {
+  so_far = one_taken failure_counted c.loop-line.number c.loop-line.count _ _ _ _ _ c.in-Some.ensures.cases c.in_ok-count.ensures.gives c.loop-line.invariant.so_far;
+  count = c.in_ok-count.ensures.bound;
+  number = omega (arith, c.in-Some.ensures.shorter);
+}
+
+pub returns : goal.returns
+returns c = sym c.loop-line.invariant.so_far ∙ none_taken failure_counted c.loop-line.number c.loop-line.count _ (no_lines _ c.in_default.ensures.cases)

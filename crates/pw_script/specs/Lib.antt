@@ -1,0 +1,3 @@
+pub mod Fail
+pub mod Grammar
+pub mod Log

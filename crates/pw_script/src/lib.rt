@@ -1,0 +1,8 @@
+//! The failure lines and the log of a deck.
+#![tactic(auto)]
+
+pub mod fail;
+pub mod log;
+mod nobody;
+#[cfg(test)]
+mod tests;
