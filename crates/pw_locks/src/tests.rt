@@ -2,6 +2,7 @@ mod pairs;
 
 use crate::book::LockBook;
 use crate::laws::{conflict_laws, span_laws};
+use crate::lock::{Lock, is_same_unit};
 use crate::span::Span;
 use Keys::{Above, At, Between};
 use pairs::{Keys, POINTS, POINTS_AND_SPANS, Row, SPANS};
@@ -10,6 +11,7 @@ use pw_base::memory::Memory;
 use pw_code::lock::LockMode::{Exclusive, Shared};
 use pw_code::unit::Unit;
 use std::alloc::Global;
+use std::process::Abort;
 use std::test::Fail;
 
 fn key(alloc: Global, text: &str) -> Result<Bytes, Memory> {
@@ -46,6 +48,41 @@ fn add_row(alloc: Global, book: &mut LockBook, row: Row) -> Result<(), Memory> {
 /// Who holds a lock that conflicts with that of the row.
 fn holder_for(alloc: Global, book: &LockBook, row: Row) -> Result<Option<Unit>, Memory> {
     Ok(book.conflict(&unit_of(row.0), row.1, &span_of(alloc, row.2)?, row.3))
+}
+
+/// The same as a plain list of locks has it.
+fn holder_in(alloc: Global, locks: &[Lock], row: Row) -> Result<Option<Unit>, Memory> {
+    let span = span_of(alloc, row.2)?;
+    let mut oldest: Option<Unit> = None;
+    for held in locks {
+        if is_same_unit(&held.unit, &unit_of(row.0)) || !held.excludes(row.1, &span, row.3) {
+            continue;
+        }
+        match oldest {
+            Some(unit) if unit.birth <= held.unit.birth => {}
+            _ => oldest = Some(held.unit),
+        }
+    }
+    Ok(oldest)
+}
+
+/// The book gives the holders of the list for each of the rows.
+fn expect_same(
+    rt: &impl Abort,
+    alloc: Global,
+    book: &LockBook,
+    locks: &[Lock],
+) -> Result<(), Memory> {
+    for &(first, second, _) in POINTS_AND_SPANS.as_slice() {
+        for row in [first, second] {
+            assert_eq!(rt;
+                holder_for(alloc, book, row)?,
+                holder_in(alloc, locks, row)?,
+                "{row:?}"
+            );
+        }
+    }
+    Ok(())
 }
 
 /// Whether the lock of the second row conflicts with the only lock of a book, that of the first.
@@ -122,6 +159,32 @@ fn oldest_other_holder_is_given(rt: HostRuntime) -> Result<(), Fail> {
     assert!(rt; book.overlaps(&unit_of(7), 0, &span_of(alloc, At("B"))?, Exclusive));
     assert!(rt; !book.overlaps(&unit_of(7), 0, &span_of(alloc, At("D"))?, Exclusive));
     assert!(rt; !book.overlaps(&unit_of(2), 0, &span_of(alloc, At("B"))?, Exclusive));
+    Ok(())
+}
+
+#[test]
+fn book_answers_as_a_list_does(rt: HostRuntime) -> Result<(), Fail> {
+    let alloc = rt.alloc();
+    let mut book = LockBook::new(alloc)?;
+    let mut list = Vec::new(alloc);
+    for &(first, second, _) in POINTS_AND_SPANS.as_slice() {
+        for row in [first, second] {
+            add_row(alloc, &mut book, row)?;
+            list.push(Lock {
+                unit: unit_of(row.0),
+                file: row.1,
+                span: span_of(alloc, row.2)?,
+                mode: row.3,
+            })?;
+        }
+    }
+    expect_same(&rt, alloc, &book, &list)?;
+    for terminal in 1..3 {
+        let unit = unit_of(terminal);
+        book.release(&unit);
+        list.retain(|held| !is_same_unit(&held.unit, &unit));
+        expect_same(&rt, alloc, &book, &list)?;
+    }
     Ok(())
 }
 
