@@ -1,14 +1,6 @@
-use crate::fail::{count_failures, failures};
-use crate::log::{count_entries, events, version_of};
-use pw_base::bytes::Bytes;
+use crate::fail::count_failures;
+use crate::log::{count_entries, version_of};
 use pw_base::fault::Refusal;
-use pw_base::list::List;
-use pw_base::memory::Memory;
-use pw_code::lock::LockRule;
-use pw_code::system::{ClassInfo, System, TermInfo};
-use pw_event::event::Event;
-use pw_event::script::FailLine;
-use pw_event::system_names::SystemNames;
 use std::alloc::Global;
 use std::test::Fail;
 
@@ -19,35 +11,6 @@ fn fault_of<T>(answer: &Result<T, Refusal>) -> (u32, u16) {
         Err(Refusal::Memory) => (0, 1),
         Ok(_) => (0, 0),
     }
-}
-
-fn system(alloc: Global, rule: LockRule) -> Result<System, Memory> {
-    let mut terminals = List::new(alloc);
-    terminals.push(TermInfo {
-        name: Bytes::from_slice(alloc, b"T1")?,
-        tcp: 0,
-        program: 0,
-        max_restarts: 5,
-        entries: List::new(alloc),
-    })?;
-    let mut classes = List::new(alloc);
-    classes.push(ClassInfo {
-        name: Bytes::from_slice(alloc, b"STORE")?,
-        server: 0,
-        processes: 2,
-    })?;
-    let mut tcps = List::new(alloc);
-    tcps.push(Bytes::from_slice(alloc, b"TCP-1")?)?;
-    Ok(System {
-        programs: List::new(alloc),
-        servers: List::new(alloc),
-        screens: List::new(alloc),
-        classes,
-        files: List::new(alloc),
-        tcps,
-        terminals,
-        rule,
-    })
 }
 
 /// How many failure lines a text of some pages has.
@@ -89,42 +52,6 @@ fn failure_lines_by_hand(rt: HostRuntime) -> Result<(), Fail> {
 }
 
 #[test]
-fn failures_of_a_system(rt: HostRuntime) -> Result<(), Fail> {
-    let alloc = rt.alloc();
-    let system = system(alloc, LockRule::ReadersShare)?;
-    let names = SystemNames::new(alloc, &system)?;
-    let read = failures(
-        alloc,
-        &names,
-        b"\nTCP tcp-1 BACKUP AFTER 7\n\nSERVER STORE 2 AFTER 0",
-        3,
-    )?;
-    let wanted = [
-        FailLine::Tcp {
-            tcp: 0,
-            primary: false,
-            after: 7,
-        },
-        FailLine::Server {
-            class: 0,
-            process: 2,
-            after: 0,
-        },
-    ];
-    assert!(rt; read.as_slice() == wanted.as_slice());
-    for (text, wanted) in [
-        (b"TCP TCP-2 BACKUP AFTER 7".as_slice(), (3, 183)),
-        (
-            b"TCP TCP-1 BACKUP AFTER 7\nSERVER STORE 3 AFTER 0",
-            (4, 183),
-        ),
-    ] {
-        assert!(rt; fault_of(&failures(alloc, &names, text, 3)) == wanted);
-    }
-    Ok(())
-}
-
-#[test]
 fn logs_by_hand(rt: HostRuntime) -> Result<(), Fail> {
     let alloc = rt.alloc();
     for (text, version, wanted) in [
@@ -149,24 +76,6 @@ fn logs_by_hand(rt: HostRuntime) -> Result<(), Fail> {
     ] {
         assert!(rt; version_of(text, 5) == version);
         assert!(rt; fault_of(&count_entries(alloc, text, 5)) == wanted);
-    }
-    Ok(())
-}
-
-#[test]
-fn entries_of_a_system(rt: HostRuntime) -> Result<(), Fail> {
-    let alloc = rt.alloc();
-    let system = system(alloc, LockRule::AllExclusive)?;
-    let names = SystemNames::new(alloc, &system)?;
-    let read = events(alloc, &names, b"1 RAISE TCP-1\n\n2 KEY T1 3", 5)?;
-    let wanted = [Event::Raise { tcp: 0 }, Event::Key { terminal: 0, k: 3 }];
-    assert!(rt; read.as_slice() == wanted.as_slice());
-    for (text, wanted) in [
-        (b"1 RAISE tcp-1".as_slice(), (5, 183)),
-        (b"1 RAISE TCP-1\n2 KEY T2 1", (6, 183)),
-        (b"1 TAKE STORE 3 T1", (5, 183)),
-    ] {
-        assert!(rt; fault_of(&events(alloc, &names, text, 5)) == wanted);
     }
     Ok(())
 }
