@@ -10,4 +10,6 @@ mod plan;
 mod program;
 mod sizes;
 mod statements;
+#[cfg(test)]
+mod tests;
 mod turns;
