@@ -104,7 +104,7 @@ pub record IsAccepted (world : Seen) (outcome : Outcome) : Type 0 where
   pub run : ¬ IsUnrun world outcome
 
 -- why `apply` answers so, each yielding to those before it: Limit, Stale, Unrun, Held, Unbuilt, DiscFault; want of
--- memory may come at any time
+-- memory may come at any time, but after a fault of the disc that alone is answered
 abbrev pub Comes : Seen → Outcome → Applied → Type 0
 Comes world outcome applied.Done =
     IsAccepted world outcome × (HasStep (ran world outcome) outcome.actor × (¬ IsUnbuilt (ran world outcome) outcome.actor))
@@ -121,7 +121,7 @@ Comes world outcome applied.Unbuilt =
 Comes world outcome applied.DiscFault =
     (world.failed ≡ true)
     ⊎ (IsAccepted world outcome × (HasStep (ran world outcome) outcome.actor × (¬ IsUnbuilt (ran world outcome) outcome.actor)))
-Comes world outcome applied.Memory = Unit {0}
+Comes world outcome applied.Memory = world.failed ≡ false
 
 -- a message that is taken in is built: no image is built here
 abbrev pub IsBuilt : Seen → Event → Type 0
@@ -156,12 +156,12 @@ LeavesApplied members world outcome _ new = new ≡ with_out outcome.actor false
 
 -- ---- enter
 
--- why `enter` answers so; after a fault of the disc it answers that alone
+-- why `enter` answers so: a fault of the disc comes before the step, and after one it answers that alone
 abbrev pub EnterComes : Seen → Event → answer.Entered → Type 0
 EnterComes world entry enter.Done = (world.failed ≡ false) × Legal (sys_of world) (state_of world) entry
 EnterComes world entry enter.NotAStep = (world.failed ≡ false) × (¬ Legal (sys_of world) (state_of world) entry)
 EnterComes world entry enter.DiscFault = Unit {0}
-EnterComes world entry enter.Memory = Unit {0}
+EnterComes world entry enter.Memory = world.failed ≡ false
 
 -- system, script, limit, who is out, and the disc's count at `new` are the same
 pub record IsSameWorld (world new : Seen) : Type 0 where
@@ -171,8 +171,15 @@ pub record IsSameWorld (world new : Seen) : Type 0 where
   pub out : (actor : Actor) → new.out actor ≡ world.out actor
   pub faults : new.faults ≡ world.faults
 
+-- a fault was answered, and the disc's count is above that at `new`
+abbrev pub HasFailed : Seen → Type 0
+HasFailed world = (world.failed ≡ true) × (world.faults < world.kept.disc.faults)
+
 -- what `enter` leaves: it may run programs on, so that what is kept stands for the same state as before
 abbrev pub LeavesEntered : Seen → Event → answer.Entered → Seen → Type 0
 LeavesEntered world entry enter.Done new =
-    IsSameWorld world new × (new.log ≡ world.log ++ entry ∷ [])
-LeavesEntered world entry _ new = IsSameWorld world new × (new.log ≡ world.log)
+    IsSameWorld world new × ((new.log ≡ world.log ++ entry ∷ []) × (new.failed ≡ world.failed))
+LeavesEntered world entry enter.DiscFault new =
+    IsSameWorld world new × ((new.log ≡ world.log) × HasFailed new)
+LeavesEntered world entry _ new =
+    IsSameWorld world new × ((new.log ≡ world.log) × (new.failed ≡ world.failed))
