@@ -66,7 +66,9 @@ impl<D: Disk> Log<D> {
 }
 
 impl<S: Synced> Log<S> {
-    /// Puts the record of a unit behind the others.
+    /// Puts the record of a unit behind the others, by two writes and two syncs (docs/TRAIL.md). Its
+    /// changes are of the log's files (`fits`). `Failed` comes only where the disk's count of faults rose
+    /// in this call or an earlier one, and from then on always; want of memory changes nothing.
     pub fn append(&mut self, alloc: Global, unit: &UnitChanges) -> Result<(), WriteFault>
         requires { All (λ change. fits self.old.files change ≡ true) unit.now.changes }
 
