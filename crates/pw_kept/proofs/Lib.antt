@@ -1,6 +1,7 @@
 pub mod Agreeing
 pub mod Among
 pub mod Answered
+pub mod Apart
 pub mod Applied
 pub mod Arrived
 pub mod Behind
@@ -13,11 +14,18 @@ pub mod Components
 pub mod EachEntry
 pub mod Emptied
 pub mod Ending
+pub mod Extra
 pub mod Failing
+pub mod Forced
 pub mod ImageTests
+pub mod Imaged
 pub mod Leaving
+pub mod Legally
+pub mod Mays
+pub mod Needed
 pub mod OfRuns
 pub mod Raised
+pub mod Readings
 pub mod Replying
 pub mod Restarted
 pub mod Seats
