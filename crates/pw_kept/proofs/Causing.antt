@@ -50,7 +50,7 @@ use Rattle.pw_tmf.specs.Tells.{as_told, images_by}
 use Rattle.pw_tmf.specs.Told.{ToldUnit}
 
 -- a test of what a disc tells of a unit is one of the unit
-told-same : (before : List BeforeImage) (f : ToldUnit → Bool) (g : OpenUnit → Bool) (o : Option OpenUnit) → ((own : OpenUnit) → o ≡ Some own → f (as_told before own) ≡ g own) → some_with f (option_map (as_told before) o) ≡ some_with g o
+pub told-same : (before : List BeforeImage) (f : ToldUnit → Bool) (g : OpenUnit → Bool) (o : Option OpenUnit) → ((own : OpenUnit) → o ≡ Some own → f (as_told before own) ≡ g own) → some_with f (option_map (as_told before) o) ≡ some_with g o
 told-same before f g None same = refl
 told-same before f g (Some own) same = same own refl
 
@@ -81,7 +81,7 @@ module _ (system : System) (script : List FailLine) (state : State) (own : Kept)
     by-verb (verb.Fault code) = refl
     by-verb (verb.Reply reply) = refl
 
-    work-same : works_where own c i (work_meets system own one other) ≡ job_meets (behaviour script system) state one other c serving.job
+    pub work-same : works_where own c i (work_meets system own one other) ≡ job_meets (behaviour script system) state one other c serving.job
     work-same =
         where-works system script state own stands c i serving (work_meets system own one other)
         ∙ ap (λ b. serving.job.request.terminal == one.terminal && (serving.job.request.unit == one.number && b))

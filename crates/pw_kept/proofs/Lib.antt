@@ -22,6 +22,7 @@ pub mod Imaged
 pub mod Leaving
 pub mod Legally
 pub mod Mays
+pub mod Meeting
 pub mod Needed
 pub mod OfRuns
 pub mod Raised
@@ -33,6 +34,7 @@ pub mod Sending
 pub mod Served
 pub mod Serving
 pub mod Settled
+pub mod Showing
 pub mod Starting
 pub mod TakenOver
 pub mod Testing

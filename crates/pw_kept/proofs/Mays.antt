@@ -249,7 +249,7 @@ module _ (system : System) (script : List FailLine) (valid : IsValid system) (b 
       let low : c < length system.classes = readings.class-there system script valid b log run c i job works in
       serving c i low (read c i job.request low (job-in c i job works low) whose) job works
 
-  caused : (t : ℕ) → t < length system.terminals → (cause : Cause) → IsCauseRead system own t cause → CauseTested system script state own t cause
+  pub caused : (t : ℕ) → t < length system.terminals → (cause : Cause) → IsCauseRead system own t cause → CauseTested system script state own t cause
   caused t low (Older o m) read = older-tested t o m read
   caused t low (Takeover p) read = tt
   caused t low (Server k) read = tt

@@ -6,6 +6,7 @@ pub mod ClassTests
 pub mod Entered
 pub mod Kept
 pub mod May
+pub mod Meeting
 pub mod Members
 pub mod Needs
 pub mod PairTests

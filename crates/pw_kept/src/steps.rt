@@ -7,6 +7,7 @@ ghost use Rattle.pw_exec.specs.OfSystem.{behaviour};
 ghost use Rattle.pw_kept.specs.Entered.{entered};
 ghost use Rattle.pw_kept.specs.Kept.{Kept};
 ghost use Rattle.pw_kept.specs.May.{IsThere, may};
+ghost use Rattle.pw_kept.specs.Meeting.{IsStepRead, StepShows};
 ghost use Rattle.pw_kept.specs.Members.{AreOf};
 ghost use Rattle.pw_kept.specs.Needs.{Needs};
 ghost use Rattle.pw_kept.specs.Read.{IsEntryRead, IsImageFit, IsReplyRead};
@@ -46,6 +47,33 @@ pub fn may_laws()
         → Stands system script (after (behaviour script system) log) kept
         → IsThere system entry → IsEntryRead system kept entry → IsImageFit system kept entry
         → Legal (behaviour script system) (after (behaviour script system) log) entry
+        → may system script kept entry ≡ true }
+{}
+
+/// In every run of a deck, whatever servers have been read: the test of an entry tells which steps
+/// show. Every step shows, but one with the cause OLDER only once the context of a process on whose
+/// next file operation it rests stands at its verb.
+pub fn show_laws()
+    ensures shows { (system : System) (script : List FailLine) (log : List Event) (kept : Kept)
+        (entry : Event)
+        → IsValid system → IsBehaviour (behaviour script system)
+        → IsRun (behaviour script system) log
+        → Stands system script (after (behaviour script system) log) kept
+        → IsThere system entry → IsStepRead system kept entry → IsImageFit system kept entry
+        → is_finished (behaviour script system) (after (behaviour script system) log) ≡ false
+        → line_due (behaviour script system) (after (behaviour script system) log) entry
+        ≡ line_wanted entry
+        → may system script kept entry ≡ true
+        → Legal (behaviour script system) (after (behaviour script system) log) entry
+        × StepShows (behaviour script system) (after (behaviour script system) log) kept entry }
+    ensures passes { (system : System) (script : List FailLine) (log : List Event) (kept : Kept)
+        (entry : Event)
+        → IsValid system → IsBehaviour (behaviour script system)
+        → IsRun (behaviour script system) log
+        → Stands system script (after (behaviour script system) log) kept
+        → IsThere system entry → IsStepRead system kept entry → IsImageFit system kept entry
+        → Legal (behaviour script system) (after (behaviour script system) log) entry
+        → StepShows (behaviour script system) (after (behaviour script system) log) kept entry
         → may system script kept entry ≡ true }
 {}
 
