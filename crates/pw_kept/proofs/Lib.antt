@@ -38,5 +38,6 @@ pub mod Showing
 pub mod Starting
 pub mod TakenOver
 pub mod Testing
+pub mod There
 pub mod UnitChanges
 pub mod Working

@@ -5,6 +5,7 @@ use Rattle.pw_event.specs.declared.event.Ending.TheVariants.{Fault, Lost, NoEntr
 use Rattle.pw_event.specs.declared.event.Event.{Event}
 use Rattle.pw_event.specs.declared.event.Event.TheVariants.{Show, Key, CheckStart, CheckEnd, CheckCopy, Applied, Begin, Send, Take, File, Reply, Again, Commit, Back, Restart, FailTcp, FailServer, Takeover, Raise, End}
 use Rattle.pw_event.specs.declared.script.FailLine.{FailLine}
+use Rattle.pw_event.specs.declared.script.FailLine.TheVariants as line
 use Rattle.pw_exec.specs.OfSystem.{behaviour, processes_by}
 use Rattle.pw_kept.specs.CauseTests.{may_restart, may_suspend}
 use Rattle.pw_kept.specs.ClassTests.{may_file, may_reply, may_take}
@@ -69,3 +70,8 @@ IsThere system (FailServer c i k) = IsProcessOf system c i
 IsThere system (Takeover p) = p < length system.tcps
 IsThere system (Raise p) = p < length system.tcps
 IsThere system (End t ending) = t < length system.terminals
+
+-- the pair or process that a failure line names is one of the system
+abbrev pub IsLineThere : System → FailLine → Type 0
+IsLineThere system (line.Tcp p primary after) = p < length system.tcps
+IsLineThere system (line.Server c i after) = IsProcessOf system c i

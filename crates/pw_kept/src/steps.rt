@@ -1,4 +1,4 @@
-ghost use Rattle.std.specs.Prelude.{◌≡◌, ℕ, List, [], ◌∷◌, ◌++◌, true, false};
+ghost use Rattle.std.specs.Prelude.{◌≡◌, ℕ, List, [], ◌∷◌, ◌++◌, All, true, false};
 ghost use Rattle.pw_code.specs.Valid.{IsValid};
 ghost use Rattle.pw_code.specs.declared.system.System.{System};
 ghost use Rattle.pw_event.specs.declared.event.Event.{Event};
@@ -6,7 +6,7 @@ ghost use Rattle.pw_event.specs.declared.script.FailLine.{FailLine};
 ghost use Rattle.pw_exec.specs.OfSystem.{behaviour};
 ghost use Rattle.pw_kept.specs.Entered.{entered};
 ghost use Rattle.pw_kept.specs.Kept.{Kept};
-ghost use Rattle.pw_kept.specs.May.{IsThere, may};
+ghost use Rattle.pw_kept.specs.May.{IsLineThere, IsThere, may};
 ghost use Rattle.pw_kept.specs.Meeting.{IsStepRead, StepShows};
 ghost use Rattle.pw_kept.specs.Members.{AreOf};
 ghost use Rattle.pw_kept.specs.Needs.{Needs};
@@ -101,4 +101,14 @@ pub fn step_laws()
         → Legal (behaviour script system) (after (behaviour script system) log) entry
         → Stands system script (after (behaviour script system) (log ++ entry ∷ []))
         (entered system members entry kept) }
+{}
+
+/// In every run of a deck whose failure lines name what is there, a legal entry names what is
+/// there. So an entry that names anything else is no step.
+pub fn there_laws()
+    ensures { (system : System) (script : List FailLine) (log : List Event) (entry : Event)
+        → IsBehaviour (behaviour script system) → All (IsLineThere system) script
+        → IsRun (behaviour script system) log
+        → Legal (behaviour script system) (after (behaviour script system) log) entry
+        → IsThere system entry }
 {}
