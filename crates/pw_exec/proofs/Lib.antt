@@ -3,4 +3,6 @@ pub mod CountSteps
 pub mod Counting
 pub mod Progress
 pub mod RunLemmas
+pub mod Sizes
 mod Standing
+pub mod Written

@@ -1,6 +1,8 @@
-ghost use Rattle.std.specs.Prelude.{◌≡◌, ℕ, [], ◌∷◌, ◌++◌, true, List, Some, map, slice_get};
+ghost use Rattle.std.specs.Prelude.{◌≡◌, ℕ, [], ◌∷◌, ◌++◌, ◌+◌, ◌<◌, ◌≤◌, All, true, length, List, Some, map, slice_get};
+ghost use Rattle.pw_base.specs.Limits.{most_storage};
 ghost use Rattle.pw_code.specs.Valid.{IsValid};
 ghost use Rattle.pw_code.specs.declared.context.Context.{Context};
+ghost use Rattle.pw_code.specs.declared.context.Frame.{Frame};
 ghost use Rattle.pw_code.specs.declared.system.System.{System};
 ghost use Rattle.pw_code.specs.declared.system.TermInfo.{TermInfo};
 ghost use Rattle.pw_code.specs.declared.verb.Answer.{Answer};
@@ -11,6 +13,7 @@ ghost use Rattle.pw_exec.specs.Contexts.{RunsOn, Takes};
 ghost use Rattle.pw_exec.specs.Counts.{CountsOf};
 ghost use Rattle.pw_exec.specs.OfSystem.{behaviour, told};
 ghost use Rattle.pw_exec.specs.Runs.{Comes, StandsFor, StandsFrom, after, at_verb};
+ghost use Rattle.pw_exec.specs.Sound.{IsSoundContext};
 ghost use Rattle.pw_onecopy.specs.IsBehaviour.{IsPath};
 ghost use Rattle.pw_onecopy.specs.Path.{PathAnswer};
 
@@ -45,4 +48,15 @@ pub fn count_laws()
         (context : Context)
         → IsValid system → slice_get system.terminals t ≡ Some terminal → IsPath (behaviour script system) t path
         → StandsFor system terminal.program (map (told terminal.entries) path) context → CountsOf path context }
+{}
+
+/// The context of a terminal's program, over whatever answers, is sound; and each of its programs at work has at most
+/// as many characters as a code may have and a CALL keeps.
+pub fn sound_laws()
+    ensures sound { (system : System) (program : ℕ) (answers : List Answer) (context : Context)
+        → IsValid system → program < length system.programs → StandsFor system program answers context
+        → IsSoundContext system context }
+    ensures small { (system : System) (program : ℕ) (answers : List Answer) (context : Context)
+        → IsValid system → program < length system.programs → StandsFor system program answers context
+        → All (λ (frame : Frame). length frame.storage ≤ most_storage + 9) context.frames }
 {}
