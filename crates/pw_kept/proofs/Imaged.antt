@@ -1,9 +1,10 @@
--- The context behind a path that does not end with a run fault has an image, where its programs are small.
-use Rattle.std.proofs.Common.{◌≡◌, ◌⊎◌, inl, inr, ⊎_elim, ℕ, ◌+◌, ◌≤◌, Bool, true, false, List, [], ◌∷◌, ◌++◌, length, length-append, map, Some, refl, sym, ap, subst, ◌∙◌, arith}
+-- The context behind a path that does not end with a run fault has an image.
+use Rattle.std.proofs.Common.{◌≡◌, ◌⊎◌, inl, inr, ⊎_elim, ℕ, ◌+◌, ◌<◌, ◌≤◌, Bool, true, false, List, [], ◌∷◌, ◌++◌, length, length-append, map, Some, refl, sym, ap, subst, ◌∙◌, arith}
 use Rattle.std.specs.Prelude.{All, slice_get}
 use Rattle.std.proofs.lemmas.List.{map-append}
+use Rattle.std.proofs.lemmas.Option.{get_or_from_slice_get, slice_get_within}
 use Rattle.std.proofs.lemmas.List.Elements.{All-append, All-cons, All-nil}
-use Rattle.pw_code.specs.Valid.{IsValid}
+use Rattle.pw_code.specs.Valid.{IsTerminal, IsValid}
 use Rattle.pw_code.specs.declared.context.Context.{Context}
 use Rattle.pw_code.specs.declared.context.Frame.{Frame}
 use Rattle.pw_code.specs.declared.system.System.{System}
@@ -17,10 +18,10 @@ use Rattle.pw_exec.specs.Runs.{Reaches}
 use Rattle.pw_exec.specs.Turns.{most_performs}
 use Rattle.pw_exec.proofs.Counting.{Follows, IsBehind, behind-answer, follows, follows-answer, follows-on, follows-start, is_failed}
 use Rattle.pw_exec.proofs.Progress.{Shallow}
+use Rattle.pw_exec.proofs.Sizes.{small-stands}
 use Rattle.pw_image.specs.Image.{FrameFits, HasImage}
 use Rattle.pw_kept.specs.Arrivals.{Arrives, StandsForPath}
-use Rattle.pw_kept.specs.Read.{HasSmallStorage}
-use Rattle.pw_kept.proofs.Arrived.{arrives-comes}
+use Rattle.pw_kept.proofs.Arrived.{arrives-comes, stands-behind}
 use Rattle.pw_kept.proofs.Extra.{ends-push, ends_failed, is_fault}
 use Rattle.pw_kept.proofs.Forced.{suits-behind, suits-front}
 use Rattle.pw_onecopy.specs.Behaviour.{Behaviour}
@@ -54,6 +55,10 @@ arrives-last system (one ∷ answers) a c d first =
     (rest.0, rest.1, (first.0, (first.1.0, rest.2)), rest.3, rest.4)
 
 -- ---- images
+
+-- each active program is as small as an image has room for
+abbrev HasSmallStorage : Context → Type 0
+HasSmallStorage context = All (λ (frame : Frame). length frame.storage ≤ 64000) context.frames
 
 module _ (system : System) (script : List FailLine) (t : ℕ) (info : TermInfo) (valid : IsValid system) (here : slice_get system.terminals t ≡ Some info) where
   abbrev sys : Behaviour
@@ -101,9 +106,19 @@ module _ (system : System) (script : List FailLine) (t : ℕ) (info : TermInfo) 
       subst (λ c. HasSmallStorage (closed c) → HasImage (closed c)) is
       (λ small. image-at (starting system info.program) first.shallow small refl refl refl refl (omega arith)) small
 
-  pub has-image : (path : List PathAnswer) (context : Context) → IsPath sys t path → ends_failed path ≡ false → StandsForPath system info path context → HasSmallStorage context → HasImage context
-  has-image path context is_path sound stands small =
-      subst HasImage (sym stands.is) (by (last-of path) (subst HasSmallStorage stands.is small))
+  -- its program is one of the system
+  program-known : info.program < length system.programs
+  program-known =
+      (subst (IsTerminal system) (get_or_from_slice_get system.terminals t info info here) (valid.terminals t info (slice_get_within system.terminals t info here))).program
+
+  small : (path : List PathAnswer) (context : Context) → StandsForPath system info path context → HasSmallStorage context
+  small path context stands k other lt =
+      let le = small-stands system info.program (map (told info.entries) path) context valid program-known (stands-behind system info path context stands) k other lt in
+      omega (arith, le)
+
+  pub has-image : (path : List PathAnswer) (context : Context) → IsPath sys t path → ends_failed path ≡ false → StandsForPath system info path context → HasImage context
+  has-image path context is_path sound stands =
+      subst HasImage (sym stands.is) (by (last-of path) (subst HasSmallStorage stands.is (small path context stands)))
     where
       by : (path ≡ []) ⊎ ((before : List PathAnswer) × (a : PathAnswer) × (path ≡ before ++ a ∷ [])) → HasSmallStorage (closed stands.at) → HasImage (closed stands.at)
       by (inl none) small = image-start stands.at (subst (λ p. Arrives system (starting system info.program) (map (told info.entries) p) stands.at) none stands.arrives) small

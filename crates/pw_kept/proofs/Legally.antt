@@ -8,7 +8,7 @@ use Rattle.pw_event.specs.declared.script.FailLine.{FailLine}
 use Rattle.pw_exec.specs.OfSystem.{behaviour}
 use Rattle.pw_kept.specs.Kept.{Kept}
 use Rattle.pw_kept.specs.May.{IsThere, may}
-use Rattle.pw_kept.specs.Read.{IsEntryRead, IsImageFit}
+use Rattle.pw_kept.specs.Read.{AreValued, IsEntryRead}
 use Rattle.pw_kept.specs.Stands.{Stands}
 use Rattle.pw_kept.proofs.Mays.{may-same}
 use Rattle.pw_legal.specs.Legality as test
@@ -42,7 +42,7 @@ unfolding test.is_legal
 fits-is sys state entry e = third (is_finished sys state) (is_same_number (line_due sys state entry) (line_wanted entry)) (test.fits sys state entry) e
 
 pub may-legal : (system : System) (script : List FailLine) (log : List Event) (kept : Kept) (entry : Event) → IsValid system → IsBehaviour (behaviour script system) → IsRun (behaviour script system) log
-    → Stands system script (after (behaviour script system) log) kept → IsThere system entry → IsEntryRead system kept entry → IsImageFit system kept entry
+    → Stands system script (after (behaviour script system) log) kept → IsThere system entry → IsEntryRead system kept entry → AreValued system kept entry
     → is_finished (behaviour script system) (after (behaviour script system) log) ≡ false → line_due (behaviour script system) (after (behaviour script system) log) entry ≡ line_wanted entry
     → may system script kept entry ≡ true → Legal (behaviour script system) (after (behaviour script system) log) entry
 may-legal system script log kept entry valid b run stands there read fit unfinished due passes =
@@ -50,7 +50,7 @@ may-legal system script log kept entry valid b run stands there read fit unfinis
     (test-is (behaviour script system) (after (behaviour script system) log) entry unfinished due (sym (may-same system script valid b log run kept stands entry there read fit) ∙ passes))
 
 pub legal-may : (system : System) (script : List FailLine) (log : List Event) (kept : Kept) (entry : Event) → IsValid system → IsBehaviour (behaviour script system) → IsRun (behaviour script system) log
-    → Stands system script (after (behaviour script system) log) kept → IsThere system entry → IsEntryRead system kept entry → IsImageFit system kept entry
+    → Stands system script (after (behaviour script system) log) kept → IsThere system entry → IsEntryRead system kept entry → AreValued system kept entry
     → Legal (behaviour script system) (after (behaviour script system) log) entry → may system script kept entry ≡ true
 legal-may system script log kept entry valid b run stands there read fit legal =
     may-same system script valid b log run kept stands entry there read fit

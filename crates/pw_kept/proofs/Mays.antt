@@ -27,7 +27,7 @@ use Rattle.pw_kept.specs.Asked.{answered_with, verb_in}
 use Rattle.pw_kept.specs.ClassTests.{works_where}
 use Rattle.pw_kept.specs.Kept.{Kept}
 use Rattle.pw_kept.specs.May.{IsProcessOf, IsThere, may}
-use Rattle.pw_kept.specs.Read.{ClosedFits, Fits, IsCauseRead, IsEntryRead, IsImageFit, IsRead, IsServerRead, OwnFits}
+use Rattle.pw_kept.specs.Read.{AreValued, ClosedValues, IsCauseRead, IsEntryRead, IsRead, IsServerRead, OwnValues}
 use Rattle.pw_kept.specs.Stands.{Stands, StandsForClass, StandsForJob, StandsForKnown, StandsIfAny}
 use Rattle.pw_kept.specs.TerminalTests as kept
 use Rattle.pw_kept.specs.Tested.{CauseTested, IsAsking, IsAskingEnd, IsAskingStart, IsPlaced, IsServing}
@@ -154,13 +154,13 @@ module _ (system : System) (script : List FailLine) (valid : IsValid system) (b 
     arrived info here context is = subst (StandsForKnown system info (path_of state t)) is (stands.terminals t info here).path
 
     pub own-image : (info : TermInfo) → slice_get system.terminals t ≡ Some info → IsPath sys t (path_of state t) → ends_failed (path_of state t) ≡ false → (context : Context) → (own.terminals t).context ≡ Some context
-        → Fits context → HasImage context
-    own-image info here is_path sound context is fit = has-image system script t info valid here (path_of state t) context is_path sound (arrived info here context is) fit.small
+        → HasImage context
+    own-image info here is_path sound context is = has-image system script t info valid here (path_of state t) context is_path sound (arrived info here context is)
 
     pub begins-sound : IsPath sys t (path_of state t) → BeginsUnit (next_verb sys state t) (path_of state t) → ends_failed (path_of state t) ≡ false
     begins-sound is_path begins = sound-at sys b t (path_of state t) is_path (λ x fault. subst (λ v. BeginsUnit v (path_of state t)) fault begins)
 
-    asking-start : IsRead system own t → OwnFits own t → legal.can_step sys state t ≡ true → IsAskingStart system script state own t
+    asking-start : IsRead system own t → OwnValues own t → legal.can_step sys state t ≡ true → IsAskingStart system script state own t
     asking-start read fit e = record {
       asking = asking read e;
       tells = λ context is begins.
@@ -171,7 +171,7 @@ module _ (system : System) (script : List FailLine) (valid : IsValid system) (b 
           let starts : BeginsUnit (next_verb sys state t) (path_of state t) =
           begins-is (next_verb sys state t) (path_of state t) (sym (ap₂ (λ v o. kept.begins_unit v o) at.says.verb at.says.counts.outside) ∙ begins) in
           tells-start system script valid b log run t steps at.placed.info here context (arrived at.placed.info here context is)
-          (own-image at.placed.info here is_path (begins-sound is_path starts) context is (fit context is)) (fit context is).values starts;
+          (own-image at.placed.info here is_path (begins-sound is_path starts) context is) (fit context is) starts;
     }
 
     -- the context behind the end of a transaction, and its image
@@ -179,18 +179,18 @@ module _ (system : System) (script : List FailLine) (valid : IsValid system) (b 
     closed-stands at a = behind.behind system script state own t stands at a
 
     closed-image : (at : IsAsking system script state own t) → IsPath sys t (path_of state t) → (a : PathAnswer) → is_fault a ≡ false → (v : Verb) → next_verb sys state t ≡ v → Suits sys t (path_of state t) v a
-        → Fits (answered_with system (told at.placed.info.entries a) at.context) → HasImage (answered_with system (told at.placed.info.entries a) at.context)
-    closed-image at is_path a plain v asks suits fit =
+        → HasImage (answered_with system (told at.placed.info.entries a) at.context)
+    closed-image at is_path a plain v asks suits =
         has-image system script t at.placed.info valid at.placed.here (path_of state t ++ a ∷ []) (answered_with system (told at.placed.info.entries a) at.context)
-        (IsPath-push sys t (path_of state t) a is_path (subst (λ w. Suits sys t (path_of state t) w a) (sym asks) suits)) (ends-push (path_of state t) a ∙ plain) (closed-stands at a) fit.small
+        (IsPath-push sys t (path_of state t) a is_path (subst (λ w. Suits sys t (path_of state t) w a) (sym asks) suits)) (ends-push (path_of state t) a ∙ plain) (closed-stands at a)
 
-    pub ended-image : (at : IsAsking system script state own t) → IsPath sys t (path_of state t) → next_verb sys state t ≡ verb.End → Fits (answered_with system answer.Ended at.context) → HasImage (answered_with system answer.Ended at.context)
-    ended-image at is_path asks fit = closed-image at is_path Ended refl verb.End asks tt fit
+    pub ended-image : (at : IsAsking system script state own t) → IsPath sys t (path_of state t) → next_verb sys state t ≡ verb.End → HasImage (answered_with system answer.Ended at.context)
+    ended-image at is_path asks = closed-image at is_path Ended refl verb.End asks tt
 
-    pub dropped-image : (at : IsAsking system script state own t) → IsPath sys t (path_of state t) → next_verb sys state t ≡ verb.Drop → Fits (answered_with system answer.Dropped at.context) → HasImage (answered_with system answer.Dropped at.context)
-    dropped-image at is_path asks fit = closed-image at is_path Dropped refl verb.Drop asks tt fit
+    pub dropped-image : (at : IsAsking system script state own t) → IsPath sys t (path_of state t) → next_verb sys state t ≡ verb.Drop → HasImage (answered_with system answer.Dropped at.context)
+    dropped-image at is_path asks = closed-image at is_path Dropped refl verb.Drop asks tt
 
-    pub asking-end : IsRead system own t → ClosedFits system own t → legal.can_step sys state t ≡ true → IsAskingEnd system script state own t
+    pub asking-end : IsRead system own t → ClosedValues system own t → legal.can_step sys state t ≡ true → IsAskingEnd system script state own t
     asking-end read fit e =
         let at = asking read e in
         let steps = can-of e in
@@ -200,11 +200,11 @@ module _ (system : System) (script : List FailLine) (valid : IsValid system) (b 
           ends = λ is.
               let asks : next_verb sys state t ≡ verb.End = sym at.says.verb ∙ is in
               let one = fit at.context answer.Ended at.ready (ap kept.closing is) in
-              tells-ended system script valid b log run t steps at.placed.info at.placed.here (answered_with system answer.Ended at.context) asks (closed-stands at Ended) (ended-image at is_path asks one) one.values;
+              tells-ended system script valid b log run t steps at.placed.info at.placed.here (answered_with system answer.Ended at.context) asks (closed-stands at Ended) (ended-image at is_path asks) one;
           drops = λ is.
               let asks : next_verb sys state t ≡ verb.Drop = sym at.says.verb ∙ is in
               let one = fit at.context answer.Dropped at.ready (ap kept.closing is) in
-              tells-dropped system script valid b log run t steps at.placed.info at.placed.here (answered_with system answer.Dropped at.context) asks (closed-stands at Dropped) (dropped-image at is_path asks one) one.values;
+              tells-dropped system script valid b log run t steps at.placed.info at.placed.here (answered_with system answer.Dropped at.context) asks (closed-stands at Dropped) (dropped-image at is_path asks) one;
         }
 
   -- ---- a server
@@ -257,7 +257,7 @@ module _ (system : System) (script : List FailLine) (valid : IsValid system) (b 
 
   -- ---- every entry
 
-  pub may-same : (entry : Event) → IsThere system entry → IsEntryRead system own entry → IsImageFit system own entry → may system script own entry ≡ fits sys state entry
+  pub may-same : (entry : Event) → IsThere system entry → IsEntryRead system own entry → AreValued system own entry → may system script own entry ≡ fits sys state entry
   may-same (event.Show t phase attempt k) low read fit = and-guard _ _ _ _ (can-is t low) (λ e. show-same system script state own stands t (asking t low read e) phase attempt k)
   may-same (event.Key t k) low read fit = and-guard _ _ _ _ (can-is t low) (λ e. key-same system script state own stands t (asking t low read e) k)
   may-same (event.CheckStart t) low read fit = and-guard _ _ _ _ (can-is t low) (λ e. check-start-same system script state own stands t (asking-start t low read fit e))

@@ -15,12 +15,13 @@ use Rattle.pw_event.specs.declared.script.FailLine.{FailLine}
 use Rattle.pw_exec.specs.OfSystem.{behaviour, processes_by}
 use Rattle.pw_exec.proofs.Counting.{counts-of}
 use Rattle.pw_image.specs.Image.{HasImage}
+use Rattle.pw_image.specs.Values.{HasValues}
 use Rattle.pw_kept.specs.Arrivals.{StandsForPath}
 use Rattle.pw_kept.specs.Entered.{copied}
 use Rattle.pw_kept.specs.Kept.{Kept}
 use Rattle.pw_kept.specs.May.{IsProcessOf, IsThere}
 use Rattle.pw_kept.specs.Needs.{ClosingFits, IsClass, IsProcess, MayBeginAt, Needs, SomeCarries}
-use Rattle.pw_kept.specs.Read.{ClosedFits, Fits, IsEntryRead, IsImageFit, IsRead, IsReplyRead, OwnFits}
+use Rattle.pw_kept.specs.Read.{AreValued, ClosedValues, IsEntryRead, IsRead, IsReplyRead, OwnValues}
 use Rattle.pw_kept.specs.Stands.{Stands, StandsForKnown, StandsForTerminal, StandsIfAny, works}
 use Rattle.pw_kept.specs.TerminalTests.{closing}
 use Rattle.pw_kept.specs.Tested.{Carries, IsAsking, IsPlaced}
@@ -72,22 +73,22 @@ module _ (system : System) (script : List FailLine) (valid : IsValid system) (b 
 
   -- a context behind a path goes to a backup
   carries : (t : ℕ) (info : TermInfo) → slice_get system.terminals t ≡ Some info → (path : List PathAnswer) → IsPath sys t path → ends_failed path ≡ false → (context : Context) → StandsForPath system info path context
-      → Fits context → Carries path context
+      → HasValues context → Carries path context
   carries t info here path is_path sound context arrived fit = record {
-    has_image = has-image system script t info valid here path context is_path sound arrived fit.small;
-    has_values = fit.values;
+    has_image = has-image system script t info valid here path context is_path sound arrived;
+    has_values = fit;
     counts = counts-of path context (readings.counts-behind system script valid b log run t info here path is_path context arrived);
   }
 
   -- ---- CHECK START
 
   own-carries : (t : ℕ) (info : TermInfo) → slice_get system.terminals t ≡ Some info → (path : List PathAnswer) → IsPath sys t path → ends_failed path ≡ false → (known : Option Context) (o : Option Context) → known ≡ o → IsSome o
-      → StandsForKnown system info path known → ((context : Context) → known ≡ Some context → Fits context) → SomeCarries path known
+      → StandsForKnown system info path known → ((context : Context) → known ≡ Some context → HasValues context) → SomeCarries path known
   own-carries t info here path is_path sound known (Some context) is some arrived fit =
       record { own = context; there = is; carries = carries t info here path is_path sound context (subst (StandsForKnown system info path) is arrived) (fit context is) }
   own-carries t info here path is_path sound known None is some arrived fit = absurd (cc some)
 
-  start-carries : (t : ℕ) → t < length system.terminals → OwnFits own t → LegalCheckStart sys state t → SomeCarries (path_of state t) (own.terminals t).context
+  start-carries : (t : ℕ) → t < length system.terminals → OwnValues own t → LegalCheckStart sys state t → SomeCarries (path_of state t) (own.terminals t).context
   start-carries t low fit l =
       let at = placed t low in
       let is_path = stepping t l.can in
@@ -96,7 +97,7 @@ module _ (system : System) (script : List FailLine) (valid : IsValid system) (b 
 
   -- ---- CHECK COPY
 
-  module _ (t : ℕ) (low : t < length system.terminals) (l : LegalCheckCopy sys state t) (fit : (context : Context) → copied (own.terminals t).start (own.terminals t).context ≡ Some context → Fits context) where
+  module _ (t : ℕ) (low : t < length system.terminals) (l : LegalCheckCopy sys state t) (fit : (context : Context) → copied (own.terminals t).start (own.terminals t).context ≡ Some context → HasValues context) where
     at : IsPlaced system t
     at = placed t low
 
@@ -165,17 +166,17 @@ module _ (system : System) (script : List FailLine) (valid : IsValid system) (b 
 
   -- ---- every entry
 
-  closing-fits : (t : ℕ) → t < length system.terminals → IsRead system own t → ClosedFits system own t → CanStep sys state t → ClosingFits system script state own t
+  closing-fits : (t : ℕ) → t < length system.terminals → IsRead system own t → ClosedValues system own t → CanStep sys state t → ClosingFits system script state own t
   closing-fits t low read fit can =
       let at = asking t low read can in
       record {
         asking = at;
         ends = λ asks.
             let one = fit at.context answer.Ended at.ready (ap closing (at.says.verb ∙ asks)) in
-            (mays.ended-image system script valid b log run own stands t low at (stepping t can) asks one, one.values);
+            (mays.ended-image system script valid b log run own stands t low at (stepping t can) asks, one);
         drops = λ asks.
             let one = fit at.context answer.Dropped at.ready (ap closing (at.says.verb ∙ asks)) in
-            (mays.dropped-image system script valid b log run own stands t low at (stepping t can) asks one, one.values);
+            (mays.dropped-image system script valid b log run own stands t low at (stepping t can) asks, one);
       }
 
   -- the program that gets a reply
@@ -184,7 +185,7 @@ module _ (system : System) (script : List FailLine) (valid : IsValid system) (b 
       readings.asking system script valid b log run own stands t (subst (λ x. IsPath sys x (path_of state x)) l.whose (readings.waiting-path system script valid b log run c i l.job l.at_work)) context is
   replied c i t fault l None is some = absurd (cc some)
 
-  pub needs : (entry : Event) → IsThere system entry → IsEntryRead system own entry → IsReplyRead own entry → IsImageFit system own entry → step.Fits sys state entry → Needs system script state own entry
+  pub needs : (entry : Event) → IsThere system entry → IsEntryRead system own entry → IsReplyRead own entry → AreValued system own entry → step.Fits sys state entry → Needs system script state own entry
   needs (event.Show t phase attempt k) low read more fit l = asking t low read l.can
   needs (event.Key t k) low read more fit l = asking t low read l.can
   needs (event.CheckStart t) low read more fit l = (asking t low read l.can, start-carries t low fit l)

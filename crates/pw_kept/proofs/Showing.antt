@@ -10,7 +10,7 @@ use Rattle.pw_exec.specs.OfSystem.{behaviour}
 use Rattle.pw_kept.specs.Kept.{Kept}
 use Rattle.pw_kept.specs.May.{IsThere, may}
 use Rattle.pw_kept.specs.Meeting.{IsStepRead, StepShows}
-use Rattle.pw_kept.specs.Read.{IsEntryRead, IsImageFit}
+use Rattle.pw_kept.specs.Read.{AreValued, IsEntryRead}
 use Rattle.pw_kept.specs.Stands.{Stands}
 use Rattle.pw_kept.proofs.Legally.{legal-may, may-legal}
 use Rattle.pw_kept.proofs.Meeting.{restart-shows, suspend-shows}
@@ -27,14 +27,14 @@ module _ (system : System) (script : List FailLine) (log : List Event) (kept : K
   abbrev state : State
   state = after sys log
 
-  plain-shows : (entry : Event) → IsThere system entry → IsEntryRead system kept entry → IsImageFit system kept entry
+  plain-shows : (entry : Event) → IsThere system entry → IsEntryRead system kept entry → AreValued system kept entry
       → is_finished sys state ≡ false → line_due sys state entry ≡ line_wanted entry → may system script kept entry ≡ true → Legal sys state entry
   plain-shows entry = may-legal system script log kept entry valid b run stands
 
-  plain-may : (entry : Event) → IsThere system entry → IsEntryRead system kept entry → IsImageFit system kept entry → Legal sys state entry → may system script kept entry ≡ true
+  plain-may : (entry : Event) → IsThere system entry → IsEntryRead system kept entry → AreValued system kept entry → Legal sys state entry → may system script kept entry ≡ true
   plain-may entry = legal-may system script log kept entry valid b run stands
 
-  pub may-shows : (entry : Event) → IsThere system entry → IsStepRead system kept entry → IsImageFit system kept entry
+  pub may-shows : (entry : Event) → IsThere system entry → IsStepRead system kept entry → AreValued system kept entry
       → is_finished sys state ≡ false → line_due sys state entry ≡ line_wanted entry → may system script kept entry ≡ true → Legal sys state entry × StepShows sys state kept entry
   may-shows (Restart t n cause) low read fit unfinished due passes =
       let found = (restart-shows system script valid b log run kept stands t low n cause read).0 passes in
@@ -65,7 +65,7 @@ module _ (system : System) (script : List FailLine) (log : List Event) (kept : K
   may-shows (End t (Fault x)) there read fit unfinished due passes = (plain-shows (End t (Fault x)) there read fit unfinished due passes, tt)
   may-shows (End t Lost) there read fit unfinished due passes = (plain-shows (End t Lost) there read fit unfinished due passes, tt)
 
-  pub shows-may : (entry : Event) → IsThere system entry → IsStepRead system kept entry → IsImageFit system kept entry → Legal sys state entry → StepShows sys state kept entry → may system script kept entry ≡ true
+  pub shows-may : (entry : Event) → IsThere system entry → IsStepRead system kept entry → AreValued system kept entry → Legal sys state entry → StepShows sys state kept entry → may system script kept entry ≡ true
   shows-may (Restart t n cause) low read fit legal shows = (restart-shows system script valid b log run kept stands t low n cause read).1 (legal.fits, shows)
   shows-may (End t (Suspended cause)) low read fit legal shows = (suspend-shows system script valid b log run kept stands t low cause read).1 (legal.fits, shows)
   shows-may (Show t phase attempt k) there read fit legal shows = plain-may (Show t phase attempt k) there read fit legal

@@ -1,9 +1,8 @@
 -- Whether the programs of which an entry speaks stand at their verbs, in what is kept.
-use Rattle.std.specs.Prelude.{◌≡◌, ◌⊎◌, ℕ, ◌<◌, ◌≤◌, true, List, length, All, IsSome, Some}
+use Rattle.std.specs.Prelude.{◌≡◌, ◌⊎◌, ℕ, ◌<◌, true, length, IsSome, Some}
 use Rattle.pw_class.specs.Queue.{at_process}
 use Rattle.pw_class.specs.declared.request.Request.{Request}
 use Rattle.pw_code.specs.declared.context.Context.{Context}
-use Rattle.pw_code.specs.declared.context.Frame.{Frame}
 use Rattle.pw_code.specs.declared.system.System.{System}
 use Rattle.pw_code.specs.declared.verb.Answer.{Answer}
 use Rattle.pw_event.specs.declared.event.Cause.{Cause}
@@ -65,35 +64,26 @@ abbrev pub IsReplyRead : Kept → Event → Type 0
 IsReplyRead kept (Reply c i t fault) = IsSome (kept.terminals t).ready
 IsReplyRead kept _ = Unit {0}
 
--- ---- images
-
--- each active program is as small as an image has room for
-abbrev pub HasSmallStorage : Context → Type 0
-HasSmallStorage context = All (λ (frame : Frame). length frame.storage ≤ 64000) context.frames
-
--- the numbers and characters of a context are such, and its programs are small
-pub record Fits (context : Context) : Type 0 where
-  pub values : HasValues context
-  pub small : HasSmallStorage context
+-- ---- images: numbers and characters are of their types
 
 -- the context of the terminal at its last answer
-abbrev pub OwnFits : Kept → ℕ → Type 0
-OwnFits kept t = (context : Context) → (kept.terminals t).context ≡ Some context → Fits context
+abbrev pub OwnValues : Kept → ℕ → Type 0
+OwnValues kept t = (context : Context) → (kept.terminals t).context ≡ Some context → HasValues context
 
 -- the context behind the answer that ends a transaction at the verb of the terminal
-abbrev pub ClosedFits : System → Kept → ℕ → Type 0
-ClosedFits system kept t =
+abbrev pub ClosedValues : System → Kept → ℕ → Type 0
+ClosedValues system kept t =
     (context : Context) (a : Answer) → (kept.terminals t).ready ≡ Some context
-    → closing (verb_in system context) ≡ Some a → Fits (answered_with system a context)
+    → closing (verb_in system context) ≡ Some a → HasValues (answered_with system a context)
 
--- the contexts fit of which an entry compares or sends the images
-abbrev pub IsImageFit : System → Kept → Event → Type 0
-IsImageFit system kept (CheckStart t) = OwnFits kept t
-IsImageFit system kept (CheckEnd t) = ClosedFits system kept t
-IsImageFit system kept (CheckCopy t) =
+-- the contexts of which an entry compares or sends the images
+abbrev pub AreValued : System → Kept → Event → Type 0
+AreValued system kept (CheckStart t) = OwnValues kept t
+AreValued system kept (CheckEnd t) = ClosedValues system kept t
+AreValued system kept (CheckCopy t) =
     (context : Context)
-    → copied (kept.terminals t).start (kept.terminals t).context ≡ Some context → Fits context
-IsImageFit system kept (Begin t n r) = OwnFits kept t
-IsImageFit system kept (Commit t n) = ClosedFits system kept t
-IsImageFit system kept (Back t n) = ClosedFits system kept t
-IsImageFit system kept _ = Unit {0}
+    → copied (kept.terminals t).start (kept.terminals t).context ≡ Some context → HasValues context
+AreValued system kept (Begin t n r) = OwnValues kept t
+AreValued system kept (Commit t n) = ClosedValues system kept t
+AreValued system kept (Back t n) = ClosedValues system kept t
+AreValued system kept _ = Unit {0}

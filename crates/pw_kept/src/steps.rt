@@ -10,23 +10,23 @@ ghost use Rattle.pw_kept.specs.May.{IsLineThere, IsThere, may};
 ghost use Rattle.pw_kept.specs.Meeting.{IsStepRead, StepShows};
 ghost use Rattle.pw_kept.specs.Members.{AreOf};
 ghost use Rattle.pw_kept.specs.Needs.{Needs};
-ghost use Rattle.pw_kept.specs.Read.{IsEntryRead, IsImageFit, IsReplyRead};
+ghost use Rattle.pw_kept.specs.Read.{AreValued, IsEntryRead, IsReplyRead};
 ghost use Rattle.pw_kept.specs.Stands.{Stands};
 ghost use Rattle.pw_legal.specs.Legality.{fits};
 ghost use Rattle.pw_onecopy.specs.IsBehaviour.{IsBehaviour};
 ghost use Rattle.pw_paired.specs.Step.{IsRun, Legal, after, is_finished, line_due, line_wanted};
 
-/// In every run of a deck: where the programs of which an entry speaks have been read and the
-/// contexts fit of which it compares images, the test of what is kept says whether the entry is
-/// legal by its kind; and it is legal where besides the log is not finished and the failure line
-/// that is due is its own.
+/// In every run of a deck: where the programs of which an entry speaks have been read, the test of
+/// what is kept says whether the entry is legal by its kind; and it is legal where besides the log
+/// is not finished and the failure line that is due is its own. The contexts of which images are
+/// compared have numbers and characters of their types.
 pub fn may_laws()
     ensures kind { (system : System) (script : List FailLine) (log : List Event) (kept : Kept)
         (entry : Event)
         → IsValid system → IsBehaviour (behaviour script system)
         → IsRun (behaviour script system) log
         → Stands system script (after (behaviour script system) log) kept
-        → IsThere system entry → IsEntryRead system kept entry → IsImageFit system kept entry
+        → IsThere system entry → IsEntryRead system kept entry → AreValued system kept entry
         → may system script kept entry
         ≡ fits (behaviour script system) (after (behaviour script system) log) entry }
     ensures legal { (system : System) (script : List FailLine) (log : List Event) (kept : Kept)
@@ -34,7 +34,7 @@ pub fn may_laws()
         → IsValid system → IsBehaviour (behaviour script system)
         → IsRun (behaviour script system) log
         → Stands system script (after (behaviour script system) log) kept
-        → IsThere system entry → IsEntryRead system kept entry → IsImageFit system kept entry
+        → IsThere system entry → IsEntryRead system kept entry → AreValued system kept entry
         → is_finished (behaviour script system) (after (behaviour script system) log) ≡ false
         → line_due (behaviour script system) (after (behaviour script system) log) entry
         ≡ line_wanted entry
@@ -45,7 +45,7 @@ pub fn may_laws()
         → IsValid system → IsBehaviour (behaviour script system)
         → IsRun (behaviour script system) log
         → Stands system script (after (behaviour script system) log) kept
-        → IsThere system entry → IsEntryRead system kept entry → IsImageFit system kept entry
+        → IsThere system entry → IsEntryRead system kept entry → AreValued system kept entry
         → Legal (behaviour script system) (after (behaviour script system) log) entry
         → may system script kept entry ≡ true }
 {}
@@ -59,7 +59,7 @@ pub fn show_laws()
         → IsValid system → IsBehaviour (behaviour script system)
         → IsRun (behaviour script system) log
         → Stands system script (after (behaviour script system) log) kept
-        → IsThere system entry → IsStepRead system kept entry → IsImageFit system kept entry
+        → IsThere system entry → IsStepRead system kept entry → AreValued system kept entry
         → is_finished (behaviour script system) (after (behaviour script system) log) ≡ false
         → line_due (behaviour script system) (after (behaviour script system) log) entry
         ≡ line_wanted entry
@@ -71,15 +71,16 @@ pub fn show_laws()
         → IsValid system → IsBehaviour (behaviour script system)
         → IsRun (behaviour script system) log
         → Stands system script (after (behaviour script system) log) kept
-        → IsThere system entry → IsStepRead system kept entry → IsImageFit system kept entry
+        → IsThere system entry → IsStepRead system kept entry → AreValued system kept entry
         → Legal (behaviour script system) (after (behaviour script system) log) entry
         → StepShows (behaviour script system) (after (behaviour script system) log) kept entry
         → may system script kept entry ≡ true }
 {}
 
 /// In every run of a deck: what a legal entry needs is there, where the programs of which it speaks
-/// have been read and the contexts fit of which it sends images; so what is computed from what was
-/// kept stands for the state behind it. The lists have the terminals of each pair.
+/// have been read; so what is computed from what was kept stands for the state behind it. The
+/// contexts of which images are sent have numbers and characters of their types, and the lists have
+/// the terminals of each pair.
 pub fn step_laws()
     ensures needs { (system : System) (script : List FailLine) (log : List Event) (kept : Kept)
         (entry : Event)
@@ -87,7 +88,7 @@ pub fn step_laws()
         → IsRun (behaviour script system) log
         → Stands system script (after (behaviour script system) log) kept
         → IsThere system entry → IsEntryRead system kept entry → IsReplyRead kept entry
-        → IsImageFit system kept entry
+        → AreValued system kept entry
         → Legal (behaviour script system) (after (behaviour script system) log) entry
         → Needs system script (after (behaviour script system) log) kept entry }
     ensures next { (system : System) (script : List FailLine) (members : ℕ → List ℕ)
@@ -97,7 +98,7 @@ pub fn step_laws()
         → ((p : ℕ) → AreOf system p (members p))
         → Stands system script (after (behaviour script system) log) kept
         → IsThere system entry → IsEntryRead system kept entry → IsReplyRead kept entry
-        → IsImageFit system kept entry
+        → AreValued system kept entry
         → Legal (behaviour script system) (after (behaviour script system) log) entry
         → Stands system script (after (behaviour script system) (log ++ entry ∷ []))
         (entered system members entry kept) }
