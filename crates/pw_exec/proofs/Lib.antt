@@ -4,5 +4,6 @@ pub mod Counting
 pub mod Progress
 pub mod RunLemmas
 pub mod Sizes
+pub mod SizesOfServers
 mod Standing
 pub mod Written

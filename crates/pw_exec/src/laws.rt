@@ -12,7 +12,7 @@ ghost use Rattle.pw_exec.specs.Config.{Config, starting, starting_server};
 ghost use Rattle.pw_exec.specs.Contexts.{RunsOn, Takes};
 ghost use Rattle.pw_exec.specs.Counts.{CountsOf};
 ghost use Rattle.pw_exec.specs.OfSystem.{behaviour, told};
-ghost use Rattle.pw_exec.specs.Runs.{Comes, StandsFor, StandsFrom, after, at_verb};
+ghost use Rattle.pw_exec.specs.Runs.{Comes, StandsFor, StandsForFiles, StandsFrom, after, at_verb};
 ghost use Rattle.pw_exec.specs.Sound.{IsSoundContext};
 ghost use Rattle.pw_onecopy.specs.IsBehaviour.{IsPath};
 ghost use Rattle.pw_onecopy.specs.Path.{PathAnswer};
@@ -50,11 +50,14 @@ pub fn count_laws()
         → StandsFor system terminal.program (map (told terminal.entries) path) context → CountsOf path context }
 {}
 
-/// The context of a terminal's program, over whatever answers, is sound; and each of its programs at work has at most
-/// as many characters as a code may have and a CALL keeps.
+/// The context of a terminal's program, over whatever answers, is sound, and so is that of a server; and each program
+/// at work of a terminal has at most as many characters as a code may have and a CALL keeps.
 pub fn sound_laws()
     ensures sound { (system : System) (program : ℕ) (answers : List Answer) (context : Context)
         → IsValid system → program < length system.programs → StandsFor system program answers context
+        → IsSoundContext system context }
+    ensures servers { (system : System) (server : ℕ) (message : List ℕ) (answers : List Answer) (context : Context)
+        → IsValid system → server < length system.servers → StandsForFiles system server message answers context
         → IsSoundContext system context }
     ensures small { (system : System) (program : ℕ) (answers : List Answer) (context : Context)
         → IsValid system → program < length system.programs → StandsFor system program answers context
