@@ -25,6 +25,7 @@ pub mod Mays
 pub mod Meeting
 pub mod Needed
 pub mod OfRuns
+pub mod PathLengths
 pub mod Raised
 pub mod Readings
 pub mod Replying
@@ -35,6 +36,7 @@ pub mod Served
 pub mod Serving
 pub mod Settled
 pub mod Showing
+pub mod Sounds
 pub mod Starting
 pub mod TakenOver
 pub mod Testing
