@@ -1,4 +1,6 @@
 pub mod Bounds
+pub mod CountSteps
+pub mod Counting
 pub mod Progress
 pub mod RunLemmas
 mod Standing

@@ -3,6 +3,7 @@ pub mod Calls
 pub mod Conditions
 pub mod Config
 pub mod Contexts
+pub mod Counts
 pub mod Entries
 pub mod Moves
 pub mod OfSystem

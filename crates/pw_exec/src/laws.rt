@@ -1,12 +1,18 @@
-ghost use Rattle.std.specs.Prelude.{◌≡◌, ℕ, [], ◌∷◌, ◌++◌, true, List};
+ghost use Rattle.std.specs.Prelude.{◌≡◌, ℕ, [], ◌∷◌, ◌++◌, true, List, Some, map, slice_get};
 ghost use Rattle.pw_code.specs.Valid.{IsValid};
 ghost use Rattle.pw_code.specs.declared.context.Context.{Context};
 ghost use Rattle.pw_code.specs.declared.system.System.{System};
+ghost use Rattle.pw_code.specs.declared.system.TermInfo.{TermInfo};
 ghost use Rattle.pw_code.specs.declared.verb.Answer.{Answer};
 ghost use Rattle.pw_code.specs.declared.verb.Verb.{Verb};
+ghost use Rattle.pw_event.specs.declared.script.FailLine.{FailLine};
 ghost use Rattle.pw_exec.specs.Config.{Config, starting, starting_server};
 ghost use Rattle.pw_exec.specs.Contexts.{RunsOn, Takes};
-ghost use Rattle.pw_exec.specs.Runs.{Comes, StandsFrom, after, at_verb};
+ghost use Rattle.pw_exec.specs.Counts.{CountsOf};
+ghost use Rattle.pw_exec.specs.OfSystem.{behaviour, told};
+ghost use Rattle.pw_exec.specs.Runs.{Comes, StandsFor, StandsFrom, after, at_verb};
+ghost use Rattle.pw_onecopy.specs.IsBehaviour.{IsPath};
+ghost use Rattle.pw_onecopy.specs.Path.{PathAnswer};
 
 /// A context that runs on to its next verb still stands for its answers; one that takes an answer stands for one
 /// more. At a verb one context alone stands for given answers.
@@ -30,4 +36,13 @@ pub fn verb_laws()
     ensures servers { (system : System) (server : ℕ) (message : List ℕ) (answers : List Answer) (at : Config)
         → IsValid system → Comes system (starting_server system server message) answers at → at_verb at ≡ true
         → after system (starting_server system server message) answers ≡ at }
+{}
+
+/// The counts of a context are those of the path for which it stands: its units, its next refresh number, its entry
+/// lines, and whether it is in a transaction.
+pub fn count_laws()
+    ensures { (script : List FailLine) (system : System) (t : ℕ) (terminal : TermInfo) (path : List PathAnswer)
+        (context : Context)
+        → IsValid system → slice_get system.terminals t ≡ Some terminal → IsPath (behaviour script system) t path
+        → StandsFor system terminal.program (map (told terminal.entries) path) context → CountsOf path context }
 {}

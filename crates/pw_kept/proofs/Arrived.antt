@@ -59,7 +59,7 @@ arrives-more : (system : System) (answers : List Answer) (answer : Answer) (c d 
 arrives-more system [] answer c d at first reaches = (at, (subst (λ x. Reaches system x at) (sym first) reaches, refl))
 arrives-more system (one ∷ answers) answer c d at first reaches = (first.0, (first.1.0, arrives-more system answers answer (put system one first.0) d at first.1.1 reaches))
 
-arrives-comes : (system : System) (answers : List Answer) (c d : Config) → Arrives system c answers d → Comes system c answers d
+pub arrives-comes : (system : System) (answers : List Answer) (c d : Config) → Arrives system c answers d → Comes system c answers d
 arrives-comes system [] c d is = subst (Comes system c []) is (0, refl)
 arrives-comes system (answer ∷ answers) c d first =
     before at_verb (step system) (put system) first.1.0.0.0 c first.0 d answer answers first.1.0.0.1 first.1.0.1 (arrives-comes system answers (put system answer first.0) d first.1.1)

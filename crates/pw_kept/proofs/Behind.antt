@@ -30,7 +30,7 @@ use Rattle.pw_paired.specs.Units.{give_answer}
 
 -- ---- contexts and configurations
 
-open-closed : (c : Config) → opened (closed c) ≡ c
+pub open-closed : (c : Config) → opened (closed c) ≡ c
 open-closed c =
     let long : length (c.rest.frames ++ c.top ∷ []) - 1 ≡ length c.rest.frames = let l = length_push c.rest.frames c.top in omega (arith, l) in
     let top : get_or (c.rest.frames ++ c.top ∷ []) (length (c.rest.frames ++ c.top ∷ []) - 1) (frame_at 0 []) ≡ c.top = ap (λ n. get_or (c.rest.frames ++ c.top ∷ []) n (frame_at 0 [])) long ∙ get_or_push c.rest.frames c.top (frame_at 0 []) (length c.rest.frames) refl in

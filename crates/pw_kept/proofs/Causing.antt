@@ -1,9 +1,12 @@
 -- The tests of causes are those of the state.
-use Rattle.std.proofs.Common.{◌≡◌, ℕ, ◌+◌, ◌<◌, ◌==◌, ◌&&◌, ◌||◌, nat_lt, List, Option, Some, None, Bool, not, is_some, refl, sym, ap, ap₂, subst, ◌∙◌, length, arith}
+use Rattle.std.proofs.Common.{◌≡◌, inl, inr, ℕ, ◌+◌, ◌<◌, ◌==◌, ◌&&◌, ◌||◌, nat_lt, List, Option, Some, None, Bool, true, false, not, is_some, refl, sym, ap, ap₂, subst, ◌∙◌, length, arith}
 use Rattle.std.specs.Prelude.{slice_get}
 use Rattle.std.specs.List.{list_any}
 use Rattle.std.specs.Option.{option_map}
+use Rattle.std.proofs.lemmas.Bool.{eqb-true}
 use Rattle.pw_class.specs.Queue.{at_process}
+use Rattle.pw_class.specs.declared.request.Request.{Request}
+use Rattle.pw_code.specs.declared.context.Context.{Context}
 use Rattle.pw_code.specs.declared.file.FileCall.{FileCall}
 use Rattle.pw_code.specs.declared.lock.LockRule.{LockRule}
 use Rattle.pw_code.specs.declared.system.ClassInfo.{ClassInfo}
@@ -29,7 +32,7 @@ use Rattle.pw_kept.specs.Tested.{CauseTested, IsPlaced, IsServing}
 use Rattle.pw_kept.proofs.Agreeing.{there-is}
 use Rattle.pw_kept.proofs.Components.{some_is}
 use Rattle.pw_kept.proofs.Serving.{unit-same, where-works}
-use Rattle.pw_kept.proofs.Testing.{alone-as, any-same, gone-as, own-mode, paired-as, where-is}
+use Rattle.pw_kept.proofs.Testing.{alone-as, and-guard, any-same, can-same, gone-as, own-mode, paired-as, where-is}
 use Rattle.pw_legal.specs.Causes as legal
 use Rattle.pw_legal.specs.Causes.{is_legal_restart, job_meets}
 use Rattle.pw_legal.specs.Pairs.{is_legal_end}
@@ -39,6 +42,7 @@ use Rattle.pw_locks.specs.Conflicts.{conflict, is_same_unit}
 use Rattle.pw_locks.specs.declared.lock.Lock.{Lock}
 use Rattle.pw_onecopy.specs.Operation.{lock_for}
 use Rattle.pw_paired.specs.Failure.{unit_named}
+use Rattle.pw_paired.specs.Server.{server_verb}
 use Rattle.pw_paired.specs.State.{BeforeImage, Job, OpenUnit, State}
 use Rattle.pw_paired.specs.Units.{request_in, restarts_of}
 use Rattle.pw_runs.proofs.requests.Queues.{works-queue}
@@ -46,7 +50,7 @@ use Rattle.pw_tmf.specs.Tells.{as_told, images_by}
 use Rattle.pw_tmf.specs.Told.{ToldUnit}
 
 -- a test of what a disc tells of a unit is one of the unit
-told-same : (before : List BeforeImage) (f : ToldUnit → Bool) (g : OpenUnit → Bool) (o : Option OpenUnit) → ((own : OpenUnit) → o ≡ Some own → f (as_told before own) ≡ g own) → some_with f (option_map (as_told before) o) ≡ some_with g o
+pub told-same : (before : List BeforeImage) (f : ToldUnit → Bool) (g : OpenUnit → Bool) (o : Option OpenUnit) → ((own : OpenUnit) → o ≡ Some own → f (as_told before own) ≡ g own) → some_with f (option_map (as_told before) o) ≡ some_with g o
 told-same before f g None same = refl
 told-same before f g (Some own) same = same own refl
 
@@ -77,13 +81,19 @@ module _ (system : System) (script : List FailLine) (state : State) (own : Kept)
     by-verb (verb.Fault code) = refl
     by-verb (verb.Reply reply) = refl
 
-    work-same : works_where own c i (work_meets system own one other) ≡ job_meets (behaviour script system) state one other c serving.job
+    pub work-same : works_where own c i (work_meets system own one other) ≡ job_meets (behaviour script system) state one other c serving.job
     work-same =
         where-works system script state own stands c i serving (work_meets system own one other)
         ∙ ap (λ b. serving.job.request.terminal == one.terminal && (serving.job.request.unit == one.number && b))
-        (by-verb (verb_in system serving.context) ∙ ap (asks_file (legal.call_meets (behaviour script system) state other serving.job)) serving.says)
+        (ap (λ b. b && asks_file (call_meets own other serving.job.request) (verb_in system serving.context)) serving.at_verb
+        ∙ (by-verb (verb_in system serving.context) ∙ ap (asks_file (legal.call_meets (behaviour script system) state other serving.job)) serving.says))
 
-  module _ (all : (c i : ℕ) (job : Job) → (state.classes c).busy i ≡ Some job → IsServing system script state own c i) (one other : unit.Unit) where
+  module _ (one other : unit.Unit) (all : (c i : ℕ) (job : Job) → (state.classes c).busy i ≡ Some job → job.request.terminal ≡ one.terminal → IsServing system script state own c i) where
+    -- a server for another terminal meets nothing
+    none-of : (request : Request) (o : Option Context) → (request.terminal == one.terminal) ≡ false → some_with (work_meets system own one other request) o ≡ false
+    none-of request None is = refl
+    none-of request (Some context) is = ap (λ b. b && (request.unit == one.number && (context.at_verb && asks_file (call_meets own other request) (verb_in system context)))) is
+
     -- a process of a class
     process-same : (c i : ℕ) (info : ClassInfo) → slice_get system.classes c ≡ Some info → i < info.processes
         → works_where own c (i + 1) (work_meets system own one other) ≡ some_with (job_meets (behaviour script system) state one other c) ((state.classes c).busy (i + 1))
@@ -94,11 +104,19 @@ module _ (system : System) (script : List FailLine) (state : State) (own : Kept)
             let old : StandsForClass system info (state.classes c) (own.queues c) (own.jobs c) = stands.classes c info here in
             ap (λ q. at_process q (i + 1)) old.queue_is ∙ works-queue info.processes (i + 1) (state.classes c) (omega arith) (omega (arith, low))
 
+        whose : (job : Job) → (state.classes c).busy (i + 1) ≡ Some job → (mine : Bool) → (job.request.terminal == one.terminal) ≡ mine
+            → works_where own c (i + 1) (work_meets system own one other) ≡ job_meets (behaviour script system) state one other c job
+        whose job is true mine =
+            let serving = all c (i + 1) job is (eqb-true job.request.terminal one.terminal mine) in
+            work-same c (i + 1) serving one other ∙ ap (job_meets (behaviour script system) state one other c) (some_is (sym serving.works ∙ is))
+        whose job is false mine =
+            ap (some_with (λ request. some_with (work_meets system own one other request) (own.jobs c (i + 1)))) (at ∙ ap request_in is)
+            ∙ (none-of job.request (own.jobs c (i + 1)) mine
+            ∙ sym (ap (λ b. b && (job.request.unit == one.number && asks_file (legal.call_meets (behaviour script system) state other job) (server_verb (behaviour script system) c job))) mine))
+
         by : (o : Option Job) → (state.classes c).busy (i + 1) ≡ o → works_where own c (i + 1) (work_meets system own one other) ≡ some_with (job_meets (behaviour script system) state one other c) o
         by None is = ap (some_with (λ request. some_with (work_meets system own one other request) (own.jobs c (i + 1)))) (at ∙ ap request_in is)
-        by (Some job) is =
-            let serving = all c (i + 1) job is in
-            work-same c (i + 1) serving one other ∙ ap (job_meets (behaviour script system) state one other c) (some_is (sym serving.works ∙ is))
+        by (Some job) is = whose job is (job.request.terminal == one.terminal) refl
 
     meets-same : kept.meets system own one other ≡ legal.meets (behaviour script system) state one other
     unfolding legal.meets
@@ -108,24 +126,27 @@ module _ (system : System) (script : List FailLine) (state : State) (own : Kept)
         any-same (processes_by (slice_get system.classes c)) _ _ (λ i few. process-same c i info.0 info.1 (subst (λ n. i < n) (ap processes_by info.1) few)))
 
   module _ (t : ℕ) (placed : IsPlaced system t) (unit : OpenUnit) where
-    older-same : ((c i : ℕ) (job : Job) → (state.classes c).busy i ≡ Some job → IsServing system script state own c i) → (o m : ℕ)
+    older-same : (o m : ℕ) → CauseTested system script state own t (Older o m)
         → is_older system own t (as_told (images_by t state.before) unit) o m ≡ legal.is_legal_older (behaviour script system) state t unit o m
-    older-same all o m =
+    older-same o m all =
         ap (some_with _) (stands.disc.units o)
         ∙ told-same (images_by o state.before) _ _ (state.units o) (λ older is.
         ap (λ b. older.number == m && (nat_lt older.birth unit.birth && b))
         (ap₂ (λ g b. not g && b) (ap is_gone (own-mode system script state own stands t placed) ∙ gone-as (state.modes ((behaviour script system).pair_of t)))
-        (ap₂ (λ a b. a || b) (meets-same all (unit_named t unit) (unit_named o older)) (meets-same all (unit_named o older) (unit_named t unit)))))
+        (ap₂ (λ a b. a || b) (meets-same (unit_named t unit) (unit_named o older) (λ c i job works mine. all c i job works (inl mine)))
+        (meets-same (unit_named o older) (unit_named t unit) (λ c i job works mine. all c i job works (inr mine))))))
 
     holds-same : (cause : Cause) → CauseTested system script state own t cause → kept.holds system own t (as_told (images_by t state.before) unit) cause ≡ legal.holds (behaviour script system) state t unit cause
-    holds-same (Older o m) tested = older-same tested o m
+    holds-same (Older o m) tested = older-same o m tested
     holds-same (Takeover p) tested =
         ap₂ (λ c m. some_with (is_takeover_by p) c && m) (stands.terminals t placed.info placed.here).pending
         (ap is_alone (own-mode system script state own stands t placed) ∙ alone-as (state.modes ((behaviour script system).pair_of t)))
     holds-same (Server k) tested =
         ap₂ (λ c m. some_with (is_server_by k) c && m) (stands.terminals t placed.info placed.here).pending
         (ap is_paired (own-mode system script state own stands t placed) ∙ paired-as (state.modes ((behaviour script system).pair_of t)))
-    holds-same Redo tested = where-is system script state own stands t tested _ _ (ap asks_redo tested.says.verb)
+    holds-same Redo tested =
+        let same = can-same system script state own stands t placed in
+        and-guard _ _ _ _ same (λ e. let asking = tested (same ∙ e) in where-is system script state own stands t asking _ _ (ap asks_redo asking.says.verb))
 
   module _ (t : ℕ) (placed : IsPlaced system t) (cause : Cause) (tested : CauseTested system script state own t cause) where
     restarts-same : (unit : OpenUnit) → state.units t ≡ Some unit → (own.terminals t).restarts ≡ unit.restarts

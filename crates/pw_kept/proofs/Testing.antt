@@ -100,6 +100,11 @@ pub not-some : {A : Type 0} (o : Option A) → not (is_some o) ≡ is_none o
 not-some None = refl
 not-some (Some a) = refl
 
+-- two tests that begin alike matter only where that passes
+pub and-guard : (c d x y : Bool) → c ≡ d → (d ≡ true → (c && x) ≡ (d && y)) → (c && x) ≡ (d && y)
+and-guard c true x y e same = same refl
+and-guard c false x y e same = ap (λ b. b && x) e
+
 module _ (system : System) (script : List FailLine) (state : State) (own : Kept) (stands : Stands system script state own) where
   mode-is : (p : ℕ) → p < length system.tcps → (own.pairs p).mode ≡ mode_as (state.modes p)
   mode-is p few = (stands.pairs p few).mode_is
@@ -114,7 +119,7 @@ module _ (system : System) (script : List FailLine) (state : State) (own : Kept)
     live-same : is_live system own t ≡ legal.is_live (behaviour script system) state t
     live-same = ap (λ e. nat_lt t (length system.terminals) && is_none e) (stands.terminals t placed.info placed.here).ending
 
-    can-same : kept.can_step system own t ≡ legal.can_step (behaviour script system) state t
+    pub can-same : kept.can_step system own t ≡ legal.can_step (behaviour script system) state t
     can-same =
         ap₂ (λ a b. a && b) live-same
         (ap₂ (λ a b. a && b) (ap kept.is_paired own-mode ∙ paired-as (state.modes ((behaviour script system).pair_of t)))

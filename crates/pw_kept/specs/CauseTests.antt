@@ -35,14 +35,15 @@ call_meets kept other request call =
     (kept.disc.files call.file) (unit_at kept request.terminal request.unit) call in
     list_any (λ held. is_same_unit held.unit other && conflict lock held) kept.disc.locks
 
--- the request is of one unit, and the lock of its server's next operation conflicts with a lock of
--- the other
+-- the request is of one unit, its server stands at its verb, and the lock of its next operation
+-- conflicts with a lock of the other
 abbrev pub work_meets : System → Kept → unit.Unit → unit.Unit → Request → Context → Bool
 work_meets system kept one other request context =
     request.terminal == one.terminal && (request.unit == one.number
-    && asks_file (call_meets kept other request) (verb_in system context))
+    && (context.at_verb && asks_file (call_meets kept other request) (verb_in system context)))
 
--- the lock of the next operation of a process for one unit conflicts with a lock of the other
+-- the lock of the next operation of a process for one unit, whose server stands at its verb,
+-- conflicts with a lock of the other
 abbrev pub meets : System → Kept → unit.Unit → unit.Unit → Bool
 meets system kept one other =
     any_below (length system.classes) (λ c.

@@ -5,9 +5,12 @@ pub mod Changes
 pub mod ClassTests
 pub mod Entered
 pub mod Kept
+pub mod May
+pub mod Meeting
 pub mod Members
 pub mod Needs
 pub mod PairTests
+pub mod Read
 pub mod Stands
 pub mod TerminalTests
 pub mod Tested

@@ -1,5 +1,5 @@
 -- What the tests of legality rest on.
-use Rattle.std.specs.Prelude.{◌≡◌, ℕ, ◌<◌, true, not, List, [], ◌∷◌, ◌++◌, length, Some, slice_get}
+use Rattle.std.specs.Prelude.{◌≡◌, ◌⊎◌, ℕ, ◌<◌, true, not, List, [], ◌∷◌, ◌++◌, length, Some, slice_get}
 use Rattle.pw_code.specs.declared.context.Context.{Context}
 use Rattle.pw_code.specs.declared.system.ClassInfo.{ClassInfo}
 use Rattle.pw_code.specs.declared.system.System.{System}
@@ -15,7 +15,7 @@ use Rattle.pw_image.specs.Values.{HasValues}
 use Rattle.pw_kept.specs.Asked.{CountsOf, SaysOf, answered_with, verb_in}
 use Rattle.pw_kept.specs.Kept.{Kept}
 use Rattle.pw_kept.specs.Stands.{IsPathImage}
-use Rattle.pw_kept.specs.TerminalTests.{begins_unit}
+use Rattle.pw_kept.specs.TerminalTests.{begins_unit, can_step}
 use Rattle.pw_onecopy.specs.Path.{PathAnswer, Dropped, Ended, unit_number}
 use Rattle.pw_paired.specs.Server.{server_verb}
 use Rattle.pw_paired.specs.State.{BackupCopy, Job, OpenUnit, State}
@@ -93,11 +93,13 @@ pub record IsServing (system : System) (script : List FailLine) (state : State) 
   pub start : List PathAnswer
   pub runs : own.running ≡ Some start
 
--- what a cause is tested by: for REDO the terminal's program stands at its verb, for OLDER each
--- server at work does
+-- what a cause is tested by: for REDO the terminal's program stands at its verb, if the terminal can
+-- step, for OLDER each server at work for one of the two terminals does
 abbrev pub CauseTested : System → List FailLine → State → Kept → ℕ → Cause → Type 0
 CauseTested system script state kept t (Older o m) =
     (c i : ℕ) (job : Job) → (state.classes c).busy i ≡ Some job
+    → (job.request.terminal ≡ t) ⊎ (job.request.terminal ≡ o)
     → IsServing system script state kept c i
-CauseTested system script state kept t Redo = IsAsking system script state kept t
+CauseTested system script state kept t Redo =
+    can_step system kept t ≡ true → IsAsking system script state kept t
 CauseTested system script state kept t _ = Unit {0}

@@ -12,6 +12,7 @@ pub mod restarts;
 pub mod runs;
 pub mod servers;
 pub mod starts;
+pub mod steps;
 pub mod takeovers;
 pub mod terminals;
 pub mod units;
