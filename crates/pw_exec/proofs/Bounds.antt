@@ -147,7 +147,7 @@ put_kept system a c =
     by_test c _ _ (has_fault c.rest) (same c c refl refl)
     (by_test c _ _ (c.rest.mode == 1) (same c (shown c) refl refl) (answered_kept system (slice_get (code_of system c).instrs c.top.at) a c))
 
-put_shallow : (system : System) (a : Answer) (c : Config) → Shallow c → Shallow (put system a c)
+pub put_shallow : (system : System) (a : Answer) (c : Config) → Shallow c → Shallow (put system a c)
 put_shallow system a c s =
     let kept = put_kept system a c in
     record {
@@ -323,7 +323,7 @@ after_is system c d answers valid s comes v =
 start_shallow : (system : System) (program : ℕ) → Shallow (starting system program)
 start_shallow system program = record { top = omega arith; waiting = All-nil (λ (frame : Frame). length frame.returns ≤ most_performs); few = omega arith }
 
-server_shallow : (system : System) (server : ℕ) (message : List ℕ) → Shallow (starting_server system server message)
+pub server_shallow : (system : System) (server : ℕ) (message : List ℕ) → Shallow (starting_server system server message)
 server_shallow system server message = record { top = omega arith; waiting = All-nil (λ (frame : Frame). length frame.returns ≤ most_performs); few = omega arith }
 
 pub after_terminal : (system : System) (program : ℕ) (answers : List Answer) (d : Config) → IsValid system → Comes system (starting system program) answers d → at_verb d ≡ true
