@@ -1,9 +1,9 @@
 -- An actor has one stamp.
-use Rattle.std.proofs.Common.{◌≡◌, ◌≢◌, ◌⊎◌, ℕ, ◌-◌, ◌<◌, ◌≤◌, List, length, sym, ◌∙◌, ⊎_elim, arith}
+use Rattle.std.proofs.Common.{◌≡◌, ℕ, ◌-◌, ◌<◌, ◌≤◌, List, length, sym, ◌∙◌, ⊎_elim, arith}
 use Rattle.std.proofs.lemmas.Bool.{cases_eq, cases_lt}
 use Rattle.pw_event.specs.declared.event.Event.{Event}
 use Rattle.pw_monitor_world.specs.Stamps.{IsStamp}
-use Rattle.pw_monitor_world.specs.declared.task.Actor.{Actor}
+use Rattle.pw_roster.specs.declared.actor.Actor.{Actor}
 use Rattle.pw_onecopy.specs.Behaviour.{Behaviour}
 
 -- none is below another

@@ -1,10 +1,12 @@
 -- Who the actors of a system are, and whose step an entry is.
-use Rattle.std.specs.Prelude.{ℕ, ◌<◌, ◌≤◌, ◌==◌, ◌&&◌, Bool, false, length, slice_get}
+pub use Rattle.pw_roster.specs.Places.{is_same_actor}
+use Rattle.std.specs.Prelude.{ℕ, ◌+◌, ◌<◌, ◌≤◌, ◌==◌, List, [], ◌∷◌, length, slice_get, if◌then◌else◌}
 use Rattle.pw_code.specs.declared.system.System.{System}
+use Rattle.pw_code.specs.declared.system.TermInfo.{TermInfo}
 use Rattle.pw_event.specs.declared.event.Event.{Event}
 use Rattle.pw_exec.specs.OfSystem.{processes_by}
-use Rattle.pw_monitor_world.specs.declared.task.Actor.{Actor}
-use Rattle.pw_monitor_world.specs.declared.task.Actor.TheVariants.{Terminal, Process, Pair, Class}
+use Rattle.pw_roster.specs.declared.actor.Actor.{Actor}
+use Rattle.pw_roster.specs.declared.actor.Actor.TheVariants.{Terminal, Process, Pair, Class}
 use Rattle.pw_onecopy.specs.Behaviour.{Behaviour}
 use Rattle.pw_serial.specs.Actors as serial
 
@@ -14,14 +16,6 @@ IsActor system (Terminal t) = t < length system.terminals
 IsActor system (Process c i) = (1 ≤ i) × (i ≤ processes_by (slice_get system.classes c))
 IsActor system (Pair p) = p < length system.tcps
 IsActor system (Class c) = c < length system.classes
-
--- two actors are one
-abbrev pub is_same_actor : Actor → Actor → Bool
-is_same_actor (Terminal t) (Terminal u) = t == u
-is_same_actor (Process c i) (Process d j) = c == d && i == j
-is_same_actor (Pair p) (Pair q) = p == q
-is_same_actor (Class c) (Class d) = c == d
-is_same_actor _ _ = false
 
 -- an actor as the world names it
 abbrev pub as_actor : serial.Actor → Actor
@@ -33,3 +27,15 @@ as_actor (serial.Class c) = Class c
 -- whose step an entry is
 abbrev pub actor_of : Behaviour → Event → Actor
 actor_of sys entry = as_actor (serial.actor_of sys entry)
+
+-- ---- the terminals of a pair
+
+-- the terminals of the pair among these, of which the first has this number
+abbrev pub members_from : ℕ → ℕ → List TermInfo → List ℕ
+members_from p t [] = []
+members_from p t (info ∷ infos) =
+    if info.tcp == p then t ∷ members_from p (t + 1) infos else members_from p (t + 1) infos
+
+-- the terminals of the pair, in order
+abbrev pub members_of : System → ℕ → List ℕ
+members_of system p = members_from p 0 system.terminals

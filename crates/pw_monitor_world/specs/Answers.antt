@@ -18,8 +18,8 @@ use Rattle.pw_monitor_world.specs.declared.answers.Claim.{Claim}
 use Rattle.pw_monitor_world.specs.declared.answers.Claim.TheVariants as claim
 use Rattle.pw_monitor_world.specs.declared.answers.Entered as answer
 use Rattle.pw_monitor_world.specs.declared.answers.Entered.TheVariants as enter
-use Rattle.pw_monitor_world.specs.declared.task.Actor.{Actor}
-use Rattle.pw_monitor_world.specs.declared.task.Actor.TheVariants.{Terminal, Process, Pair, Class}
+use Rattle.pw_roster.specs.declared.actor.Actor.{Actor}
+use Rattle.pw_roster.specs.declared.actor.Actor.TheVariants.{Terminal, Process, Pair}
 use Rattle.pw_monitor_world.specs.declared.task.Outcome.{Outcome}
 use Rattle.pw_monitor_world.specs.declared.task.Task.{Task}
 use Rattle.pw_pair.specs.Pairs.{passes}

@@ -1,5 +1,5 @@
 -- Which failure lines have no FAIL entry yet, and how many entries belong to each pair and class.
-use Rattle.std.specs.Prelude.{◌≡◌, ℕ, ◌+◌, ◌<◌, nat_le, not, ◌==◌, Bool, false, List, [], ◌∷◌, length, filter, find, replicate, slice_index_or, slice_set, Option, Some, None, if◌then◌else◌}
+use Rattle.std.specs.Prelude.{◌≡◌, ℕ, ◌+◌, ◌<◌, nat_le, not, Bool, List, [], ◌∷◌, length, filter, find, replicate, slice_index_or, slice_set, Option, Some, None, if◌then◌else◌}
 use Rattle.std.specs.List.{list_any}
 use Rattle.pw_event.specs.Due.{after_of, entries_of, is_fail_of, is_same_owner, owner_of, owner_of_line}
 use Rattle.pw_event.specs.declared.event.Event.{Event}

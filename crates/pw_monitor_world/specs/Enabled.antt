@@ -10,7 +10,7 @@ use Rattle.pw_event.specs.declared.event.Event.{Event}
 use Rattle.pw_event.specs.declared.event.Event.TheVariants.{Restart, End}
 use Rattle.pw_monitor_world.specs.Actors.{actor_of}
 use Rattle.pw_monitor_world.specs.Seen.{Seen, state_of, sys_of, work_of}
-use Rattle.pw_monitor_world.specs.declared.task.Actor.{Actor}
+use Rattle.pw_roster.specs.declared.actor.Actor.{Actor}
 use Rattle.pw_paired.specs.Failure.{Meets, unit_named}
 use Rattle.pw_paired.specs.State.{OpenUnit}
 use Rattle.pw_paired.specs.Step.{Legal}

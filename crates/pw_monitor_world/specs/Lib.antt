@@ -1,7 +1,10 @@
 pub mod Actors
 pub mod Answers
+pub mod Calls
 pub mod Dues
 pub mod Enabled
+pub mod OneSends
 pub mod Seen
 pub mod Stamps
 pub mod Tasks
+pub mod Worlds

@@ -6,8 +6,8 @@ use Rattle.pw_event.specs.declared.event.Event.{Event}
 use Rattle.pw_event.specs.declared.script.FailLine.{FailLine}
 use Rattle.pw_exec.specs.OfSystem.{behaviour}
 use Rattle.pw_kept.specs.Kept.{Kept, KeptTerminal}
-use Rattle.pw_monitor_world.specs.declared.task.Actor.{Actor}
-use Rattle.pw_monitor_world.specs.declared.task.Actor.TheVariants.{Terminal, Process, Pair, Class}
+use Rattle.pw_roster.specs.declared.actor.Actor.{Actor}
+use Rattle.pw_roster.specs.declared.actor.Actor.TheVariants.{Terminal, Process, Pair, Class}
 use Rattle.pw_onecopy.specs.Behaviour.{Behaviour}
 use Rattle.pw_paired.specs.State.{State}
 use Rattle.pw_paired.specs.Step.{after, is_finished}

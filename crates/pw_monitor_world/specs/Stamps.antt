@@ -1,10 +1,8 @@
 -- When the state of an actor last changed.
-use Rattle.std.specs.Prelude.{◌≡◌, ◌⊎◌, ℕ, ◌-◌, ◌≤◌, ◌==◌, ◌&&◌, Bool, List, length, take, Option, Some, None, is_some, if◌then◌else◌}
-use Rattle.pw_class.specs.declared.request.Request.{Request}
-use Rattle.pw_event.specs.declared.event.Cause.{Cause}
+use Rattle.std.specs.Prelude.{◌≡◌, ◌⊎◌, ℕ, ◌-◌, ◌≤◌, ◌==◌, Bool, List, length, take, Option, Some, None, is_some, if◌then◌else◌}
 use Rattle.pw_event.specs.declared.event.Event.{Event}
-use Rattle.pw_monitor_world.specs.declared.task.Actor.{Actor}
-use Rattle.pw_monitor_world.specs.declared.task.Actor.TheVariants.{Terminal, Process, Pair, Class}
+use Rattle.pw_roster.specs.declared.actor.Actor.{Actor}
+use Rattle.pw_roster.specs.declared.actor.Actor.TheVariants.{Terminal, Process, Pair, Class}
 use Rattle.pw_onecopy.specs.Behaviour.{Behaviour}
 use Rattle.pw_paired.specs.Raising.{is_takeover}
 use Rattle.pw_paired.specs.State as paired

@@ -1,12 +1,17 @@
-ghost use Rattle.std.specs.Prelude.{◌≡◌, ◌++◌, ◌∷◌, [], ℕ, List};
+ghost use Rattle.std.specs.Prelude.{◌≡◌, ◌↔◌, ◌==◌, ◌++◌, ◌∷◌, [], ℕ, List, false, slice_index_or, true};
 ghost use Rattle.pw_event.specs.Due.{due_line, owner_of};
 ghost use Rattle.pw_event.specs.declared.event.Event.{Event};
 ghost use Rattle.pw_event.specs.declared.script.FailLine.{FailLine};
 ghost use Rattle.pw_event.specs.declared.script.Owner.{Owner};
 ghost use Rattle.pw_monitor_world.specs.Dues.{DueBook, IsBookOf, IsOwner, after_entry, due_in, first_book};
+ghost use Rattle.pw_monitor_world.specs.OneSends.{BeginsOneSend, begins_one_send, one_sends};
 ghost use Rattle.pw_monitor_world.specs.Stamps.{IsStamp};
-ghost use Rattle.pw_monitor_world.specs.declared.task.Actor.{Actor};
+ghost use Rattle.pw_monitor_world.specs.Worlds.{live_below};
+ghost use Rattle.pw_roster.specs.declared.actor.Actor.{Actor};
 ghost use Rattle.pw_onecopy.specs.Behaviour.{Behaviour};
+ghost use Rattle.pw_paired.specs.Shown.{refresh_of, refreshes};
+ghost use Rattle.pw_paired.specs.State.{State};
+ghost use Rattle.pw_paired.specs.Step.{after, is_finished};
 
 /// An actor has one stamp.
 pub fn stamp_laws()
@@ -29,4 +34,19 @@ pub fn due_laws()
         (entry : Event) → IsBookOf tcps classes pair_of lines log book
         → IsOwner tcps classes (owner_of pair_of entry)
         → IsBookOf tcps classes pair_of lines (log ++ entry ∷ []) (after_entry pair_of entry book) }
+{}
+
+/// What a world keeps beside its log: whether an entry begins a unit that is one SEND, the
+/// refreshes, and how many terminals are live; and what one more entry adds to the first two.
+pub fn book_laws()
+    ensures one_send { (sys : Behaviour) (log : List Event) (place : ℕ)
+        → (slice_index_or (one_sends sys log) place false ≡ true) ↔ BeginsOneSend sys log place }
+    ensures sends { (sys : Behaviour) (log : List Event) (entry : Event)
+        → one_sends sys (log ++ entry ∷ [])
+        ≡ one_sends sys log ++ begins_one_send sys (after sys log) entry ∷ [] }
+    ensures screens { (sys : Behaviour) (log : List Event) (entry : Event)
+        → refreshes sys (log ++ entry ∷ [])
+        ≡ refreshes sys log ++ refresh_of sys (after sys log) entry }
+    ensures live { (sys : Behaviour) (state : State)
+        → is_finished sys state ≡ (live_below sys.terminals state == 0) }
 {}

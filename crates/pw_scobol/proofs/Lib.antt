@@ -1,0 +1,5 @@
+pub mod Divided
+pub mod Items
+pub mod Linkage
+pub mod Named
+pub mod Parameters

@@ -1,1 +1,3 @@
 pub mod Requesters
+pub mod Resolved
+pub mod Using

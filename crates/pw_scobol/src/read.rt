@@ -4,6 +4,7 @@ ghost use Rattle.pw_base.specs.Limits.{longest_input};
 ghost use Rattle.pw_code.specs.Fields.{IsTable};
 ghost use Rattle.pw_divisions.specs.Names.{upper_name};
 ghost use Rattle.pw_scobol.specs.Requesters.{requester_of};
+ghost use Rattle.pw_scobol.specs.Using.{IsParameter};
 
 use crate::requester::Requester;
 use pw_base::bytes::Bytes;
@@ -31,7 +32,8 @@ fn upper_names(alloc: Global, text: &[u8], tokens: &[Token]) -> Result<List<Byte
 }
 
 /// The requester of a name, in upper case, whose source is a text that begins on a line. Its screens
-/// are those of a program with its storage (`IsTable`).
+/// are those of a program with its storage (`IsTable`), and each name of USING is that of an item of
+/// level 01 in LINKAGE SECTION (`IsParameter`).
 ///
 /// It refuses exactly with the fault of the first pass that has one: the tokens, 101 to 104; the
 /// divisions, 151; the data, 111, 121, 122 and 124; the screens, 111, 122, 123 and 141 to 143; the
@@ -49,6 +51,7 @@ pub fn requester(
         (requester_of name.now text.now first_line) }
     ensures screens { IfOk result (λ program.
         All (IsTable (length program.layout.storage)) program.screens) }
+    ensures parameters { IfOk result (λ program. All (IsParameter program.layout) program.using) }
 {
     let tokens = tokens(alloc, text, first_line)?;
     let divisions = divide(alloc, false, name, text, &tokens, first_line)?;

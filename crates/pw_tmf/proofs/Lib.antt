@@ -10,6 +10,7 @@ pub mod Missing
 pub mod Operated
 pub mod PlacedLemmas
 pub mod PutBack
+pub mod Restoring
 pub mod Reversed
 pub mod Settling
 pub mod Starting

@@ -4,6 +4,7 @@ pub mod Faulty
 pub mod Leaving
 pub mod Operation
 pub mod Placed
+pub mod Restored
 pub mod Slots
 pub mod Starting
 pub mod Tells

@@ -44,3 +44,11 @@ pub struct Ended {
     pub number: u32,
     pub reply: Option<Bytes>,
 }
+
+/// What an open unit has changed at a key of a file: the record that is there now, if any.
+#[derive(Debug, Drop)]
+pub struct Changed {
+    pub file: u32,
+    pub key: Bytes,
+    pub content: Option<Bytes>,
+}

@@ -1,13 +1,16 @@
-ghost use Rattle.std.specs.Prelude.{◌≡◌, [], ◌∷◌, All, drop, slice_get, IfOk, OnErr, OnOk};
+ghost use Rattle.std.specs.Prelude.{◌≡◌, [], ◌∷◌, All, drop, length, map, reverse, slice_get, IfOk, OnErr, OnOk};
 ghost use Rattle.std.specs.List.{list_any};
 ghost use Rattle.std.specs.Option.{option_copied};
 ghost use Rattle.pw_blocks.specs.Blocks.{records_of};
 ghost use Rattle.pw_paired.specs.Units.{has_image};
 ghost use Rattle.pw_tmf.specs.Committed.{FitsFile, all_put_back};
 ghost use Rattle.pw_tmf.specs.Placed.{is_found_at};
+ghost use Rattle.pw_tmf.specs.Restored.{changed_in};
+ghost use Rattle.pw_tmf.specs.Tmf.{AreImages, key_lengths, stored};
 
+use crate::answer::Changed;
 use crate::image::Image;
-use crate::store::put_back_if;
+use crate::store::{changed, put_back_if};
 use pw_base::bytes::Bytes;
 use pw_base::memory::Memory;
 use pw_blocks::block_file::BlockFile;
@@ -99,6 +102,19 @@ impl Images {
             put_back_if(file, number, &self.images[left])?;
         }
         Ok(())
+    }
+
+    /// What is at the key of each one in these files now, the first one that was made first.
+    pub fn changes_in(&self, alloc: Global, files: &[BlockFile]) -> Result<Vec<Changed>, Memory>
+        requires { AreImages (key_lengths files.now) (length files.now) self.now }
+        ensures { IfOk result (λ changes. changes.items
+            ≡ map (changed_in (key_lengths files.now) (stored files.now)) (reverse self.now)) }
+    {
+        let mut changes = Vec::new(alloc);
+        for image in self.images.iter() {
+            changes.push(changed(alloc, files, image)?)?;
+        }
+        Ok(changes)
     }
 
     /// An equal value.

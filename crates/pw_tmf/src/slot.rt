@@ -1,13 +1,15 @@
-ghost use Rattle.std.specs.Prelude.{◌≡◌, ◌≤◌, None, Some, All, IfOk, OnErr, OnOk};
+ghost use Rattle.std.specs.Prelude.{◌≡◌, ◌≤◌, None, Some, All, IfOk, OnErr, OnOk, length, map, reverse};
 ghost use Rattle.std.specs.Option.{option_copied, option_map};
 ghost use Rattle.pw_blocks.specs.Blocks.{records_of};
 ghost use Rattle.pw_paired.specs.Units.{has_image};
 ghost use Rattle.pw_tmf.specs.Answers.{ended_unit};
 ghost use Rattle.pw_tmf.specs.Committed.{FitsFile, all_put_back, images_of};
+ghost use Rattle.pw_tmf.specs.Restored.{changed_in};
+ghost use Rattle.pw_tmf.specs.Tmf.{AreImages, key_lengths, stored};
 ghost use Rattle.pw_tmf.specs.Slots.{backed_out_slot, ended_slot, images_in, with_before, with_unit, without_last};
 ghost use Rattle.pw_tmf.specs.Units.{opened};
 
-use crate::answer::Ended;
+use crate::answer::{Changed, Ended};
 use crate::image::{Image, copy_if_any};
 use crate::images::Images;
 use crate::open_unit::OpenUnit;
@@ -132,6 +134,18 @@ impl Slot {
         match &self.open_unit {
             Some(unit) => unit.images().put_back_in(number, file),
             None => Ok(()),
+        }
+    }
+
+    /// What is now at each key of these files that the open unit has changed, if there is one, the first change first.
+    pub fn changes_in(&self, alloc: Global, files: &[BlockFile]) -> Result<Vec<Changed>, Memory>
+        requires { AreImages (key_lengths files.now) (length files.now) (images_of self.now.open_unit) }
+        ensures { IfOk result (λ changes. changes.items
+            ≡ map (changed_in (key_lengths files.now) (stored files.now)) (reverse (images_of self.now.open_unit))) }
+    {
+        match &self.open_unit {
+            Some(unit) => unit.images().changes_in(alloc, files),
+            None => Ok(Vec::new(alloc)),
         }
     }
 

@@ -6,14 +6,17 @@ ghost use Rattle.pw_onecopy.specs.Operation.{changes_records, records_behind};
 ghost use Rattle.pw_onecopy.specs.Update.{upd};
 ghost use Rattle.pw_paired.specs.Units.{put_back};
 ghost use Rattle.pw_tmf.specs.Committed.{FitsFile, put_back_if};
+ghost use Rattle.pw_tmf.specs.Restored.{changed_in};
 ghost use Rattle.pw_tmf.specs.Tmf.{IsImage, key_lengths, stored};
 
+use crate::answer::Changed;
 use crate::image::Image;
 use pw_base::bytes::Bytes;
 use pw_base::memory::Memory;
 use pw_blocks::block_file::BlockFile;
 use pw_code::file::{FileCall, FileOp};
 use pw_files::record_file::RecordFile;
+use std::alloc::Global;
 
 /// Puts a content in its place, whether there is a record with its key or not.
 pub fn put(file: &mut BlockFile, content: &Bytes) -> Result<(), Memory>
@@ -115,4 +118,20 @@ pub fn change_in(files: &mut Vec<BlockFile>, call: &FileCall) -> Result<(), Memo
 {
     change(&mut files[call.file as usize], call)?;
     Ok(())
+}
+
+/// What is at an image's key in the file that it is of.
+pub fn changed(alloc: Global, files: &[BlockFile], image: &Image) -> Result<Changed, Memory>
+    requires { image.now.file < length files.now }
+    ensures { IfOk result (λ changed. changed ≡ changed_in (key_lengths files.now) (stored files.now) image.now) }
+{
+    let content = match files[image.file() as usize].find(image.key()) {
+        Some(content) => Some(Bytes::from_slice(alloc, content)?),
+        None => None,
+    };
+    Ok(Changed {
+        file: image.file(),
+        key: Bytes::from_slice(alloc, image.key())?,
+        content,
+    })
 }

@@ -1,21 +1,25 @@
-ghost use Rattle.std.specs.Prelude.{◌≡◌, [], All, IfErr, IfOk, Ok, OnErr, OnOk};
+ghost use Rattle.std.specs.Prelude.{◌≡◌, ◌<◌, [], All, IfErr, IfOk, IfSome, Ok, OnErr, OnOk};
 ghost use Rattle.pw_code.specs.Valid.{IsValid};
 ghost use Rattle.pw_tmf.specs.Answers.{Leaves, Operates};
+ghost use Rattle.pw_files.specs.Records.{IsContent};
 ghost use Rattle.pw_tmf.specs.Operation.{IsCall};
+ghost use Rattle.pw_tmf.specs.Restored.{changes_of, restored};
 ghost use Rattle.pw_tmf.specs.Starting.{told_at_start};
-ghost use Rattle.pw_tmf.specs.Tmf.{told_of};
+ghost use Rattle.pw_tmf.specs.Tmf.{IsImage, told_of};
 ghost use Rattle.pw_tmf.specs.Units.{AreApart, CanBackOut, IsRunning, all_backed_out, ended};
 
-use crate::answer::{DiscFault, Ended, FileAnswer};
+use crate::answer::{Changed, DiscFault, Ended, FileAnswer};
 use crate::committed::put_all_back;
 use crate::copies::{copy_files, copy_lists, copy_slots};
 use crate::disc::Disc;
+use crate::image::Image;
 use crate::images::Images;
 use crate::operation::{perform, span_of};
 use crate::settle::{is_settled, settle};
 use crate::slot::Slot;
 use crate::start::{files_of, slots_of};
 use crate::stop::stop;
+use crate::store::put_back_in;
 use pw_base::bytes::Bytes;
 use pw_base::memory::Memory;
 use pw_blocks::block_file::BlockFile;
@@ -77,6 +81,50 @@ impl Tmf {
             book: LockBook::new(alloc)?,
             slots: slots_of(alloc, system.terminals.len())?,
         })
+    }
+
+    /// Changes a record for good, as a recovery does: at a key of a file there is this content from now on, or nothing.
+    /// An `Err` leaves all that is told.
+    pub fn restore(&mut self, file: u32, key: Bytes, content: Option<Bytes>) -> Result<(), Memory>
+        requires file { file < (told_of self.old).file_count }
+        requires content { IfSome content (IsContent ((told_of self.old).key_length file)) }
+        ensures ok { OnOk result (told_of self.new ≡ restored (told_of self.old) file key content) }
+        ensures err { OnErr result (told_of self.new ≡ told_of self.old) }
+    {
+        self.settle()?;
+        self.restore_settled(&Image::new(0, (file, key), content))
+    }
+
+    /// Puts back what an image has, where nothing else is to be put back. An `Err` leaves all that is told.
+    fn restore_settled(&mut self, image: &Image) -> Result<(), Memory>
+        requires settled { self.old.pending ≡ [] }
+        requires image { IsImage (told_of self.old).key_length (told_of self.old).file_count image.now }
+        ensures ok { OnOk result (told_of self.new
+            ≡ restored (told_of self.old) image.now.file image.now.key image.now.content) }
+        ensures err { OnErr result (told_of self.new ≡ told_of self.old) }
+    {
+        put_back_in(&mut self.files, image)
+    }
+
+    /// What is now at each key that the open unit of a terminal has changed, if there is one, the first change first. It
+    /// changes nothing that is told.
+    pub fn changes(&mut self, terminal: u32) -> Result<Vec<Changed>, Memory>
+        requires { terminal < (told_of self.old).terminals }
+        ensures told { told_of self.new ≡ told_of self.old }
+        ensures changes { IfOk result (λ changes. changes.items ≡ changes_of (told_of self.old) terminal) }
+    {
+        self.settle()?;
+        self.changes_settled(terminal)
+    }
+
+    /// The same where nothing is to be put back.
+    fn changes_settled(&self, terminal: u32) -> Result<Vec<Changed>, Memory>
+        requires settled { self.now.pending ≡ [] }
+        requires terminal { terminal < (told_of self.now).terminals }
+        ensures { IfOk result (λ changes. changes.items ≡ changes_of (told_of self.now) terminal) }
+    {
+        let alloc = *self.files.allocator();
+        self.slots[terminal as usize].changes_in(alloc, &self.files)
     }
 
     /// Puts back what is still to be put back. It changes nothing that is told.

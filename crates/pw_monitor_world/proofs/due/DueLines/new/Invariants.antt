@@ -1,4 +1,4 @@
-use Rattle.std.proofs.Common.{◌≡◌, ◌+◌, length, take}
+use Rattle.std.proofs.Common.{◌≡◌, ◌+◌, take}
 use Rattle.pw_monitor_world.specs.Dues.{opened_from}
 use Rattle.pw_monitor_world.proofs.due.DueLines.new.Given as goal
 

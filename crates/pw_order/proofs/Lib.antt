@@ -1,0 +1,11 @@
+pub mod Changing
+pub mod Failing
+pub mod Giving
+pub mod Keeping
+pub mod Losing
+pub mod Marking
+pub mod Reading
+pub mod Seating
+pub mod Standing
+pub mod Staying
+pub mod Tables

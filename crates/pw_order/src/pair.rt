@@ -1,0 +1,79 @@
+ghost use Rattle.std.specs.Prelude.{◌≡◌};
+ghost use Rattle.pw_order.specs.Pairs.{loss_of, mode_behind, seat_behind_loss};
+
+use crate::seat::Seat;
+use pw_base::bytes::Bytes;
+
+/// What the order keeps of a pair's mode: Raising and Paired are one, since whether the backup holds
+/// every live terminal is seen from the terminals.
+#[derive(Clone, Copy, Debug, PartialEq, Eq)]
+pub enum Mode {
+    /// One member works, and there is no backup.
+    Alone,
+    /// There is a backup.
+    Backed,
+    /// The primary has failed, and the backup has not taken over.
+    Down,
+    /// No member is left.
+    Gone,
+}
+
+/// What a pair loses when a member of it fails.
+#[derive(Clone, Copy, Debug, PartialEq, Eq)]
+pub enum Loss {
+    Nothing,
+    /// Its primary: the backup can take over.
+    Primary,
+    /// Its backup.
+    Backup,
+    /// Its last member that was up to date.
+    Pair,
+}
+
+impl Mode {
+    /// The mode of a pair of this name before the first entry.
+    pub fn of(_name: &Bytes) -> Mode
+        ensures { result ≡ Mode.Alone }
+    {
+        Mode::Alone
+    }
+
+    /// What is lost when a member fails, in a pair whose backup lacks a live terminal or none.
+    pub fn loses(self, primary: bool, lacks: bool) -> Loss
+        ensures { result ≡ loss_of self primary lacks }
+    {
+        match (self, primary) {
+            (Mode::Backed, true) if lacks => Loss::Pair,
+            (Mode::Backed, true) => Loss::Primary,
+            (Mode::Backed, false) => Loss::Backup,
+            (Mode::Alone, true) | (Mode::Down, false) => Loss::Pair,
+            _ => Loss::Nothing,
+        }
+    }
+
+    /// The mode behind a loss.
+    pub fn behind(self, loss: Loss) -> Mode
+        ensures { result ≡ mode_behind loss self }
+    {
+        match loss {
+            Loss::Nothing => self,
+            Loss::Primary => Mode::Down,
+            Loss::Backup => Mode::Alone,
+            Loss::Pair => Mode::Gone,
+        }
+    }
+}
+
+impl Loss {
+    /// The seat of a terminal of the pair behind the loss.
+    pub fn of_seat(self, seat: Seat) -> Seat
+        ensures { result ≡ seat_behind_loss self seat }
+    {
+        match self {
+            Loss::Nothing => seat,
+            Loss::Primary => seat.down(),
+            Loss::Backup => seat.without_backup(),
+            Loss::Pair => seat.lost(),
+        }
+    }
+}

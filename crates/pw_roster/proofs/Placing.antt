@@ -1,0 +1,141 @@
+-- Each actor has a place of its own, so what is noted of one is noted of no other.
+use Rattle.std.proofs.Common.{◌≡◌, ◌≢◌, ℕ, ◌<◌, ◌≤◌, Bool, true, false, List, length, Some, None, ⊎_elim, rules, refl, sym, ap, ◌∙◌, arith, cond}
+use Rattle.std.specs.Prelude.{slice_set, slice_index_or}
+use Rattle.std.proofs.Math.Path.{fun_ext}
+use Rattle.std.proofs.lemmas.Bool.{cases_Bool, cond-true, cond-false}
+use Rattle.std.proofs.lemmas.List.{get_or-set_same, get_or-set_other, get_or_default}
+use Rattle.std.specs.Prelude.{position, replicate}
+use Rattle.std.specs.List.{position_or_len}
+use Rattle.std.proofs.lemmas.Bool.Decides.{nat_tests}
+use Rattle.std.proofs.lemmas.Bool.{cases_lt}
+use Rattle.std.proofs.lemmas.List.{get_or-replicate, get_or_past, length-replicate}
+use Rattle.std.proofs.lemmas.List.Quantifiers.{position-Some}
+use Rattle.std.proofs.lemmas.List.Sums.{fails_before_first}
+use Rattle.pw_roster.specs.Places.{blank, is_waiting, is_placed, is_same_actor, noted, notes_in, place_of}
+use Rattle.pw_roster.specs.declared.actor.Actor.{Actor}
+use Rattle.pw_roster.specs.declared.actor.Actor.TheVariants.{Terminal, Process, Pair, Class}
+use Rattle.pw_roster.specs.declared.roster.Note.{Note}
+
+-- two actors that are one are equal
+same-is : (a b : Actor) → is_same_actor a b ≡ true → a ≡ b
+same-is (Terminal t) (Terminal u) e = let h : t ≡ u = grind arith in ap Terminal h
+same-is (Terminal t) (Process d j) e = search rules
+same-is (Terminal t) (Pair q) e = search rules
+same-is (Terminal t) (Class d) e = search rules
+same-is (Process c i) (Terminal u) e = search rules
+same-is (Process c i) (Process d j) e = let h : c ≡ d = grind arith in let k : i ≡ j = grind arith in ap (Process c) k ∙ ap (λ x. Process x j) h
+same-is (Process c i) (Pair q) e = search rules
+same-is (Process c i) (Class d) e = search rules
+same-is (Pair p) (Terminal u) e = search rules
+same-is (Pair p) (Process d j) e = search rules
+same-is (Pair p) (Pair q) e = let h : p ≡ q = grind arith in ap Pair h
+same-is (Pair p) (Class d) e = search rules
+same-is (Class c) (Terminal u) e = search rules
+same-is (Class c) (Process d j) e = search rules
+same-is (Class c) (Pair q) e = search rules
+same-is (Class c) (Class d) e = let h : c ≡ d = grind arith in ap Class h
+
+-- two actors with one place are one
+placed-apart : (a b : Actor) → is_placed a ≡ true → is_placed b ≡ true → place_of a ≡ place_of b → is_same_actor a b ≡ true
+placed-apart (Terminal t) (Terminal u) low low' e = grind arith
+placed-apart (Terminal t) (Process d j) low low' e = grind arith
+placed-apart (Terminal t) (Pair q) low low' e = grind arith
+placed-apart (Terminal t) (Class d) low low' e = grind arith
+placed-apart (Process c i) (Terminal u) low low' e = grind arith
+placed-apart (Process c i) (Process d j) low low' e = grind arith
+placed-apart (Process c i) (Pair q) low low' e = grind arith
+placed-apart (Process c i) (Class d) low low' e = grind arith
+placed-apart (Pair p) (Terminal u) low low' e = grind arith
+placed-apart (Pair p) (Process d j) low low' e = grind arith
+placed-apart (Pair p) (Pair q) low low' e = grind arith
+placed-apart (Pair p) (Class d) low low' e = grind arith
+placed-apart (Class c) (Terminal u) low low' e = grind arith
+placed-apart (Class c) (Process d j) low low' e = grind arith
+placed-apart (Class c) (Pair q) low low' e = grind arith
+placed-apart (Class c) (Class d) low low' e = grind arith
+
+-- what is noted at a place
+notes-at : (notes : List Note) (a : Actor) → is_placed a ≡ true → notes_in notes a ≡ slice_index_or notes (place_of a) blank
+notes-at notes a placed = cond-true (is_placed a) _ _ placed
+
+-- the note of another actor is left
+other-note : (notes : List Note) (a b : Actor) (new : Note) → is_placed a ≡ true → is_same_actor b a ≡ false
+    → notes_in (slice_set notes (place_of a) new) b ≡ notes_in notes b
+other-note notes a b new placed ne =
+    ⊎_elim
+    (λ there.
+    let apart : place_of b ≢ place_of a = λ e. let is : is_same_actor b a ≡ true = placed-apart b a there placed e in cc (is, ne) in
+    notes-at (slice_set notes (place_of a) new) b there ∙ (get_or-set_other notes (place_of a) (place_of b) new blank apart ∙ sym (notes-at notes b there)))
+    (λ missing. cond-false (is_placed b) _ _ missing ∙ sym (cond-false (is_placed b) _ _ missing))
+    (cases_Bool (is_placed b))
+
+-- one note is changed
+pub note-changed : (change : Note → Note) (notes : List Note) (a : Actor) (n : ℕ) (old new : Note) → length notes ≡ 408 → is_placed a ≡ true
+    → n ≡ place_of a → n < 408 → old ≡ slice_index_or notes n old → new ≡ change old
+    → notes_in (slice_set notes n new) ≡ noted a change (notes_in notes)
+note-changed change notes a n old new size placed at low is made = fun_ext (λ b.
+    ⊎_elim
+    (λ same.
+    let one : b ≡ a = same-is b a same in
+    let lt : n < length notes = omega (arith, size, low) in
+    let was : old ≡ notes_in notes a =
+    is ∙ (get_or_default notes n old blank lt ∙ (ap (λ k. slice_index_or notes k blank) at ∙ sym (notes-at notes a placed))) in
+    let read : notes_in (slice_set notes n new) a ≡ new =
+    notes-at (slice_set notes n new) a placed
+    ∙ (ap (λ k. slice_index_or (slice_set notes n new) k blank) (sym at) ∙ get_or-set_same notes n new blank lt) in
+    let there : noted a change (notes_in notes) b ≡ change (notes_in notes b) = cond-true (is_same_actor b a) _ _ same in
+    ap (notes_in (slice_set notes n new)) one
+    ∙ (read ∙ (made ∙ (ap change was ∙ (ap (λ x. change (notes_in notes x)) (sym one) ∙ sym there)))))
+    (λ ne.
+    ap (λ k. notes_in (slice_set notes k new) b) at
+    ∙ (other-note notes a b new placed ne ∙ sym (cond-false (is_same_actor b a) _ _ ne)))
+    (cases_Bool (is_same_actor b a)))
+
+-- ---- at first
+
+-- a list of blanks has a blank at each place
+blank-at : (n k : ℕ) → slice_index_or (replicate n blank) k blank ≡ blank
+blank-at n k =
+    ⊎_elim
+    (λ low. get_or-replicate n k blank blank low)
+    (λ high. get_or_past (replicate n blank) k blank (omega (arith, length-replicate n blank, high)))
+    (cases_lt k n)
+
+pub all-blank : (notes : List Note) → notes ≡ replicate 408 blank → notes_in notes ≡ (λ actor. blank)
+all-blank notes is = fun_ext (λ a.
+    ap (λ ns. notes_in ns a) is
+    ∙ ⊎_elim
+    (λ there. notes-at (replicate 408 blank) a there ∙ blank-at 408 (place_of a))
+    (λ missing. cond-false (is_placed a) _ _ missing)
+    (cases_Bool (is_placed a)))
+
+-- ---- the first that waits
+
+none_at : (b : Bool) (n : ℕ) → cond b (Some n) None ≡ None → b ≡ false
+none_at true n e = absurd (cc e)
+none_at false n e = refl
+
+-- each place is below their number
+place-low : (a : Actor) → is_placed a ≡ true → place_of a < 408
+place-low (Terminal t) e = grind arith
+place-low (Process c i) e = grind arith
+place-low (Pair p) e = grind arith
+place-low (Class c) e = grind arith
+
+-- where no place is found, no actor waits
+pub none-waits : (notes : List Note) → length notes ≡ 408 → position is_waiting notes ≡ None → (a : Actor) → is_waiting (notes_in notes a) ≡ false
+none-waits notes size e a =
+    ⊎_elim
+    (λ there.
+    let low : place_of a < 408 = place-low a there in
+    let past = none_at _ _ e in
+    let all : length notes ≤ position_or_len is_waiting notes = grind (arith, nat_tests, past) in
+    ap is_waiting (notes-at notes a there) ∙ fails_before_first is_waiting notes (place_of a) blank (omega (arith, size, low, all)))
+    (λ missing. ap is_waiting (cond-false (is_placed a) _ _ missing))
+    (cases_Bool (is_placed a))
+
+-- the actor of the place that is found waits
+pub one-waits : (notes : List Note) (a : Actor) (n : ℕ) → position is_waiting notes ≡ Some n → is_placed a ≡ true → place_of a ≡ n
+    → is_waiting (notes_in notes a) ≡ true
+one-waits notes a n e placed at =
+    ap is_waiting (notes-at notes a placed ∙ ap (λ k. slice_index_or notes k blank) at) ∙ (position-Some is_waiting notes n blank e).1

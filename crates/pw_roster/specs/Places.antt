@@ -1,0 +1,58 @@
+-- The place of each actor in one flat list, and what is noted of it there.
+use Rattle.std.specs.Prelude.{◌≡◌, ℕ, ◌+◌, ◌-◌, ◌*◌, ◌==◌, ◌&&◌, nat_lt, nat_le, Bool, true, false, not, List, Option, Some, None, slice_index_or, if◌then◌else◌}
+use Rattle.pw_roster.specs.declared.roster.Note.{Note}
+use Rattle.pw_roster.specs.declared.actor.Actor.{Actor}
+use Rattle.pw_roster.specs.declared.actor.Actor.TheVariants.{Terminal, Process, Pair, Class}
+
+-- two actors are one
+abbrev pub is_same_actor : Actor → Actor → Bool
+is_same_actor (Terminal t) (Terminal u) = t == u
+is_same_actor (Process c i) (Process d j) = c == d && i == j
+is_same_actor (Pair p) (Pair q) = p == q
+is_same_actor (Class c) (Class d) = c == d
+is_same_actor _ _ = false
+
+-- there is a place for the actor: at most 128 terminals, 16 classes of 16 processes, and 8 pairs
+abbrev pub is_placed : Actor → Bool
+is_placed (Terminal t) = nat_lt t 128
+is_placed (Process c i) = nat_lt c 16 && (nat_le 1 i && nat_le i 16)
+is_placed (Pair p) = nat_lt p 8
+is_placed (Class c) = nat_lt c 16
+
+-- terminals come first, then the processes of each class, the pairs and the classes
+abbrev pub place_of : Actor → ℕ
+place_of (Terminal t) = t
+place_of (Process c i) = 128 + c * 16 + (i - 1)
+place_of (Pair p) = 384 + p
+place_of (Class c) = 392 + c
+
+-- what is noted of an actor at first, and of one without a place
+abbrev pub blank : Note
+blank = record { stamp = 0; out = false; marked = false }
+
+-- what is noted of each actor
+abbrev pub notes_in : List Note → Actor → Note
+notes_in notes actor = if is_placed actor then slice_index_or notes (place_of actor) blank else blank
+
+-- what is noted of one actor is changed
+abbrev pub noted : Actor → (Note → Note) → (Actor → Note) → Actor → Note
+noted actor change notes other =
+    if is_same_actor other actor then change (notes other) else notes other
+
+abbrev pub stamped : ℕ → Note → Note
+stamped n note = record note { stamp = n }
+
+abbrev pub with_out : Bool → Note → Note
+with_out out note = record note { out = out }
+
+abbrev pub with_mark : Bool → Note → Note
+with_mark marked note = record note { marked = marked }
+
+-- the actor is marked and not out
+abbrev pub is_waiting : Note → Bool
+is_waiting note = note.marked && not note.out
+
+-- an actor that is marked and not out, or none where there is none
+abbrev pub IsNext : (Actor → Note) → Option Actor → Type 0
+IsNext notes None = (actor : Actor) → is_waiting (notes actor) ≡ false
+IsNext notes (Some actor) = (is_placed actor ≡ true) × (is_waiting (notes actor) ≡ true)

@@ -1,0 +1,140 @@
+ghost use Rattle.std.specs.Prelude.{◌≡◌, ◌<◌, ◌≤◌, true, IfOk, position, Some, length};
+ghost use Rattle.pw_roster.specs.Places.{IsNext, blank, is_placed, is_waiting, noted, notes_in, place_of, stamped, with_mark, with_out};
+
+use crate::actor::Actor;
+use pw_base::memory::Memory;
+use std::alloc::Global;
+use std::marker::Model;
+
+/// How many actors may have a place: 128 terminals, 16 processes of each of 16 classes, 8 pairs and
+/// 16 classes.
+const PLACES: usize = 408;
+
+/// What a world notes of an actor.
+#[derive(Clone, Copy, Debug, PartialEq, Eq)]
+pub struct Note {
+    /// The length of the log when the actor's state last changed.
+    pub stamp: u64,
+    /// Whether it is out.
+    pub out: bool,
+    /// Whether it is looked at for work.
+    pub marked: bool,
+}
+
+/// What a world notes of each actor, in one flat list, so that work is found by one scan over it.
+/// Contracts see for each actor what is noted of it.
+#[derive(Debug, Drop)]
+pub struct Roster {
+    notes: Vec<Note>,
+}
+
+impl Model for Roster {
+    ghost use Rattle.std.specs.Prelude.{◌≡◌, List, length};
+    ghost use Rattle.pw_roster.specs.declared.roster.Note.{Note as SeenNote};
+
+    ghost Value = { List SeenNote };
+
+    ghost view = { λ roster. roster.notes.items };
+
+    ghost invariant = { λ roster. length roster.notes.items ≡ 408 };
+}
+
+impl Roster {
+    /// No actor has changed, none is out, and none is marked.
+    pub fn new(alloc: Global) -> Result<Roster, Memory>
+        ensures { IfOk result (λ roster. notes_in roster ≡ (λ actor. blank)) }
+    {
+        let blank = Note {
+            stamp: 0,
+            out: false,
+            marked: false,
+        };
+        Ok(Roster {
+            notes: vec![in alloc; blank; PLACES]?,
+        })
+    }
+
+    /// What is noted of an actor.
+    pub fn get(&self, actor: Actor) -> Note
+        requires { is_placed actor ≡ true }
+        ensures { result ≡ notes_in self.now actor }
+    {
+        self.notes[place_of(actor)]
+    }
+
+    /// The actor's state changes behind so many entries.
+    pub fn stamp(&mut self, actor: Actor, length: u64)
+        requires { is_placed actor ≡ true }
+        ensures { notes_in self.new ≡ noted actor (stamped length) (notes_in self.old) }
+    {
+        self.notes[place_of(actor)].stamp = length;
+    }
+
+    /// The actor is out from now on, or no more.
+    pub fn set_out(&mut self, actor: Actor, out: bool)
+        requires { is_placed actor ≡ true }
+        ensures { notes_in self.new ≡ noted actor (with_out out) (notes_in self.old) }
+    {
+        self.notes[place_of(actor)].out = out;
+    }
+
+    /// The actor is looked at for work from now on, or no more.
+    pub fn mark(&mut self, actor: Actor, marked: bool)
+        requires { is_placed actor ≡ true }
+        ensures { notes_in self.new ≡ noted actor (with_mark marked) (notes_in self.old) }
+    {
+        self.notes[place_of(actor)].marked = marked;
+    }
+
+    /// An actor that is marked and not out, None exactly where there is none.
+    pub fn next(&self) -> Option<Actor>
+        ensures { IsNext (notes_in self.now) result }
+    {
+        match first_waiting(&self.notes) {
+            Some(place) => Some(actor_at(place)),
+            None => None,
+        }
+    }
+}
+
+/// The first place of which the actor is marked and not out.
+fn first_waiting(notes: &[Note]) -> Option<usize>
+    ensures { result ≡ position is_waiting notes.now }
+{
+    notes.iter().position(|note| note.marked && !note.out)
+}
+
+/// The place of an actor.
+fn place_of(actor: Actor) -> usize
+    requires { is_placed actor ≡ true }
+    ensures place { result ≡ place_of actor }
+    ensures within { result < 408 }
+{
+    match actor {
+        Actor::Terminal(terminal) => terminal as usize,
+        Actor::Process { class, process } => 128 + class as usize * 16 + (process as usize - 1),
+        Actor::Pair(pair) => 384 + pair as usize,
+        Actor::Class(class) => 392 + class as usize,
+    }
+}
+
+/// The actor at a place.
+fn actor_at(place: usize) -> Actor
+    requires { place < 408 }
+    ensures placed { is_placed result ≡ true }
+    ensures place { place_of result ≡ place }
+{
+    if place < 128 {
+        Actor::Terminal(place as u32)
+    } else if place < 384 {
+        let at = place - 128;
+        Actor::Process {
+            class: (at / 16) as u32,
+            process: (at % 16) as u32 + 1,
+        }
+    } else if place < 392 {
+        Actor::Pair((place - 384) as u32)
+    } else {
+        Actor::Class((place - 392) as u32)
+    }
+}

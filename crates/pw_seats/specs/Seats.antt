@@ -1,0 +1,76 @@
+-- What is done to a terminal's seat.
+use Rattle.std.specs.Prelude.{◌+◌, ℕ, Option, Some, None}
+use Rattle.pw_code.specs.declared.context.Context.{Context}
+use Rattle.pw_code.specs.declared.unit.Unit.{Unit}
+use Rattle.pw_code.specs.declared.verb.Verb.{Verb}
+use Rattle.pw_event.specs.declared.event.Cause.{Cause}
+use Rattle.pw_event.specs.declared.event.Cause.TheVariants.{Older, Takeover, Server, Redo}
+use Rattle.pw_event.specs.declared.event.Ending.{Ending}
+use Rattle.pw_seats.specs.declared.seat.AwaitedUnit.{AwaitedUnit}
+use Rattle.pw_seats.specs.declared.seat.Ready.{Ready}
+use Rattle.pw_seats.specs.declared.seat.Seat.{Seat}
+
+-- before the first entry
+abbrev pub first_seat : Context → Seat
+first_seat context = record {
+  context = Some context;
+  ready = None;
+  start = None;
+  unit = None;
+  restarts = 0;
+  awaits = None;
+  pending = None;
+  ending = None;
+}
+
+-- its program stands at this verb
+abbrev pub ready_at : Verb → Context → Seat → Seat
+ready_at verb context seat = record seat { ready = Some (record { verb = verb; context = context }) }
+
+-- it goes on with this context
+abbrev pub answered : Context → Seat → Seat
+answered context seat = record seat { context = Some context; ready = None }
+
+-- an attempt of the unit runs, from this context
+abbrev pub started : Unit → Context → Seat → Seat
+started unit start seat = record seat { start = Some start; unit = Some unit }
+
+-- no unit of it is open
+abbrev pub over : Seat → Seat
+over seat = record seat { start = None; unit = None; restarts = 0; awaits = None }
+
+-- for OLDER the named unit is awaited
+abbrev pub awaiting : Cause → Option AwaitedUnit → Option AwaitedUnit
+awaiting (Older o m) awaits = Some (record { terminal = o; number = m })
+awaiting (Takeover p) awaits = awaits
+awaiting (Server k) awaits = awaits
+awaiting Redo awaits = awaits
+
+-- it is at its start again
+abbrev pub restarted : Cause → Seat → Seat
+restarted cause seat = record seat {
+  context = seat.start;
+  ready = None;
+  start = None;
+  restarts = seat.restarts + 1;
+  awaits = awaiting cause seat.awaits;
+  pending = None;
+}
+
+-- its path is gone
+abbrev pub without_path : Seat → Seat
+without_path seat = record seat { context = None; ready = None; pending = None }
+
+-- the first of two that is there
+abbrev pub first_of : Option Cause → Option Cause → Option Cause
+first_of None other = other
+first_of (Some cause) other = Some cause
+
+-- it goes on with this context, and the cause, if there is one, is pending
+abbrev pub resumed : Context → Option Cause → Seat → Seat
+resumed context cause seat =
+    record seat { context = Some context; ready = None; pending = first_of cause seat.pending }
+
+-- it has this ending
+abbrev pub ended : Ending → Seat → Seat
+ended ending seat = record seat { pending = None; ending = Some ending }

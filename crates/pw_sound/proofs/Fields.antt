@@ -1,0 +1,150 @@
+-- What the fields of a screen show of a store and put into it, and of its storage.
+use Rattle.std.proofs.Common.{◌≡◌, ℕ, ◌+◌, ◌-◌, ◌*◌, Bool, true, false, List, [], ◌∷◌, ◌++◌, length, find, take, drop, Option, Some, None, if◌then◌else◌, refl, sym, ap, ◌∙◌, subst, arith}
+use Rattle.std.specs.Prelude.{◌%◌, ◌^◌}
+use Rattle.std.specs.Option.{ForSome}
+use Rattle.std.proofs.lemmas.List.{append-nil}
+use Rattle.pw_picture.specs.Grammar.{IsPicture, size_of}
+use Rattle.pw_picture.specs.Stored.{size_at, is_negative}
+use Rattle.pw_picture.specs.declared.picture.Picture.{Picture}
+use Rattle.pw_data.specs.Entries.{picture_of_kind}
+use Rattle.pw_data.specs.Layouts.{FitsPicture}
+use Rattle.pw_data.specs.Store.{joined}
+use Rattle.pw_data.specs.declared.item.Kind.{Kind}
+use Rattle.pw_data.specs.declared.item.Kind.TheVariants as kinds
+use Rattle.pw_operands.specs.Resolved.{Each}
+use Rattle.pw_code.specs.declared.field.Field.{Field}
+use Rattle.pw_code.specs.declared.field.FieldKind.{FieldKind}
+use Rattle.pw_code.specs.declared.field.FieldKind.TheVariants as fields
+use Rattle.pw_terminal.specs.Shown as shown
+use Rattle.pw_terminal.specs.Entries.{is_entry_field}
+use Rattle.pw_source.specs.Program.{Program}
+use Rattle.pw_source.specs.Store.{Store, Spot}
+use Rattle.pw_source.specs.Screens as screens
+use Rattle.pw_source.specs.Values.{number_in}
+use Rattle.pw_source.proofs.Resolved.{each-found, each-got}
+use Rattle.pw_source.proofs.storage.Cuts.{Cut}
+use Rattle.pw_exec.specs.Entries as entry
+use Rattle.pw_sound.proofs.Flat.{flat-chars, flat-put}
+use Rattle.pw_sound.proofs.Ground.{Ground, IsCut, cut-kept, ground-kept}
+use Rattle.pw_sound.proofs.Readings.{length-fitted, length-chars_of}
+use Rattle.pw_sound.specs.Premises.{IsItemAt, IsShownOf}
+
+-- the item of a field is a run of cells of the store
+pub record SitsAt (store : Store) (at : ℕ) (source : Picture) : Type 0 where
+  pub kind : Kind
+  pub shown : source ≡ picture_of_kind kind
+  pub cut : Cut store at (size_of source)
+
+abbrev pub FieldSits : Store → FieldKind → Type 0
+FieldSits store (fields.Literal text) = Unit {0}
+FieldSits store (fields.Item picture at source show) = SitsAt store at source
+
+abbrev spot_at : ℕ → Picture → Spot
+spot_at at source = record { at = at; size = size_of source; picture = Some source }
+
+-- ---- from the program
+
+size-by : (o : Option Kind) (size : ℕ) (kind : Kind) → ForSome o (λ k. IsPicture (picture_of_kind k) × (size_of (picture_of_kind k) ≡ size))
+    → o ≡ Some kind → size_of (picture_of_kind kind) ≡ size
+size-by o size kind fits is = (fits kind is).1
+
+item-sits-at : (program : Program) (store : Store) (at : ℕ) (source : Picture) → Each FitsPicture program.layout.items → Ground program store
+    → IsItemAt program at source → SitsAt store at source
+item-sits-at program store at source fits ground is =
+    let fit : FitsPicture is.item = each-got FitsPicture program.layout.items is.number is.item fits is.there in
+    let cuts : IsCut store is.item = each-got (IsCut store) program.layout.items is.number is.item ground.0 is.there in
+    let long : size_of source ≡ is.item.size = ap size_of is.shown ∙ size-by is.item.kind is.item.size is.kind fit is.is_kind in
+    let place : is.item.at + (1 - 1) * is.item.step ≡ at = omega (arith, is.place) in
+    record {
+      kind = is.kind;
+      shown = is.shown;
+      cut = subst (λ n. Cut store at n) (sym long) (subst (λ n. Cut store n is.item.size) place (cuts 1 (omega arith) (omega arith)));
+    }
+
+pub field-sits : (program : Program) (store : Store) (one : FieldKind) → Each FitsPicture program.layout.items → Ground program store
+    → IsShownOf program one → FieldSits store one
+field-sits program store (fields.Literal text) fits ground is = tt
+field-sits program store (fields.Item picture at source show) fits ground is = item-sits-at program store at source fits ground is
+
+pub fields-sit : (program : Program) (store : Store) (ones : List Field) → Each FitsPicture program.layout.items → Ground program store
+    → Each (λ (field : Field). IsShownOf program field.shown) ones → Each (λ (field : Field). FieldSits store field.shown) ones
+fields-sit program store [] fits ground each = tt
+fields-sit program store (one ∷ ones) fits ground each =
+    (field-sits program store one.shown fits ground each.0, fields-sit program store ones fits ground each.1)
+
+-- ---- what is shown
+
+chars-same : (store : Store) (tail : List ℕ) (spot : Spot) → Cut store spot.at spot.size
+    → take spot.size (drop spot.at (joined store ++ tail)) ≡ take spot.size (drop spot.at (joined store))
+chars-same store tail spot cut =
+    flat-chars spot store tail cut ∙ sym (flat-chars spot store [] cut) ∙ ap (λ chars. take spot.size (drop spot.at chars)) (append-nil (joined store))
+
+text-same : (store : Store) (tail : List ℕ) (one : FieldKind) → FieldSits store one → shown.text_of (joined store ++ tail) one ≡ shown.text_of (joined store) one
+text-same store tail (fields.Literal text) sits = refl
+text-same store tail (fields.Item picture at source true) sits = ap (shown.as_shown picture source) (chars-same store tail (spot_at at source) sits.cut)
+text-same store tail (fields.Item picture at source false) sits = refl
+
+pub shown-same : (base : Bool) (store : Store) (tail : List ℕ) (ones : List Field) (cells : List ℕ) → Each (λ (field : Field). FieldSits store field.shown) ones
+    → shown.with_fields base (joined store ++ tail) ones cells ≡ shown.with_fields base (joined store) ones cells
+shown-same base store tail [] cells each = refl
+shown-same base store tail (one ∷ ones) cells each =
+    ap (λ (text : List ℕ). shown.with_fields base (joined store ++ tail) ones (if shown.is_put base one.shown then shown.written (shown.place_of one.row one.column) text cells else cells))
+    (text-same store tail one.shown each.0)
+    ∙ shown-same base store tail ones (shown.with_field base (joined store) one cells) each.1
+
+-- ---- what is entered
+
+length-entered : (kind : Kind) (value : List ℕ) → length (screens.entered_chars (picture_of_kind kind) value) ≡ size_of (picture_of_kind kind)
+length-entered (kinds.Text size) value = length-fitted size value
+length-entered (kinds.Number digits places sign) value =
+    length-chars_of digits (size_at places (number_in value) % 10 ^ digits) sign (is_negative (number_in value))
+
+entered-in : (one : FieldKind) (value : List ℕ) (store : Store) (tail : List ℕ) → FieldSits store one
+    → entry.entered_in one value (joined store ++ tail) ≡ joined (screens.entered_in one value store) ++ tail
+entered-in (fields.Literal text) value store tail sits = refl
+entered-in (fields.Item picture at source show) value store tail sits =
+    flat-put (spot_at at source) (screens.entered_chars source value) tail store sits.cut
+    (subst (λ (p : Picture). length (screens.entered_chars p value) ≡ size_of p) (sym sits.shown) (length-entered sits.kind value))
+
+entered-by : (o : Option Field) (value : List ℕ) (store : Store) (tail : List ℕ) → ((field : Field) → o ≡ Some field → FieldSits store field.shown)
+    → entry.entered_by o value (joined store ++ tail) ≡ joined (screens.entered_by o value store) ++ tail
+entered-by None value store tail sits = refl
+entered-by (Some field) value store tail sits = entered-in field.shown value store tail (sits field refl)
+
+kept-in : (one other : FieldKind) (value : List ℕ) (store : Store) → FieldSits store other → FieldSits (screens.entered_in one value store) other
+kept-in (fields.Literal text) other value store sits = sits
+kept-in (fields.Item picture at source show) (fields.Literal text) value store sits = tt
+kept-in (fields.Item picture at source show) (fields.Item p a q s) value store sits =
+    record { kind = sits.kind; shown = sits.shown; cut = cut-kept (spot_at at source) (screens.entered_chars source value) store a (size_of q) sits.cut }
+
+kept-by : (o : Option Field) (other : FieldKind) (value : List ℕ) (store : Store) → FieldSits store other → FieldSits (screens.entered_by o value store) other
+kept-by None other value store sits = sits
+kept-by (Some field) other value store sits = kept-in field.shown other value store sits
+
+kept-all : (o : Option Field) (value : List ℕ) (store : Store) (ones : List Field) → Each (λ (field : Field). FieldSits store field.shown) ones
+    → Each (λ (field : Field). FieldSits (screens.entered_by o value store) field.shown) ones
+kept-all o value store [] each = tt
+kept-all o value store (one ∷ ones) each = (kept-by o one.shown value store each.0, kept-all o value store ones each.1)
+
+pub entered-same : (ones : List Field) (pairs : List (List ℕ × List ℕ)) (store : Store) (tail : List ℕ) → Each (λ (field : Field). FieldSits store field.shown) ones
+    → entry.entered ones pairs (joined store ++ tail) ≡ joined (screens.entered ones pairs store) ++ tail
+entered-same ones [] store tail each = refl
+entered-same ones (pair ∷ pairs) store tail each =
+    let o = find (is_entry_field pair.0) ones in
+    ap (entry.entered ones pairs) (entered-by o pair.1 store tail (λ field is. each-found (λ (one : Field). FieldSits store one.shown) (is_entry_field pair.0) ones field each is))
+    ∙ entered-same ones pairs (screens.entered_by o pair.1 store) tail (kept-all o pair.1 store ones each)
+
+ground-in : (program : Program) (one : FieldKind) (value : List ℕ) (store : Store) → Ground program store → Ground program (screens.entered_in one value store)
+ground-in program (fields.Literal text) value store ground = ground
+ground-in program (fields.Item picture at source show) value store ground = ground-kept program (spot_at at source) (screens.entered_chars source value) store ground
+
+ground-by : (program : Program) (o : Option Field) (value : List ℕ) (store : Store) → Ground program store → Ground program (screens.entered_by o value store)
+ground-by program None value store ground = ground
+ground-by program (Some field) value store ground = ground-in program field.shown value store ground
+
+pub entered-ground : (program : Program) (ones : List Field) (pairs : List (List ℕ × List ℕ)) (store : Store) → Ground program store
+    → Ground program (screens.entered ones pairs store)
+entered-ground program ones [] store ground = ground
+entered-ground program ones (pair ∷ pairs) store ground =
+    entered-ground program ones pairs (screens.entered_by (find (is_entry_field pair.0) ones) pair.1 store)
+    (ground-by program (find (is_entry_field pair.0) ones) pair.1 store ground)

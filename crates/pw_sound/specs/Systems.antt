@@ -1,0 +1,48 @@
+-- The system that the programs of a deck are compiled to.
+use Rattle.std.specs.Prelude.{ℕ, ◌+◌, List, [], ◌∷◌, ◌++◌, map, length}
+use Rattle.pw_code.specs.declared.code.Code.{Code}
+use Rattle.pw_code.specs.declared.field.ScreenTable.{ScreenTable}
+use Rattle.pw_code.specs.declared.links.Links.{Links}
+use Rattle.pw_code.specs.declared.lock.LockRule.{LockRule}
+use Rattle.pw_code.specs.declared.system.System.{System}
+use Rattle.pw_source.specs.Program.{Deck, Program}
+use Rattle.pw_source.specs.Setting.{Setting}
+use Rattle.pw_source.specs.Sound.{links_of}
+use Rattle.pw_compile.specs.Plan.{Plan, plan_of}
+use Rattle.pw_compile.specs.Programs.{code_of}
+
+-- what the code of a program goes by, in the setting in which it runs
+abbrev pub plan_in : Setting → Plan
+plan_in setting =
+    plan_of setting.program.layout setting.program.screens setting.program.paragraphs setting.first
+    (links_of setting.deck)
+
+-- the code of a program whose screens are numbered from one on
+abbrev pub code_in : Links → ℕ → Program → Code
+code_in links first program =
+    code_of program.name program.layout program.screens program.parameters program.paragraphs first
+    links
+
+-- the codes of programs, whose screens are numbered through
+abbrev pub codes_in : Links → ℕ → List Program → List Code
+codes_in links first [] = []
+codes_in links first (program ∷ programs) =
+    code_in links first program ∷ codes_in links (first + length program.screens) programs
+
+-- the screens of all programs, one behind the other
+abbrev pub screens_of : List Program → List ScreenTable
+screens_of [] = []
+screens_of (program ∷ programs) = program.screens ++ screens_of programs
+
+-- the system of a deck under a rule of locking
+abbrev pub system_of : LockRule → Deck → System
+system_of rule deck = record {
+  programs = codes_in (links_of deck) 0 deck.programs;
+  servers = map (code_in (links_of deck) 0) deck.servers;
+  screens = screens_of deck.programs;
+  classes = deck.classes;
+  files = deck.files;
+  tcps = deck.tcps;
+  terminals = deck.terminals;
+  rule = rule;
+}

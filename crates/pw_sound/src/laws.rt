@@ -1,0 +1,41 @@
+ghost use Rattle.std.specs.Prelude.{◌≡◌, ◌<◌, ℕ, List, Bool, false, map, length};
+ghost use Rattle.pw_code.specs.Entry.{Entry};
+ghost use Rattle.pw_code.specs.Valid.{IsValid};
+ghost use Rattle.pw_code.specs.declared.lock.LockRule.{LockRule};
+ghost use Rattle.pw_exec.specs.Config.{starting, starting_server};
+ghost use Rattle.pw_exec.specs.OfSystem as code;
+ghost use Rattle.pw_onecopy.specs.Path.{PathAnswer, FileAnswer};
+ghost use Rattle.pw_source.specs.OfDeck as tree;
+ghost use Rattle.pw_source.specs.Program.{Deck};
+ghost use Rattle.pw_source.specs.Runs.{told, file_told, run_after, server_setting, server_run, start};
+ghost use Rattle.pw_source.specs.Setting.{Setting};
+ghost use Rattle.pw_source.specs.Sound.{IsSound};
+ghost use Rattle.pw_sound.specs.Answered.{AnswersAs};
+ghost use Rattle.pw_sound.specs.Premises.{AreFitting};
+ghost use Rattle.pw_sound.specs.Systems.{system_of};
+
+/// The code of each program of a deck whose names resolve does what the tree of the program means: a
+/// requester over each path, a server on each message over each list of file answers. It comes to the
+/// verb that the tree asks, run faults and the count of statements included, and shows the screen that the
+/// tree shows. What is taken of the deck besides is `AreFitting`, which docs/CODE.md says in words.
+pub fn program_laws()
+    ensures terminals { (rule : LockRule) (deck : Deck) → IsSound deck → AreFitting deck
+        → (q : ℕ) → q < length deck.programs → (lines : List Entry) (path : List PathAnswer)
+        → AnswersAs (system_of rule deck) (starting (system_of rule deck) q) (map (told lines) path)
+        (run_after deck q lines path) }
+    ensures servers { (rule : LockRule) (deck : Deck) → IsSound deck → AreFitting deck
+        → (q : ℕ) → q < length deck.servers → (message : List ℕ) (done : List FileAnswer)
+        → let setting : Setting = server_setting deck q message false in
+        AnswersAs (system_of rule deck) (starting_server (system_of rule deck) q message)
+        (map file_told done)
+        (server_run setting (start setting.program (map file_told done))) }
+{}
+
+/// A system that is valid behaves by the codes of its programs as its deck does by their trees: so a run
+/// of the one is a run of the other. Of the deck `IsSound` and `AreFitting` are taken, and that its system
+/// is valid.
+pub fn behaviour_laws()
+    ensures { (rule : LockRule) (deck : Deck) → IsSound deck → AreFitting deck
+        → IsValid (system_of rule deck)
+        → code.behaviour deck.script (system_of rule deck) ≡ tree.behaviour rule deck }
+{}
