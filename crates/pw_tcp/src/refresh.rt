@@ -1,4 +1,6 @@
 ghost use Rattle.std.specs.Prelude.{◌≡◌, ◌+◌, ◌-◌, ◌<◌, ◌^◌, List, min};
+ghost use Rattle.pw_code.specs.declared.context.Context.{Context as SeenContext};
+ghost use Rattle.pw_exec.specs.Counts.{CountsOf};
 ghost use Rattle.pw_onecopy.specs.Path.{PathAnswer, next_number, standing};
 ghost use Rattle.pw_tcp.specs.Refreshes.{StandsAt};
 
@@ -17,3 +19,10 @@ pub fn refresh(context: &Context) -> (u32, u32, u32)
     let shown = context.shown.saturating_add(1);
     (context.phase, context.attempt, shown)
 }
+
+/// Where the counts of a context are those of a path, its registers are those of where the path
+/// stands.
+pub fn register_laws()
+    ensures { (path : List PathAnswer) (context : SeenContext) → CountsOf path context
+        → StandsAt context (standing path) }
+{}
