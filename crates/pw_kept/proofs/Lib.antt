@@ -30,6 +30,7 @@ pub mod Raised
 pub mod Readings
 pub mod Replying
 pub mod Restarted
+pub mod RunOn
 pub mod Seats
 pub mod Sending
 pub mod Served

@@ -10,6 +10,7 @@ pub mod legality;
 pub mod lengths;
 pub mod pairs;
 pub mod restarts;
+pub mod running;
 pub mod runs;
 pub mod servers;
 pub mod sound;
