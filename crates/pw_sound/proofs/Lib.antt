@@ -21,3 +21,6 @@ mod Decks
 mod Behaves
 mod Split
 mod Serves
+mod Items
+mod Emits
+mod Valid

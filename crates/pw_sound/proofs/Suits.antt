@@ -18,10 +18,18 @@ use Rattle.pw_source.specs.Arithmetic as computing
 use Rattle.pw_source.specs.Sends.{yields_of}
 use Rattle.pw_source.specs.Sound.{scope_of}
 use Rattle.pw_compile.specs.Plan.{screen_of}
-use Rattle.pw_sound.specs.Premises.{IsShownOf, CallFits}
+use Rattle.pw_base.specs.Limits.{most_occurrences}
+use Rattle.pw_code.specs.declared.place.Place.{Place}
+use Rattle.std.specs.Prelude.{◌≤◌, ◌<◌, IfSome, length}
+use Rattle.pw_source.specs.Program.{program_number}
+use Rattle.pw_sound.specs.Premises.{IsShownOf, CallFits, arguments_of}
 use Rattle.pw_sound.specs.Systems.{plan_in}
 use Rattle.pw_sound.proofs.Operands.{Indexed}
 use Rattle.pw_sound.proofs.Readings.{ComparisonIndexed}
+
+-- an item occurs at most as often as one may
+abbrev pub IsFew : Place → Type 0
+IsFew place = IfSome place.table (λ table. table.occurs ≤ most_occurrences)
 
 module _ (system : System) (setting : Setting) where
   abbrev pub Own : Operand → Type 0
@@ -55,6 +63,8 @@ module _ (system : System) (setting : Setting) where
   pub record CallSuits (name : Word) (arguments : List Operand) : Type 0 where
     pub requester : setting.is_server ≡ false
     pub own : Each Own arguments
+    pub there : program_number setting.deck name < length setting.deck.programs
+    pub few : Each IsFew (arguments_of setting.program arguments)
     pub fits : CallFits setting.deck setting.program name arguments
 
   abbrev mutual
