@@ -37,8 +37,8 @@ use Rattle.pw_sound.proofs.Flat.{flat-chars, flat-put, take-front, drop-front, j
 use Rattle.pw_sound.proofs.Ground.{Ground, IsCut, ground-kept}
 use Rattle.pw_sound.proofs.Readings.{Sits, sits-kept, length-digits_of}
 use Rattle.std.specs.Prelude.{IfSome}
-use Rattle.pw_sound.proofs.Suits.{IsFew}
-use Rattle.pw_sound.specs.Premises.{AreItems, IsKeptIndex, IsKeptTable, IsKeptPlace}
+use Rattle.pw_sound.proofs.Suits.{IsFew, IsKeptIndex, IsKeptTable, IsKeptPlace}
+use Rattle.pw_sound.specs.Premises.{AreItems}
 
 -- ---- the registers that a CALL keeps
 

@@ -31,8 +31,8 @@ use Rattle.pw_sound.proofs.Operands.{Known}
 use Rattle.pw_sound.proofs.Readings.{Sits, TakenSits, spot-sits, all-sit, spots-same}
 use Rattle.pw_sound.proofs.Leading.{Env, Marks, mach, Leads, Does, Finishes, taken_does}
 use Rattle.pw_sound.proofs.Statements.{split-end}
-use Rattle.pw_sound.specs.Premises.{AreItems, IsKeptPlace}
-use Rattle.pw_sound.proofs.Suits.{IsFew, CallSuits}
+use Rattle.pw_sound.specs.Premises.{AreItems}
+use Rattle.pw_sound.proofs.Suits.{IsFew, IsKeptPlace, CallSuits}
 use Rattle.pw_sound.proofs.Arguments.{spots-long, spots-kept, spots-free, linkage-says, linkage-long, arguments-put, put-ground}
 
 -- what is known of a program that is called
@@ -162,6 +162,6 @@ module _ (system : System) (setting : Setting) (e : Env) where
         let taken : spots_of s.registers (joined s.store ++ e.tail) places ≡ Some spots = spots_are ∙ ap (option_map (map spot_in)) found_is in
         let sits = each-spots s found (all-sit setting.is_server setting.deck setting.program known s e.tail ground arguments found found_is) in
         let sizes = spots-long s.registers (joined s.store ++ e.tail) places spots taken ∙ suits.fits.sizes in
-        comes_back_does q (keeps places) spots places at rs s (h ∙ ap (λ n. Some (instr.Call n places (keeps places))) same) refl suits.fits.kept suits.few taken callee sits sizes
+        comes_back_does q (keeps places) spots places at rs s (h ∙ ap (λ n. Some (instr.Call n places (keeps places))) same) refl suits.kept suits.few taken callee sits sizes
         (calls.calls system q (keeps places) spots (mach e at rs s m)) (budget s) ground (call q (tree.chars_of_all spots s.store) s)
         (does q (keeps places) spots at rs s m suits.there sits sizes)))

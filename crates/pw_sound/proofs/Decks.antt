@@ -31,6 +31,8 @@ use Rattle.std.proofs.lemmas.List.{length-map}
 use Rattle.pw_source.proofs.Resolved.{got-below}
 use Rattle.pw_sound.proofs.Items.{places-few}
 use Rattle.pw_sound.proofs.Sending.{position-map}
+use Rattle.pw_sound.specs.Written.{IsWritten, RowIsWritten}
+use Rattle.pw_sound.proofs.Upper.{kept-places}
 use Rattle.pw_sound.proofs.Grounds.{known-of, ground-of, starts-of}
 use Rattle.pw_sound.proofs.Resolving.{Shaped, RowShaped, suited, receivers-own, named-own}
 use Rattle.pw_sound.proofs.Suits as suits
@@ -156,7 +158,7 @@ module _ (rule : LockRule) (deck : Deck) (q : ℕ) (lt : q < length deck.program
       record {
         coded = ap (λ n. slice_index_or (screens_of deck.programs) (first_screen deck.programs q + n) (record { name = []; fields = [] })) number
             ∙ screen-in deck.programs q r.number (record { name = []; fields = [] }) table lt r.got;
-        shown = each-found' (λ (one : ScreenTable). Each (λ (field : Field). IsShownOf setting.program field.shown) one.fields) test setting.program.screens table fitting.screens is;
+        shown = each-found' (λ (one : ScreenTable). Each (λ (field : Field). IsShownOf setting.program.layout field.shown) one.fields) test setting.program.screens table fitting.screens is;
       }
 
   shows-screen : (name : Word) → IsSome (screen_of (scope_of false deck setting.program) name) → suits.ShowsScreen system setting name
@@ -181,53 +183,54 @@ module _ (rule : LockRule) (deck : Deck) (q : ℕ) (lt : q < length deck.program
   shows operands.Zeros is = tt
 
   mutual
-    shaped : (one : Statement) → Resolves (scope_of false deck setting.program) one → HasForms false one → CallsFit deck setting.program one → Shaped system setting one
-    shaped (form.OnSizeError' line a n first m second) is forms fits = (row-shaped first is.1 forms.0 fits.0, row-shaped second is.2 forms.1 fits.1)
-    shaped (form.If' line cond n first m second) is forms fits = (row-shaped first is.1 forms.0 fits.0, row-shaped second is.2 forms.1 fits.1)
-    shaped (form.DisplayBase line name) is forms fits = shows-screen name is.0
-    shaped (form.Display line shown) is forms fits = shows shown is.0
-    shaped (form.Accept line name keys) is forms fits = shows-screen name is.0
-    shaped (form.Call line name arguments) is forms fits = record {
+    shaped : (one : Statement) → Resolves (scope_of false deck setting.program) one → HasForms false one → CallsFit deck setting.program one → IsWritten one → Shaped system setting one
+    shaped (form.OnSizeError' line a n first m second) is forms fits written = (row-shaped first is.1 forms.0 fits.0 written.0, row-shaped second is.2 forms.1 fits.1 written.1)
+    shaped (form.If' line cond n first m second) is forms fits written = (row-shaped first is.1 forms.0 fits.0 written.0, row-shaped second is.2 forms.1 fits.1 written.1)
+    shaped (form.DisplayBase line name) is forms fits written = shows-screen name is.0
+    shaped (form.Display line shown) is forms fits written = shows shown is.0
+    shaped (form.Accept line name keys) is forms fits written = shows-screen name is.0
+    shaped (form.Call line name arguments) is forms fits written = record {
       requester = refl;
       own = receivers-own system setting arguments is.1;
       there = program-below deck.programs name is.0;
       few = places-few false deck setting.program sound.laid arguments;
+      kept = kept-places deck setting.program arguments (receivers-own system setting arguments is.1) written;
       fits = fits;
     }
-    shaped (form.Receive line into) is forms fits = absurd forms
-    shaped (form.Move line from to) is forms fits = tt
-    shaped (form.Arithmetic line a) is forms fits = tt
-    shaped (form.Perform line name) is forms fits = tt
-    shaped (form.PerformTimes line name times) is forms fits = tt
-    shaped (form.PerformUntil line name cond) is forms fits = tt
-    shaped (form.PerformOneOf line names position) is forms fits = tt
-    shaped (form.Send line message class codes) is forms fits = tt
-    shaped (form.Reply line from) is forms fits = tt
-    shaped (form.Read line file locking key into) is forms fits = tt
-    shaped (form.ReadNext line file locking key into) is forms fits = tt
-    shaped (form.Write line file from) is forms fits = tt
-    shaped (form.Rewrite line file from) is forms fits = tt
-    shaped (form.Delete line file key) is forms fits = tt
-    shaped (form.Exit line) is forms fits = tt
-    shaped (form.ExitProgram line) is forms fits = tt
-    shaped (form.StopRun line) is forms fits = tt
-    shaped (form.Begin line) is forms fits = tt
-    shaped (form.End line) is forms fits = tt
-    shaped (form.Abort line) is forms fits = tt
-    shaped (form.Restart line) is forms fits = tt
+    shaped (form.Receive line into) is forms fits written = absurd forms
+    shaped (form.Move line from to) is forms fits written = tt
+    shaped (form.Arithmetic line a) is forms fits written = tt
+    shaped (form.Perform line name) is forms fits written = tt
+    shaped (form.PerformTimes line name times) is forms fits written = tt
+    shaped (form.PerformUntil line name cond) is forms fits written = tt
+    shaped (form.PerformOneOf line names position) is forms fits written = tt
+    shaped (form.Send line message class codes) is forms fits written = tt
+    shaped (form.Reply line from) is forms fits written = tt
+    shaped (form.Read line file locking key into) is forms fits written = tt
+    shaped (form.ReadNext line file locking key into) is forms fits written = tt
+    shaped (form.Write line file from) is forms fits written = tt
+    shaped (form.Rewrite line file from) is forms fits written = tt
+    shaped (form.Delete line file key) is forms fits written = tt
+    shaped (form.Exit line) is forms fits written = tt
+    shaped (form.ExitProgram line) is forms fits written = tt
+    shaped (form.StopRun line) is forms fits written = tt
+    shaped (form.Begin line) is forms fits written = tt
+    shaped (form.End line) is forms fits written = tt
+    shaped (form.Abort line) is forms fits written = tt
+    shaped (form.Restart line) is forms fits written = tt
 
-    row-shaped : {n : _} (row : Row_of-Statement n) → RowResolves (scope_of false deck setting.program) row → RowHasForms false row → RowCallsFit deck setting.program row → RowShaped system setting row
-    row-shaped end_of-Statement is forms fits = tt
-    row-shaped (more_of-Statement one rest) is forms fits = (shaped one is.0 forms.0 fits.0, row-shaped rest is.1 forms.1 fits.1)
+    row-shaped : {n : _} (row : Row_of-Statement n) → RowResolves (scope_of false deck setting.program) row → RowHasForms false row → RowCallsFit deck setting.program row → RowIsWritten row → RowShaped system setting row
+    row-shaped end_of-Statement is forms fits written = tt
+    row-shaped (more_of-Statement one rest) is forms fits written = (shaped one is.0 forms.0 fits.0 written.0, row-shaped rest is.1 forms.1 fits.1 written.1)
 
-  body-suits : (ones : List Statement) → Each (Resolves (scope_of false deck setting.program)) ones → Each (HasForms false) ones → Each (CallsFit deck setting.program) ones → Each (Suits system setting) ones
-  body-suits [] is forms fits = tt
-  body-suits (one ∷ ones) is forms fits = (suited system setting one is.0 (shaped one is.0 forms.0 fits.0), body-suits ones is.1 forms.1 fits.1)
+  body-suits : (ones : List Statement) → Each (Resolves (scope_of false deck setting.program)) ones → Each (HasForms false) ones → Each (CallsFit deck setting.program) ones → Each IsWritten ones → Each (Suits system setting) ones
+  body-suits [] is forms fits written = tt
+  body-suits (one ∷ ones) is forms fits written = (suited system setting one is.0 (shaped one is.0 forms.0 fits.0 written.0), body-suits ones is.1 forms.1 fits.1 written.1)
 
   paragraphs-suit : (ps : List Paragraph) → Each (λ (p : Paragraph). Each (Resolves (scope_of false deck setting.program)) p.body) ps → Each (λ (p : Paragraph). Each (HasForms false) p.body) ps
-      → Each (λ (p : Paragraph). Each (CallsFit deck setting.program) p.body) ps → Each (λ (p : Paragraph). Each (Suits system setting) p.body) ps
-  paragraphs-suit [] is forms fits = tt
-  paragraphs-suit (p ∷ ps) is forms fits = (body-suits p.body is.0 forms.0 fits.0, paragraphs-suit ps is.1 forms.1 fits.1)
+      → Each (λ (p : Paragraph). Each (CallsFit deck setting.program) p.body) ps → Each (λ (p : Paragraph). Each IsWritten p.body) ps → Each (λ (p : Paragraph). Each (Suits system setting) p.body) ps
+  paragraphs-suit [] is forms fits written = tt
+  paragraphs-suit (p ∷ ps) is forms fits written = (body-suits p.body is.0 forms.0 fits.0 written.0, paragraphs-suit ps is.1 forms.1 fits.1 written.1)
 
   pub is-program : IsProgram system deck q
   is-program =
@@ -238,7 +241,7 @@ module _ (rule : LockRule) (deck : Deck) (q : ℕ) (lt : q < length deck.program
         requester = lt-ltb q (length (codes_in (links_of deck) 0 deck.programs)) below;
         coded = code-in (links_of deck) deck.programs q 0 lt ∙ ap (λ n. code_in (links_of deck) n setting.program) none;
         items = fitting.items;
-        suits = paragraphs-suit setting.program.paragraphs sound.resolves sound.forms fitting.calls;
+        suits = paragraphs-suit setting.program.paragraphs sound.resolves sound.forms fitting.calls fitting.written;
         ground = ground-of false setting.program sound.laid;
         starts = starts-of false setting.program sound.laid;
       }

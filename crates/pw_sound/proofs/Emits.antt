@@ -47,6 +47,7 @@ use Rattle.pw_compile.specs.Plan as plans
 use Rattle.pw_compile.specs.Plan.{Plan, plan_of, turn_of}
 use Rattle.pw_compile.specs.Sizes.{row_size, body_size}
 use Rattle.pw_sound.specs.Premises.{IsLiteral, AreLiterals, CallFits, CallsFit, RowCallsFit, IsRead, RowIsRead}
+use Rattle.pw_sound.specs.Written.{IsWritten, RowIsWritten}
 use Rattle.pw_sound.specs.Systems.{code_in, codes_in, system_of}
 use Rattle.pw_sound.proofs.Decks.{code-in, codes-long, program-below}
 use Rattle.pw_sound.proofs.Items.{variable-of, place-lies, item-lies, any-lies, amount-lies, is-item-there}
@@ -303,99 +304,99 @@ module _ (rule : LockRule) (deck : Deck) (server : Bool) (program : Program) (fi
         omega (arith, length-append (row_code plan first) (instr.Jump (row_size second) ∷ row_code plan second), row_length plan first)
 
     mutual
-      pub statement-in : (one : Statement) → Resolves scope one → HasForms server one → (server ≡ false → CallsFit deck program one) → IsRead one → (more : ℕ) → AreIn (statement_code plan one) more
-      statement-in (form.Move line from to) is forms fit read more = (valid (0 + more) _ refl (any-lies server deck program laid from is.0 read, places-lie to is.1), tt)
-      statement-in (form.Arithmetic line a) is forms fit read more = (valid (0 + more) _ refl (arithmetic-lies a is read.0 read.1), tt)
-      statement-in (form.OnSizeError' line a n first m second) is forms fit read more = (
+      pub statement-in : (one : Statement) → Resolves scope one → HasForms server one → (server ≡ false → CallsFit deck program one) → IsRead one → IsWritten one → (more : ℕ) → AreIn (statement_code plan one) more
+      statement-in (form.Move line from to) is forms fit read written more = (valid (0 + more) _ refl (any-lies server deck program laid from is.0 read, places-lie to is.1), tt)
+      statement-in (form.Arithmetic line a) is forms fit read written more = (valid (0 + more) _ refl (arithmetic-lies a is read.0 read.1), tt)
+      statement-in (form.OnSizeError' line a n first m second) is forms fit read written more = (
         valid _ _ refl (arithmetic-lies a is.0 read.0 read.1, jump-over first second more),
-        branches-in first second more (row-in first is.1 forms.0 (λ e. (fit e).0) read.2 _) (row-in second is.2 forms.1 (λ e. (fit e).1) read.3 more),
+        branches-in first second more (row-in first is.1 forms.0 (λ e. (fit e).0) read.2 written.0 _) (row-in second is.2 forms.1 (λ e. (fit e).1) read.3 written.1 more),
       )
-      statement-in (form.If' line cond n first m second) is forms fit read more = (
+      statement-in (form.If' line cond n first m second) is forms fit read written more = (
         valid _ _ refl (cond-lies cond is.0 read.0, jump-over first second more),
-        branches-in first second more (row-in first is.1 forms.0 (λ e. (fit e).0) read.1 _) (row-in second is.2 forms.1 (λ e. (fit e).1) read.2 more),
+        branches-in first second more (row-in first is.1 forms.0 (λ e. (fit e).0) read.1 written.0 _) (row-in second is.2 forms.1 (λ e. (fit e).1) read.2 written.1 more),
       )
-      statement-in (form.Perform line name) is forms fit read more = (valid (0 + more) _ refl (turn-there name is.0), tt)
-      statement-in (form.PerformTimes line name times) is forms fit read more = (valid (0 + more) _ refl (turn-there name is.0, amount-lies server deck program laid times is.1.0 read), tt)
-      statement-in (form.PerformUntil line name cond) is forms fit read more = (valid (1 + more) instr.Exit refl tt, (valid (0 + more) _ refl (turn-there name is.0, cond-lies cond is.1 read), tt))
-      statement-in (form.PerformOneOf line names position) is forms fit read more = (
+      statement-in (form.Perform line name) is forms fit read written more = (valid (0 + more) _ refl (turn-there name is.0), tt)
+      statement-in (form.PerformTimes line name times) is forms fit read written more = (valid (0 + more) _ refl (turn-there name is.0, amount-lies server deck program laid times is.1.0 read), tt)
+      statement-in (form.PerformUntil line name cond) is forms fit read written more = (valid (1 + more) instr.Exit refl tt, (valid (0 + more) _ refl (turn-there name is.0, cond-lies cond is.1 read), tt))
+      statement-in (form.PerformOneOf line names position) is forms fit read written more = (
         valid (0 + more) _ refl (
           turns-there names (each-front (map place.Paragraph names) (place.Position position ∷ []) is),
           item-lies server deck program laid is_number position (each-back (map place.Paragraph names) (place.Position position ∷ []) is).0,
         ),
         tt,
       )
-      statement-in (form.Exit line) is forms fit read more = (valid (0 + more) instr.Exit refl tt, tt)
-      statement-in (form.ExitProgram line) is forms fit read more = (valid (0 + more) instr.ExitProgram refl tt, tt)
-      statement-in (form.StopRun line) is forms fit read more = (valid (0 + more) instr.StopRun refl tt, tt)
-      statement-in (form.DisplayBase line name) is forms fit read more =
+      statement-in (form.Exit line) is forms fit read written more = (valid (0 + more) instr.Exit refl tt, tt)
+      statement-in (form.ExitProgram line) is forms fit read written more = (valid (0 + more) instr.ExitProgram refl tt, tt)
+      statement-in (form.StopRun line) is forms fit read written more = (valid (0 + more) instr.StopRun refl tt, tt)
+      statement-in (form.DisplayBase line name) is forms fit read written more =
           let here = requester-only server (λ b. HasForms b (form.DisplayBase line name)) (λ never. never) forms in
           (valid (0 + more) _ here (screen-there (not-true server here) name is.0), tt)
-      statement-in (form.Display line shown) is forms fit read more =
+      statement-in (form.Display line shown) is forms fit read written more =
           let here = requester-only server (λ b. HasForms b (form.Display line shown)) (λ never. never) forms in
           shown-lies shown (not-true server here) is.0 read more
-      statement-in (form.Accept line name keys) is forms fit read more =
+      statement-in (form.Accept line name keys) is forms fit read written more =
           let here = requester-only server (λ b. HasForms b (form.Accept line name keys)) (λ never. never) forms in
-          (valid (0 + more) _ here (screen-there (not-true server here) name is.0, read), tt)
-      statement-in (form.Call line name arguments) is forms fit read more =
+          (valid (0 + more) _ here (screen-there (not-true server here) name is.0, written), tt)
+      statement-in (form.Call line name arguments) is forms fit read written more =
           let here = requester-only server (λ b. HasForms b (form.Call line name arguments)) (λ never. never) forms in
           (valid (0 + more) _ here (call-lies name arguments is.0 is.1 (fit (not-true server here))), tt)
-      statement-in (form.Send line message class ones) is forms fit read more =
+      statement-in (form.Send line message class ones) is forms fit read written more =
           let here = requester-only server (λ b. HasForms b (form.Send line message class ones)) (λ never. never) forms in
           let same : suc more ≡ 1 + more = omega arith in (
-            valid (1 + more) _ here (subst (λ n. IsSend system long n (plans.class_of plan class) (code.operand_of program.layout message) (map (reply_code plan) ones)) same (send-lies more message class ones is.0 is.1.0 is.1.1 read.0 read.1)),
+            valid (1 + more) _ here (subst (λ n. IsSend system long n (plans.class_of plan class) (code.operand_of program.layout message) (map (reply_code plan) ones)) same (send-lies more message class ones is.0 is.1.0 is.1.1 written.0 written.1)),
             (valid (0 + more) instr.NoCode here tt, tt),
           )
-      statement-in (form.Begin line) is forms fit read more = (valid (0 + more) instr.Begin (requester-only server (λ b. HasForms b (form.Begin line)) (λ never. never) forms) tt, tt)
-      statement-in (form.End line) is forms fit read more = (valid (0 + more) instr.End (requester-only server (λ b. HasForms b (form.End line)) (λ never. never) forms) tt, tt)
-      statement-in (form.Abort line) is forms fit read more = (valid (0 + more) instr.Abort (requester-only server (λ b. HasForms b (form.Abort line)) (λ never. never) forms) tt, tt)
-      statement-in (form.Restart line) is forms fit read more = (valid (0 + more) instr.Restart (requester-only server (λ b. HasForms b (form.Restart line)) (λ never. never) forms) tt, tt)
-      statement-in (form.Receive line into) is forms fit read more =
+      statement-in (form.Begin line) is forms fit read written more = (valid (0 + more) instr.Begin (requester-only server (λ b. HasForms b (form.Begin line)) (λ never. never) forms) tt, tt)
+      statement-in (form.End line) is forms fit read written more = (valid (0 + more) instr.End (requester-only server (λ b. HasForms b (form.End line)) (λ never. never) forms) tt, tt)
+      statement-in (form.Abort line) is forms fit read written more = (valid (0 + more) instr.Abort (requester-only server (λ b. HasForms b (form.Abort line)) (λ never. never) forms) tt, tt)
+      statement-in (form.Restart line) is forms fit read written more = (valid (0 + more) instr.Restart (requester-only server (λ b. HasForms b (form.Restart line)) (λ never. never) forms) tt, tt)
+      statement-in (form.Receive line into) is forms fit read written more =
           (valid (0 + more) _ (server-only server (λ b. HasForms b (form.Receive line into)) (λ never. never) forms) (place-lies server deck program laid is_item into is.0), tt)
-      statement-in (form.Reply line from) is forms fit read more =
+      statement-in (form.Reply line from) is forms fit read written more =
           (valid (0 + more) _ (server-only server (λ b. HasForms b (form.Reply line from)) (λ never. never) forms) (item-operand is_any from is.0), tt)
-      statement-in (form.Read line file locking key into) is forms fit read more =
+      statement-in (form.Read line file locking key into) is forms fit read written more =
           let here = server-only server (λ b. HasForms b (form.Read line file locking key into)) (λ never. never) forms in
           (valid (0 + more) _ here (key-lies here file key is.0, place-lies server deck program laid is_item into is.1.0), tt)
-      statement-in (form.ReadNext line file locking key into) is forms fit read more =
+      statement-in (form.ReadNext line file locking key into) is forms fit read written more =
           let here = server-only server (λ b. HasForms b (form.ReadNext line file locking key into)) (λ never. never) forms in
           (valid (0 + more) _ here (key-lies here file key is.0, place-lies server deck program laid is_item into is.1.0), tt)
-      statement-in (form.Write line file from) is forms fit read more =
+      statement-in (form.Write line file from) is forms fit read written more =
           let here = server-only server (λ b. HasForms b (form.Write line file from)) (λ never. never) forms in
           (valid (0 + more) _ here (record-lies here file from is.0), tt)
-      statement-in (form.Rewrite line file from) is forms fit read more =
+      statement-in (form.Rewrite line file from) is forms fit read written more =
           let here = server-only server (λ b. HasForms b (form.Rewrite line file from)) (λ never. never) forms in
           (valid (0 + more) _ here (record-lies here file from is.0), tt)
-      statement-in (form.Delete line file key) is forms fit read more =
+      statement-in (form.Delete line file key) is forms fit read written more =
           let here = server-only server (λ b. HasForms b (form.Delete line file key)) (λ never. never) forms in
           (valid (0 + more) _ here (key-lies here file key is.0), tt)
 
-      row-in : {n : _} (row : Row_of-Statement n) → RowResolves scope row → RowHasForms server row → (server ≡ false → RowCallsFit deck program row) → RowIsRead row → (more : ℕ) → AreIn (row_code plan row) more
-      row-in end_of-Statement is forms fit read more = tt
-      row-in (more_of-Statement one rest) is forms fit read more =
+      row-in : {n : _} (row : Row_of-Statement n) → RowResolves scope row → RowHasForms server row → (server ≡ false → RowCallsFit deck program row) → RowIsRead row → RowIsWritten row → (more : ℕ) → AreIn (row_code plan row) more
+      row-in end_of-Statement is forms fit read written more = tt
+      row-in (more_of-Statement one rest) is forms fit read written more =
           append-in (statement_code plan one) (row_code plan rest) more
-          (statement-in one is.0 forms.0 (λ e. (fit e).0) read.0 (length (row_code plan rest) + more)) (row-in rest is.1 forms.1 (λ e. (fit e).1) read.1 more)
+          (statement-in one is.0 forms.0 (λ e. (fit e).0) read.0 written.0 (length (row_code plan rest) + more)) (row-in rest is.1 forms.1 (λ e. (fit e).1) read.1 written.1 more)
 
-    body-in : (ones : List Statement) → Each (Resolves scope) ones → Each (HasForms server) ones → (server ≡ false → Each (CallsFit deck program) ones) → Each IsRead ones → (more : ℕ) → AreIn (body_code plan ones) more
-    body-in [] is forms fit read more = tt
-    body-in (one ∷ ones) is forms fit read more =
+    body-in : (ones : List Statement) → Each (Resolves scope) ones → Each (HasForms server) ones → (server ≡ false → Each (CallsFit deck program) ones) → Each IsRead ones → Each IsWritten ones → (more : ℕ) → AreIn (body_code plan ones) more
+    body-in [] is forms fit read written more = tt
+    body-in (one ∷ ones) is forms fit read written more =
         append-in (statement_code plan one) (body_code plan ones) more
-        (statement-in one is.0 forms.0 (λ e. (fit e).0) read.0 (length (body_code plan ones) + more)) (body-in ones is.1 forms.1 (λ e. (fit e).1) read.1 more)
+        (statement-in one is.0 forms.0 (λ e. (fit e).0) read.0 written.0 (length (body_code plan ones) + more)) (body-in ones is.1 forms.1 (λ e. (fit e).1) read.1 written.1 more)
 
     -- the paragraphs from a place on, where as many instructions stand in front as that says
     paragraphs-in : (ps : List Paragraph) (at : ℕ) → Each (λ (p : Paragraph). Each (Resolves scope) p.body) ps → Each (λ (p : Paragraph). Each (HasForms server) p.body) ps
-        → (server ≡ false → Each (λ (p : Paragraph). Each (CallsFit deck program) p.body) ps) → Each (λ (p : Paragraph). Each IsRead p.body) ps
+        → (server ≡ false → Each (λ (p : Paragraph). Each (CallsFit deck program) p.body) ps) → Each (λ (p : Paragraph). Each IsRead p.body) ps → Each (λ (p : Paragraph). Each IsWritten p.body) ps
         → at + length (procedure_code plan at ps) ≤ length own.instrs → AreIn (procedure_code plan at ps) 0
-    paragraphs-in [] at is forms fit read le = tt
-    paragraphs-in (p ∷ ps) at is forms fit read le =
+    paragraphs-in [] at is forms fit read written le = tt
+    paragraphs-in (p ∷ ps) at is forms fit read written le =
         let later = procedure_code plan (at + body_size p.body + 1) ps in
         let long_here = length-append (body_code plan p.body) (instr.ParagraphEnd at ∷ later) in
         append-in (body_code plan p.body) (instr.ParagraphEnd at ∷ later) 0
-        (body-in p.body is.0 forms.0 (λ e. (fit e).0) read.0 (length (instr.ParagraphEnd at ∷ later) + 0)) (
+        (body-in p.body is.0 forms.0 (λ e. (fit e).0) read.0 written.0 (length (instr.ParagraphEnd at ∷ later) + 0)) (
           valid (length later + 0) (instr.ParagraphEnd at) refl (omega (arith, le, long_here)),
-          paragraphs-in ps (at + body_size p.body + 1) is.1 forms.1 (λ e. (fit e).1) read.1 (omega (arith, le, long_here, body_length plan p.body)),
+          paragraphs-in ps (at + body_size p.body + 1) is.1 forms.1 (λ e. (fit e).1) read.1 written.1 (omega (arith, le, long_here, body_length plan p.body)),
         )
 
     pub instrs-are : Each (λ (p : Paragraph). Each (Resolves scope) p.body) program.paragraphs → Each (λ (p : Paragraph). Each (HasForms server) p.body) program.paragraphs
-        → (server ≡ false → Each (λ (p : Paragraph). Each (CallsFit deck program) p.body) program.paragraphs) → Each (λ (p : Paragraph). Each IsRead p.body) program.paragraphs
+        → (server ≡ false → Each (λ (p : Paragraph). Each (CallsFit deck program) p.body) program.paragraphs) → Each (λ (p : Paragraph). Each IsRead p.body) program.paragraphs → Each (λ (p : Paragraph). Each IsWritten p.body) program.paragraphs
         → AreInstrs server system own own.instrs
-    instrs-are is forms fit read = to-instrs own.instrs (paragraphs-in program.paragraphs 0 is forms fit read (omega arith))
+    instrs-are is forms fit read written = to-instrs own.instrs (paragraphs-in program.paragraphs 0 is forms fit read written (omega arith))

@@ -24,3 +24,6 @@ mod Serves
 mod Items
 mod Emits
 mod Valid
+mod Showing
+mod written
+mod Upper

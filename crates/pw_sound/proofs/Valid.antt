@@ -113,7 +113,7 @@ code-valid rule deck server program first sound read fit screens =
     let plan = plan_of program.layout program.screens program.paragraphs first (links_of deck) in
     record {
       places = omega (arith, read.short, code-long plan program.paragraphs 0);
-      instrs = instrs-are rule deck server program first sound.laid (turn-there (links_of deck) first server deck program) screens sound.resolves sound.forms fit read.statements;
+      instrs = instrs-are rule deck server program first sound.laid (turn-there (links_of deck) first server deck program) screens sound.resolves sound.forms fit read.statements read.written;
       storage = storage-few server deck program sound.laid;
       linkage = linked-all server deck program sound program.parameters;
     }
