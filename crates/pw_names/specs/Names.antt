@@ -6,7 +6,9 @@ use Rattle.pw_code.specs.declared.links.Links.{Links}
 use Rattle.pw_scobol.specs.declared.requester.Requester.{Requester}
 use Rattle.pw_server.specs.declared.server.Server.{Server}
 use Rattle.pw_operands.specs.Scope.{requester_scope, server_scope}
-use Rattle.pw_operands.specs.Resolved.{Each, RequesterResolves, ServerResolves}
+use Rattle.pw_operands.specs.Resolved.{Each}
+use Rattle.pw_scobol.specs.Resolved as of_requester
+use Rattle.pw_server.specs.Resolved as of_server
 use Rattle.pw_names.specs.Calls.{Lengths, lengths_of, Program}
 use Rattle.pw_names.specs.Order.{first}
 use Rattle.pw_names.specs.Faults.{program_faults}
@@ -51,10 +53,8 @@ names_of requesters servers links = unless (first None (all_faults requesters se
 -- every name of each requester resolves, and every operand has its kind and length
 abbrev pub AllRequestersResolve : List Requester → Links → Type 0
 AllRequestersResolve requesters links =
-    Each
-    (λ one. RequesterResolves one.layout one.screens one.procedure links) requesters
+    Each (λ one. of_requester.IsResolved one links) requesters
 
 -- the same of the servers
 abbrev pub AllServersResolve : List Server → Links → Type 0
-AllServersResolve servers links =
-    Each (λ one. ServerResolves one.layout one.procedure links) servers
+AllServersResolve servers links = Each (λ one. of_server.IsResolved one links) servers

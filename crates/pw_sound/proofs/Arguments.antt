@@ -36,7 +36,9 @@ use Rattle.pw_terminal.specs.Shown.{written}
 use Rattle.pw_sound.proofs.Flat.{flat-chars, flat-put, take-front, drop-front, joined-append}
 use Rattle.pw_sound.proofs.Ground.{Ground, IsCut, ground-kept}
 use Rattle.pw_sound.proofs.Readings.{Sits, sits-kept, length-digits_of}
-use Rattle.pw_sound.specs.Premises.{AreItems, IsKeptIndex, IsKeptTable, IsKeptPlace}
+use Rattle.std.specs.Prelude.{IfSome}
+use Rattle.pw_sound.proofs.Suits.{IsFew, IsKeptIndex, IsKeptTable, IsKeptPlace}
+use Rattle.pw_sound.specs.Premises.{AreItems}
 
 -- ---- the registers that a CALL keeps
 
@@ -99,23 +101,23 @@ occurrence-by : (k occurs at step : ℕ) (b : Bool) → (nat_le 1 k && nat_le k 
 occurrence-by k occurs at step true e found is = leb-true k occurs (and_parts (nat_le 1 k) (nat_le k occurs) e).1
 occurrence-by k occurs at step false e found is = absurd cc
 
-at-kept : (registers : Registers) (storage : List ℕ) (at : ℕ) (table : Option Table) (found : ℕ) → IsKeptTable table
+at-kept : (registers : Registers) (storage : List ℕ) (at : ℕ) (table : Option Table) (found : ℕ) → IsKeptTable table → IfSome table (λ one. one.occurs ≤ most_occurrences)
     → reading.at_this_moment registers storage at table ≡ Some found → reading.at_this_moment (kept_in (kept true registers)) storage at table ≡ Some found
-at-kept registers storage at None found is e = e
-at-kept registers storage at (Some table) found is e =
+at-kept registers storage at None found is few e = e
+at-kept registers storage at (Some table) found is few e =
     let k = reading.subscript_of registers storage table.subscript in
     let within = occurrence-by k table.occurs at table.step (nat_le 1 k && nat_le k table.occurs) refl found e in
-    ap (reading.occurrence_at at table) (index-kept registers storage table.subscript table.occurs is.0 is.1 within) ∙ e
+    ap (reading.occurrence_at at table) (index-kept registers storage table.subscript table.occurs is few within) ∙ e
 
 some-of : {A B : Type 0} (f : A → B) (o : Option A) (found : B) → option_map f o ≡ Some found → (x : A) × (o ≡ Some x) × (f x ≡ found)
 some-of f None found e = absurd cc
 some-of f (Some x) found e = (x, refl, Some-same (f x) found e)
 
-spot-kept : (registers : Registers) (storage : List ℕ) (place : Place) (found : Spot) → IsKeptPlace place
+spot-kept : (registers : Registers) (storage : List ℕ) (place : Place) (found : Spot) → IsKeptPlace place → IsFew place
     → reading.spot_of registers storage place ≡ Some found → reading.spot_of (kept_in (kept true registers)) storage place ≡ Some found
-spot-kept registers storage place found is e =
+spot-kept registers storage place found is few e =
     let s = some-of (reading.spot_at place) (reading.at_this_moment registers storage place.at place.table) found e in
-    ap (option_map (reading.spot_at place)) (at-kept registers storage place.at place.table s.0 is s.1) ∙ ap Some s.2
+    ap (option_map (reading.spot_at place)) (at-kept registers storage place.at place.table s.0 is few s.1) ∙ ap Some s.2
 
 -- each of some is there
 one-some : {A : Type 0} (a : Option A) (b : Option (List A)) (x : A) (xs : List A) → one_more a b ≡ Some (x ∷ xs) → (a ≡ Some x) × (b ≡ Some xs)
@@ -152,16 +154,16 @@ spots-long registers storage (place ∷ places) (spot ∷ spots) e =
     ap (λ (n : ℕ). n ∷ map (λ (one : Spot). one.size) spots) (ap (λ (one : Spot). one.size) (sym s.2))
     ∙ ap (λ (ns : List ℕ). place.size ∷ ns) (spots-long registers storage places spots parts.1)
 
-kept-each : (registers : Registers) (storage : List ℕ) (places : List Place) → Each IsKeptPlace places
+kept-each : (registers : Registers) (storage : List ℕ) (places : List Place) → Each IsKeptPlace places → Each IsFew places
     → Each (λ (place : Place). (spot : Spot) → reading.spot_of registers storage place ≡ Some spot → reading.spot_of (kept_in (kept true registers)) storage place ≡ Some spot) places
-kept-each registers storage [] is = tt
-kept-each registers storage (place ∷ places) is = ((λ spot e. spot-kept registers storage place spot is.0 e), kept-each registers storage places is.1)
+kept-each registers storage [] is few = tt
+kept-each registers storage (place ∷ places) is few = ((λ spot e. spot-kept registers storage place spot is.0 few.0 e), kept-each registers storage places is.1 few.1)
 
 -- the places of a CALL that keeps the registers
-pub spots-kept : (registers : Registers) (storage : List ℕ) (places : List Place) (spots : List Spot) → Each IsKeptPlace places
+pub spots-kept : (registers : Registers) (storage : List ℕ) (places : List Place) (spots : List Spot) → Each IsKeptPlace places → Each IsFew places
     → spots_of registers storage places ≡ Some spots → spots_of (kept_in (kept true registers)) storage places ≡ Some spots
-spots-kept registers storage places spots is e =
-    spots-again registers (kept_in (kept true registers)) storage places spots (kept-each registers storage places is) e
+spots-kept registers storage places spots is few e =
+    spots-again registers (kept_in (kept true registers)) storage places spots (kept-each registers storage places is few) e
 
 -- ---- without registers
 
@@ -197,7 +199,7 @@ spots-free old new storage places spots is e = spots-again old new storage place
 length-taken : (n at : ℕ) (chars : List ℕ) → at + n ≤ length chars → length (take n (drop at chars)) ≡ n
 length-taken n at chars le = omega (arith, length-take n (drop at chars), length-drop at chars, le)
 
-length-joined : (store : Store) (at n : ℕ) → (c : Cut store at n) → at + n ≤ length (joined store)
+pub length-joined : (store : Store) (at n : ℕ) → (c : Cut store at n) → at + n ≤ length (joined store)
 length-joined store at n c =
     let whole : length (joined store) ≡ length (joined c.front ++ (joined c.run ++ joined c.back)) =
     ap length (ap joined c.is ∙ joined-append c.front (c.run ++ c.back) ∙ ap (λ zs. joined c.front ++ zs) (joined-append c.run c.back)) in

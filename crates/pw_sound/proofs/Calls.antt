@@ -31,8 +31,8 @@ use Rattle.pw_sound.proofs.Operands.{Known}
 use Rattle.pw_sound.proofs.Readings.{Sits, TakenSits, spot-sits, all-sit, spots-same}
 use Rattle.pw_sound.proofs.Leading.{Env, Marks, mach, Leads, Does, Finishes, taken_does}
 use Rattle.pw_sound.proofs.Statements.{split-end}
-use Rattle.pw_sound.specs.Premises.{AreItems, IsKeptPlace}
-use Rattle.pw_sound.proofs.Suits.{CallSuits}
+use Rattle.pw_sound.specs.Premises.{AreItems}
+use Rattle.pw_sound.proofs.Suits.{IsFew, IsKeptPlace, CallSuits}
 use Rattle.pw_sound.proofs.Arguments.{spots-long, spots-kept, spots-free, linkage-says, linkage-long, arguments-put, put-ground}
 
 -- what is known of a program that is called
@@ -63,7 +63,7 @@ module _ (system : System) (setting : Setting) (e : Env) where
 
   module _ (q : ℕ) (keeping : Bool) (spots : List Spot) (places : List Place) (at : ℕ) (rs : List Return) (s : State)
       (h : slice_get (code_at system e.program).instrs at ≡ Some (instr.Call q places keeping))
-      (keeping_is : keeping ≡ keeps places) (kept : Each IsKeptPlace places)
+      (keeping_is : keeping ≡ keeps places) (kept : Each IsKeptPlace places) (few : Each IsFew places)
       (found : spots_of s.registers (joined s.store ++ e.tail) places ≡ Some spots)
       (callee : IsCallee system q (program_at setting.deck.programs q))
       (sits : Each (Sits s.store) spots)
@@ -86,7 +86,7 @@ module _ (system : System) (setting : Setting) (e : Env) where
         let long : length (joined u.store) ≡ length (code_at system q).storage = ground.1 ∙ sym (ap length callee.storage) in
         ap (λ b. spots_of (calls.registers_at_call b (length (code_at system q).storage) (record { program = q; at = to; storage = joined u.store ++ calls.kept b s.registers; returns = returns }) (left_at to returns u n).rest) (joined s.store ++ e.tail) places) is
         ∙ ap (λ (chars : List ℕ). spots_of (calls.kept_in chars) (joined s.store ++ e.tail) places) (drop-front (joined u.store) (calls.kept true s.registers) (length (code_at system q).storage) long)
-        ∙ spots-kept s.registers (joined s.store ++ e.tail) places spots kept found
+        ∙ spots-kept s.registers (joined s.store ++ e.tail) places spots kept few found
     places-again false is to returns u n ground =
         ap (λ b. spots_of (calls.registers_at_call b (length (code_at system q).storage) (record { program = q; at = to; storage = joined u.store ++ calls.kept keeping s.registers; returns = returns }) (left_at to returns u n).rest) (joined s.store ++ e.tail) places) is
         ∙ spots-free s.registers u.registers (joined s.store ++ e.tail) places spots (sym keeping_is ∙ is) found
@@ -162,6 +162,6 @@ module _ (system : System) (setting : Setting) (e : Env) where
         let taken : spots_of s.registers (joined s.store ++ e.tail) places ≡ Some spots = spots_are ∙ ap (option_map (map spot_in)) found_is in
         let sits = each-spots s found (all-sit setting.is_server setting.deck setting.program known s e.tail ground arguments found found_is) in
         let sizes = spots-long s.registers (joined s.store ++ e.tail) places spots taken ∙ suits.fits.sizes in
-        comes_back_does q (keeps places) spots places at rs s (h ∙ ap (λ n. Some (instr.Call n places (keeps places))) same) refl suits.fits.kept taken callee sits sizes
+        comes_back_does q (keeps places) spots places at rs s (h ∙ ap (λ n. Some (instr.Call n places (keeps places))) same) refl suits.kept suits.few taken callee sits sizes
         (calls.calls system q (keeps places) spots (mach e at rs s m)) (budget s) ground (call q (tree.chars_of_all spots s.store) s)
-        (does q (keeps places) spots at rs s m suits.fits.there sits sizes)))
+        (does q (keeps places) spots at rs s m suits.there sits sizes)))

@@ -1,5 +1,5 @@
 -- The programs of a sound deck, whose codes are those of its system.
-use Rattle.std.proofs.Common.{◌≡◌, ℕ, zero, suc, ◌+◌, ◌-◌, ◌<◌, Bool, true, false, cond, List, [], ◌∷◌, ◌++◌, length, map, find, Option, Some, None, IsSome, refl, ap, ◌∙◌, subst, arith}
+use Rattle.std.proofs.Common.{sym, ◌≡◌, ℕ, zero, suc, ◌+◌, ◌-◌, ◌<◌, Bool, true, false, cond, List, [], ◌∷◌, ◌++◌, length, map, find, Option, Some, None, IsSome, refl, ap, ◌∙◌, subst, arith}
 use Rattle.std.specs.Prelude.{nat_lt, slice_get, slice_index_or, position, unwrap_or, bytes_eq, if◌then◌else◌}
 use Rattle.std.specs.List.{position_from}
 use Rattle.std.proofs.lemmas.Bool.{le-ltb, lt-ltb}
@@ -27,6 +27,12 @@ use Rattle.pw_source.specs.Setting.{Setting}
 use Rattle.pw_source.specs.Sound.{links_of, scope_of, HasForms, RowHasForms, IsSound, IsSoundProgram}
 use Rattle.pw_sound.specs.Premises.{IsShownOf, CallsFit, RowCallsFit, IsFitting, AreFitting}
 use Rattle.pw_sound.specs.Systems.{code_in, codes_in, screens_of, system_of}
+use Rattle.std.proofs.lemmas.List.{length-map}
+use Rattle.pw_source.proofs.Resolved.{got-below}
+use Rattle.pw_sound.proofs.Items.{places-few}
+use Rattle.pw_sound.proofs.Sending.{position-map}
+use Rattle.pw_sound.specs.Written.{IsWritten, RowIsWritten}
+use Rattle.pw_sound.proofs.Upper.{kept-places}
 use Rattle.pw_sound.proofs.Grounds.{known-of, ground-of, starts-of}
 use Rattle.pw_sound.proofs.Resolving.{Shaped, RowShaped, suited, receivers-own, named-own}
 use Rattle.pw_sound.proofs.Suits as suits
@@ -38,12 +44,12 @@ Some-same a b h = cc
 
 -- ---- programs by their numbers
 
-each-program : (P : Program → Type 0) (programs : List Program) (q : ℕ) → Each P programs → q < length programs → P (tree.program_at programs q)
+pub each-program : (P : Program → Type 0) (programs : List Program) (q : ℕ) → Each P programs → q < length programs → P (tree.program_at programs q)
 each-program P [] q each lt = absurd (omega (arith, lt))
 each-program P (x ∷ xs) zero each lt = each.0
 each-program P (x ∷ xs) (suc q) each lt = each-program P xs q each.1 (omega (arith, lt))
 
-code-in : (links : Links) (programs : List Program) (q first : ℕ) → q < length programs
+pub code-in : (links : Links) (programs : List Program) (q first : ℕ) → q < length programs
     → slice_index_or (codes_in links first programs) q no_code ≡ code_in links (first + first_screen programs q) (tree.program_at programs q)
 code-in links [] q first lt = absurd (omega (arith, lt))
 code-in links (x ∷ xs) zero first lt = let same : first ≡ first + 0 = omega arith in ap (λ n. code_in links n x) same
@@ -51,11 +57,11 @@ code-in links (x ∷ xs) (suc q) first lt =
     let same : first + length x.screens + first_screen xs q ≡ first + (length x.screens + first_screen xs q) = omega arith in
     code-in links xs q (first + length x.screens) (omega (arith, lt)) ∙ ap (λ n. code_in links n (tree.program_at xs q)) same
 
-codes-long : (links : Links) (programs : List Program) (first : ℕ) → length (codes_in links first programs) ≡ length programs
+pub codes-long : (links : Links) (programs : List Program) (first : ℕ) → length (codes_in links first programs) ≡ length programs
 codes-long links [] first = refl
 codes-long links (x ∷ xs) first = ap suc (codes-long links xs (first + length x.screens))
 
-server-in : (links : Links) (programs : List Program) (q : ℕ) → q < length programs
+pub server-in : (links : Links) (programs : List Program) (q : ℕ) → q < length programs
     → slice_index_or (map (code_in links 0) programs) q no_code ≡ code_in links 0 (tree.program_at programs q)
 server-in links [] q lt = absurd (omega (arith, lt))
 server-in links (x ∷ xs) zero lt = refl
@@ -74,7 +80,7 @@ got-back (x ∷ xs) ys i d =
     let same : suc (length xs) + i ≡ suc (length xs + i) = omega arith in
     ap (λ n. slice_index_or (x ∷ (xs ++ ys)) n d) same ∙ got-back xs ys i d
 
-screen-in : (programs : List Program) (q i : ℕ) (d table : ScreenTable) → q < length programs → slice_get (tree.program_at programs q).screens i ≡ Some table
+pub screen-in : (programs : List Program) (q i : ℕ) (d table : ScreenTable) → q < length programs → slice_get (tree.program_at programs q).screens i ≡ Some table
     → slice_index_or (screens_of programs) (first_screen programs q + i) d ≡ table
 screen-in [] q i d table lt e = absurd (omega (arith, lt))
 screen-in (x ∷ xs) zero i d table lt e =
@@ -86,12 +92,12 @@ screen-in (x ∷ xs) (suc q) i d table lt e =
     ∙ screen-in xs q i d table (omega (arith, lt)) e
 
 -- what is found has a place
-record Found {A : Type 0} (test : A → Bool) (k : ℕ) (xs : List A) (x : A) : Type 0 where
-  number : ℕ
-  place : position_from test k xs ≡ Some (k + number)
-  got : slice_get xs number ≡ Some x
+pub record Found {A : Type 0} (test : A → Bool) (k : ℕ) (xs : List A) (x : A) : Type 0 where
+  pub number : ℕ
+  pub place : position_from test k xs ≡ Some (k + number)
+  pub got : slice_get xs number ≡ Some x
 
-found-at : {A : Type 0} (test : A → Bool) (k : ℕ) (xs : List A) (x : A) → find test xs ≡ Some x → Found test k xs x
+pub found-at : {A : Type 0} (test : A → Bool) (k : ℕ) (xs : List A) (x : A) → find test xs ≡ Some x → Found test k xs x
 found-at test k [] x e = absurd cc
 found-at {A} test k (y ∷ ys) x e = by (test y) refl e (λ later. found-at test (k + 1) ys x later)
   where
@@ -103,7 +109,7 @@ found-at {A} test k (y ∷ ys) x e = by (test y) refl e (λ later. found-at test
         record { number = suc r.number; place = ap (λ b. cond b (Some k) (position_from test (k + 1) ys)) t ∙ r.place ∙ ap Some same; got = r.got }
 
 -- what has a place is found
-some-found : {A : Type 0} (test : A → Bool) (k : ℕ) (xs : List A) → IsSome (position_from test k xs) → (x : A) × (find test xs ≡ Some x)
+pub some-found : {A : Type 0} (test : A → Bool) (k : ℕ) (xs : List A) → IsSome (position_from test k xs) → (x : A) × (find test xs ≡ Some x)
 some-found test k [] some = absurd cc
 some-found {A} test k (y ∷ ys) some = by (test y) some (λ later. some-found test (k + 1) ys later)
   where
@@ -111,13 +117,26 @@ some-found {A} test k (y ∷ ys) some = by (test y) some (λ later. some-found t
     by true some' later = (y, refl)
     by false some' later = later some'
 
-each-found' : {A : Type 0} (P : A → Type 0) (test : A → Bool) (xs : List A) (x : A) → Each P xs → find test xs ≡ Some x → P x
+pub each-found' : {A : Type 0} (P : A → Type 0) (test : A → Bool) (xs : List A) (x : A) → Each P xs → find test xs ≡ Some x → P x
 each-found' P test [] x each e = absurd cc
 each-found' P test (y ∷ ys) x each e = by (test y) e (λ later. each-found' P test ys x each.1 later)
   where
     by : (b : Bool) → cond b (Some y) (find test ys) ≡ Some x → (find test ys ≡ Some x → P x) → P x
     by true one later = subst P (Some-same y x one) each.0
     by false one later = later one
+
+-- the number of a program that is named is that of one that is there
+pub program-below : (programs : List Program) (name : Word) → IsSome (position_from (λ (one : Word). bytes_eq one name) 0 (map (λ (program : Program). program.name) programs))
+    → unwrap_or (position (λ (program : Program). bytes_eq program.name name) programs) 0 < length programs
+program-below programs name some =
+    let names = map (λ (program : Program). program.name) programs in
+    let test : Word → Bool = λ one. bytes_eq one name in
+    let s = some-found test 0 names some in
+    let r = found-at test 0 names s.0 s.1 in
+    let same : 0 + r.number ≡ r.number = omega arith in
+    let number : unwrap_or (position (λ (program : Program). bytes_eq program.name name) programs) 0 ≡ r.number =
+    ap (λ o. unwrap_or o 0) (sym (position-map (λ (program : Program). program.name) test programs) ∙ position_from-zero test names ∙ r.place) ∙ same in
+    omega (arith, number, got-below names r.number s.0 r.got, length-map programs (λ (program : Program). program.name))
 
 -- ---- programs of terminals
 
@@ -139,7 +158,7 @@ module _ (rule : LockRule) (deck : Deck) (q : ℕ) (lt : q < length deck.program
       record {
         coded = ap (λ n. slice_index_or (screens_of deck.programs) (first_screen deck.programs q + n) (record { name = []; fields = [] })) number
             ∙ screen-in deck.programs q r.number (record { name = []; fields = [] }) table lt r.got;
-        shown = each-found' (λ (one : ScreenTable). Each (λ (field : Field). IsShownOf setting.program field.shown) one.fields) test setting.program.screens table fitting.screens is;
+        shown = each-found' (λ (one : ScreenTable). Each (λ (field : Field). IsShownOf setting.program.layout field.shown) one.fields) test setting.program.screens table fitting.screens is;
       }
 
   shows-screen : (name : Word) → IsSome (screen_of (scope_of false deck setting.program) name) → suits.ShowsScreen system setting name
@@ -164,47 +183,54 @@ module _ (rule : LockRule) (deck : Deck) (q : ℕ) (lt : q < length deck.program
   shows operands.Zeros is = tt
 
   mutual
-    shaped : (one : Statement) → Resolves (scope_of false deck setting.program) one → HasForms false one → CallsFit deck setting.program one → Shaped system setting one
-    shaped (form.OnSizeError' line a n first m second) is forms fits = (row-shaped first is.1 forms.0 fits.0, row-shaped second is.2 forms.1 fits.1)
-    shaped (form.If' line cond n first m second) is forms fits = (row-shaped first is.1 forms.0 fits.0, row-shaped second is.2 forms.1 fits.1)
-    shaped (form.DisplayBase line name) is forms fits = shows-screen name is.0
-    shaped (form.Display line shown) is forms fits = shows shown is.0
-    shaped (form.Accept line name keys) is forms fits = shows-screen name is.0
-    shaped (form.Call line name arguments) is forms fits = record { requester = refl; own = receivers-own system setting arguments is.1; fits = fits }
-    shaped (form.Receive line into) is forms fits = absurd forms
-    shaped (form.Move line from to) is forms fits = tt
-    shaped (form.Arithmetic line a) is forms fits = tt
-    shaped (form.Perform line name) is forms fits = tt
-    shaped (form.PerformTimes line name times) is forms fits = tt
-    shaped (form.PerformUntil line name cond) is forms fits = tt
-    shaped (form.PerformOneOf line names position) is forms fits = tt
-    shaped (form.Send line message class codes) is forms fits = tt
-    shaped (form.Reply line from) is forms fits = tt
-    shaped (form.Read line file locking key into) is forms fits = tt
-    shaped (form.ReadNext line file locking key into) is forms fits = tt
-    shaped (form.Write line file from) is forms fits = tt
-    shaped (form.Rewrite line file from) is forms fits = tt
-    shaped (form.Delete line file key) is forms fits = tt
-    shaped (form.Exit line) is forms fits = tt
-    shaped (form.ExitProgram line) is forms fits = tt
-    shaped (form.StopRun line) is forms fits = tt
-    shaped (form.Begin line) is forms fits = tt
-    shaped (form.End line) is forms fits = tt
-    shaped (form.Abort line) is forms fits = tt
-    shaped (form.Restart line) is forms fits = tt
+    shaped : (one : Statement) → Resolves (scope_of false deck setting.program) one → HasForms false one → CallsFit deck setting.program one → IsWritten one → Shaped system setting one
+    shaped (form.OnSizeError' line a n first m second) is forms fits written = (row-shaped first is.1 forms.0 fits.0 written.0, row-shaped second is.2 forms.1 fits.1 written.1)
+    shaped (form.If' line cond n first m second) is forms fits written = (row-shaped first is.1 forms.0 fits.0 written.0, row-shaped second is.2 forms.1 fits.1 written.1)
+    shaped (form.DisplayBase line name) is forms fits written = shows-screen name is.0
+    shaped (form.Display line shown) is forms fits written = shows shown is.0
+    shaped (form.Accept line name keys) is forms fits written = shows-screen name is.0
+    shaped (form.Call line name arguments) is forms fits written = record {
+      requester = refl;
+      own = receivers-own system setting arguments is.1;
+      there = program-below deck.programs name is.0;
+      few = places-few false deck setting.program sound.laid arguments;
+      kept = kept-places deck setting.program arguments (receivers-own system setting arguments is.1) written;
+      fits = fits;
+    }
+    shaped (form.Receive line into) is forms fits written = absurd forms
+    shaped (form.Move line from to) is forms fits written = tt
+    shaped (form.Arithmetic line a) is forms fits written = tt
+    shaped (form.Perform line name) is forms fits written = tt
+    shaped (form.PerformTimes line name times) is forms fits written = tt
+    shaped (form.PerformUntil line name cond) is forms fits written = tt
+    shaped (form.PerformOneOf line names position) is forms fits written = tt
+    shaped (form.Send line message class codes) is forms fits written = tt
+    shaped (form.Reply line from) is forms fits written = tt
+    shaped (form.Read line file locking key into) is forms fits written = tt
+    shaped (form.ReadNext line file locking key into) is forms fits written = tt
+    shaped (form.Write line file from) is forms fits written = tt
+    shaped (form.Rewrite line file from) is forms fits written = tt
+    shaped (form.Delete line file key) is forms fits written = tt
+    shaped (form.Exit line) is forms fits written = tt
+    shaped (form.ExitProgram line) is forms fits written = tt
+    shaped (form.StopRun line) is forms fits written = tt
+    shaped (form.Begin line) is forms fits written = tt
+    shaped (form.End line) is forms fits written = tt
+    shaped (form.Abort line) is forms fits written = tt
+    shaped (form.Restart line) is forms fits written = tt
 
-    row-shaped : {n : _} (row : Row_of-Statement n) → RowResolves (scope_of false deck setting.program) row → RowHasForms false row → RowCallsFit deck setting.program row → RowShaped system setting row
-    row-shaped end_of-Statement is forms fits = tt
-    row-shaped (more_of-Statement one rest) is forms fits = (shaped one is.0 forms.0 fits.0, row-shaped rest is.1 forms.1 fits.1)
+    row-shaped : {n : _} (row : Row_of-Statement n) → RowResolves (scope_of false deck setting.program) row → RowHasForms false row → RowCallsFit deck setting.program row → RowIsWritten row → RowShaped system setting row
+    row-shaped end_of-Statement is forms fits written = tt
+    row-shaped (more_of-Statement one rest) is forms fits written = (shaped one is.0 forms.0 fits.0 written.0, row-shaped rest is.1 forms.1 fits.1 written.1)
 
-  body-suits : (ones : List Statement) → Each (Resolves (scope_of false deck setting.program)) ones → Each (HasForms false) ones → Each (CallsFit deck setting.program) ones → Each (Suits system setting) ones
-  body-suits [] is forms fits = tt
-  body-suits (one ∷ ones) is forms fits = (suited system setting one is.0 (shaped one is.0 forms.0 fits.0), body-suits ones is.1 forms.1 fits.1)
+  body-suits : (ones : List Statement) → Each (Resolves (scope_of false deck setting.program)) ones → Each (HasForms false) ones → Each (CallsFit deck setting.program) ones → Each IsWritten ones → Each (Suits system setting) ones
+  body-suits [] is forms fits written = tt
+  body-suits (one ∷ ones) is forms fits written = (suited system setting one is.0 (shaped one is.0 forms.0 fits.0 written.0), body-suits ones is.1 forms.1 fits.1 written.1)
 
   paragraphs-suit : (ps : List Paragraph) → Each (λ (p : Paragraph). Each (Resolves (scope_of false deck setting.program)) p.body) ps → Each (λ (p : Paragraph). Each (HasForms false) p.body) ps
-      → Each (λ (p : Paragraph). Each (CallsFit deck setting.program) p.body) ps → Each (λ (p : Paragraph). Each (Suits system setting) p.body) ps
-  paragraphs-suit [] is forms fits = tt
-  paragraphs-suit (p ∷ ps) is forms fits = (body-suits p.body is.0 forms.0 fits.0, paragraphs-suit ps is.1 forms.1 fits.1)
+      → Each (λ (p : Paragraph). Each (CallsFit deck setting.program) p.body) ps → Each (λ (p : Paragraph). Each IsWritten p.body) ps → Each (λ (p : Paragraph). Each (Suits system setting) p.body) ps
+  paragraphs-suit [] is forms fits written = tt
+  paragraphs-suit (p ∷ ps) is forms fits written = (body-suits p.body is.0 forms.0 fits.0 written.0, paragraphs-suit ps is.1 forms.1 fits.1 written.1)
 
   pub is-program : IsProgram system deck q
   is-program =
@@ -215,7 +241,7 @@ module _ (rule : LockRule) (deck : Deck) (q : ℕ) (lt : q < length deck.program
         requester = lt-ltb q (length (codes_in (links_of deck) 0 deck.programs)) below;
         coded = code-in (links_of deck) deck.programs q 0 lt ∙ ap (λ n. code_in (links_of deck) n setting.program) none;
         items = fitting.items;
-        suits = paragraphs-suit setting.program.paragraphs sound.resolves sound.forms fitting.calls;
+        suits = paragraphs-suit setting.program.paragraphs sound.resolves sound.forms fitting.calls fitting.written;
         ground = ground-of false setting.program sound.laid;
         starts = starts-of false setting.program sound.laid;
       }

@@ -1,13 +1,16 @@
 -- What the fields of a screen show of a store and put into it, and of its storage.
 use Rattle.std.proofs.Common.{◌≡◌, ℕ, ◌+◌, ◌-◌, ◌*◌, Bool, true, false, List, [], ◌∷◌, ◌++◌, length, find, take, drop, Option, Some, None, if◌then◌else◌, refl, sym, ap, ◌∙◌, subst, arith}
-use Rattle.std.specs.Prelude.{◌%◌, ◌^◌}
-use Rattle.std.specs.Option.{ForSome}
+use Rattle.std.specs.Prelude.{option_map, ◌%◌, ◌^◌}
 use Rattle.std.proofs.lemmas.List.{append-nil}
-use Rattle.pw_picture.specs.Grammar.{IsPicture, size_of}
+use Rattle.pw_picture.specs.Grammar.{size_of}
 use Rattle.pw_picture.specs.Stored.{size_at, is_negative}
 use Rattle.pw_picture.specs.declared.picture.Picture.{Picture}
 use Rattle.pw_data.specs.Entries.{picture_of_kind}
-use Rattle.pw_data.specs.Layouts.{FitsPicture}
+use Rattle.pw_words.specs.Words.{Word}
+use Rattle.pw_data.specs.Layouts.{FitsPicture, place_at}
+use Rattle.pw_data.specs.Names.{is_this_name}
+use Rattle.pw_data.specs.declared.item.Item.{Item}
+use Rattle.pw_data.specs.declared.item.Place.{Place}
 use Rattle.pw_data.specs.Store.{joined}
 use Rattle.pw_data.specs.declared.item.Kind.{Kind}
 use Rattle.pw_data.specs.declared.item.Kind.TheVariants as kinds
@@ -21,7 +24,7 @@ use Rattle.pw_source.specs.Program.{Program}
 use Rattle.pw_source.specs.Store.{Store, Spot}
 use Rattle.pw_source.specs.Screens as screens
 use Rattle.pw_source.specs.Values.{number_in}
-use Rattle.pw_source.proofs.Resolved.{each-found, each-got}
+use Rattle.pw_source.proofs.Resolved.{each-found}
 use Rattle.pw_source.proofs.storage.Cuts.{Cut}
 use Rattle.pw_exec.specs.Entries as entry
 use Rattle.pw_sound.proofs.Flat.{flat-chars, flat-put}
@@ -44,30 +47,38 @@ spot_at at source = record { at = at; size = size_of source; picture = Some sour
 
 -- ---- from the program
 
-size-by : (o : Option Kind) (size : ℕ) (kind : Kind) → ForSome o (λ k. IsPicture (picture_of_kind k) × (size_of (picture_of_kind k) ≡ size))
-    → o ≡ Some kind → size_of (picture_of_kind kind) ≡ size
-size-by o size kind fits is = (fits kind is).1
+kind-by : (o : Option Kind) (source : Picture) → option_map picture_of_kind o ≡ Some source → (kind : Kind) × (o ≡ Some kind) × (picture_of_kind kind ≡ source)
+kind-by None source e = absurd cc
+kind-by (Some kind) source e = (kind, refl, cc)
 
-item-sits-at : (program : Program) (store : Store) (at : ℕ) (source : Picture) → Each FitsPicture program.layout.items → Ground program store
-    → IsItemAt program at source → SitsAt store at source
-item-sits-at program store at source fits ground is =
-    let fit : FitsPicture is.item = each-got FitsPicture program.layout.items is.number is.item fits is.there in
-    let cuts : IsCut store is.item = each-got (IsCut store) program.layout.items is.number is.item ground.0 is.there in
-    let long : size_of source ≡ is.item.size = ap size_of is.shown ∙ size-by is.item.kind is.item.size is.kind fit is.is_kind in
-    let place : is.item.at + (1 - 1) * is.item.step ≡ at = omega (arith, is.place) in
+item-sits-by : (program : Program) (store : Store) (at : ℕ) (source : Picture) (name : Word) (place : Place) (o : Option Item) → find (λ (one : Item). is_this_name one.name name) program.layout.items ≡ o
+    → Each FitsPicture program.layout.items → Ground program store → option_map place_at o ≡ Some place → at ≡ place.at → place.picture ≡ Some source → SitsAt store at source
+item-sits-by program store at source name place None found fits ground there same shown = absurd cc
+item-sits-by program store at source name place (Some item) found fits ground there same shown =
+    let lies : place_at item ≡ place = cc in
+    let fit : FitsPicture item = each-found FitsPicture (λ (one : Item). is_this_name one.name name) program.layout.items item fits found in
+    let cuts : IsCut store item = each-found (IsCut store) (λ (one : Item). is_this_name one.name name) program.layout.items item ground.0 found in
+    let k = kind-by item.kind source (ap (λ (p : Place). p.picture) lies ∙ shown) in
+    let long : size_of source ≡ item.size = ap size_of (sym k.2) ∙ (fit k.0 k.1).1 in
+    let first : item.at + (1 - 1) * item.step ≡ at = let here : item.at + (1 - 1) * item.step ≡ item.at = omega arith in here ∙ ap (λ (p : Place). p.at) lies ∙ sym same in
     record {
-      kind = is.kind;
-      shown = is.shown;
-      cut = subst (λ n. Cut store at n) (sym long) (subst (λ n. Cut store n is.item.size) place (cuts 1 (omega arith) (omega arith)));
+      kind = k.0;
+      shown = sym k.2;
+      cut = subst (λ n. Cut store at n) (sym long) (subst (λ n. Cut store n item.size) first (cuts 1 (omega arith) (omega arith)));
     }
 
+item-sits-at : (program : Program) (store : Store) (at : ℕ) (source : Picture) → Each FitsPicture program.layout.items → Ground program store
+    → IsItemAt program.layout at source → SitsAt store at source
+item-sits-at program store at source fits ground is =
+    item-sits-by program store at source is.name is.place (find (λ (one : Item). is_this_name one.name is.name) program.layout.items) refl fits ground is.there is.same is.shown
+
 pub field-sits : (program : Program) (store : Store) (one : FieldKind) → Each FitsPicture program.layout.items → Ground program store
-    → IsShownOf program one → FieldSits store one
+    → IsShownOf program.layout one → FieldSits store one
 field-sits program store (fields.Literal text) fits ground is = tt
 field-sits program store (fields.Item picture at source show) fits ground is = item-sits-at program store at source fits ground is
 
 pub fields-sit : (program : Program) (store : Store) (ones : List Field) → Each FitsPicture program.layout.items → Ground program store
-    → Each (λ (field : Field). IsShownOf program field.shown) ones → Each (λ (field : Field). FieldSits store field.shown) ones
+    → Each (λ (field : Field). IsShownOf program.layout field.shown) ones → Each (λ (field : Field). FieldSits store field.shown) ones
 fields-sit program store [] fits ground each = tt
 fields-sit program store (one ∷ ones) fits ground each =
     (field-sits program store one.shown fits ground each.0, fields-sit program store ones fits ground each.1)

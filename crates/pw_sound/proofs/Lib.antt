@@ -21,3 +21,9 @@ mod Decks
 mod Behaves
 mod Split
 mod Serves
+mod Items
+mod Emits
+mod Valid
+mod Showing
+mod written
+mod Upper

@@ -110,7 +110,7 @@ within-same v occurs =
 -- where the occurrence is, it is the same
 at-same : (v occurs at step : ℕ) → (nat_le 1 v && nat_le v occurs) ≡ true → at + (min v (occurs + 1) - 1) * step ≡ at + (v - 1) * step
 at-same v occurs at step within =
-    let last : v ≤ occurs = leb-true v occurs (and_parts _ _ within).1 in
+    let last : v ≤ occurs = leb-true v occurs (and_parts (nat_le 1 v) (nat_le v occurs) within).1 in
     let e : min v (occurs + 1) ≡ v = omega (arith, last) in
     ap (λ k. at + (k - 1) * step) e
 
@@ -196,7 +196,7 @@ module _ (server : Bool) (deck : Deck) (program : Program) (known : Known server
       ∙ flat-chars (tree.spot_of item 1) s.store tail (item-cut name item is 1 (omega arith) (omega arith))
 
   -- the item of a name is what its variable says
-  item-variable : (name : Word) (item : Item) (variable : Variable) → item_named program name ≡ Some item
+  pub item-variable : (name : Word) (item : Item) (variable : Variable) → item_named program name ≡ Some item
       → variable_in (scope_of server deck program) name ≡ Some variable → of_place (place_at item) ≡ variable
   item-variable name item variable is found = by (register_of server name) refl
     where

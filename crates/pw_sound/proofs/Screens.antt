@@ -57,7 +57,7 @@ module _ (system : System) (setting : Setting) (known : Known setting.is_server 
 
   -- a screen
   pub screen_does : (base : Bool) (n : ℕ) (table : ScreenTable) (at : ℕ) (rs : List Return) (s : State) (m : Marks) → Ground setting.program s.store
-      → screen_at system n ≡ table → Each (λ (field : Field). IsShownOf setting.program field.shown) table.fields
+      → screen_at system n ≡ table → Each (λ (field : Field). IsShownOf setting.program.layout field.shown) table.fields
       → slice_get (code_at system e.program).instrs at ≡ Some (instr.DisplayScreen n base)
       → Does system setting.program e (budget s) (steps.does system (instr.DisplayScreen n base) (mach e at rs s m)) s.answers (at + 1) rs (screens.display_table base (Some table) s)
   screen_does base n table at rs s m ground is each h =
@@ -84,7 +84,7 @@ module _ (system : System) (setting : Setting) (known : Known setting.is_server 
   -- ---- ACCEPT
 
   module _ (at : ℕ) (rs : List Return) (n : ℕ) (keys : List ℕ) (table : ScreenTable) (is : screen_at system n ≡ table)
-      (each : Each (λ (field : Field). IsShownOf setting.program field.shown) table.fields)
+      (each : Each (λ (field : Field). IsShownOf setting.program.layout field.shown) table.fields)
       (h : slice_get (code_at system e.program).instrs at ≡ Some (instr.Accept n keys)) where
     -- at the ACCEPT, whatever is counted
     abbrev there : ℕ → State → Marks → Config

@@ -18,10 +18,41 @@ use Rattle.pw_source.specs.Arithmetic as computing
 use Rattle.pw_source.specs.Sends.{yields_of}
 use Rattle.pw_source.specs.Sound.{scope_of}
 use Rattle.pw_compile.specs.Plan.{screen_of}
-use Rattle.pw_sound.specs.Premises.{IsShownOf, CallFits}
+use Rattle.pw_base.specs.Limits.{most_occurrences}
+use Rattle.pw_code.specs.declared.place.Place.{Place}
+use Rattle.pw_code.specs.declared.place.Register.{Register}
+use Rattle.pw_code.specs.declared.place.Register.TheVariants as register
+use Rattle.pw_code.specs.declared.place.Subscript as index
+use Rattle.pw_code.specs.declared.place.Subscript.TheVariants as subscript
+use Rattle.pw_code.specs.declared.place.Table.{Table}
+use Rattle.std.specs.Prelude.{◌≤◌, ◌<◌, IfSome, length}
+use Rattle.pw_source.specs.Program.{program_number}
+use Rattle.pw_sound.specs.Premises.{IsShownOf, CallFits, arguments_of}
 use Rattle.pw_sound.specs.Systems.{plan_in}
 use Rattle.pw_sound.proofs.Operands.{Indexed}
 use Rattle.pw_sound.proofs.Readings.{ComparisonIndexed}
+
+-- a register by which an argument's subscript may go
+abbrev pub IsKept : Register → Type 0
+IsKept register.Termination = Unit {0}
+IsKept register.Restarts = Unit {0}
+IsKept register.FileStatus = ⊥
+
+abbrev pub IsKeptIndex : index.Subscript → Type 0
+IsKeptIndex (subscript.Register one) = IsKept one
+IsKeptIndex _ = Unit {0}
+
+-- an argument goes by such a register alone
+abbrev pub IsKeptTable : Option Table → Type 0
+IsKeptTable None = Unit {0}
+IsKeptTable (Some table) = IsKeptIndex table.subscript
+
+abbrev pub IsKeptPlace : Place → Type 0
+IsKeptPlace place = IsKeptTable place.table
+
+-- an item occurs at most as often as one may
+abbrev pub IsFew : Place → Type 0
+IsFew place = IfSome place.table (λ table. table.occurs ≤ most_occurrences)
 
 module _ (system : System) (setting : Setting) where
   abbrev pub Own : Operand → Type 0
@@ -36,7 +67,7 @@ module _ (system : System) (setting : Setting) where
   -- a screen of the program, by its number in the system
   pub record IsScreenOf (name : Word) (table : ScreenTable) : Type 0 where
     pub coded : screen_at system (screen_of (plan_in setting) name) ≡ table
-    pub shown : Each (λ (field : Field). IsShownOf setting.program field.shown) table.fields
+    pub shown : Each (λ (field : Field). IsShownOf setting.program.layout field.shown) table.fields
 
   pub record ShowsScreen (name : Word) : Type 0 where
     pub table : ScreenTable
@@ -55,6 +86,9 @@ module _ (system : System) (setting : Setting) where
   pub record CallSuits (name : Word) (arguments : List Operand) : Type 0 where
     pub requester : setting.is_server ≡ false
     pub own : Each Own arguments
+    pub there : program_number setting.deck name < length setting.deck.programs
+    pub few : Each IsFew (arguments_of setting.program arguments)
+    pub kept : Each IsKeptPlace (arguments_of setting.program arguments)
     pub fits : CallFits setting.deck setting.program name arguments
 
   abbrev mutual

@@ -110,11 +110,11 @@ abbrev pub StandsIn : (system : System) (setting : Setting) (e : Env) → IsSet 
 StandsIn system setting e set name =
     Stands system setting set.known e (plan_in setting) (is_plan_in setting) (turn_of (plan_in setting) name) (body_named setting.program name)
 
-number-same : (f : Program → Word) (programs : List Program) (name : Word)
+pub number-same : (f : Program → Word) (programs : List Program) (name : Word)
     → unwrap_or (position (λ (thing : Word). bytes_eq thing name) (map f programs)) 0 ≡ unwrap_or (position (λ (program : Program). bytes_eq (f program) name) programs) 0
 number-same f programs name = ap (λ o. unwrap_or o 0) (position-map f (λ (thing : Word). bytes_eq thing name) programs)
 
-class-same : (f : ClassInfo → Word) (classes : List ClassInfo) (name : Word)
+pub class-same : (f : ClassInfo → Word) (classes : List ClassInfo) (name : Word)
     → unwrap_or (position (λ (thing : Word). bytes_eq thing name) (map f classes)) 0 ≡ unwrap_or (position (λ (class : ClassInfo). bytes_eq (f class) name) classes) 0
 class-same f classes name = ap (λ o. unwrap_or o 0) (position-map f (λ (thing : Word). bytes_eq thing name) classes)
 
@@ -403,7 +403,7 @@ module _ (system : System) (setting : Setting) (e : Env) (set : IsSet system set
       statement_does (form.Call line called arguments) fit at rs s m is ground h =
           begins system setting.program e at rs s m (at + 1) rs (call_of plan called arguments) (performs.call_program setting call called arguments) h.0 refl
           (λ t same. call_does system setting e set.known call (calling fit.requester) called arguments (program_of plan called)
-          (number-same (λ (program : Program). program.name) setting.deck.programs called) fit (set.callees (program_number setting.deck called) fit.fits.there) at rs t m (subst (Ground setting.program) (sym same) ground) h.0)
+          (number-same (λ (program : Program). program.name) setting.deck.programs called) fit (set.callees (program_number setting.deck called) fit.there) at rs t m (subst (Ground setting.program) (sym same) ground) h.0)
       statement_does (form.Send line message class codes) fit at rs s m is ground h =
           let same_end : at + 1 + 1 ≡ at + 2 = omega arith in
           ends_at system setting.program e (budget s) _ s.answers (at + 1 + 1) _ rs _ same_end

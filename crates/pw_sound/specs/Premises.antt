@@ -1,44 +1,48 @@
 -- What the law of the compiler still takes of a deck beside that its names resolve: what the readers of screens, of
 -- USING and of CALL see to.
-use Rattle.std.specs.Prelude.{◌≡◌, ℕ, ◌≤◌, ◌<◌, List, map, length, slice_get, Option, Some, None, IsSome}
-use Rattle.pw_base.specs.Limits.{most_occurrences}
+use Rattle.std.specs.Prelude.{◌≡◌, ℕ, ◌+◌, ◌^◌, ◌<◌, pos, List, [], ◌∷◌, map, length, All, Some, IsSome, unwrap_or}
 use Rattle.pw_picture.specs.declared.picture.Picture.{Picture}
 use Rattle.pw_words.specs.Words.{Word}
-use Rattle.pw_data.specs.Entries.{picture_of_kind}
-use Rattle.pw_data.specs.declared.item.Item.{Item}
-use Rattle.pw_data.specs.declared.item.Kind.{Kind}
+use Rattle.pw_number.specs.Number.{number}
+use Rattle.pw_data.specs.Literals.{number_of}
+use Rattle.pw_forms.specs.declared.cond.Comparison.{Comparison}
+use Rattle.pw_forms.specs.declared.cond.Comparison.TheVariants as comparisons
 use Rattle.pw_forms.specs.declared.operand.Operand.{Operand}
+use Rattle.pw_forms.specs.declared.operand.Operand.TheVariants as operands
+use Rattle.pw_forms.specs.declared.statement.Paragraph.{Paragraph}
 use Rattle.pw_forms.specs.declared.statement.Statement.{Statement, Row_of-Statement, end_of-Statement, more_of-Statement}
 use Rattle.pw_forms.specs.declared.statement.Statement as form
 use Rattle.pw_operands.specs.Resolved.{Each}
 use Rattle.pw_code.specs.declared.field.FieldKind.{FieldKind}
 use Rattle.pw_code.specs.declared.field.FieldKind.TheVariants as fields
-use Rattle.pw_code.specs.declared.place.Place.{Place}
-use Rattle.pw_code.specs.declared.place.Register.{Register}
-use Rattle.pw_code.specs.declared.place.Register.TheVariants as register
-use Rattle.pw_code.specs.declared.place.Subscript as index
-use Rattle.pw_code.specs.declared.place.Subscript.TheVariants as subscript
-use Rattle.pw_code.specs.declared.place.Table.{Table}
+use Rattle.pw_code.specs.Fields.{IsTable}
+use Rattle.pw_sound.specs.Written.{IsWritten}
+use Rattle.pw_code.specs.Places.{IsOperand}
+use Rattle.pw_code.specs.declared.operand.Operand.TheVariants as coded
+use Rattle.pw_data.specs.Layouts.{Laid, place_of}
+use Rattle.pw_data.specs.declared.item.Place.{Place}
+use Rattle.pw_code.specs.declared.place.Place as coded_place
+use Rattle.pw_code.specs.Valid.{IsTerminal, IsClass, HasNames, HasFew}
+use Rattle.pw_code.specs.declared.system.System.{System}
 use Rattle.pw_source.specs.Program.{Deck, Program, program_at, program_number, item_named}
 use Rattle.pw_compile.specs.Operands.{place_in}
 use Rattle.pw_compile.specs.Programs.{linkage_of}
+use Rattle.pw_compile.specs.Sizes.{body_size}
 
 -- ---- screens
 
--- an elementary item of the program lies at a place and has this picture
-pub record IsItemAt (program : Program) (at : ℕ) (source : Picture) : Type 0 where
-  pub number : ℕ
-  pub item : Item
-  pub kind : Kind
-  pub there : slice_get program.layout.items number ≡ Some item
-  pub is_kind : item.kind ≡ Some kind
-  pub place : at ≡ item.at
-  pub shown : source ≡ picture_of_kind kind
+-- an item of the layout lies at a place and has this picture
+pub record IsItemAt (laid : Laid) (at : ℕ) (source : Picture) : Type 0 where
+  pub name : Word
+  pub place : Place
+  pub there : place_of laid name ≡ Some place
+  pub same : at ≡ place.at
+  pub shown : place.picture ≡ Some source
 
 -- a field shows a literal, or such an item
-abbrev pub IsShownOf : Program → FieldKind → Type 0
-IsShownOf program (fields.Literal text) = Unit {0}
-IsShownOf program (fields.Item picture at source show) = IsItemAt program at source
+abbrev pub IsShownOf : Laid → FieldKind → Type 0
+IsShownOf laid (fields.Literal text) = Unit {0}
+IsShownOf laid (fields.Item picture at source show) = IsItemAt laid at source
 
 -- ---- USING
 
@@ -48,36 +52,16 @@ AreItems program names = Each (λ name. IsSome (item_named program name)) names
 
 -- ---- CALL
 
--- a register by which an argument's subscript may go
-abbrev pub IsKept : Register → Type 0
-IsKept register.Termination = Unit {0}
-IsKept register.Restarts = Unit {0}
-IsKept register.FileStatus = ⊥
-
-abbrev pub IsKeptIndex : index.Subscript → Type 0
-IsKeptIndex (subscript.Register one) = IsKept one
-IsKeptIndex _ = Unit {0}
-
--- an argument goes by such a register alone, and stands in no longer table than there may be
-abbrev pub IsKeptTable : Option Table → Type 0
-IsKeptTable None = Unit {0}
-IsKeptTable (Some table) = IsKeptIndex table.subscript × (table.occurs ≤ most_occurrences)
-
-abbrev pub IsKeptPlace : Place → Type 0
-IsKeptPlace place = IsKeptTable place.table
-
 -- the places of arguments
-abbrev pub arguments_of : Program → List Operand → List Place
+abbrev pub arguments_of : Program → List Operand → List coded_place.Place
 arguments_of program arguments = map (place_in program.layout) arguments
 
--- the program that is called is there, and each argument is as long as its item of USING
+-- each argument is as long as its item of USING
 pub record CallFits (deck : Deck) (program : Program) (name : Word) (arguments : List Operand) : Type 0 where
-  pub there : program_number deck name < length deck.programs
   pub sizes :
       let callee = program_at deck.programs (program_number deck name) in
-      map (λ (place : Place). place.size) (arguments_of program arguments)
+      map (λ (place : coded_place.Place). place.size) (arguments_of program arguments)
       ≡ map (λ (item : ℕ × ℕ). item.1) (linkage_of callee.layout callee.parameters)
-  pub kept : Each IsKeptPlace (arguments_of program arguments)
 
 abbrev mutual
   -- each CALL of the statement, and of those of its branches, fits
@@ -94,14 +78,71 @@ abbrev mutual
   RowCallsFit deck program (more_of-Statement one rest) =
       CallsFit deck program one × RowCallsFit deck program rest
 
+-- ---- literals and lists that were read
+
+-- a number literal is the number that it is written as, and has at most 18 digits
+abbrev pub IsLiteral : Operand → Type 0
+IsLiteral (operands.Number spelling) = IsOperand 0 (coded.Number spelling (unwrap_or (number_of spelling) (number (pos 0) 0)))
+IsLiteral _ = Unit {0}
+
+abbrev pub AreLiterals : Comparison → Type 0
+AreLiterals (comparisons.Compare left negated op right) = IsLiteral left × IsLiteral right
+AreLiterals (comparisons.Numeric one negated) = IsLiteral one
+
+abbrev mutual
+  -- the number literals of a statement, and of those of its branches, are numbers
+  pub IsRead : Statement → Type 0
+  IsRead (form.Move line from to) = IsLiteral from
+  IsRead (form.Arithmetic line a) = IsLiteral a.first × IsLiteral a.second
+  IsRead (form.OnSizeError' line a n first m second) =
+      IsLiteral a.first × IsLiteral a.second × RowIsRead first × RowIsRead second
+  IsRead (form.If' line cond n first m second) =
+      Each (Each AreLiterals) cond.any × RowIsRead first × RowIsRead second
+  IsRead (form.PerformTimes line name times) = IsLiteral times
+  IsRead (form.PerformUntil line name cond) = Each (Each AreLiterals) cond.any
+  IsRead (form.Display line shown) = IsLiteral shown
+  IsRead _ = Unit {0}
+
+  pub RowIsRead : {n : _} → Row_of-Statement n → Type 0
+  RowIsRead end_of-Statement = Unit {0}
+  RowIsRead (more_of-Statement one rest) = IsRead one × RowIsRead rest
+
+-- how many instructions the paragraphs take
+abbrev pub instructions_of : List Paragraph → ℕ
+instructions_of [] = 0
+instructions_of (paragraph ∷ paragraphs) =
+    body_size paragraph.body + 1 + instructions_of paragraphs
+
+-- what the readers of a program see to: its statements, its screens, and that its code is not too long
+pub record IsReadProgram (program : Program) : Type 0 where
+  pub statements : Each (λ paragraph. Each IsRead paragraph.body) program.paragraphs
+  pub written : Each (λ paragraph. Each IsWritten paragraph.body) program.paragraphs
+  pub screens : Each (IsTable (length program.layout.storage)) program.screens
+  pub short : instructions_of program.paragraphs < 2 ^ 32
+
+-- each program of a deck
+pub record AreRead (deck : Deck) : Type 0 where
+  pub programs : Each IsReadProgram deck.programs
+  pub servers : Each IsReadProgram deck.servers
+
 -- ---- programs
 
 -- a requester's fields show its items, its USING names items, and its CALLs fit
 pub record IsFitting (deck : Deck) (program : Program) : Type 0 where
-  pub screens : Each (λ table. Each (λ field. IsShownOf program field.shown) table.fields) program.screens
+  pub screens : Each (λ table. Each (λ field. IsShownOf program.layout field.shown) table.fields) program.screens
   pub items : AreItems program program.parameters
   pub calls : Each (λ paragraph. Each (CallsFit deck program) paragraph.body) program.paragraphs
+  pub written : Each (λ paragraph. Each IsWritten paragraph.body) program.paragraphs
 
 -- each requester of a deck
 abbrev pub AreFitting : Deck → Type 0
 AreFitting deck = Each (IsFitting deck) deck.programs
+
+-- ---- tables
+
+-- the tables of a system are those that a deck may say
+pub record HasTables (system : System) : Type 0 where
+  pub terminals : All (IsTerminal system) system.terminals
+  pub classes : All (IsClass system) system.classes
+  pub names : HasNames system
+  pub few : HasFew system

@@ -1,17 +1,27 @@
-ghost use Rattle.std.specs.Prelude.{◌≡◌, ◌<◌, ℕ, List, Bool, false, map, length};
+ghost use Rattle.std.specs.Prelude.{◌≡◌, ◌<◌, ℕ, List, Bool, false, map, length, All, true, Ok};
 ghost use Rattle.pw_code.specs.Entry.{Entry};
-ghost use Rattle.pw_code.specs.Valid.{IsValid};
+ghost use Rattle.pw_code.specs.Valid.{IsValid, IsCode};
 ghost use Rattle.pw_code.specs.declared.lock.LockRule.{LockRule};
+ghost use Rattle.pw_code.specs.declared.field.Field.{Field};
+ghost use Rattle.pw_code.specs.declared.field.ScreenTable.{ScreenTable};
+ghost use Rattle.pw_data.specs.Layouts.{Laid};
 ghost use Rattle.pw_exec.specs.Config.{starting, starting_server};
 ghost use Rattle.pw_exec.specs.OfSystem as code;
 ghost use Rattle.pw_onecopy.specs.Path.{PathAnswer, FileAnswer};
+ghost use Rattle.pw_forms.specs.Procedures.{procedure_of};
+ghost use Rattle.pw_forms.specs.declared.statement.Paragraph.{Paragraph};
+ghost use Rattle.pw_forms.specs.declared.statement.Procedure.{Procedure};
+ghost use Rattle.pw_operands.specs.Resolved.{Each};
+ghost use Rattle.pw_screen.specs.Screens.{screens_of};
 ghost use Rattle.pw_source.specs.OfDeck as tree;
 ghost use Rattle.pw_source.specs.Program.{Deck};
 ghost use Rattle.pw_source.specs.Runs.{told, file_told, run_after, server_setting, server_run, start};
 ghost use Rattle.pw_source.specs.Setting.{Setting};
 ghost use Rattle.pw_source.specs.Sound.{IsSound};
+ghost use Rattle.pw_text.specs.declared.token.Token.{Token};
 ghost use Rattle.pw_sound.specs.Answered.{AnswersAs};
-ghost use Rattle.pw_sound.specs.Premises.{AreFitting};
+ghost use Rattle.pw_sound.specs.Premises.{AreFitting, AreRead, HasTables, IsShownOf};
+ghost use Rattle.pw_sound.specs.Written.{IsWritten};
 ghost use Rattle.pw_sound.specs.Systems.{system_of};
 
 /// The code of each program of a deck whose names resolve does what the tree of the program means: a
@@ -38,4 +48,29 @@ pub fn behaviour_laws()
     ensures { (rule : LockRule) (deck : Deck) → IsSound deck → AreFitting deck
         → IsValid (system_of rule deck)
         → code.behaviour deck.script (system_of rule deck) ≡ tree.behaviour rule deck }
+{}
+
+/// The codes of a deck are valid in its system: their instructions are those of their side, each number
+/// names what is there, each place lies in the storage, and no jump leaves the code. With tables that a
+/// deck may say the whole system is valid. Beside what the other laws take, `AreRead` is taken of the
+/// number literals, of how many keys and codes there are, of the screens, and of the length of the code.
+pub fn code_laws()
+    ensures requesters { (rule : LockRule) (deck : Deck) → IsSound deck → AreFitting deck → AreRead deck
+        → All (IsCode false (system_of rule deck)) (system_of rule deck).programs }
+    ensures servers { (rule : LockRule) (deck : Deck) → IsSound deck → AreFitting deck → AreRead deck
+        → All (IsCode true (system_of rule deck)) (system_of rule deck).servers }
+    ensures system { (rule : LockRule) (deck : Deck) → IsSound deck → AreFitting deck → AreRead deck
+        → HasTables (system_of rule deck) → IsValid (system_of rule deck) }
+{}
+
+/// What the readers of screens and of procedures give is what the laws above take of it: a field shows a
+/// literal or an item of the layout, and statements are written as their reader sees to.
+pub fn reading_laws()
+    ensures screens { (text : List ℕ) (tokens : List Token) (laid : Laid) (tables : List ScreenTable)
+        → screens_of text tokens laid ≡ Ok tables
+        → Each (λ (table : ScreenTable). Each (λ (field : Field). IsShownOf laid field.shown) table.fields)
+        tables }
+    ensures statements { (server : Bool) (text : List ℕ) (tokens : List Token) (procedure : Procedure)
+        → procedure_of server text tokens ≡ Ok procedure
+        → Each (λ (paragraph : Paragraph). Each IsWritten paragraph.body) procedure.paragraphs }
 {}
