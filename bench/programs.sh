@@ -13,7 +13,7 @@ programs=32
 
 build() {
     mkdir -p "$work/crates/bench_programs/src"
-    [ -f "$work/crates.txt" ] || (cd "$here/.." && tar c --exclude=out crates crates.txt HANDLES) | tar x -C "$work"
+    (cd "$here/.." && tar c --exclude=out crates crates.txt HANDLES) | tar x -C "$work"
     echo 'bench_programs: pw_base pw_code pw_picture pw_number pw_words pw_text pw_data pw_forms pw_divisions pw_operands pw_screen pw_scobol pw_server pw_names' >> "$work/crates.txt"
     for part in main texts; do
         cp "$here/programs/$part.rt.txt" "$work/crates/bench_programs/src/$part.rt"
