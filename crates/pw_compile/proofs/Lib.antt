@@ -1,2 +1,3 @@
 mod Branches
 mod Digits
+pub mod Lengths

@@ -4,3 +4,4 @@ pub mod Operands
 pub mod Plan
 pub mod Programs
 pub mod Sizes
+pub mod Lengths

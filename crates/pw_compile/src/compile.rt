@@ -1,4 +1,4 @@
-ghost use Rattle.std.specs.Prelude.{◌≡◌, [], IfOk};
+ghost use Rattle.std.specs.Prelude.{◌≡◌, ◌^◌, ◌<◌, [], length, IfOk};
 ghost use Rattle.pw_compile.specs.Programs.{code_of};
 
 use crate::program::code_of;
@@ -10,16 +10,17 @@ use pw_server::server::Server;
 use std::alloc::Global;
 
 /// The code of a requester whose names resolve, where its screens are numbered from
-/// `first_screen` on.
+/// `first_screen` on. It has fewer than 2^32 instructions.
 pub fn compile(
     alloc: Global,
     program: &Requester,
     links: &Links,
     first_screen: u32,
 ) -> Result<Code, Memory>
-    ensures { IfOk result (λ code. code ≡ code_of program.now.name program.now.layout
+    ensures code { IfOk result (λ code. code ≡ code_of program.now.name program.now.layout
         program.now.screens program.now.using program.now.procedure.paragraphs first_screen
         links.now) }
+    ensures short { IfOk result (λ code. length code.instrs < 2 ^ 32) }
 {
     code_of(
         alloc,
@@ -33,10 +34,11 @@ pub fn compile(
     )
 }
 
-/// The code of a server whose names resolve.
+/// The code of a server whose names resolve. It has fewer than 2^32 instructions.
 pub fn compile_server(alloc: Global, program: &Server, links: &Links) -> Result<Code, Memory>
-    ensures { IfOk result (λ code. code ≡ code_of program.now.name program.now.layout [] []
+    ensures code { IfOk result (λ code. code ≡ code_of program.now.name program.now.layout [] []
         program.now.procedure.paragraphs 0 links.now) }
+    ensures short { IfOk result (λ code. length code.instrs < 2 ^ 32) }
 {
     code_of(
         alloc,

@@ -1,4 +1,4 @@
-ghost use Rattle.std.specs.Prelude.{◌≡◌, ◌+◌, ◌*◌, ◌≤◌, min};
+ghost use Rattle.std.specs.Prelude.{◌≡◌, ◌+◌, ◌*◌, ◌^◌, ◌<◌, ◌≤◌, min};
 ghost use Rattle.std.specs.Prelude.{pos, filter, IfOk, unwrap_or, if◌then◌else◌};
 ghost use Rattle.std.specs.Char.{is_ascii_digit};
 ghost use Rattle.pw_picture.specs.Stored.{value_of, digit_of};
@@ -14,7 +14,8 @@ use pw_number::scaled::Scaled;
 /// have no
 /// memory either.
 pub fn add(a: u32, b: u32) -> Result<u32, Memory>
-    ensures { IfOk result (λ sum. sum ≡ a + b) }
+    ensures sum { IfOk result (λ sum. sum ≡ a + b) }
+    ensures fits { IfOk result (λ sum. sum < 2 ^ 32) }
 {
     match a.checked_add(b) {
         Some(sum) => Ok(sum),

@@ -1,4 +1,4 @@
-ghost use Rattle.std.specs.Prelude.{◌≡◌, IfOk};
+ghost use Rattle.std.specs.Prelude.{◌≡◌, ◌^◌, ◌<◌, length, IfOk};
 ghost use Rattle.pw_compile.specs.Programs.{linked_by, linkage_of, code_of};
 ghost use Rattle.pw_data.specs.Layouts.{place_of};
 
@@ -35,7 +35,8 @@ fn linkage_of(alloc: Global, layout: &Layout, names: &[Bytes]) -> Result<List<(u
     Ok(linkage)
 }
 
-/// The code of a program with these parts.
+/// The code of a program with these parts. It has fewer than 2^32 instructions.
+#[tactic(auto, using(crate::proofs::Lengths::code_short))]
 pub(crate) fn code_of(
     alloc: Global,
     name: &[u8],
@@ -46,8 +47,9 @@ pub(crate) fn code_of(
     first: u32,
     links: &Links,
 ) -> Result<Code, Memory>
-    ensures { IfOk result (λ code. code ≡ code_of name.now layout.now screens.now usings.now
+    ensures code { IfOk result (λ code. code ≡ code_of name.now layout.now screens.now usings.now
         paragraphs.now first links.now) }
+    ensures short { IfOk result (λ code. length code.instrs < 2 ^ 32) }
 {
     let turns = turns_of(alloc, paragraphs)?;
     let plan = Plan {

@@ -51,7 +51,7 @@ use Rattle.pw_sound.specs.Written.{IsWritten, RowIsWritten}
 use Rattle.pw_sound.specs.Systems.{code_in, codes_in, system_of}
 use Rattle.pw_sound.proofs.Decks.{code-in, codes-long, program-below}
 use Rattle.pw_sound.proofs.Items.{variable-of, place-lies, item-lies, any-lies, amount-lies, is-item-there}
-use Rattle.pw_sound.proofs.Statements.{row_length, body_length}
+use Rattle.pw_compile.proofs.Lengths.{row_length, body_length}
 use Rattle.pw_sound.proofs.Whole.{number-same, class-same}
 
 Some-same : {A : Type 0} (a b : A) → Some a ≡ Some b → a ≡ b

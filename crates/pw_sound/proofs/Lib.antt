@@ -27,3 +27,4 @@ mod Valid
 mod Showing
 mod written
 mod Upper
+mod Fitting

@@ -19,7 +19,8 @@ use Rattle.pw_compile.specs.Sizes.{body_size, turns_from}
 use Rattle.pw_source.proofs.Resolved.{each-found}
 use Rattle.pw_sound.specs.Systems.{plan_in}
 use Rattle.pw_sound.proofs.Leading.{Env}
-use Rattle.pw_sound.proofs.Statements.{HasAt, has_front, has_back, body_length, Stands}
+use Rattle.pw_compile.proofs.Lengths.{body_length}
+use Rattle.pw_sound.proofs.Statements.{HasAt, has_front, has_back, Stands}
 use Rattle.pw_sound.proofs.Suits.{Suits, Performed}
 use Rattle.pw_sound.proofs.Whole.{IsSet, StandsIn, is_plan_in}
 

@@ -63,47 +63,6 @@ pub has_back : (all : List Instr) (at : ℕ) (a b : List Instr) (n : ℕ) → n 
 has_back all at [] b n e h = let e' : at ≡ n = omega (arith, e) in subst (λ n. HasAt all n b) e' h
 has_back all at (i ∷ a) b n e h = has_back all (at + 1) a b n (omega (arith, e)) h.1
 
-module _ (plan : Plan) where
-  mutual
-    pub statement_length : (one : Statement) → length (statement_code plan one) ≡ size one
-    statement_length (form.OnSizeError' line a n first m second) =
-        omega (arith, length-append (row_code plan first) (instr.Jump (row_size second) ∷ row_code plan second), row_length first, row_length second)
-    statement_length (form.If' line cond n first m second) =
-        omega (arith, length-append (row_code plan first) (instr.Jump (row_size second) ∷ row_code plan second), row_length first, row_length second)
-    statement_length (form.Move line from to) = refl
-    statement_length (form.Arithmetic line a) = refl
-    statement_length (form.Perform line paragraph) = refl
-    statement_length (form.PerformTimes line paragraph times) = refl
-    statement_length (form.PerformUntil line paragraph cond) = refl
-    statement_length (form.PerformOneOf line paragraphs position) = refl
-    statement_length (form.Exit line) = refl
-    statement_length (form.ExitProgram line) = refl
-    statement_length (form.StopRun line) = refl
-    statement_length (form.DisplayBase line screen) = refl
-    statement_length (form.Display line shown) = refl
-    statement_length (form.Accept line screen keys) = refl
-    statement_length (form.Call line called arguments) = refl
-    statement_length (form.Send line message class codes) = refl
-    statement_length (form.Begin line) = refl
-    statement_length (form.End line) = refl
-    statement_length (form.Abort line) = refl
-    statement_length (form.Restart line) = refl
-    statement_length (form.Receive line into) = refl
-    statement_length (form.Reply line from) = refl
-    statement_length (form.Read line file locking key into) = refl
-    statement_length (form.ReadNext line file locking key into) = refl
-    statement_length (form.Write line file from) = refl
-    statement_length (form.Rewrite line file from) = refl
-    statement_length (form.Delete line file key) = refl
-
-    pub row_length : {n : _} (row : Row_of-Statement n) → length (row_code plan row) ≡ row_size row
-    row_length end_of-Statement = refl
-    row_length (more_of-Statement one rest) = omega (arith, length-append (statement_code plan one) (row_code plan rest), statement_length one, row_length rest)
-
-  pub body_length : (ones : List Statement) → length (body_code plan ones) ≡ body_size ones
-  body_length [] = refl
-  body_length (one ∷ rest) = omega (arith, length-append (statement_code plan one) (body_code plan rest), statement_length one, body_length rest)
-
 pub split-end : {A : Type 0} (xs : List A) (x : A) → turning.split_last (xs ++ x ∷ []) ≡ Some (xs, x)
 split-end [] x = refl
 split-end (y ∷ ys) x = ap (turning.last_behind y) (split-end ys x)

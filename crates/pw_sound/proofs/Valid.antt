@@ -28,28 +28,19 @@ use Rattle.pw_compile.specs.Plan as plans
 use Rattle.pw_compile.specs.Plan.{Plan, plan_of, turn_of}
 use Rattle.pw_compile.specs.Programs.{linked_by}
 use Rattle.pw_compile.specs.Sizes.{body_size, turns_from}
-use Rattle.pw_sound.specs.Premises.{HasTables, CallsFit, IsFitting, AreFitting, IsReadProgram, AreRead, instructions_of}
+use Rattle.pw_compile.specs.Lengths.{instructions_of}
+use Rattle.pw_sound.specs.Premises.{HasTables, CallsFit, IsFitting, AreFitting, IsReadProgram, AreRead}
 use Rattle.pw_sound.specs.Systems.{code_in, codes_in, screens_of, system_of}
 use Rattle.pw_sound.proofs.Decks.{found-at, some-found, screen-in, each-found', each-program}
 use Rattle.pw_sound.proofs.Emits.{instrs-are}
 use Rattle.pw_sound.proofs.Items.{storage-few, linked-lies}
-use Rattle.pw_sound.proofs.Statements.{body_length}
+use Rattle.pw_compile.proofs.Lengths.{code_long}
 
 each-all : {A : Type 0} (P : A → Type 0) (xs : List A) → Each P xs → All P xs
 each-all P [] each = All-nil P
 each-all P (x ∷ xs) each = All-cons P x xs each.0 (each-all P xs each.1)
 
 -- ---- paragraphs
-
-code-long : (plan : Plan) (ps : List Paragraph) (at : ℕ) → length (procedure_code plan at ps) ≡ instructions_of ps
-code-long plan [] at = refl
-code-long plan (p ∷ ps) at =
-    omega (
-      arith,
-      length-append (body_code plan p.body) (instr.ParagraphEnd at ∷ procedure_code plan (at + body_size p.body + 1) ps),
-      body_length plan p.body,
-      code-long plan ps (at + body_size p.body + 1),
-    )
 
 -- where the paragraph of a name begins and ends
 record Turned (test : Paragraph → Bool) (at k : ℕ) (ps : List Paragraph) : Type 0 where
@@ -90,7 +81,7 @@ turn-there links first server deck program name some =
     let r = turned test program.paragraphs 0 0 some in
     let same : 0 + r.number ≡ r.number = omega arith in
     let number : unwrap_or (position test program.paragraphs) 0 ≡ r.number = ap (λ o. unwrap_or o 0) (position_from-zero test program.paragraphs ∙ r.found) ∙ same in
-    let long = code-long plan program.paragraphs 0 in
+    let long = code_long plan program.paragraphs 0 in
     subst (λ n. IsTurn (code_in links first program) (slice_index_or (turns_from 0 program.paragraphs) n (record { start = 0; end = 0 }))) (sym number)
     (record { start = omega (arith, r.start, long); end = omega (arith, r.end, long) })
 
@@ -112,7 +103,7 @@ code-valid : (rule : LockRule) (deck : Deck) (server : Bool) (program : Program)
 code-valid rule deck server program first sound read fit screens =
     let plan = plan_of program.layout program.screens program.paragraphs first (links_of deck) in
     record {
-      places = omega (arith, read.short, code-long plan program.paragraphs 0);
+      places = omega (arith, read.short, code_long plan program.paragraphs 0);
       instrs = instrs-are rule deck server program first sound.laid (turn-there (links_of deck) first server deck program) screens sound.resolves sound.forms fit read.statements read.written;
       storage = storage-few server deck program sound.laid;
       linkage = linked-all server deck program sound program.parameters;

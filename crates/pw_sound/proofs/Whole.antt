@@ -63,7 +63,8 @@ use Rattle.pw_sound.proofs.Operands.{Known, Indexed, taken-same}
 use Rattle.std.proofs.lemmas.Bool.{eqb-true}
 use Rattle.pw_sound.proofs.Readings.{read-same, spot-same, spot-sits, taken-sits, move-same, holds-same, Computed}
 use Rattle.pw_sound.proofs.Leading.{Env, Marks, mach, Leads, Does, stays, one, seq, ends_at, fault_ends, begins, taken_does, stop_ends}
-use Rattle.pw_sound.proofs.Statements.{HasAt, has_front, has_back, statement_length, row_length, IsPlan, Stands, move_does, arithmetic_does, begin_does, unit_end_does, restart_does, stop_does, perform_does, times_does, until_does}
+use Rattle.pw_compile.proofs.Lengths.{statement_length, row_length}
+use Rattle.pw_sound.proofs.Statements.{HasAt, has_front, has_back, IsPlan, Stands, move_does, arithmetic_does, begin_does, unit_end_does, restart_does, stop_does, perform_does, times_does, until_does}
 
 same-map : {A : Type 0} (o : Option A) → o ≡ option_map (λ found. found) o
 same-map None = refl

@@ -27,7 +27,7 @@ use Rattle.pw_code.specs.declared.system.System.{System}
 use Rattle.pw_source.specs.Program.{Deck, Program, program_at, program_number, item_named}
 use Rattle.pw_compile.specs.Operands.{place_in}
 use Rattle.pw_compile.specs.Programs.{linkage_of}
-use Rattle.pw_compile.specs.Sizes.{body_size}
+use Rattle.pw_compile.specs.Lengths.{instructions_of}
 
 -- ---- screens
 
@@ -106,12 +106,6 @@ abbrev mutual
   pub RowIsRead : {n : _} → Row_of-Statement n → Type 0
   RowIsRead end_of-Statement = Unit {0}
   RowIsRead (more_of-Statement one rest) = IsRead one × RowIsRead rest
-
--- how many instructions the paragraphs take
-abbrev pub instructions_of : List Paragraph → ℕ
-instructions_of [] = 0
-instructions_of (paragraph ∷ paragraphs) =
-    body_size paragraph.body + 1 + instructions_of paragraphs
 
 -- what the readers of a program see to: its statements, its screens, and that its code is not too long
 pub record IsReadProgram (program : Program) : Type 0 where

@@ -1,5 +1,5 @@
 -- The system that the programs of a deck are compiled to.
-use Rattle.std.specs.Prelude.{ℕ, ◌+◌, List, [], ◌∷◌, ◌++◌, map, length}
+use Rattle.std.specs.Prelude.{false, ℕ, ◌+◌, List, [], ◌∷◌, ◌++◌, map, length}
 use Rattle.pw_code.specs.declared.code.Code.{Code}
 use Rattle.pw_code.specs.declared.field.ScreenTable.{ScreenTable}
 use Rattle.pw_code.specs.declared.links.Links.{Links}
@@ -7,7 +7,9 @@ use Rattle.pw_code.specs.declared.lock.LockRule.{LockRule}
 use Rattle.pw_code.specs.declared.system.System.{System}
 use Rattle.pw_source.specs.Program.{Deck, Program}
 use Rattle.pw_source.specs.Setting.{Setting}
-use Rattle.pw_source.specs.Sound.{links_of}
+use Rattle.pw_names.specs.Calls as names
+use Rattle.pw_names.specs.Calls.{lengths_of}
+use Rattle.pw_source.specs.Sound.{links_of, scope_of}
 use Rattle.pw_compile.specs.Plan.{Plan, plan_of}
 use Rattle.pw_compile.specs.Programs.{code_of}
 
@@ -45,4 +47,12 @@ system_of rule deck = record {
   tcps = deck.tcps;
   terminals = deck.terminals;
   rule = rule;
+}
+
+-- a requester of a deck as its names are looked at: what they may stand for, and how long the items of
+-- USING of each requester are
+abbrev pub named_in : Deck → Program → names.Program
+named_in deck program = record {
+  scope = scope_of false deck program;
+  usings = map (λ one. lengths_of one.layout one.parameters) deck.programs;
 }

@@ -1,4 +1,4 @@
-ghost use Rattle.std.specs.Prelude.{◌≡◌, ◌<◌, ℕ, List, Bool, false, map, length, All, true, Ok};
+ghost use Rattle.std.specs.Prelude.{◌≡◌, ◌<◌, ℕ, List, [], Bool, false, map, length, All, true, Ok};
 ghost use Rattle.pw_code.specs.Entry.{Entry};
 ghost use Rattle.pw_code.specs.Valid.{IsValid, IsCode};
 ghost use Rattle.pw_code.specs.declared.lock.LockRule.{LockRule};
@@ -7,6 +7,7 @@ ghost use Rattle.pw_code.specs.declared.field.ScreenTable.{ScreenTable};
 ghost use Rattle.pw_data.specs.Layouts.{Laid};
 ghost use Rattle.pw_exec.specs.Config.{starting, starting_server};
 ghost use Rattle.pw_exec.specs.OfSystem as code;
+ghost use Rattle.pw_names.specs.Faults.{program_faults};
 ghost use Rattle.pw_onecopy.specs.Path.{PathAnswer, FileAnswer};
 ghost use Rattle.pw_forms.specs.Procedures.{procedure_of};
 ghost use Rattle.pw_forms.specs.declared.statement.Paragraph.{Paragraph};
@@ -14,15 +15,15 @@ ghost use Rattle.pw_forms.specs.declared.statement.Procedure.{Procedure};
 ghost use Rattle.pw_operands.specs.Resolved.{Each};
 ghost use Rattle.pw_screen.specs.Screens.{screens_of};
 ghost use Rattle.pw_source.specs.OfDeck as tree;
-ghost use Rattle.pw_source.specs.Program.{Deck};
+ghost use Rattle.pw_source.specs.Program.{Deck, Program};
 ghost use Rattle.pw_source.specs.Runs.{told, file_told, run_after, server_setting, server_run, start};
 ghost use Rattle.pw_source.specs.Setting.{Setting};
-ghost use Rattle.pw_source.specs.Sound.{IsSound};
+ghost use Rattle.pw_source.specs.Sound.{IsSound, IsSoundProgram};
 ghost use Rattle.pw_text.specs.declared.token.Token.{Token};
 ghost use Rattle.pw_sound.specs.Answered.{AnswersAs};
-ghost use Rattle.pw_sound.specs.Premises.{AreFitting, AreRead, HasTables, IsShownOf};
+ghost use Rattle.pw_sound.specs.Premises.{AreFitting, AreRead, CallsFit, HasTables, IsShownOf};
 ghost use Rattle.pw_sound.specs.Written.{IsWritten};
-ghost use Rattle.pw_sound.specs.Systems.{system_of};
+ghost use Rattle.pw_sound.specs.Systems.{named_in, system_of};
 
 /// The code of each program of a deck whose names resolve does what the tree of the program means: a
 /// requester over each path, a server on each message over each list of file answers. It comes to the
@@ -64,7 +65,8 @@ pub fn code_laws()
 {}
 
 /// What the readers of screens and of procedures give is what the laws above take of it: a field shows a
-/// literal or an item of the layout, and statements are written as their reader sees to.
+/// literal or an item of the layout, and statements are written as their reader sees to. Where the names of
+/// a requester have no fault, the arguments of its CALLs are as long as the items of USING.
 pub fn reading_laws()
     ensures screens { (text : List ℕ) (tokens : List Token) (laid : Laid) (tables : List ScreenTable)
         → screens_of text tokens laid ≡ Ok tables
@@ -73,4 +75,8 @@ pub fn reading_laws()
     ensures statements { (server : Bool) (text : List ℕ) (tokens : List Token) (procedure : Procedure)
         → procedure_of server text tokens ≡ Ok procedure
         → Each (λ (paragraph : Paragraph). Each IsWritten paragraph.body) procedure.paragraphs }
+    ensures calls { (deck : Deck) (program : Program) → IsSoundProgram false deck program
+        → program_faults (named_in deck program) ≡ []
+        → Each (λ (paragraph : Paragraph). Each (CallsFit deck program) paragraph.body)
+        program.paragraphs }
 {}

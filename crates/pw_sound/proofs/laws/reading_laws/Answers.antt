@@ -1,6 +1,7 @@
+use Rattle.pw_sound.proofs.Fitting.{program-fits}
 use Rattle.pw_sound.proofs.Showing.{screens-show}
 use Rattle.pw_sound.proofs.written.Pieces.{procedure-written}
 use Rattle.pw_sound.proofs.laws.reading_laws.Goals as goal
 
 pub returns : goal.returns
-returns c = record { screens = screens-show; statements = procedure-written }
+returns c = record { screens = screens-show; statements = procedure-written; calls = program-fits }
