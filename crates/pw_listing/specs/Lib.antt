@@ -1,0 +1,5 @@
+pub mod Blocks
+pub mod Lines
+pub mod Listing
+pub mod Meaning
+pub mod Numbers

@@ -1,0 +1,10 @@
+//! The text of the report, from its parts.
+#![tactic(auto)]
+
+pub mod laws;
+mod lines;
+pub mod listing;
+mod numbers;
+mod parts;
+#[cfg(test)]
+mod tests;
