@@ -6,4 +6,5 @@ mod Loop
 mod Prefixes
 mod Reading
 mod Recovering
+mod Restoring
 mod Stages

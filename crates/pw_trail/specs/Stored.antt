@@ -1,8 +1,8 @@
 -- What a trail keeps on its disk, and what a crash leaves of it.
-use Rattle.std.specs.Prelude.{◌≡◌, ◌⊎◌, ℕ, ◌+◌, ◌≤◌, List, [], ◌∷◌, ◌++◌, length, take, All, true, Option, Some, None, option_map, Result, Ok, Err, if◌then◌else◌, ◌==◌}
+use Rattle.std.specs.Prelude.{◌≡◌, ◌⊎◌, ℕ, ◌+◌, ◌≤◌, List, [], ◌∷◌, ◌++◌, length, take, Option, Some, None, option_map, Result, Ok, Err, if◌then◌else◌, ◌==◌}
 use Rattle.pw_code.specs.declared.file.FileInfo.{FileInfo}
 use Rattle.pw_volume.specs.Crash.{Only}
-use Rattle.pw_trail.specs.Body.{body_of, fits}
+use Rattle.pw_trail.specs.Body.{body_of}
 use Rattle.pw_trail.specs.Format.{body_in, framed, units_from, units_in, with_units}
 use Rattle.pw_trail.specs.declared.changes.UnitChanges.{UnitChanges}
 use Rattle.pw_trail.specs.declared.piece.Piece.{Piece}
@@ -57,12 +57,6 @@ seen Broken = None
 -- what is staged behind the zero gate: a record, and a zero gate behind it
 abbrev pub staged : UnitChanges → List ℕ
 staged unit = framed (body_of unit) ++ 0 ∷ []
-
--- the changes of a unit are of files that are accepted
-pub record IsAccepted (Accepts : List FileInfo → Type 0) (own : UnitChanges) : Type 0 where
-  pub files : List FileInfo
-  pub accepted : Accepts files
-  pub fit : All (λ change. fits files change ≡ true) own.changes
 
 -- one unit more was taken, which was read
 pub record HasTakenOne (read : Option UnitChanges) (old new : List UnitChanges → Type 0) : Type 0 where

@@ -38,11 +38,12 @@ impl<D: Disk> Log<D> {
         files: List<FileInfo>,
         into: &mut R,
     ) -> Result<Log<D>, (D, OpenFault)>
-        requires accepts { R.accepts into.old files }
+        requires files { (R.system into.old).files ≡ files }
         requires none { R.taken into.old [] }
         ensures opened { IfOk result (λ log. (log.is_broken ≡ false) × (log.files ≡ files)
             × HasUnits (R.taken into.new) (units_in files (D.bytes disk))
             × (units_in files (D.bytes log.disk) ≡ units_in files (D.bytes disk))) }
+        ensures system { R.system into.new ≡ R.system into.old }
         ensures images { IfOk result (λ log. (image : List ℕ) → D.may_leave log.disk image
             → D.may_leave disk image ⊎ (units_in files image ≡ units_in files (D.bytes disk))) }
         ensures images_err { IfErr result (λ error. (image : List ℕ) → D.may_leave error.0 image

@@ -1,10 +1,10 @@
 ghost use Rattle.std.specs.Prelude.{◌≡◌, ◌⊎◌, ℕ, ◌+◌, ◌^◌, ◌<◌, ◌≤◌, List, [], ◌∷◌, ◌++◌, Some, None, Ok, Err, true, length, All, IfOk, OnOk, IsErrOf};
 ghost use Rattle.pw_base.specs.Outside.{Rose};
-ghost use Rattle.pw_code.specs.declared.file.FileInfo.{FileInfo};
+ghost use Rattle.pw_code.specs.declared.system.System.{System};
 ghost use Rattle.pw_volume.specs.Crash.{NoMore, Only};
 ghost use Rattle.pw_trail.specs.Body.{fits, unit_in};
 ghost use Rattle.pw_trail.specs.Format.{units_in};
-ghost use Rattle.pw_trail.specs.Stored.{HasTakenOne, IsAccepted, IsFound, IsRecovered};
+ghost use Rattle.pw_trail.specs.Stored.{HasTakenOne, IsFound, IsRecovered};
 ghost use Rattle.pw_trail.specs.declared.changes.UnitChanges.{UnitChanges};
 
 use crate::changes::UnitChanges;
@@ -19,17 +19,18 @@ use std::alloc::Global;
 
 /// What takes the units of a trail as they are read, in their order.
 pub trait Recovery {
-    /// It takes changes of these files.
-    ghost accepts: { Self → List FileInfo → Type 0 };
+    /// The system whose files they change.
+    ghost system: { Self → System };
 
     /// These units were taken.
     ghost taken: { Self → List UnitChanges → Type 0 };
 
     /// Takes the next unit.
     fn take(&mut self, unit: &UnitChanges) -> Result<(), Memory>
-        requires { IsAccepted (accepts self.old) unit.now }
-        ensures ok { OnOk result ((units : List UnitChanges) → taken self.old units → taken self.new (units ++ unit.now ∷ [])) }
-        ensures accepts { (files : List FileInfo) → accepts self.old files → accepts self.new files };
+        requires { All (λ change. fits (system self.old).files change ≡ true) unit.now.changes }
+        ensures ok { OnOk result ((units : List UnitChanges)
+            → taken self.old units → taken self.new (units ++ unit.now ∷ [])) }
+        ensures system { system self.new ≡ system self.old };
 }
 
 /// Hands on the unit of a record's body whose gate is at a place.
@@ -40,9 +41,9 @@ fn take_unit<R: Recovery>(
     at: u64,
     into: &mut R,
 ) -> Result<(), OpenFault>
-    requires { R.accepts into.old files.now }
+    requires { (R.system into.old).files ≡ files.now }
     ensures ok { OnOk result (HasTakenOne (unit_in files.now body.now) (R.taken into.old) (R.taken into.new)) }
-    ensures accepts { R.accepts into.new files.now }
+    ensures system { R.system into.new ≡ R.system into.old }
     ensures damaged { (place : ℕ) → IsErrOf result (OpenFault.Damaged place)
         → (place ≡ at) × (unit_in files.now body.now ≡ None) }
     ensures failed { IsErrOf result OpenFault.Failed → ⊥ }
@@ -66,10 +67,11 @@ fn read_units<D: Disk, R: Recovery>(
     total: u64,
     into: &mut R,
 ) -> Result<u64, OpenFault>
-    requires accepts { R.accepts into.old files.now }
+    requires files { (R.system into.old).files ≡ files.now }
     requires total { total ≡ length (D.bytes disk.old) }
     requires none { R.taken into.old [] }
     ensures found { IfOk result (λ end. IsFound files.now (D.bytes disk.old) (R.taken into.new) end) }
+    ensures system { R.system into.new ≡ R.system into.old }
     ensures small { IfOk result (λ end. end + 1 < 2 ^ 64) }
     ensures bytes { D.bytes disk.new ≡ D.bytes disk.old }
     ensures images { NoMore (D.may_leave disk.old) (D.may_leave disk.new) }
@@ -99,10 +101,11 @@ pub fn recover<D: Disk, R: Recovery>(
     files: &[FileInfo],
     into: &mut R,
 ) -> Result<u64, OpenFault>
-    requires accepts { R.accepts into.old files.now }
+    requires files { (R.system into.old).files ≡ files.now }
     requires none { R.taken into.old [] }
     ensures recovered { IfOk result (λ end. IsRecovered files.now (D.bytes disk.old) (R.taken into.new)
         (D.bytes disk.new) (D.may_leave disk.new) end) }
+    ensures system { R.system into.new ≡ R.system into.old }
     ensures images { (image : List ℕ) → D.may_leave disk.new image
         → D.may_leave disk.old image ⊎ (units_in files.now image ≡ units_in files.now (D.bytes disk.old)) }
     ensures damaged { (at : ℕ) → IsErrOf result (OpenFault.Damaged at)

@@ -36,9 +36,10 @@ struct Numbers {
 
 impl Recovery for Numbers {
     ghost use Rattle.std.specs.Prelude.{◌≡◌, map};
+    ghost use Rattle.pw_trail.specs.OneFile.{one_file_system};
     ghost use Rattle.pw_trail.specs.declared.changes.UnitChanges.{UnitChanges};
 
-    ghost accepts = { λ own files. Unit {0} };
+    ghost system = { λ own. one_file_system };
 
     ghost taken = { λ own units. own.numbers.items ≡ map (λ (unit : UnitChanges). unit.unit) units };
 

@@ -71,7 +71,7 @@ loop-body-preserved g c =
     let size : c.len.result ≡ length body = search rules in
     record {
       reading = reading_more c.args.files.now (g.D.Disk.bytes c.args.disk.now) (g.R.Recovery.taken c.loop-body.into) at c.loop-body.invariant.reading body e (g.R.Recovery.taken c.take_unit.new.into) _ one (ap (λ (n : ℕ). at + (5 + n)) size);
-      accepts = c.take_unit.ensures.accepts;
+      system = c.take_unit.ensures.system ∙ c.loop-body.invariant.system;
       bytes = c.read_piece.ensures.bytes ∙ c.loop-body.invariant.bytes;
       images = λ image may. c.loop-body.invariant.images image (c.read_piece.ensures.images image may);
       count = omega (arith, c.loop-body.invariant.count, c.read_piece.ensures.count);

@@ -7,7 +7,7 @@ use Rattle.pw_trail.proofs.recover.read_units.Given as goal
 abbrev pub invariant-loop-body : goal.invariant-loop-body
 invariant-loop-body g l = record {
   reading : IsReading l.files (g.D.Disk.bytes l.fn.disk) (g.R.Recovery.taken l.into) l.at;
-  accepts : g.R.Recovery.accepts l.into l.files;
+  system : g.R.Recovery.system l.into ≡ g.R.Recovery.system l.fn.into;
   bytes : g.D.Disk.bytes l.disk ≡ g.D.Disk.bytes l.fn.disk;
   images : NoMore (g.D.Disk.may_leave l.fn.disk) (g.D.Disk.may_leave l.disk);
   count : g.D.Disk.faults l.fn.disk ≤ g.D.Disk.faults l.disk;
