@@ -1,10 +1,17 @@
-ghost use Rattle.std.specs.Prelude.{◌≡◌, ◌<◌, ◌≤◌, ◌^◌, ◌-◌, ℕ, false, length, true, IfErr, IsSome, None, OnErr, OnOk, Some, slice_get};
+ghost use Rattle.std.specs.Prelude.{◌≡◌, ◌<◌, ◌≤◌, ◌^◌, ◌-◌, ℕ, false, length, true, IfErr, IsSome, None, OnErr, OnOk, Some, slice_get, ◌↔◌, IsTrue};
 ghost use Rattle.std.specs.Option.{option_copied};
 ghost use Rattle.pw_class.specs.Queue.{at_process, has_request};
 ghost use Rattle.pw_keep.specs.Calls.{can_take, kept_commit_reply, taker};
 ghost use Rattle.pw_keep.specs.Keeps.{HasVerb, IsChanged, IsRefused, JobHasVerb, kept_in, kept_of};
 ghost use Rattle.pw_kept.specs.Asked.{verb_in};
-ghost use Rattle.pw_kept.specs.Changes.{births_behind, free_process, kept_back, kept_begin, kept_begin_send, kept_commit, kept_ran, kept_send, kept_show, kept_take, unit_at, with_job};
+ghost use Rattle.pw_kept.specs.Changes.{at_pair, births_behind, free_process, kept_applied, kept_back, kept_begin, kept_begin_send, kept_check, kept_commit, kept_raise, kept_ran, kept_send, kept_show, kept_take, unit_at, with_job};
+ghost use Rattle.pw_pair.specs.Bodies.{is_image};
+ghost use Rattle.pw_pair.specs.Called.{member_fails};
+ghost use Rattle.pw_pair.specs.Pairs.{after_drop, changed_at, passes, seat_of};
+ghost use Rattle.pw_pair.specs.Rooms.{MaySend};
+ghost use Rattle.pw_pair.specs.Seats.{built, is_built, is_waiting};
+ghost use Rattle.pw_pair.specs.Tasks.{waiting_task};
+ghost use Rattle.pw_pair.specs.declared.mode.Mode.TheVariants as Mode;
 ghost use Rattle.pw_seats.specs.Jobs.{context_of};
 ghost use Rattle.pw_tmf.specs.Leaving.{unit_told};
 ghost use Rattle.pw_tmf.specs.Units.{CanBackOut, CanBegin, IsRunning};
@@ -17,6 +24,8 @@ use pw_code::context::Context;
 use pw_code::system::System;
 use pw_code::unit::Unit;
 use pw_code::verb::Verb;
+use pw_pair::link::LinkDone;
+use pw_pair::message::CheckMessage;
 use pw_pair::pair::Pair;
 use pw_seats::job::{Job, Jobs};
 use pw_seats::seat::Seat;
@@ -308,5 +317,95 @@ impl<D: Disc> Keep<D> {
     {
         self.classes.reply(class, process);
         self.jobs[class as usize].put(process as usize - 1, None);
+    }
+
+    /// A pair.
+    pub fn pair(&self, tcp: u32) -> &Pair
+        requires { tcp < length self.now.system.tcps }
+        ensures { result.now ≡ (kept_in D.told self.now).pairs tcp }
+    {
+        &self.pairs[tcp as usize]
+    }
+
+    /// CHECK: the message goes to the backup of the pair. An `Err` leaves all as it was.
+    pub fn check(&mut self, tcp: u32, message: CheckMessage) -> Result<(), Memory>
+        requires known { tcp < length self.old.system.tcps }
+        requires kind { MaySend ((kept_in D.told self.old).pairs tcp).mode message.kind }
+        requires image { is_image message.image ≡ true }
+        ensures ok { OnOk result (IsChanged D.told (kept_check tcp message) self.old self.new) }
+        ensures err { OnErr result (self.new ≡ self.old) }
+    {
+        self.pairs[tcp as usize].send(message)?;
+        Ok(())
+    }
+
+    /// RAISE: the pair has a new backup, which holds nothing. An `Err` leaves all as it was.
+    pub fn raise(&mut self, tcp: u32) -> Result<(), Memory>
+        requires known { tcp < length self.old.system.tcps }
+        requires alone { ((kept_in D.told self.old).pairs tcp).mode ≡ Mode.Alone }
+        ensures ok { OnOk result (IsChanged D.told (kept_raise tcp) self.old self.new) }
+        ensures err { OnErr result (self.new ≡ self.old) }
+    {
+        self.pairs[tcp as usize].raise()?;
+        Ok(())
+    }
+
+    /// No entry: the terminal's message in flight is built. An `Err` leaves all as it was.
+    pub fn build_here(&mut self, tcp: u32, terminal: u32) -> Result<(), Memory>
+        requires known { tcp < length self.old.system.tcps }
+        requires waits { passes is_waiting (seat_of terminal ((kept_in D.told self.old).pairs tcp)) ≡ true }
+        ensures ok { OnOk result (IsChanged D.told (at_pair tcp (changed_at terminal built)) self.old self.new) }
+        ensures err { OnErr result (self.new ≡ self.old) }
+    {
+        self.pairs[tcp as usize].build_here(terminal)?;
+        Ok(())
+    }
+
+    /// APPLIED: the terminal's message in flight, which is built, is taken in.
+    pub fn applied(&mut self, tcp: u32, terminal: u32)
+        requires known { tcp < length self.old.system.tcps }
+        requires built { passes is_built (seat_of terminal ((kept_in D.told self.old).pairs tcp)) ≡ true }
+        ensures { IsChanged D.told (kept_applied tcp terminal) self.old self.new }
+    {
+        self.pairs[tcp as usize].applied(terminal);
+    }
+
+    /// A terminal that has ended is dropped by its pair.
+    pub fn drop_terminal(&mut self, tcp: u32, terminal: u32)
+        requires known { tcp < length self.old.system.tcps }
+        ensures { IsChanged D.told (at_pair tcp (after_drop terminal)) self.old self.new }
+    {
+        self.pairs[tcp as usize].drop_terminal(terminal);
+    }
+
+    /// A member of the pair fails, as far as the pair itself goes.
+    pub fn fail_member(&mut self, tcp: u32, primary: bool)
+        requires known { tcp < length self.old.system.tcps }
+        ensures { IsChanged D.told (at_pair tcp (member_fails primary)) self.old self.new }
+    {
+        fail(&mut self.pairs[tcp as usize], primary);
+    }
+
+    /// No entry: files the image of a task that is done, and says whether it did.
+    pub fn give_back(&mut self, tcp: u32, done: LinkDone) -> bool
+        requires known { tcp < length self.old.system.tcps }
+        ensures files { IsTrue result
+            ↔ (waiting_task done.task.terminal ((kept_in D.told self.old).pairs tcp) ≡ Some done.task) }
+        ensures filed { result ≡ true
+            → IsChanged D.told (at_pair tcp (changed_at done.task.terminal built)) self.old self.new }
+        ensures late { result ≡ false → self.new ≡ self.old }
+    {
+        self.pairs[tcp as usize].give_back(done)
+    }
+}
+
+/// A member of a pair fails.
+fn fail(pair: &mut Pair, primary: bool)
+    ensures { pair.new ≡ member_fails primary pair.old }
+{
+    if primary {
+        pair.fail_primary();
+    } else {
+        pair.fail_backup();
     }
 }
