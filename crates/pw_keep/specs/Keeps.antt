@@ -1,0 +1,150 @@
+-- What contracts see of what a monitor keeps, and what holds of its parts.
+use Rattle.std.specs.Prelude.{◌≡◌, ◌-◌, ◌==◌, ℕ, ◌<◌, List, [], length, Option, Some, None, slice_get, slice_index_or, if◌then◌else◌}
+use Rattle.std.specs.Option.{IfSome, option_map}
+use Rattle.pw_class.specs.Book.{queue_at}
+use Rattle.pw_class.specs.Queue.{Queue, at_process}
+use Rattle.pw_class.specs.declared.request.Request.{Request}
+use Rattle.pw_code.specs.Valid.{IsValid}
+use Rattle.pw_code.specs.declared.system.ClassInfo.{ClassInfo}
+use Rattle.pw_code.specs.declared.system.System.{System}
+use Rattle.pw_kept.specs.Asked.{verb_in}
+use Rattle.pw_kept.specs.Kept.{Kept, KeptTerminal}
+use Rattle.pw_pair.specs.Pairs.{SeenPair}
+use Rattle.pw_pair.specs.declared.mode.Mode.TheVariants.{Alone}
+use Rattle.pw_paired.specs.State.{Awaited}
+use Rattle.pw_seats.specs.Jobs.{context_of, job_in}
+use Rattle.pw_seats.specs.declared.job.Job.{Job}
+use Rattle.pw_seats.specs.declared.seat.AwaitedUnit.{AwaitedUnit}
+use Rattle.pw_seats.specs.declared.seat.Ready.{Ready}
+use Rattle.pw_seats.specs.declared.seat.Seat.{Seat}
+use Rattle.pw_tmf.specs.Answers.{Leaves}
+use Rattle.pw_tmf.specs.Leaving.{unit_told}
+use Rattle.pw_tmf.specs.Told.{Told}
+use Rattle.pw_tmf.specs.declared.answer.DiscFault.{DiscFault}
+
+-- ---- seats
+
+-- an awaited unit as the paired system has it
+abbrev pub awaited_as : AwaitedUnit → Awaited
+awaited_as one = record { terminal = one.terminal; number = one.number }
+
+-- what is kept of the terminal
+abbrev pub kept_of : Seat → KeptTerminal
+kept_of seat = record {
+  context = seat.context;
+  ready = option_map (λ (at : Ready). at.context) seat.ready;
+  start = seat.start;
+  restarts = seat.restarts;
+  awaits = option_map awaited_as seat.awaits;
+  pending = seat.pending;
+  ending = seat.ending;
+}
+
+-- ---- its parts
+
+-- what stands where no seat is, and where no pair is
+abbrev pub no_seat : Seat
+no_seat = record {
+  context = None;
+  ready = None;
+  start = None;
+  unit = None;
+  restarts = 0;
+  awaits = None;
+  pending = None;
+  ending = None;
+}
+
+abbrev pub no_pair : SeenPair
+no_pair = record { mode = Alone; seats = [] }
+
+abbrev pub seat_at : List Seat → ℕ → Seat
+seat_at seats t = slice_index_or seats t no_seat
+
+abbrev pub jobs_at : List (List (Option Job)) → ℕ → List (Option Job)
+jobs_at jobs c = slice_index_or jobs c []
+
+-- processes count from 1
+abbrev pub job_of : List (Option Job) → ℕ → Option Job
+job_of jobs i = if i == 0 then None else job_in jobs (i - 1)
+
+abbrev pub pair_at : List SeenPair → ℕ → SeenPair
+pair_at pairs p = slice_index_or pairs p no_pair
+
+-- what is kept
+abbrev pub kept_by : List Seat → Told → List Queue → List (List (Option Job)) → List SeenPair → ℕ → Kept
+kept_by seats disc book jobs pairs births = record {
+  terminals = λ t. kept_of (seat_at seats t);
+  disc = disc;
+  queues = queue_at book;
+  jobs = λ c i. context_of (job_of (jobs_at jobs c) i);
+  pairs = pair_at pairs;
+  births = births;
+}
+
+-- ---- the whole
+
+-- what a monitor keeps, over a disc that tells what it has
+pub record KeepState (D : Type 0) : Type 0 where
+  pub system : System
+  pub seats : List Seat
+  pub disc : D
+  pub book : List Queue
+  pub jobs : List (List (Option Job))
+  pub pairs : List SeenPair
+  pub births : ℕ
+
+abbrev pub kept_in : {D : Type 0} → (D → Told) → KeepState D → Kept
+kept_in told keep =
+    kept_by keep.seats (told keep.disc) keep.book keep.jobs keep.pairs keep.births
+
+-- the system stays, and what is kept is changed so
+pub record IsChanged {D : Type 0} (told : D → Told) (change : Kept → Kept) (old new : KeepState D) : Type 0 where
+  pub system : new.system ≡ old.system
+  pub kept : kept_in told new ≡ change (kept_in told old)
+
+-- what a refused call of the disc leaves: all as it was, but for the disc's count where it failed
+pub record IsRefused {D : Type 0} (told : D → Told) (fault : DiscFault) (old new : KeepState D) : Type 0 where
+  pub system : new.system ≡ old.system
+  pub leaves : Leaves fault (told old.disc) (told new.disc)
+  pub rest : kept_in told new ≡ record (kept_in told old) { disc = told new.disc }
+
+-- ---- what holds of them
+
+-- the verb beside a context is the one at which it stands
+abbrev pub HasVerb : System → Seat → Type 0
+HasVerb system seat = IfSome seat.ready (λ (at : Ready). at.verb ≡ verb_in system at.context)
+
+abbrev pub JobHasVerb : System → Option Job → Type 0
+JobHasVerb system job =
+    IfSome job (λ (own : Job). IfSome own.verb (λ verb. verb ≡ verb_in system own.context))
+
+-- the terminals whose jobs and requests are at a process
+abbrev pub job_terminal : Option Job → Option ℕ
+job_terminal job = option_map (λ (own : Job). own.terminal) job
+
+abbrev pub request_terminal : Option Request → Option ℕ
+request_terminal request = option_map (λ (own : Request). own.terminal) request
+
+-- a class has as many processes in its book and its jobs as in the system, and each busy one has a job for the terminal
+-- of its request
+pub record IsStaffed (info : ClassInfo) (queue : Queue) (jobs : List (Option Job)) : Type 0 where
+  pub book : length queue.busy ≡ info.processes
+  pub jobs_are : length jobs ≡ info.processes
+  pub posts : (i : ℕ) → job_terminal (job_of jobs i) ≡ request_terminal (at_process queue i)
+
+-- each part has the size that the system says; a seat has the open unit that the disc tells; and verbs are right
+pub record IsKeep (system : System) (seats : List Seat) (disc : Told) (book : List Queue)
+    (jobs : List (List (Option Job))) (pairs : List SeenPair) : Type 0 where
+  pub valid : IsValid system
+  pub terminals : length seats ≡ length system.terminals
+  pub classes : length book ≡ length system.classes
+  pub job_lists : length jobs ≡ length system.classes
+  pub pairs_are : length pairs ≡ length system.tcps
+  pub disc_terminals : disc.terminals ≡ length system.terminals
+  pub disc_files : disc.file_count ≡ length system.files
+  pub units : (t : ℕ) → t < length seats → (seat_at seats t).unit ≡ unit_told t (disc.units t)
+  pub verbs : (t : ℕ) → HasVerb system (seat_at seats t)
+  pub staffed : (c : ℕ) (info : ClassInfo) → slice_get system.classes c ≡ Some info
+      → IsStaffed info (queue_at book c) (jobs_at jobs c)
+  pub job_verbs : (c i : ℕ) → JobHasVerb system (job_of (jobs_at jobs c) i)
