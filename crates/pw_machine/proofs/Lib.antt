@@ -1,8 +1,13 @@
 pub mod BesideLemmas
+pub mod LinkageLemmas
 pub mod MoveLemmas
 pub mod Paths
 pub mod Places
+pub mod RangeLemmas
 pub mod Shorts
+pub mod SoundLemmas
+pub mod StackLemmas
+pub mod StandLemmas
 pub mod StatementLemmas
 pub mod TextLemmas
 pub mod TurnLemmas

@@ -3,13 +3,17 @@
 
 mod arithmetic;
 mod arms;
+mod calls;
+mod chars;
 mod compare;
 mod conditions;
+mod linkage;
 mod moves;
 mod numbers;
 mod reading;
 mod registers;
 mod spot;
+mod stack;
 mod statements;
 #[cfg(test)]
 mod tests;

@@ -2,6 +2,7 @@
 
 ghost use Rattle.std.specs.Prelude.{◌≡◌, ◌<◌, ◌+◌};
 ghost use Rattle.pw_exec.specs.Answers as answers;
+ghost use Rattle.pw_machine.specs.Stack.{HasRoom};
 
 use pw_code::context::Context;
 
