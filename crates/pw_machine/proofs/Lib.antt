@@ -1,4 +1,7 @@
+pub mod ActLemmas
 pub mod BesideLemmas
+pub mod EntryLemmas
+pub mod KeyedLemmas
 pub mod LinkageLemmas
 pub mod MoveLemmas
 pub mod Paths

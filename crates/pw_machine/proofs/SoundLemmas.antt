@@ -73,7 +73,7 @@ stays_sound system c d is stays = record {
 
 -- ---- the last of a list
 
-split_back : {A : Type 0} (xs : List A) (x : A) → split_last (xs ++ x ∷ []) ≡ Some (xs, x)
+pub split_back : {A : Type 0} (xs : List A) (x : A) → split_last (xs ++ x ∷ []) ≡ Some (xs, x)
 split_back [] x = refl
 split_back (y ∷ ys) x = ap (last_behind y) (split_back ys x)
 

@@ -4,7 +4,7 @@ use Rattle.pw_code.specs.Instrs.{HasRanges}
 use Rattle.pw_code.specs.declared.context.Context.{Context}
 use Rattle.pw_code.specs.declared.context.Frame.{Frame}
 use Rattle.pw_code.specs.declared.instr.Instr.{Instr}
-use Rattle.pw_code.specs.declared.instr.Instr.TheVariants.{Call, ExitProgram}
+use Rattle.pw_code.specs.declared.instr.Instr.TheVariants.{Call, ExitProgram, Jump, NoCode, ParagraphEnd, Until}
 use Rattle.pw_code.specs.declared.system.System.{System}
 use Rattle.pw_exec.specs.Config.{Config, code_at}
 
@@ -43,3 +43,11 @@ abbrev pub stays_at_work : Instr → Bool
 stays_at_work (Call program arguments keeps) = false
 stays_at_work ExitProgram = false
 stays_at_work _ = true
+
+-- the instruction is one of control, which counts as no statement
+abbrev pub is_control : Instr → Bool
+is_control (Jump n) = true
+is_control (ParagraphEnd start) = true
+is_control (Until paragraph cond) = true
+is_control NoCode = true
+is_control _ = false
