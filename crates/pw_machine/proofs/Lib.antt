@@ -1,8 +1,16 @@
+pub mod ActLemmas
 pub mod BesideLemmas
+pub mod EntryLemmas
+pub mod KeyedLemmas
+pub mod LinkageLemmas
 pub mod MoveLemmas
 pub mod Paths
 pub mod Places
+pub mod RangeLemmas
 pub mod Shorts
+pub mod SoundLemmas
+pub mod StackLemmas
+pub mod StandLemmas
 pub mod StatementLemmas
 pub mod TextLemmas
 pub mod TurnLemmas

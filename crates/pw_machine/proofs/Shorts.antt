@@ -66,3 +66,14 @@ whole_short n few = pick (is_negative n)
     pick : (b : Bool) → (if b then 0 else unsigned_abs n.units / 10 ^ n.places) < 10 ^ 18
     pick true = omega arith
     pick false = omega (arith, less, few)
+
+-- the whole number that at most 5 characters are
+pub whole_five : (chars : List ℕ) → length chars ≤ 5 → whole_part (read_of (NumberPicture (length chars) 0 false) chars) < 10 ^ 5
+whole_five chars few = pick (is_negative (read_of (NumberPicture (length chars) 0 false) chars))
+  where
+    less : value_of 0 chars / 10 ^ 0 ≤ value_of 0 chars
+    less = div-le_self (value_of 0 chars) (10 ^ 0)
+
+    pick : (b : Bool) → (if b then 0 else value_of 0 chars / 10 ^ 0) < 10 ^ 5
+    pick true = omega arith
+    pick false = omega (arith, less, value_of-below 0 chars, pow-le-pow_right {n = 10} (omega arith) few)

@@ -1,5 +1,6 @@
 -- Texts, character by character.
-use Rattle.std.proofs.Common.{◌≡◌, ℕ, zero, suc, ◌+◌, ◌-◌, ◌/◌, ◌%◌, ◌^◌, ◌<◌, Bool, true, false, List, ◌∷◌, length, drop, get_or, filter, refl, sym, ap, ◌∙◌, arith, drop-cons, cond}
+use Rattle.std.proofs.Common.{◌≡◌, ℕ, zero, suc, ◌+◌, ◌-◌, ◌/◌, ◌%◌, ◌^◌, ◌<◌, Bool, true, false, List, [], ◌∷◌, ◌++◌, length, take, drop, get_or, filter, refl, sym, ap, ◌∙◌, arith, drop-cons, cond}
+use Rattle.std.proofs.lemmas.List.{take_all, take_more}
 use Rattle.std.specs.Char.{is_ascii_digit}
 use Rattle.pw_picture.specs.Stored.{digits_of}
 
@@ -39,3 +40,10 @@ pub other_passed : (s : List ℕ) (i left whole : ℕ) → i < length s → is_a
 other_passed s i left whole lt is known =
     sym (ap (λ t. get_or (cond t (get_or s i 0 ∷ filter is_ascii_digit (drop (i + 1) s)) (filter is_ascii_digit (drop (i + 1) s))) left 32) is)
     ∙ sym (ap (λ l. get_or (filter is_ascii_digit l) left 32) (split s i lt)) ∙ known
+
+-- one digit more
+pub digits_more : (count value place : ℕ) → place < count → take (place + 1) (digits_of count value) ≡ take place (digits_of count value) ++ get_or (digits_of count value) place 32 ∷ []
+digits_more count value place lt = take_more (digits_of count value) place 32 (omega (arith, length-digits_of count value))
+
+pub digits_all : (count value : ℕ) → take count (digits_of count value) ≡ digits_of count value
+digits_all count value = take_all count (digits_of count value) (omega (arith, length-digits_of count value))

@@ -1,15 +1,24 @@
 //! The machine that runs compiled code.
 #![tactic(auto)]
 
+mod act;
 mod arithmetic;
 mod arms;
+mod asked;
+mod asks;
+mod calls;
+mod chars;
 mod compare;
 mod conditions;
+mod entries;
+mod keyed;
+mod linkage;
 mod moves;
 mod numbers;
 mod reading;
 mod registers;
 mod spot;
+mod stack;
 mod statements;
 #[cfg(test)]
 mod tests;

@@ -3,7 +3,7 @@ ghost use Rattle.pw_picture.specs.Stored.{moved};
 ghost use Rattle.pw_picture.specs.Text.{fitted};
 ghost use Rattle.pw_code.specs.Places.{IsOperand, picture_of};
 ghost use Rattle.pw_terminal.specs.Shown.{written};
-ghost use Rattle.pw_exec.specs.Moves.{move_value};
+ghost use Rattle.pw_exec.specs.Moves.{move_value, move_text};
 ghost use Rattle.pw_exec.specs.Reading.{value_in};
 ghost use Rattle.pw_source.specs.Values.{text_in, text_of, without_sign};
 ghost use Rattle.pw_machine.specs.Views.{spot_by, taken_by, IsSpot, IsTaken};
@@ -11,7 +11,7 @@ ghost use Rattle.pw_machine.specs.Views.{spot_by, taken_by, IsSpot, IsTaken};
 use crate::compare::fill_of;
 use crate::spot::{Spot, Taken};
 use crate::texts::{sign_of, text_char};
-use crate::value::number_of;
+use crate::value::{number_of, number_of_text};
 use pw_code::operand::Operand;
 use pw_code::place::Kind;
 use pw_number::scaled::Scaled;
@@ -40,13 +40,28 @@ pub fn number_to(
     picture.move_to(value, into);
 }
 
-/// Moves a message, a record or a reply to a spot as a text.
+/// Writes characters as a text into a spot.
 pub fn text_to(storage: &mut [u8], spot: Spot, chars: &[u8])
     requires { IsSpot (length storage.old) spot }
     ensures { storage.new ≡ written spot.at (fitted spot.size chars.now) storage.old }
 {
     let into = &mut storage[spot.at..spot.at + spot.size];
     fit_text(chars, into);
+}
+
+/// Moves a message, a record or a reply to a spot as a text.
+pub fn move_text(storage: &mut [u8], to: Spot, chars: &[u8])
+    requires { IsSpot (length storage.old) to }
+    ensures { storage.new ≡ move_text chars.now (spot_by to) storage.old }
+{
+    match to.kind {
+        Kind::Number {
+            digits,
+            places,
+            signed,
+        } => number_to(storage, to, digits, places, signed, number_of_text(chars)),
+        _ => text_to(storage, to, chars),
+    }
 }
 
 /// Puts the same character in so many places.

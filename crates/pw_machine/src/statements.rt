@@ -20,7 +20,7 @@ use pw_code::place::Place;
 use std::alloc::Global;
 
 /// The spots of places, None exactly where the subscript of one is outside.
-fn spots_of(
+pub fn spots_of(
     alloc: Global,
     registers: Registers,
     storage: &[u8],
@@ -29,6 +29,7 @@ fn spots_of(
     requires { All (IsPlace (length storage.now)) places.now }
     ensures spots { IfOk result (λ found. option_map (λ spots. map spot_by spots.items) found ≡ spots_of (registers_by registers) storage.now places.now) }
     ensures inside { IfOk result (λ found. IfSome found (λ spots. All (IsSpot (length storage.now)) spots.items)) }
+    ensures sizes { IfOk result (λ found. IfSome found (λ spots. map (λ spot. spot.size) spots.items ≡ map (λ place. place.size) places.now)) }
 {
     let mut spots = Vec::new(alloc);
     for place in places {

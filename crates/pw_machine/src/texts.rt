@@ -23,14 +23,14 @@ pub fn sign_of(kind: Kind) -> usize
 }
 
 /// How many digits a number has as it is written.
-fn digits_in(spelling: &[u8]) -> usize
+pub fn digits_in(spelling: &[u8]) -> usize
     ensures { result ≡ length (filter is_ascii_digit spelling.now) }
 {
     spelling.iter().filter(|byte| byte.is_ascii_digit()).count()
 }
 
 /// The digit at a place among those of a number as it is written, and a space past the last.
-fn digit_of_spelling(spelling: &[u8], place: usize) -> u8
+pub fn digit_of_spelling(spelling: &[u8], place: usize) -> u8
     ensures { result ≡ slice_index_or (filter is_ascii_digit spelling.now) place 32 }
 {
     let mut left = place;
@@ -46,7 +46,7 @@ fn digit_of_spelling(spelling: &[u8], place: usize) -> u8
 }
 
 /// The digit at a place among so many of a value, and a space past the last.
-fn digit_of_value(digits: u8, value: u32, place: usize) -> u8
+pub fn digit_of_value(digits: u8, value: u32, place: usize) -> u8
     requires { digits ≤ 5 }
     ensures { result ≡ slice_index_or (digits_of digits value) place 32 }
 {

@@ -99,7 +99,8 @@ pub fn tested(
     holds: Option<bool>,
 ) -> Result<(), Memory>
     requires { top.old.at + 1 < 2 ^ 32 }
-    ensures { IfOk result (λ _. config_of top.new context.new ≡ paragraphs.tested paragraph holds (config_of top.old context.old)) }
+    ensures config { IfOk result (λ _. config_of top.new context.new ≡ paragraphs.tested paragraph holds (config_of top.old context.old)) }
+    ensures stays { StaysAt (config_of top.old context.old) (config_of top.new context.new) }
 {
     match holds {
         None => {
@@ -148,7 +149,8 @@ fn at_position(all: &[Turn], position: u128) -> Option<Turn>
 /// The end of a paragraph that begins at a place: where the last active PERFORM is of it, its turn has ended.
 pub fn end_paragraph(top: &mut Top, context: &mut Context, start: u32)
     requires { top.old.at + 1 < 2 ^ 32 }
-    ensures { config_of top.new context.new ≡ paragraphs.ends start (config_of top.old context.old) }
+    ensures config { config_of top.new context.new ≡ paragraphs.ends start (config_of top.old context.old) }
+    ensures stays { StaysAt (config_of top.old context.old) (config_of top.new context.new) }
 {
     match last_of(top.returns.as_slice()) {
         Some(last) if last.until == top.at => end_turn(top, context, start, last),
@@ -169,8 +171,9 @@ fn last_of(returns: &[Return]) -> Option<Return>
 /// The last turn of the last active PERFORM has ended: the next one, or back to where it came from.
 fn end_turn(top: &mut Top, context: &mut Context, start: u32, last: Return)
     requires { 0 < length top.old.returns.items }
-    ensures { config_of top.new context.new
+    ensures config { config_of top.new context.new
         ≡ paragraphs.comes_back start (take (length top.old.returns.items - 1) top.old.returns.items) last (config_of top.old context.old) }
+    ensures stays { StaysAt (config_of top.old context.old) (config_of top.new context.new) }
 {
     let place = top.returns.len() - 1;
     if last.turns == 0 {

@@ -2,6 +2,8 @@
 
 ghost use Rattle.std.specs.Prelude.{◌≡◌, ◌<◌, ◌+◌};
 ghost use Rattle.pw_exec.specs.Answers as answers;
+ghost use Rattle.pw_exec.specs.Config.{has_fault};
+ghost use Rattle.pw_machine.specs.Stack.{HasRoom};
 
 use pw_code::context::Context;
 
@@ -59,4 +61,11 @@ pub fn reply_taken(context: &mut Context)
     } else {
         unit_ended(context);
     }
+}
+
+/// Whether a run fault is its own, or one of a server that is to be told.
+pub fn has_fault(context: &Context) -> bool
+    ensures { result ≡ has_fault context.now }
+{
+    context.fault != 0 || context.mode == 2
 }

@@ -21,7 +21,7 @@ fn whole(value: u64) -> Scaled
 }
 
 /// A text as an unsigned whole number: its last 18 characters, where one that is no digit is as 0.
-fn number_of_text(chars: &[u8]) -> Scaled
+pub fn number_of_text(chars: &[u8]) -> Scaled
     ensures number { result ≡ number_of_text chars.now }
     ensures short { unsigned_abs result.units < 10 ^ 18 }
 {

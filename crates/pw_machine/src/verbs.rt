@@ -2,6 +2,7 @@ ghost use Rattle.std.specs.Prelude.{◌≡◌, ◌≤◌, ◌<◌, ◌+◌, ◌^
 ghost use Rattle.pw_exec.specs.Calls as programs;
 ghost use Rattle.pw_exec.specs.Config as config;
 ghost use Rattle.pw_machine.specs.Config.{config_of};
+ghost use Rattle.pw_machine.specs.Stack.{StaysAt};
 
 use crate::top::Top;
 use crate::turns::fault;
@@ -17,7 +18,8 @@ pub fn ask(context: &mut Context)
 
 /// BEGIN-TRANSACTION, which in a transaction is NESTED.
 pub fn begin(context: &mut Context)
-    ensures { context.new ≡ (if context.old.in_unit then record context.old { fault = 205; at_verb = true } else record context.old { at_verb = true }) }
+    ensures asked { context.new ≡ (if context.old.in_unit then record context.old { fault = 205; at_verb = true } else record context.old { at_verb = true }) }
+    ensures frames { context.new.frames ≡ context.old.frames }
 {
     if context.in_unit {
         fault(context, 205);
@@ -28,7 +30,8 @@ pub fn begin(context: &mut Context)
 
 /// END-, ABORT- and RESTART-TRANSACTION, each of which outside a transaction is NOUNIT.
 pub fn ask_in_unit(context: &mut Context)
-    ensures { context.new ≡ (if context.old.in_unit then record context.old { at_verb = true } else record context.old { fault = 206; at_verb = true }) }
+    ensures asked { context.new ≡ (if context.old.in_unit then record context.old { at_verb = true } else record context.old { fault = 206; at_verb = true }) }
+    ensures frames { context.new.frames ≡ context.old.frames }
 {
     if context.in_unit {
         ask(context);
@@ -39,7 +42,8 @@ pub fn ask_in_unit(context: &mut Context)
 
 /// STOP RUN, and the end of a program that no other called: in a server NOREPLY, in a transaction OPENUNIT.
 pub fn stop(system: &System, top: &Top, context: &mut Context)
-    ensures { config_of top.now context.new ≡ programs.stops system.now (config_of top.now context.old) }
+    ensures config { config_of top.now context.new ≡ programs.stops system.now (config_of top.now context.old) }
+    ensures stays { StaysAt (config_of top.now context.old) (config_of top.now context.new) }
 {
     if top.program as usize >= system.programs.len() {
         fault(context, 209);

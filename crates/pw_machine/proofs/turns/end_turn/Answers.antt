@@ -5,8 +5,8 @@ use Rattle.pw_code.specs.declared.context.Return.{Return}
 use Rattle.pw_machine.proofs.TurnLemmas.{again}
 use Rattle.pw_machine.proofs.turns.end_turn.Goals as goal
 
-pub returns-then-count : goal.returns-then-count
-returns-then-count c =
+pub returns-then-count-clause-config : goal.returns-then-count-clause-config
+returns-then-count-clause-config c =
     let items = c.args.top.now.returns.items in
     let one_less : Return = record c.args.last { turns = c.args.last.turns - 1 } in
     let place : c.len-place.result - 1 ≡ length items - 1 = ap (λ n. n - 1) (c.len-place.ensures ∙ c.args.top.now.returns.ok.0) in

@@ -1,0 +1,8 @@
+-- An argument is as long as its linkage item.
+use Rattle.std.proofs.Common.{arith}
+use Rattle.pw_machine.proofs.LinkageLemmas.{in_fits}
+use Rattle.pw_machine.proofs.linkage.copy_in.Goals as goal
+
+pub write_at-requires : goal.write_at-requires
+write_at-requires c =
+    in_fits c.args.places.now c.args.linkage.now c.loop-place.place (0, 0) _ _ _ _ c.requires.linkage c.requires.sizes (omega arith) c.chars_at-chars.ensures.size c.loop-place.auto.storage
