@@ -1,0 +1,84 @@
+ghost use Rattle.std.specs.Prelude.{◌≡◌, ◌≤◌, ◌^◌, length};
+ghost use Rattle.pw_base.specs.First.{Gives};
+ghost use Rattle.pw_code.specs.Valid.{HasNames, HasFew};
+ghost use Rattle.pw_code.specs.declared.lock.LockRule.{LockRule};
+ghost use Rattle.pw_tables.specs.Unknown.{tables_of, told_of};
+
+use crate::objects::Objects;
+use crate::tables::{enter, tables};
+use crate::unknown::{events_in, failures_in, first_of_all, first_start, log_version, unless};
+use pw_base::bytes::Bytes;
+use pw_base::fault::Refusal;
+use pw_base::list::List;
+use pw_code::lock::LockRule;
+use pw_code::system::System;
+use pw_event::event::Event;
+use pw_event::script::Script;
+use pw_pathcom::objects::first_unknown;
+use pw_script::log::rule_of;
+use std::alloc::Global;
+
+/// What a deck says besides its programs.
+#[derive(Debug, Drop)]
+pub struct Told {
+    /// The tables, under ReadersShare. Its lists of compiled programs and of screens are empty.
+    pub system: System,
+    pub script: Script,
+    /// The log, read by the rule of its version.
+    pub log: List<Event>,
+    /// The version of the log, 1 or 2: 2 where there is none.
+    pub version: u8,
+}
+
+/// What the sections of a deck say that are no source, with the names of the deck's programs of
+/// terminals and of servers.
+///
+/// It refuses exactly with the first fault: 183 by line, for an ADD whose TCP was not added before it or
+/// whose program is not there or was not set, for an ENTRIES line of a terminal that is not started, and
+/// for a name or a process number of a failure line or a log line that is not there; else 185 by line,
+/// for a START that may not be.
+pub fn tell(
+    alloc: Global,
+    objects: Objects,
+    programs: &[Bytes],
+    servers: &[Bytes],
+) -> Result<Told, Refusal>
+    requires few { (length programs.now ≤ 2 ^ 32) × (length servers.now ≤ 2 ^ 32) }
+    requires names { (rule : LockRule) → HasNames (tables_of objects programs.now servers.now rule) }
+    requires counts { (rule : LockRule) → HasFew (tables_of objects programs.now servers.now rule) }
+    ensures { Gives (λ told. told) result (told_of objects.entry programs.now servers.now) }
+{
+    let Objects {
+        pathcom,
+        commands,
+        files,
+        entries,
+        fail,
+        log,
+        ..
+    } = objects;
+    let mut system = tables(
+        alloc,
+        &commands,
+        programs,
+        servers,
+        files,
+        LockRule::ReadersShare,
+    )?;
+    let fails = failures_in(alloc, &system, &fail)?;
+    let version = log_version(&log);
+    system.rule = rule_of(version);
+    let events = events_in(alloc, &system, &log)?;
+    system.rule = LockRule::ReadersShare;
+    let adds = first_unknown(&commands, programs, servers);
+    unless(first_of_all(adds, &system, entries.as_slice(), &fails, &events))?;
+    unless(first_start(alloc, &commands, &pathcom)?)?;
+    let script = Script { lines: fails? };
+    let log = events?;
+    Ok(Told {
+        system: enter(alloc, system, entries),
+        script,
+        log,
+        version,
+    })
+}
