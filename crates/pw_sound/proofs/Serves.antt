@@ -26,6 +26,8 @@ use Rattle.pw_source.specs.Runs as source
 use Rattle.pw_source.specs.Runs.{file_told, server_setting, server_run, start}
 use Rattle.pw_source.specs.Sound.{IsSound}
 use Rattle.pw_source.specs.State.{State, Asks, most_counted}
+use Rattle.pw_onecopy.specs.IsBehaviour.{IsBehaviour}
+use Rattle.pw_source.proofs.Behaviours.{sound-behaviour}
 use Rattle.pw_source.proofs.Servers.{server-found, no_files}
 use Rattle.pw_source.proofs.trees.Finished.{closed}
 use Rattle.pw_source.proofs.trees.Suited.{each-fine}
@@ -194,3 +196,7 @@ module _ (rule : LockRule) (deck : Deck) (sound : IsSound deck) (fitting : AreFi
     ops = λ c message done. ops-is rule deck sound fitting valid c message done i;
     serve = λ c message files. serve-is c message files i;
   }
+
+  -- so it meets what the paired system asks of every behaviour
+  pub is-behaviour : IsBehaviour (code.behaviour deck.script (system_of rule deck))
+  is-behaviour = subst IsBehaviour (sym behaves-same) (sound-behaviour rule deck sound)

@@ -8,6 +8,7 @@ ghost use Rattle.pw_data.specs.Layouts.{Laid};
 ghost use Rattle.pw_exec.specs.Config.{starting, starting_server};
 ghost use Rattle.pw_exec.specs.OfSystem as code;
 ghost use Rattle.pw_names.specs.Faults.{program_faults};
+ghost use Rattle.pw_onecopy.specs.IsBehaviour.{IsBehaviour};
 ghost use Rattle.pw_onecopy.specs.Path.{PathAnswer, FileAnswer};
 ghost use Rattle.pw_forms.specs.Procedures.{procedure_of};
 ghost use Rattle.pw_forms.specs.declared.statement.Paragraph.{Paragraph};
@@ -43,12 +44,15 @@ pub fn program_laws()
 {}
 
 /// A system that is valid behaves by the codes of its programs as its deck does by their trees: so a run
-/// of the one is a run of the other. Of the deck `IsSound` and `AreFitting` are taken, and that its system
-/// is valid.
+/// of the one is a run of the other, and the paired system may run it. Of the deck `IsSound` and
+/// `AreFitting` are taken, and that its system is valid.
 pub fn behaviour_laws()
-    ensures { (rule : LockRule) (deck : Deck) → IsSound deck → AreFitting deck
+    ensures same { (rule : LockRule) (deck : Deck) → IsSound deck → AreFitting deck
         → IsValid (system_of rule deck)
         → code.behaviour deck.script (system_of rule deck) ≡ tree.behaviour rule deck }
+    ensures behaves { (rule : LockRule) (deck : Deck) → IsSound deck → AreFitting deck
+        → IsValid (system_of rule deck)
+        → IsBehaviour (code.behaviour deck.script (system_of rule deck)) }
 {}
 
 /// The codes of a deck are valid in its system: their instructions are those of their side, each number
