@@ -1,3 +1,4 @@
 pub mod Filed
 pub mod Printed
+pub mod ReadingBack
 pub mod Seen
