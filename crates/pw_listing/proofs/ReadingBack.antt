@@ -49,7 +49,7 @@ behind-last (words ∷ before) rest head is none =
     some (x ∷ xs) = or_right (is_log x) (list_any is_log (xs ++ head ∷ rest)) (some xs)
 
 -- the words of an entry's line are one line
-both-one : (xs ys : List ℕ) → IsOneLine xs → IsOneLine ys → IsOneLine (xs ++ ys)
+pub both-one : (xs ys : List ℕ) → IsOneLine xs → IsOneLine ys → IsOneLine (xs ++ ys)
 both-one [] ys one other = other
 both-one (x ∷ xs) ys one other = (one.0, both-one xs ys one.1 other)
 
@@ -58,6 +58,9 @@ decimal-lacks : (n : ℕ) → n < 2 ^ 64 → All (λ b. (b == 10) ≡ false) (de
 decimal-lacks n fits k d within =
     let digit = digit_at (decimal n) k (decimal_is_IsNumeral n fits).0.1 within in
     ne_eqb (get_or (decimal n) k d) 10 (λ e. omega (arith, get_or_default (decimal n) k d 0 within))
+
+pub decimal-one : (n : ℕ) → n < 2 ^ 64 → IsOneLine (decimal n)
+decimal-one n fits = recursion_from_All (λ b. (b == 10) ≡ false) (decimal n) (decimal-lacks n fits)
 
 entry-one : (system : System) (n : ℕ) (entry : Event) → n < 2 ^ 64 → IsOneLine (event_text system entry) → IsOneLine (decimal n ++ 32 ∷ event_text system entry)
 entry-one system n entry fits one =

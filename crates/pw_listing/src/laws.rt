@@ -3,7 +3,10 @@ ghost use Rattle.pw_code.specs.declared.system.System.{System};
 ghost use Rattle.pw_event.specs.declared.event.Event.{Event};
 ghost use Rattle.pw_listing.specs.Listing.{files_part, report_of};
 ghost use Rattle.pw_listing.specs.Meaning.{files_text, printed, report_text};
-ghost use Rattle.pw_listing.specs.ReadBack.{AreLines, behind_log, header_lines, last_words, lines_of, numbered};
+ghost use Rattle.std.specs.List.{AllByRecursion};
+ghost use Rattle.pw_code.specs.Valid.{HasNames};
+ghost use Rattle.pw_event.specs.Line.{IsInRange, IsNamed, event_text, event_words};
+ghost use Rattle.pw_listing.specs.ReadBack.{AreLines, IsOneLine, behind_log, header_lines, last_words, lines_of, numbered};
 ghost use Rattle.pw_onecopy.specs.declared.refresh.Refresh.{Refresh};
 ghost use Rattle.pw_order.specs.declared.block.Block.{Block};
 ghost use Rattle.pw_onecopy.specs.Behaviour.{Behaviour};
@@ -30,4 +33,12 @@ pub fn logs_are_read_back()
         (records : ℕ → List (List ℕ)) (log : List Event) (finished : Bool) → AreLines system log
         → behind_log (lines_of (report_of system order screens records log finished))
         ≡ header_lines system.rule ++ (numbered system 1 log ++ last_words finished ∷ []) }
+{}
+
+/// The text of an entry of a system whose names are names is one line, where its numbers are those of
+/// log lines.
+pub fn entries_are_lines()
+    ensures { (system : System) (entry : Event) → HasNames system → IsNamed system entry
+        → AllByRecursion IsInRange (event_words system.rule entry)
+        → IsOneLine (event_text system entry) }
 {}
