@@ -1,3 +1,5 @@
 pub mod Filed
+pub mod OneLines
 pub mod Printed
+pub mod ReadingBack
 pub mod Seen

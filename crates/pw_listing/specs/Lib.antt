@@ -3,3 +3,4 @@ pub mod Lines
 pub mod Listing
 pub mod Meaning
 pub mod Numbers
+pub mod ReadBack
