@@ -1,4 +1,4 @@
-ghost use Rattle.std.specs.Prelude.{◌≡◌, ◌<◌, ◌≤◌, ◌^◌, ◌-◌, ℕ, false, length, true, IfErr, IsSome, None, OnErr, OnOk, Some, slice_get, ◌↔◌, IsTrue};
+ghost use Rattle.std.specs.Prelude.{◌≡◌, ◌<◌, ◌≤◌, ◌^◌, ◌-◌, ℕ, false, length, true, IfErr, IfOk, IsSome, None, OnErr, OnOk, Some, slice_get, ◌↔◌, IsTrue};
 ghost use Rattle.std.specs.Option.{option_copied};
 ghost use Rattle.pw_class.specs.Queue.{at_process, has_request};
 ghost use Rattle.pw_keep.specs.Calls.{IsOperated, MayOperate, call_of, can_take, kept_commit_reply, taker};
@@ -13,6 +13,8 @@ ghost use Rattle.pw_pair.specs.Seats.{built, is_built, is_waiting};
 ghost use Rattle.pw_pair.specs.Tasks.{waiting_task};
 ghost use Rattle.pw_pair.specs.declared.mode.Mode.TheVariants as Mode;
 ghost use Rattle.pw_seats.specs.Jobs.{context_of};
+ghost use Rattle.pw_tmf.specs.Answers.{ended_unit};
+ghost use Rattle.pw_tmf.specs.Committed.{committed};
 ghost use Rattle.pw_tmf.specs.Leaving.{unit_told};
 ghost use Rattle.pw_tmf.specs.Units.{CanBackOut, CanBegin, IsRunning};
 
@@ -30,7 +32,7 @@ use pw_pair::message::CheckMessage;
 use pw_pair::pair::Pair;
 use pw_seats::job::{Job, Jobs};
 use pw_seats::seat::Seat;
-use pw_tmf::answer::{DiscFault, FileAnswer};
+use pw_tmf::answer::{DiscFault, Ended, FileAnswer};
 use pw_tmf::disc::Disc;
 use std::alloc::Global;
 use std::marker::Model;
@@ -84,6 +86,29 @@ impl<D: Disc> Keep<D> {
         ensures verb { HasVerb self.now.system result.now }
     {
         &self.seats[terminal as usize]
+    }
+
+    /// The last ended unit of a terminal, None exactly where none has ended.
+    pub fn ended(&self, terminal: u32) -> Option<&Ended>
+        requires known { terminal < length self.now.system.terminals }
+        ensures { option_copied result ≡ ended_unit ((kept_in D.told self.now).disc.ended terminal) }
+    {
+        self.disc.ended(terminal)
+    }
+
+    /// The committed records of a file, in the order of their keys.
+    pub fn records(&self, alloc: Global, file: u32) -> Result<Vec<Bytes>, Memory>
+        requires known { file < length self.now.system.files }
+        ensures { IfOk result (λ records. records.items ≡ committed (kept_in D.told self.now).disc file) }
+    {
+        self.disc.committed(alloc, file)
+    }
+
+    /// The disc, as the calls left it.
+    pub fn into_disc(self) -> D
+        ensures { result ≡ self.disc }
+    {
+        self.disc
     }
 
     /// No entry: the terminal's program has run on to its next verb.
