@@ -1,3 +1,4 @@
+pub mod Operating
 pub mod Pairing
 pub mod Parts
 pub mod Posts

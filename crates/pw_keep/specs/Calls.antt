@@ -1,12 +1,23 @@
 -- What single calls ask for and do.
-use Rattle.std.specs.Prelude.{ℕ, Bool, true, false, List, Some}
-use Rattle.pw_class.specs.Queue.{Queue, taken}
+use Rattle.std.specs.Prelude.{◌≡◌, ℕ, ◌<◌, Bool, true, false, List, length, Option, Some, None}
+use Rattle.pw_class.specs.Book.{queue_at}
+use Rattle.pw_class.specs.Queue.{Queue, at_process, taken}
+use Rattle.pw_class.specs.declared.request.Request.{Request}
 use Rattle.pw_class.specs.declared.request.Taken.{Taken}
 use Rattle.pw_class.specs.declared.request.Taken.TheVariants.{Got}
 use Rattle.pw_code.specs.declared.context.Context.{Context}
+use Rattle.pw_code.specs.declared.file.FileCall.{FileCall}
+use Rattle.pw_code.specs.declared.verb.Verb.{Verb}
+use Rattle.pw_code.specs.declared.verb.Verb.TheVariants as verb
+use Rattle.pw_keep.specs.Keeps.{KeepState, job_of, jobs_at, kept_in}
 use Rattle.pw_kept.specs.Changes.{at_terminal, unit_at, with_context, without_unit}
 use Rattle.pw_kept.specs.Kept.{Kept}
-use Rattle.pw_tmf.specs.Units.{ended}
+use Rattle.pw_seats.specs.declared.job.Job.{Job}
+use Rattle.pw_tmf.specs.Answers.{Operates}
+use Rattle.pw_tmf.specs.Operation.{IsCall}
+use Rattle.pw_tmf.specs.Told.{Told}
+use Rattle.pw_tmf.specs.Units.{IsRunning, ended}
+use Rattle.pw_tmf.specs.declared.answer.FileAnswer.{FileAnswer}
 
 -- a request waits and a process is free
 abbrev pub is_given : Taken → Bool
@@ -30,3 +41,33 @@ kept_commit_reply t n reply new kept =
     record (at_terminal t (λ own. without_unit (with_context new own)) kept) {
       disc = ended kept.disc (unit_at kept t n) (Some reply);
     }
+
+-- ---- FILE
+
+-- a busy process stands at this call, and an attempt of its unit runs that may make it
+pub record MayOperate {D : Type 0} (told : D → Told) (keep : KeepState D) (c i : ℕ) : Type 0 where
+  pub there : c < length keep.system.classes
+  pub own : Job
+  pub job : job_of (jobs_at keep.jobs c) i ≡ Some own
+  pub call : FileCall
+  pub asks : own.verb ≡ Some (verb.File call)
+  pub request : Request
+  pub post : at_process (queue_at keep.book c) i ≡ Some request
+  pub known : request.terminal < length keep.system.terminals
+  pub runs : IsRunning (told keep.disc) (unit_at (kept_in told keep) request.terminal request.unit)
+  pub fits : IsCall (told keep.disc) call
+
+-- the disc answers the call of the unit so, and all else stays
+pub record IsOperated {D : Type 0} (told : D → Told) (old : KeepState D) (c i : ℕ) (may : MayOperate told old c i) (answer : FileAnswer)
+    (new : KeepState D) : Type 0 where
+  pub operates : Operates answer (told old.disc) (unit_at (kept_in told old) may.request.terminal may.request.unit) may.call (told new.disc)
+  pub rest : new ≡ record old { disc = new.disc }
+
+-- the call at which a job stands, if it does
+abbrev pub call_in : Option Verb → Option FileCall
+call_in (Some (verb.File call)) = Some call
+call_in _ = None
+
+abbrev pub call_of : Option Job → Option FileCall
+call_of None = None
+call_of (Some job) = call_in job.verb

@@ -1,7 +1,7 @@
-ghost use Rattle.std.specs.Prelude.{◌≡◌, ◌<◌, ◌≤◌, ◌^◌, ◌-◌, ℕ, false, length, true, IfErr, IsSome, None, OnErr, OnOk, Some, slice_get, ◌↔◌, IsTrue};
+ghost use Rattle.std.specs.Prelude.{◌≡◌, ◌<◌, ◌≤◌, ◌^◌, ◌-◌, ℕ, false, length, true, IfErr, IfOk, IsSome, None, OnErr, OnOk, Some, slice_get, ◌↔◌, IsTrue};
 ghost use Rattle.std.specs.Option.{option_copied};
 ghost use Rattle.pw_class.specs.Queue.{at_process, has_request};
-ghost use Rattle.pw_keep.specs.Calls.{can_take, kept_commit_reply, taker};
+ghost use Rattle.pw_keep.specs.Calls.{IsOperated, MayOperate, call_of, can_take, kept_commit_reply, taker};
 ghost use Rattle.pw_keep.specs.Keeps.{HasVerb, IsChanged, IsRefused, JobHasVerb, kept_in, kept_of};
 ghost use Rattle.pw_kept.specs.Asked.{verb_in};
 ghost use Rattle.pw_kept.specs.Changes.{at_pair, births_behind, free_process, kept_applied, kept_back, kept_begin, kept_begin_send, kept_check, kept_commit, kept_raise, kept_ran, kept_send, kept_show, kept_take, unit_at, with_job};
@@ -13,6 +13,8 @@ ghost use Rattle.pw_pair.specs.Seats.{built, is_built, is_waiting};
 ghost use Rattle.pw_pair.specs.Tasks.{waiting_task};
 ghost use Rattle.pw_pair.specs.declared.mode.Mode.TheVariants as Mode;
 ghost use Rattle.pw_seats.specs.Jobs.{context_of};
+ghost use Rattle.pw_tmf.specs.Answers.{ended_unit};
+ghost use Rattle.pw_tmf.specs.Committed.{committed};
 ghost use Rattle.pw_tmf.specs.Leaving.{unit_told};
 ghost use Rattle.pw_tmf.specs.Units.{CanBackOut, CanBegin, IsRunning};
 
@@ -21,6 +23,7 @@ use pw_base::memory::Memory;
 use pw_class::book::ClassBook;
 use pw_class::request::{Request, Taken};
 use pw_code::context::Context;
+use pw_code::file::FileCall;
 use pw_code::system::System;
 use pw_code::unit::Unit;
 use pw_code::verb::Verb;
@@ -29,7 +32,7 @@ use pw_pair::message::CheckMessage;
 use pw_pair::pair::Pair;
 use pw_seats::job::{Job, Jobs};
 use pw_seats::seat::Seat;
-use pw_tmf::answer::DiscFault;
+use pw_tmf::answer::{DiscFault, Ended, FileAnswer};
 use pw_tmf::disc::Disc;
 use std::alloc::Global;
 use std::marker::Model;
@@ -83,6 +86,29 @@ impl<D: Disc> Keep<D> {
         ensures verb { HasVerb self.now.system result.now }
     {
         &self.seats[terminal as usize]
+    }
+
+    /// The last ended unit of a terminal, None exactly where none has ended.
+    pub fn ended(&self, terminal: u32) -> Option<&Ended>
+        requires known { terminal < length self.now.system.terminals }
+        ensures { option_copied result ≡ ended_unit ((kept_in D.told self.now).disc.ended terminal) }
+    {
+        self.disc.ended(terminal)
+    }
+
+    /// The committed records of a file, in the order of their keys.
+    pub fn records(&self, alloc: Global, file: u32) -> Result<Vec<Bytes>, Memory>
+        requires known { file < length self.now.system.files }
+        ensures { IfOk result (λ records. records.items ≡ committed (kept_in D.told self.now).disc file) }
+    {
+        self.disc.committed(alloc, file)
+    }
+
+    /// The disc, as the calls left it.
+    pub fn into_disc(self) -> D
+        ensures { result ≡ self.disc }
+    {
+        self.disc
     }
 
     /// No entry: the terminal's program has run on to its next verb.
@@ -299,6 +325,31 @@ impl<D: Disc> Keep<D> {
         self.jobs[class as usize].go_on(process as usize - 1, context, Some(verb));
     }
 
+    /// The unit for which a busy process works.
+    fn unit_for(&self, class: u32, process: u32) -> Unit
+        requires { MayOperate D.told self.now class process }
+        ensures { (may : MayOperate D.told self.now class process)
+            → result ≡ unit_at (kept_in D.told self.now) may.request.terminal may.request.unit }
+    {
+        match self.classes.request_at(class, process) {
+            Some(request) => self.unit_at(request.terminal, request.unit),
+            None => unreachable!(),
+        }
+    }
+
+    /// FILE: does the operation at which a busy process stands, under its lock.
+    pub fn operate(&mut self, class: u32, process: u32) -> FileAnswer
+        requires { MayOperate D.told self.old class process }
+        ensures { (may : MayOperate D.told self.old class process)
+            → IsOperated D.told self.old class process may result self.new }
+    {
+        let unit = self.unit_for(class, process);
+        match call_of(self.jobs[class as usize].get(process as usize - 1)) {
+            Some(call) => self.disc.operate(&unit, call),
+            None => unreachable!(),
+        }
+    }
+
     /// FILE, behind `operate`: the program of a busy process goes on with a context behind its
     /// answer.
     pub fn answer_job(&mut self, class: u32, process: u32, context: Context)
@@ -407,5 +458,18 @@ fn fail(pair: &mut Pair, primary: bool)
         pair.fail_primary();
     } else {
         pair.fail_backup();
+    }
+}
+
+/// The call at which a job stands, if it does.
+fn call_of(job: Option<&Job>) -> Option<&FileCall>
+    ensures { option_copied result ≡ call_of (option_copied job.entry) }
+{
+    match job {
+        Some(job) => match &job.verb {
+            Some(Verb::File(call)) => Some(call),
+            _ => None,
+        },
+        None => None,
     }
 }
