@@ -16,7 +16,8 @@ use Rattle.pw_expand.specs.declared.expand.Ending.TheVariants as ending
 use Rattle.pw_display.specs.State.{starting}
 use Rattle.pw_display.specs.Step.{IsRun}
 use Rattle.pw_display.proofs.Serializes.{serializes}
-use Rattle.pw_deck.specs.Deck.{program_of, system_of}
+use Rattle.pw_deck.specs.Deck.{deck_of}
+use Rattle.pw_deck.specs.Thin.{program_of, system_of}
 use Rattle.pw_report.specs.Report.{report_text}
 use Rattle.pathway.specs.declared.run.RunEnd.{RunEnd}
 use Rattle.pathway.specs.declared.run.RunEnd.TheVariants as end
@@ -26,7 +27,7 @@ use Rattle.pathway.specs.Commands.{is_built, if_built, said, fault_line}
 use Rattle.pathway.specs.Running.{RunsTo, status_of}
 use Rattle.pathway.specs.Schedules.{status_by}
 use Rattle.pathway.specs.Source.{deck_system}
-use Rattle.pathway.specs.Statuses.{Reports, Defines, Call, HasText, IsCutOff, OfDeck, OutputBy}
+use Rattle.pathway.specs.Statuses.{Reports, Defines, Checks, Call, HasText, IsCutOff, OfBytes, OutputBy}
 use Rattle.pathway.proofs.Source.{behaves}
 
 -- the report of a finished run of a deck's system is one of the deck
@@ -71,7 +72,18 @@ pub refused_defines : (bytes : List ℕ) (fault : Fault) (result : Result (Statu
 refused_defines bytes fault (Ok output) deck is = rw is.0 (record { fault = fault; deck = deck; is = is.1 })
 refused_defines bytes fault (Err memory) deck is = tt
 
+-- the same of a deck that is only read
+pub refused_checks : (bytes : List ℕ) (fault : Fault) (result : Result (Status × List ℕ) Memory) → deck_of bytes ≡ Err fault
+    → IfOk result (λ output. (output.0 ≡ status.Refused) × (output.1 ≡ fault_line fault)) → IfOk result (λ output. Checks output.0 bytes output.1)
+refused_checks bytes fault (Ok output) deck is = rw is.0 (record { fault = fault; deck = deck; is = is.1 })
+refused_checks bytes fault (Err memory) deck is = tt
+
 -- an input that is longer than the longest has the fault 190 on line 0
+pub long_checked : (bytes : List ℕ) → longest_input < length bytes → deck_of bytes ≡ Err (record { line = 0; code = InputTooLong })
+long_checked bytes long =
+    let test : nat_lt longest_input (length bytes) ≡ true = grind (arith, nat_tests) in
+    rw test refl
+
 pub long_fault : (bytes : List ℕ) → longest_input < length bytes → program_of bytes ≡ Err (record { line = 0; code = InputTooLong })
 long_fault bytes long =
     let test : nat_lt longest_input (length bytes) ≡ true = grind (arith, nat_tests) in
@@ -83,15 +95,14 @@ too_long None now taken gone long = (taken, tt, long)
 too_long (Some had) None taken gone long = absurd gone
 too_long (Some had) (Some rest) taken gone long = (had, refl, omega (arith, ap length gone, length-append taken rest))
 
-pub refused_long : (left : Option (List ℕ)) (refused : Result (Status × List ℕ) Memory) (result : Result (Status × List ℕ) Status)
-    → (bytes : List ℕ) × IfSome left (λ had. had ≡ bytes) × (longest_input < length bytes)
-    → IfOk refused (λ output. (output.0 ≡ status.Refused) × (output.1 ≡ fault_line (record { line = 0; code = InputTooLong })))
+-- what is said of the line of too long an input holds of the bytes that the source had left
+pub refused_long : (defines : Status → List ℕ → List ℕ → Type 0) (left : Option (List ℕ)) (refused : Result (Status × List ℕ) Memory) (result : Result (Status × List ℕ) Status)
+    → (long : (bytes : List ℕ) × IfSome left (λ had. had ≡ bytes) × (longest_input < length bytes))
+    → IfOk refused (λ output. defines output.0 long.0 output.1)
     → IfOk result (λ output. refused ≡ Ok output)
-    → IfOk result (λ output. OfDeck left output.0 output.1)
-refused_long left refused (Ok output) long is same =
-    let whole = refused_defines long.0 (record { line = 0; code = InputTooLong }) refused (long_fault long.0 long.2) is in
-    record { bytes = long.0; read = long.1; defined = rw same at whole }
-refused_long left refused (Err e) long is same = tt
+    → IfOk result (λ output. OfBytes defines left output.0 output.1)
+refused_long defines left refused (Ok output) long is same = record { bytes = long.0; read = long.1; defined = rw same at is }
+refused_long defines left refused (Err e) long is same = tt
 
 -- a text that a sink took in part
 pub cut_off : (call : Call) (status : Status) (text : List ℕ) (result : Result Unit ℕ) (count : ℕ) → result ≡ Err count → HasText status call text
@@ -110,7 +121,7 @@ no_usage : (words : Words) (which : Command) (left left_then : Option (List ℕ)
 no_usage words command.Run left left_then text o = o.defined
 no_usage words command.Gen left left_then text o = absurd (cc o.finished)
 no_usage words command.Trial left left_then text o = o
-no_usage words command.Check left left_then text o = o
+no_usage words command.Check left left_then text o = o.defined
 no_usage words command.Verify left left_then text o = o
 no_usage words command.Disc left left_then text o = o
 no_usage words command.Trail left left_then text o = o

@@ -6,7 +6,7 @@ use Rattle.pw_terminal.specs.Screen.{blank_cells, with_message}
 use Rattle.pw_machine.specs.Running.{instr_at, behind, asked_by, place_after, verb_at, place_at_verb, code_ask, code_image}
 use Rattle.pw_machine.specs.Contexts.{instrs_of as code_of}
 use Rattle.pw_world.specs.Behaviour.{behaviour, program_of as program_at}
-use Rattle.pw_deck.specs.Deck.{system_of, instrs_of}
+use Rattle.pw_deck.specs.Thin.{system_of, instrs_of}
 use Rattle.pathway.specs.Source.{ask, image, deck_system}
 
 -- what stands in the code from a place on are the instructions of the texts that are left

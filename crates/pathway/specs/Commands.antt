@@ -11,6 +11,7 @@ use Rattle.pw_command.specs.declared.words.Words.{Words}
 -- the commands that are built
 abbrev pub is_built : Command → Bool
 is_built command.Run = true
+is_built command.Check = true
 is_built command.Gen = true
 is_built command.Expand = true
 is_built _ = false
@@ -32,7 +33,11 @@ said words = if_built (command_of words)
 
 -- the line that is written where the words say nothing
 abbrev pub usage_line : List ℕ
-usage_line = codes "USAGE: pathway run|gen|expand [--workers N] [--events N] [--seed N] [--terms N] [--at N]\n"
+usage_line = codes "USAGE: pathway run|check|gen|expand [--workers N] [--events N] [--seed N] [--terms N] [--at N]\n"
+
+-- the line of a deck without a fault
+abbrev pub deck_ok : List ℕ
+deck_ok = codes "DECK OK\n"
 
 -- the line of a deck's first fault
 abbrev pub fault_line : Fault → List ℕ

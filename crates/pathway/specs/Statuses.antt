@@ -12,13 +12,15 @@ use Rattle.pw_gen.specs.Generated.{generated}
 use Rattle.pw_display.specs.State.{starting}
 use Rattle.pw_display.specs.Step.{IsRun, after, is_finished}
 use Rattle.pw_display.specs.Serial.{IsSerializable}
-use Rattle.pw_deck.specs.Deck.{program_of, system_of}
+use Rattle.pw_deck.specs.Deck.{deck_of}
+use Rattle.pw_deck.specs.Thin.{program_of, system_of}
+use Rattle.pw_deck.specs.declared.deck.Deck.{Deck}
 use Rattle.pw_report.specs.Report.{report_text}
 use Rattle.pathway.specs.declared.status.Status.{Status}
 use Rattle.pathway.specs.declared.status.Status.TheVariants.{Finished, Refused, Limit, ReadFault, WriteFault, Memory, Usage}
 use Rattle.pathway.specs.Numbers.{number_of}
 use Rattle.pathway.specs.Source.{deck_system}
-use Rattle.pathway.specs.Commands.{said, usage_line, fault_line, reads_source}
+use Rattle.pathway.specs.Commands.{said, usage_line, deck_ok, fault_line, reads_source}
 use Rattle.pathway.specs.Schedules.{OfSchedule}
 
 -- The headline. The deck has no fault, the log is a run of it, the one-copy machine runs the log's serial order
@@ -49,6 +51,28 @@ Defines WriteFault bytes text = ⊥
 Defines Memory bytes text = ⊥
 Defines Usage bytes text = ⊥
 
+-- a deck that is only read has no fault
+pub record HasNoFault (bytes text : List ℕ) : Type 0 where
+  pub deck : Deck
+  pub says : deck_of bytes ≡ Ok deck
+  pub is : text ≡ deck_ok
+
+-- or the text is the line of its first fault
+pub record HasFirstFault (bytes text : List ℕ) : Type 0 where
+  pub fault : Fault
+  pub deck : deck_of bytes ≡ Err fault
+  pub is : text ≡ fault_line fault
+
+-- the text that a status defines for the bytes of a deck that is only read
+abbrev pub Checks : Status → List ℕ → List ℕ → Type 0
+Checks Finished bytes text = HasNoFault bytes text
+Checks Refused bytes text = HasFirstFault bytes text
+Checks Limit bytes text = ⊥
+Checks ReadFault bytes text = ⊥
+Checks WriteFault bytes text = ⊥
+Checks Memory bytes text = ⊥
+Checks Usage bytes text = ⊥
+
 -- why a reading gives up: the source failed, or memory ran out with the source's count of faults as it was
 abbrev pub GivesUp : Status → ℕ → ℕ → Type 0
 GivesUp ReadFault before now = Rose before now
@@ -71,11 +95,11 @@ pub record Call : Type 0 where
   pub write_faults : ℕ
   pub write_faults_then : ℕ
 
--- what a deck's bytes define, which are those that the source had left, where it tells them
-pub record OfDeck (left : Option (List ℕ)) (status : Status) (text : List ℕ) : Type 0 where
+-- what bytes define by a rule; they are those that the source had left, where it tells them
+pub record OfBytes (defines : Status → List ℕ → List ℕ → Type 0) (left : Option (List ℕ)) (status : Status) (text : List ℕ) : Type 0 where
   pub bytes : List ℕ
   pub read : IfSome left (λ had. had ≡ bytes)
-  pub defined : Defines status bytes text
+  pub defined : defines status bytes text
 
 -- the text is the generated deck, and the source was not read
 pub record OfSeed (said : Words) (left left_then : Option (List ℕ)) (status : Status) (text : List ℕ) : Type 0 where
@@ -85,7 +109,8 @@ pub record OfSeed (said : Words) (left left_then : Option (List ℕ)) (status : 
 
 -- the text of a status, by the command
 abbrev pub OutputBy : Command → Words → Option (List ℕ) → Option (List ℕ) → Status → List ℕ → Type 0
-OutputBy command.Run said left left_then status text = OfDeck left status text
+OutputBy command.Run said left left_then status text = OfBytes Defines left status text
+OutputBy command.Check said left left_then status text = OfBytes Checks left status text
 OutputBy command.Gen said left left_then status text = OfSeed said left left_then status text
 OutputBy command.Expand said left left_then status text = OfSchedule left status text
 OutputBy _ said left left_then status text = ⊥

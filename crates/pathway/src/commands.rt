@@ -1,5 +1,5 @@
 ghost use Rattle.std.specs.Prelude.{◌≡◌, IfOk, map, string_bytes};
-ghost use Rattle.pathway.specs.Commands.{is_built, said, fault_line, usage_line};
+ghost use Rattle.pathway.specs.Commands.{is_built, said, deck_ok, fault_line, usage_line};
 
 use pw_base::bytes::Bytes;
 use pw_base::fault::Fault;
@@ -14,7 +14,7 @@ fn is_built(command: Command) -> bool
     ensures { result ≡ is_built command }
 {
     match command {
-        Command::Run | Command::Gen | Command::Expand => true,
+        Command::Run | Command::Check | Command::Gen | Command::Expand => true,
         _ => false,
     }
 }
@@ -35,7 +35,14 @@ pub fn said(alloc: Global, words: &[String]) -> Result<Option<Words>, Memory>
 pub fn usage_line() -> &'static [u8]
     ensures { result.now ≡ usage_line }
 {
-    b"USAGE: pathway run|gen|expand [--workers N] [--events N] [--seed N] [--terms N] [--at N]\n"
+    b"USAGE: pathway run|check|gen|expand [--workers N] [--events N] [--seed N] [--terms N] [--at N]\n"
+}
+
+/// The line of a deck without a fault.
+pub fn deck_ok(alloc: Global) -> Result<Bytes, Memory>
+    ensures { IfOk result (λ text. text ≡ deck_ok) }
+{
+    Bytes::from_slice(alloc, b"DECK OK\n")
 }
 
 /// The line of a deck's first fault.

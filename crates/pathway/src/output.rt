@@ -1,34 +1,28 @@
-ghost use Rattle.std.specs.Prelude.{◌≡◌, ◌≤◌, true, Ok, IfOk, IfErr, OnOk};
+ghost use Rattle.std.specs.Prelude.{◌≡◌, ◌≤◌, true, IfOk, IfErr, OnOk};
 ghost use Rattle.pw_base.specs.Limits.{most_entries};
 ghost use Rattle.pw_code.specs.Valid.{IsValid};
 ghost use Rattle.pw_gen.specs.Generated.{generated};
-ghost use Rattle.pathway.specs.Commands.{is_built, fault_line, reads_source};
+ghost use Rattle.pathway.specs.Commands.{is_built, reads_source};
 ghost use Rattle.pathway.specs.Running.{RunsTo, status_of};
-ghost use Rattle.pathway.specs.Statuses.{Defines, GivesUp, OfDeck, OutputBy};
+ghost use Rattle.pathway.specs.Statuses.{Defines, GivesUp, OfBytes, OutputBy};
 
-use crate::commands::fault_line;
+use crate::answers::{TOO_LONG, or_memory, refused};
+use crate::check::check_source;
 use crate::run::{RunEnd, run};
 use crate::schedule::schedule_output;
 use crate::status::{MAX_ENTRIES, Status};
 use pw_base::bytes::Bytes;
 use pw_base::fault::{Fault, Refusal};
-use pw_base::fault_code::FaultCode;
 use pw_base::memory::Memory;
 use pw_base::read_all::{ReadFault, read_all};
 use pw_base::source::Source;
 use pw_code::system::System;
 use pw_command::words::{Command, Words};
-use pw_deck::deck::read_deck;
+use pw_deck::thin::deck::read_deck;
 use pw_gen::generate::generate;
 use pw_report::report::report;
 use pw_world::world::World;
 use std::alloc::Global;
-
-/// The fault of an input that is too long.
-const TOO_LONG: Fault = Fault {
-    line: 0,
-    code: FaultCode::InputTooLong,
-};
 
 /// The status and the text of a command that is built, or the status of a call that has none.
 pub fn output_by<S: Source>(
@@ -45,6 +39,7 @@ pub fn output_by<S: Source>(
 {
     match said.command {
         Command::Run => output_of(alloc, source),
+        Command::Check => check_source(alloc, source),
         Command::Gen => or_memory(generated(alloc, said)),
         Command::Expand => schedule_output(alloc, source),
         _ => unreachable!(),
@@ -61,7 +56,7 @@ fn generated(alloc: Global, said: Words) -> Result<(Status, Bytes), Memory>
 
 /// Reads the source and runs its deck: the status and its text, or the status of a call that has none.
 fn output_of<S: Source>(alloc: Global, source: &mut S) -> Result<(Status, Bytes), Status>
-    ensures ok { IfOk result (λ output. OfDeck (S.left source.old) output.0 output.1) }
+    ensures ok { IfOk result (λ output. OfBytes Defines (S.left source.old) output.0 output.1) }
     ensures err { IfErr result (λ status. GivesUp status (S.faults source.old) (S.faults source.new)) }
     ensures kept { OnOk result (S.faults source.new ≡ S.faults source.old) }
     ensures count { S.faults source.old ≤ S.faults source.new }
@@ -71,17 +66,6 @@ fn output_of<S: Source>(alloc: Global, source: &mut S) -> Result<(Status, Bytes)
         Err(ReadFault::TooLong) => or_memory(refused(alloc, TOO_LONG)),
         Err(ReadFault::Fault) => Err(Status::ReadFault),
         Err(ReadFault::Memory) => Err(Status::Memory),
-    }
-}
-
-/// Want of memory as a status.
-fn or_memory(output: Result<(Status, Bytes), Memory>) -> Result<(Status, Bytes), Status>
-    ensures ok { IfOk result (λ text. output ≡ Ok text) }
-    ensures err { IfErr result (λ status. status ≡ Status.Memory) }
-{
-    match output {
-        Ok(text) => Ok(text),
-        Err(Memory) => Err(Status::Memory),
     }
 }
 
@@ -97,14 +81,6 @@ fn deck_output(alloc: Global, bytes: &[u8]) -> Result<(Status, Bytes), Memory>
         Err(Refusal::At { line, code }) => refused(alloc, Fault { line, code }),
         Err(Refusal::Memory) => Err(Memory),
     }
-}
-
-/// The line of a deck's first fault.
-fn refused(alloc: Global, fault: Fault) -> Result<(Status, Bytes), Memory>
-    ensures { IfOk result (λ output. (output.0 ≡ Status.Refused) × (output.1 ≡ fault_line fault)) }
-{
-    let text = fault_line(alloc, fault)?;
-    Ok((Status::Refused, text))
 }
 
 /// Runs a system: how the run ended, and the report of it.

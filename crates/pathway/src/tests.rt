@@ -53,7 +53,7 @@ fn outcome(
 const TWO_DISPLAYS: &[u8] = b"DISPLAY \"ONE\".\nDISPLAY \"TWO\".\nSTOP RUN.\n";
 
 const USAGE: &str =
-    "USAGE: pathway run|gen|expand [--workers N] [--events N] [--seed N] [--terms N] [--at N]\n";
+    "USAGE: pathway run|check|gen|expand [--workers N] [--events N] [--seed N] [--terms N] [--at N]\n";
 
 const TWO_DISPLAYS_REPORT: &str = "SERIAL
 OUT T1
@@ -120,7 +120,8 @@ fn usage_source_and_sink_faults(rt: HostRuntime) -> Result<(), Fail> {
         &["Run"],
         &["run", "--workers", "17"],
         &["--help"],
-        &["check"],
+        &["Check"],
+        &["verify"],
         &["Expand"],
         &["expand", "--seed", "-1"],
     ] {
@@ -184,5 +185,42 @@ fn schedules_are_answered(rt: HostRuntime) -> Result<(), Fail> {
     let (status, written) = outcome(alloc, &["expand"], schedule, &[], 7, &[2])?;
     assert_eq!(rt; status, 5);
     assert_eq!(rt; written.as_slice(), b"MARK 1 ".as_slice());
+    Ok(())
+}
+
+/// Decks, the status of a check of each, and what is written for it.
+const CHECKED: &[(&[u8], u8, &[u8])] = &[
+    (b"?END", 0, b"DECK OK\n"),
+    (
+        b"?PATHCOM\nADD TCP TCP-1\n",
+        2,
+        b"DECK FAULT LINE 3 CODE 192 END MISSING\n",
+    ),
+    (
+        b"?PATHCOM\nADD TCP TCP-1\nSTART TERM T1\n?END\n",
+        2,
+        b"DECK FAULT LINE 3 CODE 185 BAD START\n",
+    ),
+    (
+        b"?FLY\n?SERVER S\n",
+        2,
+        b"DECK FAULT LINE 1 CODE 191 BAD SECTION\n",
+    ),
+];
+
+#[test]
+fn decks_are_checked(rt: HostRuntime) -> Result<(), Fail> {
+    let alloc = rt.alloc();
+    for &(deck, wanted_status, wanted) in CHECKED {
+        let (status, written) = outcome(alloc, &["check"], deck, &[], 1_000, &[])?;
+        assert_eq!(rt; status, wanted_status);
+        assert_eq!(rt; written.as_slice(), wanted);
+    }
+    let (status, written) = outcome(alloc, &["check"], b"?END", &[1], 1_000, &[])?;
+    assert_eq!(rt; status, 4);
+    assert_eq!(rt; written.len(), 0);
+    let (status, written) = outcome(alloc, &["check"], b"?END", &[], 3, &[2])?;
+    assert_eq!(rt; status, 5);
+    assert_eq!(rt; written.as_slice(), b"DEC".as_slice());
     Ok(())
 }

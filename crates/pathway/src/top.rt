@@ -11,8 +11,9 @@ use pw_base::write_all::write_all_of;
 use std::alloc::Global;
 
 /// The program: by the words after its name it reads a deck from the source, runs it, and writes the
-/// report of the run to the sink; or it writes the generated deck; or it reads a schedule from the
-/// source, and writes its messages and marks (docs/COMMANDS.md). It answers the exit status.
+/// report of the run to the sink; or it reads a deck and writes whether it has a fault; or it writes
+/// the generated deck; or it reads a schedule from the source, and writes its messages and marks
+/// (docs/COMMANDS.md). It answers the exit status.
 ///
 /// The clause `ends` is the headline: where the deck has no fault the report is that of a run, and
 /// the screens are those of a machine that runs the log's serial order one block at a time. It has

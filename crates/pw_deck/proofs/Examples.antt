@@ -2,8 +2,8 @@
 use Rattle.std.proofs.Common.{◌≡◌, ℕ, zero, suc, List, [], ◌∷◌, ◌++◌, true, false, Ok, Err, refl}
 use Rattle.std.specs.Prelude.{codes}
 use Rattle.pw_base.specs.declared.fault_code.FaultCode.TheVariants.{NoSuchForm}
-use Rattle.pw_deck.specs.Lines.{lines}
-use Rattle.pw_deck.specs.Deck.{texts_in, wrong_in, wrong_program, program_of, is_display}
+use Rattle.pw_lines.specs.Lines.{lines}
+use Rattle.pw_deck.specs.Thin.{texts_in, wrong_in, wrong_program, program_of, is_display}
 
 -- the lines, each with an LF
 abbrev ended : List (List ℕ) → List ℕ

@@ -10,9 +10,9 @@ use Rattle.pw_base.specs.declared.fault.Refusal.{Refusal}
 use Rattle.pw_base.specs.declared.fault.Refusal.TheVariants.{At, Memory}
 use Rattle.pw_base.specs.First.{least, unless, Refuses}
 use Rattle.pw_code.specs.declared.instr.Instr.{Instr}
-use Rattle.pw_deck.specs.declared.deck.Deck.{Deck}
-use Rattle.pw_deck.specs.Lines.{lines}
-use Rattle.pw_deck.specs.Deck.{heading, stop_run, deck_end, texts_in, wrong_in, wrong_end, shown_in, wrong_program, no_such_form, program_of, IsWrongLine, RefusesLine, instrs_of, system_with, system_of}
+use Rattle.pw_deck.specs.declared.thin.deck.Deck.{Deck}
+use Rattle.pw_lines.specs.Lines.{lines}
+use Rattle.pw_deck.specs.Thin.{heading, stop_run, deck_end, texts_in, wrong_in, wrong_end, shown_in, wrong_program, no_such_form, program_of, IsWrongLine, RefusesLine, instrs_of, system_with, system_of}
 
 -- a fault on an earlier line stays the first
 abbrev Stays : ℕ → List ℕ → Type 0

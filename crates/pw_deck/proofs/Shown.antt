@@ -5,7 +5,7 @@ use Rattle.std.proofs.Math.Seq.{take-append_seam}
 use Rattle.std.proofs.lemmas.Slice.Eq.{bytes_eq-Decides}
 use Rattle.std.specs.Prelude.{codes}
 use Rattle.std.specs.Str.{bytes_eq}
-use Rattle.pw_deck.specs.Deck.{is_text, text_in, display_line, is_display}
+use Rattle.pw_deck.specs.Thin.{is_text, text_in, display_line, is_display}
 
 second : (a b : Bool) → (a && b) ≡ true → b ≡ true
 second true b h = h

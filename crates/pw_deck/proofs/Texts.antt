@@ -8,7 +8,7 @@ use Rattle.pw_base.specs.declared.fault.Refusal.{Refusal}
 use Rattle.pw_code.specs.declared.instr.Instr.{Instr}
 use Rattle.pw_code.specs.declared.instr.Instr.TheVariants.{StopRun}
 use Rattle.pw_code.specs.Thin.{shows}
-use Rattle.pw_deck.specs.Deck.{is_display, text_in, first_text, texts_in, wrong_in, wrong_end, shown_in, wrong_program, instrs_of, RefusesLine, stop_run, deck_end}
+use Rattle.pw_deck.specs.Thin.{is_display, text_in, first_text, texts_in, wrong_in, wrong_end, shown_in, wrong_program, instrs_of, RefusesLine, stop_run, deck_end}
 
 no_text_by : (t : Bool) (text : List ℕ) (texts : List (List ℕ)) → None ≡ cond t (Some text) None → cond t (text ∷ texts) [] ≡ []
 no_text_by true text texts h = absurd cc

@@ -10,8 +10,8 @@ use Rattle.pw_code.specs.Thin.{shows, is_thin}
 use Rattle.pw_code.specs.Valid.{HasKey, IsCode, IsClass, IsDeckFile, IsTerminal, IsValid}
 use Rattle.pw_code.proofs.ThinLemmas.{IsCode-thin}
 use Rattle.pw_code.proofs.NameLemmas.{AreNames-none, AreNames-one}
-use Rattle.pw_deck.specs.declared.deck.Deck.{Deck}
-use Rattle.pw_deck.specs.Deck.{instrs_of, system_with}
+use Rattle.pw_deck.specs.declared.thin.deck.Deck.{Deck}
+use Rattle.pw_deck.specs.Thin.{instrs_of, system_with}
 
 -- the instructions only display texts and stop
 thin-all : (texts : List (List ℕ)) → IsTrue (list_all is_thin (instrs_of texts))

@@ -2,7 +2,7 @@
 use Rattle.std.proofs.Common.{◌≡◌, ℕ, ◌+◌, ◌<◌, ◌≤◌, Bool, true, false, cond, not, List, [], ◌∷◌, length, get_or, drop, map, Bor, refl, sym, ap, ◌∙◌, arith}
 use Rattle.std.proofs.lemmas.List.{drop_more, drop_all, drop-drop, get_or-map, length-map}
 use Rattle.std.specs.Str.{bytes_eq}
-use Rattle.pw_deck.specs.Deck.{wrong_in}
+use Rattle.pw_deck.specs.Thin.{wrong_in}
 
 not_same : (a b : Bool) → not a ≡ not b → a ≡ b
 not_same true true h = refl

@@ -1,2 +1,4 @@
-pub mod Lines
 pub mod Deck
+pub mod Parts
+pub mod Sound
+pub mod Thin

@@ -1,59 +1,103 @@
-ghost use Rattle.std.specs.Prelude.{◌≡◌, List, ℕ, Ok, IfOk, IfErr};
-ghost use Rattle.pw_base.specs.First.{Refuses};
-ghost use Rattle.pw_code.specs.Valid.{IsValid};
-ghost use Rattle.pw_deck.specs.Deck.{program_of, system_with, system_of};
+ghost use Rattle.std.specs.Prelude.{◌≡◌, ◌≤◌, length, Ok, IfOk};
+ghost use Rattle.pw_base.specs.First.{Gives};
+ghost use Rattle.pw_base.specs.Limits.{longest_input};
+ghost use Rattle.pw_deck.specs.Deck.{end_found, deck_in, deck_of};
+ghost use Rattle.pw_deck.specs.Parts.{parts_of};
+ghost use Rattle.pw_deck.specs.Sound.{HasTables};
 
-use crate::lines::skip_lines;
-use crate::program::instrs_in;
-use crate::system::system_with;
+use crate::named::{requester_names, server_names};
+use crate::parts::Parts;
+use crate::sections::read_parts;
 use pw_base::fault::Refusal;
 use pw_base::fault_code::FaultCode;
 use pw_base::list::List;
 use pw_base::read_all::MAX_INPUT;
-use pw_code::instr::Instr;
-use pw_code::system::System;
+use pw_code::links::Links;
+use pw_names::names::names;
+use pw_scobol::requester::Requester;
+use pw_server::server::Server;
+use pw_tables::piece::line_count;
+use pw_tables::tables::class_names;
+use pw_tables::told::{Told, tell};
 use std::alloc::Global;
 
-/// The lines in front of a program's statements.
-const HEADING: [&[u8]; 12] = [
-    b"?PATHCOM",
-    b"ADD TCP TCP-1",
-    b"START TCP TCP-1",
-    b"SET TERM TCP TCP-1",
-    b"SET TERM INITIAL HELLO",
-    b"ADD TERM T1",
-    b"START TERM T1",
-    b"?SCREEN-COBOL HELLO",
-    b"IDENTIFICATION DIVISION.",
-    b"PROGRAM-ID. HELLO.",
-    b"PROCEDURE DIVISION.",
-    b"MAIN.",
-];
-
-/// What a deck says.
-#[derive(Debug, Drop)]
+/// What a deck says. Its programs are trees yet, and stand beside the tables of the system.
+#[derive(Drop)]
 pub struct Deck {
-    pub system: System,
+    /// The tables, the failure lines and the log.
+    pub told: Told,
+    /// The programs of terminals.
+    pub requesters: List<Requester>,
+    /// The programs of servers.
+    pub servers: List<Server>,
 }
 
-/// The deck whose program has these instructions.
-fn deck_with(alloc: Global, instrs: List<Instr>) -> Result<Deck, Refusal>
-    ensures deck { IfOk result (λ deck. deck.system ≡ system_with instrs) }
-    ensures memory { IfErr result (λ refusal. refusal ≡ Refusal.Memory) }
+/// Refuses the line behind the last one of a deck that was not ended.
+fn end_found(bytes: &[u8], has_end: bool) -> Result<(), Refusal>
+    requires { length bytes.now ≤ longest_input }
+    ensures { Gives (λ done. done) result (end_found bytes.now has_end) }
 {
-    let system = system_with(alloc, instrs)?;
-    Ok(Deck { system })
+    if has_end {
+        Ok(())
+    } else {
+        Err(Refusal::At {
+            line: line_count(bytes) + 1,
+            code: FaultCode::EndMissing,
+        })
+    }
 }
 
-/// Reads a deck.
+/// The deck of what its sections say. It refuses exactly with the first of the faults that are looked
+/// for once all sections are read.
+fn finish(alloc: Global, bytes: &[u8], parts: Parts) -> Result<Deck, Refusal>
+    requires size { length bytes.now ≤ longest_input }
+    requires parts { parts_of bytes.now ≡ Ok parts }
+    ensures { Gives (λ deck. deck) result (deck_in bytes.now parts.entry) }
+{
+    end_found(bytes, parts.has_end)?;
+    let Parts {
+        requesters,
+        servers,
+        mut objects,
+        ..
+    } = parts;
+    let links = Links {
+        programs: requester_names(alloc, requesters.as_slice())?,
+        classes: class_names(alloc, objects.commands.classes.as_slice())?,
+        files: objects.files,
+    };
+    names(alloc, requesters.as_slice(), servers.as_slice(), &links)?;
+    let Links {
+        programs,
+        files,
+        ..
+    } = links;
+    objects.files = files;
+    let server_programs = server_names(alloc, servers.as_slice())?;
+    let told = tell(
+        alloc,
+        objects,
+        programs.as_slice(),
+        server_programs.as_slice(),
+    )?;
+    Ok(Deck {
+        told,
+        requesters,
+        servers,
+    })
+}
+
+/// Reads a deck (docs/DECK.md): its bytes once, and each section once.
 ///
-/// It refuses exactly with the deck's first fault: 190 at line 0 where there are more than
-/// `MAX_INPUT` bytes, 131 at the first line that may not stand where it does, and the line behind the
-/// last where one is missing.
+/// It refuses exactly with the deck's first fault. Too long an input is 190 at line 0. The sections
+/// come in text order, and in a section the passes in the order of docs/DECK.md; the first pass that
+/// has a fault gives its first, by line and on one line by code. Behind the sections come 192, and then
+/// 161, 162, 123 in procedures, 163, 164, 183 and 185 in this order, each by line.
+///
+/// The tables of a deck are those of a valid system, whatever its programs are compiled to.
 pub fn read_deck(alloc: Global, bytes: &[u8]) -> Result<Deck, Refusal>
-    ensures deck { IfOk result (λ deck. (texts : List (List ℕ)) × (program_of bytes.now ≡ Ok texts) × (deck.system ≡ system_of texts)) }
-    ensures valid { IfOk result (λ deck. IsValid deck.system) }
-    ensures fault { IfErr result (λ refusal. Refuses refusal (program_of bytes.now)) }
+    ensures gives { Gives (λ deck. deck) result (deck_of bytes.now) }
+    ensures tables { IfOk result (λ deck. HasTables deck) }
 {
     if bytes.len() > MAX_INPUT {
         return Err(Refusal::At {
@@ -61,10 +105,6 @@ pub fn read_deck(alloc: Global, bytes: &[u8]) -> Result<Deck, Refusal>
             code: FaultCode::InputTooLong,
         });
     }
-    let program = skip_lines(&HEADING, 1, bytes)?;
-    let instrs = instrs_in(alloc, program)?;
-    deck_with(alloc, instrs)
+    let parts = read_parts(alloc, bytes)?;
+    finish(alloc, bytes, parts)
 }
-
-#[cfg(test)]
-mod tests;

@@ -2,7 +2,9 @@
 #![tactic(auto)]
 
 pub mod deck;
-mod lines;
-mod program;
-mod refusal;
-mod system;
+mod named;
+pub mod parts;
+mod sections;
+#[cfg(test)]
+mod tests;
+pub mod thin;

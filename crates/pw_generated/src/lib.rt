@@ -1,0 +1,4 @@
+//! That the generated decks have no fault.
+#![tactic(auto)]
+
+pub mod laws;
