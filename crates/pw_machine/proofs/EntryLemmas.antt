@@ -1,5 +1,5 @@
 -- The field that takes an entry is one of its screen.
-use Rattle.std.proofs.Common.{◌≡◌, ℕ, suc, ◌+◌, ◌<◌, Bool, true, false, List, [], ◌∷◌, length, cond, get_or, Option, Some, None, refl, subst, arith}
+use Rattle.std.proofs.Common.{◌≡◌, Bool, true, false, List, [], ◌∷◌, cond, Some, subst}
 use Rattle.std.specs.Prelude.{All, find}
 use Rattle.std.proofs.lemmas.List.Elements.{All-head, All-tail}
 

@@ -1,12 +1,12 @@
 -- The instruction at which a program stands can be done on its storage, which is not smaller than that of its code.
-use Rattle.std.proofs.Common.{◌≡◌, ℕ, zero, suc, ◌+◌, ◌-◌, ◌^◌, ◌<◌, ◌≤◌, Bool, true, false, List, [], ◌∷◌, length, get_or, Option, Some, None, refl, sym, ap, ◌∙◌, subst, arith}
+use Rattle.std.proofs.Common.{◌≡◌, ℕ, zero, suc, ◌+◌, ◌-◌, ◌<◌, ◌≤◌, Bool, true, false, List, [], ◌∷◌, length, Option, Some, None, refl, subst, arith}
 use Rattle.std.specs.Prelude.{All, slice_get, slice_index_or, nat_lt, if◌then◌else◌}
 use Rattle.std.proofs.lemmas.Bool.{ltb-true, ltb-false}
 use Rattle.std.proofs.lemmas.List.Elements.{All-get_or}
 use Rattle.std.proofs.lemmas.Option.{slice_get_within}
-use Rattle.pw_code.specs.Fields.{IsField, IsItem, IsTable, HasClauses}
-use Rattle.pw_code.specs.Instrs.{AreInstrs, HasRanges, IsArithmetic, IsCall, IsInstr, IsItemOperand, IsKey, IsRecord, IsReplyCode, IsScreen, IsSend, IsTurn, no_code, program_at, screen_at}
-use Rattle.pw_code.specs.Places.{IsComparison, IsCond, IsOperand, IsPlace, IsSubscript, IsTableAt, LiesIn}
+use Rattle.pw_code.specs.Fields.{IsField, HasClauses}
+use Rattle.pw_code.specs.Instrs.{AreInstrs, HasRanges, IsArithmetic, IsInstr, IsItemOperand, IsKey, IsRecord, IsReplyCode, IsScreen, IsTurn, no_code, program_at, screen_at}
+use Rattle.pw_code.specs.Places.{IsComparison, IsOperand, IsPlace, IsSubscript, LiesIn}
 use Rattle.pw_code.specs.Valid.{IsCode, IsValid}
 use Rattle.pw_code.specs.declared.code.Code.{Code}
 use Rattle.pw_code.specs.declared.cond.Comparison.{Comparison}
@@ -19,7 +19,6 @@ use Rattle.pw_code.specs.declared.instr.Arithmetic.{Arithmetic}
 use Rattle.pw_code.specs.declared.instr.Instr.{Instr}
 use Rattle.pw_code.specs.declared.instr.Instr.TheVariants.{Jump, JumpUnless, ParagraphEnd, Move, Compute, OnSizeError, Perform, PerformTimes, Until, PerformOneOf, Exit, ExitProgram, StopRun, DisplayScreen, Display, Accept, Call, Send, NoCode, Begin, End, Abort, Restart, Receive, Reply, Read, ReadNext, Write, Rewrite, Delete}
 use Rattle.pw_code.specs.declared.instr.ReplyCode.{ReplyCode}
-use Rattle.pw_code.specs.declared.instr.Turn.{Turn}
 use Rattle.pw_code.specs.declared.operand.Operand.{Operand}
 use Rattle.pw_code.specs.declared.operand.Operand.TheVariants as operand
 use Rattle.pw_code.specs.declared.place.Place.{Place}

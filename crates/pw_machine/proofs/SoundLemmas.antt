@@ -1,5 +1,5 @@
 -- Programs that wait for one another.
-use Rattle.std.proofs.Common.{◌≡◌, ℕ, zero, suc, ◌+◌, ◌-◌, ◌<◌, ◌≤◌, Bool, true, List, [], ◌∷◌, ◌++◌, length, length-append, Option, None, refl, sym, ap, ◌∙◌, subst, arith}
+use Rattle.std.proofs.Common.{◌≡◌, ℕ, ◌+◌, ◌-◌, ◌<◌, Bool, true, List, [], ◌∷◌, ◌++◌, length, length-append, Option, None, refl, sym, ap, ◌∙◌, subst, arith}
 use Rattle.std.specs.Prelude.{All, MatchOption, Some, map, nat_lt, slice_get, slice_index_or, if◌then◌else◌}
 use Rattle.std.specs.Option.{option_to_list}
 use Rattle.std.proofs.lemmas.Bool.Decides.{nat_tests}
@@ -88,7 +88,7 @@ none_case (Some x) P Q m e = absurd (cc)
 
 -- ---- a program is called
 
-terminal_code : (system : System) (program : ℕ) → program < length system.programs → code_at system program ≡ program_at system program
+pub terminal_code : (system : System) (program : ℕ) → program < length system.programs → code_at system program ≡ program_at system program
 terminal_code system program known =
     let first : nat_lt program (length system.programs) ≡ true = grind (arith, nat_tests) in
     ap (λ b. if b then program_at system program else slice_index_or system.servers (program - length system.programs) no_code) first

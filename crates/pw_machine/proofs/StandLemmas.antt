@@ -1,5 +1,5 @@
 -- The instruction at which a program stands, once it was read.
-use Rattle.std.proofs.Common.{◌≡◌, Option, Some, None, Bor, sym, ap, ◌∙◌}
+use Rattle.std.proofs.Common.{◌≡◌, Option, Some, None, Bor, sym}
 use Rattle.std.specs.Prelude.{IfSome, slice_get}
 use Rattle.std.specs.Option.{option_copied}
 use Rattle.pw_code.specs.Valid.{IsValid}

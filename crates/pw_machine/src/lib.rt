@@ -2,6 +2,7 @@
 #![tactic(auto)]
 
 mod act;
+mod answers;
 mod arithmetic;
 mod arms;
 mod asked;
@@ -12,11 +13,14 @@ mod compare;
 mod conditions;
 mod entries;
 mod keyed;
+pub mod laws;
 mod linkage;
 mod moves;
 mod numbers;
 mod reading;
 mod registers;
+mod replies;
+pub mod run;
 mod spot;
 mod stack;
 mod statements;

@@ -1,4 +1,4 @@
-ghost use Rattle.std.specs.Prelude.{◌≡◌, ◌≤◌, ◌<◌, ◌+◌, ◌*◌, ◌^◌, ◌++◌, length, slice_get, IfSome, Some};
+ghost use Rattle.std.specs.Prelude.{◌≡◌, ◌≤◌, ◌<◌, ◌+◌, ◌*◌, ◌^◌, ◌++◌, [], length, slice_get, IfSome, Some};
 ghost use Rattle.std.specs.Option.{option_copied, option_to_list};
 ghost use Rattle.pw_code.specs.Valid.{IsValid};
 ghost use Rattle.pw_exec.specs.Calls as programs;
@@ -78,6 +78,22 @@ pub fn pop(context: &mut Context) -> Option<Frame>
     let last = frames.pop();
     context.frames = List::from_vec(frames);
     last
+}
+
+/// Takes out all frames. It takes no memory.
+pub fn take_frames(context: &mut Context) -> Vec<Frame>
+    ensures frames { result.items ≡ context.old.frames }
+    ensures others { context.new ≡ record context.old { frames = [] } }
+{
+    let alloc = context.screen.cells.allocator();
+    mem::replace(&mut context.frames, List::new(alloc)).into_vec()
+}
+
+/// Puts frames back. It takes no memory.
+pub fn put_frames(context: &mut Context, frames: Vec<Frame>)
+    ensures { context.new ≡ record context.old { frames = frames.items } }
+{
+    context.frames = List::from_vec(frames);
 }
 
 /// The characters of the items of all programs at work.

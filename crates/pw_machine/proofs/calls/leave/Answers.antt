@@ -1,5 +1,5 @@
 -- The caller waits for the program that is left.
-use Rattle.std.proofs.Common.{◌≡◌, [], ◌∷◌, ◌++◌, Option, refl, ap, ◌∙◌}
+use Rattle.std.proofs.Common.{◌++◌, Option, refl, ap, ◌∙◌}
 use Rattle.std.specs.Option.{option_to_list}
 use Rattle.pw_code.specs.declared.context.Frame.{Frame}
 use Rattle.pw_machine.specs.Config.{config_of}

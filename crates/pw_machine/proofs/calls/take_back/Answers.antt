@@ -1,6 +1,6 @@
 -- The CALL at which the caller waits.
-use Rattle.std.proofs.Common.{◌≡◌, ℕ, List, Some, length, map, sym, ap, ◌∙◌, subst}
-use Rattle.std.specs.Prelude.{All, slice_get}
+use Rattle.std.proofs.Common.{ℕ, List, Some, length, map, sym, ap, ◌∙◌, subst}
+use Rattle.std.specs.Prelude.{All}
 use Rattle.pw_code.specs.Places.{IsPlace}
 use Rattle.pw_code.specs.declared.code.Code.{Code}
 use Rattle.pw_code.specs.declared.instr.Instr.{Instr}

@@ -1,5 +1,5 @@
 -- The field that was found is one of the screen.
-use Rattle.std.proofs.Common.{◌≡◌, ℕ, List, Option, Some, Bor, sym, ap, ◌∙◌, subst}
+use Rattle.std.proofs.Common.{ℕ, Option, Bor, sym, ap, ◌∙◌, subst}
 use Rattle.std.specs.Option.{option_copied}
 use Rattle.pw_code.specs.Fields.{IsField}
 use Rattle.pw_code.specs.declared.field.Field.{Field}

@@ -1,8 +1,8 @@
 -- One digit more.
-use Rattle.std.proofs.Common.{◌≡◌, ℕ, ◌-◌, ◌*◌, ◌/◌, ◌%◌, ◌^◌, ◌<◌, ◌≤◌, filter, length, sym, ap, ◌∙◌, arith}
+use Rattle.std.proofs.Common.{◌≡◌, ℕ, ◌-◌, ◌*◌, ◌/◌, ◌%◌, ◌^◌, filter, sym, ap, ◌∙◌, arith}
 use Rattle.std.specs.Char.{is_ascii_digit}
 use Rattle.pw_picture.specs.Stored.{size_at, value_of}
-use Rattle.pw_code.specs.Spelling.{decimals_in, number_in}
+use Rattle.pw_code.specs.Spelling.{number_in}
 use Rattle.pw_machine.proofs.KeyedLemmas.{digit_more, few_digits, keyed_size, some_digits}
 use Rattle.pw_machine.proofs.keyed.low_digits.Goals as goal
 

@@ -1,8 +1,5 @@
 -- One program more.
-use Rattle.std.proofs.Common.{◌≡◌, ◌+◌, length, take, arith}
-use Rattle.std.specs.Prelude.{sum_by}
-use Rattle.pw_exec.specs.Calls.{items_of}
-use Rattle.pw_exec.specs.Config.{code_at}
+use Rattle.std.proofs.Common.{arith}
 use Rattle.pw_machine.proofs.StackLemmas.{total_more}
 use Rattle.pw_machine.proofs.stack.active.Goals as goal
 

@@ -1,5 +1,5 @@
 -- The list of frames was taken apart at its end.
-use Rattle.std.proofs.Common.{◌≡◌, ◌++◌, List, Option, None, length, ap, ◌∙◌, sym, subst, arith}
+use Rattle.std.proofs.Common.{◌≡◌, ◌++◌, List, None, length, ap, ◌∙◌, sym, subst, arith}
 use Rattle.std.specs.Option.{option_to_list}
 use Rattle.pw_code.specs.declared.context.Frame.{Frame}
 use Rattle.pw_exec.specs.Turns.{split_last}
