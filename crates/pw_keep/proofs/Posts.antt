@@ -252,7 +252,7 @@ request_in (Got process request) = Some request
 request_in Empty = None
 request_in NoneFree = None
 
-some-is : {A : Type 0} {x y : A} → Some x ≡ Some y → x ≡ y
+pub some-is : {A : Type 0} {x y : A} → Some x ≡ Some y → x ≡ y
 some-is {x = x} e = ap (λ o. elim o as (λ _. _) [ None ↦ x | Some y ↦ y ]) e
 
 took-of : (q : Queue) (waiting : List Request) (free : Option ℕ) (p : ℕ) (r : Request) → free_place q ≡ free → taken_of waiting free ≡ Got p r

@@ -11,7 +11,8 @@ use Rattle.pw_code.specs.declared.verb.Verb.{Verb}
 use Rattle.pw_code.specs.declared.verb.Verb.TheVariants as verb
 use Rattle.pw_keep.specs.Keeps.{KeepState, job_of, jobs_at, kept_in}
 use Rattle.pw_kept.specs.Changes.{at_terminal, unit_at, with_context, without_unit}
-use Rattle.pw_kept.specs.Kept.{Kept}
+use Rattle.pw_event.specs.declared.event.Cause.{Cause}
+use Rattle.pw_kept.specs.Kept.{Kept, KeptTerminal}
 use Rattle.pw_seats.specs.declared.job.Job.{Job}
 use Rattle.pw_tmf.specs.Answers.{Operates}
 use Rattle.pw_tmf.specs.Operation.{IsCall}
@@ -71,3 +72,7 @@ call_in _ = None
 abbrev pub call_of : Option Job → Option FileCall
 call_of None = None
 call_of (Some job) = call_in job.verb
+
+-- a cause is pending for a terminal
+abbrev pub pended : Cause → KeptTerminal → KeptTerminal
+pended cause own = record own { pending = Some cause }

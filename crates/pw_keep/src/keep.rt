@@ -1,10 +1,11 @@
 ghost use Rattle.std.specs.Prelude.{◌≡◌, ◌<◌, ◌≤◌, ◌^◌, ◌-◌, ℕ, false, length, true, IfErr, IfOk, IsSome, None, OnErr, OnOk, Some, slice_get, ◌↔◌, IsTrue};
 ghost use Rattle.std.specs.Option.{option_copied};
 ghost use Rattle.pw_class.specs.Queue.{at_process, has_request};
-ghost use Rattle.pw_keep.specs.Calls.{IsOperated, MayOperate, call_of, can_take, kept_commit_reply, taker};
-ghost use Rattle.pw_keep.specs.Keeps.{HasVerb, IsChanged, IsRefused, JobHasVerb, kept_in, kept_of};
+ghost use Rattle.pw_class.specs.declared.request.Request.{Request as SeenRequest};
+ghost use Rattle.pw_keep.specs.Calls.{IsOperated, MayOperate, call_of, can_take, kept_commit_reply, pended, taker};
+ghost use Rattle.pw_keep.specs.Keeps.{HasVerb, IsChanged, IsRefused, JobHasVerb, kept_in, kept_of, request_terminal};
 ghost use Rattle.pw_kept.specs.Asked.{verb_in};
-ghost use Rattle.pw_kept.specs.Changes.{at_pair, births_behind, free_process, kept_applied, kept_back, kept_begin, kept_begin_send, kept_check, kept_commit, kept_raise, kept_ran, kept_send, kept_show, kept_take, unit_at, with_job};
+ghost use Rattle.pw_kept.specs.Changes.{at_pair, at_terminal, births_behind, free_process, kept_applied, kept_back, kept_begin, kept_begin_send, kept_check, kept_commit, kept_fail_server, kept_raise, kept_ran, kept_send, kept_show, kept_take, unit_at, with_job};
 ghost use Rattle.pw_pair.specs.Bodies.{is_image};
 ghost use Rattle.pw_pair.specs.Called.{member_fails};
 ghost use Rattle.pw_pair.specs.Pairs.{after_drop, changed_at, passes, seat_of};
@@ -27,6 +28,7 @@ use pw_code::file::FileCall;
 use pw_code::system::System;
 use pw_code::unit::Unit;
 use pw_code::verb::Verb;
+use pw_event::event::Cause;
 use pw_pair::link::LinkDone;
 use pw_pair::message::CheckMessage;
 use pw_pair::pair::Pair;
@@ -368,6 +370,40 @@ impl<D: Disc> Keep<D> {
     {
         self.classes.reply(class, process);
         self.jobs[class as usize].put(process as usize - 1, None);
+    }
+
+    /// The terminal of the request at a process, if it is busy.
+    fn terminal_at(&self, class: u32, process: u32) -> Option<u32>
+        ensures { result
+            ≡ request_terminal (at_process ((kept_in D.told self.now).queues class) process) }
+    {
+        match self.classes.request_at(class, process) {
+            Some(request) => Some(request.terminal),
+            None => None,
+        }
+    }
+
+    /// A cause is pending for a terminal.
+    fn pend(&mut self, terminal: u32, cause: Cause)
+        requires known { terminal < length self.old.system.terminals }
+        ensures { IsChanged D.told (at_terminal terminal (pended cause)) self.old self.new }
+    {
+        self.seats[terminal as usize].pending = Some(cause);
+    }
+
+    /// FAIL SERVER: a process stops with what it works on, and the cause is pending for the terminal
+    /// of its request.
+    pub fn fail_server(&mut self, class: u32, process: u32, line: u32)
+        requires class { class < length self.old.system.classes }
+        requires known { (request : SeenRequest)
+            → at_process ((kept_in D.told self.old).queues class) process ≡ Some request
+            → request.terminal < length self.old.system.terminals }
+        ensures { IsChanged D.told (kept_fail_server class process line) self.old self.new }
+    {
+        if let Some(terminal) = self.terminal_at(class, process) {
+            self.free(class, process);
+            self.pend(terminal, Cause::Server(line));
+        }
     }
 
     /// A pair.
