@@ -1,6 +1,7 @@
 pub mod Bounds
 pub mod CountSteps
 pub mod Counting
+pub mod Plain
 pub mod Progress
 pub mod RunLemmas
 pub mod Sizes

@@ -1,9 +1,9 @@
 -- The programs at work of a terminal are sound, and their storages keep their sizes.
-use Rattle.std.proofs.Common.{◌≡◌, ℕ, zero, suc, ◌+◌, ◌-◌, ◌≤◌, ◌<◌, Bool, true, false, not, List, [], ◌∷◌, ◌++◌, length, length-append, Option, Some, None, refl, sym, ap, ◌∙◌, subst, arith}
-use Rattle.std.specs.Prelude.{All, IsTrue, option_and_then, option_map, map, slice_get, slice_index_or, nat_lt, ◌==◌, if◌then◌else◌}
-use Rattle.std.proofs.lemmas.Bool.{cases_lt, lt-ltb, ltb-true}
+use Rattle.std.proofs.Common.{◌≡◌, ℕ, zero, suc, ◌+◌, ◌-◌, ◌≤◌, ◌<◌, Bool, true, false, List, [], ◌∷◌, ◌++◌, length, length-append, Option, Some, None, refl, sym, ap, ◌∙◌, subst, arith}
+use Rattle.std.specs.Prelude.{All, option_and_then, option_map, map, slice_get, slice_index_or, nat_lt, ◌==◌, if◌then◌else◌}
+use Rattle.std.proofs.lemmas.Bool.{lt-ltb, ltb-true}
 use Rattle.std.proofs.lemmas.Option.{get_or_from_slice_get, slice_get_within}
-use Rattle.std.proofs.lemmas.List.Elements.{All-append, All-cons, All-head, All-nil, All-tail}
+use Rattle.std.proofs.lemmas.List.Elements.{All-cons, All-nil}
 use Rattle.pw_base.specs.Limits.{most_storage}
 use Rattle.pw_picture.specs.Stored.{digits_of}
 use Rattle.pw_terminal.specs.Entries.{check}
@@ -11,169 +11,32 @@ use Rattle.pw_terminal.specs.declared.entries.EntryAnswer.{EntryAnswer}
 use Rattle.pw_terminal.specs.declared.entries.EntryAnswer.TheVariants.{Valid, BadKey, BadField}
 use Rattle.pw_code.specs.Entry.{Entry}
 use Rattle.pw_code.specs.Fields.{IsField}
-use Rattle.pw_code.specs.Instrs.{AreInstrs, HasRanges, IsCall, IsInstr, IsReplyCode, IsScreen, IsSend, is_for, no_code, program_at, screen_at}
+use Rattle.pw_code.specs.Instrs.{AreInstrs, IsCall, IsInstr, IsReplyCode, no_code, program_at, screen_at}
 use Rattle.pw_code.specs.Places.{IsPlace}
 use Rattle.pw_code.specs.Valid.{IsCode, IsValid}
 use Rattle.pw_code.specs.declared.code.Code.{Code}
 use Rattle.pw_code.specs.declared.context.Context.{Context}
 use Rattle.pw_code.specs.declared.context.Frame.{Frame}
-use Rattle.pw_code.specs.declared.context.Return.{Return}
 use Rattle.pw_code.specs.declared.field.ScreenTable.{ScreenTable}
-use Rattle.pw_code.specs.declared.instr.Arithmetic.{Arithmetic}
 use Rattle.pw_code.specs.declared.instr.Instr.{Instr}
 use Rattle.pw_code.specs.declared.instr.Instr.TheVariants.{Jump, JumpUnless, ParagraphEnd, Move, Compute, OnSizeError, Perform, PerformTimes, Until, PerformOneOf, Exit, ExitProgram, StopRun, DisplayScreen, Display, Accept, Call, Send, NoCode, Begin, End, Abort, Restart, Receive, Reply, Read, ReadNext, Write, Rewrite, Delete}
 use Rattle.pw_code.specs.declared.instr.ReplyCode.{ReplyCode}
-use Rattle.pw_code.specs.declared.instr.Turn.{Turn}
 use Rattle.pw_code.specs.declared.place.Place.{Place}
 use Rattle.pw_code.specs.declared.system.System.{System}
 use Rattle.pw_code.specs.declared.verb.Answer.{Answer}
 use Rattle.pw_code.specs.declared.verb.Answer.TheVariants as answer
-use Rattle.pw_source.specs.Sends as sends
-use Rattle.pw_source.specs.Values.{Text', Value, number_of, whole_part}
-use Rattle.pw_exec.specs.Answers.{answered, answered_by, begin_put, entry_checked, entry_put, place_among, put, replied, reply_put, reply_taken, shown, spot_among, unit_end_put, unit_ended, yielded}
+use Rattle.pw_source.specs.Values.{Text'}
+use Rattle.pw_exec.specs.Answers.{answered, answered_by, begin_put, entry_checked, entry_put, place_among, put, reply_put, shown, spot_among, unit_ended, yielded}
 use Rattle.pw_exec.specs.Calls.{active, called_frame, calls, copied_back, kept, leaves_by, linkage_chars, most_active, most_calls, registers_at_call, returned, stops, storage_behind}
-use Rattle.pw_exec.specs.Config.{Config, closed, code_at, code_of, counted, faults, has_fault, is_server, most_counted, on, over, starting, with_storage, with_taken}
-use Rattle.pw_exec.specs.Moves.{Operands, operands_of, operands_with, result_of}
-use Rattle.pw_exec.specs.Reading.{Registers, Spot, read, registers_of, spot_of, spots_of}
-use Rattle.pw_exec.specs.Runs.{Comes, Run, StandsFor, at_verb, runs}
-use Rattle.pw_exec.specs.Sound.{AreWaiting, IsFrame, IsSound, IsSoundContext, Waits, kept_size}
-use Rattle.pw_exec.specs.Steps.{act, branch, does, holds_here, instr_of, or_else, read_here, spot_here, spots_here, step, taken_here}
-use Rattle.pw_exec.specs.Turns.{at_position, chosen, comes_back, ends_by, most_performs, placed, split_last, tested, turn, turns}
+use Rattle.pw_exec.specs.Config.{Config, closed, code_at, code_of, counted, faults, has_fault, most_counted, on, starting, with_taken}
+use Rattle.pw_exec.specs.Reading.{Registers, Spot, registers_of, spot_of, spots_of}
+use Rattle.pw_exec.specs.Runs.{Run, StandsFor, at_verb, runs}
+use Rattle.pw_exec.specs.Sound.{AreWaiting, IsSound, IsSoundContext, Waits, kept_size}
+use Rattle.pw_exec.specs.Steps.{act, does, holds_here, instr_of, spots_here, step}
+use Rattle.pw_exec.specs.Turns.{split_last}
 use Rattle.pw_exec.proofs.Progress.{seam}
-use Rattle.pw_exec.proofs.Written.{AreSpots, Sits, called-size, computed-size, copied-back-size, entered-size, length-digits_of, move-size, moves-size, spot-is, spots-are, unsome}
-
--- ---- what leaves programs and sizes
-
-pub record Plain (c d : Config) : Type 0 where
-  pub program : d.top.program ≡ c.top.program
-  pub size : length d.top.storage ≡ length c.top.storage
-  pub frames : d.rest.frames ≡ c.rest.frames
-
-same : (c d : Config) → d.top.program ≡ c.top.program → d.top.storage ≡ c.top.storage → d.rest.frames ≡ c.rest.frames → Plain c d
-same c d program storage frames = record { program = program; size = ap (length {A = ℕ}) storage; frames = frames }
-
-by_test : (c d e : Config) (b : Bool) → Plain c d → Plain c e → Plain c (if b then d else e)
-by_test c d e true g h = g
-by_test c d e false g h = h
-
-by_taken : {A : Type 0} (o : Option A) (next : A → Config → Config) (c : Config) → ((a : A) → o ≡ Some a → Plain c (next a c)) → Plain c (with_taken o next c)
-by_taken None next c h = same c _ refl refl refl
-by_taken (Some a) next c h = h a refl
-
-abbrev more : Config → Config
-more c = record c { rest = record c.rest { count = c.rest.count + 1 } }
-
-by_count : (f : Config → Config) (c : Config) → Plain (more c) (f (more c)) → Plain c (counted f c)
-by_count f c g = by_test c (f (more c)) (faults 201 c) (nat_lt c.rest.count most_counted) (record { program = g.program; size = g.size; frames = g.frames }) (same c _ refl refl refl)
-
-abbrev one_turn : ℕ → Turn → ℕ → Config → Config
-one_turn resume paragraph left c =
-    if nat_lt (length c.top.returns) most_performs
-    then placed paragraph.start (c.top.returns ++ (record { resume = resume; until = paragraph.end; turns = left }) ∷ []) c
-    else faults 202 c
-
-turn_plain : (resume : ℕ) (paragraph : Turn) (left : ℕ) (c : Config) → Plain c (turn resume paragraph left c)
-turn_plain resume paragraph left c =
-    by_count (one_turn resume paragraph left) c (by_test (more c) _ _ (nat_lt (length c.top.returns) most_performs) (same (more c) _ refl refl refl) (same (more c) _ refl refl refl))
-
-turns_plain : (paragraph : Turn) (n : ℕ) (c : Config) → Plain c (turns paragraph n c)
-turns_plain paragraph n c = by_test c _ _ (n == 0) (same c _ refl refl refl) (turn_plain (c.top.at + 1) paragraph (n - 1) c)
-
-chosen_plain : (o : Option Turn) (c : Config) → Plain c (chosen o c)
-chosen_plain None c = same c _ refl refl refl
-chosen_plain (Some paragraph) c = turn_plain (c.top.at + 1) paragraph 0 c
-
-comes_plain : (start : ℕ) (before : List Return) (last : Return) (c : Config) → Plain c (comes_back start before last c)
-comes_plain start before last c =
-    by_test c _ _ (last.turns == 0) (same c _ refl refl refl)
-    (by_count (placed start (before ++ (record last { turns = last.turns - 1 }) ∷ [])) c (same (more c) _ refl refl refl))
-
-ends_plain : (start : ℕ) (o : Option (List Return × Return)) (c : Config) → Plain c (ends_by start o c)
-ends_plain start None c = same c _ refl refl refl
-ends_plain start (Some found) c = by_test c _ _ (found.1.until == c.top.at) (comes_plain start found.0 found.1 c) (same c _ refl refl refl)
-
-test_plain : (paragraph : Turn) (o : Option Bool) (c : Config) → Plain c (tested paragraph o c)
-test_plain paragraph None c = same c _ refl refl refl
-test_plain paragraph (Some true) c = same c _ refl refl refl
-test_plain paragraph (Some false) c = turn_plain c.top.at paragraph 0 c
-
-stops_plain : (system : System) (c : Config) → Plain c (stops system c)
-stops_plain system c = by_test c _ _ (is_server system c) (same c _ refl refl refl) (by_test c _ _ c.rest.in_unit (same c _ refl refl refl) (same c _ refl refl refl))
-
-branch_plain : (n : ℕ) (b : Bool) (c : Config) → Plain c (branch n b c)
-branch_plain n true c = same c _ refl refl refl
-branch_plain n false c = same c _ refl refl refl
-
--- a storage of the same size
-stored_plain : (c : Config) (storage : List ℕ) → length storage ≡ length c.top.storage → Plain c (with_storage storage c)
-stored_plain c storage size = record { program = refl; size = size; frames = refl }
-
-result_plain : (c : Config) (o : Option (List ℕ)) (n : ℕ) → ((storage : List ℕ) → o ≡ Some storage → length storage ≡ length c.top.storage) → Plain c (or_else o on (over n) c)
-result_plain c None n size = same c _ refl refl refl
-result_plain c (Some storage) n size = record { program = refl; size = size storage refl; frames = refl }
-
-sure_plain : (c : Config) (o : Option (List ℕ)) → ((storage : List ℕ) → o ≡ Some storage → length storage ≡ length c.top.storage) → Plain c (or_else o on on c)
-sure_plain c None size = same c _ refl refl refl
-sure_plain c (Some storage) size = record { program = refl; size = size storage refl; frames = refl }
-
-receiver-of : (first second : Option Value) (receiver : Option Spot) (found : Operands) → operands_with first second receiver ≡ Some found → receiver ≡ Some found.receiver
-receiver-of (Some first) (Some second) (Some receiver) found e = cc e
-receiver-of (Some first) (Some second) None found e = absurd (cc e)
-receiver-of (Some first) None receiver found e = absurd (cc e)
-receiver-of None second receiver found e = absurd (cc e)
-
--- the statements of a terminal's program, but CALL and EXIT PROGRAM
-abbrev is_inner : Instr → Bool
-is_inner (Call program arguments keeps) = false
-is_inner ExitProgram = false
-is_inner _ = true
-
-module _ (system : System) (code : Code) (behind : ℕ) (c : Config) (le : length code.storage ≤ length c.top.storage) where
-  arithmetic : (a : Arithmetic) (found : Operands) → IsPlace (length code.storage) a.receiver → operands_of (registers_of c.rest) c.top.storage a ≡ Some found → (storage : List ℕ)
-      → result_of a.operation found c.top.storage ≡ Some storage → length storage ≡ length c.top.storage
-  arithmetic a found is e storage out =
-      let spot = spot-is (registers_of c.rest) c.top.storage (length code.storage) a.receiver is found.receiver
-      (receiver-of (read (registers_of c.rest) c.top.storage a.first) (read (registers_of c.rest) c.top.storage a.second) (spot_of (registers_of c.rest) c.top.storage a.receiver) found e) in
-      computed-size (length code.storage) a.operation found.first found.second found.receiver c.top.storage storage spot.sits le out
-
-  does_plain : (i : Instr) → HasRanges system code behind i → IsTrue (is_for false i) → is_inner i ≡ true → Plain c (does system i c)
-  does_plain (JumpUnless cond n) is for inner = by_taken (holds_here c cond) _ c (λ b e. branch_plain n b c)
-  does_plain (Move from to) is for inner =
-      by_taken (taken_here c from) _ c (λ source e. by_taken (spots_here c to) _ c (λ targets found.
-      record {
-        program = refl;
-        size = moves-size (length code.storage) to targets source c.top.storage (spots-are (registers_of c.rest) c.top.storage (length code.storage) to targets is.1 found) le;
-        frames = refl;
-      }))
-  does_plain (Compute a) is for inner = by_taken (operands_of (registers_of c.rest) c.top.storage a) _ c (λ found e. sure_plain c (result_of a.operation found c.top.storage) (arithmetic a found is.receiver e))
-  does_plain (OnSizeError a n) is for inner = by_taken (operands_of (registers_of c.rest) c.top.storage a) _ c (λ found e. result_plain c (result_of a.operation found c.top.storage) n (arithmetic a found is.0.receiver e))
-  does_plain (Perform paragraph) is for inner = turn_plain (c.top.at + 1) paragraph 0 c
-  does_plain (PerformTimes paragraph times) is for inner = by_taken (read_here c times) _ c (λ value e. turns_plain paragraph (whole_part (number_of value)) c)
-  does_plain (PerformOneOf paragraphs position) is for inner = by_taken (read_here c position) _ c (λ value e. chosen_plain (at_position paragraphs (whole_part (number_of value))) c)
-  does_plain Exit is for inner = same c _ refl refl refl
-  does_plain ExitProgram is for inner = absurd (cc inner)
-  does_plain StopRun is for inner = stops_plain system c
-  does_plain (DisplayScreen screen base) is for inner = same c _ refl refl refl
-  does_plain (Display one) is for inner = by_taken (read_here c one) _ c (λ value e. same c _ refl refl refl)
-  does_plain (Accept screen keys) is for inner = same c _ refl refl refl
-  does_plain (Call program arguments keeps) is for inner = absurd (cc inner)
-  does_plain (Send class message codes) is for inner =
-      by_taken (taken_here c message) _ c (λ found e. by_taken (spots_here c (map (λ code. code.yields) codes)) _ c (λ items e. same c _ refl refl refl))
-  does_plain Begin is for inner = by_test c _ _ c.rest.in_unit (same c _ refl refl refl) (same c _ refl refl refl)
-  does_plain End is for inner = by_test c _ _ c.rest.in_unit (same c _ refl refl refl) (same c _ refl refl refl)
-  does_plain Abort is for inner = by_test c _ _ c.rest.in_unit (same c _ refl refl refl) (same c _ refl refl refl)
-  does_plain Restart is for inner = by_test c _ _ c.rest.in_unit (same c _ refl refl refl) (same c _ refl refl refl)
-  does_plain (Receive into) is for inner = absurd (cc for)
-  does_plain (Reply from) is for inner = absurd (cc for)
-  does_plain (Read file locking key into) is for inner = absurd (cc for)
-  does_plain (ReadNext file locking after into) is for inner = absurd (cc for)
-  does_plain (Write file from) is for inner = absurd (cc for)
-  does_plain (Rewrite file from) is for inner = absurd (cc for)
-  does_plain (Delete file key) is for inner = absurd (cc for)
-  does_plain (Jump n) is for inner = same c _ refl refl refl
-  does_plain (ParagraphEnd start) is for inner = same c _ refl refl refl
-  does_plain (Until paragraph cond) is for inner = same c _ refl refl refl
-  does_plain NoCode is for inner = same c _ refl refl refl
+use Rattle.pw_exec.proofs.Written.{AreSpots, Sits, called-size, copied-back-size, entered-size, length-digits_of, move-size, spot-is, spots-are, unsome}
+use Rattle.pw_exec.proofs.Plain.{Plain, by_test, does_plain, ends_plain, is_inner, more, same, stops_plain, test_plain}
 
 -- ---- the programs at work
 
