@@ -2,7 +2,7 @@ ghost use Rattle.std.specs.Prelude.{◌≡◌, ◌<◌, ◌≤◌, ◌^◌, ◌-
 ghost use Rattle.std.specs.Option.{option_copied};
 ghost use Rattle.pw_class.specs.Queue.{at_process, has_request};
 ghost use Rattle.pw_class.specs.declared.request.Request.{Request as SeenRequest};
-ghost use Rattle.pw_keep.specs.Calls.{IsOperated, MayOperate, call_of, can_take, kept_commit_reply, pended, taker};
+ghost use Rattle.pw_keep.specs.Calls.{IsOperated, MayOperate, can_take, kept_commit_reply, pended, taker};
 ghost use Rattle.pw_keep.specs.Keeps.{HasVerb, IsChanged, IsRefused, JobHasVerb, kept_in, kept_of, request_terminal};
 ghost use Rattle.pw_kept.specs.Asked.{verb_in};
 ghost use Rattle.pw_kept.specs.Changes.{at_pair, at_terminal, births_behind, free_process, kept_applied, kept_back, kept_begin, kept_begin_send, kept_check, kept_commit, kept_fail_server, kept_raise, kept_ran, kept_send, kept_show, kept_take, unit_at, with_job};
@@ -19,12 +19,12 @@ ghost use Rattle.pw_tmf.specs.Committed.{committed};
 ghost use Rattle.pw_tmf.specs.Leaving.{unit_told};
 ghost use Rattle.pw_tmf.specs.Units.{CanBackOut, CanBegin, IsRunning};
 
+use crate::pieces::{call_of, fail};
 use pw_base::bytes::Bytes;
 use pw_base::memory::Memory;
 use pw_class::book::ClassBook;
 use pw_class::request::{Request, Taken};
 use pw_code::context::Context;
-use pw_code::file::FileCall;
 use pw_code::system::System;
 use pw_code::unit::Unit;
 use pw_code::verb::Verb;
@@ -483,29 +483,5 @@ impl<D: Disc> Keep<D> {
         ensures late { result ≡ false → self.new ≡ self.old }
     {
         self.pairs[tcp as usize].give_back(done)
-    }
-}
-
-/// A member of a pair fails.
-fn fail(pair: &mut Pair, primary: bool)
-    ensures { pair.new ≡ member_fails primary pair.old }
-{
-    if primary {
-        pair.fail_primary();
-    } else {
-        pair.fail_backup();
-    }
-}
-
-/// The call at which a job stands, if it does.
-fn call_of(job: Option<&Job>) -> Option<&FileCall>
-    ensures { option_copied result ≡ call_of (option_copied job.entry) }
-{
-    match job {
-        Some(job) => match &job.verb {
-            Some(Verb::File(call)) => Some(call),
-            _ => None,
-        },
-        None => None,
     }
 }
