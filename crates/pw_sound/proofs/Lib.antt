@@ -28,3 +28,4 @@ mod Showing
 mod written
 mod Upper
 mod Fitting
+mod Given
