@@ -29,3 +29,5 @@ mod written
 mod Upper
 mod Fitting
 mod Given
+mod Numerals
+mod Scanned

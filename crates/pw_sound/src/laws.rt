@@ -22,9 +22,11 @@ ghost use Rattle.pw_source.specs.Program.{Deck, Program};
 ghost use Rattle.pw_source.specs.Runs.{told, file_told, run_after, server_setting, server_run, start};
 ghost use Rattle.pw_source.specs.Setting.{Setting};
 ghost use Rattle.pw_source.specs.Sound.{IsSound, IsSoundProgram};
+ghost use Rattle.pw_text.specs.Tokens.{tokens_of};
 ghost use Rattle.pw_text.specs.declared.token.Token.{Token};
 ghost use Rattle.pw_sound.specs.Answered.{AnswersAs};
 ghost use Rattle.pw_sound.specs.Premises.{AreFitting, AreItems, AreRead, CallsFit, HasTables, IsShownOf};
+ghost use Rattle.pw_sound.specs.Tokens.{HasNumber};
 ghost use Rattle.pw_sound.specs.Written.{IsWritten};
 ghost use Rattle.pw_sound.specs.Systems.{named_in, system_of};
 
@@ -74,7 +76,8 @@ pub fn code_laws()
 /// literal or an item of the layout, and statements are written as their reader sees to. Where the names of
 /// a requester have no fault, the arguments of its CALLs are as long as the items of USING. Each name of
 /// USING that is a parameter as the contract of `requester` says, is that of an item, and screens that are
-/// tables as it says, are such tables here.
+/// tables as it says, are such tables here. A number among the tokens of a text is the number that it is
+/// written as, of at most 18 digits.
 pub fn reading_laws()
     ensures screens { (text : List ℕ) (tokens : List Token) (laid : Laid) (tables : List ScreenTable)
         → screens_of text tokens laid ≡ Ok tables
@@ -89,6 +92,8 @@ pub fn reading_laws()
         program.paragraphs }
     ensures parameters { (program : Program) → All (IsParameter program.layout) program.parameters
         → AreItems program program.parameters }
+    ensures numbers { (text : List ℕ) (first_line : ℕ) (tokens : List Token)
+        → tokens_of text first_line ≡ Ok tokens → Each (HasNumber text) tokens }
     ensures tables { (program : Program)
         → All (IsTable (length program.layout.storage)) program.screens
         → Each (IsTable (length program.layout.storage)) program.screens }

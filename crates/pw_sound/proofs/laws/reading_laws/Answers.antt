@@ -1,5 +1,6 @@
 use Rattle.pw_sound.proofs.Fitting.{program-fits}
 use Rattle.pw_sound.proofs.Given.{tables-are, using-items}
+use Rattle.pw_sound.proofs.Scanned.{tokens-say}
 use Rattle.pw_sound.proofs.Showing.{screens-show}
 use Rattle.pw_sound.proofs.written.Pieces.{procedure-written}
 use Rattle.pw_sound.proofs.laws.reading_laws.Goals as goal
@@ -10,5 +11,6 @@ returns c = record {
   statements = procedure-written;
   calls = program-fits;
   parameters = using-items;
+  numbers = tokens-say;
   tables = tables-are;
 }
