@@ -31,3 +31,4 @@ mod Fitting
 mod Given
 mod Numerals
 mod Scanned
+mod numbers

@@ -25,7 +25,7 @@ ghost use Rattle.pw_source.specs.Sound.{IsSound, IsSoundProgram};
 ghost use Rattle.pw_text.specs.Tokens.{tokens_of};
 ghost use Rattle.pw_text.specs.declared.token.Token.{Token};
 ghost use Rattle.pw_sound.specs.Answered.{AnswersAs};
-ghost use Rattle.pw_sound.specs.Premises.{AreFitting, AreItems, AreRead, CallsFit, HasTables, IsShownOf};
+ghost use Rattle.pw_sound.specs.Premises.{AreFitting, AreItems, AreRead, CallsFit, HasTables, IsRead, IsShownOf};
 ghost use Rattle.pw_sound.specs.Tokens.{HasNumber};
 ghost use Rattle.pw_sound.specs.Written.{IsWritten};
 ghost use Rattle.pw_sound.specs.Systems.{named_in, system_of};
@@ -77,7 +77,8 @@ pub fn code_laws()
 /// a requester have no fault, the arguments of its CALLs are as long as the items of USING. Each name of
 /// USING that is a parameter as the contract of `requester` says, is that of an item, and screens that are
 /// tables as it says, are such tables here. A number among the tokens of a text is the number that it is
-/// written as, of at most 18 digits.
+/// written as, of at most 18 digits, and so are then the number literals of the statements that are read of
+/// such tokens.
 pub fn reading_laws()
     ensures screens { (text : List ℕ) (tokens : List Token) (laid : Laid) (tables : List ScreenTable)
         → screens_of text tokens laid ≡ Ok tables
@@ -94,6 +95,9 @@ pub fn reading_laws()
         → AreItems program program.parameters }
     ensures numbers { (text : List ℕ) (first_line : ℕ) (tokens : List Token)
         → tokens_of text first_line ≡ Ok tokens → Each (HasNumber text) tokens }
+    ensures literals { (server : Bool) (text : List ℕ) (tokens : List Token) (procedure : Procedure)
+        → Each (HasNumber text) tokens → procedure_of server text tokens ≡ Ok procedure
+        → Each (λ (paragraph : Paragraph). Each IsRead paragraph.body) procedure.paragraphs }
     ensures tables { (program : Program)
         → All (IsTable (length program.layout.storage)) program.screens
         → Each (IsTable (length program.layout.storage)) program.screens }

@@ -2,6 +2,7 @@ use Rattle.pw_sound.proofs.Fitting.{program-fits}
 use Rattle.pw_sound.proofs.Given.{tables-are, using-items}
 use Rattle.pw_sound.proofs.Scanned.{tokens-say}
 use Rattle.pw_sound.proofs.Showing.{screens-show}
+use Rattle.pw_sound.proofs.numbers.Pieces.{procedure-read}
 use Rattle.pw_sound.proofs.written.Pieces.{procedure-written}
 use Rattle.pw_sound.proofs.laws.reading_laws.Goals as goal
 
@@ -12,5 +13,6 @@ returns c = record {
   calls = program-fits;
   parameters = using-items;
   numbers = tokens-say;
+  literals = procedure-read;
   tables = tables-are;
 }
