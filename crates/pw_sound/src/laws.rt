@@ -15,8 +15,12 @@ ghost use Rattle.pw_forms.specs.Procedures.{procedure_of};
 ghost use Rattle.pw_forms.specs.declared.statement.Paragraph.{Paragraph};
 ghost use Rattle.pw_forms.specs.declared.statement.Procedure.{Procedure};
 ghost use Rattle.pw_operands.specs.Resolved.{Each};
+ghost use Rattle.pw_scobol.specs.Requesters.{requester_of};
 ghost use Rattle.pw_scobol.specs.Using.{IsParameter};
+ghost use Rattle.pw_scobol.specs.declared.requester.Requester.{Requester};
 ghost use Rattle.pw_screen.specs.Screens.{screens_of};
+ghost use Rattle.pw_server.specs.Servers.{server_of};
+ghost use Rattle.pw_server.specs.declared.server.Server.{Server};
 ghost use Rattle.pw_source.specs.OfDeck as tree;
 ghost use Rattle.pw_source.specs.Program.{Deck, Program};
 ghost use Rattle.pw_source.specs.Runs.{told, file_told, run_after, server_setting, server_run, start};
@@ -78,7 +82,7 @@ pub fn code_laws()
 /// USING that is a parameter as the contract of `requester` says, is that of an item, and screens that are
 /// tables as it says, are such tables here. A number among the tokens of a text is the number that it is
 /// written as, of at most 18 digits, and so are then the number literals of the statements that are read of
-/// such tokens.
+/// such tokens: those of every requester and of every server that is read.
 pub fn reading_laws()
     ensures screens { (text : List ℕ) (tokens : List Token) (laid : Laid) (tables : List ScreenTable)
         → screens_of text tokens laid ≡ Ok tables
@@ -98,6 +102,12 @@ pub fn reading_laws()
     ensures literals { (server : Bool) (text : List ℕ) (tokens : List Token) (procedure : Procedure)
         → Each (HasNumber text) tokens → procedure_of server text tokens ≡ Ok procedure
         → Each (λ (paragraph : Paragraph). Each IsRead paragraph.body) procedure.paragraphs }
+    ensures requester { (name : List ℕ) (text : List ℕ) (first_line : ℕ) (one : Requester)
+        → requester_of name text first_line ≡ Ok one
+        → Each (λ (paragraph : Paragraph). Each IsRead paragraph.body) one.procedure.paragraphs }
+    ensures server { (name : List ℕ) (text : List ℕ) (first_line : ℕ) (one : Server)
+        → server_of name text first_line ≡ Ok one
+        → Each (λ (paragraph : Paragraph). Each IsRead paragraph.body) one.procedure.paragraphs }
     ensures tables { (program : Program)
         → All (IsTable (length program.layout.storage)) program.screens
         → Each (IsTable (length program.layout.storage)) program.screens }
