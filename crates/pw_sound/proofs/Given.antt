@@ -1,9 +1,8 @@
 -- What the contract of the reader of requesters gives, as the laws take it.
-use Rattle.std.proofs.Common.{◌≡◌, List, [], ◌∷◌, length, IsSome, refl, sym, subst}
+use Rattle.std.proofs.Common.{List, [], ◌∷◌, length, IsSome, refl, sym, subst}
 use Rattle.std.specs.Prelude.{All}
 use Rattle.std.proofs.lemmas.List.Elements.{All-head, All-tail}
 use Rattle.pw_words.specs.Words.{Word}
-use Rattle.pw_data.specs.declared.item.Item.{Item}
 use Rattle.pw_code.specs.Fields.{IsTable}
 use Rattle.pw_operands.specs.Resolved.{Each}
 use Rattle.pw_scobol.specs.Using.{IsParameter}

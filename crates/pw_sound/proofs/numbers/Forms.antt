@@ -1,5 +1,5 @@
 -- The number literals of forms are those that their tokens write.
-use Rattle.std.proofs.Common.{◌≡◌, ℕ, Bool, true, false, List, [], ◌∷◌, length, Option, Some, None, if◌then◌else◌, refl}
+use Rattle.std.proofs.Common.{ℕ, Bool, true, false, List, [], length, Some, None, if◌then◌else◌}
 use Rattle.std.specs.Prelude.{codes}
 use Rattle.pw_words.specs.Words.{Word}
 use Rattle.pw_operands.specs.Resolved.{Each}
@@ -20,13 +20,13 @@ use Rattle.pw_forms.specs.declared.form.Head.{Head}
 use Rattle.pw_forms.specs.declared.form.Head.TheVariants as head
 use Rattle.pw_forms.specs.declared.form.Form.{Form}
 use Rattle.pw_forms.specs.declared.form.Form.TheVariants as forms
-use Rattle.pw_forms.specs.Readers.{Rest, Reader, ◌>>=◌, pure, fails, token, is_done, expects, eats, ends, some, up_to}
+use Rattle.pw_forms.specs.Readers.{Rest, Reader, ◌>>=◌, pure, fails, is_done, expects, eats, ends, some, up_to}
 use Rattle.pw_forms.specs.Operands.{operand, code, name, file_name, program_name, key}
 use Rattle.pw_forms.specs.Conditions.{condition}
 use Rattle.pw_forms.specs.Forms as reads
 use Rattle.pw_forms.specs.FileForms as reads_files
 use Rattle.pw_sound.specs.Premises.{IsLiteral, AreLiterals, IsRead}
-use Rattle.pw_sound.proofs.numbers.Steps.{Any, Good, Yields, yields-bind, yields-any, yields-pure, yields-fails, yields-if, yields-test, eats-gives, expects-gives, ends-gives, most-gives, some-gives, up-to-gives}
+use Rattle.pw_sound.proofs.numbers.Steps.{Any, Yields, yields-bind, yields-any, yields-pure, yields-fails, yields-if, yields-test, eats-gives, expects-gives, ends-gives, most-gives, some-gives, up-to-gives}
 use Rattle.pw_sound.proofs.numbers.Operands.{operand-gives, name-gives, file-gives, program-gives, key-gives, code-gives, condition-gives}
 
 abbrev pub AreIn : Cond → Type 0

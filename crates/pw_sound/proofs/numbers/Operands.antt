@@ -1,5 +1,5 @@
 -- The number literals of operands and of conditions are those that their tokens write.
-use Rattle.std.proofs.Common.{◌≡◌, ℕ, Bool, true, false, not, List, [], ◌∷◌, Option, Some, None, ◌&&◌, ◌||◌, if◌then◌else◌, refl, sym, ap, subst}
+use Rattle.std.proofs.Common.{◌≡◌, ℕ, Bool, true, false, not, List, Option, Some, None, ◌&&◌, if◌then◌else◌, refl, sym, subst}
 use Rattle.std.specs.Prelude.{codes, option_map}
 use Rattle.pw_words.specs.Words.{Word}
 use Rattle.pw_operands.specs.Resolved.{Each}
@@ -8,17 +8,15 @@ use Rattle.pw_text.specs.Literals.{unquoted}
 use Rattle.pw_text.specs.declared.token.Token.{Token}
 use Rattle.pw_text.specs.declared.token.TokenKind.{TokenKind}
 use Rattle.pw_text.specs.declared.token.TokenKind.TheVariants as kind
-use Rattle.pw_forms.specs.declared.cond.Comparison.{Comparison}
 use Rattle.pw_forms.specs.declared.cond.Comparison.TheVariants as comparisons
 use Rattle.pw_forms.specs.declared.cond.Cond.{Cond}
 use Rattle.pw_forms.specs.declared.cond.Operator.{Operator}
 use Rattle.pw_forms.specs.declared.cond.Operator.TheVariants as operators
 use Rattle.pw_forms.specs.declared.operand.Operand.{Operand}
 use Rattle.pw_forms.specs.declared.operand.Operand.TheVariants as operands
-use Rattle.pw_forms.specs.declared.operand.Subscript.{Subscript}
 use Rattle.pw_forms.specs.declared.operand.Subscript.TheVariants as subscripts
 use Rattle.pw_forms.specs.Words.{is_item_name, is_name, is_receive, is_the_word, is_word, name_in}
-use Rattle.pw_forms.specs.Readers.{Rest, Reader, ◌>>=◌, pure, fails, token, takes, eats}
+use Rattle.pw_forms.specs.Readers.{Rest, Reader, ◌>>=◌, pure, token, takes, eats}
 use Rattle.pw_forms.specs.Operands.{operand, operand_by, item, figurative, subscript_by, subscript_behind, code, is_code, value_of, name, file_name, program_by, program_name, key, key_of}
 use Rattle.pw_forms.specs.Conditions.{word_operator, operator_by, operator, compared, comparison, all, condition}
 use Rattle.pw_sound.specs.Premises.{IsLiteral, AreLiterals}

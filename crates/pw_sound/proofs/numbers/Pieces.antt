@@ -28,10 +28,9 @@ use Rattle.pw_forms.specs.Faults.{nothing, faults_from}
 use Rattle.pw_forms.specs.Procedures.{procedure_of}
 use Rattle.pw_operands.specs.Resolved.{Each}
 use Rattle.pw_operands.proofs.Branches.{first_of, second_of}
-use Rattle.pw_sound.specs.Premises.{IsLiteral, AreLiterals, IsRead, RowIsRead}
+use Rattle.pw_sound.specs.Premises.{IsRead, RowIsRead}
 use Rattle.pw_sound.specs.Tokens.{HasNumber}
-use Rattle.pw_sound.proofs.numbers.Steps.{Good}
-use Rattle.pw_sound.proofs.numbers.Forms.{AreIn, HeadIsRead, IsOf, form-gives}
+use Rattle.pw_sound.proofs.numbers.Forms.{HeadIsRead, IsOf, form-gives}
 use Rattle.pw_source.proofs.storage.Places.{each-append}
 
 -- ---- pieces

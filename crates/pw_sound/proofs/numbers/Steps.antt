@@ -1,5 +1,5 @@
 -- Steps of readers over tokens of which the numbers are those that they are written as.
-use Rattle.std.proofs.Common.{◌≡◌, ℕ, zero, suc, Bool, true, false, List, [], ◌∷◌, ◌++◌, length, drop, Option, Some, None, if◌then◌else◌, refl, sym, ap, ◌∙◌, subst}
+use Rattle.std.proofs.Common.{◌≡◌, ℕ, zero, suc, Bool, true, false, List, [], ◌∷◌, ◌++◌, drop, Option, Some, None, if◌then◌else◌, refl, ap, subst}
 use Rattle.std.specs.Prelude.{nat_le}
 use Rattle.pw_operands.specs.Resolved.{Each}
 use Rattle.pw_text.specs.declared.token.Token.{Token}
