@@ -28,3 +28,7 @@ mod Showing
 mod written
 mod Upper
 mod Fitting
+mod Given
+mod Numerals
+mod Scanned
+mod numbers

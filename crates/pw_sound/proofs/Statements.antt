@@ -1,15 +1,13 @@
 -- What the code of a statement does is what the statement does.
 use Rattle.std.proofs.Common.{◌≡◌, ℕ, zero, suc, ◌+◌, ◌-◌, ◌*◌, ◌<◌, ◌≤◌, Bool, true, false, List, [], ◌∷◌, ◌++◌, length, map, Option, Some, None, if◌then◌else◌, refl, sym, ap, ◌∙◌, subst, arith}
 use Rattle.std.specs.Prelude.{nat_lt, ◌==◌, slice_get, option_map}
-use Rattle.std.proofs.lemmas.List.{length-append}
 use Rattle.std.proofs.lemmas.Bool.{eq-eqb, eqb-true, le-ltb}
 use Rattle.pw_words.specs.Words.{Word}
 use Rattle.pw_data.specs.Store.{joined}
 use Rattle.pw_forms.specs.declared.cond.Cond.{Cond}
 use Rattle.pw_forms.specs.declared.operand.Operand.{Operand}
 use Rattle.pw_forms.specs.declared.statement.Arithmetic.{Arithmetic}
-use Rattle.pw_forms.specs.declared.statement.Statement.{Statement, Row_of-Statement, end_of-Statement, more_of-Statement}
-use Rattle.pw_forms.specs.declared.statement.Statement as form
+use Rattle.pw_forms.specs.declared.statement.Statement.{Statement}
 use Rattle.pw_operands.specs.Resolved.{Each}
 use Rattle.pw_code.specs.declared.context.Return.{Return}
 use Rattle.pw_code.specs.declared.instr.Instr.{Instr}
@@ -40,9 +38,9 @@ use Rattle.pw_source.specs.Sends as sends
 use Rattle.pw_exec.specs.Turns as turning
 use Rattle.pw_compile.specs.Operands as code
 use Rattle.pw_compile.specs.Conditions as compiled
-use Rattle.pw_compile.specs.Emitted.{statement_code, row_code, body_code}
+use Rattle.pw_compile.specs.Emitted.{body_code}
 use Rattle.pw_compile.specs.Plan.{Plan}
-use Rattle.pw_compile.specs.Sizes.{size, row_size, body_size}
+use Rattle.pw_compile.specs.Sizes.{body_size}
 use Rattle.pw_sound.proofs.Ground.{Ground}
 use Rattle.pw_sound.proofs.Operands.{Known, Indexed, taken-same}
 use Rattle.pw_sound.proofs.Readings.{Sits, TakenSits, spot-sits, taken-sits, all-sit, read-same, spots-same, spot-same, moves-same, moves-ground, ComparisonIndexed, holds-same, computed-same, Computed, computed-state, stored}

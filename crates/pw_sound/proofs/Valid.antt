@@ -1,5 +1,5 @@
 -- The codes of a sound deck are valid.
-use Rattle.std.proofs.Common.{◌≡◌, ℕ, zero, suc, ◌+◌, ◌<◌, Bool, true, false, cond, List, [], ◌∷◌, length, map, All, Some, IsSome, refl, sym, ap, ◌∙◌, subst, arith}
+use Rattle.std.proofs.Common.{◌≡◌, ℕ, zero, suc, ◌+◌, ◌<◌, Bool, true, false, cond, List, [], ◌∷◌, length, map, All, Some, IsSome, sym, ap, ◌∙◌, subst, arith}
 use Rattle.std.specs.Prelude.{slice_index_or, position, unwrap_or, bytes_eq}
 use Rattle.std.specs.List.{position_from}
 use Rattle.std.proofs.lemmas.Iterator.Adapters.{position_from-zero}
@@ -15,7 +15,6 @@ use Rattle.pw_code.specs.Instrs.{IsTurn, IsScreen}
 use Rattle.pw_code.specs.Valid.{IsCode, IsLinked, IsDeckFile, IsValid}
 use Rattle.pw_code.specs.declared.code.Code.{Code}
 use Rattle.pw_code.specs.declared.field.ScreenTable.{ScreenTable}
-use Rattle.pw_code.specs.declared.instr.Instr.TheVariants as instr
 use Rattle.std.proofs.lemmas.Bool.{false≢true}
 use Rattle.pw_code.specs.declared.links.Links.{Links}
 use Rattle.pw_code.specs.declared.lock.LockRule.{LockRule}
@@ -23,7 +22,6 @@ use Rattle.pw_source.specs.Program.{Deck, Program, first_screen}
 use Rattle.pw_source.specs.Program as tree
 use Rattle.pw_source.specs.Sound.{links_of, scope_of, IsSound, IsSoundProgram}
 use Rattle.pw_source.proofs.Resolved.{got-below}
-use Rattle.pw_compile.specs.Emitted.{procedure_code, body_code}
 use Rattle.pw_compile.specs.Plan as plans
 use Rattle.pw_compile.specs.Plan.{Plan, plan_of, turn_of}
 use Rattle.pw_compile.specs.Programs.{linked_by}

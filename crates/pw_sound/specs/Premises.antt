@@ -1,6 +1,6 @@
 -- What the law of the compiler still takes of a deck beside that its names resolve: what the readers of screens, of
 -- USING and of CALL see to.
-use Rattle.std.specs.Prelude.{◌≡◌, ℕ, ◌+◌, ◌^◌, ◌<◌, pos, List, [], ◌∷◌, map, length, All, Some, IsSome, unwrap_or}
+use Rattle.std.specs.Prelude.{◌≡◌, ℕ, ◌^◌, ◌<◌, pos, List, map, length, All, Some, IsSome, unwrap_or}
 use Rattle.pw_picture.specs.declared.picture.Picture.{Picture}
 use Rattle.pw_words.specs.Words.{Word}
 use Rattle.pw_number.specs.Number.{number}
@@ -9,7 +9,6 @@ use Rattle.pw_forms.specs.declared.cond.Comparison.{Comparison}
 use Rattle.pw_forms.specs.declared.cond.Comparison.TheVariants as comparisons
 use Rattle.pw_forms.specs.declared.operand.Operand.{Operand}
 use Rattle.pw_forms.specs.declared.operand.Operand.TheVariants as operands
-use Rattle.pw_forms.specs.declared.statement.Paragraph.{Paragraph}
 use Rattle.pw_forms.specs.declared.statement.Statement.{Statement, Row_of-Statement, end_of-Statement, more_of-Statement}
 use Rattle.pw_forms.specs.declared.statement.Statement as form
 use Rattle.pw_operands.specs.Resolved.{Each}

@@ -1,6 +1,7 @@
 ghost use Rattle.std.specs.Prelude.{◌≡◌, ◌<◌, ℕ, List, [], Bool, false, map, length, All, true, Ok};
 ghost use Rattle.pw_code.specs.Entry.{Entry};
 ghost use Rattle.pw_code.specs.Valid.{IsValid, IsCode};
+ghost use Rattle.pw_code.specs.Fields.{IsTable};
 ghost use Rattle.pw_code.specs.declared.lock.LockRule.{LockRule};
 ghost use Rattle.pw_code.specs.declared.field.Field.{Field};
 ghost use Rattle.pw_code.specs.declared.field.ScreenTable.{ScreenTable};
@@ -14,15 +15,22 @@ ghost use Rattle.pw_forms.specs.Procedures.{procedure_of};
 ghost use Rattle.pw_forms.specs.declared.statement.Paragraph.{Paragraph};
 ghost use Rattle.pw_forms.specs.declared.statement.Procedure.{Procedure};
 ghost use Rattle.pw_operands.specs.Resolved.{Each};
+ghost use Rattle.pw_scobol.specs.Requesters.{requester_of};
+ghost use Rattle.pw_scobol.specs.Using.{IsParameter};
+ghost use Rattle.pw_scobol.specs.declared.requester.Requester.{Requester};
 ghost use Rattle.pw_screen.specs.Screens.{screens_of};
+ghost use Rattle.pw_server.specs.Servers.{server_of};
+ghost use Rattle.pw_server.specs.declared.server.Server.{Server};
 ghost use Rattle.pw_source.specs.OfDeck as tree;
 ghost use Rattle.pw_source.specs.Program.{Deck, Program};
 ghost use Rattle.pw_source.specs.Runs.{told, file_told, run_after, server_setting, server_run, start};
 ghost use Rattle.pw_source.specs.Setting.{Setting};
 ghost use Rattle.pw_source.specs.Sound.{IsSound, IsSoundProgram};
+ghost use Rattle.pw_text.specs.Tokens.{tokens_of};
 ghost use Rattle.pw_text.specs.declared.token.Token.{Token};
 ghost use Rattle.pw_sound.specs.Answered.{AnswersAs};
-ghost use Rattle.pw_sound.specs.Premises.{AreFitting, AreRead, CallsFit, HasTables, IsShownOf};
+ghost use Rattle.pw_sound.specs.Premises.{AreFitting, AreItems, AreRead, CallsFit, HasTables, IsRead, IsShownOf};
+ghost use Rattle.pw_sound.specs.Tokens.{HasNumber};
 ghost use Rattle.pw_sound.specs.Written.{IsWritten};
 ghost use Rattle.pw_sound.specs.Systems.{named_in, system_of};
 
@@ -70,7 +78,11 @@ pub fn code_laws()
 
 /// What the readers of screens and of procedures give is what the laws above take of it: a field shows a
 /// literal or an item of the layout, and statements are written as their reader sees to. Where the names of
-/// a requester have no fault, the arguments of its CALLs are as long as the items of USING.
+/// a requester have no fault, the arguments of its CALLs are as long as the items of USING. Each name of
+/// USING that is a parameter as the contract of `requester` says, is that of an item, and screens that are
+/// tables as it says, are such tables here. A number among the tokens of a text is the number that it is
+/// written as, of at most 18 digits, and so are then the number literals of the statements that are read of
+/// such tokens: those of every requester and of every server that is read.
 pub fn reading_laws()
     ensures screens { (text : List ℕ) (tokens : List Token) (laid : Laid) (tables : List ScreenTable)
         → screens_of text tokens laid ≡ Ok tables
@@ -83,4 +95,20 @@ pub fn reading_laws()
         → program_faults (named_in deck program) ≡ []
         → Each (λ (paragraph : Paragraph). Each (CallsFit deck program) paragraph.body)
         program.paragraphs }
+    ensures parameters { (program : Program) → All (IsParameter program.layout) program.parameters
+        → AreItems program program.parameters }
+    ensures numbers { (text : List ℕ) (first_line : ℕ) (tokens : List Token)
+        → tokens_of text first_line ≡ Ok tokens → Each (HasNumber text) tokens }
+    ensures literals { (server : Bool) (text : List ℕ) (tokens : List Token) (procedure : Procedure)
+        → Each (HasNumber text) tokens → procedure_of server text tokens ≡ Ok procedure
+        → Each (λ (paragraph : Paragraph). Each IsRead paragraph.body) procedure.paragraphs }
+    ensures requester { (name : List ℕ) (text : List ℕ) (first_line : ℕ) (one : Requester)
+        → requester_of name text first_line ≡ Ok one
+        → Each (λ (paragraph : Paragraph). Each IsRead paragraph.body) one.procedure.paragraphs }
+    ensures server { (name : List ℕ) (text : List ℕ) (first_line : ℕ) (one : Server)
+        → server_of name text first_line ≡ Ok one
+        → Each (λ (paragraph : Paragraph). Each IsRead paragraph.body) one.procedure.paragraphs }
+    ensures tables { (program : Program)
+        → All (IsTable (length program.layout.storage)) program.screens
+        → Each (IsTable (length program.layout.storage)) program.screens }
 {}
