@@ -132,7 +132,13 @@ impl FaultCode {
     }
 }
 
+/// A code is printed as its number.
 impl Display for FaultCode {
+    ghost use Rattle.std.specs.Prelude.{Some};
+    ghost use Rattle.std.specs.Fmt.{decimal};
+
+    ghost output = { λ code. Some (decimal (number code)) };
+
     fn fmt<W: fmt::Write>(&self, formatter: &mut Formatter<W>) -> fmt::Result {
         write!(formatter, "{}", self.number())
     }
