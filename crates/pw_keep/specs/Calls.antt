@@ -1,5 +1,5 @@
 -- What single calls ask for and do.
-use Rattle.std.specs.Prelude.{◌≡◌, ℕ, ◌<◌, Bool, true, false, List, length, Option, Some, None}
+use Rattle.std.specs.Prelude.{◌≡◌, ℕ, ◌<◌, Bool, true, false, List, [], ◌∷◌, length, Option, Some, None}
 use Rattle.pw_class.specs.Book.{queue_at}
 use Rattle.pw_class.specs.Queue.{Queue, at_process, taken}
 use Rattle.pw_class.specs.declared.request.Request.{Request}
@@ -9,8 +9,8 @@ use Rattle.pw_code.specs.declared.context.Context.{Context}
 use Rattle.pw_code.specs.declared.file.FileCall.{FileCall}
 use Rattle.pw_code.specs.declared.verb.Verb.{Verb}
 use Rattle.pw_code.specs.declared.verb.Verb.TheVariants as verb
-use Rattle.pw_keep.specs.Keeps.{KeepState, job_of, jobs_at, kept_in}
-use Rattle.pw_kept.specs.Changes.{at_terminal, unit_at, with_context, without_unit}
+use Rattle.pw_keep.specs.Keeps.{KeepState, job_of, jobs_at, kept_in, terminals_in}
+use Rattle.pw_kept.specs.Changes.{at_terminal, cancel, unit_at, with_context, without_unit}
 use Rattle.pw_event.specs.declared.event.Cause.{Cause}
 use Rattle.pw_kept.specs.Kept.{Kept, KeptTerminal}
 use Rattle.pw_seats.specs.declared.job.Job.{Job}
@@ -35,6 +35,17 @@ process_of _ = 0
 
 abbrev pub taker : Queue → ℕ
 taker queue = process_of (taken queue)
+
+-- the process and the terminal of the request that it gets
+abbrev pub given : Taken → Option (ℕ × ℕ)
+given (Got process request) = Some (process, request.terminal)
+given _ = None
+
+-- the same, where the process and the request are these
+abbrev pub given_to : Option ℕ → Option Request → Option (ℕ × ℕ)
+given_to None request = None
+given_to (Some process) None = None
+given_to (Some process) (Some request) = Some (process, request.terminal)
 
 -- a unit of one SEND ends with its reply, where its process is free already
 abbrev pub kept_commit_reply : ℕ → ℕ → List ℕ → Context → Kept → Kept
@@ -76,3 +87,15 @@ call_of (Some job) = call_in job.verb
 -- a cause is pending for a terminal
 abbrev pub pended : Cause → KeptTerminal → KeptTerminal
 pended cause own = record own { pending = Some cause }
+
+-- ---- pairs
+
+-- the terminals of the pair
+abbrev pub members_in : Kept → ℕ → List ℕ
+members_in kept p = terminals_in (kept.pairs p)
+
+-- ---- requests
+
+-- the requests of one terminal are cancelled
+abbrev pub cancel_of : ℕ → Kept → Kept
+cancel_of t kept = cancel (t ∷ []) kept

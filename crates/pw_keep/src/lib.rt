@@ -2,5 +2,13 @@
 //! what each kind of entry does to it.
 #![tactic(auto)]
 
+mod each;
+mod failures;
 pub mod keep;
+mod pairs;
 mod pieces;
+mod reading;
+mod servers;
+mod starting;
+mod terminals;
+mod units;
