@@ -4,7 +4,9 @@ pub mod Calls
 pub mod Dues
 pub mod Enabled
 pub mod OneSends
+pub mod Pushed
 pub mod Seen
 pub mod Stamps
 pub mod Tasks
+pub mod Touches
 pub mod Worlds

@@ -1,8 +1,11 @@
-//  The monitor's world over the whole paired system: who acts, what a world answers, and what
-// contracts see of it.
+//! The monitor's world over the whole paired system: who acts, what a world answers, what contracts
+//! see of it, and the laws by which it goes on.
 #![tactic(auto)]
 
 pub mod answers;
+pub mod contexts;
 pub mod due;
 pub mod laws;
+pub mod pushing;
+pub mod stepping;
 pub mod task;
