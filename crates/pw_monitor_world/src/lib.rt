@@ -3,8 +3,8 @@
 #![tactic(auto)]
 
 pub mod answers;
-pub mod contexts;
 pub mod due;
+pub mod known;
 pub mod laws;
 pub mod pushing;
 pub mod stepping;

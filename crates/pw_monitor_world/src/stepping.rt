@@ -73,11 +73,11 @@ pub fn actor_laws()
     ensures script { (system : System) (script : List FailLine) (kept : Kept) (entry : Event)
         → is_fail entry ≡ false → may system [] kept entry ≡ may system script kept entry }
     ensures owner { (system : System) (script : List FailLine) (entry : Event)
-        → IsValid system → IsThere system entry
+        → IsBehaviour (behaviour script system) → IsThere system entry
         → IsOwner (length system.tcps) (length system.classes)
         (owner_of (behaviour script system).pair_of entry) }
     ensures actor { (system : System) (script : List FailLine) (entry : Event)
-        → IsValid system → IsThere system entry
+        → IsBehaviour (behaviour script system) → IsThere system entry
         → IsActor system (actor_of (behaviour script system) entry) }
     ensures placed { (system : System) (actor : Actor) → IsValid system → IsActor system actor
         → is_placed actor ≡ true }

@@ -1,0 +1,8 @@
+use Rattle.pw_monitor_world.proofs.RanOn.{process-ran, terminal-ran}
+use Rattle.pw_monitor_world.proofs.pushing.running_laws.Goals as goal
+
+pub returns-clause-terminal : goal.returns-clause-terminal
+returns-clause-terminal c world books t info old new verb marked w here is on are = terminal-ran world books w t info old new verb marked here is on are
+
+pub returns-clause-process : goal.returns-clause-process
+returns-clause-process c world books p i info old new verb marked w here is on are = process-ran world books w p i info old new verb marked here is on are
