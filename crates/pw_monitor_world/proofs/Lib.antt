@@ -15,6 +15,7 @@ pub mod Pairs
 pub mod Placed
 pub mod RanOn
 pub mod Readies
+pub mod Rooms
 pub mod Shapes
 pub mod Stamped
 pub mod Steps

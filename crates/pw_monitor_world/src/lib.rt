@@ -3,6 +3,7 @@
 #![tactic(auto)]
 
 pub mod answers;
+pub mod contexts;
 pub mod due;
 pub mod known;
 pub mod laws;
