@@ -21,3 +21,4 @@ pub mod Stamped
 pub mod Steps
 pub mod Touched
 pub mod Unlike
+pub mod Values

@@ -1,5 +1,6 @@
 use Rattle.pw_monitor_world.proofs.OfUnits.{serves}
 use Rattle.pw_monitor_world.proofs.Rooms.{behind, job-room, ready, says, start, work}
+use Rattle.pw_monitor_world.proofs.Values.{closed-values}
 use Rattle.pw_monitor_world.proofs.contexts.context_laws.Goals as goal
 
 pub returns-clause-context : goal.returns-clause-context
@@ -22,3 +23,6 @@ returns-clause-says c world books t context w can is = says world books w t cont
 
 pub returns-clause-serves : goal.returns-clause-serves
 returns-clause-serves c world books p i job context w works is at_verb = serves world books w p i job context works is at_verb
+
+pub returns-clause-closed : goal.returns-clause-closed
+returns-clause-closed c system context a valid sound room values closes = closed-values system context a valid sound room values closes
