@@ -21,4 +21,5 @@ pub mod Stamped
 pub mod Steps
 pub mod Touched
 pub mod Unlike
+pub mod Unread
 pub mod Values

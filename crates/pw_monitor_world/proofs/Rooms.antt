@@ -126,7 +126,7 @@ module _ (world : Seen) (books : Books) (w : IsWorld world books) where
   and-first true b e = refl
   and-first false b e = absurd (cc e)
 
-  stepping-low : (t : ℕ) → can_step world.system world.kept t ≡ true → t < length world.system.terminals
+  pub stepping-low : (t : ℕ) → can_step world.system world.kept t ≡ true → t < length world.system.terminals
   stepping-low t can = ltb-true t (length world.system.terminals) (and-first _ _ (and-first _ _ can))
 
   pub steps : (t : ℕ) → can_step world.system world.kept t ≡ true → CanStep (sys_of world) (state_of world) t

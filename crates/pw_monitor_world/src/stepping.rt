@@ -1,4 +1,4 @@
-ghost use Rattle.std.specs.Prelude.{◌≡◌, ◌≤◌, ◌<◌, ◌-◌, ◌^◌, [], ℕ, All, Bool, List, Some, false, length, slice_get, true};
+ghost use Rattle.std.specs.Prelude.{◌≡◌, ◌≤◌, ◌<◌, ◌-◌, ◌^◌, [], ℕ, All, Bool, List, None, Some, false, length, slice_get, true};
 ghost use Rattle.pw_code.specs.Valid.{IsValid};
 ghost use Rattle.pw_code.specs.declared.context.Context.{Context};
 ghost use Rattle.pw_code.specs.declared.system.System.{System};
@@ -17,7 +17,7 @@ ghost use Rattle.pw_monitor_world.specs.Actors.{IsActor, actor_of};
 ghost use Rattle.pw_monitor_world.specs.Dues.{IsOwner, due_in};
 ghost use Rattle.pw_monitor_world.specs.Enabled.{IsEnabled, MayWork};
 ghost use Rattle.pw_monitor_world.specs.Pushed.{first_books, first_world};
-ghost use Rattle.pw_monitor_world.specs.Seen.{Seen, finished, state_of, sys_of};
+ghost use Rattle.pw_monitor_world.specs.Seen.{Seen, finished, state_of, sys_of, work_of};
 ghost use Rattle.pw_monitor_world.specs.Worlds.{Books, IsDiscOf, IsNew, IsWorld};
 ghost use Rattle.pw_onecopy.specs.IsBehaviour.{IsBehaviour};
 ghost use Rattle.pw_paired.specs.Step.{Legal, line_wanted};
@@ -28,7 +28,8 @@ ghost use Rattle.pw_tmf.specs.Told.{Told};
 
 /// Which entries of a world are steps: those that name what is there, pass the test of what is kept,
 /// and whose failure line is the one that is due, where the log is not finished. A legal reply finds
-/// its terminal's program at its verb.
+/// its terminal's program at its verb, and where an actor has nothing to run on, what the tests of
+/// its entries speak of has been read.
 pub fn legal_laws()
     ensures there { (world : Seen) (books : Books) (entry : Event)
         → IsWorld world books → Legal (sys_of world) (state_of world) entry
@@ -62,6 +63,9 @@ pub fn legal_laws()
         → AreValued world.system world.kept entry
         → Legal (sys_of world) (state_of world) entry
         → may world.system world.script world.kept entry ≡ true }
+    ensures read { (world : Seen) (books : Books) (entry : Event)
+        → IsWorld world books → work_of world (actor_of (sys_of world) entry) ≡ None
+        → IsStepRead world.system world.kept entry }
     ensures reply { (world : Seen) (books : Books) (entry : Event)
         → IsWorld world books → Legal (sys_of world) (state_of world) entry
         → IsReplyRead world.kept entry }

@@ -1,5 +1,6 @@
 use Rattle.pw_monitor_world.proofs.Idle.{reply-read}
 use Rattle.pw_monitor_world.proofs.Steps.{due-same, is-legal, passes, passes-shown, shows, there}
+use Rattle.pw_monitor_world.proofs.Unread.{read-of}
 use Rattle.pw_monitor_world.proofs.stepping.legal_laws.Goals as goal
 use Rattle.std.proofs.Common.{◌∙◌}
 
@@ -23,3 +24,6 @@ returns-clause-must c world books entry w read values legal = passes world books
 
 pub returns-clause-reply : goal.returns-clause-reply
 returns-clause-reply c world books entry w legal = reply-read world books w entry legal
+
+pub returns-clause-read : goal.returns-clause-read
+returns-clause-read c world books entry w none = read-of world books w entry none
