@@ -16,6 +16,7 @@ pub mod Placed
 pub mod RanOn
 pub mod Readies
 pub mod Rooms
+pub mod SameWork
 pub mod Shapes
 pub mod Stamped
 pub mod Steps

@@ -45,11 +45,11 @@ same-shape kept = record { seats = λ p. refl; terminals = refl; files = refl; f
 
 -- ---- seats
 
-map-same : (change : Seat → Seat) → ((seat : Seat) → (change seat).terminal ≡ seat.terminal) → (seats : List Seat) → map (λ (seat : Seat). seat.terminal) (map change seats) ≡ map (λ (seat : Seat). seat.terminal) seats
+pub map-same : (change : Seat → Seat) → ((seat : Seat) → (change seat).terminal ≡ seat.terminal) → (seats : List Seat) → map (λ (seat : Seat). seat.terminal) (map change seats) ≡ map (λ (seat : Seat). seat.terminal) seats
 map-same change keeps [] = refl
 map-same change keeps (seat ∷ seats) = ap₂ (λ t ts. t ∷ ts) (keeps seat) (map-same change keeps seats)
 
-at-same : (t : ℕ) (change : Seat → Seat) → ((seat : Seat) → (change seat).terminal ≡ seat.terminal) → (seat : Seat) → (if is_seat_of t seat then change seat else seat).terminal ≡ seat.terminal
+pub at-same : (t : ℕ) (change : Seat → Seat) → ((seat : Seat) → (change seat).terminal ≡ seat.terminal) → (seat : Seat) → (if is_seat_of t seat then change seat else seat).terminal ≡ seat.terminal
 at-same t change keeps seat = by (is_seat_of t seat)
   where
     by : (b : Bool) → (if b then change seat else seat).terminal ≡ seat.terminal

@@ -3,6 +3,7 @@
 #![tactic(auto)]
 
 pub mod answers;
+pub mod changing;
 pub mod contexts;
 pub mod due;
 pub mod known;
