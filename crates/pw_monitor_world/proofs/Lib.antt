@@ -5,6 +5,7 @@ pub mod Cancels
 pub mod Classes
 pub mod Dues
 pub mod Endings
+pub mod Failures
 pub mod First
 pub mod HeldBirths
 pub mod Idle
@@ -12,6 +13,7 @@ pub mod Members
 pub mod OfUnits
 pub mod Outs
 pub mod Pairs
+pub mod Paths
 pub mod Placed
 pub mod RanOn
 pub mod Readies

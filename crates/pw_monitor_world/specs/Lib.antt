@@ -3,6 +3,7 @@ pub mod Answers
 pub mod Calls
 pub mod Dues
 pub mod Enabled
+pub mod Failures
 pub mod OneSends
 pub mod Pushed
 pub mod Seen

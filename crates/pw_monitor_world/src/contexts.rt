@@ -7,7 +7,7 @@ ghost use Rattle.pw_code.specs.declared.system.System.{System};
 ghost use Rattle.pw_code.specs.declared.verb.Answer.{Answer};
 ghost use Rattle.pw_exec.specs.Sound.{IsSoundContext};
 ghost use Rattle.pw_image.specs.Values.{HasValues};
-ghost use Rattle.pw_kept.specs.Asked.{SaysOf, answered_with, verb_in};
+ghost use Rattle.pw_kept.specs.Asked.{CountsOf, SaysOf, answered_with, verb_in};
 ghost use Rattle.pw_kept.specs.TerminalTests.{can_step, closing};
 ghost use Rattle.pw_machine.specs.Stack.{HasRoom};
 ghost use Rattle.pw_monitor_world.specs.Actors.{IsActor};
@@ -18,9 +18,9 @@ ghost use Rattle.pw_paired.specs.State.{Job};
 ghost use Rattle.pw_paired.specs.Terminal.{path_of};
 ghost use Rattle.pw_roster.specs.declared.actor.Actor.{Actor};
 
-/// Each context that a world keeps is sound and has room for one more answer; and at a verb it says
-/// what its path or its job says. Behind the answer that ends a transaction its numbers and
-/// characters are of their types still.
+/// Each context that a world keeps is sound and has room for one more answer. At a verb it says what
+/// its path or its job says, and behind an answer a terminal's counts what its path counts. Behind the
+/// answer that ends a transaction its numbers and characters are of their types still.
 pub fn context_laws()
     ensures context { (world : Seen) (books : Books) (t : ℕ) (info : TermInfo) (context : Context)
         → IsWorld world books → slice_get world.system.terminals t ≡ Some info
@@ -45,6 +45,10 @@ pub fn context_laws()
         → IsWorld world books → can_step world.system world.kept t ≡ true
         → (world.kept.terminals t).ready ≡ Some context
         → SaysOf (sys_of world) world.system t (path_of (state_of world) t) context }
+    ensures counts { (world : Seen) (books : Books) (t : ℕ) (info : TermInfo) (context : Context)
+        → IsWorld world books → slice_get world.system.terminals t ≡ Some info
+        → (world.kept.terminals t).context ≡ Some context
+        → CountsOf (path_of (state_of world) t) context }
     ensures closed { (system : System) (context : Context) (a : Answer)
         → IsValid system → IsSoundContext system context → HasRoom context → HasValues context
         → closing (verb_in system context) ≡ Some a

@@ -6,6 +6,7 @@ pub mod answers;
 pub mod changing;
 pub mod contexts;
 pub mod due;
+pub mod failing;
 pub mod known;
 pub mod laws;
 pub mod pushing;

@@ -1,4 +1,5 @@
 use Rattle.pw_monitor_world.proofs.OfUnits.{serves}
+use Rattle.pw_monitor_world.proofs.Paths.{counts-path}
 use Rattle.pw_monitor_world.proofs.Rooms.{behind, job-room, ready, says, start, work}
 use Rattle.pw_monitor_world.proofs.Values.{closed-values}
 use Rattle.pw_monitor_world.proofs.contexts.context_laws.Goals as goal
@@ -26,3 +27,6 @@ returns-clause-serves c world books p i job context w works is at_verb = serves 
 
 pub returns-clause-closed : goal.returns-clause-closed
 returns-clause-closed c system context a valid sound room values closes = closed-values system context a valid sound room values closes
+
+pub returns-clause-counts : goal.returns-clause-counts
+returns-clause-counts c world books t info context w here is = counts-path world books w t info context here is
