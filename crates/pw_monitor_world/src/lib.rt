@@ -4,6 +4,7 @@
 
 pub mod answers;
 pub mod changing;
+pub mod claiming;
 pub mod contexts;
 pub mod due;
 pub mod failing;
