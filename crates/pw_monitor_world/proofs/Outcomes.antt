@@ -6,7 +6,7 @@ use Rattle.pw_code.specs.declared.system.ClassInfo.{ClassInfo}
 use Rattle.pw_code.specs.declared.verb.Verb.{Verb}
 use Rattle.pw_exec.specs.Contexts.{RunsOn}
 use Rattle.pw_exec.specs.OfSystem.{processes_by}
-use Rattle.pw_kept.specs.Changes.{kept_ran, with_job}
+use Rattle.pw_kept.specs.Changes.{with_job}
 use Rattle.pw_kept.specs.Kept.{Kept}
 use Rattle.pw_kept.specs.Stands.{IsReadyIfAny}
 use Rattle.pw_kept.proofs.Agreeing.{there-is}
