@@ -1,0 +1,13 @@
+use Rattle.pw_whole.proofs.Whole.{deck-sound, deck-fits, system-valid, system-same, deck-behaves, lines-there, lines-few}
+use Rattle.pw_whole.proofs.laws.whole_laws.Goals as goal
+
+pub returns : goal.returns
+returns c = record {
+  sound = deck-sound;
+  fitting = deck-fits;
+  valid = system-valid;
+  same = system-same;
+  behaves = deck-behaves;
+  lines = lines-there;
+  few = lines-few;
+}
