@@ -1,7 +1,1 @@
-pub mod Fields
-pub mod Lines
-pub mod Parts
-pub mod Pictures
-pub mod Read
-pub mod Sources
-pub mod Whole
+pub mod Coding

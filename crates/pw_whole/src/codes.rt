@@ -1,4 +1,4 @@
-ghost use Rattle.std.specs.Prelude.{◌≡◌, ◌^◌, ◌<◌, length, map, All, IfOk, OnOk};
+ghost use Rattle.std.specs.Prelude.{◌≡◌, ◌+◌, ◌++◌, ◌^◌, ◌<◌, length, map, All, IfOk, OnOk};
 ghost use Rattle.pw_sound.specs.Systems.{code_in, codes_in, screens_of};
 ghost use Rattle.pw_whole.specs.Whole.{of_requester, of_server};
 ghost use Rattle.pw_whole.specs.Short.{IsShort};
@@ -16,7 +16,8 @@ use std::alloc::Global;
 /// The number of the first screen behind these, where screens are numbered from `first` on. It is an
 /// `Err` where it does not fit, where the screens would have no memory either.
 fn behind(first: u32, screens: &[ScreenTable]) -> Result<u32, Memory>
-    ensures { IfOk result (λ next. next ≡ first + length screens.now) }
+    ensures next { IfOk result (λ next. next ≡ first + length screens.now) }
+    ensures fits { IfOk result (λ next. next < 2 ^ 32) }
 {
     let Ok(count) = u32::try_from(screens.len()) else {
         return Err(Memory);

@@ -3,6 +3,3 @@
 
 mod codes;
 pub mod deck;
-pub mod laws;
-#[cfg(test)]
-mod tests;
