@@ -1,7 +1,15 @@
-ghost use Rattle.std.specs.Prelude.{◌≡◌, map, IfOk};
+ghost use Rattle.std.specs.Prelude.{◌≡◌, ◌≤◌, length, map, Ok, IfOk};
 ghost use Rattle.pw_base.specs.First.{Gives};
+ghost use Rattle.pw_code.specs.Limits.{most_fail_lines};
+ghost use Rattle.pw_code.specs.Valid.{IsValid};
+ghost use Rattle.pw_code.specs.declared.lock.LockRule.TheVariants.{ReadersShare};
+ghost use Rattle.pw_deck.specs.Deck.{deck_of};
+ghost use Rattle.pw_deck.specs.declared.deck.Deck as trees_of_deck;
+ghost use Rattle.pw_exec.specs.OfSystem.{behaviour};
+ghost use Rattle.pw_onecopy.specs.IsBehaviour.{IsBehaviour};
+ghost use Rattle.pw_source.specs.OfDeck as tree;
 ghost use Rattle.pw_whole.specs.Short.{IsSmall};
-ghost use Rattle.pw_whole.specs.Whole.{compiled, whole_of};
+ghost use Rattle.pw_whole.specs.Whole.{compiled, trees_of, whole_of};
 
 use crate::codes::{all_screens, requester_codes, server_codes};
 use pw_base::bytes::Bytes;
@@ -86,12 +94,18 @@ fn compiled(alloc: Global, deck: trees::Deck) -> Result<Deck, Memory>
 
 /// Reads a deck (docs/DECK.md): its bytes once, and each section once, and compiles its programs.
 ///
-/// It refuses exactly with the deck's first fault, as `read_deck` does. Else its system is the one that
-/// the programs of the deck are compiled to (docs/CODE.md), under ReadersShare; the places of its codes
-/// and the numbers of its screens fit a `u32`.
+/// It refuses exactly with the deck's first fault, as `read_deck` does. The system that it gives is
+/// valid, and behaves by its codes as the deck does by the trees of its programs: so the paired system
+/// may run it. There are at most 64 failure lines.
 pub fn read(alloc: Global, bytes: &[u8]) -> Result<Deck, Refusal>
     ensures gives { Gives (λ deck. deck) result (whole_of bytes.now) }
+    ensures valid { IfOk result (λ deck. IsValid deck.system) }
+    ensures behaves { IfOk result (λ deck. IsBehaviour (behaviour deck.script.lines deck.system)) }
+    ensures same { (deck : trees_of_deck.Deck) → deck_of bytes.now ≡ Ok deck
+        → IfOk result (λ whole. behaviour whole.script.lines whole.system
+        ≡ tree.behaviour ReadersShare (trees_of deck)) }
     ensures small { IfOk result (λ deck. IsSmall deck.system) }
+    ensures few { IfOk result (λ deck. length deck.script.lines ≤ most_fail_lines) }
 {
     let deck = read_deck(alloc, bytes)?;
     Ok(compiled(alloc, deck)?)

@@ -3,3 +3,4 @@
 
 mod codes;
 pub mod deck;
+pub mod laws;
