@@ -14,7 +14,7 @@ use Rattle.std.proofs.lemmas.Bool.Decides.{same_from_decides}
 use Rattle.std.proofs.lemmas.List.{drop_all}
 use Rattle.pw_words.specs.Words.{Word}
 use Rattle.pw_operands.specs.Scope.{number_in}
-use Rattle.pw_names.specs.Index.{number_of, IsIndexOf}
+use Rattle.pw_index.specs.Index.{number_of, IsIndexOf}
 
 bytes_eq-swap : (xs ys : List ℕ) → bytes_eq xs ys ≡ bytes_eq ys xs
 bytes_eq-swap xs ys = same_from_decides (bytes_eq xs ys) (bytes_eq ys xs) (bytes_decides xs ys) (λ h. sym ((bytes_decides ys xs).0 h), λ is. (bytes_decides ys xs).1 (sym is))

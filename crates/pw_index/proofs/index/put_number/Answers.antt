@@ -3,8 +3,8 @@ use Rattle.std.specs.Prelude.{is_some}
 use Rattle.std.specs.Ordering.{nat_cmp}
 use Rattle.std.specs.Cmp.Lexicographic.{slice_cmp}
 use Rattle.std.specs.BTreeMap.{get_by}
-use Rattle.pw_names.proofs.Indexes.{number_of-insert}
-use Rattle.pw_names.proofs.index.put_number.Goals as goal
+use Rattle.pw_index.proofs.Indexes.{number_of-insert}
+use Rattle.pw_index.proofs.index.put_number.Goals as goal
 
 pub returns-in_ok-insert : goal.returns-in_ok-insert
 returns-in_ok-insert c =

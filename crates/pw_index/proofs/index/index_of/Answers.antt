@@ -1,9 +1,9 @@
 use Rattle.std.proofs.Common.{ℕ, Some, None, ap, ◌∙◌, ◌+◌}
 use Rattle.std.specs.Prelude.{bytes_eq, if◌then◌else◌}
 use Rattle.std.specs.Option.{option_or}
-use Rattle.pw_names.specs.Index.{number_of}
-use Rattle.pw_names.proofs.Indexes.{index-further, index-done}
-use Rattle.pw_names.proofs.index.index_of.Goals as goal
+use Rattle.pw_index.specs.Index.{number_of}
+use Rattle.pw_index.proofs.Indexes.{index-further, index-done}
+use Rattle.pw_index.proofs.index.index_of.Goals as goal
 
 pub loop-thing-preserved : goal.loop-thing-preserved
 loop-thing-preserved g c = record {

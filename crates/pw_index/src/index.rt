@@ -1,6 +1,6 @@
 ghost use Rattle.std.specs.Prelude.{◌≡◌, ◌∷◌, ℕ, List, Some, None, IfOk, OnOk, if◌then◌else◌, bytes_eq};
 ghost use Rattle.std.specs.Option.{option_or};
-ghost use Rattle.pw_names.specs.Index.{number_of, IsIndexOf};
+ghost use Rattle.pw_index.specs.Index.{number_of, IsIndexOf};
 
 use pw_base::bytes::Bytes;
 use pw_base::memory::Memory;
