@@ -7,8 +7,10 @@ ghost use Rattle.pw_monitor.specs.States.{seen};
 ghost use Rattle.pw_monitor_world.specs.OneSends.{BeginsOneSend};
 ghost use Rattle.pw_monitor_world.specs.Seen.{finished, state_of, sys_of};
 ghost use Rattle.pw_onecopy.specs.IsBehaviour.{IsBehaviour};
+ghost use Rattle.pw_onecopy.specs.Path.{entries_on};
 ghost use Rattle.pw_paired.specs.Shown.{refreshes};
 ghost use Rattle.pw_paired.specs.Step.{IsRun};
+ghost use Rattle.pw_paired.specs.Terminal.{path_of};
 ghost use Rattle.pw_tmf.specs.Committed.{committed};
 
 use crate::world::World;
@@ -16,6 +18,7 @@ use pw_base::bytes::Bytes;
 use pw_base::memory::Memory;
 use pw_code::system::System;
 use pw_event::event::Event;
+use pw_monitor_world::contexts::context_laws;
 use pw_monitor_world::laws::book_laws;
 use pw_onecopy::refresh::Refresh;
 use pw_pair::mode::Mode;
@@ -83,6 +86,19 @@ impl<D: Disc> World<D> {
         ensures { result ≡ mode_as ((state_of (seen D.told self.now)).modes tcp) }
     {
         self.keep.pair(tcp).mode()
+    }
+
+    /// How many entry lines are on the path of a terminal, 0 where the path is gone. It takes no
+    /// memory.
+    pub fn entries(&self, terminal: u32) -> u32
+        requires { terminal < length self.now.keep.system.terminals }
+        ensures { result ≡ entries_on (path_of (state_of (seen D.told self.now)) terminal) }
+    {
+        context_laws();
+        match &self.keep.seat(terminal).context {
+            Some(context) => context.entries,
+            None => 0,
+        }
     }
 
     /// The number of the last ended unit of a terminal, 0 where none has ended. It takes no memory.
