@@ -1,4 +1,5 @@
 pub mod Coding
+pub mod Failures
 pub mod Fields
 pub mod Lines
 pub mod Parts

@@ -7,21 +7,61 @@ use Rattle.pw_base.specs.declared.fault_code.FaultCode.TheVariants.{BadFailureLi
 use Rattle.pw_code.specs.Limits.{most_fail_lines}
 use Rattle.pw_code.specs.declared.lock.LockRule.TheVariants.{ReadersShare}
 use Rattle.pw_code.specs.declared.system.System.{System}
+use Rattle.pw_event.specs.Line.{no_class}
 use Rattle.pw_event.specs.Parsing.{failure_in}
 use Rattle.pw_event.specs.declared.fault.EventFault.{EventFault}
 use Rattle.pw_event.specs.declared.script.FailLine.{FailLine}
+use Rattle.pw_event.specs.declared.script.FailLine.TheVariants as line
 use Rattle.pw_lines.specs.Lines.{lines}
 use Rattle.pw_lines.specs.Steps.{◌>>=◌, refused, is_blank, line_taken, each_line}
 use Rattle.pw_operands.specs.Resolved.{Each}
 use Rattle.pw_script.specs.Fail.{failure_counted, failures_counted, failure_read, failures_of}
 use Rattle.pw_script.specs.Grammar.{nobody, is_bad, or_unknown}
+use Rattle.pw_source.proofs.storage.Places.{each-append}
 use Rattle.pw_tables.proofs.Commands.{and_then, Any, any_of}
 use Rattle.pw_tables.specs.Pieces.{Piece}
 use Rattle.pw_tables.specs.Unknown.{failures_in}
+use Rattle.pw_whole.specs.Named.{IsNamed}
+use Rattle.pw_whole.proofs.Failures.{failure-named}
+
+-- in a system with the same pairs and classes it is there too
+pub line-like : (a b : System) → a.tcps ≡ b.tcps → a.classes ≡ b.classes → (one : FailLine) → IsNamed a one → IsNamed b one
+line-like a b pairs classes (line.Tcp p primary after) there = (omega (arith, there.0, ap length pairs), there.1)
+line-like a b pairs classes (line.Server c i after) there =
+    ((omega (arith, there.0.0, ap length classes), omega (arith, there.0.1, ap (λ all. (slice_index_or all c no_class).processes) classes)), there.1)
 
 pub each-kept : {A : Type 0} (P Q : A → Type 0) (xs : List A) → ((x : A) → P x → Q x) → Each P xs → Each Q xs
 each-kept P Q [] keep all = tt
 each-kept P Q (x ∷ xs) keep all = (keep x all.0, each-kept P Q xs keep all.1)
+
+module _ (system : System) where
+  known-there : (number : ℕ) (r : Result FailLine EventFault) → IfOk r (IsNamed system) → IfOk (or_unknown number r) (IsNamed system)
+  known-there number (Ok one) is = is
+  known-there number (Err fault) is = tt
+
+  step-there : (number : ℕ) (fails : List FailLine) (text : List ℕ) → Each (IsNamed system) fails → IfOk (failure_read system number fails text) (Each (IsNamed system))
+  step-there number fails text all =
+      and_then (or_unknown number (failure_in system text)) _ (IsNamed system) (Each (IsNamed system)) (known-there number (failure_in system text) (failure-named system text))
+      (λ one there. each-append (IsNamed system) fails (one ∷ []) all (there, tt))
+
+  taken-there : (number : ℕ) (fails : List FailLine) (text : List ℕ) → Each (IsNamed system) fails → IfOk (line_taken (failure_read system) number fails text) (Each (IsNamed system))
+  taken-there number fails text all = by (is_blank text)
+    where
+      by : (b : Bool) → IfOk (if b then Ok fails else failure_read system number fails text) (Each (IsNamed system))
+      by true = all
+      by false = step-there number fails text all
+
+  lines-there : (number : ℕ) (fails : List FailLine) (texts : List (List ℕ)) → Each (IsNamed system) fails → IfOk (each_line (failure_read system) number fails texts) (Each (IsNamed system))
+  unfolding each_line
+  lines-there number fails [] all = all
+  lines-there number fails (text ∷ rest) all =
+      and_then (line_taken (failure_read system) number fails text) _ (Each (IsNamed system)) (Each (IsNamed system)) (taken-there number fails text all)
+      (λ next more. lines-there (number + 1) next rest more)
+
+  -- those of a piece of a deck
+  pub fails-there : (piece : Option Piece) → IfOk (failures_in system piece) (Each (IsNamed system))
+  fails-there None = tt
+  fails-there (Some piece) = lines-there piece.first_line [] (lines piece.bytes) tt
 
 -- ---- how many there are
 

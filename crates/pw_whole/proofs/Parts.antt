@@ -39,14 +39,15 @@ use Rattle.pw_source.specs.Sound as source_links
 use Rattle.pw_tables.proofs.Commands.{and_then, Any, any_of}
 use Rattle.pw_tables.specs.Objects.{has_file, once, one_more, pathcom_section, file_section, entries_section, fail_section, log_section}
 use Rattle.pw_tables.specs.Pieces.{section_line, section_text}
-use Rattle.pw_tables.specs.Tables.{class_of, class_names}
+use Rattle.pw_tables.specs.Tables.{class_of, class_names, entered}
 use Rattle.pw_tables.specs.Unknown.{tables_of, known, startable, fails_of, log_of, told_with, told_of}
 use Rattle.pw_tables.specs.declared.objects.Objects.{Objects}
 use Rattle.pw_tables.specs.declared.told.Told.{Told}
 use Rattle.pw_words.specs.Names.{has_name}
 use Rattle.pw_words.specs.Words.{Word}
 use Rattle.pw_whole.specs.Whole.{of_requester, of_server, trees_of}
-use Rattle.pw_whole.proofs.Lines.{IsCounted, few-fails}
+use Rattle.pw_whole.specs.Named.{IsNamed}
+use Rattle.pw_whole.proofs.Lines.{IsCounted, each-kept, fails-there, few-fails, line-like}
 use Rattle.pw_whole.proofs.Sources.{IsReadRequester, IsReadServer, requester-is, server-is}
 
 -- ---- sections
@@ -180,6 +181,7 @@ pub record IsReadDeck (deck : Deck) : Type 0 where
   pub requesters : Each IsReadRequester deck.requesters
   pub servers : Each IsReadServer deck.servers
   pub names : names_of deck.requesters deck.servers (source_links.links_of (trees_of deck)) ≡ Ok (tt {0})
+  pub lines : Each (IsNamed deck.told.system) deck.told.script.lines
   pub few : length deck.told.script.lines ≤ most_fail_lines
   pub rule : deck.told.system.rule ≡ ReadersShare
 
@@ -196,6 +198,7 @@ same-links parts fails events =
 record IsTold (objects : Objects) (first second : List Word) (told : Told) : Type 0 where
   fails : List FailLine
   events : List Event
+  there : Each (IsNamed (tables_of objects first second ReadersShare)) fails
   few : length fails ≤ most_fail_lines
   is : told ≡ told_with objects first second fails events
 
@@ -204,18 +207,21 @@ told-is objects first second counted =
     let tables = tables_of objects first second ReadersShare in
     and_then (known objects first second) _ Any (IsTold objects first second) (any_of (known objects first second))
     (λ done h. and_then (startable objects) _ Any (IsTold objects first second) (any_of (startable objects))
-    (λ done h. and_then (fails_of objects first second) _ (λ (fails : List FailLine). length fails ≤ most_fail_lines) (IsTold objects first second) (few-fails tables objects.fail counted)
-    (λ fails few. and_then (log_of objects first second) _ Any (IsTold objects first second) (any_of (log_of objects first second))
-    (λ events h. record { fails = fails; events = events; few = few; is = refl }))))
+    (λ done h. and_then (fails_of objects first second) _ (λ (fails : List FailLine). Each (IsNamed tables) fails × (length fails ≤ most_fail_lines)) (IsTold objects first second)
+    (both-ok (Each (IsNamed tables)) (λ (fails : List FailLine). length fails ≤ most_fail_lines) (fails_of objects first second) (fails-there tables objects.fail) (few-fails tables objects.fail counted))
+    (λ fails both. and_then (log_of objects first second) _ Any (IsTold objects first second) (any_of (log_of objects first second))
+    (λ events h. record { fails = fails; events = events; there = both.0; few = both.1; is = refl }))))
 
 deck-is : (parts : Parts) (told : Told) → AreSources parts → names_of parts.requesters parts.servers (links_of parts) ≡ Ok (tt {0}) → IsTold parts.objects (program_names parts) (server_names parts) told
     → IsReadDeck (record { told = told; requesters = parts.requesters; servers = parts.servers })
 deck-is parts told all named is =
+    let tables = tables_of parts.objects (program_names parts) (server_names parts) ReadersShare in
     let P : Told → Type 0 = λ one. IsReadDeck (record { told = one; requesters = parts.requesters; servers = parts.servers }) in
     subst P (sym is.is) (record {
       requesters = all.requesters;
       servers = all.servers;
       names = ap (names_of parts.requesters parts.servers) (sym (same-links parts is.fails is.events)) ∙ named;
+      lines = each-kept (IsNamed tables) (IsNamed (entered parts.objects.entries tables)) is.fails (line-like tables (entered parts.objects.entries tables) refl refl) is.there;
       few = is.few;
       rule = refl;
     })

@@ -1,5 +1,5 @@
 -- The same of a deck that was read and compiled.
-use Rattle.std.proofs.Common.{◌≡◌, ℕ, ◌≤◌, List, length, Result, Ok, sym, ap, ◌∙◌, subst}
+use Rattle.std.proofs.Common.{◌≡◌, ℕ, ◌≤◌, List, length, All, Result, Ok, sym, ap, ◌∙◌, subst}
 use Rattle.pw_base.specs.declared.fault.Fault.{Fault}
 use Rattle.pw_code.specs.Limits.{most_fail_lines}
 use Rattle.pw_code.specs.Valid.{IsValid}
@@ -9,10 +9,11 @@ use Rattle.pw_deck.specs.declared.deck.Deck as trees
 use Rattle.pw_exec.specs.OfSystem.{behaviour}
 use Rattle.pw_onecopy.specs.IsBehaviour.{IsBehaviour}
 use Rattle.pw_source.specs.OfDeck as tree
+use Rattle.pw_whole.specs.Named.{IsNamed}
 use Rattle.pw_whole.specs.Short.{IsSmall}
 use Rattle.pw_whole.specs.Whole.{compiled, trees_of}
 use Rattle.pw_whole.specs.declared.deck.Deck.{Deck}
-use Rattle.pw_whole.proofs.Whole.{system-valid, system-behaves, system-same, lines-few}
+use Rattle.pw_whole.proofs.Whole.{system-valid, system-behaves, system-same, lines-few, lines-there}
 
 one-deck : (r : Result trees.Deck Fault) (a b : trees.Deck) → r ≡ Ok a → r ≡ Ok b → a ≡ b
 one-deck r a b left right = cc
@@ -34,3 +35,6 @@ module _ (bytes : List ℕ) (deck : trees.Deck) where
 
   pub read-few : (whole : Deck) → deck_of bytes ≡ Ok deck → whole ≡ compiled deck → length whole.script.lines ≤ most_fail_lines
   read-few whole is made = subst (λ (w : Deck). length w.script.lines ≤ most_fail_lines) (sym made) (lines-few bytes deck is)
+
+  pub read-lines : (whole : Deck) → deck_of bytes ≡ Ok deck → whole ≡ compiled deck → All (IsNamed whole.system) whole.script.lines
+  read-lines whole is made = subst (λ (w : Deck). All (IsNamed w.system) w.script.lines) (sym made) (lines-there bytes deck is)

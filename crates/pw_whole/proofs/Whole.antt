@@ -43,9 +43,10 @@ use Rattle.pw_sound.proofs.Given.{using-items}
 use Rattle.pw_sound.proofs.Serves.{behaves-same}
 use Rattle.pw_sound.proofs.Valid.{valid-is}
 use Rattle.pw_source.proofs.Behaviours.{sound-behaviour}
+use Rattle.pw_whole.specs.Named.{IsNamed}
 use Rattle.pw_whole.specs.Short.{IsShort, IsSmall}
 use Rattle.pw_whole.specs.Whole.{of_requester, of_server, trees_of, compiled}
-use Rattle.pw_whole.proofs.Lines.{each-kept}
+use Rattle.pw_whole.proofs.Lines.{line-like, each-kept}
 use Rattle.pw_whole.proofs.Parts.{IsReadDeck, deck-known}
 use Rattle.pw_whole.proofs.Sources.{IsReadRequester, IsReadServer}
 
@@ -226,3 +227,6 @@ module _ (bytes : List ℕ) (deck : Deck) (is : deck_of bytes ≡ Ok deck) where
 
   pub lines-few : length trees.script ≤ most_fail_lines
   lines-few = known.few
+
+  pub lines-there : All (IsNamed system) trees.script
+  lines-there = each-all (IsNamed system) trees.script (each-kept (IsNamed deck.told.system) (IsNamed system) trees.script (line-like deck.told.system system refl refl) known.lines)

@@ -1,4 +1,4 @@
-ghost use Rattle.std.specs.Prelude.{◌≡◌, ◌≤◌, length, map, Ok, IfOk};
+ghost use Rattle.std.specs.Prelude.{◌≡◌, ◌≤◌, length, map, All, Ok, IfOk};
 ghost use Rattle.pw_base.specs.First.{Gives};
 ghost use Rattle.pw_code.specs.Limits.{most_fail_lines};
 ghost use Rattle.pw_code.specs.Valid.{IsValid};
@@ -8,6 +8,7 @@ ghost use Rattle.pw_deck.specs.declared.deck.Deck as trees_of_deck;
 ghost use Rattle.pw_exec.specs.OfSystem.{behaviour};
 ghost use Rattle.pw_onecopy.specs.IsBehaviour.{IsBehaviour};
 ghost use Rattle.pw_source.specs.OfDeck as tree;
+ghost use Rattle.pw_whole.specs.Named.{IsNamed};
 ghost use Rattle.pw_whole.specs.Short.{IsSmall};
 ghost use Rattle.pw_whole.specs.Whole.{compiled, trees_of, whole_of};
 
@@ -96,7 +97,7 @@ fn compiled(alloc: Global, deck: trees::Deck) -> Result<Deck, Memory>
 ///
 /// It refuses exactly with the deck's first fault, as `read_deck` does. The system that it gives is
 /// valid, and behaves by its codes as the deck does by the trees of its programs: so the paired system
-/// may run it. There are at most 64 failure lines.
+/// may run it. The pair or process that a failure line names is there, and there are at most 64 lines.
 pub fn read(alloc: Global, bytes: &[u8]) -> Result<Deck, Refusal>
     ensures gives { Gives (λ deck. deck) result (whole_of bytes.now) }
     ensures valid { IfOk result (λ deck. IsValid deck.system) }
@@ -105,6 +106,7 @@ pub fn read(alloc: Global, bytes: &[u8]) -> Result<Deck, Refusal>
         → IfOk result (λ whole. behaviour whole.script.lines whole.system
         ≡ tree.behaviour ReadersShare (trees_of deck)) }
     ensures small { IfOk result (λ deck. IsSmall deck.system) }
+    ensures lines { IfOk result (λ deck. All (IsNamed deck.system) deck.script.lines) }
     ensures few { IfOk result (λ deck. length deck.script.lines ≤ most_fail_lines) }
 {
     let deck = read_deck(alloc, bytes)?;

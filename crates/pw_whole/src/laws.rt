@@ -1,4 +1,4 @@
-ghost use Rattle.std.specs.Prelude.{◌≡◌, ◌≤◌, List, ℕ, Ok, length};
+ghost use Rattle.std.specs.Prelude.{◌≡◌, ◌≤◌, List, ℕ, All, Ok, length};
 ghost use Rattle.pw_code.specs.Limits.{most_fail_lines};
 ghost use Rattle.pw_code.specs.Valid.{IsValid};
 ghost use Rattle.pw_code.specs.declared.lock.LockRule.TheVariants.{ReadersShare};
@@ -9,14 +9,15 @@ ghost use Rattle.pw_onecopy.specs.IsBehaviour.{IsBehaviour};
 ghost use Rattle.pw_sound.specs.Premises.{AreFitting};
 ghost use Rattle.pw_source.specs.OfDeck as tree;
 ghost use Rattle.pw_source.specs.Sound.{IsSound};
+ghost use Rattle.pw_whole.specs.Named.{IsNamed};
 ghost use Rattle.pw_whole.specs.Short.{IsSmall};
 ghost use Rattle.pw_whole.specs.Whole.{compiled, trees_of};
 
 /// Every deck without a fault: its names resolve and its tables are valid (`IsSound`), and it is as the
 /// readers see to (`AreFitting`). Where its codes and screens are not too many for their numbers, which
 /// is so wherever `read` gives them, its system is valid and behaves by its codes as the deck does by its
-/// trees: so the paired system may run it, and a run of the one is a run of the other. Its failure lines are not
-/// too many.
+/// trees: so the paired system may run it, and a run of the one is a run of the other. What its failure
+/// lines name is there, and they are not too many.
 pub fn whole_laws()
     ensures sound { (bytes : List ℕ) (deck : trees.Deck) → deck_of bytes ≡ Ok deck
         → IsSound (trees_of deck) }
@@ -32,4 +33,6 @@ pub fn whole_laws()
         → IsBehaviour (tree.behaviour ReadersShare (trees_of deck)) }
     ensures few { (bytes : List ℕ) (deck : trees.Deck) → deck_of bytes ≡ Ok deck
         → length (compiled deck).script.lines ≤ most_fail_lines }
+    ensures lines { (bytes : List ℕ) (deck : trees.Deck) → deck_of bytes ≡ Ok deck
+        → All (IsNamed (compiled deck).system) (compiled deck).script.lines }
 {}

@@ -1,6 +1,6 @@
 -- The system of a deck that was read is valid, and behaves as its trees do.
 use Rattle.std.proofs.Common.{◌≡◌, Ok, sym, ap, ◌∙◌, subst}
-use Rattle.pw_whole.proofs.Read.{read-valid, read-behaves, read-same, read-few}
+use Rattle.pw_whole.proofs.Read.{read-valid, read-behaves, read-same, read-few, read-lines}
 use Rattle.pw_whole.proofs.deck.read.Goals as goal
 
 pub returns-clause-valid : goal.returns-clause-valid
@@ -15,3 +15,6 @@ returns-clause-same c =
 
 pub returns-clause-few : goal.returns-clause-few
 returns-clause-few c = read-few c.args.bytes.now c.in_ok-deck.deck c.in_ok-compiled.field-0 c.in_ok-deck.ensures.gives c.in_ok-compiled.ensures.deck
+
+pub returns-clause-lines : goal.returns-clause-lines
+returns-clause-lines c = read-lines c.args.bytes.now c.in_ok-deck.deck c.in_ok-compiled.field-0 c.in_ok-deck.ensures.gives c.in_ok-compiled.ensures.deck

@@ -1,4 +1,4 @@
-use Rattle.pw_whole.proofs.Whole.{deck-sound, deck-fits, system-valid, system-same, deck-behaves, lines-few}
+use Rattle.pw_whole.proofs.Whole.{deck-sound, deck-fits, system-valid, system-same, deck-behaves, lines-few, lines-there}
 use Rattle.pw_whole.proofs.laws.whole_laws.Goals as goal
 
 pub returns : goal.returns
@@ -9,4 +9,5 @@ returns c = record {
   same = system-same;
   behaves = deck-behaves;
   few = lines-few;
+  lines = lines-there;
 }
