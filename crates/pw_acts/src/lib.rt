@@ -1,0 +1,8 @@
+//! The entries of a run, each done to what a monitor keeps.
+#![tactic(auto)]
+
+mod checkpoints;
+mod servers;
+mod terminals;
+mod units;
+mod verbs;
