@@ -171,9 +171,9 @@ pub record CanRestart (system : System) (kept : Kept) (t n : ℕ) : Type 0 where
   pub few : (kept.terminals t).restarts < 2 ^ 32 - 1
 
 -- the pair is there, and has this mode
-pub record CanCall (system : System) (kept : Kept) (p : ℕ) (mode : Mode) : Type 0 where
+pub record CanCall (system : System) (kept : Kept) (p : ℕ) (at : Mode) : Type 0 where
   pub known : p < length system.tcps
-  pub mode : (kept.pairs p).mode ≡ mode
+  pub mode : (kept.pairs p).mode ≡ at
 
 -- ---- every entry
 
