@@ -1,24 +1,22 @@
 -- What an entry asks of what is kept, so that what is kept can follow it.
-use Rattle.std.specs.Prelude.{◌≡◌, ℕ, ◌<◌, ◌≤◌, ◌-◌, ◌^◌, true, false, List, [], map, length, IsSome, Option, Some, None, slice_get}
+use Rattle.std.specs.Prelude.{◌≡◌, ℕ, ◌<◌, ◌≤◌, ◌-◌, ◌^◌, true, false, List, [], length, IsSome, Option, Some, None, slice_get}
 use Rattle.pw_class.specs.Queue.{at_process, has_request}
 use Rattle.pw_class.specs.declared.request.Request.{Request}
 use Rattle.pw_code.specs.Valid.{IsValid}
 use Rattle.pw_code.specs.declared.context.Context.{Context}
+use Rattle.pw_code.specs.declared.file.FileCall.{FileCall}
 use Rattle.pw_code.specs.declared.system.ClassInfo.{ClassInfo}
 use Rattle.pw_code.specs.declared.system.System.{System}
 use Rattle.pw_code.specs.declared.verb.Answer.{Answer}
-use Rattle.pw_code.specs.declared.verb.Verb.{Verb}
 use Rattle.pw_code.specs.declared.verb.Verb.TheVariants as verb
 use Rattle.pw_event.specs.declared.event.Event.{Event}
 use Rattle.pw_event.specs.declared.event.Event.TheVariants.{Show, Key, CheckStart, CheckEnd, CheckCopy, Applied, Begin, Send, Take, File, Reply, Again, Commit, Back, Restart, FailTcp, FailServer, Takeover, Raise, End}
 use Rattle.pw_exec.specs.Sound.{IsSoundContext}
 use Rattle.pw_image.specs.Image.{HasImage}
-use Rattle.pw_keep.specs.Calls.{MayOperate}
-use Rattle.pw_keep.specs.Keeps.{KeepState, job_of, jobs_at, kept_in}
 use Rattle.pw_kept.specs.Asked.{answered_with, unit_in, verb_in}
 use Rattle.pw_kept.specs.Changes.{unit_at}
 use Rattle.pw_kept.specs.ClassTests.{may_take}
-use Rattle.pw_kept.specs.Entered.{copied, tcp_of}
+use Rattle.pw_kept.specs.Entered.{copied}
 use Rattle.pw_kept.specs.Kept.{Kept}
 use Rattle.pw_kept.specs.TerminalTests.{closing, flies, pair_of}
 use Rattle.pw_kept.specs.Tested.{IsPlaced}
@@ -29,14 +27,8 @@ use Rattle.pw_pair.specs.declared.message.CheckKind.{CheckKind}
 use Rattle.pw_pair.specs.declared.message.CheckKind.TheVariants as kind
 use Rattle.pw_pair.specs.declared.mode.Mode.{Mode}
 use Rattle.pw_pair.specs.declared.mode.Mode.TheVariants as mode
-use Rattle.pw_seats.specs.declared.job.Job.{Job}
-use Rattle.pw_tmf.specs.Operation.{lock_now}
-use Rattle.pw_tmf.specs.Told.{Told}
+use Rattle.pw_tmf.specs.Operation.{IsCall, lock_now}
 use Rattle.pw_tmf.specs.Units.{CanBackOut, CanBegin, IsRunning}
-
--- the terminals of a pair, by its seats
-abbrev pub members_in : Kept → ℕ → List ℕ
-members_in kept p = map (λ seat. seat.terminal) (kept.pairs p).seats
 
 -- ---- terminals
 
@@ -118,43 +110,47 @@ pub record CanTake (system : System) (kept : Kept) (c i t : ℕ) : Type 0 where
   pub here : slice_get system.classes c ≡ Some info
   pub may : may_take kept c i t ≡ true
 
--- The server in the process stands at a file operation, which no lock of another unit bars, with a
--- context that can be answered.
-pub record CanOperate {D : Type 0} (told : D → Told) (keep : KeepState D) (c i : ℕ) : Type 0 where
+-- The server in the process stands at a file operation of the unit of its request, of which an
+-- attempt runs. No lock of another unit bars it, and its context can be answered.
+pub record CanOperate (system : System) (kept : Kept) (c i : ℕ) : Type 0 where
+  pub class : c < length system.classes
   pub low : 1 ≤ i
-  pub may : MayOperate told keep c i
+  pub context : Context
+  pub job : kept.jobs c i ≡ Some context
+  pub at_verb : context.at_verb ≡ true
+  pub call : FileCall
+  pub asks : verb_in system context ≡ verb.File call
+  pub request : Request
+  pub post : at_process (kept.queues c) i ≡ Some request
+  pub known : request.terminal < length system.terminals
+  pub runs : IsRunning kept.disc (unit_at kept request.terminal request.unit)
+  pub fits : IsCall kept.disc call
   pub free :
-      holders
-      (lock_now (told keep.disc)
-      (unit_at (kept_in told keep) may.request.terminal may.request.unit) may.call)
-      (told keep.disc).locks
+      holders (lock_now kept.disc (unit_at kept request.terminal request.unit) call) kept.disc.locks
       ≡ []
-  pub sound : IsSoundContext keep.system may.own.context
-  pub room : HasRoom may.own.context
+  pub sound : IsSoundContext system context
+  pub room : HasRoom context
 
--- where a server replies, its verb is there, and a unit of one SEND can end
-pub record CanReplyWith {D : Type 0} (told : D → Told) (keep : KeepState D) (c i t : ℕ) (context : Context)
-    : Type 0 where
-  pub own : Job
-  pub job : job_of (jobs_at keep.jobs c) i ≡ Some own
-  pub verb : Verb
-  pub reads : own.verb ≡ Some verb
-  pub runs : context.in_unit ≡ false
-      → IsRunning (told keep.disc) (unit_at (kept_in told keep) t (unit_in context))
+-- a server that replies stands at its verb, and where the terminal's program is in no transaction,
+-- its unit of one SEND can end
+pub record CanReplyTo (kept : Kept) (c i t : ℕ) (own : Context) : Type 0 where
+  pub context : Context
+  pub job : kept.jobs c i ≡ Some context
+  pub at_verb : context.at_verb ≡ true
+  pub runs : own.in_unit ≡ false → IsRunning kept.disc (unit_at kept t (unit_in own))
 
 -- a reply, or a run fault
-abbrev pub RepliesWith : {D : Type 0} → (D → Told) → KeepState D → ℕ → ℕ → ℕ → Context → Option ℕ → Type 0
-RepliesWith told keep c i t context None = CanReplyWith told keep c i t context
-RepliesWith told keep c i t context (Some x) = Unit {0}
+abbrev pub RepliesTo : Kept → ℕ → ℕ → ℕ → Context → Option ℕ → Type 0
+RepliesTo kept c i t own None = CanReplyTo kept c i t own
+RepliesTo kept c i t own (Some x) = Unit {0}
 
 -- the process is busy, and the terminal's program can be answered
-pub record CanReply {D : Type 0} (told : D → Told) (keep : KeepState D) (c i t : ℕ) (fault : Option ℕ)
-    : Type 0 where
-  pub can : CanAnswer keep.system (kept_in told keep) t
-  pub class : c < length keep.system.classes
+pub record CanReply (system : System) (kept : Kept) (c i t : ℕ) (fault : Option ℕ) : Type 0 where
+  pub can : CanAnswer system kept t
+  pub class : c < length system.classes
   pub low : 1 ≤ i
-  pub busy : IsSome (at_process ((kept_in told keep).queues c) i)
-  pub replies : RepliesWith told keep c i t can.context fault
+  pub busy : IsSome (at_process (kept.queues c) i)
+  pub replies : RepliesTo kept c i t can.context fault
 
 -- the process is one of a class, and the terminal of its request, if it is busy, is there
 pub record CanStop (system : System) (kept : Kept) (c i : ℕ) : Type 0 where
@@ -178,32 +174,31 @@ pub record CanCall (system : System) (kept : Kept) (p : ℕ) (at : Mode) : Type 
 -- ---- every entry
 
 -- what an entry asks beside that the system is valid
-abbrev pub Can : {D : Type 0} → (D → Told) → KeepState D → Event → Type 0
-Can told keep (Show t phase attempt k) = CanAnswer keep.system (kept_in told keep) t
-Can told keep (Key t k) = CanKey keep.system (kept_in told keep) t k
-Can told keep (CheckStart t) =
-    CanCarry keep.system (kept_in told keep) t kind.Start ((kept_in told keep).terminals t).context
-Can told keep (CheckEnd t) = CanClose keep.system (kept_in told keep) t
-Can told keep (CheckCopy t) =
-    CanCarry keep.system (kept_in told keep) t kind.Copy
-    (copied ((kept_in told keep).terminals t).start ((kept_in told keep).terminals t).context)
-Can told keep (Applied t) = CanApply keep.system (kept_in told keep) t
-Can told keep (Begin t n r) = CanBeginAt keep.system (kept_in told keep) t n
-Can told keep (Send t n c) = CanSend keep.system (kept_in told keep) t c
-Can told keep (Take c i t) = CanTake keep.system (kept_in told keep) c i t
-Can told keep (File c i op mode f status) = CanOperate told keep c i
-Can told keep (Reply c i t fault) = CanReply told keep c i t fault
-Can told keep (Again t n) = CanAgain keep.system (kept_in told keep) t
-Can told keep (Commit t n) = CanCommit keep.system (kept_in told keep) t n
-Can told keep (Back t n) = CanBack keep.system (kept_in told keep) t n
-Can told keep (Restart t n cause) = CanRestart keep.system (kept_in told keep) t n
-Can told keep (FailTcp p primary k) = p < length keep.system.tcps
-Can told keep (FailServer c i k) = CanStop keep.system (kept_in told keep) c i
-Can told keep (Takeover p) = CanCall keep.system (kept_in told keep) p mode.Down
-Can told keep (Raise p) = CanCall keep.system (kept_in told keep) p mode.Alone
-Can told keep (End t ending) = IsPlaced keep.system t
+abbrev pub Can : System → Kept → Event → Type 0
+Can system kept (Show t phase attempt k) = CanAnswer system kept t
+Can system kept (Key t k) = CanKey system kept t k
+Can system kept (CheckStart t) = CanCarry system kept t kind.Start (kept.terminals t).context
+Can system kept (CheckEnd t) = CanClose system kept t
+Can system kept (CheckCopy t) =
+    CanCarry system kept t kind.Copy
+    (copied (kept.terminals t).start (kept.terminals t).context)
+Can system kept (Applied t) = CanApply system kept t
+Can system kept (Begin t n r) = CanBeginAt system kept t n
+Can system kept (Send t n c) = CanSend system kept t c
+Can system kept (Take c i t) = CanTake system kept c i t
+Can system kept (File c i op mode f status) = CanOperate system kept c i
+Can system kept (Reply c i t fault) = CanReply system kept c i t fault
+Can system kept (Again t n) = CanAgain system kept t
+Can system kept (Commit t n) = CanCommit system kept t n
+Can system kept (Back t n) = CanBack system kept t n
+Can system kept (Restart t n cause) = CanRestart system kept t n
+Can system kept (FailTcp p primary k) = p < length system.tcps
+Can system kept (FailServer c i k) = CanStop system kept c i
+Can system kept (Takeover p) = CanCall system kept p mode.Down
+Can system kept (Raise p) = CanCall system kept p mode.Alone
+Can system kept (End t ending) = IsPlaced system t
 
 -- the entry can be made
-pub record CanAct {D : Type 0} (told : D → Told) (keep : KeepState D) (entry : Event) : Type 0 where
-  pub valid : IsValid keep.system
-  pub can : Can told keep entry
+pub record CanAct (system : System) (kept : Kept) (entry : Event) : Type 0 where
+  pub valid : IsValid system
+  pub can : Can system kept entry

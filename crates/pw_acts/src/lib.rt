@@ -1,6 +1,7 @@
 //! The entries of a run, each done to what a monitor keeps.
 #![tactic(auto)]
 
+pub mod act;
 mod checkpoints;
 mod servers;
 mod terminals;

@@ -5,7 +5,7 @@ ghost use Rattle.pw_acts.specs.Can.{CanAnswer, CanOperate, CanReply, CanTake};
 ghost use Rattle.pw_acts.specs.Verbs.{one_send};
 ghost use Rattle.pw_class.specs.Queue.{at_process};
 ghost use Rattle.pw_code.specs.Valid.{IsValid};
-ghost use Rattle.pw_keep.specs.Keeps.{IsChanged, IsRefused, kept_in};
+ghost use Rattle.pw_keep.specs.Keeps.{IsChanged, IsRefused, JobHasVerb, job_of, jobs_at, kept_in};
 ghost use Rattle.pw_kept.specs.Changes.{free_process, unit_at};
 ghost use Rattle.pw_kept.specs.Entered.{answer_terminal, entered_file, entered_reply, entered_take, replies_last, reply_by, started_on};
 ghost use Rattle.pw_tmf.specs.Units.{IsRunning};
@@ -63,9 +63,10 @@ pub fn take<D: Disc>(
 
 /// A copy of the context of the server in a process.
 fn context_of<D: Disc>(keep: &Keep<D>, class: u32, process: u32) -> Result<Context, Memory>
-    requires { CanOperate D.told keep.now class process }
-    ensures { (can : CanOperate D.told keep.now class process)
-        → IfOk result (λ context. context ≡ can.may.own.context) }
+    requires { CanOperate keep.now.system (kept_in D.told keep.now) class process }
+    ensures context { (can : CanOperate keep.now.system (kept_in D.told keep.now) class process)
+        → IfOk result (λ context. context ≡ can.context) }
+    ensures verb { JobHasVerb keep.now.system (job_of (jobs_at keep.now.jobs class) process) }
 {
     match keep.job(class, process) {
         Some(job) => job.context.duplicate(),
@@ -76,7 +77,7 @@ fn context_of<D: Disc>(keep: &Keep<D>, class: u32, process: u32) -> Result<Conte
 /// FILE: the operation is done, and the server goes on with its answer.
 pub fn file<D: Disc>(keep: &mut Keep<D>, class: u32, process: u32) -> Result<(), DiscFault>
     requires valid { IsValid keep.old.system }
-    requires can { CanOperate D.told keep.old class process }
+    requires can { CanOperate keep.old.system (kept_in D.told keep.old) class process }
     ensures ok { OnOk result (IsChanged D.told (entered_file keep.old.system class process) keep.old keep.new) }
     ensures err { IfErr result (λ fault. IsRefused D.told fault keep.old keep.new) }
 {
@@ -104,7 +105,7 @@ fn reply_of<D: Disc>(
     process: u32,
     terminal: u32,
 ) -> Result<Bytes, Memory>
-    requires { CanReply D.told keep.now class process terminal None }
+    requires { CanReply keep.now.system (kept_in D.told keep.now) class process terminal None }
     ensures { IfOk result (λ reply. reply ≡ reply_by keep.now.system ((kept_in D.told keep.now).jobs class process)) }
 {
     match keep.job(class, process) {
@@ -183,7 +184,7 @@ fn reply_with<D: Disc>(
     terminal: u32,
 ) -> Result<(), DiscFault>
     requires valid { IsValid keep.old.system }
-    requires can { CanReply D.told keep.old class process terminal None }
+    requires can { CanReply keep.old.system (kept_in D.told keep.old) class process terminal None }
     ensures ok { OnOk result (IsChanged D.told (entered_reply keep.old.system class process terminal None) keep.old keep.new) }
     ensures err { IfErr result (λ fault. IsRefused D.told fault keep.old keep.new) }
 {
@@ -204,7 +205,7 @@ pub fn reply<D: Disc>(
     fault: Option<u16>,
 ) -> Result<(), DiscFault>
     requires valid { IsValid keep.old.system }
-    requires can { CanReply D.told keep.old class process terminal fault }
+    requires can { CanReply keep.old.system (kept_in D.told keep.old) class process terminal fault }
     ensures ok { OnOk result (IsChanged D.told (entered_reply keep.old.system class process terminal fault) keep.old keep.new) }
     ensures err { IfErr result (λ refused. IsRefused D.told refused keep.old keep.new) }
 {
