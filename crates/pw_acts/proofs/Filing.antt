@@ -44,7 +44,7 @@ module _ {D : Type 0} (told : D → Told) (old : KeepState D) (c i : ℕ) (can :
   pub busy-then : IsSome (at_process ((kept_in told mid).queues c) i)
   busy-then =
       subst (λ (k : KeepState D). IsSome (at_process ((kept_in told k).queues c) i)) (sym is.rest)
-      (subst (λ (o : Option Request). IsSome o) (sym can.post) tt)
+      (subst (λ (o : Option Request). IsSome o) (sym can.post) refl)
 
   module _ (after : Context) (takes : Takes system (answer.FileDone status content) before after) where
     made : after ≡ answered_with old.system (answer.FileDone status content) can.context

@@ -1,5 +1,5 @@
--- What is kept, where a server operates on a file or replies.
-use Rattle.std.proofs.Common.{◌≡◌, ℕ, true, false, List, [], length, Option, Some, None, ◌∙◌, refl, sym, ap, subst, arith}
+-- What is kept, where a server operates on a file.
+use Rattle.std.proofs.Common.{◌≡◌, ℕ, true, List, [], length, Option, Some, None, ◌∙◌, refl, sym, ap, arith}
 use Rattle.std.proofs.lemmas.Bool.{both_ways}
 use Rattle.pw_acts.specs.Can.{CanOperate}
 use Rattle.pw_class.specs.Queue.{at_process}
@@ -15,14 +15,12 @@ use Rattle.pw_keep.specs.Calls.{IsOperated, MayOperate}
 use Rattle.pw_keep.specs.Keeps.{IsRefused, IsVerbOf, JobHasVerb, KeepState, job_of, jobs_at, kept_in}
 use Rattle.pw_kept.specs.Asked.{answered_with, verb_in}
 use Rattle.pw_kept.specs.Changes.{kept_file, unit_at, with_job}
-use Rattle.pw_kept.specs.Entered.{entered_file, file_at, file_by, reply_by}
+use Rattle.pw_kept.specs.Entered.{entered_file, file_at, file_by}
 use Rattle.pw_kept.specs.Kept.{Kept}
 use Rattle.pw_locks.specs.Oldest.{IsOldest}
 use Rattle.pw_onecopy.specs.Path.{FileAnswer}
-use Rattle.pw_paired.specs.Server.{reply_of}
 use Rattle.pw_seats.specs.Jobs.{context_of}
 use Rattle.pw_seats.specs.declared.job.Job.{Job}
-use Rattle.pw_tmf.specs.Operation.{after_operation, answer_with}
 use Rattle.pw_tmf.specs.Told.{Told}
 use Rattle.pw_tmf.specs.declared.answer.DiscFault.TheVariants as fault
 use Rattle.pw_tmf.specs.declared.answer.FileAnswer.TheVariants as done
@@ -32,7 +30,7 @@ pub none-oldest : (holder : unit.Unit) (holders : List unit.Unit) → holders �
 none-oldest holder holders none is =
     let among = is.among in
     let few : length holders ≡ 0 = ap (length {A = unit.Unit}) none in
-    omega (arith, among.1.0, few)
+    omega (arith, among.1, few)
 
 -- where a job's context stands at a verb, that is beside it
 verb-there : (system : System) (own : Job) (v : Option Verb) → own.verb ≡ v → IsVerbOf system own.context v
@@ -69,7 +67,7 @@ module _ {D : Type 0} (told : D → Told) (old : KeepState D) (c i : ℕ) (can :
   job-there = has-job old.system (jobs_at old.jobs c) i can.context (job_of (jobs_at old.jobs c) i) refl has can.job can.at_verb
 
   -- the process may operate
-  pub may : MayOperate told old c i
+  abbrev pub may : MayOperate told old c i
   may = record {
     there = can.class;
     own = job-there.own;
@@ -100,9 +98,9 @@ module _ {D : Type 0} (told : D → Told) (old : KeepState D) (c i : ℕ) (can :
       → with_job c i (Some context) (kept_in told mid) ≡ entered_file old.system c i (kept_in told old)
   done-is status content context is made =
       ap (λ (k : KeepState D). with_job c i (Some context) (kept_in told k)) is.rest
-      ∙ (ap (λ (d : Told). with_job c i (Some context) (record (kept_in told old) { disc = d })) is.operates.1.1
+      ∙ (ap (λ (d : Told). with_job c i (Some context) (record (kept_in told old) { disc = d })) is.operates.2
       ∙ (ap (λ (x : Context). kept_file c i can.request can.call x (kept_in told old))
-      (made ∙ ap (λ (f : FileAnswer). answered_with old.system (file_told f) can.context) is.operates.1.0)
+      (made ∙ ap (λ (f : FileAnswer). answered_with old.system (file_told f) can.context) is.operates.1)
       ∙ sym (file-is old.system (kept_in told old) c i can)))
 
   -- no other unit bars it
@@ -123,24 +121,3 @@ module _ {D : Type 0} (told : D → Told) (old : KeepState D) (c i : ℕ) (can :
     leaves = is.operates;
     rest = ap (kept_in told) is.rest;
   }
-
--- ---- REPLY
-
--- what a job replies is what the entry finds
-pub replied-by : (system : System) (job : Option Job) (own : Job) (v : Verb)
-    → JobHasVerb system job → job ≡ Some own → own.verb ≡ Some v
-    → reply_of v ≡ reply_by system (context_of job)
-replied-by system job own v has there reads =
-    let at : IsVerbOf system own.context (Some v) =
-    subst (IsVerbOf system own.context) reads (subst (JobHasVerb system) there has) in
-    ap reply_of at.1 ∙ ap (λ (o : Option Job). reply_by system (context_of o)) (sym there)
-
--- a job whose context stands at a verb has it
-pub never-unread : (system : System) (job : Option Job) (own : Job) (context : Context)
-    → JobHasVerb system job → job ≡ Some own → own.verb ≡ None → context_of job ≡ Some context
-    → context.at_verb ≡ true → ⊥
-never-unread system job own context has there none is at =
-    let same : own.context ≡ context = cc (sym (ap context_of there) ∙ is) in
-    let not_at : own.context.at_verb ≡ false =
-    subst (IsVerbOf system own.context) none (subst (JobHasVerb system) there has) in
-    both_ways own.context.at_verb not_at (ap (λ (x : Context). x.at_verb) same ∙ at)

@@ -1,14 +1,12 @@
 -- What is kept, where a server starts on a request.
-use Rattle.std.proofs.Common.{◌≡◌, ℕ, ◌==◌, ◌&&◌, true, false, List, [], ◌∷◌, Option, Some, None, ◌∙◌, refl, sym, ap}
-use Rattle.std.specs.Prelude.{slice_get}
+use Rattle.std.proofs.Common.{◌≡◌, ℕ, ◌==◌, true, false, List, [], ◌∷◌, Option, Some, None, refl}
 use Rattle.std.proofs.lemmas.Bool.{and_parts, eqb-true}
-use Rattle.pw_class.specs.Queue.{free_place, taken, taken_of}
+use Rattle.pw_class.specs.Queue.{taken}
 use Rattle.pw_class.specs.declared.request.Request.{Request}
 use Rattle.pw_class.specs.declared.request.Taken.{Taken}
 use Rattle.pw_class.specs.declared.request.Taken.TheVariants.{Got, Empty, NoneFree}
 use Rattle.pw_code.specs.declared.system.ClassInfo.{ClassInfo}
 use Rattle.pw_code.specs.declared.system.System.{System}
-use Rattle.pw_exec.specs.Config.{closed, starting_server}
 use Rattle.pw_keep.specs.Calls.{can_take, is_given, process_of, taker}
 use Rattle.pw_kept.specs.ClassTests.{is_got, may_take}
 use Rattle.pw_kept.specs.Entered.{started_on}
@@ -27,31 +25,7 @@ may-be-taken kept c i t h = (got i t (taken (kept.queues c)) h).0
 pub taker-is : (kept : Kept) (c i t : ℕ) → may_take kept c i t ≡ true → taker (kept.queues c) ≡ i
 taker-is kept c i t h = (got i t (taken (kept.queues c)) h).1
 
--- a request waits
-some-waits : (i t : ℕ) (waiting : List Request) (free : Option ℕ) → is_got i t (taken_of waiting free) ≡ true
-    → slice_get waiting 0 ≡ None → ⊥
-some-waits i t [] free h e = absurd (cc h)
-some-waits i t (request ∷ rest) free h e = absurd (cc e)
-
-pub first-waits : (kept : Kept) (c i t : ℕ) → may_take kept c i t ≡ true → slice_get (kept.queues c).waiting 0 ≡ None → ⊥
-first-waits kept c i t h e = some-waits i t (kept.queues c).waiting (free_place (kept.queues c)) h e
-
--- the server starts on the first request
-started-at : (system : System) (info : ClassInfo) (waiting : List Request) (request : Request)
-    → slice_get waiting 0 ≡ Some request
-    → closed (starting_server system info.server request.message) ≡ started_on system (Some info) waiting
-started-at system info [] request e = absurd (cc e)
-started-at system info (first ∷ rest) request e =
-    let same : request ≡ first = cc e in ap (λ (r : Request). closed (starting_server system info.server r.message)) same
-
-pub started-is : (system : System) (c : ℕ) (info : ClassInfo) (waiting : List Request) (request : Request)
-    → slice_get system.classes c ≡ Some info → slice_get waiting 0 ≡ Some request
-    → closed (starting_server system info.server request.message)
-    ≡ started_on system (slice_get system.classes c) waiting
-started-is system c info waiting request here e =
-    started-at system info waiting request e ∙ ap (λ (o : Option ClassInfo). started_on system o waiting) (sym here)
-
--- at its first instruction
+-- the server that takes it starts at its first instruction
 pub started-fresh : (system : System) (info : Option ClassInfo) (waiting : List Request)
     → (started_on system info waiting).at_verb ≡ false
 started-fresh system None waiting = refl

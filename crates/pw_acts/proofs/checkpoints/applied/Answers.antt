@@ -1,7 +1,8 @@
-use Rattle.std.proofs.Common.{◌≡◌, ◌∙◌, ◌<◌, ℕ, true, length, sym, ap, subst}
+use Rattle.std.proofs.Common.{◌≡◌, ◌∙◌, ◌<◌, ℕ, true, length, sym, ap, subst, rules}
 use Rattle.pw_code.specs.declared.system.System.{System}
 use Rattle.pw_keep.specs.Keeps.{kept_in}
 use Rattle.pw_kept.specs.Changes.{kept_applied}
+use Rattle.pw_kept.specs.Entered.{tcp_of}
 use Rattle.pw_kept.specs.Kept.{Kept}
 use Rattle.pw_pair.specs.Pairs.{passes, seat_of}
 use Rattle.pw_pair.specs.Seats.{is_flying}
@@ -10,11 +11,17 @@ use Rattle.pw_acts.proofs.checkpoints.applied.Goals as goal
 pub build-requires-clause-flies : goal.build-requires-clause-flies
 build-requires-clause-flies g c =
     let kept : Kept = kept_in g.D.Disc.told c.args.keep.now in
-    subst (λ (p : ℕ). passes is_flying (seat_of c.args.terminal (kept.pairs p)) ≡ true) (sym c.pair_of-tcp.ensures.pair) c.requires.flies
+    let same : c.pair_of-tcp.result ≡ tcp_of c.args.keep.now.system c.args.terminal =
+    c.pair_of-tcp.ensures.pair ∙ ap (λ (s : System). tcp_of s c.args.terminal) c.system.ensures in
+    let h = subst (λ (p : ℕ). passes is_flying (seat_of c.args.terminal (kept.pairs p)) ≡ true) (sym same) c.requires.flies in
+    search (rules, h)
 
 pub applied-requires-clause-known : goal.applied-requires-clause-known
 applied-requires-clause-known g c =
-    subst (λ (s : System). c.pair_of-tcp.result < length s.tcps) (sym c.in_ok-build.ensures.system) c.pair_of-tcp.ensures.known
+    let h =
+    subst (λ (s : System). c.pair_of-tcp.result < length s.tcps) (sym c.in_ok-build.ensures.system)
+    (subst (λ (s : System). c.pair_of-tcp.result < length s.tcps) c.system.ensures c.pair_of-tcp.ensures.known) in
+    search (rules, h)
 
 pub returns-clause-ok : goal.returns-clause-ok
 returns-clause-ok g c = record {
@@ -22,5 +29,6 @@ returns-clause-ok g c = record {
   kept =
       c.applied.ensures.kept
       ∙ (c.in_ok-build.ensures.same
-      ∙ ap (λ (p : ℕ). kept_applied p c.args.terminal (kept_in g.D.Disc.told c.args.keep.now)) c.pair_of-tcp.ensures.pair);
+      ∙ ap (λ (p : ℕ). kept_applied p c.args.terminal (kept_in g.D.Disc.told c.args.keep.now))
+      (c.pair_of-tcp.ensures.pair ∙ ap (λ (s : System). tcp_of s c.args.terminal) c.system.ensures));
 }

@@ -1,10 +1,17 @@
-use Rattle.std.proofs.Common.{◌∙◌, List, ℕ, ap}
+use Rattle.std.proofs.Common.{◌∙◌, List, ℕ, ap, rules, subst, sym}
+use Rattle.std.specs.Prelude.{IsSome}
+use Rattle.pw_class.specs.Queue.{at_process}
 use Rattle.pw_keep.specs.Calls.{kept_commit_reply}
 use Rattle.pw_keep.specs.Keeps.{kept_in}
 use Rattle.pw_kept.specs.Changes.{free_process}
 use Rattle.pw_kept.specs.Kept.{Kept}
 use Rattle.pw_acts.proofs.Answering.{end-send-is}
 use Rattle.pw_acts.proofs.servers.end_send.Goals as goal
+
+pub free-requires-clause-busy : goal.free-requires-clause-busy
+free-requires-clause-busy g c =
+    let h = subst (λ (k : Kept). IsSome (at_process (k.queues c.args.class) c.args.process)) (sym c.in_ok-commit_reply.ensures.ok.kept) c.requires.busy in
+    search (rules, h)
 
 pub returns-clause-ok : goal.returns-clause-ok
 returns-clause-ok g c =
