@@ -1,6 +1,6 @@
 -- The requests of terminals are cancelled.
-use Rattle.std.proofs.Common.{◌≡◌, ℕ, ◌-◌, ◌==◌, ◌<◌, ◌≤◌, ◌||◌, Bool, true, false, List, [], ◌∷◌, Option, Some, None, map, cond, ◌∙◌, ⊎_elim, refl, sym, ap, ap₂, subst, length, arith}
-use Rattle.std.specs.Prelude.{slice_get, slice_index_or}
+use Rattle.std.proofs.Common.{◌≡◌, ℕ, ◌-◌, ◌==◌, ◌≤◌, ◌||◌, Bool, true, false, List, [], ◌∷◌, Option, Some, None, map, cond, ◌∙◌, ⊎_elim, refl, sym, ap, ap₂, subst, length, arith}
+use Rattle.std.specs.Prelude.{slice_index_or}
 use Rattle.std.specs.List.{list_any}
 use Rattle.std.proofs.Math.Path.{fun_ext}
 use Rattle.std.proofs.lemmas.Bool.{cases_lt}
@@ -9,7 +9,6 @@ use Rattle.pw_class.specs.Book.{queue_at}
 use Rattle.pw_class.specs.Queue.{Queue, at_process, busy_without, without, works_for}
 use Rattle.pw_class.specs.declared.request.Request.{Request}
 use Rattle.pw_code.specs.declared.context.Context.{Context}
-use Rattle.pw_code.specs.declared.system.ClassInfo.{ClassInfo}
 use Rattle.pw_code.specs.declared.system.System.{System}
 use Rattle.pw_keep.specs.Calls.{cancel_of}
 use Rattle.pw_keep.specs.Keeps.{IsKeep, IsStaffed, JobHasVerb, job_of, job_terminal, jobs_at, kept_by, kept_of, pair_at, request_terminal, seat_at}

@@ -1,9 +1,9 @@
 -- What is done to the seats of some terminals, one after the other.
-use Rattle.std.proofs.Common.{◌≡◌, ◌≢◌, ℕ, ◌==◌, ◌<◌, ◌||◌, ◌&&◌, Bool, true, false, List, [], ◌∷◌, Option, Some, None, cond, ◌∙◌, ⊎_elim, refl, sym, ap, ap₂, subst, length}
+use Rattle.std.proofs.Common.{◌≡◌, ℕ, ◌==◌, ◌<◌, ◌||◌, ◌&&◌, Bool, true, false, List, [], ◌∷◌, Option, Some, None, cond, ◌∙◌, ⊎_elim, refl, sym, ap, subst, length}
 use Rattle.std.specs.Prelude.{All, is_some, slice_set}
 use Rattle.std.specs.List.{cons_option, list_any}
 use Rattle.std.proofs.Math.Path.{fun_ext}
-use Rattle.std.proofs.lemmas.Bool.{cases_eq, cond-false, cond-true, eq-eqb, ne_eqb}
+use Rattle.std.proofs.lemmas.Bool.{cases_eq, cond-true, eq-eqb, ne_eqb}
 use Rattle.std.proofs.lemmas.List.{get_or-set_other, get_or-set_same, length-set}
 use Rattle.std.proofs.lemmas.List.Elements.{All-head, All-tail}
 use Rattle.pw_class.specs.Book.{queue_at}
@@ -13,9 +13,8 @@ use Rattle.pw_code.specs.declared.unit.Unit as unit
 use Rattle.pw_keep.specs.Each.{changed_each}
 use Rattle.pw_keep.specs.Keeps.{HasVerb, IsKeep, is_run, job_of, jobs_at, kept_by, kept_of, no_seat, pair_at, seat_at}
 use Rattle.pw_keep.proofs.Parts.{of-parts}
-use Rattle.pw_kept.specs.Changes.{at_each, at_terminal}
-use Rattle.pw_kept.specs.Kept.{Kept, KeptTerminal}
-use Rattle.pw_onecopy.specs.Update.{upd}
+use Rattle.pw_kept.specs.Changes.{at_each}
+use Rattle.pw_kept.specs.Kept.{KeptTerminal}
 use Rattle.pw_onecopy.proofs.Update.{upd_elim}
 use Rattle.pw_pair.specs.Pairs.{SeenPair}
 use Rattle.pw_seats.specs.Jobs.{context_of}

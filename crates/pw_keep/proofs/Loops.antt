@@ -1,9 +1,8 @@
 -- Lists that are gone through one after the other.
-use Rattle.std.proofs.Common.{◌≡◌, ℕ, ◌+◌, ◌<◌, List, ◌∷◌, [], ◌++◌, take, drop, map, get_or, ◌∙◌, refl, sym, ap, subst, length}
+use Rattle.std.proofs.Common.{◌≡◌, ℕ, ◌+◌, ◌<◌, List, ◌∷◌, [], ◌++◌, take, drop, map, get_or, ◌∙◌, sym, ap, subst, length}
 use Rattle.std.specs.Prelude.{All, slice_index_or, slice_set}
 use Rattle.std.proofs.lemmas.List.{drop_more, map-append, take_more}
 use Rattle.pw_keep.specs.Each.{changed_each}
-use Rattle.pw_keep.specs.Keeps.{seat_at}
 use Rattle.pw_keep.proofs.Parts.{seat-is}
 use Rattle.pw_seats.specs.declared.seat.Seat.{Seat}
 

@@ -1,5 +1,5 @@
 -- Whether a request of a terminal is out.
-use Rattle.std.proofs.Common.{◌≡◌, ℕ, zero, suc, ◌+◌, ◌≤◌, ◌||◌, Bool, List, take, ◌∙◌, refl, sym, ap, ap₂, subst, length, arith}
+use Rattle.std.proofs.Common.{◌≡◌, ℕ, zero, suc, ◌+◌, ◌≤◌, ◌||◌, Bool, List, take, ◌∙◌, refl, sym, ap, subst, length, arith}
 use Rattle.std.specs.List.{list_any}
 use Rattle.std.proofs.Math.Seq.{take-length}
 use Rattle.std.proofs.lemmas.List.Folds.{list_any_more}

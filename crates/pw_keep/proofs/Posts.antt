@@ -17,7 +17,6 @@ use Rattle.pw_code.specs.declared.context.Context.{Context}
 use Rattle.pw_code.specs.declared.system.ClassInfo.{ClassInfo}
 use Rattle.pw_code.specs.declared.system.System.{System}
 use Rattle.pw_code.specs.declared.verb.Verb.{Verb}
-use Rattle.std.specs.Option.{IfSome}
 use Rattle.pw_keep.specs.Calls.{process_of}
 use Rattle.pw_keep.specs.Keeps.{IsKeep, IsStaffed, IsVerbOf, JobHasVerb, job_of, job_terminal, jobs_at, kept_by, kept_of, pair_at, request_terminal, seat_at}
 use Rattle.pw_keep.proofs.Parts.{of-parts}
@@ -25,7 +24,6 @@ use Rattle.pw_kept.specs.Changes.{at_class, free_process, kept_take, with_job}
 use Rattle.pw_onecopy.specs.Update.{upd}
 use Rattle.pw_onecopy.proofs.Update.{upd_elim}
 use Rattle.pw_pair.specs.Pairs.{SeenPair}
-use Rattle.pw_kept.specs.Asked.{verb_in}
 use Rattle.pw_seats.specs.Jobs.{context_of, gone_on, job_in}
 use Rattle.pw_seats.specs.declared.job.Job.{Job}
 use Rattle.pw_seats.specs.declared.seat.Seat.{Seat}

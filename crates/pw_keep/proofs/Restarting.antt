@@ -1,5 +1,5 @@
 -- The attempt of a unit is over, and its terminal is at its start.
-use Rattle.std.proofs.Common.{◌≡◌, ◌≢◌, ℕ, ◌<◌, false, List, Option, Some, None, ◌∙◌, refl, sym, ap, subst, length}
+use Rattle.std.proofs.Common.{◌≡◌, ℕ, ◌<◌, false, List, Option, Some, None, ◌∙◌, refl, sym, ap, subst, length}
 use Rattle.std.specs.Prelude.{is_some, option_map, slice_index_or, slice_set}
 use Rattle.pw_class.specs.Queue.{Queue}
 use Rattle.pw_code.specs.declared.system.System.{System}

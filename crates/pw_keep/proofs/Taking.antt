@@ -1,6 +1,6 @@
 -- The process that takes the next request of a class.
-use Rattle.std.proofs.Common.{◌≡◌, ℕ, suc, ◌+◌, ◌-◌, ◌<◌, ◌≤◌, List, [], ◌∷◌, Option, Some, None, cond, get_or, ◌∙◌, refl, sym, ap, ap₂, subst, length, arith}
-use Rattle.std.specs.Prelude.{All, IsSome, Bool, false, is_none, not, option_map, position, slice_get, slice_index_or, true}
+use Rattle.std.proofs.Common.{◌≡◌, ℕ, suc, ◌+◌, ◌-◌, ◌<◌, ◌≤◌, List, [], ◌∷◌, Option, Some, None, cond, get_or, ◌∙◌, refl, sym, ap, ap₂, length, arith}
+use Rattle.std.specs.Prelude.{Bool, is_none, not, option_map, position, slice_get, slice_index_or}
 use Rattle.std.specs.List.{position_or_len}
 use Rattle.std.proofs.lemmas.List.Quantifiers.{position-Some}
 use Rattle.std.proofs.lemmas.Option.{slice_get-get_or}
@@ -11,7 +11,7 @@ use Rattle.pw_code.specs.Limits.{most_processes}
 use Rattle.pw_code.specs.declared.system.ClassInfo.{ClassInfo}
 use Rattle.pw_code.specs.declared.system.System.{System}
 use Rattle.pw_keep.specs.Calls.{given, given_to}
-use Rattle.pw_keep.specs.Keeps.{IsKeep, IsStaffed, job_terminal, jobs_at, request_terminal}
+use Rattle.pw_keep.specs.Keeps.{IsKeep, job_terminal, jobs_at, request_terminal}
 use Rattle.pw_keep.proofs.Posts.{from-one-at}
 use Rattle.pw_pair.specs.Pairs.{SeenPair}
 use Rattle.pw_seats.specs.declared.job.Job.{Job}

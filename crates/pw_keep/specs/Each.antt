@@ -1,6 +1,5 @@
 -- What is done to the seats of some terminals, and to what is kept of them.
 use Rattle.std.specs.Prelude.{ℕ, Bool, true, false, List, [], ◌∷◌, Option, Some, None, is_none, slice_set, option_map, if◌then◌else◌}
-use Rattle.pw_code.specs.declared.context.Context.{Context}
 use Rattle.pw_event.specs.declared.event.Cause.TheVariants.{Takeover}
 use Rattle.pw_event.specs.declared.event.Ending.{Ending}
 use Rattle.pw_event.specs.declared.event.Ending.TheVariants.{Stopped, NoEntries, Fault, Suspended, Lost}

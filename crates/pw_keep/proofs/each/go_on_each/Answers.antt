@@ -1,4 +1,4 @@
-use Rattle.std.proofs.Common.{◌≡◌, ◌<◌, ◌∙◌, ◌++◌, ◌∷◌, [], List, ap, length, subst, sym, arith}
+use Rattle.std.proofs.Common.{◌≡◌, ◌<◌, ◌∙◌, [], List, ap, length, subst, sym, arith}
 use Rattle.std.specs.Prelude.{All, option_map, slice_set}
 use Rattle.std.proofs.lemmas.List.{length-set, nil_from_length}
 use Rattle.pw_keep.specs.Each.{gone_each, gone_on}

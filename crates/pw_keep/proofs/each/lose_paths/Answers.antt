@@ -1,4 +1,4 @@
-use Rattle.std.proofs.Common.{ℕ, ◌<◌, ◌∙◌, List, get_or, length, subst, sym, arith}
+use Rattle.std.proofs.Common.{ℕ, ◌<◌, ◌∙◌, get_or, length, subst, sym, arith}
 use Rattle.std.proofs.lemmas.List.{get_or_default, length-set}
 use Rattle.pw_keep.proofs.Loops.{changed-more}
 use Rattle.pw_seats.specs.Seats.{without_path}

@@ -1,4 +1,4 @@
-use Rattle.std.proofs.Common.{◌∙◌, List, map, Option, ap, ap₂, refl, subst, sym}
+use Rattle.std.proofs.Common.{◌∙◌, List, map, Option, ap₂, refl, subst, sym}
 use Rattle.pw_class.specs.Queue.{Queue, without}
 use Rattle.pw_keep.specs.Keeps.{IsKeep, kept_by}
 use Rattle.pw_seats.specs.declared.job.Job.{Job}

@@ -2,7 +2,7 @@ use Rattle.std.proofs.Common.{◌∙◌, ◌<◌, List, ap, ap₂, refl, subst, 
 use Rattle.std.specs.Prelude.{All, true}
 use Rattle.pw_keep.specs.Each.{changed_each}
 use Rattle.pw_keep.specs.Keeps.{IsKeep, kept_by}
-use Rattle.pw_kept.specs.Changes.{at_each, without_unit}
+use Rattle.pw_kept.specs.Changes.{without_unit}
 use Rattle.pw_kept.specs.Kept.{Kept}
 use Rattle.pw_seats.specs.Seats.{over}
 use Rattle.pw_seats.specs.declared.seat.Seat.{Seat}

@@ -1,4 +1,4 @@
-use Rattle.std.proofs.Common.{◌<◌, ◌∙◌, ap, refl, length}
+use Rattle.std.proofs.Common.{◌<◌, ◌∙◌, ap, length}
 use Rattle.pw_pair.specs.Called.{member_fails}
 use Rattle.pw_keep.specs.Keeps.{terminals_in}
 use Rattle.pw_keep.proofs.Pairing.{failed-terminals, keep-pair, pair-step, pair-there}

@@ -1,4 +1,4 @@
-use Rattle.std.proofs.Common.{◌<◌, ◌∙◌, List, ap, refl, subst, sym, length}
+use Rattle.std.proofs.Common.{◌<◌, ◌∙◌, List, ap, refl, subst, sym}
 use Rattle.std.specs.Prelude.{All}
 use Rattle.pw_keep.specs.Each.{changed_each}
 use Rattle.pw_keep.specs.Keeps.{IsKeep, kept_by}

@@ -1,12 +1,12 @@
-use Rattle.std.proofs.Common.{◌≡◌, ℕ, ◌<◌, ◌∙◌, List, ap, length, refl, subst, sym}
+use Rattle.std.proofs.Common.{ℕ, ◌<◌, ◌∙◌, List, ap, length, refl, subst, sym}
 use Rattle.std.specs.Prelude.{All}
 use Rattle.pw_keep.specs.Each.{gone_on, resumption_at}
 use Rattle.pw_keep.specs.Keeps.{kept_in, pair_at, seat_at, terminals_in}
 use Rattle.pw_keep.proofs.Changed.{AreChanged, keep-alike, kept-each}
 use Rattle.pw_keep.proofs.Failing.{goes-on, goings-low, gone-are, start-left, unit-left, verb-left}
-use Rattle.pw_keep.proofs.Pairing.{keep-pair, pair-is, pair-step, pair-there, terminals-each}
+use Rattle.pw_keep.proofs.Pairing.{keep-pair, pair-step, pair-there, terminals-each}
 use Rattle.pw_kept.specs.Changes.{at_each, at_pair, taken_over}
-use Rattle.pw_pair.specs.Pairs.{SeenPair, after_take, seat_of}
+use Rattle.pw_pair.specs.Pairs.{after_take, seat_of}
 use Rattle.pw_pair.specs.Seats.{without_backup}
 use Rattle.pw_pair.specs.declared.mode.Mode.TheVariants.{Alone}
 use Rattle.pw_seats.specs.declared.seat.Seat.{Seat}
