@@ -1,0 +1,6 @@
+pub mod Actors
+pub mod Causes
+pub mod Images
+pub mod Known
+pub mod Steps
+pub mod Verbs
