@@ -1,15 +1,17 @@
 -- The causes for which a unit restarts: which one was found, and whether any is there.
-use Rattle.std.specs.Prelude.{◌≡◌, ℕ, ◌+◌, ◌<◌, ◌≤◌, ◌||◌, Bool, true, false, length, Option, Some, None, slice_get, if◌then◌else◌}
+use Rattle.std.specs.Prelude.{◌≡◌, ℕ, ◌+◌, ◌<◌, ◌||◌, nat_lt, Bool, true, false, length, Option, Some, None, slice_get, if◌then◌else◌}
 use Rattle.pw_code.specs.declared.system.System.{System}
 use Rattle.pw_code.specs.declared.unit.Unit as unit
 use Rattle.pw_event.specs.declared.event.Cause.{Cause}
 use Rattle.pw_exec.specs.OfSystem.{processes_by}
-use Rattle.pw_kept.specs.CauseTests.{holds, meets, unit_named, work_meets}
+use Rattle.pw_kept.specs.CauseTests.{holds, unit_named, work_meets}
 use Rattle.pw_kept.specs.ClassTests.{works_where}
 use Rattle.pw_kept.specs.Kept.{Kept}
 use Rattle.pw_paired.specs.Units.{any_below}
 use Rattle.pw_tmf.specs.Leaving.{unit_told}
 use Rattle.pw_tmf.specs.Told.{ToldUnit}
+use Rattle.pw_tmf.specs.declared.answer.Foreseen.{Foreseen}
+use Rattle.pw_tmf.specs.declared.answer.Foreseen.TheVariants as foreseen
 
 -- the open unit of a terminal, where an attempt of it runs
 abbrev pub running_told : ℕ → Option ToldUnit → Option unit.Unit
@@ -63,3 +65,8 @@ HoldsFor system kept own cause =
 abbrev pub IsCauseFound : System → Kept → unit.Unit → Option Cause → Type 0
 IsCauseFound system kept own None = (cause : Cause) → HoldsFor system kept own cause → ⊥
 IsCauseFound system kept own (Some cause) = HoldsFor system kept own cause
+
+-- the unit that stands in the way of an operation, where it is older
+abbrev pub older_holder : unit.Unit → Foreseen → Option unit.Unit
+older_holder own (foreseen.Done status) = None
+older_holder own (foreseen.Conflict holder) = if nat_lt holder.birth own.birth then Some holder else None

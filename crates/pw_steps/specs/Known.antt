@@ -22,11 +22,12 @@ pub record IsFewCounted (context : Context) : Type 0 where
   pub entries : context.entries < 1000000
   pub units : context.units < 1000000
 
--- The system is valid, and the disc locks by its rule. Open and awaited units are
+-- The system is valid, and the disc has its terminals and its rule. Open and awaited units are
 -- those of started terminals, and locks are those of open units. A busy process works for a unit of which an attempt
 -- runs, and what it asks of a file may be asked of the disc. No context counts too much.
 pub record IsKnown (system : System) (kept : Kept) : Type 0 where
   pub valid : IsValid system
+  pub sizes : kept.disc.terminals ≡ length system.terminals
   pub rule : kept.disc.rule ≡ system.rule
   pub started : (t : ℕ) (own : ToldUnit) → kept.disc.units t ≡ Some own → t < length system.terminals
   pub awaits : (t : ℕ) (awaited : Awaited) → (kept.terminals t).awaits ≡ Some awaited

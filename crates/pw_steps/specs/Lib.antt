@@ -1,4 +1,5 @@
 pub mod Actors
+pub mod Calls
 pub mod Causes
 pub mod Images
 pub mod Known
