@@ -1,0 +1,10 @@
+//! Whether an entry of the log is a step by what a monitor keeps, and a step of each actor that has
+//! one.
+#![tactic(auto)]
+
+mod images;
+pub mod pairs;
+pub mod terminals;
+pub mod there;
+pub mod units;
+mod verbs;
