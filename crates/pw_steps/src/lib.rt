@@ -2,6 +2,8 @@
 //! one.
 #![tactic(auto)]
 
+pub mod at_verb;
+pub mod classes;
 mod images;
 pub mod pairs;
 pub mod terminals;
