@@ -1,5 +1,6 @@
 -- What the calls of a world answer, and what they leave.
-use Rattle.std.specs.Prelude.{◌≡◌, ◌≢◌, ◌⊎◌, ℕ, ◌<◌, List, [], ◌∷◌, ◌++◌, Bool, true, false, Option, Some, None, length, if◌then◌else◌, Result, Ok, Err}
+use Rattle.std.specs.Prelude.{◌≡◌, ◌≢◌, ◌⊎◌, ℕ, List, [], ◌∷◌, ◌++◌, Bool, true, false, Option, Some, None, length, if◌then◌else◌, Result, Ok, Err}
+use Rattle.pw_base.specs.Outside.{Rose}
 use Rattle.pw_base.specs.declared.memory.Memory.{Memory}
 use Rattle.pw_code.specs.declared.context.Context.{Context}
 use Rattle.pw_event.specs.declared.event.Event.{Event}
@@ -137,9 +138,9 @@ pub record Pushes (members : ℕ → List ℕ) (world new : Seen) (actor : Actor
     kept = entered world.system members entry world.kept;
   }
 
--- a fault was answered, and the disc's count is above that at `new`; all else stays
+-- a fault was answered, and the disc's count has risen since `new`; all else stays
 pub record FailsOnly (world new : Seen) : Type 0 where
-  pub rose : world.faults < new.kept.disc.faults
+  pub rose : Rose world.faults new.kept.disc.faults
   pub rest : new ≡ record world {
     failed = true;
     kept = record world.kept { disc = record world.kept.disc { faults = new.kept.disc.faults } };
@@ -171,9 +172,9 @@ pub record IsSameWorld (world new : Seen) : Type 0 where
   pub out : (actor : Actor) → new.out actor ≡ world.out actor
   pub faults : new.faults ≡ world.faults
 
--- a fault was answered, and the disc's count is above that at `new`
+-- a fault was answered, and the disc's count has risen since `new`
 abbrev pub HasFailed : Seen → Type 0
-HasFailed world = (world.failed ≡ true) × (world.faults < world.kept.disc.faults)
+HasFailed world = (world.failed ≡ true) × Rose world.faults world.kept.disc.faults
 
 -- what `enter` leaves: it may run programs on, so that what is kept stands for the same state as before
 abbrev pub LeavesEntered : Seen → Event → answer.Entered → Seen → Type 0

@@ -3,8 +3,11 @@ pub mod Answers
 pub mod Calls
 pub mod Dues
 pub mod Enabled
+pub mod Failures
 pub mod OneSends
+pub mod Pushed
 pub mod Seen
 pub mod Stamps
 pub mod Tasks
+pub mod Touches
 pub mod Worlds

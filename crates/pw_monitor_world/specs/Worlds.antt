@@ -1,10 +1,13 @@
 -- A new world, and what the type of a world keeps.
-use Rattle.std.specs.Prelude.{◌≡◌, ◌+◌, ℕ, zero, suc, ◌<◌, ◌≤◌, Bool, true, false, List, [], length, map, None, if◌then◌else◌}
+use Rattle.std.specs.Prelude.{◌≡◌, ◌+◌, ◌-◌, ◌^◌, ℕ, zero, suc, ◌<◌, ◌≤◌, All, Bool, true, false, IsSome, List, [], length, map, None, if◌then◌else◌}
+use Rattle.pw_base.specs.Outside.{Rose}
 use Rattle.pw_code.specs.Valid.{IsValid}
 use Rattle.pw_code.specs.declared.system.System.{System}
 use Rattle.pw_event.specs.declared.script.FailLine.{FailLine}
 use Rattle.pw_exec.specs.OfSystem.{behaviour}
+use Rattle.pw_kept.specs.May.{IsLineThere}
 use Rattle.pw_kept.specs.Stands.{Stands}
+use Rattle.pw_kept.specs.TerminalTests.{is_out}
 use Rattle.pw_monitor_world.specs.Actors.{IsActor, members_of}
 use Rattle.pw_monitor_world.specs.Dues.{DueBook, IsBookOf}
 use Rattle.pw_monitor_world.specs.Enabled.{MayWork}
@@ -86,7 +89,13 @@ pub record IsWorld (world : Seen) (beside : Books) : Type 0 where
       → map (λ seat. seat.terminal) (world.kept.pairs p).seats ≡ members_of world.system p
   pub terminals : world.kept.disc.terminals ≡ length world.system.terminals
   pub files : world.kept.disc.file_count ≡ length world.system.files
-  -- a fault was answered only where the disc's count is above that at `new`
+  -- the failure lines name what is there, and their numbers fit
+  pub lines : All (IsLineThere world.system) world.script
+  pub few_lines : length world.script < 2 ^ 32 - 1
+  -- a terminal whose request is out stands at its verb
+  pub asking : (t : ℕ) → t < length world.system.terminals → is_out world.system world.kept t ≡ true
+      → IsSome (world.kept.terminals t).ready
+  -- a fault was answered only where the disc's count has risen since `new`
   pub count : world.faults ≤ world.kept.disc.faults
-  pub failed : world.failed ≡ true → world.faults < world.kept.disc.faults
+  pub failed : world.failed ≡ true → Rose world.faults world.kept.disc.faults
   pub books : AreBooksOf world beside

@@ -1,8 +1,16 @@
-//  The monitor's world over the whole paired system: who acts, what a world answers, and what
-// contracts see of it.
+//! The monitor's world over the whole paired system: who acts, what a world answers, what contracts
+//! see of it, and the laws by which it goes on.
 #![tactic(auto)]
 
 pub mod answers;
+pub mod changing;
+pub mod claiming;
+pub mod contexts;
 pub mod due;
+pub mod failing;
+pub mod known;
 pub mod laws;
+pub mod pushing;
+pub mod requests;
+pub mod stepping;
 pub mod task;
