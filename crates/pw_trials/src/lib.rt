@@ -1,0 +1,5 @@
+//! Programs of whole decks, compiled and run against answers by hand.
+#![tactic(auto)]
+
+#[cfg(test)]
+mod tests;
