@@ -1,14 +1,18 @@
 -- What contracts see of what a monitor keeps, and what holds of its parts.
-use Rattle.std.specs.Prelude.{◌≡◌, ◌-◌, ◌==◌, ℕ, ◌<◌, List, [], length, Option, Some, None, slice_get, slice_index_or, if◌then◌else◌}
+use Rattle.std.specs.Prelude.{◌≡◌, ◌-◌, ◌==◌, ℕ, ◌<◌, Bool, true, false, List, [], length, map, Option, Some, None, is_some, slice_get, slice_index_or, if◌then◌else◌}
 use Rattle.std.specs.Option.{IfSome, option_map}
 use Rattle.pw_class.specs.Book.{queue_at}
 use Rattle.pw_class.specs.Queue.{Queue, at_process}
 use Rattle.pw_class.specs.declared.request.Request.{Request}
 use Rattle.pw_code.specs.Valid.{IsValid}
+use Rattle.pw_code.specs.declared.context.Context.{Context}
 use Rattle.pw_code.specs.declared.system.ClassInfo.{ClassInfo}
 use Rattle.pw_code.specs.declared.system.System.{System}
+use Rattle.pw_code.specs.declared.verb.Verb.{Verb}
+use Rattle.pw_exec.specs.Config.{fresh}
 use Rattle.pw_kept.specs.Asked.{verb_in}
 use Rattle.pw_kept.specs.Kept.{Kept, KeptTerminal}
+use Rattle.pw_kept.specs.Members.{AreOf}
 use Rattle.pw_pair.specs.Pairs.{SeenPair}
 use Rattle.pw_pair.specs.declared.mode.Mode.TheVariants.{Alone}
 use Rattle.pw_paired.specs.State.{Awaited}
@@ -19,7 +23,7 @@ use Rattle.pw_seats.specs.declared.seat.Ready.{Ready}
 use Rattle.pw_seats.specs.declared.seat.Seat.{Seat}
 use Rattle.pw_tmf.specs.Answers.{Leaves}
 use Rattle.pw_tmf.specs.Leaving.{unit_told}
-use Rattle.pw_tmf.specs.Told.{Told}
+use Rattle.pw_tmf.specs.Told.{Told, ToldUnit}
 use Rattle.pw_tmf.specs.declared.answer.DiscFault.{DiscFault}
 
 -- ---- seats
@@ -45,7 +49,7 @@ kept_of seat = record {
 -- what stands where no seat is, and where no pair is
 abbrev pub no_seat : Seat
 no_seat = record {
-  context = None;
+  context = Some fresh;
   ready = None;
   start = None;
   unit = None;
@@ -115,9 +119,13 @@ pub record IsRefused {D : Type 0} (told : D → Told) (fault : DiscFault) (old n
 abbrev pub HasVerb : System → Seat → Type 0
 HasVerb system seat = IfSome seat.ready (λ (at : Ready). at.verb ≡ verb_in system at.context)
 
+-- a verb is there exactly where the context stands at one
+abbrev pub IsVerbOf : System → Context → Option Verb → Type 0
+IsVerbOf system context None = context.at_verb ≡ false
+IsVerbOf system context (Some verb) = (context.at_verb ≡ true) × (verb ≡ verb_in system context)
+
 abbrev pub JobHasVerb : System → Option Job → Type 0
-JobHasVerb system job =
-    IfSome job (λ (own : Job). IfSome own.verb (λ verb. verb ≡ verb_in system own.context))
+JobHasVerb system job = IfSome job (λ (own : Job). IsVerbOf system own.context own.verb)
 
 -- the terminals whose jobs and requests are at a process
 abbrev pub job_terminal : Option Job → Option ℕ
@@ -133,7 +141,17 @@ pub record IsStaffed (info : ClassInfo) (queue : Queue) (jobs : List (Option Job
   pub jobs_are : length jobs ≡ info.processes
   pub posts : (i : ℕ) → job_terminal (job_of jobs i) ≡ request_terminal (at_process queue i)
 
--- each part has the size that the system says; a seat has the open unit that the disc tells; and verbs are right
+-- an attempt of an open unit runs
+abbrev pub is_run : Option ToldUnit → Bool
+is_run None = false
+is_run (Some unit) = unit.running
+
+-- the terminals of a pair
+abbrev pub terminals_in : SeenPair → List ℕ
+terminals_in pair = map (λ seat. seat.terminal) pair.seats
+
+-- Each part has the size that the system says, and a pair has its terminals. A seat has the open unit that the disc
+-- tells, and a start exactly where an attempt of that runs. Verbs are right.
 pub record IsKeep (system : System) (seats : List Seat) (disc : Told) (book : List Queue)
     (jobs : List (List (Option Job))) (pairs : List SeenPair) : Type 0 where
   pub valid : IsValid system
@@ -144,6 +162,8 @@ pub record IsKeep (system : System) (seats : List Seat) (disc : Told) (book : Li
   pub disc_terminals : disc.terminals ≡ length system.terminals
   pub disc_files : disc.file_count ≡ length system.files
   pub units : (t : ℕ) → t < length seats → (seat_at seats t).unit ≡ unit_told t (disc.units t)
+  pub runs : (t : ℕ) → t < length seats → is_some (seat_at seats t).start ≡ is_run (disc.units t)
+  pub members : (p : ℕ) → p < length pairs → AreOf system p (terminals_in (pair_at pairs p))
   pub verbs : (t : ℕ) → HasVerb system (seat_at seats t)
   pub staffed : (c : ℕ) (info : ClassInfo) → slice_get system.classes c ≡ Some info
       → IsStaffed info (queue_at book c) (jobs_at jobs c)

@@ -2,5 +2,12 @@
 //! what each kind of entry does to it.
 #![tactic(auto)]
 
+mod failures;
 pub mod keep;
+mod pairs;
 mod pieces;
+mod reading;
+mod servers;
+mod starting;
+mod terminals;
+mod units;

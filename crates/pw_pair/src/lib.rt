@@ -9,7 +9,7 @@ pub mod message;
 pub mod mode;
 pub mod pair;
 pub mod resumed;
-mod seat;
+pub mod seat;
 mod seats;
 #[cfg(test)]
 mod tests;

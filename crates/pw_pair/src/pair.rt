@@ -1,4 +1,5 @@
-ghost use Rattle.std.specs.Prelude.{◌≡◌, ◌&&◌, ◌<◌, ◌≤◌, [], find, length, true, false, not, Some, None, IfOk, IfSome, IsTrue, ◌↔◌, OnOk, OnErr, is_some, is_none};
+ghost use Rattle.std.specs.Prelude.{◌≡◌, ◌&&◌, ◌<◌, ◌≤◌, [], find, length, true, false, not, Some, None, IfOk, IfSome, IsTrue, ◌↔◌, OnOk, OnErr, is_some, is_none, option_map};
+ghost use Rattle.std.specs.Option.{option_copied};
 ghost use Rattle.pw_pair.specs.Bodies.{is_image};
 ghost use Rattle.pw_pair.specs.Seats.{built, has_memory, holds_end, holds_start, is_built, is_flying, is_waiting, seats_with, without_backup};
 
@@ -6,6 +7,8 @@ use crate::backup::{Backup, Held};
 use crate::link::{LinkDone, LinkTask};
 use crate::message::CheckMessage;
 use crate::mode::Mode;
+use crate::resumed::Resumed;
+use crate::seat::Seat;
 use crate::seats::Seats;
 use pw_base::memory::Memory;
 use std::alloc::Global;
@@ -36,6 +39,7 @@ impl Model for Pair {
 impl Pair {
     ghost use Rattle.pw_pair.specs.Pairs.{after_applied, after_drop, after_put_back, after_raise, after_send, after_take, backup_fails, changed_at, in_mode, memory_of, primary_fails, passes, seat_of, settled};
     ghost use Rattle.pw_pair.specs.Rooms.{MaySend, NeedsNoRoom};
+    ghost use Rattle.pw_pair.specs.Takeover.{resumption_in, resumption_of};
     ghost use Rattle.pw_pair.specs.Tasks.{waiting_task};
 
     /// A pair in Alone with these terminals, none of which has ended.
@@ -62,6 +66,33 @@ impl Pair {
         ensures { IsTrue result ↔ (self.now.mode ≡ Mode.Paired) }
     {
         self.mode == Mode::Paired
+    }
+
+    /// The seats of its terminals, one for each, in order.
+    pub fn seats(&self) -> &[Seat]
+        ensures { result.now ≡ self.now.seats }
+    {
+        self.seats.as_slice()
+    }
+
+    /// The seat of a terminal, None exactly where it is not of the pair.
+    pub fn seat(&self, terminal: u32) -> Option<&Seat>
+        ensures { option_copied result ≡ seat_of terminal self.now }
+    {
+        self.seats.get(terminal)
+    }
+
+    /// How a terminal goes on behind a takeover, where this is the number of TMF's last ended unit of it, 0 for none.
+    /// None exactly where nothing is held of it.
+    pub fn resumption(&self, terminal: u32, last: u32) -> Result<Option<Resumed>, Memory>
+        ensures { IfOk result (λ resumed. option_map resumption_of resumed
+            ≡ resumption_in (seat_of terminal self.now) last) }
+    {
+        let alloc = *self.room.allocator();
+        match self.seats.get(terminal) {
+            Some(seat) => seat.resumption(alloc, last),
+            None => Ok(None),
+        }
     }
 
     /// Makes a new backup, which holds nothing. An `Err` leaves the pair as it was.

@@ -98,6 +98,13 @@ impl Seats {
         self.seats.len()
     }
 
+    /// The seats, in order.
+    pub fn as_slice(&self) -> &[Seat]
+        ensures { result.now ≡ self.now }
+    {
+        self.seats.as_slice()
+    }
+
     /// Whether some live terminal is lacking in the memory.
     pub fn lacks(&self) -> bool
         ensures { result ≡ list_any is_lacking self.now }

@@ -1,5 +1,5 @@
 -- What is done to a terminal's seat.
-use Rattle.std.specs.Prelude.{◌+◌, ℕ, Option, Some, None}
+use Rattle.std.specs.Prelude.{◌+◌, ◌==◌, ◌&&◌, Bool, false, ℕ, Option, Some, None, is_some}
 use Rattle.pw_code.specs.declared.context.Context.{Context}
 use Rattle.pw_code.specs.declared.unit.Unit.{Unit}
 use Rattle.pw_code.specs.declared.verb.Verb.{Verb}
@@ -22,6 +22,14 @@ first_seat context = record {
   pending = None;
   ending = None;
 }
+
+-- an attempt of the unit of this number runs
+abbrev pub runs_numbered : ℕ → Bool → Option Unit → Bool
+runs_numbered number runs None = false
+runs_numbered number runs (Some unit) = unit.number == number && runs
+
+abbrev pub runs_unit : ℕ → Seat → Bool
+runs_unit number seat = runs_numbered number (is_some seat.start) seat.unit
 
 -- its program stands at this verb
 abbrev pub ready_at : Verb → Context → Seat → Seat

@@ -1,4 +1,4 @@
-ghost use Rattle.std.specs.Prelude.{◌≡◌, ◌<◌, length, map, slice_set, IfOk, None, replicate};
+ghost use Rattle.std.specs.Prelude.{◌≡◌, ◌<◌, length, map, position, slice_set, IfOk, None, is_none, replicate};
 ghost use Rattle.std.specs.Option.{option_copied};
 ghost use Rattle.pw_seats.specs.Jobs.{dropped_for, gone_on, is_for, job_in};
 
@@ -56,6 +56,13 @@ impl Jobs {
             Some(job) => job.as_ref(),
             None => None,
         }
+    }
+
+    /// The first place without a job, None exactly where each has one.
+    pub fn free_place(&self) -> Option<usize>
+        ensures { result ≡ position is_none self.now }
+    {
+        self.jobs.iter().position(|job| job.is_none())
     }
 
     /// Takes the job at a place, and puts another one, if any, there.

@@ -1,5 +1,5 @@
 ghost use Rattle.std.specs.Prelude.{◌≡◌, ◌-◌, ◌<◌, ◌^◌};
-ghost use Rattle.pw_seats.specs.Seats.{answered, ended, first_seat, over, ready_at, restarted, resumed, started, without_path};
+ghost use Rattle.pw_seats.specs.Seats.{answered, ended, first_seat, over, ready_at, restarted, resumed, runs_unit, started, without_path};
 
 use pw_code::context::Context;
 use pw_code::unit::Unit;
@@ -53,6 +53,16 @@ impl Seat {
             awaits: None,
             pending: None,
             ending: None,
+        }
+    }
+
+    /// Whether an attempt of the unit of this number runs.
+    pub fn runs_unit(&self, number: u32) -> bool
+        ensures { result ≡ runs_unit number self.now }
+    {
+        match &self.unit {
+            Some(unit) => unit.number == number && self.start.is_some(),
+            None => false,
         }
     }
 

@@ -16,7 +16,7 @@ use Rattle.std.specs.Ordering.{is_eq}
 use Rattle.pw_locks.specs.Conflicts.{lock_of}
 use Rattle.pw_locks.specs.declared.lock.Lock.{Lock}
 use Rattle.pw_locks.specs.declared.span.Span.{Span}
-use Rattle.pw_onecopy.specs.Operation.{key_of, records_behind, span_of}
+use Rattle.pw_onecopy.specs.Operation.{answer_of, key_of, records_behind, span_of}
 use Rattle.pw_onecopy.proofs.Update.{upd_elim}
 use Rattle.pw_onecopy.specs.Update.{upd}
 use Rattle.pw_paired.specs.State.{BeforeImage, LastEnded}
@@ -59,6 +59,16 @@ lock-is state file u call span mode settled lt is span_is mode_is =
     ap (λ (g : ℕ → List (List ℕ)). span_of (key_lengths state.files call.file) (g call.file) call.op call) (settled-files state.files state.pending settled)
     ∙ (ap (λ (s : BlocksState). span_of s.key (records_of s.blocks) call.op call) (file-is state.files call.file file lt is) ∙ sym span_is) in
     ap (λ s. lock_of u call.file s (mode_of state.rule call.op)) here ∙ ap (lock_of u call.file span) (sym mode_is)
+
+-- the status that it would answer
+pub status-is : (state : TmfState) (file : BlocksState) (call : FileCall) (status : ℕ) → state.pending ≡ []
+    → call.file < length state.files → file ≡ slice_index_or state.files call.file file
+    → status ≡ (answer_of file.key (records_of file.blocks) call.op call).status
+    → status ≡ (answer_of (key_lengths state.files call.file) (files_of state.files state.pending call.file) call.op call).status
+status-is state file call status settled lt is status_is =
+    status_is
+    ∙ sym (ap (λ (g : ℕ → List (List ℕ)). (answer_of (key_lengths state.files call.file) (g call.file) call.op call).status) (settled-files state.files state.pending settled)
+    ∙ ap (λ (s : BlocksState). (answer_of s.key (records_of s.blocks) call.op call).status) (file-is state.files call.file file lt is))
 
 module _ (state : TmfState) (u : unit.Unit) (call : FileCall) (files' : List BlocksState) (slot' : SlotState) (lock : Lock) (settled : state.pending ≡ []) (keys : key_lengths files' ≡ key_lengths state.files) (count : length files' ≡ length state.files)
     (lt : u.terminal < length state.slots) (noted : slot' ≡ with_unit (with_image (key_lengths state.files call.file) (stored state.files call.file) u.terminal call) (slot_at state.slots u.terminal)) where

@@ -12,6 +12,8 @@ use Rattle.pw_tmf.specs.declared.answer.DiscFault.TheVariants as fault
 use Rattle.pw_tmf.specs.declared.answer.Ended.{Ended}
 use Rattle.pw_tmf.specs.declared.answer.FileAnswer.{FileAnswer}
 use Rattle.pw_tmf.specs.declared.answer.FileAnswer.TheVariants as answer
+use Rattle.pw_tmf.specs.declared.answer.Foreseen.{Foreseen}
+use Rattle.pw_tmf.specs.declared.answer.Foreseen.TheVariants as foreseen
 use Rattle.pw_tmf.specs.Operation.{after_operation, answer_with, lock_now}
 use Rattle.pw_tmf.specs.Told.{Told}
 
@@ -35,6 +37,14 @@ Operates (answer.Done status content) old unit call new =
 Operates (answer.Conflict holder) old unit call new = IsOldest holder (holders (lock_now old unit call) old.locks) × (new ≡ old)
 Operates answer.Failed old unit call new = HasFailed old new
 Operates answer.Memory old unit call new = new ≡ old
+
+-- What an operation would answer now: the status with which it would be done, where no other unit holds a lock that
+-- conflicts with its own, else the oldest such unit.
+abbrev pub Foresees : Foreseen → Told → unit.Unit → FileCall → Type 0
+Foresees (foreseen.Done status) told unit call =
+    (holders (lock_now told unit call) told.locks ≡ [])
+    × (status ≡ (answer_of (told.key_length call.file) (told.files call.file) call.op call).status)
+Foresees (foreseen.Conflict holder) told unit call = IsOldest holder (holders (lock_now told unit call) told.locks)
 
 -- a unit's number and reply, where there is a unit: the number 0 is none
 abbrev pub ended_with : ℕ → Option (List ℕ) → Option Ended

@@ -41,6 +41,11 @@ refusal Rewrite false = Some 11
 refusal Delete false = Some 11
 refusal _ is_there = None
 
+-- the status of a WRITE, REWRITE or DELETE that is refused, or not
+abbrev pub status_with : Option ℕ → ℕ
+status_with None = 0
+status_with (Some status) = status
+
 -- a file status and a record that was read, if any, as the answer of an operation
 abbrev pub answer_with : ℕ → Option (List ℕ) → FileAnswer
 answer_with status content = record { status = status; content = content }

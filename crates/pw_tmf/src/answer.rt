@@ -18,6 +18,15 @@ pub enum FileAnswer {
     Memory,
 }
 
+/// What a file operation would come to now.
+#[derive(Clone, Copy, Debug, PartialEq, Eq, Drop)]
+pub enum Foreseen {
+    /// It would be done, with this file status.
+    Done(u16),
+    /// Another unit holds a lock that conflicts with the operation's: the oldest such unit.
+    Conflict(Unit),
+}
+
 /// Why a call of a disc was refused.
 #[derive(Clone, Copy, Debug, PartialEq, Eq, Drop, Error)]
 pub enum DiscFault {

@@ -1,12 +1,12 @@
 ghost use Rattle.std.specs.Prelude.{◌≡◌, ◌≢◌, ◌<◌, [], All, IfErr, IfOk, OnOk};
 ghost use Rattle.std.specs.Option.{option_copied};
-ghost use Rattle.pw_tmf.specs.Answers.{Leaves, Operates, ended_unit};
+ghost use Rattle.pw_tmf.specs.Answers.{Foresees, Leaves, Operates, ended_unit};
 ghost use Rattle.pw_tmf.specs.Committed.{committed};
 ghost use Rattle.pw_tmf.specs.Operation.{IsCall, awaits};
 ghost use Rattle.pw_tmf.specs.Told.{Told};
 ghost use Rattle.pw_tmf.specs.Units.{AreApart, CanBackOut, CanBegin, IsOpen, IsRunning, all_backed_out, begun, ended};
 
-use crate::answer::{DiscFault, Ended, FileAnswer};
+use crate::answer::{DiscFault, Ended, FileAnswer, Foreseen};
 use pw_base::bytes::Bytes;
 use pw_base::memory::Memory;
 use pw_code::file::FileCall;
@@ -61,4 +61,10 @@ pub trait Disc: Send + Drop {
         requires holder { IsOpen (told self.now) holder.now }
         requires apart { unit.now.terminal ≢ holder.now.terminal }
         ensures { IfOk result (λ awaits_it. awaits_it ≡ awaits (told self.now) unit.now call.now holder.now) };
+
+    /// What `operate` would answer now, without doing it and without the record that it reads.
+    fn foresee(&self, unit: &Unit, call: &FileCall) -> Result<Foreseen, Memory>
+        requires unit { IsRunning (told self.now) unit.now }
+        requires call { IsCall (told self.now) call.now }
+        ensures { IfOk result (λ foreseen. Foresees foreseen (told self.now) unit.now call.now) };
 }

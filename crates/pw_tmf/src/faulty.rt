@@ -2,7 +2,7 @@ ghost use Rattle.std.specs.Prelude.{◌≡◌, IfOk};
 ghost use Rattle.pw_base.specs.Outside.{counted, is_listed};
 ghost use Rattle.pw_tmf.specs.Faulty.{counted_if};
 
-use crate::answer::{DiscFault, Ended, FileAnswer};
+use crate::answer::{DiscFault, Ended, FileAnswer, Foreseen};
 use crate::disc::Disc;
 use pw_base::bytes::Bytes;
 use pw_base::memory::Memory;
@@ -105,5 +105,9 @@ impl<D: Disc> Disc for Faulty<D> {
 
     fn awaits(&self, unit: &Unit, call: &FileCall, holder: &Unit) -> Result<bool, Memory> {
         self.inner.awaits(unit, call, holder)
+    }
+
+    fn foresee(&self, unit: &Unit, call: &FileCall) -> Result<Foreseen, Memory> {
+        self.inner.foresee(unit, call)
     }
 }

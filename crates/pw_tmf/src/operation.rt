@@ -1,4 +1,4 @@
-ghost use Rattle.std.specs.Prelude.{◌≡◌, ◌<◌, None, true, false, IfOk, OnErr, OnOk, length};
+ghost use Rattle.std.specs.Prelude.{◌≡◌, ◌<◌, None, true, false, IfOk, OnErr, OnOk, length, if◌then◌else◌};
 ghost use Rattle.std.specs.Option.{option_copied};
 ghost use Rattle.pw_blocks.specs.Blocks.{records_of};
 ghost use Rattle.pw_files.specs.Records.{IsContent, IsFile, record_after, record_at};
@@ -6,7 +6,7 @@ ghost use Rattle.pw_onecopy.specs.IsBehaviour.{is_written};
 ghost use Rattle.pw_onecopy.specs.Operation.{answer_of, changes_records, found_key, is_change, key_of, records_behind, read_answer, span_of};
 ghost use Rattle.pw_onecopy.specs.Update.{upd};
 ghost use Rattle.pw_paired.specs.Units.{has_image, image_before, is_first_change};
-ghost use Rattle.pw_tmf.specs.Operation.{answer_with, refusal, with_image};
+ghost use Rattle.pw_tmf.specs.Operation.{answer_with, refusal, status_with, with_image};
 ghost use Rattle.pw_tmf.specs.Slots.{with_before, with_unit};
 ghost use Rattle.pw_tmf.specs.Tmf.{key_lengths, stored};
 
@@ -82,11 +82,18 @@ fn copied(alloc: Global, found: Option<&[u8]>) -> Result<Option<Bytes>, Memory>
     }
 }
 
+/// The status of a read, by whether it found a record: 0, or the one for a missing record.
+fn read_status(is_found: bool, missing: u16) -> u16
+    ensures { result ≡ (if is_found then 0 else missing) }
+{
+    if is_found { 0 } else { missing }
+}
+
 /// What a read answers that found this record, if any: status 0, or the one for a missing record.
 fn read(alloc: Global, found: Option<&[u8]>, missing: u16) -> Result<(u16, Option<Bytes>), Memory>
     ensures { IfOk result (λ answer. answer_with answer.0 answer.1 ≡ read_answer missing (option_copied found.entry)) }
 {
-    let status = if found.is_some() { 0 } else { missing };
+    let status = read_status(found.is_some(), missing);
     Ok((status, copied(alloc, found)?))
 }
 
@@ -98,6 +105,31 @@ fn refusal(op: FileOp, is_there: bool) -> Option<u16>
         (FileOp::Write, true) => Some(DUPLICATE),
         (FileOp::Rewrite | FileOp::Delete, false) => Some(MISSING),
         _ => None,
+    }
+}
+
+/// The status of a WRITE, REWRITE or DELETE, by whether there is a record with its key.
+fn change_status(op: FileOp, is_there: bool) -> u16
+    ensures { result ≡ status_with (refusal op is_there) }
+{
+    refusal(op, is_there).unwrap_or(0)
+}
+
+/// The status that an operation would answer. It takes no memory.
+pub fn status_of(file: &BlockFile, call: &FileCall) -> u16
+    ensures { result ≡ (answer_of file.now.key (records_of file.now.blocks) call.now.op call.now).status }
+{
+    match call.op {
+        FileOp::Read | FileOp::ReadLock => {
+            read_status(file.find(call.key.as_slice()).is_some(), MISSING)
+        }
+        FileOp::Next | FileOp::NextLock => {
+            read_status(file.next(call.key.as_slice()).is_some(), END_OF_FILE)
+        }
+        FileOp::Write | FileOp::Rewrite | FileOp::Delete => {
+            let found = file.find(key_of(file.key_length(), call));
+            change_status(call.op, found.is_some())
+        }
     }
 }
 

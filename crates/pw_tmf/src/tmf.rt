@@ -8,13 +8,13 @@ ghost use Rattle.pw_tmf.specs.Starting.{told_at_start};
 ghost use Rattle.pw_tmf.specs.Tmf.{IsImage, told_of};
 ghost use Rattle.pw_tmf.specs.Units.{AreApart, CanBackOut, IsRunning, all_backed_out, ended};
 
-use crate::answer::{Changed, DiscFault, Ended, FileAnswer};
+use crate::answer::{Changed, DiscFault, Ended, FileAnswer, Foreseen};
 use crate::committed::put_all_back;
 use crate::copies::{copy_files, copy_lists, copy_slots};
 use crate::disc::Disc;
 use crate::image::Image;
 use crate::images::Images;
-use crate::operation::{perform, span_of};
+use crate::operation::{perform, span_of, status_of};
 use crate::settle::{is_settled, settle};
 use crate::slot::Slot;
 use crate::start::{files_of, slots_of};
@@ -261,5 +261,19 @@ impl Disc for Tmf {
         let span = span_of(alloc, &self.files[call.file as usize], call)?;
         let mode = mode_of(self.rule, &call.op);
         Ok(self.book.overlaps(holder, call.file, &span, mode))
+    }
+
+    fn foresee(&self, unit: &Unit, call: &FileCall) -> Result<Foreseen, Memory> {
+        if !is_settled(&self.pending) {
+            return Err(Memory);
+        }
+        let alloc = *self.files.allocator();
+        let file = &self.files[call.file as usize];
+        let span = span_of(alloc, file, call)?;
+        let mode = mode_of(self.rule, &call.op);
+        match self.book.conflict(unit, call.file, &span, mode) {
+            Some(holder) => Ok(Foreseen::Conflict(holder)),
+            None => Ok(Foreseen::Done(status_of(file, call))),
+        }
     }
 }

@@ -1,0 +1,103 @@
+-- What is kept, where a message goes to a backup, and where it is taken in.
+use Rattle.std.proofs.Common.{◌≡◌, ℕ, Bool, true, false, List, [], ◌∷◌, map, Option, Some, None, if◌then◌else◌, ◌∙◌, refl, sym, ap, ap₂}
+use Rattle.std.specs.Option.{option_map}
+use Rattle.std.proofs.Math.Path.{fun_ext}
+use Rattle.pw_code.specs.declared.context.Context.{Context}
+use Rattle.pw_code.specs.declared.system.System.{System}
+use Rattle.pw_code.specs.declared.verb.Answer.{Answer}
+use Rattle.pw_code.specs.declared.verb.Answer.TheVariants as answer
+use Rattle.pw_code.specs.declared.verb.Verb.{Verb}
+use Rattle.pw_code.specs.declared.verb.Verb.TheVariants as verb
+use Rattle.pw_kept.specs.Asked.{answered_with, verb_in}
+use Rattle.pw_kept.specs.Changes.{at_pair, kept_applied, kept_check}
+use Rattle.pw_kept.specs.Entered.{answering, closing_context, entered_check_end, image_message, send_image, tcp_of, verb_of}
+use Rattle.pw_kept.specs.Kept.{Kept, KeptTerminal}
+use Rattle.pw_kept.specs.TerminalTests.{closing}
+use Rattle.pw_pair.specs.Pairs.{SeenPair, after_applied, changed_at, settled}
+use Rattle.pw_pair.specs.Seats.{applied, at_terminal, built, is_seat_of, start_of, taken_in, with_whole}
+use Rattle.pw_pair.specs.declared.backup.Held.{Held}
+use Rattle.pw_pair.specs.declared.message.CheckKind.{CheckKind}
+use Rattle.pw_pair.specs.declared.message.CheckKind.TheVariants as kind
+use Rattle.pw_pair.specs.declared.message.CheckMessage.{CheckMessage}
+use Rattle.pw_pair.specs.declared.seat.Flight.{Flight}
+use Rattle.pw_pair.specs.declared.seat.Seat.{Seat}
+use Rattle.pw_onecopy.specs.Update.{upd}
+use Rattle.pw_onecopy.proofs.Update.{upd-other, upd-same, upd_elim}
+
+-- ---- CHECK
+
+-- a message with the image of the context that is there
+pub sent-is : (system : System) (t tcp : ℕ) (kind : CheckKind) (context : Option Context) (own : Context)
+    (message : CheckMessage) (kept : Kept)
+    → tcp ≡ tcp_of system t → message ≡ image_message t kind own → context ≡ Some own
+    → kept_check tcp message kept ≡ send_image system t kind context kept
+sent-is system t tcp kind context own message kept pair is there =
+    ap₂ (λ (p : ℕ) (m : CheckMessage). kept_check p m kept) pair is
+    ∙ ap (λ (o : Option Context). send_image system t kind o kept) (sym there)
+
+-- the context behind the answer that closes
+closing-at : (system : System) (v : Verb) (a : Answer) (own : KeptTerminal)
+    → closing v ≡ Some a → closing_context system (Some v) own ≡ (answering system a own).context
+closing-at system verb.Show a own e = absurd (cc e)
+closing-at system (verb.Accept screen) a own e = absurd (cc e)
+closing-at system verb.Begin a own e = absurd (cc e)
+closing-at system (verb.Send class message) a own e = absurd (cc e)
+closing-at system verb.End a own e =
+    let same : answer.Ended ≡ a = cc e in ap (λ (x : Answer). (answering system x own).context) same
+closing-at system verb.Drop a own e =
+    let same : answer.Dropped ≡ a = cc e in ap (λ (x : Answer). (answering system x own).context) same
+closing-at system verb.Redo a own e = absurd (cc e)
+closing-at system verb.Stop a own e = absurd (cc e)
+closing-at system (verb.Fault code) a own e = absurd (cc e)
+closing-at system (verb.File call) a own e = absurd (cc e)
+closing-at system (verb.Reply reply) a own e = absurd (cc e)
+
+pub closing-is : (system : System) (t : ℕ) (a : Answer) (context : Context) (kept : Kept)
+    → (kept.terminals t).ready ≡ Some context → closing (verb_in system context) ≡ Some a
+    → closing_context system (verb_of system (kept.terminals t)) (kept.terminals t)
+    ≡ Some (answered_with system a context)
+closing-is system t a context kept ready closes =
+    ap (λ (o : Option Context). closing_context system (option_map (verb_in system) o) (kept.terminals t)) ready
+    ∙ (closing-at system (verb_in system context) a (kept.terminals t) closes
+    ∙ ap (option_map (answered_with system a)) ready)
+
+-- ---- APPLIED
+
+-- a message that is built before it is taken in is taken in as it was
+taken-built : (t : ℕ) (flight : Option Flight) (memory : Option Held)
+    → taken_in t (with_whole (start_of memory) flight) memory ≡ taken_in t flight memory
+taken-built t None memory = refl
+taken-built t (Some flight) memory = refl
+
+applied-built : (seat : Seat) → applied (built seat) ≡ applied seat
+applied-built seat =
+    ap (λ (memory : Option Held). record seat { memory = memory; flight = None })
+    (taken-built seat.terminal seat.flight seat.memory)
+
+one-built : (t : ℕ) (seat : Seat) (mine : Bool) → is_seat_of t seat ≡ mine
+    → (λ (s : Seat). if is_seat_of t s then applied s else s) (if mine then built seat else seat)
+    ≡ (if mine then applied seat else seat)
+one-built t seat true e =
+    ap (λ (b : Bool). if b then applied (built seat) else built seat) e ∙ applied-built seat
+one-built t seat false e = ap (λ (b : Bool). if b then applied seat else seat) e
+
+each-built : (t : ℕ) (seats : List Seat) → at_terminal t applied (at_terminal t built seats) ≡ at_terminal t applied seats
+each-built t [] = refl
+each-built t (seat ∷ seats) = ap₂ (λ (s : Seat) (l : List Seat). s ∷ l) (one-built t seat (is_seat_of t seat) refl) (each-built t seats)
+
+pub pair-built : (t : ℕ) (pair : SeenPair) → after_applied t (changed_at t built pair) ≡ after_applied t pair
+pair-built t pair = ap (λ (seats : List Seat). settled (record pair { seats = seats })) (each-built t pair.seats)
+
+-- of two changes at one place the last stays
+upd-twice : {A : Type 0} (f : ℕ → A) (k : ℕ) (a b : A) → upd (upd f k a) k b ≡ upd f k b
+upd-twice f k a b = fun_ext (λ j.
+    upd_elim (upd f k a) k b j (λ y. y ≡ upd f k b j)
+    (λ is. sym (upd-same f k b j is))
+    (λ ne. upd-other f k a j ne ∙ sym (upd-other f k b j ne)))
+
+pub built-applied : (p t : ℕ) (kept : Kept) → kept_applied p t (at_pair p (changed_at t built) kept) ≡ kept_applied p t kept
+built-applied p t kept =
+    ap (λ (pairs : ℕ → SeenPair). record kept { pairs = pairs })
+    (upd-twice kept.pairs p (changed_at t built (kept.pairs p)) _
+    ∙ ap (λ (pair : SeenPair). upd kept.pairs p pair)
+    (ap (after_applied t) (upd-same kept.pairs p (changed_at t built (kept.pairs p)) p refl) ∙ pair-built t (kept.pairs p)))

@@ -1,0 +1,4 @@
+pub mod Answering
+pub mod Carrying
+pub mod Serving
+pub mod Done

@@ -1,0 +1,9 @@
+//! The entries of a run, each done to what a monitor keeps.
+#![tactic(auto)]
+
+pub mod act;
+mod checkpoints;
+mod servers;
+mod terminals;
+mod units;
+mod verbs;
