@@ -1,0 +1,33 @@
+-- The verb at which a server stands, and the operation on a file that it asks.
+use Rattle.std.specs.Prelude.{◌≡◌, ℕ, true, Option, Some, None}
+use Rattle.pw_class.specs.Queue.{at_process}
+use Rattle.pw_class.specs.declared.request.Request.{Request}
+use Rattle.pw_code.specs.declared.context.Context.{Context}
+use Rattle.pw_code.specs.declared.file.FileCall.{FileCall}
+use Rattle.pw_code.specs.declared.system.System.{System}
+use Rattle.pw_code.specs.declared.verb.Verb.{Verb}
+use Rattle.pw_code.specs.declared.verb.Verb.TheVariants as verb
+use Rattle.pw_kept.specs.Asked.{verb_in}
+use Rattle.pw_kept.specs.Kept.{Kept}
+
+-- a server works in the process, and stands at this verb
+pub record IsAtVerb (system : System) (kept : Kept) (c i : ℕ) (v : Verb) : Type 0 where
+  pub context : Context
+  pub job : kept.jobs c i ≡ Some context
+  pub at_verb : context.at_verb ≡ true
+  pub asks : verb_in system context ≡ v
+
+-- it stands at this one, or at none
+abbrev pub IsVerbAt : System → Kept → ℕ → ℕ → Option Verb → Type 0
+IsVerbAt system kept c i None = (v : Verb) → IsAtVerb system kept c i v → ⊥
+IsVerbAt system kept c i (Some v) = IsAtVerb system kept c i v
+
+-- the process works on the request, and its server stands at the operation
+pub record AsksCall (system : System) (kept : Kept) (c i : ℕ) (request : Request) (call : FileCall) : Type 0 where
+  pub works : at_process (kept.queues c) i ≡ Some request
+  pub stands : IsAtVerb system kept c i (verb.File call)
+
+-- it stands at this one, or at none
+abbrev pub IsCallFound : System → Kept → ℕ → ℕ → Option (Request × FileCall) → Type 0
+IsCallFound system kept c i None = (request : Request) (call : FileCall) → AsksCall system kept c i request call → ⊥
+IsCallFound system kept c i (Some found) = AsksCall system kept c i found.0 found.1

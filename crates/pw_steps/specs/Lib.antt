@@ -1,0 +1,7 @@
+pub mod Actors
+pub mod Calls
+pub mod Causes
+pub mod Images
+pub mod Known
+pub mod Steps
+pub mod Verbs
