@@ -1,0 +1,4 @@
+pub mod Finding
+pub mod Knowing
+pub mod Making
+pub mod Testing
