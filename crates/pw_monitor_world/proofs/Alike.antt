@@ -1,5 +1,5 @@
 -- An entry changes the state of a terminal at which it is, and of each terminal whose pair gets another mode.
-use Rattle.std.proofs.Common.{◌≡◌, ◌≢◌, ℕ, ◌+◌, ◌<◌, ◌==◌, ◌&&◌, List, [], ◌∷◌, ◌++◌, length, Option, Some, None, Bool, true, false, refl, sym, ap, subst, ◌∙◌, length-append, arith}
+use Rattle.std.proofs.Common.{◌≡◌, ℕ, ◌+◌, ◌==◌, List, [], ◌∷◌, ◌++◌, length, Option, Some, None, Bool, true, false, refl, sym, ap, subst, ◌∙◌, length-append, arith}
 use Rattle.std.specs.Prelude.{if◌then◌else◌}
 use Rattle.std.proofs.lemmas.Bool.{eq-eqb, eqb-true}
 use Rattle.pw_class.specs.Queue.{works_for}
@@ -25,8 +25,7 @@ use Rattle.pw_paired.specs.Step.{Legal, change}
 use Rattle.pw_paired.specs.Terminal.{closed_path, path_of, unit_with_attempt}
 use Rattle.pw_paired.specs.Server.{free_process}
 use Rattle.pw_paired.specs.Units.{attempt_of, commit_unit, give_answer, is_out, request_in}
-use Rattle.pw_roster.specs.declared.actor.Actor.{Actor}
-use Rattle.pw_roster.specs.declared.actor.Actor.TheVariants.{Terminal, Process, Pair, Class}
+use Rattle.pw_roster.specs.declared.actor.Actor.TheVariants.{Terminal}
 use Rattle.pw_runs.proofs.induction.Served.{reply-any}
 use Rattle.pw_runs.proofs.kept.Failing.{out-job}
 use Rattle.pw_runs.proofs.kept.Kept.{Inv}

@@ -1,5 +1,5 @@
 -- A world behind an entry.
-use Rattle.std.proofs.Common.{◌≡◌, ◌⊎◌, ℕ, ◌+◌, ◌<◌, ◌≤◌, List, [], ◌∷◌, ◌++◌, map, length, All, Option, Some, None, Bool, true, false, refl, sym, ap, subst, ◌∙◌, ◌==◌, ◌&&◌, ⊎_elim, length-append, arith}
+use Rattle.std.proofs.Common.{◌≡◌, ℕ, ◌+◌, ◌<◌, ◌≤◌, List, [], ◌∷◌, ◌++◌, map, length, None, Bool, true, false, refl, sym, ap, subst, ◌∙◌, ◌==◌, ◌&&◌, ⊎_elim, length-append, arith}
 use Rattle.std.specs.Prelude.{IsSome, if◌then◌else◌}
 use Rattle.std.proofs.lemmas.Bool.{cases_eq, ne_eqb}
 use Rattle.pw_base.specs.Outside.{Rose}
@@ -8,7 +8,6 @@ use Rattle.pw_event.specs.declared.event.Ending.{Ending}
 use Rattle.pw_event.specs.declared.event.Ending.TheVariants.{Stopped, NoEntries, Fault, Suspended, Lost}
 use Rattle.pw_event.specs.declared.event.Event.{Event}
 use Rattle.pw_event.specs.declared.event.Event.TheVariants.{Show, Key, CheckStart, CheckEnd, CheckCopy, Applied, Begin, Send, Take, File, Reply, Again, Commit, Back, Restart, FailTcp, FailServer, Takeover, Raise, End}
-use Rattle.pw_event.specs.Due.{owner_of}
 use Rattle.pw_kept.specs.Changes.{kept_fail_tcp, kept_takeover}
 use Rattle.pw_kept.specs.Entered.{entered}
 use Rattle.pw_kept.specs.Kept.{Kept}
@@ -22,8 +21,7 @@ use Rattle.pw_kept.proofs.EachEntry.{next-enters}
 use Rattle.pw_kept.proofs.Needed as needed
 use Rattle.pw_kept.proofs.Readings as readings
 use Rattle.pw_monitor_world.specs.Actors.{IsActor, members_of}
-use Rattle.pw_monitor_world.specs.Dues.{after_entry}
-use Rattle.pw_monitor_world.specs.OneSends.{begins_one_send, one_sends}
+use Rattle.pw_monitor_world.specs.OneSends.{begins_one_send}
 use Rattle.pw_monitor_world.specs.Pushed.{AreMarked, CanPush, booked, live_behind, pushed}
 use Rattle.pw_monitor_world.specs.Seen.{Seen, state_of, sys_of}
 use Rattle.pw_monitor_world.specs.Stamps.{IsStamp}
@@ -42,7 +40,7 @@ use Rattle.pw_onecopy.specs.Behaviour.{Behaviour}
 use Rattle.pw_onecopy.specs.declared.refresh.Refresh.{Refresh}
 use Rattle.pw_paired.specs.End.{LegalEnd}
 use Rattle.pw_paired.specs.Failure.{is_of_pair}
-use Rattle.pw_paired.specs.Shown.{refresh_of, refreshes}
+use Rattle.pw_paired.specs.Shown.{refresh_of}
 use Rattle.pw_paired.specs.State.{State, starting}
 use Rattle.pw_paired.specs.Step.{IsRun, Legal, after, change, effect}
 use Rattle.pw_paired.specs.Units as units

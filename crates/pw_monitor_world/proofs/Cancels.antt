@@ -1,10 +1,9 @@
 -- Whose requests an entry cancels, and what is left of a class and of a process.
-use Rattle.std.proofs.Common.{◌≡◌, ◌≢◌, ℕ, ◌+◌, ◌<◌, ◌==◌, ◌&&◌, ◌||◌, not, List, [], ◌∷◌, Option, Some, None, Bool, true, false, is_some, refl, sym, ap, subst, ◌∙◌, ⊎_elim}
-use Rattle.std.specs.Prelude.{if◌then◌else◌}
+use Rattle.std.proofs.Common.{◌≡◌, ℕ, ◌<◌, ◌==◌, ◌&&◌, ◌||◌, List, [], ◌∷◌, Option, Some, None, Bool, true, false, refl, sym, ap, subst, ◌∙◌}
 use Rattle.std.specs.List.{AllByRecursion, list_any}
 use Rattle.std.specs.Option.{IfSome}
 use Rattle.std.proofs.Math.Path.{fun_ext}
-use Rattle.std.proofs.lemmas.Bool.{cases_Bool, eq-eqb, eqb-true, true≢false}
+use Rattle.std.proofs.lemmas.Bool.{eq-eqb, eqb-true, true≢false}
 use Rattle.std.proofs.lemmas.List.Elements.{recursion_from_All}
 use Rattle.pw_class.specs.Queue.{is_of, works_for}
 use Rattle.pw_class.specs.declared.request.Request.{Request}
@@ -13,15 +12,15 @@ use Rattle.pw_event.specs.declared.event.Event.{Event}
 use Rattle.pw_event.specs.declared.event.Event.TheVariants.{Show, Key, CheckStart, CheckEnd, CheckCopy, Applied, Begin, Send, Take, File, Reply, Again, Commit, Back, Restart, FailTcp, FailServer, Takeover, Raise, End}
 use Rattle.pw_kept.specs.Members.{KnowsAll}
 use Rattle.pw_monitor_world.specs.Touches.{leaves}
-use Rattle.pw_monitor_world.proofs.Outs.{any-true, or-second}
+use Rattle.pw_monitor_world.proofs.Outs.{or-second}
 use Rattle.pw_monitor_world.proofs.Placed.{loses_in, without-has}
 use Rattle.pw_onecopy.specs.Behaviour.{Behaviour}
 use Rattle.pw_paired.specs.Failure.{backup_fails, is_of_pair, primary_fails}
-use Rattle.pw_paired.specs.State.{Mode, Alone, Raising, Paired, Down, Gone, Class, Job, State}
+use Rattle.pw_paired.specs.State.{Mode, Alone, Raising, Paired, Down, Gone, Job, State}
 use Rattle.pw_paired.specs.Step.{change}
-use Rattle.pw_paired.specs.Units.{any_below, freed_of, has_request, only, request_in, without_requests}
+use Rattle.pw_paired.specs.Units.{freed_of, has_request, only, request_in, without_requests}
 use Rattle.pw_runs.proofs.requests.Cancelling.{cancelled-none, cancelled-same}
-use Rattle.pw_runs.proofs.requests.Classes.{IsProcess, without_cancelled}
+use Rattle.pw_runs.proofs.requests.Classes.{without_cancelled}
 use Rattle.pw_tmf.specs.Leaving.{is_among}
 
 -- the entry cancels a request of a terminal that passes a test; the lists have the terminals of each pair

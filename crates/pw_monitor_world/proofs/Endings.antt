@@ -1,5 +1,5 @@
 -- An entry gives an ending to the terminal of an END, and to no other one; so it is known how many terminals are live.
-use Rattle.std.proofs.Common.{◌≡◌, ◌≢◌, ℕ, zero, suc, ◌+◌, ◌-◌, ◌<◌, ◌≤◌, ◌&&◌, List, Option, Some, None, Bool, true, false, is_none, refl, sym, ap, ap₂, ◌∙◌, ⊎_elim, arith}
+use Rattle.std.proofs.Common.{◌≡◌, ◌≢◌, ℕ, zero, suc, ◌+◌, ◌-◌, ◌<◌, List, Option, Some, None, Bool, true, false, is_none, refl, sym, ap, ap₂, ◌∙◌, ⊎_elim, arith}
 use Rattle.std.specs.Prelude.{if◌then◌else◌}
 use Rattle.std.proofs.lemmas.Bool.{cases_eq}
 use Rattle.pw_event.specs.declared.event.Ending.{Ending}
@@ -14,7 +14,7 @@ use Rattle.pw_onecopy.specs.Path.{PathAnswer}
 use Rattle.pw_onecopy.specs.Update.{upd}
 use Rattle.pw_onecopy.proofs.Update.{upd-other, upd-same}
 use Rattle.pw_paired.specs.Failure.{is_live_of, is_of_pair, resume_terminal, with_start_path, without_path}
-use Rattle.pw_paired.specs.State.{BackupCopy, Job, LastEnded, OpenUnit, State, Term}
+use Rattle.pw_paired.specs.State.{BackupCopy, LastEnded, OpenUnit, State, Term}
 use Rattle.pw_paired.specs.Step.{change}
 use Rattle.pw_paired.specs.Units.{attempt_of}
 use Rattle.pw_runs.proofs.induction.Failed.{fail-cases, process-cases}

@@ -1,6 +1,6 @@
 -- The world before the first entry.
-use Rattle.std.proofs.Common.{◌≡◌, ℕ, zero, suc, ◌+◌, ◌-◌, ◌<◌, ◌≤◌, ◌^◌, List, [], length, All, Option, Some, None, Bool, true, false, inl, refl, sym, ap, subst, ◌∙◌, arith}
-use Rattle.std.specs.Prelude.{IsSome, slice_get}
+use Rattle.std.proofs.Common.{◌≡◌, ℕ, zero, suc, ◌+◌, ◌-◌, ◌<◌, ◌≤◌, ◌^◌, List, [], length, All, Some, Bool, false, inl, refl, ap, ◌∙◌, arith}
+use Rattle.std.specs.Prelude.{slice_get}
 use Rattle.pw_code.specs.Valid.{IsValid}
 use Rattle.pw_code.specs.declared.context.Context.{Context}
 use Rattle.pw_code.specs.declared.system.System.{System}
@@ -23,7 +23,7 @@ use Rattle.pw_monitor_world.proofs.Members.{members-are, seats-are}
 use Rattle.pw_monitor_world.proofs.Outs.{out-same}
 use Rattle.pw_onecopy.specs.Behaviour.{Behaviour}
 use Rattle.pw_onecopy.specs.IsBehaviour.{IsBehaviour}
-use Rattle.pw_paired.specs.State.{State, starting}
+use Rattle.pw_paired.specs.State.{starting}
 use Rattle.pw_paired.specs.Units.{any_below, has_request, is_out}
 use Rattle.pw_roster.specs.declared.actor.Actor.{Actor}
 use Rattle.pw_tmf.specs.Told.{Told}

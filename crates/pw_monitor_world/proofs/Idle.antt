@@ -1,6 +1,5 @@
 -- A legal reply finds its terminal at its verb; and while the log is not finished an actor may work.
-use Rattle.std.proofs.Common.{◌≡◌, ◌⊎◌, ℕ, ◌<◌, ◌≤◌, length, Option, Some, None, Bool, true, false, inl, inr, refl, sym, ap, subst, subst₂, ◌∙◌, ⊎_elim}
-use Rattle.std.specs.Prelude.{IsSome, slice_get}
+use Rattle.std.proofs.Common.{◌≡◌, ◌⊎◌, ℕ, ◌<◌, length, Option, Some, None, Bool, true, false, inl, inr, refl, ap, subst, subst₂, ◌∙◌, ⊎_elim}
 use Rattle.pw_code.specs.declared.context.Context.{Context}
 use Rattle.pw_code.specs.declared.unit.Unit as unit
 use Rattle.pw_event.specs.declared.event.Cause.{Cause}
@@ -8,20 +7,18 @@ use Rattle.pw_event.specs.declared.event.Cause.TheVariants as cause
 use Rattle.pw_event.specs.declared.event.Ending.TheVariants.{Stopped, NoEntries, Fault, Suspended, Lost}
 use Rattle.pw_event.specs.declared.event.Event.{Event}
 use Rattle.pw_event.specs.declared.event.Event.TheVariants.{Show, Key, CheckStart, CheckEnd, CheckCopy, Applied, Begin, Send, Take, File, Reply, Again, Commit, Back, Restart, FailTcp, FailServer, Takeover, Raise, End}
-use Rattle.pw_exec.specs.OfSystem.{processes_by}
 use Rattle.pw_kept.specs.Meeting.{MeetsAtVerb, ShowsAtVerb, StepShows, UnitsMeet}
 use Rattle.pw_kept.specs.Read.{IsReplyRead}
 use Rattle.pw_kept.specs.Stands.{StandsForJob, StandsIfAny}
 use Rattle.pw_kept.specs.TerminalTests as kept-out
 use Rattle.pw_kept.proofs.Agreeing.{there-is}
 use Rattle.pw_monitor_world.specs.Actors.{IsActor, actor_of}
-use Rattle.pw_monitor_world.specs.Enabled.{IsEnabled, MayWork}
+use Rattle.pw_monitor_world.specs.Enabled.{MayWork}
 use Rattle.pw_monitor_world.specs.Seen.{Seen, at_answer, finished, state_of, sys_of}
 use Rattle.pw_monitor_world.specs.Worlds.{Books, IsWorld}
 use Rattle.pw_monitor_world.proofs.Outs.{job-out, out-same}
 use Rattle.pw_monitor_world.proofs.Steps.{acts, there}
-use Rattle.pw_paired.specs.Failure.{IsCaused, LegalOlder, LegalRestart, Meets, unit_named}
-use Rattle.pw_paired.specs.End.{LegalSuspended}
+use Rattle.pw_paired.specs.Failure.{IsCaused, LegalOlder, Meets, unit_named}
 use Rattle.pw_paired.specs.State.{Job, OpenUnit}
 use Rattle.pw_paired.specs.Step.{Legal}
 use Rattle.pw_roster.specs.declared.actor.Actor.{Actor}

@@ -11,6 +11,7 @@ pub mod HeldBirths
 pub mod Idle
 pub mod Members
 pub mod OfUnits
+pub mod Outcomes
 pub mod Outs
 pub mod Pairs
 pub mod Paths

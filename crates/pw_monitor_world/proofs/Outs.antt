@@ -1,11 +1,9 @@
 -- Requests in what is kept and in the state.
-use Rattle.std.proofs.Common.{◌≡◌, ℕ, zero, suc, ◌+◌, ◌-◌, ◌<◌, ◌≤◌, ◌||◌, List, length, Option, Some, None, Bool, true, false, refl, sym, ap, subst, ◌∙◌, ⊎_elim, arith}
-use Rattle.std.specs.Prelude.{slice_get}
+use Rattle.std.proofs.Common.{◌≡◌, ℕ, zero, suc, ◌+◌, ◌-◌, ◌<◌, ◌≤◌, ◌||◌, List, length, Some, Bool, true, false, refl, sym, ap, subst, ◌∙◌, ⊎_elim, arith}
 use Rattle.std.specs.List.{list_any}
 use Rattle.std.proofs.lemmas.Bool.{cases_eq, eq-eqb}
 use Rattle.pw_class.specs.Queue as queue
 use Rattle.pw_class.specs.Queue.{at_process, works_for}
-use Rattle.pw_class.specs.declared.request.Request.{Request}
 use Rattle.pw_code.specs.declared.system.System.{System}
 use Rattle.pw_event.specs.declared.script.FailLine.{FailLine}
 use Rattle.pw_exec.specs.OfSystem.{behaviour, processes_by}

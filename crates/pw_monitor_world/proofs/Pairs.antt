@@ -1,13 +1,13 @@
 -- What an entry changes of what a pair knows of its terminals.
-use Rattle.std.proofs.Common.{◌≡◌, ◌≢◌, ℕ, ◌==◌, ◌&&◌, List, Option, Some, None, Bool, true, false, is_some, refl, sym, ap, ap₂, subst, ◌∙◌}
+use Rattle.std.proofs.Common.{◌≡◌, ℕ, ◌==◌, ◌&&◌, List, Option, Some, None, Bool, true, false, is_some, refl, sym, ap, ap₂, subst, ◌∙◌}
 use Rattle.std.specs.Prelude.{if◌then◌else◌}
 use Rattle.std.proofs.Math.Path.{fun_ext}
-use Rattle.std.proofs.lemmas.Bool.{cases_Bool, eq-eqb, eqb-true}
+use Rattle.std.proofs.lemmas.Bool.{eq-eqb, eqb-true}
 use Rattle.pw_class.specs.Queue.{works_for}
 use Rattle.pw_event.specs.declared.event.Ending.{Ending}
 use Rattle.pw_event.specs.declared.event.Event.{Event}
 use Rattle.pw_event.specs.declared.event.Event.TheVariants.{Show, Key, CheckStart, CheckEnd, CheckCopy, Applied, Begin, Send, Take, File, Reply, Again, Commit, Back, Restart, FailTcp, FailServer, Takeover, Raise, End}
-use Rattle.pw_monitor_world.specs.Stamps.{ActorState, Member, OfClass, OfPair, OfProcess, OfTerminal, member_of, state_in}
+use Rattle.pw_monitor_world.specs.Stamps.{ActorState, Member, OfPair, member_of, state_in}
 use Rattle.pw_monitor_world.proofs.Endings.{ends-there}
 use Rattle.pw_monitor_world.proofs.Unlike.{SameAt, at_terminal, rest}
 use Rattle.pw_onecopy.specs.Behaviour.{Behaviour}
@@ -22,8 +22,7 @@ use Rattle.pw_paired.specs.Step.{Legal, change}
 use Rattle.pw_paired.specs.Server.{free_process}
 use Rattle.pw_paired.specs.Terminal.{path_of}
 use Rattle.pw_paired.specs.Units.{attempt_of, commit_unit, give_answer, request_in}
-use Rattle.pw_roster.specs.declared.actor.Actor.{Actor}
-use Rattle.pw_roster.specs.declared.actor.Actor.TheVariants.{Terminal, Process, Pair, Class}
+use Rattle.pw_roster.specs.declared.actor.Actor.TheVariants.{Pair}
 use Rattle.pw_runs.proofs.induction.Served.{reply-any}
 use Rattle.pw_runs.proofs.kept.Failing.{out-job}
 use Rattle.pw_runs.proofs.kept.Kept.{Inv}

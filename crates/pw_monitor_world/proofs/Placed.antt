@@ -1,9 +1,8 @@
 -- Whose requests are out behind an entry.
-use Rattle.std.proofs.Common.{◌≡◌, ◌≢◌, ℕ, zero, suc, ◌+◌, ◌-◌, ◌<◌, ◌≤◌, ◌==◌, ◌&&◌, ◌||◌, List, [], ◌∷◌, ◌++◌, Option, Some, None, Bool, true, false, refl, sym, ap, subst, ◌∙◌, ⊎_elim, arith}
+use Rattle.std.proofs.Common.{◌≡◌, ℕ, zero, suc, ◌+◌, ◌<◌, ◌==◌, ◌&&◌, ◌||◌, List, [], ◌∷◌, ◌++◌, Option, Some, None, Bool, true, false, refl, sym, ap, subst, ◌∙◌, ⊎_elim}
 use Rattle.std.specs.Prelude.{if◌then◌else◌}
 use Rattle.std.specs.List.{list_any}
 use Rattle.std.proofs.lemmas.Bool.{cases_eq, eq-eqb, ne_eqb}
-use Rattle.std.proofs.lemmas.List.Folds.{list_any-append}
 use Rattle.pw_class.specs.Queue.{is_of, works_for}
 use Rattle.pw_class.specs.declared.request.Request.{Request}
 use Rattle.pw_event.specs.declared.event.Ending.TheVariants.{Stopped, NoEntries, Fault, Suspended, Lost}
@@ -22,10 +21,9 @@ use Rattle.pw_paired.specs.State.{Mode, Alone, Raising, Paired, Down, Gone, Clas
 use Rattle.pw_paired.specs.Step.{Legal, change}
 use Rattle.pw_paired.specs.Terminal.{path_of}
 use Rattle.pw_paired.specs.Units.{any_below, commit_unit, give_answer, has_request, is_out, only, request_in, without_requests}
-use Rattle.pw_runs.proofs.induction.Failed.{fail-cases, process-cases}
 use Rattle.pw_runs.proofs.induction.Served.{file-cases, reply-any}
 use Rattle.pw_runs.proofs.kept.Kept.{Inv}
-use Rattle.pw_runs.proofs.requests.Classes.{InBounds, IsProcess, IsWithout, NoneOf, NotFor}
+use Rattle.pw_runs.proofs.requests.Classes.{InBounds, IsWithout, NoneOf, NotFor}
 use Rattle.pw_runs.proofs.requests.Requests.{AtWork, InLine, Nowhere, Place, Placed, RequestsOk, place_inside, requests_cancelled, requests_filed, requests_freed, requests_sent, place_of_first, requests_taken, without_places}
 use Rattle.pw_runs.proofs.terms.KeepsChecks.{can_path, path_ok-is}
 

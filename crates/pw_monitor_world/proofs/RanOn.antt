@@ -1,5 +1,5 @@
 -- A world in which a kept context has run on.
-use Rattle.std.proofs.Common.{◌≡◌, ℕ, ◌<◌, ◌≤◌, map, length, Option, Some, None, Bool, true, refl, sym, ap, subst, ◌∙◌}
+use Rattle.std.proofs.Common.{◌≡◌, ℕ, ◌<◌, ◌≤◌, map, length, Some, Bool, true, refl, sym, ap, subst, ◌∙◌}
 use Rattle.std.specs.Prelude.{IsSome, slice_get}
 use Rattle.pw_base.specs.Outside.{Rose}
 use Rattle.pw_code.specs.declared.context.Context.{Context}
@@ -15,7 +15,6 @@ use Rattle.pw_kept.proofs.RunOn.{process-on, terminal-on}
 use Rattle.pw_monitor_world.specs.Pushed.{AreMarked}
 use Rattle.pw_monitor_world.specs.Seen.{Seen, state_of}
 use Rattle.pw_monitor_world.specs.Worlds.{Books, IsWorld}
-use Rattle.pw_onecopy.specs.Update.{upd}
 use Rattle.pw_onecopy.proofs.Update.{upd_elim}
 use Rattle.pw_pair.specs.declared.seat.Seat.{Seat}
 use Rattle.pw_roster.specs.declared.actor.Actor.{Actor}

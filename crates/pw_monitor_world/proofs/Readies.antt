@@ -1,7 +1,7 @@
 -- A terminal whose request is out stands at its verb, also behind an entry.
-use Rattle.std.proofs.Common.{◌≡◌, ◌≢◌, ℕ, ◌+◌, ◌<◌, ◌==◌, ◌&&◌, List, [], ◌∷◌, length, Option, Some, None, Bool, true, false, refl, sym, ap, ap₂, subst, ◌∙◌, ⊎_elim, arith}
-use Rattle.std.specs.Prelude.{IsSome, if◌then◌else◌, is_none}
-use Rattle.std.proofs.lemmas.Bool.{cases_Bool, cases_eq, eq-eqb, eqb-true}
+use Rattle.std.proofs.Common.{◌≡◌, ◌≢◌, ℕ, ◌<◌, ◌==◌, ◌&&◌, List, [], ◌∷◌, length, Option, Some, None, Bool, true, false, refl, sym, ap, ap₂, subst, ◌∙◌, ⊎_elim, arith}
+use Rattle.std.specs.Prelude.{if◌then◌else◌}
+use Rattle.std.proofs.lemmas.Bool.{cases_Bool, eq-eqb, eqb-true}
 use Rattle.pw_code.specs.declared.system.System.{System}
 use Rattle.pw_code.specs.declared.verb.Verb.{Verb}
 use Rattle.pw_code.specs.declared.verb.Verb.TheVariants as verb
@@ -15,19 +15,18 @@ use Rattle.pw_class.specs.Queue.{at_process}
 use Rattle.pw_class.specs.declared.request.Request.{Request}
 use Rattle.pw_code.specs.declared.context.Context.{Context}
 use Rattle.pw_kept.specs.Asked.{verb_in}
-use Rattle.pw_kept.specs.Changes.{backup_lost, leave_at, primary_lost, process_stops, taken_over, without_unit}
+use Rattle.pw_kept.specs.Changes.{backup_lost, leave_at, primary_lost, process_stops, without_unit}
 use Rattle.pw_kept.specs.Entered.{begin_at, closing_context, copied, entered, file_at, file_by, is_outside_at, replies_last, replies_to, reply_by, send_image, unit_of_ready, verb_of}
 use Rattle.pw_kept.specs.Kept.{Kept, KeptTerminal}
 use Rattle.pw_kept.specs.Members.{AreOf}
 use Rattle.pw_kept.specs.Stands.{Stands, mode_as}
 use Rattle.pw_kept.proofs.Agreeing.{pair-among}
 use Rattle.pw_monitor_world.specs.Touches.{loses}
-use Rattle.pw_monitor_world.proofs.Placed.{loses_in, out-at, out_behind, outs, somewhere}
+use Rattle.pw_monitor_world.proofs.Placed.{loses_in, out-at, outs, somewhere}
 use Rattle.pw_onecopy.specs.Behaviour.{Behaviour}
 use Rattle.pw_onecopy.specs.IsBehaviour.{IsBehaviour}
 use Rattle.pw_onecopy.specs.Update.{upd}
 use Rattle.pw_onecopy.proofs.Update.{upd-other, upd_elim}
-use Rattle.pw_pair.specs.declared.message.CheckKind.{CheckKind}
 use Rattle.pw_pair.specs.declared.message.CheckKind.TheVariants as kind
 use Rattle.pw_pair.specs.declared.mode.Mode as pair
 use Rattle.pw_pair.specs.declared.mode.Mode.TheVariants as mode
@@ -38,7 +37,6 @@ use Rattle.pw_paired.specs.Terminal.{next_verb}
 use Rattle.pw_paired.specs.Units.{attempt_of, is_out}
 use Rattle.pw_runs.proofs.kept.Kept.{Inv}
 use Rattle.pw_runs.proofs.requests.Requests.{AtWork, InLine, Nowhere, Place, Sent, sent_of}
-use Rattle.pw_runs.proofs.terms.KeepsChecks.{can_path, path_ok-is}
 use Rattle.pw_runs.proofs.terms.KeepsEnds.{OutOk, out-path}
 use Rattle.pw_runs.proofs.terms.TermOk.{IsWorking}
 use Rattle.pw_tmf.specs.Leaving.{is_among}

@@ -1,6 +1,6 @@
 -- The contexts that a world keeps are sound and have room.
-use Rattle.std.proofs.Common.{◌≡◌, ℕ, ◌<◌, ◌≤◌, ◌&&◌, List, map, length, Option, Some, None, Bool, true, false, refl, sym, ap, subst, ◌∙◌, arith}
-use Rattle.std.specs.Prelude.{if◌then◌else◌, is_none, nat_lt, slice_get}
+use Rattle.std.proofs.Common.{◌≡◌, ℕ, ◌<◌, ◌≤◌, ◌&&◌, List, map, length, Option, Some, None, Bool, true, false, refl, sym, subst, ◌∙◌, arith}
+use Rattle.std.specs.Prelude.{if◌then◌else◌, slice_get}
 use Rattle.std.proofs.lemmas.Bool.{ltb-true}
 use Rattle.std.proofs.lemmas.List.{length-map}
 use Rattle.std.proofs.lemmas.Option.{slice_get_within}
@@ -9,7 +9,7 @@ use Rattle.pw_code.specs.declared.system.ClassInfo.{ClassInfo}
 use Rattle.pw_code.specs.declared.system.TermInfo.{TermInfo}
 use Rattle.pw_exec.specs.OfSystem.{file_told, processes_by, told}
 use Rattle.pw_exec.specs.Sound.{IsSoundContext}
-use Rattle.pw_kept.specs.Arrivals.{IsReady, StandsForPath}
+use Rattle.pw_kept.specs.Arrivals.{StandsForPath}
 use Rattle.pw_kept.specs.Asked.{SaysOf}
 use Rattle.pw_kept.specs.Stands.{IsReadyIfAny, StandsForJob, StandsForKnown, StandsIfAny}
 use Rattle.pw_kept.specs.TerminalTests.{can_step}

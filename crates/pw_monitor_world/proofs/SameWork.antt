@@ -1,5 +1,5 @@
 -- A world that is changed beside its log: a fault was answered, actors are out or marked, or a message is built.
-use Rattle.std.proofs.Common.{◌≡◌, ◌⊎◌, ℕ, ◌<◌, ◌≤◌, List, map, length, Option, Some, None, Bool, true, false, inl, inr, refl, sym, ap, subst, ◌∙◌, ⊎_elim, arith}
+use Rattle.std.proofs.Common.{◌≡◌, ℕ, ◌≤◌, map, length, Bool, true, inl, inr, refl, sym, ap, subst, ◌∙◌, ⊎_elim, arith}
 use Rattle.std.specs.Prelude.{IsSome}
 use Rattle.pw_base.specs.Outside.{Rose}
 use Rattle.pw_class.specs.Queue.{has_request}

@@ -1,5 +1,5 @@
 -- What no entry changes of what is kept: the terminals of the pairs' seats, the sizes of the disc, and its count of faults.
-use Rattle.std.proofs.Common.{◌≡◌, ℕ, List, [], ◌∷◌, map, length, Option, Some, None, Bool, true, false, refl, sym, ap, ap₂, ◌∙◌}
+use Rattle.std.proofs.Common.{◌≡◌, ℕ, List, [], ◌∷◌, map, Option, Some, None, Bool, true, false, refl, sym, ap, ap₂, ◌∙◌}
 use Rattle.std.specs.Prelude.{if◌then◌else◌}
 use Rattle.pw_class.specs.Queue.{at_process}
 use Rattle.pw_class.specs.declared.request.Request.{Request}
@@ -17,7 +17,6 @@ use Rattle.pw_kept.specs.Changes as changes
 use Rattle.pw_kept.specs.Changes.{at_pair, backup_lost, leave, leave_at, primary_lost, process_stops}
 use Rattle.pw_kept.specs.Entered.{begin_at, closing_context, copied, entered, file_at, file_by, image_message, is_outside_at, replies_last, replies_to, reply_by, send_image, tcp_of, unit_of_ready, verb_of}
 use Rattle.pw_kept.specs.Kept.{Kept}
-use Rattle.pw_onecopy.specs.Update.{upd}
 use Rattle.pw_onecopy.proofs.Update.{upd_elim}
 use Rattle.pw_pair.specs.Pairs.{SeenPair, after_applied, after_drop, after_raise, after_send, after_take, backup_fails, primary_fails}
 use Rattle.pw_pair.specs.Seats.{applied, dropped, is_seat_of, with_message, without_backup, without_flight}

@@ -1,6 +1,6 @@
 -- Which entries of a world are steps, and whose.
-use Rattle.std.proofs.Common.{◌≡◌, ℕ, ◌+◌, ◌*◌, ◌<◌, ◌≤◌, ◌∷◌, ◌++◌, ◌&&◌, List, [], length, All, Bool, true, false, Option, Some, None, refl, sym, ap, subst, append_assoc, ◌∙◌, arith}
-use Rattle.std.specs.Prelude.{IsSome, nat_lt, nat_le, slice_get}
+use Rattle.std.proofs.Common.{◌≡◌, ℕ, ◌<◌, ◌≤◌, ◌∷◌, ◌++◌, List, [], length, true, false, Option, Some, None, refl, sym, ap, subst, append_assoc, ◌∙◌, arith}
+use Rattle.std.specs.Prelude.{nat_lt, nat_le, slice_get}
 use Rattle.std.proofs.lemmas.Bool.{le-leb, lt-ltb}
 use Rattle.std.proofs.lemmas.Option.{get_or_from_slice_get, slice_get_within}
 use Rattle.pw_code.specs.Valid.{IsClass, IsValid}
@@ -15,9 +15,7 @@ use Rattle.pw_exec.specs.OfSystem.{behaviour, processes_by}
 use Rattle.pw_kept.specs.Kept.{Kept}
 use Rattle.pw_kept.specs.May.{IsThere, may}
 use Rattle.pw_kept.specs.Meeting.{IsStepRead, StepShows}
-use Rattle.pw_kept.specs.Read.{AreValued, IsEntryRead, IsReplyRead}
-use Rattle.pw_kept.proofs.Agreeing.{there-is}
-use Rattle.pw_kept.proofs.Components.{pair-of}
+use Rattle.pw_kept.specs.Read.{AreValued, IsEntryRead}
 use Rattle.pw_kept.proofs.Legally.{legal-may, may-legal}
 use Rattle.pw_kept.proofs.Showing.{may-shows, shows-may}
 use Rattle.pw_kept.proofs.There.{legal-there}

@@ -1,9 +1,9 @@
 -- The table of touched actors is exact, and says the stamps.
-use Rattle.std.proofs.Common.{◌≡◌, ◌≢◌, ◌⊎◌, ℕ, ◌+◌, ◌-◌, ◌<◌, ◌≤◌, ◌==◌, ◌&&◌, ◌||◌, not, List, [], ◌∷◌, ◌++◌, take, length, Option, Some, None, Bool, true, false, is_some, inl, inr, refl, sym, ap, ap₂, subst, ◌∙◌, ⊎_elim, length-append, arith}
+use Rattle.std.proofs.Common.{◌≡◌, ◌⊎◌, ℕ, ◌+◌, ◌-◌, ◌<◌, ◌≤◌, ◌==◌, ◌&&◌, ◌||◌, not, List, [], ◌∷◌, ◌++◌, length, Option, Some, None, Bool, true, false, is_some, inl, inr, refl, sym, ap, ap₂, subst, ◌∙◌, ⊎_elim, length-append, arith}
 use Rattle.std.specs.Prelude.{if◌then◌else◌, slice_get}
 use Rattle.std.specs.List.{list_any}
 use Rattle.std.proofs.Math.Path.{fun_ext}
-use Rattle.std.proofs.Math.Seq.{take-append_seam, take-length}
+use Rattle.std.proofs.Math.Seq.{take-length}
 use Rattle.std.proofs.lemmas.Bool.{cases_Bool, cases_lt, eqb-true}
 use Rattle.std.proofs.lemmas.List.{take-append-le}
 use Rattle.std.proofs.lemmas.Option.{slice_get_within}
@@ -37,15 +37,13 @@ use Rattle.pw_monitor_world.proofs.Members.{members-are}
 use Rattle.pw_monitor_world.proofs.Outs.{at-same, has-same, job-has}
 use Rattle.pw_monitor_world.proofs.Pairs.{at_pair, pair-differs, pair-stays}
 use Rattle.pw_monitor_world.proofs.Readies.{loses-same}
-use Rattle.pw_monitor_world.proofs.Placed.{loses_in}
 use Rattle.pw_monitor_world.proofs.Steps.{there}
 use Rattle.pw_monitor_world.proofs.Unlike.{at_terminal, stays-same}
 use Rattle.pw_onecopy.specs.Behaviour.{Behaviour}
-use Rattle.pw_pair.specs.declared.mode.Mode as pair
 use Rattle.pw_paired.specs.Failure.{is_of_pair}
 use Rattle.pw_paired.specs.Raising.{is_takeover}
-use Rattle.pw_paired.specs.State.{Mode, Alone, Raising, Paired, Down, Gone, Job, State, starting}
-use Rattle.pw_paired.specs.Step.{Legal, after, change, effect}
+use Rattle.pw_paired.specs.State.{Mode, Alone, Raising, Paired, Down, Gone, State}
+use Rattle.pw_paired.specs.Step.{Legal, after, change}
 use Rattle.pw_paired.specs.Units.{has_request, request_in}
 use Rattle.pw_roster.specs.declared.actor.Actor.{Actor}
 use Rattle.pw_roster.specs.declared.actor.Actor.TheVariants as actor

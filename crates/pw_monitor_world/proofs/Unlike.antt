@@ -1,7 +1,7 @@
 -- What an entry leaves of a terminal at which it is not.
-use Rattle.std.proofs.Common.{◌≡◌, ◌≢◌, ℕ, ◌+◌, ◌<◌, ◌==◌, ◌&&◌, List, [], ◌∷◌, ◌++◌, length, Option, Some, None, Bool, true, false, is_none, refl, sym, ap, subst, ◌∙◌, ⊎_elim, length-append, arith}
+use Rattle.std.proofs.Common.{◌≡◌, ◌≢◌, ℕ, ◌==◌, ◌&&◌, Option, Some, None, Bool, true, false, is_none, refl, sym, ap, ◌∙◌, ⊎_elim}
 use Rattle.std.specs.Prelude.{if◌then◌else◌}
-use Rattle.std.proofs.lemmas.Bool.{cases_eq, eq-eqb, eqb-false, eqb-true, ne_eqb}
+use Rattle.std.proofs.lemmas.Bool.{cases_eq, eqb-false, ne_eqb}
 use Rattle.pw_class.specs.Queue.{works_for}
 use Rattle.pw_event.specs.declared.event.Ending.{Ending}
 use Rattle.pw_event.specs.declared.event.Ending.TheVariants.{Stopped, NoEntries, Fault, Suspended, Lost}
@@ -15,11 +15,10 @@ use Rattle.pw_onecopy.specs.IsBehaviour.{IsBehaviour}
 use Rattle.pw_onecopy.specs.Update.{upd}
 use Rattle.pw_onecopy.proofs.Update.{upd-other, upd-same}
 use Rattle.pw_paired.specs.Failure.{backup_fails, is_live_of, is_of_pair, lose_backup, lose_pair, lose_primary, primary_fails, process_fails}
-use Rattle.pw_paired.specs.State.{Mode, Alone, Raising, Paired, Down, Gone, Job, LastEnded, Message, BackupCopy, OpenUnit, State, Term}
+use Rattle.pw_paired.specs.State.{Mode, Alone, Raising, Paired, Down, Gone, Job, State}
 use Rattle.pw_paired.specs.Step.{Legal, change}
-use Rattle.pw_paired.specs.Units.{attempt_of, is_out, only, request_in}
-use Rattle.pw_roster.specs.declared.actor.Actor.{Actor}
-use Rattle.pw_roster.specs.declared.actor.Actor.TheVariants.{Terminal, Process, Pair, Class}
+use Rattle.pw_paired.specs.Units.{is_out, only, request_in}
+use Rattle.pw_roster.specs.declared.actor.Actor.TheVariants.{Terminal}
 use Rattle.pw_runs.proofs.induction.Served.{file-cases, reply-any}
 use Rattle.pw_runs.proofs.kept.Kept.{Inv}
 

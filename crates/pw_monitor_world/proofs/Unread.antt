@@ -1,6 +1,6 @@
 -- An actor that has nothing to run on has been read: its steps speak of programs at their verbs.
-use Rattle.std.proofs.Common.{◌≡◌, ◌⊎◌, ℕ, ◌<◌, ◌≤◌, List, [], ◌∷◌, ◌++◌, map, length, Option, Some, None, Bool, true, false, inl, inr, refl, sym, ap, subst, ◌∙◌}
-use Rattle.std.specs.Prelude.{IsSome, if◌then◌else◌, slice_get}
+use Rattle.std.proofs.Common.{◌≡◌, ◌⊎◌, ℕ, List, [], ◌∷◌, ◌++◌, map, Option, Some, None, Bool, true, false, inl, inr, refl, sym, ap, subst, ◌∙◌}
+use Rattle.std.specs.Prelude.{IsSome, slice_get}
 use Rattle.std.proofs.lemmas.List.{map-append}
 use Rattle.pw_code.specs.Valid.{IsValid}
 use Rattle.pw_code.specs.declared.context.Context.{Context}
@@ -22,21 +22,19 @@ use Rattle.pw_kept.specs.Arrivals.{Arrives, StandsForPath}
 use Rattle.pw_kept.specs.Meeting.{IsRedoRead, IsStepRead}
 use Rattle.pw_kept.specs.Read.{IsRead, IsServerRead}
 use Rattle.pw_kept.specs.Stands.{StandsForKnown}
-use Rattle.pw_kept.specs.TerminalTests.{can_step}
 use Rattle.pw_kept.proofs.Arrived.{arrives-comes}
 use Rattle.pw_kept.proofs.Forced.{suits-behind, suits-front}
 use Rattle.pw_kept.proofs.Imaged.{last-of}
 use Rattle.pw_kept.proofs.Readings as readings
 use Rattle.pw_kept.proofs.UnitChanges.{has-context}
 use Rattle.pw_monitor_world.specs.Actors.{actor_of}
-use Rattle.pw_monitor_world.specs.Seen.{Seen, at_answer, context_of, first_of, state_of, sys_of, work_of}
+use Rattle.pw_monitor_world.specs.Seen.{Seen, at_answer, first_of, state_of, sys_of, work_of}
 use Rattle.pw_monitor_world.specs.Worlds.{Books, IsWorld}
 use Rattle.pw_monitor_world.proofs.Rooms.{stepping-low, steps}
 use Rattle.pw_onecopy.specs.Behaviour.{Behaviour}
 use Rattle.pw_onecopy.specs.IsBehaviour.{IsPath, SuitsFrom}
 use Rattle.pw_onecopy.specs.Path.{PathAnswer, entries_on, standing}
 use Rattle.pw_paired.specs.Terminal.{path_of}
-use Rattle.pw_roster.specs.declared.actor.Actor.{Actor}
 use Rattle.pw_roster.specs.declared.actor.Actor.TheVariants as actor
 
 -- ---- a context behind a path stands at an answer

@@ -1,5 +1,5 @@
 -- Which actors' state an entry changes, by what is kept before it.
-use Rattle.std.specs.Prelude.{ℕ, ◌+◌, ◌==◌, ◌&&◌, ◌||◌, Bool, true, false, not, is_some, if◌then◌else◌}
+use Rattle.std.specs.Prelude.{ℕ, ◌==◌, ◌&&◌, ◌||◌, Bool, true, false, not, is_some, if◌then◌else◌}
 use Rattle.std.specs.List.{list_any}
 use Rattle.pw_class.specs.Queue.{at_process, has_request, works_for}
 use Rattle.pw_code.specs.declared.system.System.{System}

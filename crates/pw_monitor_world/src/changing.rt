@@ -1,6 +1,8 @@
 ghost use Rattle.std.specs.Prelude.{◌≤◌, ℕ, Bool, true};
 ghost use Rattle.pw_base.specs.Outside.{Rose};
 ghost use Rattle.pw_kept.specs.Changes.{at_pair};
+ghost use Rattle.pw_event.specs.declared.event.Event.{Event};
+ghost use Rattle.pw_monitor_world.specs.Enabled.{IsEnabled, MayWork};
 ghost use Rattle.pw_monitor_world.specs.Pushed.{AreMarked};
 ghost use Rattle.pw_monitor_world.specs.Seen.{Seen};
 ghost use Rattle.pw_monitor_world.specs.Worlds.{Books, IsWorld};
@@ -9,7 +11,8 @@ ghost use Rattle.pw_pair.specs.Seats.{built};
 ghost use Rattle.pw_roster.specs.declared.actor.Actor.{Actor};
 
 /// A world that is changed beside its log is one still: where its disc has failed, where other actors
-/// are out, where all that may work are marked, and where a message in flight is built.
+/// are out, where all that may work are marked, and where a message in flight is built. Who is out
+/// changes no step.
 pub fn beside_laws()
     ensures failed { (world : Seen) (books : Books) (n : ℕ)
         → IsWorld world books → Rose world.faults n → world.kept.disc.faults ≤ n
@@ -27,4 +30,8 @@ pub fn beside_laws()
         → IsWorld world books → AreMarked world marked
         → IsWorld (record world { kept = at_pair p (changed_at t built) world.kept })
         (record books { marked = marked }) }
+    ensures steps { (world : Seen) (out : Actor → Bool) (actor : Actor) (entry : Event)
+        → IsEnabled world actor entry → IsEnabled (record world { out = out }) actor entry }
+    ensures work { (world : Seen) (out : Actor → Bool) (actor : Actor)
+        → MayWork (record world { out = out }) actor → MayWork world actor }
 {}

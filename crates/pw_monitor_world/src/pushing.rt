@@ -9,11 +9,14 @@ ghost use Rattle.pw_kept.specs.Changes.{kept_ran, with_job};
 ghost use Rattle.pw_kept.specs.Entered.{entered};
 ghost use Rattle.pw_kept.specs.Needs.{Needs};
 ghost use Rattle.pw_monitor_world.specs.Actors.{IsActor, members_of};
+ghost use Rattle.pw_monitor_world.specs.Answers.{ran};
 ghost use Rattle.pw_monitor_world.specs.Pushed.{AreMarked, CanPush, booked, pushed};
-ghost use Rattle.pw_monitor_world.specs.Seen.{Seen, state_of, sys_of};
+ghost use Rattle.pw_monitor_world.specs.Seen.{Seen, state_of, sys_of, work_of};
 ghost use Rattle.pw_monitor_world.specs.Stamps.{IsStamp, state_in};
+ghost use Rattle.pw_monitor_world.specs.Tasks.{RanOn};
 ghost use Rattle.pw_monitor_world.specs.Touches.{stamped, touches};
 ghost use Rattle.pw_monitor_world.specs.Worlds.{Books, IsWorld};
+ghost use Rattle.pw_monitor_world.specs.declared.task.Outcome.{Outcome};
 ghost use Rattle.pw_roster.specs.declared.actor.Actor.{Actor};
 
 /// The table of touched actors is exact: in a world an entry that can be pushed changes the state of
@@ -50,7 +53,8 @@ pub fn push_laws()
         → IsWorld (pushed world entry) (booked world entry marked books) }
 {}
 
-/// A world in which a kept context has run on to its next verb is one again.
+/// A world in which a kept context has run on to its next verb is one again; so is one in which that
+/// of an outcome has.
 pub fn running_laws()
     ensures terminal { (world : Seen) (books : Books) (t : ℕ) (info : TermInfo)
         (old new : Context) (verb : Verb) (marked : Actor → Bool)
@@ -66,4 +70,11 @@ pub fn running_laws()
         → AreMarked (record world { kept = with_job c i (Some new) world.kept }) marked
         → IsWorld (record world { kept = with_job c i (Some new) world.kept })
         (record books { marked = marked }) }
+    ensures outcome { (world : Seen) (books : Books) (outcome : Outcome) (marked : Actor → Bool)
+        → IsWorld world books → IsActor world.system outcome.actor
+        → RanOn world.system outcome.given outcome.verb outcome.work
+        → ((context : Context) → work_of world outcome.actor ≡ Some context
+        → outcome.given ≡ Some context)
+        → AreMarked (ran world outcome) marked
+        → IsWorld (ran world outcome) (record books { marked = marked }) }
 {}
