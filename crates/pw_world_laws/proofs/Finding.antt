@@ -1,5 +1,5 @@
 -- What `step` tells of an actor, in the words of a world.
-use Rattle.std.proofs.Common.{◌≡◌, ℕ, zero, suc, ◌&&◌, List, [], Option, Some, None, Bool, true, false, not, is_some, refl, sym, ap, subst, ◌∙◌}
+use Rattle.std.proofs.Common.{◌≡◌, ℕ, zero, suc, ◌&&◌, [], Option, Some, None, Bool, true, false, is_some, refl, sym, ap, subst, ◌∙◌}
 use Rattle.pw_event.specs.declared.event.Event.{Event}
 use Rattle.pw_event.specs.declared.event.Event.TheVariants.{Show, Key, CheckStart, CheckEnd, CheckCopy, Applied, Begin, Send, Take, File, Reply, Again, Commit, Back, Restart, FailTcp, FailServer, Takeover, Raise, End}
 use Rattle.pw_kept.specs.May.{may}
@@ -18,7 +18,6 @@ use Rattle.pw_pair.specs.declared.seat.Flight.{Flight}
 use Rattle.pw_pair.specs.declared.seat.Seat.{Seat}
 use Rattle.pw_paired.specs.Step.{line_wanted}
 use Rattle.pw_roster.specs.declared.actor.Actor.{Actor}
-use Rattle.pw_roster.specs.declared.actor.Actor.TheVariants.{Terminal, Process, Pair, Class}
 use Rattle.pw_serial.specs.Guarded.{is_fail}
 use Rattle.pw_steps.specs.Actors.{actor_in}
 use Rattle.pw_steps.specs.Steps.{IsStepFound, IsStepOf, IsUnbuilt}

@@ -1,3 +1,4 @@
+pub mod Baring
 pub mod Finding
 pub mod Knowing
 pub mod Making

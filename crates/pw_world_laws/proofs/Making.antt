@@ -1,6 +1,6 @@
 -- A legal entry whose programs have been read can be made.
-use Rattle.std.proofs.Common.{◌≡◌, ◌≢◌, ℕ, ◌+◌, ◌-◌, ◌<◌, ◌≤◌, ◌^◌, ◌&&◌, List, [], ◌∷◌, ◌++◌, length, map, Option, Some, None, Bool, true, false, not, is_some, inl, inr, ◌⊎◌, refl, sym, ap, ap₂, subst, subst₂, ◌∙◌, ⊎_elim, length-append, arith}
-use Rattle.std.specs.Prelude.{IsSome, slice_get}
+use Rattle.std.proofs.Common.{◌≡◌, ◌≢◌, ℕ, ◌+◌, ◌-◌, ◌<◌, ◌≤◌, ◌^◌, ◌&&◌, List, [], ◌∷◌, ◌++◌, length, map, Option, Some, None, Bool, true, false, is_some, inl, inr, ◌⊎◌, refl, sym, ap, ap₂, subst, ◌∙◌, ⊎_elim, length-append, arith}
+use Rattle.std.specs.Prelude.{IsSome}
 use Rattle.std.specs.Option.{option_map}
 use Rattle.std.proofs.lemmas.Bool.{cases_eq, cases_lt}
 use Rattle.std.proofs.lemmas.List.{length-map}
@@ -20,20 +20,18 @@ use Rattle.pw_event.specs.declared.event.Event.{Event}
 use Rattle.pw_event.specs.declared.event.Event.TheVariants.{Show, Key, CheckStart, CheckEnd, CheckCopy, Applied, Begin, Send, Take, File, Reply, Again, Commit, Back, Restart, FailTcp, FailServer, Takeover, Raise, End}
 use Rattle.pw_exec.specs.OfSystem.{number_by, told}
 use Rattle.pw_image.specs.Image.{HasImage}
-use Rattle.pw_kept.specs.Arrivals.{StandsForPath}
 use Rattle.pw_kept.specs.Asked.{answered_with, unit_in, verb_in}
 use Rattle.pw_kept.specs.Changes.{birth_for, unit_at}
 use Rattle.pw_kept.specs.Entered.{copied}
 use Rattle.pw_kept.specs.May.{IsThere, may}
 use Rattle.pw_kept.specs.Read.{AreValued, IsEntryRead}
-use Rattle.pw_kept.specs.Needs.{ClosingFits, Needs, SomeCarries}
-use Rattle.pw_kept.specs.Stands.{StandsForKnown, mode_as}
-use Rattle.pw_kept.specs.TerminalTests.{closing, flies, pair_of}
+use Rattle.pw_kept.specs.Needs.{ClosingFits, Needs}
+use Rattle.pw_kept.specs.Stands.{mode_as}
+use Rattle.pw_kept.specs.TerminalTests.{closing, pair_of}
 use Rattle.pw_kept.specs.Tested.{IsAsking, IsPlaced, IsServing}
 use Rattle.pw_kept.proofs.Agreeing.{there-is}
 use Rattle.pw_kept.proofs.Arrived.{stands-behind}
 use Rattle.pw_kept.proofs.Behind as behind
-use Rattle.pw_kept.proofs.Components.{some_is}
 use Rattle.pw_kept.proofs.OfRuns.{begins-same, works-for}
 use Rattle.pw_kept.proofs.PathLengths.{path-short}
 use Rattle.pw_kept.proofs.UnitChanges.{has-context}
@@ -41,7 +39,7 @@ use Rattle.pw_locks.specs.Conflicts.{holders}
 use Rattle.pw_locks.specs.declared.lock.Lock.{Lock}
 use Rattle.pw_machine.proofs.RoomLemmas.{room_of_terminals}
 use Rattle.pw_machine.specs.Stack.{HasRoom}
-use Rattle.pw_acts.specs.Can.{Can, CanAct, CanAgain, CanAnswer, CanApply, CanBack, CanBeginAt, CanCall, CanCarry, CanClose, CanCommit, CanKey, CanOperate, CanReply, CanReplyTo, CanRestart, CanSend, CanStop, CanTake, RepliesTo}
+use Rattle.pw_acts.specs.Can.{Can, CanAct, CanAnswer, CanClose, CanOperate, CanReply, RepliesTo}
 use Rattle.pw_monitor_world.specs.Pushed.{CanPush}
 use Rattle.pw_monitor_world.specs.Seen.{Seen, state_of, sys_of}
 use Rattle.pw_monitor_world.specs.Worlds.{Books, IsWorld}
@@ -52,16 +50,15 @@ use Rattle.pw_monitor_world.proofs.Rooms as rooms
 use Rattle.pw_monitor_world.proofs.Steps.{passes, there}
 use Rattle.pw_onecopy.specs.Behaviour.{Behaviour}
 use Rattle.pw_onecopy.specs.IsBehaviour.{IsPath}
-use Rattle.pw_onecopy.specs.Path.{PathAnswer, Dropped, Ended, entries_on, is_outside, unit_number}
+use Rattle.pw_onecopy.specs.Path.{PathAnswer, Dropped, Ended, is_outside, unit_number}
 use Rattle.pw_pair.specs.Rooms.{MaySend}
 use Rattle.pw_pair.specs.declared.message.CheckKind.{CheckKind}
 use Rattle.pw_pair.specs.declared.message.CheckKind.TheVariants as kind
-use Rattle.pw_pair.specs.declared.mode.Mode.TheVariants as mode
-use Rattle.pw_paired.specs.Server.{LegalFile, LegalReply, lock_of_job, server_verb}
-use Rattle.pw_paired.specs.State.{Mode, Alone, Raising, Paired, Down, Gone, Job, LastEnded, OpenUnit, State, starting}
-use Rattle.pw_paired.specs.Step.{IsRun, Legal, after, after_from, effect}
-use Rattle.pw_paired.specs.Terminal.{CanStep, LegalBegin, LegalSend, births_after, closing_answer, next_verb, path_of}
-use Rattle.pw_paired.specs.Units.{any_below, attempt_of, birth_of, has_request, is_out, request_in, restarts_of, unit_of}
+use Rattle.pw_paired.specs.Server.{LegalReply, lock_of_job, server_verb}
+use Rattle.pw_paired.specs.State.{Mode, Alone, Raising, Paired, Down, Job, LastEnded, OpenUnit, State, starting}
+use Rattle.pw_paired.specs.Step.{Legal, after_from, effect}
+use Rattle.pw_paired.specs.Terminal.{CanStep, LegalBegin, births_after, closing_answer, next_verb, path_of}
+use Rattle.pw_paired.specs.Units.{attempt_of, birth_of, has_request, is_out, request_in, restarts_of}
 use Rattle.pw_runs.proofs.Births.{births-ok}
 use Rattle.pw_runs.proofs.induction.Failed.{end-any, fail-cases, process-cases}
 use Rattle.pw_runs.proofs.induction.Runs.{kept}
@@ -69,7 +66,7 @@ use Rattle.pw_runs.proofs.induction.Served.{file-cases, reply-any}
 use Rattle.pw_runs.proofs.kept.Failing.{out-job}
 use Rattle.pw_runs.proofs.kept.Kept.{Inv}
 use Rattle.pw_runs.proofs.requests.Classes.{IsProcess}
-use Rattle.pw_runs.proofs.terms.KeepsChecks.{Within, can_path, path_ok-is, within}
+use Rattle.pw_runs.proofs.terms.KeepsChecks.{can_path, path_ok-is, within}
 use Rattle.pw_runs.proofs.terms.KeepsEnds.{OutOk, out-path}
 use Rattle.pw_runs.proofs.terms.KeepsPairs.{any_below-false}
 use Rattle.pw_tmf.specs.Operation.{lock_now}

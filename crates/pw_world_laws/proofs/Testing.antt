@@ -1,5 +1,5 @@
 -- The tests of the entries of an actor, by the numbers and characters of its own contexts.
-use Rattle.std.proofs.Common.{◌≡◌, ℕ, ◌<◌, length, Option, Some, None, Bool, true, false, refl, sym, ap, subst, ◌∙◌}
+use Rattle.std.proofs.Common.{◌≡◌, ℕ, ◌<◌, length, Some, None, Bool, true, false, refl, sym, subst, ◌∙◌}
 use Rattle.pw_code.specs.declared.context.Context.{Context}
 use Rattle.pw_event.specs.Due.{owner_of}
 use Rattle.pw_event.specs.declared.event.Event.{Event}

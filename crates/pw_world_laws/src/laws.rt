@@ -1,9 +1,12 @@
-ghost use Rattle.std.specs.Prelude.{◌≡◌, ℕ, false, true, None, Some};
+ghost use Rattle.std.specs.Prelude.{◌≡◌, ℕ, List, Option, false, true, None, Some};
 ghost use Rattle.pw_acts.specs.Can.{CanAct};
+ghost use Rattle.pw_class.specs.Queue.{Queue};
 ghost use Rattle.pw_code.specs.declared.context.Context.{Context};
+ghost use Rattle.pw_code.specs.declared.system.System.{System};
 ghost use Rattle.pw_event.specs.declared.event.Event.{Event};
 ghost use Rattle.pw_event.specs.declared.event.Event.TheVariants.{CheckCopy};
 ghost use Rattle.pw_image.specs.Values.{HasValues};
+ghost use Rattle.pw_keep.specs.Keeps.{IsKeep, kept_by};
 ghost use Rattle.pw_kept.specs.Entered.{copied};
 ghost use Rattle.pw_kept.specs.May.{IsThere, may};
 ghost use Rattle.pw_kept.specs.Read.{AreValued};
@@ -13,10 +16,14 @@ ghost use Rattle.pw_monitor_world.specs.Enabled.{HasStep, IsEnabled};
 ghost use Rattle.pw_monitor_world.specs.Pushed.{CanPush};
 ghost use Rattle.pw_monitor_world.specs.Seen.{Seen, finished, sys_of, work_of};
 ghost use Rattle.pw_monitor_world.specs.Worlds.{Books, IsWorld};
+ghost use Rattle.pw_pair.specs.Pairs.{SeenPair};
 ghost use Rattle.pw_roster.specs.declared.actor.Actor.{Actor};
+ghost use Rattle.pw_seats.specs.declared.job.Job.{Job};
+ghost use Rattle.pw_seats.specs.declared.seat.Seat.{Seat};
 ghost use Rattle.pw_steps.specs.Known.{IsKnown};
 ghost use Rattle.pw_steps.specs.Steps as steps;
 ghost use Rattle.pw_steps.specs.Steps.{IsStepFound, IsStepOf};
+ghost use Rattle.pw_tmf.specs.Told.{Told};
 ghost use Rattle.pw_world_laws.specs.Bare.{IsBare};
 ghost use Rattle.pw_world_laws.specs.OwnValues.{HasOwnValues};
 ghost use Rattle.pw_world_laws.specs.Undue.{IsUndue};
@@ -70,4 +77,12 @@ pub fn value_laws()
         → copied (world.kept.terminals t).start (world.kept.terminals t).context ≡ Some context
         → HasValues context)
         → AreValued world.system world.kept entry }
+{}
+
+/// Beyond the terminals and classes of its system, what is kept is nothing.
+pub fn bare_laws()
+    ensures { (system : System) (seats : List Seat) (disc : Told) (book : List Queue)
+        (jobs : List (List (Option Job))) (pairs : List SeenPair) (births : ℕ)
+        → IsKeep system seats disc book jobs pairs
+        → IsBare system (kept_by seats disc book jobs pairs births) }
 {}
