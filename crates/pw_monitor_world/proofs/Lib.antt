@@ -16,6 +16,7 @@ pub mod Outs
 pub mod Pairs
 pub mod Paths
 pub mod Placed
+pub mod Queues
 pub mod RanOn
 pub mod Readies
 pub mod Rooms

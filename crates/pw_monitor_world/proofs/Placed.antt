@@ -38,7 +38,7 @@ any-false : (n : ℕ) (has : ℕ → Bool) → ((j : ℕ) → has j ≡ false) �
 any-false zero has none = refl
 any-false (suc n) has none = let first = any-false n has none in let last = none n in rw (first, last) refl
 
-none-waits : (t : ℕ) (requests : List Request) → NoneOf t requests → list_any (is_of t) requests ≡ false
+pub none-waits : (t : ℕ) (requests : List Request) → NoneOf t requests → list_any (is_of t) requests ≡ false
 none-waits t [] none = refl
 none-waits t (request ∷ requests) none = let first = ne_eqb request.terminal t none.0 in let later = none-waits t requests none.1 in rw (first, later) refl
 

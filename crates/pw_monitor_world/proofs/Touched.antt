@@ -147,7 +147,7 @@ module _ (world : Seen) (books : Books) (w : IsWorld world books) (entry : Event
   stays-mode : (p : ℕ) → p < length world.system.tcps → turns world.system world.kept entry p ≡ false → (change sys state entry).modes p ≡ state.modes p
   stays-mode p few e = sym (mode-eq (state.modes p) ((change sys state entry).modes p) (not-false _ (sym (turns-is p few) ∙ e)))
 
-  turns-mode : (p : ℕ) → p < length world.system.tcps → turns world.system world.kept entry p ≡ true → state.modes p ≡ (change sys state entry).modes p → ⊥
+  pub turns-mode : (p : ℕ) → p < length world.system.tcps → turns world.system world.kept entry p ≡ true → state.modes p ≡ (change sys state entry).modes p → ⊥
   turns-mode p few e same =
       let differ = not-true _ (sym (turns-is p few) ∙ e) in
       let self : is_same_mode (mode_as (state.modes p)) (mode_as ((change sys state entry).modes p)) ≡ true = ap (λ m. is_same_mode (mode_as (state.modes p)) (mode_as m)) (sym same) ∙ same-self (state.modes p) in

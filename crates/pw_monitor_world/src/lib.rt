@@ -11,5 +11,6 @@ pub mod failing;
 pub mod known;
 pub mod laws;
 pub mod pushing;
+pub mod requests;
 pub mod stepping;
 pub mod task;

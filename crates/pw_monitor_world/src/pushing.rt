@@ -1,11 +1,12 @@
-ghost use Rattle.std.specs.Prelude.{◌≡◌, ◌≢◌, ◌+◌, ◌++◌, ◌∷◌, [], ℕ, Bool, length, Some, false, map, slice_get, true};
+ghost use Rattle.std.specs.Prelude.{◌≡◌, ◌≢◌, ◌+◌, ◌++◌, ◌∷◌, [], ℕ, Bool, length, Some, false, map, slice_get, true, ◌<◌, IsSome, None};
+ghost use Rattle.pw_class.specs.Queue.{at_process};
 ghost use Rattle.pw_code.specs.declared.context.Context.{Context};
 ghost use Rattle.pw_code.specs.declared.system.ClassInfo.{ClassInfo};
 ghost use Rattle.pw_code.specs.declared.system.TermInfo.{TermInfo};
 ghost use Rattle.pw_code.specs.declared.verb.Verb.{Verb};
 ghost use Rattle.pw_event.specs.declared.event.Event.{Event};
 ghost use Rattle.pw_exec.specs.Contexts.{RunsOn};
-ghost use Rattle.pw_kept.specs.Changes.{kept_ran, with_job};
+ghost use Rattle.pw_kept.specs.Changes.{kept_ran, kept_show, with_job};
 ghost use Rattle.pw_kept.specs.Entered.{entered};
 ghost use Rattle.pw_kept.specs.Needs.{Needs};
 ghost use Rattle.pw_monitor_world.specs.Actors.{IsActor, members_of};
@@ -18,6 +19,7 @@ ghost use Rattle.pw_monitor_world.specs.Touches.{stamped, touches};
 ghost use Rattle.pw_monitor_world.specs.Worlds.{Books, IsWorld};
 ghost use Rattle.pw_monitor_world.specs.declared.task.Outcome.{Outcome};
 ghost use Rattle.pw_roster.specs.declared.actor.Actor.{Actor};
+ghost use Rattle.pw_roster.specs.declared.actor.Actor.TheVariants.{Process, Terminal};
 
 /// The table of touched actors is exact: in a world an entry that can be pushed changes the state of
 /// an actor exactly where the table says so. So behind the entry the stamps are those of the log.
@@ -54,7 +56,8 @@ pub fn push_laws()
 {}
 
 /// A world in which a kept context has run on to its next verb is one again; so is one in which that
-/// of an outcome has.
+/// of an outcome has. A context that has run on can be put back. What a terminal is to run on from is
+/// its context at its last answer, and a process with a context is busy.
 pub fn running_laws()
     ensures terminal { (world : Seen) (books : Books) (t : ℕ) (info : TermInfo)
         (old new : Context) (verb : Verb) (marked : Actor → Bool)
@@ -77,4 +80,19 @@ pub fn running_laws()
         → outcome.given ≡ Some context)
         → AreMarked (ran world outcome) marked
         → IsWorld (ran world outcome) (record books { marked = marked }) }
+    ensures terminal_back { (world : Seen) (books : Books) (t : ℕ) (given new : Context)
+        → IsWorld world books → t < length world.system.terminals
+        → work_of world (Terminal t) ≡ Some given
+        → kept_show t given (kept_ran t new world.kept) ≡ world.kept }
+    ensures process_back { (world : Seen) (books : Books) (c i : ℕ) (given new : Context)
+        → IsWorld world books → work_of world (Process c i) ≡ Some given
+        → with_job c i (Some given) (with_job c i (Some new) world.kept) ≡ world.kept }
+    ensures busy { (world : Seen) (books : Books) (c i : ℕ) (context : Context)
+        → IsWorld world books → c < length world.system.classes
+        → world.kept.jobs c i ≡ Some context → IsSome (at_process (world.kept.queues c) i) }
+    ensures behind { (world : Seen) (books : Books) (t : ℕ) (given : Context)
+        → IsWorld world books → t < length world.system.terminals
+        → work_of world (Terminal t) ≡ Some given
+        → ((world.kept.terminals t).context ≡ Some given)
+        × ((world.kept.terminals t).ready ≡ None) }
 {}
