@@ -1,5 +1,5 @@
 -- A terminal has at most one request, in one class; and only the pair to which an entry belongs gets another mode.
-use Rattle.std.proofs.Common.{◌≡◌, ◌≢◌, ℕ, ◌+◌, ◌-◌, ◌<◌, ◌≤◌, ◌==◌, List, [], ◌∷◌, ◌++◌, length, Option, Some, None, Bool, true, false, refl, sym, ap, subst, ◌∙◌, ⊎_elim, arith}
+use Rattle.std.proofs.Common.{◌≡◌, ◌≢◌, ℕ, ◌<◌, length, Option, Some, None, true, false, refl, sym, ap, subst, ◌∙◌, ⊎_elim}
 use Rattle.std.specs.List.{list_any}
 use Rattle.std.proofs.lemmas.Bool.{cases_Bool, cases_eq, eqb-true}
 use Rattle.pw_class.specs.Queue as queue
@@ -22,7 +22,7 @@ use Rattle.pw_onecopy.specs.Behaviour.{Behaviour}
 use Rattle.pw_onecopy.proofs.Update.{upd-other}
 use Rattle.pw_paired.specs.State.{Class, Job, State}
 use Rattle.pw_paired.specs.Step.{change}
-use Rattle.pw_paired.specs.Units.{has_request, request_in}
+use Rattle.pw_paired.specs.Units.{has_request}
 use Rattle.pw_runs.proofs.induction.Failed.{end-any, fail-cases, process-cases}
 use Rattle.pw_runs.proofs.induction.Runs.{kept}
 use Rattle.pw_runs.proofs.induction.Served.{file-cases, reply-any}
