@@ -1,6 +1,7 @@
 pub mod Alike
 pub mod Behind
 pub mod Books
+pub mod Cancelled
 pub mod Cancels
 pub mod Classes
 pub mod Dues

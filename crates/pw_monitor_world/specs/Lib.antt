@@ -10,4 +10,5 @@ pub mod Seen
 pub mod Stamps
 pub mod Tasks
 pub mod Touches
+pub mod Touching
 pub mod Worlds

@@ -14,3 +14,4 @@ pub mod pushing;
 pub mod requests;
 pub mod stepping;
 pub mod task;
+pub mod touching;
