@@ -1,4 +1,13 @@
+pub mod Beginning
+pub mod Cancelling
+pub mod Changed
+pub mod Failing
+pub mod Loops
+pub mod Members
 pub mod Operating
+pub mod Out
 pub mod Pairing
 pub mod Parts
 pub mod Posts
+pub mod Restarting
+pub mod Taking

@@ -1,6 +1,6 @@
 -- What is kept, where one seat is changed.
 use Rattle.std.proofs.Common.{◌≡◌, ◌≢◌, ℕ, ◌<◌, List, Option, Some, None, ◌∙◌, ⊎_elim, refl, sym, ap, subst, length}
-use Rattle.std.specs.Prelude.{slice_set, slice_index_or}
+use Rattle.std.specs.Prelude.{slice_set, slice_index_or, is_some}
 use Rattle.std.proofs.Math.Path.{fun_ext}
 use Rattle.std.proofs.lemmas.Bool.{cases_eq}
 use Rattle.std.proofs.lemmas.List.{get_or-set_same, get_or-set_other, get_or_default, length-set}
@@ -9,7 +9,7 @@ use Rattle.pw_class.specs.Queue.{Queue}
 use Rattle.pw_code.specs.declared.context.Context.{Context}
 use Rattle.pw_code.specs.declared.system.System.{System}
 use Rattle.pw_code.specs.declared.unit.Unit.{Unit}
-use Rattle.pw_keep.specs.Keeps.{HasVerb, IsChanged, IsKeep, KeepState, job_of, jobs_at, kept_by, kept_in, kept_of, no_seat, pair_at, seat_at}
+use Rattle.pw_keep.specs.Keeps.{HasVerb, IsChanged, IsKeep, KeepState, is_run, job_of, jobs_at, kept_by, kept_in, kept_of, no_seat, pair_at, seat_at}
 use Rattle.pw_seats.specs.Jobs.{context_of}
 use Rattle.pw_seats.specs.Seats.{answered, over, started}
 use Rattle.pw_seats.specs.declared.job.Job.{Job}
@@ -89,8 +89,9 @@ pub keep-seat : (system : System) (seats : List Seat) (disc new_disc : Told) (bo
     → IsKeep system seats disc book jobs pairs → t < length seats → HasVerb system new
     → new_disc.terminals ≡ disc.terminals → new_disc.file_count ≡ disc.file_count
     → ((u : ℕ) → u ≢ t → new_disc.units u ≡ disc.units u) → new.unit ≡ unit_told t (new_disc.units t)
+    → is_some new.start ≡ is_run (new_disc.units t)
     → IsKeep system (slice_set seats t new) new_disc book jobs pairs
-keep-seat system seats disc new_disc book jobs pairs t new old lt verb terminals files others own = record {
+keep-seat system seats disc new_disc book jobs pairs t new old lt verb terminals files others own runs = record {
   valid = old.valid;
   terminals = length-set seats t new ∙ old.terminals;
   classes = old.classes;
@@ -101,6 +102,10 @@ keep-seat system seats disc new_disc book jobs pairs t new old lt verb terminals
   units = λ u low. at-seat (λ k s. k < length seats → s.unit ≡ unit_told k (new_disc.units k)) seats t new lt
       (λ k ne within. old.units k within ∙ ap (unit_told k) (sym (others k ne)))
       (λ _. own) u (subst (λ n. u < n) (length-set seats t new) low);
+  runs = λ u low. at-seat (λ k s. k < length seats → is_some s.start ≡ is_run (new_disc.units k)) seats t new lt
+      (λ k ne within. old.runs k within ∙ ap is_run (sym (others k ne)))
+      (λ _. runs) u (subst (λ n. u < n) (length-set seats t new) low);
+  members = old.members;
   verbs = at-seat (λ k s. HasVerb system s) seats t new lt (λ k ne. old.verbs k) verb;
   staffed = old.staffed;
   job_verbs = old.job_verbs;
@@ -110,6 +115,18 @@ keep-seat system seats disc new_disc book jobs pairs t new old lt verb terminals
 pub seat-there : {system : System} {seats : List Seat} {disc : Told} {book : List Queue} {jobs : List (List (Option Job))} {pairs : List SeenPair} (t : ℕ)
     → IsKeep system seats disc book jobs pairs → t < length system.terminals → t < length seats
 seat-there t keep low = subst (λ n. t < n) (sym keep.terminals) low
+
+-- a seat is changed, but not its unit and its start
+pub keep-own : (system : System) (seats : List Seat) (disc : Told) (book : List Queue) (jobs : List (List (Option Job))) (pairs : List SeenPair)
+    (t : ℕ) (seat new : Seat)
+    → IsKeep system seats disc book jobs pairs → t < length seats → seat ≡ slice_index_or seats t seat → HasVerb system new
+    → new.unit ≡ seat.unit → new.start ≡ seat.start
+    → IsKeep system (slice_set seats t new) disc book jobs pairs
+keep-own system seats disc book jobs pairs t seat new old lt is verb unit start =
+    let here = seat-is seats t seat lt is in
+    keep-seat system seats disc disc book jobs pairs t new old lt verb refl refl (λ u ne. refl)
+    (unit ∙ (ap (λ (s : Seat). s.unit) (sym here) ∙ old.units t lt))
+    (ap is_some start ∙ (ap (λ (s : Seat). is_some s.start) (sym here) ∙ old.runs t lt))
 
 -- ---- units
 
@@ -135,6 +152,7 @@ keep-ended system seats disc undone new_disc book jobs pairs t unit reply next s
     (ap (λ (d : Told). d.file_count) is ∙ files)
     (λ u ne. ap (λ (d : Told). d.units u) is ∙ (ended-other undone unit reply t u own ne ∙ ap (λ (f : ℕ → Option ToldUnit). f u) units))
     (ap (λ (s : Seat). s.unit) made ∙ sym (ap (unit_told t) (ap (λ (d : Told). d.units t) is ∙ ended-own undone unit reply t own)))
+    (ap (λ (s : Seat). is_some s.start) made ∙ sym (ap is_run (ap (λ (d : Told). d.units t) is ∙ ended-own undone unit reply t own)))
 
 -- a unit, as one of this terminal
 abbrev named : ℕ → Unit → Unit
@@ -155,6 +173,8 @@ keep-begun system seats disc new_disc book jobs pairs t unit start seat new old 
     (ap (λ (s : Seat). s.unit) made
     ∙ (ap (λ (k : ℕ). Some (named k unit)) own
     ∙ sym (ap (unit_told t) (ap (λ (d : Told). d.units t) is ∙ upd-same disc.units unit.terminal (Some (opened unit)) t (sym own)))))
+    (ap (λ (s : Seat). is_some s.start) made
+    ∙ sym (ap is_run (ap (λ (d : Told). d.units t) is ∙ upd-same disc.units unit.terminal (Some (opened unit)) t (sym own))))
 
 -- a seat whose attempt starts at its context
 pub started-at : (seats : List Seat) (t : ℕ) (unit : Unit) (start : Context) (seat new : Seat) → t < length seats → seat ≡ slice_index_or seats t seat

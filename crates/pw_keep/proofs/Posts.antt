@@ -17,15 +17,13 @@ use Rattle.pw_code.specs.declared.context.Context.{Context}
 use Rattle.pw_code.specs.declared.system.ClassInfo.{ClassInfo}
 use Rattle.pw_code.specs.declared.system.System.{System}
 use Rattle.pw_code.specs.declared.verb.Verb.{Verb}
-use Rattle.std.specs.Option.{IfSome}
 use Rattle.pw_keep.specs.Calls.{process_of}
-use Rattle.pw_keep.specs.Keeps.{IsKeep, IsStaffed, JobHasVerb, job_of, job_terminal, jobs_at, kept_by, kept_of, pair_at, request_terminal, seat_at}
+use Rattle.pw_keep.specs.Keeps.{IsKeep, IsStaffed, IsVerbOf, JobHasVerb, job_of, job_terminal, jobs_at, kept_by, kept_of, pair_at, request_terminal, seat_at}
 use Rattle.pw_keep.proofs.Parts.{of-parts}
 use Rattle.pw_kept.specs.Changes.{at_class, free_process, kept_take, with_job}
 use Rattle.pw_onecopy.specs.Update.{upd}
 use Rattle.pw_onecopy.proofs.Update.{upd_elim}
 use Rattle.pw_pair.specs.Pairs.{SeenPair}
-use Rattle.pw_kept.specs.Asked.{verb_in}
 use Rattle.pw_seats.specs.Jobs.{context_of, gone_on, job_in}
 use Rattle.pw_seats.specs.declared.job.Job.{Job}
 use Rattle.pw_seats.specs.declared.seat.Seat.{Seat}
@@ -99,6 +97,8 @@ keep-class system seats disc book new_book jobs new_jobs pairs c old books lists
   disc_terminals = old.disc_terminals;
   disc_files = old.disc_files;
   units = old.units;
+  runs = old.runs;
+  members = old.members;
   verbs = old.verbs;
   staffed = λ d info here.
       ⊎_elim
@@ -281,11 +281,7 @@ pub jobs-is : (system : System) (seats : List Seat) (disc : Told) (book : List Q
 jobs-is system seats disc book jobs pairs c js old low at =
     get_or_default jobs c [] js (subst (λ n. c < n) (sym old.job_lists) low) ∙ sym at
 
--- the verb beside a context is the one at which it stands
-abbrev pub IsRight : System → Option Verb → Context → Type 0
-IsRight system verb context = IfSome verb (λ v. v ≡ verb_in system context)
-
-has-verb : (system : System) (verb : Option Verb) (context : Context) (job : Option Job) → IsRight system verb context → JobHasVerb system (gone_on verb context job)
+has-verb : (system : System) (verb : Option Verb) (context : Context) (job : Option Job) → IsVerbOf system context verb → JobHasVerb system (gone_on verb context job)
 has-verb system verb context None is = tt
 has-verb system verb context (Some own) is = is
 
@@ -305,7 +301,7 @@ gone-at jobs c i js new verb context up at made =
 pub go-on : (system : System) (seats : List Seat) (disc : Told) (book : List Queue) (jobs : List (List (Option Job))) (pairs : List SeenPair) (c i : ℕ)
     (js new : List (Option Job)) (verb : Option Verb) (context : Context)
     → IsKeep system seats disc book jobs pairs → c < length system.classes → IsSome (at_process (queue_at book c) i) → js ≡ slice_index_or jobs c js
-    → new ≡ slice_set js (i - 1) (gone_on verb context (job_in js (i - 1))) → IsRight system verb context
+    → new ≡ slice_set js (i - 1) (gone_on verb context (job_in js (i - 1))) → IsVerbOf system context verb
     → IsKeep system seats disc book (slice_set jobs c new) pairs
 go-on system seats disc book jobs pairs c i js new verb context old low some at made right =
     let there = post-there system seats disc book jobs pairs c i old low some in
@@ -401,8 +397,9 @@ pub take-post : (system : System) (seats : List Seat) (disc : Told) (book new_bo
     (js new : List (Option Job))
     → IsKeep system seats disc book jobs pairs → c < length system.classes → taken (queue_at book c) ≡ Got p r → js ≡ slice_index_or jobs c js
     → new_book ≡ slice_set book c (after_take (queue_at book c)) → new ≡ slice_set js (p - 1) (job-for r context)
+    → context.at_verb ≡ false
     → IsKeep system seats disc new_book (slice_set jobs c new) pairs
-take-post system seats disc book new_book jobs pairs c p r context js new old low e at taking made =
+take-post system seats disc book new_book jobs pairs c p r context js new old low e at taking made fresh =
     let busy = (queue_at book c).busy in
     let q : Queue = after_take (queue_at book c) in
     let found = took (queue_at book c) p r e in
@@ -416,7 +413,7 @@ take-post system seats disc book new_book jobs pairs c p r context js new old lo
     (length-set book c q) (λ d ne. get_or-set_other book c d q no_queue ne) (get_or-set_same book c q no_queue in_book)
     (ap length found.busy ∙ length-set busy (p - 1) (Some r))
     (λ j ne. ap (λ xs. from-one xs j) found.busy ∙ from-one-other busy p j (Some r) found.up ne)
-    (sym (ap request_terminal (ap (λ xs. from-one xs p) found.busy ∙ from-one-same busy p (Some r) found.up found.there))) tt))
+    (sym (ap request_terminal (ap (λ xs. from-one xs p) found.busy ∙ from-one-same busy p (Some r) found.up found.there))) fresh))
 
 pub take-kept : (system : System) (seats : List Seat) (disc : Told) (book new_book : List Queue) (jobs : List (List (Option Job))) (pairs : List SeenPair) (births c p : ℕ) (r : Request) (context : Context)
     (js new : List (Option Job))

@@ -10,23 +10,14 @@ use Rattle.pw_code.specs.declared.file.FileCall.{FileCall}
 use Rattle.pw_code.specs.declared.verb.Verb.{Verb}
 use Rattle.pw_code.specs.declared.verb.Verb.TheVariants as verb
 use Rattle.pw_keep.specs.Keeps.{KeepState, job_of, jobs_at, kept_in, terminals_in}
-use Rattle.pw_keep.specs.declared.pieces.Loss.{Loss}
-use Rattle.pw_keep.specs.declared.pieces.Loss.TheVariants as loss
-use Rattle.pw_kept.specs.Changes.{at_each, at_terminal, cancel, unit_at, with_context, without_unit}
+use Rattle.pw_kept.specs.Changes.{at_terminal, cancel, unit_at, with_context, without_unit}
 use Rattle.pw_event.specs.declared.event.Cause.{Cause}
-use Rattle.pw_event.specs.declared.event.Ending.{Ending}
-use Rattle.pw_event.specs.declared.event.Ending.TheVariants.{Stopped, NoEntries, Fault, Suspended, Lost}
 use Rattle.pw_kept.specs.Kept.{Kept, KeptTerminal}
-use Rattle.pw_pair.specs.Pairs.{seat_of}
-use Rattle.pw_pair.specs.Takeover.{Resumption, resumption_in}
-use Rattle.pw_pair.specs.declared.mode.Mode.{Mode}
-use Rattle.pw_pair.specs.declared.mode.Mode.TheVariants.{Alone, Raising, Paired, Down, Gone}
 use Rattle.pw_seats.specs.declared.job.Job.{Job}
 use Rattle.pw_tmf.specs.Answers.{Operates}
-use Rattle.pw_tmf.specs.Leaving.{open_units}
 use Rattle.pw_tmf.specs.Operation.{IsCall}
 use Rattle.pw_tmf.specs.Told.{Told}
-use Rattle.pw_tmf.specs.Units.{IsRunning, all_backed_out, ended}
+use Rattle.pw_tmf.specs.Units.{IsRunning, ended}
 use Rattle.pw_tmf.specs.declared.answer.FileAnswer.{FileAnswer}
 
 -- a request waits and a process is free
@@ -49,6 +40,12 @@ taker queue = process_of (taken queue)
 abbrev pub given : Taken → Option (ℕ × ℕ)
 given (Got process request) = Some (process, request.terminal)
 given _ = None
+
+-- the same, where the process and the request are these
+abbrev pub given_to : Option ℕ → Option Request → Option (ℕ × ℕ)
+given_to None request = None
+given_to (Some process) None = None
+given_to (Some process) (Some request) = Some (process, request.terminal)
 
 -- a unit of one SEND ends with its reply, where its process is free already
 abbrev pub kept_commit_reply : ℕ → ℕ → List ℕ → Context → Kept → Kept
@@ -97,45 +94,8 @@ pended cause own = record own { pending = Some cause }
 abbrev pub members_in : Kept → ℕ → List ℕ
 members_in kept p = terminals_in (kept.pairs p)
 
--- ---- END
-
--- the open unit of a terminal is left at an ending
-abbrev pub is_left : Ending → Bool
-is_left Stopped = false
-is_left NoEntries = true
-is_left (Fault x) = true
-is_left (Suspended cause) = true
-is_left Lost = false
-
--- the terminal has this ending
-abbrev pub with_ending : Ending → KeptTerminal → KeptTerminal
-with_ending ending own = record own { pending = None; ending = Some ending }
-
--- the context and the unit with which the terminal goes on behind a takeover of the pair, if it is held
-abbrev pub resumption_at : Kept → ℕ → ℕ → Option Resumption
-resumption_at kept p t = resumption_in (seat_of t (kept.pairs p)) (kept.disc.ended t).number
-
--- what terminals lose where a member of their pair fails in a mode
-abbrev pub loss_of : Bool → Mode → Loss
-loss_of true Paired = loss.Paths
-loss_of true Raising = loss.Units
-loss_of true Alone = loss.Units
-loss_of true Down = loss.Nothing
-loss_of true Gone = loss.Nothing
-loss_of false Paired = loss.Nothing
-loss_of false Raising = loss.Nothing
-loss_of false Alone = loss.Nothing
-loss_of false Down = loss.Units
-loss_of false Gone = loss.Nothing
-
--- ---- requests and units
+-- ---- requests
 
 -- the requests of one terminal are cancelled
 abbrev pub cancel_of : ℕ → Kept → Kept
 cancel_of t kept = cancel (t ∷ []) kept
-
--- the open units of these terminals end, and their changes are put back
-abbrev pub without_units : List ℕ → Kept → Kept
-without_units terminals kept = record (at_each terminals (λ t. without_unit) kept) {
-  disc = all_backed_out true kept.disc (open_units kept.disc terminals);
-}

@@ -12,7 +12,7 @@ use Rattle.pw_pair.specs.Pairs.{SeenPair}
 use Rattle.pw_seats.specs.Seats.{first_seat}
 use Rattle.pw_seats.specs.declared.job.Job.{Job}
 use Rattle.pw_seats.specs.declared.seat.Seat.{Seat}
-use Rattle.pw_tmf.specs.Told.{Told, ToldUnit}
+use Rattle.pw_tmf.specs.Told.{Told}
 
 -- the terminals of the pair among these, of which the first has this number
 abbrev pub members_from : ℕ → ℕ → List TermInfo → List ℕ

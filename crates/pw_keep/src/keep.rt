@@ -1,9 +1,11 @@
-ghost use Rattle.std.specs.Prelude.{◌≡◌, ◌<◌, ◌^◌, ◌-◌, length, IfOk};
+ghost use Rattle.std.specs.Prelude.{◌≡◌, ◌==◌, ◌<◌, ◌^◌, ◌-◌, All, length, IfOk};
+ghost use Rattle.std.specs.List.{IsDistinct};
 ghost use Rattle.pw_code.specs.Valid.{IsValid};
 ghost use Rattle.pw_keep.specs.Calls.{members_in};
 ghost use Rattle.pw_keep.specs.Keeps.{kept_in};
 ghost use Rattle.pw_keep.specs.Starting.{IsIdleDisc, first_kept};
 ghost use Rattle.pw_kept.specs.Changes.{births_behind, unit_at};
+ghost use Rattle.pw_kept.specs.Entered.{tcp_of};
 
 use crate::pieces::members;
 use crate::starting::{first_pairs, first_seats, no_jobs};
@@ -121,8 +123,20 @@ impl<D: Disc> Keep<D> {
     /// The terminals of a pair.
     pub(crate) fn members(&self, tcp: u32) -> Result<Vec<u32>, Memory>
         requires { tcp < length self.now.system.tcps }
-        ensures { IfOk result (λ terminals. terminals.items ≡ members_in (kept_in D.told self.now) tcp) }
+        ensures terminals { IfOk result (λ terminals. terminals.items ≡ members_in (kept_in D.told self.now) tcp) }
+        ensures known { IfOk result (λ terminals. All (λ t. t < length self.now.system.terminals) terminals.items) }
+        ensures distinct { IfOk result (λ terminals. IsDistinct (λ a b. a == b) terminals.items) }
     {
-        members(self.alloc, &self.pairs[tcp as usize])
+        let terminals = members(self.alloc, self.pair(tcp))?;
+        Ok(terminals)
+    }
+
+    /// The pair of a terminal.
+    pub(crate) fn pair_of(&self, terminal: u32) -> u32
+        requires { terminal < length self.now.system.terminals }
+        ensures pair { result ≡ tcp_of self.now.system terminal }
+        ensures known { result < length self.now.system.tcps }
+    {
+        self.system.terminals.as_slice()[terminal as usize].tcp
     }
 }

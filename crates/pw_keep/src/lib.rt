@@ -2,6 +2,7 @@
 //! what each kind of entry does to it.
 #![tactic(auto)]
 
+mod each;
 mod failures;
 pub mod keep;
 mod pairs;

@@ -1,19 +1,27 @@
 //! Parts by themselves, where what is kept asks them.
 
-ghost use Rattle.std.specs.Prelude.{◌≡◌, IfOk, map};
+ghost use Rattle.std.specs.Prelude.{◌≡◌, All, IfErr, IfOk, OnOk, map, true};
 ghost use Rattle.std.specs.Option.{option_copied};
-ghost use Rattle.pw_keep.specs.Calls.{call_of, is_left, loss_of};
+ghost use Rattle.pw_keep.specs.Calls.{call_of, given_to};
+ghost use Rattle.pw_keep.specs.Each.{is_left, loss_of};
 ghost use Rattle.pw_keep.specs.Keeps.{terminals_in};
 ghost use Rattle.pw_pair.specs.Called.{member_fails};
 ghost use Rattle.pw_seats.specs.Jobs.{dropped_for};
+ghost use Rattle.pw_tmf.specs.Answers.{Leaves};
+ghost use Rattle.pw_tmf.specs.Units.{AreApart, CanBackOut, all_backed_out};
 
 use pw_base::memory::Memory;
+use pw_class::request::Request;
 use pw_code::file::FileCall;
+use pw_code::unit::Unit;
 use pw_code::verb::Verb;
 use pw_event::event::Ending;
 use pw_pair::mode::Mode;
 use pw_pair::pair::Pair;
+use pw_pair::resumed::Resumed;
 use pw_seats::job::{Job, Jobs};
+use pw_tmf::answer::DiscFault;
+use pw_tmf::disc::Disc;
 use std::alloc::Global;
 
 /// A member of a pair fails.
@@ -40,12 +48,23 @@ pub fn call_of(job: Option<&Job>) -> Option<&FileCall>
     }
 }
 
+/// The process and the terminal of a request, where both are there.
+pub fn given(request: Option<&Request>, process: Option<u32>) -> Option<(u32, u32)>
+    ensures { result ≡ given_to process (option_copied request.entry) }
+{
+    match (process, request) {
+        (Some(process), Some(request)) => Some((process, request.terminal)),
+        _ => None,
+    }
+}
+
 /// The terminals of a pair.
 pub fn members(alloc: Global, pair: &Pair) -> Result<Vec<u32>, Memory>
     ensures { IfOk result (λ terminals. terminals.items ≡ terminals_in pair.now) }
 {
     let mut terminals = Vec::new(alloc);
-    for seat in pair.seats() {
+    let seats = pair.seats();
+    for seat in seats {
         terminals.push(seat.terminal)?;
     }
     Ok(terminals)
@@ -70,8 +89,28 @@ pub enum Loss {
     Units,
 }
 
+/// How a terminal goes on behind a takeover: not at all where nothing is held of it.
+#[derive(Drop)]
+pub struct Going {
+    pub terminal: u32,
+    pub resumed: Option<Resumed>,
+}
+
+/// Units are backed out and end, if there are any.
+pub fn back_out<D: Disc>(disc: &mut D, units: &[Unit]) -> Result<(), DiscFault>
+    requires apart { AreApart units.now }
+    requires may { All (CanBackOut true (D.told disc.old)) units.now }
+    ensures ok { OnOk result (D.told disc.new ≡ all_backed_out true (D.told disc.old) units.now) }
+    ensures err { IfErr result (λ fault. Leaves fault (D.told disc.old) (D.told disc.new)) }
+{
+    if units.is_empty() {
+        return Ok(());
+    }
+    disc.back_out(units, true)
+}
+
 /// What is lost where a member of a pair fails in a mode.
-pub fn loss(mode: Mode, primary: bool) -> Loss
+pub fn loss_in(mode: Mode, primary: bool) -> Loss
     ensures { result ≡ loss_of primary mode }
 {
     match (mode, primary) {

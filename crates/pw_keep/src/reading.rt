@@ -1,8 +1,9 @@
 //! What is kept is read.
 
-ghost use Rattle.std.specs.Prelude.{◌≡◌, ◌≢◌, ◌<◌, ◌≤◌, length, IfOk, is_some, slice_get};
+ghost use Rattle.std.specs.Prelude.{◌≡◌, ◌≢◌, ◌<◌, ◌≤◌, length, IfOk, IfSome, is_some, option_map, slice_get, ◌+◌};
 ghost use Rattle.std.specs.Option.{option_copied};
-ghost use Rattle.pw_class.specs.Queue.{at_process, taken};
+ghost use Rattle.pw_class.specs.Book.{IsAt};
+ghost use Rattle.pw_class.specs.Queue.{at_process, free_place, taken};
 ghost use Rattle.pw_keep.specs.Calls.{given};
 ghost use Rattle.pw_keep.specs.Keeps.{HasVerb, JobHasVerb, is_run, job_of, jobs_at, kept_in, kept_of, terminals_in};
 ghost use Rattle.pw_kept.specs.Members.{AreOf};
@@ -15,9 +16,10 @@ ghost use Rattle.pw_tmf.specs.Operation.{IsCall, awaits};
 ghost use Rattle.pw_tmf.specs.Units.{IsOpen, IsRunning};
 
 use crate::keep::Keep;
+use crate::pieces::given;
 use pw_base::bytes::Bytes;
 use pw_base::memory::Memory;
-use pw_class::request::Request;
+use pw_class::request::{Place, Request};
 use pw_code::file::FileCall;
 use pw_code::unit::Unit;
 use pw_pair::pair::Pair;
@@ -69,15 +71,32 @@ impl<D: Disc> Keep<D> {
         self.classes.request_of(terminal).is_some()
     }
 
+    /// Where a request of the terminal is, None exactly where none waits and none is at a process.
+    pub fn request_of(&self, terminal: u32) -> Option<Place>
+        ensures found { is_some result ≡ is_out self.now.system (kept_in D.told self.now) terminal }
+        ensures place { IfSome result (IsAt self.now.book terminal) }
+    {
+        self.classes.request_of(terminal)
+    }
+
     /// The process of a class that takes the first waiting request, and the terminal of that. None exactly where no
     /// request waits, or no process is free.
     pub fn taken(&self, class: u32) -> Option<(u32, u32)>
         requires class { class < length self.now.system.classes }
         ensures { result ≡ given (taken ((kept_in D.told self.now).queues class)) }
     {
-        let terminal = self.classes.first(class)?.terminal;
-        let place = self.jobs[class as usize].free_place()?;
-        Some((place as u32 + 1, terminal))
+        given(self.first(class), self.free_process(class))
+    }
+
+    /// The free process of smallest number of a class, None exactly where none is free.
+    fn free_process(&self, class: u32) -> Option<u32>
+        requires class { class < length self.now.system.classes }
+        ensures { result ≡ option_map (λ place. place + 1) (free_place ((kept_in D.told self.now).queues class)) }
+    {
+        match self.jobs[class as usize].free_place() {
+            Some(place) => Some(place as u32 + 1),
+            None => None,
+        }
     }
 
     /// The first request that waits for a class.

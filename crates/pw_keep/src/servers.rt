@@ -1,6 +1,6 @@
 //! What entries do to requests and the processes of classes.
 
-ghost use Rattle.std.specs.Prelude.{◌≡◌, ◌<◌, IsSome, OnErr, OnOk, Some, false, length, true};
+ghost use Rattle.std.specs.Prelude.{◌≡◌, ◌<◌, ℕ, IsSome, OnErr, OnOk, Some, false, length, true};
 ghost use Rattle.pw_class.specs.Queue.{at_process, has_request};
 ghost use Rattle.pw_class.specs.declared.request.Request.{Request as SeenRequest};
 ghost use Rattle.pw_keep.specs.Calls.{IsOperated, MayOperate, can_take, cancel_of, taker};

@@ -1,11 +1,13 @@
 //! What entries do to terminals alone.
 
 ghost use Rattle.std.specs.Prelude.{◌≡◌, ◌<◌, All, length};
-ghost use Rattle.pw_keep.specs.Calls.{pended, with_ending};
+ghost use Rattle.pw_keep.specs.Calls.{pended};
+ghost use Rattle.pw_keep.specs.Each.{with_ending};
 ghost use Rattle.pw_keep.specs.Keeps.{IsChanged};
 ghost use Rattle.pw_kept.specs.Asked.{verb_in};
 ghost use Rattle.pw_kept.specs.Changes.{at_each, at_terminal, kept_ran, kept_show, without_path};
 
+use crate::each::lose_paths;
 use crate::keep::Keep;
 use pw_code::context::Context;
 use pw_code::verb::Verb;
@@ -52,16 +54,6 @@ impl<D: Disc> Keep<D> {
         requires known { All (λ t. t < length self.old.system.terminals) terminals.now }
         ensures { IsChanged D.told (at_each terminals.now (λ t. without_path)) self.old self.new }
     {
-        for terminal in terminals {
-            self.lose_path(*terminal);
-        }
-    }
-
-    /// The path of a terminal is gone.
-    fn lose_path(&mut self, terminal: u32)
-        requires known { terminal < length self.old.system.terminals }
-        ensures { IsChanged D.told (at_terminal terminal without_path) self.old self.new }
-    {
-        self.seats[terminal as usize].lose_path();
+        lose_paths(&mut self.seats, terminals);
     }
 }

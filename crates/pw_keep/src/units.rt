@@ -2,13 +2,16 @@
 
 ghost use Rattle.std.specs.Prelude.{◌≡◌, ◌==◌, ◌<◌, ◌^◌, ◌-◌, All, IfErr, IfOk, OnOk, Some, length, true};
 ghost use Rattle.std.specs.List.{IsDistinct};
-ghost use Rattle.pw_keep.specs.Calls.{kept_commit_reply, without_units};
+ghost use Rattle.pw_keep.specs.Calls.{kept_commit_reply};
+ghost use Rattle.pw_keep.specs.Each.{without_units};
 ghost use Rattle.pw_keep.specs.Keeps.{IsChanged, IsRefused, kept_in};
 ghost use Rattle.pw_kept.specs.Changes.{kept_back, kept_begin, kept_begin_send, kept_commit, kept_restart, leave, unit_at};
 ghost use Rattle.pw_tmf.specs.Leaving.{open_units};
 ghost use Rattle.pw_tmf.specs.Units.{CanBackOut, CanBegin, IsRunning};
 
+use crate::each::end_units;
 use crate::keep::Keep;
+use crate::pieces::back_out;
 use pw_base::bytes::Bytes;
 use pw_base::memory::Memory;
 use pw_code::context::Context;
@@ -114,12 +117,7 @@ impl<D: Disc> Keep<D> {
     }
 
     /// RESTART: the attempt of the unit is backed out, and its terminal is at its start again, with no request out.
-    pub fn restart(
-        &mut self,
-        terminal: u32,
-        number: u32,
-        cause: Cause,
-    ) -> Result<(), DiscFault>
+    pub fn restart(&mut self, terminal: u32, number: u32, cause: Cause) -> Result<(), DiscFault>
         requires known { terminal < length self.old.system.terminals }
         requires runs { IsRunning (kept_in D.told self.old).disc (unit_at (kept_in D.told self.old) terminal number) }
         requires few { ((kept_in D.told self.old).terminals terminal).restarts < 2 ^ 32 - 1 }
@@ -148,20 +146,16 @@ impl<D: Disc> Keep<D> {
         Ok(units)
     }
 
-    /// Units end with their changes put back, if there are any.
-    fn end_units(&mut self, terminals: &[u32], units: &[Unit]) -> Result<(), DiscFault>
+    /// The open units of these terminals end, and their changes are put back.
+    fn end_units(&mut self, terminals: &[u32]) -> Result<(), DiscFault>
         requires known { All (λ t. t < length self.old.system.terminals) terminals.now }
         requires distinct { IsDistinct (λ a b. a == b) terminals.now }
-        requires units { units.now ≡ open_units (kept_in D.told self.old).disc terminals.now }
         ensures ok { OnOk result (IsChanged D.told (without_units terminals.now) self.old self.new) }
         ensures err { IfErr result (λ fault. IsRefused D.told fault self.old self.new) }
     {
-        if !units.is_empty() {
-            self.disc.back_out(units, true)?;
-        }
-        for terminal in terminals {
-            self.seats[*terminal as usize].end_unit();
-        }
+        let units = self.open_units(terminals)?;
+        back_out(&mut self.disc, &units)?;
+        end_units(&mut self.seats, terminals);
         Ok(())
     }
 
@@ -172,8 +166,7 @@ impl<D: Disc> Keep<D> {
         ensures ok { OnOk result (IsChanged D.told (leave terminals.now) self.old self.new) }
         ensures err { IfErr result (λ fault. IsRefused D.told fault self.old self.new) }
     {
-        let units = self.open_units(terminals)?;
-        self.end_units(terminals, &units)?;
+        self.end_units(terminals)?;
         self.cancel(terminals);
         Ok(())
     }

@@ -12,7 +12,7 @@ use Rattle.pw_onecopy.specs.Operation.{answer_of, changes_records, is_change, ke
 use Rattle.pw_onecopy.specs.Path.{FileAnswer}
 use Rattle.pw_paired.specs.Units.{has_image, image_before}
 use Rattle.pw_tmf.specs.Committed.{images_of}
-use Rattle.pw_tmf.specs.Operation.{answer_with, refusal, status_with, with_image}
+use Rattle.pw_tmf.specs.Operation.{answer_with, refusal, with_image}
 use Rattle.pw_tmf.specs.Slots.{SlotState, with_before, with_unit}
 use Rattle.pw_tmf.specs.Tmf.{key_lengths, stored}
 use Rattle.pw_tmf.specs.Told.{ToldUnit}
@@ -91,15 +91,6 @@ allowed-answer n records call = allowed-op n records call.op call
 pub allowed-changes : (n : ℕ) (records : List (List ℕ)) (call : FileCall) → is_change call.op ≡ true → refusal call.op (has_key n records (key_of n call.op call)) ≡ None
     → changes_records n records call ≡ true
 allowed-changes n records call c h = and-true (is_change call.op) _ c (ap (λ (a : FileAnswer). a.status == 0) (allowed-op n records call.op call c h))
-
--- the status of an operation that may change a record
-pub change-status : (n : ℕ) (records : List (List ℕ)) (call : FileCall) → is_change call.op ≡ true
-    → status_with (refusal call.op (has_key n records (key_of n call.op call))) ≡ (answer_of n records call.op call).status
-change-status n records call c = by (refusal call.op (has_key n records (key_of n call.op call))) refl
-  where
-    by : (o : Option ℕ) → refusal call.op (has_key n records (key_of n call.op call)) ≡ o → status_with o ≡ (answer_of n records call.op call).status
-    by None is = sym (ap (λ (a : FileAnswer). a.status) (allowed-op n records call.op call c is))
-    by (Some status) is = sym (ap (λ (a : FileAnswer). a.status) (refused-op n records call.op call status is).answer)
 
 -- a read changes nothing
 pub read-changes : (n : ℕ) (records : List (List ℕ)) (call : FileCall) → is_change call.op ≡ false → changes_records n records call ≡ false

@@ -27,7 +27,7 @@ drop-false false b e is = is
 -- ---- before-images of different terminals
 
 -- the files with an image put back
-abbrev put : (ℕ → ℕ) → BeforeImage → (ℕ → List (List ℕ)) → ℕ → List (List ℕ)
+abbrev pub put : (ℕ → ℕ) → BeforeImage → (ℕ → List (List ℕ)) → ℕ → List (List ℕ)
 put key_length image files = upd files image.file (put_back (key_length image.file) (files image.file) image.key image.content)
 
 -- the images are of different places
@@ -73,7 +73,7 @@ not-at t a b none is file key =
 
 module _ (key_length : ℕ → ℕ) (t : ℕ) where
   -- an image at a key where a terminal has none is put back before those of the terminal, or behind them
-  past : (a : BeforeImage) → IsKeyed key_length a → (before : List BeforeImage) → AllByRecursion (IsKeyed key_length) before → has_image t a.file a.key before ≡ false → (files : ℕ → List (List ℕ))
+  pub past : (a : BeforeImage) → IsKeyed key_length a → (before : List BeforeImage) → AllByRecursion (IsKeyed key_length) before → has_image t a.file a.key before ≡ false → (files : ℕ → List (List ℕ))
       → restored_files key_length (images_by t before) (put key_length a files) ≡ put key_length a (restored_files key_length (images_by t before) files)
   past a of [] all none files = refl
   past a of (b ∷ before) all none files =
@@ -84,7 +84,7 @@ module _ (key_length : ℕ → ℕ) (t : ℕ) where
       ] refl
 
   -- an image is at its key
-  own-key : (image : BeforeImage) (before : List BeforeImage) → has_image image.terminal image.file image.key (image ∷ before) ≡ true
+  pub own-key : (image : BeforeImage) (before : List BeforeImage) → has_image image.terminal image.file image.key (image ∷ before) ≡ true
   own-key image before =
       or_left (image.terminal == image.terminal && (image.file == image.file && bytes_eq image.key image.key)) (has_image image.terminal image.file image.key before)
       (and_from (image.terminal == image.terminal) (image.file == image.file && bytes_eq image.key image.key) (eq-eqb image.terminal image.terminal refl)

@@ -18,5 +18,6 @@ pub mod Stopped
 pub mod Stored
 pub mod SystemLemmas
 pub mod Telling
+pub mod Together
 pub mod TwoUnitLemmas
 pub mod WithFaults

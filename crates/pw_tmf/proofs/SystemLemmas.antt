@@ -1,6 +1,6 @@
 -- The system of the tests is valid.
-use Rattle.std.proofs.Common.{◌≡◌, ◌<◌, ℕ, List, [], ◌∷◌, length, ◌++◌, ◌∙◌, ap, true, false, arith, refl, sym}
-use Rattle.std.specs.Prelude.{◌^◌, codes, take}
+use Rattle.std.proofs.Common.{◌≡◌, ℕ, List, [], ◌∷◌, ◌++◌, ◌∙◌, ap, true, false, arith, refl}
+use Rattle.std.specs.Prelude.{codes, take}
 use Rattle.std.specs.List.{IsDistinct}
 use Rattle.std.specs.Str.{bytes_eq}
 use Rattle.std.proofs.lemmas.List.Elements.{All-nil, All-cons}
@@ -10,9 +10,10 @@ use Rattle.pw_code.specs.declared.lock.LockRule.TheVariants.{ReadersShare}
 use Rattle.pw_code.specs.declared.system.System.{System}
 use Rattle.pw_code.specs.declared.system.TermInfo.{TermInfo}
 use Rattle.pw_files.specs.Records.{IsContent}
+use Rattle.pw_code.specs.Names.{AreNames, IsName}
 use Rattle.pw_code.specs.Valid.{HasKey, IsCode, IsClass, IsDeckFile, IsTerminal, IsValid}
 use Rattle.pw_code.proofs.Codes.{IsCode-empty}
-use Rattle.pw_code.proofs.NameLemmas.{AreNames-none, AreNames-one, AreNames-two}
+use Rattle.pw_code.proofs.NameLemmas.{AreNames-none, AreNames-one}
 use Rattle.pw_tmf.specs.TwoUnits.{IsTestSystem, stock_file}
 
 -- a terminal of the first pair and program
@@ -28,13 +29,20 @@ test_system code = record {
   classes = [];
   files = stock_file ∷ [];
   tcps = codes "TCP-1" ∷ [];
-  terminals = terminal_named (codes "T1") ∷ terminal_named (codes "T2") ∷ [];
+  terminals = terminal_named (codes "T1") ∷ terminal_named (codes "T2") ∷ terminal_named (codes "T3") ∷ [];
   rule = ReadersShare;
 }
 
 one-key : IsDistinct bytes_eq (take 2 (codes "AA one") ∷ [])
 unfolding IsDistinct
 one-key = (tt, tt)
+
+three-names : AreNames (codes "T1" ∷ codes "T2" ∷ codes "T3" ∷ [])
+unfolding IsDistinct
+three-names = record {
+  each = All-cons IsName (codes "T1") (codes "T2" ∷ codes "T3" ∷ []) refl (All-cons IsName (codes "T2") (codes "T3" ∷ []) refl (All-cons IsName (codes "T3") [] refl (All-nil IsName)));
+  distinct = ((refl, (refl, tt)), ((refl, tt), (tt, tt)));
+}
 
 pub test-valid : (code : Code) → code.instrs ≡ [] → code.storage ≡ [] → code.linkage ≡ [] → IsValid (test_system code)
 test-valid code empty no_storage no_linkage =
@@ -43,7 +51,8 @@ test-valid code empty no_storage no_linkage =
     record {
       programs = All-cons (IsCode false system) code [] (IsCode-empty false system code empty no_storage no_linkage) (All-nil (IsCode false system));
       servers = All-nil (IsCode true system);
-      terminals = All-cons (IsTerminal system) (terminal_named (codes "T1")) (terminal_named (codes "T2") ∷ []) (one (codes "T1")) (All-cons (IsTerminal system) (terminal_named (codes "T2")) [] (one (codes "T2")) (All-nil (IsTerminal system)));
+      terminals = All-cons (IsTerminal system) (terminal_named (codes "T1")) (terminal_named (codes "T2") ∷ terminal_named (codes "T3") ∷ []) (one (codes "T1"))
+          (All-cons (IsTerminal system) (terminal_named (codes "T2")) (terminal_named (codes "T3") ∷ []) (one (codes "T2")) (All-cons (IsTerminal system) (terminal_named (codes "T3")) [] (one (codes "T3")) (All-nil (IsTerminal system))));
       classes = All-nil (IsClass system);
       files = All-cons IsDeckFile stock_file [] (record {
         key = (omega arith, omega arith);
@@ -52,7 +61,7 @@ test-valid code empty no_storage no_linkage =
       }) (All-nil IsDeckFile);
       names = record {
         tcps = AreNames-one (codes "TCP-1") refl;
-        terminals = AreNames-two (codes "T1") (codes "T2") refl refl refl;
+        terminals = three-names;
         classes = AreNames-none;
         files = AreNames-one (codes "STOCK") refl;
       };
@@ -67,7 +76,7 @@ abbrev pub built : List Code → List FileInfo → List (List ℕ) → List Term
 built programs files tcps terminals = record { programs = programs; servers = []; screens = []; classes = []; files = files; tcps = tcps; terminals = terminals; rule = ReadersShare }
 
 pub built-is : (code : Code) (programs : List Code) (files : List FileInfo) (tcps : List (List ℕ)) (terminals : List TermInfo)
-    → programs ≡ code ∷ [] → files ≡ stock_file ∷ [] → tcps ≡ codes "TCP-1" ∷ [] → terminals ≡ terminal_named (codes "T1") ∷ terminal_named (codes "T2") ∷ []
+    → programs ≡ code ∷ [] → files ≡ stock_file ∷ [] → tcps ≡ codes "TCP-1" ∷ [] → terminals ≡ terminal_named (codes "T1") ∷ terminal_named (codes "T2") ∷ terminal_named (codes "T3") ∷ []
     → built programs files tcps terminals ≡ test_system code
 built-is code programs files tcps terminals p f t s =
     ap (λ x. built x files tcps terminals) p
@@ -75,6 +84,7 @@ built-is code programs files tcps terminals p f t s =
     ∙ (ap (λ x. built (code ∷ []) (stock_file ∷ []) x terminals) t
     ∙ ap (λ x. built (code ∷ []) (stock_file ∷ []) (codes "TCP-1" ∷ []) x) s))
 
--- two items, of which the second is pushed
-pub pushed-two : {A : Type 0} (xs ys : List A) (x y v w : A) → xs ≡ x ∷ [] → ys ≡ xs ++ y ∷ [] → x ≡ v → y ≡ w → ys ≡ v ∷ w ∷ []
-pushed-two xs ys x y v w a b c d = b ∙ (ap (λ zs. zs ++ y ∷ []) a ∙ (ap (λ z. z ∷ y ∷ []) c ∙ ap (λ z. v ∷ z ∷ []) d))
+-- three items, of which two are pushed
+pub pushed-three : {A : Type 0} (xs ys zs : List A) (x y z u v w : A) → xs ≡ x ∷ [] → ys ≡ xs ++ y ∷ [] → zs ≡ ys ++ z ∷ [] → x ≡ u → y ≡ v → z ≡ w → zs ≡ u ∷ v ∷ w ∷ []
+pushed-three xs ys zs x y z u v w a b c d e f =
+    c ∙ (ap (λ is. is ++ z ∷ []) (b ∙ ap (λ is. is ++ y ∷ []) a) ∙ (ap (λ i. i ∷ y ∷ z ∷ []) d ∙ (ap (λ i. u ∷ i ∷ z ∷ []) e ∙ ap (λ i. u ∷ v ∷ i ∷ []) f)))

@@ -17,7 +17,7 @@ use Rattle.pw_tmf.specs.declared.answer.FileAnswer.{FileAnswer}
 use Rattle.pw_tmf.specs.declared.answer.FileAnswer.TheVariants as answer
 use Rattle.pw_tmf.specs.Operation.{IsCall, after_operation, with_image}
 use Rattle.pw_tmf.specs.Told.{Told, ToldUnit}
-use Rattle.pw_tmf.specs.TwoUnits.{AreBoth, IsFresh, IsTestCall, IsTestSystem, older_unit, younger_unit}
+use Rattle.pw_tmf.specs.TwoUnits.{AreBoth, IsFresh, IsTestCall, IsTestSystem, older_unit, third_unit, younger_unit}
 use Rattle.pw_tmf.specs.Faulty.{with_faults}
 use Rattle.pw_tmf.specs.Starting.{key_of_file, told_at_start}
 use Rattle.pw_tmf.specs.Units.{AreApart, CanBackOut, CanBegin, IsRunning, MayBegin, all_backed_out, backed_out, begun, opened, stopped}
@@ -239,3 +239,43 @@ both-again told b = record {
   others = λ t one two. upd-other (restarted told).units 1 (Some (opened younger_unit)) t two ∙ (upd-other told.units 1 (option_map stopped (told.units 1)) t two ∙ b.others t one two);
   ended = b.ended;
 }
+
+-- ---- a unit of the third terminal begins, and all are backed out
+
+pub third-can : (told : Told) → AreBoth told → CanBegin told third_unit
+third-can told b = record {
+  terminal = omega (arith, b.terminals);
+  number = omega arith;
+  not_ended = λ is. absurd (omega (arith, b.ended 2, is));
+  free = subst (MayBegin third_unit) (sym (b.others 2 (λ is. absurd (omega (arith, is))) (λ is. absurd (omega (arith, is))))) tt;
+  births = λ t other is birth.
+      ⊎_elim
+      (λ (first : t ≡ 0).
+      let here : told.units t ≡ Some b.older.is_open.open_unit = ap told.units first ∙ b.older.is_open.here in
+      let same : other ≡ b.older.is_open.open_unit = cc (here, is) in
+      absurd (omega (arith, ap (λ (u : ToldUnit). u.birth) same, b.older.is_open.birth, birth)))
+      (λ (not_first : t ≢ 0).
+      ⊎_elim
+      (λ (second : t ≡ 1).
+      let here : told.units t ≡ Some b.younger.is_open.open_unit = ap told.units second ∙ b.younger.is_open.here in
+      let same : other ≡ b.younger.is_open.open_unit = cc (here, is) in
+      absurd (omega (arith, ap (λ (u : ToldUnit). u.birth) same, b.younger.is_open.birth, birth)))
+      (λ (not_second : t ≢ 1). let none : told.units t ≡ None = b.others t not_first not_second in absurd (cc (none, is)))
+      (cases_eq t 1))
+      (cases_eq t 0);
+}
+
+pub three-apart : AreApart (older_unit ∷ third_unit ∷ younger_unit ∷ [])
+three-apart =
+    let P : unit.Unit → Type 0 = λ other. other.terminal ≢ 0 in
+    let Q : unit.Unit → Type 0 = λ other. other.terminal ≢ 2 in (
+      All-cons P third_unit (younger_unit ∷ []) (λ is. absurd (omega (arith, is))) (All-cons P younger_unit [] (λ is. absurd (omega (arith, is))) (All-nil P)),
+      (All-cons Q younger_unit [] (λ is. absurd (omega (arith, is))) (All-nil Q), (All-nil (λ (other : unit.Unit). other.terminal ≢ 1), tt)),
+    )
+
+pub three-can : (told : Told) → AreBoth told → All (CanBackOut true (begun told third_unit)) (older_unit ∷ third_unit ∷ younger_unit ∷ [])
+three-can told b =
+    let Q : unit.Unit → Type 0 = CanBackOut true (begun told third_unit) in
+    All-cons Q older_unit (third_unit ∷ younger_unit ∷ []) (begun-other told third_unit older_unit (λ is. absurd (omega (arith, is))) b.older).is_open
+    (All-cons Q third_unit (younger_unit ∷ []) (begun-runs told third_unit (omega (arith, b.terminals))).is_open
+    (All-cons Q younger_unit [] (begun-other told third_unit younger_unit (λ is. absurd (omega (arith, is))) b.younger).is_open (All-nil Q)))

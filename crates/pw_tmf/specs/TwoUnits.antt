@@ -1,4 +1,4 @@
--- A disc of two terminals and one file, with a unit of each terminal, as the tests have it.
+-- A disc of three terminals and one file, with units of the first two, as the tests have it.
 use Rattle.std.specs.Prelude.{◌≡◌, ◌≢◌, ℕ, true, false, [], ◌∷◌, codes, length, None}
 use Rattle.pw_code.specs.declared.file.FileCall.{FileCall}
 use Rattle.pw_code.specs.declared.file.FileInfo.{FileInfo}
@@ -13,16 +13,16 @@ use Rattle.pw_tmf.specs.Units.{IsRunning}
 abbrev pub stock_file : FileInfo
 stock_file = record { name = codes "STOCK"; key = 2; records = codes "AA one" ∷ [] }
 
--- a system of two terminals, and of one file whose keys have 2 characters
+-- a system of three terminals, and of one file whose keys have 2 characters
 pub record IsTestSystem (system : System) : Type 0 where
-  pub terminals : length system.terminals ≡ 2
+  pub terminals : length system.terminals ≡ 3
   pub file : FileInfo
   pub files : system.files ≡ file ∷ []
   pub key : file.key ≡ 2
 
 -- its disc at the start
 pub record IsFresh (told : Told) : Type 0 where
-  pub terminals : told.terminals ≡ 2
+  pub terminals : told.terminals ≡ 3
   pub files : told.file_count ≡ 1
   pub key : told.key_length 0 ≡ 2
   pub units : (t : ℕ) → told.units t ≡ None
@@ -35,9 +35,13 @@ older_unit = record { terminal = 0; number = 1; birth = 0 }
 abbrev pub younger_unit : unit.Unit
 younger_unit = record { terminal = 1; number = 1; birth = 1 }
 
--- attempts of both run, no other unit is open, and none has ended
+-- a still younger one of the third
+abbrev pub third_unit : unit.Unit
+third_unit = record { terminal = 2; number = 1; birth = 2 }
+
+-- attempts of the first two run, no other unit is open, and none has ended
 pub record AreBoth (told : Told) : Type 0 where
-  pub terminals : told.terminals ≡ 2
+  pub terminals : told.terminals ≡ 3
   pub files : told.file_count ≡ 1
   pub key : told.key_length 0 ≡ 2
   pub older : IsRunning told older_unit

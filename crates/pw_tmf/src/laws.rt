@@ -9,8 +9,9 @@ ghost use Rattle.pw_paired.specs.Failure.{do_restart};
 ghost use Rattle.pw_paired.specs.Server.{do_operation};
 ghost use Rattle.pw_paired.specs.State.{Job, OpenUnit, State};
 ghost use Rattle.pw_paired.specs.Terminal.{IsIdle, do_begin};
-ghost use Rattle.pw_paired.specs.Units.{commit_unit, drop_unit, leave_units, only, unit_of, without_locks};
-ghost use Rattle.pw_tmf.specs.Leaving.{CanLeave, HaveOpen, open_units};
+ghost use Rattle.pw_paired.specs.Units.{commit_unit, committed_files, drop_unit, leave_units, only, unit_of, without_locks};
+ghost use Rattle.pw_tmf.specs.Committed.{committed};
+ghost use Rattle.pw_tmf.specs.Leaving.{AreSingle, CanLeave, HaveOpen, IsKeyed, open_units};
 ghost use Rattle.pw_tmf.specs.Operation.{after_operation};
 ghost use Rattle.pw_tmf.specs.Tells.{Tells, begun_as, unit_begun};
 ghost use Rattle.pw_tmf.specs.Told.{Told};
@@ -34,6 +35,15 @@ pub fn told_laws()
         → Tells sys (drop_unit sys unit.terminal unit.number state) (backed_out true told unit) }
     ensures restarts { (sys : Behaviour) (state : State) (told : Told) (unit : Unit) (cause : Cause) → Tells sys state told
         → Tells sys (do_restart sys unit.terminal cause state) (backed_out false told unit) }
+{}
+
+/// The committed records that a disc tells are those of the state that it tells: what before-images put back has its key,
+/// no key has those of two terminals, and each is of a terminal that is there.
+pub fn committed_laws()
+    ensures { (sys : Behaviour) (state : State) (told : Told) → Tells sys state told
+        → All (IsKeyed sys.key_length) state.before → AreSingle state.before
+        → All (λ image. image.terminal < told.terminals) state.before
+        → committed told ≡ committed_files sys state }
 {}
 
 /// A disc that tells a state tells it behind units that are left too, once these are backed out: one terminal's own unit,

@@ -72,8 +72,8 @@ fn found_key(alloc: Global, file: &BlockFile, call: &FileCall) -> Result<Option<
     }
 }
 
-/// A copy of a record, if there is one.
-fn copied(alloc: Global, found: Option<&[u8]>) -> Result<Option<Bytes>, Memory>
+/// A copy of bytes, if there are any.
+pub fn copied(alloc: Global, found: Option<&[u8]>) -> Result<Option<Bytes>, Memory>
     ensures { IfOk result (λ copy. copy ≡ option_copied found.entry) }
 {
     match found {

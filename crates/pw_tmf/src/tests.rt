@@ -1,26 +1,23 @@
-ghost use Rattle.std.specs.Prelude.{◌≡◌, ◌<◌, ◌≤◌, [], ◌∷◌, true, false, length, IfOk, OnOk};
-ghost use Rattle.pw_code.specs.Valid.{IsValid};
-ghost use Rattle.pw_onecopy.specs.IsBehaviour.{is_written};
-ghost use Rattle.pw_tmf.specs.Tmf.{told_of};
-ghost use Rattle.pw_tmf.specs.TwoUnits.{AreBoth, IsFresh, IsTestCall, IsTestSystem, stock_file};
+mod fresh;
 
-use crate::answer::{DiscFault, FileAnswer};
+ghost use Rattle.std.specs.Prelude.{◌≡◌, ◌<◌, ◌≤◌, true, false, length, IfOk, OnOk};
+ghost use Rattle.pw_onecopy.specs.IsBehaviour.{is_written};
+ghost use Rattle.pw_tmf.specs.TwoUnits.{AreBoth, IsFresh, IsTestCall};
+
+use crate::answer::{DiscFault, FileAnswer, Foreseen};
 use crate::disc::Disc;
 use crate::faulty::Faulty;
-use crate::tmf::Tmf;
+use crate::operation::copied;
+use fresh::{bytes, started};
 use pw_base::bytes::Bytes;
-use pw_base::list::List;
 use pw_base::memory::Memory;
-use pw_code::code::Code;
-use pw_code::file::{FileCall, FileInfo, FileOp};
-use pw_code::lock::LockRule;
-use pw_code::system::{System, TermInfo};
+use pw_code::file::{FileCall, FileOp};
 use pw_code::unit::Unit;
 use std::alloc::Global;
 use std::process::Abort;
 use std::test::Fail;
 
-/// A unit of the first terminal, and a younger one of the second.
+/// A unit of the first terminal, a younger one of the second, and a still younger one of the third.
 const OLDER: Unit = Unit {
     terminal: 0,
     number: 1,
@@ -33,110 +30,11 @@ const YOUNGER: Unit = Unit {
     birth: 1,
 };
 
-fn bytes(alloc: Global, text: &[u8]) -> Result<Bytes, Memory>
-    ensures { IfOk result (λ made. made ≡ text.now) }
-{
-    Bytes::from_slice(alloc, text)
-}
-
-/// A list of one item.
-fn list_of<T: Drop>(alloc: Global, item: T) -> Result<List<T>, Memory>
-    ensures { IfOk result (λ list. list ≡ item ∷ []) }
-{
-    let mut list = List::new(alloc);
-    list.push(item)?;
-    Ok(list)
-}
-
-/// A terminal of the first pair and program.
-fn terminal(alloc: Global, name: &[u8]) -> Result<TermInfo, Memory>
-    ensures { IfOk result (λ made. made ≡ record { name = name.now; tcp = 0; program = 0; max_restarts = 5; entries = [] }) }
-{
-    Ok(TermInfo {
-        name: bytes(alloc, name)?,
-        tcp: 0,
-        program: 0,
-        max_restarts: 5,
-        entries: List::new(alloc),
-    })
-}
-
-/// A system of these parts.
-fn system_of(
-    alloc: Global,
-    programs: List<Code>,
-    files: List<FileInfo>,
-    tcps: List<Bytes>,
-    terminals: List<TermInfo>,
-) -> System
-    ensures { result ≡ record {
-      programs = programs;
-      servers = [];
-      screens = [];
-      classes = [];
-      files = files;
-      tcps = tcps;
-      terminals = terminals;
-      rule = LockRule.ReadersShare;
-    } }
-{
-    System {
-        programs,
-        servers: List::new(alloc),
-        screens: List::new(alloc),
-        classes: List::new(alloc),
-        files,
-        tcps,
-        terminals,
-        rule: LockRule::ReadersShare,
-    }
-}
-
-/// The file STOCK with keys of 2 characters and one record.
-fn stock(alloc: Global) -> Result<FileInfo, Memory>
-    ensures { IfOk result (λ file. file ≡ stock_file) }
-{
-    Ok(FileInfo {
-        name: bytes(alloc, b"STOCK")?,
-        key: 2,
-        records: list_of(alloc, bytes(alloc, b"AA one")?)?,
-    })
-}
-
-/// A program without instructions.
-fn program(alloc: Global) -> Result<Code, Memory>
-    ensures instrs { IfOk result (λ code. code.instrs ≡ []) }
-    ensures storage { IfOk result (λ code. code.storage ≡ []) }
-    ensures linkage { IfOk result (λ code. code.linkage ≡ []) }
-{
-    Ok(Code {
-        name: bytes(alloc, b"KEYS")?,
-        instrs: List::new(alloc),
-        storage: Bytes::new(alloc),
-        linkage: List::new(alloc),
-    })
-}
-
-/// A system of two terminals and that file.
-fn system(alloc: Global) -> Result<System, Memory>
-    ensures { IfOk result (λ system. IsValid system × IsTestSystem system) }
-{
-    let programs = list_of(alloc, program(alloc)?)?;
-    let files = list_of(alloc, stock(alloc)?)?;
-    let tcps = list_of(alloc, bytes(alloc, b"TCP-1")?)?;
-    let mut terminals = list_of(alloc, terminal(alloc, b"T1")?)?;
-    terminals.push(terminal(alloc, b"T2")?)?;
-    Ok(system_of(alloc, programs, files, tcps, terminals))
-}
-
-/// Its disc, on which no unit has begun.
-fn started(alloc: Global) -> Result<Tmf, Memory>
-    ensures { IfOk result (λ tmf. IsFresh (told_of tmf)) }
-{
-    let made = system(alloc)?;
-    let tmf = Tmf::new(alloc, &made)?;
-    Ok(tmf)
-}
+const THIRD: Unit = Unit {
+    terminal: 2,
+    number: 1,
+    birth: 2,
+};
 
 /// An operation on the first file by a key of 2 characters.
 fn by_key(alloc: Global, op: FileOp, key: &[u8]) -> Result<FileCall, Memory>
@@ -233,6 +131,14 @@ fn awaits<D: Disc>(disc: &D, call: &FileCall) -> Result<bool, Memory>
     disc.awaits(&YOUNGER, call, &OLDER)
 }
 
+/// What an operation of the younger unit would come to.
+fn foresees<D: Disc>(disc: &D, call: &FileCall) -> Result<Foreseen, Memory>
+    requires both { AreBoth (D.told disc.now) }
+    requires call { IsTestCall call.now }
+{
+    disc.foresee(&YOUNGER, call)
+}
+
 /// Backs out both units, and leaves them open.
 fn back_out_both<D: Disc>(disc: &mut D) -> Result<(), DiscFault>
     requires { AreBoth (D.told disc.old) }
@@ -255,17 +161,27 @@ fn restart_younger<D: Disc>(disc: &mut D) -> Result<(), DiscFault>
 fn drop_younger<D: Disc>(disc: &mut D) -> Result<(), DiscFault>
     requires { AreBoth (D.told disc.old) }
     ensures files { OnOk result (0 < (D.told disc.new).file_count) }
-    ensures terminals { OnOk result ((D.told disc.new).terminals ≡ 2) }
+    ensures terminals { OnOk result ((D.told disc.new).terminals ≡ 3) }
 {
     disc.back_out(&[YOUNGER], true)
 }
 
-/// The last ended unit of the second terminal is its first one, with this reply.
-fn expect_ended<D: Disc>(rt: &impl Abort, disc: &D, reply: Option<&[u8]>)
-    requires { (D.told disc.now).terminals ≡ 2 }
+/// Begins a unit of the third terminal, backs all three out, and they end.
+fn drop_three<D: Disc>(disc: &mut D) -> Result<(), DiscFault>
+    requires { AreBoth (D.told disc.old) }
+    ensures files { OnOk result (0 < (D.told disc.new).file_count) }
+    ensures terminals { OnOk result ((D.told disc.new).terminals ≡ 3) }
 {
-    assert!(rt; disc.ended(0).is_none());
-    match disc.ended(1) {
+    disc.begin(&THIRD)?;
+    disc.back_out(&[OLDER, THIRD, YOUNGER], true)
+}
+
+/// The last ended unit of a terminal is its first one, with this reply.
+fn expect_ended<D: Disc>(rt: &impl Abort, disc: &D, terminal: u32, reply: Option<&[u8]>)
+    requires terminals { (D.told disc.now).terminals ≡ 3 }
+    requires terminal { terminal < 3 }
+{
+    match disc.ended(terminal) {
         Some(unit) => {
             assert_eq!(rt; unit.number, 1);
             assert_eq!(rt; unit.reply.as_ref().map(|text| text.as_slice()), reply);
@@ -274,13 +190,20 @@ fn expect_ended<D: Disc>(rt: &impl Abort, disc: &D, reply: Option<&[u8]>)
     }
 }
 
+/// No unit of the first terminal has ended.
+fn expect_none_ended<D: Disc>(rt: &impl Abort, disc: &D)
+    requires { (D.told disc.now).terminals ≡ 3 }
+{
+    assert!(rt; disc.ended(0).is_none());
+}
+
 /// Commits the younger unit.
-fn commit<D: Disc>(disc: &mut D, reply: Bytes) -> Result<(), DiscFault>
+fn commit<D: Disc>(disc: &mut D, reply: Option<Bytes>) -> Result<(), DiscFault>
     requires { AreBoth (D.told disc.old) }
     ensures files { OnOk result (0 < (D.told disc.new).file_count) }
-    ensures terminals { OnOk result ((D.told disc.new).terminals ≡ 2) }
+    ensures terminals { OnOk result ((D.told disc.new).terminals ≡ 3) }
 {
-    disc.commit(&YOUNGER, Some(reply))
+    disc.commit(&YOUNGER, reply)
 }
 
 /// The younger unit meets the locks of the older one; its before-images are put back.
@@ -291,6 +214,7 @@ fn expect_conflict<D: Disc>(rt: &impl Abort, alloc: Global, disc: &mut D) -> Res
     let rewrite = writing(alloc, FileOp::Rewrite, b"BB three")?;
     let delete = by_key(alloc, FileOp::Delete, b"AA")?;
     let read = by_key(alloc, FileOp::Read, b"BB")?;
+    let apart = by_key(alloc, FileOp::Read, b"CC")?;
     begin_both(disc)?;
     expect_done(rt, older_does(disc, &write), 0, None);
     expect_done(rt, older_does(disc, &write), 10, None);
@@ -299,24 +223,36 @@ fn expect_conflict<D: Disc>(rt: &impl Abort, alloc: Global, disc: &mut D) -> Res
     expect_done(rt, older_does(disc, &read), 0, Some(b"BB three"));
     assert!(rt; matches!(younger_does(disc, &read), FileAnswer::Conflict(OLDER)));
     assert!(rt; awaits(disc, &read)?);
+    assert!(rt; !awaits(disc, &apart)?);
+    assert!(rt; matches!(foresees(disc, &read)?, Foreseen::Conflict(OLDER)));
+    assert!(rt; matches!(foresees(disc, &apart)?, Foreseen::Done(11)));
     expect_records(rt, alloc, disc, &[b"AA one"])?;
     back_out_both(disc)?;
     expect_records(rt, alloc, disc, &[b"AA one"])?;
     Ok(())
 }
 
-/// What a unit has written is there once it has committed, and its reply is kept.
-fn expect_commit<D: Disc>(rt: &impl Abort, alloc: Global, disc: &mut D) -> Result<(), Fail>
+/// What a unit has written is there once it has committed, and its reply, if there is one, is kept.
+fn expect_commit<D: Disc>(
+    rt: &impl Abort,
+    alloc: Global,
+    disc: &mut D,
+    reply: Option<&[u8]>,
+) -> Result<(), Fail>
     requires { IsFresh (D.told disc.old) }
 {
     let write = writing(alloc, FileOp::Write, b"BB two")?;
     let next = by_key(alloc, FileOp::Next, b"BB")?;
     begin_both(disc)?;
+    assert!(rt; matches!(foresees(disc, &write)?, Foreseen::Done(0)));
     expect_done(rt, younger_does(disc, &write), 0, None);
+    assert!(rt; matches!(foresees(disc, &write)?, Foreseen::Done(10)));
+    assert!(rt; matches!(foresees(disc, &next)?, Foreseen::Done(1)));
     expect_done(rt, older_does(disc, &next), 1, None);
-    commit(disc, bytes(alloc, b"0000")?)?;
+    commit(disc, copied(alloc, reply)?)?;
     expect_records(rt, alloc, disc, &[b"AA one", b"BB two"])?;
-    expect_ended(rt, disc, Some(b"0000"));
+    expect_none_ended(rt, disc);
+    expect_ended(rt, disc, 1, reply);
     Ok(())
 }
 
@@ -339,7 +275,25 @@ fn expect_restart<D: Disc>(rt: &impl Abort, alloc: Global, disc: &mut D) -> Resu
     expect_records(rt, alloc, disc, &[b"AA one"])?;
     drop_younger(disc)?;
     expect_records(rt, alloc, disc, &[b"AA one"])?;
-    expect_ended(rt, disc, None);
+    expect_none_ended(rt, disc);
+    expect_ended(rt, disc, 1, None);
+    Ok(())
+}
+
+/// Three units are backed out, of which one has changed nothing.
+fn expect_three<D: Disc>(rt: &impl Abort, alloc: Global, disc: &mut D) -> Result<(), Fail>
+    requires { IsFresh (D.told disc.old) }
+{
+    let write = writing(alloc, FileOp::Write, b"BB two")?;
+    let rewrite = writing(alloc, FileOp::Rewrite, b"AA two")?;
+    begin_both(disc)?;
+    expect_done(rt, older_does(disc, &write), 0, None);
+    expect_done(rt, younger_does(disc, &rewrite), 0, None);
+    drop_three(disc)?;
+    expect_records(rt, alloc, disc, &[b"AA one"])?;
+    for terminal in 0..3 {
+        expect_ended(rt, disc, terminal, None);
+    }
     Ok(())
 }
 
@@ -348,7 +302,7 @@ fn first_failure<D: Disc>(alloc: Global, disc: &mut D, commits: bool) -> Result<
     requires { IsFresh (D.told disc.old) }
 {
     let write = writing(alloc, FileOp::Write, b"BB two")?;
-    let reply = bytes(alloc, b"0000")?;
+    let reply = Some(bytes(alloc, b"0000")?);
     if begin_both(disc).is_err() {
         return Ok(1);
     }
@@ -404,7 +358,21 @@ fn before_images_are_put_back(rt: HostRuntime) -> Result<(), Fail> {
 fn commit_keeps_the_reply(rt: HostRuntime) -> Result<(), Fail> {
     let alloc = rt.alloc();
     let mut tmf = started(alloc)?;
-    expect_commit(&rt, alloc, &mut tmf)
+    expect_commit(&rt, alloc, &mut tmf, Some(b"0000"))
+}
+
+#[test]
+fn commit_without_a_reply_keeps_none(rt: HostRuntime) -> Result<(), Fail> {
+    let alloc = rt.alloc();
+    let mut tmf = started(alloc)?;
+    expect_commit(&rt, alloc, &mut tmf, None)
+}
+
+#[test]
+fn three_units_are_backed_out(rt: HostRuntime) -> Result<(), Fail> {
+    let alloc = rt.alloc();
+    let mut tmf = started(alloc)?;
+    expect_three(&rt, alloc, &mut tmf)
 }
 
 #[test]

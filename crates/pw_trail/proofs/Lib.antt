@@ -1,8 +1,12 @@
 mod BodyForms
 mod Commits
+mod Committing
 mod Framing
+mod Keeping
 mod Logging
 mod Loop
+mod Opening
+mod Orderly
 mod Prefixes
 mod Reading
 mod Recovering

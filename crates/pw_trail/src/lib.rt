@@ -15,4 +15,5 @@ mod store;
 pub mod synced;
 #[cfg(test)]
 mod tests;
+pub mod trail;
 mod write;

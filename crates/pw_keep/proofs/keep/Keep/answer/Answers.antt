@@ -1,8 +1,17 @@
-use Rattle.std.proofs.Common.{◌<◌, refl, length}
+use Rattle.std.proofs.Common.{◌<◌, ap, refl, subst, sym, length}
+use Rattle.pw_keep.specs.Keeps.{HasVerb}
 use Rattle.pw_kept.specs.Changes.{with_context}
 use Rattle.pw_seats.specs.Seats.{answered}
-use Rattle.pw_keep.proofs.Parts.{alike-at, seat-step, seat-there}
+use Rattle.pw_seats.specs.declared.seat.Seat.{Seat}
+use Rattle.pw_keep.proofs.Parts.{alike-at, keep-own, seat-step, seat-there}
 use Rattle.pw_keep.proofs.keep.Keep.answer.Goals as goal
+
+pub invariant_of-self : goal.invariant_of-self
+invariant_of-self g c =
+    let lt : c.args.terminal < length c.self.inside.seats.items = seat-there c.args.terminal c.self.invariant (rw (← c.self.view_is) at c.requires) in
+    keep-own c.self.inside.system c.self.inside.seats.items (g.D.Disc.told c.self.inside.disc) c.self.inside.classes c.self.inside.jobs.items c.self.inside.pairs.items c.args.terminal c.index_mut.result.now c.answer.new.self c.self.invariant lt c.index_mut.ensures.value
+    (subst (HasVerb c.self.inside.system) (sym c.answer.ensures) tt)
+    (ap (λ (s : Seat). s.unit) c.answer.ensures) (ap (λ (s : Seat). s.start) c.answer.ensures)
 
 pub returns : goal.returns
 returns g c =

@@ -16,7 +16,7 @@ invariant_of-self g c =
     let low = rw (← c.self.view_is) at c.requires.class in
     let busy = rw (← c.self.view_is) at c.requires.busy in
     go-on c.self.inside.system c.self.inside.seats.items (g.D.Disc.told c.self.inside.disc) c.self.inside.classes c.self.inside.jobs.items c.self.inside.pairs.items c.args.class c.args.process c.index_mut.result.now c.go_on.new.self None c.args.context
-    c.self.invariant low busy c.index_mut.ensures.value c.go_on.ensures tt
+    c.self.invariant low busy c.index_mut.ensures.value c.go_on.ensures c.requires.answered
 
 pub returns : goal.returns
 returns g c =

@@ -1,7 +1,15 @@
-use Rattle.std.proofs.Common.{◌<◌, length}
+use Rattle.std.proofs.Common.{◌<◌, ◌∙◌, ap, refl, length}
 use Rattle.pw_pair.specs.Pairs.{after_applied}
-use Rattle.pw_keep.proofs.Pairing.{pair-step, pair-there}
+use Rattle.pw_pair.specs.Seats.{applied}
+use Rattle.pw_keep.specs.Keeps.{terminals_in}
+use Rattle.pw_keep.proofs.Pairing.{keep-pair, pair-step, pair-there, terminals-at}
 use Rattle.pw_keep.proofs.keep.Keep.applied.Goals as goal
+
+pub invariant_of-self : goal.invariant_of-self
+invariant_of-self g c =
+    let lt : c.args.tcp < length c.self.inside.pairs.items = pair-there c.args.tcp c.self.invariant (rw (← c.self.view_is) at c.requires.known) in
+    keep-pair c.self.inside.system c.self.inside.seats.items (g.D.Disc.told c.self.inside.disc) c.self.inside.classes c.self.inside.jobs.items c.self.inside.pairs.items c.args.tcp c.index_mut.result.now c.applied.new.self c.self.invariant lt c.index_mut.ensures.value
+    (ap terminals_in c.applied.ensures ∙ terminals-at c.args.terminal applied (λ s. refl) c.index_mut.result.now)
 
 pub returns : goal.returns
 returns g c =

@@ -1,7 +1,14 @@
-use Rattle.std.proofs.Common.{◌<◌, length}
+use Rattle.std.proofs.Common.{◌<◌, ◌∙◌, ap, length}
 use Rattle.pw_pair.specs.Called.{member_fails}
-use Rattle.pw_keep.proofs.Pairing.{pair-step, pair-there}
+use Rattle.pw_keep.specs.Keeps.{terminals_in}
+use Rattle.pw_keep.proofs.Pairing.{failed-terminals, keep-pair, pair-step, pair-there}
 use Rattle.pw_keep.proofs.keep.Keep.fail_member.Goals as goal
+
+pub invariant_of-self : goal.invariant_of-self
+invariant_of-self g c =
+    let lt : c.args.tcp < length c.self.inside.pairs.items = pair-there c.args.tcp c.self.invariant (rw (← c.self.view_is) at c.requires.known) in
+    keep-pair c.self.inside.system c.self.inside.seats.items (g.D.Disc.told c.self.inside.disc) c.self.inside.classes c.self.inside.jobs.items c.self.inside.pairs.items c.args.tcp c.index_mut.result.now c.fail.new.pair c.self.invariant lt c.index_mut.ensures.value
+    (ap terminals_in c.fail.ensures ∙ failed-terminals c.args.primary c.index_mut.result.now)
 
 pub returns : goal.returns
 returns g c =

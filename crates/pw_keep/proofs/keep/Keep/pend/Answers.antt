@@ -1,20 +1,18 @@
-use Rattle.std.proofs.Common.{◌<◌, ◌∙◌, Some, ap, refl, subst, sym, length}
+use Rattle.std.proofs.Common.{◌<◌, Some, refl, subst, length}
 use Rattle.pw_keep.specs.Calls.{pended}
 use Rattle.pw_keep.specs.Keeps.{HasVerb}
 use Rattle.pw_seats.specs.declared.seat.Seat.{Seat}
-use Rattle.pw_keep.proofs.Parts.{alike-at, keep-seat, seat-is, seat-step, seat-there}
+use Rattle.pw_keep.proofs.Parts.{alike-at, keep-own, seat-is, seat-step, seat-there}
 use Rattle.pw_keep.proofs.keep.Keep.pend.Goals as goal
 
 pub invariant_of-self : goal.invariant_of-self
 invariant_of-self g c =
     let t = c.args.terminal in
     let seats = c.self.inside.seats.items in
-    let disc = g.D.Disc.told c.self.inside.disc in
     let lt : t < length seats = seat-there t c.self.invariant (rw (← c.self.view_is) at c.requires.known) in
     let here = seat-is seats t c.index_mut.result.now lt c.index_mut.ensures.value in
-    keep-seat c.self.inside.system seats disc disc c.self.inside.classes c.self.inside.jobs.items c.self.inside.pairs.items t _ c.self.invariant lt
-    (subst (HasVerb c.self.inside.system) here (c.self.invariant.verbs t)) refl refl (λ u ne. refl)
-    (ap (λ (s : Seat). s.unit) (sym here) ∙ c.self.invariant.units t lt)
+    keep-own c.self.inside.system c.self.inside.seats.items (g.D.Disc.told c.self.inside.disc) c.self.inside.classes c.self.inside.jobs.items c.self.inside.pairs.items t c.index_mut.result.now _ c.self.invariant lt c.index_mut.ensures.value
+    (subst (HasVerb c.self.inside.system) here (c.self.invariant.verbs t)) refl refl
 
 pub returns : goal.returns
 returns g c =

@@ -16,10 +16,10 @@ invariant_of-self g c =
     let low = rw (← c.self.view_is) at c.requires.class in
     let busy = rw (← c.self.view_is) at c.requires.busy in
     go-on c.self.inside.system c.self.inside.seats.items (g.D.Disc.told c.self.inside.disc) c.self.inside.classes c.self.inside.jobs.items c.self.inside.pairs.items c.args.class c.args.process c.index_mut.result.now c.go_on.new.self (Some c.args.verb) c.args.context
-    c.self.invariant low busy c.index_mut.ensures.value c.go_on.ensures (rw (← c.self.view_is) at c.requires.verb)
+    c.self.invariant low busy c.index_mut.ensures.value c.go_on.ensures (c.requires.stands, rw (← c.self.view_is) at c.requires.verb)
 
-pub returns : goal.returns
-returns g c =
+pub returns-clause-kept : goal.returns-clause-kept
+returns-clause-kept g c =
     let low = rw (← c.self.view_is) at c.requires.class in
     let busy = rw (← c.self.view_is) at c.requires.busy in
     rw (← c.self.view_is) (record {

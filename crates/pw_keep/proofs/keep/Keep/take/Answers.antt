@@ -10,7 +10,7 @@ put-requires g c =
 pub invariant_of-self : goal.invariant_of-self
 invariant_of-self g c =
     take-post c.self.inside.system c.self.inside.seats.items (g.D.Disc.told c.self.inside.disc) c.self.inside.classes c.take.new.self c.self.inside.jobs.items c.self.inside.pairs.items c.args.class c.in-Got.process c.in-Got.request c.args.context c.index_mut.result.now c.put.new.self c.self.invariant
-    (rw (← c.self.view_is) at c.requires.class) (sym c.take.ensures.answer ∙ c.in-Got.is) c.index_mut.ensures.value c.take.ensures.after c.put.ensures
+    (rw (← c.self.view_is) at c.requires.class) (sym c.take.ensures.answer ∙ c.in-Got.is) c.index_mut.ensures.value c.take.ensures.after c.put.ensures c.requires.fresh
 
 pub returns-in-Got : goal.returns-in-Got
 returns-in-Got g c = rw (← c.self.view_is) (record {

@@ -22,8 +22,8 @@ returns-in-Some c =
     subst (λ (s : TmfState). IsOldest c.in-Some.holder (holders (lock_now (told_of s) u call) s.locks)) c.self.view_is
     (subst (λ l. IsOldest c.in-Some.holder (holders l state.locks)) (sym lock) c.in-Some.ensures.oldest)
 
-pub returns-in-None : goal.returns-in-None
-returns-in-None c =
+pub returns : goal.returns
+returns c =
     let state : TmfState = record { rule = c.self.inside.rule; files = c.self.inside.files.items; pending = reverse c.self.inside.pending.items; locks = c.self.inside.book; slots = c.self.inside.slots.items } in
     let u = c.args.unit.now in
     let call = c.args.call.now in
