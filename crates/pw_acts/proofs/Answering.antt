@@ -1,24 +1,24 @@
 -- What is kept, where a terminal's program is answered.
 use Rattle.std.proofs.Common.{◌≡◌, ℕ, Bool, true, false, not, List, Option, Some, None, if◌then◌else◌, ◌∙◌, refl, sym, ap}
 use Rattle.std.specs.Option.{option_map}
-use Rattle.pw_acts.specs.Verbs.{begins, one_send}
+use Rattle.pw_acts.specs.Can.{CanSend}
+use Rattle.pw_acts.specs.Verbs.{one_send}
 use Rattle.pw_code.specs.declared.context.Context.{Context}
 use Rattle.pw_code.specs.declared.system.System.{System}
 use Rattle.pw_code.specs.declared.verb.Answer.{Answer}
 use Rattle.pw_code.specs.declared.verb.Answer.TheVariants as answer
 use Rattle.pw_code.specs.declared.verb.Verb.{Verb}
-use Rattle.pw_code.specs.declared.verb.Verb.TheVariants as verb
 use Rattle.pw_exec.specs.Contexts.{Takes}
 use Rattle.pw_exec.specs.Sound.{IsSoundContext}
 use Rattle.pw_keep.specs.Calls.{kept_commit_reply}
 use Rattle.pw_kept.specs.Asked.{answered_with, unit_in, verb_in}
-use Rattle.pw_kept.specs.Changes.{at_terminal, attempted, free_process, kept_back, kept_begin, kept_begin_send, kept_commit, kept_show, unit_at, with_context, without_unit}
-use Rattle.pw_kept.specs.Entered.{answer_terminal, answering, begin_at, entered_back, entered_begin, entered_commit, entered_reply, entered_send, is_outside_at, replies_last, replies_to, reply_by, unit_of_ready, verb_of}
+use Rattle.pw_kept.specs.Changes.{at_terminal, free_process, kept_back, kept_commit, kept_send, kept_show, unit_at, with_context, without_unit}
+use Rattle.pw_kept.specs.Entered.{answer_terminal, answering, entered_back, entered_commit, entered_reply, entered_send, is_outside_at, replies_last, replies_to, reply_by, sent_by, unit_of_ready, verb_of}
 use Rattle.pw_kept.specs.Kept.{Kept, KeptTerminal}
 use Rattle.pw_kept.proofs.Behind.{takes-one}
 use Rattle.pw_onecopy.specs.Update.{upd}
 use Rattle.pw_tmf.specs.Told.{Told}
-use Rattle.pw_tmf.specs.Units.{backed_out, begun, ended}
+use Rattle.pw_tmf.specs.Units.{backed_out, ended}
 
 -- an answer that was put into a sound context
 pub takes-is : (system : System) (a : Answer) (old new : Context) → IsSoundContext system old
@@ -62,55 +62,15 @@ pub back-is : (system : System) (t n : ℕ) (next : Context) (kept : Kept)
 back-is system t n next kept e =
     last-is system t answer.Dropped next kept e (backed_out true kept.disc (unit_at kept t n))
 
--- ---- BEGIN
+-- ---- SEND
 
--- at Begin the program goes on behind it
-begin-at : (system : System) (t n r : ℕ) (next : Context) (v : Option Verb) (kept : Kept)
-    → begins v ≡ true
-    → option_map (answered_with system (answer.Begun r)) (kept.terminals t).ready ≡ Some next
-    → kept_begin t n next kept ≡ begin_at system t n r v kept
-begin-at system t n r next None kept h e = absurd (cc h)
-begin-at system t n r next (Some verb.Begin) kept h e =
-    ap (put-in kept t (begun kept.disc (unit_at kept t n)) (kept_begin t n next kept).births)
-    (answering-is system (answer.Begun r) next (attempted (kept.terminals t)) e)
-begin-at system t n r next (Some verb.Show) kept h e = absurd (cc h)
-begin-at system t n r next (Some (verb.Accept screen)) kept h e = absurd (cc h)
-begin-at system t n r next (Some (verb.Send class message)) kept h e = absurd (cc h)
-begin-at system t n r next (Some verb.End) kept h e = absurd (cc h)
-begin-at system t n r next (Some verb.Drop) kept h e = absurd (cc h)
-begin-at system t n r next (Some verb.Redo) kept h e = absurd (cc h)
-begin-at system t n r next (Some verb.Stop) kept h e = absurd (cc h)
-begin-at system t n r next (Some (verb.Fault code)) kept h e = absurd (cc h)
-begin-at system t n r next (Some (verb.File call)) kept h e = absurd (cc h)
-begin-at system t n r next (Some (verb.Reply reply)) kept h e = absurd (cc h)
-
-pub begin-is : (system : System) (t n r : ℕ) (next : Context) (kept : Kept)
-    → begins (verb_of system (kept.terminals t)) ≡ true
-    → option_map (answered_with system (answer.Begun r)) (kept.terminals t).ready ≡ Some next
-    → kept_begin t n next kept ≡ entered_begin system t n r kept
-begin-is system t n r next kept h e =
-    begin-at system t n r next (verb_of system (kept.terminals t)) kept h e
-
--- elsewhere it stands where it stood
-begin-send-at : (system : System) (t n r : ℕ) (v : Option Verb) (kept : Kept)
-    → begins v ≡ false → kept_begin_send t n kept ≡ begin_at system t n r v kept
-begin-send-at system t n r None kept h = refl
-begin-send-at system t n r (Some verb.Begin) kept h = absurd (cc h)
-begin-send-at system t n r (Some verb.Show) kept h = refl
-begin-send-at system t n r (Some (verb.Accept screen)) kept h = refl
-begin-send-at system t n r (Some (verb.Send class message)) kept h = refl
-begin-send-at system t n r (Some verb.End) kept h = refl
-begin-send-at system t n r (Some verb.Drop) kept h = refl
-begin-send-at system t n r (Some verb.Redo) kept h = refl
-begin-send-at system t n r (Some verb.Stop) kept h = refl
-begin-send-at system t n r (Some (verb.Fault code)) kept h = refl
-begin-send-at system t n r (Some (verb.File call)) kept h = refl
-begin-send-at system t n r (Some (verb.Reply reply)) kept h = refl
-
-pub begin-send-is : (system : System) (t n r : ℕ) (kept : Kept)
-    → begins (verb_of system (kept.terminals t)) ≡ false
-    → kept_begin_send t n kept ≡ entered_begin system t n r kept
-begin-send-is system t n r kept h = begin-send-at system t n r (verb_of system (kept.terminals t)) kept h
+-- the message is that of the verb
+pub sent-is : (system : System) (t n c : ℕ) (kept : Kept) (can : CanSend system kept t c) (message : List ℕ)
+    → message ≡ can.message → kept_send t n c message kept ≡ entered_send system t n c kept
+sent-is system t n c kept can message is =
+    ap (λ (m : List ℕ). kept_send t n c m kept)
+    (is ∙ (sym (ap (λ (v : Verb). sent_by (Some v)) can.asks)
+    ∙ sym (ap (λ (o : Option Context). sent_by (option_map (verb_in system) o)) can.can.ready)))
 
 -- ---- REPLY
 
@@ -166,3 +126,12 @@ replied-on system c i t reply kept is e =
     ap (λ (r : List ℕ). replies_to system c i t r kept) is
     ∙ on-at (λ u. replies_last system c i t u (reply_by system (kept.jobs c i)) kept)
     (replies_to system c i t (reply_by system (kept.jobs c i)) kept) (kept.terminals t).ready e
+
+-- the unit that a reply ends
+one-send-by : (inside : Bool) (u n : ℕ) → (if inside then None else Some u) ≡ Some n → (inside ≡ false) × (n ≡ u)
+one-send-by true u n e = absurd (cc e)
+one-send-by false u n e = let same : n ≡ u = cc e in (refl, same)
+
+pub one-send-is : (context : Context) (n : ℕ) → one_send (Some context) ≡ Some n
+    → (context.in_unit ≡ false) × (n ≡ unit_in context)
+one-send-is context n e = one-send-by context.in_unit (unit_in context) n e

@@ -1,92 +1,36 @@
--- What is kept, where a server starts, operates on a file or replies.
-use Rattle.std.proofs.Common.{◌≡◌, ℕ, ◌+◌, ◌<◌, ◌==◌, ◌&&◌, Bool, true, false, List, [], ◌∷◌, length, Option, Some, None, ◌∙◌, refl, sym, ap, subst, arith}
-use Rattle.std.specs.Prelude.{slice_get}
-use Rattle.std.proofs.lemmas.Bool.{and_parts, both_ways, eqb-true}
+-- What is kept, where a server operates on a file.
+use Rattle.std.proofs.Common.{◌≡◌, ℕ, true, List, [], length, Option, Some, None, ◌∙◌, refl, sym, ap, arith}
+use Rattle.std.proofs.lemmas.Bool.{both_ways}
 use Rattle.pw_acts.specs.Can.{CanOperate}
-use Rattle.pw_class.specs.Queue.{Queue, at_process, free_place, taken, taken_of}
+use Rattle.pw_class.specs.Queue.{at_process}
 use Rattle.pw_class.specs.declared.request.Request.{Request}
-use Rattle.pw_class.specs.declared.request.Taken.{Taken}
-use Rattle.pw_class.specs.declared.request.Taken.TheVariants.{Got, Empty, NoneFree}
 use Rattle.pw_code.specs.declared.context.Context.{Context}
-use Rattle.pw_code.specs.declared.system.ClassInfo.{ClassInfo}
 use Rattle.pw_code.specs.declared.system.System.{System}
 use Rattle.pw_code.specs.declared.unit.Unit as unit
 use Rattle.pw_code.specs.declared.verb.Answer.TheVariants as answer
 use Rattle.pw_code.specs.declared.verb.Verb.{Verb}
 use Rattle.pw_code.specs.declared.verb.Verb.TheVariants as verb
-use Rattle.pw_exec.specs.Config.{closed, starting_server}
 use Rattle.pw_exec.specs.OfSystem.{file_told}
-use Rattle.pw_keep.specs.Calls.{IsOperated, MayOperate, can_take, is_given, process_of, taker}
+use Rattle.pw_keep.specs.Calls.{IsOperated, MayOperate}
 use Rattle.pw_keep.specs.Keeps.{IsRefused, IsVerbOf, JobHasVerb, KeepState, job_of, jobs_at, kept_in}
 use Rattle.pw_kept.specs.Asked.{answered_with, verb_in}
 use Rattle.pw_kept.specs.Changes.{kept_file, unit_at, with_job}
-use Rattle.pw_kept.specs.ClassTests.{is_got, may_take}
-use Rattle.pw_kept.specs.Entered.{entered_file, file_at, file_by, reply_by, started_on}
+use Rattle.pw_kept.specs.Entered.{entered_file, file_at, file_by}
 use Rattle.pw_kept.specs.Kept.{Kept}
 use Rattle.pw_locks.specs.Oldest.{IsOldest}
 use Rattle.pw_onecopy.specs.Path.{FileAnswer}
-use Rattle.pw_paired.specs.Server.{reply_of}
 use Rattle.pw_seats.specs.Jobs.{context_of}
 use Rattle.pw_seats.specs.declared.job.Job.{Job}
-use Rattle.pw_tmf.specs.Operation.{after_operation, answer_with}
 use Rattle.pw_tmf.specs.Told.{Told}
 use Rattle.pw_tmf.specs.declared.answer.DiscFault.TheVariants as fault
 use Rattle.pw_tmf.specs.declared.answer.FileAnswer.TheVariants as done
-
--- ---- TAKE
-
--- what a process gets is given, and the process is this one
-got : (i t : ℕ) (x : Taken) → is_got i t x ≡ true → (is_given x ≡ true) × (process_of x ≡ i)
-got i t (Got process request) h =
-    (refl, eqb-true process i (and_parts (process == i) (request.terminal == t) h).0)
-got i t Empty h = absurd (cc h)
-got i t NoneFree h = absurd (cc h)
-
-pub may-be-taken : (kept : Kept) (c i t : ℕ) → may_take kept c i t ≡ true → can_take (kept.queues c) ≡ true
-may-be-taken kept c i t h = (got i t (taken (kept.queues c)) h).0
-
-pub taker-is : (kept : Kept) (c i t : ℕ) → may_take kept c i t ≡ true → taker (kept.queues c) ≡ i
-taker-is kept c i t h = (got i t (taken (kept.queues c)) h).1
-
--- a request waits
-some-waits : (i t : ℕ) (waiting : List Request) (free : Option ℕ) → is_got i t (taken_of waiting free) ≡ true
-    → slice_get waiting 0 ≡ None → ⊥
-some-waits i t [] free h e = absurd (cc h)
-some-waits i t (request ∷ rest) free h e = absurd (cc e)
-
-pub first-waits : (kept : Kept) (c i t : ℕ) → may_take kept c i t ≡ true → slice_get (kept.queues c).waiting 0 ≡ None → ⊥
-first-waits kept c i t h e = some-waits i t (kept.queues c).waiting (free_place (kept.queues c)) h e
-
--- the server starts on the first request
-started-at : (system : System) (info : ClassInfo) (waiting : List Request) (request : Request)
-    → slice_get waiting 0 ≡ Some request
-    → closed (starting_server system info.server request.message) ≡ started_on system (Some info) waiting
-started-at system info [] request e = absurd (cc e)
-started-at system info (first ∷ rest) request e =
-    let same : request ≡ first = cc e in ap (λ (r : Request). closed (starting_server system info.server r.message)) same
-
-pub started-is : (system : System) (c : ℕ) (info : ClassInfo) (waiting : List Request) (request : Request)
-    → slice_get system.classes c ≡ Some info → slice_get waiting 0 ≡ Some request
-    → closed (starting_server system info.server request.message)
-    ≡ started_on system (slice_get system.classes c) waiting
-started-is system c info waiting request here e =
-    started-at system info waiting request e ∙ ap (λ (o : Option ClassInfo). started_on system o waiting) (sym here)
-
--- at its first instruction
-pub started-fresh : (system : System) (info : Option ClassInfo) (waiting : List Request)
-    → (started_on system info waiting).at_verb ≡ false
-started-fresh system None waiting = refl
-started-fresh system (Some info) [] = refl
-started-fresh system (Some info) (request ∷ rest) = refl
-
--- ---- FILE
 
 -- the oldest of none is none
 pub none-oldest : (holder : unit.Unit) (holders : List unit.Unit) → holders ≡ [] → IsOldest holder holders → ⊥
 none-oldest holder holders none is =
     let among = is.among in
     let few : length holders ≡ 0 = ap (length {A = unit.Unit}) none in
-    omega (arith, among.1.0, few)
+    omega (arith, among.1, few)
 
 -- where a job's context stands at a verb, that is beside it
 verb-there : (system : System) (own : Job) (v : Option Verb) → own.verb ≡ v → IsVerbOf system own.context v
@@ -123,7 +67,7 @@ module _ {D : Type 0} (told : D → Told) (old : KeepState D) (c i : ℕ) (can :
   job-there = has-job old.system (jobs_at old.jobs c) i can.context (job_of (jobs_at old.jobs c) i) refl has can.job can.at_verb
 
   -- the process may operate
-  pub may : MayOperate told old c i
+  abbrev pub may : MayOperate told old c i
   may = record {
     there = can.class;
     own = job-there.own;
@@ -154,9 +98,9 @@ module _ {D : Type 0} (told : D → Told) (old : KeepState D) (c i : ℕ) (can :
       → with_job c i (Some context) (kept_in told mid) ≡ entered_file old.system c i (kept_in told old)
   done-is status content context is made =
       ap (λ (k : KeepState D). with_job c i (Some context) (kept_in told k)) is.rest
-      ∙ (ap (λ (d : Told). with_job c i (Some context) (record (kept_in told old) { disc = d })) is.operates.1.1
+      ∙ (ap (λ (d : Told). with_job c i (Some context) (record (kept_in told old) { disc = d })) is.operates.2
       ∙ (ap (λ (x : Context). kept_file c i can.request can.call x (kept_in told old))
-      (made ∙ ap (λ (f : FileAnswer). answered_with old.system (file_told f) can.context) is.operates.1.0)
+      (made ∙ ap (λ (f : FileAnswer). answered_with old.system (file_told f) can.context) is.operates.1)
       ∙ sym (file-is old.system (kept_in told old) c i can)))
 
   -- no other unit bars it
@@ -177,23 +121,3 @@ module _ {D : Type 0} (told : D → Told) (old : KeepState D) (c i : ℕ) (can :
     leaves = is.operates;
     rest = ap (kept_in told) is.rest;
   }
-
--- ---- REPLY
-
--- the verb beside the job of a process is that at which the entry finds its context
-pub reply-is : (system : System) (jobs : List (Option Job)) (i : ℕ) (context : Context) (job : Job) (v : Verb)
-    → HasJob system jobs i context → job_of jobs i ≡ Some job → job.verb ≡ Some v
-    → reply_of v ≡ reply_by system (Some context)
-reply-is system jobs i context job v has there reads =
-    let same : has.own ≡ job = cc (sym has.there ∙ there) in
-    let own : Some (verb_in system context) ≡ Some v = sym has.reads ∙ (ap (λ (j : Job). j.verb) same ∙ reads) in
-    let asks : verb_in system context ≡ v = cc own in
-    ap reply_of (sym asks)
-
--- a refused call that leaves all
-pub refused-same : {D : Type 0} (told : D → Told) (old new : KeepState D) → new ≡ old → IsRefused told fault.Memory old new
-refused-same told old new e = subst (λ (k : KeepState _). IsRefused told fault.Memory old k) (sym e) (record {
-  system = refl;
-  leaves = refl;
-  rest = refl;
-})

@@ -1,17 +1,17 @@
 //! CHECK, APPLIED and RAISE: the messages to the backup of a pair.
 
 ghost use Rattle.std.specs.Prelude.{◌≡◌, ◌<◌, IfOk, OnErr, OnOk, Some, length, true};
-ghost use Rattle.pw_acts.specs.Can.{CanApply, CanCall, CanCarry, CanClose};
+ghost use Rattle.pw_acts.specs.Can.{CanApply, CanCarry, CanClose};
 ghost use Rattle.pw_code.specs.Valid.{IsValid};
 ghost use Rattle.pw_image.specs.Image.{HasImage};
 ghost use Rattle.pw_keep.specs.Keeps.{IsChanged, kept_in};
-ghost use Rattle.pw_kept.specs.Asked.{answered_with};
-ghost use Rattle.pw_kept.specs.Changes.{kept_applied, kept_raise};
-ghost use Rattle.pw_kept.specs.Entered.{closing_context, copied, entered_check_copy, entered_check_end, entered_check_start, image_message, send_image, tcp_of, verb_of};
+ghost use Rattle.pw_kept.specs.Changes.{kept_applied};
+ghost use Rattle.pw_kept.specs.Entered.{copied, entered_check_copy, entered_check_end, entered_check_start, image_message, tcp_of};
 ghost use Rattle.pw_machine.specs.Stack.{HasRoom};
 ghost use Rattle.pw_pair.specs.Bodies.{is_image};
+ghost use Rattle.pw_pair.specs.Pairs.{passes, seat_of};
+ghost use Rattle.pw_pair.specs.Seats.{is_built, is_flying};
 ghost use Rattle.pw_pair.specs.declared.message.CheckKind.TheVariants as kind;
-ghost use Rattle.pw_pair.specs.declared.mode.Mode.TheVariants as mode;
 
 use crate::verbs::{answered, closing, pair_of};
 use pw_base::memory::Memory;
@@ -120,6 +120,22 @@ pub fn check_end<D: Disc>(keep: &mut Keep<D>, terminal: u32) -> Result<(), Memor
     keep.check(tcp, message)
 }
 
+/// A terminal's message in flight is built, where it is not.
+fn build<D: Disc>(keep: &mut Keep<D>, tcp: u32, terminal: u32) -> Result<(), Memory>
+    requires known { tcp < length keep.old.system.tcps }
+    requires flies { passes is_flying (seat_of terminal ((kept_in D.told keep.old).pairs tcp)) ≡ true }
+    ensures built { OnOk result (passes is_built (seat_of terminal ((kept_in D.told keep.new).pairs tcp)) ≡ true) }
+    ensures system { OnOk result (keep.new.system ≡ keep.old.system) }
+    ensures same { OnOk result (kept_applied tcp terminal (kept_in D.told keep.new) ≡ kept_applied tcp terminal (kept_in D.told keep.old)) }
+    ensures err { OnErr result (keep.new ≡ keep.old) }
+{
+    if keep.pair(tcp).is_waiting(terminal) {
+        keep.build_here(tcp, terminal)
+    } else {
+        Ok(())
+    }
+}
+
 /// APPLIED: the message in flight is taken in, and built before where it is not.
 pub fn applied<D: Disc>(keep: &mut Keep<D>, terminal: u32) -> Result<(), Memory>
     requires { CanApply keep.old.system (kept_in D.told keep.old) terminal }
@@ -127,9 +143,7 @@ pub fn applied<D: Disc>(keep: &mut Keep<D>, terminal: u32) -> Result<(), Memory>
     ensures err { OnErr result (keep.new ≡ keep.old) }
 {
     let tcp = pair_of(keep.system(), terminal);
-    if keep.pair(tcp).is_waiting(terminal) {
-        keep.build_here(tcp, terminal)?;
-    }
+    build(keep, tcp, terminal)?;
     keep.applied(tcp, terminal);
     Ok(())
 }

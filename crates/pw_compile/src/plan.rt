@@ -11,23 +11,28 @@ use pw_code::instr::Turn;
 use pw_code::links::Links;
 use pw_data::layout::Layout;
 use pw_forms::statement::Paragraph;
+use pw_index::index::{Index, index_of, number_of};
+use std::alloc::Global;
 use std::marker::Model;
 
 /// What the code of a program goes by: its data, screens and paragraphs, where its paragraphs
-/// begin and
-/// end, the number of its first screen, and what it may name besides what is its own.
+/// begin and end, the number of its first screen, and what it may name besides what is its own.
+/// Paragraphs and screens are looked up by their names in few steps, however many there are.
 #[derive(Drop)]
 pub struct Plan<'a> {
     pub layout: &'a Layout,
-    pub screens: &'a [ScreenTable],
+    screens: &'a [ScreenTable],
     pub paragraphs: &'a [Paragraph],
-    pub turns: &'a [Turn],
-    pub first: u32,
-    pub links: &'a Links,
+    turns: &'a [Turn],
+    first: u32,
+    links: &'a Links,
+    screen_index: Index,
+    paragraph_index: Index,
 }
 
 impl<'a> Model for Plan<'a> {
     ghost use Rattle.pw_compile.specs.Plan.{Plan};
+    ghost use Rattle.pw_index.specs.Index.{IsIndexOf};
     ghost use Rattle.pw_forms.specs.contracts.statement.Statement as statement;
     ghost use Rattle.std.specs.Coded.{codes};
 
@@ -43,20 +48,10 @@ impl<'a> Model for Plan<'a> {
       first = plan.first;
       links = plan.links.now;
     } };
-}
 
-/// Whether a paragraph has this name.
-fn is_paragraph(paragraph: &Paragraph, name: &[u8]) -> bool
-    ensures { result ≡ bytes_eq paragraph.now.name name.now }
-{
-    paragraph.name.as_slice() == name
-}
-
-/// Whether a screen has this name.
-fn is_screen(screen: &ScreenTable, name: &[u8]) -> bool
-    ensures { result ≡ bytes_eq screen.now.name name.now }
-{
-    screen.name.as_slice() == name
+    ghost invariant = { λ plan.
+        IsIndexOf plan.screen_index (λ screen. screen.name) plan.screens.now
+        × IsIndexOf plan.paragraph_index (λ paragraph. paragraph.name) plan.paragraphs.now };
 }
 
 /// Whether a file has this name.
@@ -71,20 +66,6 @@ fn is_name(one: &Bytes, name: &[u8]) -> bool
     ensures { result ≡ bytes_eq one.now name.now }
 {
     one.as_slice() == name
-}
-
-/// The place of the paragraph of a name.
-fn place_of_paragraph(paragraphs: &[Paragraph], name: &[u8]) -> Option<usize>
-    ensures { result ≡ position (λ one. bytes_eq one.name name.now) paragraphs.now }
-{
-    paragraphs.iter().position(|one| is_paragraph(one, name))
-}
-
-/// The place of the screen of a name.
-fn place_of_screen(screens: &[ScreenTable], name: &[u8]) -> Option<usize>
-    ensures { result ≡ position (λ one. bytes_eq one.name name.now) screens.now }
-{
-    screens.iter().position(|one| is_screen(one, name))
 }
 
 /// The place of the file of a name.
@@ -102,11 +83,56 @@ fn place_of_name(names: &[Bytes], name: &[u8]) -> Option<usize>
 }
 
 impl<'a> Plan<'a> {
+    /// What the code of a program with these parts goes by.
+    pub fn new(
+        alloc: Global,
+        layout: &'a Layout,
+        screens: &'a [ScreenTable],
+        paragraphs: &'a [Paragraph],
+        turns: &'a [Turn],
+        first: u32,
+        links: &'a Links,
+    ) -> Result<Plan<'a>, Memory>
+        ensures { IfOk result (λ plan. plan ≡ record {
+          layout = layout.now;
+          screens = screens.now;
+          paragraphs = paragraphs.now;
+          turns = turns.now;
+          first = first;
+          links = links.now;
+        }) }
+    {
+        Ok(Plan {
+            layout,
+            screens,
+            paragraphs,
+            turns,
+            first,
+            links,
+            screen_index: index_of(alloc, screens)?,
+            paragraph_index: index_of(alloc, paragraphs)?,
+        })
+    }
+
+    /// The place of the paragraph of a name.
+    fn place_of_paragraph(&self, name: &[u8]) -> Option<usize>
+        ensures { result ≡ position (λ one. bytes_eq one.name name.now) self.now.paragraphs }
+    {
+        number_of(&self.paragraph_index, name)
+    }
+
+    /// The place of the screen of a name.
+    fn place_of_screen(&self, name: &[u8]) -> Option<usize>
+        ensures { result ≡ position (λ one. bytes_eq one.name name.now) self.now.screens }
+    {
+        number_of(&self.screen_index, name)
+    }
+
     /// Where the paragraph of a name begins and ends.
     pub fn turn(&self, name: &[u8]) -> Turn
         ensures { result ≡ turn_of self.now name.now }
     {
-        let number = place_of_paragraph(self.paragraphs, name).unwrap_or(0);
+        let number = self.place_of_paragraph(name).unwrap_or(0);
         self.turns
             .get(number)
             .copied()
@@ -117,14 +143,14 @@ impl<'a> Plan<'a> {
     pub fn has_screen(&self, name: &[u8]) -> bool
         ensures { result ≡ has_screen self.now.screens name.now }
     {
-        place_of_screen(self.screens, name).is_some()
+        self.place_of_screen(name).is_some()
     }
 
     /// The number of the screen of a name, through all programs.
     pub fn screen(&self, name: &[u8]) -> Result<u32, Memory>
         ensures { IfOk result (λ number. number ≡ screen_of self.now name.now) }
     {
-        let own = place_of_screen(self.screens, name).unwrap_or(0);
+        let own = self.place_of_screen(name).unwrap_or(0);
         add(self.first, as_number(own)?)
     }
 

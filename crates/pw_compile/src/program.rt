@@ -52,14 +52,15 @@ pub(crate) fn code_of(
     ensures short { IfOk result (λ code. length code.instrs < 2 ^ 32) }
 {
     let turns = turns_of(alloc, paragraphs)?;
-    let plan = Plan {
+    let plan = Plan::new(
+        alloc,
         layout,
         screens,
         paragraphs,
-        turns: turns.as_slice(),
+        turns.as_slice(),
         first,
         links,
-    };
+    )?;
     Ok(Code {
         name: Bytes::from_slice(alloc, name)?,
         instrs: plan.instrs(alloc)?,

@@ -2,7 +2,7 @@
 #![tactic(auto)]
 
 pub mod deck;
-mod named;
+pub mod named;
 pub mod parts;
 mod sections;
 #[cfg(test)]

@@ -36,7 +36,7 @@ use Rattle.pw_paired.specs.Raising as raising
 -- ---- messages and modes
 
 -- the pair has or had a backup
-abbrev HasBackup : Mode → Type 0
+abbrev pub HasBackup : Mode → Type 0
 HasBackup Alone = ⊥
 HasBackup Raising = Unit {0}
 HasBackup Paired = Unit {0}
@@ -44,7 +44,7 @@ HasBackup Down = Unit {0}
 HasBackup Gone = ⊥
 
 -- messages are those of started terminals, and a pair with a backup is one of the system
-record Known (sys : Behaviour) (s : State) : Type 0 where
+pub record Known (sys : Behaviour) (s : State) : Type 0 where
   pub flights : (t : ℕ) (message : Message) → s.flight t ≡ Some message → t < sys.terminals
   pub modes : (p : ℕ) → HasBackup (s.modes p) → p < sys.pairs
 
@@ -137,7 +137,7 @@ module _ (sys : Behaviour) (b : IsBehaviour sys) (s : State) (k : Known sys s) w
       end-any sys s (Known sys) t e (settles sys _ (dropped sys s k (end_terminal t e s) t refl refl) (sys.pair_of t))
       (settles sys _ (dropped sys s k (end_terminal t e (leave_units sys (only t) s)) t refl refl) (sys.pair_of t))
 
-known : (sys : Behaviour) → IsBehaviour sys → (log : List Event) → IsRun sys log → Known sys (after sys log)
+pub known : (sys : Behaviour) → IsBehaviour sys → (log : List Event) → IsRun sys log → Known sys (after sys log)
 known sys b log run =
     runs.holds-behind sys (Known sys)
     (λ log run entry legal k. logged sys (change sys (after sys log) entry) _ (keeps sys b (after sys log) k entry legal.fits))
@@ -146,7 +146,7 @@ known sys b log run =
 -- ---- what a legal entry names
 
 -- an element of a list of which all hold
-of-all : {A : Type 0} (P : A → Type 0) (xs : List A) → All P xs → (i : ℕ) (x : A) → slice_get xs i ≡ Some x → P x
+pub of-all : {A : Type 0} (P : A → Type 0) (xs : List A) → All P xs → (i : ℕ) (x : A) → slice_get xs i ≡ Some x → P x
 of-all P xs all i x is = subst P (get_or_from_slice_get xs i x x is) (all i x (slice_get_within xs i x is))
 
 line-at : (system : System) (script : List FailLine) → All (IsLineThere system) script → (n : ℕ) (one : FailLine) → fail_line script n ≡ Some one → IsLineThere system one

@@ -53,6 +53,23 @@ fn move_to_each(storage: &mut [u8], from: &Operand, source: Taken, targets: &[Sp
     }
 }
 
+/// MOVE to one place. It is false exactly where a subscript is outside, and then nothing is moved. It takes no memory.
+fn move_one(registers: Registers, storage: &mut [u8], from: &Operand, to: Place) -> bool
+    requires from { IsOperand (length storage.old) from.now }
+    requires to { IsPlace (length storage.old) to }
+    ensures moved { (if result then Some storage.new else None) ≡ moved_all (registers_by registers) storage.old from.now (to ∷ []) }
+    ensures same { OnFalse result (storage.new ≡ storage.old) }
+{
+    let Some(source) = taken(registers, storage, from) else {
+        return false;
+    };
+    let Some(target) = spot_of(registers, storage, to) else {
+        return false;
+    };
+    move_value(storage, from, source, target);
+    true
+}
+
 /// MOVE: the source and all the targets are taken first. It is false exactly where a subscript is outside, and then
 /// nothing is moved. It takes memory only for more than one target.
 pub fn move_all(
@@ -67,6 +84,9 @@ pub fn move_all(
     ensures moved { IfOk result (λ done. (if done then Some storage.new else None) ≡ moved_all (registers_by registers) storage.old from.now to.now) }
     ensures same { IfOk result (λ done. OnFalse done (storage.new ≡ storage.old)) }
 {
+    if let [target] = to {
+        return Ok(move_one(registers, storage, from, *target));
+    }
     let Some(source) = taken(registers, storage, from) else {
         return Ok(false);
     };

@@ -2,7 +2,6 @@ pub mod Accepted
 pub mod Branches
 pub mod Firsts
 pub mod Fitting
-pub mod Indexes
 pub mod Noted
 pub mod Right
 pub mod Unflawed

@@ -1,4 +1,3 @@
-pub mod Index
 pub mod Exact
 pub mod Flaws
 pub mod Calls

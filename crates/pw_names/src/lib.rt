@@ -4,7 +4,6 @@
 
 mod calls;
 mod forms;
-mod index;
 mod known;
 pub mod laws;
 pub mod names;

@@ -2,13 +2,13 @@ ghost use Rattle.std.specs.Prelude.{◌≡◌, is_some, slice_get, IfOk};
 ghost use Rattle.std.specs.Option.{option_copied};
 ghost use Rattle.pw_operands.specs.Scope.{variable_in, paragraph_of, screen_of, class_of, program_of, file_of};
 
-use crate::index::{Index, index_of, number_of};
 use crate::outside::{Lengths, Outside};
 use pw_base::memory::Memory;
 use pw_code::field::ScreenTable;
 use pw_code::file::FileInfo;
 use pw_data::layout::Layout;
 use pw_forms::statement::Paragraph;
+use pw_index::index::{Index, index_of, number_of};
 use pw_operands::variable::{Variable, variable_of};
 use std::alloc::Global;
 use std::marker::Model;
@@ -27,7 +27,7 @@ pub struct Scope<'a> {
 }
 
 impl<'a> Model for Scope<'a> {
-    ghost use Rattle.pw_names.specs.Index.{IsIndexOf};
+    ghost use Rattle.pw_index.specs.Index.{IsIndexOf};
     ghost use Rattle.pw_names.specs.Calls.{Program};
     ghost use Rattle.pw_forms.specs.contracts.statement.Statement as statement;
     ghost use Rattle.std.specs.Coded.{codes};

@@ -51,7 +51,7 @@ module _ (sys : Behaviour) where
   pub rest : (log : List Event) (t : ℕ) → rested (seat_of sys (after sys log) (reading_after sys log) t) ≡ seat_of sys (after sys log) (reading_after sys log) t
   rest log t = rests (starting sys) reading_starts (λ k. refl) log t
 
-  last-from : (s : State) (r : Reading) (log : List Event) → last_blocks_from sys s r log ≡ left_blocks (after_from sys s log) (reading_from sys s r log) (λ t. true) sys.terminals
+  pub last-from : (s : State) (r : Reading) (log : List Event) → last_blocks_from sys s r log ≡ left_blocks (after_from sys s log) (reading_from sys s r log) (λ t. true) sys.terminals
   last-from s r [] = refl
   last-from s r (entry ∷ log) = last-from (effect sys s entry) (read_on sys s entry r) log
 

@@ -1,5 +1,5 @@
 -- Each actor has a place of its own, so what is noted of one is noted of no other.
-use Rattle.std.proofs.Common.{◌≡◌, ◌≢◌, ℕ, ◌<◌, ◌≤◌, Bool, true, false, List, length, Some, None, ⊎_elim, rules, refl, sym, ap, ◌∙◌, arith, cond}
+use Rattle.std.proofs.Common.{◌≡◌, ◌≢◌, ℕ, ◌+◌, ◌<◌, ◌≤◌, Bool, true, false, List, length, Some, None, ⊎_elim, rules, refl, sym, ap, ◌∙◌, arith, cond}
 use Rattle.std.specs.Prelude.{slice_set, slice_index_or}
 use Rattle.std.proofs.Math.Path.{fun_ext}
 use Rattle.std.proofs.lemmas.Bool.{cases_Bool, cond-true, cond-false}
@@ -11,7 +11,11 @@ use Rattle.std.proofs.lemmas.Bool.{cases_lt}
 use Rattle.std.proofs.lemmas.List.{get_or-replicate, get_or_past, length-replicate}
 use Rattle.std.proofs.lemmas.List.Quantifiers.{position-Some}
 use Rattle.std.proofs.lemmas.List.Sums.{fails_before_first}
-use Rattle.pw_roster.specs.Places.{blank, is_waiting, is_placed, is_same_actor, noted, notes_in, place_of}
+use Rattle.std.specs.Prelude.{if◌then◌else◌, take, ◌++◌}
+use Rattle.std.specs.List.{sum_by}
+use Rattle.std.proofs.lemmas.List.{take-append-le, take_all}
+use Rattle.std.proofs.lemmas.List.Sums.{sum_by-set}
+use Rattle.pw_roster.specs.Places.{all_marked, blank, is_waiting, is_placed, is_same_actor, noted, notes_in, place_of, waiting, with_mark}
 use Rattle.pw_roster.specs.declared.actor.Actor.{Actor}
 use Rattle.pw_roster.specs.declared.actor.Actor.TheVariants.{Terminal, Process, Pair, Class}
 use Rattle.pw_roster.specs.declared.roster.Note.{Note}
@@ -139,3 +143,45 @@ pub one-waits : (notes : List Note) (a : Actor) (n : ℕ) → position is_waitin
     → is_waiting (notes_in notes a) ≡ true
 one-waits notes a n e placed at =
     ap is_waiting (notes-at notes a placed ∙ ap (λ k. slice_index_or notes k blank) at) ∙ (position-Some is_waiting notes n blank e).1
+
+-- ---- marks
+
+-- where an actor that waits does so no more, fewer wait
+pub fewer-wait : (notes : List Note) (a : Actor) (n : ℕ) (new : Note) → length notes ≡ 408 → is_placed a ≡ true → n ≡ place_of a → n < 408
+    → is_waiting new ≡ false → is_waiting (notes_in notes a) ≡ true → waiting (slice_set notes n new) < waiting notes
+fewer-wait notes a n new size placed at low rests waits =
+    let f : Note → ℕ = λ (note : Note). if is_waiting note then 1 else 0 in
+    let was : is_waiting (slice_index_or notes n blank) ≡ true =
+    ap is_waiting (ap (λ k. slice_index_or notes k blank) at ∙ sym (notes-at notes a placed)) ∙ waits in
+    let one : f (slice_index_or notes n blank) ≡ 1 = ap (λ (b : Bool). if b then 1 else 0) was in
+    let none : f new ≡ 0 = ap (λ (b : Bool). if b then 1 else 0) rests in
+    let lt : n < length notes = omega (arith, size, low) in
+    let total : sum_by f (slice_set notes n new) + f (slice_index_or notes n blank) ≡ sum_by f notes + f new =
+    sum_by-set f notes n new blank lt in
+    let less : sum_by f (slice_set notes n new) < sum_by f notes = omega (arith, total, one, none) in
+    less
+
+-- every note is marked
+pub marked-everywhere : (notes new : List Note) → length notes ≡ 408
+    → ((k : ℕ) → k < length notes → slice_index_or new k blank ≡ with_mark true (slice_index_or notes k blank))
+    → notes_in new ≡ all_marked (notes_in notes)
+marked-everywhere notes new size marks = fun_ext (λ a.
+    ⊎_elim
+    (λ there.
+    let low : place_of a < length notes = let below = place-low a there in omega (arith, size, below) in
+    notes-at new a there
+    ∙ (marks (place_of a) low
+    ∙ (ap (with_mark true) (sym (notes-at notes a there))
+    ∙ sym (cond-true (is_placed a) (with_mark true (notes_in notes a)) (notes_in notes a) there))))
+    (λ missing.
+    cond-false (is_placed a) (slice_index_or new (place_of a) blank) blank missing
+    ∙ (sym (cond-false (is_placed a) (slice_index_or notes (place_of a) blank) blank missing)
+    ∙ sym (cond-false (is_placed a) (with_mark true (notes_in notes a)) (notes_in notes a) missing)))
+    (cases_Bool (is_placed a)))
+
+-- what was written back whole is all that there is
+pub written-whole : (n : ℕ) (new rest : List Note) → n ≡ length new → take n (new ++ rest) ≡ new
+written-whole n new rest is =
+    let le : n ≤ length new = omega arith in
+    let ge : length new ≤ n = omega arith in
+    take-append-le n new rest le ∙ take_all n new ge

@@ -1,5 +1,6 @@
 -- The place of each actor in one flat list, and what is noted of it there.
 use Rattle.std.specs.Prelude.{◌≡◌, ℕ, ◌+◌, ◌-◌, ◌*◌, ◌==◌, ◌&&◌, nat_lt, nat_le, Bool, true, false, not, List, Option, Some, None, slice_index_or, if◌then◌else◌}
+use Rattle.std.specs.List.{sum_by}
 use Rattle.pw_roster.specs.declared.roster.Note.{Note}
 use Rattle.pw_roster.specs.declared.actor.Actor.{Actor}
 use Rattle.pw_roster.specs.declared.actor.Actor.TheVariants.{Terminal, Process, Pair, Class}
@@ -48,9 +49,17 @@ with_out out note = record note { out = out }
 abbrev pub with_mark : Bool → Note → Note
 with_mark marked note = record note { marked = marked }
 
+-- every actor that has a place is looked at for work
+abbrev pub all_marked : (Actor → Note) → Actor → Note
+all_marked notes actor = if is_placed actor then with_mark true (notes actor) else notes actor
+
 -- the actor is marked and not out
 abbrev pub is_waiting : Note → Bool
 is_waiting note = note.marked && not note.out
+
+-- how many actors are marked and not out
+abbrev pub waiting : List Note → ℕ
+waiting notes = sum_by (λ note. if is_waiting note then 1 else 0) notes
 
 -- an actor that is marked and not out, or none where there is none
 abbrev pub IsNext : (Actor → Note) → Option Actor → Type 0

@@ -1,5 +1,5 @@
-ghost use Rattle.std.specs.Prelude.{◌≡◌, ◌<◌, ◌≤◌, true, IfOk, position, Some, length};
-ghost use Rattle.pw_roster.specs.Places.{IsNext, blank, is_placed, is_waiting, noted, notes_in, place_of, stamped, with_mark, with_out};
+ghost use Rattle.std.specs.Prelude.{◌≡◌, ◌<◌, ℕ, ◌≤◌, true, IfOk, position, Some, false, length, slice_index_or};
+ghost use Rattle.pw_roster.specs.Places.{IsNext, all_marked, blank, is_placed, is_waiting, noted, notes_in, place_of, stamped, waiting, with_mark, with_out};
 
 use crate::actor::Actor;
 use pw_base::memory::Memory;
@@ -81,9 +81,18 @@ impl Roster {
     /// The actor is looked at for work from now on, or no more.
     pub fn mark(&mut self, actor: Actor, marked: bool)
         requires { is_placed actor ≡ true }
-        ensures { notes_in self.new ≡ noted actor (with_mark marked) (notes_in self.old) }
+        ensures notes { notes_in self.new ≡ noted actor (with_mark marked) (notes_in self.old) }
+        ensures fewer { marked ≡ false → is_waiting (notes_in self.old actor) ≡ true
+            → waiting self.new < waiting self.old }
     {
         self.notes[place_of(actor)].marked = marked;
+    }
+
+    /// Every actor is looked at for work from now on.
+    pub fn mark_all(&mut self)
+        ensures { notes_in self.new ≡ all_marked (notes_in self.old) }
+    {
+        mark_each(&mut self.notes);
     }
 
     /// An actor that is marked and not out, None exactly where there is none.
@@ -94,6 +103,17 @@ impl Roster {
             Some(place) => Some(actor_at(place)),
             None => None,
         }
+    }
+}
+
+/// Marks each of these notes.
+fn mark_each(notes: &mut [Note])
+    ensures size { length notes.new ≡ length notes.old }
+    ensures marks { (k : ℕ) → k < length notes.old
+        → slice_index_or notes.new k blank ≡ with_mark true (slice_index_or notes.old k blank) }
+{
+    for note in notes.iter_mut() {
+        note.marked = true;
     }
 }
 

@@ -1,6 +1,6 @@
 mod Flat
-mod Ground
-mod Grounds
+pub mod Ground
+pub mod Grounds
 mod Operands
 mod Readings
 mod Leading
@@ -8,7 +8,7 @@ mod Suits
 mod Fields
 mod Screens
 mod Sending
-mod Arguments
+pub mod Arguments
 mod Calls
 mod Statements
 mod Whole
@@ -17,18 +17,18 @@ mod Depths
 mod Flow
 mod Programs
 mod Resolving
-mod Decks
+pub mod Decks
 mod Behaves
 mod Split
-mod Serves
+pub mod Serves
 mod Items
 mod Emits
-mod Valid
-mod Showing
-mod written
+pub mod Valid
+pub mod Showing
+pub mod written
 mod Upper
-mod Fitting
-mod Given
+pub mod Fitting
+pub mod Given
 mod Numerals
 mod Scanned
-mod numbers
+pub mod numbers

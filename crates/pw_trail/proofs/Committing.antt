@@ -1,10 +1,10 @@
 -- What a commit writes leads from the committed records before it to those behind it.
-use Rattle.std.proofs.Common.{◌≡◌, ℕ, ◌<◌, ◌∙◌, ⊎_elim, refl, sym, ap, subst, subst₂, Bool, true, false, not, ◌&&◌, ◌||◌, ◌==◌, cond, List, [], ◌∷◌, ◌++◌, length, take, map, filter, Option, Some, None, Result, Ok, Err, arith}
+use Rattle.std.proofs.Common.{◌≡◌, ℕ, ◌<◌, ◌∙◌, refl, sym, ap, subst, subst₂, Bool, true, false, not, ◌&&◌, ◌||◌, ◌==◌, cond, List, [], ◌∷◌, length, map, filter, Option, Some, None, Result, Ok, Err}
 use Rattle.std.specs.Prelude.{nat_le, reverse, slice_get, All}
 use Rattle.std.specs.List.{AllByRecursion, list_any}
 use Rattle.std.specs.Str.{bytes_eq}
 use Rattle.std.proofs.Math.Path.{fun_ext}
-use Rattle.std.proofs.lemmas.Bool.{and_from, cases_Bool, eq-eqb, eqb-true, false_from_ne_true, false≢true, le-leb}
+use Rattle.std.proofs.lemmas.Bool.{and_from, eq-eqb, eqb-true, false_from_ne_true, false≢true, le-leb}
 use Rattle.std.proofs.lemmas.List.Elements.{All-cons, All-contains, All-map, All-nil}
 use Rattle.std.proofs.lemmas.Option.{slice_get-get_or}
 use Rattle.std.proofs.lemmas.Slice.Eq.{bytes_eq-Decides}
@@ -15,22 +15,20 @@ use Rattle.pw_files.specs.Records.{IsContent, IsFile, record_at}
 use Rattle.pw_locking.proofs.records.Images.{ImageOk, dropped, is_at, kept, restored-at, restored-file, stands_at}
 use Rattle.pw_locking.proofs.records.Withdrawn.{any-image}
 use Rattle.pw_locking.proofs.seeing.SameFiles.{same_files}
-use Rattle.pw_onecopy.specs.Behaviour.{Behaviour}
 use Rattle.pw_onecopy.specs.Update.{upd}
 use Rattle.pw_paired.specs.State.{BeforeImage}
 use Rattle.pw_paired.specs.Units.{committed_files, only, put_back, restored_files}
-use Rattle.pw_runs.proofs.Tests.{all-filter, and-first, and-second, any-filter, any-more}
+use Rattle.pw_runs.proofs.Tests.{all-filter, and-first, and-second, any-filter}
 use Rattle.pw_tmf.specs.Committed.{committed, images_of}
 use Rattle.pw_tmf.specs.Restored.{changed_in, changes_of}
 use Rattle.pw_tmf.specs.Starting.{key_of_file}
 use Rattle.pw_tmf.specs.Tells.{images_by}
 use Rattle.pw_tmf.specs.Told.{Told}
 use Rattle.pw_tmf.specs.Units.{ended}
-use Rattle.pw_tmf.specs.declared.answer.Changed.{Changed}
 use Rattle.pw_tmf.proofs.Reversed.{All-reverse, list_any-reverse}
 use Rattle.pw_tmf.proofs.Together.{images-told}
-use Rattle.pw_trail.specs.Body.{fits, fits_file}
-use Rattle.pw_trail.specs.Committing.{LeadsTo, LeadsToEither, change_of, change_to, record_of}
+use Rattle.pw_trail.specs.Body.{fits}
+use Rattle.pw_trail.specs.Committing.{LeadsTo, change_of, change_to, record_of}
 use Rattle.pw_trail.specs.Files.{files_after, files_read, keys_of, records_of, with_change, with_changes}
 use Rattle.pw_trail.specs.Format.{units_in, with_last}
 use Rattle.pw_trail.specs.Orderly.{IsOrderly, IsPlaced}

@@ -1,5 +1,5 @@
 -- What a disc over a trail keeps, call by call.
-use Rattle.std.proofs.Common.{◌≡◌, ◌⊎◌, inl, inr, ℕ, ◌∙◌, refl, sym, ap, subst, Bool, true, false, List, [], map, Option, ◌∷◌, Result, Ok, Err}
+use Rattle.std.proofs.Common.{◌≡◌, ◌⊎◌, inl, inr, ℕ, ◌∙◌, sym, ap, subst, Bool, true, false, List, [], map, Option, ◌∷◌, Result, Ok, Err}
 use Rattle.std.specs.Prelude.{All, IfErr, OnOk}
 use Rattle.std.proofs.Math.Logic.{∥∥₁_elim, ∥∥₁_map}
 use Rattle.std.proofs.Props.{props}
@@ -7,11 +7,10 @@ use Rattle.pw_code.specs.declared.file.FileCall.{FileCall}
 use Rattle.pw_code.specs.declared.file.FileInfo.{FileInfo}
 use Rattle.pw_code.specs.declared.system.System.{System}
 use Rattle.pw_code.specs.declared.unit.Unit as unit
-use Rattle.pw_locks.specs.Conflicts.{holders}
 use Rattle.pw_tmf.specs.Answers.{Leaves, Operates}
 use Rattle.pw_tmf.specs.Committed.{committed}
 use Rattle.pw_tmf.specs.Faulty.{with_faults}
-use Rattle.pw_tmf.specs.Operation.{IsCall, after_operation, lock_now}
+use Rattle.pw_tmf.specs.Operation.{IsCall, after_operation}
 use Rattle.pw_tmf.specs.Restored.{changes_of}
 use Rattle.pw_tmf.specs.Told.{Told}
 use Rattle.pw_tmf.specs.Units.{CanBegin, IsRunning, all_backed_out, backed_out, begun, ended}

@@ -1,6 +1,7 @@
 mod BodyForms
 mod Commits
 mod Committing
+mod DiscTests
 mod Framing
 mod Keeping
 mod Logging

@@ -1,7 +1,6 @@
 -- A disc whose trail was read.
-use Rattle.std.proofs.Common.{◌≡◌, ℕ, ◌∙◌, refl, sym, ap, subst, List, [], length, Option, None, Ok, Result}
+use Rattle.std.proofs.Common.{ℕ, ◌∙◌, refl, sym, ap, subst, List, [], Ok}
 use Rattle.std.proofs.lemmas.Bool.{false≢true}
-use Rattle.pw_code.specs.declared.file.FileInfo.{FileInfo}
 use Rattle.pw_code.specs.declared.lock.LockRule.{LockRule}
 use Rattle.pw_code.specs.declared.system.System.{System}
 use Rattle.pw_code.specs.declared.verb.Verb.TheVariants as verb
@@ -15,7 +14,6 @@ use Rattle.pw_trail.specs.Files.{files_after, files_read, keys_of, told_with}
 use Rattle.pw_trail.specs.Format.{units_in}
 use Rattle.pw_trail.specs.Orderly.{IsOrderly}
 use Rattle.pw_trail.specs.Restoring.{HasFiles, IsReadBack}
-use Rattle.pw_trail.specs.declared.changes.UnitChanges.{UnitChanges}
 use Rattle.pw_trail.proofs.Orderly.{committed-are}
 
 -- a system without terminals and classes, with these files

@@ -1,15 +1,13 @@
 -- The calls of a disc leave its records in order, and all but a commit leave the committed ones.
-use Rattle.std.proofs.Common.{◌≡◌, ℕ, ◌<◌, ◌≤◌, ◌∙◌, refl, sym, ap, ap₂, subst, Bool, true, false, not, ◌&&◌, cond, List, [], ◌∷◌, length, length-take, take, filter, Option, Some, None, arith, min}
+use Rattle.std.proofs.Common.{◌≡◌, ℕ, ◌<◌, ◌∙◌, refl, sym, ap, subst, Bool, true, false, not, cond, List, [], ◌∷◌, length, length-take, take, filter, Option, Some, None, arith}
 use Rattle.std.specs.Prelude.{is_some}
 use Rattle.std.specs.List.{AllByRecursion}
-use Rattle.std.specs.Option.{IfSome, option_map}
+use Rattle.std.specs.Option.{option_map}
 use Rattle.std.proofs.Math.Path.{fun_ext}
 use Rattle.pw_code.specs.declared.file.FileCall.{FileCall}
 use Rattle.pw_code.specs.declared.file.FileOp.{FileOp}
 use Rattle.pw_code.specs.declared.file.FileOp.TheVariants.{Read, Next, Write, Rewrite, Delete, ReadLock, NextLock}
 use Rattle.pw_code.specs.declared.unit.Unit as unit
-use Rattle.pw_class.specs.declared.request.Request.{Request}
-use Rattle.pw_event.specs.declared.event.Cause.{Cause}
 use Rattle.pw_event.specs.declared.event.Cause.TheVariants as cause
 use Rattle.pw_files.specs.Records.{IsContent, IsFile, record_at}
 use Rattle.pw_locking.proofs.records.Images.{ImageOk, restored-file}

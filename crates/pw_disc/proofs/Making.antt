@@ -1,0 +1,136 @@
+-- What two members come to at the same call, and what a pair tells of it, which has faults of its own.
+use Rattle.std.proofs.Common.{◌≡◌, ℕ, ◌<◌, refl, sym, ap, ◌∙◌, cond, Bool, true, List, [], length, Option, arith}
+use Rattle.pw_code.specs.declared.file.FileCall.{FileCall}
+use Rattle.pw_code.specs.declared.unit.Unit as unit
+use Rattle.pw_disc_call.specs.declared.call.DiscCall.{DiscCall}
+use Rattle.pw_disc_call.specs.declared.call.DiscCall.TheVariants.{Begin, Operate, Commit, BackOut}
+use Rattle.pw_locks.specs.Conflicts.{holders}
+use Rattle.pw_locks.specs.Oldest.{IsOldest}
+use Rattle.pw_tmf.specs.Faulty.{with_faults}
+use Rattle.pw_tmf.specs.Operation.{IsCall, after_operation, lock_now}
+use Rattle.pw_tmf.specs.Told.{Told}
+use Rattle.pw_tmf.specs.Units.{CanBegin, all_backed_out, begun, ended}
+use Rattle.pw_tmf.proofs.WithFaults.{all-inside, faults-backed_out, running-inside}
+use Rattle.pw_disc.specs.Calls.{CanMake, Makes, is_done, is_operation}
+use Rattle.pw_disc.specs.declared.outcome.Outcome.{Outcome}
+use Rattle.pw_disc.specs.declared.outcome.Outcome.TheVariants.{Done, Operated, Conflict}
+
+-- where nobody holds a lock, there is no oldest holder
+none_oldest : (holder : unit.Unit) (units : List unit.Unit) → units ≡ [] → IsOldest holder units → ⊥
+none_oldest holder units none oldest =
+    let within : oldest.among.0 < length units = oldest.among.1 in
+    let empty : length units ≡ 0 = ap length none in
+    omega arith
+
+-- two members that tell the same come to outcomes of one kind
+pub same_kind : (a b : Outcome) (told new_a new_b : Told) (call : DiscCall) → Makes a told call new_a → Makes b told call new_b → is_done a ≡ is_done b
+same_kind Done Done told new_a new_b call one two = refl
+same_kind Done (Operated status content) told new_a new_b call one two = refl
+same_kind Done (Conflict holder) told new_a new_b (Begin u) one two = absurd two
+same_kind Done (Conflict holder) told new_a new_b (Operate u call) one two = absurd one
+same_kind Done (Conflict holder) told new_a new_b (Commit u reply) one two = absurd two
+same_kind Done (Conflict holder) told new_a new_b (BackOut units ends) one two = absurd two
+same_kind (Operated status content) Done told new_a new_b call one two = refl
+same_kind (Operated status content) (Operated status' content') told new_a new_b call one two = refl
+same_kind (Operated status content) (Conflict holder) told new_a new_b (Begin u) one two = absurd two
+same_kind (Operated status content) (Conflict holder) told new_a new_b (Operate u call) one two =
+    absurd (none_oldest holder (holders (lock_now told u call) told.locks) one.0 two.0)
+same_kind (Operated status content) (Conflict holder) told new_a new_b (Commit u reply) one two = absurd two
+same_kind (Operated status content) (Conflict holder) told new_a new_b (BackOut units ends) one two = absurd two
+same_kind (Conflict holder) Done told new_a new_b (Begin u) one two = absurd one
+same_kind (Conflict holder) Done told new_a new_b (Operate u call) one two = absurd two
+same_kind (Conflict holder) Done told new_a new_b (Commit u reply) one two = absurd one
+same_kind (Conflict holder) Done told new_a new_b (BackOut units ends) one two = absurd one
+same_kind (Conflict holder) (Operated status content) told new_a new_b (Begin u) one two = absurd one
+same_kind (Conflict holder) (Operated status content) told new_a new_b (Operate u call) one two =
+    absurd (none_oldest holder (holders (lock_now told u call) told.locks) two.0 one.0)
+same_kind (Conflict holder) (Operated status content) told new_a new_b (Commit u reply) one two = absurd one
+same_kind (Conflict holder) (Operated status content) told new_a new_b (BackOut units ends) one two = absurd one
+same_kind (Conflict holder) (Conflict other) told new_a new_b call one two = refl
+
+-- what is told behind a call, by its kind
+abbrev told_behind : Bool → Told → DiscCall → Told
+told_behind done told (Begin u) = begun told u
+told_behind done told (Operate u call) = cond done (after_operation told u call) told
+told_behind done told (Commit u reply) = ended told u reply
+told_behind done told (BackOut units ends) = all_backed_out ends told units
+
+made_is : (a : Outcome) (told new : Told) (call : DiscCall) → Makes a told call new → new ≡ told_behind (is_done a) told call
+made_is Done told new (Begin u) made = made
+made_is Done told new (Operate u call) made = absurd made
+made_is Done told new (Commit u reply) made = made
+made_is Done told new (BackOut units ends) made = made
+made_is (Operated status content) told new (Begin u) made = absurd made
+made_is (Operated status content) told new (Operate u call) made = made.2
+made_is (Operated status content) told new (Commit u reply) made = absurd made
+made_is (Operated status content) told new (BackOut units ends) made = absurd made
+made_is (Conflict holder) told new (Begin u) made = absurd made
+made_is (Conflict holder) told new (Operate u call) made = made.1
+made_is (Conflict holder) told new (Commit u reply) made = absurd made
+made_is (Conflict holder) told new (BackOut units ends) made = absurd made
+
+-- they tell the same behind it
+pub same_told : (a b : Outcome) (told new_a new_b : Told) (call : DiscCall) → Makes a told call new_a → Makes b told call new_b → new_a ≡ new_b
+same_told a b told new_a new_b call one two =
+    made_is a told new_a call one
+    ∙ ap (λ (done : Bool). told_behind done told call) (same_kind a b told new_a new_b call one two)
+    ∙ sym (made_is b told new_b call two)
+
+begin_inside : (n : ℕ) (told : Told) (u : unit.Unit) → CanBegin (with_faults n told) u → CanBegin told u
+begin_inside n told u can = record { terminal = can.terminal; number = can.number; not_ended = can.not_ended; free = can.free; births = can.births }
+
+call_inside : (n : ℕ) (told : Told) (call : FileCall) → IsCall (with_faults n told) call → IsCall told call
+call_inside n told call can = record { file = can.file; content = can.content; key = can.key }
+
+-- the conditions of a call do not look at faults
+pub can_inside : (n : ℕ) (told : Told) (call : DiscCall) → CanMake (with_faults n told) call → CanMake told call
+can_inside n told (Begin u) can = begin_inside n told u can
+can_inside n told (Operate u call) can = (running-inside n told u can.0, call_inside n told call can.1)
+can_inside n told (Commit u reply) can = running-inside n told u can
+can_inside n told (BackOut units ends) can = (can.0, can.1, all-inside ends n told units can.2)
+
+-- nor does what it makes
+pub makes_outside : (n : ℕ) (a : Outcome) (told new : Told) (call : DiscCall) → Makes a told call new → Makes a (with_faults n told) call (with_faults n new)
+makes_outside n Done told new (Begin u) made = ap (with_faults n) made
+makes_outside n Done told new (Operate u call) made = absurd made
+makes_outside n Done told new (Commit u reply) made = ap (with_faults n) made
+makes_outside n Done told new (BackOut units ends) made = ap (with_faults n) made ∙ faults-backed_out ends n told units
+makes_outside n (Operated status content) told new (Begin u) made = absurd made
+makes_outside n (Operated status content) told new (Operate u call) made = (made.0, made.1, ap (with_faults n) made.2)
+makes_outside n (Operated status content) told new (Commit u reply) made = absurd made
+makes_outside n (Operated status content) told new (BackOut units ends) made = absurd made
+makes_outside n (Conflict holder) told new (Begin u) made = absurd made
+makes_outside n (Conflict holder) told new (Operate u call) made = (made.0, ap (with_faults n) made.1)
+makes_outside n (Conflict holder) told new (Commit u reply) made = absurd made
+makes_outside n (Conflict holder) told new (BackOut units ends) made = absurd made
+
+-- what a call of each kind makes of what is told
+pub begin_made : (a : Outcome) (told new : Told) (u : unit.Unit) → Makes a told (Begin u) new → new ≡ begun told u
+begin_made a told new u made = made_is a told new (Begin u) made
+
+pub commit_made : (a : Outcome) (told new : Told) (u : unit.Unit) (reply : Option (List ℕ)) → Makes a told (Commit u reply) new → new ≡ ended told u reply
+commit_made a told new u reply made = made_is a told new (Commit u reply) made
+
+pub back_out_made : (a : Outcome) (told new : Told) (units : List unit.Unit) (ends : Bool) → Makes a told (BackOut units ends) new → new ≡ all_backed_out ends told units
+back_out_made a told new units ends made = made_is a told new (BackOut units ends) made
+
+-- one that answers nothing was done, and an operation answers
+pub begin_done : (a : Outcome) (told new : Told) (u : unit.Unit) → Makes a told (Begin u) new → is_done a ≡ true
+begin_done Done told new u made = refl
+begin_done (Operated status content) told new u made = absurd made
+begin_done (Conflict holder) told new u made = absurd made
+
+pub commit_done : (a : Outcome) (told new : Told) (u : unit.Unit) (reply : Option (List ℕ)) → Makes a told (Commit u reply) new → is_done a ≡ true
+commit_done Done told new u reply made = refl
+commit_done (Operated status content) told new u reply made = absurd made
+commit_done (Conflict holder) told new u reply made = absurd made
+
+pub back_out_done : (a : Outcome) (told new : Told) (units : List unit.Unit) (ends : Bool) → Makes a told (BackOut units ends) new → is_done a ≡ true
+back_out_done Done told new units ends made = refl
+back_out_done (Operated status content) told new units ends made = absurd made
+back_out_done (Conflict holder) told new units ends made = absurd made
+
+pub operate_answers : (a : Outcome) (told new : Told) (u : unit.Unit) (call : FileCall) → Makes a told (Operate u call) new → is_operation a ≡ true
+operate_answers Done told new u call made = absurd made
+operate_answers (Operated status content) told new u call made = refl
+operate_answers (Conflict holder) told new u call made = refl

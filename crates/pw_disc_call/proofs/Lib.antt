@@ -1,0 +1,3 @@
+mod CallForms
+mod Loop
+mod ScriptLemmas

@@ -1,0 +1,4 @@
+//! Things by their names.
+#![tactic(auto)]
+
+pub mod index;

@@ -1,0 +1,17 @@
+-- Which outcomes pass.
+use Rattle.std.specs.Prelude.{◌≡◌, ℕ, List, Option, Some, None, false}
+use Rattle.pw_monitor_world.specs.Answers.{Comes, IsAccepted, LeavesApplied, with_out}
+use Rattle.pw_monitor_world.specs.Seen.{Seen}
+use Rattle.pw_monitor_world.specs.declared.answers.Applied.{Applied}
+use Rattle.pw_monitor_world.specs.declared.task.Outcome.{Outcome}
+
+-- the answer comes to the outcome, and leaves all but that its actor is no more out
+pub record IsRefusal (world : Seen) (outcome : Outcome) (answer : Applied) : Type 0 where
+  pub comes : Comes world outcome answer
+  pub stays : (members : ℕ → List ℕ)
+      → LeavesApplied members world outcome answer (with_out outcome.actor false world)
+
+-- an outcome is refused with an answer, or passes
+abbrev pub Judges : Seen → Outcome → Option Applied → Type 0
+Judges world outcome None = IsAccepted world outcome
+Judges world outcome (Some answer) = IsRefusal world outcome answer

@@ -1,0 +1,4 @@
+pub mod Judging
+pub mod Ledgers
+pub mod Owners
+pub mod States

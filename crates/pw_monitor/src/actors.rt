@@ -1,0 +1,83 @@
+ghost use Rattle.std.specs.Prelude.{◌≡◌, ◌<◌, ◌↔◌, IsTrue, length, slice_get};
+ghost use Rattle.pw_event.specs.Due.{owner_of};
+ghost use Rattle.pw_exec.specs.OfSystem.{processes_by};
+ghost use Rattle.pw_kept.specs.Entered.{tcp_of};
+ghost use Rattle.pw_kept.specs.May.{IsThere};
+ghost use Rattle.pw_monitor.specs.Owners.{owner_in};
+ghost use Rattle.pw_monitor_world.specs.Actors.{IsActor};
+
+use pw_code::system::System;
+use pw_event::event::Event;
+use pw_event::script::Owner;
+use pw_roster::actor::Actor;
+
+/// Whether an actor is one of the system.
+pub fn is_actor(system: &System, actor: Actor) -> bool
+    ensures { IsTrue result ↔ IsActor system.now actor }
+{
+    match actor {
+        Actor::Terminal(terminal) => (terminal as usize) < system.terminals.len(),
+        Actor::Process { class, process } => 1 <= process && process <= processes_of(system, class),
+        Actor::Pair(tcp) => (tcp as usize) < system.tcps.len(),
+        Actor::Class(class) => (class as usize) < system.classes.len(),
+    }
+}
+
+/// How many processes a class has, 0 for one that is not there.
+pub fn processes_of(system: &System, class: u32) -> u32
+    ensures { result ≡ processes_by (slice_get system.now.classes class) }
+{
+    match system.classes.as_slice().get(class as usize) {
+        Some(info) => info.processes,
+        None => 0,
+    }
+}
+
+/// The pair of a terminal, 0 for one that is not there.
+pub fn tcp_of(system: &System, terminal: u32) -> u32
+    ensures { result ≡ tcp_of system.now terminal }
+{
+    match system.terminals.as_slice().get(terminal as usize) {
+        Some(info) => info.tcp,
+        None => 0,
+    }
+}
+
+/// Whom the entries of an actor belong to.
+pub fn owner_of_actor(system: &System, actor: Actor) -> Owner
+    ensures { result ≡ owner_in system.now actor }
+{
+    match actor {
+        Actor::Terminal(terminal) => Owner::Tcp(tcp_of(system, terminal)),
+        Actor::Pair(tcp) => Owner::Tcp(tcp),
+        Actor::Process { class, .. } | Actor::Class(class) => Owner::Class(class),
+    }
+}
+
+/// Whom an entry belongs to.
+pub fn owner_of(system: &System, event: &Event) -> Owner
+    ensures { result ≡ owner_of (tcp_of system.now) event.now }
+{
+    match *event {
+        Event::Take { class, .. }
+        | Event::File { class, .. }
+        | Event::Reply { class, .. }
+        | Event::FailServer { class, .. } => Owner::Class(class),
+        Event::FailTcp { tcp, .. } | Event::Takeover { tcp } | Event::Raise { tcp } => {
+            Owner::Tcp(tcp)
+        }
+        Event::Show { terminal, .. }
+        | Event::Key { terminal, .. }
+        | Event::CheckStart { terminal }
+        | Event::CheckEnd { terminal }
+        | Event::CheckCopy { terminal }
+        | Event::Applied { terminal }
+        | Event::Begin { terminal, .. }
+        | Event::Send { terminal, .. }
+        | Event::Again { terminal, .. }
+        | Event::Commit { terminal, .. }
+        | Event::Back { terminal, .. }
+        | Event::Restart { terminal, .. }
+        | Event::End { terminal, .. } => Owner::Tcp(tcp_of(system, terminal)),
+    }
+}

@@ -1,0 +1,62 @@
+//! Which outcomes pass.
+
+ghost use Rattle.std.specs.Prelude.{◌≡◌, ◌↔◌, IsTrue};
+ghost use Rattle.pw_monitor.specs.Judging.{Judges};
+ghost use Rattle.pw_monitor.specs.States.{seen};
+ghost use Rattle.pw_monitor_world.specs.Actors.{IsActor};
+ghost use Rattle.pw_monitor_world.specs.Answers.{IsFull, IsUnrun};
+
+use crate::world::World;
+use pw_monitor_world::answers::Applied;
+use pw_monitor_world::laws::stamp_laws;
+use pw_monitor_world::stepping::actor_laws;
+use pw_monitor_world::task::Outcome;
+use pw_tmf::disc::Disc;
+
+impl<D: Disc> World<D> {
+    /// The answer to an outcome that does not pass, None exactly where it passes.
+    pub(crate) fn refusal(&self, outcome: &Outcome) -> Option<Applied>
+        requires { IsActor self.now.keep.system outcome.now.actor }
+        ensures { Judges (seen D.told self.now) outcome.now result }
+    {
+        actor_laws();
+        stamp_laws();
+        if self.failed {
+            return Some(Applied::DiscFault);
+        }
+        if self.is_full() {
+            return Some(Applied::Limit);
+        }
+        let found = self.ledger.note(outcome.actor).stamp;
+        if outcome.stamp != found {
+            return Some(Applied::Stale {
+                carried: outcome.stamp,
+                found,
+            });
+        }
+        if self.is_unrun(outcome) {
+            return Some(Applied::Unrun);
+        }
+        None
+    }
+
+    /// Whether the log has as many entries as it may, and is not finished.
+    fn is_full(&self) -> bool
+        ensures { IsTrue result ↔ IsFull (seen D.told self.now) }
+    {
+        self.ledger.log().len() == self.limit as usize && !self.finished()
+    }
+
+    /// Whether the actor's kept context stands at an answer, and the outcome was given none or another
+    /// one.
+    fn is_unrun(&self, outcome: &Outcome) -> bool
+        requires { IsActor self.now.keep.system outcome.now.actor }
+        ensures { IsTrue result ↔ IsUnrun (seen D.told self.now) outcome.now }
+    {
+        match (self.unread(outcome.actor), &outcome.given) {
+            (None, _) => false,
+            (Some(context), Some(given)) => !given.is_same(context),
+            (Some(_), None) => true,
+        }
+    }
+}

@@ -1,0 +1,12 @@
+//! The monitor at work over the whole paired system: the world, whose log is always a run.
+#![tactic(auto)]
+
+mod actors;
+mod contexts;
+mod fails;
+mod judging;
+mod ledger;
+pub mod reading;
+pub mod task;
+mod values;
+pub mod world;

@@ -1,0 +1,4 @@
+//! That the entries of runs, and the blocks of their serial orders, have lines in the log.
+#![tactic(auto)]
+
+pub mod laws;

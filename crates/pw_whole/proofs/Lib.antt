@@ -1,0 +1,10 @@
+pub mod Coding
+pub mod Failures
+pub mod Fields
+pub mod Lines
+pub mod Parts
+pub mod Pictures
+pub mod Read
+pub mod Shown
+pub mod Sources
+pub mod Whole
