@@ -1,5 +1,5 @@
 -- The verb at which a server stands, and the operation on a file that it asks.
-use Rattle.std.specs.Prelude.{◌≡◌, ℕ, true, Option, Some, None}
+use Rattle.std.specs.Prelude.{◌≡◌, ◌==◌, ℕ, Bool, true, false, Option, Some, None}
 use Rattle.pw_class.specs.Queue.{at_process}
 use Rattle.pw_class.specs.declared.request.Request.{Request}
 use Rattle.pw_code.specs.declared.context.Context.{Context}
@@ -9,6 +9,8 @@ use Rattle.pw_code.specs.declared.verb.Verb.{Verb}
 use Rattle.pw_code.specs.declared.verb.Verb.TheVariants as verb
 use Rattle.pw_kept.specs.Asked.{verb_in}
 use Rattle.pw_kept.specs.Kept.{Kept}
+use Rattle.pw_tmf.specs.declared.answer.Foreseen.{Foreseen}
+use Rattle.pw_tmf.specs.declared.answer.Foreseen.TheVariants as foreseen
 
 -- a server works in the process, and stands at this verb
 pub record IsAtVerb (system : System) (kept : Kept) (c i : ℕ) (v : Verb) : Type 0 where
@@ -31,3 +33,13 @@ pub record AsksCall (system : System) (kept : Kept) (c i : ℕ) (request : Reque
 abbrev pub IsCallFound : System → Kept → ℕ → ℕ → Option (Request × FileCall) → Type 0
 IsCallFound system kept c i None = (request : Request) (call : FileCall) → AsksCall system kept c i request call → ⊥
 IsCallFound system kept c i (Some found) = AsksCall system kept c i found.0 found.1
+
+-- the operation at which a verb stands, if it does
+abbrev pub call_in : Option Verb → Option FileCall
+call_in (Some (verb.File call)) = Some call
+call_in _ = None
+
+-- what is foreseen is that the operation is done with this status
+abbrev pub is_done : Foreseen → ℕ → Bool
+is_done (foreseen.Done found) status = status == found
+is_done (foreseen.Conflict holder) status = false

@@ -1,5 +1,5 @@
 -- What is left of bytes behind others, and the image behind the answer that ends a transaction.
-use Rattle.std.specs.Prelude.{ℕ, ◌==◌, Bool, true, false, List, [], ◌∷◌, ◌++◌, Option, Some, None, if◌then◌else◌}
+use Rattle.std.specs.Prelude.{◌≡◌, ℕ, ◌==◌, Bool, true, false, List, [], ◌∷◌, ◌++◌, Option, Some, None, if◌then◌else◌}
 use Rattle.pw_code.specs.declared.context.Context.{Context}
 use Rattle.pw_exec.specs.Answers.{unit_end_put}
 use Rattle.pw_exec.specs.Config.{closed}
@@ -16,6 +16,10 @@ left_behind (one ∷ front) (byte ∷ bytes) = if byte == one then left_behind f
 abbrev pub left_of : List ℕ → Option (List ℕ) → Option (List ℕ)
 left_of front None = None
 left_of front (Some bytes) = left_behind front bytes
+
+-- the second is what is left of the first behind these bytes
+pub record Leaves (front : List ℕ) (first last : Option (List ℕ)) : Type 0 where
+  pub is : last ≡ left_of front first
 
 -- nothing is left
 abbrev pub is_all : Option (List ℕ) → Bool

@@ -3,5 +3,6 @@ pub mod Calls
 pub mod Causes
 pub mod Images
 pub mod Known
+pub mod Members
 pub mod Steps
 pub mod Verbs

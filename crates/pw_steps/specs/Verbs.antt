@@ -27,6 +27,11 @@ pub record HasNoKey (system : System) (kept : Kept) (t : ℕ) : Type 0 where
   pub key : (k : ℕ) → may_key system kept t k ≡ false
   pub entries : may_end_entries system kept t ≡ false
 
+-- neither AGAIN nor one that begins a unit
+pub record HasNoAgain (system : System) (kept : Kept) (t : ℕ) : Type 0 where
+  pub again : (n : ℕ) → may_again system kept t n ≡ false
+  pub begins : HasNoBegin system kept t
+
 -- neither SEND, nor AGAIN, nor one that begins a unit
 pub record HasNoSend (system : System) (kept : Kept) (t : ℕ) : Type 0 where
   pub send : (n c : ℕ) → may_send system kept t n c ≡ false

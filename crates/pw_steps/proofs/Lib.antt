@@ -1,0 +1,9 @@
+pub mod Anywhere
+pub mod At
+pub mod AtVerb
+pub mod CallLemmas
+pub mod EndTests
+pub mod Ends
+pub mod Imaged
+pub mod Left
+pub mod Once

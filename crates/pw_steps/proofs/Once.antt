@@ -1,0 +1,121 @@
+-- At a verb each kind of entry comes with one number, so that one test tells for all.
+use Rattle.std.proofs.Common.{◌≡◌, ℕ, ◌+◌, ◌==◌, ◌&&◌, Bool, true, false, not, nat_le, List, Option, Some, None, is_none, refl, ap, sym, subst, ◌∙◌}
+use Rattle.std.proofs.lemmas.Bool.{and_parts, eqb-true, false_from_ne_true, true≢false}
+use Rattle.pw_code.specs.declared.context.Context.{Context}
+use Rattle.pw_code.specs.declared.system.System.{System}
+use Rattle.pw_code.specs.declared.verb.Verb.{Verb}
+use Rattle.pw_code.specs.declared.verb.Verb.TheVariants as verb
+use Rattle.pw_kept.specs.Asked.{unit_in, verb_in}
+use Rattle.pw_kept.specs.Changes.{runs_told}
+use Rattle.pw_kept.specs.Kept.{Kept}
+use Rattle.pw_kept.specs.TerminalTests.{begins_unit, end_held, entries_of, is_out, may_again, may_back, may_begin, may_commit, may_key, may_send, start_held}
+use Rattle.pw_code.specs.declared.verb.Answer.TheVariants as answer
+use Rattle.pw_legal.specs.Terminals.{is_over}
+use Rattle.pw_legal.specs.Verbs.{asks_accept, asks_drop, asks_end, asks_send, asks_send_to}
+use Rattle.pw_steps.specs.Known.{stepping}
+use Rattle.pw_steps.proofs.AtVerb.{at}
+use Rattle.pw_code.specs.declared.unit.Unit as unit
+use Rattle.std.specs.Option.{option_map}
+use Rattle.pw_tmf.specs.Leaving.{unit_told}
+use Rattle.pw_tmf.specs.Told.{ToldUnit}
+
+-- the second of two
+then : (a b : Bool) → (a && b) ≡ true → b ≡ true
+then a b h = (and_parts a b h).1
+
+first : (a b : Bool) → (a && b) ≡ true → a ≡ true
+first a b h = (and_parts a b h).0
+
+-- the number in a test
+number-of : (b : Bool) (m n : ℕ) → (m == n && b) ≡ true → m ≡ n
+number-of b m n h = eqb-true m n (first (m == n) b h)
+
+-- a Send goes to one class
+one-class : (v : Verb) (class c : ℕ) → asks_send_to class v ≡ true → asks_send_to c v ≡ true → class ≡ c
+one-class (verb.Send own message) class c to h = sym (eqb-true own class to) ∙ eqb-true own c h
+one-class verb.Show class c to h = cc to
+one-class (verb.Accept screen) class c to h = cc to
+one-class verb.Begin class c to h = cc to
+one-class verb.End class c to h = cc to
+one-class verb.Drop class c to h = cc to
+one-class verb.Redo class c to h = cc to
+one-class verb.Stop class c to h = cc to
+one-class (verb.Fault code) class c to h = cc to
+one-class (verb.File call) class c to h = cc to
+one-class (verb.Reply reply) class c to h = cc to
+
+module _ (system : System) (kept : Kept) (t : ℕ) (context : Context) (e : stepping system kept t ≡ Some context) where
+  pub key-once : may_key system kept t (context.entries + 1) ≡ false → (k : ℕ) → may_key system kept t k ≡ false
+  key-once h k =
+      false_from_ne_true _ (λ yes.
+      let is : k ≡ context.entries + 1 = number-of _ _ _ (then _ _ (sym (at system kept t context e _) ∙ yes)) in
+      true≢false (sym yes ∙ (ap (λ j. may_key system kept t j) is ∙ h)))
+
+  pub commit-once : may_commit system kept t (context.units + 1) ≡ false → (n : ℕ) → may_commit system kept t n ≡ false
+  commit-once h n =
+      false_from_ne_true _ (λ yes.
+      let is : n ≡ context.units + 1 = number-of _ _ _ (then _ _ (sym (at system kept t context e _) ∙ yes)) in
+      true≢false (sym yes ∙ (ap (λ j. may_commit system kept t j) is ∙ h)))
+
+  pub back-once : may_back system kept t (context.units + 1) ≡ false → (n : ℕ) → may_back system kept t n ≡ false
+  back-once h n =
+      false_from_ne_true _ (λ yes.
+      let is : n ≡ context.units + 1 = number-of _ _ _ (then _ _ (sym (at system kept t context e _) ∙ yes)) in
+      true≢false (sym yes ∙ (ap (λ j. may_back system kept t j) is ∙ h)))
+
+  pub again-once : may_again system kept t (context.units + 1) ≡ false → (n : ℕ) → may_again system kept t n ≡ false
+  again-once h n =
+      false_from_ne_true _ (λ yes.
+      let is : n ≡ context.units + 1 = number-of _ _ _ (then _ _ (then _ _ (sym (at system kept t context e _) ∙ yes))) in
+      true≢false (sym yes ∙ (ap (λ j. may_again system kept t j) is ∙ h)))
+
+  pub begin-once : may_begin system kept t (context.units + 1) (kept.terminals t).restarts ≡ false
+      → (n r : ℕ) → may_begin system kept t n r ≡ false
+  begin-once h n r =
+      false_from_ne_true _ (λ yes.
+      let rest = then _ _ (then _ _ (sym (at system kept t context e _) ∙ yes)) in
+      let is : n ≡ context.units + 1 = number-of _ _ _ rest in
+      let same : r ≡ (kept.terminals t).restarts = eqb-true r (kept.terminals t).restarts
+      (then (start_held system kept t (unit_in context)) _
+      (then (is_over kept.disc.ended (kept.terminals t).awaits) _
+      (then (not ((kept.disc.ended t).number == n)) _ (then (n == context.units + 1) _ rest)))) in
+      true≢false
+      (sym yes ∙ (ap (λ j. may_begin system kept t j r) is ∙ (ap (λ j. may_begin system kept t (context.units + 1) j) same ∙ h))))
+
+  -- a request goes to one class, and is of the open unit
+  module _ (class : ℕ) (to : asks_send_to class (verb_in system context) ≡ true) where
+    to-class : (c : ℕ) → asks_send_to c (verb_in system context) ≡ true → class ≡ c
+    to-class c h = one-class (verb_in system context) class c to h
+
+    no-unit : kept.disc.units t ≡ None → (n c : ℕ) → may_send system kept t n c ≡ false
+    no-unit none n c =
+        false_from_ne_true _ (λ yes.
+        true≢false (sym (first _ _ (sym (at system kept t context e _) ∙ yes)) ∙ ap (runs_told n) none))
+
+    own-unit : (own : ToldUnit) → kept.disc.units t ≡ Some own → may_send system kept t own.number class ≡ false
+        → (n c : ℕ) → may_send system kept t n c ≡ false
+    own-unit own is_open h n c =
+        false_from_ne_true _ (λ yes.
+        let all = sym (at system kept t context e _) ∙ yes in
+        let number : own.number ≡ n = number-of _ _ _ (sym (ap (runs_told n) is_open) ∙ first _ _ all) in
+        let same : class ≡ c = to-class c (first _ _ (then _ _ all)) in
+        true≢false
+        (sym yes ∙ (ap (λ j. may_send system kept t j c) (sym number) ∙ (ap (λ j. may_send system kept t own.number j) (sym same) ∙ h))))
+
+    none-at : (o : Option ToldUnit) → kept.disc.units t ≡ o → unit_told t o ≡ None → (n c : ℕ) → may_send system kept t n c ≡ false
+    none-at None is h = no-unit is
+    none-at (Some own) is h = absurd (cc h)
+
+    some-at : (o : Option ToldUnit) (own : unit.Unit) → kept.disc.units t ≡ o → unit_told t o ≡ Some own
+        → may_send system kept t own.number class ≡ false → (n c : ℕ) → may_send system kept t n c ≡ false
+    some-at None own is h fails = absurd (cc h)
+    some-at (Some told) own is h fails =
+        let number : own.number ≡ told.number = cc (ap (option_map (λ (u : unit.Unit). u.number)) h) in
+        own-unit told is (ap (λ n. may_send system kept t n class) (sym number) ∙ fails)
+
+    pub sent-none : unit_told t (kept.disc.units t) ≡ None → (n c : ℕ) → may_send system kept t n c ≡ false
+    sent-none h = none-at (kept.disc.units t) refl h
+
+    pub sent-some : (own : unit.Unit) → unit_told t (kept.disc.units t) ≡ Some own → may_send system kept t own.number class ≡ false
+        → (n c : ℕ) → may_send system kept t n c ≡ false
+    sent-some own h fails = some-at (kept.disc.units t) own refl h fails
