@@ -1,0 +1,5 @@
+pub mod Baring
+pub mod Finding
+pub mod Knowing
+pub mod Making
+pub mod Testing
