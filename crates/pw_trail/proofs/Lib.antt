@@ -1,8 +1,13 @@
 mod BodyForms
 mod Commits
+mod Committing
+mod DiscTests
 mod Framing
+mod Keeping
 mod Logging
 mod Loop
+mod Opening
+mod Orderly
 mod Prefixes
 mod Reading
 mod Recovering

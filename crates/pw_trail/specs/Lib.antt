@@ -1,7 +1,9 @@
 pub mod Body
+pub mod Committing
 pub mod Files
 pub mod Format
 pub mod OneFile
+pub mod Orderly
 pub mod Restoring
 pub mod Stored
 pub mod Values

@@ -3,6 +3,8 @@
 
 pub mod append;
 pub mod changes;
+#[cfg(test)]
+mod disc_tests;
 pub mod fault;
 pub mod log;
 pub mod open;
@@ -15,4 +17,5 @@ mod store;
 pub mod synced;
 #[cfg(test)]
 mod tests;
+pub mod trail;
 mod write;

@@ -23,5 +23,5 @@ returns-clause-ok c units before =
     let all : take c.loop-change.change-index items ≡ c.args.unit.now.changes =
     take_all c.loop-change.change-index items (omega (arith, c.loop-change-test.false)) ∙ c.as_slice-change-items.ensures in
     subst (λ (s : System). IsRestored s (units ++ c.args.unit.now ∷ []) (told_of c.loop-change.self.tmf)) (sym c.loop-change.invariant.system)
-    (restored-more c.args.self.now.system.now units c.args.unit.now old (told_of c.loop-change.self.tmf)
+    (restored-more c.args.self.now.system.now units c.args.unit.now old (told_of c.loop-change.self.tmf) c.requires
     (c.loop-change.invariant.told ∙ ap (λ (cs : List Change). record old { files = with_changes old.key_length old.files cs }) all) before)
