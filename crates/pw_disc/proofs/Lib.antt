@@ -1,3 +1,4 @@
 mod LineLemmas
 mod Making
 mod OneMember
+mod Seen

@@ -1,17 +1,20 @@
 -- What two members come to at the same call, and what a pair tells of it, which has faults of its own.
-use Rattle.std.proofs.Common.{◌≡◌, ℕ, ◌<◌, refl, sym, ap, ◌∙◌, cond, Bool, true, List, [], length, Option, arith}
+use Rattle.std.proofs.Common.{◌≡◌, ◌⊎◌, ℕ, ◌<◌, refl, sym, ap, subst, ◌∙◌, cond, Bool, true, false, List, [], length, Option, inl, inr, arith}
 use Rattle.pw_code.specs.declared.file.FileCall.{FileCall}
 use Rattle.pw_code.specs.declared.unit.Unit as unit
 use Rattle.pw_disc_call.specs.declared.call.DiscCall.{DiscCall}
 use Rattle.pw_disc_call.specs.declared.call.DiscCall.TheVariants.{Begin, Operate, Commit, BackOut}
 use Rattle.pw_locks.specs.Conflicts.{holders}
 use Rattle.pw_locks.specs.Oldest.{IsOldest}
+use Rattle.pw_tmf.specs.Answers.{Operates}
 use Rattle.pw_tmf.specs.Faulty.{with_faults}
 use Rattle.pw_tmf.specs.Operation.{IsCall, after_operation, lock_now}
 use Rattle.pw_tmf.specs.Told.{Told}
 use Rattle.pw_tmf.specs.Units.{CanBegin, all_backed_out, begun, ended}
+use Rattle.pw_tmf.specs.declared.answer.FileAnswer.{FileAnswer}
 use Rattle.pw_tmf.proofs.WithFaults.{all-inside, faults-backed_out, running-inside}
-use Rattle.pw_disc.specs.Calls.{CanMake, Makes, is_done, is_operation}
+use Rattle.pw_disc.specs.Calls.{CanMake, IsAnswer, Makes, is_done, is_operation}
+use Rattle.pw_disc.specs.Pair.{PairState, after_outcome}
 use Rattle.pw_disc.specs.declared.outcome.Outcome.{Outcome}
 use Rattle.pw_disc.specs.declared.outcome.Outcome.TheVariants.{Done, Operated, Conflict}
 
@@ -134,3 +137,31 @@ pub operate_answers : (a : Outcome) (told new : Told) (u : unit.Unit) (call : Fi
 operate_answers Done told new u call made = absurd made
 operate_answers (Operated status content) told new u call made = refl
 operate_answers (Conflict holder) told new u call made = refl
+
+-- what one of two members came to is told by the pair
+pub answered : (a b result : Outcome) (call : DiscCall) (n : ℕ) (told told_new old new : Told) → with_faults n told ≡ old → new ≡ with_faults n told_new
+    → Makes a told call told_new → Makes b told call told_new → (result ≡ a) ⊎ (result ≡ b) → Makes result old call new
+answered a b result call n told told_new old new is is_new by_a by_b (inl e) =
+    subst (λ (o : Outcome). Makes o old call new) (sym e)
+    (subst (λ (t : Told). Makes a t call new) is (subst (λ (t : Told). Makes a (with_faults n told) call t) (sym is_new) (makes_outside n a told told_new call by_a)))
+answered a b result call n told told_new old new is is_new by_a by_b (inr e) =
+    subst (λ (o : Outcome). Makes o old call new) (sym e)
+    (subst (λ (t : Told). Makes b t call new) is (subst (λ (t : Told). Makes b (with_faults n told) call t) (sym is_new) (makes_outside n b told told_new call by_b)))
+
+-- what is told stays where a call counts
+pub told_stays : (done : Bool) (pair : PairState) → (after_outcome done pair).told ≡ pair.told
+told_stays true pair = refl
+told_stays false pair = refl
+
+-- an operation answers what it came to
+answers : (a : Outcome) (result : FileAnswer) (old new : Told) (u : unit.Unit) (call : FileCall)
+    → Makes a old (Operate u call) new → IsAnswer a result → Operates result old u call new
+answers Done result old new u call made is = absurd made
+answers (Operated status content) result old new u call made is = subst (λ (r : FileAnswer). Operates r old u call new) (sym is) made
+answers (Conflict holder) result old new u call made is = subst (λ (r : FileAnswer). Operates r old u call new) (sym is) made
+
+pub operated : (a : Outcome) (result : FileAnswer) (between old new : Told) (u : unit.Unit) (copy call : FileCall) → between ≡ old → copy ≡ call
+    → Makes a between (Operate u copy) new → IsAnswer a result → Operates result old u call new
+operated a result between old new u copy call is is_copy made answer =
+    answers a result old new u call
+    (subst (λ (t : Told). Makes a t (Operate u call) new) is (subst (λ (k : FileCall). Makes a between (Operate u k) new) is_copy made)) answer

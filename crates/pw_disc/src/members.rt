@@ -1,0 +1,28 @@
+ghost use Rattle.std.specs.Prelude.{◌≡◌};
+ghost use Rattle.pw_tmf.specs.Tmf.{told_of};
+ghost use Rattle.pw_disc.specs.Pair.{AreEqual};
+
+use crate::backup::DiscBackup;
+use pw_disc_call::script::DiscLine;
+use pw_tmf::tmf::Tmf;
+
+/// The primary fails, and its backup, if there is one, takes over.
+pub fn take_over(primary: &mut Tmf, backup: Option<DiscBackup>)
+    requires { AreEqual primary.old backup }
+    ensures { told_of primary.new ≡ told_of primary.old }
+{
+    if let Some(backup) = backup {
+        *primary = backup.takeover();
+    }
+}
+
+/// The member fails that a line speaks of.
+pub fn fail_member(primary: &mut Tmf, backup: Option<DiscBackup>, line: DiscLine)
+    requires { AreEqual primary.old backup }
+    ensures { told_of primary.new ≡ told_of primary.old }
+{
+    match line {
+        DiscLine::Primary(_) | DiscLine::Held(_) => take_over(primary, backup),
+        DiscLine::Backup(_) => (),
+    }
+}
