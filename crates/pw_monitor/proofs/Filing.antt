@@ -1,5 +1,5 @@
 -- The image of a message is filed: a world stays one.
-use Rattle.std.proofs.Common.{◌≡◌, ◌∙◌, ◌↔◌, ℕ, ◌≤◌, Bool, true, false, Some, None, Option, ap, length, refl, subst, sym, inl, inr}
+use Rattle.std.proofs.Common.{◌≡◌, ◌∙◌, ◌↔◌, ℕ, ◌≤◌, Bool, true, false, Some, None, ap, length, refl, subst, sym, inl, inr}
 use Rattle.std.proofs.lemmas.Bool.{cases_Bool}
 use Rattle.std.proofs.lemmas.List.{get_or_past}
 use Rattle.std.specs.Prelude.{IsTrue}
@@ -16,8 +16,8 @@ use Rattle.pw_monitor_world.proofs.Steps.{placed}
 use Rattle.pw_monitor_world.specs.Calls.{GivesBack}
 use Rattle.pw_monitor_world.specs.Seen.{Seen}
 use Rattle.pw_monitor_world.specs.Worlds.{IsWorld}
-use Rattle.pw_pair.specs.Pairs.{SeenPair, changed_at}
-use Rattle.pw_pair.specs.SeenTask.{SeenDone, SeenTask}
+use Rattle.pw_pair.specs.Pairs.{changed_at}
+use Rattle.pw_pair.specs.SeenTask.{SeenDone}
 use Rattle.pw_pair.specs.Seats.{built}
 use Rattle.pw_pair.specs.Tasks.{waiting_task}
 use Rattle.pw_roster.specs.Places.{all_marked, notes_in}

@@ -1,11 +1,10 @@
 -- What is noted of actors is no part of a log: a world stays one where it changes.
-use Rattle.std.proofs.Common.{◌≡◌, ◌∙◌, ℕ, Bool, true, false, ap, refl, subst, sym, inl, inr, ◌⊎◌, arith, rules}
+use Rattle.std.proofs.Common.{◌≡◌, ◌∙◌, ℕ, Bool, true, false, ap, refl, subst, sym, inl, inr, arith, rules}
 use Rattle.std.proofs.lemmas.Bool.{cases_Bool}
 use Rattle.std.specs.Prelude.{if◌then◌else◌}
 use Rattle.std.proofs.Math.Path.{fun_ext}
-use Rattle.pw_event.specs.declared.event.Event.{Event}
 use Rattle.pw_monitor_world.specs.Actors.{IsActor}
-use Rattle.pw_monitor_world.specs.Enabled.{HasStep, IsEnabled, IsUnread, MayWork}
+use Rattle.pw_monitor_world.specs.Enabled.{MayWork}
 use Rattle.pw_monitor_world.specs.Pushed.{AreMarked}
 use Rattle.pw_monitor_world.specs.Seen.{Seen, sys_of}
 use Rattle.pw_monitor_world.specs.Stamps.{IsStamp}

@@ -1,9 +1,8 @@
 -- The world before the first entry.
-use Rattle.std.proofs.Common.{◌≡◌, ◌∙◌, ℕ, ◌+◌, ◌-◌, ◌==◌, ◌<◌, ◌≤◌, ◌^◌, All, Bool, false, true, List, [], ◌∷◌, Some, length, ap, refl, subst, sym}
+use Rattle.std.proofs.Common.{◌≡◌, ◌∙◌, ℕ, ◌+◌, ◌-◌, ◌==◌, ◌<◌, ◌≤◌, ◌^◌, All, Bool, false, List, [], ◌∷◌, Some, length, ap, refl, subst, sym}
 use Rattle.std.proofs.Math.Path.{fun_ext}
 use Rattle.std.specs.Prelude.{if◌then◌else◌, slice_get}
 use Rattle.pw_code.specs.Valid.{IsValid}
-use Rattle.pw_code.specs.declared.context.Context.{Context}
 use Rattle.pw_code.specs.declared.system.System.{System}
 use Rattle.pw_code.specs.declared.system.TermInfo.{TermInfo}
 use Rattle.pw_event.specs.declared.event.Event.{Event}
@@ -16,7 +15,7 @@ use Rattle.pw_kept.specs.Arrivals.{StandsForPath}
 use Rattle.pw_kept.specs.Changes.{kept_start}
 use Rattle.pw_kept.specs.Kept.{Kept}
 use Rattle.pw_kept.specs.May.{IsLineThere}
-use Rattle.pw_monitor.proofs.Noting.{all-mark, all-out, all-stamp, marks_of, outs_of, stamps_of, world-noted}
+use Rattle.pw_monitor.proofs.Noting.{all-mark, all-out, all-stamp, outs_of, world-noted}
 use Rattle.pw_monitor.specs.Ledgers.{IsFirstLedger, LedgerState, books_of}
 use Rattle.pw_monitor.specs.States.{IsMonitor, WorldState, seen}
 use Rattle.pw_monitor_world.proofs.First.{first-world}
