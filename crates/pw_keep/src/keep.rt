@@ -2,7 +2,7 @@ ghost use Rattle.std.specs.Prelude.{◌≡◌, ◌==◌, ◌<◌, ◌^◌, ◌-�
 ghost use Rattle.std.specs.List.{IsDistinct};
 ghost use Rattle.pw_code.specs.Valid.{IsValid};
 ghost use Rattle.pw_keep.specs.Calls.{members_in};
-ghost use Rattle.pw_keep.specs.Keeps.{kept_in};
+ghost use Rattle.pw_keep.specs.Keeps.{IsKeep, kept_in};
 ghost use Rattle.pw_keep.specs.Starting.{IsIdleDisc, first_kept};
 ghost use Rattle.pw_kept.specs.Changes.{births_behind, unit_at};
 ghost use Rattle.pw_kept.specs.Entered.{tcp_of};
@@ -83,6 +83,15 @@ impl<D: Disc> Keep<D> {
         ensures { result.now ≡ self.now.system }
     {
         &self.system
+    }
+
+    /// Each part of what is kept has the size that the system says, and a pair has its terminals. It
+    /// does nothing.
+    pub fn known_parts(&self)
+        ensures { IsKeep self.now.system self.now.seats (D.told self.now.disc) self.now.book self.now.jobs
+            self.now.pairs }
+    {
+        let _births = self.births;
     }
 
     /// The disc, as the calls left it.

@@ -1,1 +1,5 @@
 mod Books
+mod Filing
+mod Lending
+mod Noting
+mod Starting

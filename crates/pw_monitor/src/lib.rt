@@ -6,6 +6,7 @@ mod contexts;
 mod fails;
 mod judging;
 mod ledger;
+pub mod lend;
 pub mod reading;
 pub mod task;
 mod values;

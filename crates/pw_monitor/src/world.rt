@@ -1,8 +1,17 @@
-ghost use Rattle.std.specs.Prelude.{◌≡◌};
+ghost use Rattle.std.specs.Prelude.{◌≡◌, ◌-◌, ◌<◌, ◌≤◌, ◌^◌, All, IfOk, length};
+ghost use Rattle.pw_code.specs.Valid.{IsValid};
+ghost use Rattle.pw_exec.specs.OfSystem.{behaviour};
+ghost use Rattle.pw_kept.specs.May.{IsLineThere};
+ghost use Rattle.pw_monitor.specs.States.{seen};
+ghost use Rattle.pw_monitor_world.specs.Worlds.{IsDiscOf, IsNew};
+ghost use Rattle.pw_onecopy.specs.IsBehaviour.{IsBehaviour};
 
 use crate::ledger::Ledger;
+use pw_base::memory::Memory;
+use pw_code::system::System;
 use pw_event::script::Script;
 use pw_keep::keep::Keep;
+use pw_monitor_world::stepping::first_laws;
 use pw_tmf::disc::Disc;
 use std::alloc::Global;
 use std::marker::Model;
@@ -49,6 +58,38 @@ impl<D: Disc> Model for World<D> {
 }
 
 impl<D: Disc> World<D> {
+    /// A new world of a system, whose failure lines name what it has, over a disc of it. Its log may
+    /// have `limit` entries, at most 500000. No actor is out.
+    pub fn new(
+        alloc: Global,
+        system: System,
+        script: Script,
+        disc: D,
+        limit: u32,
+    ) -> Result<World<D>, Memory>
+        requires valid { IsValid system }
+        requires deck { IsBehaviour (behaviour script.lines system) }
+        requires lines { All (IsLineThere system) script.lines }
+        requires few { length script.lines < 2 ^ 32 - 1 }
+        requires disc { IsDiscOf system script.lines (D.told disc) }
+        requires limit { limit ≤ 500000 }
+        ensures { IfOk result (λ world. IsNew system script.lines (D.told disc) limit (seen D.told world)) }
+    {
+        first_laws();
+        let ledger = Ledger::new(alloc, &system, &script)?;
+        let first = Snapshot::of(&disc);
+        let keep = Keep::new(alloc, system, disc)?;
+        Ok(World {
+            alloc,
+            keep,
+            first,
+            script,
+            limit,
+            failed: false,
+            ledger,
+        })
+    }
+
     /// The disc, as the calls left it. It takes no memory.
     pub fn into_disc(self) -> D
         ensures { result ≡ self.keep.disc }

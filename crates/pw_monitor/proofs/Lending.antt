@@ -1,0 +1,53 @@
+-- The first seat of a pair whose message waits is the one of its terminal, since no terminal has two.
+use Rattle.std.proofs.Common.{◌≡◌, ◌==◌, ℕ, Bool, true, false, List, [], ◌∷◌, Some, eq-eqb, map, refl, subst, inl, inr}
+use Rattle.std.proofs.lemmas.Bool.{cases_Bool}
+use Rattle.std.specs.List.{AllByRecursion, IsDistinct}
+use Rattle.std.specs.Prelude.{find}
+use Rattle.pw_pair.specs.Seats.{is_seat_of, is_waiting}
+use Rattle.pw_pair.specs.declared.seat.Seat.{Seat}
+
+abbrev terminals : List Seat → List ℕ
+terminals seats = map (λ (seat : Seat). seat.terminal) seats
+
+some-is : {X : Type 0} {x y : X} → Some x ≡ Some y → x ≡ y
+some-is e = cc e
+
+-- what holds of all terminals holds of that of a seat that is found
+found-all : (P : ℕ → Type 0) (test : Seat → Bool) (seats : List Seat) (seat : Seat) → AllByRecursion P (terminals seats)
+    → find test seats ≡ Some seat → P seat.terminal
+found-all P test [] seat each found = absurd (cc found)
+found-all P test (x ∷ xs) seat each found =
+    elim (cases_Bool (test x)) [
+      | inl passes ↦ let here : Some x ≡ Some seat = rw passes at found in subst (λ (s : Seat). P s.terminal) (some-is here) each.0
+      | inr fails ↦ let later : find test xs ≡ Some seat = rw fails at found in found-all P test xs seat each.1 later
+    ]
+
+found-test : (test : Seat → Bool) (seats : List Seat) (seat : Seat) → find test seats ≡ Some seat → test seat ≡ true
+found-test test [] seat found = absurd (cc found)
+found-test test (x ∷ xs) seat found =
+    elim (cases_Bool (test x)) [
+      | inl passes ↦ let here : Some x ≡ Some seat = rw passes at found in subst (λ s. test s ≡ true) (some-is here) passes
+      | inr fails ↦ let later : find test xs ≡ Some seat = rw fails at found in found-test test xs seat later
+    ]
+
+pub waits : (seats : List Seat) (seat : Seat) → find is_waiting seats ≡ Some seat → is_waiting seat ≡ true
+waits seats seat found = found-test is_waiting seats seat found
+
+pub own-seat : (test : Seat → Bool) (seats : List Seat) (seat : Seat) → IsDistinct (λ a b. a == b) (terminals seats)
+    → find test seats ≡ Some seat → find (is_seat_of seat.terminal) seats ≡ Some seat
+unfolding IsDistinct
+own-seat test [] seat distinct found = absurd (cc found)
+own-seat test (x ∷ xs) seat distinct found =
+    elim (cases_Bool (test x)) [
+      | inl passes ↦
+          let here : Some x ≡ Some seat = rw passes at found in
+          let own : (x.terminal == x.terminal) ≡ true = eq-eqb x.terminal x.terminal refl in
+          let first : find (is_seat_of x.terminal) (x ∷ xs) ≡ Some x = rw own refl in
+          subst (λ (s : Seat). find (is_seat_of s.terminal) (x ∷ xs) ≡ Some s) (some-is here) first
+      | inr fails ↦
+          let later : find test xs ≡ Some seat = rw fails at found in
+          let other : (x.terminal == seat.terminal) ≡ false =
+          found-all (λ y. (x.terminal == y) ≡ false) test xs seat distinct.0 later in
+          let rest = own-seat test xs seat distinct.1 later in
+          rw other rest
+    ]
