@@ -1,0 +1,35 @@
+-- A failure line that names what is there is one of the system.
+use Rattle.std.proofs.Common.{◌≡◌, ℕ, zero, suc, ◌<◌, List, [], ◌∷◌, length, All, refl, arith}
+use Rattle.std.specs.Prelude.{slice_get, slice_index_or}
+use Rattle.std.proofs.lemmas.List.Elements.{All-nil, All-cons, All-head, All-tail}
+use Rattle.pw_code.specs.declared.system.ClassInfo.{ClassInfo}
+use Rattle.pw_code.specs.declared.system.System.{System}
+use Rattle.pw_event.specs.Line.{no_class}
+use Rattle.pw_event.specs.declared.script.FailLine.{FailLine}
+use Rattle.pw_event.specs.declared.script.FailLine.TheVariants as line
+use Rattle.pw_exec.specs.OfSystem.{processes_by}
+use Rattle.pw_kept.specs.May.{IsLineThere}
+use Rattle.pw_whole.specs.Named.{IsNamed}
+
+processes-same : (classes : List ClassInfo) (c : ℕ) → c < length classes
+    → (slice_index_or classes c no_class).processes ≡ processes_by (slice_get classes c)
+processes-same [] c less = absurd (omega (arith, less))
+processes-same (x ∷ xs) zero less = refl
+processes-same (x ∷ xs) (suc c) less = processes-same xs c (omega (arith, less))
+
+line-there : (system : System) (one : FailLine) → IsNamed system one → IsLineThere system one
+line-there system (line.Tcp p primary after) named = named.0
+line-there system (line.Server c i after) named =
+    record {
+      class = named.0.0;
+      low = named.1.0;
+      high = omega (arith, named.0.1, processes-same system.classes c named.0.0);
+    }
+
+pub lines-there : (system : System) (lines : List FailLine) → All (IsNamed system) lines
+    → All (IsLineThere system) lines
+lines-there system [] all = All-nil (IsLineThere system)
+lines-there system (x ∷ xs) all =
+    All-cons (IsLineThere system) x xs
+    (line-there system x (All-head (IsNamed system) x xs all))
+    (lines-there system xs (All-tail (IsNamed system) x xs all))
