@@ -2,4 +2,5 @@ mod Books
 mod Filing
 mod Lending
 mod Noting
+mod ShownValues
 mod Starting

@@ -5,6 +5,7 @@ mod actors;
 mod contexts;
 mod fails;
 mod judging;
+mod knowing;
 mod ledger;
 pub mod lend;
 pub mod reading;
