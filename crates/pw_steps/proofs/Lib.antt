@@ -4,6 +4,8 @@ pub mod AtVerb
 pub mod CallLemmas
 pub mod EndTests
 pub mod Ends
+pub mod Held
 pub mod Imaged
 pub mod Left
+pub mod Meets
 pub mod Once

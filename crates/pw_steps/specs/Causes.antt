@@ -1,5 +1,7 @@
 -- The causes for which a unit restarts: which one was found, and whether any is there.
-use Rattle.std.specs.Prelude.{◌≡◌, ℕ, ◌+◌, ◌<◌, ◌||◌, nat_lt, Bool, true, false, length, Option, Some, None, slice_get, if◌then◌else◌}
+use Rattle.std.specs.Prelude.{◌≡◌, ℕ, ◌+◌, ◌<◌, ◌==◌, ◌||◌, nat_lt, Bool, true, false, length, Option, Some, None, slice_get, if◌then◌else◌}
+use Rattle.pw_class.specs.declared.request.Request.{Request}
+use Rattle.pw_code.specs.declared.file.FileCall.{FileCall}
 use Rattle.pw_code.specs.declared.system.System.{System}
 use Rattle.pw_code.specs.declared.unit.Unit as unit
 use Rattle.pw_event.specs.declared.event.Cause.{Cause}
@@ -9,6 +11,7 @@ use Rattle.pw_kept.specs.ClassTests.{works_where}
 use Rattle.pw_kept.specs.Kept.{Kept}
 use Rattle.pw_paired.specs.Units.{any_below}
 use Rattle.pw_tmf.specs.Leaving.{unit_told}
+use Rattle.pw_tmf.specs.Operation.{awaits}
 use Rattle.pw_tmf.specs.Told.{ToldUnit}
 use Rattle.pw_tmf.specs.declared.answer.Foreseen.{Foreseen}
 use Rattle.pw_tmf.specs.declared.answer.Foreseen.TheVariants as foreseen
@@ -30,6 +33,13 @@ abbrev pub process_meets : System → Kept → unit.Unit → unit.Unit → ℕ �
 process_meets system kept one other c i =
     works_where kept c i (work_meets system kept one other)
     || works_where kept c i (work_meets system kept other one)
+
+-- the operation, of a request for one of two units, conflicts with a lock of the other
+abbrev pub meets_by : Kept → unit.Unit → unit.Unit → Request → FileCall → Bool
+meets_by kept one other request call =
+    if request.terminal == one.terminal then awaits kept.disc one call other
+    else if request.terminal == other.terminal then awaits kept.disc other call one
+    else false
 
 -- the same of some process of a class
 abbrev pub class_meets : System → Kept → unit.Unit → unit.Unit → ℕ → Bool

@@ -7,7 +7,7 @@ ghost use Rattle.pw_class.specs.declared.request.Request.{Request as SeenRequest
 ghost use Rattle.pw_code.specs.declared.file.FileCall.{FileCall as SeenCall};
 ghost use Rattle.pw_keep.specs.Keeps.{kept_in};
 ghost use Rattle.pw_kept.specs.Changes.{unit_at};
-ghost use Rattle.pw_kept.specs.ClassTests.{is_call_for, may_reply, may_take};
+ghost use Rattle.pw_kept.specs.ClassTests.{is_call_for, may_file, may_reply, may_take};
 ghost use Rattle.pw_kept.specs.Read.{IsServerRead};
 ghost use Rattle.pw_steps.specs.Calls.{IsCallFound, IsVerbAt, call_in, is_done};
 ghost use Rattle.pw_steps.specs.Known.{IsKnown};
@@ -81,8 +81,29 @@ fn file_call(verb: Option<&Verb>) -> Option<&FileCall>
     }
 }
 
+/// FILE: the server in the process stands at this operation, and no other unit holds a lock that
+/// conflicts with its own.
+pub fn may_file<D: Disc>(
+    keep: &Keep<D>,
+    class: u32,
+    process: u32,
+    told: &Told,
+) -> Result<bool, Memory>
+    requires class { class < length keep.now.system.classes }
+    requires process { 1 ≤ process }
+    requires known { IsKnown keep.now.system (kept_in D.told keep.now) }
+    ensures { IfOk result (λ passes. IsServerRead (kept_in D.told keep.now) class process
+        → passes ≡ may_file keep.now.system (kept_in D.told keep.now) class process
+        told.now.op told.now.mode told.now.file told.now.status) }
+{
+    match call_at(keep, class, process) {
+        Some((request, call)) => is_call(keep, request, call, told),
+        None => Ok(false),
+    }
+}
+
 /// Whether the call is this operation, and no other unit holds a lock that conflicts with its own.
-pub fn is_call<D: Disc>(
+fn is_call<D: Disc>(
     keep: &Keep<D>,
     request: &Request,
     call: &FileCall,
