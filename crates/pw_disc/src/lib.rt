@@ -10,3 +10,5 @@ mod members;
 pub mod outcome;
 pub mod pair;
 pub mod standing;
+#[cfg(test)]
+mod tests;
