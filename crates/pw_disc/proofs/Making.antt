@@ -107,37 +107,6 @@ makes_outside n (Conflict holder) told new (Operate u call) made = (made.0, ap (
 makes_outside n (Conflict holder) told new (Commit u reply) made = absurd made
 makes_outside n (Conflict holder) told new (BackOut units ends) made = absurd made
 
--- what a call of each kind makes of what is told
-pub begin_made : (a : Outcome) (told new : Told) (u : unit.Unit) → Makes a told (Begin u) new → new ≡ begun told u
-begin_made a told new u made = made_is a told new (Begin u) made
-
-pub commit_made : (a : Outcome) (told new : Told) (u : unit.Unit) (reply : Option (List ℕ)) → Makes a told (Commit u reply) new → new ≡ ended told u reply
-commit_made a told new u reply made = made_is a told new (Commit u reply) made
-
-pub back_out_made : (a : Outcome) (told new : Told) (units : List unit.Unit) (ends : Bool) → Makes a told (BackOut units ends) new → new ≡ all_backed_out ends told units
-back_out_made a told new units ends made = made_is a told new (BackOut units ends) made
-
--- one that answers nothing was done, and an operation answers
-pub begin_done : (a : Outcome) (told new : Told) (u : unit.Unit) → Makes a told (Begin u) new → is_done a ≡ true
-begin_done Done told new u made = refl
-begin_done (Operated status content) told new u made = absurd made
-begin_done (Conflict holder) told new u made = absurd made
-
-pub commit_done : (a : Outcome) (told new : Told) (u : unit.Unit) (reply : Option (List ℕ)) → Makes a told (Commit u reply) new → is_done a ≡ true
-commit_done Done told new u reply made = refl
-commit_done (Operated status content) told new u reply made = absurd made
-commit_done (Conflict holder) told new u reply made = absurd made
-
-pub back_out_done : (a : Outcome) (told new : Told) (units : List unit.Unit) (ends : Bool) → Makes a told (BackOut units ends) new → is_done a ≡ true
-back_out_done Done told new units ends made = refl
-back_out_done (Operated status content) told new units ends made = absurd made
-back_out_done (Conflict holder) told new units ends made = absurd made
-
-pub operate_answers : (a : Outcome) (told new : Told) (u : unit.Unit) (call : FileCall) → Makes a told (Operate u call) new → is_operation a ≡ true
-operate_answers Done told new u call made = absurd made
-operate_answers (Operated status content) told new u call made = refl
-operate_answers (Conflict holder) told new u call made = refl
-
 -- what one of two members came to is told by the pair
 pub answered : (a b result : Outcome) (call : DiscCall) (n : ℕ) (told told_new old new : Told) → with_faults n told ≡ old → new ≡ with_faults n told_new
     → Makes a told call told_new → Makes b told call told_new → (result ≡ a) ⊎ (result ≡ b) → Makes result old call new
