@@ -22,7 +22,8 @@ terminal-at o (Some told) u e = ap (λ (x : unit.Unit). x.terminal) (sym (some-i
 
 module _ (system : System) (kept : Kept) where
   -- the unit is named by what the disc tells of it
-  pub named : (own : unit.Unit) → IsUnit system kept own → (told : ToldUnit) → kept.disc.units own.terminal ≡ Some told
+  pub named : (own : unit.Unit) → IsUnit system kept own → (told : ToldUnit)
+      → kept.disc.units own.terminal ≡ Some told
       → unit_named own.terminal told ≡ own
   named own is told here = some-is (sym (ap (unit_told own.terminal) here) ∙ is.open_unit)
 
@@ -38,20 +39,24 @@ module _ (system : System) (kept : Kept) where
     }
 
   module _ (known : IsKnown system kept) where
-    started-at : (o : ℕ) (it : Option ToldUnit) → kept.disc.units o ≡ it → length system.terminals ≤ o → unit_told o it ≡ None
+    started-at : (o : ℕ) (it : Option ToldUnit) → kept.disc.units o ≡ it → length system.terminals ≤ o
+        → unit_told o it ≡ None
     started-at o None is above = refl
     started-at o (Some told) is above =
-        let below : o < length system.terminals = known.started o told is in absurd (omega (arith, below, above))
+        let below : o < length system.terminals = known.started o told is in absurd
+        (omega (arith, below, above))
 
     -- only a started terminal has one
     pub none-above : (o : ℕ) → length system.terminals ≤ o → unit_told o (kept.disc.units o) ≡ None
     none-above o above = started-at o (kept.disc.units o) refl above
 
-    there-at : (o : ℕ) (it : Option ToldUnit) (u : unit.Unit) → kept.disc.units o ≡ it → unit_told o it ≡ Some u → o < length system.terminals
+    there-at : (o : ℕ) (it : Option ToldUnit) (u : unit.Unit) → kept.disc.units o ≡ it
+        → unit_told o it ≡ Some u → o < length system.terminals
     there-at o None u is e = cc e
     there-at o (Some told) u is e = known.started o told is
 
-    pub unit-found : (o : ℕ) (u : unit.Unit) → unit_told o (kept.disc.units o) ≡ Some u → IsUnit system kept u
+    pub unit-found : (o : ℕ) (u : unit.Unit) → unit_told o (kept.disc.units o) ≡ Some u
+        → IsUnit system kept u
     unit-found o u e = unit-of o u e (there-at o (kept.disc.units o) u refl e)
 
 -- ---- one that runs
@@ -82,7 +87,8 @@ module _ (t : ℕ) where
   run-else (Some told) e = sym (ap (λ b. cond b (Some (unit_named t told)) None) e)
 
   module _ (kept : Kept) where
-    run-at : (it : Option ToldUnit) (own : unit.Unit) → kept.disc.units t ≡ it → running_told t it ≡ Some own → IsRun kept t own
+    run-at : (it : Option ToldUnit) (own : unit.Unit) → kept.disc.units t ≡ it
+        → running_told t it ≡ Some own → IsRun kept t own
     run-at None own is e = cc e
     run-at (Some told) own is e =
         let parts = cond-some told.running (unit_named t told) own e in
@@ -92,9 +98,11 @@ module _ (t : ℕ) where
     is-run own e = run-at (kept.disc.units t) own refl e
 
     -- it is open
-    pub run-unit : (system : System) (own : unit.Unit) → t < length system.terminals → IsRun kept t own → IsUnit system kept own
+    pub run-unit : (system : System) (own : unit.Unit) → t < length system.terminals → IsRun kept t own
+        → IsUnit system kept own
     run-unit system own there run =
-        unit-of system kept t own (ap (unit_told t) run.here ∙ ap (λ (u : unit.Unit). Some u) run.named) there
+        unit-of system kept t own (ap (unit_told t) run.here ∙ ap (λ (u : unit.Unit). Some u) run.named)
+        there
 
     pub run-terminal : (own : unit.Unit) → IsRun kept t own → own.terminal ≡ t
     run-terminal own run = ap (λ (u : unit.Unit). u.terminal) (sym run.named)

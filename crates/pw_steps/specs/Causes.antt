@@ -47,7 +47,8 @@ meets_by kept one other request call =
 -- the same of some process of a class
 abbrev pub class_meets : System → Kept → unit.Unit → unit.Unit → ℕ → Bool
 class_meets system kept one other c =
-    any_below (processes_by (slice_get system.classes c)) (λ i. process_meets system kept one other c (i + 1))
+    any_below (processes_by (slice_get system.classes c))
+    (λ i. process_meets system kept one other c (i + 1))
 
 -- the same of some process
 abbrev pub units_meet : System → Kept → unit.Unit → unit.Unit → Bool
@@ -57,7 +58,8 @@ units_meet system kept one other =
 -- the other unit has this number and is older, while a member of the unit's pair is left
 abbrev pub comes_before : System → Kept → unit.Unit → unit.Unit → ℕ → Bool
 comes_before system kept own older m =
-    older.number == m && (nat_lt older.birth own.birth && not (is_gone (pair_of system kept own.terminal).mode))
+    older.number == m && (nat_lt older.birth own.birth
+    && not (is_gone (pair_of system kept own.terminal).mode))
 
 -- ---- what was found
 

@@ -94,8 +94,7 @@ fn has_restart_left<D: Disc>(keep: &Keep<D>, terminal: u32, own: &Unit, unit: u3
         && nat_lt ((kept_in D.told keep.now).terminals terminal).restarts
         (most_restarts keep.now.system terminal)) }
 {
-    own.number == unit
-        && keep.seat(terminal).restarts < most_restarts(keep.system(), terminal)
+    own.number == unit && keep.seat(terminal).restarts < most_restarts(keep.system(), terminal)
 }
 
 /// Whether the unit of a terminal has restarted as often as it may.

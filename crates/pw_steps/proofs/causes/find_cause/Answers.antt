@@ -11,7 +11,9 @@ returns g c =
     let system = c.args.keep.now.system in
     let kept = kept_in g.D.Disc.told c.args.keep.now in
     let own = c.args.own.now in
-    IfOk-weaker c.older_cause.result (IsOneFound IsOlderCause system kept own) (IsCauseFound system kept own)
+    IfOk-weaker c.older_cause.result (IsOneFound IsOlderCause system kept own)
+    (IsCauseFound system kept own)
     (all-found system kept c.requires.known own c.requires.open
-    (subst (IsOneFound (λ cause. (kept.terminals own.terminal).pending ≡ Some cause) system kept own) c.in_default.is c.in_ok-cause.ensures)
+    (subst (IsOneFound (λ cause. (kept.terminals own.terminal).pending ≡ Some cause) system kept own)
+    c.in_default.is c.in_ok-cause.ensures)
     (sym c.is_redo.ensures ∙ c.if-is_redo.false)) c.older_cause.ensures

@@ -16,14 +16,16 @@ holds-requires-clause-open g c κs within =
 
 pub returns-in_default : goal.returns-in_default
 returns-in_default g c =
-    sym (idle-restart c.args.keep.now.system (kept_in g.D.Disc.told c.args.keep.now) c.args.terminal (sym c.running.ensures ∙ c.in_default.is)
+    sym (idle-restart c.args.keep.now.system (kept_in g.D.Disc.told c.args.keep.now) c.args.terminal
+    (sym c.running.ensures ∙ c.in_default.is)
     c.args.unit c.args.cause)
 
 pub returns-else-has_restart_left : goal.returns-else-has_restart_left
 returns-else-has_restart_left g c =
     let kept = kept_in g.D.Disc.told c.args.keep.now in
     restarts-not c.args.keep.now.system kept c.args.terminal c.in-Some.own
-    (is-run c.args.terminal kept c.in-Some.own (sym c.running.ensures ∙ c.in-Some.is)) c.args.unit c.args.cause
+    (is-run c.args.terminal kept c.in-Some.own (sym c.running.ensures ∙ c.in-Some.is)) c.args.unit
+    c.args.cause
     (sym c.has_restart_left.ensures ∙ c.if-has_restart_left.false)
 
 pub returns-then-has_restart_left : goal.returns-then-has_restart_left
@@ -33,7 +35,9 @@ returns-then-has_restart_left g c =
     let own = c.in-Some.own in
     let t = c.args.terminal in
     IfOk-weaker c.holds.result
-    (λ passes. (told : ToldUnit) → kept.disc.units own.terminal ≡ Some told → passes ≡ holds system kept own.terminal told c.args.cause)
+    (λ passes. (told : ToldUnit) → kept.disc.units own.terminal ≡ Some told → passes
+    ≡ holds system kept own.terminal told c.args.cause)
     (λ passes. passes ≡ may_restart system kept t c.args.unit c.args.cause)
-    (restarts system kept t own (is-run t kept own (sym c.running.ensures ∙ c.in-Some.is)) c.args.unit c.args.cause
+    (restarts system kept t own (is-run t kept own (sym c.running.ensures ∙ c.in-Some.is)) c.args.unit
+    c.args.cause
     (sym c.has_restart_left.ensures ∙ c.if-has_restart_left.true)) c.holds.ensures

@@ -16,7 +16,8 @@ holds-requires-clause-open g c κs within =
 
 pub returns-in_default : goal.returns-in_default
 returns-in_default g c =
-    sym (idle-suspend c.args.keep.now.system (kept_in g.D.Disc.told c.args.keep.now) c.args.terminal (sym c.running.ensures ∙ c.in_default.is)
+    sym (idle-suspend c.args.keep.now.system (kept_in g.D.Disc.told c.args.keep.now) c.args.terminal
+    (sym c.running.ensures ∙ c.in_default.is)
     c.args.cause)
 
 pub returns-else-is_at_most : goal.returns-else-is_at_most
@@ -33,7 +34,8 @@ returns-then-is_at_most g c =
     let own = c.in-Some.own in
     let t = c.args.terminal in
     IfOk-weaker c.holds.result
-    (λ passes. (told : ToldUnit) → kept.disc.units own.terminal ≡ Some told → passes ≡ holds system kept own.terminal told c.args.cause)
+    (λ passes. (told : ToldUnit) → kept.disc.units own.terminal ≡ Some told → passes
+    ≡ holds system kept own.terminal told c.args.cause)
     (λ passes. passes ≡ may_suspend system kept t c.args.cause)
     (suspends system kept t own (is-run t kept own (sym c.running.ensures ∙ c.in-Some.is)) c.args.cause
     (sym c.is_at_most.ensures ∙ c.if-is_at_most.true)) c.holds.ensures

@@ -7,4 +7,5 @@ use Rattle.pw_steps.proofs.older.class_meets.Given as goal
 
 abbrev pub invariant-loop-place : goal.invariant-loop-place
 invariant-loop-place g l =
-    l.found ≡ any_below l.place (λ i. process_meets l.keep.system (kept_in g.D.Disc.told l.keep) l.one l.other l.class (i + 1))
+    l.found ≡ any_below l.place
+    (λ i. process_meets l.keep.system (kept_in g.D.Disc.told l.keep) l.one l.other l.class (i + 1))

@@ -1,5 +1,5 @@
 -- What is found at a class is found, and what is found at none is not.
-use Rattle.std.proofs.Common.{◌≡◌, ◌<◌, ap, arith, length, subst, None, ℕ}
+use Rattle.std.proofs.Common.{◌≡◌, ◌<◌, ap, arith, length, subst, None}
 use borrow.Author.Count.{below_more}
 use Rattle.pw_code.specs.declared.system.System.{System}
 use Rattle.pw_keep.specs.Keeps.{kept_in}
@@ -12,8 +12,11 @@ loop-class-preserved g c =
     let system = c.args.keep.now.system in
     let kept = kept_in g.D.Disc.told c.args.keep.now in
     let own = c.args.own.now in
-    below_more (λ k. IsOlderFound system kept own (λ older. class_meets system kept own older k) None) c.loop-class.class c.loop-class.invariant
-    (subst (IsOlderFound system kept own (λ older. class_meets system kept own older c.loop-class.class)) c.in_default.is c.in_ok-older.ensures)
+    below_more (λ k. IsOlderFound system kept own (λ older. class_meets system kept own older k) None)
+    c.loop-class.class c.loop-class.invariant
+    (subst (IsOlderFound system kept own
+    (λ older. class_meets system kept own older c.loop-class.class)) c.in_default.is
+    c.in_ok-older.ensures)
 
 pub returns-in-Some : goal.returns-in-Some
 returns-in-Some g c =
@@ -22,8 +25,10 @@ returns-in-Some g c =
     let own = c.args.own.now in
     let same : length c.system.result.now.classes ≡ length c.args.keep.now.system.classes =
     ap (λ (s : System). length s.classes) c.system.ensures in
-    found-in system kept own (length system.classes) (λ o k. class_meets system kept own o k) c.in-Some.older c.loop-class.class (omega arith)
-    (subst (IsOlderFound system kept own (λ older. class_meets system kept own older c.loop-class.class)) c.in-Some.is c.in_ok-older.ensures)
+    found-in system kept own (length system.classes) (λ o k. class_meets system kept own o k)
+    c.in-Some.older c.loop-class.class (omega arith)
+    (subst (IsOlderFound system kept own
+    (λ older. class_meets system kept own older c.loop-class.class)) c.in-Some.is c.in_ok-older.ensures)
 
 pub returns : goal.returns
 returns g c =

@@ -7,4 +7,5 @@ use Rattle.pw_steps.proofs.older.meet.Given as goal
 
 abbrev pub invariant-loop-class : goal.invariant-loop-class
 invariant-loop-class g l =
-    l.found ≡ any_below l.class (λ c. class_meets l.keep.system (kept_in g.D.Disc.told l.keep) l.one l.other c)
+    l.found ≡ any_below l.class
+    (λ c. class_meets l.keep.system (kept_in g.D.Disc.told l.keep) l.one l.other c)

@@ -8,4 +8,5 @@ abbrev pub invariant-loop-place : goal.invariant-loop-place
 invariant-loop-place g l =
     (i : ℕ) → i < l.place
     → IsOlderFound l.keep.system (kept_in g.D.Disc.told l.keep) l.own
-    (λ older. process_meets l.keep.system (kept_in g.D.Disc.told l.keep) l.own older l.class (i + 1)) None
+    (λ older. process_meets l.keep.system (kept_in g.D.Disc.told l.keep) l.own older l.class (i + 1))
+    None

@@ -9,4 +9,5 @@ pub returns-else-terminal-len : goal.returns-else-terminal-len
 returns-else-terminal-len g c =
     let same : length c.system.result.now.terminals ≡ length c.args.keep.now.system.terminals =
     ap (λ (s : System). length s.terminals) c.system.ensures in
-    sym (none-above c.args.keep.now.system (kept_in g.D.Disc.told c.args.keep.now) c.requires.known c.args.terminal (omega arith))
+    sym (none-above c.args.keep.now.system (kept_in g.D.Disc.told c.args.keep.now) c.requires.known
+    c.args.terminal (omega arith))
