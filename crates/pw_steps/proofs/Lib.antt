@@ -1,11 +1,17 @@
 pub mod Anywhere
 pub mod At
 pub mod AtVerb
+pub mod ByRequest
 pub mod CallLemmas
+pub mod CauseFound
 pub mod EndTests
 pub mod Ends
 pub mod Held
 pub mod Imaged
 pub mod Left
 pub mod Meets
+pub mod OlderFound
+pub mod OlderTest
 pub mod Once
+pub mod Opened
+pub mod Runs

@@ -3,8 +3,10 @@
 #![tactic(auto)]
 
 pub mod at_verb;
+pub mod causes;
 pub mod classes;
 mod images;
+mod older;
 pub mod pairs;
 pub mod terminals;
 pub mod there;
