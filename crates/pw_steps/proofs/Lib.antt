@@ -2,10 +2,15 @@ pub mod Anywhere
 pub mod At
 pub mod AtVerb
 pub mod CallLemmas
+pub mod Caused
 pub mod EndTests
 pub mod Ends
+pub mod Found
 pub mod Held
 pub mod Imaged
 pub mod Left
 pub mod Meets
+pub mod NoStep
+pub mod OfPair
 pub mod Once
+pub mod Working
