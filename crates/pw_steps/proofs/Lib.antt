@@ -1,10 +1,12 @@
 pub mod Anywhere
 pub mod At
 pub mod AtVerb
+pub mod ByRequest
 pub mod CallLemmas
-pub mod Caused
+pub mod CauseFound
 pub mod EndTests
 pub mod Ends
+pub mod Forced
 pub mod Found
 pub mod Held
 pub mod Imaged
@@ -12,5 +14,9 @@ pub mod Left
 pub mod Meets
 pub mod NoStep
 pub mod OfPair
+pub mod OlderFound
+pub mod OlderTest
 pub mod Once
+pub mod Opened
+pub mod Runs
 pub mod Working

@@ -8,6 +8,7 @@ mod classes;
 mod images;
 pub mod may;
 mod members;
+mod older;
 mod pairs;
 pub mod step;
 mod terminals;

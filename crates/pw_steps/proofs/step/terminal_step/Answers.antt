@@ -3,7 +3,7 @@ use Rattle.std.proofs.Common.{subst, sym, ◌∙◌}
 use Rattle.std.proofs.lemmas.Result.{IfOk-weaker}
 use Rattle.pw_keep.specs.Keeps.{kept_in}
 use Rattle.pw_roster.specs.declared.actor.Actor.TheVariants.{Terminal}
-use Rattle.pw_steps.proofs.Caused.{forced}
+use Rattle.pw_steps.proofs.Forced.{forced}
 use Rattle.pw_steps.proofs.Found.{none-if}
 use Rattle.pw_steps.specs.Steps.{HasNoCausedStep, IsFoundOr, IsStepFound}
 use Rattle.pw_steps.specs.Verbs.{HasNoVerbStep}
