@@ -6,12 +6,17 @@ pub mod CallLemmas
 pub mod CauseFound
 pub mod EndTests
 pub mod Ends
+pub mod Forced
+pub mod Found
 pub mod Held
 pub mod Imaged
 pub mod Left
 pub mod Meets
+pub mod NoStep
+pub mod OfPair
 pub mod OlderFound
 pub mod OlderTest
 pub mod Once
 pub mod Opened
 pub mod Runs
+pub mod Working

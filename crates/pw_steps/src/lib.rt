@@ -2,13 +2,17 @@
 //! one.
 #![tactic(auto)]
 
-pub mod at_verb;
-pub mod causes;
-pub mod classes;
+mod at_verb;
+mod causes;
+mod classes;
 mod images;
+pub mod may;
+mod members;
 mod older;
-pub mod pairs;
-pub mod terminals;
+mod pairs;
+pub mod step;
+mod terminals;
 pub mod there;
-pub mod units;
+mod units;
 mod verbs;
+mod works;
