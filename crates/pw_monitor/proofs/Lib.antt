@@ -1,6 +1,12 @@
 mod Books
 mod Filing
 mod Lending
+mod Listing
+mod Named
 mod Noting
+mod Pushing
+mod Screens
 mod ShownValues
+mod Stamped
 mod Starting
+mod Touching
