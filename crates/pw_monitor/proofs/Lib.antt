@@ -1,5 +1,6 @@
 mod Books
 mod Filing
+mod FoundSteps
 mod Lending
 mod Noting
 mod ShownValues

@@ -4,6 +4,7 @@
 mod actors;
 mod contexts;
 mod fails;
+mod finding;
 mod judging;
 mod knowing;
 mod ledger;
