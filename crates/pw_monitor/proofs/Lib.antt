@@ -1,4 +1,5 @@
 mod Books
+mod Claiming
 mod Filing
 mod FoundSteps
 mod Lending

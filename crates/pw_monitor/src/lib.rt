@@ -2,6 +2,7 @@
 #![tactic(auto)]
 
 mod actors;
+pub mod claim;
 mod contexts;
 mod fails;
 mod finding;
