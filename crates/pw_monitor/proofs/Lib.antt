@@ -1,8 +1,11 @@
+mod Applying
 mod Books
 mod Claiming
 mod Filing
 mod FoundSteps
 mod Lending
 mod Noting
+mod PutBack
+mod RanFound
 mod ShownValues
 mod Starting

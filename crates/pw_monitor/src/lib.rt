@@ -2,6 +2,7 @@
 #![tactic(auto)]
 
 mod actors;
+pub mod apply;
 pub mod claim;
 mod contexts;
 mod fails;
@@ -10,6 +11,7 @@ mod judging;
 mod knowing;
 mod ledger;
 pub mod lend;
+mod put_back;
 pub mod reading;
 pub mod task;
 mod values;
