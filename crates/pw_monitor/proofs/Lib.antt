@@ -1,10 +1,15 @@
+mod Applying
 mod Books
+mod Claiming
 mod Filing
+mod FoundSteps
 mod Lending
 mod Listing
 mod Named
 mod Noting
 mod Pushing
+mod PutBack
+mod RanFound
 mod Screens
 mod ShownValues
 mod Stamped

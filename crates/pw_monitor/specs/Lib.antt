@@ -1,7 +1,9 @@
 pub mod Applying
 pub mod Bookings
+pub mod Found
 pub mod Judging
 pub mod Ledgers
 pub mod Owners
+pub mod PutBack
 pub mod States
 pub mod Touched

@@ -2,14 +2,18 @@
 #![tactic(auto)]
 
 mod actors;
+pub mod apply;
 mod booking;
+pub mod claim;
 mod contexts;
 mod fails;
+mod finding;
 mod judging;
 mod knowing;
 mod ledger;
 pub mod lend;
 mod push;
+mod put_back;
 pub mod reading;
 mod stamping;
 pub mod task;
