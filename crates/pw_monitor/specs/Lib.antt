@@ -1,4 +1,5 @@
 pub mod Judging
 pub mod Ledgers
 pub mod Owners
+pub mod Running
 pub mod States

@@ -10,6 +10,7 @@ mod knowing;
 mod ledger;
 pub mod lend;
 pub mod reading;
+mod running;
 pub mod task;
 mod values;
 pub mod world;
