@@ -1,7 +1,9 @@
 mod Books
+mod Entering
 mod Filing
 mod Lending
 mod Noting
 mod RanTo
+mod ReadFor
 mod ShownValues
 mod Starting

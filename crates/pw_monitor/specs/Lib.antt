@@ -1,3 +1,4 @@
+pub mod Entering
 pub mod Judging
 pub mod Ledgers
 pub mod Owners

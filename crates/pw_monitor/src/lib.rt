@@ -3,6 +3,7 @@
 
 mod actors;
 mod contexts;
+pub mod enter;
 mod fails;
 pub mod holds;
 mod judging;
