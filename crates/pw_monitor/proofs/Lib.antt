@@ -5,5 +5,6 @@ mod Lending
 mod Noting
 mod RanTo
 mod ReadFor
+mod Replaying
 mod ShownValues
 mod Starting

@@ -11,6 +11,7 @@ mod knowing;
 mod ledger;
 pub mod lend;
 pub mod reading;
+pub mod replay;
 mod running;
 pub mod task;
 mod values;
