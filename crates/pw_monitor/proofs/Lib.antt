@@ -1,6 +1,7 @@
 mod Applying
 mod Books
 mod Claiming
+mod Entering
 mod Filing
 mod FoundSteps
 mod Lending
@@ -10,6 +11,9 @@ mod Noting
 mod Pushing
 mod PutBack
 mod RanFound
+mod RanTo
+mod ReadFor
+mod Replaying
 mod Screens
 mod ShownValues
 mod Stamped
