@@ -4,6 +4,7 @@
 mod actors;
 mod contexts;
 mod fails;
+pub mod holds;
 mod judging;
 mod knowing;
 mod ledger;

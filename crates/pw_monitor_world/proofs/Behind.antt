@@ -1,6 +1,6 @@
 -- A world behind an entry.
 use Rattle.std.proofs.Common.{◌≡◌, ℕ, ◌+◌, ◌<◌, ◌≤◌, List, [], ◌∷◌, ◌++◌, map, length, None, Bool, true, false, refl, sym, ap, subst, ◌∙◌, ◌==◌, ◌&&◌, ⊎_elim, length-append, arith}
-use Rattle.std.specs.Prelude.{IsSome, if◌then◌else◌}
+use Rattle.std.specs.Prelude.{◌-◌, ◌^◌, IsSome, min, if◌then◌else◌}
 use Rattle.std.proofs.lemmas.Bool.{cases_eq, ne_eqb}
 use Rattle.pw_base.specs.Outside.{Rose}
 use Rattle.pw_class.specs.Queue.{works_for}
@@ -214,7 +214,7 @@ module _ (world : Seen) (books : Books) (w : IsWorld world books) (entry : Event
     lines = w.lines;
     few_lines = w.few_lines;
     asking = asking;
-    count = subst (λ n. world.faults ≤ n) (sym shape.faults) w.count;
+    count = subst (λ n. min world.faults (2 ^ 64 - 1) ≤ n) (sym shape.faults) w.count;
     failed = λ e. subst (Rose world.faults) (sym shape.faults) (w.failed e);
     books = record {
       refreshes = ap (λ (rs : List Refresh). rs ++ refresh_of sys state entry) w.books.refreshes ∙ sym (screens-more sys (starting sys) world.log entry);

@@ -1,6 +1,6 @@
 -- A world in which a kept context has run on.
 use Rattle.std.proofs.Common.{◌≡◌, ℕ, ◌<◌, ◌≤◌, map, length, Some, Bool, true, refl, sym, ap, subst, ◌∙◌}
-use Rattle.std.specs.Prelude.{IsSome, slice_get}
+use Rattle.std.specs.Prelude.{◌-◌, ◌^◌, IsSome, slice_get, min}
 use Rattle.pw_base.specs.Outside.{Rose}
 use Rattle.pw_code.specs.declared.context.Context.{Context}
 use Rattle.pw_code.specs.declared.system.ClassInfo.{ClassInfo}
@@ -38,7 +38,7 @@ module _ (world : Seen) (books : Books) (w : IsWorld world books) where
     lines = w.lines;
     few_lines = w.few_lines;
     asking = asking;
-    count = subst (λ (d : Told). world.faults ≤ d.faults) (sym disc) w.count;
+    count = subst (λ (d : Told). min world.faults (2 ^ 64 - 1) ≤ d.faults) (sym disc) w.count;
     failed = λ e. subst (λ (d : Told). Rose world.faults d.faults) (sym disc) (w.failed e);
     books = record {
       refreshes = w.books.refreshes;

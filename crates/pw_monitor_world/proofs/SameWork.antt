@@ -1,6 +1,6 @@
 -- A world that is changed beside its log: a fault was answered, actors are out or marked, or a message is built.
 use Rattle.std.proofs.Common.{◌≡◌, ℕ, ◌≤◌, map, length, Bool, true, inl, inr, refl, sym, ap, subst, ◌∙◌, ⊎_elim, arith}
-use Rattle.std.specs.Prelude.{IsSome}
+use Rattle.std.specs.Prelude.{◌-◌, ◌^◌, IsSome, min}
 use Rattle.pw_base.specs.Outside.{Rose}
 use Rattle.pw_class.specs.Queue.{has_request}
 use Rattle.pw_code.specs.declared.unit.Unit as unit
@@ -97,9 +97,9 @@ module _ (world : Seen) (kept : Kept) (failed : Bool) (out : Actor → Bool) (te
 
   module _ (books : Books) (w : IsWorld world books) (queues : kept.queues ≡ world.kept.queues) (stands : Stands world.system world.script (state_of world) kept) where
     pub changed : ((p : ℕ) → map (λ (seat : Seat). seat.terminal) (kept.pairs p).seats ≡ map (λ (seat : Seat). seat.terminal) (world.kept.pairs p).seats)
-        → kept.disc.terminals ≡ world.kept.disc.terminals → kept.disc.file_count ≡ world.kept.disc.file_count → world.kept.disc.faults ≤ kept.disc.faults → (failed ≡ true → Rose world.faults kept.disc.faults)
+        → kept.disc.terminals ≡ world.kept.disc.terminals → kept.disc.file_count ≡ world.kept.disc.file_count → min world.faults (2 ^ 64 - 1) ≤ kept.disc.faults → (failed ≡ true → Rose world.faults kept.disc.faults)
         → (marked : Actor → Bool) → AreMarked world marked → IsWorld beside (record books { marked = marked })
-    changed seats sizes files faults rose marked are = record {
+    changed seats sizes files count rose marked are = record {
       valid = w.valid;
       deck = w.deck;
       run = w.run;
@@ -114,7 +114,7 @@ module _ (world : Seen) (kept : Kept) (failed : Bool) (out : Actor → Bool) (te
       asking = λ t low is.
           let old : is_out world.system world.kept t ≡ true = ap (λ qs. any_below (length world.system.classes) (λ c. has_request t (qs c))) (sym queues) ∙ is in
           subst (λ (f : ℕ → KeptTerminal). IsSome (f t).ready) (sym terminals) (w.asking t low old);
-      count = let low = w.count in omega (arith, low, faults);
+      count = count;
       failed = rose;
       books = record {
         refreshes = w.books.refreshes;
@@ -130,9 +130,9 @@ module _ (world : Seen) (kept : Kept) (failed : Bool) (out : Actor → Bool) (te
 
 module _ (world : Seen) (books : Books) (w : IsWorld world books) where
   -- the disc has failed
-  pub has-failed : (n : ℕ) → Rose world.faults n → world.kept.disc.faults ≤ n → IsWorld (record world { failed = true; kept = record world.kept { disc = record world.kept.disc { faults = n } } }) books
-  has-failed n rose low =
-      changed world (record world.kept { disc = record world.kept.disc { faults = n } }) true world.out refl refl books w refl stands (λ p. refl) refl refl low (λ e. rose) books.marked w.books.marked
+  pub has-failed : (n : ℕ) → Rose world.faults n → IsWorld (record world { failed = true; kept = record world.kept { disc = record world.kept.disc { faults = n } } }) books
+  has-failed n rose =
+      changed world (record world.kept { disc = record world.kept.disc { faults = n } }) true world.out refl refl books w refl stands (λ p. refl) refl refl (omega (arith, rose)) (λ e. rose) books.marked w.books.marked
     where
       stands : Stands world.system world.script (state_of world) (record world.kept { disc = record world.kept.disc { faults = n } })
       stands = record {
@@ -153,16 +153,16 @@ module _ (world : Seen) (books : Books) (w : IsWorld world books) where
 
   -- other actors are marked, and out
   pub marked-so : (marked : Actor → Bool) → AreMarked world marked → IsWorld world (record books { marked = marked })
-  marked-so marked are = changed world world.kept world.failed world.out refl refl books w refl w.stands (λ p. refl) refl refl (omega arith) w.failed marked are
+  marked-so marked are = changed world world.kept world.failed world.out refl refl books w refl w.stands (λ p. refl) refl refl w.count w.failed marked are
 
   pub out-so : (out : Actor → Bool) → IsWorld (record world { out = out }) books
-  out-so out = changed world world.kept world.failed out refl refl books w refl w.stands (λ p. refl) refl refl (omega arith) w.failed books.marked w.books.marked
+  out-so out = changed world world.kept world.failed out refl refl books w refl w.stands (λ p. refl) refl refl w.count w.failed books.marked w.books.marked
 
   -- a message is built
   pub built-so : (p t : ℕ) (marked : Actor → Bool) → AreMarked world marked → IsWorld (record world { kept = at_pair p (changed_at t built) world.kept }) (record books { marked = marked })
   built-so p t marked are =
       changed world (at_pair p (changed_at t built) world.kept) world.failed world.out refl refl books w refl (built-stands world.system world.script (state_of world) world.kept p t w.stands)
-      seats refl refl (omega arith) w.failed marked are
+      seats refl refl w.count w.failed marked are
     where
       seats : (q : ℕ) → map (λ (seat : Seat). seat.terminal) ((at_pair p (changed_at t built) world.kept).pairs q).seats ≡ map (λ (seat : Seat). seat.terminal) (world.kept.pairs q).seats
       seats q = upd_elim world.kept.pairs p (changed_at t built (world.kept.pairs p)) q (λ (pair : SeenPair). map (λ (seat : Seat). seat.terminal) pair.seats ≡ map (λ (seat : Seat). seat.terminal) (world.kept.pairs q).seats)

@@ -1,5 +1,5 @@
 -- A new world, and what the type of a world keeps.
-use Rattle.std.specs.Prelude.{◌≡◌, ◌+◌, ◌-◌, ◌^◌, ℕ, zero, suc, ◌<◌, ◌≤◌, All, Bool, true, false, IsSome, List, [], length, map, None, if◌then◌else◌}
+use Rattle.std.specs.Prelude.{◌≡◌, ◌+◌, ◌-◌, ◌^◌, ℕ, zero, suc, ◌<◌, ◌≤◌, All, Bool, true, false, IsSome, List, [], length, map, min, None, if◌then◌else◌}
 use Rattle.pw_base.specs.Outside.{Rose}
 use Rattle.pw_code.specs.Valid.{IsValid}
 use Rattle.pw_code.specs.declared.system.System.{System}
@@ -95,7 +95,7 @@ pub record IsWorld (world : Seen) (beside : Books) : Type 0 where
   -- a terminal whose request is out stands at its verb
   pub asking : (t : ℕ) → t < length world.system.terminals → is_out world.system world.kept t ≡ true
       → IsSome (world.kept.terminals t).ready
-  -- a fault was answered only where the disc's count has risen since `new`
-  pub count : world.faults ≤ world.kept.disc.faults
+  -- a fault was answered only where the disc's count has risen since `new`, as far as its type goes
+  pub count : min world.faults (2 ^ 64 - 1) ≤ world.kept.disc.faults
   pub failed : world.failed ≡ true → Rose world.faults world.kept.disc.faults
   pub books : AreBooksOf world beside

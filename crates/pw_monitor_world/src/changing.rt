@@ -1,4 +1,4 @@
-ghost use Rattle.std.specs.Prelude.{◌≤◌, ℕ, Bool, true};
+ghost use Rattle.std.specs.Prelude.{ℕ, Bool, true};
 ghost use Rattle.pw_base.specs.Outside.{Rose};
 ghost use Rattle.pw_kept.specs.Changes.{at_pair};
 ghost use Rattle.pw_event.specs.declared.event.Event.{Event};
@@ -15,7 +15,7 @@ ghost use Rattle.pw_roster.specs.declared.actor.Actor.{Actor};
 /// changes no step.
 pub fn beside_laws()
     ensures failed { (world : Seen) (books : Books) (n : ℕ)
-        → IsWorld world books → Rose world.faults n → world.kept.disc.faults ≤ n
+        → IsWorld world books → Rose world.faults n
         → IsWorld (record world {
           failed = true;
           kept = record world.kept { disc = record world.kept.disc { faults = n } };

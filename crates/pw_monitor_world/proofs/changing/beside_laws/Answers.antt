@@ -3,7 +3,7 @@ use Rattle.pw_monitor_world.proofs.SameWork.{built-so, has-failed, marked-so, ma
 use Rattle.pw_monitor_world.proofs.changing.beside_laws.Goals as goal
 
 pub returns-clause-failed : goal.returns-clause-failed
-returns-clause-failed c world books n w rose low = has-failed world books w n rose low
+returns-clause-failed c world books n w rose = has-failed world books w n rose
 
 pub returns-clause-out : goal.returns-clause-out
 returns-clause-out c world books out w = out-so world books w out
