@@ -1,10 +1,10 @@
 -- Counts of a log with one more entry.
-use Rattle.std.proofs.Common.{◌≡◌, ℕ, ◌+◌, ◌-◌, ◌^◌, ◌<◌, ⊎_elim, Bool, true, false, List, [], ◌∷◌, ◌++◌, length, Option, Some, None, refl, sym, ap, subst, ◌∙◌, arith}
+use Rattle.std.proofs.Common.{◌≡◌, ℕ, ◌-◌, ◌^◌, ◌<◌, ⊎_elim, Bool, true, false, List, [], ◌∷◌, ◌++◌, length, Option, Some, None, refl, sym, ap, subst, ◌∙◌, arith}
 use Rattle.std.proofs.Math.ListN.{get_or, set}
 use Rattle.std.proofs.lemmas.Bool.{cases_eq, eq-eqb, ne_eqb}
 use Rattle.std.proofs.lemmas.List.{get_or-set_other, get_or-set_same, length-set}
 use Rattle.std.proofs.lemmas.List.Sums.{count_by-le-length, sum_by-append}
-use Rattle.std.specs.Prelude.{◌==◌, count_by, slice_index_or, if◌then◌else◌}
+use Rattle.std.specs.Prelude.{count_by, slice_index_or, if◌then◌else◌}
 use Rattle.pw_counts.specs.Counters.{AreCountersOf, CountersState, counters_behind, more, more_at, more_if}
 use Rattle.pw_counts.specs.Counts.{is_begin, is_older, is_one, is_redo, is_server, is_takeover, restarted, restarts_by, taken_from}
 use Rattle.pw_event.specs.declared.event.Event.{Event}
@@ -25,7 +25,7 @@ counted p log entry n few is = by (p entry) refl
         omega (arith, whole, none)
 
 -- of a list of counters each is one more where it is that of the entry
-more-where : (own : Option ℕ) (counts : List ℕ) (k : ℕ) → k < length (more_at own counts)
+pub more-where : (own : Option ℕ) (counts : List ℕ) (k : ℕ) → k < length (more_at own counts)
     → (k < length counts) × (slice_index_or (more_at own counts) k 0 ≡ more_if (is_one k own) (slice_index_or counts k 0))
 more-where None counts k low = (low, refl)
 more-where (Some place) counts k low =

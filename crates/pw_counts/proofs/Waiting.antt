@@ -1,10 +1,10 @@
 -- Only a SEND lets more requests wait for a class.
-use Rattle.std.proofs.Common.{◌≡◌, ◌≢◌, ℕ, ◌<◌, ◌≤◌, ⊎_elim, Bool, true, false, cond, List, [], ◌∷◌, ◌++◌, length, Option, Some, None, refl, sym, ap, subst, ◌∙◌, arith}
+use Rattle.std.proofs.Common.{◌≡◌, ℕ, ◌<◌, ◌≤◌, ⊎_elim, Bool, List, [], ◌∷◌, ◌++◌, length, Option, Some, None, refl, sym, ap, subst, ◌∙◌, arith}
 use Rattle.std.proofs.Math.ListN.{get_or, set}
 use Rattle.std.proofs.lemmas.Bool.{cases_eq}
 use Rattle.std.proofs.lemmas.List.{get_or-set_other, get_or-set_same, length-set}
 use Rattle.std.proofs.lemmas.List.Sums.{count_by-le-length, length-filter}
-use Rattle.std.specs.Prelude.{filter, max, not, slice_index_or}
+use Rattle.std.specs.Prelude.{filter, max, not}
 use Rattle.pw_class.specs.declared.request.Request.{Request}
 use Rattle.pw_counts.specs.Counts.{longest_from, waiting}
 use Rattle.pw_counts.specs.Longest.{AreLongestOf, longest_with, sent_to}

@@ -147,7 +147,7 @@ pub fn zeros(alloc: Global, count: usize) -> Result<Vec<u32>, Memory>
 }
 
 /// Counts one more at a place, where there is one.
-fn count_at(counts: &mut Vec<u32>, place: u32)
+pub fn count_at(counts: &mut Vec<u32>, place: u32)
     ensures { counts.new.items ≡ more_at (Some place) counts.old.items }
 {
     if (place as usize) < counts.len() {

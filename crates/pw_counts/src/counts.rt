@@ -40,7 +40,7 @@ pub struct UnitCounts {
     /// Attempts that are over, by how, so far as entries tell.
     pub committed: u32,
     pub dropped: u32,
-    pub left: u32,
+    pub left: u64,
     /// RESTART entries, by cause.
     pub older: u32,
     pub takeover: u32,
