@@ -1,0 +1,15 @@
+mod Attempting
+mod Balanced
+mod Balancing
+mod Counting
+mod Each
+mod Ending
+mod Gone
+mod Lengths
+mod Locking
+mod Operating
+mod Recording
+mod Releasing
+mod Running
+mod Sums
+mod Waiting

@@ -1,0 +1,97 @@
+ghost use Rattle.std.specs.Prelude.{◌≡◌, ◌+◌, ◌-◌, ◌<◌, ◌≤◌, ◌^◌, ◌++◌, ◌∷◌, [], Bool, List, Some, false, length, ℕ};
+ghost use Rattle.pw_code.specs.declared.file.FileOp.{FileOp};
+ghost use Rattle.pw_code.specs.declared.lock.LockMode.{LockMode};
+ghost use Rattle.pw_code.specs.declared.system.System.{System};
+ghost use Rattle.pw_counts.specs.Attempts.{AreAttemptsOf, AttemptsState, IsStart, attempts_behind};
+ghost use Rattle.pw_counts.specs.Counters.{AreCountersOf, CountersState, counters_behind};
+ghost use Rattle.pw_counts.specs.Counts.{waiting};
+ghost use Rattle.pw_counts.specs.Locks.{AddsLock, AreLocksOf, IsReleased, LocksState, is_file, with_lock};
+ghost use Rattle.pw_counts.specs.Longest.{AreLongestOf, longest_with, sent_to};
+ghost use Rattle.pw_counts.specs.Over.{ends_at, is_over, over_at};
+ghost use Rattle.pw_counts.specs.Records.{AreCountsBehind, Balances, changes_of, grown_in, kept_changes, shrunk_in};
+ghost use Rattle.pw_counts.specs.declared.records.Change.{Change};
+ghost use Rattle.pw_event.specs.declared.event.Event.TheVariants.{File};
+ghost use Rattle.pw_event.specs.declared.event.Event.{Event};
+ghost use Rattle.pw_locks.specs.declared.lock.Lock.{Lock};
+ghost use Rattle.pw_onecopy.specs.Behaviour.{Behaviour};
+ghost use Rattle.pw_onecopy.specs.IsBehaviour.{IsBehaviour};
+ghost use Rattle.pw_onecopy.specs.Update.{upd};
+ghost use Rattle.pw_order.specs.Shadow.{IsOf};
+ghost use Rattle.pw_paired.specs.Server.{LegalFile};
+ghost use Rattle.pw_paired.specs.State.{OpenUnit, State};
+ghost use Rattle.pw_paired.specs.Step.{IsRun, after, effect};
+ghost use Rattle.pw_paired.specs.Units.{only, without_locks};
+
+/// Counters of a log are those of the log with one more entry behind that entry.
+pub fn counter_laws()
+    ensures { (log : List Event) (entry : Event) (counters : CountersState) → length log < 2 ^ 32 - 1
+        → AreCountersOf log counters
+        → AreCountersOf (log ++ entry ∷ []) (counters_behind entry counters) }
+{}
+
+/// The greatest numbers of a log are those of the log with one more entry, once the number that waits
+/// behind a SEND is taken in: behind every other entry no more wait than before it.
+pub fn longest_laws()
+    ensures { (sys : Behaviour) (log : List Event) (entry : Event) (longest : List ℕ) (n : ℕ)
+        → AreLongestOf sys log longest
+        → ((c : ℕ) → sent_to entry ≡ Some c → n ≡ waiting (after sys (log ++ entry ∷ [])) c)
+        → AreLongestOf sys (log ++ entry ∷ []) (longest_with (sent_to entry) n longest) }
+{}
+
+/// Attempts before the first entry are those of the empty log; and attempts of a log are those of the
+/// log with one more entry behind that entry, where they are told whether a REPLY commits and whether
+/// a FAIL TCP loses its pair.
+pub fn attempt_laws()
+    ensures start { (system : System) (sys : Behaviour) → IsOf system sys
+        → (attempts : AttemptsState) → IsStart system attempts → AreAttemptsOf sys [] attempts }
+    ensures next { (sys : Behaviour) (log : List Event) (entry : Event) (attempts : AttemptsState)
+        → sys.terminals ≤ 128 → length log < 500000
+        → ((t : ℕ) (own : OpenUnit) → (after sys log).units t ≡ Some own → t < sys.terminals)
+        → AreAttemptsOf sys log attempts → AreAttemptsOf sys (log ++ entry ∷ [])
+        (attempts_behind (ends_at sys (after sys log) entry) entry attempts) }
+{}
+
+/// The locks that are counted are those of a state behind an entry too: what becomes of them where the
+/// locks of a terminal go and where it gets one, and which of these an entry is.
+pub fn lock_laws()
+    ensures released { (t : ℕ) (locks : List Lock) (old new : LocksState)
+        → t < length old.terminals → AreLocksOf locks old → IsReleased t old new
+        → AreLocksOf (without_locks (only t) locks) new }
+    ensures added { (t file : ℕ) (spare : Bool) (locks : List Lock) (lock : Lock) (old : LocksState)
+        → lock.unit.terminal ≡ t → lock.file ≡ file → length locks < 2 ^ 32 - 1
+        → AreLocksOf locks old → AreLocksOf (locks ++ lock ∷ []) (with_lock t file spare old) }
+    ensures next { (sys : Behaviour) (state : State) (entry : Event) → is_file entry ≡ false
+        → (effect sys state entry).locks
+        ≡ without_locks (is_over sys.pair_of (over_at (ends_at sys state entry) entry)) state.locks }
+    ensures file { (sys : Behaviour) (state : State) (c i : ℕ) (op : FileOp) (mode : LockMode)
+        (f status : ℕ) → (legal : LegalFile sys state c i op mode f status)
+        → AddsLock state (effect sys state (File c i op mode f status)) legal.job.request.terminal f }
+{}
+
+/// The numbers of records that are counted are those of the state behind each entry, whichever units
+/// are backed out later: where an entry is a FILE, where attempts are over, and at every other entry.
+pub fn record_laws()
+    ensures start { (sys : Behaviour)
+        → Balances sys sys.records [] (λ f. length (sys.records f)) (λ t. []) }
+    ensures file { (sys : Behaviour) → IsBehaviour sys → (log : List Event) → IsRun sys log
+        → (c i : ℕ) (op : FileOp) (mode : LockMode) (f status : ℕ)
+        → (legal : LegalFile sys (after sys log) c i op mode f status)
+        → legal.job.request.terminal < sys.terminals
+        → (count new : ℕ → ℕ) (changes : ℕ → List Change)
+        → Balances sys (after sys log).files (after sys log).before count changes
+        → ((g : ℕ) → new g + shrunk_in g (changes_of op f status)
+        ≡ count g + grown_in g (changes_of op f status))
+        → Balances sys (effect sys (after sys log) (File c i op mode f status)).files
+        (effect sys (after sys log) (File c i op mode f status)).before new
+        (upd changes legal.job.request.terminal
+        (changes legal.job.request.terminal ++ changes_of op f status)) }
+    ensures next { (sys : Behaviour) → IsBehaviour sys → (log : List Event) → IsRun sys log
+        → (count : ℕ → ℕ) (changes : ℕ → List Change)
+        → Balances sys (after sys log).files (after sys log).before count changes
+        → (entry : Event) → is_file entry ≡ false → (new : ℕ → ℕ)
+        → AreCountsBehind sys.terminals sys.pair_of
+        (over_at (ends_at sys (after sys log) entry) entry) changes count new
+        → Balances sys (effect sys (after sys log) entry).files
+        (effect sys (after sys log) entry).before new (kept_changes
+        (is_over sys.pair_of (over_at (ends_at sys (after sys log) entry) entry)) changes) }
+{}

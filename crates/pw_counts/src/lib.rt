@@ -1,0 +1,11 @@
+//! What STATUS and STATS count in a log, entry by entry.
+#![tactic(auto)]
+
+pub mod attempts;
+pub mod counters;
+pub mod counts;
+pub mod laws;
+pub mod locks;
+pub mod longest;
+pub mod over;
+pub mod records;

@@ -1,0 +1,93 @@
+ghost use Rattle.std.specs.Prelude.{◌≡◌, ◌<◌, length};
+ghost use Rattle.pw_counts.specs.Over.{begun, is_theirs, left_at, over_at, over_if};
+ghost use Rattle.pw_order.specs.Entries.{leaves};
+
+use pw_event::event::{Ending, Event};
+use pw_order::block::How;
+
+/// Terminals: one, or those of a pair.
+#[derive(Clone, Copy, Debug, PartialEq, Eq)]
+pub enum Whose {
+    One(u32),
+    Pair(u32),
+}
+
+impl Whose {
+    /// Whether a terminal is one of them, by the pair of each terminal.
+    pub fn has(self, pairs: &[u32], terminal: u32) -> bool
+        requires { terminal < length pairs.now }
+        ensures { result ≡ is_theirs pairs.now self terminal }
+    {
+        match self {
+            Whose::One(own) => terminal == own,
+            Whose::Pair(tcp) => pairs[terminal as usize] == tcp,
+        }
+    }
+}
+
+/// The attempts of these terminals are over, and how.
+#[derive(Clone, Copy, Debug, PartialEq, Eq)]
+pub struct Over {
+    pub whose: Whose,
+    pub how: How,
+}
+
+/// The terminal of which an entry begins an attempt.
+pub fn begun(entry: &Event) -> Option<u32>
+    ensures { result ≡ begun entry.now }
+{
+    match *entry {
+        Event::Begin { terminal, .. } => Some(terminal),
+        _ => None,
+    }
+}
+
+/// The attempts that are over at an entry; a REPLY and a FAIL TCP end some or none.
+pub fn over_at(entry: &Event, ends: bool) -> Option<Over>
+    ensures { result ≡ over_at ends entry.now }
+{
+    match *entry {
+        Event::Commit { terminal, .. } => over_if(true, Whose::One(terminal), How::Commit),
+        Event::Back { terminal, .. } => over_if(true, Whose::One(terminal), How::Dropped),
+        Event::Restart { terminal, .. } => over_if(true, Whose::One(terminal), How::Restart),
+        Event::Reply {
+            terminal,
+            fault,
+            ..
+        } => over_if(ends && fault.is_none(), Whose::One(terminal), How::Commit),
+        Event::End { terminal, ending } => {
+            over_if(leaves(ending), Whose::One(terminal), How::Left)
+        }
+        Event::FailTcp { tcp, .. } => over_if(ends, Whose::Pair(tcp), How::Left),
+        _ => None,
+    }
+}
+
+/// The attempts of these terminals are over so, or not.
+fn over_if(ends: bool, whose: Whose, how: How) -> Option<Over>
+    ensures { result ≡ over_if ends whose how }
+{
+    if ends {
+        Some(Over { whose, how })
+    } else {
+        None
+    }
+}
+
+/// Whether an open unit is left with this ending.
+fn leaves(ending: Ending) -> bool
+    ensures { result ≡ leaves ending }
+{
+    !matches!(ending, Ending::Stopped | Ending::Lost)
+}
+
+/// The terminals whose attempts, so far as they run, are left at an entry.
+pub fn left_at(entry: &Event, ends: bool) -> Option<Whose>
+    ensures { result ≡ left_at ends entry.now }
+{
+    match *entry {
+        Event::End { terminal, .. } => Some(Whose::One(terminal)),
+        Event::FailTcp { tcp, .. } => { if ends { Some(Whose::Pair(tcp)) } else { None } }
+        _ => None,
+    }
+}

@@ -1,0 +1,3 @@
+mod Committing
+mod Printing
+mod Reading
