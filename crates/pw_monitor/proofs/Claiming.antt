@@ -1,6 +1,5 @@
 -- What is found of actors, and who may work.
 use Rattle.std.proofs.Common.{◌≡◌, ◌∙◌, Bool, true, false, not, ◌&&◌, List, Option, Some, None, inl, inr, ap, refl, sym}
-use Rattle.std.proofs.lemmas.Bool.{false≢true}
 use Rattle.pw_monitor_world.specs.Actors.{IsActor}
 use Rattle.pw_monitor_world.specs.Answers.{IsIdle}
 use Rattle.pw_monitor_world.specs.Enabled.{HasStep, MayWork}

@@ -44,21 +44,25 @@ same-in system (actor.Pair p) of = of
 same-in system (actor.Class c) of = of
 
 -- a class with a process of this number is there
-class-there : (system : System) (c i : ℕ) (o : Option ClassInfo) → slice_get system.classes c ≡ o → 1 ≤ i → i ≤ processes_by o → c < length system.classes
+class-there : (system : System) (c i : ℕ) (o : Option ClassInfo) → slice_get system.classes c ≡ o → 1 ≤ i
+    → i ≤ processes_by o → c < length system.classes
 class-there system c i None none low high = absurd (omega (arith, low, high))
 class-there system c i (Some info) some low high = slice_get_within system.classes c info some
 
 -- an actor's entries belong to a pair or class of the system
-pub owner-there : (system : System) (script : List FailLine) (a : Actor) → IsBehaviour (behaviour script system) → IsActor system a
+pub owner-there : (system : System) (script : List FailLine) (a : Actor)
+    → IsBehaviour (behaviour script system) → IsActor system a
     → IsOwner (length system.tcps) (length system.classes) (owner_in system a)
 owner-there system script (actor.Terminal t) b of = b.pairs t of
-owner-there system script (actor.Process c i) b of = class-there system c i (slice_get system.classes c) refl of.0 of.1
+owner-there system script (actor.Process c i) b of =
+    class-there system c i (slice_get system.classes c) refl of.0 of.1
 owner-there system script (actor.Pair p) b of = of
 owner-there system script (actor.Class c) b of = of
 
 -- an entry belongs to whom its actor's entries do
 owner-same : (system : System) (script : List FailLine) (entry : Event)
-    → owner_of (behaviour script system).pair_of entry ≡ owner_in system (actor_of (behaviour script system) entry)
+    → owner_of (behaviour script system).pair_of entry
+    ≡ owner_in system (actor_of (behaviour script system) entry)
 owner-same system script (Show t phase attempt k) = refl
 owner-same system script (Key t k) = refl
 owner-same system script (CheckStart t) = refl
@@ -80,21 +84,26 @@ owner-same system script (Takeover p) = refl
 owner-same system script (Raise p) = refl
 owner-same system script (End t ending) = refl
 
-due-same : (world : Seen) (book : DueBook) (a : Actor) (entry : Event) → actor_of (sys_of world) entry ≡ a
+due-same : (world : Seen) (book : DueBook) (a : Actor) (entry : Event)
+    → actor_of (sys_of world) entry ≡ a
     → due_in book (owner_of (sys_of world).pair_of entry) ≡ due_in book (owner_in world.system a)
-due-same world book a entry own = ap (due_in book) (owner-same world.system world.script entry ∙ ap (owner_in world.system) own)
+due-same world book a entry own =
+    ap (due_in book) (owner-same world.system world.script entry ∙ ap (owner_in world.system) own)
 
 -- ---- lines count from 1
 
 opened-low : (test waits : OpenLine → Bool) (k : ℕ) (lines : List FailLine) (one : OpenLine)
     → find test (filter waits (opened_from k lines)) ≡ Some one → k ≤ one.number
 opened-low test waits k [] one found = absurd (cc found)
-opened-low test waits k (own ∷ lines) one found = by (waits head) (test head) refl refl (opened-low test waits (k + 1) lines one)
+opened-low test waits k (own ∷ lines) one found =
+    by (waits head) (test head) refl refl (opened-low test waits (k + 1) lines one)
   where
     head : OpenLine
     head = record { number = k; line = own }
 
-    by : (a b : Bool) → waits head ≡ a → test head ≡ b → (find test (filter waits (opened_from (k + 1) lines)) ≡ Some one → k + 1 ≤ one.number) → k ≤ one.number
+    by : (a b : Bool) → waits head ≡ a → test head ≡ b
+        → (find test (filter waits (opened_from (k + 1) lines)) ≡ Some one → k + 1 ≤ one.number)
+        → k ≤ one.number
     by false b shut there later = let rest = later (rw shut at found) in omega (arith, rest)
     by true true is there later =
         let first : Some head ≡ Some one = rw (is, there) at found in
@@ -103,15 +112,19 @@ opened-low test waits k (own ∷ lines) one found = by (waits head) (test head) 
         omega (arith, at)
     by true false is other later = let rest = later (rw (is, other) at found) in omega (arith, rest)
 
-if-due-is : (entries k : ℕ) (o : Option OpenLine) → if_due entries o ≡ Some k → (one : OpenLine) × ((o ≡ Some one) × (one.number ≡ k))
+abbrev IsNumbered : Option OpenLine → ℕ → Type 0
+IsNumbered o k = (one : OpenLine) × ((o ≡ Some one) × (one.number ≡ k))
+
+if-due-is : (entries k : ℕ) (o : Option OpenLine) → if_due entries o ≡ Some k → IsNumbered o k
 if-due-is entries k None due = absurd (cc due)
 if-due-is entries k (Some one) due = by (nat_le (after_of one.line) entries) due
   where
-    by : (b : Bool) → (if b then Some one.number else None) ≡ Some k → (own : OpenLine) × ((Some one ≡ Some own) × (own.number ≡ k))
+    by : (b : Bool) → (if b then Some one.number else None) ≡ Some k → IsNumbered (Some one) k
     by true due = (one, (refl, cc due))
     by false due = absurd (cc due)
 
-pub due-low : (world : Seen) (books : Books) (owner : Owner) (k : ℕ) → IsWorld world books → due_in books.due owner ≡ Some k → 1 ≤ k
+pub due-low : (world : Seen) (books : Books) (owner : Owner) (k : ℕ) → IsWorld world books
+    → due_in books.due owner ≡ Some k → 1 ≤ k
 due-low world books owner k w due =
     let found = if-due-is _ k (find (is_line_of owner) books.due.waiting) due in
     let first : find (is_line_of owner) (open_behind world.script world.log) ≡ Some found.0 =
@@ -120,13 +133,20 @@ due-low world books owner k w due =
 
 -- ---- a failure line is due
 
-plain-some : {X : Type 0} (b : Bool) (x y : X) → (if b then Some x else None) ≡ Some y → (b ≡ true) × (x ≡ y)
+plain-some : {X : Type 0} (b : Bool) (x y : X) → (if b then Some x else None) ≡ Some y
+    → (b ≡ true) × (x ≡ y)
 plain-some true x y is = (refl, cc is)
 plain-some false x y is = absurd (cc is)
 
-module _ (world : Seen) (books : Books) (w : IsWorld world books) (a : Actor) (k : ℕ) (unfinished : finished world ≡ false) (due : due_in books.due (owner_in world.system a) ≡ Some k) where
+module _ (world : Seen) (books : Books) (w : IsWorld world books) (a : Actor) (k : ℕ)
+    (unfinished : finished world ≡ false)
+    (due : due_in books.due (owner_in world.system a) ≡ Some k) where
+  due-at : (b : Actor) → a ≡ b → due_in books.due (owner_in world.system b) ≡ Some k
+  due-at b is = subst (λ (c : Actor). due_in books.due (owner_in world.system c) ≡ Some k) is due
+
   -- the actor's FAIL entry is the one of the line
-  fails-entry : (entry : Event) → FailsBy world k a entry → fail_entry k (fail_line world.script k) a ≡ Some entry
+  fails-entry : (entry : Event) → FailsBy world k a entry
+      → fail_entry k (fail_line world.script k) a ≡ Some entry
   fails-entry entry (inl t) =
       let same : (t.p == t.p) ≡ true = eq-eqb t.p t.p refl in
       rw (t.names, t.actor_is, t.entry_is, same) refl
@@ -140,14 +160,15 @@ module _ (world : Seen) (books : Books) (w : IsWorld world books) (a : Actor) (k
       let clash = fails-entry has.0 by in
       absurd (cc (none, clash))
 
-  some-fail : (l : Option FailLine) (b : Actor) (entry : Event) → fail_line world.script k ≡ l → a ≡ b → fail_entry k l b ≡ Some entry → IsFound world b entry
+  some-fail : (l : Option FailLine) (b : Actor) (entry : Event) → fail_line world.script k ≡ l → a ≡ b
+      → fail_entry k l b ≡ Some entry → IsFound world b entry
   some-fail (Some (line.Tcp p primary after)) (actor.Pair q) entry names is found =
       let both = plain-some (p == q) (FailTcp p primary k) entry found in
       let same : p ≡ q = eqb-true p q both.0 in
+      let due_here = due-at (actor.Pair p) (is ∙ ap actor.Pair (sym same)) in
       subst (λ r. IsFound world (actor.Pair r) entry) same
       (subst (IsFound world (actor.Pair p)) both.1 (record {
-        enabled = tcp-fails world books w p k after primary unfinished
-            (subst (λ (b : Actor). due_in books.due (owner_in world.system b) ≡ Some k) (is ∙ ap actor.Pair (sym same)) due) names;
+        enabled = tcp-fails world books w p k after primary unfinished due_here names;
         read = tt;
         reply = tt;
         last = λ waits. absurd waits;
@@ -155,10 +176,10 @@ module _ (world : Seen) (books : Books) (w : IsWorld world books) (a : Actor) (k
   some-fail (Some (line.Server c i after)) (actor.Class d) entry names is found =
       let both = plain-some (c == d) (FailServer c i k) entry found in
       let same : c ≡ d = eqb-true c d both.0 in
+      let due_here = due-at (actor.Class c) (is ∙ ap actor.Class (sym same)) in
       subst (λ e. IsFound world (actor.Class e) entry) same
       (subst (IsFound world (actor.Class c)) both.1 (record {
-        enabled = server-fails world books w c i k after unfinished
-            (subst (λ (b : Actor). due_in books.due (owner_in world.system b) ≡ Some k) (is ∙ ap actor.Class (sym same)) due) names;
+        enabled = server-fails world books w c i k after unfinished due_here names;
         read = tt;
         reply = tt;
         last = λ waits. absurd waits;
@@ -174,7 +195,8 @@ module _ (world : Seen) (books : Books) (w : IsWorld world books) (a : Actor) (k
   some-fail None (actor.Pair p) entry names is found = absurd (cc found)
   some-fail None (actor.Class c) entry names is found = absurd (cc found)
 
-  by-line : (result : Option Event) → result ≡ fail_entry k (fail_line world.script k) a → FindsStep world a result
+  by-line : (result : Option Event) → result ≡ fail_entry k (fail_line world.script k) a
+      → FindsStep world a result
   by-line None is = no-fail (sym is)
   by-line (Some entry) is = some-fail (fail_line world.script k) a entry refl refl (sym is)
 
@@ -183,47 +205,28 @@ module _ (world : Seen) (books : Books) (w : IsWorld world books) (a : Actor) (k
   line-at zero low = absurd (omega (arith, low))
   line-at (suc n) low = let same : suc n - 1 ≡ n = omega arith in ap (slice_get world.script) same
 
-  pub fail-found : (result : Option Event) → result ≡ fail_entry k (slice_get world.script (k - 1)) a → FindsStep world a result
-  fail-found result is = by-line result (is ∙ ap (λ l. fail_entry k l a) (line-at k (due-low world books (owner_in world.system a) k w due)))
+  pub fail-found : (result : Option Event) → result ≡ fail_entry k (slice_get world.script (k - 1)) a
+      → FindsStep world a result
+  fail-found result is =
+      let low = due-low world books (owner_in world.system a) k w due in
+      by-line result (is ∙ ap (λ l. fail_entry k l a) (line-at k low))
 
 -- ---- no failure line is due
 
-module _ (world : Seen) (books : Books) (w : IsWorld world books) (a : Actor) (unfinished : finished world ≡ false) (none : work_of world a ≡ None)
+module _ (world : Seen) (books : Books) (w : IsWorld world books) (a : Actor)
+    (unfinished : finished world ≡ false) (none : work_of world a ≡ None)
     (free : due_in books.due (owner_in world.system a) ≡ None) (values : HasOwnValues world.kept a) where
   undue : IsUndue world books a
   undue entry own = due-same world books.due a entry own ∙ free
 
-  pub plain-found : (result : Option Event) → IsStepFound world.system world.kept a result → FindsStep world a result
+  pub plain-found : (result : Option Event) → IsStepFound world.system world.kept a result
+      → FindsStep world a result
   plain-found None found = λ has. none-has world books w a undue none values found has
   plain-found (Some entry) found =
-      let enabled : IsEnabled world a entry = some-shows world books w a entry undue unfinished values found.0 in
+      let enabled = some-shows world books w a entry undue unfinished values found.0 in
       record {
         enabled = enabled;
         read = found.0.read;
         reply = reply-read world books w entry enabled.legal;
         last = λ waits. all-unbuilt world books w a entry undue none values found enabled waits;
       }
-
--- ---- messages that are not built
-
-pub waits-so : (system : System) (kept : Kept) (entry : Event) → steps.IsUnbuilt system kept entry → (t : ℕ) × (entry ≡ Applied t)
-waits-so system kept (Applied t) waits = (t, refl)
-waits-so system kept (Show t phase attempt k) waits = absurd waits
-waits-so system kept (Key t k) waits = absurd waits
-waits-so system kept (CheckStart t) waits = absurd waits
-waits-so system kept (CheckEnd t) waits = absurd waits
-waits-so system kept (CheckCopy t) waits = absurd waits
-waits-so system kept (Begin t n r) waits = absurd waits
-waits-so system kept (Send t n c) waits = absurd waits
-waits-so system kept (Take c i t) waits = absurd waits
-waits-so system kept (File c i op mode f status) waits = absurd waits
-waits-so system kept (Reply c i t fault) waits = absurd waits
-waits-so system kept (Again t n) waits = absurd waits
-waits-so system kept (Commit t n) waits = absurd waits
-waits-so system kept (Back t n) waits = absurd waits
-waits-so system kept (Restart t n cause) waits = absurd waits
-waits-so system kept (FailTcp p primary k) waits = absurd waits
-waits-so system kept (FailServer c i k) waits = absurd waits
-waits-so system kept (Takeover p) waits = absurd waits
-waits-so system kept (Raise p) waits = absurd waits
-waits-so system kept (End t ending) waits = absurd waits

@@ -1,5 +1,5 @@
--- Where there is a run to the next verb, of which it is only known that there is one, it is found: its length is the
--- least at which a verb is reached.
+-- A run to the next verb, of which it is only known that there is one, is found: its length is the least at
+-- which a verb is reached.
 use Rattle.std.proofs.Common.{◌≡◌, ◌∙◌, ℕ, zero, suc, ◌<◌, ◌≤◌, Bool, true, false, List, [], Option, Some, None, ⊎_elim, ap, refl, sym, arith}
 use Rattle.std.proofs.Math.Logic.{∥∥₁_elim, ∥∥₁_map}
 use Rattle.std.proofs.Props.{props}
@@ -12,7 +12,7 @@ use Rattle.pw_code.specs.declared.verb.Verb.{Verb}
 use Rattle.pw_exec.specs.Answers.{put}
 use Rattle.pw_exec.specs.Config.{Config, closed}
 use Rattle.pw_exec.specs.Contexts.{Ran, RunsOn}
-use Rattle.pw_exec.specs.Runs.{Reaches, Run, at_verb, run, runs}
+use Rattle.pw_exec.specs.Runs.{Reaches, Run, at_verb, run}
 use Rattle.pw_exec.specs.Steps.{step, verb_of}
 use Rattle.pw_exec.proofs.RunLemmas as lemmas
 use Rattle.pw_monitor_world.specs.Tasks.{RanOn}
@@ -27,7 +27,8 @@ least : (test : ℕ → Bool) (n : ℕ) → test n ≡ true → (m : ℕ) × IsL
 least test zero passes = (0, record { passes = passes; before = λ m low. absurd (omega (arith, low)) })
 least test (suc n) passes = by (test 0) refl (least (λ m. test (suc m)) n passes)
   where
-    by : (b : Bool) → test 0 ≡ b → ((m : ℕ) × IsLeast (λ m. test (suc m)) m) → (m : ℕ) × IsLeast test m
+    by : (b : Bool) → test 0 ≡ b → ((m : ℕ) × IsLeast (λ m. test (suc m)) m)
+        → (m : ℕ) × IsLeast test m
     by true first later = (0, record { passes = first; before = λ m low. absurd (omega (arith, low)) })
     by false first later = (suc later.0, record { passes = later.1.passes; before = below })
       where
@@ -39,10 +40,14 @@ is-least-prop : (test : ℕ → Bool) (n : ℕ) → IsProp (IsLeast test n)
 is-least-prop test n = hlevel props
 
 one-least : (test : ℕ → Bool) (n m : ℕ) → IsLeast test n → IsLeast test m → n ≡ m
-one-least test n m a b =
-    ⊎_elim (λ low. let one = a.passes in let other = b.before n low in absurd (cc (one, other)))
-    (λ high. ⊎_elim (λ low. let one = b.passes in let other = a.before m low in absurd (cc (one, other))) (λ low. omega (arith, high, low)) (cases_lt m n))
-    (cases_lt n m)
+one-least test n m a b = ⊎_elim (λ low. absurd (below n m a b low)) from (cases_lt n m)
+  where
+    below : (n m : ℕ) → IsLeast test n → IsLeast test m → n < m → ⊥
+    below n m one other low =
+        let here = one.passes in let before = other.before n low in absurd (cc (here, before))
+
+    from : m ≤ n → n ≡ m
+    from high = ⊎_elim (λ low. absurd (below m n b a low)) (λ low. omega (arith, high, low)) (cases_lt m n)
 
 least-prop : (test : ℕ → Bool) → IsProp ((n : ℕ) × IsLeast test n)
 least-prop test a b = Σ_prop_path (is-least-prop test) (one-least test a.0 b.0 a.1 b.1)
@@ -58,7 +63,10 @@ verb-prop a b = hlevel props
 module _ (system : System) where
   -- one turn without answers, by whether it stands at a verb
   abbrev turn : ℕ → Config → Bool → Run Config Answer
-  turn n c b = elim b as (λ _. Run Config Answer) [ true ↦ record { at = c; left = [] } | false ↦ run system n (step system c) [] ]
+  turn n c b = elim b as (λ _. Run Config Answer) [
+    | true ↦ record { at = c; left = [] }
+    | false ↦ run system n (step system c) []
+  ]
 
   -- without answers none are left
   none-left : (n : ℕ) (c : Config) → (run system n c []).left ≡ []
@@ -79,27 +87,39 @@ module _ (system : System) where
   stands c n = at_verb (reached n c)
 
   same-place : (c d : Config) (n : ℕ) → stands c n ≡ true → Reaches system c d → reached n c ≡ d
-  same-place c d n here r = lemmas.one_place at_verb (step system) (put system) c (reached n c) d [] (n, comes n c) r.0 here r.1
+  same-place c d n here r =
+      lemmas.one_place at_verb (step system) (put system) c (reached n c) d [] (n, comes n c) r.0 here r.1
 
   -- how far the verb is
   far : (c : Config) → ∥ ((d : Config) × Reaches system c d) ∥₁ → (n : ℕ) × IsLeast (stands c) n
-  far c there = ∥∥₁_elim there (least-prop (stands c)) (λ r. least (stands c) r.1.0.0 (ap (λ (at : Run Config Answer). at_verb at.at) r.1.0.1 ∙ r.1.1))
+  far c there = ∥∥₁_elim there (least-prop (stands c)) (λ r.
+      least (stands c) r.1.0.0 (ap (λ (at : Run Config Answer). at_verb at.at) r.1.0.1 ∙ r.1.1))
 
-  runs-found : (given work : Context) (verb : Verb) → ∥ RunsOn system given work verb ∥₁ → RunsOn system given work verb
-  runs-found given work verb there c is =
-      let n = far c (∥∥₁_map there (λ (runs : RunsOn system given work verb). let ran : Ran system c work verb = runs c is in (ran.at, ran.reaches))) in
-      let here : stands c n.0 ≡ true = n.1.passes in
-      record {
-        at = reached n.0 c;
-        reaches = ((n.0, comes n.0 c), here);
-        is = ∥∥₁_elim there (context-prop work (closed (reached n.0 c)))
-            (λ runs. let ran : Ran system c work verb = runs c is in ran.is ∙ ap closed (sym (same-place c ran.at n.0 here ran.reaches)));
-        asks = ∥∥₁_elim there (verb-prop verb (verb_of system (reached n.0 c)))
-            (λ runs. let ran : Ran system c work verb = runs c is in ran.asks ∙ ap (verb_of system) (sym (same-place c ran.at n.0 here ran.reaches)));
-      }
+  module _ (given work : Context) (verb : Verb) (there : ∥ RunsOn system given work verb ∥₁) (c : Config)
+      (is : given ≡ closed c) where
+    length-of : (n : ℕ) × IsLeast (stands c) n
+    length-of = far c (∥∥₁_map there (λ (runs : RunsOn system given work verb).
+        let ran : Ran system c work verb = runs c is in (ran.at, ran.reaches)))
 
-  pub ran-found : (given : Option Context) (verb : Option Verb) (work : Option Context) → ∥ RanOn system given verb work ∥₁ → RanOn system given verb work
-  ran-found (Some given) (Some verb) (Some work) there = runs-found given work verb there
+    abbrev at : Config
+    at = reached length-of.0 c
+
+    place : (ran : Ran system c work verb) → ran.at ≡ at
+    place ran = sym (same-place c ran.at length-of.0 length-of.1.passes ran.reaches)
+
+    ran-again : Ran system c work verb
+    ran-again = record {
+      at = at;
+      reaches = ((length-of.0, comes length-of.0 c), length-of.1.passes);
+      is = ∥∥₁_elim there (context-prop work (closed at)) (λ runs.
+          (runs c is).is ∙ ap closed (place (runs c is)));
+      asks = ∥∥₁_elim there (verb-prop verb (verb_of system at)) (λ runs.
+          (runs c is).asks ∙ ap (verb_of system) (place (runs c is)));
+    }
+
+  pub ran-found : (given : Option Context) (verb : Option Verb) (work : Option Context)
+      → ∥ RanOn system given verb work ∥₁ → RanOn system given verb work
+  ran-found (Some given) (Some verb) (Some work) there = ran-again given work verb there
   ran-found None None None there = tt
   ran-found (Some given) (Some verb) None there = ∥∥₁_elim there (λ a b. absurd a) (λ none. none)
   ran-found (Some given) None work there = ∥∥₁_elim there (λ a b. absurd a) (λ none. none)

@@ -1,5 +1,5 @@
 -- A kept context that has run on is put back.
-use Rattle.std.specs.Prelude.{◌≡◌, ℕ, Bool, true, false, Option, Some, None, if◌then◌else◌}
+use Rattle.std.specs.Prelude.{◌≡◌, Bool, true, false, Option, Some, None, if◌then◌else◌}
 use Rattle.pw_code.specs.declared.context.Context.{Context}
 use Rattle.pw_kept.specs.Changes.{kept_show, with_job}
 use Rattle.pw_kept.specs.Kept.{Kept}

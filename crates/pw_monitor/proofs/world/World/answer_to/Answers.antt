@@ -14,8 +14,8 @@ pub returns-in-None-clause-leaves : goal.returns-in-None-clause-leaves
 returns-in-None-clause-leaves g c =
     let told = g.D.Disc.told in
     let after = seen told c.advance.new.self in
-    leaves-out (members_of c.args.self.now.keep.system) (seen told c.args.self.now) c.args.outcome c.advance.result
-    after (with_out c.args.outcome.actor false after) c.advance.ensures.leaves refl
+    leaves-out (members_of c.args.self.now.keep.system) (seen told c.args.self.now) c.args.outcome after
+    (with_out c.args.outcome.actor false after) refl c.advance.result c.advance.ensures.leaves
 
 pub returns-in-None-clause-placed : goal.returns-in-None-clause-placed
 returns-in-None-clause-placed g c =

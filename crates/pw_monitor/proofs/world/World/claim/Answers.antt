@@ -1,4 +1,4 @@
-use Rattle.std.proofs.Common.{◌≡◌, ◌∙◌, Some, ap, false, subst, sym, true}
+use Rattle.std.proofs.Common.{◌≡◌, ◌∙◌, ap, false, subst, sym, true}
 use Rattle.pw_monitor_world.specs.Actors.{IsActor}
 use Rattle.pw_monitor_world.specs.Answers.{IsWork, with_out}
 use Rattle.pw_monitor_world.specs.Enabled.{MayWork}

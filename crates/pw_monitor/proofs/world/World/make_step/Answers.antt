@@ -1,4 +1,3 @@
-use Rattle.std.proofs.Common.{false, true}
 use Rattle.pw_monitor.proofs.Applying.{can-push, step-done}
 use Rattle.pw_monitor.specs.Found.{IsFound}
 use Rattle.pw_monitor.specs.Ledgers.{books_of}

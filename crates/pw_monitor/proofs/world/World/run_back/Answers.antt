@@ -1,11 +1,10 @@
-use Rattle.std.proofs.Common.{◌≡◌, ◌∙◌, ap, subst, sym, true}
+use Rattle.std.proofs.Common.{◌∙◌, ap, subst, sym}
 use Rattle.pw_monitor.proofs.Filing.{marked-monitor, marked-seen}
-use Rattle.pw_monitor.proofs.Noting.{all-mark, marks_of}
+use Rattle.pw_monitor.proofs.Noting.{all-mark}
 use Rattle.pw_monitor.proofs.PutBack.{back-answer, back-monitor, back-program, back-seen}
 use Rattle.pw_monitor.specs.PutBack.{RanFrom, ran_back}
 use Rattle.pw_monitor.specs.States.{WorldState, seen}
 use Rattle.pw_monitor_world.proofs.Steps.{placed}
-use Rattle.pw_monitor_world.specs.Actors.{IsActor}
 use Rattle.pw_monitor_world.specs.Seen.{Seen}
 use Rattle.pw_roster.specs.Places.{notes_in}
 use Rattle.pw_roster.specs.declared.actor.Actor.{Actor}

@@ -1,5 +1,5 @@
-use Rattle.std.proofs.Common.{◌∙◌, Bool, ap, true}
-use Rattle.pw_monitor.proofs.Noting.{marks_of, noted-monitor, noted-seen, out-mark, out-out, out-stamp, outs_of, outs_with, stamps_of}
+use Rattle.std.proofs.Common.{◌∙◌, Bool, ap}
+use Rattle.pw_monitor.proofs.Noting.{noted-monitor, noted-seen, out-mark, out-out, out-stamp, outs_of, outs_with, stamps_of}
 use Rattle.pw_monitor.specs.States.{WorldState}
 use Rattle.pw_roster.specs.Places.{notes_in}
 use Rattle.pw_roster.specs.declared.actor.Actor.{Actor}

@@ -10,9 +10,10 @@ pub pair-requires : goal.pair-requires
 pair-requires g c =
     let system = c.self.inside.keep.system in
     let low : tcp_of system c.args.terminal < length system.tcps =
-    c.self.invariant.deck.pairs c.args.terminal (rw (← c.self.view_is) at c.requires) in
-    (search rules,
-    subst (λ p. p < length system.tcps) (sym (c.tcp_of-tcp.ensures ∙ ap (λ (s : System). tcp_of s c.args.terminal) c.system.ensures)) low)
+    c.self.invariant.deck.pairs c.args.terminal (rw (← c.self.view_is) at c.requires) in (
+      search rules,
+      subst (λ p. p < length system.tcps) (sym (c.tcp_of-tcp.ensures ∙ ap (λ (s : System). tcp_of s c.args.terminal) c.system.ensures)) low,
+    )
 
 pub returns : goal.returns
 returns g c =
