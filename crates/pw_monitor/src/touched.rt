@@ -54,7 +54,9 @@ impl<D: Disc> World<D> {
             | Event::Applied { terminal }
             | Event::End { terminal, .. } => push_member(self.keep.system(), actors, terminal),
             Event::Send {
-                terminal, class, ..
+                terminal,
+                class,
+                ..
             } => push_sender(actors, terminal, class),
             Event::Take { class, process, .. } | Event::File { class, process, .. } => {
                 push_process(actors, class, process)
@@ -196,12 +198,7 @@ fn push_process(actors: &mut Vec<Actor>, class: u32, process: u32) -> Result<(),
 }
 
 /// A terminal, the process that works for it, and its class.
-fn push_post(
-    actors: &mut Vec<Actor>,
-    class: u32,
-    process: u32,
-    terminal: u32,
-) -> Result<(), Memory>
+fn push_post(actors: &mut Vec<Actor>, class: u32, process: u32, terminal: u32) -> Result<(), Memory>
     ensures { OnOk result (actors.new.items ≡ actors.old.items
         ++ actor.Terminal terminal ∷ actor.Process class process ∷ actor.Class class ∷ []) }
 {
