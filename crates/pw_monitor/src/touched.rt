@@ -108,7 +108,8 @@ impl<D: Disc> World<D> {
     fn push_lost(&self, actors: &mut Vec<Actor>, tcp: u32, primary: bool) -> Result<(), Memory>
         requires { tcp < length self.now.keep.system.tcps }
         ensures { (line : ℕ) → OnOk result (Grows self.now.keep.system
-            (cancels_at self.now.keep.system (kept_in D.told self.now.keep) (event.FailTcp tcp primary line))
+            (cancels_at self.now.keep.system (kept_in D.told self.now.keep)
+            (event.FailTcp tcp primary line))
             actors.old.items actors.new.items) }
     {
         let pair = self.keep.pair(tcp);
