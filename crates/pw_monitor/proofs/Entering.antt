@@ -31,18 +31,25 @@ same-option (Some x) (Some y) = ((λ same. ap Some (eqb-true x y same)), (λ is.
 
 module _ (world : Seen) (books : Books) (w : IsWorld world books) (entry : Event) where
   pub may-come : Legal (sys_of world) (state_of world) entry → MayCome world entry
-  may-come legal = record { there = there world books w entry legal; unfinished = legal.unfinished; due = legal.due }
+  may-come legal =
+      record { there = there world books w entry legal; unfinished = legal.unfinished; due = legal.due }
 
-  pub is-step : MayCome world entry → IsEntryRead world.system world.kept entry → AreValued world.system world.kept entry
-      → (passed : Bool) → (IsStepRead world.system world.kept entry → passed ≡ may world.system world.script world.kept entry)
+  pub is-step : MayCome world entry → IsEntryRead world.system world.kept entry
+      → AreValued world.system world.kept entry
+      → (passed : Bool)
+      → (IsStepRead world.system world.kept entry
+      → passed ≡ may world.system world.script world.kept entry)
       → IsTrue passed ↔ Legal (sys_of world) (state_of world) entry
   is-step come read values passed same =
-      let is : passed ≡ may world.system world.script world.kept entry = same ((reads world.system world.kept entry).shows read) in (
-        (λ yes. is-legal world books w entry come.there read values come.unfinished (due-same world books w entry come.there ∙ come.due) (sym is ∙ yes)),
+      let is : passed ≡ may world.system world.script world.kept entry =
+      same ((reads world.system world.kept entry).shows read) in (
+        (λ yes. is-legal world books w entry come.there read values come.unfinished
+            (due-same world books w entry come.there ∙ come.due) (sym is ∙ yes)),
         (λ legal. is ∙ passes world books w entry read values legal),
       )
 
-  pub can-push : length world.log < world.limit → IsEntryRead world.system world.kept entry → AreValued world.system world.kept entry
+  pub can-push : length world.log < world.limit → IsEntryRead world.system world.kept entry
+      → AreValued world.system world.kept entry
       → Legal (sys_of world) (state_of world) entry → CanPush world entry
   can-push room read values legal = record {
     legal = legal;
@@ -53,7 +60,8 @@ module _ (world : Seen) (books : Books) (w : IsWorld world books) (entry : Event
   }
 
 -- behind programs that ran on the same entries may come
-pub come-on : (world new : Seen) (entry : Event) → HasRunOn world new → MayCome world entry → MayCome new entry
+pub come-on : (world new : Seen) (entry : Event) → HasRunOn world new → MayCome world entry
+    → MayCome new entry
 come-on world new entry ran come = subst (λ (s : Seen). MayCome s entry) (sym ran.rest)
     (record { there = come.there; unfinished = come.unfinished; due = come.due })
 
@@ -84,14 +92,19 @@ abbrev pub failed-on : (world new : Seen) → HasRunOn world new → new.failed 
 failed-on world new ran = ap (λ (s : Seen). s.failed) ran.rest
 
 -- programs ran on alone
-pub leaves-none : (world new : Seen) (entry : Event) → HasRunOn world new → LeavesEntered world entry enter.NotAStep new
-leaves-none world new entry ran = (same-on world new ran, (log-on world new ran, failed-on world new ran))
+pub leaves-none : (world new : Seen) (entry : Event) → HasRunOn world new
+    → LeavesEntered world entry enter.NotAStep new
+leaves-none world new entry ran =
+    (same-on world new ran, (log-on world new ran, failed-on world new ran))
 
-pub leaves-memory : (world new : Seen) (entry : Event) → HasRunOn world new → LeavesEntered world entry enter.Memory new
-leaves-memory world new entry ran = (same-on world new ran, (log-on world new ran, failed-on world new ran))
+pub leaves-memory : (world new : Seen) (entry : Event) → HasRunOn world new
+    → LeavesEntered world entry enter.Memory new
+leaves-memory world new entry ran =
+    (same-on world new ran, (log-on world new ran, failed-on world new ran))
 
 -- then the entry was pushed
-pub leaves-done : (world mid new : Seen) (entry : Event) → HasRunOn world mid → new ≡ pushed mid entry → LeavesEntered world entry enter.Done new
+pub leaves-done : (world mid new : Seen) (entry : Event) → HasRunOn world mid → new ≡ pushed mid entry
+    → LeavesEntered world entry enter.Done new
 leaves-done world mid new entry ran is = (
   both-same world mid new (same-on world mid ran)
       (record {
@@ -108,12 +121,17 @@ leaves-done world mid new entry ran is = (
 )
 
 -- then the disc failed
-pub leaves-failed : (world mid new : Seen) (entry : Event) → HasRunOn world mid → FailsOnly mid new → LeavesEntered world entry enter.DiscFault new
+pub leaves-failed : (world mid new : Seen) (entry : Event) → HasRunOn world mid → FailsOnly mid new
+    → LeavesEntered world entry enter.DiscFault new
 leaves-failed world mid new entry ran fails = (
   both-same world mid new (same-on world mid ran) fails-same,
   (
     ap (λ (s : Seen). s.log) fails.rest ∙ log-on world mid ran,
-    (ap (λ (s : Seen). s.failed) fails.rest, subst (λ n. Rose n new.kept.disc.faults) (sym fails-same.faults) fails.rose),
+    (
+      ap (λ (s : Seen). s.failed) fails.rest,
+      subst (λ n. Rose n new.kept.disc.faults)
+          (sym fails-same.faults) fails.rose,
+    ),
   ),
 )
   where
@@ -127,6 +145,9 @@ leaves-failed world mid new entry ran fails = (
     }
 
 -- a world in which the disc has failed already
-pub leaves-so : (world : Seen) (books : Books) (entry : Event) → IsWorld world books → world.failed ≡ true → LeavesEntered world entry enter.DiscFault world
-leaves-so world books entry w failed =
-    (record { system = refl; script = refl; limit = refl; out = λ actor. refl; faults = refl }, (refl, (failed, w.failed failed)))
+pub leaves-so : (world : Seen) (books : Books) (entry : Event) → IsWorld world books
+    → world.failed ≡ true → LeavesEntered world entry enter.DiscFault world
+leaves-so world books entry w failed = (
+  record { system = refl; script = refl; limit = refl; out = λ actor. refl; faults = refl },
+  (refl, (failed, w.failed failed)),
+)

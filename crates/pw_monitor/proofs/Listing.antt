@@ -1,18 +1,17 @@
 -- What the calls that list touched actors come to.
-use Rattle.std.proofs.Common.{◌≡◌, ◌∙◌, ℕ, ◌<◌, ◌&&◌, ◌||◌, List, [], ◌++◌, Bool, true, false, length, map, refl, sym, ap}
+use Rattle.std.proofs.Common.{◌≡◌, ◌∙◌, ℕ, ◌<◌, ◌&&◌, ◌||◌, List, ◌++◌, Bool, true, length, sym, ap}
 use Rattle.std.specs.List.{list_any}
-use Rattle.pw_event.specs.declared.event.Ending.{Ending}
 use Rattle.pw_event.specs.declared.event.Event.{Event}
-use Rattle.pw_event.specs.declared.event.Event.TheVariants.{FailTcp, End}
+use Rattle.pw_event.specs.declared.event.Event.TheVariants.{FailTcp}
 use Rattle.pw_keep.specs.Keeps.{kept_in, terminals_in}
 use Rattle.pw_monitor.proofs.Named.{named-known, touches-parts}
-use Rattle.pw_monitor.proofs.Touching.{grows-as, grows-by, grows-more, grows-none}
+use Rattle.pw_monitor.proofs.Touching.{grows-as, grows-by, grows-more}
 use Rattle.pw_monitor.specs.States.{IsMonitor, WorldState, seen}
 use Rattle.pw_monitor.specs.Ledgers.{books_of}
 use Rattle.pw_monitor.specs.Touched.{Grows, asks_at, cancels_at, named}
 use Rattle.pw_monitor_world.specs.Actors.{members_of}
 use Rattle.pw_monitor_world.specs.Pushed.{CanPush}
-use Rattle.pw_monitor_world.specs.Touches.{leaves, loses}
+use Rattle.pw_monitor_world.specs.Touches.{loses}
 use Rattle.pw_monitor_world.specs.Touching.{touches_at}
 use Rattle.pw_roster.specs.Places.{is_same_actor}
 use Rattle.pw_roster.specs.declared.actor.Actor.{Actor}
@@ -31,7 +30,7 @@ module _ {D : Type 0} (told : D → Told) (w : WorldState D) (m : IsMonitor told
       (grows-by system (named system kept entry) old mid (named-known (seen told w) (books_of w.ledger) m entry can) is) cancels)
       (λ a of. touches-parts system kept entry a)
 
-  -- the requests of a pair that is lost, and none of one that is not
+  -- the requests of a pair that is lost
   pub lost-grows : (p : ℕ) (primary : Bool) (line : ℕ) (old new : List Actor) → p < length w.keep.system.tcps
       → loses primary ((kept_in told w.keep).pairs p).mode ≡ true
       → Grows w.keep.system (λ a. list_any (λ t. asks_at (kept_in told w.keep) t a) (terminals_in ((kept_in told w.keep).pairs p))) old new
@@ -42,24 +41,3 @@ module _ {D : Type 0} (told : D → Told) (w : WorldState D) (m : IsMonitor told
       grows-as system (λ a. list_any (λ t. asks_at kept t a) (terminals_in (kept.pairs p))) (cancels_at system kept (FailTcp p primary line)) old new grown
       (λ a of. ap (list_any (λ t. asks_at kept t a)) (m.members p low)
       ∙ sym (ap (λ b. b && list_any (λ t. asks_at kept t a) (members_of system p)) loses-them))
-
-  pub kept-grows : (p : ℕ) (primary : Bool) (line : ℕ) (items : List Actor) → loses primary ((kept_in told w.keep).pairs p).mode ≡ false
-      → Grows w.keep.system (cancels_at w.keep.system (kept_in told w.keep) (FailTcp p primary line)) items items
-  kept-grows p primary line items keeps =
-      let system = w.keep.system in
-      let kept = kept_in told w.keep in
-      grows-none system (cancels_at system kept (FailTcp p primary line)) items
-      (λ a of. ap (λ b. b && list_any (λ t. asks_at kept t a) (members_of system p)) keeps)
-
-  -- the request of a terminal that ends, where it leaves a unit
-  pub left-grows : (t : ℕ) (ending : Ending) (old new : List Actor) → leaves ending ≡ true → Grows w.keep.system (asks_at (kept_in told w.keep) t) old new
-      → Grows w.keep.system (cancels_at w.keep.system (kept_in told w.keep) (End t ending)) old new
-  left-grows t ending old new it-leaves grown =
-      grows-as w.keep.system (asks_at (kept_in told w.keep) t) (cancels_at w.keep.system (kept_in told w.keep) (End t ending)) old new grown
-      (λ a of. sym (ap (λ b. b && asks_at (kept_in told w.keep) t a) it-leaves))
-
-  pub ended-grows : (t : ℕ) (ending : Ending) (items : List Actor) → leaves ending ≡ false
-      → Grows w.keep.system (cancels_at w.keep.system (kept_in told w.keep) (End t ending)) items items
-  ended-grows t ending items keeps =
-      grows-none w.keep.system (cancels_at w.keep.system (kept_in told w.keep) (End t ending)) items
-      (λ a of. ap (λ b. b && asks_at (kept_in told w.keep) t a) keeps)

@@ -1,5 +1,5 @@
 -- The actors that an entry names are those whose state it changes, beside those at which a request is cancelled.
-use Rattle.std.proofs.Common.{◌≡◌, ◌∙◌, ℕ, ◌+◌, ◌<◌, ◌≤◌, ◌==◌, ◌&&◌, ◌||◌, List, [], ◌∷◌, All, Bool, true, false, Option, Some, None, is_some, length, refl, sym, ap, subst, ⊎_elim, arith}
+use Rattle.std.proofs.Common.{◌≡◌, ◌∙◌, ℕ, ◌<◌, ◌==◌, ◌&&◌, ◌||◌, List, [], ◌∷◌, All, Bool, true, false, Option, Some, None, is_some, length, refl, sym, ap, subst, ⊎_elim, arith}
 use Rattle.std.specs.Prelude.{if◌then◌else◌}
 use Rattle.std.specs.List.{list_any}
 use Rattle.std.proofs.lemmas.Bool.{cases_eq, eq-eqb, ne_eqb}
@@ -13,8 +13,8 @@ use Rattle.pw_event.specs.declared.event.Event.TheVariants.{Show, Key, CheckStar
 use Rattle.pw_kept.specs.Entered.{tcp_of}
 use Rattle.pw_kept.specs.Kept.{Kept}
 use Rattle.pw_kept.specs.May.{IsThere}
-use Rattle.pw_kept.specs.Tested.{IsAsking, IsPlaced}
-use Rattle.pw_monitor.specs.Touched.{asks_at, cancels_at, member, named, posted}
+use Rattle.pw_kept.specs.Tested.{IsPlaced}
+use Rattle.pw_monitor.specs.Touched.{cancels_at, member, named, posted}
 use Rattle.pw_monitor_world.proofs.Behind.{needs}
 use Rattle.pw_monitor_world.proofs.OfUnits.{works}
 use Rattle.pw_monitor_world.proofs.Paths.{paths-are}
@@ -275,11 +275,11 @@ module _ (world : Seen) (books : Books) (w : IsWorld world books) where
   known-of (Begin t n r) can low = one-known world.system (actor.Terminal t) low
   known-of (Send t n d) can low = two-known world.system (actor.Terminal t) (actor.Class d) low
       (w.deck.sends t d can.legal.fits.message (path_of (state_of world) t) (paths-are (sys_of world) w.deck world.log w.run t low) can.legal.fits.asks)
-  known-of (Take d j t) can low = 
+  known-of (Take d j t) can low =
       let free = found_free ((state_of world).classes d).busy 1 ((sys_of world).processes d) j can.legal.fits.free in
       process-known d j low (free.1, let high = free.2 in omega (arith, high))
   known-of (File d j op mode f status) can low = process-known d j low.class (low.low, low.high)
-  known-of (Reply d j t fault) can low = 
+  known-of (Reply d j t fault) can low =
       let both = needs world books w (Reply d j t fault) can in
       post-known t d j (placed-low t both.1.placed) low.class (low.low, low.high)
   known-of (Again t n) can low = one-known world.system (actor.Terminal t) low

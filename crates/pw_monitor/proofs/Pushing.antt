@@ -1,5 +1,5 @@
 -- A world with one more entry, and one in which an entry was refused.
-use Rattle.std.proofs.Common.{◌≡◌, ◌∙◌, ℕ, ◌+◌, ◌-◌, ◌^◌, ◌<◌, ◌≤◌, ◌==◌, ◌&&◌, ◌||◌, List, [], ◌∷◌, ◌++◌, All, Bool, true, false, Option, Some, None, min, not, ap, length, map, refl, sym, subst, ⊎_elim, arith}
+use Rattle.std.proofs.Common.{◌≡◌, ◌∙◌, ℕ, ◌+◌, ◌-◌, ◌^◌, ◌<◌, ◌≤◌, ◌==◌, ◌&&◌, ◌||◌, List, [], ◌∷◌, ◌++◌, All, Bool, true, false, Some, min, not, ap, length, refl, sym, subst, ⊎_elim, arith}
 use Rattle.std.specs.Prelude.{if◌then◌else◌}
 use Rattle.std.specs.List.{list_any}
 use Rattle.std.proofs.lemmas.Bool.{cases_eq, eq-eqb}
@@ -18,9 +18,8 @@ use Rattle.pw_kept.specs.Kept.{Kept}
 use Rattle.pw_monitor.proofs.Named.{or-nothing}
 use Rattle.pw_monitor.proofs.Noting.{all-mark, all-out, all-stamp, marks_of, outs_of, stamps_of}
 use Rattle.pw_monitor.proofs.Stamped.{each-out, each-stamp}
-use Rattle.pw_monitor.specs.Applying.{IsUnpushed}
 use Rattle.pw_monitor.specs.Bookings.{IsBooked, IsBookingOf, mode_in, stamped_each, turned}
-use Rattle.pw_monitor.specs.Ledgers.{LedgerState, books_of, ends, listed}
+use Rattle.pw_monitor.specs.Ledgers.{LedgerState, books_of, listed}
 use Rattle.pw_monitor.specs.States.{IsMonitor, WorldState, seen}
 use Rattle.pw_monitor.specs.declared.booking.Booking.{Booking}
 use Rattle.pw_monitor_world.proofs.Behind.{same-entered, world-then}
@@ -30,8 +29,7 @@ use Rattle.pw_monitor_world.proofs.SameWork.{has-failed}
 use Rattle.pw_monitor_world.proofs.Steps.{owner as owned, placed, there}
 use Rattle.pw_monitor_world.proofs.Touched.{stamps}
 use Rattle.pw_monitor_world.specs.Actors.{IsActor, is_same_actor, members_of}
-use Rattle.pw_monitor_world.specs.Answers.{FailsOnly}
-use Rattle.pw_monitor_world.specs.Dues.{IsOwner, after_entry, count_of, counted, without_fail}
+use Rattle.pw_monitor_world.specs.Dues.{IsOwner, count_of, counted, without_fail}
 use Rattle.pw_monitor_world.specs.OneSends.{begins_one_send}
 use Rattle.pw_monitor_world.specs.Pushed.{AreMarked, CanPush, booked, live_behind, pushed}
 use Rattle.pw_monitor_world.specs.Seen.{Seen, state_of, sys_of}
@@ -39,14 +37,11 @@ use Rattle.pw_monitor_world.specs.Stamps.{IsStamp}
 use Rattle.pw_monitor_world.specs.Touches.{is_same_mode, stamped, touches, turns}
 use Rattle.pw_monitor_world.specs.Touching.{actors_of_pair, touches_at}
 use Rattle.pw_monitor_world.specs.Worlds.{Books, IsWorld}
-use Rattle.pw_pair.specs.declared.mode.Mode.{Mode}
 use Rattle.pw_paired.specs.Shown.{refresh_of}
-use Rattle.pw_roster.specs.Places.{all_marked, is_placed, notes_in}
+use Rattle.pw_roster.specs.Places.{is_placed, notes_in}
 use Rattle.pw_roster.specs.declared.actor.Actor.{Actor}
 use Rattle.pw_roster.specs.declared.roster.Note.{Note}
-use Rattle.pw_tmf.specs.Answers.{HasFailed, Leaves}
 use Rattle.pw_tmf.specs.Told.{Told}
-use Rattle.pw_tmf.specs.declared.answer.DiscFault.{DiscFault}
 use Rattle.pw_tmf.specs.declared.answer.DiscFault.TheVariants as fault
 
 -- ---- other stamps
@@ -131,8 +126,8 @@ module _ {D : Type 0} (told : D → Told) (w : WorldState D) (m : IsMonitor told
   pub some-live : 1 ≤ w.ledger.live
   some-live = ⊎_elim
       (λ none. let zero-is : (w.ledger.live == 0) ≡ true = eq-eqb w.ledger.live 0 none in
-          let ended : (w.ledger.live == 0) ≡ false = ap (λ n. n == 0) m.books.live ∙ (sym (live-is (length w.keep.system.terminals) (state_of world)) ∙ can.legal.unfinished) in
-          absurd (cc (zero-is, ended)))
+      let ended : (w.ledger.live == 0) ≡ false = ap (λ n. n == 0) m.books.live ∙ (sym (live-is (length w.keep.system.terminals) (state_of world)) ∙ can.legal.unfinished) in
+      absurd (cc (zero-is, ended)))
       (λ some. omega (arith, some))
       (cases_eq w.ledger.live 0)
 
@@ -232,13 +227,23 @@ module _ {D : Type 0} (told : D → Told) (w : WorldState D) (m : IsMonitor told
         let sys = sys_of world in
         let state = state_of world in
         let old = w.ledger in
-        let own : LedgerState = record old { log = old.log ++ entry ∷ []; refreshes = old.refreshes ++ listed booking.refresh; one_sends = old.one_sends ++ booking.one_send ∷ [];
-            due = counted booking.owner (record old.due { waiting = without_fail entry old.due.waiting }); live = live_behind entry old.live; notes = l.notes; spare = l.spare } in
+        let own : LedgerState = record old {
+          log = old.log ++ entry ∷ [];
+          refreshes = old.refreshes ++ listed booking.refresh;
+          one_sends = old.one_sends ++ booking.one_send ∷ [];
+          due = counted booking.owner (record old.due { waiting = without_fail entry old.due.waiting });
+          live = live_behind entry old.live;
+          notes = l.notes;
+          spare = l.spare;
+        } in
         ap books_of is.books
         ∙ (ap (λ r. record (books_of own) { refreshes = old.refreshes ++ r }) b.refresh
         ∙ (ap (λ x. record (books_of own) { refreshes = old.refreshes ++ refresh_of sys state entry; one_sends = old.one_sends ++ x ∷ [] }) b.one_send
-        ∙ ap (λ o. record (books_of own) { refreshes = old.refreshes ++ refresh_of sys state entry; one_sends = old.one_sends ++ begins_one_send sys state entry ∷ [];
-            due = counted o (record old.due { waiting = without_fail entry old.due.waiting }) }) b.owner))
+        ∙ ap (λ o. record (books_of own) {
+          refreshes = old.refreshes ++ refresh_of sys state entry;
+          one_sends = old.one_sends ++ begins_one_send sys state entry ∷ [];
+          due = counted o (record old.due { waiting = without_fail entry old.due.waiting });
+        }) b.owner))
 
     pub pushed-monitor : IsMonitor told (record w { keep = k; ledger = l })
     pushed-monitor =
@@ -250,44 +255,33 @@ module _ {D : Type 0} (told : D → Told) (w : WorldState D) (m : IsMonitor told
 rose-more : (a b n : ℕ) → min a (2 ^ 64 - 1) ≤ b → Rose b n → Rose a n
 rose-more a b n low rose = omega (arith, low, rose)
 
-module _ {D : Type 0} (told : D → Told) (w : WorldState D) (m : IsMonitor told w) (spare : Bool) where
-  -- the room for one more entry is not seen
-  pub spared-monitor : IsMonitor told (record w { ledger = record w.ledger { spare = spare } })
-  spared-monitor = m
+module _ {D : Type 0} (told : D → Told) (w : WorldState D) (m : IsMonitor told w) (spare : Bool) (k : KeepState D) where
+  -- ---- for want of memory
 
-  module _ (k : KeepState D) where
-    -- ---- for want of memory
+  short-seen : IsRefused told fault.Memory w.keep k → seen told (record w { keep = k; ledger = record w.ledger { spare = spare } }) ≡ seen told w
+  short-seen refused =
+      ap (λ s. with-parts (seen told w) s (kept_in told k) w.ledger.log w.failed (outs_of (notes_in w.ledger.notes))) refused.system
+      ∙ ap (λ x. with-parts (seen told w) w.keep.system x w.ledger.log w.failed (outs_of (notes_in w.ledger.notes)))
+      (refused.rest ∙ ap (λ d. record (kept_in told w.keep) { disc = d }) refused.leaves)
 
-    short-seen : IsRefused told fault.Memory w.keep k → seen told (record w { keep = k; ledger = record w.ledger { spare = spare } }) ≡ seen told w
-    short-seen refused =
-        ap (λ s. with-parts (seen told w) s (kept_in told k) w.ledger.log w.failed (outs_of (notes_in w.ledger.notes))) refused.system
-        ∙ ap (λ x. with-parts (seen told w) w.keep.system x w.ledger.log w.failed (outs_of (notes_in w.ledger.notes)))
-        (refused.rest ∙ ap (λ d. record (kept_in told w.keep) { disc = d }) refused.leaves)
+  pub short-monitor : IsRefused told fault.Memory w.keep k → IsMonitor told (record w { keep = k; ledger = record w.ledger { spare = spare } })
+  short-monitor refused = subst (λ (x : Seen). IsWorld x (books_of w.ledger)) (sym (short-seen refused)) m
 
-    pub short-unpushed : IsRefused told fault.Memory w.keep k → IsUnpushed fault.Memory (seen told w) (seen told (record w { keep = k; ledger = record w.ledger { spare = spare } }))
-    short-unpushed refused = short-seen refused
+  -- ---- where the disc failed
 
-    pub short-monitor : IsRefused told fault.Memory w.keep k → IsMonitor told (record w { keep = k; ledger = record w.ledger { spare = spare } })
-    short-monitor refused = subst (λ (x : Seen). IsWorld x (books_of w.ledger)) (sym (short-seen refused)) m
+  rose : IsRefused told fault.Failed w.keep k → Rose (told w.first).faults (told k.disc).faults
+  rose refused = rose-more (told w.first).faults (told w.keep.disc).faults (told k.disc).faults m.count refused.leaves.count
 
-    -- ---- where the disc failed
+  failed-kept : IsRefused told fault.Failed w.keep k → kept_in told k ≡ record (kept_in told w.keep) { disc = record (told w.keep.disc) { faults = (told k.disc).faults } }
+  failed-kept refused = refused.rest ∙ ap (λ d. record (kept_in told w.keep) { disc = d }) refused.leaves.stays
 
-    rose : IsRefused told fault.Failed w.keep k → Rose (told w.first).faults (told k.disc).faults
-    rose refused = rose-more (told w.first).faults (told w.keep.disc).faults (told k.disc).faults m.count refused.leaves.count
+  failed-seen : IsRefused told fault.Failed w.keep k → seen told (record w { keep = k; failed = true; ledger = record w.ledger { spare = spare } })
+      ≡ record (seen told w) { failed = true; kept = record (kept_in told w.keep) { disc = record (told w.keep.disc) { faults = (told k.disc).faults } } }
+  failed-seen refused =
+      ap (λ s. with-parts (seen told w) s (kept_in told k) w.ledger.log true (outs_of (notes_in w.ledger.notes))) refused.system
+      ∙ ap (λ x. with-parts (seen told w) w.keep.system x w.ledger.log true (outs_of (notes_in w.ledger.notes))) (failed-kept refused)
 
-    failed-kept : IsRefused told fault.Failed w.keep k → kept_in told k ≡ record (kept_in told w.keep) { disc = record (told w.keep.disc) { faults = (told k.disc).faults } }
-    failed-kept refused = refused.rest ∙ ap (λ d. record (kept_in told w.keep) { disc = d }) refused.leaves.stays
-
-    failed-seen : IsRefused told fault.Failed w.keep k → seen told (record w { keep = k; failed = true; ledger = record w.ledger { spare = spare } })
-        ≡ record (seen told w) { failed = true; kept = record (kept_in told w.keep) { disc = record (told w.keep.disc) { faults = (told k.disc).faults } } }
-    failed-seen refused =
-        ap (λ s. with-parts (seen told w) s (kept_in told k) w.ledger.log true (outs_of (notes_in w.ledger.notes))) refused.system
-        ∙ ap (λ x. with-parts (seen told w) w.keep.system x w.ledger.log true (outs_of (notes_in w.ledger.notes))) (failed-kept refused)
-
-    pub failed-unpushed : IsRefused told fault.Failed w.keep k → IsUnpushed fault.Failed (seen told w) (seen told (record w { keep = k; failed = true; ledger = record w.ledger { spare = spare } }))
-    failed-unpushed refused = record { rose = rose refused; rest = failed-seen refused }
-
-    pub failed-monitor : IsRefused told fault.Failed w.keep k → IsMonitor told (record w { keep = k; failed = true; ledger = record w.ledger { spare = spare } })
-    failed-monitor refused =
-        subst (λ (x : Seen). IsWorld x (books_of w.ledger)) (sym (failed-seen refused))
-        (has-failed (seen told w) (books_of w.ledger) m (told k.disc).faults (rose refused))
+  pub failed-monitor : IsRefused told fault.Failed w.keep k → IsMonitor told (record w { keep = k; failed = true; ledger = record w.ledger { spare = spare } })
+  failed-monitor refused =
+      subst (λ (x : Seen). IsWorld x (books_of w.ledger)) (sym (failed-seen refused))
+      (has-failed (seen told w) (books_of w.ledger) m (told k.disc).faults (rose refused))

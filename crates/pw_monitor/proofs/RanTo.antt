@@ -39,7 +39,8 @@ use Rattle.pw_tmf.specs.Told.{Told}
 
 -- ---- contexts at answers and at verbs
 
-pub answered-is : (o : Option Context) (context : Context) → at_answer o ≡ Some context → o ≡ Some context
+pub answered-is : (o : Option Context) (context : Context) → at_answer o ≡ Some context
+    → o ≡ Some context
 answered-is None context is = absurd (cc is)
 answered-is (Some own) context is = by own.at_verb is
   where
@@ -53,7 +54,8 @@ verb-none context stands = ap (λ b. if b then None else Some context) stands
 none-verb : (context : Context) → at_answer (Some context) ≡ None → context.at_verb ≡ true
 none-verb context none = by context.at_verb refl none
   where
-    by : (b : Bool) → context.at_verb ≡ b → (if b then None else Some context) ≡ None → context.at_verb ≡ true
+    by : (b : Bool) → context.at_verb ≡ b → (if b then None else Some context) ≡ None
+        → context.at_verb ≡ true
     by true e none = e
     by false e none = absurd (cc none)
 
@@ -77,25 +79,30 @@ pub ran-both : (one two three : Seen) → HasRunOn one two → HasRunOn two thre
 ran-both one two three first second = record {
   rest = second.rest ∙ ap (λ (world : Seen). record world { kept = three.kept }) first.rest;
   contexts = second.contexts
-      ∙ ap (λ (kept : Kept). record kept { terminals = three.kept.terminals; jobs = three.kept.jobs }) first.contexts;
+      ∙ ap (λ (kept : Kept). record kept { terminals = three.kept.terminals; jobs = three.kept.jobs })
+      first.contexts;
   stay = λ actor none. second.stay actor (first.stay actor none);
 }
 
 -- where the context of one actor stands at a verb, each other stands where it stood
 stay-terminal : (kept : Kept) (t : ℕ) (work : Context) (a : Actor) → work.at_verb ≡ true
-    → at_answer (kept_context kept a) ≡ None → at_answer (kept_context (run_on (actor.Terminal t) (Some work) kept) a) ≡ None
+    → at_answer (kept_context kept a) ≡ None
+    → at_answer (kept_context (run_on (actor.Terminal t) (Some work) kept) a) ≡ None
 stay-terminal kept t work (actor.Terminal u) stands none =
-    upd_elim kept.terminals t (with_ready work (kept.terminals t)) u (λ (own : KeptTerminal). at_answer (context_of own) ≡ None)
+    upd_elim kept.terminals t (with_ready work (kept.terminals t)) u
+    (λ (own : KeptTerminal). at_answer (context_of own) ≡ None)
     (λ same. verb-none work stands) (λ differ. none)
 stay-terminal kept t work (actor.Process c i) stands none = none
 stay-terminal kept t work (actor.Pair p) stands none = none
 stay-terminal kept t work (actor.Class c) stands none = none
 
 stay-process : (kept : Kept) (c i : ℕ) (work : Context) (a : Actor) → work.at_verb ≡ true
-    → at_answer (kept_context kept a) ≡ None → at_answer (kept_context (run_on (actor.Process c i) (Some work) kept) a) ≡ None
+    → at_answer (kept_context kept a) ≡ None
+    → at_answer (kept_context (run_on (actor.Process c i) (Some work) kept) a) ≡ None
 stay-process kept c i work (actor.Process d j) stands none =
     upd_elim kept.jobs c _ d (λ (jobs : ℕ → Option Context). at_answer (jobs j) ≡ None)
-    (λ same. upd_elim (kept.jobs c) i (Some work) j (λ o. at_answer o ≡ None) (λ here. verb-none work stands)
+    (λ same. upd_elim (kept.jobs c) i (Some work) j (λ o. at_answer o ≡ None)
+    (λ here. verb-none work stands)
     (λ differ. subst (λ e. at_answer (kept.jobs e j) ≡ None) same none))
     (λ differ. none)
 stay-process kept c i work (actor.Terminal t) stands none = none
@@ -105,21 +112,32 @@ stay-process kept c i work (actor.Class e) stands none = none
 pub ran-on : (world : Seen) (a : Actor) (work : Context) → work.at_verb ≡ true
     → HasRunOn world (ran_to a work world)
 ran-on world (actor.Terminal t) work stands =
-    record { rest = refl; contexts = refl; stay = λ other none. stay-terminal world.kept t work other stands none }
+    record {
+      rest = refl;
+      contexts = refl;
+      stay = λ other none. stay-terminal world.kept t work other stands none;
+    }
 ran-on world (actor.Process c i) work stands =
-    record { rest = refl; contexts = refl; stay = λ other none. stay-process world.kept c i work other stands none }
+    record {
+      rest = refl;
+      contexts = refl;
+      stay = λ other none. stay-process world.kept c i work other stands none;
+    }
 ran-on world (actor.Pair p) work stands = ran-none world
 ran-on world (actor.Class c) work stands = ran-none world
 
 -- the actor has nothing to run on then
-pub ran-read : (world : Seen) (a : Actor) (given work : Context) → work.at_verb ≡ true → work_of world a ≡ Some given
+pub ran-read : (world : Seen) (a : Actor) (given work : Context) → work.at_verb ≡ true
+    → work_of world a ≡ Some given
     → work_of (ran_to a work world) a ≡ None
 ran-read world (actor.Terminal t) given work stands from =
-    upd_elim world.kept.terminals t (with_ready work (world.kept.terminals t)) t (λ (own : KeptTerminal). at_answer (context_of own) ≡ None)
+    upd_elim world.kept.terminals t (with_ready work (world.kept.terminals t)) t
+    (λ (own : KeptTerminal). at_answer (context_of own) ≡ None)
     (λ same. verb-none work stands) (λ differ. absurd (differ refl))
 ran-read world (actor.Process c i) given work stands from =
     upd_elim world.kept.jobs c _ c (λ (jobs : ℕ → Option Context). at_answer (jobs i) ≡ None)
-    (λ same. upd_elim (world.kept.jobs c) i (Some work) i (λ o. at_answer o ≡ None) (λ here. verb-none work stands) (λ differ. absurd (differ refl)))
+    (λ same. upd_elim (world.kept.jobs c) i (Some work) i (λ o. at_answer o ≡ None)
+    (λ here. verb-none work stands) (λ differ. absurd (differ refl)))
     (λ differ. absurd (differ refl))
 ran-read world (actor.Pair p) given work stands from = absurd (cc from)
 ran-read world (actor.Class c) given work stands from = absurd (cc from)
@@ -128,14 +146,17 @@ ran-read world (actor.Class c) given work stands from = absurd (cc from)
 
 module _ (world : Seen) (books : Books) (w : IsWorld world books) where
   -- where a class has a process of this number, it is there
-  class-there : (c i : ℕ) → 1 ≤ i → i ≤ processes_by (slice_get world.system.classes c) → c < length world.system.classes
+  class-there : (c i : ℕ) → 1 ≤ i → i ≤ processes_by (slice_get world.system.classes c)
+      → c < length world.system.classes
   class-there c i low high = by (slice_get world.system.classes c) refl high
     where
-      by : (o : Option ClassInfo) → slice_get world.system.classes c ≡ o → i ≤ processes_by o → c < length world.system.classes
+      by : (o : Option ClassInfo) → slice_get world.system.classes c ≡ o → i ≤ processes_by o
+          → c < length world.system.classes
       by None none high = absurd (omega (arith, low, high))
       by (Some info) some high = slice_get_within world.system.classes c info some
 
-  pub has-program : (a : Actor) (given : Context) → IsActor world.system a → work_of world a ≡ Some given
+  pub has-program : (a : Actor) (given : Context) → IsActor world.system a
+      → work_of world a ≡ Some given
       → HasProgram world.system world.kept a
   has-program (actor.Terminal t) given of from = of
   has-program (actor.Process c i) given of from =
@@ -145,16 +166,19 @@ module _ (world : Seen) (books : Books) (w : IsWorld world books) where
   has-program (actor.Class c) given of from = absurd (cc from)
 
   -- a program that has run on stands at its verb
-  pub runs-at : (a : Actor) (verb : Verb) (work-at : Context) → IsActor world.system a → RunsTo world a verb work-at
+  pub runs-at : (a : Actor) (verb : Verb) (work-at : Context) → IsActor world.system a
+      → RunsTo world a verb work-at
       → (verb ≡ verb_in world.system work-at) × (work-at.at_verb ≡ true)
   runs-at a verb work-at of runs =
       let sound = (work world books w a runs.given of runs.is).0 in
       let ran : Ran world.system sound.at work-at verb = runs.runs sound.at sound.is in (
-        ran.asks ∙ (ap (verb_of world.system) (sym (open-closed ran.at)) ∙ ap (verb_in world.system) (sym ran.is)),
+        ran.asks ∙ (ap (verb_of world.system) (sym (open-closed ran.at)) ∙ ap (verb_in world.system)
+            (sym ran.is)),
         ap (λ (context : Context). context.at_verb) ran.is ∙ ran.reaches.1,
       )
 
-  pub actor-ran : (a : Actor) (verb : Verb) (work-at : Context) (marked : Actor → Bool) → IsActor world.system a
+  pub actor-ran : (a : Actor) (verb : Verb) (work-at : Context) (marked : Actor → Bool)
+      → IsActor world.system a
       → RunsTo world a verb work-at → AreMarked (ran_to a work-at world) marked
       → IsWorld (ran_to a work-at world) (record books { marked = marked })
   actor-ran (actor.Terminal t) verb work-at marked of runs are =
@@ -170,33 +194,43 @@ module _ (world : Seen) (books : Books) (w : IsWorld world books) where
 
 -- ---- a world over a disc
 
-pub on-seen : {D : Type 0} (told : D → Told) (w : WorldState D) (k : KeepState D) (a : Actor) (work-at : Context)
+pub on-seen : {D : Type 0} (told : D → Told) (w : WorldState D) (k : KeepState D)
+    (a : Actor) (work-at : Context)
     → IsChanged told (run_on a (Some work-at)) w.keep k
     → seen told (record w { keep = k }) ≡ ran_to a work-at (seen told w)
 on-seen told w k a work-at changed =
     ap (λ (s : System). record (seen told w) { system = s; kept = kept_in told k }) changed.system
     ∙ ap (λ (kept : Kept). record (seen told w) { kept = kept }) changed.kept
 
-pub on-monitor : {D : Type 0} (told : D → Told) (w : WorldState D) (k : KeepState D) (a : Actor) (verb : Verb) (work-at : Context)
+pub on-monitor : {D : Type 0} (told : D → Told) (w : WorldState D) (k : KeepState D)
+    (a : Actor) (verb : Verb) (work-at : Context)
     → IsMonitor told w → IsActor w.keep.system a → RunsTo (seen told w) a verb work-at
     → ((other : Actor) → IsActor w.keep.system other → marks_of (notes_in w.ledger.notes) other ≡ true)
     → IsChanged told (run_on a (Some work-at)) w.keep k → IsMonitor told (record w { keep = k })
 on-monitor told w k a verb work-at m of runs marked changed =
-    subst (λ (world : Seen). IsWorld world (books_of w.ledger)) (sym (on-seen told w k a work-at changed))
-    (actor-ran (seen told w) (books_of w.ledger) m a verb work-at (marks_of (notes_in w.ledger.notes)) of runs
+    subst (λ (world : Seen). IsWorld world (books_of w.ledger))
+    (sym (on-seen told w k a work-at changed))
+    (actor-ran (seen told w) (books_of w.ledger) m a verb work-at
+    (marks_of (notes_in w.ledger.notes)) of runs
     (λ other known may. marked other known))
 
 -- the same where every actor is marked first
-pub ran-seen : {D : Type 0} (told : D → Told) (w : WorldState D) (k : KeepState D) (l : LedgerState) (a : Actor) (work-at : Context)
+pub ran-seen : {D : Type 0} (told : D → Told) (w : WorldState D) (k : KeepState D)
+    (l : LedgerState) (a : Actor) (work-at : Context)
     → IsNoted w.ledger l → notes_in l.notes ≡ all_marked (notes_in w.ledger.notes)
-    → IsChanged told (run_on a (Some work-at)) w.keep k → seen told (record w { keep = k; ledger = l }) ≡ ran_to a work-at (seen told w)
+    → IsChanged told (run_on a (Some work-at)) w.keep k
+    → seen told (record w { keep = k; ledger = l }) ≡ ran_to a work-at (seen told w)
 ran-seen told w k l a work-at rest notes changed =
-    on-seen told (record w { ledger = l }) k a work-at changed ∙ ap (ran_to a work-at) (marked-seen told w l rest notes)
+    on-seen told (record w { ledger = l }) k a work-at changed ∙ ap (ran_to a work-at)
+    (marked-seen told w l rest notes)
 
-pub ran-monitor : {D : Type 0} (told : D → Told) (w : WorldState D) (k : KeepState D) (l : LedgerState) (a : Actor) (verb : Verb) (work-at : Context)
+pub ran-monitor : {D : Type 0} (told : D → Told) (w : WorldState D) (k : KeepState D)
+    (l : LedgerState) (a : Actor) (verb : Verb)
+    (work-at : Context)
     → IsNoted w.ledger l → notes_in l.notes ≡ all_marked (notes_in w.ledger.notes)
     → IsMonitor told w → IsActor w.keep.system a → RunsTo (seen told w) a verb work-at
-    → IsChanged told (run_on a (Some work-at)) w.keep k → IsMonitor told (record w { keep = k; ledger = l })
+    → IsChanged told (run_on a (Some work-at)) w.keep k
+    → IsMonitor told (record w { keep = k; ledger = l })
 ran-monitor told w k l a verb work-at rest notes m of runs changed =
     on-monitor told (record w { ledger = l }) k a verb work-at (marked-monitor told w l m rest notes) of
     (subst (λ (world : Seen). RunsTo world a verb work-at) (sym (marked-seen told w l rest notes)) runs)

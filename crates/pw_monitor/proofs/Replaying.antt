@@ -22,7 +22,8 @@ module _ (system : System) (script : List FailLine) (disc : Told) where
   abbrev sys : Behaviour
   sys = behaviour script system
 
-  pub replayed-none : (log : List Event) (world : Seen) → IsNew system script disc 500000 world → IsReplayed system script disc (take 0 log) world
+  pub replayed-none : (log : List Event) (world : Seen) → IsNew system script disc 500000 world
+      → IsReplayed system script disc (take 0 log) world
   replayed-none log world new = record {
     run = tt;
     system_is = new.system_is;
@@ -35,22 +36,34 @@ module _ (system : System) (script : List FailLine) (disc : Told) where
   }
 
   -- what is legal behind the entries so far
-  legal-behind : (log : List Event) (world : Seen) (entry : Event) → IsReplayed system script disc log world
+  legal-behind : (log : List Event) (world : Seen) (entry : Event)
+      → IsReplayed system script disc log world
       → Legal (sys_of world) (state_of world) entry → Legal sys (after sys log) entry
   legal-behind log world entry r legal =
-      let at-system = subst (λ (s : System). Legal (behaviour world.script s) (after (behaviour world.script s) world.log) entry) r.system_is legal in
-      let at-script = subst (λ (lines : List FailLine). Legal (behaviour lines system) (after (behaviour lines system) world.log) entry) r.script_is at-system in
+      let at-system = subst
+      (λ (s : System). Legal (behaviour world.script s)
+      (after (behaviour world.script s) world.log) entry) r.system_is legal in
+      let at-script = subst
+      (λ (lines : List FailLine). Legal (behaviour lines system)
+      (after (behaviour lines system) world.log) entry) r.script_is at-system in
       subst (λ (entries : List Event). Legal sys (after sys entries) entry) r.log_is at-script
 
-  legal-ahead : (log : List Event) (world : Seen) (entry : Event) → IsReplayed system script disc log world
+  legal-ahead : (log : List Event) (world : Seen) (entry : Event)
+      → IsReplayed system script disc log world
       → Legal sys (after sys log) entry → Legal (sys_of world) (state_of world) entry
   legal-ahead log world entry r legal =
-      let at-log = subst (λ (entries : List Event). Legal sys (after sys entries) entry) (sym r.log_is) legal in
-      let at-script = subst (λ (lines : List FailLine). Legal (behaviour lines system) (after (behaviour lines system) world.log) entry) (sym r.script_is) at-log in
-      subst (λ (s : System). Legal (behaviour world.script s) (after (behaviour world.script s) world.log) entry) (sym r.system_is) at-script
+      let at-log = subst (λ (entries : List Event). Legal sys (after sys entries) entry)
+      (sym r.log_is) legal in
+      let at-script = subst
+      (λ (lines : List FailLine). Legal (behaviour lines system)
+      (after (behaviour lines system) world.log) entry) (sym r.script_is) at-log in
+      subst (λ (s : System). Legal (behaviour world.script s)
+      (after (behaviour world.script s) world.log) entry) (sym r.system_is) at-script
 
-  replayed-more : (log : List Event) (world new : Seen) (entry : Event) → IsReplayed system script disc log world
-      → EnterComes world entry enter.Done → LeavesEntered world entry enter.Done new → IsReplayed system script disc (log ++ entry ∷ []) new
+  replayed-more : (log : List Event) (world new : Seen) (entry : Event)
+      → IsReplayed system script disc log world
+      → EnterComes world entry enter.Done → LeavesEntered world entry enter.Done new
+      → IsReplayed system script disc (log ++ entry ∷ []) new
   replayed-more log world new entry r comes leaves =
       let same = leaves.0 in
       record {
@@ -66,20 +79,25 @@ module _ (system : System) (script : List FailLine) (disc : Told) where
 
   pub replayed-next : (log : List Event) (n : ℕ) (d : Event) (world new : Seen) → n < length log
       → IsReplayed system script disc (take n log) world
-      → EnterComes world (get_or log n d) enter.Done → LeavesEntered world (get_or log n d) enter.Done new
+      → EnterComes world (get_or log n d) enter.Done
+      → LeavesEntered world (get_or log n d) enter.Done new
       → IsReplayed system script disc (take (n + 1) log) new
   replayed-next log n d world new low r comes leaves =
-      subst (λ (entries : List Event). IsReplayed system script disc entries new) (sym (take_more log n d low))
+      subst (λ (entries : List Event). IsReplayed system script disc entries new)
+      (sym (take_more log n d low))
       (replayed-more (take n log) world new (get_or log n d) r comes leaves)
 
-  pub so-long : (log : List Event) (n : ℕ) (world : Seen) → n < length log → IsReplayed system script disc (take n log) world → length world.log ≡ n
+  pub so-long : (log : List Event) (n : ℕ) (world : Seen) → n < length log
+      → IsReplayed system script disc (take n log) world → length world.log ≡ n
   so-long log n world low r = ap length r.log_is ∙ length-of
     where
       length-of : length (take n log) ≡ n
       length-of = simp length-take (omega (arith, low))
 
-  pub no-step : (log : List Event) (n k : ℕ) (d : Event) (world : Seen) → n < length log → k ≡ length world.log + 1
-      → IsReplayed system script disc (take n log) world → EnterComes world (get_or log n d) enter.NotAStep → IsFirstNoStep sys log k
+  pub no-step : (log : List Event) (n k : ℕ) (d : Event) (world : Seen) → n < length log
+      → k ≡ length world.log + 1
+      → IsReplayed system script disc (take n log) world
+      → EnterComes world (get_or log n d) enter.NotAStep → IsFirstNoStep sys log k
   no-step log n k d world low is r comes =
       let long = so-long log n world low r in
       let before : k - 1 ≡ n = omega (arith, is, long) in
@@ -89,10 +107,13 @@ module _ (system : System) (script : List FailLine) (disc : Told) where
         before = subst (λ (m : ℕ). IsRun sys (take m log)) (sym before) r.run;
         entry = get_or log n d;
         here = ap (slice_get log) before ∙ slice_get-get_or log n d low;
-        no_step = λ legal. comes.1 (legal-ahead (take n log) world (get_or log n d) r (subst (λ (m : ℕ). Legal sys (after sys (take m log)) (get_or log n d)) before legal));
+        no_step = λ legal. comes.1
+            (legal-ahead (take n log) world (get_or log n d) r
+            (subst (λ (m : ℕ). Legal sys (after sys (take m log)) (get_or log n d)) before legal));
       }
 
-  pub rose : (log : List Event) (world new : Seen) (entry : Event) → IsReplayed system script disc log world
+  pub rose : (log : List Event) (world new : Seen) (entry : Event)
+      → IsReplayed system script disc log world
       → LeavesEntered world entry enter.DiscFault new → Rose disc.faults new.kept.disc.faults
   rose log world new entry r leaves =
       subst (λ n. Rose n new.kept.disc.faults) (leaves.0.faults ∙ r.count) leaves.1.1.1

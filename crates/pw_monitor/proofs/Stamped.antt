@@ -13,7 +13,7 @@ use Rattle.pw_keep.proofs.Loops.{left-is}
 use Rattle.pw_keep.specs.Keeps.{terminals_in}
 use Rattle.pw_kept.specs.Kept.{Kept}
 use Rattle.pw_kept.specs.Members.{IsOf}
-use Rattle.pw_monitor.proofs.Noting.{all-out, all-stamp, outs_of, stamps_of}
+use Rattle.pw_monitor.proofs.Noting.{outs_of}
 use Rattle.pw_monitor.specs.Bookings.{IsBooked, stamped_each, turned, turned_pair}
 use Rattle.pw_monitor.specs.Ledgers.{IsNoted, LedgerState, listed}
 use Rattle.pw_monitor.specs.declared.booking.Booking.{Booking}

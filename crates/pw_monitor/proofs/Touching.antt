@@ -7,14 +7,14 @@ use Rattle.std.proofs.lemmas.List.{get_or_past, map-append, take_more}
 use Rattle.std.proofs.lemmas.List.Elements.{All-append, All-cons, All-nil}
 use Rattle.std.proofs.lemmas.List.Folds.{list_any-append}
 use Rattle.std.proofs.lemmas.Option.{slice_get_within}
-use Rattle.pw_class.specs.Queue.{IsIn, Queue, at_process, class_of, has_request, is_of, works_for}
+use Rattle.pw_class.specs.Queue.{IsIn, Queue, at_process, class_of, is_of, works_for}
 use Rattle.pw_class.specs.declared.request.Place.{Place}
 use Rattle.pw_class.specs.declared.request.Place.TheVariants.{Waiting, Busy}
 use Rattle.pw_class.specs.declared.request.Request.{Request}
 use Rattle.pw_code.specs.declared.system.ClassInfo.{ClassInfo}
 use Rattle.pw_code.specs.declared.system.System.{System}
 use Rattle.pw_exec.specs.OfSystem.{processes_by}
-use Rattle.pw_keep.specs.Keeps.{IsKeep, KeepState, kept_in}
+use Rattle.pw_keep.specs.Keeps.{IsKeep, kept_in}
 use Rattle.pw_kept.proofs.Agreeing.{there-is}
 use Rattle.pw_kept.specs.TerminalTests.{is_out}
 use Rattle.pw_monitor.proofs.Named.{or-nothing}
@@ -90,10 +90,12 @@ busy-low : (t : ℕ) (busy : List (Option Request)) (i : ℕ) → works_for t (a
 busy-low t busy zero e = absurd (cc e)
 busy-low t busy (suc k) e =
     let some : (suc k == 0) ≡ false = ne_eqb (suc k) 0 (λ is. omega (arith, is)) in
-    let there : works_for t (slice_index_or busy (suc k - 1) None) ≡ true = subst (λ b. works_for t (if b then None else slice_index_or busy (suc k - 1) None) ≡ true) some e in
-    (omega arith, ⊎_elim (λ low. omega (arith, low)) (λ past.
-        let none : slice_index_or busy (suc k - 1) None ≡ None = get_or_past busy (suc k - 1) None past in
-        absurd (cc (none, there))) (cases_lt (suc k - 1) (length busy)))
+    let there : works_for t (slice_index_or busy (suc k - 1) None) ≡ true = subst (λ b. works_for t (if b then None else slice_index_or busy (suc k - 1) None) ≡ true) some e in (
+      omega arith,
+      ⊎_elim (λ low. omega (arith, low)) (λ past.
+          let none : slice_index_or busy (suc k - 1) None ≡ None = get_or_past busy (suc k - 1) None past in
+          absurd (cc (none, there))) (cases_lt (suc k - 1) (length busy)),
+    )
 
 module _ {D : Type 0} (told : D → Told) (w : WorldState D) (m : IsMonitor told w)
     (k : IsKeep w.keep.system w.keep.seats (told w.keep.disc) w.keep.book w.keep.jobs w.keep.pairs) where

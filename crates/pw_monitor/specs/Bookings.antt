@@ -52,7 +52,8 @@ stamped_each actors n notes actor =
     if list_any (is_same_actor actor) actors then stamped n (notes actor) else notes actor
 
 -- the books with an entry and its booking, where this is kept behind it
-pub record IsBooked (kept : Kept) (entry : Event) (booking : Booking) (old new : LedgerState) : Type 0 where
+pub record IsBooked (kept : Kept) (entry : Event) (booking : Booking) (old new : LedgerState)
+    : Type 0 where
   pub books : new ≡ record old {
     log = old.log ++ entry ∷ [];
     refreshes = old.refreshes ++ listed booking.refresh;

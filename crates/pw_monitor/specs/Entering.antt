@@ -19,7 +19,8 @@ older_in (Restart t n cause) = older_by t cause
 older_in (End t (Suspended cause)) = older_by t cause
 older_in _ = None
 
--- the entry names what is there, the log is not finished, and the failure line that is due is the entry's own
+-- The entry names what is there, the log is not finished, and the failure line that is due is the
+-- entry's own.
 pub record MayCome (world : Seen) (entry : Event) : Type 0 where
   pub there : IsThere world.system entry
   pub unfinished : finished world ≡ false

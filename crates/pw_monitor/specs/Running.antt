@@ -35,8 +35,8 @@ ran_to actor work world = record world { kept = run_on actor (Some work) world.k
 
 -- ---- some actors
 
--- Programs have run on to their next verbs: nothing but contexts of terminals and processes has changed, and whoever
--- stood at a verb still does.
+-- Programs have run on to their next verbs: nothing but contexts of terminals and processes has
+-- changed, and whoever stood at a verb still does.
 pub record HasRunOn (world new : Seen) : Type 0 where
   pub rest : new ≡ record world { kept = new.kept }
   pub contexts : new.kept ≡ record world.kept { terminals = new.kept.terminals; jobs = new.kept.jobs }

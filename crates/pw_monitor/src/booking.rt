@@ -85,7 +85,8 @@ impl<D: Disc> World<D> {
     fn begins_one_send(&self, entry: &Event) -> bool
         requires { CanPush (seen D.told self.now) entry.now }
         ensures { result
-            ≡ begins_one_send (sys_of (seen D.told self.now)) (state_of (seen D.told self.now)) entry.now }
+            ≡ begins_one_send (sys_of (seen D.told self.now)) (state_of (seen D.told self.now))
+            entry.now }
     {
         let Event::Begin { terminal, .. } = *entry else {
             return false;

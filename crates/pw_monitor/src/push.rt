@@ -25,7 +25,8 @@ impl<D: Disc> World<D> {
         requires can { CanPush (seen D.told self.old) entry.now }
         requires sound { self.old.failed ≡ false }
         ensures ok { OnOk result (seen D.told self.new ≡ pushed (seen D.told self.old) entry.now) }
-        ensures err { IfErr result (λ fault. IsUnpushed fault (seen D.told self.old) (seen D.told self.new)) }
+        ensures err { IfErr result (λ fault.
+            IsUnpushed fault (seen D.told self.old) (seen D.told self.new)) }
     {
         let booking = self.booking(entry)?;
         self.keep.known_parts();

@@ -50,7 +50,8 @@ impl<D: Disc> World<D> {
         requires few { length script.lines < 2 ^ 32 - 1 }
         requires disc { IsDiscOf system script.lines (D.told disc) }
         requires log { length log.now ≤ 500000 }
-        ensures ok { IfOk result (λ world. IsReplayed system script.lines (D.told disc) log.now (seen D.told world)) }
+        ensures ok { IfOk result (λ world.
+            IsReplayed system script.lines (D.told disc) log.now (seen D.told world)) }
         ensures no_step { (n : ℕ) → result ≡ Err (fault.NotAStep n)
             → IsFirstNoStep (behaviour script.lines system) log.now n }
         ensures fault { (other : D) → result ≡ Err (fault.DiscFault other)
@@ -63,9 +64,10 @@ impl<D: Disc> World<D> {
         for event in log {
             match world.enter(event) {
                 Entered::Done => {}
-                Entered::NotAStep => return Err(ReplayFault::NotAStep(
-                    world.log().len() as u64 + 1,
-                )),
+                Entered::NotAStep => {
+                    let number = world.log().len() as u64 + 1;
+                    return Err(ReplayFault::NotAStep(number));
+                }
                 Entered::DiscFault => return Err(ReplayFault::DiscFault(world.into_disc())),
                 Entered::Memory => return Err(ReplayFault::Memory),
             }

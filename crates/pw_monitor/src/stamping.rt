@@ -23,8 +23,10 @@ use pw_tmf::disc::Disc;
 /// Takes an entry into the books, where this is kept behind it.
 pub fn book<D: Disc>(ledger: &mut Ledger, keep: &Keep<D>, entry: &Event, booking: Booking)
     requires spare { ledger.old.spare ≡ true }
-    requires pair { IsOwner (length keep.now.system.tcps) (length keep.now.system.classes) booking.owner }
-    requires owner { IsOwner (length ledger.old.due.tcps) (length ledger.old.due.classes) booking.owner }
+    requires pair { IsOwner (length keep.now.system.tcps) (length keep.now.system.classes)
+        booking.owner }
+    requires owner { IsOwner (length ledger.old.due.tcps) (length ledger.old.due.classes)
+        booking.owner }
     requires few { count_of ledger.old.due booking.owner < 2 ^ 64 - 1 }
     requires live { ends entry.now ≡ true → 1 ≤ ledger.old.live }
     requires placed { All (λ one. is_placed one ≡ true) booking.touched.items }

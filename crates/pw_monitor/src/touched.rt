@@ -54,7 +54,9 @@ impl<D: Disc> World<D> {
             | Event::Applied { terminal }
             | Event::End { terminal, .. } => push_member(self.keep.system(), actors, terminal),
             Event::Send {
-                terminal, class, ..
+                terminal,
+                class,
+                ..
             } => push_sender(actors, terminal, class),
             Event::Take { class, process, .. } | Event::File { class, process, .. } => {
                 push_process(actors, class, process)
@@ -106,7 +108,8 @@ impl<D: Disc> World<D> {
     fn push_lost(&self, actors: &mut Vec<Actor>, tcp: u32, primary: bool) -> Result<(), Memory>
         requires { tcp < length self.now.keep.system.tcps }
         ensures { (line : ℕ) → OnOk result (Grows self.now.keep.system
-            (cancels_at self.now.keep.system (kept_in D.told self.now.keep) (event.FailTcp tcp primary line))
+            (cancels_at self.now.keep.system (kept_in D.told self.now.keep)
+            (event.FailTcp tcp primary line))
             actors.old.items actors.new.items) }
     {
         let pair = self.keep.pair(tcp);
@@ -196,12 +199,7 @@ fn push_process(actors: &mut Vec<Actor>, class: u32, process: u32) -> Result<(),
 }
 
 /// A terminal, the process that works for it, and its class.
-fn push_post(
-    actors: &mut Vec<Actor>,
-    class: u32,
-    process: u32,
-    terminal: u32,
-) -> Result<(), Memory>
+fn push_post(actors: &mut Vec<Actor>, class: u32, process: u32, terminal: u32) -> Result<(), Memory>
     ensures { OnOk result (actors.new.items ≡ actors.old.items
         ++ actor.Terminal terminal ∷ actor.Process class process ∷ actor.Class class ∷ []) }
 {

@@ -1,4 +1,4 @@
-use Rattle.std.proofs.Common.{◌+◌, ◌∙◌, ap, length}
+use Rattle.std.proofs.Common.{◌∙◌, ap, length}
 use Rattle.pw_keep.specs.Keeps.{kept_in}
 use Rattle.pw_monitor.proofs.Stamped.{is-booked}
 use Rattle.pw_monitor.specs.Bookings.{stamped_each}

@@ -1,4 +1,4 @@
-use Rattle.std.proofs.Common.{◌≡◌, ◌∙◌, ap, length, sym}
+use Rattle.std.proofs.Common.{◌∙◌, ap, length, sym}
 use Rattle.std.proofs.lemmas.List.{drop_all}
 use Rattle.pw_monitor.proofs.Stamped.{noted-log, noted-then, stamp-next}
 use Rattle.pw_monitor.specs.Bookings.{stamped_each}

@@ -1,4 +1,4 @@
-use Rattle.std.proofs.Common.{◌≡◌, ◌∙◌, ap, length, sym}
+use Rattle.std.proofs.Common.{◌∙◌, ap, length, sym}
 use Rattle.std.proofs.lemmas.List.{drop_all}
 use Rattle.pw_monitor.proofs.Stamped.{members_of_seats, noted-log, noted-then, stamp-member}
 use Rattle.pw_monitor.specs.Bookings.{stamped_each}

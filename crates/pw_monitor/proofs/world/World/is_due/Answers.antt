@@ -18,8 +18,10 @@ returns g c =
     let event = c.args.event.now in
     let due : c.due.result ≡ line_due (sys_of world) (state_of world) event =
     c.due.ensures
-    ∙ (ap (due_in w.ledger.due) (c.owner_of.ensures ∙ ap (λ (s : System). owner_of (tcp_of s) event) c.system.ensures)
-    ∙ due-same world (books_of w.ledger) c.self.invariant event (rw (← c.self.view_is) at c.requires)) in
+    ∙ (ap (due_in w.ledger.due)
+    (c.owner_of.ensures ∙ ap (λ (s : System). owner_of (tcp_of s) event) c.system.ensures)
+    ∙ due-same world (books_of w.ledger) c.self.invariant event
+    (rw (← c.self.view_is) at c.requires)) in
     let both = same-option c.due.result c.line_wanted.result in
     rw (← c.self.view_is) (
       (λ yes. sym due ∙ (both.0 (sym c.eq.ensures ∙ yes) ∙ c.line_wanted.ensures)),

@@ -9,5 +9,6 @@ returns-then-not-may_come-clause-exact g c =
 
 pub passes-requires-clause-comes : goal.passes-requires-clause-comes
 passes-requires-clause-comes g c κs within =
-    come-on (seen g.D.Disc.told c.args.self.now) (seen g.D.Disc.told c.read_for.new.self) c.args.event.now c.read_for.ensures.ran
+    come-on (seen g.D.Disc.told c.args.self.now)
+    (seen g.D.Disc.told c.read_for.new.self) c.args.event.now c.read_for.ensures.ran
     (c.may_come.ensures.comes.0 c.if-not-may_come.false)

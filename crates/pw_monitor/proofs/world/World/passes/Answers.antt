@@ -25,11 +25,17 @@ returns-clause-exact g c =
     let w : WorldState g.row.D.Denot = record { keep = c.self.inside.keep; first = c.self.inside.first.value; script = c.self.inside.script.lines; limit = c.self.inside.limit; failed = c.self.inside.failed; ledger = c.self.inside.ledger } in
     let world = seen g.D.Disc.told w in
     let event = c.args.event.now in
-    let found = subst (λ lines. IfOk c.may.result (λ passed. IsStepRead world.system world.kept event → passed ≡ may world.system lines world.kept event)) c.as_slice.ensures c.may.ensures in
+    let found = subst
+    (λ lines. IfOk c.may.result
+    (λ passed. IsStepRead world.system world.kept event → passed ≡ may world.system lines world.kept
+    event)) c.as_slice.ensures c.may.ensures in
     rw (← c.self.view_is)
-    (IfOk-weaker c.may.result (λ passed. IsStepRead world.system world.kept event → passed ≡ may world.system world.script world.kept event)
+    (IfOk-weaker c.may.result
+    (λ passed. IsStepRead world.system world.kept event → passed ≡ may world.system world.script
+    world.kept event)
     (λ step. IsTrue step ↔ Legal (sys_of world) (state_of world) event)
-    (λ passed same. is-step world (books_of w.ledger) c.self.invariant event (rw (← c.self.view_is) at c.requires.comes) (rw (← c.self.view_is) at c.requires.read)
+    (λ passed same. is-step world (books_of w.ledger) c.self.invariant event
+    (rw (← c.self.view_is) at c.requires.comes) (rw (← c.self.view_is) at c.requires.read)
     (rw (← c.self.view_is) at c.know_entry.ensures) passed same) found)
 
 pub returns-clause-can : goal.returns-clause-can
@@ -39,9 +45,16 @@ returns-clause-can g c =
     let event = c.args.event.now in
     let read = rw (← c.self.view_is) at c.requires.read in
     let values = rw (← c.self.view_is) at c.know_entry.ensures in
-    let found = subst (λ lines. IfOk c.may.result (λ passed. IsStepRead world.system world.kept event → passed ≡ may world.system lines world.kept event)) c.as_slice.ensures c.may.ensures in
+    let found = subst
+    (λ lines. IfOk c.may.result
+    (λ passed. IsStepRead world.system world.kept event → passed ≡ may world.system lines world.kept
+    event)) c.as_slice.ensures c.may.ensures in
     rw (← c.self.view_is)
-    (IfOk-weaker c.may.result (λ passed. IsStepRead world.system world.kept event → passed ≡ may world.system world.script world.kept event)
+    (IfOk-weaker c.may.result
+    (λ passed. IsStepRead world.system world.kept event → passed ≡ may world.system world.script
+    world.kept event)
     (λ step. IsTrue step → CanPush world event)
-    (λ passed same yes. can-push world (books_of w.ledger) c.self.invariant event (rw (← c.self.view_is) at c.requires.room) read values
-    ((is-step world (books_of w.ledger) c.self.invariant event (rw (← c.self.view_is) at c.requires.comes) read values passed same).0 yes)) found)
+    (λ passed same yes. can-push world (books_of w.ledger) c.self.invariant event
+    (rw (← c.self.view_is) at c.requires.room) read values
+    ((is-step world (books_of w.ledger) c.self.invariant event
+    (rw (← c.self.view_is) at c.requires.comes) read values passed same).0 yes)) found)

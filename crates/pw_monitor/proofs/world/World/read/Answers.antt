@@ -18,7 +18,9 @@ verb-requires-clause-sound g c =
     let own = c.in-Some.context.now in
     let is : work_of (seen g.D.Disc.told w) c.args.actor ≡ Some own =
     sym (rw (← c.self.view_is) at c.unread.ensures) ∙ ap option_copied c.in-Some.is in
-    let sound = (work (seen g.D.Disc.told w) (books_of w.ledger) c.self.invariant c.args.actor own (rw (← c.self.view_is) at c.requires) is).0 in
+    let sound =
+    (work (seen g.D.Disc.told w) (books_of w.ledger) c.self.invariant c.args.actor own
+    (rw (← c.self.view_is) at c.requires) is).0 in
     subst (λ s. IsSoundContext s c.in_ok-work.work) (sym c.system.ensures)
     (subst (IsSoundContext w.keep.system) (sym c.in_ok-work.ensures) sound)
 
@@ -28,11 +30,15 @@ run_to-requires-clause-runs g c κs within =
     let own = c.in-Some.context.now in
     let is : work_of (seen g.D.Disc.told w) c.args.actor ≡ Some own =
     sym (rw (← c.self.view_is) at c.unread.ensures) ∙ ap option_copied c.in-Some.is in
-    let on = subst (λ s. RunsOn s c.in_ok-work.work c.verb.new.context c.in_ok-verb.verb) c.system.ensures c.in_ok-verb.ensures.runs in
+    let on = subst
+    (λ s. RunsOn s c.in_ok-work.work c.verb.new.context c.in_ok-verb.verb) c.system.ensures
+    c.in_ok-verb.ensures.runs in
     rw (← c.self.view_is) (record {
       given = own;
       is = is;
-      runs = subst (λ (k : Context). RunsOn w.keep.system k c.verb.new.context c.in_ok-verb.verb) c.in_ok-work.ensures on;
+      runs = subst
+          (λ (k : Context). RunsOn w.keep.system k c.verb.new.context c.in_ok-verb.verb)
+          c.in_ok-work.ensures on;
     })
 
 pub returns-clause-ran : goal.returns-clause-ran
@@ -41,12 +47,20 @@ returns-clause-ran g c =
     let own = c.in-Some.context.now in
     let is : work_of (seen g.D.Disc.told w) c.args.actor ≡ Some own =
     sym (rw (← c.self.view_is) at c.unread.ensures) ∙ ap option_copied c.in-Some.is in
-    let on = subst (λ s. RunsOn s c.in_ok-work.work c.verb.new.context c.in_ok-verb.verb) c.system.ensures c.in_ok-verb.ensures.runs in
-    let runs : RunsTo (seen g.D.Disc.told w) c.args.actor c.in_ok-verb.verb c.verb.new.context = record {
+    let on = subst
+    (λ s. RunsOn s c.in_ok-work.work c.verb.new.context c.in_ok-verb.verb) c.system.ensures
+    c.in_ok-verb.ensures.runs in
+    let runs : RunsTo (seen g.D.Disc.told w) c.args.actor c.in_ok-verb.verb c.verb.new.context =
+    record {
       given = own;
       is = is;
-      runs = subst (λ (k : Context). RunsOn w.keep.system k c.verb.new.context c.in_ok-verb.verb) c.in_ok-work.ensures on;
+      runs = subst
+          (λ (k : Context). RunsOn w.keep.system k c.verb.new.context c.in_ok-verb.verb)
+          c.in_ok-work.ensures on;
     } in
-    let stands = (runs-at (seen g.D.Disc.told w) (books_of w.ledger) c.self.invariant c.args.actor c.in_ok-verb.verb c.verb.new.context (rw (← c.self.view_is) at c.requires) runs).1 in
+    let stands =
+    (runs-at (seen g.D.Disc.told w)
+    (books_of w.ledger) c.self.invariant c.args.actor c.in_ok-verb.verb c.verb.new.context
+    (rw (← c.self.view_is) at c.requires) runs).1 in
     subst (HasRunOn (seen g.D.Disc.told c.args.self.now)) (sym c.run_to.ensures.ran)
     (ran-on (seen g.D.Disc.told c.args.self.now) c.args.actor c.verb.new.context stands)

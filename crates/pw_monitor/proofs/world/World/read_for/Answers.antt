@@ -17,9 +17,11 @@ read-requires-after_bounds g c κs within =
     let w : WorldState g.row.D.Denot = record { keep = c.self.inside.keep; first = c.self.inside.first.value; script = c.self.inside.script.lines; limit = c.self.inside.limit; failed = c.self.inside.failed; ledger = c.self.inside.ledger } in
     let event = c.args.event.now in
     let own : c.actor_of-actor.result ≡ actor_of (behaviour w.script w.keep.system) event =
-    c.actor_of-actor.ensures w.script ∙ ap (λ (s : System). actor_of (behaviour w.script s) event) c.system.ensures in
+    c.actor_of-actor.ensures w.script ∙ ap
+    (λ (s : System). actor_of (behaviour w.script s) event) c.system.ensures in
     rw (← c.self.view_is)
-    (subst (IsActor w.keep.system) (sym own) (acts w.keep.system w.script c.self.invariant.deck event (rw (← c.self.view_is) at c.requires)))
+    (subst (IsActor w.keep.system) (sym own)
+    (acts w.keep.system w.script c.self.invariant.deck event (rw (← c.self.view_is) at c.requires)))
 
 pub returns-in_ok-read_server-in-Some-clause-read : goal.returns-in_ok-read_server-in-Some-clause-read
 returns-in_ok-read_server-in-Some-clause-read g c =
@@ -28,8 +30,11 @@ returns-in_ok-read_server-in-Some-clause-read g c =
     let t = c.in-Some.terminal in
     let o = c.in-Some.other in
     on_ok_weaker c.read_server-in-Some.result
-    (λ other. (reads new.system new.kept c.args.event.now).older (t, o) (sym c.older_in.ensures ∙ c.in-Some.is)
-    (both-read new.system new.kept t o (work-stays mid new t c.read_server-in-Some.ensures.ran c.in_ok-read_server-in-Some.ensures.read) other))
+    (λ other. (reads new.system new.kept c.args.event.now).older (t, o)
+    (sym c.older_in.ensures ∙ c.in-Some.is)
+    (both-read new.system new.kept t o
+    (work-stays mid new t c.read_server-in-Some.ensures.ran c.in_ok-read_server-in-Some.ensures.read)
+    other))
     c.read_server-in-Some.ensures.read
 
 pub returns-in_ok-read-in-None-clause-read : goal.returns-in_ok-read-in-None-clause-read
@@ -38,9 +43,11 @@ returns-in_ok-read-in-None-clause-read g c =
     let new = seen g.D.Disc.told c.read.new.self in
     let event = c.args.event.now in
     let system : c.system.result.now ≡ new.system =
-    c.system.ensures ∙ sym (ap (λ (s : Seen). s.system) (rw (← c.self.view_is) at c.read.ensures.ran).rest) in
+    c.system.ensures ∙ sym
+    (ap (λ (s : Seen). s.system) (rw (← c.self.view_is) at c.read.ensures.ran).rest) in
     let own : c.actor_of-actor.result ≡ actor_of (sys_of new) event =
-    c.actor_of-actor.ensures new.script ∙ ap (λ (s : System). actor_of (behaviour new.script s) event) system in
+    c.actor_of-actor.ensures new.script ∙ ap
+    (λ (s : System). actor_of (behaviour new.script s) event) system in
     (reads new.system new.kept event).plain (sym c.older_in.ensures ∙ c.in-None.is)
     (read-of new (books_of c.read.new.self.ledger) c.holds.ensures event
     (subst (λ (a : Actor). work_of new a ≡ None) own c.in_ok-read-in-None.ensures.read))

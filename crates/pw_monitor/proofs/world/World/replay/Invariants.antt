@@ -6,4 +6,5 @@ use Rattle.pw_monitor.proofs.world.World.replay.Given as goal
 
 abbrev pub invariant-loop-event : goal.invariant-loop-event
 invariant-loop-event g l =
-    IsReplayed l.fn.system l.fn.script.lines (g.D.Disc.told l.fn.disc) (take l.event-index l.log) (seen g.D.Disc.told l.world)
+    IsReplayed l.fn.system l.fn.script.lines (g.D.Disc.told l.fn.disc) (take l.event-index l.log)
+    (seen g.D.Disc.told l.world)
