@@ -7,6 +7,7 @@ mod Ending
 mod Gone
 mod Lengths
 mod Locking
+mod Numbering
 mod Operating
 mod Recording
 mod Releasing

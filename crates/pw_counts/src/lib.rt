@@ -9,3 +9,4 @@ pub mod locks;
 pub mod longest;
 pub mod over;
 pub mod records;
+pub mod shown;
