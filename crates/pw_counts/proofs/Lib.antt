@@ -12,5 +12,6 @@ mod Operating
 mod Recording
 mod Releasing
 mod Running
+mod Settling
 mod Sums
 mod Waiting

@@ -6,4 +6,5 @@ pub mod Locks
 pub mod Longest
 pub mod Over
 pub mod Records
+pub mod Settled
 pub mod Shown
