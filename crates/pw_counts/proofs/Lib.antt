@@ -7,9 +7,11 @@ mod Ending
 mod Gone
 mod Lengths
 mod Locking
+mod Numbering
 mod Operating
 mod Recording
 mod Releasing
 mod Running
+mod Settling
 mod Sums
 mod Waiting

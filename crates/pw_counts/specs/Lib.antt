@@ -1,7 +1,10 @@
 pub mod Attempts
 pub mod Counters
 pub mod Counts
+pub mod Kept
 pub mod Locks
 pub mod Longest
 pub mod Over
 pub mod Records
+pub mod Settled
+pub mod Shown

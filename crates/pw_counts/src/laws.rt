@@ -1,4 +1,5 @@
-ghost use Rattle.std.specs.Prelude.{◌≡◌, ◌+◌, ◌-◌, ◌<◌, ◌≤◌, ◌^◌, ◌++◌, ◌∷◌, [], Bool, List, Some, false, length, ℕ};
+ghost use Rattle.std.specs.BTreeSet.{BTreeSet};
+ghost use Rattle.std.specs.Prelude.{◌≡◌, ◌+◌, ◌-◌, ◌<◌, ◌≤◌, ◌^◌, ◌++◌, ◌∷◌, [], Bool, List, Some, false, length, true, ℕ};
 ghost use Rattle.pw_code.specs.declared.file.FileOp.{FileOp};
 ghost use Rattle.pw_code.specs.declared.lock.LockMode.{LockMode};
 ghost use Rattle.pw_code.specs.declared.system.System.{System};
@@ -9,13 +10,17 @@ ghost use Rattle.pw_counts.specs.Locks.{AddsLock, AreLocksOf, IsReleased, LocksS
 ghost use Rattle.pw_counts.specs.Longest.{AreLongestOf, longest_with, sent_to};
 ghost use Rattle.pw_counts.specs.Over.{ends_at, is_over, over_at};
 ghost use Rattle.pw_counts.specs.Records.{AreCountsBehind, Balances, changes_of, grown_in, kept_changes, shrunk_in};
+ghost use Rattle.pw_counts.specs.Shown.{AreShownOf, IsForgotten, IsNoted, IsSameAs};
 ghost use Rattle.pw_counts.specs.declared.records.Change.{Change};
 ghost use Rattle.pw_event.specs.declared.event.Event.TheVariants.{File};
 ghost use Rattle.pw_event.specs.declared.event.Event.{Event};
+ghost use Rattle.pw_listing.specs.Numbers.{number_of};
+ghost use Rattle.pw_listing.specs.declared.numbers.Number.{Number};
 ghost use Rattle.pw_locks.specs.declared.lock.Lock.{Lock};
 ghost use Rattle.pw_onecopy.specs.Behaviour.{Behaviour};
 ghost use Rattle.pw_onecopy.specs.IsBehaviour.{IsBehaviour};
 ghost use Rattle.pw_onecopy.specs.Update.{upd};
+ghost use Rattle.pw_onecopy.specs.declared.refresh.Refresh.{Refresh};
 ghost use Rattle.pw_order.specs.Shadow.{IsOf};
 ghost use Rattle.pw_paired.specs.Server.{LegalFile};
 ghost use Rattle.pw_paired.specs.State.{OpenUnit, State};
@@ -94,4 +99,19 @@ pub fn record_laws()
         → Balances sys (effect sys (after sys log) entry).files
         (effect sys (after sys log) entry).before new (kept_changes
         (is_over sys.pair_of (over_at (ends_at sys (after sys log) entry) entry)) changes) }
+{}
+
+/// The refresh numbers that are kept are those of the refreshes so far: where one more is noted, and
+/// where one that was new is forgotten again.
+pub fn number_laws()
+    ensures same { (refreshes : List Refresh) (old new : List (BTreeSet Number))
+        → IsSameAs old new → AreShownOf refreshes old → AreShownOf refreshes new }
+    ensures noted { (refreshes : List Refresh) (r : Refresh) (t : ℕ) (fresh : Bool)
+        (old new : List (BTreeSet Number)) → t < length old → r.terminal ≡ t
+        → IsNoted t (number_of r) fresh old new
+        → AreShownOf refreshes old → AreShownOf (refreshes ++ r ∷ []) new }
+    ensures forgotten { (refreshes : List Refresh) (r : Refresh) (t : ℕ)
+        (old mid new : List (BTreeSet Number)) → t < length old
+        → IsNoted t (number_of r) true old mid → IsForgotten t (number_of r) mid new
+        → AreShownOf refreshes old → AreShownOf refreshes new }
 {}

@@ -9,3 +9,5 @@ pub mod locks;
 pub mod longest;
 pub mod over;
 pub mod records;
+pub mod settle;
+pub mod shown;

@@ -1,6 +1,237 @@
+ghost use Rattle.std.specs.Prelude.{◌≡◌, ◌+◌, ◌-◌, ◌<◌, ◌^◌, ◌++◌, ◌∷◌, [], IfOk, OnOk, length, map, min, slice_index_or, slice_set, true, vec_capacity, vec_len};
+ghost use Rattle.pw_counts.specs.Kept.{IsBackedOut, IsSameBut, changed_at, changes_by, none_changed, with_change, without_changes};
+ghost use Rattle.pw_counts.specs.Records.{grown_in, shrunk_in};
+
+use pw_base::memory::Memory;
+use pw_code::file::FileOp;
+use pw_code::system::System;
+use std::alloc::Global;
+use std::marker::Model;
+
 /// An operation that put a record into a file, or took one away.
 #[derive(Clone, Copy, Debug, PartialEq, Eq)]
 pub struct Change {
     pub file: u32,
     pub grew: bool,
+}
+
+/// What the running attempt of a terminal has changed in the number of records.
+#[derive(Debug, Drop)]
+pub struct Changes {
+    changes: Vec<Change>,
+}
+
+impl Model for Changes {
+    ghost use Rattle.std.specs.Prelude.{nat_lt, vec_capacity, vec_len};
+    ghost use Rattle.pw_counts.specs.Kept.{ChangesState};
+
+    ghost Value = { ChangesState };
+
+    ghost view = { λ changes. record {
+      changes = changes.changes.items;
+      spare = nat_lt (vec_len changes.changes) (vec_capacity changes.changes);
+    } };
+}
+
+impl Changes {
+    /// None.
+    fn new(alloc: Global) -> Changes
+        ensures { result.changes ≡ [] }
+    {
+        Changes {
+            changes: Vec::new(alloc),
+        }
+    }
+
+    /// Makes room for one more. It changes nothing but that.
+    fn reserve(&mut self) -> Result<(), Memory>
+        ensures changes { self.new.changes ≡ self.old.changes }
+        ensures ok { OnOk result (self.new.spare ≡ true) }
+    {
+        self.changes.reserve(1)?;
+        Ok(())
+    }
+
+    /// One more.
+    fn push(&mut self, change: Change)
+        requires { self.old.spare ≡ true }
+        ensures { self.new.changes ≡ self.old.changes ++ change ∷ [] }
+    {
+        match self.changes.push(change) {
+            Ok(()) => (),
+            Err(_) => unreachable!(),
+        }
+    }
+
+    /// All go.
+    fn clear(&mut self)
+        ensures { self.new.changes ≡ [] }
+    {
+        self.changes.clear();
+    }
+}
+
+/// How many records each file has, and what the running attempts have changed in that.
+#[derive(Debug, Drop)]
+pub struct Records {
+    files: Vec<u64>,
+    terminals: Vec<Changes>,
+}
+
+impl Model for Records {
+    ghost use Rattle.pw_counts.specs.Kept.{RecordsState};
+
+    ghost Value = { RecordsState };
+
+    ghost view = { λ records. record { files = records.files.items; terminals = records.terminals.items } };
+}
+
+impl Records {
+    /// The records of a system's files, where nothing is changed.
+    pub fn new(alloc: Global, system: &System) -> Result<Records, Memory>
+        ensures files { IfOk result (λ records. records.files
+            ≡ map (λ file. length file.records) system.now.files) }
+        ensures terminals { IfOk result (λ records. length records.terminals
+            ≡ length system.now.terminals) }
+        ensures none { IfOk result (λ records. (t : _) → t < length system.now.terminals
+            → (changes_by records t).changes ≡ []) }
+    {
+        Ok(Records {
+            files: counts_of(alloc, system)?,
+            terminals: none_changed(alloc, system.terminals.len())?,
+        })
+    }
+
+    /// Makes room for one more change of a terminal. It changes nothing but that.
+    pub fn reserve(&mut self, terminal: u32) -> Result<(), Memory>
+        ensures same { IsSameBut terminal self.old self.new }
+        ensures ok { OnOk result (terminal < length self.old.terminals
+            → (changes_by self.new terminal).spare ≡ true) }
+    {
+        if (terminal as usize) < self.terminals.len() {
+            self.terminals[terminal as usize].reserve()?;
+        }
+        Ok(())
+    }
+
+    /// A terminal's attempt puts a record into a file, or takes one away. It takes no memory.
+    pub fn change(&mut self, terminal: u32, change: Change)
+        requires { terminal < length self.old.terminals → (changes_by self.old terminal).spare ≡ true }
+        ensures { self.new ≡ with_change terminal change (changes_by self.new terminal).spare self.old }
+    {
+        if (terminal as usize) < self.terminals.len() {
+            self.terminals[terminal as usize].push(change);
+        }
+        change_one(&mut self.files, change);
+    }
+
+    /// What a terminal's attempt has changed stays. It takes no memory.
+    pub fn keep(&mut self, terminal: u32)
+        ensures { self.new ≡ without_changes terminal (changes_by self.new terminal).spare self.old }
+    {
+        if (terminal as usize) < self.terminals.len() {
+            self.terminals[terminal as usize].clear();
+        }
+    }
+
+    /// What a terminal's attempt has changed is taken back. It takes no memory.
+    pub fn back_out(&mut self, terminal: u32)
+        requires { terminal < length self.old.terminals }
+        ensures { IsBackedOut terminal self.old self.new }
+    {
+        put_back(
+            &mut self.files,
+            self.terminals[terminal as usize].changes.as_slice(),
+        );
+        take_back(
+            &mut self.files,
+            self.terminals[terminal as usize].changes.as_slice(),
+        );
+        self.terminals[terminal as usize].clear();
+    }
+
+    /// How many records a file has.
+    pub fn of(&self, file: u32) -> u64
+        requires { file < length self.now.files }
+        ensures { result ≡ slice_index_or self.now.files file 0 }
+    {
+        self.files[file as usize]
+    }
+}
+
+/// How many records each file of a system has.
+fn counts_of(alloc: Global, system: &System) -> Result<Vec<u64>, Memory>
+    ensures { IfOk result (λ counts. counts.items ≡ map (λ file. length file.records) system.now.files) }
+{
+    let mut counts = Vec::new(alloc);
+    for file in system.files.as_slice() {
+        counts.push(file.records.len() as u64)?;
+    }
+    Ok(counts)
+}
+
+/// No changes, for so many terminals.
+fn none_changed(alloc: Global, count: usize) -> Result<Vec<Changes>, Memory>
+    ensures count { IfOk result (λ terminals. length terminals.items ≡ count) }
+    ensures none { IfOk result (λ terminals. (t : _) → t < count
+        → (slice_index_or terminals.items t none_changed).changes ≡ []) }
+{
+    let mut terminals = Vec::new(alloc);
+    for _ in 0..count {
+        terminals.push(Changes::new(alloc))?;
+    }
+    Ok(terminals)
+}
+
+/// One record more in a file, or one less.
+fn change_one(counts: &mut Vec<u64>, change: Change)
+    ensures { counts.new.items ≡ changed_at change counts.old.items }
+{
+    let file = change.file as usize;
+    if file < counts.len() {
+        let count = counts[file];
+        counts[file] = if change.grew {
+            count.saturating_add(1)
+        } else {
+            count.saturating_sub(1)
+        };
+    }
+}
+
+/// One record more in each file for each time that one was taken away.
+fn put_back(counts: &mut Vec<u64>, changes: &[Change])
+    ensures count { length counts.new.items ≡ length counts.old.items }
+    ensures each { (f : _) → f < length counts.old.items → slice_index_or counts.new.items f 0
+        ≡ min (slice_index_or counts.old.items f 0 + shrunk_in f changes.now) (2 ^ 64 - 1) }
+{
+    for change in changes {
+        if !change.grew {
+            change_one(
+                counts,
+                Change {
+                    file: change.file,
+                    grew: true,
+                },
+            );
+        }
+    }
+}
+
+/// One record less in each file for each time that one was put.
+fn take_back(counts: &mut Vec<u64>, changes: &[Change])
+    ensures count { length counts.new.items ≡ length counts.old.items }
+    ensures each { (f : _) → f < length counts.old.items → slice_index_or counts.new.items f 0
+        ≡ slice_index_or counts.old.items f 0 - grown_in f changes.now }
+{
+    for change in changes {
+        if change.grew {
+            change_one(
+                counts,
+                Change {
+                    file: change.file,
+                    grew: false,
+                },
+            );
+        }
+    }
 }

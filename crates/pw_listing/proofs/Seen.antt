@@ -65,7 +65,7 @@ seen-other t r seen differ other =
     or-false (contains number_cmp seen (number_of other)) ∙ ap (λ (b : Bool). contains number_cmp seen (number_of other) || (b && same_number other r)) (sym differ)
 
 -- the refreshes of a terminal with one more
-one-more : (t : ℕ) (all : List Refresh) (r : Refresh) → refreshes_of t (all ++ r ∷ []) ≡ refreshes_of t all ++ (if r.terminal == t then r ∷ [] else [])
+pub one-more : (t : ℕ) (all : List Refresh) (r : Refresh) → refreshes_of t (all ++ r ∷ []) ≡ refreshes_of t all ++ (if r.terminal == t then r ∷ [] else [])
 one-more t [] r = refl
 one-more t (x ∷ all) r = by (x.terminal == t) (one-more t all r)
   where
@@ -100,7 +100,7 @@ text-more system t all r seen has =
         ap (λ (l : List Refresh). refresh_parts system (once l)) (append-nil (refreshes_of t all)) ∙ sym (append-nil (refresh_parts system (counted all t)))
 
 -- and the numbers
-seen-more : (t : ℕ) (all : List Refresh) (r : Refresh) (seen next : BTreeSet Number) → HasSeen seen (refreshes_of t all)
+pub seen-more : (t : ℕ) (all : List Refresh) (r : Refresh) (seen next : BTreeSet Number) → HasSeen seen (refreshes_of t all)
     → ((other : Refresh) → contains number_cmp next (number_of other) ≡ is_seen t r seen other) → HasSeen next (refreshes_of t (all ++ r ∷ []))
 seen-more t all r seen next has is other =
     is other

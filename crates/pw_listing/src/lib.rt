@@ -4,7 +4,7 @@
 pub mod laws;
 mod lines;
 pub mod listing;
-mod numbers;
+pub mod numbers;
 mod parts;
 #[cfg(test)]
 mod tests;

@@ -1,0 +1,41 @@
+-- What is kept of locks and records once the attempts of a pair are over.
+use Rattle.std.specs.Prelude.{◌≡◌, ℕ, ◌+◌, ◌<◌, ◌≤◌, ◌^◌, ◌==◌, Bool, false, List, [], length, slice_get, slice_index_or, Option, Some, None, if◌then◌else◌}
+use Rattle.pw_counts.specs.Kept.{RecordsState, changes_by}
+use Rattle.pw_counts.specs.Locks.{AreLocksOf, LocksState}
+use Rattle.pw_counts.specs.Records.{grown_in, shrunk_in, sum_to}
+use Rattle.pw_counts.specs.declared.attempts.Seat.{Seat}
+use Rattle.pw_locks.specs.declared.lock.Lock.{Lock}
+use Rattle.pw_paired.specs.Units.{without_locks}
+
+-- the seat is of the pair, if it is there
+abbrev pub has_tcp : ℕ → Option Seat → Bool
+has_tcp p None = false
+has_tcp p (Some seat) = seat.tcp == p
+
+-- the terminal is of the pair, by the seats
+abbrev pub is_seated : List Seat → ℕ → ℕ → Bool
+is_seated seats p t = has_tcp p (slice_get seats t)
+
+-- the locks of the pair's terminals are gone
+pub record AreReleased (seats : List Seat) (p : ℕ) (old new : LocksState) : Type 0 where
+  pub count : length new.terminals ≡ length old.terminals
+  pub files : length new.files ≡ length old.files
+  pub locks : (locks : List Lock) → AreLocksOf locks old
+      → AreLocksOf (without_locks (is_seated seats p) locks) new
+
+-- the changes of the pair's terminals are taken back, where there is room in the counts
+pub record AreTakenBack (seats : List Seat) (p : ℕ) (old new : RecordsState) : Type 0 where
+  pub count : length new.files ≡ length old.files
+  pub terminals : length new.terminals ≡ length old.terminals
+  pub changes : (t : ℕ) → (changes_by new t).changes
+      ≡ (if is_seated seats p t then [] else (changes_by old t).changes)
+  pub files : (f : ℕ) → f < length old.files
+      → ((n : ℕ) → sum_to n (is_seated seats p) (λ t. grown_in f (changes_by old t).changes)
+      ≤ slice_index_or old.files f 0
+      + sum_to n (is_seated seats p) (λ t. shrunk_in f (changes_by old t).changes))
+      → slice_index_or old.files f 0
+      + sum_to (length seats) (is_seated seats p) (λ t. shrunk_in f (changes_by old t).changes) < 2 ^ 64
+      → slice_index_or new.files f 0
+      + sum_to (length seats) (is_seated seats p) (λ t. grown_in f (changes_by old t).changes)
+      ≡ slice_index_or old.files f 0
+      + sum_to (length seats) (is_seated seats p) (λ t. shrunk_in f (changes_by old t).changes)
