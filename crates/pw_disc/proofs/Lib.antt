@@ -1,3 +1,4 @@
+mod LastingPairs
 mod LineLemmas
 mod Making
 mod OneMember

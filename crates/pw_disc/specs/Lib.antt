@@ -1,3 +1,4 @@
 pub mod Calls
+pub mod Lasting
 pub mod Lines
 pub mod Pair

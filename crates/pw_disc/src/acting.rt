@@ -1,6 +1,6 @@
 ghost use Rattle.std.specs.Prelude.{◌≡◌, ◌≤◌, length};
 ghost use Rattle.std.specs.List.{list_any};
-ghost use Rattle.pw_disc.specs.Lines.{acting, acts_first, holds, is_due, is_held, is_primary, lose_pair};
+ghost use Rattle.pw_disc.specs.Lines.{acting, acts_first, holds, is_due, is_held, begins_with_primary, is_primary, lose_pair, may_lose};
 
 use pw_disc_call::script::DiscLine;
 
@@ -67,6 +67,33 @@ pub fn holds(done: u64, lines: &[DiscLine]) -> bool
 {
     match lines {
         [first, ..] => is_held(*first) && is_due(done, *first),
+        [] => false,
+    }
+}
+
+/// Whether the first line is one of a primary at the start of a call.
+fn begins_with_primary(lines: &[DiscLine]) -> bool
+    ensures { result ≡ begins_with_primary lines.now }
+{
+    match lines {
+        [first, ..] => is_primary(*first),
+        [] => false,
+    }
+}
+
+/// Whether one of these lines is a PRIMARY AFTER line directly behind a PRIMARY AFTER or BACKUP AFTER line.
+#[tactic(auto, unfolding(crate::specs::Lines::may_lose))]
+pub fn may_lose(lines: &[DiscLine]) -> bool
+    ensures { result ≡ may_lose lines.now }
+{
+    match lines {
+        [line, rest @ ..] => {
+            if !is_held(*line) && begins_with_primary(rest) {
+                true
+            } else {
+                may_lose(rest)
+            }
+        }
         [] => false,
     }
 }
