@@ -1,5 +1,5 @@
 -- Runs of calls of a disc over a trail, and what they leave on its disk.
-use Rattle.std.specs.Prelude.{◌≡◌, ◌⊎◌, ℕ, ◌+◌, ◌≤◌, Bool, true, false, List, [], ◌∷◌, ◌++◌, length, take, Result, Ok, Err}
+use Rattle.std.specs.Prelude.{◌≡◌, ◌⊎◌, ℕ, ◌+◌, ◌≤◌, Bool, true, false, List, [], ◌∷◌, ◌++◌, length, Result, Ok, Err}
 use Rattle.pw_code.specs.declared.file.FileInfo.{FileInfo}
 use Rattle.pw_code.specs.declared.system.System.{System}
 use Rattle.pw_tmf.specs.Told.{Told}
@@ -24,10 +24,10 @@ committed_by (Commit unit (Err fault.Failed) ∷ calls) = unit ∷ committed_by 
 committed_by (Commit unit (Err fault.Memory) ∷ calls) = committed_by calls
 committed_by (Other ∷ calls) = committed_by calls
 
--- how many commits answered Ok
-abbrev pub acknowledged_by : List Call → ℕ
-acknowledged_by [] = 0
-acknowledged_by (Commit unit (Ok done) ∷ calls) = acknowledged_by calls + 1
+-- the units whose commit answered Ok
+abbrev pub acknowledged_by : List Call → List UnitChanges
+acknowledged_by [] = []
+acknowledged_by (Commit unit (Ok done) ∷ calls) = unit ∷ acknowledged_by calls
 acknowledged_by (Commit unit (Err fault) ∷ calls) = acknowledged_by calls
 acknowledged_by (Other ∷ calls) = acknowledged_by calls
 
@@ -51,20 +51,21 @@ pub record Stands {S : Type 0} (held : S → List ℕ) (images : S → List ℕ 
 
 -- an image has these units, or these with one more
 abbrev pub HasEither : List FileInfo → Result (List UnitChanges) ℕ → UnitChanges → List ℕ → Type 0
-HasEither files read unit image = (units_in files image ≡ read) ⊎ (units_in files image ≡ with_last read unit)
+HasEither files read unit image =
+    (units_in files image ≡ read) ⊎ (units_in files image ≡ with_last read unit)
 
--- The disk has failed at the commit of this unit: each image has the units from before, or these with this one.
-pub record Fails {S : Type 0} (images : S → List ℕ → Type 0) (next : Moment S)
+-- The disk has failed at the commit of this unit: an image has the units from before, or these with it.
+pub record FailsAt {S : Type 0} (images : S → List ℕ → Type 0) (next : Moment S)
     (read : Result (List UnitChanges) ℕ) (unit : UnitChanges) : Type 0 where
   pub broken : next.is_broken ≡ true
   pub leaves : (image : List ℕ) → images next.disk image → HasEither next.files read unit image
 
 -- what a commit leaves of a trail that stands at these units
-abbrev pub Leaves : {S : Type 0} → (S → List ℕ) → (S → List ℕ → Type 0) → Result (List UnitChanges) ℕ
-    → UnitChanges → Result Unit DiscFault → Moment S → Type 0
-Leaves held images read unit (Ok done) next = Stands held images next (with_last read unit)
-Leaves held images read unit (Err fault.Memory) next = Stands held images next read
-Leaves held images read unit (Err fault.Failed) next = Fails images next read unit
+abbrev pub CommitLeaves : {S : Type 0} → (S → List ℕ) → (S → List ℕ → Type 0)
+    → Result (List UnitChanges) ℕ → UnitChanges → Result Unit DiscFault → Moment S → Type 0
+CommitLeaves held images read unit (Ok done) next = Stands held images next (with_last read unit)
+CommitLeaves held images read unit (Err fault.Memory) next = Stands held images next read
+CommitLeaves held images read unit (Err fault.Failed) next = FailsAt images next read unit
 
 -- ---- runs
 
@@ -73,39 +74,47 @@ pub record Commits {S : Type 0} (held : S → List ℕ) (images : S → List ℕ
     (unit : UnitChanges) (answer : Result Unit DiscFault) (next : Moment S) : Type 0 where
   pub files : next.files ≡ now.files
   pub stands : (read : Result (List UnitChanges) ℕ) → Stands held images now read
-      → Leaves held images read unit answer next
+      → CommitLeaves held images read unit answer next
   pub broken : now.is_broken ≡ true → (answer ≡ Err fault.Failed) × (next ≡ now)
 
 -- no call but a commit changes anything
-abbrev pub Steps : {S : Type 0} → (S → List ℕ) → (S → List ℕ → Type 0) → Moment S → Call → Moment S → Type 0
+abbrev pub Steps : {S : Type 0} → (S → List ℕ) → (S → List ℕ → Type 0) → Moment S → Call → Moment S
+    → Type 0
 Steps held images now (Commit unit answer) next = Commits held images now unit answer next
 Steps held images now Other next = next ≡ now
 
 -- a run of calls
-abbrev pub Runs : {S : Type 0} → (S → List ℕ) → (S → List ℕ → Type 0) → Moment S → List Call → Moment S → Type 0
+abbrev pub Runs : {S : Type 0} → (S → List ℕ) → (S → List ℕ → Type 0) → Moment S → List Call → Moment S
+    → Type 0
 Runs held images now [] next = next ≡ now
 Runs {S} held images now (call ∷ calls) next =
     (mid : Moment S) × (Steps held images now call mid × Runs held images mid calls next)
 
 -- ---- what is found again
 
--- The bytes are a trail of the units from before and a prefix of those whose commit was called, in that order, none
--- skipped and none in part: each that answered Ok, and at most one more. Its records are those after them.
+-- the whole begins so
+pub record IsPrefix {A : Type 0} (front whole : List A) : Type 0 where
+  pub rest : List A
+  pub is : whole ≡ front ++ rest
+
+-- These units are found of those whose commit was called: they begin with each whose commit answered Ok and have at
+-- most one more, and they are the first that were called, none skipped.
+pub record AreFound (calls : List Call) (found : List UnitChanges) : Type 0 where
+  pub all : IsPrefix (acknowledged_by calls) found
+  pub few : length found ≤ length (acknowledged_by calls) + 1
+  pub first : IsPrefix found (committed_by calls)
+
+-- the bytes are a trail of the units from before and of such, and its records are those after them
 pub record HasPrefixOf (files : List FileInfo) (before : List UnitChanges) (calls : List Call)
     (bytes : List ℕ) : Type 0 where
-  pub count : ℕ
-  pub all : acknowledged_by calls ≤ count
-  pub few : count ≤ acknowledged_by calls + 1
-  pub within : count ≤ length (committed_by calls)
-  pub units : units_in files bytes ≡ Ok (before ++ take count (committed_by calls))
-  pub records : trail_files files bytes ≡ Ok (files_after files (before ++ take count (committed_by calls)))
+  pub found : List UnitChanges
+  pub are : AreFound calls found
+  pub units : units_in files bytes ≡ Ok (before ++ found)
+  pub records : trail_files files bytes ≡ Ok (files_after files (before ++ found))
 
--- a disc with just those records, on which no unit has begun
+-- a disc has just those records, and no unit has begun there
 pub record RecoversPrefixOf (system : System) (before : List UnitChanges) (calls : List Call)
     (told : Told) : Type 0 where
-  pub count : ℕ
-  pub all : acknowledged_by calls ≤ count
-  pub few : count ≤ acknowledged_by calls + 1
-  pub within : count ≤ length (committed_by calls)
-  pub is : told
-      ≡ told_with system (files_after system.files (before ++ take count (committed_by calls)))
+  pub found : List UnitChanges
+  pub are : AreFound calls found
+  pub is : told ≡ told_with system (files_after system.files (before ++ found))
