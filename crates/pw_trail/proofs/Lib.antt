@@ -1,4 +1,5 @@
 mod BodyForms
+mod CallRuns
 mod Commits
 mod Committing
 mod DiscTests

@@ -1,4 +1,5 @@
 pub mod Body
+pub mod Calls
 pub mod Committing
 pub mod Files
 pub mod Format

@@ -6,6 +6,7 @@ pub mod changes;
 #[cfg(test)]
 mod disc_tests;
 pub mod fault;
+pub mod laws;
 pub mod log;
 pub mod open;
 mod piece;

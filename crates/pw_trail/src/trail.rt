@@ -7,7 +7,8 @@ ghost use Rattle.pw_tmf.specs.Faulty.{with_faults};
 ghost use Rattle.pw_tmf.specs.Operation.{IsCall};
 ghost use Rattle.pw_tmf.specs.Tmf.{told_of};
 ghost use Rattle.pw_tmf.specs.Units.{AreApart, CanBackOut, CanBegin, IsRunning, all_backed_out, begun, ended};
-ghost use Rattle.pw_trail.specs.Committing.{LeadsTo, LeadsToEither, change_to};
+ghost use Rattle.pw_trail.specs.Calls.{Commits, Stands, moment};
+ghost use Rattle.pw_trail.specs.Committing.{LeadsTo, LeadsToEither, change_to, record_of};
 ghost use Rattle.pw_trail.specs.Format.{units_in};
 ghost use Rattle.pw_trail.specs.Orderly.{IsOrderly};
 ghost use Rattle.pw_trail.specs.Restoring.{HasFiles, IsReadBack};
@@ -101,6 +102,9 @@ impl<D: Disk> Trail<D> {
         ensures told { IfOk result (λ trail.
             IsReadBack system.now (units_in system.now.files (D.bytes disk)) (told_of trail.tmf)) }
         ensures faults { IfOk result (λ trail. trail.faults ≡ 0) }
+        ensures stands { IfOk result (λ trail. Stands D.bytes D.may_leave
+            (moment trail.log.files trail.log.disk trail.log.is_broken)
+            (units_in system.now.files (D.bytes disk))) }
         ensures images { IfOk result (λ trail. (image : List ℕ) → D.may_leave trail.log.disk image
             → D.may_leave disk image ⊎ (units_in system.now.files image ≡ units_in system.now.files (D.bytes disk))) }
         ensures images_err { IfErr result (λ error. (image : List ℕ) → D.may_leave error.0 image
@@ -175,6 +179,10 @@ impl<S: Synced + Send> Disc for Trail<S> {
             → LeadsToEither self.old.log.files (told_of self.old.tmf) unit.now reply image }
         ensures stored { OnOk result ((image : List ℕ) → S.images self.new.log.disk image
             → LeadsTo self.old.log.files (ended (told_of self.old.tmf) unit.now reply) image) }
+        ensures commits { Commits S.held S.images
+            (moment self.old.log.files self.old.log.disk self.old.log.is_broken)
+            (record_of (told_of self.old.tmf) unit.now) result
+            (moment self.new.log.files self.new.log.disk self.new.log.is_broken) }
         ensures files { self.new.log.files ≡ self.old.log.files }
         ensures untouched { self.old.log.is_broken ≡ true
             → (self.new.log ≡ self.old.log) × IsErrOf result DiscFault.Failed }
