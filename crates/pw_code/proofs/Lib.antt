@@ -1,4 +1,3 @@
 pub mod Codes
 pub mod NameLemmas
 pub mod PathLemmas
-pub mod ThinLemmas

@@ -9,5 +9,4 @@ pub mod Path
 pub mod Places
 pub mod Screen
 pub mod Spelling
-pub mod Thin
 pub mod Valid

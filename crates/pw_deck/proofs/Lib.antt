@@ -1,13 +1,7 @@
 pub mod Decks
-pub mod Examples
-pub mod Faults
 pub mod Finish
 pub mod Folds
 pub mod Good
 pub mod Ranges
-pub mod Shown
 pub mod Sound
 pub mod Tabled
-pub mod Texts
-pub mod Validity
-pub mod Wanted

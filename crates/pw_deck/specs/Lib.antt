@@ -1,4 +1,3 @@
 pub mod Deck
 pub mod Parts
 pub mod Sound
-pub mod Thin

@@ -7,4 +7,3 @@ pub mod parts;
 mod sections;
 #[cfg(test)]
 mod tests;
-pub mod thin;

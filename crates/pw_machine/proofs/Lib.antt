@@ -5,8 +5,6 @@ pub mod EntryLemmas
 pub mod KeyedLemmas
 pub mod LinkageLemmas
 pub mod MoveLemmas
-pub mod Paths
-pub mod Places
 pub mod PutLemmas
 pub mod RangeLemmas
 pub mod ReplyLemmas

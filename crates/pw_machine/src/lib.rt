@@ -24,10 +24,7 @@ pub mod run;
 mod spot;
 mod stack;
 mod statements;
-#[cfg(test)]
-mod tests;
 mod texts;
-pub mod thin;
 mod top;
 mod turns;
 mod units;

@@ -1,4 +1,0 @@
-pub mod System
-pub mod State
-pub mod Step
-pub mod Serial
