@@ -12,6 +12,7 @@ use Rattle.pw_command.specs.declared.words.Words.{Words}
 abbrev pub is_built : Command → Bool
 is_built command.Run = true
 is_built command.Check = true
+is_built command.Verify = true
 is_built command.Gen = true
 is_built command.Expand = true
 is_built _ = false
@@ -33,7 +34,7 @@ said words = if_built (command_of words)
 
 -- the line that is written where the words say nothing
 abbrev pub usage_line : List ℕ
-usage_line = codes "USAGE: pathway run|check|gen|expand [--workers N] [--events N] [--seed N] [--terms N] [--at N]\n"
+usage_line = codes "USAGE: pathway run|check|verify|gen|expand [--workers N] [--events N] [--seed N] [--terms N] [--at N]\n"
 
 -- the line of a deck without a fault
 abbrev pub deck_ok : List ℕ

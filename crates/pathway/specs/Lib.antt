@@ -1,6 +1,5 @@
 pub mod Commands
+pub mod Decks
 pub mod Numbers
-pub mod Running
 pub mod Schedules
-pub mod Source
 pub mod Statuses

@@ -1,4 +1,5 @@
-ghost use Rattle.std.specs.Prelude.{◌≡◌, IfOk, map, string_bytes};
+ghost use Rattle.std.specs.Prelude.{◌≡◌, IfOk, IfSome, map, string_bytes};
+ghost use Rattle.pw_command.specs.CommandLine.{IsInRange};
 ghost use Rattle.pathway.specs.Commands.{is_built, said, deck_ok, fault_line, usage_line};
 
 use pw_base::bytes::Bytes;
@@ -14,14 +15,19 @@ fn is_built(command: Command) -> bool
     ensures { result ≡ is_built command }
 {
     match command {
-        Command::Run | Command::Check | Command::Gen | Command::Expand => true,
+        Command::Run
+        | Command::Check
+        | Command::Verify
+        | Command::Gen
+        | Command::Expand => true,
         _ => false,
     }
 }
 
 /// What the words say; None exactly where they are not those of a command that is built.
 pub fn said(alloc: Global, words: &[String]) -> Result<Option<Words>, Memory>
-    ensures { IfOk result (λ words_say. words_say ≡ said (map string_bytes words.now)) }
+    ensures says { IfOk result (λ words_say. words_say ≡ said (map string_bytes words.now)) }
+    ensures range { IfOk result (λ words_say. IfSome words_say IsInRange) }
 {
     match read_words(alloc, words) {
         Ok(said) if is_built(said.command) => Ok(Some(said)),
@@ -35,7 +41,7 @@ pub fn said(alloc: Global, words: &[String]) -> Result<Option<Words>, Memory>
 pub fn usage_line() -> &'static [u8]
     ensures { result.now ≡ usage_line }
 {
-    b"USAGE: pathway run|check|gen|expand [--workers N] [--events N] [--seed N] [--terms N] [--at N]\n"
+    b"USAGE: pathway run|check|verify|gen|expand [--workers N] [--events N] [--seed N] [--terms N] [--at N]\n"
 }
 
 /// The line of a deck without a fault.

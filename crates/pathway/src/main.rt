@@ -1,15 +1,14 @@
 //! The program: it runs a deck and writes the report of the run, says whether a deck has a fault,
-//! generates a deck, or answers a schedule of transactions over several systems.
+//! replays the log of a deck, generates a deck, or answers a schedule of transactions over several systems.
 #![tactic(auto)]
 
 ghost use Rattle.std.specs.Prelude.{◌≡◌, drop, IfOk};
 ghost use Rattle.std.specs.Vec.Iter.{into_iter_items};
 
 mod answers;
-mod check;
 mod commands;
+mod decks;
 mod output;
-mod run;
 mod schedule;
 mod status;
 #[cfg(test)]

@@ -1,21 +1,14 @@
 ghost use Rattle.std.specs.Prelude.{◌≡◌};
-ghost use Rattle.pw_base.specs.Limits.{most_entries};
 ghost use Rattle.pathway.specs.Numbers.{number_of};
-
-/// How many entries a log may have.
-pub const MAX_ENTRIES: u32 = 100_000;
-
-/// The entries of a log are as many as the table of limits says.
-pub fn entry_limit()
-    ensures { MAX_ENTRIES ≡ most_entries }
-{}
 
 /// How a call of the program ends.
 #[derive(Clone, Copy, Debug, PartialEq, Eq)]
 pub enum Status {
-    /// Every terminal has ended, the deck is generated, or the schedule has no fault. The report, the
-    /// deck, or the messages and marks are written.
+    /// Every terminal has ended, each STOPPED or NOENTRIES; the log of the deck is a run; the deck or
+    /// the schedule has no fault; or the deck is generated. What was asked for is written.
     Finished,
+    /// Every terminal has ended, and one otherwise. The report is written.
+    Irregular,
     /// The deck or the schedule has a fault. Its line is written.
     Refused,
     /// The log has as many entries as it may, and is not finished. The report is written.
@@ -28,6 +21,8 @@ pub enum Status {
     Memory,
     /// The words are not the command's. The usage line is written.
     Usage,
+    /// An entry of the deck's log is no step. Its number is written.
+    NotAStep,
 }
 
 impl Status {
@@ -37,12 +32,14 @@ impl Status {
     {
         match self {
             Status::Finished => 0,
+            Status::Irregular => 1,
             Status::Refused => 2,
             Status::Limit => 3,
             Status::ReadFault => 4,
             Status::WriteFault => 5,
             Status::Memory => 6,
             Status::Usage => 7,
+            Status::NotAStep => 8,
         }
     }
 }

@@ -53,7 +53,7 @@ fn outcome(
 const TWO_DISPLAYS: &[u8] = b"DISPLAY \"ONE\".\nDISPLAY \"TWO\".\nSTOP RUN.\n";
 
 const USAGE: &str =
-    "USAGE: pathway run|check|gen|expand [--workers N] [--events N] [--seed N] [--terms N] [--at N]\n";
+    "USAGE: pathway run|check|verify|gen|expand [--workers N] [--events N] [--seed N] [--terms N] [--at N]\n";
 
 const TWO_DISPLAYS_REPORT: &str = "SERIAL
 OUT T1
@@ -66,9 +66,13 @@ SCREEN T1 0.0.2
 24|TWO
 FILES
 LOG
-1 SHOW T1 0.0.1
-2 SHOW T1 0.0.2
-3 END T1 STOPPED
+PATHWAY LOG 2
+1 RAISE TCP-1
+2 CHECK T1 COPY
+3 APPLIED T1
+4 SHOW T1 0.0.1
+5 SHOW T1 0.0.2
+6 END T1 STOPPED
 FINISHED
 ";
 
@@ -78,6 +82,72 @@ fn two_displays(rt: HostRuntime) -> Result<(), Fail> {
     let (status, written) = outcome(rt.alloc(), &["run"], deck.as_slice(), &[], 1_000, &[])?;
     assert_eq!(rt; status, 0);
     assert_eq!(rt; written.as_slice(), TWO_DISPLAYS_REPORT.as_bytes());
+    Ok(())
+}
+
+/// The report of a log of the same deck that is cut behind its fourth entry.
+const CUT_REPORT: &[u8] = b"SERIAL
+OUT T1
+SCREENS
+SCREEN T1 0.0.1
+24|ONE
+FILES
+LOG
+PATHWAY LOG 2
+1 RAISE TCP-1
+2 CHECK T1 COPY
+3 APPLIED T1
+4 SHOW T1 0.0.1
+UNFINISHED
+";
+
+/// The report of a deck whose pair loses its only member at once.
+const LOST_REPORT: &[u8] = b"SERIAL
+DONE T1 LOST
+SCREENS
+FILES
+LOG
+PATHWAY LOG 2
+1 FAIL TCP TCP-1 PRIMARY 1
+2 END T1 LOST
+FINISHED
+";
+
+/// What is written of a deck without terminals.
+const EMPTY_REPORT: &[u8] = b"SERIAL\nSCREENS\nFILES\nLOG\nPATHWAY LOG 2\nFINISHED\n";
+
+/// Sections behind the program of two displays, words, the status, and what is written.
+const RUNS: &[(&[u8], &[&str], u8, &[u8])] = &[
+    (b"", &["run", "--events", "4"], 3, CUT_REPORT),
+    (b"?FAIL\nTCP TCP-1 PRIMARY AFTER 0\n", &["run"], 1, LOST_REPORT),
+    // the log of the deck says nothing of its runs
+    (
+        b"?LOG\nPATHWAY LOG 2\n1 END T1 LOST\n",
+        &["run"],
+        0,
+        TWO_DISPLAYS_REPORT.as_bytes(),
+    ),
+    (b"?LOG\nPATHWAY LOG 2\n1 RAISE TCP-1\n2 CHECK T1 COPY\n3 APPLIED T1\n4 SHOW T1 0.0.1\n", &["verify"], 0, CUT_REPORT),
+    (b"?LOG\nPATHWAY LOG 2\n1 RAISE TCP-1\n2 SHOW T1 0.0.1\n", &["verify"], 8, b"NOT A STEP 2\n"),
+    (b"?LOG\n1 RAISE TCP-2\n", &["verify"], 2, b"DECK FAULT LINE 17 CODE 183 UNKNOWN OBJECT\n"),
+];
+
+#[test]
+fn decks_are_run_and_replayed(rt: HostRuntime) -> Result<(), Fail> {
+    let alloc = rt.alloc();
+    for &(sections, texts, wanted_status, wanted) in RUNS {
+        let mut statements = TWO_DISPLAYS.to_vec(alloc)?;
+        statements.extend_from_slice(sections)?;
+        let deck = deck(alloc, statements.as_slice())?;
+        let (status, written) = outcome(alloc, texts, deck.as_slice(), &[], 1_000, &[])?;
+        assert_eq!(rt; status, wanted_status);
+        assert_eq!(rt; written.as_slice(), wanted);
+    }
+    for texts in [["run"].as_slice(), &["verify"]] {
+        let (status, written) = outcome(alloc, texts, b"?END", &[], 1_000, &[])?;
+        assert_eq!(rt; status, 0);
+        assert_eq!(rt; written.as_slice(), EMPTY_REPORT);
+    }
     Ok(())
 }
 
@@ -121,7 +191,7 @@ fn usage_source_and_sink_faults(rt: HostRuntime) -> Result<(), Fail> {
         &["run", "--workers", "17"],
         &["--help"],
         &["Check"],
-        &["verify"],
+        &["verify", "--at", "500001"],
         &["Expand"],
         &["expand", "--seed", "-1"],
     ] {

@@ -11,13 +11,14 @@ use pw_base::write_all::write_all_of;
 use std::alloc::Global;
 
 /// The program: by the words after its name it reads a deck from the source, runs it, and writes the
-/// report of the run to the sink; or it reads a deck and writes whether it has a fault; or it writes
-/// the generated deck; or it reads a schedule from the source, and writes its messages and marks
-/// (docs/COMMANDS.md). It answers the exit status.
+/// report of the run to the sink; or it reads a deck and writes whether it has a fault, or the report of
+/// its log; or it writes the generated deck; or it reads a schedule from the source, and writes its
+/// messages and marks (docs/COMMANDS.md). It answers the exit status.
 ///
-/// The clause `ends` is the headline: where the deck has no fault the report is that of a run, and
-/// the screens are those of a machine that runs the log's serial order one block at a time. It has
-/// the cause of every status: the source's count of faults rises at status 4 alone, and the sink's at
+/// The clause `ends` is the headline: where the deck has no fault the report is that of a run of it,
+/// whatever fails; the screens, each numbered refresh counted once, and the records are those of a
+/// machine that runs the log's serial order one unit at a time; and each unit number ends at most once.
+/// It has the cause of every status: the source's count of faults rises at status 4 alone, and the sink's at
 /// status 5 alone. All output is made before its first byte is written.
 pub fn pathway<S: Source, K: Sink>(
     alloc: Global,
