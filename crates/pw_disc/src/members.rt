@@ -1,4 +1,4 @@
-ghost use Rattle.std.specs.Prelude.{◌≡◌};
+ghost use Rattle.std.specs.Prelude.{◌≡◌, IfSome};
 ghost use Rattle.pw_tmf.specs.Tmf.{told_of};
 ghost use Rattle.pw_disc.specs.Pair.{AreEqual};
 
@@ -9,7 +9,8 @@ use pw_tmf::tmf::Tmf;
 /// The primary fails, and its backup, if there is one, takes over.
 pub fn take_over(primary: &mut Tmf, backup: Option<DiscBackup>)
     requires { AreEqual primary.old backup }
-    ensures { told_of primary.new ≡ told_of primary.old }
+    ensures told { told_of primary.new ≡ told_of primary.old }
+    ensures taken { IfSome backup (λ own. primary.new ≡ own) }
 {
     if let Some(backup) = backup {
         *primary = backup.takeover();

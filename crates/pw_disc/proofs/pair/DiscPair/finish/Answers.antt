@@ -23,4 +23,4 @@ returns-clause-pair c =
     ap (λ (backup : Option TmfState). seen gone backup survivor (used + 1) lines c.saturating_add-self-inside.result faults) c.take-backup.ensures.after
     ∙ ap (λ (n : ℕ). seen gone None survivor (used + 1) lines n faults) one_more
     ∙ counts_held (state_of c.args.self.now) gone c.self.inside.backup c.self.inside.primary used lines done faults (ap state_of c.self.view_is)
-    c.requires survivor c.take_over.ensures held
+    c.requires survivor c.take_over.ensures.told held
