@@ -2,3 +2,5 @@
 #![tactic(auto)]
 
 pub mod lines;
+#[cfg(test)]
+mod tests;
