@@ -41,7 +41,7 @@ impl<D: Disc> World<D> {
     }
 
     /// Whether the log has as many entries as it may, and is not finished.
-    fn is_full(&self) -> bool
+    pub fn is_full(&self) -> bool
         ensures { IsTrue result ↔ IsFull (seen D.told self.now) }
     {
         self.ledger.log().len() == self.limit as usize && !self.finished()
