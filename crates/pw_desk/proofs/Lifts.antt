@@ -1,0 +1,131 @@
+-- What is said of a system that was read is said of its deck.
+use Rattle.std.proofs.Common.{◌≡◌, ◌∙◌, ◌≤◌, ℕ, List, Ok, ap, length, refl, subst, sym}
+use Rattle.pw_code.specs.Valid.{IsValid}
+use Rattle.pw_code.specs.declared.lock.LockRule.{LockRule}
+use Rattle.pw_code.specs.declared.lock.LockRule.TheVariants.{ReadersShare}
+use Rattle.pw_code.specs.declared.system.System.{System}
+use Rattle.pw_deck.specs.Deck.{deck_of}
+use Rattle.pw_deck.specs.declared.deck.Deck as trees
+use Rattle.pw_desk.proofs.Decks.{IsOf}
+use Rattle.pw_desk.specs.Endings.{RunsTo}
+use Rattle.pw_desk.specs.Headline.{Prints, Reports}
+use Rattle.pw_desk.specs.Meaning.{meaning, named}
+use Rattle.pw_desk.specs.Replays.{Answers, Replays, Verifies}
+use Rattle.pw_desk.specs.declared.ending.Ran.{Ran}
+use Rattle.pw_desk.specs.declared.verify.Verified.{Verified}
+use Rattle.pw_desk.specs.declared.verify.Verified.TheVariants.{NotAStep, Run}
+use Rattle.pw_event.specs.declared.event.Event.{Event}
+use Rattle.pw_exec.specs.OfSystem as code
+use Rattle.pw_onecopy.specs.Behaviour.{Behaviour}
+use Rattle.pw_onecopy.specs.IsBehaviour.{IsBehaviour}
+use Rattle.pw_paired.specs.Headline.{EndsOnce, IsSerializable}
+use Rattle.pw_paired.specs.Step.{IsRun}
+use Rattle.pw_script.specs.Log.{rule_of}
+use Rattle.pw_whole.specs.Short.{IsSmall}
+use Rattle.pw_whole.specs.Whole.{compiled}
+use Rattle.pw_whole.specs.declared.deck.Deck.{Deck}
+use Rattle.pw_whole.proofs.Rules.{log-few, ruled-behaves, ruled-same, ruled-valid}
+
+-- the laws of every run
+abbrev pub AreSerial : Type 0
+AreSerial = (sys : Behaviour) → IsBehaviour sys → (log : List Event) → IsRun sys log → IsSerializable sys log
+
+abbrev pub AreOnce : Type 0
+AreOnce = (sys : Behaviour) → IsBehaviour sys → (log : List Event) → IsRun sys log → EndsOnce sys log
+
+-- a run of a system
+pub reports : AreSerial → AreOnce → (bytes : List ℕ) (whole : Deck) (of : IsOf bytes whole) (sys : Behaviour)
+    → IsBehaviour sys → sys ≡ meaning ReadersShare of.deck → (events : ℕ) (ran : Ran) (text : List ℕ)
+    → RunsTo sys whole.system events ran text → Reports bytes events ran text
+reports serial once bytes whole of sys behaves same events ran text runs =
+    let system : whole.system ≡ named ReadersShare of.deck = ap (λ (w : Deck). w.system) of.is in
+    let to : RunsTo (meaning ReadersShare of.deck) (named ReadersShare of.deck) events ran text =
+    subst (λ (s : System). RunsTo (meaning ReadersShare of.deck) s events ran text) system
+    (subst (λ (b : Behaviour). RunsTo b whole.system events ran text) same runs) in
+    let meant : IsBehaviour (meaning ReadersShare of.deck) = subst IsBehaviour same behaves in
+    record {
+      deck = of.deck;
+      says = of.says;
+      log = to.log;
+      prints = record {
+        run = to.run;
+        serial = serial (meaning ReadersShare of.deck) meant to.log to.run;
+        once = once (meaning ReadersShare of.deck) meant to.log to.run;
+        is = to.is;
+      };
+      ended = to.ended;
+    }
+
+-- the replay of a log
+answers : AreSerial → AreOnce → (rule : LockRule) (deck : trees.Deck) → IsBehaviour (meaning rule deck)
+    → (verified : Verified) (text : List ℕ) → Replays (meaning rule deck) (named rule deck) deck.told.log verified text
+    → Answers rule deck verified text
+answers serial once rule deck behaves Run text to = record {
+  run = to.0;
+  serial = serial (meaning rule deck) behaves deck.told.log to.0;
+  once = once (meaning rule deck) behaves deck.told.log to.0;
+  is = to.1;
+}
+answers serial once rule deck behaves NotAStep text to = to
+
+-- the system of a deck that was read, under the rule of its log
+abbrev pub ruled : Deck → System
+ruled whole = record whole.system { rule = rule_of whole.version }
+
+pub verifies : AreSerial → AreOnce → (bytes : List ℕ) (whole : Deck) (of : IsOf bytes whole) (sys : Behaviour)
+    → IsBehaviour (meaning (rule_of of.deck.told.version) of.deck)
+    → sys ≡ meaning (rule_of of.deck.told.version) of.deck → (verified : Verified) (text : List ℕ)
+    → Replays sys (ruled whole) whole.log verified text → Verifies bytes verified text
+verifies serial once bytes whole of sys behaves same verified text replays =
+    let deck : trees.Deck = of.deck in
+    let rule : LockRule = rule_of deck.told.version in
+    let meant : Replays (meaning rule deck) (ruled whole) whole.log verified text =
+    subst (λ (b : Behaviour). Replays b (ruled whole) whole.log verified text) same replays in
+    let to : Replays (meaning rule deck) (named rule deck) deck.told.log verified text =
+    subst (λ (w : Deck). Replays (meaning rule deck) (ruled w) w.log verified text) of.is meant in
+    record { deck = deck; says = of.says; answers = answers serial once rule deck behaves verified text to }
+
+-- ---- the system of a deck that was read, under the rule of its log
+
+small-tree : (bytes : List ℕ) (whole : Deck) (of : IsOf bytes whole) → IsSmall whole.system
+    → IsSmall (compiled of.deck).system
+small-tree bytes whole of small = subst (λ (w : Deck). IsSmall w.system) of.is small
+
+module _ (bytes : List ℕ) (whole : Deck) (of : IsOf bytes whole) (small : IsSmall whole.system) where
+  abbrev tree-rule : LockRule
+  tree-rule = rule_of of.deck.told.version
+
+  pub whole-valid : (rule : LockRule) → rule ≡ rule_of whole.version → IsValid (record whole.system { rule = rule })
+  whole-valid rule is =
+      subst (λ (r : LockRule). IsValid (record whole.system { rule = r })) (sym is)
+      (subst (λ (w : Deck). IsValid (ruled w)) (sym of.is)
+      (ruled-valid tree-rule bytes of.deck of.says (small-tree bytes whole of small)))
+
+  pub whole-same : (rule : LockRule) → rule ≡ rule_of whole.version
+      → code.behaviour whole.script.lines (record whole.system { rule = rule }) ≡ meaning tree-rule of.deck
+  whole-same rule is =
+      ap (λ (r : LockRule). code.behaviour whole.script.lines (record whole.system { rule = r })) is
+      ∙ (ap (λ (w : Deck). code.behaviour w.script.lines (ruled w)) of.is
+      ∙ ruled-same tree-rule bytes of.deck of.says (small-tree bytes whole of small))
+
+  pub whole-behaves : (rule : LockRule) → rule ≡ rule_of whole.version
+      → IsBehaviour (code.behaviour whole.script.lines (record whole.system { rule = rule }))
+  whole-behaves rule is = subst IsBehaviour (sym (whole-same rule is)) (ruled-behaves tree-rule bytes of.deck of.says)
+
+  pub whole-log : length whole.log ≤ 500000
+  whole-log = subst (λ (w : Deck). length w.log ≤ 500000) (sym of.is) (log-few tree-rule bytes of.deck of.says)
+
+  pub verifies-from : AreSerial → AreOnce → (rule : LockRule) → rule ≡ rule_of whole.version
+      → (log : List Event) → log ≡ whole.log → (verified : Verified) (text : List ℕ)
+      → Replays (code.behaviour whole.script.lines (record whole.system { rule = rule })) (record whole.system { rule = rule })
+      log verified text
+      → Verifies bytes verified text
+  verifies-from serial once rule is log same verified text replays =
+      let at-rule : Replays (code.behaviour whole.script.lines (ruled whole)) (ruled whole) log verified text =
+      subst (λ (r : LockRule). Replays (code.behaviour whole.script.lines (record whole.system { rule = r }))
+      (record whole.system { rule = r }) log verified text) is replays in
+      let at-log : Replays (code.behaviour whole.script.lines (ruled whole)) (ruled whole) whole.log verified text =
+      subst (λ (l : List Event). Replays (code.behaviour whole.script.lines (ruled whole)) (ruled whole) l verified text)
+      same at-rule in
+      verifies serial once bytes whole of (code.behaviour whole.script.lines (ruled whole))
+      (ruled-behaves tree-rule bytes of.deck of.says) (whole-same (rule_of whole.version) refl) verified text at-log

@@ -1,0 +1,4 @@
+pub mod Endings
+pub mod Headline
+pub mod Meaning
+pub mod Replays

@@ -1,0 +1,41 @@
+-- What the replay of a deck's log comes to.
+use Rattle.std.specs.Prelude.{◌≡◌, ℕ, List, [], ◌∷◌, ◌++◌, Ok, codes}
+use Rattle.std.specs.Fmt.{decimal}
+use Rattle.pw_code.specs.declared.lock.LockRule.{LockRule}
+use Rattle.pw_code.specs.declared.system.System.{System}
+use Rattle.pw_deck.specs.Deck.{deck_of}
+use Rattle.pw_deck.specs.declared.deck.Deck.{Deck}
+use Rattle.pw_desk.specs.Headline.{Prints}
+use Rattle.pw_desk.specs.Meaning.{meaning}
+use Rattle.pw_desk.specs.declared.verify.Verified.{Verified}
+use Rattle.pw_desk.specs.declared.verify.Verified.TheVariants.{NotAStep, Run}
+use Rattle.pw_event.specs.declared.event.Event.{Event}
+use Rattle.pw_listing.specs.Meaning.{report_text}
+use Rattle.pw_monitor_world.specs.Calls.{IsFirstNoStep}
+use Rattle.pw_onecopy.specs.Behaviour.{Behaviour}
+use Rattle.pw_paired.specs.Step.{IsRun}
+use Rattle.pw_script.specs.Log.{rule_of}
+
+-- the line of an entry that is no step
+abbrev pub no_step_line : ℕ → List ℕ
+no_step_line n = codes "NOT A STEP " ++ (decimal n ++ 10 ∷ [])
+
+-- the text is the line of the first entry that is no step
+abbrev pub IsNoStep : Behaviour → List Event → List ℕ → Type 0
+IsNoStep sys log text = (n : ℕ) × (IsFirstNoStep sys log n × (text ≡ no_step_line n))
+
+-- the same, or the report of the log
+abbrev pub Replays : Behaviour → System → List Event → Verified → List ℕ → Type 0
+Replays sys system log Run text = IsRun sys log × (text ≡ report_text system sys log)
+Replays sys system log NotAStep text = IsNoStep sys log text
+
+-- the log of the deck is printed, or has an entry that is no step
+abbrev pub Answers : LockRule → Deck → Verified → List ℕ → Type 0
+Answers rule deck Run text = Prints rule deck deck.told.log text
+Answers rule deck NotAStep text = IsNoStep (meaning rule deck) deck.told.log text
+
+-- the deck of the bytes has no fault, and that of its log, under the rule of the log's version
+pub record Verifies (bytes : List ℕ) (verified : Verified) (text : List ℕ) : Type 0 where
+  pub deck : Deck
+  pub says : deck_of bytes ≡ Ok deck
+  pub answers : Answers (rule_of deck.told.version) deck verified text

@@ -1,0 +1,32 @@
+ghost use Rattle.std.specs.Prelude.{◌≡◌};
+ghost use Rattle.pw_desk.specs.Endings.{all_regular, is_regular};
+
+use pw_event::event::{Ending, Event};
+
+/// How the run of a deck ends (docs/DESK.md).
+#[derive(Clone, Copy, Debug, PartialEq, Eq)]
+pub enum Ran {
+    /// Every terminal has ended, each STOPPED or NOENTRIES.
+    Regular,
+    /// Every terminal has ended, and one otherwise.
+    Irregular,
+    /// The log has as many entries as it may, and is not finished.
+    Full,
+}
+
+/// Whether an entry ends no terminal, or one that stopped or had no entry lines left.
+fn is_regular(entry: &Event) -> bool
+    ensures { result ≡ is_regular entry.now }
+{
+    match entry {
+        Event::End { ending, .. } => matches!(ending, Ending::Stopped | Ending::NoEntries),
+        _ => true,
+    }
+}
+
+/// Whether each ending of a log is STOPPED or NOENTRIES.
+pub fn are_regular(log: &[Event]) -> bool
+    ensures { result ≡ all_regular log.now }
+{
+    log.iter().all(|entry| is_regular(entry))
+}
