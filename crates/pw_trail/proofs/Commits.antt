@@ -48,7 +48,7 @@ module _ (files : List FileInfo) (bytes : List ℕ) (may_leave : List ℕ → Ty
   pub synced_size : length bytes ≡ end + 1
   synced_size = ap length s.is ∙ length-append s.front (0 ∷ []) ∙ omega (arith, s.size)
 
-  behind_keeps : (image : List ℕ) → IsBehind bytes image → units_in files image ≡ Ok units
+  pub behind_keeps : (image : List ℕ) → IsBehind bytes image → units_in files image ≡ Ok units
   behind_keeps image more =
       ap (units_in files) (more.is ∙ ap (λ (l : List ℕ). l ++ more.tail) s.is ∙ append_assoc s.front (0 ∷ []) more.tail) ∙ closed files units s.front more.tail s.records
 

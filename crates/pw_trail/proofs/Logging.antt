@@ -33,7 +33,7 @@ module _ (files : List FileInfo) (bytes : List ℕ) (may_leave : List ℕ → Ty
     durable = k.durable;
   }
 
-  kept_units : units_in files bytes ≡ Ok kept
+  pub kept_units : units_in files bytes ≡ Ok kept
   kept_units = synced_stores files bytes may_leave end kept synced_of
 
   pub kept_images : (image : List ℕ) → may_leave image → units_in files image ≡ units_in files bytes

@@ -1,8 +1,9 @@
-ghost use Rattle.std.specs.Prelude.{◌≡◌, ℕ, ◌+◌, ◌<◌, ◌≤◌, List, [], ◌∷◌, ◌++◌, true, length, All, IfOk, OnOk, IsErrOf};
+ghost use Rattle.std.specs.Prelude.{◌≡◌, ℕ, ◌+◌, ◌<◌, ◌≤◌, List, [], ◌∷◌, ◌++◌, true, length, All, Ok, IfOk, OnErr, OnOk, IsErrOf};
 ghost use Rattle.pw_base.specs.Outside.{Rose};
 ghost use Rattle.pw_code.specs.declared.file.FileInfo.{FileInfo};
 ghost use Rattle.pw_volume.specs.Crash.{NoMore, Only};
 ghost use Rattle.pw_trail.specs.Body.{fits};
+ghost use Rattle.pw_trail.specs.Format.{units_in};
 ghost use Rattle.pw_trail.specs.Stored.{IsBeforeOrAfter, IsSynced};
 ghost use Rattle.pw_trail.specs.declared.changes.UnitChanges.{UnitChanges};
 
@@ -49,6 +50,11 @@ pub fn append<S: Synced>(
         → IsSynced files (S.held disk.old) (S.images disk.old) end units
         → All (λ change. fits files change ≡ true) unit.now.changes
         → IsSynced files (S.held disk.new) (S.images disk.new) next (units ++ unit.now ∷ [])) }
+
+    // Behind an `Err` the last sync left the units from before the call.
+    ensures unsettled { OnErr result ((files : List FileInfo) (units : List UnitChanges)
+        → IsSynced files (S.held disk.old) (S.images disk.old) end units
+        → units_in files (S.settled disk.new) ≡ Ok units) }
     ensures count { S.faulted disk.old ≤ S.faulted disk.new }
     ensures cause { IsErrOf result WriteFault.Failed → Rose (S.faulted disk.old) (S.faulted disk.new) }
 

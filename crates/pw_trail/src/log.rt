@@ -1,4 +1,4 @@
-ghost use Rattle.std.specs.Prelude.{◌≡◌, ◌⊎◌, ◌↔◌, ℕ, ◌≤◌, List, [], true, false, All, Ok, Err, IfOk, IfErr, OnOk, IsErrOf, IsTrue};
+ghost use Rattle.std.specs.Prelude.{◌≡◌, ◌⊎◌, ◌↔◌, ℕ, ◌≤◌, List, [], true, false, All, Ok, Err, IfOk, IfErr, OnErr, OnOk, IsErrOf, IsTrue};
 ghost use Rattle.pw_base.specs.Outside.{Rose};
 ghost use Rattle.pw_volume.specs.Crash.{NoMore};
 ghost use Rattle.pw_trail.specs.Body.{fits};
@@ -85,6 +85,10 @@ impl<S: Synced> Log<S> {
             ≡ with_last (units_in self.old.files (S.held self.old.disk)) unit.now) }
         ensures goes_on { OnOk result ((self.old.is_broken ≡ false) × (self.new.is_broken ≡ false)) }
 
+        // Behind an `Err` the last sync left the units from before the call.
+        ensures unsettled { self.old.is_broken ≡ false → OnErr result
+            (units_in self.old.files (S.settled self.new.disk) ≡ units_in self.old.files (S.held self.old.disk)) }
+
         // Want of memory changes nothing.
         ensures memory { IsErrOf result WriteFault.Memory → (self.old.is_broken ≡ false) × (self.new.is_broken ≡ false)
             × (S.held self.new.disk ≡ S.held self.old.disk)
@@ -110,6 +114,11 @@ impl<S: Synced> Log<S> {
             }
         }
     }
+
+    /// Shows that the last sync left what a read gives, where the disk has not failed. It does nothing.
+    pub fn know_settled(&self)
+        ensures { self.now.is_broken ≡ false → S.settled self.now.disk ≡ S.held self.now.disk }
+    {}
 
     /// Whether each change of a unit is of one of the files.
     pub fn fits(&self, unit: &UnitChanges) -> bool

@@ -1,4 +1,4 @@
-ghost use Rattle.std.specs.Prelude.{◌≡◌, ℕ, ◌⊎◌, ◌+◌, ◌^◌, ◌<◌, ◌≤◌, List, ◌∷◌, ◌++◌, length, take, OnOk, IsErrOf};
+ghost use Rattle.std.specs.Prelude.{◌≡◌, ℕ, ◌⊎◌, ◌+◌, ◌^◌, ◌<◌, ◌≤◌, List, ◌∷◌, ◌++◌, length, take, OnErr, OnOk, IsErrOf};
 ghost use Rattle.pw_base.specs.Outside.{Rose};
 ghost use Rattle.pw_volume.specs.Crash.{NoMore, Only};
 ghost use Rattle.pw_trail.specs.Stored.{IsBehind, IsGated};
@@ -16,6 +16,8 @@ pub fn store<S: Synced>(disk: &mut S, gate: u64, staged: &[u8]) -> Result<(), Wr
     ensures durable { OnOk result (Only (S.held disk.new) (S.images disk.new)) }
     ensures images { (image : List ℕ) → S.images disk.new image
         → IsBehind (S.held disk.old) image ⊎ IsGated gate (S.held disk.old) staged.now image }
+    ensures settled { OnOk result (S.settled disk.new ≡ S.held disk.new) }
+    ensures unsettled { OnErr result (IsBehind (S.held disk.old) (S.settled disk.new)) }
     ensures count { S.faulted disk.old ≤ S.faulted disk.new }
     ensures cause { IsErrOf result WriteFault.Failed → Rose (S.faulted disk.old) (S.faulted disk.new) }
     ensures memory { IsErrOf result WriteFault.Memory → (S.held disk.new ≡ S.held disk.old)

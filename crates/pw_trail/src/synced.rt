@@ -1,4 +1,4 @@
-ghost use Rattle.std.specs.Prelude.{◌≡◌, ℕ, ◌+◌, ◌<◌, ◌≤◌, List, length, take, OnOk, IsErrOf};
+ghost use Rattle.std.specs.Prelude.{◌≡◌, ℕ, ◌+◌, ◌<◌, ◌≤◌, List, length, take, OnErr, OnOk, IsErrOf};
 ghost use Rattle.pw_base.specs.Outside.{Rose};
 ghost use Rattle.pw_volume.specs.Crash.{written, Torn, Shortened, NoMore, Only, Counts};
 
@@ -14,6 +14,9 @@ pub trait Synced: Drop {
     /// What a crash may leave.
     ghost images: { Self → List ℕ → Type 0 };
 
+    /// What the last sync left.
+    ghost settled: { Self → List ℕ };
+
     /// How often it has failed.
     ghost faulted: { Self → ℕ };
 
@@ -26,6 +29,8 @@ pub trait Synced: Drop {
         ensures images { (image : List ℕ) → images self.new image → Torn at (length piece.now) (held self.old) image }
         ensures count { faulted self.old ≤ faulted self.new }
         ensures cause { IsErrOf result WriteFault.Failed → Rose (faulted self.old) (faulted self.new) }
+        ensures settled { OnOk result (settled self.new ≡ held self.new) }
+        ensures unsettled { OnErr result (settled self.new ≡ settled self.old) }
         ensures memory { IsErrOf result WriteFault.Memory → (length (held self.old) < at + length piece.now)
             × (held self.new ≡ held self.old) × NoMore (images self.old) (images self.new) };
 
@@ -36,7 +41,12 @@ pub trait Synced: Drop {
         ensures cut { OnOk result (held self.new ≡ take end (held self.old)) }
         ensures durable { OnOk result (Only (held self.new) (images self.new)) }
         ensures images { (image : List ℕ) → images self.new image → Shortened end (held self.old) image }
+        ensures settled { OnOk result (settled self.new ≡ held self.new) }
+        ensures unsettled { OnErr result (settled self.new ≡ settled self.old) }
         ensures count { Counts result (faulted self.old) (faulted self.new) };
+
+    /// What the last sync left is one of the images.
+    ghost settled_may_stay: { (disk : Self) → images disk (settled disk) };
 }
 
 impl<D: Disk> Synced for D {
@@ -44,7 +54,11 @@ impl<D: Disk> Synced for D {
 
     ghost images = { λ disk. D.may_leave disk };
 
+    ghost settled = { λ disk. D.settled disk };
+
     ghost faulted = { λ disk. D.faults disk };
+
+    ghost settled_may_stay = { λ disk. D.settled_may_stay disk };
 
     fn write_synced(&mut self, at: u64, piece: &[u8]) -> Result<(), WriteFault> {
         self.write_at(at, piece)?;

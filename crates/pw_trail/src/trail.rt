@@ -43,6 +43,7 @@ pub struct Trail<S: Synced> {
     ghost of: { HasFiles log.files (told_of tmf) },
     ghost orderly: { ∥ IsOrderly (told_of tmf) ∥₁ },
     ghost leads: { log.is_broken ≡ false → LeadsTo log.files (told_of tmf) (S.held log.disk) },
+    ghost settled: { LeadsTo log.files (told_of tmf) (S.settled log.disk) },
 }
 
 /// The change that leads to what is at a key now.
@@ -116,6 +117,7 @@ impl<D: Disk> Trail<D> {
             → Rose (D.faults disk) (D.faults error.0)) }
     {
         let (log, tmf) = open(alloc, disk, system)?;
+        log.know_settled();
         Ok(Trail {
             alloc,
             log,
@@ -126,9 +128,10 @@ impl<D: Disk> Trail<D> {
 }
 
 impl<S: Synced> Trail<S> {
-    /// Gives the disk back.
+    /// Gives the disk back. What its last sync left leads to the committed records, also where it has failed.
     pub fn close(self) -> S
-        ensures { result ≡ self.log.disk }
+        ensures disk { result ≡ self.log.disk }
+        ensures settled { LeadsTo self.log.files (told_of self.tmf) (S.settled result) }
     {
         let Trail { log, .. } = self;
         log.close()

@@ -14,6 +14,9 @@ pub trait Disk: Send + Drop {
     /// The images: what a crash at this moment may leave.
     ghost may_leave: { Self → List ℕ → Type 0 };
 
+    /// What the last sync that succeeded left.
+    ghost settled: { Self → List ℕ };
+
     /// How often the disk has failed.
     ghost faults: { Self → ℕ };
 
@@ -26,6 +29,7 @@ pub trait Disk: Send + Drop {
         ensures bytes { bytes self.new ≡ bytes self.old }
         ensures images { NoMore (may_leave self.old) (may_leave self.new) }
         ensures count { Counts result (faults self.old) (faults self.new) }
+        ensures settled { settled self.new ≡ settled self.old }
         ensures lives { Lives (life self.old) (is_err result) }
         ensures life { life self.new ≡ life self.old };
 
@@ -36,6 +40,7 @@ pub trait Disk: Send + Drop {
         ensures bytes { bytes self.new ≡ bytes self.old }
         ensures images { NoMore (may_leave self.old) (may_leave self.new) }
         ensures count { Counts result (faults self.old) (faults self.new) }
+        ensures settled { settled self.new ≡ settled self.old }
         ensures lives { Lives (life self.old) (is_err result) }
         ensures life { life self.new ≡ life self.old };
 
@@ -48,6 +53,7 @@ pub trait Disk: Send + Drop {
         ensures cause { IsErrOf result WriteFault.Failed → Rose (faults self.old) (faults self.new) }
         ensures memory { IsErrOf result WriteFault.Memory → (length (bytes self.old) < at + length piece.now)
             × (bytes self.new ≡ bytes self.old) × NoMore (may_leave self.old) (may_leave self.new) }
+        ensures settled { settled self.new ≡ settled self.old }
         ensures lives { Lives (life self.old) (has_failed result) }
         ensures spent { OnOk result (life self.new ≡ spent (life self.old)) }
         ensures life { OnErr result (life self.new ≡ life self.old) };
@@ -58,6 +64,7 @@ pub trait Disk: Send + Drop {
         ensures cut { OnOk result (bytes self.new ≡ take length (bytes self.old)) }
         ensures images { Follows (Shortened length) (may_leave self.old) (may_leave self.new) }
         ensures count { Counts result (faults self.old) (faults self.new) }
+        ensures settled { settled self.new ≡ settled self.old }
         ensures lives { Lives (life self.old) (is_err result) }
         ensures spent { OnOk result (life self.new ≡ spent (life self.old)) }
         ensures life { OnErr result (life self.new ≡ life self.old) };
@@ -66,6 +73,8 @@ pub trait Disk: Send + Drop {
     fn sync(&mut self) -> Result<(), DiskFailed>
         ensures bytes { OnOk result (bytes self.new ≡ bytes self.old) }
         ensures durable { OnOk result (Only (bytes self.new) (may_leave self.new)) }
+        ensures settled { OnOk result (settled self.new ≡ bytes self.new) }
+        ensures unsettled { OnErr result (settled self.new ≡ settled self.old) }
         ensures images { NoMore (may_leave self.old) (may_leave self.new) }
         ensures count { Counts result (faults self.old) (faults self.new) }
         ensures lives { Lives (life self.old) (is_err result) }
@@ -74,4 +83,7 @@ pub trait Disk: Send + Drop {
 
     /// What a read gives is one of the images.
     ghost bytes_may_stay: { (disk : Self) → may_leave disk (bytes disk) };
+
+    /// So is what the last sync left.
+    ghost settled_may_stay: { (disk : Self) → may_leave disk (settled disk) };
 }

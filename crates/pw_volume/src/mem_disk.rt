@@ -151,18 +151,22 @@ fn settle(bytes: &[u8], synced: &mut Vec<u8>)
 
 impl Disk for MemDisk {
     ghost use Rattle.std.specs.Prelude.{refl};
-    ghost use Rattle.std.proofs.Common.{inl};
+    ghost use Rattle.std.proofs.Common.{inl, inr};
     ghost use Rattle.pw_volume.specs.MemDisk.{MayLeave, life_by};
 
     ghost bytes = { λ disk. disk.bytes };
 
     ghost may_leave = { MayLeave };
 
+    ghost settled = { λ disk. disk.synced };
+
     ghost faults = { λ disk. disk.faults };
 
     ghost life = { λ disk. life_by disk.left };
 
     ghost bytes_may_stay = { λ disk. inl refl };
+
+    ghost settled_may_stay = { λ disk. inr refl };
 
     fn length(&mut self) -> Result<u64, DiskFailed> {
         admit(self.left, &mut self.faults)?;

@@ -20,6 +20,7 @@ invariant_of-self-2 g c =
       of = k.files old.log.files old.of;
       orderly = k.orderly;
       leads = λ goes. leads-same old.log.files told next (g.S.Synced.held old.log.disk) k.same (old.leads goes);
+      settled = leads-same old.log.files told next (g.S.Synced.settled old.log.disk) k.same old.settled;
     }
 
 pub returns-clause-ok : goal.returns-clause-ok

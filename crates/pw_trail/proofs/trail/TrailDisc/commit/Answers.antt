@@ -42,6 +42,12 @@ invariant_of-self-in-Ok g c =
           subst (λ (fs : List FileInfo). LeadsTo fs next (g.S.Synced.held c.append.new.self.disk)) (sym files)
           (subst (λ (t : Told). LeadsTo old.log.files t (g.S.Synced.held c.append.new.self.disk)) (sym is)
           (recorded old.log.files told old.of old.orderly u reply (g.S.Synced.held old.log.disk) (old.leads c.if-self.false) c.in_ok-made.made made (g.S.Synced.held c.append.new.self.disk) c.in-Ok.ensures.held));
+      settled =
+          let left = g.S.Synced.settled c.append.new.self.disk in
+          subst (λ (fs : List FileInfo). LeadsTo fs next left) (sym files)
+          (subst (λ (t : Told). LeadsTo old.log.files t left) (sym is)
+          (recorded old.log.files told old.of old.orderly u reply (g.S.Synced.held old.log.disk) (old.leads c.if-self.false) c.in_ok-made.made made left
+          (c.in-Ok.ensures.stored left (g.met.S.Synced.settled_may_stay c.append.new.self.disk))));
     }
 
 pub returns-clause-images : goal.returns-clause-images
