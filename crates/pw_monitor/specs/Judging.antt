@@ -1,7 +1,8 @@
 -- Which outcomes pass.
 use Rattle.std.specs.Prelude.{◌≡◌, ℕ, List, Option, Some, None, false}
+use Rattle.pw_code.specs.declared.context.Context.{Context}
 use Rattle.pw_monitor_world.specs.Answers.{Comes, IsAccepted, LeavesApplied, with_out}
-use Rattle.pw_monitor_world.specs.Seen.{Seen}
+use Rattle.pw_monitor_world.specs.Seen.{Seen, work_of}
 use Rattle.pw_monitor_world.specs.declared.answers.Applied.{Applied}
 use Rattle.pw_monitor_world.specs.declared.task.Outcome.{Outcome}
 
@@ -11,7 +12,16 @@ pub record IsRefusal (world : Seen) (outcome : Outcome) (answer : Applied) : Typ
   pub stays : (members : ℕ → List ℕ)
       → LeavesApplied members world outcome answer (with_out outcome.actor false world)
 
+-- the outcome was given the work of its actor, if there is any
+abbrev pub IsOfWork : Seen → Outcome → Type 0
+IsOfWork world outcome =
+    (context : Context) → work_of world outcome.actor ≡ Some context → outcome.given ≡ Some context
+
+pub record Passes (world : Seen) (outcome : Outcome) : Type 0 where
+  pub accepted : IsAccepted world outcome
+  pub work : IsOfWork world outcome
+
 -- an outcome is refused with an answer, or passes
 abbrev pub Judges : Seen → Outcome → Option Applied → Type 0
-Judges world outcome None = IsAccepted world outcome
+Judges world outcome None = Passes world outcome
 Judges world outcome (Some answer) = IsRefusal world outcome answer

@@ -1,4 +1,11 @@
+pub mod Applying
+pub mod Bookings
+pub mod Entering
+pub mod Found
 pub mod Judging
 pub mod Ledgers
 pub mod Owners
+pub mod PutBack
+pub mod Running
 pub mod States
+pub mod Touched

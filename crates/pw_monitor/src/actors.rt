@@ -1,10 +1,11 @@
-ghost use Rattle.std.specs.Prelude.{◌≡◌, ◌<◌, ◌↔◌, IsTrue, length, slice_get};
+ghost use Rattle.std.specs.Prelude.{◌≡◌, ◌<◌, ◌↔◌, IsTrue, List, length, slice_get};
 ghost use Rattle.pw_event.specs.Due.{owner_of};
-ghost use Rattle.pw_exec.specs.OfSystem.{processes_by};
+ghost use Rattle.pw_event.specs.declared.script.FailLine.{FailLine as SeenLine};
+ghost use Rattle.pw_exec.specs.OfSystem.{behaviour, processes_by};
 ghost use Rattle.pw_kept.specs.Entered.{tcp_of};
 ghost use Rattle.pw_kept.specs.May.{IsThere};
 ghost use Rattle.pw_monitor.specs.Owners.{owner_in};
-ghost use Rattle.pw_monitor_world.specs.Actors.{IsActor};
+ghost use Rattle.pw_monitor_world.specs.Actors.{IsActor, actor_of};
 
 use pw_code::system::System;
 use pw_event::event::Event;
@@ -79,5 +80,34 @@ pub fn owner_of(system: &System, event: &Event) -> Owner
         | Event::Back { terminal, .. }
         | Event::Restart { terminal, .. }
         | Event::End { terminal, .. } => Owner::Tcp(tcp_of(system, terminal)),
+    }
+}
+
+/// Whose step an entry is.
+pub fn actor_of(system: &System, event: &Event) -> Actor
+    ensures { (script : List SeenLine) → result ≡ actor_of (behaviour script system.now) event.now }
+{
+    match *event {
+        Event::Take { class, .. } | Event::FailServer { class, .. } => Actor::Class(class),
+        Event::File { class, process, .. } | Event::Reply { class, process, .. } => {
+            Actor::Process { class, process }
+        }
+        Event::FailTcp { tcp, .. } | Event::Takeover { tcp } | Event::Raise { tcp } => {
+            Actor::Pair(tcp)
+        }
+        Event::CheckCopy { terminal } | Event::Applied { terminal } => {
+            Actor::Pair(tcp_of(system, terminal))
+        }
+        Event::Show { terminal, .. }
+        | Event::Key { terminal, .. }
+        | Event::CheckStart { terminal }
+        | Event::CheckEnd { terminal }
+        | Event::Begin { terminal, .. }
+        | Event::Send { terminal, .. }
+        | Event::Again { terminal, .. }
+        | Event::Commit { terminal, .. }
+        | Event::Back { terminal, .. }
+        | Event::Restart { terminal, .. }
+        | Event::End { terminal, .. } => Actor::Terminal(terminal),
     }
 }

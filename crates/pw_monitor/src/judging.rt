@@ -1,7 +1,7 @@
 //! Which outcomes pass.
 
-ghost use Rattle.std.specs.Prelude.{◌≡◌, ◌↔◌, IsTrue};
-ghost use Rattle.pw_monitor.specs.Judging.{Judges};
+ghost use Rattle.std.specs.Prelude.{◌≡◌, ◌↔◌, IsTrue, false};
+ghost use Rattle.pw_monitor.specs.Judging.{IsOfWork, Judges};
 ghost use Rattle.pw_monitor.specs.States.{seen};
 ghost use Rattle.pw_monitor_world.specs.Actors.{IsActor};
 ghost use Rattle.pw_monitor_world.specs.Answers.{IsFull, IsUnrun};
@@ -51,7 +51,8 @@ impl<D: Disc> World<D> {
     /// one.
     fn is_unrun(&self, outcome: &Outcome) -> bool
         requires { IsActor self.now.keep.system outcome.now.actor }
-        ensures { IsTrue result ↔ IsUnrun (seen D.told self.now) outcome.now }
+        ensures unrun { IsTrue result ↔ IsUnrun (seen D.told self.now) outcome.now }
+        ensures given { result ≡ false → IsOfWork (seen D.told self.now) outcome.now }
     {
         match (self.unread(outcome.actor), &outcome.given) {
             (None, _) => false,

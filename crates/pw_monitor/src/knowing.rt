@@ -9,12 +9,15 @@ ghost use Rattle.pw_keep.specs.Keeps.{kept_in};
 ghost use Rattle.pw_kept.specs.Entered.{copied};
 ghost use Rattle.pw_kept.specs.May.{IsThere};
 ghost use Rattle.pw_kept.specs.Read.{AreValued, ClosedValues, OwnValues};
+ghost use Rattle.pw_monitor_world.specs.Actors.{IsActor};
+ghost use Rattle.pw_world_laws.specs.OwnValues.{HasOwnValues, TerminalHasValues};
 
 use crate::values::know_values;
 use crate::world::World;
 use pw_code::context::Context;
 use pw_event::event::Event;
 use pw_monitor_world::contexts::context_laws;
+use pw_roster::actor::Actor;
 use pw_seats::seat::Ready;
 use pw_tmf::disc::Disc;
 
@@ -33,6 +36,26 @@ impl<D: Disc> World<D> {
             | Event::Back { terminal, .. } => self.know_closed(terminal),
             _ => {}
         }
+    }
+
+    /// Shows the contexts of an actor at its last answer and at its verb.
+    pub(crate) fn know_actor(&self, actor: Actor)
+        requires { IsActor self.now.keep.system actor }
+        ensures { HasOwnValues (kept_in D.told self.now.keep) actor }
+    {
+        if let Actor::Terminal(terminal) = actor {
+            self.know_terminal(terminal);
+        }
+    }
+
+    /// Shows the contexts of a terminal at its last answer and at its verb.
+    fn know_terminal(&self, terminal: u32)
+        requires { terminal < length self.now.keep.system.terminals }
+        ensures { TerminalHasValues ((kept_in D.told self.now.keep).terminals terminal) }
+    {
+        let seat = self.keep.seat(terminal);
+        know_if_any(&seat.context);
+        know_if_ready(&seat.ready);
     }
 
     /// Shows the context of a terminal at its last answer.

@@ -2,14 +2,25 @@
 #![tactic(auto)]
 
 mod actors;
+pub mod apply;
+mod booking;
+pub mod claim;
 mod contexts;
+pub mod enter;
 mod fails;
+mod finding;
 pub mod holds;
 mod judging;
 mod knowing;
 mod ledger;
 pub mod lend;
+mod push;
+mod put_back;
 pub mod reading;
+pub mod replay;
+mod running;
+mod stamping;
 pub mod task;
+mod touched;
 mod values;
 pub mod world;

@@ -1,20 +1,18 @@
 -- What a terminal may do whose program stands at a verb.
-use Rattle.std.proofs.Common.{◌≡◌, ℕ, ◌+◌, ◌==◌, ◌&&◌, Bool, true, false, not, nat_le, length, Option, Some, None, is_none, is_some, refl, ap, sym, subst, ◌∙◌, cond}
+use Rattle.std.proofs.Common.{◌≡◌, ℕ, ◌&&◌, Bool, true, false, not, Option, Some, None, is_some, refl, ap, ◌∙◌, cond}
 use Rattle.std.proofs.lemmas.Bool.{and_left, and_right}
 use Rattle.std.specs.Prelude.{IsSome}
 use Rattle.pw_code.specs.declared.context.Context.{Context}
 use Rattle.pw_code.specs.declared.system.System.{System}
 use Rattle.pw_code.specs.declared.verb.Verb.{Verb}
 use Rattle.pw_code.specs.declared.verb.Verb.TheVariants as verb
-use Rattle.pw_kept.specs.Asked.{number_in, unit_in, verb_in}
-use Rattle.pw_kept.specs.Changes.{runs_told}
+use Rattle.pw_kept.specs.Asked.{verb_in}
 use Rattle.pw_kept.specs.Kept.{Kept}
-use Rattle.pw_kept.specs.TerminalTests.{begins_unit, can_step, can_where, closing, end_held, entries_of, flies, is_out, may_again, may_back, may_begin, may_check_end, may_check_start, may_commit, may_end_entries, may_fault, may_key, may_send, may_show, may_stop, start_held}
-use Rattle.pw_legal.specs.Terminals.{is_over}
-use Rattle.pw_legal.specs.Values.{is_same_refresh, some_with}
+use Rattle.pw_kept.specs.TerminalTests.{begins_unit, can_step, can_where, closing, end_held, flies, may_again, may_back, may_begin, may_check_end, may_check_start, may_commit, may_end_entries, may_fault, may_key, may_send, may_show, may_stop}
+use Rattle.pw_legal.specs.Values.{some_with}
 use Rattle.pw_legal.specs.Verbs.{asks_accept, asks_drop, asks_end, asks_fault, asks_send, asks_send_to, asks_show, asks_stop}
 use Rattle.pw_steps.specs.Known.{stepping}
-use Rattle.pw_steps.specs.Verbs.{HasNoBegin, HasNoDrop, HasNoEnd, HasNoKey, HasNoSend, HasNoVerbStep, HasNoneAt}
+use Rattle.pw_steps.specs.Verbs.{HasNoSend, HasNoVerbStep, HasNoneAt}
 
 -- ---- truths
 

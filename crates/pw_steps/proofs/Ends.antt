@@ -8,10 +8,9 @@ use Rattle.pw_code.specs.declared.verb.Answer.{Answer}
 use Rattle.pw_code.specs.declared.verb.Verb.{Verb}
 use Rattle.pw_code.specs.declared.verb.Verb.TheVariants as verb
 use Rattle.pw_exec.specs.Answers.{answered_by, put, shown, unit_end_put}
-use Rattle.pw_exec.specs.Config.{Config, closed, code_of, has_fault}
+use Rattle.pw_exec.specs.Config.{Config, closed, has_fault}
 use Rattle.pw_exec.specs.Steps.{asked_by, instr_of, verb_of}
 use Rattle.pw_kept.specs.Asked.{answered_with, opened, verb_in}
-use Rattle.pw_kept.specs.TerminalTests.{closing}
 use Rattle.pw_steps.specs.Images.{behind_end}
 
 -- the verb ends a transaction

@@ -1,5 +1,5 @@
 -- The locks that stand in the way of an operation, and the units that hold them.
-use Rattle.std.proofs.Common.{◌≡◌, ℕ, zero, suc, ◌<◌, ◌≤◌, ◌&&◌, ◌||◌, Bool, true, false, List, [], ◌∷◌, length, map, get_or, refl, ap, sym, cond, arith, add-one}
+use Rattle.std.proofs.Common.{◌≡◌, zero, suc, ◌||◌, Bool, true, false, List, [], ◌∷◌, map, refl, cond, arith}
 use Rattle.std.specs.Prelude.{filter, All, Contains}
 use Rattle.std.specs.List.{list_any}
 use Rattle.std.proofs.lemmas.Bool.{or_left, or_right}

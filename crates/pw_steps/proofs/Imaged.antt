@@ -1,16 +1,14 @@
 -- The parts of an image.
-use Rattle.std.proofs.Common.{◌≡◌, ℕ, ◌+◌, ◌-◌, ◌*◌, false, List, [], ◌∷◌, ◌++◌, length, take, get_or, Option, Some, None, refl, ap, ap₂, sym, ◌∙◌, append_assoc, arith}
+use Rattle.std.proofs.Common.{◌≡◌, ℕ, ◌+◌, ◌-◌, ◌*◌, false, List, [], ◌∷◌, ◌++◌, length, take, get_or, Option, Some, refl, ap, ap₂, sym, ◌∙◌, append_assoc, arith}
 use Rattle.std.proofs.lemmas.List.{flat_map_more, get_or_push, length-append, take-append-le, take_all}
 use Rattle.std.specs.List.{flat_map}
 use Rattle.std.specs.Str.{bytes_eq}
 use Rattle.pw_code.specs.declared.context.Context.{Context}
 use Rattle.pw_code.specs.declared.context.Frame.{Frame}
-use Rattle.pw_exec.specs.Answers.{unit_ended}
 use Rattle.pw_exec.specs.Config.{frame_at}
 use Rattle.pw_image.specs.Image.{count_bytes, frame_bytes, image_of, mark, truth}
-use Rattle.pw_kept.specs.Asked.{opened}
-use Rattle.pw_steps.specs.Images.{behind_end, head_bytes, is_all, left_behind, left_of}
-use Rattle.pw_steps.proofs.Left.{is-all, two}
+use Rattle.pw_steps.specs.Images.{behind_end, head_bytes, is_all, left_of}
+use Rattle.pw_steps.proofs.Left.{is-all}
 
 -- what stands before the number of programs, and what follows
 pub image-parts : (context : Context) → image_of context ≡ head_bytes context ++ (length context.frames ∷ flat_map frame_bytes context.frames)

@@ -1,5 +1,5 @@
 -- At a verb each kind of entry comes with one number, so that one test tells for all.
-use Rattle.std.proofs.Common.{◌≡◌, ℕ, ◌+◌, ◌==◌, ◌&&◌, Bool, true, false, not, nat_le, List, Option, Some, None, is_none, refl, ap, sym, subst, ◌∙◌}
+use Rattle.std.proofs.Common.{◌≡◌, ℕ, ◌+◌, ◌==◌, ◌&&◌, Bool, true, false, not, Option, Some, None, refl, ap, sym, ◌∙◌}
 use Rattle.std.proofs.lemmas.Bool.{and_parts, eqb-true, false_from_ne_true, true≢false}
 use Rattle.pw_code.specs.declared.context.Context.{Context}
 use Rattle.pw_code.specs.declared.system.System.{System}
@@ -8,10 +8,9 @@ use Rattle.pw_code.specs.declared.verb.Verb.TheVariants as verb
 use Rattle.pw_kept.specs.Asked.{unit_in, verb_in}
 use Rattle.pw_kept.specs.Changes.{runs_told}
 use Rattle.pw_kept.specs.Kept.{Kept}
-use Rattle.pw_kept.specs.TerminalTests.{begins_unit, end_held, entries_of, is_out, may_again, may_back, may_begin, may_commit, may_key, may_send, start_held}
-use Rattle.pw_code.specs.declared.verb.Answer.TheVariants as answer
+use Rattle.pw_kept.specs.TerminalTests.{may_again, may_back, may_begin, may_commit, may_key, may_send, start_held}
 use Rattle.pw_legal.specs.Terminals.{is_over}
-use Rattle.pw_legal.specs.Verbs.{asks_accept, asks_drop, asks_end, asks_send, asks_send_to}
+use Rattle.pw_legal.specs.Verbs.{asks_send_to}
 use Rattle.pw_steps.specs.Known.{stepping}
 use Rattle.pw_steps.proofs.AtVerb.{at}
 use Rattle.pw_code.specs.declared.unit.Unit as unit

@@ -1,5 +1,5 @@
 -- Whose step an entry is, in a system.
-use Rattle.std.specs.Prelude.{ℕ, ◌<◌, ◌≤◌, length, slice_get}
+use Rattle.std.specs.Prelude.{◌<◌, ◌≤◌, length, slice_get}
 use Rattle.pw_code.specs.declared.system.System.{System}
 use Rattle.pw_event.specs.declared.event.Event.{Event}
 use Rattle.pw_event.specs.declared.event.Event.TheVariants.{Show, Key, CheckStart, CheckEnd, CheckCopy, Applied, Begin, Send, Take, File, Reply, Again, Commit, Back, Restart, FailTcp, FailServer, Takeover, Raise, End}

@@ -1,14 +1,17 @@
 -- The causes for which a unit restarts: which one was found, and whether any is there.
-use Rattle.std.specs.Prelude.{◌≡◌, ℕ, ◌+◌, ◌<◌, ◌==◌, ◌||◌, nat_lt, Bool, true, false, length, Option, Some, None, slice_get, if◌then◌else◌}
+use Rattle.std.specs.Prelude.{◌≡◌, ℕ, ◌+◌, ◌<◌, ◌==◌, ◌&&◌, ◌||◌, nat_lt, Bool, true, false, not, length, Option, Some, None, slice_get, if◌then◌else◌}
 use Rattle.pw_class.specs.declared.request.Request.{Request}
 use Rattle.pw_code.specs.declared.file.FileCall.{FileCall}
 use Rattle.pw_code.specs.declared.system.System.{System}
 use Rattle.pw_code.specs.declared.unit.Unit as unit
 use Rattle.pw_event.specs.declared.event.Cause.{Cause}
+use Rattle.pw_event.specs.declared.event.Cause.TheVariants.{Older}
 use Rattle.pw_exec.specs.OfSystem.{processes_by}
 use Rattle.pw_kept.specs.CauseTests.{holds, unit_named, work_meets}
 use Rattle.pw_kept.specs.ClassTests.{works_where}
 use Rattle.pw_kept.specs.Kept.{Kept}
+use Rattle.pw_kept.specs.PairTests.{is_gone}
+use Rattle.pw_kept.specs.TerminalTests.{pair_of}
 use Rattle.pw_paired.specs.Units.{any_below}
 use Rattle.pw_tmf.specs.Leaving.{unit_told}
 use Rattle.pw_tmf.specs.Operation.{awaits}
@@ -44,12 +47,19 @@ meets_by kept one other request call =
 -- the same of some process of a class
 abbrev pub class_meets : System → Kept → unit.Unit → unit.Unit → ℕ → Bool
 class_meets system kept one other c =
-    any_below (processes_by (slice_get system.classes c)) (λ i. process_meets system kept one other c (i + 1))
+    any_below (processes_by (slice_get system.classes c))
+    (λ i. process_meets system kept one other c (i + 1))
 
 -- the same of some process
 abbrev pub units_meet : System → Kept → unit.Unit → unit.Unit → Bool
 units_meet system kept one other =
     any_below (length system.classes) (λ c. class_meets system kept one other c)
+
+-- the other unit has this number and is older, while a member of the unit's pair is left
+abbrev pub comes_before : System → Kept → unit.Unit → unit.Unit → ℕ → Bool
+comes_before system kept own older m =
+    older.number == m && (nat_lt older.birth own.birth
+    && not (is_gone (pair_of system kept own.terminal).mode))
 
 -- ---- what was found
 
@@ -75,6 +85,16 @@ HoldsFor system kept own cause =
 abbrev pub IsCauseFound : System → Kept → unit.Unit → Option Cause → Type 0
 IsCauseFound system kept own None = (cause : Cause) → HoldsFor system kept own cause → ⊥
 IsCauseFound system kept own (Some cause) = HoldsFor system kept own cause
+
+-- none of these holds, or this cause does
+abbrev pub IsOneFound : (Cause → Type 0) → System → Kept → unit.Unit → Option Cause → Type 0
+IsOneFound These system kept own None = (cause : Cause) → These cause → HoldsFor system kept own cause → ⊥
+IsOneFound These system kept own (Some cause) = HoldsFor system kept own cause
+
+-- it names an older unit
+abbrev pub IsOlderCause : Cause → Type 0
+IsOlderCause (Older o m) = Unit {0}
+IsOlderCause _ = ⊥
 
 -- the unit that stands in the way of an operation, where it is older
 abbrev pub older_holder : unit.Unit → Foreseen → Option unit.Unit

@@ -2,11 +2,17 @@
 //! one.
 #![tactic(auto)]
 
-pub mod at_verb;
-pub mod classes;
+mod at_verb;
+mod causes;
+mod classes;
 mod images;
-pub mod pairs;
-pub mod terminals;
+pub mod may;
+mod members;
+mod older;
+mod pairs;
+pub mod step;
+mod terminals;
 pub mod there;
-pub mod units;
+mod units;
 mod verbs;
+mod works;

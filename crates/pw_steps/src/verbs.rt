@@ -3,7 +3,7 @@
 ghost use Rattle.std.specs.Prelude.{◌≡◌, is_some};
 ghost use Rattle.pw_kept.specs.PairTests.{is_sending};
 ghost use Rattle.pw_kept.specs.TerminalTests.{begins_unit, closing};
-ghost use Rattle.pw_legal.specs.Values.{is_same_mode, is_same_op};
+ghost use Rattle.pw_legal.specs.Values.{is_same_mode, is_same_op, is_server_by, is_takeover_by, some_with};
 ghost use Rattle.pw_legal.specs.Verbs.{asks_accept, asks_drop, asks_end, asks_fault, asks_redo, asks_send, asks_send_to, asks_show, asks_stop, replies};
 ghost use Rattle.pw_onecopy.specs.Operation.{plain_op};
 ghost use Rattle.pw_paired.specs.Raising.{is_takeover};
@@ -149,4 +149,24 @@ pub fn is_takeover(cause: Option<Cause>) -> bool
     ensures { result ≡ is_takeover cause }
 {
     matches!(cause, Some(Cause::Takeover(_)))
+}
+
+/// Whether the cause, if there is one, is a takeover of this pair.
+pub fn is_takeover_by(cause: Option<Cause>, tcp: u32) -> bool
+    ensures { result ≡ some_with (is_takeover_by tcp) cause }
+{
+    match cause {
+        Some(Cause::Takeover(by)) => by == tcp,
+        _ => false,
+    }
+}
+
+/// Whether the cause, if there is one, is the failure of a server by this line.
+pub fn is_server_by(cause: Option<Cause>, line: u32) -> bool
+    ensures { result ≡ some_with (is_server_by line) cause }
+{
+    match cause {
+        Some(Cause::Server(by)) => by == line,
+        _ => false,
+    }
 }

@@ -2,9 +2,11 @@ pub mod Coding
 pub mod Failures
 pub mod Fields
 pub mod Lines
+pub mod Logs
 pub mod Parts
 pub mod Pictures
 pub mod Read
+pub mod Rules
 pub mod Shown
 pub mod Sources
 pub mod Whole

@@ -4,7 +4,7 @@ use Rattle.std.specs.Prelude.{nat_le}
 use Rattle.std.specs.Option.{is_some}
 use Rattle.pw_base.specs.declared.fault.Fault.{Fault}
 use Rattle.pw_base.specs.declared.fault_code.FaultCode.TheVariants.{BadSection}
-use Rattle.pw_code.specs.Limits.{most_fail_lines, most_files, most_programs, most_servers}
+use Rattle.pw_code.specs.Limits.{most_fail_lines, most_files, most_log_lines, most_programs, most_servers}
 use Rattle.pw_code.specs.declared.lock.LockRule.TheVariants.{ReadersShare}
 use Rattle.pw_code.specs.declared.system.ClassInfo.{ClassInfo}
 use Rattle.pw_code.specs.declared.links.Links.{Links}
@@ -24,7 +24,7 @@ use Rattle.pw_pathcom.specs.declared.commands.ClassCommand.{ClassCommand}
 use Rattle.pw_scobol.specs.Requesters.{requester_of}
 use Rattle.pw_scobol.specs.declared.requester.Requester.{Requester}
 use Rattle.pw_script.specs.Fail.{failures_counted}
-use Rattle.pw_script.specs.Log.{entries_counted}
+use Rattle.pw_script.specs.Log.{entries_counted, rule_of}
 use Rattle.pw_sections.specs.Entries.{entries_of}
 use Rattle.pw_sections.specs.Headings.{heading_of}
 use Rattle.pw_sections.specs.Parts.{front, sections}
@@ -40,7 +40,7 @@ use Rattle.pw_tables.proofs.Commands.{and_then, Any, any_of}
 use Rattle.pw_tables.specs.Objects.{has_file, once, one_more, pathcom_section, file_section, entries_section, fail_section, log_section}
 use Rattle.pw_tables.specs.Pieces.{section_line, section_text}
 use Rattle.pw_tables.specs.Tables.{class_of, class_names, entered}
-use Rattle.pw_tables.specs.Unknown.{tables_of, known, startable, fails_of, log_of, told_with, told_of}
+use Rattle.pw_tables.specs.Unknown.{log_version, tables_of, known, startable, fails_of, log_of, told_with, told_of}
 use Rattle.pw_tables.specs.declared.objects.Objects.{Objects}
 use Rattle.pw_tables.specs.declared.told.Told.{Told}
 use Rattle.pw_words.specs.Names.{has_name}
@@ -48,6 +48,7 @@ use Rattle.pw_words.specs.Words.{Word}
 use Rattle.pw_whole.specs.Whole.{of_requester, of_server, trees_of}
 use Rattle.pw_whole.specs.Named.{IsNamed}
 use Rattle.pw_whole.proofs.Lines.{IsCounted, each-kept, fails-there, few-fails, line-like}
+use Rattle.pw_whole.proofs.Logs.{IsLogCounted, few-entries}
 use Rattle.pw_whole.proofs.Sources.{IsReadRequester, IsReadServer, requester-is, server-is}
 
 -- ---- sections
@@ -56,10 +57,14 @@ ok-of : {A : Type 0} (r : Result A Fault) → IfOk r (λ a. r ≡ Ok a)
 ok-of (Ok a) = refl
 ok-of (Err fault) = tt
 
+-- the failure lines and the log of sections that are no source
+abbrev Counted : Objects → Type 0
+Counted objects = IsCounted objects.fail × IsLogCounted objects.log
+
 record AreSources (parts : Parts) : Type 0 where
   requesters : Each IsReadRequester parts.requesters
   servers : Each IsReadServer parts.servers
-  counted : IsCounted parts.objects.fail
+  counted : Counted parts.objects
 
 read-requester : (name : Word) (text : List ℕ) (first_line : ℕ) → IfOk (requester_of name text first_line) IsReadRequester
 read-requester name text first_line = by (requester_of name text first_line) refl
@@ -87,10 +92,6 @@ server-sources parts line text name all =
     (λ done h. and_then (server_of name text (line + 1)) _ IsReadServer AreSources (read-server name text (line + 1))
     (λ one is. record { requesters = all.requesters; servers = each-append IsReadServer parts.servers (one ∷ []) all.servers (is, tt); counted = all.counted }))
 
--- the failure lines of sections that are no source
-abbrev Counted : Objects → Type 0
-Counted objects = IsCounted objects.fail
-
 with-sources : (parts : Parts) (read : Result Objects Fault) → AreSources parts → IfOk read Counted → IfOk (with_objects parts read) AreSources
 with-sources parts read all objects =
     and_then read _ Counted AreSources objects (λ found counted. record { requesters = all.requesters; servers = all.servers; counted = counted })
@@ -114,18 +115,19 @@ entries-counted objects line text name counted =
     (λ done h. and_then (printable text (line + 1)) _ Any Counted (any_of (printable text (line + 1)))
     (λ done h. and_then (entries_of text (line + 1)) _ Any Counted (any_of (entries_of text (line + 1))) (λ entries h. counted)))
 
-fail-counted : (objects : Objects) (line : ℕ) (text : List ℕ) → IfOk (fail_section objects line text) Counted
-fail-counted objects line text =
+fail-counted : (objects : Objects) (line : ℕ) (text : List ℕ) → Counted objects → IfOk (fail_section objects line text) Counted
+fail-counted objects line text counted =
     and_then (once line (is_some objects.fail)) _ Any Counted (any_of (once line (is_some objects.fail)))
     (λ done h. and_then (printable text (line + 1)) _ Any Counted (any_of (printable text (line + 1)))
     (λ done h. and_then (failures_counted text (line + 1)) _ (λ count. failures_counted text (line + 1) ≡ Ok count) Counted (ok-of (failures_counted text (line + 1)))
-    (λ count is. (count, is))))
+    (λ count is. ((count, is), counted.1))))
 
 log-counted : (objects : Objects) (line : ℕ) (text : List ℕ) → Counted objects → IfOk (log_section objects line text) Counted
 log-counted objects line text counted =
     and_then (once line (is_some objects.log)) _ Any Counted (any_of (once line (is_some objects.log)))
     (λ done h. and_then (printable text (line + 1)) _ Any Counted (any_of (printable text (line + 1)))
-    (λ done h. and_then (entries_counted text (line + 1)) _ Any Counted (any_of (entries_counted text (line + 1))) (λ count h. counted)))
+    (λ done h. and_then (entries_counted text (line + 1)) _ (λ count. entries_counted text (line + 1) ≡ Ok count) Counted (ok-of (entries_counted text (line + 1)))
+    (λ count is. (counted.0, (count, is)))))
 
 section-sources : (parts : Parts) (line : ℕ) (text : List ℕ) (heading : Heading) → AreSources parts → IfOk (section_of parts line text heading) AreSources
 section-sources parts line text heading.Pathcom all = with-sources parts _ all (pathcom-counted parts.objects line text all.counted)
@@ -133,7 +135,7 @@ section-sources parts line text (heading.Requester name) all = requester-sources
 section-sources parts line text (heading.Server name) all = server-sources parts line text name all
 section-sources parts line text (heading.File name key) all = with-sources parts _ all (file-counted parts.objects line text name key all.counted)
 section-sources parts line text (heading.Entries name) all = with-sources parts _ all (entries-counted parts.objects line text name all.counted)
-section-sources parts line text heading.Fail all = with-sources parts _ all (fail-counted parts.objects line text)
+section-sources parts line text heading.Fail all = with-sources parts _ all (fail-counted parts.objects line text all.counted)
 section-sources parts line text heading.Log all = with-sources parts _ all (log-counted parts.objects line text all.counted)
 section-sources parts line text heading.End all = record { requesters = all.requesters; servers = all.servers; counted = all.counted }
 
@@ -162,7 +164,7 @@ parts-sources : (bytes : List ℕ) → IfOk (parts_of bytes) (λ parts. AreParts
 parts-sources bytes =
     both-ok ArePartsGood AreSources (parts_of bytes) (parts_good bytes)
     (and_then (front_read (front bytes)) _ Any AreSources (any_of (front_read (front bytes)))
-    (λ done h. all-sources no_parts (1 + length (lines (front bytes))) (sections bytes) (record { requesters = tt; servers = tt; counted = tt })))
+    (λ done h. all-sources no_parts (1 + length (lines (front bytes))) (sections bytes) (record { requesters = tt; servers = tt; counted = (tt, tt) })))
 
 -- ---- names
 
@@ -183,6 +185,7 @@ pub record IsReadDeck (deck : Deck) : Type 0 where
   pub names : names_of deck.requesters deck.servers (source_links.links_of (trees_of deck)) ≡ Ok (tt {0})
   pub lines : Each (IsNamed deck.told.system) deck.told.script.lines
   pub few : length deck.told.script.lines ≤ most_fail_lines
+  pub log : length deck.told.log ≤ most_log_lines
   pub rule : deck.told.system.rule ≡ ReadersShare
 
 abbrev with_names : Parts → List Word → List Word → Links
@@ -200,17 +203,19 @@ record IsTold (objects : Objects) (first second : List Word) (told : Told) : Typ
   events : List Event
   there : Each (IsNamed (tables_of objects first second ReadersShare)) fails
   few : length fails ≤ most_fail_lines
+  log : length events ≤ most_log_lines
   is : told ≡ told_with objects first second fails events
 
-told-is : (objects : Objects) (first second : List Word) → IsCounted objects.fail → IfOk (told_of objects first second) (IsTold objects first second)
+told-is : (objects : Objects) (first second : List Word) → Counted objects → IfOk (told_of objects first second) (IsTold objects first second)
 told-is objects first second counted =
     let tables = tables_of objects first second ReadersShare in
     and_then (known objects first second) _ Any (IsTold objects first second) (any_of (known objects first second))
     (λ done h. and_then (startable objects) _ Any (IsTold objects first second) (any_of (startable objects))
     (λ done h. and_then (fails_of objects first second) _ (λ (fails : List FailLine). Each (IsNamed tables) fails × (length fails ≤ most_fail_lines)) (IsTold objects first second)
-    (both-ok (Each (IsNamed tables)) (λ (fails : List FailLine). length fails ≤ most_fail_lines) (fails_of objects first second) (fails-there tables objects.fail) (few-fails tables objects.fail counted))
-    (λ fails both. and_then (log_of objects first second) _ Any (IsTold objects first second) (any_of (log_of objects first second))
-    (λ events h. record { fails = fails; events = events; there = both.0; few = both.1; is = refl }))))
+    (both-ok (Each (IsNamed tables)) (λ (fails : List FailLine). length fails ≤ most_fail_lines) (fails_of objects first second) (fails-there tables objects.fail) (few-fails tables objects.fail counted.0))
+    (λ fails both. and_then (log_of objects first second) _ (λ (events : List Event). length events ≤ most_log_lines) (IsTold objects first second)
+    (few-entries (tables_of objects first second (rule_of (log_version objects.log))) objects.log counted.1)
+    (λ events log. record { fails = fails; events = events; there = both.0; few = both.1; log = log; is = refl }))))
 
 deck-is : (parts : Parts) (told : Told) → AreSources parts → names_of parts.requesters parts.servers (links_of parts) ≡ Ok (tt {0}) → IsTold parts.objects (program_names parts) (server_names parts) told
     → IsReadDeck (record { told = told; requesters = parts.requesters; servers = parts.servers })
@@ -223,6 +228,7 @@ deck-is parts told all named is =
       names = ap (names_of parts.requesters parts.servers) (sym (same-links parts is.fails is.events)) ∙ named;
       lines = each-kept (IsNamed tables) (IsNamed (entered parts.objects.entries tables)) is.fails (line-like tables (entered parts.objects.entries tables) refl refl) is.there;
       few = is.few;
+      log = is.log;
       rule = refl;
     })
 

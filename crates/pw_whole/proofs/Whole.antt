@@ -104,14 +104,14 @@ module _ (bytes : List ℕ) (deck : Deck) (is : deck_of bytes ≡ Ok deck) where
   abbrev system : System
   system = system_of ReadersShare trees
 
-  known : IsReadDeck deck
+  pub known : IsReadDeck deck
   known = deck-known bytes deck is
 
   names : AreRight deck.requesters deck.servers links
   names = (right deck.requesters deck.servers links).0 known.names
 
   -- the tables, with these screens
-  tables : (screens : List ScreenTable) → length screens < 2 ^ 32 → decks.AreTables (decks.with_code deck system.programs system.servers screens)
+  pub tables : (screens : List ScreenTable) → length screens < 2 ^ 32 → decks.AreTables (decks.with_code deck system.programs system.servers screens)
   tables screens few =
       subst (λ (r : Result Deck Fault). IfOk r decks.HasTables) is (deck_tables bytes) system.programs system.servers screens
       (codes-long links (map of_requester deck.requesters) 0 ∙ length-map deck.requesters of_requester)
@@ -195,7 +195,7 @@ module _ (bytes : List ℕ) (deck : Deck) (is : deck_of bytes ≡ Ok deck) where
   each-of f [] each = tt
   each-of f (x ∷ xs) each = (each.0, each-of f xs each.1)
 
-  deck-reads : IsSmall system → AreRead trees
+  pub deck-reads : IsSmall system → AreRead trees
   deck-reads small = record {
     programs = each-made of_requester IsReadRequester (λ one. Few (of_requester one)) IsReadProgram requester-read deck.requesters known.requesters
         (each-of of_requester deck.requesters (codes-short links 0 trees.programs small.programs));

@@ -1,12 +1,14 @@
 ghost use Rattle.std.specs.Prelude.{◌≡◌, ◌≤◌, List, ℕ, All, Ok, length};
-ghost use Rattle.pw_code.specs.Limits.{most_fail_lines};
+ghost use Rattle.pw_code.specs.Limits.{most_fail_lines, most_log_lines};
 ghost use Rattle.pw_code.specs.Valid.{IsValid};
+ghost use Rattle.pw_code.specs.declared.lock.LockRule.{LockRule};
 ghost use Rattle.pw_code.specs.declared.lock.LockRule.TheVariants.{ReadersShare};
 ghost use Rattle.pw_deck.specs.Deck.{deck_of};
 ghost use Rattle.pw_deck.specs.declared.deck.Deck as trees;
 ghost use Rattle.pw_exec.specs.OfSystem as code;
 ghost use Rattle.pw_onecopy.specs.IsBehaviour.{IsBehaviour};
 ghost use Rattle.pw_sound.specs.Premises.{AreFitting};
+ghost use Rattle.pw_sound.specs.Systems.{system_of};
 ghost use Rattle.pw_source.specs.OfDeck as tree;
 ghost use Rattle.pw_source.specs.Sound.{IsSound};
 ghost use Rattle.pw_whole.specs.Named.{IsNamed};
@@ -35,4 +37,19 @@ pub fn whole_laws()
         → length (compiled deck).script.lines ≤ most_fail_lines }
     ensures lines { (bytes : List ℕ) (deck : trees.Deck) → deck_of bytes ≡ Ok deck
         → All (IsNamed (compiled deck).system) (compiled deck).script.lines }
+{}
+
+/// The same of a deck without a fault under either rule of locking, as a log of version 1 is read by the
+/// one under which every lock is exclusive. And its log has not too many entries.
+pub fn rule_laws()
+    ensures valid { (rule : LockRule) (bytes : List ℕ) (deck : trees.Deck) → deck_of bytes ≡ Ok deck
+        → IsSmall (compiled deck).system → IsValid (system_of rule (trees_of deck)) }
+    ensures same { (rule : LockRule) (bytes : List ℕ) (deck : trees.Deck) → deck_of bytes ≡ Ok deck
+        → IsSmall (compiled deck).system
+        → code.behaviour (trees_of deck).script (system_of rule (trees_of deck))
+        ≡ tree.behaviour rule (trees_of deck) }
+    ensures behaves { (rule : LockRule) (bytes : List ℕ) (deck : trees.Deck) → deck_of bytes ≡ Ok deck
+        → IsBehaviour (tree.behaviour rule (trees_of deck)) }
+    ensures log { (bytes : List ℕ) (deck : trees.Deck) → deck_of bytes ≡ Ok deck
+        → length deck.told.log ≤ most_log_lines }
 {}

@@ -1,5 +1,4 @@
 -- One more.
-use Rattle.std.proofs.Common.{refl}
 use Rattle.std.specs.Option.{option_copied}
 use Rattle.pw_image.specs.Image.{return_bytes}
 use Rattle.pw_steps.proofs.Left.{left-more-at}

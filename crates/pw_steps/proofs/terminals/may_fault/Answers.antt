@@ -1,12 +1,7 @@
 -- The test of what was read.
-use Rattle.std.proofs.Common.{ap, sym, ◌∙◌, ◌&&◌, ◌+◌, ◌==◌, is_none, nat_le, not}
+use Rattle.std.proofs.Common.{ap, sym, ◌∙◌}
 use Rattle.pw_keep.specs.Keeps.{kept_in}
-use Rattle.pw_kept.specs.Asked.{number_in, unit_in}
-use Rattle.pw_kept.specs.Changes.{runs_told}
-use Rattle.pw_kept.specs.TerminalTests.{begins_unit, entries_of, flies, is_out, start_held}
-use Rattle.pw_legal.specs.Terminals.{is_over}
-use Rattle.pw_legal.specs.Values.{is_same_refresh}
-use Rattle.pw_legal.specs.Verbs.{asks_accept, asks_fault, asks_send, asks_send_to, asks_show}
+use Rattle.pw_legal.specs.Verbs.{asks_fault}
 use Rattle.pw_steps.specs.Known.{stepping}
 use Rattle.pw_steps.proofs.At.{read-at}
 use Rattle.pw_steps.proofs.AtVerb.{at}

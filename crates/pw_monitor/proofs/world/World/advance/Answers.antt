@@ -1,0 +1,34 @@
+use Rattle.std.proofs.Common.{ap, subst}
+use Rattle.pw_code.specs.declared.system.System.{System}
+use Rattle.pw_monitor.proofs.Applying.{advance-comes, advances, after-from}
+use Rattle.pw_monitor.specs.Applying.{StepsTo}
+use Rattle.pw_monitor.specs.States.{seen}
+use Rattle.pw_monitor_world.specs.Actors.{members_of}
+use Rattle.pw_monitor_world.specs.Seen.{Seen}
+use Rattle.pw_monitor.proofs.world.World.advance.Goals as goal
+
+pub run_back_for-requires-clause-ran : goal.run_back_for-requires-clause-ran
+run_back_for-requires-clause-ran g c κs within =
+    let told = g.D.Disc.told in
+    after-from (members_of c.run_on-given.new.self.keep.system) (seen told c.args.self.now) c.args.outcome c.make_step-answer.result
+    (seen told c.run_on-given.new.self) (seen told c.make_step-answer.new.self) c.run_on-given.ensures.ran c.make_step-answer.ensures
+    c.run_on-given.result c.run_on-given.ensures.back
+
+pub returns-clause-comes : goal.returns-clause-comes
+returns-clause-comes g c =
+    let told = g.D.Disc.told in
+    advance-comes (members_of c.run_on-given.new.self.keep.system) (seen told c.args.self.now) c.args.outcome c.make_step-answer.result
+    (seen told c.run_on-given.new.self) (seen told c.make_step-answer.new.self) c.run_on-given.ensures.ran c.make_step-answer.ensures
+    c.requires.passes
+
+pub returns-clause-leaves : goal.returns-clause-leaves
+returns-clause-leaves g c =
+    let told = g.D.Disc.told in
+    let mid = seen told c.run_on-given.new.self in
+    let after = seen told c.make_step-answer.new.self in
+    let step =
+    subst (λ (s : System). StepsTo (members_of s) mid c.args.outcome.actor c.make_step-answer.result after)
+    (ap (λ (w : Seen). w.system) c.run_on-given.ensures.ran) c.make_step-answer.ensures in
+    advances (members_of c.args.self.now.keep.system) (seen told c.args.self.now) c.args.outcome c.make_step-answer.result
+    mid after c.run_on-given.ensures.ran step c.run_on-given.result (seen told c.run_back_for.new.self) c.requires.actor c.run_on-given.ensures.given
+    c.run_on-given.ensures.back c.run_back_for.ensures
