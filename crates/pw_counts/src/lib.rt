@@ -11,3 +11,5 @@ pub mod over;
 pub mod records;
 pub mod settle;
 pub mod shown;
+#[cfg(test)]
+mod tests;
