@@ -12,14 +12,13 @@ use Rattle.pw_event.specs.declared.script.FailLine.{FailLine}
 use Rattle.pw_event.specs.declared.script.FailLine.TheVariants as line
 use Rattle.pw_event.specs.declared.script.Owner.{Owner}
 use Rattle.pw_exec.specs.OfSystem.{behaviour, processes_by}
-use Rattle.pw_kept.specs.Kept.{Kept}
 use Rattle.pw_monitor.specs.Found.{FindsStep, IsFound}
 use Rattle.pw_monitor.specs.Owners.{fail_entry, owner_in}
 use Rattle.pw_monitor_world.proofs.Failures.{only-fails, server-fails, tcp-fails}
 use Rattle.pw_monitor_world.proofs.Idle.{reply-read}
 use Rattle.pw_monitor_world.specs.Actors.{IsActor, actor_of}
 use Rattle.pw_monitor_world.specs.Dues.{DueBook, IsOwner, due_in, if_due, is_line_of, open_behind, opened_from}
-use Rattle.pw_monitor_world.specs.Enabled.{HasStep, IsEnabled}
+use Rattle.pw_monitor_world.specs.Enabled.{HasStep}
 use Rattle.pw_monitor_world.specs.Failures.{FailsBy}
 use Rattle.pw_monitor_world.specs.Seen.{Seen, finished, sys_of, work_of}
 use Rattle.pw_monitor_world.specs.Worlds.{Books, IsWorld}
@@ -29,7 +28,6 @@ use Rattle.pw_paired.specs.Failure.{fail_line}
 use Rattle.pw_roster.specs.declared.actor.Actor.{Actor}
 use Rattle.pw_roster.specs.declared.actor.Actor.TheVariants as actor
 use Rattle.pw_steps.specs.Actors.{IsActorIn}
-use Rattle.pw_steps.specs.Steps as steps
 use Rattle.pw_steps.specs.Steps.{IsStepFound}
 use Rattle.pw_world_laws.proofs.Finding.{all-unbuilt, none-has, some-shows}
 use Rattle.pw_world_laws.specs.OwnValues.{HasOwnValues}

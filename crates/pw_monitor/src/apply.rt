@@ -13,7 +13,6 @@ ghost use Rattle.pw_roster.specs.Places.{is_placed};
 
 use crate::world::World;
 use pw_code::context::Context;
-use pw_event::event::Event;
 use pw_monitor_world::answers::Applied;
 use pw_monitor_world::task::Outcome;
 use pw_roster::actor::Actor;
