@@ -15,11 +15,7 @@ fn is_built(command: Command) -> bool
     ensures { result ≡ is_built command }
 {
     match command {
-        Command::Run
-        | Command::Check
-        | Command::Verify
-        | Command::Gen
-        | Command::Expand => true,
+        Command::Run | Command::Check | Command::Verify | Command::Gen | Command::Expand => true,
         _ => false,
     }
 }

@@ -53,11 +53,7 @@ pub fn deck_output<S: Source>(
 }
 
 /// What a deck's bytes give, or the line of the deck's first fault.
-fn answer(
-    alloc: Global,
-    command: DeckCommand,
-    bytes: &[u8],
-) -> Result<(Status, Bytes), Memory>
+fn answer(alloc: Global, command: DeckCommand, bytes: &[u8]) -> Result<(Status, Bytes), Memory>
     requires { IsInRange command }
     ensures { IfOk result (λ output. DefinesBy command output.0 bytes.now output.1) }
 {
@@ -69,11 +65,7 @@ fn answer(
 }
 
 /// What a deck without a fault gives.
-fn found(
-    alloc: Global,
-    command: DeckCommand,
-    bytes: &[u8],
-) -> Result<(Status, Bytes), Refusal>
+fn found(alloc: Global, command: DeckCommand, bytes: &[u8]) -> Result<(Status, Bytes), Refusal>
     requires { IsInRange command }
     ensures ok { IfOk result (λ output. DefinesBy command output.0 bytes.now output.1) }
     ensures fault { IfErr result (λ refusal. Refuses refusal (deck_of bytes.now)) }

@@ -119,7 +119,12 @@ const EMPTY_REPORT: &[u8] = b"SERIAL\nSCREENS\nFILES\nLOG\nPATHWAY LOG 2\nFINISH
 /// Sections behind the program of two displays, words, the status, and what is written.
 const RUNS: &[(&[u8], &[&str], u8, &[u8])] = &[
     (b"", &["run", "--events", "4"], 3, CUT_REPORT),
-    (b"?FAIL\nTCP TCP-1 PRIMARY AFTER 0\n", &["run"], 1, LOST_REPORT),
+    (
+        b"?FAIL\nTCP TCP-1 PRIMARY AFTER 0\n",
+        &["run"],
+        1,
+        LOST_REPORT,
+    ),
     // the log of the deck says nothing of its runs
     (
         b"?LOG\nPATHWAY LOG 2\n1 END T1 LOST\n",
@@ -127,9 +132,24 @@ const RUNS: &[(&[u8], &[&str], u8, &[u8])] = &[
         0,
         TWO_DISPLAYS_REPORT.as_bytes(),
     ),
-    (b"?LOG\nPATHWAY LOG 2\n1 RAISE TCP-1\n2 CHECK T1 COPY\n3 APPLIED T1\n4 SHOW T1 0.0.1\n", &["verify"], 0, CUT_REPORT),
-    (b"?LOG\nPATHWAY LOG 2\n1 RAISE TCP-1\n2 SHOW T1 0.0.1\n", &["verify"], 8, b"NOT A STEP 2\n"),
-    (b"?LOG\n1 RAISE TCP-2\n", &["verify"], 2, b"DECK FAULT LINE 17 CODE 183 UNKNOWN OBJECT\n"),
+    (
+        b"?LOG\nPATHWAY LOG 2\n1 RAISE TCP-1\n2 CHECK T1 COPY\n3 APPLIED T1\n4 SHOW T1 0.0.1\n",
+        &["verify"],
+        0,
+        CUT_REPORT,
+    ),
+    (
+        b"?LOG\nPATHWAY LOG 2\n1 RAISE TCP-1\n2 SHOW T1 0.0.1\n",
+        &["verify"],
+        8,
+        b"NOT A STEP 2\n",
+    ),
+    (
+        b"?LOG\n1 RAISE TCP-2\n",
+        &["verify"],
+        2,
+        b"DECK FAULT LINE 17 CODE 183 UNKNOWN OBJECT\n",
+    ),
 ];
 
 #[test]
