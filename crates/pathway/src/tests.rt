@@ -55,7 +55,7 @@ const TWO_DISPLAYS: &[u8] = b"DISPLAY \"ONE\".\nDISPLAY \"TWO\".\nSTOP RUN.\n";
 const USAGE: &str =
     "USAGE: pathway run|check|verify|gen|expand [--workers N] [--events N] [--seed N] [--terms N] [--at N]\n";
 
-const TWO_DISPLAYS_REPORT: &str = "SERIAL
+const TWO_DISPLAYS_REPORT: &[u8] = b"SERIAL
 OUT T1
 OUT T1
 DONE T1 STOPPED
@@ -81,7 +81,7 @@ fn two_displays(rt: HostRuntime) -> Result<(), Fail> {
     let deck = deck(rt.alloc(), TWO_DISPLAYS)?;
     let (status, written) = outcome(rt.alloc(), &["run"], deck.as_slice(), &[], 1_000, &[])?;
     assert_eq!(rt; status, 0);
-    assert_eq!(rt; written.as_slice(), TWO_DISPLAYS_REPORT.as_bytes());
+    assert_eq!(rt; written.as_slice(), TWO_DISPLAYS_REPORT);
     Ok(())
 }
 
@@ -130,7 +130,7 @@ const RUNS: &[(&[u8], &[&str], u8, &[u8])] = &[
         b"?LOG\nPATHWAY LOG 2\n1 END T1 LOST\n",
         &["run"],
         0,
-        TWO_DISPLAYS_REPORT.as_bytes(),
+        TWO_DISPLAYS_REPORT,
     ),
     (
         b"?LOG\nPATHWAY LOG 2\n1 RAISE TCP-1\n2 CHECK T1 COPY\n3 APPLIED T1\n4 SHOW T1 0.0.1\n",
@@ -225,7 +225,7 @@ fn usage_source_and_sink_faults(rt: HostRuntime) -> Result<(), Fail> {
     ] {
         let (status, written) = outcome(alloc, texts, deck, &[], 1_000, &[])?;
         assert_eq!(rt; status, 0);
-        assert_eq!(rt; written.as_slice(), TWO_DISPLAYS_REPORT.as_bytes());
+        assert_eq!(rt; written.as_slice(), TWO_DISPLAYS_REPORT);
     }
     let (status, written) = outcome(alloc, &["gen", "--terms", "1"], deck, &[1], 1_000, &[])?;
     assert_eq!(rt; status, 0);
