@@ -11,4 +11,4 @@
 # is reported is kept there. It takes the program that `./pathway` runs, or the one that is named.
 set -eu
 here=$(cd "$(dirname "$0")" && pwd)
-exec python3 "$here/hostile/hostile.py" --program "$here/../pathway" --decks "$here/../decks" "$@"
+exec python3 -B "$here/hostile/hostile.py" --program "$here/../pathway" --decks "$here/../decks" "$@"
