@@ -1,0 +1,9 @@
+//! What a call of the program stands on: how it ends and by which exit status, the input that it reads from a
+//! source, and its text that is written to a sink.
+#![tactic(auto)]
+
+pub mod input;
+pub mod output;
+pub mod status;
+#[cfg(test)]
+mod tests;
