@@ -1,0 +1,3 @@
+mod Left
+mod Ran
+pub mod Starts

@@ -1,0 +1,48 @@
+//! How a run ends.
+
+ghost use Rattle.std.specs.Prelude.{◌≡◌};
+ghost use Rattle.pw_run.specs.Endings.{all_regular, is_regular, status_of};
+
+use pw_call::status::Status;
+use pw_event::event::{Ending, Event};
+
+/// How a run ends (docs/DESK.md).
+#[derive(Clone, Copy, Debug, PartialEq, Eq)]
+pub enum Ended {
+    /// Every terminal has ended, each STOPPED or NOENTRIES.
+    Regular,
+    /// Every terminal has ended, and one otherwise.
+    Irregular,
+    /// The log has as many entries as it may, and is not finished.
+    Full,
+}
+
+impl Ended {
+    /// The status of a call that has run so: `Finished`, `Irregular` or `Limit`.
+    pub fn status(self) -> Status
+        ensures { result ≡ status_of self }
+    {
+        match self {
+            Ended::Regular => Status::Finished,
+            Ended::Irregular => Status::Irregular,
+            Ended::Full => Status::Limit,
+        }
+    }
+}
+
+/// Whether an entry ends no terminal, or one that stopped or had no entry lines left.
+fn is_regular(entry: &Event) -> bool
+    ensures { result ≡ is_regular entry.now }
+{
+    match entry {
+        Event::End { ending, .. } => matches!(ending, Ending::Stopped | Ending::NoEntries),
+        _ => true,
+    }
+}
+
+/// Whether each ending of a log is STOPPED or NOENTRIES.
+pub fn are_regular(log: &[Event]) -> bool
+    ensures { result ≡ all_regular log.now }
+{
+    log.iter().all(|entry| is_regular(entry))
+}

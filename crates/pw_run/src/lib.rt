@@ -1,0 +1,6 @@
+//! The run of a system over any disc, with workers.
+#![tactic(auto)]
+
+pub mod ending;
+pub mod over;
+pub mod run;
