@@ -2,6 +2,7 @@ ghost use Rattle.std.specs.Prelude.{◌≡◌, ℕ, ◌+◌, ◌<◌, ◌≤◌,
 ghost use Rattle.pw_base.specs.Outside.{Rose};
 ghost use Rattle.pw_code.specs.declared.file.FileInfo.{FileInfo};
 ghost use Rattle.pw_volume.specs.Crash.{NoMore, Only};
+ghost use Rattle.pw_volume.specs.Life.{Endless, Fails, Passes};
 ghost use Rattle.pw_trail.specs.Body.{fits};
 ghost use Rattle.pw_trail.specs.Format.{units_in};
 ghost use Rattle.pw_trail.specs.Stored.{IsBeforeOrAfter, IsSynced};
@@ -21,6 +22,8 @@ pub fn format<D: Disk>(disk: &mut D) -> Result<(), WriteFault>
     ensures durable { OnOk result (Only (D.bytes disk.new) (D.may_leave disk.new)) }
     ensures count { D.faults disk.old ≤ D.faults disk.new }
     ensures cause { IsErrOf result WriteFault.Failed → Rose (D.faults disk.old) (D.faults disk.new) }
+    ensures endless { D.life disk.old ≡ Endless → D.life disk.new ≡ Endless }
+    ensures never { D.life disk.old ≡ Endless → IsErrOf result WriteFault.Failed → ⊥ }
 {
     disk.cut(0)?;
     disk.write_at(0, &[0])?;
@@ -61,6 +64,11 @@ pub fn append<S: Synced>(
     // Want of memory changes nothing.
     ensures memory { IsErrOf result WriteFault.Memory → (S.held disk.new ≡ S.held disk.old)
         × NoMore (S.images disk.old) (S.images disk.new) }
+
+    // Four calls of the disk.
+    ensures passes { OnOk result (Passes 4 (S.lasts disk.old) (S.lasts disk.new)) }
+    ensures fails { IsErrOf result WriteFault.Failed → Fails 4 (S.lasts disk.old) (S.lasts disk.new) }
+    ensures uncounted { IsErrOf result WriteFault.Memory → S.lasts disk.new ≡ S.lasts disk.old }
 {
     let staged = stage(alloc, unit)?;
     let Some(next) = end.checked_add(staged.len() as u64) else {

@@ -1,6 +1,7 @@
 ghost use Rattle.std.specs.Prelude.{◌≡◌, ◌⊎◌, ◌↔◌, ℕ, ◌≤◌, List, [], true, false, All, Ok, Err, IfOk, IfErr, OnErr, OnOk, IsErrOf, IsTrue};
 ghost use Rattle.pw_base.specs.Outside.{Rose};
 ghost use Rattle.pw_volume.specs.Crash.{NoMore};
+ghost use Rattle.pw_volume.specs.Life.{Endless, Fails, Passes};
 ghost use Rattle.pw_trail.specs.Body.{fits};
 ghost use Rattle.pw_trail.specs.Format.{units_in, with_last};
 ghost use Rattle.pw_trail.specs.Stored.{HasUnits, Keeps};
@@ -53,6 +54,8 @@ impl<D: Disk> Log<D> {
         ensures count { IfErr result (λ error. D.faults disk ≤ D.faults error.0) }
         ensures failed { IfErr result (λ error. error.1 ≡ OpenFault.Failed
             → Rose (D.faults disk) (D.faults error.0)) }
+        ensures endless { IfOk result (λ log. D.life disk ≡ Endless → D.life log.disk ≡ Endless) }
+        ensures never { IfErr result (λ error. D.life disk ≡ Endless → error.1 ≡ OpenFault.Failed → ⊥) }
     {
         match recover(alloc, &mut disk, files.as_slice(), into) {
             Ok(end) => Ok(Log {
@@ -98,6 +101,12 @@ impl<S: Synced> Log<S> {
         ensures untouched { self.old.is_broken ≡ true
             → (self.new.disk ≡ self.old.disk) × IsErrOf result WriteFault.Failed }
         ensures files { self.new.files ≡ self.old.files }
+
+        // Four calls of the disk.
+        ensures passes { OnOk result (Passes 4 (S.lasts self.old.disk) (S.lasts self.new.disk)) }
+        ensures fails { self.old.is_broken ≡ false → IsErrOf result WriteFault.Failed
+            → Fails 4 (S.lasts self.old.disk) (S.lasts self.new.disk) }
+        ensures uncounted { IsErrOf result WriteFault.Memory → S.lasts self.new.disk ≡ S.lasts self.old.disk }
     {
         if self.is_broken {
             return Err(WriteFault::Failed);

@@ -3,6 +3,7 @@ ghost use Rattle.pw_base.specs.Outside.{Rose};
 ghost use Rattle.pw_code.specs.Valid.{IsValid};
 ghost use Rattle.pw_tmf.specs.Starting.{told_at_start};
 ghost use Rattle.pw_tmf.specs.Tmf.{told_of};
+ghost use Rattle.pw_volume.specs.Life.{Endless};
 ghost use Rattle.pw_trail.specs.Format.{units_in};
 ghost use Rattle.pw_trail.specs.Restoring.{IsReadBack};
 
@@ -49,6 +50,8 @@ pub fn open<D: Disk>(
     ensures count { IfErr result (λ error. D.faults disk ≤ D.faults error.0) }
     ensures failed { IfErr result (λ error. error.1 ≡ OpenFault.Failed
         → Rose (D.faults disk) (D.faults error.0)) }
+    ensures endless { IfOk result (λ both. D.life disk ≡ Endless → D.life both.0.disk ≡ Endless) }
+    ensures never { IfErr result (λ error. D.life disk ≡ Endless → error.1 ≡ OpenFault.Failed → ⊥) }
 {
     let Ok((files, tmf)) = at_start(alloc, system) else {
         return Err((disk, OpenFault::Memory));

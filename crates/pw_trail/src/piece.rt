@@ -1,6 +1,7 @@
 ghost use Rattle.std.specs.Prelude.{◌≡◌, ℕ, ◌+◌, ◌≤◌, Some, drop, take, length, option_map, IfOk, IsErrOf};
 ghost use Rattle.pw_base.specs.Outside.{Rose};
 ghost use Rattle.pw_volume.specs.Crash.{NoMore};
+ghost use Rattle.pw_volume.specs.Life.{Endless};
 ghost use Rattle.pw_trail.specs.Format.{body_in};
 ghost use Rattle.pw_trail.specs.Stored.{piece_in, seen};
 
@@ -34,6 +35,8 @@ pub fn read_piece<D: Disk>(
     ensures count { D.faults disk.old ≤ D.faults disk.new }
     ensures failed { IsErrOf result OpenFault.Failed → Rose (D.faults disk.old) (D.faults disk.new) }
     ensures damaged { (place : ℕ) → IsErrOf result (OpenFault.Damaged place) → ⊥ }
+    ensures life { D.life disk.new ≡ D.life disk.old }
+    ensures never { D.life disk.old ≡ Endless → IsErrOf result OpenFault.Failed → ⊥ }
 {
     if at == total {
         return Ok(Piece::Broken);
@@ -61,6 +64,8 @@ fn read_record<D: Disk>(
     ensures count { D.faults disk.old ≤ D.faults disk.new }
     ensures failed { IsErrOf result OpenFault.Failed → Rose (D.faults disk.old) (D.faults disk.new) }
     ensures damaged { (place : ℕ) → IsErrOf result (OpenFault.Damaged place) → ⊥ }
+    ensures life { D.life disk.new ≡ D.life disk.old }
+    ensures never { D.life disk.old ≡ Endless → IsErrOf result OpenFault.Failed → ⊥ }
 {
     let behind = total - at;
     if behind < 4 {
@@ -90,6 +95,8 @@ fn read_bytes<D: Disk>(
     ensures count { D.faults disk.old ≤ D.faults disk.new }
     ensures failed { IsErrOf result OpenFault.Failed → Rose (D.faults disk.old) (D.faults disk.new) }
     ensures damaged { (place : ℕ) → IsErrOf result (OpenFault.Damaged place) → ⊥ }
+    ensures life { D.life disk.new ≡ D.life disk.old }
+    ensures never { D.life disk.old ≡ Endless → IsErrOf result OpenFault.Failed → ⊥ }
 {
     let mut read = vec![in alloc; 0u8; count]?;
     disk.read(at, &mut read)?;

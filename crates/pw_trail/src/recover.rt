@@ -2,6 +2,7 @@ ghost use Rattle.std.specs.Prelude.{◌≡◌, ◌⊎◌, ℕ, ◌+◌, ◌^◌,
 ghost use Rattle.pw_base.specs.Outside.{Rose};
 ghost use Rattle.pw_code.specs.declared.system.System.{System};
 ghost use Rattle.pw_volume.specs.Crash.{NoMore, Only};
+ghost use Rattle.pw_volume.specs.Life.{Endless};
 ghost use Rattle.pw_trail.specs.Body.{fits, unit_in};
 ghost use Rattle.pw_trail.specs.Format.{units_in};
 ghost use Rattle.pw_trail.specs.Stored.{HasTakenOne, IsFound, IsRecovered};
@@ -79,6 +80,8 @@ fn read_units<D: Disk, R: Recovery>(
         → units_in files.now (D.bytes disk.old) ≡ Err at }
     ensures count { D.faults disk.old ≤ D.faults disk.new }
     ensures failed { IsErrOf result OpenFault.Failed → Rose (D.faults disk.old) (D.faults disk.new) }
+    ensures life { D.life disk.new ≡ D.life disk.old }
+    ensures never { D.life disk.old ≡ Endless → IsErrOf result OpenFault.Failed → ⊥ }
 {
     let mut at = 0;
     loop {
@@ -112,6 +115,8 @@ pub fn recover<D: Disk, R: Recovery>(
         → units_in files.now (D.bytes disk.old) ≡ Err at }
     ensures count { D.faults disk.old ≤ D.faults disk.new }
     ensures failed { IsErrOf result OpenFault.Failed → Rose (D.faults disk.old) (D.faults disk.new) }
+    ensures endless { D.life disk.old ≡ Endless → D.life disk.new ≡ Endless }
+    ensures never { D.life disk.old ≡ Endless → IsErrOf result OpenFault.Failed → ⊥ }
 {
     disk.sync()?;
     let total = disk.length()?;

@@ -1,6 +1,7 @@
 ghost use Rattle.std.specs.Prelude.{◌≡◌, ℕ, ◌⊎◌, ◌+◌, ◌^◌, ◌<◌, ◌≤◌, List, ◌∷◌, ◌++◌, length, take, OnErr, OnOk, IsErrOf};
 ghost use Rattle.pw_base.specs.Outside.{Rose};
 ghost use Rattle.pw_volume.specs.Crash.{NoMore, Only};
+ghost use Rattle.pw_volume.specs.Life.{Fails, Passes};
 ghost use Rattle.pw_trail.specs.Stored.{IsBehind, IsGated};
 
 use crate::synced::Synced;
@@ -22,6 +23,11 @@ pub fn store<S: Synced>(disk: &mut S, gate: u64, staged: &[u8]) -> Result<(), Wr
     ensures cause { IsErrOf result WriteFault.Failed → Rose (S.faulted disk.old) (S.faulted disk.new) }
     ensures memory { IsErrOf result WriteFault.Memory → (S.held disk.new ≡ S.held disk.old)
         × NoMore (S.images disk.old) (S.images disk.new) }
+
+    // Four calls of the disk.
+    ensures passes { OnOk result (Passes 4 (S.lasts disk.old) (S.lasts disk.new)) }
+    ensures fails { IsErrOf result WriteFault.Failed → Fails 4 (S.lasts disk.old) (S.lasts disk.new) }
+    ensures uncounted { IsErrOf result WriteFault.Memory → S.lasts disk.new ≡ S.lasts disk.old }
 {
     disk.write_synced(gate + 1, staged)?;
     disk.write_synced(gate, &[1])?;

@@ -1,6 +1,7 @@
 ghost use Rattle.std.specs.Prelude.{◌≡◌, ℕ, ◌+◌, ◌<◌, ◌≤◌, List, length, take, OnErr, OnOk, IsErrOf};
 ghost use Rattle.pw_base.specs.Outside.{Rose};
 ghost use Rattle.pw_volume.specs.Crash.{written, Torn, Shortened, NoMore, Only, Counts};
+ghost use Rattle.pw_volume.specs.Life.{Fails, Life, Passes};
 
 use pw_volume::disk::Disk;
 use pw_volume::fault::{DiskFailed, WriteFault};
@@ -20,6 +21,9 @@ pub trait Synced: Drop {
     /// How often it has failed.
     ghost faulted: { Self → ℕ };
 
+    /// How long it lives.
+    ghost lasts: { Self → Life };
+
     /// Writes a piece and syncs.
     fn write_synced(&mut self, at: u64, piece: &[u8]) -> Result<(), WriteFault>
         requires within { at ≤ length (held self.old) }
@@ -32,7 +36,10 @@ pub trait Synced: Drop {
         ensures settled { OnOk result (settled self.new ≡ held self.new) }
         ensures unsettled { OnErr result (settled self.new ≡ settled self.old) }
         ensures memory { IsErrOf result WriteFault.Memory → (length (held self.old) < at + length piece.now)
-            × (held self.new ≡ held self.old) × NoMore (images self.old) (images self.new) };
+            × (held self.new ≡ held self.old) × NoMore (images self.old) (images self.new) }
+        ensures passes { OnOk result (Passes 2 (lasts self.old) (lasts self.new)) }
+        ensures fails { IsErrOf result WriteFault.Failed → Fails 2 (lasts self.old) (lasts self.new) }
+        ensures uncounted { IsErrOf result WriteFault.Memory → lasts self.new ≡ lasts self.old };
 
     /// Cuts and syncs.
     fn cut_synced(&mut self, end: u64) -> Result<(), DiskFailed>
@@ -43,7 +50,9 @@ pub trait Synced: Drop {
         ensures images { (image : List ℕ) → images self.new image → Shortened end (held self.old) image }
         ensures settled { OnOk result (settled self.new ≡ held self.new) }
         ensures unsettled { OnErr result (settled self.new ≡ settled self.old) }
-        ensures count { Counts result (faulted self.old) (faulted self.new) };
+        ensures count { Counts result (faulted self.old) (faulted self.new) }
+        ensures passes { OnOk result (Passes 2 (lasts self.old) (lasts self.new)) }
+        ensures fails { OnErr result (Fails 2 (lasts self.old) (lasts self.new)) };
 
     /// What the last sync left is one of the images.
     ghost settled_may_stay: { (disk : Self) → images disk (settled disk) };
@@ -57,6 +66,8 @@ impl<D: Disk> Synced for D {
     ghost settled = { λ disk. D.settled disk };
 
     ghost faulted = { λ disk. D.faults disk };
+
+    ghost lasts = { λ disk. D.life disk };
 
     ghost settled_may_stay = { λ disk. D.settled_may_stay disk };
 

@@ -1,6 +1,7 @@
 ghost use Rattle.std.specs.Prelude.{◌≡◌, ◌⊎◌, ◌≢◌, ◌∷◌, [], ℕ, ◌≤◌, List, All, Err, IfErr, IfOk, IsErrOf, OnOk, Ok, false, map, true};
 ghost use Rattle.pw_base.specs.Outside.{Rose};
 ghost use Rattle.pw_code.specs.Valid.{IsValid};
+ghost use Rattle.pw_volume.specs.Life.{Endless, Fails, Passes};
 ghost use Rattle.pw_tmf.specs.Answers.{Leaves, Operates};
 ghost use Rattle.pw_tmf.specs.Committed.{committed};
 ghost use Rattle.pw_tmf.specs.Faulty.{with_faults};
@@ -115,6 +116,8 @@ impl<D: Disk> Trail<D> {
         ensures count { IfErr result (λ error. D.faults disk ≤ D.faults error.0) }
         ensures failed { IfErr result (λ error. error.1 ≡ OpenFault.Failed
             → Rose (D.faults disk) (D.faults error.0)) }
+        ensures endless { IfOk result (λ trail. D.life disk ≡ Endless → D.life trail.log.disk ≡ Endless) }
+        ensures never { IfErr result (λ error. D.life disk ≡ Endless → error.1 ≡ OpenFault.Failed → ⊥) }
     {
         let (log, tmf) = open(alloc, disk, system)?;
         log.know_settled();
@@ -149,6 +152,7 @@ impl<S: Synced + Send> Disc for Trail<S> {
             (with_faults self.new.faults (told_of self.new.tmf))) }
         ensures log { self.new.log ≡ self.old.log }
         ensures broken { self.old.log.is_broken ≡ true → IsErrOf result DiscFault.Failed }
+        ensures steady { self.old.log.is_broken ≡ false → self.new.faults ≡ self.old.faults }
     {
         if self.log.is_broken {
             return Err(failed(&mut self.faults));
@@ -163,6 +167,7 @@ impl<S: Synced + Send> Disc for Trail<S> {
             (with_faults self.new.faults (told_of self.new.tmf)) }
         ensures log { self.new.log ≡ self.old.log }
         ensures broken { self.old.log.is_broken ≡ true → result ≡ FileAnswer.Failed }
+        ensures steady { self.old.log.is_broken ≡ false → self.new.faults ≡ self.old.faults }
     {
         if self.log.is_broken {
             let _ = failed(&mut self.faults);
@@ -189,6 +194,15 @@ impl<S: Synced + Send> Disc for Trail<S> {
         ensures files { self.new.log.files ≡ self.old.log.files }
         ensures untouched { self.old.log.is_broken ≡ true
             → (self.new.log ≡ self.old.log) × IsErrOf result DiscFault.Failed }
+        ensures unsettled { self.old.log.is_broken ≡ false → IsErrOf result DiscFault.Failed
+            → (self.new.log.is_broken ≡ true)
+            × (units_in self.old.log.files (S.settled self.new.log.disk)
+            ≡ units_in self.old.log.files (S.held self.old.log.disk)) }
+        ensures passes { OnOk result (Passes 4 (S.lasts self.old.log.disk) (S.lasts self.new.log.disk)) }
+        ensures fails { self.old.log.is_broken ≡ false → IsErrOf result DiscFault.Failed
+            → Fails 4 (S.lasts self.old.log.disk) (S.lasts self.new.log.disk) }
+        ensures uncounted { IsErrOf result DiscFault.Memory
+            → S.lasts self.new.log.disk ≡ S.lasts self.old.log.disk }
     {
         if self.log.is_broken {
             return Err(failed(&mut self.faults));
@@ -212,6 +226,7 @@ impl<S: Synced + Send> Disc for Trail<S> {
             (with_faults self.new.faults (told_of self.new.tmf))) }
         ensures log { self.new.log ≡ self.old.log }
         ensures broken { self.old.log.is_broken ≡ true → IsErrOf result DiscFault.Failed }
+        ensures steady { self.old.log.is_broken ≡ false → self.new.faults ≡ self.old.faults }
     {
         if self.log.is_broken {
             return Err(failed(&mut self.faults));

@@ -1,5 +1,5 @@
 -- How long a disk lives, where it tells.
-use Rattle.std.specs.Prelude.{◌≡◌, ℕ, zero, suc, Bool, true, false, Result, Ok, Err}
+use Rattle.std.specs.Prelude.{◌≡◌, ℕ, zero, suc, ◌-◌, ◌<◌, ◌≤◌, Bool, true, false, Result, Ok, Err}
 use Rattle.pw_volume.specs.declared.fault.WriteFault.{WriteFault}
 use Rattle.pw_volume.specs.declared.fault.WriteFault.TheVariants as fault
 
@@ -31,3 +31,15 @@ abbrev pub has_failed : Result Unit WriteFault → Bool
 has_failed (Ok done) = false
 has_failed (Err fault.Failed) = true
 has_failed (Err fault.Memory) = false
+
+-- so many writes, cuts and syncs have passed
+abbrev pub Passes : ℕ → Life → Life → Type 0
+Passes n Untold now = Unit {0}
+Passes n Endless now = now ≡ Endless
+Passes n (Calls left) now = (n ≤ left) × (now ≡ Calls (left - n))
+
+-- one of so many has failed
+abbrev pub Fails : ℕ → Life → Life → Type 0
+Fails n Untold now = Unit {0}
+Fails n Endless now = ⊥
+Fails n (Calls left) now = (left < n) × (now ≡ Calls 0)

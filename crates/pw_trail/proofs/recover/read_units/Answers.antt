@@ -75,5 +75,6 @@ loop-body-preserved g c =
       bytes = c.read_piece.ensures.bytes ∙ c.loop-body.invariant.bytes;
       images = λ image may. c.loop-body.invariant.images image (c.read_piece.ensures.images image may);
       count = omega (arith, c.loop-body.invariant.count, c.read_piece.ensures.count);
+      life = c.read_piece.ensures.life ∙ c.loop-body.invariant.life;
       total = c.requires.total;
     }

@@ -11,6 +11,7 @@ invariant-loop-body g l = record {
   bytes : g.D.Disk.bytes l.disk ≡ g.D.Disk.bytes l.fn.disk;
   images : NoMore (g.D.Disk.may_leave l.fn.disk) (g.D.Disk.may_leave l.disk);
   count : g.D.Disk.faults l.fn.disk ≤ g.D.Disk.faults l.disk;
+  life : g.D.Disk.life l.disk ≡ g.D.Disk.life l.fn.disk;
   total : l.total ≡ length (g.D.Disk.bytes l.fn.disk);
 }
 
