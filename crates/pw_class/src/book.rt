@@ -63,6 +63,16 @@ impl ClassBook {
         self.classes[class as usize].put(request)
     }
 
+    /// How many requests wait for a class.
+    pub fn waiting(&self, class: u32) -> usize
+        ensures { result ≡ length (queue_at self.now class).waiting }
+    {
+        match self.classes.get(class as usize) {
+            Some(queue) => queue.waiting(),
+            None => 0,
+        }
+    }
+
     /// The first request that waits for the class, None exactly where none waits.
     pub fn first(&self, class: u32) -> Option<&Request>
         ensures { option_copied result ≡ slice_get (queue_at self.now class).waiting 0 }

@@ -1,4 +1,4 @@
-ghost use Rattle.std.specs.Prelude.{◌≡◌, ◌<◌, ◌^◌, ◌++◌, [], replicate, slice_get, Option, None, Some, IfOk, IfSome, IsSome, is_some, IsTrue, OnOk, OnErr};
+ghost use Rattle.std.specs.Prelude.{◌≡◌, ◌<◌, ◌^◌, ◌++◌, [], length, replicate, slice_get, Option, None, Some, IfOk, IfSome, IsSome, is_some, IsTrue, OnOk, OnErr};
 ghost use Rattle.std.specs.List.{list_any};
 ghost use Rattle.std.specs.Option.{option_copied};
 
@@ -43,6 +43,13 @@ impl Queue {
             waiting: VecDeque::new(alloc),
             busy,
         })
+    }
+
+    /// How many requests wait.
+    pub fn waiting(&self) -> usize
+        ensures { result ≡ length self.now.waiting }
+    {
+        self.waiting.len()
     }
 
     /// The first waiting request, None exactly where none waits.

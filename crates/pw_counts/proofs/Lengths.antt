@@ -1,7 +1,10 @@
 -- How many records an operation leaves.
-use Rattle.std.proofs.Common.{◌≡◌, ℕ, ◌+◌, ⊎_elim, Bool, true, false, ◌&&◌, List, ◌∷◌, length, length-append, take, Option, Some, None, refl, sym, ap, subst, ◌∙◌, arith}
-use Rattle.std.proofs.lemmas.Bool.{cond-false, cond-true, eqb-true}
-use Rattle.std.specs.Prelude.{◌==◌, is_some, if◌then◌else◌}
+use Rattle.std.proofs.Common.{◌≡◌, ℕ, ◌+◌, ⊎_elim, Bool, true, false, ◌&&◌, List, [], ◌∷◌, length, length-append, take, Option, Some, None, refl, sym, ap, subst, ◌∙◌, arith}
+use Rattle.std.proofs.lemmas.Bool.{cond-false, cond-true, eqb-true, false≢true}
+use Rattle.std.proofs.lemmas.List.Elements.{All-head, All-tail}
+use Rattle.std.specs.List.{AllByRecursion, IsDistinct}
+use Rattle.std.specs.Prelude.{◌==◌, All, fold, is_some, map, if◌then◌else◌}
+use Rattle.std.specs.Str.{bytes_eq}
 use Rattle.pw_code.specs.declared.file.FileCall.{FileCall}
 use Rattle.pw_code.specs.declared.file.FileOp.{FileOp}
 use Rattle.pw_code.specs.declared.file.FileOp.TheVariants.{Read, Next, Write, Rewrite, Delete, ReadLock, NextLock}
@@ -9,7 +12,7 @@ use Rattle.pw_counts.specs.Records.{grows, shrinks}
 use Rattle.pw_files.proofs.Lookups.{record_at-found, record_at-with_other, record_at-with_record, record_at-without_key, record_at-without_other}
 use Rattle.pw_files.proofs.RecordLemmas.{IsFile-with_record, IsFile-without_key}
 use Rattle.pw_files.specs.Records.{IsContent, IsFile, above, below, record_at, with_record, without_key}
-use Rattle.pw_locking.proofs.records.Images.{cases_bytes}
+use Rattle.pw_locking.proofs.records.Images.{cases_bytes, same_bytes}
 use Rattle.pw_locking.proofs.seeing.SameFiles.{same_files}
 use Rattle.pw_onecopy.specs.Operation.{answer_of, change_answer, changed_records, changes_records, is_change, records_behind}
 use Rattle.pw_runs.proofs.Tests.{and-second}
@@ -97,3 +100,29 @@ module _ (n : ℕ) (records : List (List ℕ)) (file : IsFile n records) where
             ap (λ (rs : List (List ℕ)). length rs + (if shrinks call.op then 1 else 0)) changed ∙ by-op call.op status
         by false is =
             ap (λ (rs : List (List ℕ)). length rs + 0) (cond-false (changes_records n records call) (changed_records n records call.op call) records is)
+
+-- records are put one after the other, each at a key where there is none
+none-then : (n : ℕ) (records : List (List ℕ)) → IsFile n records → (content : List ℕ) → (rest : List (List ℕ))
+    → AllByRecursion (λ key. bytes_eq (take n content) key ≡ false) (map (take n) rest) → AllByRecursion (λ c. record_at n records (take n c) ≡ None) rest
+    → AllByRecursion (λ c. record_at n (with_record n records content) (take n c) ≡ None) rest
+none-then n records file content [] apart none = tt
+none-then n records file content (next ∷ rest) apart none = (
+  ⊎_elim
+      (λ same. absurd (false≢true (sym apart.0 ∙ (ap (λ (key : List ℕ). bytes_eq key (take n next)) (sym same.0) ∙ same_bytes (take n next)))))
+      (λ differ. record_at-with_other n records content (take n next) differ.0 ∙ none.0)
+      (cases_bytes (take n next) (take n content)),
+  none-then n records file content rest apart.1 none.1,
+)
+
+pub put-lengths : (n : ℕ) (records : List (List ℕ)) → IsFile n records → (contents : List (List ℕ)) → All (IsContent n) contents
+    → IsDistinct bytes_eq (map (λ content. take n content) contents) → AllByRecursion (λ c. record_at n records (take n c) ≡ None) contents
+    → length (fold (with_record n) records contents) ≡ length records + length contents
+unfolding IsDistinct
+put-lengths n records file [] fit distinct none = omega arith
+put-lengths n records file (content ∷ rest) fit distinct none =
+    let fits = All-head (IsContent n) content rest fit in
+    let with = with-length n records file content in
+    let missing = missing-length n records file (take n content) none.0 in
+    let more = put-lengths n (with_record n records content) (IsFile-with_record n records file content fits) rest (All-tail (IsContent n) content rest fit) distinct.1
+    (none-then n records file content rest distinct.0 none.1) in
+    omega (arith, with, missing, more)

@@ -1,17 +1,22 @@
-mod Attempting
-mod Balanced
-mod Balancing
-mod Counting
-mod Each
-mod Ending
-mod Gone
-mod Lengths
-mod Locking
-mod Numbering
-mod Operating
-mod Recording
-mod Releasing
-mod Running
-mod Settling
-mod Sums
-mod Waiting
+pub mod Attempting
+pub mod Balanced
+pub mod Balancing
+pub mod Counting
+pub mod Each
+pub mod Ending
+pub mod Few
+pub mod Gone
+pub mod Known
+pub mod Lengths
+pub mod Locking
+pub mod Numbering
+pub mod Operating
+pub mod Recording
+pub mod Releasing
+pub mod Running
+pub mod Settling
+pub mod Sums
+pub mod Tallying
+pub mod TallyLocks
+pub mod TallyRecords
+pub mod Waiting

@@ -149,6 +149,50 @@ forgotten refreshes r t old mid new known is gone shown k low =
         let second : numbers_of new k ≡ numbers_of mid k = ap (λ (sets : List (BTreeSet Number)). get_or sets k no_numbers) gone.sets ∙ get_or-set_other mid t k (numbers_of new t) no_numbers differ in
         subst (λ (numbers : BTreeSet Number). HasNumbers refreshes k numbers) (sym (second ∙ first)) (shown k within)
 
+-- a number that was not new changes nothing
+pub seen-again : (refreshes : List Refresh) (r : Refresh) (t : ℕ) (old new : List (BTreeSet Number)) → t < length old → IsNoted t (number_of r) false old new
+    → AreShownOf refreshes old → AreShownOf refreshes new
+seen-again refreshes r t old new known is shown k low =
+    ⊎_elim
+    (λ same. subst (λ (j : ℕ). HasNumbers refreshes j (numbers_of new j)) (sym same) here)
+    (λ differ. there differ)
+    (cases_eq k t)
+  where
+    before : HasNumbers refreshes t (numbers_of old t)
+    before = shown t known
+
+    present : contains number_cmp (numbers_of old t) (number_of r) ≡ true
+    present = not-false (contains number_cmp (numbers_of old t) (number_of r)) (sym is.fresh_is)
+      where
+        not-false : (b : Bool) → not b ≡ false → b ≡ true
+        not-false true e = refl
+        not-false false e = sym e
+
+    each : (other : Refresh) (b : Bool) → same_number other r ≡ b → cond b true (contains number_cmp (numbers_of old t) (number_of other)) ≡ contains number_cmp (numbers_of old t) (number_of other)
+    each other true same =
+        let parts = same-parts other r same in
+        let number : number_of other ≡ number_of r = named other r parts.0 parts.1 parts.2 in
+        sym (ap (contains number_cmp (numbers_of old t)) number ∙ present)
+    each other false same = refl
+
+    here : HasNumbers refreshes t (numbers_of new t)
+    here =
+        let so = before.count in
+        let now = is.count in
+        record {
+          has = λ other.
+              is.updates.0 (number_of other)
+              ∙ (ap (λ (b : Bool). cond b true (contains number_cmp (numbers_of old t) (number_of other))) (ties r other)
+              ∙ (each other (same_number other r) refl ∙ before.has other));
+          count = omega (arith, so, now);
+        }
+
+    there : k ≢ t → HasNumbers refreshes k (numbers_of new k)
+    there differ =
+        let within : k < length old = subst (λ (n : ℕ). k < n) (ap length is.sets ∙ length-set old t (numbers_of new t)) low in
+        let same : numbers_of new k ≡ numbers_of old k = ap (λ (sets : List (BTreeSet Number)). get_or sets k no_numbers) is.sets ∙ get_or-set_other old t k (numbers_of new t) no_numbers differ in
+        subst (λ (numbers : BTreeSet Number). HasNumbers refreshes k numbers) (sym same) (shown k within)
+
 -- ---- a set in its place
 
 -- an item that is there, whatever stands past the end

@@ -65,6 +65,27 @@ pub start-balances : (sys : Behaviour) → Balances sys sys.records [] (λ f. le
 start-balances sys = record { all = λ f. refl; without = λ w f. refl }
 
 module _ (sys : Behaviour) (b : IsBehaviour sys) (log : List Event) (run : IsRun sys log) where
+  -- the numbers of records behind a FILE
+  pub file-lengths : (c i : ℕ) (op : FileOp) (mode : LockMode) (f status : ℕ) → (legal : LegalFile sys (after sys log) c i op mode f status)
+      → legal.job.request.terminal < sys.terminals → (changes : ℕ → List Change)
+      → Balances sys (after sys log).files (after sys log).before (λ g. length ((after sys log).files g)) changes
+      → (g : ℕ) → length ((effect sys (after sys log) (File c i op mode f status)).files g) + shrunk_in g (changes_of op f status)
+      ≡ length ((after sys log).files g) + grown_in g (changes_of op f status)
+  file-lengths c i op mode f status legal known changes bal g =
+      let s : State = after sys log in
+      let ok = records-ok sys b log run in
+      let inv = kept sys b log run in
+      let call : FileCall = legal.call in
+      let u = unit_of s legal.job.request in
+      let fits : is_written call.op ≡ true → IsContent (sys.key_length call.file) call.content =
+      b.writes c legal.job.request.message legal.job.done call (inv.requests.bounds.work c i legal.job legal.at_work).there legal.asks in
+      let named = as-named call op f status (answer_of (sys.key_length call.file) (s.files call.file) call.op call).status legal.op_is legal.file_is legal.status_is in
+      let own = operated-lengths sys s.files s.before s.locks ok u call fits legal.free (λ h. length (s.files h)) changes known bal g in
+      let shrunk = ap (shrunk_in g) named in
+      let grown = ap (grown_in g) named in
+      let behind = ap (λ (t : State). length (t.files g)) (file-is sys s c i op mode f status legal) in
+      omega (arith, own, shrunk, grown, behind)
+
   -- a FILE
   pub file-balances : (c i : ℕ) (op : FileOp) (mode : LockMode) (f status : ℕ) → (legal : LegalFile sys (after sys log) c i op mode f status)
       → legal.job.request.terminal < sys.terminals → (count new : ℕ → ℕ) (changes : ℕ → List Change)

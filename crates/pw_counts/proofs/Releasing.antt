@@ -23,7 +23,7 @@ use Rattle.pw_runs.proofs.induction.Failed.{process-cases}
 use Rattle.pw_runs.proofs.induction.Served.{file-is}
 
 -- where nothing goes, all stay
-none-go : (locks : List Lock) → locks ≡ without_locks (λ t. false) locks
+pub none-go : (locks : List Lock) → locks ≡ without_locks (λ t. false) locks
 none-go [] = refl
 none-go (lock ∷ locks) = ap (λ (rest : List Lock). lock ∷ rest) (none-go locks)
 

@@ -17,10 +17,10 @@ use Rattle.pw_paired.specs.Units.{only, without_locks}
 
 -- ---- the first terminals of a pair
 
-lt-true : (a b : ℕ) → a < b → nat_lt a b ≡ true
+pub lt-true : (a b : ℕ) → a < b → nat_lt a b ≡ true
 lt-true a b low = grind (arith, nat_tests, low)
 
-lt-false : (a b : ℕ) → b ≤ a → nat_lt a b ≡ false
+pub lt-false : (a b : ℕ) → b ≤ a → nat_lt a b ≡ false
 lt-false a b high = grind (arith, nat_tests, high)
 
 -- some terminals below a number
@@ -161,7 +161,7 @@ changes-more w i first old new theirs low gone so t =
 -- and the counts
 pub counts-more : (w : ℕ → Bool) (i n f : ℕ) (first old new : RecordsState) → w i ≡ true → i < n → f < length old.files → IsBackedOut i old new
     → ((t : ℕ) → (changes_by old t).changes ≡ (if first_of i w t then [] else (changes_by first t).changes))
-    → ((k : ℕ) → sum_to k w (λ t. grown_in f (changes_by first t).changes) ≤ slice_index_or first.files f 0 + sum_to k w (λ t. shrunk_in f (changes_by first t).changes))
+    → ((k : ℕ) → k ≤ n → sum_to k w (λ t. grown_in f (changes_by first t).changes) ≤ slice_index_or first.files f 0 + sum_to k w (λ t. shrunk_in f (changes_by first t).changes))
     → slice_index_or first.files f 0 + sum_to n w (λ t. shrunk_in f (changes_by first t).changes) < 2 ^ 64
     → slice_index_or old.files f 0 + sum_to i w (λ t. grown_in f (changes_by first t).changes) ≡ slice_index_or first.files f 0 + sum_to i w (λ t. shrunk_in f (changes_by first t).changes)
     → slice_index_or new.files f 0 + sum_to (i + 1) w (λ t. grown_in f (changes_by first t).changes)
@@ -173,7 +173,7 @@ counts-more w i n f first old new theirs low within gone so enough room before =
     let now = gone.files f within in
     let grew = ap (grown_in f) own in
     let shrank = ap (shrunk_in f) own in
-    let at_most = enough (i + 1) in
+    let at_most = enough (i + 1) (omega (arith, low)) in
     let rest : ℕ = n - (i + 1) in
     let rises = sum-rises (i + 1) rest w (λ t. shrunk_in f (changes_by first t).changes) in
     let whole : i + 1 + rest ≡ n = omega (arith, low) in
@@ -226,7 +226,7 @@ released-more seats p i seat first old new here low theirs other before =
     }))
     (cases_Bool (has_tcp p (Some seat)))
 
-pub released-all : (seats : List Seat) (p n : ℕ) (first now : LocksState) → length seats ≤ n → ReleasedTo seats p n first now → AreReleased seats p first now
+pub released-all : (seats : List Seat) (p n : ℕ) (first now : LocksState) → length seats ≤ n → ReleasedTo seats p n first now → AreReleased (is_seated seats p) first now
 released-all seats p n first now all to = record {
   count = to.count;
   files = to.files;
@@ -246,7 +246,7 @@ module _ (seats : List Seat) (p : ℕ) (first : RecordsState) where
     pub count : length now.files ≡ length first.files
     pub terminals : length now.terminals ≡ length first.terminals
     pub changes : (t : ℕ) → (changes_by now t).changes ≡ (if first_of n (is_seated seats p) t then [] else (changes_by first t).changes)
-    pub files : (f : ℕ) → f < length first.files → ((k : ℕ) → grown_to f k ≤ slice_index_or first.files f 0 + shrunk_to f k)
+    pub files : (f : ℕ) → f < length first.files → ((k : ℕ) → k ≤ length seats → grown_to f k ≤ slice_index_or first.files f 0 + shrunk_to f k)
         → slice_index_or first.files f 0 + shrunk_to f (length seats) < 2 ^ 64
         → slice_index_or now.files f 0 + grown_to f n ≡ slice_index_or first.files f 0 + shrunk_to f n
 
@@ -290,10 +290,63 @@ module _ (seats : List Seat) (p : ℕ) (first : RecordsState) where
       }))
       (cases_Bool (has_tcp p (Some seat)))
 
-  pub taken-all : (n : ℕ) (now : RecordsState) → n ≡ length seats → TakenTo n now → AreTakenBack seats p first now
+  pub taken-all : (n : ℕ) (now : RecordsState) → n ≡ length seats → TakenTo n now → AreTakenBack (length seats) (is_seated seats p) first now
   taken-all n now all to = record {
     count = to.count;
     terminals = to.terminals;
     changes = λ t. to.changes t ∙ ap (λ (b : Bool). if b then [] else (changes_by first t).changes) (all-first seats p n (omega (arith, all)) t);
     files = λ f low enough room. subst (λ (m : ℕ). slice_index_or now.files f 0 + grown_to f m ≡ slice_index_or first.files f 0 + shrunk_to f m) all (to.files f low enough room);
   }
+
+-- ---- one terminal
+
+none-below : (n t : ℕ) (of : ℕ → ℕ) → n ≤ t → sum_to n (only t) of ≡ 0
+none-below zero t of past = refl
+none-below (suc n) t of past =
+    ap (λ (b : Bool). if b then sum_to n (only t) of + of n else sum_to n (only t) of) (ne_eqb n t (λ is. omega (arith, is, past)))
+    ∙ none-below n t of (omega (arith, past))
+
+sum-only : (n t : ℕ) (of : ℕ → ℕ) → t < n → sum_to n (only t) of ≡ of t
+sum-only zero t of low = absurd (omega (arith, low))
+sum-only (suc n) t of low =
+    ⊎_elim
+    (λ same.
+    let none = none-below n t of (omega (arith, same)) in
+    let here = ap of same in
+    ap (λ (b : Bool). if b then sum_to n (only t) of + of n else sum_to n (only t) of) (eq-eqb n t same) ∙ omega (arith, none, here))
+    (λ differ.
+    ap (λ (b : Bool). if b then sum_to n (only t) of + of n else sum_to n (only t) of) (ne_eqb n t differ)
+    ∙ sum-only n t of (omega (arith, low, differ)))
+    (cases_eq n t)
+
+pub one-taken : (n t : ℕ) (old new : RecordsState) → t < n → length old.terminals ≡ n → IsBackedOut t old new → AreTakenBack n (only t) old new
+one-taken n t old new low sized gone =
+    let cleared : ChangesState = record { changes = []; spare = (changes_by new t).spare } in
+    record {
+      count = gone.count;
+      terminals = ap length gone.terminals ∙ length-set old.terminals t cleared;
+      changes = λ k.
+          ap (λ (terminals : List ChangesState). (get_or terminals k none_changed).changes) gone.terminals
+          ∙ ⊎_elim
+          (λ same.
+          ap (λ (j : ℕ). (get_or (set old.terminals t cleared) j none_changed).changes) same
+          ∙ (ap (λ (c : ChangesState). c.changes) (get_or-set_same old.terminals t cleared none_changed (omega (arith, low, sized)))
+          ∙ sym (ap (λ (b : Bool). if b then [] else (changes_by old k).changes) (eq-eqb k t same))))
+          (λ differ.
+          ap (λ (c : ChangesState). c.changes) (get_or-set_other old.terminals t k cleared none_changed differ)
+          ∙ sym (ap (λ (b : Bool). if b then [] else (changes_by old k).changes) (ne_eqb k t differ)))
+          (cases_eq k t);
+      files = λ f within enough room.
+          let now = gone.files f within in
+          let grown = sum-only n t (λ k. grown_in f (changes_by old k).changes) low in
+          let shrunk = sum-only n t (λ k. shrunk_in f (changes_by old k).changes) low in
+          let some = enough n (omega arith) in
+          omega (arith, now, grown, shrunk, some, room);
+    }
+
+pub one-released : (t : ℕ) (old new : LocksState) → t < length old.terminals → IsReleased t old new → AreReleased (only t) old new
+one-released t old new low gone = record {
+  count = ap length gone.terminals ∙ length-set old.terminals t (record { files = []; spare = (held_by new t).spare });
+  files = gone.count;
+  locks = λ locks are. released t locks old new low are gone;
+}

@@ -1,5 +1,5 @@
 -- The counted records of each file, and the changes of each terminal.
-use Rattle.std.specs.Prelude.{◌≡◌, ℕ, ◌+◌, ◌-◌, ◌^◌, ◌<◌, Bool, false, List, [], ◌∷◌, ◌++◌, length, min, slice_index_or, slice_set, if◌then◌else◌}
+use Rattle.std.specs.Prelude.{◌≡◌, ℕ, ◌+◌, ◌-◌, ◌^◌, ◌<◌, Bool, false, List, [], ◌∷◌, ◌++◌, length, min, slice_index_or, slice_set, Option, Some, None, if◌then◌else◌}
 use Rattle.pw_counts.specs.Records.{grown_in, shrunk_in}
 use Rattle.pw_counts.specs.declared.records.Change.{Change}
 
@@ -40,6 +40,11 @@ with_change t change spare records = record {
   terminals = slice_set records.terminals t
       (record { changes = (changes_by records t).changes ++ change ∷ []; spare = spare });
 }
+
+-- it makes this one, if any
+abbrev pub Changed : ℕ → Option Change → RecordsState → RecordsState → Type 0
+Changed t None old new = new ≡ old
+Changed t (Some change) old new = new ≡ with_change t change (changes_by new t).spare old
 
 -- a terminal's changes are no more its attempt's
 abbrev pub without_changes : ℕ → Bool → RecordsState → RecordsState

@@ -8,3 +8,4 @@ pub mod Over
 pub mod Records
 pub mod Settled
 pub mod Shown
+pub mod Tally

@@ -6,6 +6,9 @@ use Rattle.pw_counts.specs.Attempts.{commits}
 use Rattle.pw_counts.specs.Over.{is_over}
 use Rattle.pw_counts.specs.declared.over.Over.{Over}
 use Rattle.pw_counts.specs.declared.records.Change.{Change}
+use Rattle.pw_counts.specs.declared.records.Operation.{Operation}
+use Rattle.pw_event.specs.declared.event.Event.{Event}
+use Rattle.pw_event.specs.declared.event.Event.TheVariants.{File}
 use Rattle.pw_onecopy.specs.Behaviour.{Behaviour}
 use Rattle.pw_paired.specs.State.{BeforeImage}
 use Rattle.pw_paired.specs.Units.{restored_files}
@@ -54,6 +57,18 @@ abbrev pub changes_of : FileOp → ℕ → ℕ → List Change
 changes_of op f status =
     if grows op && status == 0 then record { file = f; grew = true } ∷ []
     else (if shrinks op && status == 0 then record { file = f; grew = false } ∷ [] else [])
+
+-- the operation of a FILE
+abbrev pub file_in : Event → Option Operation
+file_in (File c i op mode f status) = Some (record { op = op; file = f; status = status })
+file_in _ = None
+
+-- what an operation changes in the number of records of its file, if anything
+abbrev pub change_of : Operation → Option Change
+change_of operation =
+    if grows operation.op && operation.status == 0 then Some (record { file = operation.file; grew = true })
+    else (if shrinks operation.op && operation.status == 0
+    then Some (record { file = operation.file; grew = false }) else None)
 
 -- attempts that are backed out
 abbrev pub is_backed_out : Option Over → Bool

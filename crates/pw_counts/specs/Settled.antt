@@ -1,11 +1,13 @@
--- What is kept of locks and records once the attempts of a pair are over.
+-- What is kept of locks and records once attempts are over.
 use Rattle.std.specs.Prelude.{◌≡◌, ℕ, ◌+◌, ◌<◌, ◌≤◌, ◌^◌, ◌==◌, Bool, false, List, [], length, slice_get, slice_index_or, Option, Some, None, if◌then◌else◌}
 use Rattle.pw_counts.specs.Kept.{RecordsState, changes_by}
 use Rattle.pw_counts.specs.Locks.{AreLocksOf, LocksState}
 use Rattle.pw_counts.specs.Records.{grown_in, shrunk_in, sum_to}
 use Rattle.pw_counts.specs.declared.attempts.Seat.{Seat}
+use Rattle.pw_counts.specs.declared.over.Whose.{Whose}
+use Rattle.pw_counts.specs.declared.over.Whose.TheVariants.{One, Pair}
 use Rattle.pw_locks.specs.declared.lock.Lock.{Lock}
-use Rattle.pw_paired.specs.Units.{without_locks}
+use Rattle.pw_paired.specs.Units.{only, without_locks}
 
 -- the seat is of the pair, if it is there
 abbrev pub has_tcp : ℕ → Option Seat → Bool
@@ -16,26 +18,30 @@ has_tcp p (Some seat) = seat.tcp == p
 abbrev pub is_seated : List Seat → ℕ → ℕ → Bool
 is_seated seats p t = has_tcp p (slice_get seats t)
 
--- the locks of the pair's terminals are gone
-pub record AreReleased (seats : List Seat) (p : ℕ) (old new : LocksState) : Type 0 where
+-- the terminal is one of these, by the seats
+abbrev pub is_whose : List Seat → Whose → ℕ → Bool
+is_whose seats (One own) = only own
+is_whose seats (Pair p) = is_seated seats p
+
+-- a terminal has a seat; a pair is not asked for one
+abbrev pub HasSeat : List Seat → Whose → Type 0
+HasSeat seats (One own) = own < length seats
+HasSeat seats (Pair p) = Unit {0}
+
+-- the locks of some terminals are gone
+pub record AreReleased (whose : ℕ → Bool) (old new : LocksState) : Type 0 where
   pub count : length new.terminals ≡ length old.terminals
   pub files : length new.files ≡ length old.files
-  pub locks : (locks : List Lock) → AreLocksOf locks old
-      → AreLocksOf (without_locks (is_seated seats p) locks) new
+  pub locks : (locks : List Lock) → AreLocksOf locks old → AreLocksOf (without_locks whose locks) new
 
--- the changes of the pair's terminals are taken back, where there is room in the counts
-pub record AreTakenBack (seats : List Seat) (p : ℕ) (old new : RecordsState) : Type 0 where
+-- the changes of some of n terminals are taken back, where there is room in the counts
+pub record AreTakenBack (n : ℕ) (whose : ℕ → Bool) (old new : RecordsState) : Type 0 where
   pub count : length new.files ≡ length old.files
   pub terminals : length new.terminals ≡ length old.terminals
-  pub changes : (t : ℕ) → (changes_by new t).changes
-      ≡ (if is_seated seats p t then [] else (changes_by old t).changes)
+  pub changes : (t : ℕ) → (changes_by new t).changes ≡ (if whose t then [] else (changes_by old t).changes)
   pub files : (f : ℕ) → f < length old.files
-      → ((n : ℕ) → sum_to n (is_seated seats p) (λ t. grown_in f (changes_by old t).changes)
-      ≤ slice_index_or old.files f 0
-      + sum_to n (is_seated seats p) (λ t. shrunk_in f (changes_by old t).changes))
-      → slice_index_or old.files f 0
-      + sum_to (length seats) (is_seated seats p) (λ t. shrunk_in f (changes_by old t).changes) < 2 ^ 64
-      → slice_index_or new.files f 0
-      + sum_to (length seats) (is_seated seats p) (λ t. grown_in f (changes_by old t).changes)
-      ≡ slice_index_or old.files f 0
-      + sum_to (length seats) (is_seated seats p) (λ t. shrunk_in f (changes_by old t).changes)
+      → ((k : ℕ) → k ≤ n → sum_to k whose (λ t. grown_in f (changes_by old t).changes)
+      ≤ slice_index_or old.files f 0 + sum_to k whose (λ t. shrunk_in f (changes_by old t).changes))
+      → slice_index_or old.files f 0 + sum_to n whose (λ t. shrunk_in f (changes_by old t).changes) < 2 ^ 64
+      → slice_index_or new.files f 0 + sum_to n whose (λ t. grown_in f (changes_by old t).changes)
+      ≡ slice_index_or old.files f 0 + sum_to n whose (λ t. shrunk_in f (changes_by old t).changes)

@@ -1,5 +1,5 @@
 ghost use Rattle.std.specs.BTreeSet.{BTreeSet};
-ghost use Rattle.std.specs.Prelude.{◌≡◌, ◌+◌, ◌-◌, ◌<◌, ◌≤◌, ◌^◌, ◌++◌, ◌∷◌, [], Bool, List, Some, false, length, true, ℕ};
+ghost use Rattle.std.specs.Prelude.{◌≡◌, ◌+◌, ◌-◌, ◌<◌, ◌≤◌, ◌^◌, ◌++◌, ◌∷◌, [], Bool, List, Option, Some, false, length, slice_index_or, true, ℕ};
 ghost use Rattle.pw_code.specs.declared.file.FileOp.{FileOp};
 ghost use Rattle.pw_code.specs.declared.lock.LockMode.{LockMode};
 ghost use Rattle.pw_code.specs.declared.system.System.{System};
@@ -11,9 +11,13 @@ ghost use Rattle.pw_counts.specs.Longest.{AreLongestOf, longest_with, sent_to};
 ghost use Rattle.pw_counts.specs.Over.{ends_at, is_over, over_at};
 ghost use Rattle.pw_counts.specs.Records.{AreCountsBehind, Balances, changes_of, grown_in, kept_changes, shrunk_in};
 ghost use Rattle.pw_counts.specs.Shown.{AreShownOf, IsForgotten, IsNoted, IsSameAs};
+ghost use Rattle.pw_counts.specs.Tally.{AreSized, IsFirstTally, IsMet, IsNotedIn, IsSameTally, IsTallyOf, TallyState};
 ghost use Rattle.pw_counts.specs.declared.records.Change.{Change};
+ghost use Rattle.pw_counts.specs.declared.tally.Met.{Met};
+ghost use Rattle.pw_event.specs.Line.{no_file};
 ghost use Rattle.pw_event.specs.declared.event.Event.TheVariants.{File};
 ghost use Rattle.pw_event.specs.declared.event.Event.{Event};
+ghost use Rattle.pw_listing.specs.Listing.{counted};
 ghost use Rattle.pw_listing.specs.Numbers.{number_of};
 ghost use Rattle.pw_listing.specs.declared.numbers.Number.{Number};
 ghost use Rattle.pw_locks.specs.declared.lock.Lock.{Lock};
@@ -23,8 +27,9 @@ ghost use Rattle.pw_onecopy.specs.Update.{upd};
 ghost use Rattle.pw_onecopy.specs.declared.refresh.Refresh.{Refresh};
 ghost use Rattle.pw_order.specs.Shadow.{IsOf};
 ghost use Rattle.pw_paired.specs.Server.{LegalFile};
+ghost use Rattle.pw_paired.specs.Shown.{refreshes};
 ghost use Rattle.pw_paired.specs.State.{OpenUnit, State};
-ghost use Rattle.pw_paired.specs.Step.{IsRun, after, effect};
+ghost use Rattle.pw_paired.specs.Step.{IsRun, Legal, after, effect};
 ghost use Rattle.pw_paired.specs.Units.{only, without_locks};
 
 /// Counters of a log are those of the log with one more entry behind that entry.
@@ -35,9 +40,11 @@ pub fn counter_laws()
 {}
 
 /// The greatest numbers of a log are those of the log with one more entry, once the number that waits
-/// behind a SEND is taken in: behind every other entry no more wait than before it.
+/// behind a SEND is taken in: behind every other entry no more wait than before it. No more wait than the
+/// log has entries.
 pub fn longest_laws()
-    ensures { (sys : Behaviour) (log : List Event) (entry : Event) (longest : List ℕ) (n : ℕ)
+    ensures few { (sys : Behaviour) (log : List Event) (c : ℕ) → waiting (after sys log) c ≤ length log }
+    ensures next { (sys : Behaviour) (log : List Event) (entry : Event) (longest : List ℕ) (n : ℕ)
         → AreLongestOf sys log longest
         → ((c : ℕ) → sent_to entry ≡ Some c → n ≡ waiting (after sys (log ++ entry ∷ [])) c)
         → AreLongestOf sys (log ++ entry ∷ []) (longest_with (sent_to entry) n longest) }
@@ -102,16 +109,41 @@ pub fn record_laws()
 {}
 
 /// The refresh numbers that are kept are those of the refreshes so far: where one more is noted, and
-/// where one that was new is forgotten again.
+/// where one that was new is forgotten again. They are no more than the log has entries.
 pub fn number_laws()
+    ensures few { (sys : Behaviour) (log : List Event) (t : ℕ)
+        → length (counted (refreshes sys log) t) ≤ length log }
     ensures same { (refreshes : List Refresh) (old new : List (BTreeSet Number))
         → IsSameAs old new → AreShownOf refreshes old → AreShownOf refreshes new }
     ensures noted { (refreshes : List Refresh) (r : Refresh) (t : ℕ) (fresh : Bool)
         (old new : List (BTreeSet Number)) → t < length old → r.terminal ≡ t
         → IsNoted t (number_of r) fresh old new
         → AreShownOf refreshes old → AreShownOf (refreshes ++ r ∷ []) new }
+    ensures seen { (refreshes : List Refresh) (r : Refresh) (t : ℕ)
+        (old new : List (BTreeSet Number)) → t < length old → IsNoted t (number_of r) false old new
+        → AreShownOf refreshes old → AreShownOf refreshes new }
     ensures forgotten { (refreshes : List Refresh) (r : Refresh) (t : ℕ)
         (old mid new : List (BTreeSet Number)) → t < length old
         → IsNoted t (number_of r) true old mid → IsForgotten t (number_of r) mid new
         → AreShownOf refreshes old → AreShownOf refreshes new }
+{}
+
+/// All that is counted before the first entry is that of the empty log; and all that is counted of a log is
+/// that of the log with one more entry, once this is noted with what it meets. Room for more changes
+/// nothing, and there are as many locks and changes as seats.
+pub fn tally_laws()
+    ensures first { (system : System) (sys : Behaviour) → IsOf system sys
+        → ((f : ℕ) → f < length system.files
+        → length (sys.records f) ≡ length (slice_index_or system.files f no_file).records)
+        → (tally : TallyState) → IsFirstTally system tally → IsTallyOf system sys [] tally }
+    ensures next { (system : System) (sys : Behaviour) → IsOf system sys → IsBehaviour sys
+        → sys.terminals ≤ 128 → (log : List Event) → IsRun sys log → length log < 500000
+        → (entry : Event) → Legal sys (after sys log) entry
+        → (met : Met) → IsMet sys log entry met → (old new : TallyState)
+        → IsTallyOf system sys log old → IsNotedIn entry met old new
+        → IsTallyOf system sys (log ++ entry ∷ []) new }
+    ensures room { (system : System) (sys : Behaviour) (log : List Event) (terminal : Option ℕ)
+        (old new : TallyState) → IsSameTally terminal old new → IsTallyOf system sys log old → IsTallyOf system sys log new }
+    ensures sized { (system : System) (sys : Behaviour) (log : List Event) (tally : TallyState)
+        → IsOf system sys → sys.terminals ≤ 128 → IsTallyOf system sys log tally → AreSized tally }
 {}

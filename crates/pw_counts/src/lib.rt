@@ -11,5 +11,6 @@ pub mod over;
 pub mod records;
 pub mod settle;
 pub mod shown;
+pub mod tally;
 #[cfg(test)]
 mod tests;

@@ -1,10 +1,12 @@
-ghost use Rattle.std.specs.Prelude.{◌≡◌, ◌+◌, ◌-◌, ◌<◌, ◌^◌, ◌++◌, ◌∷◌, [], IfOk, OnOk, length, map, min, slice_index_or, slice_set, true, vec_capacity, vec_len};
-ghost use Rattle.pw_counts.specs.Kept.{IsBackedOut, IsSameBut, changed_at, changes_by, none_changed, with_change, without_changes};
-ghost use Rattle.pw_counts.specs.Records.{grown_in, shrunk_in};
+ghost use Rattle.std.specs.Prelude.{◌≡◌, ◌+◌, ◌-◌, ◌<◌, ◌^◌, ◌++◌, ◌∷◌, [], All, IfOk, OnOk, length, map, min, slice_index_or, slice_set, true, vec_capacity, vec_len};
+ghost use Rattle.pw_counts.specs.Kept.{Changed, IsBackedOut, IsSameBut, changed_at, changes_by, none_changed, with_change, without_changes};
+ghost use Rattle.pw_counts.specs.Records.{change_of, file_in, grown_in, grows, shrinks, shrunk_in};
 
+use pw_base::bytes::Bytes;
 use pw_base::memory::Memory;
 use pw_code::file::FileOp;
 use pw_code::system::System;
+use pw_event::event::Event;
 use std::alloc::Global;
 use std::marker::Model;
 
@@ -13,6 +15,64 @@ use std::marker::Model;
 pub struct Change {
     pub file: u32,
     pub grew: bool,
+}
+
+/// The operation of a FILE entry.
+#[derive(Clone, Copy, Debug, PartialEq, Eq)]
+pub struct Operation {
+    pub op: FileOp,
+    pub file: u32,
+    pub status: u16,
+}
+
+impl Operation {
+    /// What it changes in the number of records of its file: only a WRITE and a DELETE of status 0 do.
+    fn change(self) -> Option<Change>
+        ensures { result ≡ change_of self }
+    {
+        if grows(self.op) && self.status == 0 {
+            return Some(Change {
+                file: self.file,
+                grew: true,
+            });
+        }
+        if shrinks(self.op) && self.status == 0 {
+            return Some(Change {
+                file: self.file,
+                grew: false,
+            });
+        }
+        None
+    }
+}
+
+/// Whether an operation puts a record more.
+fn grows(op: FileOp) -> bool
+    ensures { result ≡ grows op }
+{
+    matches!(op, FileOp::Write)
+}
+
+/// Whether an operation takes one away.
+fn shrinks(op: FileOp) -> bool
+    ensures { result ≡ shrinks op }
+{
+    matches!(op, FileOp::Delete)
+}
+
+/// The operation of an entry, if it is a FILE.
+pub fn file_in(entry: &Event) -> Option<Operation>
+    ensures { result ≡ file_in entry.now }
+{
+    match *entry {
+        Event::File {
+            op,
+            file,
+            status,
+            ..
+        } => Some(Operation { op, file, status }),
+        _ => None,
+    }
 }
 
 /// What the running attempt of a terminal has changed in the number of records.
@@ -95,6 +155,7 @@ impl Records {
             ≡ length system.now.terminals) }
         ensures none { IfOk result (λ records. (t : _) → t < length system.now.terminals
             → (changes_by records t).changes ≡ []) }
+        ensures few { IfOk result (λ records. All (λ n. n < 2 ^ 63) records.files) }
     {
         Ok(Records {
             files: counts_of(alloc, system)?,
@@ -123,6 +184,17 @@ impl Records {
             self.terminals[terminal as usize].push(change);
         }
         change_one(&mut self.files, change);
+    }
+
+    /// A terminal's attempt does an operation. It takes no memory.
+    pub fn operate(&mut self, terminal: u32, operation: Operation)
+        requires { terminal < length self.old.terminals → (changes_by self.old terminal).spare ≡ true }
+        ensures { Changed terminal (change_of operation) self.old self.new }
+    {
+        match operation.change() {
+            Some(change) => self.change(terminal, change),
+            None => (),
+        }
     }
 
     /// What a terminal's attempt has changed stays. It takes no memory.
@@ -161,13 +233,22 @@ impl Records {
 
 /// How many records each file of a system has.
 fn counts_of(alloc: Global, system: &System) -> Result<Vec<u64>, Memory>
-    ensures { IfOk result (λ counts. counts.items ≡ map (λ file. length file.records) system.now.files) }
+    ensures counts { IfOk result (λ counts. counts.items ≡ map (λ file. length file.records) system.now.files) }
+    ensures few { IfOk result (λ counts. All (λ n. n < 2 ^ 63) counts.items) }
 {
     let mut counts = Vec::new(alloc);
     for file in system.files.as_slice() {
-        counts.push(file.records.len() as u64)?;
+        counts.push(count(file.records.as_slice()))?;
     }
     Ok(counts)
+}
+
+/// How many records there are.
+fn count(records: &[Bytes]) -> u64
+    ensures is { result ≡ length records.now }
+    ensures few { result < 2 ^ 63 }
+{
+    records.len() as u64
 }
 
 /// No changes, for so many terminals.

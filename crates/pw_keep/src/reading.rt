@@ -99,6 +99,13 @@ impl<D: Disc> Keep<D> {
         }
     }
 
+    /// How many requests wait for a class.
+    pub fn waiting(&self, class: u32) -> usize
+        ensures { result ≡ length ((kept_in D.told self.now).queues class).waiting }
+    {
+        self.classes.waiting(class)
+    }
+
     /// The first request that waits for a class.
     pub fn first(&self, class: u32) -> Option<&Request>
         ensures { option_copied result ≡ slice_get ((kept_in D.told self.now).queues class).waiting 0 }

@@ -19,3 +19,4 @@ mod ShownValues
 mod Stamped
 mod Starting
 mod Touching
+mod Workers

@@ -6,6 +6,7 @@ pub mod apply;
 mod booking;
 pub mod claim;
 mod contexts;
+pub mod counts;
 pub mod enter;
 mod fails;
 mod finding;

@@ -1,5 +1,13 @@
-use Rattle.pw_counts.proofs.Numbering.{forgotten, noted, same-shown}
+use Rattle.pw_counts.proofs.Few.{few-counted}
+use Rattle.pw_counts.proofs.Numbering.{forgotten, noted, same-shown, seen-again}
+use Rattle.pw_paired.specs.State.{starting}
 use Rattle.pw_counts.proofs.laws.number_laws.Goals as goal
 
 pub returns : goal.returns
-returns c = record { same = same-shown; noted = noted; forgotten = forgotten }
+returns c = record {
+  few = λ sys log t. few-counted sys (starting sys) log t;
+  same = same-shown;
+  noted = noted;
+  seen = seen-again;
+  forgotten = forgotten;
+}
