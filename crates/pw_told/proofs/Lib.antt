@@ -1,0 +1,6 @@
+pub mod Causes
+pub mod Faults
+pub mod Paths
+pub mod Ranges
+pub mod Reading
+pub mod Units
