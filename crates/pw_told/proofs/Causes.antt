@@ -23,9 +23,11 @@ use Rattle.pw_runs.proofs.induction.Served.{file-cases, reply-any}
 abbrev pub IsLineNumber : ℕ → ℕ → Type 0
 IsLineNumber n k = (1 ≤ k) × (k ≤ n)
 
-pub line-number : (lines : List FailLine) (k : ℕ) (line : FailLine) → fail_line lines k ≡ Some line → IsLineNumber (length lines) k
+pub line-number : (lines : List FailLine) (k : ℕ) (line : FailLine) → fail_line lines k ≡ Some line
+    → IsLineNumber (length lines) k
 line-number lines zero line is = absurd (cc is)
-line-number lines (suc k) line is = let within = slice_get_within lines k line is in (omega arith, omega (arith, within))
+line-number lines (suc k) line is = let within = slice_get_within lines k line is in
+    (omega arith, omega (arith, within))
 
 -- a cause that names a line names one of so many
 abbrev Names : ℕ → Option Cause → Type 0
@@ -44,23 +46,29 @@ module _ (sys : Behaviour) (s : State) (ok : Pending sys s) where
   lines = length sys.script
 
   -- one terminal has another cause, or the one that it had
-  at-one : (own : ℕ) (term : Term) → Names lines term.pending → (t : ℕ) → Names lines (upd s.terms own term t).pending
+  at-one : (own : ℕ) (term : Term) → Names lines term.pending → (t : ℕ)
+      → Names lines (upd s.terms own term t).pending
   at-one own term is t = upd_elim s.terms own term t (λ x. Names lines x.pending) (λ _. is) (λ _. ok t)
 
   -- some terminals have none
   some-none : (test : ℕ → Bool) (paths : ℕ → List PathAnswer) (t : ℕ)
-      → Names lines (if test t then record (s.terms t) { path = paths t; pending = None } else s.terms t).pending
+      → Names lines (if test t then record (s.terms t) { path = paths t; pending = None }
+      else s.terms t).pending
   some-none test paths t = by (test t)
     where
-      by : (b : Bool) → Names lines (if b then record (s.terms t) { path = paths t; pending = None } else s.terms t).pending
+      by : (b : Bool)
+          → Names lines (if b then record (s.terms t) { path = paths t; pending = None }
+          else s.terms t).pending
       by true = tt
       by false = ok t
 
-  rests : (own : ℕ) (start : Option (List PathAnswer)) (t : ℕ) → Names lines (upd s.terms own (with_start_path start (s.terms own)) t).pending
+  rests : (own : ℕ) (start : Option (List PathAnswer)) (t : ℕ)
+      → Names lines (upd s.terms own (with_start_path start (s.terms own)) t).pending
   rests own None = at-one own _ tt
   rests own (Some q) = at-one own _ tt
 
-  resumes : (p t : ℕ) (memory : Option BackupCopy) (unit : Option OpenUnit) (last : LastEnded) → Names lines (resume_terminal p memory unit last (s.terms t)).pending
+  resumes : (p t : ℕ) (memory : Option BackupCopy) (unit : Option OpenUnit) (last : LastEnded)
+      → Names lines (resume_terminal p memory unit last (s.terms t)).pending
   resumes p t None unit last = ok t
   resumes p t (Some memory) unit last = by (runs_unit memory.unit unit)
     where
@@ -68,10 +76,14 @@ module _ (sys : Behaviour) (s : State) (ok : Pending sys s) where
       by true = tt
       by false = ok t
 
-  taken : (p t : ℕ) → Names lines (if is_live_of sys p s t then resume_terminal p (s.memory t) (s.units t) (s.ended t) (s.terms t) else s.terms t).pending
+  taken : (p t : ℕ)
+      → Names lines (if is_live_of sys p s t then resume_terminal p (s.memory t) (s.units t)
+      (s.ended t) (s.terms t) else s.terms t).pending
   taken p t = by (is_live_of sys p s t)
     where
-      by : (b : Bool) → Names lines (if b then resume_terminal p (s.memory t) (s.units t) (s.ended t) (s.terms t) else s.terms t).pending
+      by : (b : Bool)
+          → Names lines (if b then resume_terminal p (s.memory t) (s.units t) (s.ended t)
+          (s.terms t) else s.terms t).pending
       by true = resumes p t (s.memory t) (s.units t) (s.ended t)
       by false = ok t
 
@@ -85,9 +97,11 @@ module _ (sys : Behaviour) (s : State) (ok : Pending sys s) where
   keeps (event.Begin own n r) l = at-one own _ (ok own)
   keeps (event.Send own n c) l = ok
   keeps (event.Take c i own) l = ok
-  keeps (event.File c i op mode f status) l = file-cases sys s c i (Pending sys) ok (λ job call works asks. ok)
+  keeps (event.File c i op mode f status) l =
+      file-cases sys s c i (Pending sys) ok (λ job call works asks. ok)
   keeps (event.Reply c i own fault) l =
-      reply-any sys s c i own (Pending sys) fault (λ reply outside. at-one own _ (ok own)) (λ reply inside. at-one own _ (ok own)) (λ x. at-one own _ (ok own))
+      reply-any sys s c i own (Pending sys) fault (λ reply outside. at-one own _ (ok own))
+      (λ reply inside. at-one own _ (ok own)) (λ x. at-one own _ (ok own))
   keeps (event.Again own n) l = at-one own _ (ok own)
   keeps (event.Commit own n) l = at-one own _ (ok own)
   keeps (event.Back own n) l = at-one own _ (ok own)
@@ -96,13 +110,16 @@ module _ (sys : Behaviour) (s : State) (ok : Pending sys s) where
       fail-cases sys s (Pending sys) p ok (λ paired. some-none (is_of_pair sys p) (λ t. []))
       (λ which breaks. some-none (is_of_pair sys p) (λ t. [])) (λ has. ok) primary
   keeps (event.FailServer c i k) l =
-      process-cases sys s (Pending sys) c i k ok (λ job works. at-one job.request.terminal _ (line-number sys.script k _ l.names))
+      process-cases sys s (Pending sys) c i k ok
+      (λ job works. at-one job.request.terminal _ (line-number sys.script k _ l.names))
   keeps (event.Takeover p) l = taken p
   keeps (event.Raise p) l = ok
   keeps (event.End own e) l = end-any sys s (Pending sys) own e (at-one own _ tt) (at-one own _ tt)
 
 -- in every run
-pub pending-names : (sys : Behaviour) (log : List Event) → IsRun sys log → (t k : ℕ) → ((after sys log).terms t).pending ≡ Some (cause.Server k) → IsLineNumber (length sys.script) k
+pub pending-names : (sys : Behaviour) (log : List Event) → IsRun sys log → (t k : ℕ)
+    → ((after sys log).terms t).pending ≡ Some (cause.Server k) → IsLineNumber (length sys.script) k
 pending-names sys log run t k is =
     subst (Names (length sys.script)) is
-    (runs.holds-behind sys (Pending sys) (λ log run entry legal ok. keeps sys (after sys log) ok entry legal.fits) (λ t. tt) log run t)
+    (runs.holds-behind sys (Pending sys) (λ log run entry legal ok.
+    keeps sys (after sys log) ok entry legal.fits) (λ t. tt) log run t)

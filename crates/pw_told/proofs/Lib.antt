@@ -1,4 +1,5 @@
 pub mod Causes
+pub mod Decks
 pub mod Faults
 pub mod Paths
 pub mod Ranges

@@ -17,11 +17,13 @@ use Rattle.pw_runs.proofs.kept.Kept.{Inv}
 use Rattle.pw_runs.proofs.terms.TermOk.{IsWorking, PathOf, PathOk}
 
 -- the number of a terminal's path is at most the next one behind the last ended unit
-path-number : (sys : Behaviour) (t last : ℕ) (unit : Option OpenUnit) (path : List PathAnswer) → PathOk sys t last unit path → unit_number path ≤ last + 1
+path-number : (sys : Behaviour) (t last : ℕ) (unit : Option OpenUnit) (path : List PathAnswer)
+    → PathOk sys t last unit path → unit_number path ≤ last + 1
 path-number sys t last None path ok = ok.high_is
 path-number sys t last (Some unit) path ok = by unit.running ok
   where
-    by : (running : Option (List PathAnswer)) → PathOf sys t last running path → unit_number path ≤ last + 1
+    by : (running : Option (List PathAnswer)) → PathOf sys t last running path
+        → unit_number path ≤ last + 1
     by None rests = rests.high_is
     by (Some start) goes = let same = goes.number in omega (arith, same)
 
@@ -33,8 +35,10 @@ module _ (sys : Behaviour) (t n : ℕ) (v : View) (ok : TermAt sys t v) (low : v
   stays = omega (arith, low)
 
   -- the unit of the path ends
-  ends : v.term.ending ≡ None → IsWorking v.mode → is_takeover v.term.pending ≡ false → unit_number (path_in v) ≤ n + 1
-  ends going_on working calm = let number = path-number sys t v.last.number v.unit (path_in v) (ok.path_ok going_on working calm) in omega (arith, number, low)
+  ends : v.term.ending ≡ None → IsWorking v.mode → is_takeover v.term.pending ≡ false
+      → unit_number (path_in v) ≤ n + 1
+  ends going_on working calm = let number = path-number sys t v.last.number v.unit (path_in v)
+      (ok.path_ok going_on working calm) in omega (arith, number, low)
 
   able-ends : Able sys t v → unit_number (path_in v) ≤ n + 1
   able-ends able = ends able.going_on (subst IsWorking (sym able.paired) tt) (ap is_takeover able.calm)
@@ -58,7 +62,8 @@ module _ (sys : Behaviour) (t n : ℕ) (v : View) (ok : TermAt sys t v) (low : v
   ended-kept w (move.applies message flies has lacks is) = rw is stays
   ended-kept w (move.begins able idle begins new holds birth is) = rw is stays
   ended-kept w (move.is_answered waits reply inside is) = rw is stays
-  ended-kept w (move.is_served waits reply outside is) = rw is (ends waits.going_on waits.working (ap is_takeover waits.calm))
+  ended-kept w (move.is_served waits reply outside is) =
+      rw is (ends waits.going_on waits.working (ap is_takeover waits.calm))
   ended-kept w (move.is_failed waits x is) = rw is stays
   ended-kept w (move.is_answered_again able class message asks outside number is) = rw is stays
   ended-kept w (move.commits able asks holds is) = rw is (able-ends able)
@@ -78,19 +83,26 @@ module _ (sys : Behaviour) (t n : ℕ) (v : View) (ok : TermAt sys t v) (low : v
 abbrev one-more : View → View → ℕ → ℕ
 one-more v w n = n + 1
 
-counted : (sys : Behaviour) (t : ℕ) (s : State) (n : ℕ) (log : List Event) → carried_from sys (carried_view sys t one-more) s n log ≡ n + length log
+counted : (sys : Behaviour) (t : ℕ) (s : State) (n : ℕ) (log : List Event)
+    → carried_from sys (carried_view sys t one-more) s n log ≡ n + length log
 counted sys t s n [] = omega arith
-counted sys t s n (entry ∷ log) = counted sys t (effect sys s entry) (n + 1) log ∙ (let same : n + 1 + length log ≡ n + length (entry ∷ log) = omega arith in same)
+counted sys t s n (entry ∷ log) = counted sys t (effect sys s entry) (n + 1) log
+    ∙ (let same : n + 1 + length log ≡ n + length (entry ∷ log) = omega arith in same)
 
-ended-few : (sys : Behaviour) → IsBehaviour sys → (t : ℕ) → t < sys.terminals → (log : List Event) → IsRun sys log → ((after sys log).ended t).number ≤ length log
+ended-few : (sys : Behaviour) → IsBehaviour sys → (t : ℕ) → t < sys.terminals → (log : List Event)
+    → IsRun sys log → ((after sys log).ended t).number ≤ length log
 ended-few sys b t known log run =
-    subst (λ n. ((after sys log).ended t).number ≤ n) (counted sys t (starting sys) 0 log ∙ (let same : 0 + length log ≡ length log = omega arith in same))
-    (holds-of-terms sys b t known one-more 0 (λ v n. v.last.number ≤ n) (λ v w term next moves n low. ended-kept sys t n v term low w moves) (omega arith) log run)
+    subst (λ n. ((after sys log).ended t).number ≤ n)
+    (counted sys t (starting sys) 0 log ∙
+    (let same : 0 + length log ≡ length log = omega arith in same))
+    (holds-of-terms sys b t known one-more 0 (λ v n. v.last.number ≤ n)
+    (λ v w term next moves n low. ended-kept sys t n v term low w moves) (omega arith) log run)
 
 -- ---- unit numbers
 
 -- that of an open unit
-pub unit-few : (sys : Behaviour) → IsBehaviour sys → (log : List Event) → IsRun sys log → (t : ℕ) (unit : OpenUnit) → (after sys log).units t ≡ Some unit → unit.number ≤ length log + 1
+pub unit-few : (sys : Behaviour) → IsBehaviour sys → (log : List Event) → IsRun sys log
+    → (t : ℕ) (unit : OpenUnit) → (after sys log).units t ≡ Some unit → unit.number ≤ length log + 1
 unit-few sys b log run t unit is =
     let inv : Inv sys (after sys log) = kept sys b log run in
     let known = inv.known t unit is in
@@ -99,11 +111,13 @@ unit-few sys b log run t unit is =
     omega (arith, number, low)
 
 -- that of the path of a terminal that can step
-pub number-few : (sys : Behaviour) → IsBehaviour sys → (log : List Event) → IsRun sys log → (t : ℕ) → CanStep sys (after sys log) t → unit_number (path_of (after sys log) t) ≤ length log + 1
+pub number-few : (sys : Behaviour) → IsBehaviour sys → (log : List Event) → IsRun sys log → (t : ℕ)
+    → CanStep sys (after sys log) t → unit_number (path_of (after sys log) t) ≤ length log + 1
 number-few sys b log run t can =
     let inv : Inv sys (after sys log) = kept sys b log run in
     let ok = inv.terms t can.live.known in
-    let number = path-number sys t ((after sys log).ended t).number ((after sys log).units t) (path_of (after sys log) t)
+    let number = path-number sys t ((after sys log).ended t).number ((after sys log).units t)
+    (path_of (after sys log) t)
     (ok.path_ok can.live.going_on (subst IsWorking (sym can.paired) tt) (ap is_takeover can.calm)) in
     let low = ended-few sys b t can.live.known log run in
     omega (arith, number, low)

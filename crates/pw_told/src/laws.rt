@@ -1,16 +1,24 @@
-ghost use Rattle.std.specs.Prelude.{◌≡◌, ◌++◌, ◌∷◌, [], List, ℕ};
+ghost use Rattle.std.specs.Prelude.{◌≡◌, ◌≤◌, ◌++◌, ◌∷◌, [], List, Ok, length, ℕ};
 ghost use Rattle.std.specs.List.{AllByRecursion};
+ghost use Rattle.pw_code.specs.Limits.{most_log_lines};
 ghost use Rattle.pw_code.specs.Valid.{HasNames};
+ghost use Rattle.pw_code.specs.declared.lock.LockRule.{LockRule};
 ghost use Rattle.pw_code.specs.declared.system.System.{System};
+ghost use Rattle.pw_deck.specs.Deck.{deck_of};
+ghost use Rattle.pw_deck.specs.declared.deck.Deck.{Deck};
 ghost use Rattle.pw_event.specs.Line.{IsInRange, event_words};
 ghost use Rattle.pw_event.specs.declared.event.Event.{Event};
 ghost use Rattle.pw_event.specs.declared.script.FailLine.{FailLine};
 ghost use Rattle.pw_exec.specs.OfSystem.{behaviour};
 ghost use Rattle.pw_listing.specs.Meaning.{report_text};
 ghost use Rattle.pw_listing.specs.ReadBack.{AreLines, behind_log, header_lines, last_words, lines_of, numbered};
-ghost use Rattle.pw_paired.specs.Step.{after, is_finished};
+ghost use Rattle.pw_paired.specs.Step.{IsRun, after, is_finished};
+ghost use Rattle.pw_sound.specs.Systems.{system_of};
+ghost use Rattle.pw_source.specs.OfDeck as tree;
 ghost use Rattle.pw_told.specs.ReadFrom.{IsReadFrom};
 ghost use Rattle.pw_told.specs.Runs.{IsRunOf};
+ghost use Rattle.pw_whole.specs.Short.{IsSmall};
+ghost use Rattle.pw_whole.specs.Whole.{compiled, trees_of};
 
 use pw_event::laws::line_laws;
 
@@ -49,3 +57,14 @@ pub fn runs_are_read_back()
 {
     line_laws();
 }
+
+/// The same of every deck without a fault, by the trees of its programs, under either rule of locking.
+/// Its codes and screens are not too many for their numbers, which is so wherever `read` gives them.
+pub fn decks_are_read_back()
+    ensures { (rule : LockRule) (bytes : List ℕ) (deck : Deck) → deck_of bytes ≡ Ok deck
+        → IsSmall (compiled deck).system
+        → (log : List Event) → IsRun (tree.behaviour rule (trees_of deck)) log
+        → length log ≤ most_log_lines
+        → IsReadFrom (system_of rule (trees_of deck))
+        (report_text (system_of rule (trees_of deck)) (tree.behaviour rule (trees_of deck)) log) log }
+{}
