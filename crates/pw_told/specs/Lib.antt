@@ -1,0 +1,2 @@
+pub mod ReadFrom
+pub mod Runs
