@@ -1,3 +1,3 @@
 pub mod Decks
 pub mod Lifts
-pub mod Starts
+pub mod Runs

@@ -7,11 +7,9 @@ use Rattle.pw_code.specs.declared.system.System.{System}
 use Rattle.pw_deck.specs.Deck.{deck_of}
 use Rattle.pw_deck.specs.declared.deck.Deck as trees
 use Rattle.pw_desk.proofs.Decks.{IsOf}
-use Rattle.pw_desk.specs.Endings.{RunsTo}
 use Rattle.pw_desk.specs.Headline.{Prints, Reports}
 use Rattle.pw_desk.specs.Meaning.{meaning, named}
 use Rattle.pw_desk.specs.Replays.{Answers, Replays, Verifies}
-use Rattle.pw_desk.specs.declared.ending.Ran.{Ran}
 use Rattle.pw_desk.specs.declared.verify.Verified.{Verified}
 use Rattle.pw_desk.specs.declared.verify.Verified.TheVariants.{NotAStep, Run}
 use Rattle.pw_event.specs.declared.event.Event.{Event}
@@ -20,6 +18,8 @@ use Rattle.pw_onecopy.specs.Behaviour.{Behaviour}
 use Rattle.pw_onecopy.specs.IsBehaviour.{IsBehaviour}
 use Rattle.pw_paired.specs.Headline.{EndsOnce, IsSerializable}
 use Rattle.pw_paired.specs.Step.{IsRun}
+use Rattle.pw_run.specs.Endings.{RunsTo}
+use Rattle.pw_run.specs.declared.ending.Ended.{Ended}
 use Rattle.pw_script.specs.Log.{rule_of}
 use Rattle.pw_whole.specs.Short.{IsSmall}
 use Rattle.pw_whole.specs.Whole.{compiled}
@@ -35,7 +35,7 @@ AreOnce = (sys : Behaviour) → IsBehaviour sys → (log : List Event) → IsRun
 
 -- a run of a system
 pub reports : AreSerial → AreOnce → (bytes : List ℕ) (whole : Deck) (of : IsOf bytes whole) (sys : Behaviour)
-    → IsBehaviour sys → sys ≡ meaning ReadersShare of.deck → (events : ℕ) (ran : Ran) (text : List ℕ)
+    → IsBehaviour sys → sys ≡ meaning ReadersShare of.deck → (events : ℕ) (ran : Ended) (text : List ℕ)
     → RunsTo sys whole.system events ran text → Reports bytes events ran text
 reports serial once bytes whole of sys behaves same events ran text runs =
     let system : whole.system ≡ named ReadersShare of.deck = ap (λ (w : Deck). w.system) of.is in
@@ -53,7 +53,7 @@ reports serial once bytes whole of sys behaves same events ran text runs =
         once = once (meaning ReadersShare of.deck) meant to.log to.run;
         is = to.is;
       };
-      ended = to.ended;
+      ended = to.ends;
     }
 
 -- the replay of a log

@@ -4,13 +4,13 @@ use Rattle.pw_code.specs.declared.lock.LockRule.{LockRule}
 use Rattle.pw_code.specs.declared.lock.LockRule.TheVariants.{ReadersShare}
 use Rattle.pw_deck.specs.Deck.{deck_of}
 use Rattle.pw_deck.specs.declared.deck.Deck.{Deck}
-use Rattle.pw_desk.specs.Endings.{EndsAs}
 use Rattle.pw_desk.specs.Meaning.{meaning, named}
-use Rattle.pw_desk.specs.declared.ending.Ran.{Ran}
 use Rattle.pw_event.specs.declared.event.Event.{Event}
 use Rattle.pw_listing.specs.Meaning.{report_text}
 use Rattle.pw_paired.specs.Headline.{EndsOnce, IsSerializable}
 use Rattle.pw_paired.specs.Step.{IsRun}
+use Rattle.pw_run.specs.Endings.{EndsAs}
+use Rattle.pw_run.specs.declared.ending.Ended.{Ended}
 
 -- The log is a run of the deck. The one-copy machine runs its serial order, where units run one at a time, with these
 -- screens, each numbered refresh counted once, and these records; each unit number ends at most once; and the text is
@@ -22,7 +22,7 @@ pub record Prints (rule : LockRule) (deck : Deck) (log : List Event) (text : Lis
   pub is : text ≡ report_text (named rule deck) (meaning rule deck) log
 
 -- the deck of the bytes has no fault, and the text is printed of a log of it that ended so
-pub record Reports (bytes : List ℕ) (events : ℕ) (ran : Ran) (text : List ℕ) : Type 0 where
+pub record Reports (bytes : List ℕ) (events : ℕ) (ran : Ended) (text : List ℕ) : Type 0 where
   pub deck : Deck
   pub says : deck_of bytes ≡ Ok deck
   pub log : List Event

@@ -1,4 +1,4 @@
-pub mod Endings
 pub mod Headline
 pub mod Meaning
 pub mod Replays
+pub mod Trials

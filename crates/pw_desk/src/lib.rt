@@ -1,6 +1,8 @@
-//! What the bytes of a deck come to: a run of it with its report, or the replay of its log.
+//! What the bytes of a deck come to: a run of it with its report, or the replay of its log. And a run of
+//! a generated deck, with its files.
 #![tactic(auto)]
 
-pub mod ending;
+mod over_tmf;
 pub mod run;
+pub mod trial;
 pub mod verify;

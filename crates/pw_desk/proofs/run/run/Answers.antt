@@ -5,14 +5,14 @@ use Rattle.pw_exec.specs.OfSystem.{behaviour}
 use Rattle.pw_desk.proofs.run.run.Goals as goal
 
 pub returns-in-Err-clause-fault : goal.returns-in-Err-clause-fault
-returns-in-Err-clause-fault c = refuses c.args.bytes.now c.in-Err.refusal c.in-Err.ensures.gives
+returns-in-Err-clause-fault g c = refuses c.args.bytes.now c.in-Err.refusal c.in-Err.ensures.gives
 
 pub run_system-requires-clause-lines : goal.run_system-requires-clause-lines
-run_system-requires-clause-lines c =
+run_system-requires-clause-lines g c κs within =
     lines-there c.in-Ok.deck.system c.in-Ok.deck.system refl refl c.in-Ok.deck.script.lines c.in-Ok.ensures.lines
 
 pub returns-clause-ok : goal.returns-clause-ok
-returns-clause-ok c =
+returns-clause-ok g c =
     let whole = c.in-Ok.deck in
     let of = whole-is c.args.bytes.now whole c.in-Ok.ensures.gives in
     let output = c.in_ok-run_system.field-0 in

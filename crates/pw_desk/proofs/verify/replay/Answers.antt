@@ -1,7 +1,7 @@
 use Rattle.std.proofs.Common.{Err, ap, subst, sym}
-use Rattle.pw_desk.proofs.Starts.{starts}
-use Rattle.pw_monitor_world.specs.Worlds.{IsDiscOf}
 use Rattle.pw_desk.proofs.verify.replay.Goals as goal
+use Rattle.pw_monitor_world.specs.Worlds.{IsDiscOf}
+use Rattle.pw_run.proofs.Starts.{starts}
 
 pub replay-requires-clause-disc : goal.replay-requires-clause-disc
 replay-requires-clause-disc c κs =

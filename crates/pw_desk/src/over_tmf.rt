@@ -1,0 +1,48 @@
+//! A run of a system over the records of its files, which never fail.
+
+ghost use Rattle.std.specs.Prelude.{◌≡◌, ◌-◌, ◌<◌, ◌≤◌, ◌^◌, All, IfOk, length};
+ghost use Rattle.pw_code.specs.Valid.{IsValid};
+ghost use Rattle.pw_exec.specs.OfSystem.{behaviour};
+ghost use Rattle.pw_kept.specs.May.{IsLineThere};
+ghost use Rattle.pw_onecopy.specs.IsBehaviour.{IsBehaviour};
+ghost use Rattle.pw_run.specs.Endings.{EndsAs};
+
+use pw_base::memory::Memory;
+use pw_code::system::System;
+use pw_event::script::Script;
+use pw_monitor::world::World;
+use pw_run::ending::Ended;
+use pw_run::over::{Over, run_over};
+use pw_tmf::tmf::Tmf;
+use pw_workers::gate::Gate;
+use std::alloc::Global;
+use std::sync::Wait;
+use std::thread::Threads;
+
+/// Runs a system with from 1 to 16 workers, for at most so many entries: how the run ended, and the
+/// world that it left. It may wait for a thread.
+pub fn run_over_tmf<G: Gate, R: Threads + Wait + Sync>(
+    rt: &R,
+    alloc: Global,
+    system: System,
+    script: Script,
+    workers: u8,
+    events: u32,
+    gate: &G,
+) -> Result<(Ended, World<Tmf>), Memory>
+    requires valid { IsValid system }
+    requires deck { IsBehaviour (behaviour script.lines system) }
+    requires lines { All (IsLineThere system) script.lines }
+    requires few { length script.lines < 2 ^ 32 - 1 }
+    requires workers { (1 ≤ workers) × (workers ≤ 16) }
+    requires events { events ≤ 500000 }
+    ensures system { IfOk result (λ ran. ran.1.keep.system ≡ system) }
+    ensures script { IfOk result (λ ran. ran.1.script ≡ script.lines) }
+    ensures ended { IfOk result (λ ran. EndsAs ran.0 events (behaviour script.lines system) ran.1.ledger.log) }
+{
+    let disc = Tmf::new(alloc, &system)?;
+    match run_over(rt, alloc, system, script, disc, workers, events, gate)? {
+        Over::Ended(ended, world) => Ok((ended, world)),
+        Over::Failed(_) => unreachable!(),
+    }
+}

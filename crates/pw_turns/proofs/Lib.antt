@@ -1,4 +1,0 @@
-pub mod Building
-pub mod Running
-pub mod Sums
-pub mod Turning
