@@ -8,14 +8,18 @@ use Rattle.pw_command.specs.declared.words.Command.{Command}
 use Rattle.pw_command.specs.declared.words.Command.TheVariants as command
 use Rattle.pw_command.specs.declared.words.Words.{Words}
 
--- the commands that are built
-abbrev pub is_built : Command → Bool
-is_built command.Run = true
-is_built command.Check = true
-is_built command.Verify = true
-is_built command.Gen = true
-is_built command.Expand = true
-is_built _ = false
+-- the program does every command
+abbrev pub every : Command → Bool
+every _ = true
+
+-- the commands that wait for no thread
+abbrev pub is_for_desk : Command → Bool
+is_for_desk command.Check = true
+is_for_desk command.Verify = true
+is_for_desk command.Gen = true
+is_for_desk command.Status = true
+is_for_desk command.Expand = true
+is_for_desk _ = false
 
 -- the commands that read the source
 abbrev pub reads_source : Command → Bool
@@ -23,23 +27,23 @@ reads_source command.Gen = false
 reads_source command.Trial = false
 reads_source _ = true
 
--- what words say, where their command is built
-abbrev pub if_built : Option Words → Option Words
-if_built None = None
-if_built (Some said) = if is_built said.command then Some said else None
+-- what words say, where their command is done
+abbrev pub if_done : (Command → Bool) → Option Words → Option Words
+if_done does None = None
+if_done does (Some said) = if does said.command then Some said else None
 
--- what the words say, if they are those of a command that is built
-abbrev pub said : List (List ℕ) → Option Words
-said words = if_built (command_of words)
+-- what the words say, if they are those of a command that is done
+abbrev pub said : (Command → Bool) → List (List ℕ) → Option Words
+said does words = if_done does (command_of words)
 
 -- the line that is written where the words say nothing
 abbrev pub usage_line : List ℕ
-usage_line = codes "USAGE: pathway run|check|verify|gen|expand [--workers N] [--events N] [--seed N] [--terms N] [--at N]\n"
+usage_line = codes "USAGE: pathway run|trial|check|verify|gen|disc|trail|status|expand [--workers N] [--events N] [--seed N] [--terms N] [--at N]\n"
 
 -- the line of a deck without a fault
 abbrev pub deck_ok : List ℕ
 deck_ok = codes "DECK OK\n"
 
--- the line of a deck's first fault
+-- the line of a first fault
 abbrev pub fault_line : Fault → List ℕ
 fault_line fault = codes "DECK FAULT LINE " ++ (decimal fault.line ++ (codes " CODE " ++ (decimal (number fault.code) ++ (32 ∷ text fault.code ++ 10 ∷ []))))

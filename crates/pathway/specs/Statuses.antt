@@ -1,26 +1,21 @@
 -- The table of statuses: where each comes, and what is written then.
-use Rattle.std.specs.Prelude.{◌≡◌, ℕ, ◌<◌, List, length, take, true, Option, None, Some, IfSome}
+use Rattle.std.specs.Prelude.{◌≡◌, ℕ, ◌<◌, List, length, take, Bool, true, Option, None, Some, IfSome}
 use Rattle.std.specs.Io.KnownBytes.{Appends, Keeps}
 use Rattle.pw_base.specs.Outside.{Rose}
+use Rattle.pw_call.specs.Numbers.{number_of}
+use Rattle.pw_call.specs.declared.status.Status.{Status}
+use Rattle.pw_call.specs.declared.status.Status.TheVariants.{DiscFault, Finished, Irregular, Limit, Memory, NotAStep, ReadFault, Refused, Usage, WriteFault}
 use Rattle.pw_command.specs.declared.words.Command.{Command}
 use Rattle.pw_command.specs.declared.words.Command.TheVariants as command
 use Rattle.pw_command.specs.declared.words.Words.{Words}
 use Rattle.pw_gen.specs.Generated.{generated}
 use Rattle.pathway.specs.Commands.{said, usage_line, reads_source}
-use Rattle.pathway.specs.Decks.{Checks, Replays, Runs}
-use Rattle.pathway.specs.Numbers.{number_of}
+use Rattle.pathway.specs.Decks.{Checks, PairRuns, Replays, Runs, StatusCounts, TrailRuns, Trials}
 use Rattle.pathway.specs.Schedules.{OfSchedule}
-use Rattle.pathway.specs.declared.status.Status.{Status}
-use Rattle.pathway.specs.declared.status.Status.TheVariants.{Finished, Irregular, Limit, Memory, NotAStep, ReadFault, Refused, Usage, WriteFault}
 
--- why a reading gives up: the source failed, or memory ran out with the source's count of faults as it was
-abbrev pub GivesUp : Status → ℕ → ℕ → Type 0
-GivesUp ReadFault before now = Rose before now
-GivesUp Memory before now = now ≡ before
-GivesUp _ before now = ⊥
-
--- one call: its words, and what source and sink tell before it and after it
+-- one call: the commands that it does, its words, and what source and sink tell before it and after it
 pub record Call : Type 0 where
+  pub does : Command → Bool
   pub words : List (List ℕ)
   pub left : Option (List ℕ)
   pub left_then : Option (List ℕ)
@@ -43,28 +38,36 @@ pub record OfSeed (said : Words) (left left_then : Option (List ℕ)) (status : 
   pub deck : text ≡ generated said.seed said.terms
   pub unread : Keeps left left_then
 
+-- the text is of a run of the generated deck, and the source was not read
+pub record OfTrial (said : Words) (left left_then : Option (List ℕ)) (status : Status) (text : List ℕ) : Type 0 where
+  pub tried : Trials said.seed said.terms status text
+  pub unread : Keeps left left_then
+
 -- the text of a status, by the command
 abbrev pub OutputBy : Command → Words → Option (List ℕ) → Option (List ℕ) → Status → List ℕ → Type 0
 OutputBy command.Run said left left_then status text = OfBytes (Runs said.events) left status text
+OutputBy command.Trial said left left_then status text = OfTrial said left left_then status text
 OutputBy command.Check said left left_then status text = OfBytes Checks left status text
 OutputBy command.Verify said left left_then status text = OfBytes Replays left status text
 OutputBy command.Gen said left left_then status text = OfSeed said left left_then status text
+OutputBy command.Disc said left left_then status text = OfBytes (PairRuns said.events) left status text
+OutputBy command.Trail said left left_then status text = OfBytes (TrailRuns said.events said.at) left status text
+OutputBy command.Status said left left_then status text = OfBytes (StatusCounts said.at) left status text
 OutputBy command.Expand said left left_then status text = OfSchedule left status text
-OutputBy _ said left left_then status text = ⊥
 
 -- the text of a status, for words that say something
 pub record IsOutput (status : Status) (call : Call) (text : List ℕ) : Type 0 where
   pub words : Words
-  pub say : said call.words ≡ Some words
+  pub say : said call.does call.words ≡ Some words
   pub output : OutputBy words.command words call.left call.left_then status text
 
 -- the words ask for a command that reads the source
 abbrev pub AsksSource : Call → Type 0
-AsksSource call = (words : Words) × (said call.words ≡ Some words) × (reads_source words.command ≡ true)
+AsksSource call = (words : Words) × (said call.does call.words ≡ Some words) × (reads_source words.command ≡ true)
 
 -- the usage line is the text of words that say nothing
 abbrev pub IsUsage : Call → List ℕ → Type 0
-IsUsage call text = (said call.words ≡ None) × (text ≡ usage_line)
+IsUsage call text = (said call.does call.words ≡ None) × (text ≡ usage_line)
 
 -- which text a status has
 abbrev pub HasText : Status → Call → List ℕ → Type 0
@@ -91,6 +94,7 @@ Means Irregular call = Writes Irregular call
 Means Limit call = Writes Limit call
 Means Refused call = Writes Refused call
 Means NotAStep call = Writes NotAStep call
+Means DiscFault call = Writes DiscFault call × Keeps call.written call.written_then
 Means Usage call = Writes Usage call × Keeps call.left call.left_then
 Means ReadFault call = AsksSource call × Keeps call.written call.written_then
 Means WriteFault call = IsCutOff call
@@ -102,6 +106,10 @@ abbrev pub Counts : Status → Call → Type 0
 Counts ReadFault call = Rose call.read_faults call.read_faults_then × (call.write_faults_then ≡ call.write_faults)
 Counts WriteFault call = (call.read_faults_then ≡ call.read_faults) × Rose call.write_faults call.write_faults_then
 Counts status call = (call.read_faults_then ≡ call.read_faults) × (call.write_faults_then ≡ call.write_faults)
+
+-- a call has ended with a status that means what happened, the counts of faults too
+abbrev pub EndsWith : Status → Call → Type 0
+EndsWith status call = Means status call × Counts status call
 
 -- the answer of a call is the number of a status that means what happened, the counts of faults too
 abbrev pub Ends : Call → ℕ → Type 0

@@ -1,12 +1,14 @@
-ghost use Rattle.std.specs.Prelude.{◌≡◌, Ok, IfOk, IfErr};
-ghost use Rattle.pathway.specs.Commands.{fault_line};
+//! Texts that are no report.
 
-use crate::commands::fault_line;
-use crate::status::Status;
+ghost use Rattle.std.specs.Prelude.{◌≡◌, IfOk};
+ghost use Rattle.pathway.specs.Commands.{deck_ok, fault_line, usage_line};
+
 use pw_base::bytes::Bytes;
 use pw_base::fault::Fault;
 use pw_base::fault_code::FaultCode;
 use pw_base::memory::Memory;
+use pw_call::status::Status;
+use pw_words::texts::refusal_text;
 use std::alloc::Global;
 
 /// The fault of an input that is too long.
@@ -15,7 +17,21 @@ pub const TOO_LONG: Fault = Fault {
     code: FaultCode::InputTooLong,
 };
 
-/// The line of a deck's first fault.
+/// The line that is written where the words say nothing.
+pub fn usage_line() -> &'static [u8]
+    ensures { result.now ≡ usage_line }
+{
+    b"USAGE: pathway run|trial|check|verify|gen|disc|trail|status|expand [--workers N] [--events N] [--seed N] [--terms N] [--at N]\n"
+}
+
+/// The line of a deck without a fault.
+pub fn deck_ok(alloc: Global) -> Result<Bytes, Memory>
+    ensures { IfOk result (λ text. text ≡ deck_ok) }
+{
+    Bytes::from_slice(alloc, b"DECK OK\n")
+}
+
+/// The line of a first fault.
 pub fn refused(alloc: Global, fault: Fault) -> Result<(Status, Bytes), Memory>
     ensures { IfOk result (λ output. (output.0 ≡ Status.Refused) × (output.1 ≡ fault_line fault)) }
 {
@@ -23,13 +39,13 @@ pub fn refused(alloc: Global, fault: Fault) -> Result<(Status, Bytes), Memory>
     Ok((Status::Refused, text))
 }
 
-/// Want of memory as a status.
-pub fn or_memory(output: Result<(Status, Bytes), Memory>) -> Result<(Status, Bytes), Status>
-    ensures ok { IfOk result (λ text. output ≡ Ok text) }
-    ensures err { IfErr result (λ status. status ≡ Status.Memory) }
+fn fault_line(alloc: Global, fault: Fault) -> Result<Bytes, Memory>
+    ensures { IfOk result (λ text. text ≡ fault_line fault) }
 {
-    match output {
-        Ok(text) => Ok(text),
-        Err(Memory) => Err(Status::Memory),
-    }
+    let Fault { line, code } = fault;
+    let words = format!(in alloc; "DECK FAULT LINE {line} CODE {} ", code.number())?;
+    let mut text = Bytes::from_slice(alloc, words.as_bytes())?;
+    text.extend(refusal_text(code))?;
+    text.push(b'\n')?;
+    Ok(text)
 }

@@ -1,5 +1,6 @@
 //! The program: it runs a deck and writes the report of the run, says whether a deck has a fault,
-//! replays the log of a deck, generates a deck, or answers a schedule of transactions over several systems.
+//! replays or counts the log of a deck, generates a deck, or answers a schedule of transactions over several
+//! systems.
 #![tactic(auto)]
 
 ghost use Rattle.std.specs.Prelude.{◌≡◌, drop, IfOk};
@@ -8,18 +9,22 @@ ghost use Rattle.std.specs.Vec.Iter.{into_iter_items};
 mod answers;
 mod commands;
 mod decks;
+mod desk;
+mod endings;
 mod output;
+mod runs;
 mod schedule;
-mod status;
+mod seeds;
 #[cfg(test)]
 mod tests;
 mod top;
 
-use crate::status::Status;
 use crate::top::pathway;
 use pw_base::memory::Memory;
 use pw_base::read_source::ReadSource;
 use pw_base::write_sink::WriteSink;
+use pw_call::status::Status;
+use pw_workers::gate::NoGate;
 use std::alloc::Global;
 use std::env::{self, Args};
 use std::io::ErrorKind;
@@ -53,5 +58,6 @@ fn main(rt: HostRuntime) -> ExitCode {
     };
     let mut source = ReadSource::new(rt.stdin());
     let mut sink = WriteSink::new(rt.stdout());
-    ExitCode::from(pathway(alloc, words.as_slice(), &mut source, &mut sink))
+    let words = words.as_slice();
+    ExitCode::from(pathway(&rt, alloc, words, &mut source, &mut sink, &NoGate))
 }

@@ -1,27 +1,33 @@
+//! The status and the text of a command.
+
 ghost use Rattle.std.specs.Prelude.{◌≡◌, ◌≤◌, true, IfErr, IfOk, OnOk};
-ghost use Rattle.pathway.specs.Commands.{is_built, reads_source};
-ghost use Rattle.pathway.specs.Statuses.{GivesUp, OutputBy};
+ghost use Rattle.pathway.specs.Commands.{is_for_desk, reads_source};
+ghost use Rattle.pathway.specs.Statuses.{OutputBy};
+ghost use Rattle.pw_call.specs.Inputs.{GivesUp};
 ghost use Rattle.pw_command.specs.CommandLine.{IsInRange};
-ghost use Rattle.pw_gen.specs.Generated.{generated};
 
-use crate::answers::or_memory;
 use crate::decks::{DeckCommand, deck_output};
+use crate::runs::{RunCommand, run_output};
 use crate::schedule::schedule_output;
-use crate::status::Status;
+use crate::seeds::{generated, tried};
 use pw_base::bytes::Bytes;
-use pw_base::memory::Memory;
 use pw_base::source::Source;
+use pw_call::output::or_memory;
+use pw_call::status::Status;
 use pw_command::words::{Command, Words};
-use pw_gen::generate::generate;
+use pw_workers::gate::Gate;
 use std::alloc::Global;
+use std::sync::Wait;
+use std::thread::Threads;
 
-/// The status and the text of a command that is built, or the status of a call that has none.
-pub fn output_by<S: Source>(
+/// The status and the text of a command, or the status of a call that has none. It may wait for a thread.
+pub fn output_by<S: Source, G: Gate, R: Threads + Wait + Sync>(
+    rt: &R,
     alloc: Global,
     said: Words,
     source: &mut S,
+    gate: &G,
 ) -> Result<(Status, Bytes), Status>
-    requires built { is_built said.command ≡ true }
     requires range { IsInRange said }
     ensures ok { IfOk result (λ output. OutputBy said.command said (S.left source.old) (S.left source.new) output.0 output.1) }
     ensures err { IfErr result (λ status. GivesUp status (S.faults source.old) (S.faults source.new)) }
@@ -29,21 +35,53 @@ pub fn output_by<S: Source>(
     ensures kept { OnOk result (S.faults source.new ≡ S.faults source.old) }
     ensures count { S.faults source.old ≤ S.faults source.new }
 {
-    let events = said.events;
-    match said.command {
-        Command::Run => deck_output(alloc, DeckCommand::Run { events }, source),
-        Command::Check => deck_output(alloc, DeckCommand::Check, source),
-        Command::Verify => deck_output(alloc, DeckCommand::Verify, source),
-        Command::Gen => or_memory(generated(alloc, said)),
-        Command::Expand => schedule_output(alloc, source),
-        _ => unreachable!(),
+    let Words {
+        command,
+        workers,
+        events,
+        seed,
+        terms,
+        at,
+    } = said;
+    match command {
+        Command::Run => {
+            let asked = RunCommand::Run { events };
+            run_output(rt, alloc, asked, workers, source, gate)
+        }
+        Command::Trial => or_memory(tried(rt, alloc, seed, terms, workers, gate)),
+        Command::Disc => {
+            let asked = RunCommand::Disc { events };
+            run_output(rt, alloc, asked, workers, source, gate)
+        }
+        Command::Trail => {
+            let asked = RunCommand::Trail { events, at };
+            run_output(rt, alloc, asked, workers, source, gate)
+        }
+        Command::Check | Command::Verify | Command::Gen | Command::Status | Command::Expand =>
+            desk_output(alloc, said, source),
     }
 }
 
-/// The generated deck.
-fn generated(alloc: Global, said: Words) -> Result<(Status, Bytes), Memory>
-    ensures { IfOk result (λ output. (output.0 ≡ Status.Finished) × (output.1 ≡ generated said.seed said.terms)) }
+/// The same of a command that waits for no thread.
+pub fn desk_output<S: Source>(
+    alloc: Global,
+    said: Words,
+    source: &mut S,
+) -> Result<(Status, Bytes), Status>
+    requires desk { is_for_desk said.command ≡ true }
+    requires range { IsInRange said }
+    ensures ok { IfOk result (λ output. OutputBy said.command said (S.left source.old) (S.left source.new) output.0 output.1) }
+    ensures err { IfErr result (λ status. GivesUp status (S.faults source.old) (S.faults source.new)) }
+    ensures reads { IfErr result (λ status. status ≡ Status.ReadFault → reads_source said.command ≡ true) }
+    ensures kept { OnOk result (S.faults source.new ≡ S.faults source.old) }
+    ensures count { S.faults source.old ≤ S.faults source.new }
 {
-    let deck = generate(alloc, said.seed, said.terms)?;
-    Ok((Status::Finished, deck))
+    match said.command {
+        Command::Check => deck_output(alloc, DeckCommand::Check, source),
+        Command::Verify => deck_output(alloc, DeckCommand::Verify, source),
+        Command::Status => deck_output(alloc, DeckCommand::Status { at: said.at }, source),
+        Command::Gen => or_memory(generated(alloc, said.seed, said.terms)),
+        Command::Expand => schedule_output(alloc, source),
+        Command::Run | Command::Trial | Command::Disc | Command::Trail => unreachable!(),
+    }
 }

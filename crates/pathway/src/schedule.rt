@@ -1,11 +1,11 @@
 ghost use Rattle.std.specs.Prelude.{◌≡◌, ◌≤◌, IfOk, IfErr, OnOk};
 ghost use Rattle.pathway.specs.Schedules.{OfSchedule, status_by};
-ghost use Rattle.pathway.specs.Statuses.{GivesUp};
+ghost use Rattle.pw_call.specs.Inputs.{GivesUp};
 
-use crate::status::Status;
 use pw_base::bytes::Bytes;
 use pw_base::read_all::ReadFault;
 use pw_base::source::Source;
+use pw_call::status::Status;
 use pw_expand::expand::{Ending, answer_source};
 use std::alloc::Global;
 

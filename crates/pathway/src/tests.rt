@@ -1,8 +1,14 @@
+mod orders;
+
+use crate::desk::desk;
 use crate::top::pathway;
 use pw_base::mem_sink::MemSink;
 use pw_base::mem_source::MemSource;
+use pw_workers::gate::NoGate;
 use std::alloc::Global;
+use std::sync::Wait;
 use std::test::Fail;
+use std::thread::Threads;
 
 const HEAD: &[u8] = b"?PATHCOM
 ADD TCP TCP-1
@@ -35,7 +41,8 @@ fn words(alloc: Global, texts: &[&str]) -> Result<Vec<String>, Fail> {
 }
 
 /// The status of a call over a source and a sink in memory, and what was written.
-fn outcome(
+fn outcome<R: Threads + Wait + Sync>(
+    rt: &R,
     alloc: Global,
     texts: &[&str],
     bytes: &[u8],
@@ -46,14 +53,14 @@ fn outcome(
     let words = words(alloc, texts)?;
     let mut source = MemSource::new(alloc, bytes, read_fails)?;
     let mut sink = MemSink::new(alloc, 10_000, piece.max(1), write_fails)?;
-    let status = pathway(alloc, words.as_slice(), &mut source, &mut sink);
+    let status = pathway(rt, alloc, words.as_slice(), &mut source, &mut sink, &NoGate);
     Ok((status, sink.written().to_vec(alloc)?))
 }
 
 const TWO_DISPLAYS: &[u8] = b"DISPLAY \"ONE\".\nDISPLAY \"TWO\".\nSTOP RUN.\n";
 
 const USAGE: &str =
-    "USAGE: pathway run|check|verify|gen|expand [--workers N] [--events N] [--seed N] [--terms N] [--at N]\n";
+    "USAGE: pathway run|trial|check|verify|gen|disc|trail|status|expand [--workers N] [--events N] [--seed N] [--terms N] [--at N]\n";
 
 const TWO_DISPLAYS_REPORT: &[u8] = b"SERIAL
 OUT T1
@@ -79,7 +86,7 @@ FINISHED
 #[test]
 fn two_displays(rt: HostRuntime) -> Result<(), Fail> {
     let deck = deck(rt.alloc(), TWO_DISPLAYS)?;
-    let (status, written) = outcome(rt.alloc(), &["run"], deck.as_slice(), &[], 1_000, &[])?;
+    let (status, written) = outcome(&rt, rt.alloc(), &["run"], deck.as_slice(), &[], 1_000, &[])?;
     assert_eq!(rt; status, 0);
     assert_eq!(rt; written.as_slice(), TWO_DISPLAYS_REPORT);
     Ok(())
@@ -159,12 +166,12 @@ fn decks_are_run_and_replayed(rt: HostRuntime) -> Result<(), Fail> {
         let mut statements = TWO_DISPLAYS.to_vec(alloc)?;
         statements.extend_from_slice(sections)?;
         let deck = deck(alloc, statements.as_slice())?;
-        let (status, written) = outcome(alloc, texts, deck.as_slice(), &[], 1_000, &[])?;
+        let (status, written) = outcome(&rt, rt.alloc(), texts, deck.as_slice(), &[], 1_000, &[])?;
         assert_eq!(rt; status, wanted_status);
         assert_eq!(rt; written.as_slice(), wanted);
     }
     for texts in [["run"].as_slice(), &["verify"]] {
-        let (status, written) = outcome(alloc, texts, b"?END", &[], 1_000, &[])?;
+        let (status, written) = outcome(&rt, rt.alloc(), texts, b"?END", &[], 1_000, &[])?;
         assert_eq!(rt; status, 0);
         assert_eq!(rt; written.as_slice(), EMPTY_REPORT);
     }
@@ -174,7 +181,7 @@ fn decks_are_run_and_replayed(rt: HostRuntime) -> Result<(), Fail> {
 #[test]
 fn unknown_statement_line(rt: HostRuntime) -> Result<(), Fail> {
     let deck = deck(rt.alloc(), b"ACCEPT S.\nSTOP RUN.\n")?;
-    let (status, written) = outcome(rt.alloc(), &["run"], deck.as_slice(), &[], 1_000, &[])?;
+    let (status, written) = outcome(&rt, rt.alloc(), &["run"], deck.as_slice(), &[], 1_000, &[])?;
     assert_eq!(rt; status, 2);
     assert_eq!(rt;
         written.as_slice(),
@@ -186,13 +193,29 @@ fn unknown_statement_line(rt: HostRuntime) -> Result<(), Fail> {
 #[test]
 fn input_too_long(rt: HostRuntime) -> Result<(), Fail> {
     let spaces = vec![in rt.alloc(); b' '; 16_777_217]?;
-    let (status, written) = outcome(rt.alloc(), &["run"], spaces.as_slice(), &[], 1_000, &[])?;
+    let (status, written) = outcome(
+        &rt,
+        rt.alloc(),
+        &["run"],
+        spaces.as_slice(),
+        &[],
+        1_000,
+        &[],
+    )?;
     assert_eq!(rt; status, 2);
     assert_eq!(rt;
         written.as_slice(),
         b"DECK FAULT LINE 0 CODE 190 INPUT TOO LONG\n".as_slice()
     );
-    let (status, written) = outcome(rt.alloc(), &["expand"], spaces.as_slice(), &[], 1_000, &[])?;
+    let (status, written) = outcome(
+        &rt,
+        rt.alloc(),
+        &["expand"],
+        spaces.as_slice(),
+        &[],
+        1_000,
+        &[],
+    )?;
     assert_eq!(rt; status, 2);
     assert_eq!(rt; written.as_slice(), b"SCHEDULE FAULT LINE 0\n".as_slice());
     Ok(())
@@ -215,7 +238,7 @@ fn usage_source_and_sink_faults(rt: HostRuntime) -> Result<(), Fail> {
         &["Expand"],
         &["expand", "--seed", "-1"],
     ] {
-        let (status, written) = outcome(alloc, texts, deck, &[], 1_000, &[])?;
+        let (status, written) = outcome(&rt, rt.alloc(), texts, deck, &[], 1_000, &[])?;
         assert_eq!(rt; status, 7);
         assert_eq!(rt; written.as_slice(), USAGE.as_bytes());
     }
@@ -223,19 +246,47 @@ fn usage_source_and_sink_faults(rt: HostRuntime) -> Result<(), Fail> {
         ["run", "--workers", "1"].as_slice(),
         &["--at=3", "run", "--seed", "+04"],
     ] {
-        let (status, written) = outcome(alloc, texts, deck, &[], 1_000, &[])?;
+        let (status, written) = outcome(&rt, rt.alloc(), texts, deck, &[], 1_000, &[])?;
         assert_eq!(rt; status, 0);
         assert_eq!(rt; written.as_slice(), TWO_DISPLAYS_REPORT);
     }
-    let (status, written) = outcome(alloc, &["gen", "--terms", "1"], deck, &[1], 1_000, &[])?;
+    let (status, written) = outcome(
+        &rt,
+        rt.alloc(),
+        &["gen", "--terms", "1"],
+        deck,
+        &[1],
+        1_000,
+        &[],
+    )?;
     assert_eq!(rt; status, 0);
     assert_eq!(rt; written.len(), 2_006);
-    let (status, written) = outcome(alloc, &["run"], deck, &[1], 1_000, &[])?;
+    let (status, written) = outcome(&rt, rt.alloc(), &["run"], deck, &[1], 1_000, &[])?;
     assert_eq!(rt; status, 4);
     assert_eq!(rt; written.len(), 0);
-    let (status, written) = outcome(alloc, &["run"], deck, &[], 3, &[2])?;
+    let (status, written) = outcome(&rt, rt.alloc(), &["run"], deck, &[], 3, &[2])?;
     assert_eq!(rt; status, 5);
     assert_eq!(rt; written.as_slice(), b"SER".as_slice());
+    Ok(())
+}
+
+#[test]
+fn desk_refuses_runs(rt: HostRuntime) -> Result<(), Fail> {
+    let alloc = rt.alloc();
+    for (texts, wanted_status, wanted) in [
+        (["check"].as_slice(), 0, b"DECK OK\n".as_slice()),
+        (&["run"], 7, USAGE.as_bytes()),
+        (&["trial"], 7, USAGE.as_bytes()),
+        (&["disc"], 7, USAGE.as_bytes()),
+        (&["trail"], 7, USAGE.as_bytes()),
+    ] {
+        let words = words(alloc, texts)?;
+        let mut source = MemSource::new(alloc, b"?END", &[])?;
+        let mut sink = MemSink::new(alloc, 1_000, 1_000, &[])?;
+        let status = desk(alloc, words.as_slice(), &mut source, &mut sink);
+        assert_eq!(rt; status, wanted_status);
+        assert_eq!(rt; sink.written(), wanted);
+    }
     Ok(())
 }
 
@@ -264,15 +315,15 @@ const SCHEDULES: &[(&[u8], u8, &[u8])] = &[
 fn schedules_are_answered(rt: HostRuntime) -> Result<(), Fail> {
     let alloc = rt.alloc();
     for &(schedule, wanted_status, wanted) in SCHEDULES {
-        let (status, written) = outcome(alloc, &["expand"], schedule, &[], 1_000, &[])?;
+        let (status, written) = outcome(&rt, rt.alloc(), &["expand"], schedule, &[], 1_000, &[])?;
         assert_eq!(rt; status, wanted_status);
         assert_eq!(rt; written.as_slice(), wanted);
     }
     let schedule = b"SYSTEMS 2\nREFUSE 1 2 3\n".as_slice();
-    let (status, written) = outcome(alloc, &["expand"], schedule, &[1], 1_000, &[])?;
+    let (status, written) = outcome(&rt, rt.alloc(), &["expand"], schedule, &[1], 1_000, &[])?;
     assert_eq!(rt; status, 4);
     assert_eq!(rt; written.len(), 0);
-    let (status, written) = outcome(alloc, &["expand"], schedule, &[], 7, &[2])?;
+    let (status, written) = outcome(&rt, rt.alloc(), &["expand"], schedule, &[], 7, &[2])?;
     assert_eq!(rt; status, 5);
     assert_eq!(rt; written.as_slice(), b"MARK 1 ".as_slice());
     Ok(())
@@ -302,14 +353,14 @@ const CHECKED: &[(&[u8], u8, &[u8])] = &[
 fn decks_are_checked(rt: HostRuntime) -> Result<(), Fail> {
     let alloc = rt.alloc();
     for &(deck, wanted_status, wanted) in CHECKED {
-        let (status, written) = outcome(alloc, &["check"], deck, &[], 1_000, &[])?;
+        let (status, written) = outcome(&rt, rt.alloc(), &["check"], deck, &[], 1_000, &[])?;
         assert_eq!(rt; status, wanted_status);
         assert_eq!(rt; written.as_slice(), wanted);
     }
-    let (status, written) = outcome(alloc, &["check"], b"?END", &[1], 1_000, &[])?;
+    let (status, written) = outcome(&rt, rt.alloc(), &["check"], b"?END", &[1], 1_000, &[])?;
     assert_eq!(rt; status, 4);
     assert_eq!(rt; written.len(), 0);
-    let (status, written) = outcome(alloc, &["check"], b"?END", &[], 3, &[2])?;
+    let (status, written) = outcome(&rt, rt.alloc(), &["check"], b"?END", &[], 3, &[2])?;
     assert_eq!(rt; status, 5);
     assert_eq!(rt; written.as_slice(), b"DEC".as_slice());
     Ok(())

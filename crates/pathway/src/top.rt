@@ -1,32 +1,42 @@
-ghost use Rattle.std.specs.Prelude.{◌≡◌, ◌≤◌, map, string_bytes};
-ghost use Rattle.pathway.specs.Statuses.{Ends, Means, Counts};
+//! The program.
 
-use crate::commands::{said, usage_line};
+ghost use Rattle.std.specs.Prelude.{◌≡◌, ◌≤◌, map, string_bytes};
+ghost use Rattle.pathway.specs.Commands.{every};
+ghost use Rattle.pathway.specs.Statuses.{Ends, EndsWith};
+
+use crate::answers::usage_line;
+use crate::commands::said;
 use crate::output::output_by;
-use crate::status::Status;
 use pw_base::memory::Memory;
 use pw_base::sink::Sink;
 use pw_base::source::Source;
-use pw_base::write_all::write_all_of;
+use pw_call::output::written;
+use pw_call::status::Status;
+use pw_workers::gate::Gate;
 use std::alloc::Global;
+use std::sync::Wait;
+use std::thread::Threads;
 
-/// The program: by the words after its name it reads a deck from the source, runs it, and writes the
-/// report of the run to the sink; or it reads a deck and writes whether it has a fault, or the report of
-/// its log; or it writes the generated deck; or it reads a schedule from the source, and writes its
-/// messages and marks (docs/COMMANDS.md). It answers the exit status.
+/// The program: by the words after its name it reads a deck from the source, runs it with workers, over a disc
+/// that does not fail, over a disc pair or over a trail, and writes the report of the run, or the records that
+/// it left, to the sink; or it runs the generated deck; or it does what `desk` does (docs/COMMANDS.md). It
+/// answers the exit status. It may wait for a thread.
 ///
 /// The clause `ends` is the headline: where the deck has no fault the report is that of a run of it,
 /// whatever fails; the screens, each numbered refresh counted once, and the records are those of a
 /// machine that runs the log's serial order one unit at a time; and each unit number ends at most once.
 /// It has the cause of every status: the source's count of faults rises at status 4 alone, and the sink's at
 /// status 5 alone. All output is made before its first byte is written.
-pub fn pathway<S: Source, K: Sink>(
+pub fn pathway<S: Source, K: Sink, G: Gate, R: Threads + Wait + Sync>(
+    rt: &R,
     alloc: Global,
     words: &[String],
     source: &mut S,
     sink: &mut K,
+    gate: &G,
 ) -> u8
     ensures ends { Ends (record {
+      does = every;
       words = map string_bytes words.now;
       left = S.left source.old;
       left_then = S.left source.new;
@@ -40,23 +50,20 @@ pub fn pathway<S: Source, K: Sink>(
     ensures read_count { S.faults source.old ≤ S.faults source.new }
     ensures write_count { K.faults sink.old ≤ K.faults sink.new }
 {
-    call(alloc, words, source, sink).number()
+    call(rt, alloc, words, source, sink, gate).number()
 }
 
 /// One call, by its status.
-fn call<S: Source, K: Sink>(alloc: Global, words: &[String], source: &mut S, sink: &mut K) -> Status
-    ensures means { Means result (record {
-      words = map string_bytes words.now;
-      left = S.left source.old;
-      left_then = S.left source.new;
-      read_faults = S.faults source.old;
-      read_faults_then = S.faults source.new;
-      written = K.written sink.old;
-      written_then = K.written sink.new;
-      write_faults = K.faults sink.old;
-      write_faults_then = K.faults sink.new;
-    }) }
-    ensures counts { Counts result (record {
+fn call<S: Source, K: Sink, G: Gate, R: Threads + Wait + Sync>(
+    rt: &R,
+    alloc: Global,
+    words: &[String],
+    source: &mut S,
+    sink: &mut K,
+    gate: &G,
+) -> Status
+    ensures ends { EndsWith result (record {
+      does = every;
       words = map string_bytes words.now;
       left = S.left source.old;
       left_then = S.left source.new;
@@ -72,20 +79,11 @@ fn call<S: Source, K: Sink>(alloc: Global, words: &[String], source: &mut S, sin
 {
     let said = match said(alloc, words) {
         Ok(Some(said)) => said,
-        Ok(None) => {
-            return match write_all_of(sink, usage_line()) {
-                Ok(()) => Status::Usage,
-                Err(_) => Status::WriteFault,
-            };
-        }
+        Ok(None) => return written(sink, Status::Usage, usage_line()),
         Err(Memory) => return Status::Memory,
     };
-    let (status, text) = match output_by(alloc, said, source) {
-        Ok(output) => output,
-        Err(status) => return status,
-    };
-    match write_all_of(sink, text.as_slice()) {
-        Ok(()) => status,
-        Err(_) => Status::WriteFault,
+    match output_by(rt, alloc, said, source, gate) {
+        Ok((status, text)) => written(sink, status, text.as_slice()),
+        Err(status) => status,
     }
 }

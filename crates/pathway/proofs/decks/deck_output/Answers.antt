@@ -1,10 +1,14 @@
 use Rattle.pathway.specs.Decks.{DefinesBy}
-use Rattle.pathway.proofs.Outputs.{long-fault, refused-defines, refused-long, too-long}
+use Rattle.pathway.proofs.Inputs.{deck-long, of-bytes, of-long}
 use Rattle.pathway.proofs.decks.deck_output.Goals as goal
 
-pub returns-in-Err-TooLong-clause-ok : goal.returns-in-Err-TooLong-clause-ok
-returns-in-Err-TooLong-clause-ok g c =
-    let reads = rw c.in-Err-TooLong.field-0-is at c.in-Err-TooLong.ensures.reads in
-    let long = too-long _ _ reads.0 reads.1 reads.2 in
-    refused-long (DefinesBy c.args.command) (g.S.Source.left c.args.source.now) c.refused.result c.or_memory-in-Err-TooLong.result long
-    (refused-defines c.args.command long.0 _ c.refused.result (long-fault long.0 long.2) c.refused.ensures) c.or_memory-in-Err-TooLong.ensures.ok
+pub returns-in-Ok-Some-clause-ok : goal.returns-in-Ok-Some-clause-ok
+returns-in-Ok-Some-clause-ok g c =
+    let input = rw c.in-Ok-Some.field-0-is at c.in-Ok-Some.ensures.ok in
+    let defined = rw c.as_slice.ensures at c.answer.ensures in
+    of-bytes (DefinesBy c.args.command) _ _ c.answer.result c.or_memory.result input defined c.or_memory.ensures.ok
+
+pub returns-in-Ok-None-clause-ok : goal.returns-in-Ok-None-clause-ok
+returns-in-Ok-None-clause-ok g c =
+    let input = rw c.in-Ok-None.field-0-is at c.in-Ok-None.ensures.ok in
+    of-long (DefinesBy c.args.command) _ c.refused.result c.or_memory-in-Ok-None.result (deck-long c.args.command) input c.refused.ensures c.or_memory-in-Ok-None.ensures.ok

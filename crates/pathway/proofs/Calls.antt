@@ -1,0 +1,193 @@
+-- What inputs, texts and calls come to.
+use Rattle.std.proofs.Common.{◌≡◌, inl, inr, ℕ, List, [], Option, None, Some, ◌∙◌, append-nil}
+use Rattle.std.specs.Io.KnownBytes.{Appends, Keeps}
+use Rattle.pw_call.specs.Outputs.{EndsWriting}
+use Rattle.pw_call.specs.declared.status.Status.{Status}
+use Rattle.pw_call.specs.declared.status.Status.TheVariants as status
+use Rattle.pw_command.specs.declared.words.Command.{Command}
+use Rattle.pw_command.specs.declared.words.Command.TheVariants as command
+use Rattle.pw_command.specs.declared.words.Words.{Words}
+use Rattle.pw_expand.specs.declared.expand.Ending.{Ending}
+use Rattle.pw_expand.specs.declared.expand.Ending.TheVariants as ending
+use Rattle.pathway.specs.Commands.{said, usage_line}
+use Rattle.pathway.specs.Schedules.{status_by}
+use Rattle.pathway.specs.Statuses.{Call, Counts, EndsWith, HasText, IsCutOff, Means, OutputBy}
+
+-- ---- texts
+
+-- a schedule that is answered has another status than Usage, and so has each output
+no-usage-by : (how : Ending) → status.Usage ≡ status_by how → ⊥
+no-usage-by ending.Expanded same = absurd (cc same)
+no-usage-by ending.Refused same = absurd (cc same)
+
+no-usage : (words : Words) (which : Command) (left left_then : Option (List ℕ)) (text : List ℕ)
+    → OutputBy which words left left_then status.Usage text → ⊥
+no-usage words command.Run left left_then text o = o.defined
+no-usage words command.Trial left left_then text o = o.tried
+no-usage words command.Check left left_then text o = o.defined
+no-usage words command.Verify left left_then text o = o.defined
+no-usage words command.Gen left left_then text o = absurd (cc o.finished)
+no-usage words command.Disc left left_then text o = o.defined
+no-usage words command.Trail left left_then text o = o.defined
+no-usage words command.Status left left_then text o = o.defined
+no-usage words command.Expand left left_then text o = no-usage-by o.ending o.is
+
+-- a schedule that is answered has another status than ReadFault, and so has each output
+no-read_fault-by : (how : Ending) → status.ReadFault ≡ status_by how → ⊥
+no-read_fault-by ending.Expanded same = absurd (cc same)
+no-read_fault-by ending.Refused same = absurd (cc same)
+
+no-read_fault : (words : Words) (which : Command) (left left_then : Option (List ℕ)) (text : List ℕ)
+    → OutputBy which words left left_then status.ReadFault text → ⊥
+no-read_fault words command.Run left left_then text o = o.defined
+no-read_fault words command.Trial left left_then text o = o.tried
+no-read_fault words command.Check left left_then text o = o.defined
+no-read_fault words command.Verify left left_then text o = o.defined
+no-read_fault words command.Gen left left_then text o = absurd (cc o.finished)
+no-read_fault words command.Disc left left_then text o = o.defined
+no-read_fault words command.Trail left left_then text o = o.defined
+no-read_fault words command.Status left left_then text o = o.defined
+no-read_fault words command.Expand left left_then text o = no-read_fault-by o.ending o.is
+
+-- a schedule that is answered has another status than WriteFault, and so has each output
+no-write_fault-by : (how : Ending) → status.WriteFault ≡ status_by how → ⊥
+no-write_fault-by ending.Expanded same = absurd (cc same)
+no-write_fault-by ending.Refused same = absurd (cc same)
+
+no-write_fault : (words : Words) (which : Command) (left left_then : Option (List ℕ)) (text : List ℕ)
+    → OutputBy which words left left_then status.WriteFault text → ⊥
+no-write_fault words command.Run left left_then text o = o.defined
+no-write_fault words command.Trial left left_then text o = o.tried
+no-write_fault words command.Check left left_then text o = o.defined
+no-write_fault words command.Verify left left_then text o = o.defined
+no-write_fault words command.Gen left left_then text o = absurd (cc o.finished)
+no-write_fault words command.Disc left left_then text o = o.defined
+no-write_fault words command.Trail left left_then text o = o.defined
+no-write_fault words command.Status left left_then text o = o.defined
+no-write_fault words command.Expand left left_then text o = no-write_fault-by o.ending o.is
+
+-- a schedule that is answered has another status than Memory, and so has each output
+no-memory-by : (how : Ending) → status.Memory ≡ status_by how → ⊥
+no-memory-by ending.Expanded same = absurd (cc same)
+no-memory-by ending.Refused same = absurd (cc same)
+
+no-memory : (words : Words) (which : Command) (left left_then : Option (List ℕ)) (text : List ℕ)
+    → OutputBy which words left left_then status.Memory text → ⊥
+no-memory words command.Run left left_then text o = o.defined
+no-memory words command.Trial left left_then text o = o.tried
+no-memory words command.Check left left_then text o = o.defined
+no-memory words command.Verify left left_then text o = o.defined
+no-memory words command.Gen left left_then text o = absurd (cc o.finished)
+no-memory words command.Disc left left_then text o = o.defined
+no-memory words command.Trail left left_then text o = o.defined
+no-memory words command.Status left left_then text o = o.defined
+no-memory words command.Expand left left_then text o = no-memory-by o.ending o.is
+
+-- a schedule that is answered is no fault of the disc
+no-disc_fault-by : (how : Ending) → status.DiscFault ≡ status_by how → ⊥
+no-disc_fault-by ending.Expanded same = absurd (cc same)
+no-disc_fault-by ending.Refused same = absurd (cc same)
+
+-- nothing is written of a run whose pair is lost
+lost-text : (words : Words) (which : Command) (left left_then : Option (List ℕ)) (text : List ℕ)
+    → OutputBy which words left left_then status.DiscFault text → text ≡ []
+lost-text words command.Run left left_then text o = absurd o.defined
+lost-text words command.Trial left left_then text o = absurd o.tried
+lost-text words command.Check left left_then text o = absurd o.defined
+lost-text words command.Verify left left_then text o = absurd o.defined
+lost-text words command.Gen left left_then text o = absurd (cc o.finished)
+lost-text words command.Disc left left_then text o = o.defined.1.ends.1
+lost-text words command.Trail left left_then text o = absurd o.defined
+lost-text words command.Status left left_then text o = absurd o.defined
+lost-text words command.Expand left left_then text o = absurd (no-disc_fault-by o.ending o.is)
+
+-- where nothing is appended, what is there is kept
+appends-nothing : (before now : Option (List ℕ)) → Appends before now [] → Keeps before now
+appends-nothing None now appends = tt
+appends-nothing (Some had) None appends = appends
+appends-nothing (Some had) (Some has) appends = appends ∙ append-nil had
+
+-- ---- calls
+
+-- the text of a status that the words and the source define
+has-output : (call : Call) (given : Status) (text : List ℕ) (words : Words) → said call.does call.words ≡ Some words
+    → OutputBy words.command words call.left call.left_then given text → HasText given call text
+has-output call status.Finished text words say o = record { words = words; say = say; output = o }
+has-output call status.Irregular text words say o = record { words = words; say = say; output = o }
+has-output call status.Refused text words say o = record { words = words; say = say; output = o }
+has-output call status.Limit text words say o = record { words = words; say = say; output = o }
+has-output call status.ReadFault text words say o = record { words = words; say = say; output = o }
+has-output call status.WriteFault text words say o = record { words = words; say = say; output = o }
+has-output call status.Memory text words say o = record { words = words; say = say; output = o }
+has-output call status.Usage text words say o = absurd (no-usage words words.command call.left call.left_then text o)
+has-output call status.NotAStep text words say o = record { words = words; say = say; output = o }
+has-output call status.DiscFault text words say o = record { words = words; say = say; output = o }
+
+-- a whole text means its status
+means-told : (call : Call) (given : Status) (text : List ℕ) (words : Words) → said call.does call.words ≡ Some words
+    → OutputBy words.command words call.left call.left_then given text
+    → Appends call.written call.written_then text → Means given call
+means-told call status.Finished text words say o appends = (text, record { words = words; say = say; output = o }, appends)
+means-told call status.Irregular text words say o appends = (text, record { words = words; say = say; output = o }, appends)
+means-told call status.Refused text words say o appends = (text, record { words = words; say = say; output = o }, appends)
+means-told call status.Limit text words say o appends = (text, record { words = words; say = say; output = o }, appends)
+means-told call status.ReadFault text words say o appends = absurd (no-read_fault words words.command call.left call.left_then text o)
+means-told call status.WriteFault text words say o appends = absurd (no-write_fault words words.command call.left call.left_then text o)
+means-told call status.Memory text words say o appends = absurd (no-memory words words.command call.left call.left_then text o)
+means-told call status.Usage text words say o appends = absurd (no-usage words words.command call.left call.left_then text o)
+means-told call status.NotAStep text words say o appends = (text, record { words = words; say = say; output = o }, appends)
+means-told call status.DiscFault text words say o appends =
+    let none = lost-text words words.command call.left call.left_then text o in
+    ((text, record { words = words; say = say; output = o }, appends), appends-nothing call.written call.written_then (rw none at appends))
+
+-- where the text is whole no count has risen
+counts-told : (call : Call) (given : Status) (text : List ℕ) (words : Words)
+    → OutputBy words.command words call.left call.left_then given text
+    → call.read_faults_then ≡ call.read_faults → call.write_faults_then ≡ call.write_faults → Counts given call
+counts-told call status.Finished text words o read write = (read, write)
+counts-told call status.Irregular text words o read write = (read, write)
+counts-told call status.Refused text words o read write = (read, write)
+counts-told call status.Limit text words o read write = (read, write)
+counts-told call status.ReadFault text words o read write = absurd (no-read_fault words words.command call.left call.left_then text o)
+counts-told call status.WriteFault text words o read write = absurd (no-write_fault words words.command call.left call.left_then text o)
+counts-told call status.Memory text words o read write = (read, write)
+counts-told call status.Usage text words o read write = (read, write)
+counts-told call status.NotAStep text words o read write = (read, write)
+counts-told call status.DiscFault text words o read write = (read, write)
+
+-- a call whose output is written
+pub ends-told : (call : Call) (given result : Status) (text : List ℕ) (words : Words)
+    → said call.does call.words ≡ Some words → OutputBy words.command words call.left call.left_then given text
+    → call.read_faults_then ≡ call.read_faults
+    → EndsWriting given result text call.written call.written_then call.write_faults call.write_faults_then
+    → EndsWith result call
+ends-told call given result text words say o read (inl whole) =
+    rw whole.0 (means-told call given text words say o whole.1.all, counts-told call given text words o read whole.1.count)
+ends-told call given result text words say o read (inr cut) =
+    let means : IsCutOff call = record {
+      status = given;
+      text = text;
+      has = has-output call given text words say o;
+      count = cut.1.taken;
+      some = cut.1.some;
+      begun = cut.1.begun;
+    } in
+    rw cut.0 (means, (read, cut.1.rose))
+
+-- a call whose words say nothing
+pub ends-usage : (call : Call) (result : Status) (text : List ℕ) → said call.does call.words ≡ None → text ≡ usage_line
+    → Keeps call.left call.left_then → call.read_faults_then ≡ call.read_faults
+    → EndsWriting status.Usage result text call.written call.written_then call.write_faults call.write_faults_then
+    → EndsWith result call
+ends-usage call result text none line keeps read (inl whole) =
+    rw whole.0 (((text, (none, line), whole.1.all), keeps), (read, whole.1.count))
+ends-usage call result text none line keeps read (inr cut) =
+    let means : IsCutOff call = record {
+      status = status.Usage;
+      text = text;
+      has = (none, line);
+      count = cut.1.taken;
+      some = cut.1.some;
+      begun = cut.1.begun;
+    } in
+    rw cut.0 (means, (read, cut.1.rose))
