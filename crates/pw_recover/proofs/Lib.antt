@@ -1,0 +1,6 @@
+mod Calling
+mod Finding
+mod Lifting
+mod Outcomes
+mod Starts
+mod Telling

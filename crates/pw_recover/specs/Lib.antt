@@ -1,0 +1,4 @@
+pub mod Headline
+pub mod Kept
+pub mod Ran
+pub mod Runs
