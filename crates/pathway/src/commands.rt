@@ -15,7 +15,8 @@ pub fn said(alloc: Global, words: &[String]) -> Result<Option<Words>, Memory>
     ensures range { IfOk result (λ words_say. IfSome words_say IsInRange) }
 {
     match read_words(alloc, words) {
-        Ok(said) => Ok(Some(said)),
+        Ok(said) if is_done(said.command) => Ok(Some(said)),
+        Ok(_) => Ok(None),
         Err(WordsFault::Refused) => Ok(None),
         Err(WordsFault::Memory) => Err(Memory),
     }
@@ -34,12 +35,19 @@ pub fn said_to_desk(alloc: Global, words: &[String]) -> Result<Option<Words>, Me
     }
 }
 
+/// Whether the program does a command.
+fn is_done(command: Command) -> bool
+    ensures { result ≡ every command }
+{
+    !matches!(command, Command::Disc | Command::Trail | Command::Status)
+}
+
 /// Whether a command waits for no thread.
 fn is_for_desk(command: Command) -> bool
     ensures { result ≡ is_for_desk command }
 {
     matches!(
         command,
-        Command::Check | Command::Verify | Command::Gen | Command::Status | Command::Expand
+        Command::Check | Command::Verify | Command::Gen | Command::Expand
     )
 }

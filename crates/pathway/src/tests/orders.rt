@@ -260,66 +260,6 @@ TMF BEGUN 2 COMMITTED 0 DROPPED 0 LEFT 0 OLDER 1 TAKEOVER 0 SERVER 0 REDO 0
 
 /// Words, lines behind the commands and behind the programs, the status, and what is written.
 const ORDERS: &[(&[&str], &[u8], &[u8], u8, &[u8])] = &[
-    (&["disc"], b"", HELD, 0, HELD_REPORT),
-    (&["disc"], b"", LOST, 9, b""),
-    (
-        &["disc"],
-        b"",
-        BAD,
-        2,
-        b"DECK FAULT LINE 86 CODE 172 BAD FAILURE LINE
-",
-    ),
-    (
-        &["trail", "--at", "1"],
-        b"",
-        COMMITS,
-        0,
-        b"FILES
-FILE STOCK
-|A10005
-|B10007
-",
-    ),
-    (
-        &["trail", "--at", "5"],
-        b"",
-        COMMITS,
-        0,
-        b"FILES
-FILE STOCK
-|A10006
-|B10007
-",
-    ),
-    (
-        &["trail", "--at", "9"],
-        b"",
-        COMMITS,
-        0,
-        b"FILES
-FILE STOCK
-|A10007
-|B10007
-",
-    ),
-    (
-        &["status", "--at", "20"],
-        b"",
-        RAISED,
-        8,
-        b"NOT A STEP 20
-",
-    ),
-    (
-        &["status", "--at", "19"],
-        b"ADD TERM T2
-START TERM T2
-",
-        OLDER,
-        0,
-        OLDER_COUNTS,
-    ),
 ];
 
 fn order(alloc: Global, commands: &[u8], sections: &[u8]) -> Result<Vec<u8>, Fail> {

@@ -1,6 +1,0 @@
-mod Calling
-mod Finding
-mod Lifting
-mod Outcomes
-mod Starts
-mod Telling

@@ -1,4 +1,0 @@
-pub mod Headline
-pub mod Kept
-pub mod Ran
-pub mod Runs
