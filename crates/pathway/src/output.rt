@@ -47,8 +47,9 @@ pub fn output_by<S: Source, G: Gate, R: Threads + Wait + Sync>(
     match command {
         Command::Run => run_output(rt, alloc, events, workers, source, gate),
         Command::Trial => or_memory(tried(rt, alloc, seed, terms, workers, gate)),
-        Command::Check | Command::Verify | Command::Gen | Command::Expand =>
-            desk_output(alloc, said, source),
+        Command::Check | Command::Verify | Command::Gen | Command::Expand => desk_output(
+            alloc, said, source,
+        ),
         Command::Disc | Command::Trail | Command::Status => unreachable!(),
     }
 }
@@ -72,6 +73,7 @@ pub fn desk_output<S: Source>(
         Command::Verify => deck_output(alloc, DeckCommand::Verify, source),
         Command::Gen => or_memory(generated(alloc, said.seed, said.terms)),
         Command::Expand => schedule_output(alloc, source),
-        Command::Run | Command::Trial | Command::Disc | Command::Trail | Command::Status => unreachable!(),
+        Command::Run | Command::Trial | Command::Disc | Command::Trail | Command::Status =>
+            unreachable!(),
     }
 }

@@ -1,4 +1,4 @@
-mod orders;
+mod trials;
 
 use crate::desk::desk;
 use crate::top::pathway;
