@@ -27,9 +27,9 @@ no-usage words command.Trial left left_then text o = o.tried
 no-usage words command.Check left left_then text o = o.defined
 no-usage words command.Verify left left_then text o = o.defined
 no-usage words command.Gen left left_then text o = absurd (cc o.finished)
-no-usage words command.Disc left left_then text o = o
-no-usage words command.Trail left left_then text o = o
-no-usage words command.Status left left_then text o = o
+no-usage words command.Disc left left_then text o = o.defined
+no-usage words command.Trail left left_then text o = o.defined
+no-usage words command.Status left left_then text o = o.defined
 no-usage words command.Expand left left_then text o = no-usage-by o.ending o.is
 
 -- a schedule that is answered has another status than ReadFault, and so has each output
@@ -44,9 +44,9 @@ no-read_fault words command.Trial left left_then text o = o.tried
 no-read_fault words command.Check left left_then text o = o.defined
 no-read_fault words command.Verify left left_then text o = o.defined
 no-read_fault words command.Gen left left_then text o = absurd (cc o.finished)
-no-read_fault words command.Disc left left_then text o = o
-no-read_fault words command.Trail left left_then text o = o
-no-read_fault words command.Status left left_then text o = o
+no-read_fault words command.Disc left left_then text o = o.defined
+no-read_fault words command.Trail left left_then text o = o.defined
+no-read_fault words command.Status left left_then text o = o.defined
 no-read_fault words command.Expand left left_then text o = no-read_fault-by o.ending o.is
 
 -- a schedule that is answered has another status than WriteFault, and so has each output
@@ -61,9 +61,9 @@ no-write_fault words command.Trial left left_then text o = o.tried
 no-write_fault words command.Check left left_then text o = o.defined
 no-write_fault words command.Verify left left_then text o = o.defined
 no-write_fault words command.Gen left left_then text o = absurd (cc o.finished)
-no-write_fault words command.Disc left left_then text o = o
-no-write_fault words command.Trail left left_then text o = o
-no-write_fault words command.Status left left_then text o = o
+no-write_fault words command.Disc left left_then text o = o.defined
+no-write_fault words command.Trail left left_then text o = o.defined
+no-write_fault words command.Status left left_then text o = o.defined
 no-write_fault words command.Expand left left_then text o = no-write_fault-by o.ending o.is
 
 -- a schedule that is answered has another status than Memory, and so has each output
@@ -78,9 +78,9 @@ no-memory words command.Trial left left_then text o = o.tried
 no-memory words command.Check left left_then text o = o.defined
 no-memory words command.Verify left left_then text o = o.defined
 no-memory words command.Gen left left_then text o = absurd (cc o.finished)
-no-memory words command.Disc left left_then text o = o
-no-memory words command.Trail left left_then text o = o
-no-memory words command.Status left left_then text o = o
+no-memory words command.Disc left left_then text o = o.defined
+no-memory words command.Trail left left_then text o = o.defined
+no-memory words command.Status left left_then text o = o.defined
 no-memory words command.Expand left left_then text o = no-memory-by o.ending o.is
 
 -- a schedule that is answered is no fault of the disc
@@ -96,9 +96,9 @@ lost-text words command.Trial left left_then text o = absurd o.tried
 lost-text words command.Check left left_then text o = absurd o.defined
 lost-text words command.Verify left left_then text o = absurd o.defined
 lost-text words command.Gen left left_then text o = absurd (cc o.finished)
-lost-text words command.Disc left left_then text o = absurd o
-lost-text words command.Trail left left_then text o = absurd o
-lost-text words command.Status left left_then text o = absurd o
+lost-text words command.Disc left left_then text o = o.defined.1.ends.1
+lost-text words command.Trail left left_then text o = absurd o.defined
+lost-text words command.Status left left_then text o = absurd o.defined
 lost-text words command.Expand left left_then text o = absurd (no-disc_fault-by o.ending o.is)
 
 -- where nothing is appended, what is there is kept

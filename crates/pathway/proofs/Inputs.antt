@@ -9,10 +9,13 @@ use Rattle.pw_call.specs.Inputs.{IsInput}
 use Rattle.pw_call.specs.declared.status.Status.{Status}
 use Rattle.pw_call.specs.declared.status.Status.TheVariants as status
 use Rattle.pw_deck.specs.Deck.{deck_of}
+use Rattle.pw_disc_run.specs.PairRuns.{pair_deck_of}
 use Rattle.pathway.specs.declared.decks.DeckCommand.{DeckCommand}
 use Rattle.pathway.specs.declared.decks.DeckCommand.TheVariants as asked
+use Rattle.pathway.specs.declared.runs.RunCommand.{RunCommand}
+use Rattle.pathway.specs.declared.runs.RunCommand.TheVariants as ask
 use Rattle.pathway.specs.Commands.{fault_line}
-use Rattle.pathway.specs.Decks.{DefinesBy, HasFault, HasFirstFault, Runs}
+use Rattle.pathway.specs.Decks.{DefinesBy, HasFault, HasFirstFault, RunsBy}
 use Rattle.pathway.specs.Statuses.{OfBytes}
 
 -- ---- inputs
@@ -81,12 +84,20 @@ refuses defines read fault (Err memory) law first is = tt
 pub deck-fault : (asked : DeckCommand) (bytes text : List ℕ) → HasFirstFault bytes text → DefinesBy asked status.Refused bytes text
 deck-fault asked.Check bytes text has = has
 deck-fault asked.Verify bytes text has = has
+deck-fault (asked.Status at) bytes text has = has
 
 pub deck-long : (asked : DeckCommand) (bytes text : List ℕ) → deck_of bytes ≡ Err too_long → text ≡ fault_line too_long
     → DefinesBy asked status.Refused bytes text
 deck-long asked bytes text first is = deck-fault asked bytes text (record { fault = too_long; first = first; is = is })
 
+-- the first fault of a deck is that of the deck with its disc script
+pair-first : (bytes : List ℕ) (fault : Fault) → deck_of bytes ≡ Err fault → pair_deck_of bytes ≡ Err fault
+pair-first bytes fault first = rw first refl
+
 -- of a deck that is run
-pub run-long : (events : ℕ) (bytes text : List ℕ) → deck_of bytes ≡ Err too_long → text ≡ fault_line too_long
-    → Runs events status.Refused bytes text
-run-long events bytes text first is = record { fault = too_long; first = first; is = is }
+pub run-long : (command : RunCommand) (bytes text : List ℕ) → deck_of bytes ≡ Err too_long → text ≡ fault_line too_long
+    → RunsBy command status.Refused bytes text
+run-long (ask.Run events) bytes text first is = record { fault = too_long; first = first; is = is }
+run-long (ask.Disc events) bytes text first is =
+    record { fault = too_long; first = pair-first bytes too_long first; is = is }
+run-long (ask.Trail events at) bytes text first is = record { fault = too_long; first = first; is = is }

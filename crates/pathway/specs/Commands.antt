@@ -8,18 +8,16 @@ use Rattle.pw_command.specs.declared.words.Command.{Command}
 use Rattle.pw_command.specs.declared.words.Command.TheVariants as command
 use Rattle.pw_command.specs.declared.words.Words.{Words}
 
--- the commands that the program does
-abbrev pub every : Command → Bool
-every command.Disc = false
-every command.Trail = false
-every command.Status = false
-every _ = true
+-- the commands that the program does: each
+abbrev pub is_for_program : Command → Bool
+is_for_program _ = true
 
 -- the commands that wait for no thread
 abbrev pub is_for_desk : Command → Bool
 is_for_desk command.Check = true
 is_for_desk command.Verify = true
 is_for_desk command.Gen = true
+is_for_desk command.Status = true
 is_for_desk command.Expand = true
 is_for_desk _ = false
 
@@ -40,7 +38,7 @@ said does words = if_done does (command_of words)
 
 -- the line that is written where the words say nothing
 abbrev pub usage_line : List ℕ
-usage_line = codes "USAGE: pathway run|trial|check|verify|gen|expand [--workers N] [--events N] [--seed N] [--terms N] [--at N]\n"
+usage_line = codes "USAGE: pathway run|trial|check|verify|gen|disc|trail|status|expand [--workers N] [--events N] [--seed N] [--terms N] [--at N]\n"
 
 -- the line of a deck without a fault
 abbrev pub deck_ok : List ℕ

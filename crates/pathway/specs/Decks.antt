@@ -3,6 +3,8 @@ use Rattle.std.specs.Prelude.{◌≡◌, ◌⊎◌, ℕ, ◌≤◌, List, Ok, Er
 use Rattle.pathway.specs.Commands.{deck_ok, fault_line}
 use Rattle.pathway.specs.declared.decks.DeckCommand.{DeckCommand}
 use Rattle.pathway.specs.declared.decks.DeckCommand.TheVariants as asked
+use Rattle.pathway.specs.declared.runs.RunCommand.{RunCommand}
+use Rattle.pathway.specs.declared.runs.RunCommand.TheVariants as ask
 use Rattle.pw_base.specs.declared.fault.Fault.{Fault}
 use Rattle.pw_call.specs.declared.status.Status.{Status}
 use Rattle.pw_call.specs.declared.status.Status.TheVariants as status
@@ -13,7 +15,21 @@ use Rattle.pw_desk.specs.Replays.{Verifies}
 use Rattle.pw_desk.specs.Trials.{Tries}
 use Rattle.pw_desk.specs.declared.verify.Verified.{Verified}
 use Rattle.pw_desk.specs.declared.verify.Verified.TheVariants as verified
+use Rattle.pw_disc_run.specs.PairRuns.{Comes, pair_deck_of}
+use Rattle.pw_disc_run.specs.declared.ending.PairRan.TheVariants as pair
+use Rattle.pw_recover.specs.Headline.{Recovers}
+use Rattle.pw_recover.specs.declared.ending.Recovered.{Recovered}
+use Rattle.pw_recover.specs.declared.ending.Recovered.TheVariants as recovered
 use Rattle.pw_run.specs.declared.ending.Ended.TheVariants as ran
+use Rattle.pw_watch.specs.Status.{IsStatusOf}
+use Rattle.pw_watch.specs.declared.status.Counted.{Counted}
+use Rattle.pw_watch.specs.declared.status.Counted.TheVariants as counted
+
+-- a run has at most 500,000 entries
+abbrev pub IsInRange : RunCommand → Type 0
+IsInRange (ask.Run events) = events ≤ 500000
+IsInRange (ask.Disc events) = events ≤ 500000
+IsInRange (ask.Trail events at) = events ≤ 500000
 
 -- what is read has a first fault, and the text is the line of it
 pub record HasFault {X : Type 0} (read : Result X Fault) (text : List ℕ) : Type 0 where
@@ -52,6 +68,35 @@ Replays status.NotAStep bytes text = Verifies bytes verified.NotAStep text
 Replays status.Refused bytes text = HasFirstFault bytes text
 Replays _ bytes text = ⊥
 
+-- a deck of whose log so many entries are counted
+abbrev pub StatusCounts : ℕ → Status → List ℕ → List ℕ → Type 0
+StatusCounts at status.Finished bytes text = IsStatusOf bytes at counted.Run text
+StatusCounts at status.NotAStep bytes text = IsStatusOf bytes at counted.NotAStep text
+StatusCounts at status.Refused bytes text = HasFirstFault bytes text
+StatusCounts at _ bytes text = ⊥
+
+-- the pair is lost, which a disc script without such lines never comes to; the text is empty
+abbrev pub Loses : ℕ → List ℕ → List ℕ → Type 0
+Loses events bytes text = (lost : _) × Comes bytes events (pair.Lost lost) text
+
+-- a deck that is run over a disc pair: as over any disc, whatever member fails, unless the pair is lost
+abbrev pub PairRuns : ℕ → Status → List ℕ → List ℕ → Type 0
+PairRuns events status.Finished bytes text = Comes bytes events (pair.Ended ran.Regular) text
+PairRuns events status.Irregular bytes text = Comes bytes events (pair.Ended ran.Irregular) text
+PairRuns events status.Limit bytes text = Comes bytes events (pair.Ended ran.Full) text
+PairRuns events status.Refused bytes text = HasFault (pair_deck_of bytes) text
+PairRuns events status.DiscFault bytes text = Loses events bytes text
+PairRuns events _ bytes text = ⊥
+
+-- a deck that is run over a trail, which is crashed and recovered; a disk that stops ends the run too
+abbrev pub TrailRuns : ℕ → ℕ → Status → List ℕ → List ℕ → Type 0
+TrailRuns events at status.Finished bytes text =
+    Recovers bytes events at recovered.Regular text ⊎ Recovers bytes events at recovered.Stopped text
+TrailRuns events at status.Irregular bytes text = Recovers bytes events at recovered.Irregular text
+TrailRuns events at status.Limit bytes text = Recovers bytes events at recovered.Full text
+TrailRuns events at status.Refused bytes text = HasFirstFault bytes text
+TrailRuns events at _ bytes text = ⊥
+
 -- the deck of a seed that is run
 abbrev pub Trials : ℕ → ℕ → Status → List ℕ → Type 0
 Trials seed terms status.Finished text = Tries seed terms ran.Regular text
@@ -63,8 +108,27 @@ Trials seed terms _ text = ⊥
 abbrev pub DefinesBy : DeckCommand → Status → List ℕ → List ℕ → Type 0
 DefinesBy asked.Check status bytes text = Checks status bytes text
 DefinesBy asked.Verify status bytes text = Replays status bytes text
+DefinesBy (asked.Status at) status bytes text = StatusCounts at status bytes text
+
+-- what a status defines, by what is asked of a deck that is run
+abbrev pub RunsBy : RunCommand → Status → List ℕ → List ℕ → Type 0
+RunsBy (ask.Run events) status bytes text = Runs events status bytes text
+RunsBy (ask.Disc events) status bytes text = PairRuns events status bytes text
+RunsBy (ask.Trail events at) status bytes text = TrailRuns events at status bytes text
+
+-- the status of a run over a trail that ended so
+abbrev pub status_behind : Recovered → Status
+status_behind recovered.Regular = status.Finished
+status_behind recovered.Irregular = status.Irregular
+status_behind recovered.Full = status.Limit
+status_behind recovered.Stopped = status.Finished
 
 -- the status of a replay that came to this
 abbrev pub status_after : Verified → Status
 status_after verified.Run = status.Finished
 status_after verified.NotAStep = status.NotAStep
+
+-- the status of a count that came to this
+abbrev pub status_at : Counted → Status
+status_at counted.Run = status.Finished
+status_at counted.NotAStep = status.NotAStep

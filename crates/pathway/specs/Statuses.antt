@@ -10,7 +10,7 @@ use Rattle.pw_command.specs.declared.words.Command.TheVariants as command
 use Rattle.pw_command.specs.declared.words.Words.{Words}
 use Rattle.pw_gen.specs.Generated.{generated}
 use Rattle.pathway.specs.Commands.{said, usage_line, reads_source}
-use Rattle.pathway.specs.Decks.{Checks, Replays, Runs, Trials}
+use Rattle.pathway.specs.Decks.{Checks, PairRuns, Replays, Runs, StatusCounts, TrailRuns, Trials}
 use Rattle.pathway.specs.Schedules.{OfSchedule}
 
 -- one call: the commands that it does, its words, and what source and sink tell before it and after it
@@ -50,8 +50,10 @@ OutputBy command.Trial said left left_then status text = OfTrial said left left_
 OutputBy command.Check said left left_then status text = OfBytes Checks left status text
 OutputBy command.Verify said left left_then status text = OfBytes Replays left status text
 OutputBy command.Gen said left left_then status text = OfSeed said left left_then status text
+OutputBy command.Disc said left left_then status text = OfBytes (PairRuns said.events) left status text
+OutputBy command.Trail said left left_then status text = OfBytes (TrailRuns said.events said.at) left status text
+OutputBy command.Status said left left_then status text = OfBytes (StatusCounts said.at) left status text
 OutputBy command.Expand said left left_then status text = OfSchedule left status text
-OutputBy _ said left left_then status text = ⊥
 
 -- the text of a status, for words that say something
 pub record IsOutput (status : Status) (call : Call) (text : List ℕ) : Type 0 where
@@ -111,4 +113,4 @@ EndsWith status call = Means status call × Counts status call
 
 -- the answer of a call is the number of a status that means what happened, the counts of faults too
 abbrev pub Ends : Call → ℕ → Type 0
-Ends call answer = (status : Status) × (answer ≡ number_of status) × Means status call × Counts status call
+Ends call answer = (status : Status) × (answer ≡ number_of status) × EndsWith status call

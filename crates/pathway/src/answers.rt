@@ -21,7 +21,7 @@ pub const TOO_LONG: Fault = Fault {
 pub fn usage_line() -> &'static [u8]
     ensures { result.now ≡ usage_line }
 {
-    b"USAGE: pathway run|trial|check|verify|gen|expand [--workers N] [--events N] [--seed N] [--terms N] [--at N]\n"
+    b"USAGE: pathway run|trial|check|verify|gen|disc|trail|status|expand [--workers N] [--events N] [--seed N] [--terms N] [--at N]\n"
 }
 
 /// The line of a deck without a fault.

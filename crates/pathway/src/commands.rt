@@ -1,7 +1,7 @@
 //! What the words of the command line say.
 
 ghost use Rattle.std.specs.Prelude.{◌≡◌, IfOk, IfSome, map, string_bytes};
-ghost use Rattle.pathway.specs.Commands.{every, is_for_desk, said};
+ghost use Rattle.pathway.specs.Commands.{is_for_program, is_for_desk, said};
 ghost use Rattle.pw_command.specs.CommandLine.{IsInRange};
 
 use pw_base::memory::Memory;
@@ -11,12 +11,11 @@ use std::alloc::Global;
 
 /// What the words say; None exactly where they are not those of a command.
 pub fn said(alloc: Global, words: &[String]) -> Result<Option<Words>, Memory>
-    ensures says { IfOk result (λ words_say. words_say ≡ said every (map string_bytes words.now)) }
+    ensures says { IfOk result (λ words_say. words_say ≡ said is_for_program (map string_bytes words.now)) }
     ensures range { IfOk result (λ words_say. IfSome words_say IsInRange) }
 {
     match read_words(alloc, words) {
-        Ok(said) if is_done(said.command) => Ok(Some(said)),
-        Ok(_) => Ok(None),
+        Ok(said) => Ok(Some(said)),
         Err(WordsFault::Refused) => Ok(None),
         Err(WordsFault::Memory) => Err(Memory),
     }
@@ -35,19 +34,12 @@ pub fn said_to_desk(alloc: Global, words: &[String]) -> Result<Option<Words>, Me
     }
 }
 
-/// Whether the program does a command.
-fn is_done(command: Command) -> bool
-    ensures { result ≡ every command }
-{
-    !matches!(command, Command::Disc | Command::Trail | Command::Status)
-}
-
 /// Whether a command waits for no thread.
 fn is_for_desk(command: Command) -> bool
     ensures { result ≡ is_for_desk command }
 {
     matches!(
         command,
-        Command::Check | Command::Verify | Command::Gen | Command::Expand
+        Command::Check | Command::Verify | Command::Gen | Command::Status | Command::Expand
     )
 }

@@ -1,12 +1,13 @@
 //! What is asked of a deck that is not run.
 
 ghost use Rattle.std.specs.Prelude.{◌≡◌, ◌≤◌, IfErr, IfOk, List, OnOk, ℕ};
-ghost use Rattle.pathway.specs.Decks.{Checks, DefinesBy, Replays, status_after};
+ghost use Rattle.pathway.specs.Decks.{Checks, DefinesBy, Replays, StatusCounts, status_after, status_at};
 ghost use Rattle.pathway.specs.Statuses.{OfBytes};
 ghost use Rattle.pw_base.specs.First.{Refuses};
 ghost use Rattle.pw_call.specs.Inputs.{GivesUp};
 ghost use Rattle.pw_deck.specs.Deck.{deck_of};
 ghost use Rattle.pw_desk.specs.Replays.{Verifies};
+ghost use Rattle.pw_watch.specs.Status.{IsStatusOf};
 
 use crate::answers::{TOO_LONG, deck_ok, refused};
 use pw_base::bytes::Bytes;
@@ -18,6 +19,7 @@ use pw_call::output::or_memory;
 use pw_call::status::Status;
 use pw_deck::deck::read_deck;
 use pw_desk::verify::{Verified, verify};
+use pw_watch::status::{Counted, status};
 use std::alloc::Global;
 
 /// What is asked of a deck that is not run (docs/COMMANDS.md).
@@ -27,6 +29,8 @@ pub enum DeckCommand {
     Check,
     /// The replay of its log.
     Verify,
+    /// The status text of so many entries of its log.
+    Status { at: u32 },
 }
 
 /// Reads the source, and answers what is asked of its deck (docs/COMMANDS.md): the status and its text,
@@ -67,6 +71,7 @@ fn found(alloc: Global, command: DeckCommand, bytes: &[u8]) -> Result<(Status, B
     match command {
         DeckCommand::Check => checked(alloc, bytes),
         DeckCommand::Verify => replayed(alloc, bytes),
+        DeckCommand::Status { at } => counted(alloc, bytes, at),
     }
 }
 
@@ -88,6 +93,15 @@ fn replayed(alloc: Global, bytes: &[u8]) -> Result<(Status, Bytes), Refusal>
     Ok((status_after(verified), text))
 }
 
+/// The status text of a log's first entries, or the line of the first of them that is no step.
+fn counted(alloc: Global, bytes: &[u8], at: u32) -> Result<(Status, Bytes), Refusal>
+    ensures ok { IfOk result (λ output. StatusCounts at output.0 bytes.now output.1) }
+    ensures fault { IfErr result (λ refusal. Refuses refusal (deck_of bytes.now)) }
+{
+    let (counted, text) = status(alloc, bytes, at)?;
+    Ok((status_at(counted), text))
+}
+
 /// The status of a replay that came to this.
 fn status_after(verified: Verified) -> Status
     ensures is { result ≡ status_after verified }
@@ -96,5 +110,17 @@ fn status_after(verified: Verified) -> Status
     match verified {
         Verified::Run => Status::Finished,
         Verified::NotAStep => Status::NotAStep,
+    }
+}
+
+/// The status of a count that came to this.
+fn status_at(counted: Counted) -> Status
+    ensures is { result ≡ status_at counted }
+    ensures defines { (bytes : List ℕ) (at : ℕ) (text : List ℕ) → IsStatusOf bytes at counted text
+        → StatusCounts at result bytes text }
+{
+    match counted {
+        Counted::Run => Status::Finished,
+        Counted::NotAStep => Status::NotAStep,
     }
 }

@@ -1,5 +1,5 @@
 //! The program: it runs a deck and writes the report of the run, says whether a deck has a fault,
-//! replays the log of a deck, generates a deck, or answers a schedule of transactions over several
+//! replays or counts the log of a deck, generates a deck, or answers a schedule of transactions over several
 //! systems.
 #![tactic(auto)]
 

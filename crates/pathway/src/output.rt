@@ -1,13 +1,13 @@
 //! The status and the text of a command.
 
 ghost use Rattle.std.specs.Prelude.{◌≡◌, ◌≤◌, true, IfErr, IfOk, OnOk};
-ghost use Rattle.pathway.specs.Commands.{every, is_for_desk, reads_source};
+ghost use Rattle.pathway.specs.Commands.{is_for_desk, reads_source};
 ghost use Rattle.pathway.specs.Statuses.{OutputBy};
 ghost use Rattle.pw_call.specs.Inputs.{GivesUp};
 ghost use Rattle.pw_command.specs.CommandLine.{IsInRange};
 
 use crate::decks::{DeckCommand, deck_output};
-use crate::runs::run_output;
+use crate::runs::{RunCommand, run_output};
 use crate::schedule::schedule_output;
 use crate::seeds::{generated, tried};
 use pw_base::bytes::Bytes;
@@ -28,7 +28,6 @@ pub fn output_by<S: Source, G: Gate, R: Threads + Wait + Sync>(
     source: &mut S,
     gate: &G,
 ) -> Result<(Status, Bytes), Status>
-    requires done { every said.command ≡ true }
     requires range { IsInRange said }
     ensures ok { IfOk result (λ output. OutputBy said.command said (S.left source.old) (S.left source.new) output.0 output.1) }
     ensures err { IfErr result (λ status. GivesUp status (S.faults source.old) (S.faults source.new)) }
@@ -42,15 +41,24 @@ pub fn output_by<S: Source, G: Gate, R: Threads + Wait + Sync>(
         events,
         seed,
         terms,
-        ..
+        at,
     } = said;
     match command {
-        Command::Run => run_output(rt, alloc, events, workers, source, gate),
+        Command::Run => {
+            let asked = RunCommand::Run { events };
+            run_output(rt, alloc, asked, workers, source, gate)
+        }
         Command::Trial => or_memory(tried(rt, alloc, seed, terms, workers, gate)),
-        Command::Check | Command::Verify | Command::Gen | Command::Expand => desk_output(
-            alloc, said, source,
-        ),
-        Command::Disc | Command::Trail | Command::Status => unreachable!(),
+        Command::Disc => {
+            let asked = RunCommand::Disc { events };
+            run_output(rt, alloc, asked, workers, source, gate)
+        }
+        Command::Trail => {
+            let asked = RunCommand::Trail { events, at };
+            run_output(rt, alloc, asked, workers, source, gate)
+        }
+        Command::Check | Command::Verify | Command::Gen | Command::Status | Command::Expand =>
+            desk_output(alloc, said, source),
     }
 }
 
@@ -71,9 +79,9 @@ pub fn desk_output<S: Source>(
     match said.command {
         Command::Check => deck_output(alloc, DeckCommand::Check, source),
         Command::Verify => deck_output(alloc, DeckCommand::Verify, source),
+        Command::Status => deck_output(alloc, DeckCommand::Status { at: said.at }, source),
         Command::Gen => or_memory(generated(alloc, said.seed, said.terms)),
         Command::Expand => schedule_output(alloc, source),
-        Command::Run | Command::Trial | Command::Disc | Command::Trail | Command::Status =>
-            unreachable!(),
+        Command::Run | Command::Trial | Command::Disc | Command::Trail => unreachable!(),
     }
 }

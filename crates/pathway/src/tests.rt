@@ -1,3 +1,4 @@
+mod orders;
 mod trials;
 
 use crate::desk::desk;
@@ -60,7 +61,7 @@ fn outcome<R: Threads + Wait + Sync>(
 const TWO_DISPLAYS: &[u8] = b"DISPLAY \"ONE\".\nDISPLAY \"TWO\".\nSTOP RUN.\n";
 
 const USAGE: &str =
-    "USAGE: pathway run|trial|check|verify|gen|expand [--workers N] [--events N] [--seed N] [--terms N] [--at N]\n";
+    "USAGE: pathway run|trial|check|verify|gen|disc|trail|status|expand [--workers N] [--events N] [--seed N] [--terms N] [--at N]\n";
 
 const TWO_DISPLAYS_REPORT: &[u8] = b"SERIAL
 OUT T1

@@ -1,7 +1,7 @@
 //! The program.
 
 ghost use Rattle.std.specs.Prelude.{◌≡◌, ◌≤◌, map, string_bytes};
-ghost use Rattle.pathway.specs.Commands.{every};
+ghost use Rattle.pathway.specs.Commands.{is_for_program};
 ghost use Rattle.pathway.specs.Statuses.{Ends, EndsWith};
 
 use crate::answers::usage_line;
@@ -17,9 +17,10 @@ use std::alloc::Global;
 use std::sync::Wait;
 use std::thread::Threads;
 
-/// The program: by the words after its name it reads a deck from the source, runs it with workers and writes the
-/// report of the run to the sink; or it runs the generated deck and writes the records that the run left; or it
-/// does what `desk` does (docs/COMMANDS.md). It answers the exit status. It may wait for a thread.
+/// The program: by the words after its name it reads a deck from the source, runs it with workers, over a disc
+/// that does not fail, over a disc pair or over a trail, and writes the report of the run, or the records that
+/// it left, to the sink; or it runs the generated deck; or it does what `desk` does (docs/COMMANDS.md). It
+/// answers the exit status. It may wait for a thread.
 ///
 /// The clause `ends` is the headline: where the deck has no fault the report is that of a run of it,
 /// whatever fails; the screens, each numbered refresh counted once, and the records are those of a
@@ -35,7 +36,7 @@ pub fn pathway<S: Source, K: Sink, G: Gate, R: Threads + Wait + Sync>(
     gate: &G,
 ) -> u8
     ensures ends { Ends (record {
-      does = every;
+      does = is_for_program;
       words = map string_bytes words.now;
       left = S.left source.old;
       left_then = S.left source.new;
@@ -62,7 +63,7 @@ fn call<S: Source, K: Sink, G: Gate, R: Threads + Wait + Sync>(
     gate: &G,
 ) -> Status
     ensures ends { EndsWith result (record {
-      does = every;
+      does = is_for_program;
       words = map string_bytes words.now;
       left = S.left source.old;
       left_then = S.left source.new;

@@ -13,6 +13,7 @@ use pw_event::script::Script;
 use pw_monitor::world::World;
 use pw_run::ending::Ended;
 use pw_run::over::{Over, run_over};
+use pw_run::taken::let_go;
 use pw_tmf::tmf::Tmf;
 use pw_workers::gate::Gate;
 use std::alloc::Global;
@@ -40,9 +41,15 @@ pub fn run_over_tmf<G: Gate, R: Threads + Wait + Sync>(
     ensures script { IfOk result (λ ran. ran.1.script ≡ script.lines) }
     ensures ended { IfOk result (λ ran. EndsAs ran.0 events (behaviour script.lines system) ran.1.ledger.log) }
 {
-    let disc = Tmf::new(alloc, &system)?;
+    let Ok(disc) = Tmf::new(alloc, &system) else {
+        let_go(system);
+        return Err(Memory);
+    };
     match run_over(rt, alloc, system, script, disc, workers, events, gate)? {
         Over::Ended(ended, world) => Ok((ended, world)),
-        Over::Failed(_) => unreachable!(),
+        Over::Failed(world) => {
+            world.into_disc();
+            unreachable!()
+        }
     }
 }

@@ -15,7 +15,7 @@ use pw_base::memory::Memory;
 use pw_code::system::System;
 use pw_event::script::Script;
 use pw_run::ending::Ended;
-use pw_run_report::report::report;
+use pw_run::taken::report_of;
 use pw_runs::laws::ending_laws;
 use pw_serial::laws::runs_are_serializable;
 use pw_whole::deck::{Deck, read};
@@ -73,7 +73,6 @@ fn run_system<G: Gate, R: Threads + Wait + Sync>(
         output.1) }
 {
     let (ended, world) = run_over_tmf(rt, alloc, system, script, workers, events, gate)?;
-    world.holds();
-    let text = report(alloc, &world)?;
+    let text = report_of(alloc, world)?;
     Ok((ended, text))
 }

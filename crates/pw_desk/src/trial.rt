@@ -14,7 +14,7 @@ use pw_event::script::Script;
 use pw_gen::generate::generate;
 use pw_generated::laws::generated_laws;
 use pw_run::ending::Ended;
-use pw_run_report::report::files_part;
+use pw_run::taken::files_of;
 use pw_whole::deck::{Deck, read};
 use pw_workers::gate::Gate;
 use std::alloc::Global;
@@ -67,7 +67,6 @@ fn try_system<G: Gate, R: Threads + Wait + Sync>(
     ensures { IfOk result (λ output. TriesSystem (behaviour script.lines system) system output.0 output.1) }
 {
     let (ended, world) = run_over_tmf(rt, alloc, system, script, workers, MOST_ENTRIES, gate)?;
-    world.holds();
-    let text = files_part(alloc, &world)?;
+    let text = files_of(alloc, world)?;
     Ok((ended, text))
 }

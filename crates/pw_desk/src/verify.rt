@@ -15,7 +15,7 @@ use pw_event::event::Event;
 use pw_event::script::Script;
 use pw_monitor::replay::ReplayFault;
 use pw_monitor::world::World;
-use pw_run_report::report::report;
+use pw_run::taken::{let_go, report_of};
 use pw_runs::laws::ending_laws;
 use pw_script::log::rule_of;
 use pw_serial::laws::runs_are_serializable;
@@ -72,9 +72,12 @@ fn replay(
     ensures { IfOk result (λ output. Replays (behaviour script.lines system) system log.now output.0
         output.1) }
 {
-    let disc = Tmf::new(alloc, &system)?;
+    let Ok(disc) = Tmf::new(alloc, &system) else {
+        let_go(system);
+        return Err(Memory);
+    };
     match World::replay(alloc, system, script, disc, log) {
-        Ok(world) => Ok((Verified::Run, report(alloc, &world)?)),
+        Ok(world) => Ok((Verified::Run, report_of(alloc, world)?)),
         Err(ReplayFault::NotAStep(number)) => Ok((
             Verified::NotAStep,
             no_step_line(alloc, number)?,

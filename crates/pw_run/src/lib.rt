@@ -4,3 +4,4 @@
 pub mod ending;
 pub mod over;
 pub mod run;
+pub mod taken;

@@ -5,4 +5,4 @@ use Rattle.pw_run.proofs.Starts.{starts}
 
 pub run_over-requires-clause-disc : goal.run_over-requires-clause-disc
 run_over-requires-clause-disc g c κs within =
-    subst (IsDiscOf c.args.system c.args.script.lines) (sym c.in_ok-disc.ensures) (starts c.args.system c.args.script.lines)
+    subst (IsDiscOf c.args.system c.args.script.lines) (sym c.in-Ok.ensures) (starts c.args.system c.args.script.lines)

@@ -5,7 +5,7 @@ use Rattle.pw_run.proofs.Starts.{starts}
 
 pub replay-requires-clause-disc : goal.replay-requires-clause-disc
 replay-requires-clause-disc c κs =
-    subst (IsDiscOf c.args.system c.args.script.lines) (sym c.in_ok-disc.ensures) (starts c.args.system c.args.script.lines)
+    subst (IsDiscOf c.args.system c.args.script.lines) (sym c.in-Ok.ensures) (starts c.args.system c.args.script.lines)
 
 pub returns-in-Err-NotAStep : goal.returns-in-Err-NotAStep
 returns-in-Err-NotAStep c =

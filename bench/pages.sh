@@ -1,0 +1,80 @@
+#!/usr/bin/env bash
+# Whether the pages name what is there: each file and link of README.md and docs/ exists, each name that has a file beside it
+# stands in that file, and each other name of code is one of the sources. It prints what is not so, and then fails.
+#
+#     bench/pages.sh
+set -eu
+cd "$(dirname "$0")/.."
+exec python3 - << 'END'
+import os, re, subprocess, sys
+
+FILES = subprocess.run(["git", "ls-files"], capture_output=True, text=True, check=True).stdout.split()
+ENDS = {}
+for file in FILES:
+    parts = file.split("/")
+    for i in range(len(parts)):
+        ENDS.setdefault("/".join(parts[i:]), []).append(file)
+SOURCES = {file: open(file).read() for file in FILES if file.endswith((".rt", ".antt"))}
+WORDS = {word for text in SOURCES.values() for word in re.findall(r"\w+", text)}
+KNOWN = WORDS | {os.path.splitext(part)[0] for file in FILES for part in file.split("/")}
+CRATES = {file.split("/")[1] for file in FILES if file.startswith("crates/")}
+# Names that stand for any name, and words that are no names of code.
+FREE = {"CRATE", "FILE", "LegalKIND", "do_kind", "ISX", "perf", "ENTERED"}
+PATH = r"[\w/-]*\w\.(?:rt|antt|md|deck|out|sh|py|edit|html|schedule)\b"
+# One name or several, and the file that they stand in.
+BESIDE = re.compile(r"((?:`[\w:]+`, )*`[\w:]+`)(?:,? in|,) `?((?:[\w-]+/)*\w+\.(?:rt|antt))\b")
+
+
+def candidates(path, crates=()):
+    """The files that a path may mean: from the root, from docs/, or behind any folder, of these crates where they have it."""
+    found = ENDS.get(os.path.normpath(path).lstrip("./"), [])
+    return [it for it in found if it.split("/")[1:2] and it.split("/")[1] in crates] or found
+
+
+def lines_of(page):
+    """Each line with its number and the crates that a table's row is about."""
+    crates = ()
+    for number, line in enumerate(open(page).read().split("\n"), 1):
+        row = re.match(r"\| ((?:`\w+`(?:, )?)+) \|", line)
+        crates = re.findall(r"`(\w+)`", row[1]) if row else crates if line.startswith("|") else ()
+        yield number, line, crates
+
+
+def faults(page):
+    whole = open(page).read()
+    named = set(re.findall(r"\b(?:pw_\w+|pathway)\b", whole))
+    for number, line, crates in lines_of(page):
+        for path in re.findall(PATH, line):
+            if not FREE & set(re.split(r"[/.]", path)) and path != "src/M.rt" and not candidates(path):
+                yield number, f"no file {path}"
+        row = re.match(r"\| `([\w/]+\.(?:rt|antt))` \| (.*) \|$", line)
+        for name in re.findall(r"`([\w:]+)`", row[2]) if row else ():
+            if not re.search(rf"\b{name.split('::')[-1]}\b", SOURCES.get(row[1], "")):
+                yield number, f"no {name} in {row[1]}"
+        for link in re.findall(r"\]\(([^)#:]+)\)", line):
+            if not os.path.exists(os.path.join(os.path.dirname(page), link)):
+                yield number, f"no page {link}"
+        for names, path in BESIDE.findall(line):
+            files = candidates(path, crates or named)
+            for name in re.findall(r"[\w:]+", names):
+                last = name.split("::")[-1]
+                if files and last not in FREE | CRATES and not any(re.search(rf"\b{last}\b", SOURCES.get(file, "")) for file in files):
+                    yield number, f"no {name} in {path}"
+    # A name and its file may stand on two lines.
+    for found in BESIDE.finditer(re.sub(r"\n", " ", whole)):
+        files = candidates(found[2], named)
+        for name in re.findall(r"[\w:]+", found[1]):
+            last = name.split("::")[-1]
+            if files and last not in FREE | CRATES and not any(re.search(rf"\b{last}\b", SOURCES.get(it, "")) for it in candidates(found[2])):
+                yield whole[: found.start()].count("\n") + 1, f"no {name} in {found[2]}"
+    for found in re.finditer(r"`((?:\w+::)*[A-Za-z_]\w*)`", re.sub(r"```.*?```", lambda it: "\n" * it[0].count("\n"), whole, flags=re.S)):
+        for name in found[1].split("::"):
+            if name not in KNOWN and name not in FREE:
+                yield whole[: found.start()].count("\n") + 1, f"no name {found[1]}"
+
+
+told = sorted({(page, *fault) for page in [it for it in FILES if re.fullmatch(r"README\.md|docs/\w+\.md", it)] for fault in faults(page)})
+for page, number, fault in told:
+    print(f"{page}:{number}: {fault}")
+sys.exit(bool(told))
+END

@@ -1,0 +1,10 @@
+use Rattle.pw_deck.specs.Deck.{deck_of}
+use Rattle.pathway.specs.Decks.{TrailRuns}
+use Rattle.pathway.proofs.Inputs.{refuses}
+use Rattle.pathway.proofs.runs.recovered.Goals as goal
+
+pub returns-in-Err-At : goal.returns-in-Err-At
+returns-in-Err-At g c =
+    let fault = rw c.in-Err-At.field-0-is at c.in-Err-At.ensures.fault in
+    let bytes = c.args.bytes.now in
+    refuses (λ status text. TrailRuns c.args.events c.args.at status bytes text) (deck_of bytes) _ c.refused.result (λ text has. has) fault c.refused.ensures

@@ -1,0 +1,2 @@
+pub mod PairRuns
+pub mod Pairs

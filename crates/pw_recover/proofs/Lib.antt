@@ -1,0 +1,7 @@
+mod Calling
+mod Counting
+mod Finding
+mod Lifting
+mod Outcomes
+mod Starts
+mod Telling

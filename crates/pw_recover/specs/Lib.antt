@@ -1,0 +1,5 @@
+pub mod Commits
+pub mod Headline
+pub mod Kept
+pub mod Ran
+pub mod Runs

@@ -1,0 +1,11 @@
+//! The run of a deck over a trail on a disk in memory, which is crashed and recovered.
+#![tactic(auto)]
+
+mod commits;
+pub mod ending;
+mod found;
+mod kept;
+mod opened;
+pub mod recover;
+mod run;
+mod start;

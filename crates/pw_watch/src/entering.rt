@@ -1,0 +1,51 @@
+//! An entry is entered, and counted if it is a step.
+
+ghost use Rattle.std.specs.Prelude.{◌≡◌, ◌<◌, length};
+ghost use Rattle.pw_kept.specs.May.{IsThere};
+ghost use Rattle.pw_watch.specs.Watching.{IsWatch, Pushes, watched};
+
+use crate::meeting::{met_before, met_behind};
+use crate::noting::{forget, note, shown_in};
+use crate::watch::WatchFault;
+use pw_counts::shown::Numbers;
+use pw_counts::tally::Tally;
+use pw_event::event::Event;
+use pw_monitor::world::World;
+use pw_monitor_world::answers::Entered;
+use pw_tmf::tmf::Tmf;
+
+/// Enters an entry that names what is there, and counts it if it is a step. What takes memory for its
+/// counts is done before, and what was noted is forgotten where it is none.
+pub(crate) fn enter(
+    world: &mut World<Tmf>,
+    tally: &mut Tally,
+    numbers: &mut Numbers,
+    event: &Event,
+) -> Result<(), WatchFault>
+    requires watch { IsWatch world.old tally.old numbers.old }
+    requires room { length world.old.ledger.log < 500000 }
+    requires there { IsThere world.old.keep.system event.now }
+    ensures watch { IsWatch world.new tally.new numbers.new }
+    ensures pushes { Pushes (watched world.old) event.now result (watched world.new) }
+{
+    world.holds();
+    let shown = shown_in(event);
+    let before = met_before(world, event);
+    tally.make_room(before.terminal)?;
+    let fresh = note(numbers, shown)?;
+    match world.enter(event) {
+        Entered::Done => {
+            tally.note(event, &met_behind(world, event, before));
+            Ok(())
+        }
+        Entered::NotAStep => {
+            forget(numbers, shown, fresh);
+            Err(WatchFault::NotAStep)
+        }
+        Entered::Memory => {
+            forget(numbers, shown, fresh);
+            Err(WatchFault::Memory)
+        }
+        Entered::DiscFault => unreachable!(),
+    }
+}

@@ -1,0 +1,11 @@
+//! STATUS and STATS: a watch over a log, and the status text of a deck's log.
+#![tactic(auto)]
+
+mod entering;
+mod meeting;
+mod noting;
+pub mod status;
+#[cfg(test)]
+mod tests;
+mod text;
+pub mod watch;

@@ -1,0 +1,241 @@
+use crate::status::{Counted, status};
+use std::alloc::Global;
+use std::test::Fail;
+
+/// A deck with a log, how many entries of this are counted, and what they come to.
+struct Case {
+    terminals: &'static [u8],
+    sections: &'static [u8],
+    at: u32,
+    counted: Counted,
+    text: &'static [u8],
+}
+
+const CASES: &[Case] = &[
+    Case {
+        terminals: TWO_TERMINALS,
+        sections: OLDER_UNIT_WINS,
+        at: 19,
+        counted: Counted::Run,
+        text: b"ENTRIES 19
+TCP TCP-1 PAIRED
+TERM T1 RUNNING UNITS 0 RESTARTS 0 ENTRIES 1 SHOWN 0
+TERM T2 RUNNING UNITS 0 RESTARTS 1 ENTRIES 1 SHOWN 0
+SERVER STORE WAITING 0 BUSY 1 TAKEN 2 LONGEST 2
+FILE STOCK RECORDS 2 LOCKS 1
+TMF BEGUN 2 COMMITTED 0 DROPPED 0 LEFT 0 OLDER 1 TAKEOVER 0 SERVER 0 REDO 0
+",
+    },
+    Case {
+        terminals: b"",
+        sections: RAISE_BEFORE_TAKEOVER,
+        at: 19,
+        counted: Counted::Run,
+        text: b"ENTRIES 19
+TCP TCP-1 DOWN
+TERM T1 RUNNING UNITS 1 RESTARTS 0 ENTRIES 0 SHOWN 1
+SERVER STORE WAITING 0 BUSY 0 TAKEN 1 LONGEST 1
+FILE STOCK RECORDS 2 LOCKS 0
+TMF BEGUN 1 COMMITTED 1 DROPPED 0 LEFT 0 OLDER 0 TAKEOVER 0 SERVER 0 REDO 0
+",
+    },
+    Case {
+        terminals: b"",
+        sections: RAISE_BEFORE_TAKEOVER,
+        at: 20,
+        counted: Counted::NotAStep,
+        text: b"NOT A STEP 20
+",
+    },
+];
+
+const HEAD: &[u8] = b"?PATHCOM
+SET SERVER PROGRAM STORE-P
+SET SERVER MAXSERVERS 2
+ADD SERVER STORE
+ADD TCP TCP-1
+START TCP TCP-1
+SET TERM TCP TCP-1
+SET TERM INITIAL KEYS
+ADD TERM T1
+START TERM T1
+";
+
+const TWO_TERMINALS: &[u8] = b"ADD TERM T2
+START TERM T2
+";
+
+const PROGRAMS: &[u8] = b"?SCREEN-COBOL KEYS
+IDENTIFICATION DIVISION.
+PROGRAM-ID. KEYS.
+DATA DIVISION.
+WORKING-STORAGE SECTION.
+01 MSG.
+  02 M-OP PIC X.
+  02 M-REC.
+    03 M-KEY PIC XX.
+    03 M-N PIC 9(4).
+01 ANS.
+  02 A-CODE PIC 9(4).
+  02 A-STATUS PIC 9(4).
+  02 A-REC PIC X(6).
+SCREEN SECTION.
+01 ASK.
+  02 FILLER AT 1, 1 VALUE \"OP KEY N\".
+  02 F-OP AT 2, 1 PIC X USING M-OP.
+  02 F-KEY AT 2, 4 PIC XX USING M-KEY.
+  02 F-N AT 2, 8 PIC 9(4) USING M-N.
+PROCEDURE DIVISION.
+P1.
+  PERFORM P2 UNTIL M-OP = \"Z\".
+  STOP RUN.
+P2.
+  ACCEPT ASK UNTIL F1, F2, F3, F4, F5.
+  PERFORM ONE OF P3, P4, P5, P6, P7
+    DEPENDING ON TERMINATION-STATUS.
+P3.
+  SEND MSG TO STORE REPLY CODE 0 YIELDS ANS.
+  DISPLAY ANS.
+P4.
+  BEGIN-TRANSACTION.
+P5.
+  END-TRANSACTION.
+P6.
+  ABORT-TRANSACTION.
+P7.
+  RESTART-TRANSACTION.
+?SERVER STORE-P
+IDENTIFICATION DIVISION.
+PROGRAM-ID. STORE-P.
+DATA DIVISION.
+WORKING-STORAGE SECTION.
+01 MSG.
+  02 M-OP PIC X.
+  02 M-REC.
+    03 M-KEY PIC XX.
+    03 M-N PIC 9(4).
+01 ANS.
+  02 A-CODE PIC 9(4).
+  02 A-STATUS PIC 9(4).
+  02 A-REC PIC X(6).
+PROCEDURE DIVISION.
+P1.
+  READ $RECEIVE INTO MSG.
+  IF M-OP = \"R\" READ STOCK KEY M-KEY INTO A-REC.
+  IF M-OP = \"N\" READ NEXT STOCK AFTER M-KEY INTO A-REC.
+  IF M-OP = \"W\" WRITE STOCK FROM M-REC.
+  IF M-OP = \"U\" REWRITE STOCK FROM M-REC.
+  IF M-OP = \"D\" DELETE STOCK KEY M-KEY.
+  IF M-OP = \"I\" READ STOCK KEY M-KEY INTO M-REC
+    ADD 1 TO M-N REWRITE STOCK FROM M-REC
+    MOVE M-REC TO A-REC.
+  MOVE FILE-STATUS TO A-STATUS.
+  WRITE $RECEIVE FROM ANS.
+?FILE STOCK KEY 2
+A10005
+B10007
+";
+
+const OLDER_UNIT_WINS: &[u8] = b"?ENTRIES T1
+F1 F-OP=I F-KEY=A1
+?ENTRIES T2
+F1 F-OP=I F-KEY=A1
+?LOG
+1 RAISE TCP-1
+2 CHECK T1 COPY
+3 APPLIED T1
+4 CHECK T2 COPY
+5 APPLIED T2
+6 KEY T1 1
+7 KEY T2 1
+8 CHECK T1 START
+9 CHECK T2 START
+10 APPLIED T1
+11 APPLIED T2
+12 BEGIN T1 1 0
+13 BEGIN T2 1 0
+14 SEND T1 1 STORE
+15 SEND T2 1 STORE
+16 TAKE STORE 1 T1
+17 TAKE STORE 2 T2
+18 FILE STORE 1 READ STOCK 0
+19 RESTART T2 1 OLDER T1 1
+20 FILE STORE 1 REWRITE STOCK 0
+21 REPLY STORE 1 T1 OK
+22 SHOW T1 2.0.1
+23 BEGIN T2 1 1
+24 SEND T2 1 STORE
+25 TAKE STORE 1 T2
+26 FILE STORE 1 READ STOCK 0
+27 FILE STORE 1 REWRITE STOCK 0
+28 REPLY STORE 1 T2 OK
+29 SHOW T2 2.0.1
+30 END T1 NOENTRIES
+31 END T2 NOENTRIES
+?END
+";
+
+const RAISE_BEFORE_TAKEOVER: &[u8] = b"?ENTRIES T1
+F2
+F1 F-OP=I F-KEY=A1
+F3
+?FAIL
+TCP TCP-1 PRIMARY AFTER 14
+?LOG
+1 RAISE TCP-1
+2 CHECK T1 COPY
+3 APPLIED T1
+4 KEY T1 1
+5 CHECK T1 START
+6 APPLIED T1
+7 BEGIN T1 1 0
+8 KEY T1 2
+9 SEND T1 1 STORE
+10 TAKE STORE 1 T1
+11 FILE STORE 1 READ STOCK 0
+12 FILE STORE 1 REWRITE STOCK 0
+13 REPLY STORE 1 T1 OK
+14 SHOW T1 1.0.1
+15 KEY T1 3
+16 CHECK T1 END
+17 APPLIED T1
+18 COMMIT T1 1
+19 FAIL TCP TCP-1 PRIMARY 1
+20 RAISE TCP-1
+21 CHECK T1 COPY
+22 APPLIED T1
+23 END T1 NOENTRIES
+?END
+";
+
+const EMPTY_TEXT: &[u8] = b"ENTRIES 0
+TMF BEGUN 0 COMMITTED 0 DROPPED 0 LEFT 0 OLDER 0 TAKEOVER 0 SERVER 0 REDO 0
+";
+
+/// The bytes of a case's deck.
+fn deck(alloc: Global, case: &Case) -> Result<Vec<u8>, Fail> {
+    let mut bytes = HEAD.to_vec(alloc)?;
+    bytes.extend_from_slice(case.terminals)?;
+    bytes.extend_from_slice(PROGRAMS)?;
+    bytes.extend_from_slice(case.sections)?;
+    Ok(bytes)
+}
+
+#[test]
+fn logs_are_counted(rt: HostRuntime) -> Result<(), Fail> {
+    for case in CASES {
+        let bytes = deck(rt.alloc(), case)?;
+        let (counted, text) = status(rt.alloc(), bytes.as_slice(), case.at)?;
+        assert!(rt; counted == case.counted);
+        assert_eq!(rt; text.as_slice(), case.text);
+    }
+    Ok(())
+}
+
+#[test]
+fn an_empty_deck_is_counted(rt: HostRuntime) -> Result<(), Fail> {
+    let (counted, text) = status(rt.alloc(), b"?END\n", 7)?;
+    assert!(rt; counted == Counted::Run);
+    assert_eq!(rt; text.as_slice(), EMPTY_TEXT);
+    Ok(())
+}
