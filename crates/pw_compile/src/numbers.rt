@@ -10,9 +10,8 @@ use pw_base::memory::Memory;
 use pw_data::literal::number_of;
 use pw_number::scaled::Scaled;
 
-/// The sum of two sizes or places. It is an `Err` where it does not fit, where the code would
-/// have no
-/// memory either.
+/// The sum of two sizes or places. It is an `Err` where it does not fit, where the code would have
+/// no memory either.
 pub fn add(a: u32, b: u32) -> Result<u32, Memory>
     ensures sum { IfOk result (λ sum. sum ≡ a + b) }
     ensures fits { IfOk result (λ sum. sum < 2 ^ 32) }
