@@ -29,7 +29,7 @@ use Rattle.pw_monitor_world.specs.declared.answers.Applied.TheVariants as applie
 use Rattle.pw_monitor_world.specs.declared.task.Outcome.{Outcome}
 use Rattle.pw_roster.specs.declared.actor.Actor.{Actor}
 use Rattle.pw_steps.specs.Steps as steps
-use Rattle.pw_world_laws.proofs.Finding.{is-built, not-unbuilt}
+use Rattle.pw_monitor.proofs.FoundEnabled.{is-built, not-unbuilt}
 
 -- ---- a step of an actor that has been read
 

@@ -29,9 +29,9 @@ use Rattle.pw_roster.specs.declared.actor.Actor.{Actor}
 use Rattle.pw_roster.specs.declared.actor.Actor.TheVariants as actor
 use Rattle.pw_steps.specs.Actors.{IsActorIn}
 use Rattle.pw_steps.specs.Steps.{IsStepFound}
-use Rattle.pw_world_laws.proofs.Finding.{all-unbuilt, none-has, some-shows}
-use Rattle.pw_world_laws.specs.OwnValues.{HasOwnValues}
-use Rattle.pw_world_laws.specs.Undue.{IsUndue}
+use Rattle.pw_monitor.proofs.FoundEnabled.{all-unbuilt, none-has, some-shows}
+use Rattle.pw_monitor.specs.OwnValues.{HasOwnValues}
+use Rattle.pw_monitor.specs.Undue.{IsUndue}
 
 -- ---- actors
 

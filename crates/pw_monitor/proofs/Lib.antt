@@ -1,11 +1,15 @@
 mod Applying
+mod Baring
 mod Books
 mod Claiming
 mod Entering
 mod Filing
+mod FoundEnabled
 mod FoundSteps
+mod KnownWorlds
 mod Lending
 mod Listing
+mod Making
 mod Named
 mod Noting
 mod Pushing
@@ -18,5 +22,6 @@ mod Screens
 mod ShownValues
 mod Stamped
 mod Starting
+mod Testing
 mod Touching
 mod Workers

@@ -1,11 +1,14 @@
 pub mod Applying
+pub mod Bare
 pub mod Bookings
 pub mod Entering
 pub mod Found
 pub mod Judging
 pub mod Ledgers
+pub mod OwnValues
 pub mod Owners
 pub mod PutBack
 pub mod Running
 pub mod States
 pub mod Touched
+pub mod Undue

@@ -10,7 +10,7 @@ ghost use Rattle.pw_kept.specs.Entered.{copied};
 ghost use Rattle.pw_kept.specs.May.{IsThere};
 ghost use Rattle.pw_kept.specs.Read.{AreValued, ClosedValues, OwnValues};
 ghost use Rattle.pw_monitor_world.specs.Actors.{IsActor};
-ghost use Rattle.pw_world_laws.specs.OwnValues.{HasOwnValues, TerminalHasValues};
+ghost use Rattle.pw_monitor.specs.OwnValues.{HasOwnValues, TerminalHasValues};
 
 use crate::values::know_values;
 use crate::world::World;

@@ -13,6 +13,7 @@ mod finding;
 pub mod holds;
 mod judging;
 mod knowing;
+mod laws;
 mod ledger;
 pub mod lend;
 mod push;

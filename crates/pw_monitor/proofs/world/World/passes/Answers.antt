@@ -9,8 +9,8 @@ use Rattle.pw_monitor.specs.States.{WorldState, seen}
 use Rattle.pw_monitor_world.specs.Pushed.{CanPush}
 use Rattle.pw_monitor_world.specs.Seen.{state_of, sys_of}
 use Rattle.pw_paired.specs.Step.{Legal}
-use Rattle.pw_world_laws.proofs.Baring.{bare}
-use Rattle.pw_world_laws.proofs.Knowing.{is-known}
+use Rattle.pw_monitor.proofs.Baring.{bare}
+use Rattle.pw_monitor.proofs.KnownWorlds.{is-known}
 use Rattle.pw_monitor.proofs.world.World.passes.Goals as goal
 
 pub may-requires-clause-known : goal.may-requires-clause-known

@@ -5,8 +5,8 @@ use Rattle.pw_monitor.specs.Found.{FindsStep}
 use Rattle.pw_monitor.specs.Ledgers.{books_of}
 use Rattle.pw_monitor.specs.States.{WorldState, seen}
 use Rattle.pw_steps.specs.Steps.{IsStepFound}
-use Rattle.pw_world_laws.proofs.Baring.{bare}
-use Rattle.pw_world_laws.proofs.Knowing.{is-known}
+use Rattle.pw_monitor.proofs.Baring.{bare}
+use Rattle.pw_monitor.proofs.KnownWorlds.{is-known}
 use Rattle.pw_monitor.proofs.world.World.plain_step.Goals as goal
 
 pub step-requires-clause-actor : goal.step-requires-clause-actor

@@ -8,8 +8,8 @@ use Rattle.pw_monitor.specs.States.{IsMonitor, WorldState, seen}
 use Rattle.pw_monitor_world.specs.Dues.{DueBook, IsOwner, count_of}
 use Rattle.pw_tmf.specs.declared.answer.DiscFault.{DiscFault}
 use Rattle.pw_tmf.specs.declared.answer.DiscFault.TheVariants as fault
-use Rattle.pw_world_laws.proofs.Baring.{bare}
-use Rattle.pw_world_laws.proofs.Making.{can-act}
+use Rattle.pw_monitor.proofs.Baring.{bare}
+use Rattle.pw_monitor.proofs.Making.{can-act}
 use Rattle.pw_monitor.proofs.world.World.push.Goals as goal
 
 pub make-requires-after_bounds : goal.make-requires-after_bounds

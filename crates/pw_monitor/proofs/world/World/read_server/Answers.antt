@@ -6,7 +6,7 @@ use Rattle.pw_class.specs.Book.{IsAt}
 use Rattle.pw_monitor.proofs.ReadFor.{busy-read, none-works, waits}
 use Rattle.pw_monitor.specs.Ledgers.{books_of}
 use Rattle.pw_monitor.specs.States.{WorldState, seen}
-use Rattle.pw_world_laws.proofs.Baring.{bare}
+use Rattle.pw_monitor.proofs.Baring.{bare}
 use Rattle.pw_monitor.proofs.world.World.read_server.Goals as goal
 
 pub returns-in-Some-Busy-clause-read : goal.returns-in-Some-Busy-clause-read

@@ -24,9 +24,9 @@ ghost use Rattle.pw_steps.specs.Known.{IsKnown};
 ghost use Rattle.pw_steps.specs.Steps as steps;
 ghost use Rattle.pw_steps.specs.Steps.{IsStepFound, IsStepOf};
 ghost use Rattle.pw_tmf.specs.Told.{Told};
-ghost use Rattle.pw_world_laws.specs.Bare.{IsBare};
-ghost use Rattle.pw_world_laws.specs.OwnValues.{HasOwnValues};
-ghost use Rattle.pw_world_laws.specs.Undue.{IsUndue};
+ghost use Rattle.pw_monitor.specs.Bare.{IsBare};
+ghost use Rattle.pw_monitor.specs.OwnValues.{HasOwnValues};
+ghost use Rattle.pw_monitor.specs.Undue.{IsUndue};
 
 /// An entry of a world that can be pushed can be made.
 pub fn act_laws()

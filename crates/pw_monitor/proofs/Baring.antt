@@ -12,7 +12,7 @@ use Rattle.pw_seats.specs.Jobs.{context_of}
 use Rattle.pw_seats.specs.declared.job.Job.{Job}
 use Rattle.pw_seats.specs.declared.seat.Seat.{Seat}
 use Rattle.pw_tmf.specs.Told.{Told}
-use Rattle.pw_world_laws.specs.Bare.{IsBare}
+use Rattle.pw_monitor.specs.Bare.{IsBare}
 
 same-if : {A : Type 0} (b : Bool) (x : A) → (if b then x else x) ≡ x
 same-if true x = refl

@@ -18,7 +18,7 @@ use Rattle.pw_paired.specs.State.{Awaited}
 use Rattle.pw_steps.specs.Known.{IsFewCounted, IsKnown}
 use Rattle.pw_tmf.specs.Operation.{IsCall}
 use Rattle.pw_tmf.specs.Units.{IsRunning}
-use Rattle.pw_world_laws.specs.Bare.{IsBare}
+use Rattle.pw_monitor.specs.Bare.{IsBare}
 
 module _ (world : Seen) (books : Books) (w : IsWorld world books) (bare : IsBare world.system world.kept) where
   few : (context : Context) → HasRoom context → IsFewCounted context

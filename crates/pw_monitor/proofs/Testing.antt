@@ -24,7 +24,7 @@ use Rattle.pw_monitor_world.proofs.Rooms as rooms
 use Rattle.pw_monitor_world.proofs.Steps.{due-same, passes-shown, shows, there}
 use Rattle.pw_monitor_world.proofs.Values.{closed-values}
 use Rattle.pw_paired.specs.Step.{Legal, line_wanted}
-use Rattle.pw_world_laws.specs.OwnValues.{HasOwnValues}
+use Rattle.pw_monitor.specs.OwnValues.{HasOwnValues}
 
 -- the entry is CHECK COPY
 abbrev is_copy : Event → Bool

@@ -1,5 +1,5 @@
-use Rattle.pw_world_laws.proofs.Finding.{all-unbuilt, is-built, none-has, not-unbuilt, some-shows}
-use Rattle.pw_world_laws.proofs.laws.found_laws.Goals as goal
+use Rattle.pw_monitor.proofs.FoundEnabled.{all-unbuilt, is-built, none-has, not-unbuilt, some-shows}
+use Rattle.pw_monitor.proofs.laws.found_laws.Goals as goal
 
 pub returns-clause-some : goal.returns-clause-some
 returns-clause-some c world books actor entry w undue unfinished values step = some-shows world books w actor entry undue unfinished values step

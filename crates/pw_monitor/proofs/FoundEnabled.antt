@@ -21,9 +21,9 @@ use Rattle.pw_roster.specs.declared.actor.Actor.{Actor}
 use Rattle.pw_serial.specs.Guarded.{is_fail}
 use Rattle.pw_steps.specs.Actors.{actor_in}
 use Rattle.pw_steps.specs.Steps.{IsStepFound, IsStepOf, IsUnbuilt}
-use Rattle.pw_world_laws.proofs.Testing.{own-passes, own-shows}
-use Rattle.pw_world_laws.specs.OwnValues.{HasOwnValues}
-use Rattle.pw_world_laws.specs.Undue.{IsUndue}
+use Rattle.pw_monitor.proofs.Testing.{own-passes, own-shows}
+use Rattle.pw_monitor.specs.OwnValues.{HasOwnValues}
+use Rattle.pw_monitor.specs.Undue.{IsUndue}
 
 -- the entry is none of a failure line, since none is due
 undue-plain : (entry : Event) → line_wanted entry ≡ None → is_fail entry ≡ false

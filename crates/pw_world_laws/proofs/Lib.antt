@@ -1,5 +1,0 @@
-pub mod Baring
-pub mod Finding
-pub mod Knowing
-pub mod Making
-pub mod Testing
