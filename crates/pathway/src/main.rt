@@ -24,7 +24,7 @@ use pw_base::memory::Memory;
 use pw_base::read_source::ReadSource;
 use pw_base::write_sink::WriteSink;
 use pw_call::status::Status;
-use pw_workers::gate::NoGate;
+use pw_run::gate::NoGate;
 use std::alloc::Global;
 use std::env::{self, Args};
 use std::io::ErrorKind;

@@ -15,7 +15,7 @@ use pw_base::source::Source;
 use pw_call::output::or_memory;
 use pw_call::status::Status;
 use pw_command::words::{Command, Words};
-use pw_workers::gate::Gate;
+use pw_run::gate::Gate;
 use std::alloc::Global;
 use std::sync::Wait;
 use std::thread::Threads;

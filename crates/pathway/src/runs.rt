@@ -20,7 +20,7 @@ use pw_disc_run::ending::PairRan;
 use pw_disc_run::run::run as run_pair;
 use pw_recover::ending::Recovered;
 use pw_recover::recover::trail;
-use pw_workers::gate::Gate;
+use pw_run::gate::Gate;
 use std::alloc::Global;
 use std::sync::Wait;
 use std::thread::Threads;

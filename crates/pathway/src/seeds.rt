@@ -10,7 +10,7 @@ use pw_base::memory::Memory;
 use pw_call::status::Status;
 use pw_desk::trial::trial;
 use pw_gen::generate::generate;
-use pw_workers::gate::Gate;
+use pw_run::gate::Gate;
 use std::alloc::Global;
 use std::sync::Wait;
 use std::thread::Threads;

@@ -12,7 +12,7 @@ use pw_base::sink::Sink;
 use pw_base::source::Source;
 use pw_call::output::written;
 use pw_call::status::Status;
-use pw_workers::gate::Gate;
+use pw_run::gate::Gate;
 use std::alloc::Global;
 use std::sync::Wait;
 use std::thread::Threads;

@@ -15,7 +15,7 @@ use pw_run::ending::Ended;
 use pw_run::over::{Over, run_over};
 use pw_run::taken::let_go;
 use pw_tmf::tmf::Tmf;
-use pw_workers::gate::Gate;
+use pw_run::gate::Gate;
 use std::alloc::Global;
 use std::sync::Wait;
 use std::thread::Threads;

@@ -16,7 +16,7 @@ use pw_generated::laws::generated_laws;
 use pw_run::ending::Ended;
 use pw_run::taken::files_of;
 use pw_whole::deck::{Deck, read};
-use pw_workers::gate::Gate;
+use pw_run::gate::Gate;
 use std::alloc::Global;
 use std::sync::Wait;
 use std::thread::Threads;

@@ -19,7 +19,7 @@ use pw_disc_call::script::DiscScript;
 use pw_event::script::Script;
 use pw_run::over::{Over, run_over};
 use pw_run::taken::{let_go, report_of};
-use pw_workers::gate::Gate;
+use pw_run::gate::Gate;
 use std::alloc::Global;
 use std::sync::Wait;
 use std::thread::Threads;

@@ -13,7 +13,7 @@ use pw_run::taken::let_go;
 use pw_runs::laws::ending_laws;
 use pw_serial::laws::runs_are_serializable;
 use pw_whole::deck::{Deck, read};
-use pw_workers::gate::Gate;
+use pw_run::gate::Gate;
 use std::alloc::Global;
 use std::sync::Wait;
 use std::thread::Threads;

@@ -28,7 +28,7 @@ use Rattle.pw_trail.specs.Committing.{LeadsTo}
 use Rattle.pw_trail.specs.Files.{files_after, files_read}
 use Rattle.pw_trail.specs.declared.changes.UnitChanges.{UnitChanges}
 use Rattle.pw_volume.specs.Life.{Life}
-use Rattle.pw_workers.specs.Ends.{GoesOn, IsFor}
+use Rattle.pw_run.specs.Ends.{GoesOn, IsFor}
 
 over : (files : List FileInfo) (life : Life) (fit events : ℕ) (sys : Behaviour) (log : List Event) (ended : Ended)
     → EndsAs ended events sys log → EndsOver (as_recovered ended) life fit files events sys log

@@ -28,7 +28,7 @@ use pw_run::over::{Over, run_over};
 use pw_tmf::laws::committed_laws;
 use pw_trail::trail::Trail;
 use pw_volume::mem_disk::MemDisk;
-use pw_workers::gate::Gate;
+use pw_run::gate::Gate;
 use std::alloc::Global;
 use std::sync::Wait;
 use std::thread::Threads;

@@ -5,3 +5,6 @@ pub mod ending;
 pub mod over;
 pub mod run;
 pub mod taken;
+
+/// The gate of the workers, which the signature of each run names.
+pub use pw_workers::gate;
