@@ -6,6 +6,7 @@ mod opening;
 mod reports;
 mod rounds;
 mod runs;
+mod statuses;
 
 use opening::{Opened, open};
 use pw_event::event::Event;

@@ -5,7 +5,5 @@ mod entering;
 mod meeting;
 mod noting;
 pub mod status;
-#[cfg(test)]
-mod tests;
 mod text;
 pub mod watch;

@@ -1,5 +1,7 @@
-use crate::status::{Counted, status};
-use std::alloc::Global;
+//! Logs of decks of stocks, and their status texts.
+
+use crate::tests::decks::{SECOND, stocks};
+use pw_watch::status::{Counted, status};
 use std::test::Fail;
 
 /// A deck with a log, how many entries of this are counted, and what they come to.
@@ -13,7 +15,7 @@ struct Case {
 
 const CASES: &[Case] = &[
     Case {
-        terminals: TWO_TERMINALS,
+        terminals: SECOND,
         sections: OLDER_UNIT_WINS,
         at: 19,
         counted: Counted::Run,
@@ -49,93 +51,7 @@ TMF BEGUN 1 COMMITTED 1 DROPPED 0 LEFT 0 OLDER 0 TAKEOVER 0 SERVER 0 REDO 0
     },
 ];
 
-const HEAD: &[u8] = b"?PATHCOM
-SET SERVER PROGRAM STORE-P
-SET SERVER MAXSERVERS 2
-ADD SERVER STORE
-ADD TCP TCP-1
-START TCP TCP-1
-SET TERM TCP TCP-1
-SET TERM INITIAL KEYS
-ADD TERM T1
-START TERM T1
-";
-
-const TWO_TERMINALS: &[u8] = b"ADD TERM T2
-START TERM T2
-";
-
-const PROGRAMS: &[u8] = b"?SCREEN-COBOL KEYS
-IDENTIFICATION DIVISION.
-PROGRAM-ID. KEYS.
-DATA DIVISION.
-WORKING-STORAGE SECTION.
-01 MSG.
-  02 M-OP PIC X.
-  02 M-REC.
-    03 M-KEY PIC XX.
-    03 M-N PIC 9(4).
-01 ANS.
-  02 A-CODE PIC 9(4).
-  02 A-STATUS PIC 9(4).
-  02 A-REC PIC X(6).
-SCREEN SECTION.
-01 ASK.
-  02 FILLER AT 1, 1 VALUE \"OP KEY N\".
-  02 F-OP AT 2, 1 PIC X USING M-OP.
-  02 F-KEY AT 2, 4 PIC XX USING M-KEY.
-  02 F-N AT 2, 8 PIC 9(4) USING M-N.
-PROCEDURE DIVISION.
-P1.
-  PERFORM P2 UNTIL M-OP = \"Z\".
-  STOP RUN.
-P2.
-  ACCEPT ASK UNTIL F1, F2, F3, F4, F5.
-  PERFORM ONE OF P3, P4, P5, P6, P7
-    DEPENDING ON TERMINATION-STATUS.
-P3.
-  SEND MSG TO STORE REPLY CODE 0 YIELDS ANS.
-  DISPLAY ANS.
-P4.
-  BEGIN-TRANSACTION.
-P5.
-  END-TRANSACTION.
-P6.
-  ABORT-TRANSACTION.
-P7.
-  RESTART-TRANSACTION.
-?SERVER STORE-P
-IDENTIFICATION DIVISION.
-PROGRAM-ID. STORE-P.
-DATA DIVISION.
-WORKING-STORAGE SECTION.
-01 MSG.
-  02 M-OP PIC X.
-  02 M-REC.
-    03 M-KEY PIC XX.
-    03 M-N PIC 9(4).
-01 ANS.
-  02 A-CODE PIC 9(4).
-  02 A-STATUS PIC 9(4).
-  02 A-REC PIC X(6).
-PROCEDURE DIVISION.
-P1.
-  READ $RECEIVE INTO MSG.
-  IF M-OP = \"R\" READ STOCK KEY M-KEY INTO A-REC.
-  IF M-OP = \"N\" READ NEXT STOCK AFTER M-KEY INTO A-REC.
-  IF M-OP = \"W\" WRITE STOCK FROM M-REC.
-  IF M-OP = \"U\" REWRITE STOCK FROM M-REC.
-  IF M-OP = \"D\" DELETE STOCK KEY M-KEY.
-  IF M-OP = \"I\" READ STOCK KEY M-KEY INTO M-REC
-    ADD 1 TO M-N REWRITE STOCK FROM M-REC
-    MOVE M-REC TO A-REC.
-  MOVE FILE-STATUS TO A-STATUS.
-  WRITE $RECEIVE FROM ANS.
-?FILE STOCK KEY 2
-A10005
-B10007
-";
-
+/// Two terminals want one record, and the younger unit restarts.
 const OLDER_UNIT_WINS: &[u8] = b"?ENTRIES T1
 F1 F-OP=I F-KEY=A1
 ?ENTRIES T2
@@ -172,9 +88,9 @@ F1 F-OP=I F-KEY=A1
 29 SHOW T2 2.0.1
 30 END T1 NOENTRIES
 31 END T2 NOENTRIES
-?END
 ";
 
+/// A pair is raised before its takeover.
 const RAISE_BEFORE_TAKEOVER: &[u8] = b"?ENTRIES T1
 F2
 F1 F-OP=I F-KEY=A1
@@ -205,35 +121,21 @@ TCP TCP-1 PRIMARY AFTER 14
 21 CHECK T1 COPY
 22 APPLIED T1
 23 END T1 NOENTRIES
-?END
 ";
 
+/// The status text of a deck without a section.
 const EMPTY_TEXT: &[u8] = b"ENTRIES 0
 TMF BEGUN 0 COMMITTED 0 DROPPED 0 LEFT 0 OLDER 0 TAKEOVER 0 SERVER 0 REDO 0
 ";
 
-/// The bytes of a case's deck.
-fn deck(alloc: Global, case: &Case) -> Result<Vec<u8>, Fail> {
-    let mut bytes = HEAD.to_vec(alloc)?;
-    bytes.extend_from_slice(case.terminals)?;
-    bytes.extend_from_slice(PROGRAMS)?;
-    bytes.extend_from_slice(case.sections)?;
-    Ok(bytes)
-}
-
 #[test]
 fn logs_are_counted(rt: HostRuntime) -> Result<(), Fail> {
     for case in CASES {
-        let bytes = deck(rt.alloc(), case)?;
-        let (counted, text) = status(rt.alloc(), bytes.as_slice(), case.at)?;
+        let deck = stocks(rt.alloc(), case.terminals, case.sections)?;
+        let (counted, text) = status(rt.alloc(), deck.as_slice(), case.at)?;
         assert!(rt; counted == case.counted);
         assert_eq!(rt; text.as_slice(), case.text);
     }
-    Ok(())
-}
-
-#[test]
-fn an_empty_deck_is_counted(rt: HostRuntime) -> Result<(), Fail> {
     let (counted, text) = status(rt.alloc(), b"?END\n", 7)?;
     assert!(rt; counted == Counted::Run);
     assert_eq!(rt; text.as_slice(), EMPTY_TEXT);
