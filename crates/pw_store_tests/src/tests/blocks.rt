@@ -1,9 +1,9 @@
 ghost use Rattle.std.specs.Prelude.{◌≡◌, ◌≤◌, IfOk, OnOk};
 ghost use Rattle.pw_files.specs.Records.{IsContent};
 
-use pw_blocks::block_file::BlockFile;
 use pw_base::bytes::Bytes;
 use pw_base::memory::Memory;
+use pw_blocks::block_file::BlockFile;
 use pw_files::record_file::RecordFile;
 use pw_files::sorted_file::SortedFile;
 use std::alloc::Global;

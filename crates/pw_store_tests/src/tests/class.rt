@@ -2,12 +2,12 @@ ghost use Rattle.std.specs.Prelude.{◌≡◌, ◌≤◌, [], length, map, All, 
 ghost use Rattle.pw_code.specs.Names.{AreNames};
 ghost use Rattle.pw_code.specs.Valid.{IsValid};
 
-use pw_class::book::ClassBook;
-use pw_class::laws::take_laws;
-use pw_class::request::{Place, Request, Taken};
 use pw_base::bytes::Bytes;
 use pw_base::list::List;
 use pw_base::memory::Memory;
+use pw_class::book::ClassBook;
+use pw_class::laws::take_laws;
+use pw_class::request::{Place, Request, Taken};
 use pw_code::code::Code;
 use pw_code::lock::LockRule;
 use pw_code::system::{ClassInfo, System};

@@ -1,34 +1,22 @@
-mod fresh;
-
-ghost use Rattle.std.specs.Prelude.{◌≡◌, ◌<◌, ◌≤◌, true, false, length, IfOk, OnOk};
-ghost use Rattle.pw_onecopy.specs.IsBehaviour.{is_written};
+ghost use Rattle.std.specs.Prelude.{◌<◌, IfOk, OnOk};
+ghost use Rattle.pw_disc.specs.Pair.{state_of};
 ghost use Rattle.pw_tmf.specs.TwoUnits.{AreBoth, IsFresh, IsTestCall};
 
-use pw_disc::standing::Standing;
-use fresh::started;
-use pw_base::bytes::Bytes;
+use crate::tests::fresh::system;
+use crate::tests::units::{
+    OLDER, begin_both, by_key, expect_records, older_does, writing, younger_does,
+};
+use pw_base::list::List;
 use pw_base::memory::Memory;
 use pw_code::file::{FileCall, FileOp};
-use pw_code::unit::Unit;
-use pw_disc_call::script::DiscLine;
-use pw_tmf::answer::{DiscFault, FileAnswer};
+use pw_disc::pair::DiscPair;
+use pw_disc::standing::Standing;
+use pw_disc_call::script::{DiscLine, DiscScript};
+use pw_tmf::answer::FileAnswer;
 use pw_tmf::disc::Disc;
 use std::alloc::Global;
 use std::process::Abort;
 use std::test::Fail;
-
-/// A unit of the first terminal, and a younger one of the second.
-const OLDER: Unit = Unit {
-    terminal: 0,
-    number: 1,
-    birth: 0,
-};
-
-const YOUNGER: Unit = Unit {
-    terminal: 1,
-    number: 1,
-    birth: 1,
-};
 
 /// What stands in the place of a status where an operation meets a lock, and where a call fails.
 const MEETS_LOCK: u16 = 100;
@@ -38,32 +26,16 @@ const FAILED: u16 = 200;
 /// How many statuses a run has.
 const STATUSES: usize = 18;
 
-/// An operation on the first file by a key of 2 characters.
-fn by_key(alloc: Global, op: FileOp, key: &[u8]) -> Result<FileCall, Memory>
-    requires op { is_written op ≡ false }
-    requires key { length key.now ≡ 2 }
-    ensures { IfOk result IsTestCall }
+/// The disc of the test system, on which no unit has begun, kept by a pair whose members fail by these lines.
+fn started(alloc: Global, lines: &[DiscLine]) -> Result<DiscPair, Memory>
+    ensures { IfOk result (λ pair. IsFresh (state_of pair).told) }
 {
-    Ok(FileCall {
-        file: 0,
-        op,
-        key: Bytes::from_slice(alloc, key)?,
-        content: Bytes::new(alloc),
-    })
-}
-
-/// An operation that writes a record of the first file.
-fn writing(alloc: Global, op: FileOp, content: &[u8]) -> Result<FileCall, Memory>
-    requires op { is_written op ≡ true }
-    requires content { (2 ≤ length content.now) × (length content.now ≤ 100) }
-    ensures { IfOk result IsTestCall }
-{
-    Ok(FileCall {
-        file: 0,
-        op,
-        key: Bytes::new(alloc),
-        content: Bytes::from_slice(alloc, content)?,
-    })
+    let made = system(alloc)?;
+    let script = DiscScript {
+        lines: List::from_vec(Vec::from_slice(alloc, lines)?),
+    };
+    let pair = DiscPair::new(alloc, &made, script)?;
+    Ok(pair)
 }
 
 /// One of five operations in turn: a WRITE, the same again, a REWRITE, a READ NEXT behind the last record, a DELETE.
@@ -94,34 +66,6 @@ fn status_of(answer: &FileAnswer) -> u16 {
         FileAnswer::Conflict(_) => MEETS_LOCK,
         FileAnswer::Failed | FileAnswer::Memory => FAILED,
     }
-}
-
-/// Begins both units.
-fn begin_both<D: Disc>(disc: &mut D) -> Result<(), DiscFault>
-    requires { IsFresh (D.told disc.old) }
-    ensures { OnOk result (AreBoth (D.told disc.new)) }
-{
-    disc.begin(&OLDER)?;
-    disc.begin(&YOUNGER)?;
-    Ok(())
-}
-
-/// Does an operation of the older unit.
-fn older_does<D: Disc>(disc: &mut D, call: &FileCall) -> FileAnswer
-    requires both { AreBoth (D.told disc.old) }
-    requires call { IsTestCall call.now }
-    ensures { AreBoth (D.told disc.new) }
-{
-    disc.operate(&OLDER, call)
-}
-
-/// Does an operation of the younger unit.
-fn younger_does<D: Disc>(disc: &mut D, call: &FileCall) -> FileAnswer
-    requires both { AreBoth (D.told disc.old) }
-    requires call { IsTestCall call.now }
-    ensures { AreBoth (D.told disc.new) }
-{
-    disc.operate(&YOUNGER, call)
 }
 
 /// Commits the older unit. Tells whether it did.
@@ -158,23 +102,6 @@ fn expect_statuses(rt: &impl Abort, statuses: &[u16], failed_from: usize) {
             assert_eq!(rt; *status, FAILED, "call {place}");
         }
     }
-}
-
-/// The committed records of the first file.
-fn expect_records<D: Disc>(
-    rt: &impl Abort,
-    alloc: Global,
-    disc: &D,
-    records: &[&[u8]],
-) -> Result<(), Memory>
-    requires { 0 < (D.told disc.now).file_count }
-{
-    let committed = disc.committed(alloc, 0)?;
-    assert_eq!(rt; committed.len(), records.len());
-    for (found, wanted) in committed.iter().zip(records) {
-        assert_eq!(rt; found.as_slice(), *wanted);
-    }
-    Ok(())
 }
 
 /// Asserts what twenty calls come to under one line.

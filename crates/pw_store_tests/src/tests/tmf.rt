@@ -1,68 +1,27 @@
-mod fresh;
-
-ghost use Rattle.std.specs.Prelude.{◌≡◌, ◌<◌, ◌≤◌, true, false, length, IfOk, OnOk};
-ghost use Rattle.pw_onecopy.specs.IsBehaviour.{is_written};
+ghost use Rattle.std.specs.Prelude.{◌≡◌, ◌<◌, OnOk};
 ghost use Rattle.pw_tmf.specs.TwoUnits.{AreBoth, IsFresh, IsTestCall};
 
-use pw_tmf::answer::{DiscFault, FileAnswer, Foreseen};
-use pw_tmf::disc::Disc;
-use pw_tmf::faulty::Faulty;
-use pw_tmf::operation::copied;
-use fresh::{bytes, started};
+use crate::tests::fresh::{bytes, started};
+use crate::tests::units::{
+    OLDER, YOUNGER, begin_both, by_key, commit, expect_records, older_does, writing, younger_does,
+};
 use pw_base::bytes::Bytes;
 use pw_base::memory::Memory;
 use pw_code::file::{FileCall, FileOp};
 use pw_code::unit::Unit;
+use pw_tmf::answer::{DiscFault, FileAnswer, Foreseen};
+use pw_tmf::disc::Disc;
+use pw_tmf::faulty::Faulty;
 use std::alloc::Global;
 use std::process::Abort;
 use std::test::Fail;
 
-/// A unit of the first terminal, a younger one of the second, and a still younger one of the third.
-const OLDER: Unit = Unit {
-    terminal: 0,
-    number: 1,
-    birth: 0,
-};
-
-const YOUNGER: Unit = Unit {
-    terminal: 1,
-    number: 1,
-    birth: 1,
-};
-
+/// A still younger unit of the third terminal.
 const THIRD: Unit = Unit {
     terminal: 2,
     number: 1,
     birth: 2,
 };
-
-/// An operation on the first file by a key of 2 characters.
-fn by_key(alloc: Global, op: FileOp, key: &[u8]) -> Result<FileCall, Memory>
-    requires op { is_written op ≡ false }
-    requires key { length key.now ≡ 2 }
-    ensures { IfOk result IsTestCall }
-{
-    Ok(FileCall {
-        file: 0,
-        op,
-        key: bytes(alloc, key)?,
-        content: Bytes::new(alloc),
-    })
-}
-
-/// An operation that writes a record of the first file.
-fn writing(alloc: Global, op: FileOp, content: &[u8]) -> Result<FileCall, Memory>
-    requires op { is_written op ≡ true }
-    requires content { (2 ≤ length content.now) × (length content.now ≤ 100) }
-    ensures { IfOk result IsTestCall }
-{
-    Ok(FileCall {
-        file: 0,
-        op,
-        key: Bytes::new(alloc),
-        content: bytes(alloc, content)?,
-    })
-}
 
 /// The answer of an operation that was done.
 fn expect_done(rt: &impl Abort, answer: FileAnswer, status: u16, content: Option<&[u8]>) {
@@ -76,51 +35,6 @@ fn expect_done(rt: &impl Abort, answer: FileAnswer, status: u16, content: Option
         }
         _ => panic!(rt; "not done"),
     }
-}
-
-/// The committed records of the first file.
-fn expect_records<D: Disc>(
-    rt: &impl Abort,
-    alloc: Global,
-    disc: &D,
-    records: &[&[u8]],
-) -> Result<(), Memory>
-    requires { 0 < (D.told disc.now).file_count }
-{
-    let committed = disc.committed(alloc, 0)?;
-    assert_eq!(rt; committed.len(), records.len());
-    for (found, wanted) in committed.iter().zip(records) {
-        assert_eq!(rt; found.as_slice(), *wanted);
-    }
-    Ok(())
-}
-
-/// Begins both units.
-fn begin_both<D: Disc>(disc: &mut D) -> Result<(), DiscFault>
-    requires { IsFresh (D.told disc.old) }
-    ensures { OnOk result (AreBoth (D.told disc.new)) }
-{
-    disc.begin(&OLDER)?;
-    disc.begin(&YOUNGER)?;
-    Ok(())
-}
-
-/// Does an operation of the older unit.
-fn older_does<D: Disc>(disc: &mut D, call: &FileCall) -> FileAnswer
-    requires both { AreBoth (D.told disc.old) }
-    requires call { IsTestCall call.now }
-    ensures { AreBoth (D.told disc.new) }
-{
-    disc.operate(&OLDER, call)
-}
-
-/// Does an operation of the younger unit.
-fn younger_does<D: Disc>(disc: &mut D, call: &FileCall) -> FileAnswer
-    requires both { AreBoth (D.told disc.old) }
-    requires call { IsTestCall call.now }
-    ensures { AreBoth (D.told disc.new) }
-{
-    disc.operate(&YOUNGER, call)
 }
 
 /// Whether the younger unit waits for the older one.
@@ -197,13 +111,12 @@ fn expect_none_ended<D: Disc>(rt: &impl Abort, disc: &D)
     assert!(rt; disc.ended(0).is_none());
 }
 
-/// Commits the younger unit.
-fn commit<D: Disc>(disc: &mut D, reply: Option<Bytes>) -> Result<(), DiscFault>
-    requires { AreBoth (D.told disc.old) }
-    ensures files { OnOk result (0 < (D.told disc.new).file_count) }
-    ensures terminals { OnOk result ((D.told disc.new).terminals ≡ 3) }
-{
-    disc.commit(&YOUNGER, reply)
+/// A copy of a reply, if there is one.
+fn copied(alloc: Global, reply: Option<&[u8]>) -> Result<Option<Bytes>, Memory> {
+    Ok(match reply {
+        Some(text) => Some(bytes(alloc, text)?),
+        None => None,
+    })
 }
 
 /// The younger unit meets the locks of the older one; its before-images are put back.

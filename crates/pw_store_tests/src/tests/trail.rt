@@ -1,15 +1,15 @@
 ghost use Rattle.std.specs.Prelude.{◌≡◌, [], IfOk};
 ghost use Rattle.pw_trail.specs.OneFile.{one_file};
 
+use pw_base::bytes::Bytes;
+use pw_base::list::List;
+use pw_base::memory::Memory;
+use pw_code::file::FileInfo;
 use pw_trail::append::format;
 use pw_trail::changes::{Change, Kind, UnitChanges};
 use pw_trail::fault::OpenFault;
 use pw_trail::log::Log;
 use pw_trail::recover::Recovery;
-use pw_base::bytes::Bytes;
-use pw_base::list::List;
-use pw_base::memory::Memory;
-use pw_code::file::FileInfo;
 use pw_volume::disk::Disk;
 use pw_volume::mem_disk::MemDisk;
 use std::alloc::Global;

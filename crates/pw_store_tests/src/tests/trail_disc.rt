@@ -1,35 +1,19 @@
-mod fresh;
-
-ghost use Rattle.std.specs.Prelude.{IfOk, OnOk};
+ghost use Rattle.std.specs.Prelude.{IfOk};
 ghost use Rattle.pw_tmf.specs.Faulty.{with_faults};
 ghost use Rattle.pw_tmf.specs.Tmf.{told_of};
-ghost use Rattle.pw_tmf.specs.TwoUnits.{AreBoth, IsFresh, IsTestCall};
+ghost use Rattle.pw_tmf.specs.TwoUnits.{IsFresh, IsTestCall};
 
-use pw_trail::append::format;
-use pw_trail::trail::Trail;
-use fresh::{bytes, system};
-use pw_base::bytes::Bytes;
+use crate::tests::fresh::system;
+use crate::tests::units::{begin_both, commit, writing, younger_does};
 use pw_base::memory::Memory;
 use pw_code::file::{FileCall, FileOp};
-use pw_code::unit::Unit;
-use pw_tmf::answer::{DiscFault, FileAnswer};
+use pw_tmf::answer::FileAnswer;
 use pw_tmf::disc::Disc;
+use pw_trail::append::format;
+use pw_trail::trail::Trail;
 use pw_volume::mem_disk::MemDisk;
 use std::alloc::Global;
 use std::test::Fail;
-
-/// A unit of the first terminal, and a younger one of the second.
-const OLDER: Unit = Unit {
-    terminal: 0,
-    number: 1,
-    birth: 0,
-};
-
-const YOUNGER: Unit = Unit {
-    terminal: 1,
-    number: 1,
-    birth: 1,
-};
 
 /// The trail on a disk, opened.
 fn opened(alloc: Global, disk: MemDisk) -> Result<Trail<MemDisk>, Fail>
@@ -40,44 +24,6 @@ fn opened(alloc: Global, disk: MemDisk) -> Result<Trail<MemDisk>, Fail>
         Ok(trail) => Ok(trail),
         Err((_disk, fault)) => Err(fault.into()),
     }
-}
-
-/// A REWRITE of the only record.
-fn rewrite(alloc: Global) -> Result<FileCall, Memory>
-    ensures { IfOk result IsTestCall }
-{
-    Ok(FileCall {
-        file: 0,
-        op: FileOp::Rewrite,
-        key: Bytes::new(alloc),
-        content: bytes(alloc, b"AA two")?,
-    })
-}
-
-/// Begins both units.
-fn begin_both<D: Disc>(disc: &mut D) -> Result<(), DiscFault>
-    requires { IsFresh (D.told disc.old) }
-    ensures { OnOk result (AreBoth (D.told disc.new)) }
-{
-    disc.begin(&OLDER)?;
-    disc.begin(&YOUNGER)?;
-    Ok(())
-}
-
-/// Does an operation of the younger unit.
-fn younger_does<D: Disc>(disc: &mut D, call: &FileCall) -> FileAnswer
-    requires both { AreBoth (D.told disc.old) }
-    requires call { IsTestCall call.now }
-    ensures { AreBoth (D.told disc.new) }
-{
-    disc.operate(&YOUNGER, call)
-}
-
-/// Commits the younger unit.
-fn commit<D: Disc>(disc: &mut D) -> Result<(), DiscFault>
-    requires { AreBoth (D.told disc.old) }
-{
-    disc.commit(&YOUNGER, None)
 }
 
 /// Whether the younger unit commits what it has rewritten.
@@ -91,7 +37,7 @@ fn commits<D: Disc>(disc: &mut D, call: &FileCall) -> bool
     let FileAnswer::Done { status: 0, .. } = younger_does(disc, call) else {
         return false;
     };
-    commit(disc).is_ok()
+    commit(disc, None).is_ok()
 }
 
 /// Whether the committed record is the one that was rewritten.
@@ -112,7 +58,7 @@ fn recovered(alloc: Global, calls: u64, keep: bool) -> Result<(bool, bool), Fail
     format(&mut disk)?;
     // To open it takes three of them.
     disk.stop_after(calls.saturating_add(3));
-    let call = rewrite(alloc)?;
+    let call = writing(alloc, FileOp::Rewrite, b"AA two")?;
     let mut trail = opened(alloc, disk)?;
     let committed = commits(&mut trail, &call);
     let Ok(disk) = trail.close().crash(alloc, keep) else {

@@ -3,7 +3,7 @@ use Rattle.pw_tmf.specs.Told.{Told}
 use Rattle.pw_tmf.specs.TwoUnits.{AreBoth, younger_unit}
 use Rattle.pw_tmf.specs.Units.{CanBegin, begun}
 use Rattle.pw_tmf.proofs.TwoUnitLemmas.{both-begun, older-can, younger-can}
-use Rattle.pw_store_tests.proofs.tests.tmf.begin_both.Goals as goal
+use Rattle.pw_store_tests.proofs.tests.units.begin_both.Goals as goal
 
 pub begin-requires : goal.begin-requires
 begin-requires g c = older-can (g.D.Disc.told c.args.disc.now) c.requires

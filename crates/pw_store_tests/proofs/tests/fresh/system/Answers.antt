@@ -3,7 +3,7 @@ use Rattle.std.specs.Prelude.{codes}
 use Rattle.pw_code.specs.Valid.{IsValid}
 use Rattle.pw_tmf.specs.TwoUnits.{IsTestSystem}
 use Rattle.pw_tmf.proofs.SystemLemmas.{built-is, pushed-three, terminal_named, test-parts, test-valid, test_system}
-use Rattle.pw_store_tests.proofs.tests.tmf.fresh.system.Goals as goal
+use Rattle.pw_store_tests.proofs.tests.fresh.system.Goals as goal
 
 pub returns : goal.returns
 returns c =

@@ -1,6 +1,6 @@
 use Rattle.pw_tmf.proofs.TwoUnitLemmas.{both-still, call-is}
 use Rattle.pw_tmf.specs.TwoUnits.{older_unit}
-use Rattle.pw_store_tests.proofs.tests.disc.older_does.Goals as goal
+use Rattle.pw_store_tests.proofs.tests.units.older_does.Goals as goal
 
 pub operate-requires-clause-unit : goal.operate-requires-clause-unit
 operate-requires-clause-unit g c = c.requires.both.older

@@ -1,6 +1,7 @@
 ghost use Rattle.std.specs.Prelude.{◌≡◌, [], ◌∷◌, IfOk};
 ghost use Rattle.pw_code.specs.Valid.{IsValid};
-ghost use Rattle.pw_tmf.specs.TwoUnits.{IsTestSystem, stock_file};
+ghost use Rattle.pw_tmf.specs.Tmf.{told_of};
+ghost use Rattle.pw_tmf.specs.TwoUnits.{IsFresh, IsTestSystem, stock_file};
 
 use pw_base::bytes::Bytes;
 use pw_base::list::List;
@@ -9,8 +10,10 @@ use pw_code::code::Code;
 use pw_code::file::FileInfo;
 use pw_code::lock::LockRule;
 use pw_code::system::{System, TermInfo};
+use pw_tmf::tmf::Tmf;
 use std::alloc::Global;
 
+/// A copy of a text.
 pub fn bytes(alloc: Global, text: &[u8]) -> Result<Bytes, Memory>
     ensures { IfOk result (λ made. made ≡ text.now) }
 {
@@ -106,4 +109,13 @@ pub fn system(alloc: Global) -> Result<System, Memory>
     terminals.push(terminal(alloc, b"T2")?)?;
     terminals.push(terminal(alloc, b"T3")?)?;
     Ok(system_of(alloc, programs, files, tcps, terminals))
+}
+
+/// Its disc, on which no unit has begun.
+pub fn started(alloc: Global) -> Result<Tmf, Memory>
+    ensures { IfOk result (λ tmf. IsFresh (told_of tmf)) }
+{
+    let made = system(alloc)?;
+    let tmf = Tmf::new(alloc, &made)?;
+    Ok(tmf)
 }
