@@ -8,5 +8,3 @@ mod cut;
 mod packing;
 mod pieces;
 mod splice;
-#[cfg(test)]
-mod tests;

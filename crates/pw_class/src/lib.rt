@@ -6,7 +6,5 @@ mod classes;
 pub mod laws;
 mod queue;
 pub mod request;
-#[cfg(test)]
-mod tests;
 mod twin;
 mod work;

@@ -18,7 +18,5 @@ pub mod place;
 pub mod same;
 pub mod screen;
 pub mod system;
-#[cfg(test)]
-mod tests;
 pub mod unit;
 pub mod verb;

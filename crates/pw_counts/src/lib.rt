@@ -12,5 +12,3 @@ pub mod records;
 pub mod settle;
 pub mod shown;
 pub mod tally;
-#[cfg(test)]
-mod tests;

@@ -16,7 +16,5 @@ mod parts;
 pub mod read;
 mod reading;
 mod storage;
-#[cfg(test)]
-mod tests;
 mod tree;
 pub mod words;

@@ -5,5 +5,3 @@ pub mod deck;
 pub mod named;
 pub mod parts;
 mod sections;
-#[cfg(test)]
-mod tests;

@@ -11,5 +11,3 @@ mod members;
 pub mod outcome;
 pub mod pair;
 pub mod standing;
-#[cfg(test)]
-mod tests;

@@ -8,6 +8,4 @@ pub mod fault;
 pub mod read_script;
 mod reading;
 pub mod script;
-#[cfg(test)]
-mod tests;
 pub mod units;

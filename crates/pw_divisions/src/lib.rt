@@ -7,6 +7,4 @@ pub mod divisions;
 pub mod entries;
 pub mod names;
 mod steps;
-#[cfg(test)]
-mod tests;
 mod using;

@@ -3,8 +3,6 @@
 
 mod causes;
 pub mod due;
-#[cfg(test)]
-mod due_tests;
 pub mod event;
 pub mod fail_line;
 pub mod fault;
@@ -12,10 +10,6 @@ mod fields;
 mod keyword;
 mod kinds;
 pub mod laws;
-#[cfg(test)]
-mod line_tests;
-#[cfg(test)]
-mod malformed_tests;
 mod named;
 pub mod names;
 pub mod printing;
@@ -23,6 +17,4 @@ pub mod reading;
 pub mod script;
 pub mod sentence;
 pub mod system_names;
-#[cfg(test)]
-mod tests;
 mod words;

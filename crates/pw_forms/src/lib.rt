@@ -24,9 +24,5 @@ mod piece;
 mod pieces;
 pub mod read;
 mod reading;
-#[cfg(test)]
-mod rows;
 pub mod statement;
-#[cfg(test)]
-mod tests;
 mod words;

@@ -10,5 +10,3 @@ pub mod fault;
 pub mod laws;
 mod reading;
 mod records;
-#[cfg(test)]
-mod tests;

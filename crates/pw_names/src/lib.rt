@@ -9,11 +9,7 @@ pub mod laws;
 pub mod names;
 mod operands;
 mod outside;
-#[cfg(test)]
-mod rows;
 mod scope;
 mod statements;
-#[cfg(test)]
-mod tests;
 mod verbs;
 mod wanted;

@@ -8,5 +8,3 @@ pub mod message;
 mod reply;
 mod rules;
 mod standing;
-#[cfg(test)]
-mod tests;

@@ -9,5 +9,3 @@ pub mod order;
 pub mod pair;
 pub mod seat;
 mod seats;
-#[cfg(test)]
-mod tests;

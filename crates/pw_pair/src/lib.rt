@@ -11,5 +11,3 @@ pub mod pair;
 pub mod resumed;
 pub mod seat;
 mod seats;
-#[cfg(test)]
-mod tests;

@@ -5,6 +5,4 @@ pub mod commands;
 pub mod objects;
 pub mod pathcom;
 mod reading;
-#[cfg(test)]
-mod tests;
 mod verb;

@@ -15,6 +15,4 @@ mod run;
 mod runs;
 mod store;
 mod symbols;
-#[cfg(test)]
-mod tests;
 pub mod text;

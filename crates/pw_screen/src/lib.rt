@@ -14,5 +14,3 @@ pub mod read;
 mod reading;
 mod shown;
 mod taken;
-#[cfg(test)]
-mod tests;

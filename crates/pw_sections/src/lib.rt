@@ -7,5 +7,3 @@ pub mod heading;
 mod key;
 pub mod part;
 pub mod record;
-#[cfg(test)]
-mod tests;

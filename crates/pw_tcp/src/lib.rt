@@ -5,5 +5,3 @@ pub mod laws;
 pub mod refresh;
 pub mod step;
 pub mod terminal;
-#[cfg(test)]
-mod tests;

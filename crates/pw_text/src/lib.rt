@@ -7,7 +7,5 @@ mod item;
 mod items;
 pub mod literal;
 mod quoted;
-#[cfg(test)]
-mod tests;
 pub mod token;
 pub mod tokens;

@@ -16,6 +16,4 @@ mod slot;
 mod start;
 mod stop;
 mod store;
-#[cfg(test)]
-mod tests;
 pub mod tmf;

@@ -3,8 +3,6 @@
 
 pub mod append;
 pub mod changes;
-#[cfg(test)]
-mod disc_tests;
 pub mod fault;
 pub mod laws;
 pub mod log;
@@ -16,7 +14,5 @@ pub mod restore;
 pub mod run;
 mod store;
 pub mod synced;
-#[cfg(test)]
-mod tests;
 pub mod trail;
 mod write;

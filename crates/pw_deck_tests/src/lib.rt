@@ -1,0 +1,5 @@
+//! Tests of decks: their sections, entries, lines of the log and disc scripts. They stand beside their crates, since a crate with tests is proved twice.
+#![tactic(auto)]
+
+#[cfg(test)]
+mod tests;

@@ -1,0 +1,5 @@
+//! Tests of the language: pictures, words and texts, data and forms. They stand beside their crates, since a crate with tests is proved twice.
+#![tactic(auto)]
+
+#[cfg(test)]
+mod tests;

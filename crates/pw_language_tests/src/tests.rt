@@ -1,0 +1,6 @@
+mod data;
+mod divisions;
+mod forms;
+mod forms_rows;
+mod picture;
+mod text;

@@ -1,0 +1,5 @@
+mod counts;
+mod net;
+mod order;
+mod pair;
+mod tcp;

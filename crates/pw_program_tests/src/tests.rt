@@ -1,0 +1,4 @@
+mod code;
+mod names;
+mod names_rows;
+mod screen;

@@ -1,0 +1,240 @@
+ghost use Rattle.std.specs.Prelude.{◌≡◌, ◌<◌, ◌∷◌, [], IfOk};
+
+use pw_code::code::Code;
+use pw_code::cond::{Comparison, Cond, Operator};
+use pw_code::context::{Context, Frame, Return};
+use pw_code::entry::EntryLine;
+use pw_code::file::FileInfo;
+use pw_code::instr::Instr;
+use pw_code::limits::limit_laws;
+use pw_code::lock::LockRule;
+use pw_code::operand::Operand;
+use pw_code::place::{Kind, Place, Register, Subscript, Table};
+use pw_code::screen::{CELLS, ScreenImage};
+use pw_code::system::{ClassInfo, System, TermInfo};
+use pw_base::bytes::Bytes;
+use pw_base::list::List;
+use pw_base::memory::Memory;
+use std::alloc::Global;
+use std::process::Abort;
+use std::test::Fail;
+
+/// A screen of spaces with one other cell.
+fn screen_with(alloc: Global, place: usize) -> Result<ScreenImage, Memory>
+    requires { place < 1920 }
+{
+    let mut cells = Bytes::from_vec(vec![in alloc; b' '; CELLS]?);
+    cells.overwrite(place, b"X");
+    Ok(ScreenImage { cells })
+}
+
+/// A program at work that called another, with a cell other than a space on its screen at `place`.
+fn context_with(alloc: Global, place: usize, turns: u64) -> Result<Context, Memory>
+    requires { place < 1920 }
+{
+    let mut frames = list_of(alloc, frame(alloc, 2, 0)?)?;
+    frames.push(frame(alloc, 1, turns)?)?;
+    Ok(Context {
+        termination: 1,
+        restarts: 2,
+        file_status: 0,
+        phase: 3,
+        attempt: 2,
+        shown: 3,
+        entries: 7,
+        units: 1,
+        in_unit: true,
+        mode: 0,
+        fault: 0,
+        at_verb: false,
+        count: 12,
+        screen: screen_with(alloc, place)?,
+        frames,
+    })
+}
+
+/// A program that is active in a PERFORM with so many turns left.
+fn frame(alloc: Global, program: u16, turns: u64) -> Result<Frame, Memory> {
+    let active = Return {
+        resume: 6,
+        until: 9,
+        turns,
+    };
+    Ok(Frame {
+        program,
+        at: 5,
+        storage: Bytes::from_slice(alloc, b"0005AB")?,
+        returns: list_of(alloc, active)?,
+    })
+}
+
+/// Asserts whether two contexts are the same, asked from either side.
+fn expect_same(rt: &impl Abort, one: &Context, other: &Context, same: bool) {
+    assert_eq!(rt; one.is_same(other), same);
+    assert_eq!(rt; other.is_same(one), same);
+}
+
+#[test]
+fn a_copy_is_the_same_until_a_part_changes(rt: HostRuntime) -> Result<(), Fail> {
+    let context = context_with(rt.alloc(), 1919, 4)?;
+    let mut copy = context.copy(rt.alloc())?;
+    expect_same(&rt, &context, &copy, true);
+    expect_same(&rt, &context, &context.duplicate()?, true);
+    expect_same(&rt, &context, &context_with(rt.alloc(), 1919, 5)?, false);
+    expect_same(&rt, &context, &context_with(rt.alloc(), 1918, 4)?, false);
+    copy.frames = List::new(rt.alloc());
+    expect_same(&rt, &context, &copy, false);
+    let mut copy = context.duplicate()?;
+    copy.count = 13;
+    expect_same(&rt, &context, &copy, false);
+    limit_laws();
+    Ok(())
+}
+
+#[test]
+fn a_screen_copy_has_its_cells(rt: HostRuntime) -> Result<(), Fail> {
+    let screen = screen_with(rt.alloc(), 80)?;
+    let copy = screen.copy(rt.alloc())?;
+    let cells = copy.cells();
+    assert_eq!(rt; cells.len(), 1920);
+    assert_eq!(rt; &cells[78..83], b"  X  ".as_slice());
+    Ok(())
+}
+
+/// A list of one item.
+fn list_of<T: Drop>(alloc: Global, item: T) -> Result<List<T>, Memory>
+    ensures { IfOk result (λ list. list ≡ item ∷ []) }
+{
+    let mut list = List::new(alloc);
+    list.push(item)?;
+    Ok(list)
+}
+
+/// A place of four digits in a table.
+fn place() -> Place {
+    Place {
+        at: 2,
+        size: 4,
+        kind: Kind::Number {
+            digits: 4,
+            places: 0,
+            signed: false,
+        },
+        table: Some(Table {
+            subscript: Subscript::Register(Register::Termination),
+            occurs: 1,
+            step: 4,
+        }),
+    }
+}
+
+/// A program that moves a text, compares it with SPACES and stops.
+fn code(alloc: Global, name: &[u8]) -> Result<Code, Memory> {
+    let text = Operand::Text(Bytes::from_slice(alloc, b"HELLO")?);
+    let to = list_of(alloc, place())?;
+    let test = Comparison::Compare {
+        left: Operand::Item(place()),
+        negated: true,
+        operator: Operator::Less,
+        right: Operand::Spaces,
+    };
+    let cond = Cond {
+        any: list_of(alloc, list_of(alloc, test)?)?,
+    };
+    let mut instrs = list_of(alloc, Instr::Move { from: text, to })?;
+    instrs.push(Instr::JumpUnless(cond, 1))?;
+    instrs.push(Instr::StopRun)?;
+    let name = Bytes::from_slice(alloc, name)?;
+    let storage = Bytes::from_slice(alloc, b"AB0000")?;
+    let linkage = list_of(alloc, (2, 4))?;
+    Ok(Code {
+        name,
+        instrs,
+        storage,
+        linkage,
+    })
+}
+
+/// A terminal with one entry line.
+fn terminal(alloc: Global) -> Result<TermInfo, Memory> {
+    let pair = (
+        Bytes::from_slice(alloc, b"F-OP")?,
+        Bytes::from_slice(alloc, b"I")?,
+    );
+    let line = EntryLine {
+        key: 17,
+        fields: list_of(alloc, pair)?,
+    };
+    Ok(TermInfo {
+        name: Bytes::from_slice(alloc, b"T1")?,
+        tcp: 0,
+        program: 0,
+        max_restarts: 5,
+        entries: list_of(alloc, line)?,
+    })
+}
+
+/// A system with one of each part.
+fn system(alloc: Global) -> Result<System, Memory> {
+    let class = ClassInfo {
+        name: Bytes::from_slice(alloc, b"STORE")?,
+        server: 0,
+        processes: 2,
+    };
+    let file = FileInfo {
+        name: Bytes::from_slice(alloc, b"STOCK")?,
+        key: 2,
+        records: list_of(alloc, Bytes::from_slice(alloc, b"AA0001")?)?,
+    };
+    Ok(System {
+        programs: list_of(alloc, code(alloc, b"KEYS")?)?,
+        servers: list_of(alloc, code(alloc, b"STORE-P")?)?,
+        screens: List::new(alloc),
+        classes: list_of(alloc, class)?,
+        files: list_of(alloc, file)?,
+        tcps: list_of(alloc, Bytes::from_slice(alloc, b"TCP-1")?)?,
+        terminals: list_of(alloc, terminal(alloc)?)?,
+        rule: LockRule::AllExclusive,
+    })
+}
+
+#[test]
+fn a_system_copy_has_its_parts(rt: HostRuntime) -> Result<(), Fail> {
+    let copy = system(rt.alloc())?.copy(rt.alloc())?;
+    let [server] = copy.servers.as_slice() else {
+        panic!(rt; "not one server");
+    };
+    assert_eq!(rt; server.name.as_slice(), b"STORE-P".as_slice());
+    assert_eq!(rt; server.storage.as_slice(), b"AB0000".as_slice());
+    assert_eq!(rt; server.linkage.as_slice(), [(2, 4)].as_slice());
+    let [
+        Instr::Move { from, to },
+        Instr::JumpUnless(_, over),
+        Instr::StopRun,
+    ] = server.instrs.as_slice()
+    else {
+        panic!(rt; "not the instructions");
+    };
+    assert!(rt; matches!(from, Operand::Text(_)));
+    assert_eq!(rt; to.as_slice(), [place()].as_slice());
+    assert_eq!(rt; *over, 1);
+    let [file] = copy.files.as_slice() else {
+        panic!(rt; "not one file");
+    };
+    assert_eq!(rt; file.key, 2);
+    assert_eq!(rt; file.records.len(), 1);
+    let [terminal] = copy.terminals.as_slice() else {
+        panic!(rt; "not one terminal");
+    };
+    let [line] = terminal.entries.as_slice() else {
+        panic!(rt; "not one entry line");
+    };
+    let [(name, value)] = line.fields.as_slice() else {
+        panic!(rt; "not one pair");
+    };
+    assert_eq!(rt; (terminal.max_restarts, line.key), (5, 17));
+    assert_eq!(rt; name.as_slice(), b"F-OP".as_slice());
+    assert_eq!(rt; value.as_slice(), b"I".as_slice());
+    assert!(rt; matches!(copy.rule, LockRule::AllExclusive));
+    Ok(())
+}

@@ -1,0 +1,5 @@
+//! Tests of the stores: records and blocks, classes, images, files under TMF, the trail and the disc pair. They stand beside their crates, since a crate with tests is proved twice.
+#![tactic(auto)]
+
+#[cfg(test)]
+mod tests;

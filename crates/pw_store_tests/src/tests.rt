@@ -1,0 +1,9 @@
+mod blocks;
+mod class;
+mod disc;
+mod fresh;
+mod image;
+mod tmf;
+mod trail;
+mod trail_disc;
+mod units;
