@@ -5,6 +5,7 @@
 pub mod entry;
 pub mod heading;
 mod key;
+mod pairs;
 pub mod part;
 pub mod record;
 #[cfg(test)]
