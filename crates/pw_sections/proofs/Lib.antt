@@ -1,3 +1,4 @@
 pub mod Cuts
+pub mod Named
 pub mod Seen
 pub mod Spans

@@ -164,14 +164,12 @@ pub value_none : (value rest whole_text : List ℕ) → None ≡ next_quoted res
 value_none value rest whole_text none end so_far =
     sym (ap (option_map (λ t. value ++ t)) (no_byte rest none ∙ ap (λ k. cond k (Some []) None) end)) ∙ so_far
 
--- one part more is a pair, or is none
-pub pair_turn : (fields next : List Pair) (part : List ℕ) (all rest : List (List ℕ)) (good : Bool) (whole : Option (List Pair)) → all ≡ part ∷ rest
-    → with_pair fields (pair_of part) ≡ cond good (Some next) None → pairs_of fields all ≡ whole → cond good (pairs_of next rest) None ≡ whole
+-- one part more may stand behind the pairs, or none may
+pub pair_turn : (pairs : List Pair) (more : Option (List Pair)) (part : List ℕ) (all rest : List (List ℕ)) (whole : Option (List Pair)) → all ≡ part ∷ rest
+    → more ≡ with_pair pairs (pair_of part) → pairs_of pairs all ≡ whole → option_and_then (λ more. pairs_of more rest) more ≡ whole
 unfolding pairs_of
-pair_turn fields next part all rest true whole is pair so_far =
-    sym (ap (option_and_then (λ more. pairs_of more rest)) pair) ∙ sym (ap (pairs_of fields) is) ∙ so_far
-pair_turn fields next part all rest false whole is pair so_far =
-    sym (ap (option_and_then (λ more. pairs_of more rest)) pair) ∙ sym (ap (pairs_of fields) is) ∙ so_far
+pair_turn pairs more part all rest whole is with so_far =
+    ap (option_and_then (λ more. pairs_of more rest)) with ∙ sym (ap (pairs_of pairs) is) ∙ so_far
 
 -- no part is left
 pub pairs_end : (fields : List Pair) (whole : Option (List Pair)) → pairs_of fields [] ≡ whole → Some fields ≡ whole

@@ -6,14 +6,15 @@ ghost use Rattle.pw_base.specs.First.{Gives};
 ghost use Rattle.pw_base.specs.Limits.{longest_input};
 ghost use Rattle.pw_code.specs.Limits.{most_pairs};
 ghost use Rattle.pw_lines.specs.Steps.{line_taken};
-ghost use Rattle.pw_sections.specs.Entries.{keys, key_of, parts, part_size, parts_behind, quoted, next_quoted, value_of, pair_of, has_field, with_pair, pairs_of, entry_of, with_entry, entry_read, entries_of};
+ghost use Rattle.pw_sections.specs.Entries.{keys, key_of, parts, part_size, parts_behind, quoted, next_quoted, value_of, pair_of, with_pair, pairs_of, entry_of, with_entry, entry_read, entries_of};
 
+use crate::pairs::Pairs;
 use pw_base::bytes::Bytes;
 use pw_base::fault::Refusal;
 use pw_base::fault_code::FaultCode;
 use pw_base::list::List;
 use pw_base::memory::Memory;
-use pw_code::entry::{EntryLine, MAX_PAIRS};
+use pw_code::entry::EntryLine;
 use pw_code::system::MAX_ENTRY_LINES;
 use pw_lines::line::next_line;
 use pw_lines::word::{is_blank, name_in};
@@ -171,31 +172,14 @@ fn pair_of(alloc: Global, part: &[u8]) -> Result<Option<(Bytes, Bytes)>, Memory>
     Ok(Some((name, value)))
 }
 
-/// Whether a name stands already.
-fn has_field(fields: &[(Bytes, Bytes)], name: &[u8]) -> bool
-    ensures { result ≡ has_field fields.now name.now }
+/// The pairs with the one that a part is behind them; None exactly where it may not stand there.
+fn with_pair(alloc: Global, pairs: Pairs, part: &[u8]) -> Result<Option<Pairs>, Memory>
+    ensures { IfOk result (λ more. more ≡ with_pair pairs (pair_of part.now)) }
 {
-    fields.iter().any(|field| field.0.as_slice() == name)
-}
-
-/// Puts the pair that a part is behind the others. It answers false exactly where it may not stand
-/// there.
-fn add_pair(alloc: Global, fields: &mut List<(Bytes, Bytes)>, part: &[u8]) -> Result<bool, Memory>
-    requires { length fields.old ≤ most_pairs }
-    ensures value { IfOk result (λ good. with_pair fields.old (pair_of part.now) ≡ (if good then Some fields.new else None)) }
-    ensures few { IfOk result (λ good. length fields.new ≤ most_pairs) }
-{
-    let Some(pair) = pair_of(alloc, part)? else {
-        return Ok(false);
-    };
-    if has_field(fields.as_slice(), pair.0.as_slice()) {
-        return Ok(false);
+    match pair_of(alloc, part)? {
+        Some(pair) => pairs.with(alloc, pair),
+        None => Ok(None),
     }
-    if fields.len() >= MAX_PAIRS {
-        return Ok(false);
-    }
-    fields.push(pair)?;
-    Ok(true)
 }
 
 /// The pairs of what stands behind a key; None exactly where one may not stand there.
@@ -203,16 +187,17 @@ fn pairs_of(alloc: Global, line: Option<&[u8]>) -> Result<Option<List<(Bytes, By
     ensures value { IfOk result (λ fields. fields ≡ pairs_of [] (parts_behind (option_map (λ text. text.now) line.entry))) }
     ensures few { IfOk result (λ fields. IfSome fields (λ fields. length fields ≤ most_pairs)) }
 {
-    let mut fields = List::new(alloc);
+    let mut pairs = Pairs::new(alloc);
     let mut rest = line;
     while let Some(text) = rest {
         let (part, behind) = split_part(text);
-        if !add_pair(alloc, &mut fields, part)? {
+        let Some(more) = with_pair(alloc, pairs, part)? else {
             return Ok(None);
-        }
+        };
+        pairs = more;
         rest = behind;
     }
-    Ok(Some(fields))
+    Ok(Some(pairs.into_list()))
 }
 
 /// The entry that a line is; None exactly where it is none.

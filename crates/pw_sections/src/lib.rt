@@ -5,5 +5,6 @@
 pub mod entry;
 pub mod heading;
 mod key;
+mod pairs;
 pub mod part;
 pub mod record;

@@ -129,6 +129,25 @@ fn entry_limit(rt: HostRuntime) -> Result<(), Fail> {
 }
 
 #[test]
+fn pair_limit(rt: HostRuntime) -> Result<(), Fail> {
+    let mut text = Vec::from_slice(rt.alloc(), b"F1")?;
+    for number in 1..1_840 {
+        text.extend_from_slice(format!(in rt.alloc(); " A{number}=")?.as_bytes())?;
+    }
+    let cases: [(&[u8], (u32, u16)); 3] = [
+        (b" A0=", (0, 0)),
+        (b" A1=", (2, 195)),
+        (b" A0= B=", (2, 195)),
+    ];
+    for (end, fault) in cases {
+        let mut line = text.clone()?;
+        line.extend_from_slice(end)?;
+        assert_eq!(rt; fault_of(read_entries(rt.alloc(), line.as_slice())), fault);
+    }
+    Ok(())
+}
+
+#[test]
 fn records_by_hand(rt: HostRuntime) -> Result<(), Fail> {
     let cases: [(&[u8], (u32, u16)); 9] = [
         (b"", (0, 0)),
