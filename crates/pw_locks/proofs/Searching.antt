@@ -107,7 +107,7 @@ pub Searched-fewer : (test : Lock → Bool) (locks : BTreeMap ℕ Lock) (known f
     → Searched test locks known found S → Searched test locks known found T
 Searched-fewer test locks known found S T fewer a = record { among = a.among; stays = a.stays; sees = λ n held seen is passes. a.sees n held (fewer n seen) is passes }
 
-or_cases : (a b : Bool) → (a || b) ≡ true → (a ≡ true) ⊎ (b ≡ true)
+pub or_cases : (a b : Bool) → (a || b) ≡ true → (a ≡ true) ⊎ (b ≡ true)
 or_cases true b h = inl refl
 or_cases false b h = inr h
 

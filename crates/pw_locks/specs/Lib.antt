@@ -1,3 +1,4 @@
+pub mod Chains
 pub mod Conflicts
 pub mod Indexes
 pub mod Keys
@@ -5,5 +6,6 @@ pub mod Oldest
 pub mod Places
 pub mod Reach
 pub mod Register
+pub mod Runs
 pub mod Searches
 pub mod Spans

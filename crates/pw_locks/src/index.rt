@@ -13,7 +13,7 @@ pub struct Index<K: Ord> {
 }
 
 /// Takes a number from a list in which numbers rise, as those of locks and of places do. All other numbers stay.
-fn drop_number(numbers: &mut Vec<u64>, number: u64)
+pub fn drop_number(numbers: &mut Vec<u64>, number: u64)
     ensures { (n : ℕ) → n ≢ number → has numbers.old.items n ≡ true → has numbers.new.items n ≡ true }
 {
     if let Ok(place) = numbers.binary_search(&number) {

@@ -1,5 +1,5 @@
 ghost use Rattle.std.specs.Prelude.{◌≡◌, IfOk};
-ghost use Rattle.pw_locks.specs.Keys.{is_below, larger, is_up_to, is_below_end};
+ghost use Rattle.pw_locks.specs.Keys.{is_below, larger, is_up_to, is_below_end, ends_by, is_same_end};
 
 use pw_base::bytes::Bytes;
 use pw_base::memory::Memory;
@@ -36,6 +36,28 @@ pub fn is_below_end(key: &Bytes, high: &Option<Bytes>) -> bool
     match high {
         Some(high) => is_below(key, high),
         None => true,
+    }
+}
+
+/// Whether a high end is not above another.
+pub fn ends_by(high: &Option<Bytes>, other: &Option<Bytes>) -> bool
+    ensures { result ≡ ends_by high.now other.now }
+{
+    match (high, other) {
+        (_, None) => true,
+        (None, Some(_)) => false,
+        (Some(high), Some(other)) => !is_below(other, high),
+    }
+}
+
+/// Whether two high ends are equal.
+pub fn is_same_end(high: &Option<Bytes>, other: &Option<Bytes>) -> bool
+    ensures { result ≡ is_same_end high.now other.now }
+{
+    match (high, other) {
+        (None, None) => true,
+        (Some(high), Some(other)) => high.as_slice() == other.as_slice(),
+        _ => false,
     }
 }
 

@@ -2,6 +2,8 @@
 #![tactic(auto)]
 
 pub mod book;
+mod chain;
+mod chains;
 pub mod index;
 mod keys;
 pub mod laws;
@@ -12,8 +14,10 @@ mod places;
 mod reach;
 mod register;
 mod release;
+mod run;
 mod search;
 pub mod span;
 mod storing;
 #[cfg(test)]
 mod tests;
+mod walk;

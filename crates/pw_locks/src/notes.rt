@@ -31,7 +31,7 @@ fn note(
 }
 
 /// Notes the units of the locks of these numbers.
-fn note_all(
+pub fn note_all(
     locks: &BTreeMap<u64, Lock>,
     sought: &Sought<'_>,
     known: Option<Unit>,

@@ -1,5 +1,6 @@
 ghost use Rattle.std.specs.Prelude.{◌≡◌, ◌≢◌, ℕ, true, [], OnOk};
 
+use crate::chains::Chains;
 use crate::index::Index;
 use crate::span::Span;
 use pw_base::bytes::Bytes;
@@ -7,11 +8,11 @@ use pw_base::memory::Memory;
 use std::alloc::Global;
 use std::collections::BTreeMap;
 
-/// The numbers of the locks on one file: those of points by their key, those of spans by their low end.
+/// The numbers of the locks on one file: those of points by their key, and those of spans in chains.
 #[derive(Debug, Drop)]
 pub struct FilePlaces {
     pub points: Index<Bytes>,
-    pub spans: Index<Bytes>,
+    pub spans: Chains,
 }
 
 impl FilePlaces {
@@ -22,7 +23,7 @@ impl FilePlaces {
     fn new(alloc: Global) -> FilePlaces {
         FilePlaces {
             points: Index::new(alloc),
-            spans: Index::new(alloc),
+            spans: Chains::new(alloc),
         }
     }
 
@@ -33,7 +34,7 @@ impl FilePlaces {
     {
         match span {
             Span::Point(key) => self.points.put(alloc, key.copy(alloc)?, number),
-            Span::After { low, .. } => self.spans.put(alloc, low.copy(alloc)?, number),
+            Span::After { low, high } => self.spans.put(alloc, low, high, number),
         }
     }
 
