@@ -1,5 +1,5 @@
 -- Each actor has a place of its own, so what is noted of one is noted of no other.
-use Rattle.std.proofs.Common.{◌≡◌, ◌≢◌, ℕ, ◌+◌, ◌<◌, ◌≤◌, Bool, true, false, List, length, Some, None, ⊎_elim, rules, refl, sym, ap, ◌∙◌, arith, cond}
+use Rattle.std.proofs.Common.{◌≡◌, ◌≢◌, ℕ, ◌+◌, ◌-◌, ◌<◌, ◌≤◌, Bool, true, false, List, length, Some, None, ⊎_elim, rules, refl, subst, sym, ap, ◌∙◌, arith, cond}
 use Rattle.std.specs.Prelude.{slice_set, slice_index_or}
 use Rattle.std.proofs.Math.Path.{fun_ext}
 use Rattle.std.proofs.lemmas.Bool.{cases_Bool, cond-true, cond-false}
@@ -8,14 +8,14 @@ use Rattle.std.specs.Prelude.{position, replicate}
 use Rattle.std.specs.List.{position_or_len}
 use Rattle.std.proofs.lemmas.Bool.Decides.{nat_tests}
 use Rattle.std.proofs.lemmas.Bool.{cases_lt}
-use Rattle.std.proofs.lemmas.List.{get_or-replicate, get_or_past, length-replicate}
+use Rattle.std.proofs.lemmas.List.{get_or-drop, get_or-replicate, get_or_past, length-drop, length-replicate}
 use Rattle.std.proofs.lemmas.List.Quantifiers.{position-Some}
 use Rattle.std.proofs.lemmas.List.Sums.{fails_before_first}
-use Rattle.std.specs.Prelude.{if◌then◌else◌, take, ◌++◌}
+use Rattle.std.specs.Prelude.{if◌then◌else◌, drop, take, ◌++◌}
 use Rattle.std.specs.List.{sum_by}
 use Rattle.std.proofs.lemmas.List.{take-append-le, take_all}
 use Rattle.std.proofs.lemmas.List.Sums.{sum_by-set}
-use Rattle.pw_roster.specs.Places.{all_marked, blank, is_waiting, is_placed, is_same_actor, noted, notes_in, place_of, waiting, with_mark}
+use Rattle.pw_roster.specs.Places.{NoneBelow, StartsAt, all_marked, blank, is_waiting, is_placed, is_same_actor, noted, notes_in, place_of, waiting, with_mark}
 use Rattle.pw_roster.specs.declared.actor.Actor.{Actor}
 use Rattle.pw_roster.specs.declared.actor.Actor.TheVariants.{Terminal, Process, Pair, Class}
 use Rattle.pw_roster.specs.declared.roster.Note.{Note}
@@ -126,23 +126,58 @@ place-low (Process c i) e = grind arith
 place-low (Pair p) e = grind arith
 place-low (Class c) e = grind arith
 
--- where no place is found, no actor waits
-pub none-waits : (notes : List Note) → length notes ≡ 408 → position is_waiting notes ≡ None → (a : Actor) → is_waiting (notes_in notes a) ≡ false
-none-waits notes size e a =
+-- where none below a place waits, nor any of so many from it on, none below the place behind those waits
+none-ahead : (notes : List Note) (from ahead : ℕ) → NoneBelow from notes → NoneBelow ahead (drop from notes) → NoneBelow (from + ahead) notes
+none-ahead notes from ahead below next k lt =
     ⊎_elim
-    (λ there.
-    let low : place_of a < 408 = place-low a there in
+    (λ low. below k low)
+    (λ high.
+    let at : from + (k - from) ≡ k = omega arith in
+    let near : k - from < ahead = omega arith in
+    ap (λ n. is_waiting (slice_index_or notes n blank)) (sym at)
+    ∙ (ap is_waiting (sym (get_or-drop from notes (k - from) blank)) ∙ next (k - from) near))
+    (cases_lt k from)
+
+-- the place that is found is where work is looked for from
+pub starts-ahead : (notes : List Note) (from ahead : ℕ) → StartsAt from notes → position is_waiting (drop from notes) ≡ Some ahead
+    → StartsAt (from + ahead) notes
+starts-ahead notes from ahead starts e =
+    let first = position-Some is_waiting (drop from notes) ahead blank e in
+    let near : ahead < length (drop from notes) = first.0 in record {
+      size = starts.size;
+      within = omega (arith, near, length-drop from notes, starts.size, starts.within);
+      below = none-ahead notes from ahead starts.below first.2;
+    }
+
+-- where none is found, nobody waits
+pub starts-at-end : (notes : List Note) (from : ℕ) → StartsAt from notes → position is_waiting (drop from notes) ≡ None → StartsAt 408 notes
+starts-at-end notes from starts e =
+    let rest = drop from notes in
     let past = none_at _ _ e in
-    let all : length notes ≤ position_or_len is_waiting notes = grind (arith, nat_tests, past) in
-    ap is_waiting (notes-at notes a there) ∙ fails_before_first is_waiting notes (place_of a) blank (omega (arith, size, low, all)))
+    let all : length rest ≤ position_or_len is_waiting rest = grind (arith, nat_tests, past) in
+    let whole : from + length rest ≡ 408 = omega (arith, length-drop from notes, starts.size, starts.within) in
+    let none : NoneBelow (length rest) rest = λ k lt. fails_before_first is_waiting rest k blank (omega (arith, all, lt)) in record {
+      size = starts.size;
+      within = omega arith;
+      below = subst (λ n. NoneBelow n notes) whole (none-ahead notes from (length rest) starts.below none);
+    }
+
+-- where work is looked for from the end on, no actor waits
+pub none-waits : (notes : List Note) → StartsAt 408 notes → (a : Actor) → is_waiting (notes_in notes a) ≡ false
+none-waits notes starts a =
+    ⊎_elim
+    (λ there. ap is_waiting (notes-at notes a there) ∙ starts.below (place_of a) (place-low a there))
     (λ missing. ap is_waiting (cond-false (is_placed a) _ _ missing))
     (cases_Bool (is_placed a))
 
 -- the actor of the place that is found waits
-pub one-waits : (notes : List Note) (a : Actor) (n : ℕ) → position is_waiting notes ≡ Some n → is_placed a ≡ true → place_of a ≡ n
-    → is_waiting (notes_in notes a) ≡ true
-one-waits notes a n e placed at =
-    ap is_waiting (notes-at notes a placed ∙ ap (λ k. slice_index_or notes k blank) at) ∙ (position-Some is_waiting notes n blank e).1
+pub one-waits : (notes : List Note) (a : Actor) (from ahead : ℕ) → position is_waiting (drop from notes) ≡ Some ahead → is_placed a ≡ true
+    → place_of a ≡ from + ahead → is_waiting (notes_in notes a) ≡ true
+one-waits notes a from ahead e placed at =
+    ap is_waiting
+    (notes-at notes a placed
+    ∙ (ap (λ k. slice_index_or notes k blank) at ∙ sym (get_or-drop from notes ahead blank)))
+    ∙ (position-Some is_waiting (drop from notes) ahead blank e).1
 
 -- ---- marks
 

@@ -26,17 +26,20 @@ pub struct Note {
 #[derive(Debug, Drop)]
 pub struct Roster {
     notes: Vec<Note>,
+    /// No actor whose place is before this one is marked and not out, so work is looked for from here.
+    from: usize,
 }
 
 impl Model for Roster {
-    ghost use Rattle.std.specs.Prelude.{◌≡◌, List, length};
+    ghost use Rattle.std.specs.Prelude.{List};
+    ghost use Rattle.pw_roster.specs.Places.{StartsAt};
     ghost use Rattle.pw_roster.specs.declared.roster.Note.{Note as SeenNote};
 
     ghost Value = { List SeenNote };
 
     ghost view = { λ roster. roster.notes.items };
 
-    ghost invariant = { λ roster. length roster.notes.items ≡ 408 };
+    ghost invariant = { λ roster. StartsAt roster.from roster.notes.items };
 }
 
 impl Roster {
@@ -51,6 +54,7 @@ impl Roster {
         };
         Ok(Roster {
             notes: vec![in alloc; blank; PLACES]?,
+            from: 0,
         })
     }
 
@@ -75,7 +79,11 @@ impl Roster {
         requires { is_placed actor ≡ true }
         ensures { notes_in self.new ≡ noted actor (with_out out) (notes_in self.old) }
     {
-        self.notes[place_of(actor)].out = out;
+        let place = place_of(actor);
+        self.notes[place].out = out;
+        if !out {
+            self.from = self.from.min(place);
+        }
     }
 
     /// The actor is looked at for work from now on, or no more.
@@ -85,23 +93,35 @@ impl Roster {
         ensures fewer { marked ≡ false → is_waiting (notes_in self.old actor) ≡ true
             → waiting self.new < waiting self.old }
     {
-        self.notes[place_of(actor)].marked = marked;
+        let place = place_of(actor);
+        self.notes[place].marked = marked;
+        if marked {
+            self.from = self.from.min(place);
+        }
     }
 
     /// Every actor is looked at for work from now on.
     pub fn mark_all(&mut self)
         ensures { notes_in self.new ≡ all_marked (notes_in self.old) }
     {
+        self.from = 0;
         mark_each(&mut self.notes);
     }
 
     /// An actor that is marked and not out, None exactly where there is none.
-    pub fn next(&self) -> Option<Actor>
-        ensures { IsNext (notes_in self.now) result }
+    pub fn next(&mut self) -> Option<Actor>
+        ensures next { IsNext (notes_in self.old) result }
+        ensures same { self.new ≡ self.old }
     {
-        match first_waiting(&self.notes) {
-            Some(place) => Some(actor_at(place)),
-            None => None,
+        match first_waiting(&self.notes[self.from..]) {
+            Some(ahead) => {
+                self.from += ahead;
+                Some(actor_at(self.from))
+            }
+            None => {
+                self.from = PLACES;
+                None
+            }
         }
     }
 }

@@ -14,4 +14,4 @@ returns c =
     let marks : (k : ℕ) → k < length items → slice_index_or new k blank ≡ with_mark true (slice_index_or items k blank) =
     λ k lt. c.mark_each.ensures.marks k (subst (λ l. k < length l) (sym was) lt) ∙ ap (λ l. with_mark true (slice_index_or l k blank)) was in
     rw (← c.self.view_is)
-    (subst (λ l. notes_in l ≡ all_marked (notes_in items)) (sym (written-whole c.self.inside.notes.len new _ whole)) (marked-everywhere items new c.self.invariant marks))
+    (subst (λ l. notes_in l ≡ all_marked (notes_in items)) (sym (written-whole c.self.inside.notes.len new _ whole)) (marked-everywhere items new c.self.invariant.size marks))

@@ -3,7 +3,12 @@ use Rattle.pw_roster.specs.Places.{with_out}
 use Rattle.pw_roster.proofs.Placing.{note-changed}
 use Rattle.pw_roster.proofs.roster.Roster.set_out.Goals as goal
 
-pub returns : goal.returns
-returns c =
-    rw (← c.self.view_is) (note-changed (with_out c.args.out) c.self.inside.notes.items c.args.actor c.place_of.result c.index_mut.result.now _ c.self.invariant c.requires
-    c.place_of.ensures.place c.place_of.ensures.within c.index_mut.ensures.value refl)
+pub returns-then-not-out : goal.returns-then-not-out
+returns-then-not-out c =
+    rw (← c.self.view_is) (note-changed (with_out c.args.out) c.self.inside.notes.items c.args.actor c.place_of-place.result c.index_mut.result.now _ c.self.invariant.size c.requires
+    c.place_of-place.ensures.place c.place_of-place.ensures.within c.index_mut.ensures.value refl)
+
+pub returns-else-not-out : goal.returns-else-not-out
+returns-else-not-out c =
+    rw (← c.self.view_is) (note-changed (with_out c.args.out) c.self.inside.notes.items c.args.actor c.place_of-place.result c.index_mut.result.now _ c.self.invariant.size c.requires
+    c.place_of-place.ensures.place c.place_of-place.ensures.within c.index_mut.ensures.value refl)

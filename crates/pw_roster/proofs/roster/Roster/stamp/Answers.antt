@@ -5,5 +5,5 @@ use Rattle.pw_roster.proofs.roster.Roster.stamp.Goals as goal
 
 pub returns : goal.returns
 returns c =
-    rw (← c.self.view_is) (note-changed (stamped c.args.length) c.self.inside.notes.items c.args.actor c.place_of.result c.index_mut.result.now _ c.self.invariant c.requires
+    rw (← c.self.view_is) (note-changed (stamped c.args.length) c.self.inside.notes.items c.args.actor c.place_of.result c.index_mut.result.now _ c.self.invariant.size c.requires
     c.place_of.ensures.place c.place_of.ensures.within c.index_mut.ensures.value refl)
