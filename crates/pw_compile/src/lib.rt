@@ -10,6 +10,4 @@ mod plan;
 mod program;
 mod sizes;
 mod statements;
-#[cfg(test)]
-mod tests;
 mod turns;

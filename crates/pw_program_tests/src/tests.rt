@@ -1,4 +1,5 @@
 mod code;
+mod compile;
 mod names;
 mod names_rows;
 mod screen;

@@ -1,5 +1,8 @@
 ghost use Rattle.std.specs.Prelude.{◌≡◌, ◌<◌, ◌∷◌, [], IfOk};
 
+use pw_base::bytes::Bytes;
+use pw_base::list::List;
+use pw_base::memory::Memory;
 use pw_code::code::Code;
 use pw_code::cond::{Comparison, Cond, Operator};
 use pw_code::context::{Context, Frame, Return};
@@ -12,9 +15,6 @@ use pw_code::operand::Operand;
 use pw_code::place::{Kind, Place, Register, Subscript, Table};
 use pw_code::screen::{CELLS, ScreenImage};
 use pw_code::system::{ClassInfo, System, TermInfo};
-use pw_base::bytes::Bytes;
-use pw_base::list::List;
-use pw_base::memory::Memory;
 use std::alloc::Global;
 use std::process::Abort;
 use std::test::Fail;

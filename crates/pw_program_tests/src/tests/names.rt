@@ -1,6 +1,5 @@
 ghost use Rattle.std.specs.Prelude.{◌≤◌, length};
 
-use pw_names::names::names;
 use crate::tests::names_rows::{
     DATA, NAMES, ORDERS, OTHERS, Place, REQUESTER, REQUESTER_OPERANDS, SERVER, SERVER_OPERANDS,
 };
@@ -16,6 +15,7 @@ use pw_data::layout::Layout;
 use pw_data::read::layout;
 use pw_forms::read::procedure;
 use pw_forms::statement::Procedure;
+use pw_names::names::names;
 use pw_scobol::requester::Requester;
 use pw_server::server::Server;
 use pw_text::tokens::tokens;

@@ -1,12 +1,12 @@
 ghost use Rattle.std.specs.Prelude.{◌≤◌, length};
 
-use pw_screen::read::screens;
 use pw_base::fault::Refusal;
 use pw_base::read_all::MAX_INPUT;
 use pw_code::field::{Field, FieldKind, ScreenTable};
 use pw_data::layout::Layout;
 use pw_data::read::layout;
 use pw_picture::picture::Picture;
+use pw_screen::read::screens;
 use pw_text::tokens::tokens;
 use std::alloc::Global;
 use std::process::Abort;

@@ -1,6 +1,5 @@
 ghost use Rattle.std.specs.Prelude.{◌≤◌, length};
 
-use crate::program::code_of;
 use pw_base::bytes::Bytes;
 use pw_base::fault::Refusal;
 use pw_base::list::List;
@@ -13,10 +12,12 @@ use pw_code::instr::Instr;
 use pw_code::links::Links;
 use pw_code::operand::Operand;
 use pw_code::place::{Kind, Place, Register, Subscript, Table};
+use pw_compile::compile::compile;
 use pw_data::layout::Layout;
 use pw_data::read::layout;
 use pw_forms::read::procedure;
 use pw_forms::statement::Procedure;
+use pw_scobol::requester::Requester;
 use pw_text::tokens::tokens;
 use std::alloc::Global;
 use std::test::Fail;
@@ -188,25 +189,19 @@ fn files_named(alloc: Global, names: &[&[u8]]) -> Result<List<FileInfo>, Memory>
 fn compiled(alloc: Global, text: &[u8], server: bool) -> Result<Code, Refusal>
     requires { length text.now ≤ MAX_INPUT }
 {
-    let layout = layout_of(alloc, DATA, server)?;
-    let procedure = procedure_of(alloc, text, server)?;
-    let screens = screens_named(alloc, &[b"S1", b"S2"])?;
-    let usings = listed(alloc, &[b"N", b"T", b"NONE"])?;
+    let program = Requester {
+        name: Bytes::from_slice(alloc, b"MAIN")?,
+        layout: layout_of(alloc, DATA, server)?,
+        screens: screens_named(alloc, &[b"S1", b"S2"])?,
+        using: listed(alloc, &[b"N", b"T", b"NONE"])?,
+        procedure: procedure_of(alloc, text, server)?,
+    };
     let links = Links {
         programs: listed(alloc, &[b"MAIN", b"OTHER"])?,
         classes: listed(alloc, &[b"C1", b"C2"])?,
         files: files_named(alloc, &[b"F1", b"F2"])?,
     };
-    Ok(code_of(
-        alloc,
-        b"MAIN",
-        &layout,
-        screens.as_slice(),
-        usings.as_slice(),
-        procedure.paragraphs.as_slice(),
-        7,
-        &links,
-    )?)
+    Ok(compile(alloc, &program, &links, 7)?)
 }
 
 #[test]
