@@ -1,5 +1,5 @@
 -- Runs of locks in chains.
-use Rattle.std.proofs.Common.{◌≡◌, ◌≢◌, ℕ, zero, suc, ◌<◌, List, [], ◌∷◌, ◌++◌, ◌||◌, ◌&&◌, Bool, true, false, not, cond, Option, Some, None, Result, Ok, Err, length, take, drop, get_or, set, refl, sym, ap, subst, ◌∙◌, arith}
+use Rattle.std.proofs.Common.{◌≡◌, ℕ, zero, suc, ◌<◌, List, [], ◌∷◌, ◌++◌, ◌||◌, Bool, true, false, cond, Option, Some, None, Result, Ok, Err, length, take, drop, get_or, set, refl, sym, ap, subst, ◌∙◌, arith}
 use Rattle.std.specs.Prelude.{IsSome, OnOk, OnErr, ◌==◌, vec_len}
 use Rattle.std.specs.BTreeMap.{BTreeMap, get, is_at, Updates, WritesThrough}
 use Rattle.std.specs.Cmp.{IsTotalOrder}
@@ -12,15 +12,15 @@ use Rattle.std.specs.declared.cmp.Ordering.{Ordering}
 use Rattle.std.specs.declared.cmp.Ordering.TheVariants.{Less, Equal, Greater}
 use Rattle.std.proofs.lemmas.Bool.{and_parts, and_from}
 use Rattle.std.proofs.lemmas.Bool.Decides.{nat_tests}
-use Rattle.std.proofs.lemmas.Cmp.{tied_itself, nat_list_cmp_total}
+use Rattle.std.proofs.lemmas.Cmp.{nat_list_cmp_total}
 use Rattle.std.proofs.lemmas.Map.Lookups.{exact_bytes}
 use Rattle.std.proofs.lemmas.Slice.Eq.{bytes_eq-Decides}
 use Rattle.pw_locks.specs.Indexes.{has}
-use Rattle.pw_locks.specs.Keys.{is_below, is_up_to, is_below_end, ends_by, is_same_end}
+use Rattle.pw_locks.specs.Keys.{is_below, ends_by, is_same_end}
 use Rattle.pw_locks.specs.Runs.{found_run, is_in_runs, EndsLast, EndsFirst, IsRising, Fits}
 use Rattle.pw_locks.specs.Spans.{Precedes}
 use Rattle.pw_locks.specs.declared.run.Run.{Run}
-use Rattle.pw_locks.proofs.Order.{not-itself, not-both-ways, below-Precedes, Precedes-below, Precedes-up_to, up_to-IsUpTo, IsUpTo-up_to}
+use Rattle.pw_locks.proofs.Order.{not-itself, below-Precedes, Precedes-below, Precedes-up_to, up_to-IsUpTo, IsUpTo-up_to}
 
 abbrev Key : Type 0
 Key = List ℕ
@@ -107,21 +107,6 @@ Fits-there runs rising low high run is same =
       first = λ other held there below. subst (λ end. ends_by end held.high ≡ true) ends (rising other held there low run is below);
       same = λ held there. let one : run ≡ held = one_run runs low low run held refl is there in subst (λ (r : Run). is_same_end r.high high ≡ true) one same;
     }
-
--- a span of a low end that is not there
-pub Fits-free : (runs : Runs) (low : Key) (high : Option Key) → get key_cmp runs low ≡ None → EndsLast runs low high → EndsFirst runs low high → Fits runs low high
-Fits-free runs low high none last first = record { last = last; first = first; same = λ held there. absurd (cc (none, there)) }
-
--- nothing stands in the way in an empty chain
-pub Fits-empty : (runs : Runs) (low : Key) (high : Option Key) → runs.entries ≡ [] → Fits runs low high
-Fits-empty runs low high none = record {
-  last = λ other held there below. absurd (nothing other held there);
-  first = λ other held there below. absurd (nothing other held there);
-  same = λ held there. absurd (nothing low held there);
-}
-  where
-    nothing : (other : Key) (held : Run) → get key_cmp runs other ≡ Some held → ⊥
-    nothing other held there = let is : get key_cmp runs other ≡ None = rw none refl in cc (is, there)
 
 -- what a change of one low end leaves
 

@@ -1,5 +1,5 @@
 -- Where the locks that overlap a span are filed.
-use Rattle.std.proofs.Common.{◌≡◌, ◌⊎◌, inl, inr, ℕ, ◌+◌, ◌<◌, List, [], ◌∷◌, ◌++◌, ◌||◌, Bool, true, false, not, cond, Option, Some, None, length, take, get_or, refl, sym, ap, subst, ◌∙◌}
+use Rattle.std.proofs.Common.{◌≡◌, ◌⊎◌, inl, inr, ℕ, ◌+◌, ◌<◌, List, [], ◌∷◌, ◌++◌, ◌||◌, Bool, true, false, not, cond, Option, Some, None, length, take, get_or, refl, sym, ap, ◌∙◌}
 use Rattle.std.specs.Prelude.{nat_eq, filter}
 use Rattle.std.specs.BTreeMap.{is_at}
 use Rattle.std.specs.BTreeMap.Range.{range_contains, entries_between}
@@ -15,9 +15,8 @@ use Rattle.std.proofs.lemmas.Bool.{and_parts, and_from}
 use Rattle.std.proofs.lemmas.Cmp.{nat_list_cmp_total}
 use Rattle.std.proofs.lemmas.List.Folds.{list_any-append, list_any_more}
 use Rattle.std.proofs.lemmas.Map.Lookups.{exact_bytes}
-use Rattle.std.proofs.lemmas.Slice.Eq.{bytes_eq-Decides}
 use Rattle.pw_locks.specs.Chains.{IsMet, IsMetIn}
-use Rattle.pw_locks.specs.Indexes.{has, found_has, is_filed}
+use Rattle.pw_locks.specs.Indexes.{has, found_has}
 use Rattle.pw_locks.specs.Keys.{is_below, larger, is_up_to, is_below_end, ends_by}
 use Rattle.pw_locks.specs.Places.{is_placed, IsMetPoint}
 use Rattle.pw_locks.specs.Reach.{up_to, before, is_reached}

@@ -19,7 +19,7 @@ use std::marker::Model;
 /// The locks that units hold. Contracts see them in the order in which they were added.
 ///
 /// Each lock has a number that rises with each `add`. The locks are found by their files and keys and by their units, so
-/// that no call walks the locks of other files, and `release` those of other units.
+/// that no call walks the locks of other files or those on keys far away, and `release` those of other units.
 #[derive(Debug, Drop)]
 pub struct LockBook {
     alloc: Global,

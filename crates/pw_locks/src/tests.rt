@@ -1,3 +1,4 @@
+mod mixed;
 mod pairs;
 
 use crate::book::LockBook;
@@ -5,6 +6,7 @@ use crate::laws::{conflict_laws, span_laws};
 use crate::lock::{Lock, is_same_unit};
 use crate::span::Span;
 use Keys::{Above, At, Between};
+use mixed::MIXED;
 use pairs::{Keys, POINTS, POINTS_AND_SPANS, Row, SPANS};
 use pw_base::bytes::Bytes;
 use pw_base::memory::Memory;
@@ -45,6 +47,15 @@ fn add_row(alloc: Global, book: &mut LockBook, row: Row) -> Result<(), Memory> {
     book.add(&unit_of(row.0), row.1, span_of(alloc, row.2)?, row.3)
 }
 
+fn lock_of(alloc: Global, row: Row) -> Result<Lock, Memory> {
+    Ok(Lock {
+        unit: unit_of(row.0),
+        file: row.1,
+        span: span_of(alloc, row.2)?,
+        mode: row.3,
+    })
+}
+
 /// Who holds a lock that conflicts with that of the row.
 fn holder_for(alloc: Global, book: &LockBook, row: Row) -> Result<Option<Unit>, Memory> {
     Ok(book.conflict(&unit_of(row.0), row.1, &span_of(alloc, row.2)?, row.3))
@@ -73,13 +84,15 @@ fn expect_same(
     book: &LockBook,
     locks: &[Lock],
 ) -> Result<(), Memory> {
-    for &(first, second, _) in POINTS_AND_SPANS.as_slice() {
-        for row in [first, second] {
-            assert_eq!(rt;
-                holder_for(alloc, book, row)?,
-                holder_in(alloc, locks, row)?,
-                "{row:?}"
-            );
+    for rows in [POINTS_AND_SPANS.as_slice(), SPANS.as_slice()] {
+        for &(first, second, _) in rows {
+            for row in [first, second] {
+                assert_eq!(rt;
+                    holder_for(alloc, book, row)?,
+                    holder_in(alloc, locks, row)?,
+                    "{row:?}"
+                );
+            }
         }
     }
     Ok(())
@@ -170,12 +183,7 @@ fn book_answers_as_a_list_does(rt: HostRuntime) -> Result<(), Fail> {
     for &(first, second, _) in POINTS_AND_SPANS.as_slice() {
         for row in [first, second] {
             add_row(alloc, &mut book, row)?;
-            list.push(Lock {
-                unit: unit_of(row.0),
-                file: row.1,
-                span: span_of(alloc, row.2)?,
-                mode: row.3,
-            })?;
+            list.push(lock_of(alloc, row)?)?;
         }
     }
     expect_same(&rt, alloc, &book, &list)?;
@@ -185,6 +193,29 @@ fn book_answers_as_a_list_does(rt: HostRuntime) -> Result<(), Fail> {
         list.retain(|held| !is_same_unit(&held.unit, &unit));
         expect_same(&rt, alloc, &book, &list)?;
     }
+    Ok(())
+}
+
+#[test]
+fn spans_in_mixed_order_are_found(rt: HostRuntime) -> Result<(), Fail> {
+    let alloc = rt.alloc();
+    let mut book = LockBook::new(alloc)?;
+    let mut list = Vec::new(alloc);
+    for &row in MIXED.as_slice() {
+        add_row(alloc, &mut book, row)?;
+        list.push(lock_of(alloc, row)?)?;
+        expect_same(&rt, alloc, &book, &list)?;
+    }
+    book.take_back();
+    list.pop();
+    expect_same(&rt, alloc, &book, &list)?;
+    for terminal in 3..7 {
+        let unit = unit_of(terminal);
+        book.release(&unit);
+        list.retain(|held| !is_same_unit(&held.unit, &unit));
+        expect_same(&rt, alloc, &book, &list)?;
+    }
+    assert!(rt; list.is_empty());
     Ok(())
 }
 

@@ -1,4 +1,4 @@
-use Rattle.std.proofs.Common.{◌≡◌, ◌+◌, ◌<◌, length, get_or, take, sym, subst, arith}
+use Rattle.std.proofs.Common.{◌≡◌, ◌+◌, ◌<◌, length, get_or, take, subst}
 use Rattle.pw_locks.specs.Chains.{IsMet, IsMetIn}
 use Rattle.pw_locks.specs.Searches.{is_sought}
 use Rattle.pw_locks.specs.declared.chain.Chain.{Chain}

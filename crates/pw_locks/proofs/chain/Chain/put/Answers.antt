@@ -3,7 +3,6 @@ use Rattle.std.specs.BTreeMap.{get}
 use Rattle.std.specs.Cmp.Lexicographic.{slice_cmp}
 use Rattle.std.specs.Option.{option_copied_mut}
 use Rattle.std.specs.Ordering.{nat_cmp}
-use Rattle.pw_locks.specs.Indexes.{has}
 use Rattle.pw_locks.specs.declared.run.Run.{Run}
 use Rattle.pw_locks.proofs.Chaining.{rising-written, stays-written, rising-inserted, stays-inserted}
 use Rattle.pw_locks.proofs.Reaching.{has-left}

@@ -1,4 +1,4 @@
-use Rattle.std.proofs.Common.{◌≡◌, ◌<◌, [], true, length, sym, subst, rules, ap, ◌∙◌, slice_set, slice_index_or, get_or-set_same}
+use Rattle.std.proofs.Common.{◌≡◌, ◌<◌, [], true, length, sym, subst, ◌∙◌, get_or-set_same}
 use Rattle.pw_locks.specs.Runs.{is_in_runs}
 use Rattle.pw_locks.specs.declared.chain.Chain.{Chain}
 use Rattle.pw_locks.proofs.Chaining.{any-set, any-emptied, none-in-runs}
