@@ -18,6 +18,4 @@ mod run;
 mod search;
 pub mod span;
 mod storing;
-#[cfg(test)]
-mod tests;
 mod walk;

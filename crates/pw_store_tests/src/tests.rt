@@ -3,6 +3,7 @@ mod class;
 mod disc;
 mod fresh;
 mod image;
+mod locks;
 mod tmf;
 mod trail;
 mod trail_disc;

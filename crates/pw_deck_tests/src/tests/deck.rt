@@ -1,5 +1,5 @@
-use pw_deck::deck::{Deck, read_deck};
 use pw_base::fault::Refusal;
+use pw_deck::deck::{Deck, read_deck};
 use pw_event::event::Event;
 use pw_event::script::FailLine;
 use std::alloc::{AllocError, Global};

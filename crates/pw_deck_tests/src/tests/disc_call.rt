@@ -1,3 +1,7 @@
+use pw_base::bytes::Bytes;
+use pw_base::fault::Refusal;
+use pw_code::file::{FileCall, FileOp};
+use pw_code::unit::Unit;
 use pw_disc_call::call::DiscCall;
 use pw_disc_call::decode::decode_call;
 use pw_disc_call::encode::encode_call;
@@ -5,10 +9,6 @@ use pw_disc_call::fault::CallFault;
 use pw_disc_call::read_script::read_disc_script;
 use pw_disc_call::script::DiscLine;
 use pw_disc_call::units::Units;
-use pw_base::bytes::Bytes;
-use pw_base::fault::Refusal;
-use pw_code::file::{FileCall, FileOp};
-use pw_code::unit::Unit;
 use std::alloc::Global;
 use std::process::Abort;
 use std::test::Fail;

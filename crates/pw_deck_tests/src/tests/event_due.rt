@@ -1,12 +1,12 @@
 ghost use Rattle.std.specs.Prelude.{◌≡◌, length, IfOk};
 
-use pw_event::due::due;
-use pw_event::event::Event;
-use pw_event::script::{FailLine, Owner, Script};
 use crate::tests::event::system_under;
 use pw_base::list::List;
 use pw_base::memory::Memory;
 use pw_code::lock::LockRule;
+use pw_event::due::due;
+use pw_event::event::Event;
+use pw_event::script::{FailLine, Owner, Script};
 use std::alloc::Global;
 use std::test::Fail;
 

@@ -1,10 +1,10 @@
+use crate::tests::event::system_under;
+use pw_code::file::FileOp;
+use pw_code::lock::{LockMode, LockRule};
 use pw_event::event::{Cause, Ending, Event};
 use pw_event::printing::{print_ending, print_event};
 use pw_event::reading::read_event;
 use pw_event::system_names::SystemNames;
-use crate::tests::event::system_under;
-use pw_code::file::FileOp;
-use pw_code::lock::{LockMode, LockRule};
 use std::process::Abort;
 use std::test::Fail;
 

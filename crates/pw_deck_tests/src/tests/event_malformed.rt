@@ -1,10 +1,10 @@
+use crate::tests::event::system_under;
+use pw_code::lock::LockRule;
 use pw_event::fail_line::read_fail;
 use pw_event::fault::EventFault;
 use pw_event::laws::{fail_line_laws, limit_laws, line_laws};
 use pw_event::script::FailLine;
 use pw_event::system_names::SystemNames;
-use crate::tests::event::system_under;
-use pw_code::lock::LockRule;
 use std::process::Abort;
 use std::test::Fail;
 

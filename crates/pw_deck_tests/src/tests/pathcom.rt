@@ -1,10 +1,10 @@
 ghost use Rattle.std.specs.Prelude.{◌≤◌, length, OnOk};
 
+use pw_base::bytes::Bytes;
+use pw_base::fault::Refusal;
 use pw_pathcom::commands::Commands;
 use pw_pathcom::objects::objects;
 use pw_pathcom::pathcom::pathcom;
-use pw_base::bytes::Bytes;
-use pw_base::fault::Refusal;
 use std::alloc::Global;
 use std::test::Fail;
 

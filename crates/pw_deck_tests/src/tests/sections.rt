@@ -1,13 +1,13 @@
 ghost use Rattle.std.specs.Prelude.{◌≤◌, length, OnOk};
 
-use pw_sections::entry::entries;
-use pw_sections::heading::{Heading, heading_of};
-use pw_sections::part::{next_section, split_front};
-use pw_sections::record::{printable, records};
 use pw_base::bytes::Bytes;
 use pw_base::fault::Refusal;
 use pw_base::list::List;
 use pw_code::entry::EntryLine;
+use pw_sections::entry::entries;
+use pw_sections::heading::{Heading, heading_of};
+use pw_sections::part::{next_section, split_front};
+use pw_sections::record::{printable, records};
 use std::alloc::Global;
 use std::test::Fail;
 

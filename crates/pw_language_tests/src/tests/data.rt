@@ -1,10 +1,10 @@
 ghost use Rattle.std.specs.Prelude.{◌≤◌, length};
 
-use pw_data::layout::Layout;
-use pw_data::read::layout;
 use pw_base::fault::Refusal;
 use pw_base::fault_code::FaultCode;
 use pw_base::read_all::MAX_INPUT;
+use pw_data::layout::Layout;
+use pw_data::read::layout;
 use pw_picture::picture::Picture;
 use pw_text::tokens::tokens;
 use std::alloc::Global;

@@ -1,8 +1,8 @@
 ghost use Rattle.std.specs.Prelude.{◌≤◌, length};
 
-use pw_divisions::divisions::divide;
 use pw_base::fault::Refusal;
 use pw_base::read_all::MAX_INPUT;
+use pw_divisions::divisions::divide;
 use pw_text::token::Token;
 use pw_text::tokens::tokens;
 use std::alloc::Global;

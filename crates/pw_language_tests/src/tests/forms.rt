@@ -1,15 +1,15 @@
 ghost use Rattle.std.specs.Prelude.{◌≤◌, length};
 
-use pw_forms::read::procedure;
 use crate::tests::forms_rows::{
     Good, REFUSED, REQUESTER, REQUESTER_NO_FORM, Refused, SERVER, SERVER_BARRED, SERVER_NO_FORM,
     TEXTS,
 };
-use pw_forms::statement::{Procedure, Statement};
 use pw_base::bytes::Bytes;
 use pw_base::fault::Refusal;
 use pw_base::memory::Memory;
 use pw_base::read_all::MAX_INPUT;
+use pw_forms::read::procedure;
+use pw_forms::statement::{Procedure, Statement};
 use pw_text::tokens::tokens;
 use std::alloc::Global;
 use std::process::Abort;

@@ -2,11 +2,11 @@ ghost use Rattle.std.specs.Prelude.{◌≤◌, IsTrue};
 ghost use Rattle.pw_picture.specs.Grammar.{IsPicture};
 ghost use Rattle.pw_picture.specs.Stored.{is_number};
 
+use pw_number::scaled::Scaled;
 use pw_picture::fault::PictureFault;
 use pw_picture::grammar::picture;
 use pw_picture::picture::Picture;
 use pw_picture::text::move_text;
-use pw_number::scaled::Scaled;
 use std::alloc::{AllocError, Global};
 use std::process::Abort;
 use std::test::Fail;

@@ -1,9 +1,9 @@
-use pw_text::cursor::Cursor;
-use pw_text::token::{TokenKind, token_limits};
-use pw_text::tokens::tokens;
 use pw_base::fault::Refusal;
 use pw_base::fault_code::FaultCode;
 use pw_base::read_all::MAX_INPUT;
+use pw_text::cursor::Cursor;
+use pw_text::token::{TokenKind, token_limits};
+use pw_text::tokens::tokens;
 use std::alloc::Global;
 use std::process::Abort;
 use std::test::Fail;

@@ -1,17 +1,17 @@
 ghost use Rattle.std.specs.Prelude.{◌≡◌, IfOk, length};
 
-use pw_counts::attempts::Attempts;
-use pw_counts::counters::Counters;
-use pw_counts::locks::Locks;
-use pw_counts::longest::Longest;
-use pw_counts::records::Records;
-use pw_counts::shown::Numbers;
 use pw_base::bytes::Bytes;
 use pw_base::list::List;
 use pw_base::memory::Memory;
 use pw_code::file::FileInfo;
 use pw_code::lock::LockRule;
 use pw_code::system::{System, TermInfo};
+use pw_counts::attempts::Attempts;
+use pw_counts::counters::Counters;
+use pw_counts::locks::Locks;
+use pw_counts::longest::Longest;
+use pw_counts::records::Records;
+use pw_counts::shown::Numbers;
 use pw_event::event::{Cause, Event};
 use pw_listing::numbers::Number;
 use std::alloc::Global;

@@ -1,6 +1,6 @@
+use pw_base::memory::Memory;
 use pw_net::member::Member;
 use pw_net::message::{Mark, Net, NetId, NetWord};
-use pw_base::memory::Memory;
 use std::alloc::Global;
 use std::process::Abort;
 use std::test::Fail;

@@ -1,13 +1,13 @@
 ghost use Rattle.std.specs.Prelude.{◌≡◌};
 
-use pw_order::block::{Block, How};
-use pw_order::order::SerialOrder;
 use pw_base::bytes::Bytes;
 use pw_base::list::List;
 use pw_base::memory::Memory;
 use pw_code::lock::LockRule;
 use pw_code::system::{System, TermInfo};
 use pw_event::event::{Cause, Ending, Event};
+use pw_order::block::{Block, How};
+use pw_order::order::SerialOrder;
 use std::alloc::Global;
 use std::process::Abort;
 use std::test::Fail;

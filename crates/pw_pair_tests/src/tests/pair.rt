@@ -2,12 +2,12 @@ ghost use Rattle.std.specs.Prelude.{◌≡◌, true};
 ghost use Rattle.pw_pair.specs.Bodies.{is_image};
 ghost use Rattle.pw_pair.specs.Rooms.{MaySend};
 
+use pw_base::bytes::Bytes;
+use pw_image::decode::decode;
 use pw_pair::link::{LinkDone, build};
 use pw_pair::message::{Body, CheckKind, CheckMessage};
 use pw_pair::mode::Mode;
 use pw_pair::pair::Pair;
-use pw_base::bytes::Bytes;
-use pw_image::decode::decode;
 use std::alloc::Global;
 use std::process::Abort;
 use std::test::Fail;

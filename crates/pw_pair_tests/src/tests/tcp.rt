@@ -1,14 +1,14 @@
 ghost use Rattle.std.specs.Prelude.{◌≡◌, ◌↔◌, IsTrue, true, false};
 ghost use Rattle.pw_tcp.specs.NextStep.{BeginsAnew, MayAsk, RunsWhere};
 
-use pw_tcp::refresh::refresh;
-use pw_tcp::step::{TcpStep, next_step};
-use pw_tcp::terminal::{Note, Pending, Terminal};
 use pw_base::bytes::Bytes;
 use pw_base::list::List;
 use pw_code::context::Context;
 use pw_code::screen::{CELLS, ScreenImage};
 use pw_code::verb::Verb;
+use pw_tcp::refresh::refresh;
+use pw_tcp::step::{TcpStep, next_step};
+use pw_tcp::terminal::{Note, Pending, Terminal};
 use std::alloc::Global;
 use std::process::Abort;
 use std::test::Fail;

@@ -1,10 +1,6 @@
 mod mixed;
 mod pairs;
 
-use crate::book::LockBook;
-use crate::laws::{conflict_laws, span_laws};
-use crate::lock::{Lock, is_same_unit};
-use crate::span::Span;
 use Keys::{Above, At, Between};
 use mixed::MIXED;
 use pairs::{Keys, POINTS, POINTS_AND_SPANS, Row, SPANS};
@@ -12,6 +8,10 @@ use pw_base::bytes::Bytes;
 use pw_base::memory::Memory;
 use pw_code::lock::LockMode::{Exclusive, Shared};
 use pw_code::unit::Unit;
+use pw_locks::book::LockBook;
+use pw_locks::laws::{conflict_laws, span_laws};
+use pw_locks::lock::{Lock, is_same_unit};
+use pw_locks::span::Span;
 use std::alloc::Global;
 use std::process::Abort;
 use std::test::Fail;

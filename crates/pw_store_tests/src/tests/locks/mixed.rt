@@ -1,5 +1,5 @@
-use crate::tests::pairs::Keys::{Above, Between};
-use crate::tests::pairs::Row;
+use crate::tests::locks::pairs::Keys::{Above, Between};
+use crate::tests::locks::pairs::Row;
 use pw_code::lock::LockMode::{Exclusive, Shared};
 
 /// Locks on spans that come in falling order, around others, within others, from one low end, and with no key at all.
