@@ -17,7 +17,7 @@ use pw_base::source::Source;
 use pw_call::input::read_input;
 use pw_call::output::or_memory;
 use pw_call::status::Status;
-use pw_deck::deck::read_deck;
+use pw_deck::deck::check_deck;
 use pw_desk::verify::{Verified, verify};
 use pw_watch::status::{Counted, status};
 use std::alloc::Global;
@@ -80,7 +80,7 @@ fn checked(alloc: Global, bytes: &[u8]) -> Result<(Status, Bytes), Refusal>
     ensures ok { IfOk result (λ output. Checks output.0 bytes.now output.1) }
     ensures fault { IfErr result (λ refusal. Refuses refusal (deck_of bytes.now)) }
 {
-    let _deck = read_deck(alloc, bytes)?;
+    check_deck(alloc, bytes)?;
     Ok((Status::Finished, deck_ok(alloc)?))
 }
 

@@ -21,9 +21,5 @@ pub fn status_of(ended: Ended) -> Status
     ensures trials { (seed terms : ℕ) (text : List ℕ) → Tries seed terms ended text
         → Trials seed terms result text }
 {
-    match ended {
-        Ended::Regular => Status::Finished,
-        Ended::Irregular => Status::Irregular,
-        Ended::Full => Status::Limit,
-    }
+    ended.status()
 }

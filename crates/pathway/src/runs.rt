@@ -115,7 +115,10 @@ fn paired<G: Gate, R: Threads + Wait + Sync>(
 {
     match run_pair(rt, alloc, bytes, workers, events, gate) {
         Ok((PairRan::Ended(ended), text)) => Ok((status_of(ended), text)),
-        Ok((PairRan::Lost(_), text)) => Ok((Status::DiscFault, text)),
+        Ok((PairRan::Lost(pair), text)) => {
+            pair.let_go();
+            Ok((Status::DiscFault, text))
+        }
         Err(Refusal::At { line, code }) => refused(alloc, Fault { line, code }),
         Err(Refusal::Memory) => Err(Memory),
     }

@@ -1,9 +1,10 @@
-ghost use Rattle.std.specs.Prelude.{◌≡◌, ◌≤◌, length, Ok, IfOk};
-ghost use Rattle.pw_base.specs.First.{Gives};
+ghost use Rattle.std.specs.Prelude.{◌≡◌, ◌≤◌, length, Ok, IfErr, IfOk, OnOk};
+ghost use Rattle.pw_base.specs.First.{Gives, Refuses};
 ghost use Rattle.pw_base.specs.Limits.{longest_input};
 ghost use Rattle.pw_deck.specs.Deck.{end_found, deck_in, deck_of};
 ghost use Rattle.pw_deck.specs.Parts.{parts_of};
 ghost use Rattle.pw_deck.specs.Sound.{HasTables};
+ghost use Rattle.pw_deck.specs.declared.deck.Deck.{Deck as SeenDeck};
 
 use crate::named::{requester_names, server_names};
 use crate::parts::Parts;
@@ -107,4 +108,13 @@ pub fn read_deck(alloc: Global, bytes: &[u8]) -> Result<Deck, Refusal>
     }
     let parts = read_parts(alloc, bytes)?;
     finish(alloc, bytes, parts)
+}
+
+/// Whether a deck has a fault: an `Err` is the first one, as `read_deck` gives it.
+pub fn check_deck(alloc: Global, bytes: &[u8]) -> Result<(), Refusal>
+    ensures ok { OnOk result ((deck : SeenDeck) × (deck_of bytes.now ≡ Ok deck)) }
+    ensures fault { IfErr result (λ refusal. Refuses refusal (deck_of bytes.now)) }
+{
+    read_deck(alloc, bytes)?;
+    Ok(())
 }

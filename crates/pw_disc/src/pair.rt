@@ -92,6 +92,9 @@ impl DiscPair {
         }
     }
 
+    /// Lets go of the pair.
+    pub fn let_go(self) {}
+
     /// Whether no member is there.
     fn is_gone(&self) -> bool
         ensures { MatchBool result (self.now.standing ≡ Lost) (self.now.standing ≢ Lost) }
