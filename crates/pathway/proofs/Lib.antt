@@ -1,3 +1,3 @@
 pub mod Calls
-pub mod Endings
 pub mod Inputs
+pub mod RunEnds

@@ -1,6 +1,6 @@
 use Rattle.std.proofs.Common.{subst, sym}
 use Rattle.pathway.specs.Decks.{PairRuns, Runs, Trials}
-use Rattle.pathway.proofs.Endings.{pairs, runs, trials}
+use Rattle.pathway.proofs.RunEnds.{pairs, runs, trials}
 use Rattle.pathway.proofs.endings.status_of.Goals as goal
 
 pub returns-clause-runs : goal.returns-clause-runs
