@@ -46,9 +46,10 @@ impl<D: Disc> World<D> {
 
     /// An actor that is looked at for work and not out, None only where each actor that may work is
     /// out.
-    fn next(&self) -> Option<Actor>
-        requires { finished (seen D.told self.now) ≡ false }
-        ensures { IsNextOf (seen D.told self.now) self.now.ledger.notes result }
+    fn next(&mut self) -> Option<Actor>
+        requires { finished (seen D.told self.old) ≡ false }
+        ensures next { IsNextOf (seen D.told self.old) self.old.ledger.notes result }
+        ensures same { self.new ≡ self.old }
     {
         idle_laws();
         self.ledger.next()

@@ -111,8 +111,9 @@ impl Ledger {
     }
 
     /// An actor that is marked and not out, None exactly where there is none.
-    pub fn next(&self) -> Option<Actor>
-        ensures { IsNext (notes_in self.now.notes) result }
+    pub fn next(&mut self) -> Option<Actor>
+        ensures next { IsNext (notes_in self.old.notes) result }
+        ensures same { self.new ≡ self.old }
     {
         self.roster.next()
     }
