@@ -2,7 +2,6 @@ mod BodyForms
 mod CallRuns
 mod Commits
 mod Committing
-mod DiscTests
 mod Framing
 mod Keeping
 mod Logging
