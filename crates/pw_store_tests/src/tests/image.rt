@@ -1,11 +1,11 @@
-ghost use Rattle.std.specs.Prelude.{◌≡◌, ◌<◌, length, true, All};
+ghost use Rattle.std.specs.Prelude.{◌≡◌, true, All};
 ghost use Rattle.pw_image.specs.Image.{FrameFits, HasImage};
 
 use pw_base::bytes::Bytes;
 use pw_base::list::List;
 use pw_code::context::{Context, Frame, Return};
 use pw_code::screen::{CELLS, ScreenImage};
-use pw_image::changes::{changes, patch};
+use pw_image::changes::changes;
 use pw_image::decode::decode;
 use pw_image::encode::encode;
 use pw_image::fault::ImageFault;

@@ -1,5 +1,5 @@
 -- The next one has room too, and behind the last one all have.
-use Rattle.std.proofs.Common.{◌≡◌, All, List, take, subst, rules}
+use Rattle.std.proofs.Common.{All, List, subst, rules}
 use Rattle.std.proofs.lemmas.List.{take_all}
 use Rattle.std.proofs.lemmas.List.Elements.{All-more}
 use Rattle.pw_code.specs.declared.context.Frame.{Frame}

@@ -1,4 +1,4 @@
-use Rattle.std.proofs.Common.{◌≡◌, ◌∷◌, [], sym, subst, true}
+use Rattle.std.proofs.Common.{◌∷◌, [], sym, subst, true}
 use Rattle.std.specs.Prelude.{All}
 use Rattle.pw_tmf.specs.Told.{Told}
 use Rattle.pw_tmf.specs.TwoUnits.{older_unit, third_unit, younger_unit}

@@ -1,4 +1,4 @@
-use Rattle.pw_trail.proofs.DiscTests.{fresh-opened}
+use Rattle.pw_store_tests.proofs.OpenedTrail.{fresh-opened}
 use Rattle.pw_store_tests.proofs.tests.trail_disc.opened.Goals as goal
 
 pub returns-in-Ok : goal.returns-in-Ok
