@@ -114,11 +114,13 @@ fn paired<G: Gate, R: Threads + Wait + Sync>(
     ensures { IfOk result (λ output. PairRuns events output.0 bytes.now output.1) }
 {
     match run_pair(rt, alloc, bytes, workers, events, gate) {
-        Ok((PairRan::Ended(ended), text)) => Ok((status_of(ended), text)),
-        Ok((PairRan::Lost(pair), text)) => {
-            pair.let_go();
-            Ok((Status::DiscFault, text))
-        }
+        Ok((ran, text)) => match ran {
+            PairRan::Ended(ended) => Ok((status_of(ended), text)),
+            PairRan::Lost(pair) => {
+                pair.let_go();
+                Ok((Status::DiscFault, text))
+            }
+        },
         Err(Refusal::At { line, code }) => refused(alloc, Fault { line, code }),
         Err(Refusal::Memory) => Err(Memory),
     }
