@@ -6,6 +6,7 @@ STATUSES = {
     "run": {0, 1, 2, 3}, "trial": {0, 1, 3}, "check": {0, 2}, "verify": {0, 2, 8}, "gen": {0}, "disc": {0, 1, 2, 3, 9},
     "trail": {0, 1, 2, 3}, "status": {0, 2, 8}, "expand": {0, 2},
 }
+LONGEST = 2**24
 USAGE = re.compile(rb"USAGE: pathway [a-z|]+( \[--[a-z]+ N\])+\n")
 NO_STEP = re.compile(rb"NOT A STEP [1-9][0-9]*\n")
 DECK_FAULT = re.compile(rb"DECK FAULT LINE [0-9]+ CODE 1[0-9]{2} [A-Z ]+\n")
@@ -24,10 +25,14 @@ def with_log(deck, report):
 
 
 def is_run_of(call, deck, answer):
-    """Whether an answer is the report of a run of the deck: its log, replayed, has the same report."""
+    """Whether an answer is the report of a run of the deck: its log, replayed, has the same report, unless the deck is
+    too long with it."""
     if answer.status not in (0, 1, 3) or b"\nLOG\n" not in answer.text:
         return False
-    again = call([b"verify"], with_log(deck, answer.text))
+    logged = with_log(deck, answer.text)
+    again = call([b"verify"], logged)
+    if len(logged) > LONGEST:
+        return again.status == 2 and again.text.startswith(b"DECK FAULT LINE 0 CODE 190 ")
     return (again.status, again.text) == (0, answer.text)
 
 
