@@ -1,12 +1,17 @@
 -- Whether a place is found.
-use Rattle.std.proofs.Common.{◌≡◌, ℕ, ◌+◌, ◌-◌, ◌<◌, ◌≤◌, ◌||◌, sym, List, length, get_or, None, Some, Bool, true, false, cond, refl, arith}
-use Rattle.std.specs.Prelude.{position, IsTrue, ◌==◌}
+use Rattle.std.proofs.Common.{◌≡◌, ℕ, ◌+◌, ◌-◌, ◌<◌, ◌≤◌, ◌||◌, sym, List, length, get_or, Option, None, Some, Bool, true, false, cond, refl, ap, ◌∙◌, arith}
+use Rattle.std.specs.Prelude.{position, IfSome, IsTrue, is_some, ◌==◌}
 use Rattle.std.specs.List.{list_any, position_or_len}
 use Rattle.std.proofs.lemmas.Bool.Decides.{nat_tests}
 use Rattle.std.proofs.lemmas.List.Folds.{list_any_none, list_any_at}
 use Rattle.std.proofs.lemmas.List.Quantifiers.{position-Some}
 use Rattle.std.proofs.lemmas.List.Sums.{fails_before_first}
-use Rattle.pw_class.specs.Queue.{Queue, is_of, works_for, at_process, has_request}
+use Rattle.std.proofs.lemmas.List.{get_or_default}
+use Rattle.pw_class.specs.Book.{queue_at}
+use Rattle.pw_class.specs.Places.{IsPlace}
+use Rattle.pw_class.specs.Queue.{Queue, is_of, works_for, at_process, has_request, IsIn}
+use Rattle.pw_class.specs.declared.request.Place.{Place}
+use Rattle.pw_class.specs.declared.request.Place.TheVariants.{Busy, Waiting}
 
 none_at : (b : Bool) (n : ℕ) → cond b (Some n) None ≡ None → b ≡ false
 none_at true n e = absurd (cc e)
@@ -48,3 +53,17 @@ works-at terminal queue place e =
 pub has-none : (terminal : ℕ) (queue : Queue) → list_any (is_of terminal) queue.waiting ≡ false → position (works_for terminal) queue.busy ≡ None
     → false ≡ has_request terminal queue
 has-none terminal queue waits e = let works = none-any (works_for terminal) queue.busy e in rw (waits, works) refl
+
+-- the place that the first class with a request tells is the terminal's
+pub is-place : (terminal : ℕ) (book : List Queue) (class : ℕ) (queue : Queue) (result : Option Place) → position (has_request terminal) book ≡ Some class
+    → queue ≡ get_or book class queue → is_some result ≡ has_request terminal queue → IfSome result (IsIn queue class terminal)
+    → IsPlace book terminal result
+is-place terminal book class queue result e is found place =
+    let at = position-Some (has_request terminal) book class queue e in
+    let here : queue ≡ queue_at book class = is ∙ get_or_default book class queue _ at.0 in
+    of result here (found ∙ (ap (has_request terminal) is ∙ at.1)) place
+  where
+    of : (result : Option Place) → queue ≡ queue_at book class → is_some result ≡ true → IfSome result (IsIn queue class terminal) → IsPlace book terminal result
+    of None here some place = absurd (cc some)
+    of (Some (Waiting own)) here some place = (refl, rw (place.0, ← here) place.1)
+    of (Some (Busy own process)) here some place = (refl, rw (place.0, ← here) place.1)

@@ -1,2 +1,4 @@
 pub mod Finds
+pub mod Moves
+pub mod Noting
 pub mod Takes

@@ -2,7 +2,8 @@ ghost use Rattle.std.specs.Prelude.{◌≡◌, ◌<◌, ◌^◌, length, map, sl
 ghost use Rattle.std.specs.Option.{option_copied};
 ghost use Rattle.pw_code.specs.Valid.{IsValid};
 
-use crate::classes::{cancel_all, class_with};
+use crate::classes::{cancel_all, place_of, take_next};
+use crate::places::Places;
 use crate::queue::Queue;
 use crate::request::{Place, Request, Taken};
 use pw_base::memory::Memory;
@@ -15,17 +16,23 @@ use std::marker::Model;
 #[derive(Debug, Drop)]
 pub struct ClassBook {
     classes: Vec<Queue>,
+    /// Where the request of each terminal is.
+    places: Places,
 }
 
 impl Model for ClassBook {
     ghost use Rattle.std.specs.Prelude.{List, ◌<◌, ◌^◌, length};
+    ghost use Rattle.pw_class.specs.Places.{AreNoted};
     ghost use Rattle.pw_class.specs.Queue.{Queue as SeenQueue};
 
     ghost Value = { List SeenQueue };
 
     ghost view = { λ book. book.classes.items };
 
-    ghost invariant = { λ book. length book.classes.items < 2 ^ 32 };
+    ghost invariant = { λ book. record {
+      few : length book.classes.items < 2 ^ 32;
+      noted : AreNoted book.classes.items book.places;
+    } };
 }
 
 impl ClassBook {
@@ -41,7 +48,10 @@ impl ClassBook {
         for class in system.classes.as_slice() {
             classes.push(Queue::new(alloc, class.processes)?)?;
         }
-        Ok(ClassBook { classes })
+        Ok(ClassBook {
+            classes,
+            places: Places::new(alloc),
+        })
     }
 
     /// How many classes there are.
@@ -60,7 +70,11 @@ impl ClassBook {
             (self.new ≡ slice_set self.old class (with_request (queue_at self.old class) request)) }
         ensures err { OnErr result (self.new ≡ self.old) }
     {
-        self.classes[class as usize].put(request)
+        let terminal = request.terminal;
+        self.places.reserve(terminal)?;
+        self.classes[class as usize].put(request)?;
+        self.places.set(terminal, Some(Place::Waiting { class }));
+        Ok(())
     }
 
     /// How many requests wait for a class.
@@ -98,10 +112,7 @@ impl ClassBook {
         ensures found { is_some result ≡ is_out self.now terminal }
         ensures place { IfSome result (IsAt self.now terminal) }
     {
-        match class_with(self.classes.as_slice(), terminal) {
-            Some(class) => self.classes[class].place_of(class as u32, terminal),
-            None => None,
-        }
+        self.places.get(terminal)
     }
 
     /// Gives the first waiting request of the class to the free process of smallest number, which keeps it until its
@@ -110,10 +121,13 @@ impl ClassBook {
         ensures answer { result ≡ taken (queue_at self.old class) }
         ensures after { self.new ≡ slice_set self.old class (after_take (queue_at self.old class)) }
     {
-        match self.classes.get_mut(class as usize) {
-            Some(queue) => queue.take(),
-            None => Taken::Empty,
+        let taken = take_next(&mut self.classes, class);
+        if let Taken::Got { process, request } = &taken {
+            let process = *process;
+            self.places
+                .set(request.terminal, Some(Place::Busy { class, process }));
         }
+        taken
     }
 
     /// Takes the request from a busy process, which is then free. It takes no memory.
@@ -122,7 +136,10 @@ impl ClassBook {
         ensures answer { Some result ≡ request_at self.old class process }
         ensures after { self.new ≡ slice_set self.old class (with_free (queue_at self.old class) process) }
     {
-        self.classes[class as usize].reply(process)
+        let request = self.classes[class as usize].reply(process);
+        let place = place_of(&self.classes, request.terminal);
+        self.places.set(request.terminal, place);
+        request
     }
 
     /// Takes the request of a terminal away, whether it waits or is at a process, which is then free. Nothing
@@ -131,5 +148,6 @@ impl ClassBook {
         ensures { self.new ≡ map (without terminal) self.old }
     {
         cancel_all(&mut self.classes, terminal);
+        self.places.clear(terminal);
     }
 }

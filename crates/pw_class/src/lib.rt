@@ -4,6 +4,7 @@
 pub mod book;
 mod classes;
 pub mod laws;
+mod places;
 mod queue;
 pub mod request;
 mod twin;
