@@ -3,7 +3,7 @@ use Rattle.std.proofs.Common.{◌≡◌, ℕ, ◌+◌, ◌≤◌, ◌∙◌, sym
 use Rattle.std.specs.Borrow.{Bor}
 use Rattle.std.proofs.lemmas.List.Elements.{All-append, All-nil}
 use Rattle.std.proofs.lemmas.List.Concat.{flat_map-append}
-use Rattle.pw_blocks.specs.Packing.{packed, packed_all, unpacked, IsBlock, IsFirst}
+use Rattle.pw_blocks.specs.Packing.{packed, packed_all, unpacked, IsBlock, IsFinger, IsFirst}
 use Rattle.pw_blocks.proofs.PackingLemmas.{IsBlock-packed, unpacked-packed_all}
 
 -- no bytes are the block of no records
@@ -21,6 +21,9 @@ module _ (before behind : List ℕ) (first : IsBlock before) (last : IsBlock beh
 
   pub unpacked-beside : unpacked new ≡ unpacked before ++ unpacked behind
   unpacked-beside = ap unpacked beside_are ∙ unpacked-packed_all (unpacked before ++ unpacked behind)
+
+  pub IsFinger-beside : IsFinger new (length before)
+  IsFinger-beside = record { front = unpacked before; back = unpacked behind; contents = sym unpacked-beside; place = ap length first.whole }
 
   pub IsBlock-beside : length before + length behind ≤ 4096 → IsBlock new
   IsBlock-beside fits =

@@ -7,6 +7,7 @@ use Rattle.std.specs.Option.{option_copied}
 use Rattle.std.specs.Ordering.{is_lt, is_eq, is_gt}
 use Rattle.std.specs.declared.cmp.Ordering.{Ordering}
 use Rattle.std.specs.declared.cmp.Ordering.TheVariants.{Less, Equal, Greater}
+use Rattle.std.proofs.lemmas.Cmp.{nat_list_cmp_total}
 use Rattle.std.proofs.lemmas.List.{append-nil, take_at}
 use Rattle.std.proofs.lemmas.List.Elements.{All-from_recursion, recursion_from_All}
 use Rattle.std.proofs.lemmas.List.Concat.{flat_map-append}
@@ -18,7 +19,7 @@ use Rattle.pw_blocks.proofs.PackingLemmas.{IsBlock-packed, unpacked-packed_all}
 use Rattle.pw_blocks.proofs.RoundLemmas.{all_front, all_back, all_unmapped, sorted_back, round_below, round_above, round_at, above_not_below}
 
 -- what the test for less says
-lt_is : (o : Ordering) → is_lt o ≡ true → o ≡ Less
+pub lt_is : (o : Ordering) → is_lt o ≡ true → o ≡ Less
 lt_is Less h = refl
 lt_is Equal h = cc
 lt_is Greater h = cc
@@ -51,6 +52,18 @@ module _ (n : ℕ) (key : List ℕ) where
         | false ↦ λ e k. let same : content ≡ first = cc in ap (λ c. is_lt (compared n key c)) (sym same) ∙ e
       ] is in
       at (is_lt (compared n key content)) refl h
+
+  -- where keys rise, the contents from a key on are behind one that is below it
+  pub from_key-past : (front rest : List (List ℕ)) (content : List ℕ) → Rises n (front ++ content ∷ rest) → compared n key content ≡ Less
+      → from_key n (front ++ content ∷ rest) key ≡ from_key n rest key
+  unfolding IsStrictlySortedBy
+  from_key-past [] rest content rises less = ap (λ o. cond (is_lt o) (from_key n rest key) (content ∷ rest)) less
+  from_key-past (x ∷ front) rest content rises less =
+      let f : List ℕ → List ℕ = λ c. take n c in
+      let across = all_back (λ y. key_cmp (f x) (f y) ≡ Less) front (content ∷ rest)
+      (all_unmapped f (λ y. key_cmp (f x) y ≡ Less) (λ y. key_cmp (f x) (f y) ≡ Less) (λ y h. h) (front ++ content ∷ rest) rises.0) in
+      let below : compared n key x ≡ Less = nat_list_cmp_total.trans (f x) (f content) key across.0 less in
+      ap (λ o. cond (is_lt o) (from_key n (front ++ content ∷ rest) key) (x ∷ (front ++ content ∷ rest))) below ∙ from_key-past front rest content rises.1 less
 
   -- where keys rise, the contents behind one that is not below the key are above it
   pub behind_above : (contents front rest : List (List ℕ)) (first : List ℕ) → Rises n contents → front ++ first ∷ rest ≡ contents → is_lt (compared n key first) ≡ false → AllGreater rest

@@ -4,7 +4,7 @@ use Rattle.std.specs.Prelude.{All}
 use Rattle.std.proofs.lemmas.List.{append_assoc, take_at, drop_at}
 use Rattle.std.proofs.lemmas.List.Elements.{All-append, All-cons}
 use Rattle.std.proofs.lemmas.List.Concat.{flat_map-append}
-use Rattle.pw_blocks.specs.Packing.{packed, packed_all, unpacked_most, unpacked, IsBlock, IsFirst, from_key}
+use Rattle.pw_blocks.specs.Packing.{packed, packed_all, unpacked_most, unpacked, IsBlock, IsFinger, IsFirst, from_key}
 use Rattle.std.specs.Ordering.{is_lt}
 use Rattle.pw_files.specs.Records.{compared}
 use Rattle.std.specs.Borrow.{Bor}
@@ -77,9 +77,27 @@ module _ (before content behind : List ℕ) (first : IsBlock before) (last : IsB
   pub unpacked-joined : (new : List ℕ) → new ≡ joined_bytes → unpacked new ≡ unpacked before ++ content ∷ unpacked behind
   unpacked-joined new is = ap unpacked (is ∙ joined_are) ∙ unpacked-packed_all (unpacked before ++ content ∷ unpacked behind)
 
+  pub IsFinger-joined : (new : List ℕ) → new ≡ joined_bytes → IsFinger new (length before)
+  IsFinger-joined new is = record {
+    front = unpacked before;
+    back = content ∷ unpacked behind;
+    contents = sym (unpacked-joined new is);
+    place = ap length first.whole;
+  }
+
   pub IsBlock-joined : length content ≤ 4000 → length before + length content + 2 + length behind ≤ 4096 → (new : List ℕ) → new ≡ joined_bytes → IsBlock new
   IsBlock-joined small fits new is =
       let long : length new ≡ length before + length content + 2 + length behind = ap length is ∙ simp length-append (omega arith) in
       IsBlock-packed (unpacked before ++ content ∷ unpacked behind) new (is ∙ joined_are)
       (All-append (λ c. length c ≤ 4000) (unpacked before) (content ∷ unpacked behind) first.contents (All-cons (λ c. length c ≤ 4000) content (unpacked behind) small last.contents))
       (omega arith)
+
+-- a finger before the first of the contents
+pub IsFinger-first : (bytes : List ℕ) → IsFinger bytes 0
+IsFinger-first bytes = record { front = []; back = unpacked bytes; contents = refl; place = refl }
+
+-- the bytes from a finger on are those of the contents there
+pub from_finger : (bytes : List ℕ) (finger : ℕ) (at : IsFinger bytes finger) → IsBlock bytes → drop finger bytes ≡ packed_all at.back
+from_finger bytes finger at block =
+    ap (drop finger) (sym block.whole ∙ ap packed_all (sym at.contents) ∙ flat_map-append packed at.front at.back)
+    ∙ drop_at (packed_all at.front) (packed_all at.back) finger at.place

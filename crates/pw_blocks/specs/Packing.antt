@@ -1,5 +1,5 @@
 -- How the contents of a block lie in its bytes.
-use Rattle.std.specs.Prelude.{◌≡◌, ℕ, zero, suc, ◌+◌, ◌*◌, ◌/◌, ◌%◌, ◌≤◌, List, [], ◌∷◌, length, take, drop, flat_map, All, Option, Some, None, if◌then◌else◌}
+use Rattle.std.specs.Prelude.{◌≡◌, ℕ, zero, suc, ◌+◌, ◌*◌, ◌/◌, ◌%◌, ◌≤◌, List, [], ◌∷◌, ◌++◌, length, take, drop, flat_map, All, Option, Some, None, if◌then◌else◌}
 use Rattle.std.specs.Borrow.{Bor}
 use Rattle.std.specs.Ordering.{is_lt}
 use Rattle.pw_files.specs.Records.{compared}
@@ -28,6 +28,13 @@ pub record IsBlock (bytes : List ℕ) : Type 0 where
   pub whole : packed_all (unpacked bytes) ≡ bytes
   pub contents : All (λ content. length content ≤ 4000) (unpacked bytes)
   pub fits : length bytes ≤ 4096
+
+-- at this place in the bytes one of their contents begins, or the last one ends
+pub record IsFinger (bytes : List ℕ) (finger : ℕ) : Type 0 where
+  pub front : List (List ℕ)
+  pub back : List (List ℕ)
+  pub contents : front ++ back ≡ unpacked bytes
+  pub place : length (packed_all front) ≡ finger
 
 -- the first of some contents, with the bytes of those behind it, and None exactly where there are none
 abbrev pub IsFirst : Option (Bor (List ℕ) × Bor (List ℕ)) → List (List ℕ) → Type 0

@@ -1,6 +1,6 @@
 ghost use Rattle.std.specs.Prelude.{◌≡◌, ◌+◌, ◌≤◌, ◌∷◌, ◌++◌, length, IfOk, OnOk};
 ghost use Rattle.pw_blocks.specs.Blocks.{first_key};
-ghost use Rattle.pw_blocks.specs.Packing.{IsBlock, packed_all, unpacked};
+ghost use Rattle.pw_blocks.specs.Packing.{IsBlock, IsFinger, packed_all, unpacked};
 
 use crate::packing::first_record;
 use pw_base::bytes::Bytes;
@@ -17,12 +17,15 @@ pub const BLOCK: usize = 4096;
 #[derive(Debug, Drop)]
 pub struct Block {
     bytes: Bytes,
+    /// Where one of the records begins, or the last one ends: a key is sought from there on where it is above that
+    /// record's, for records mostly come in the order of their keys.
+    finger: usize,
 }
 
 impl Model for Block {
     ghost use Rattle.std.specs.Prelude.{List, ℕ};
     ghost use Rattle.std.specs.Coded.{coded_list, coded_ℕ};
-    ghost use Rattle.pw_blocks.specs.Packing.{IsBlock, unpacked};
+    ghost use Rattle.pw_blocks.specs.Packing.{IsBlock, IsFinger, unpacked};
 
     ghost Value = { List (List ℕ) };
 
@@ -30,7 +33,10 @@ impl Model for Block {
 
     ghost view = { λ block. unpacked block.bytes };
 
-    ghost invariant = { λ block. IsBlock block.bytes };
+    ghost invariant = { λ block. record {
+      packed : IsBlock block.bytes;
+      finger : IsFinger block.bytes block.finger;
+    } };
 }
 
 impl Block {
@@ -40,6 +46,7 @@ impl Block {
     {
         Ok(Block {
             bytes: self.bytes.copy(alloc)?,
+            finger: self.finger,
         })
     }
 
@@ -49,6 +56,13 @@ impl Block {
         ensures block { IsBlock result.now }
     {
         self.bytes.as_slice()
+    }
+
+    /// A place in the bytes at which a record begins, or the last one ends.
+    pub fn finger(&self) -> usize
+        ensures { IsFinger (packed_all self.now) result }
+    {
+        self.finger
     }
 
     /// A block of the records of some bytes, one with this content, and the records of more bytes.
@@ -72,7 +86,10 @@ impl Block {
         bytes.push((size % 256) as u8)?;
         bytes.extend(content)?;
         bytes.extend(behind)?;
-        Ok(Block { bytes })
+        Ok(Block {
+            bytes,
+            finger: before.len(),
+        })
     }
 
     /// A block of the records of some bytes.
@@ -82,6 +99,7 @@ impl Block {
     {
         Ok(Block {
             bytes: Bytes::from_slice(alloc, bytes)?,
+            finger: 0,
         })
     }
 
@@ -94,7 +112,10 @@ impl Block {
     {
         let mut bytes = Bytes::from_slice(alloc, before)?;
         bytes.extend(behind)?;
-        Ok(Block { bytes })
+        Ok(Block {
+            bytes,
+            finger: before.len(),
+        })
     }
 
     /// The first key, which is empty where the block is.

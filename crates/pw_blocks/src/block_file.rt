@@ -4,7 +4,7 @@ ghost use Rattle.pw_files.specs.Files.{if_done};
 ghost use Rattle.pw_files.specs.Records.{IsContent, IsFile, IsKeyLength, has_key, with_record, without_key};
 ghost use Rattle.pw_blocks.specs.Blocks.{BlocksState, IsHome, records_of, with_blocks};
 ghost use Rattle.pw_blocks.specs.Cuts.{IsCut};
-ghost use Rattle.pw_blocks.specs.Packing.{IsBlock, unpacked};
+ghost use Rattle.pw_blocks.specs.Packing.{IsBlock, IsFinger, unpacked};
 ghost use Rattle.pw_blocks.specs.Seats.{IsSeat};
 ghost use Rattle.pw_blocks.specs.Splits.{IfChanged, IsTaken, IsWritten};
 
@@ -101,14 +101,15 @@ impl BlockFile {
             .saturating_sub(1)
     }
 
-    /// The bytes of the block at a place, none past the last one.
-    fn contents(&self, place: usize) -> &[u8]
-        ensures block { IsBlock result.now }
-        ensures records { unpacked result.now ≡ slice_index_or self.now.blocks place [] }
+    /// The bytes of the block at a place, none past the last one, and its finger.
+    fn contents(&self, place: usize) -> (&[u8], usize)
+        ensures block { IsBlock result.0.now }
+        ensures finger { IsFinger result.0.now result.1 }
+        ensures records { unpacked result.0.now ≡ slice_index_or self.now.blocks place [] }
     {
         match self.blocks.get(place) {
-            Some(block) => block.as_slice(),
-            None => &[],
+            Some(block) => (block.as_slice(), block.finger()),
+            None => (&[], 0),
         }
     }
 
@@ -121,10 +122,8 @@ impl BlockFile {
         ensures file { IsFile self.now.key (records_of self.now.blocks) }
     {
         let place = self.home(key);
-        (
-            place,
-            cut_at(self.contents(place), usize::from(self.key), key),
-        )
+        let (bytes, finger) = self.contents(place);
+        (place, cut_at(bytes, finger, usize::from(self.key), key))
     }
 
     /// The first record of the block behind a place, None exactly where that is the last one.

@@ -25,14 +25,14 @@ returns-then-is_eq c =
     let key : List ℕ = c.args.key.now in
     let contents : List (List ℕ) = unpacked c.args.bytes.now in
     let content : List ℕ = c.in-Some.content.now in
-    let rest_is : c.from_key-rest.result.now ≡ packed_all (from_key n contents key) = c.from_key-rest.ensures.records contents (sym c.requires.block.whole) in
+    let rest_is : c.sought-rest.result.now ≡ packed_all (from_key n contents key) = c.sought-rest.ensures.records in
     let front = before_key n key contents in
     let step = first_step (c.in-Some.content, c.in-Some.behind) (from_key n contents key) (c.in-Some.ensures.first (from_key n contents key) rest_is) in
     let whole : front.0 ++ content ∷ step.0 ≡ contents = ap (λ xs. front.0 ++ xs) (sym step.1) ∙ front.1 in
     let equal : compared n key content ≡ Equal = sym c.compared.ensures ∙ eq_is c.compared.result (sym c.if-is_eq.ensures) in
     cut_is n key c.args.bytes.now _ front.0 (content ∷ []) step.0 c.requires.block whole front.2
     (behind_above n key contents front.0 step.0 content c.requires.rises whole (not_less (compared n key content) equal))
-    (before_bytes c.args.bytes.now c.from_key-rest.result.now front.0 (from_key n contents key) (sym c.requires.block.whole ∙ ap packed_all (sym front.1)) rest_is)
+    (before_bytes c.args.bytes.now c.sought-rest.result.now front.0 (from_key n contents key) (sym c.requires.block.whole ∙ ap packed_all (sym front.1)) rest_is)
     step.2 (below_one n content key equal) (above_one n content key equal) (record_at_one n content key equal)
 
 pub returns : goal.returns
@@ -40,7 +40,7 @@ returns c =
     let n : ℕ = c.args.key_length in
     let key : List ℕ = c.args.key.now in
     let contents : List (List ℕ) = unpacked c.args.bytes.now in
-    let rest_is : c.from_key-rest.result.now ≡ packed_all (from_key n contents key) = c.from_key-rest.ensures.records contents (sym c.requires.block.whole) in
+    let rest_is : c.sought-rest.result.now ≡ packed_all (from_key n contents key) = c.sought-rest.ensures.records in
     let front = before_key n key contents in
     let all_greater : List (List ℕ) → Type 0 = AllGreater n key in
     cut_is n key c.args.bytes.now _ front.0 [] (from_key n contents key) c.requires.block front.1 front.2
@@ -54,5 +54,5 @@ returns c =
           subst all_greater (sym step.1) (greater, behind_above n key contents front.0 step.0 content c.requires.rises whole not_below)
       | in_default w ↦ subst all_greater (sym (first_end (from_key n contents key) (w.in_default.ensures.first (from_key n contents key) rest_is))) tt
     ])
-    (before_bytes c.args.bytes.now c.from_key-rest.result.now front.0 (from_key n contents key) (sym c.requires.block.whole ∙ ap packed_all (sym front.1)) rest_is)
+    (before_bytes c.args.bytes.now c.sought-rest.result.now front.0 (from_key n contents key) (sym c.requires.block.whole ∙ ap packed_all (sym front.1)) rest_is)
     rest_is refl refl refl
