@@ -1,13 +1,14 @@
 #!/usr/bin/env bash
 # What the gate costs from nothing: for each crate the processor time of its proof, of its tests and of
 # its must-fail edits, in minutes, the dearest first, and the time by the clock. With names of crates it
-# is the same for these and those below them. It works in a clone of what is committed.
+# is the same for these and those below them. It works in a clone of what is committed. Interrupted, it tells what
+# it has seen so far.
 #
 #     bench/gate.sh [CRATE..]
 set -eu
 cd "$(dirname "$0")/.."
 exec python3 - "$@" << 'END'
-import collections, os, re, resource, subprocess, sys, tempfile, time
+import collections, os, re, resource, signal, subprocess, sys, tempfile, time
 
 MARK = f"PATHWAY_GATE={os.getpid()}"
 TICKS = os.sysconf("SC_CLK_TCK")
@@ -64,10 +65,14 @@ def main(crates):
         subprocess.run(["git", "clone", "-q", ".", f"{room}/clone"], check=True)
         with open("/tmp/gate.log", "w") as log:
             gate = subprocess.Popen(["rt", "ci", "--anew", *crates], cwd=f"{room}/clone", stdout=log,
-                stderr=subprocess.STDOUT, env={**os.environ, "PATHWAY_GATE": str(os.getpid())})
-            while gate.poll() is None:
-                sample(seen)
-                time.sleep(0.5)
+                stderr=subprocess.STDOUT, env={**os.environ, "PATHWAY_GATE": str(os.getpid())}, start_new_session=True)
+            try:
+                while gate.poll() is None:
+                    sample(seen)
+                    time.sleep(0.5)
+            except KeyboardInterrupt:
+                os.killpg(gate.pid, signal.SIGTERM)
+                gate.wait()
     clock = (time.monotonic() - began) / 60
     used = resource.getrusage(resource.RUSAGE_CHILDREN)
     costs = collections.defaultdict(lambda: dict.fromkeys(PARTS, 0.0))
