@@ -7,6 +7,7 @@ use Rattle.pw_keep.proofs.keep.Keep.TheSendSync as keep
 use Rattle.pw_monitor.specs.contracts.ledger.Ledger as Ledger
 use Rattle.pw_monitor.specs.contracts.world.World as World
 use Rattle.pw_monitor_world.specs.contracts.due.DueLines as DueLines
+use Rattle.pw_monitor_world.proofs.task.Task.TheSendSync as task
 use Rattle.pw_onecopy.specs.contracts.refresh.Refresh as Refresh
 use Rattle.pw_roster.specs.contracts.roster.Roster as Roster
 use Rattle.pw_tmf.specs.declared.disc.Disc as Disc
@@ -32,7 +33,7 @@ world D g s = search (ledger, keep.the_send, sendable, crosses) depth 40
 
 module _ (D N : RattleType) (g : Disc.Ghosts D.Denot) (n : Naming.Ghosts N.Denot) where
   shared : IsSend D → IsSend N → IsSend (Shared.the_row D N g n)
-  shared s m = search (lane.the_field_send, world, sendable, crosses) depth 40
+  shared s m = search (lane.the_field_send, task.the_field_send, world, sendable, crosses) depth 40
 
   -- so threads may share the lock
   pub lock : IsSend D → IsSend N → IsSync (Lock.the_row D N g n)

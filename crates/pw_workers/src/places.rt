@@ -9,6 +9,11 @@ use pw_tmf::disc::Disc;
 use std::mem;
 use std::sync::Wait;
 
+/// Whether a task waits on a lane that is in its place.
+pub fn is_any_waiting(places: &[Option<LinkLane>]) -> bool {
+    places.iter().any(|place| place.as_ref().is_some_and(|lane| lane.is_waiting()))
+}
+
 /// Takes the first lane on which a task waits out of its place.
 pub fn take_first(places: &mut [Option<LinkLane>]) -> Option<(usize, LinkLane)>
     ensures found { IfSome result (λ found. (found.0 < length places.old) × IsSome found.1.waiting) }

@@ -6,15 +6,16 @@ ghost use Rattle.pw_workers.specs.Turns.{CanBuild, CanDo};
 
 use crate::end::{RunEnd, end_at_fault, end_of};
 use crate::lane::LinkLane;
-use crate::places::{lend_down, take_first};
+use crate::places::{is_any_waiting, lend_down, take_first};
 use crate::turn::Turn;
 use pw_base::memory::Memory;
 use pw_monitor::world::World;
 use pw_monitor_world::answers::{Applied, Claim};
-use pw_monitor_world::task::Outcome;
+use pw_monitor_world::task::{Outcome, Task};
 use pw_pair::link::LinkDone;
 use pw_tmf::disc::Disc;
 use std::marker::{Brand, Model, PhantomData};
+use std::mem;
 use std::sync::Wait;
 
 /// Which world it is: each run picks it.
@@ -60,15 +61,18 @@ impl Naming for Brand {
 }
 
 /// What is behind the lock of a run: a world that knows which it is, the lanes of its pairs, each in
-/// its place or with a worker, and how the run has ended, if it has. Behind its end nobody changes the
-/// world.
+/// its place or with a worker, a task that is claimed for whoever comes next, if there is one, and how
+/// the run has ended, if it has. Behind its end nobody changes the world.
 #[derive(Drop)]
 pub struct Shared<D: Disc, N: Naming> {
     pub(crate) world: World<D>,
     pub(crate) lanes: Vec<Option<LinkLane>>,
+    pub(crate) ready: Option<Task>,
     pub(crate) end: Option<RunEnd>,
-    /// How often a worker was done with something, so that one that waits sees it.
-    pub(crate) changes: u64,
+    /// Whether there are other workers, for whom tasks are claimed.
+    pub(crate) has_others: bool,
+    /// How often there was more to do, so that a worker that waits sees it.
+    pub(crate) offers: u64,
     pub(crate) of: PhantomData<N>,
 }
 
@@ -79,10 +83,14 @@ impl<D: Disc, N: Naming> Model for Shared<D, N> {
 
     ghost Value = { Locked };
 
-    ghost view = { λ shared. record { end = shared.end; lanes = length shared.lanes.items } };
+    ghost view = { λ shared. record {
+      end = shared.end;
+      lanes = length shared.lanes.items;
+      ready = shared.ready;
+    } };
 
     ghost invariant = { λ shared. IsLocked N.system N.script N.log N.limit N.faults (seen D.told shared.world)
-        (record { end = shared.end; lanes = length shared.lanes.items }) };
+        (record { end = shared.end; lanes = length shared.lanes.items; ready = shared.ready }) };
 }
 
 impl<D: Disc, N: Naming> Shared<D, N> {
@@ -93,9 +101,41 @@ impl<D: Disc, N: Naming> Shared<D, N> {
         if self.end.is_some() {
             return Turn::Stop;
         }
-        match self.waiting_lane() {
-            Some((tcp, lane)) => Turn::Build { tcp, lane },
+        if let Some((tcp, lane)) = self.waiting_lane() {
+            return Turn::Build { tcp, lane };
+        }
+        match mem::take(&mut self.ready) {
+            Some(task) => Turn::Run(task),
             None => self.claim(),
+        }
+    }
+
+    /// Whether there is more to do, for another worker: an image to build, or a task, which is claimed
+    /// for it here.
+    pub fn offer(&mut self) -> bool {
+        if !self.has_others || self.end.is_some() {
+            return false;
+        }
+        let is_more = is_any_waiting(self.lanes.as_slice()) || self.has_ready();
+        if is_more {
+            self.offers = self.offers.wrapping_add(1);
+        }
+        is_more
+    }
+
+    /// Whether a task is claimed for another worker, where the run goes on.
+    fn has_ready(&mut self) -> bool
+        requires { self.old.end ≡ None }
+    {
+        if self.ready.is_some() {
+            return true;
+        }
+        match self.claim() {
+            Turn::Run(task) => {
+                self.ready = Some(task);
+                true
+            }
+            Turn::Build { .. } | Turn::Wait | Turn::Stop => false,
         }
     }
 
@@ -130,7 +170,6 @@ impl<D: Disc, N: Naming> Shared<D, N> {
         if self.end.is_none() {
             self.apply_on(rt, outcome);
         }
-        self.changes = self.changes.wrapping_add(1);
     }
 
     /// The same, where the run goes on.
@@ -152,7 +191,6 @@ impl<D: Disc, N: Naming> Shared<D, N> {
         if self.end.is_none() {
             self.end = Some(end_of(&self.world));
         }
-        self.changes = self.changes.wrapping_add(1);
     }
 
     /// Files an image that was built, and puts the lane back in its place.
@@ -163,7 +201,6 @@ impl<D: Disc, N: Naming> Shared<D, N> {
             let _filed = self.world.give_back(done);
         }
         self.lanes[tcp] = Some(lane);
-        self.changes = self.changes.wrapping_add(1);
     }
 
     /// Sends the work of building an image down each lane that is in its place and free. Want of memory

@@ -2,6 +2,7 @@ use crate::lane::LinkLane;
 use pw_monitor_world::task::Task;
 
 /// What a worker does next.
+#[derive(Drop)]
 pub enum Turn {
     /// It builds the image for which a task waits on the lane of this pair.
     Build { tcp: usize, lane: LinkLane },

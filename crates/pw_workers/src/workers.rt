@@ -22,14 +22,14 @@ use pw_pair::link::build;
 use pw_tmf::disc::Disc;
 use std::alloc::Global;
 use std::marker::{Brand, PhantomData};
-use std::sync::{Condvar, Mutex, Wait};
+use std::sync::{Condvar, Mutex, MutexGuard, Wait};
 use std::thread::{Threads, join};
 
-/// The lock of a run, and what tells that a worker was done with something.
+/// The lock of a run, and what tells that there is more to do.
 #[derive(Drop)]
 struct Lock<D: Disc, N: Naming> {
     shared: Mutex<Shared<D, N>>,
-    changed: Condvar,
+    more: Condvar,
 }
 
 impl<D: Disc, N: Naming> Lock<D, N> {
@@ -37,26 +37,42 @@ impl<D: Disc, N: Naming> Lock<D, N> {
     fn next<R: Wait>(&self, rt: &R) -> Turn
         ensures { CanDo N.system result }
     {
-        let mut shared = self.shared.lock(rt);
+        self.leave(rt, self.shared.lock(rt))
+    }
+
+    /// The same for a worker that is done with something, and has the lock. It is told before another
+    /// worker is woken, where there is more to do.
+    fn leave<R: Wait>(&self, rt: &R, mut shared: MutexGuard<'_, Shared<D, N>>) -> Turn
+        ensures { CanDo N.system result }
+    {
         let turn = shared.next();
         match &turn {
             Turn::Wait => {
-                let seen = shared.changes;
-                let _changed = self
-                    .changed
-                    .wait_while(rt, shared, |shared| shared.changes == seen);
+                let seen = shared.offers;
+                let _more = self.more.wait_while(
+                    rt,
+                    shared,
+                    |shared| shared.offers == seen && shared.end.is_none(),
+                );
             }
-            Turn::Stop => self.changed.notify_all(),
-            Turn::Build { .. } | Turn::Run(_) => (),
+            Turn::Stop => self.more.notify_all(),
+            Turn::Build { .. } | Turn::Run(_) => {
+                let is_more = shared.offer();
+                drop(shared);
+                if is_more {
+                    self.more.notify_one();
+                }
+            }
         }
         turn
     }
 
     /// Runs a task outside the lock, passes the gate and applies what came of it.
-    fn run<G: Gate, R: Wait>(&self, rt: &R, system: &System, gate: &G, task: Task)
+    fn run<G: Gate, R: Wait>(&self, rt: &R, system: &System, gate: &G, task: Task) -> Turn
         requires system { system.now ≡ N.system }
         requires valid { IsValid N.system }
         requires can { CanRun N.system task }
+        ensures { CanDo N.system result }
     {
         let step = Step {
             actor: task.actor,
@@ -65,22 +81,36 @@ impl<D: Disc, N: Naming> Lock<D, N> {
         match run_task(system, task) {
             Ok(outcome) => {
                 gate.pass(step);
-                self.shared.lock(rt).apply(rt, outcome);
+                let mut shared = self.shared.lock(rt);
+                shared.apply(rt, outcome);
+                self.leave(rt, shared)
             }
-            Err(Memory) => self.shared.lock(rt).want_memory(),
+            Err(Memory) => self.end_for_memory(rt),
         }
-        self.changed.notify_all();
     }
 
     /// Builds the image for which a task waits on a lane, outside the lock.
-    fn build<R: Wait>(&self, rt: &R, alloc: Global, tcp: usize, mut lane: LinkLane)
+    fn build<R: Wait>(&self, rt: &R, alloc: Global, tcp: usize, mut lane: LinkLane) -> Turn
         requires { CanBuild N.system tcp lane }
+        ensures { CanDo N.system result }
     {
         match build(alloc, lane.take(rt)) {
-            Ok(done) => self.shared.lock(rt).give_back(tcp, lane, done),
-            Err(Memory) => self.shared.lock(rt).want_memory(),
+            Ok(done) => {
+                let mut shared = self.shared.lock(rt);
+                shared.give_back(tcp, lane, done);
+                self.leave(rt, shared)
+            }
+            Err(Memory) => self.end_for_memory(rt),
         }
-        self.changed.notify_all();
+    }
+
+    /// Want of memory ends the run.
+    fn end_for_memory<R: Wait>(&self, rt: &R) -> Turn
+        ensures { CanDo N.system result }
+    {
+        let mut shared = self.shared.lock(rt);
+        shared.want_memory();
+        self.leave(rt, shared)
     }
 }
 
@@ -95,13 +125,14 @@ fn one<D: Disc, N: Naming, G: Gate, R: Wait>(
     requires system { system.now ≡ N.system }
     requires valid { IsValid N.system }
 {
+    let mut turn = lock.next(rt);
     for _ in rt.forever() {
-        match lock.next(rt) {
+        turn = match turn {
             Turn::Build { tcp, lane } => lock.build(rt, alloc, tcp, lane),
             Turn::Run(task) => lock.run(rt, system, gate, task),
-            Turn::Wait => (),
+            Turn::Wait => lock.next(rt),
             Turn::Stop => return,
-        }
+        };
     }
 }
 
@@ -156,7 +187,7 @@ fn until_end<D: Disc, N: Naming, G: Gate, R: Threads + Wait + Sync>(
     for _ in rt.forever() {
         let lock = Lock {
             shared: Mutex::new(shared),
-            changed: Condvar::new(),
+            more: Condvar::new(),
         };
         start(rt, alloc, &lock, system, count, gate);
         shared = lock.shared.into_inner();
@@ -208,8 +239,10 @@ fn run_named<D: Disc, N: Naming, G: Gate, R: Threads + Wait + Sync>(
     let shared: Shared<D, N> = Shared {
         world,
         lanes,
+        ready: None,
         end: None,
-        changes: 0,
+        has_others: count > 1,
+        offers: 0,
         of: PhantomData,
     };
     until_end(rt, alloc, shared, &system, count, gate)
