@@ -2,6 +2,7 @@
 //! of it.
 #![tactic(auto)]
 
+mod calls;
 pub mod end;
 pub mod gate;
 mod lane;

@@ -4,6 +4,7 @@ ghost use Rattle.std.specs.Prelude.{◌≡◌, ◌<◌, IfSome, None, length};
 ghost use Rattle.pw_monitor_world.specs.Actors.{IsActor};
 ghost use Rattle.pw_workers.specs.Turns.{CanBuild, CanDo};
 
+use crate::calls::Calls;
 use crate::end::{RunEnd, end_at_fault, end_of};
 use crate::lane::LinkLane;
 use crate::places::{is_any_waiting, lend_down, take_first};
@@ -69,10 +70,8 @@ pub struct Shared<D: Disc, N: Naming> {
     pub(crate) lanes: Vec<Option<LinkLane>>,
     pub(crate) ready: Option<Task>,
     pub(crate) end: Option<RunEnd>,
-    /// Whether there are other workers, for whom tasks are claimed.
-    pub(crate) has_others: bool,
-    /// How often there was more to do, so that a worker that waits sees it.
-    pub(crate) offers: u64,
+    /// Who waits, and how often more to do was looked for.
+    pub(crate) calls: Calls,
     pub(crate) of: PhantomData<N>,
 }
 
@@ -110,17 +109,25 @@ impl<D: Disc, N: Naming> Shared<D, N> {
         }
     }
 
-    /// Whether there is more to do, for another worker: an image to build, or a task, which is claimed
-    /// for it here.
-    pub fn offer(&mut self) -> bool {
-        if !self.has_others || self.end.is_some() {
+    /// Whether there is more to do, for a worker that waits: an image to build, or a task, which is claimed
+    /// for it here. Where a call came to nothing, the next one comes after more turns.
+    pub fn calls_another(&mut self) -> bool {
+        if self.end.is_some() || !self.calls.is_time() {
             return false;
         }
         let is_more = is_any_waiting(self.lanes.as_slice()) || self.has_ready();
-        if is_more {
-            self.offers = self.offers.wrapping_add(1);
-        }
+        self.calls.look(is_more);
         is_more
+    }
+
+    /// What a worker does next that was called.
+    pub fn called(&mut self) -> Turn
+        ensures { CanDo N.system result }
+    {
+        let turn = self.next();
+        self.calls
+            .come(matches!(&turn, Turn::Build { .. } | Turn::Run(_)));
+        turn
     }
 
     /// Whether a task is claimed for another worker, where the run goes on.

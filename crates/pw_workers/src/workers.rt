@@ -7,6 +7,7 @@ ghost use Rattle.pw_monitor.specs.States.{seen};
 ghost use Rattle.pw_workers.specs.Ends.{EndsSo, IsFor};
 ghost use Rattle.pw_workers.specs.Turns.{CanBuild, CanDo, CanRun};
 
+use crate::calls::Calls;
 use crate::end::{RunEnd, end_of};
 use crate::gate::{Gate, Step};
 use crate::lane::LinkLane;
@@ -40,29 +41,38 @@ impl<D: Disc, N: Naming> Lock<D, N> {
         self.leave(rt, self.shared.lock(rt))
     }
 
-    /// The same for a worker that is done with something, and has the lock. It is told before another
-    /// worker is woken, where there is more to do.
+    /// The same for a worker that is done with something, and has the lock. Where there is more to do, it
+    /// calls another that waits.
     fn leave<R: Wait>(&self, rt: &R, mut shared: MutexGuard<'_, Shared<D, N>>) -> Turn
         ensures { CanDo N.system result }
     {
         let turn = shared.next();
         match &turn {
-            Turn::Wait => {
-                let seen = shared.offers;
-                let _more = self.more.wait_while(
-                    rt,
-                    shared,
-                    |shared| shared.offers == seen && shared.end.is_none(),
-                );
-            }
+            Turn::Wait => return self.wait(rt, shared),
             Turn::Stop => self.more.notify_all(),
             Turn::Build { .. } | Turn::Run(_) => {
-                let is_more = shared.offer();
+                let calls = shared.calls_another();
                 drop(shared);
-                if is_more {
+                if calls {
                     self.more.notify_one();
                 }
             }
+        }
+        turn
+    }
+
+    /// Waits until another worker calls or the run has ended, and gives what the worker does then.
+    fn wait<R: Wait>(&self, rt: &R, mut shared: MutexGuard<'_, Shared<D, N>>) -> Turn
+        ensures { CanDo N.system result }
+    {
+        shared.calls.wait();
+        let seen = shared.calls.made();
+        let mut called = self.more.wait_while(rt, shared, |shared| {
+            shared.calls.made() == seen && shared.end.is_none()
+        });
+        let turn = called.called();
+        if matches!(&turn, Turn::Stop) {
+            self.more.notify_all();
         }
         turn
     }
@@ -241,8 +251,7 @@ fn run_named<D: Disc, N: Naming, G: Gate, R: Threads + Wait + Sync>(
         lanes,
         ready: None,
         end: None,
-        has_others: count > 1,
-        offers: 0,
+        calls: Calls::new(),
         of: PhantomData,
     };
     until_end(rt, alloc, shared, &system, count, gate)
