@@ -1,5 +1,5 @@
 -- What contracts see of a disk in memory.
-use Rattle.std.specs.Prelude.{◌≡◌, ◌⊎◌, ℕ, List, Option, Some, None, if◌then◌else◌, Bool}
+use Rattle.std.specs.Prelude.{◌≡◌, ◌⊎◌, ◌≤◌, ℕ, List, length, take, Option, Some, None, if◌then◌else◌, Bool}
 use Rattle.pw_volume.specs.Life.{Life, Endless, Calls}
 
 -- the bytes that a read gives, those of the last sync, how many writes, cuts and syncs still pass where it
@@ -9,6 +9,12 @@ pub record MemDiskState : Type 0 where
   pub synced : List ℕ
   pub left : Option ℕ
   pub faults : ℕ
+
+-- up to a place in both, two lists of bytes are the same
+pub record AreSame (place : ℕ) (bytes synced : List ℕ) : Type 0 where
+  pub in_bytes : place ≤ length bytes
+  pub in_synced : place ≤ length synced
+  pub equal : take place bytes ≡ take place synced
 
 -- a disk lives as long as it was told
 abbrev pub life_by : Option ℕ → Life

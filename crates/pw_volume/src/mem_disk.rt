@@ -1,7 +1,7 @@
 ghost use Rattle.std.specs.Prelude.{◌≡◌, ◌+◌, ◌-◌, ◌<◌, ◌≤◌, [], length, Some, None, option_map, IfOk, IfErr, OnOk, OnErr, is_err, vec_len, vec_capacity};
 ghost use Rattle.pw_volume.specs.Crash.{written, Counts};
 ghost use Rattle.pw_volume.specs.Life.{Lives};
-ghost use Rattle.pw_volume.specs.MemDisk.{crashed, left_by_crash, life_by};
+ghost use Rattle.pw_volume.specs.MemDisk.{AreSame, crashed, left_by_crash, life_by};
 
 use crate::disk::Disk;
 use crate::fault::{DiskFailed, WriteFault};
@@ -14,13 +14,15 @@ use std::marker::Model;
 pub struct MemDisk {
     bytes: Vec<u8>,
     synced: Vec<u8>,
+    /// Up to here nothing has changed since the last sync, so that a sync copies what is behind it.
+    same: usize,
     left: Option<u64>,
     faults: u64,
 }
 
 impl Model for MemDisk {
     ghost use Rattle.std.specs.Prelude.{◌≤◌, vec_len, vec_capacity};
-    ghost use Rattle.pw_volume.specs.MemDisk.{MemDiskState};
+    ghost use Rattle.pw_volume.specs.MemDisk.{AreSame, MemDiskState};
 
     ghost Value = { MemDiskState };
 
@@ -31,7 +33,10 @@ impl Model for MemDisk {
       faults = disk.faults;
     } };
 
-    ghost invariant = { λ disk. vec_len disk.bytes ≤ vec_capacity disk.synced };
+    ghost invariant = { λ disk. record {
+      room : vec_len disk.bytes ≤ vec_capacity disk.synced;
+      same : AreSame disk.same disk.bytes.items disk.synced.items;
+    } };
 }
 
 impl MemDisk {
@@ -42,6 +47,7 @@ impl MemDisk {
         Ok(MemDisk {
             bytes: Vec::new(alloc),
             synced: Vec::new(alloc),
+            same: 0,
             left: None,
             faults: 0,
         })
@@ -66,6 +72,7 @@ impl MemDisk {
         Ok(MemDisk {
             bytes,
             synced,
+            same: 0,
             left: None,
             faults: self.faults,
         })
@@ -137,14 +144,15 @@ fn overwrite(
     Ok(())
 }
 
-/// Copies the bytes, for which there is room.
-fn settle(bytes: &[u8], synced: &mut Vec<u8>)
-    requires { length bytes.now ≤ vec_capacity synced.old }
+/// Copies the bytes behind those that are the same, for which there is room.
+fn settle(bytes: &[u8], same: usize, synced: &mut Vec<u8>)
+    requires room { length bytes.now ≤ vec_capacity synced.old }
+    requires same { AreSame same bytes.now synced.old.items }
     ensures synced { synced.new.items ≡ bytes.now }
     ensures room { vec_capacity synced.old ≤ vec_capacity synced.new }
 {
-    synced.clear();
-    let Ok(()) = synced.extend_from_slice(bytes) else {
+    synced.truncate(same);
+    let Ok(()) = synced.extend_from_slice(&bytes[same..]) else {
         unreachable!()
     };
 }
@@ -183,6 +191,7 @@ impl Disk for MemDisk {
     fn write_at(&mut self, at: u64, piece: &[u8]) -> Result<(), WriteFault> {
         admit(self.left, &mut self.faults)?;
         overwrite(&mut self.bytes, &mut self.synced, at as usize, piece)?;
+        self.same = self.same.min(at as usize);
         self.left = spend(self.left);
         Ok(())
     }
@@ -190,13 +199,15 @@ impl Disk for MemDisk {
     fn cut(&mut self, length: u64) -> Result<(), DiskFailed> {
         admit(self.left, &mut self.faults)?;
         self.bytes.truncate(length as usize);
+        self.same = self.same.min(length as usize);
         self.left = spend(self.left);
         Ok(())
     }
 
     fn sync(&mut self) -> Result<(), DiskFailed> {
         admit(self.left, &mut self.faults)?;
-        settle(&self.bytes, &mut self.synced);
+        settle(&self.bytes, self.same, &mut self.synced);
+        self.same = self.bytes.len();
         self.left = spend(self.left);
         Ok(())
     }
