@@ -92,10 +92,6 @@ module _ (before content behind : List ℕ) (first : IsBlock before) (last : IsB
       (All-append (λ c. length c ≤ 4000) (unpacked before) (content ∷ unpacked behind) first.contents (All-cons (λ c. length c ≤ 4000) content (unpacked behind) small last.contents))
       (omega arith)
 
--- a finger before the first of the contents
-pub IsFinger-first : (bytes : List ℕ) → IsFinger bytes 0
-IsFinger-first bytes = record { front = []; back = unpacked bytes; contents = refl; place = refl }
-
 -- the bytes from a finger on are those of the contents there
 pub from_finger : (bytes : List ℕ) (finger : ℕ) (at : IsFinger bytes finger) → IsBlock bytes → drop finger bytes ≡ packed_all at.back
 from_finger bytes finger at block =
