@@ -1,59 +1,52 @@
-//! When a worker looks for more to do, for another one that waits.
+//! When a worker that waits is called.
 
-/// The most turns between two looks.
-const MOST: u32 = 15;
+/// A task of so many statements takes longer than to wake a worker and to claim another task for it.
+const WORTH: u32 = 2_000;
 
-/// How many workers wait, and how many turns pass before one that works calls another. A call costs a look at every
-/// actor and a thread that wakes: where it comes to nothing, because what there is to do is small and done already, the
-/// next one is made after twice as many turns, and where it comes to something, at once. It has no meaning.
+/// What tasks are taken for before one was run, so that at first all are called.
+const FIRST: u32 = 1_000_000;
+
+/// How many workers wait, and how large tasks are. A call costs a look at every actor and a thread that wakes, so it is
+/// made only where a task is worth that: where what is done under the lock is most of the work, one worker does it
+/// alone. It has no meaning.
 #[derive(Clone, Copy, Debug, PartialEq, Eq)]
 pub struct Calls {
     /// How many workers wait.
     waiting: u8,
-    /// How often there was more to do, so that a worker that waits sees it.
-    made: u64,
-    /// How many turns pass between two looks.
-    gap: u32,
-    /// How many have passed since the last one.
-    passed: u32,
+    /// Whether one is called that has not come yet.
+    is_open: bool,
+    /// How many statements a task has lately.
+    size: u32,
 }
 
 impl Calls {
-    /// No worker waits.
+    /// No worker waits, and no task was run.
     pub const fn new() -> Calls {
         Calls {
             waiting: 0,
-            made: 0,
-            gap: 0,
-            passed: 0,
+            is_open: false,
+            size: FIRST,
         }
     }
 
-    /// How often there was more to do.
-    pub fn made(&self) -> u64 {
-        self.made
+    /// Whether one is called that has not come yet.
+    pub fn is_open(&self) -> bool {
+        self.is_open
     }
 
-    /// Whether more to do is looked for in this turn: where a worker waits, and enough turns have passed.
-    pub fn is_time(&mut self) -> bool {
-        if self.waiting == 0 {
-            return false;
-        }
-        if self.passed < self.gap {
-            self.passed += 1;
-            return false;
-        }
-        self.passed = 0;
-        true
+    /// A task of so many statements was run. A large one counts at once, and is forgotten bit by bit.
+    pub fn ran(&mut self, statements: u32) {
+        self.size = statements.max(self.size - self.size / 64);
     }
 
-    /// More to do was looked for, and there was some or none.
-    pub fn look(&mut self, is_more: bool) {
-        if is_more {
-            self.made = self.made.wrapping_add(1);
-        } else {
-            self.widen();
-        }
+    /// Whether another is called where there is more to do.
+    pub fn is_worth(&self) -> bool {
+        self.waiting > 0 && !self.is_open && self.size >= WORTH
+    }
+
+    /// One of those that wait is called.
+    pub fn call(&mut self) {
+        self.is_open = true;
     }
 
     /// A worker begins to wait.
@@ -61,18 +54,9 @@ impl Calls {
         self.waiting = self.waiting.saturating_add(1);
     }
 
-    /// A worker that waited was called, and found something to do or nothing.
-    pub fn come(&mut self, found: bool) {
+    /// A worker that waited comes, since it was called or the run has ended.
+    pub fn come(&mut self) {
         self.waiting = self.waiting.saturating_sub(1);
-        if found {
-            self.gap = 0;
-        } else {
-            self.widen();
-        }
-    }
-
-    /// The next look comes after twice as many turns.
-    fn widen(&mut self) {
-        self.gap = (self.gap.min(MOST) * 2 + 1).min(MOST);
+        self.is_open = false;
     }
 }

@@ -70,7 +70,7 @@ pub struct Shared<D: Disc, N: Naming> {
     pub(crate) lanes: Vec<Option<LinkLane>>,
     pub(crate) ready: Option<Task>,
     pub(crate) end: Option<RunEnd>,
-    /// Who waits, and how often more to do was looked for.
+    /// Who waits, and whether to call one is worth it.
     pub(crate) calls: Calls,
     pub(crate) of: PhantomData<N>,
 }
@@ -109,14 +109,16 @@ impl<D: Disc, N: Naming> Shared<D, N> {
         }
     }
 
-    /// Whether there is more to do, for a worker that waits: an image to build, or a task, which is claimed
-    /// for it here. Where a call came to nothing, the next one comes after more turns.
+    /// Calls a worker that waits, where tasks are worth it and there is more to do: an image to build, or a task, which is
+    /// claimed for it here.
     pub fn calls_another(&mut self) -> bool {
-        if self.end.is_some() || !self.calls.is_time() {
+        if self.end.is_some() || !self.calls.is_worth() {
             return false;
         }
         let is_more = is_any_waiting(self.lanes.as_slice()) || self.has_ready();
-        self.calls.look(is_more);
+        if is_more {
+            self.calls.call();
+        }
         is_more
     }
 
@@ -124,10 +126,8 @@ impl<D: Disc, N: Naming> Shared<D, N> {
     pub fn called(&mut self) -> Turn
         ensures { CanDo N.system result }
     {
-        let turn = self.next();
-        self.calls
-            .come(matches!(&turn, Turn::Build { .. } | Turn::Run(_)));
-        turn
+        self.calls.come();
+        self.next()
     }
 
     /// Whether a task is claimed for another worker, where the run goes on.

@@ -66,9 +66,8 @@ impl<D: Disc, N: Naming> Lock<D, N> {
         ensures { CanDo N.system result }
     {
         shared.calls.wait();
-        let seen = shared.calls.made();
         let mut called = self.more.wait_while(rt, shared, |shared| {
-            shared.calls.made() == seen && shared.end.is_none()
+            !shared.calls.is_open() && shared.end.is_none()
         });
         let turn = called.called();
         if matches!(&turn, Turn::Stop) {
@@ -91,7 +90,9 @@ impl<D: Disc, N: Naming> Lock<D, N> {
         match run_task(system, task) {
             Ok(outcome) => {
                 gate.pass(step);
+                let statements = outcome.work.as_ref().map_or(0, |work| work.count);
                 let mut shared = self.shared.lock(rt);
+                shared.calls.ran(statements);
                 shared.apply(rt, outcome);
                 self.leave(rt, shared)
             }
