@@ -5,4 +5,6 @@ mod event_due;
 mod event_line;
 mod event_malformed;
 mod pathcom;
+mod rows;
+mod script;
 mod sections;

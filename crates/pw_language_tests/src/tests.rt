@@ -3,4 +3,5 @@ mod divisions;
 mod forms;
 mod forms_rows;
 mod picture;
+mod rows;
 mod text;

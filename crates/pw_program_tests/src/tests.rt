@@ -2,4 +2,5 @@ mod code;
 mod compile;
 mod names;
 mod names_rows;
+mod parts;
 mod screen;

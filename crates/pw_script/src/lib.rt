@@ -4,5 +4,3 @@
 pub mod fail;
 pub mod log;
 mod nobody;
-#[cfg(test)]
-mod tests;

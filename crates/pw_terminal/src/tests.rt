@@ -30,22 +30,27 @@ fn expect_lines(
     Ok(())
 }
 
+/// Messages, and what is printed of a screen with them.
+const MESSAGES: &str = "HELLO|24|HELLO,\
+    BYE|24|BYE,\
+    123456789.123456789.123456789.123456789.123456789.123456789.123456789.123456789.1|\
+    24|123456789.123456789.123456789.123456789.123456789.123456789.123456789.123456789.";
+
 #[test]
-fn messages_and_rows_are_printed(rt: HostRuntime) -> Result<(), Fail> {
+fn messages_are_printed(rt: HostRuntime) -> Result<(), Fail> {
     let mut image = blank(rt.alloc())?;
     expect_lines(&rt, &image, "")?;
-    for (text, lines) in [
-        ("HELLO", "24|HELLO\n"),
-        ("BYE", "24|BYE\n"),
-        (
-            "123456789.123456789.123456789.123456789.123456789.123456789.123456789.123456789.1",
-            "24|123456789.123456789.123456789.123456789.123456789.123456789.123456789.123456789.\n",
-        ),
-        ("", ""),
-    ] {
+    for row in MESSAGES.split(',') {
+        let (text, line) = row.split_once('|').ok_or("no message")?;
         message(text.as_bytes(), &mut image);
-        expect_lines(&rt, &image, lines)?;
+        expect_lines(&rt, &image, &format!(in rt.alloc(); "{line}\n")?)?;
     }
+    message(b"", &mut image);
+    expect_lines(&rt, &image, "")
+}
+
+#[test]
+fn rows_are_printed(rt: HostRuntime) -> Result<(), Fail> {
     let mut cells = Bytes::from_vec(vec![in rt.alloc(); b' '; CELLS]?);
     cells.overwrite(2, b"MAIN  MENU  ");
     cells.overwrite(9 * 80, b"END");
@@ -85,48 +90,56 @@ fn expect_shown(
     Ok(())
 }
 
+/// The pictures of a field and its item, the item's characters, and what is shown of them.
+const SHOWN: &str = "X(3) of X(3)|ABC|ABC|
+X(5) of X(3)|ABC|ABC  |
+X(2) of X(3)|ABC|AB|
+X of X(3)|  C| |
+9(4) of 9(4)|0012|0012|
+9(4) of 9(2)|12|0012|
+9(2) of 9(4)|1234|34|
+9(3) of S9(3)|-005|005|
+S9(3) of 9(3)|005|+005|
+S9(3) of S9(3)|-005|-005|
+S9(2) of S9(4)|-1200|+00|
+9(3)V99 of 9(3)|123|12300|
+9(3) of 9(3)V99|12345|123|
+9V9 of 9(3)V99|12345|34|
+S9V9 of S9V99|-009|+00|
+9(4) of 9(4)|1 A4|1004|
+S9(3) of S9(3)|X005|+005|
+V99 of V99|45|45|
+9(3) of V99|45|000|
+ZZ,ZZ9.99- of S9(5)V99|-0123450| 1,234.50-|
+ZZ,ZZ9.99- of S9(5)V99|+0123450| 1,234.50 |
+ZZ9 of 9(3)|000|  0|
+ZZZ of 9(3)|000|   |
+ZZ9 of 9(3)|045| 45|
+ZZ9 of 9(4)|1234|234|
+-ZZ9 of S9(3)|-007|-  7|
+-ZZ9 of S9(3)|+007|   7|
+-ZZ9 of S9(4)|-1000|   0|
+Z,ZZZ of 9(4)|0999|  999|
+Z,ZZZ of 9(4)|1000|1,000|
+9,999 of 9(4)|0005|0,005|
+9.9 of 9(2)V99|1234|2.3|
+.99 of V9|5|.50|
+Z.99 of V99|05| .05|
+,99 of 9(2)|05| 05|
+9- of S9|-5|5-|
+9- of 9|5|5 |";
+
+/// Asserts what a row of the table says.
+fn expect_row(rt: &(impl Abort + AllocGlobal), row: &str) -> Result<(), Fail> {
+    let (pictures, rest) = row.split_once('|').ok_or("no characters")?;
+    let (chars, wanted) = rest.split_once('|').ok_or("nothing shown")?;
+    expect_shown(rt, true, pictures, chars, wanted.trim_end_matches('|'))
+}
+
 #[test]
 fn fields_show_their_items(rt: HostRuntime) -> Result<(), Fail> {
-    for (pictures, chars, wanted) in [
-        ("X(3) of X(3)", "ABC", "ABC"),
-        ("X(5) of X(3)", "ABC", "ABC  "),
-        ("X(2) of X(3)", "ABC", "AB"),
-        ("X of X(3)", "  C", " "),
-        ("9(4) of 9(4)", "0012", "0012"),
-        ("9(4) of 9(2)", "12", "0012"),
-        ("9(2) of 9(4)", "1234", "34"),
-        ("9(3) of S9(3)", "-005", "005"),
-        ("S9(3) of 9(3)", "005", "+005"),
-        ("S9(3) of S9(3)", "-005", "-005"),
-        ("S9(2) of S9(4)", "-1200", "+00"),
-        ("9(3)V99 of 9(3)", "123", "12300"),
-        ("9(3) of 9(3)V99", "12345", "123"),
-        ("9V9 of 9(3)V99", "12345", "34"),
-        ("S9V9 of S9V99", "-009", "+00"),
-        ("9(4) of 9(4)", "1 A4", "1004"),
-        ("S9(3) of S9(3)", "X005", "+005"),
-        ("V99 of V99", "45", "45"),
-        ("9(3) of V99", "45", "000"),
-        ("ZZ,ZZ9.99- of S9(5)V99", "-0123450", " 1,234.50-"),
-        ("ZZ,ZZ9.99- of S9(5)V99", "+0123450", " 1,234.50 "),
-        ("ZZ9 of 9(3)", "000", "  0"),
-        ("ZZZ of 9(3)", "000", "   "),
-        ("ZZ9 of 9(3)", "045", " 45"),
-        ("ZZ9 of 9(4)", "1234", "234"),
-        ("-ZZ9 of S9(3)", "-007", "-  7"),
-        ("-ZZ9 of S9(3)", "+007", "   7"),
-        ("-ZZ9 of S9(4)", "-1000", "   0"),
-        ("Z,ZZZ of 9(4)", "0999", "  999"),
-        ("Z,ZZZ of 9(4)", "1000", "1,000"),
-        ("9,999 of 9(4)", "0005", "0,005"),
-        ("9.9 of 9(2)V99", "1234", "2.3"),
-        (".99 of V9", "5", ".50"),
-        ("Z.99 of V99", "05", " .05"),
-        (",99 of 9(2)", "05", " 05"),
-        ("9- of S9", "-5", "5-"),
-        ("9- of 9", "5", "5 "),
-    ] {
-        expect_shown(&rt, true, pictures, chars, wanted)?;
+    for row in SHOWN.split('\n') {
+        expect_row(&rt, row)?;
     }
     expect_shown(&rt, false, "X(3) of X(3)", "ABC", "   ")?;
     expect_shown(&rt, false, "9(2) of 9(2)", "12", "  ")?;
@@ -160,7 +173,8 @@ fn using(
 ) -> Result<Field, Memory>
     requires item { IsItem 25 picture at source }
     requires inside { IsInside row 10 (size_of picture) }
-    ensures { IfOk result (λ field. IsField 25 field) }
+    ensures field { IfOk result (λ field. IsField 25 field) }
+    ensures row { IfOk result (λ field. field.row ≡ row) }
 {
     let name = Bytes::from_slice(alloc, name)?;
     let shown = FieldKind::Item {
@@ -206,23 +220,36 @@ fn push_field(fields: &mut List<Field>, field: Field) -> Result<(), Memory>
     Ok(())
 }
 
+/// Puts a label and a field of the same row behind the others.
+fn push_row(
+    alloc: Global,
+    fields: &mut List<Field>,
+    label: &[u8],
+    field: Field,
+) -> Result<(), Memory>
+    requires all { All (IsField 25) fields.old }
+    requires field { IsField 25 field }
+    requires label { IsInside field.row 1 (length label.now) }
+    ensures { OnOk result (All (IsField 25) fields.new) }
+{
+    push_field(fields, literal(alloc, field.row, 1, label)?)?;
+    push_field(fields, field)
+}
+
 /// The screen of orders, over a storage of 25 characters: a number, an item and a quantity from the
 /// second one on.
 fn order_screen(alloc: Global) -> Result<ScreenTable, Memory>
     ensures { IfOk result (λ table. All (IsField 25) table.fields) }
 {
-    let name = Bytes::from_slice(alloc, b"O-SCREEN")?;
     let mut fields = List::new(alloc);
     push_field(&mut fields, literal(alloc, 1, 30, b"ORDER ENTRY")?)?;
-    push_field(&mut fields, literal(alloc, 3, 1, b"NUMBER")?)?;
     let number = using(alloc, b"S-NUMBER", 3, digits(4), 1, digits(4))?;
-    push_field(&mut fields, number)?;
-    push_field(&mut fields, literal(alloc, 4, 1, b"ITEM")?)?;
+    push_row(alloc, &mut fields, b"NUMBER", number)?;
     let item = using(alloc, b"S-ITEM", 4, text(4), 5, text(4))?;
-    push_field(&mut fields, item)?;
-    push_field(&mut fields, literal(alloc, 5, 1, b"QTY")?)?;
+    push_row(alloc, &mut fields, b"ITEM", item)?;
     let quantity = using(alloc, b"S-QTY", 5, digits(3), 9, digits(3))?;
-    push_field(&mut fields, quantity)?;
+    push_row(alloc, &mut fields, b"QTY", quantity)?;
+    let name = Bytes::from_slice(alloc, b"O-SCREEN")?;
     Ok(ScreenTable { name, fields })
 }
 
@@ -235,40 +262,73 @@ fn entry(alloc: Global, key: u8, name: &str, value: &str) -> Result<EntryLine, M
     Ok(EntryLine { key, fields })
 }
 
+/// Shows the screen over an image, with its literals or without, and asserts what is printed then.
+fn expect_show(
+    rt: &(impl Abort + AllocGlobal),
+    table: &ScreenTable,
+    storage: &[u8; 25],
+    base: bool,
+    image: &mut ScreenImage,
+    lines: &str,
+) -> Result<(), Fail>
+    requires { All (IsField 25) table.now.fields }
+{
+    show(table, storage, base, image);
+    expect_lines(rt, image, lines)
+}
+
 #[test]
 fn order_screen_images(rt: HostRuntime) -> Result<(), Fail> {
-    let alloc = rt.alloc();
-    let table = order_screen(alloc)?;
-    let mut image = blank(alloc)?;
+    let table = order_screen(rt.alloc())?;
+    let mut image = blank(rt.alloc())?;
     message(b"OLD", &mut image);
-    show(&table, b" 0000    000             ", true, &mut image);
-    expect_lines(
+    let lines =
+        "01|                             ORDER ENTRY\n03|NUMBER   0000\n04|ITEM\n05|QTY      000\n";
+    expect_show(
         &rt,
-        &image,
-        "01|                             ORDER ENTRY\n03|NUMBER   0000\n04|ITEM\n05|QTY      000\n",
+        &table,
+        b" 0000    000             ",
+        true,
+        &mut image,
+        lines,
     )?;
-    let right = entry(alloc, 1, "S-NUMBER", "12")?;
-    assert_eq!(rt;
-        check_entry(&table, &[1, 32], &right),
-        EntryAnswer::Valid(1)
-    );
-    advise(EntryAnswer::Valid(1), &right, &mut image);
-    show(&table, b" 0012    000             ", false, &mut image);
-    expect_lines(
+    expect_advice(
         &rt,
-        &image,
-        "01|                             ORDER ENTRY\n03|NUMBER   0012\n04|ITEM\n05|QTY      000\n",
+        &table,
+        1,
+        "12",
+        EntryAnswer::Valid(1),
+        &mut image,
+        lines,
     )?;
-    let mut bare = blank(alloc)?;
-    show(&table, b" 0012BOLT005             ", false, &mut bare);
-    expect_lines(
+    let lines =
+        "01|                             ORDER ENTRY\n03|NUMBER   0012\n04|ITEM\n05|QTY      000\n";
+    expect_show(
         &rt,
-        &bare,
-        "03|         0012\n04|         BOLT\n05|         005\n",
+        &table,
+        b" 0012    000             ",
+        false,
+        &mut image,
+        lines,
     )
 }
 
-/// Asserts what an entry is, and what row 24 says then.
+#[test]
+fn fields_are_shown_without_labels(rt: HostRuntime) -> Result<(), Fail> {
+    let table = order_screen(rt.alloc())?;
+    let mut image = blank(rt.alloc())?;
+    let lines = "03|         0012\n04|         BOLT\n05|         005\n";
+    expect_show(
+        &rt,
+        &table,
+        b" 0012BOLT005             ",
+        false,
+        &mut image,
+        lines,
+    )
+}
+
+/// Asserts what an entry is, and what the image prints then.
 fn expect_advice(
     rt: &(impl Abort + AllocGlobal),
     table: &ScreenTable,
@@ -292,8 +352,15 @@ fn invalid_field_name(rt: HostRuntime) -> Result<(), Fail> {
     let wrong = EntryAnswer::BadField(0);
     let lines = "24|INVALID FIELD S-NUMBER\n";
     expect_advice(&rt, &table, 1, "12345", wrong, &mut image, lines)?;
-    let right = EntryAnswer::Valid(2);
-    expect_advice(&rt, &table, 32, "", right, &mut image, lines)?;
+    expect_advice(
+        &rt,
+        &table,
+        32,
+        "",
+        EntryAnswer::Valid(2),
+        &mut image,
+        lines,
+    )?;
     let lines = "24|INVALID KEY\n";
     expect_advice(
         &rt,
@@ -324,18 +391,18 @@ fn taking(alloc: Global, name: &str, text: &str, takes: bool) -> Result<Field, F
     })
 }
 
-/// A screen of fields with all kinds of pictures.
+/// Fields that take entries, with all kinds of pictures; the last one has no name.
+const TAKING: &str = "N 9(4),S S9(3)V99,V V99,E ZZ9.99-,P 9.9,T X(3), X(3)";
+
+/// A screen of these fields, and of one that takes no entry.
 fn value_screen(alloc: Global) -> Result<ScreenTable, Fail> {
-    let name = Bytes::from_slice(alloc, b"VALUES")?;
     let mut fields = List::new(alloc);
-    fields.push(taking(alloc, "N", "9(4)", true)?)?;
-    fields.push(taking(alloc, "S", "S9(3)V99", true)?)?;
-    fields.push(taking(alloc, "V", "V99", true)?)?;
-    fields.push(taking(alloc, "E", "ZZ9.99-", true)?)?;
-    fields.push(taking(alloc, "P", "9.9", true)?)?;
-    fields.push(taking(alloc, "T", "X(3)", true)?)?;
-    fields.push(taking(alloc, "", "X(3)", true)?)?;
+    for pair in TAKING.split(',') {
+        let (name, text) = pair.split_once(' ').ok_or("no picture")?;
+        fields.push(taking(alloc, name, text, true)?)?;
+    }
     fields.push(taking(alloc, "O", "9(4)", false)?)?;
+    let name = Bytes::from_slice(alloc, b"VALUES")?;
     Ok(ScreenTable { name, fields })
 }
 
@@ -360,54 +427,17 @@ fn expect_answer(
 #[test]
 fn values_are_checked(rt: HostRuntime) -> Result<(), Fail> {
     let table = value_screen(rt.alloc())?;
-    for (pair, right) in [
-        ("N=1234", true),
-        ("N=12345", false),
-        ("N=00005", false),
-        ("N=5", true),
-        ("N=+5", true),
-        ("N=-5", false),
-        ("N=5.", true),
-        ("N=.5", false),
-        ("N=1.0", false),
-        ("N=", true),
-        ("N=+", false),
-        ("N=.", false),
-        ("N=1 2", false),
-        ("N=12A", false),
-        ("N=+123", true),
-        ("N=+1234", false),
-        ("n=7", true),
-        ("S=123.45", true),
-        ("S=-12.34", true),
-        ("S=-123.4", true),
-        ("S=1234", false),
-        ("S=1.234", false),
-        ("S=+.5", true),
-        ("S=-5.", true),
-        ("S=-", false),
-        ("S=--5", false),
-        ("S=1.2.3", false),
-        ("S=123.456", false),
-        ("V=.5", true),
-        ("V=5", false),
-        ("V=05", false),
-        ("E=999.99-", false),
-        ("E=-99.99", true),
-        ("E=1234", false),
-        ("E=9.999", false),
-        ("P=-1", false),
-        ("P=+1", true),
-        ("P=1.5", true),
-        ("T=ABC", true),
-        ("T=ABCD", false),
-        ("T=", true),
-        ("FILLER=A", false),
-        ("=A", false),
-        ("X=A", false),
-        ("O=5", false),
-    ] {
-        expect_answer(&rt, &table, pair, right)?;
+    let right =
+        "N=1234,N=5,N=+5,N=5.,N=,N=+123,n=7,S=123.45,S=-12.34,S=-123.4,S=+.5,S=-5.,V=.5,E=-99.99,\
+         P=+1,P=1.5,T=ABC,T=";
+    let wrong =
+        "N=12345,N=00005,N=-5,N=.5,N=1.0,N=+,N=.,N=1 2,N=12A,N=+1234,S=1234,S=1.234,S=-,S=--5,\
+         S=1.2.3,S=123.456,V=5,V=05,E=999.99-,E=1234,E=9.999,P=-1,T=ABCD,FILLER=A,=A,X=A,O=5";
+    for pair in right.split(',') {
+        expect_answer(&rt, &table, pair, true)?;
+    }
+    for pair in wrong.split(',') {
+        expect_answer(&rt, &table, pair, false)?;
     }
     Ok(())
 }

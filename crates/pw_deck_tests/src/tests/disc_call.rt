@@ -1,5 +1,5 @@
+use crate::tests::rows::{case_of, numbers_of};
 use pw_base::bytes::Bytes;
-use pw_base::fault::Refusal;
 use pw_code::file::{FileCall, FileOp};
 use pw_code::unit::Unit;
 use pw_disc_call::call::DiscCall;
@@ -26,15 +26,75 @@ const OTHER: Unit = Unit {
     birth: 16,
 };
 
-/// The messages below, behind their kind and their unit.
-const UNIT_BYTES: [u8; 16] = [0, 0, 0, 1, 0, 0, 0, 2, 3, 4, 5, 6, 7, 8, 9, 10];
+/// The bytes of the unit.
+const UNIT: &str = "0 0 0 1 0 0 0 2 3 4 5 6 7 8 9 10";
 
-/// A kind and the unit, and what stands behind them.
-fn message(alloc: Global, kind: u8, rest: &[u8]) -> Result<Vec<u8>, Fail> {
-    let mut bytes = vec![in alloc; kind; 1]?;
-    bytes.extend_from_slice(&UNIT_BYTES)?;
-    bytes.extend_from_slice(rest)?;
+/// Calls, and the bytes of their messages.
+const MESSAGES: &str = "begin|1 UNIT
+rewrite AB|2 UNIT 0 0 0 6 3 0 0 0 0 0 0 0 2 65 66
+next and lock K|2 UNIT 0 0 0 6 6 0 0 0 1 75 0 0 0 0
+commit|3 UNIT 0
+commit OK|3 UNIT 1 0 0 0 2 79 75
+back out|4 UNIT 0 0 0 0 0
+back out both and end|4 UNIT 1 0 0 0 1 11 12 13 14 0 0 0 255 0 0 0 0 0 0 0 16";
+
+/// The operations by their number.
+const OPERATIONS: &str = "read,next,write,rewrite,delete,read and lock,next and lock";
+
+/// Bytes that are no message.
+const BAD: &str = "0 UNIT
+5 UNIT
+255 UNIT
+2 UNIT 0 0 0 6 7 0 0 0 0 0 0 0 0
+2 UNIT 0 0 0 6 0 255 255 255 255 0 0 0 0
+3 UNIT 2
+3 UNIT 2 0 0 0 0
+4 UNIT 2 0 0 0 0
+4 UNIT 1 255 255 255 255";
+
+/// Disc scripts, and the line and the number of their fault; 0 and the number of their lines where there is none.
+const SCRIPTS: &str = r"|0 0
+DISC PRIMARY SOON\n?END|0 0
+DISC PRIMARY AFTER 1\n ?END\nFLY|0 0
+?END\n|0 0
+?end  \r\n\n  \nDISC PRIMARY AFTER 0\r\n|0 1
+A\n?END\nDISC PRIMARY HELD 2\nDISC BACKUP AFTER 500000|0 2
+A\n?END\nDISC PRIMARY SOON|3 172
+?END\nDISC PRIMARY AFTER 500001|2 172
+?END\nDISC PRIMARY AFTER 010|2 172
+?END\nDISC PRIMARY AFTER |2 172
+?END\nDISC PRIMARY AFTER 1 |2 172
+?END\nDISC PRIMARY  AFTER 1|2 172
+?END\n DISC PRIMARY AFTER 1|2 172
+?END\ndisc PRIMARY AFTER 1|2 172
+?END\nDISC BACKUP HELD 1|2 172
+?END\nDISC PRIMARY AFTER +1|2 172
+?END\nDISC PRIMARY AFTER 1\xff|2 172
+?END\n* DISC PRIMARY AFTER 1|2 172
+?END\nDISC PRIMARY AFTER 1\n?END|3 172";
+
+/// A message as a row writes it: a number for each byte, and `UNIT` for the bytes of the unit.
+fn message(alloc: Global, row: &str) -> Result<Vec<u8>, Fail> {
+    let row = row.replace(alloc, "UNIT", UNIT)?;
+    let mut bytes = Vec::new(alloc);
+    for byte in row.as_str().split(' ') {
+        bytes.push(byte.parse::<u8>()?)?;
+    }
     Ok(bytes)
+}
+
+/// The operation of a name.
+fn operation_of(name: &str) -> Option<FileOp> {
+    match name {
+        "read" => Some(FileOp::Read),
+        "next" => Some(FileOp::Next),
+        "write" => Some(FileOp::Write),
+        "rewrite" => Some(FileOp::Rewrite),
+        "delete" => Some(FileOp::Delete),
+        "read and lock" => Some(FileOp::ReadLock),
+        "next and lock" => Some(FileOp::NextLock),
+        _ => None,
+    }
 }
 
 /// A READ, or the like, of a key, or a writing of a content.
@@ -48,9 +108,36 @@ fn operation(alloc: Global, op: FileOp, key: &[u8], content: &[u8]) -> Result<Di
     Ok(DiscCall::Operate(OWN, call))
 }
 
+/// The call of a name.
+fn call_of(alloc: Global, name: &str) -> Result<DiscCall, Fail> {
+    match name {
+        "begin" => Ok(DiscCall::Begin(OWN)),
+        "rewrite AB" => operation(alloc, FileOp::Rewrite, b"", b"AB"),
+        "next and lock K" => operation(alloc, FileOp::NextLock, b"K", b""),
+        "commit" => Ok(DiscCall::Commit(OWN, None)),
+        "commit OK" => Ok(DiscCall::Commit(OWN, Some(Bytes::from_slice(alloc, b"OK")?))),
+        "back out" => Ok(DiscCall::BackOut(Units::new(alloc, OWN, &[])?, false)),
+        "back out both and end" => {
+            Ok(DiscCall::BackOut(Units::new(alloc, OWN, &[OTHER])?, true))
+        }
+        _ => Err(Fail::new("no call")),
+    }
+}
+
 /// Whether bytes are no message.
 fn is_bad(alloc: Global, bytes: &[u8]) -> bool {
     matches!(decode_call(alloc, bytes), Err(CallFault::Bad))
+}
+
+/// Asserts that no part of a message is one, nor the message with a byte more.
+fn expect_no_part(rt: &impl Abort, alloc: Global, bytes: &[u8]) -> Result<(), Fail> {
+    for length in 0..bytes.len() {
+        assert!(rt; is_bad(alloc, bytes.split_at(length).0), "{length} bytes");
+    }
+    let mut more = Vec::from_slice(alloc, bytes)?;
+    more.push(0)?;
+    assert!(rt; is_bad(alloc, &more), "a byte more");
+    Ok(())
 }
 
 /// Asserts that a call has this message and no part of it, and comes back from it.
@@ -63,51 +150,15 @@ fn expect_message(
     assert_eq!(rt; encode_call(alloc, call)?.as_slice(), bytes);
     let read = decode_call(alloc, bytes)?;
     assert_eq!(rt; encode_call(alloc, &read)?.as_slice(), bytes);
-    for length in 0..bytes.len() {
-        assert!(rt; is_bad(alloc, bytes.split_at(length).0), "{length} bytes");
-    }
-    let mut more = Vec::from_slice(alloc, bytes)?;
-    more.push(0)?;
-    assert!(rt; is_bad(alloc, &more), "a byte more");
-    Ok(())
+    expect_no_part(rt, alloc, bytes)
 }
 
 #[test]
 fn messages_by_hand(rt: HostRuntime) -> Result<(), Fail> {
     let alloc = rt.alloc();
-    let reply = Bytes::from_slice(alloc, b"OK")?;
-    for (call, kind, rest) in [
-        (DiscCall::Begin(OWN), 1, [].as_slice()),
-        (
-            operation(alloc, FileOp::Rewrite, b"", b"AB")?,
-            2,
-            &[0, 0, 0, 6, 3, 0, 0, 0, 0, 0, 0, 0, 2, 65, 66],
-        ),
-        (
-            operation(alloc, FileOp::NextLock, b"K", b"")?,
-            2,
-            &[0, 0, 0, 6, 6, 0, 0, 0, 1, 75, 0, 0, 0, 0],
-        ),
-        (DiscCall::Commit(OWN, None), 3, &[0]),
-        (
-            DiscCall::Commit(OWN, Some(reply)),
-            3,
-            &[1, 0, 0, 0, 2, 79, 75],
-        ),
-        (
-            DiscCall::BackOut(Units::new(alloc, OWN, &[])?, false),
-            4,
-            &[0, 0, 0, 0, 0],
-        ),
-        (
-            DiscCall::BackOut(Units::new(alloc, OWN, &[OTHER])?, true),
-            4,
-            &[
-                1, 0, 0, 0, 1, 11, 12, 13, 14, 0, 0, 0, 255, 0, 0, 0, 0, 0, 0, 0, 16,
-            ],
-        ),
-    ] {
-        expect_message(&rt, alloc, &call, &message(alloc, kind, rest)?)?;
+    for row in MESSAGES.split('\n') {
+        let (name, bytes) = row.split_once('|').ok_or("no message")?;
+        expect_message(&rt, alloc, &call_of(alloc, name)?, &message(alloc, bytes)?)?;
     }
     Ok(())
 }
@@ -115,22 +166,11 @@ fn messages_by_hand(rt: HostRuntime) -> Result<(), Fail> {
 #[test]
 fn operations_by_number(rt: HostRuntime) -> Result<(), Fail> {
     let alloc = rt.alloc();
-    for (op, byte) in [
-        (FileOp::Read, 0),
-        (FileOp::Next, 1),
-        (FileOp::Write, 2),
-        (FileOp::Rewrite, 3),
-        (FileOp::Delete, 4),
-        (FileOp::ReadLock, 5),
-        (FileOp::NextLock, 6),
-    ] {
-        let rest = [0, 0, 0, 6, byte, 0, 0, 0, 0, 0, 0, 0, 0];
-        expect_message(
-            &rt,
-            alloc,
-            &operation(alloc, op, b"", b"")?,
-            &message(alloc, 2, &rest)?,
-        )?;
+    for (number, name) in OPERATIONS.split(',').enumerate() {
+        let op = operation_of(name).ok_or("no operation")?;
+        let call = operation(alloc, op, b"", b"")?;
+        let bytes = format!(in alloc; "2 UNIT 0 0 0 6 {number} 0 0 0 0 0 0 0 0")?;
+        expect_message(&rt, alloc, &call, &message(alloc, bytes.as_str())?)?;
     }
     Ok(())
 }
@@ -138,21 +178,8 @@ fn operations_by_number(rt: HostRuntime) -> Result<(), Fail> {
 #[test]
 fn bytes_of_no_message(rt: HostRuntime) -> Result<(), Fail> {
     let alloc = rt.alloc();
-    for (kind, rest) in [
-        (0, [].as_slice()),
-        (5, &[]),
-        (255, &[]),
-        (2, &[0, 0, 0, 6, 7, 0, 0, 0, 0, 0, 0, 0, 0]),
-        (2, &[0, 0, 0, 6, 0, 255, 255, 255, 255, 0, 0, 0, 0]),
-        (3, &[2]),
-        (3, &[2, 0, 0, 0, 0]),
-        (4, &[2, 0, 0, 0, 0]),
-        (4, &[1, 255, 255, 255, 255]),
-    ] {
-        assert!(rt;
-            is_bad(alloc, &message(alloc, kind, rest)?),
-            "{kind} {rest:?}"
-        );
+    for row in BAD.split('\n') {
+        assert!(rt; is_bad(alloc, &message(alloc, row)?), "{row}");
     }
     Ok(())
 }
@@ -161,39 +188,15 @@ fn bytes_of_no_message(rt: HostRuntime) -> Result<(), Fail> {
 fn outcome_of(alloc: Global, text: &[u8]) -> (u32, usize) {
     match read_disc_script(alloc, text) {
         Ok(script) => (0, script.lines.len()),
-        Err(Refusal::At { line, code }) => (line, usize::from(code.number())),
-        Err(Refusal::Memory) => (0, 1_000),
+        Err(refusal) => numbers_of(refusal),
     }
 }
 
 #[test]
 fn scripts_by_hand(rt: HostRuntime) -> Result<(), Fail> {
-    let alloc = rt.alloc();
-    for (text, wanted) in [
-        (b"".as_slice(), (0, 0)),
-        (b"DISC PRIMARY SOON\n?END", (0, 0)),
-        (b"DISC PRIMARY AFTER 1\n ?END\nFLY", (0, 0)),
-        (b"?END\n", (0, 0)),
-        (b"?end  \r\n\n  \nDISC PRIMARY AFTER 0\r\n", (0, 1)),
-        (
-            b"A\n?END\nDISC PRIMARY HELD 2\nDISC BACKUP AFTER 500000",
-            (0, 2),
-        ),
-        (b"A\n?END\nDISC PRIMARY SOON", (3, 172)),
-        (b"?END\nDISC PRIMARY AFTER 500001", (2, 172)),
-        (b"?END\nDISC PRIMARY AFTER 010", (2, 172)),
-        (b"?END\nDISC PRIMARY AFTER ", (2, 172)),
-        (b"?END\nDISC PRIMARY AFTER 1 ", (2, 172)),
-        (b"?END\nDISC PRIMARY  AFTER 1", (2, 172)),
-        (b"?END\n DISC PRIMARY AFTER 1", (2, 172)),
-        (b"?END\ndisc PRIMARY AFTER 1", (2, 172)),
-        (b"?END\nDISC BACKUP HELD 1", (2, 172)),
-        (b"?END\nDISC PRIMARY AFTER +1", (2, 172)),
-        (b"?END\nDISC PRIMARY AFTER 1\xff", (2, 172)),
-        (b"?END\n* DISC PRIMARY AFTER 1", (2, 172)),
-        (b"?END\nDISC PRIMARY AFTER 1\n?END", (3, 172)),
-    ] {
-        assert!(rt; outcome_of(alloc, text) == wanted, "{text:?}");
+    for row in SCRIPTS.split('\n') {
+        let (text, wanted) = case_of(rt.alloc(), row)?;
+        assert_eq!(rt; outcome_of(rt.alloc(), &text), wanted, "{row}");
     }
     Ok(())
 }
@@ -211,22 +214,21 @@ fn lines_of_a_script(rt: HostRuntime) -> Result<(), Fail> {
     Ok(())
 }
 
-#[test]
-fn sixty_five_lines(rt: HostRuntime) -> Result<(), Fail> {
-    let alloc = rt.alloc();
+/// The outcome of a script of 64 lines and what stands behind them.
+fn outcome_behind(alloc: Global, behind: &[u8]) -> Result<(u32, usize), Fail> {
     let mut text = Vec::from_slice(alloc, b"?END\n")?;
     for _ in 0..64 {
         text.extend_from_slice(b"DISC BACKUP AFTER 1\n")?;
     }
-    assert!(rt; outcome_of(alloc, &text) == (0, 64));
-    text.extend_from_slice(b"\n")?;
-    for (line, wanted) in [
-        (b"DISC BACKUP AFTER 1".as_slice(), (67, 196)),
-        (b"FLY", (67, 196)),
-    ] {
-        let mut longer = text.clone()?;
-        longer.extend_from_slice(line)?;
-        assert!(rt; outcome_of(alloc, &longer) == wanted);
-    }
+    text.extend_from_slice(behind)?;
+    Ok(outcome_of(alloc, &text))
+}
+
+#[test]
+fn sixty_five_lines(rt: HostRuntime) -> Result<(), Fail> {
+    let alloc = rt.alloc();
+    assert_eq!(rt; outcome_behind(alloc, b"")?, (0, 64));
+    assert_eq!(rt; outcome_behind(alloc, b"\nDISC BACKUP AFTER 1")?, (67, 196));
+    assert_eq!(rt; outcome_behind(alloc, b"\nFLY")?, (67, 196));
     Ok(())
 }

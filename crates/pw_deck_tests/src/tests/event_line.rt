@@ -1,367 +1,100 @@
+ghost use Rattle.pw_code.specs.Valid.{HasNames, HasFew};
+
 use crate::tests::event::system_under;
-use pw_code::file::FileOp;
-use pw_code::lock::{LockMode, LockRule};
+use pw_code::lock::LockRule;
+use pw_code::system::System;
 use pw_event::event::{Cause, Ending, Event};
 use pw_event::printing::{print_ending, print_event};
 use pw_event::reading::read_event;
-use pw_event::system_names::SystemNames;
 use std::process::Abort;
 use std::test::Fail;
 
-/// The lines that both lock rules have.
-static LINES: [(&[u8], Event); 31] = [
-    (
-        b"SHOW T1 0.10.4294967295",
-        Event::Show {
-            terminal: 0,
-            phase: 0,
-            attempt: 10,
-            k: 4294967295,
-        },
-    ),
-    (b"KEY T2 0", Event::Key { terminal: 1, k: 0 }),
-    (b"CHECK T1 START", Event::CheckStart { terminal: 0 }),
-    (b"CHECK T1 END", Event::CheckEnd { terminal: 0 }),
-    (b"CHECK T2 COPY", Event::CheckCopy { terminal: 1 }),
-    (b"APPLIED T2", Event::Applied { terminal: 1 }),
-    (
-        b"BEGIN T1 3 12",
-        Event::Begin {
-            terminal: 0,
-            unit: 3,
-            restarts: 12,
-        },
-    ),
-    (
-        b"SEND T2 4 STORE",
-        Event::Send {
-            terminal: 1,
-            unit: 4,
-            class: 0,
-        },
-    ),
-    (
-        b"TAKE STORE 2 T1",
-        Event::Take {
-            class: 0,
-            process: 2,
-            terminal: 0,
-        },
-    ),
-    (
-        b"REPLY DESK 1 T2 OK",
-        Event::Reply {
-            class: 1,
-            process: 1,
-            terminal: 1,
-            fault: None,
-        },
-    ),
-    (
-        b"REPLY STORE 1 T1 FAULT 203",
-        Event::Reply {
-            class: 0,
-            process: 1,
-            terminal: 0,
-            fault: Some(203),
-        },
-    ),
-    (
-        b"AGAIN T1 7",
-        Event::Again {
-            terminal: 0,
-            unit: 7,
-        },
-    ),
-    (
-        b"COMMIT T1 7",
-        Event::Commit {
-            terminal: 0,
-            unit: 7,
-        },
-    ),
-    (
-        b"BACK T2 8",
-        Event::Back {
-            terminal: 1,
-            unit: 8,
-        },
-    ),
-    (
-        b"RESTART T1 5 OLDER T2 9",
-        Event::Restart {
-            terminal: 0,
-            unit: 5,
-            cause: Cause::Older {
-                terminal: 1,
-                unit: 9,
-            },
-        },
-    ),
-    (
-        b"RESTART T1 5 TAKEOVER TCP-2",
-        Event::Restart {
-            terminal: 0,
-            unit: 5,
-            cause: Cause::Takeover(1),
-        },
-    ),
-    (
-        b"RESTART T1 5 SERVER 64",
-        Event::Restart {
-            terminal: 0,
-            unit: 5,
-            cause: Cause::Server(64),
-        },
-    ),
-    (
-        b"RESTART T1 5 REDO",
-        Event::Restart {
-            terminal: 0,
-            unit: 5,
-            cause: Cause::Redo,
-        },
-    ),
-    (
-        b"FAIL TCP TCP-1 PRIMARY 1",
-        Event::FailTcp {
-            tcp: 0,
-            primary: true,
-            line: 1,
-        },
-    ),
-    (
-        b"FAIL TCP TCP-2 BACKUP 2",
-        Event::FailTcp {
-            tcp: 1,
-            primary: false,
-            line: 2,
-        },
-    ),
-    (
-        b"FAIL SERVER DESK 1 3",
-        Event::FailServer {
-            class: 1,
-            process: 1,
-            line: 3,
-        },
-    ),
-    (b"TAKEOVER TCP-1", Event::Takeover { tcp: 0 }),
-    (b"RAISE TCP-2", Event::Raise { tcp: 1 }),
-    (
-        b"END T1 STOPPED",
-        Event::End {
-            terminal: 0,
-            ending: Ending::Stopped,
-        },
-    ),
-    (
-        b"END T1 NOENTRIES",
-        Event::End {
-            terminal: 0,
-            ending: Ending::NoEntries,
-        },
-    ),
-    (
-        b"END T1 FAULT 65535",
-        Event::End {
-            terminal: 0,
-            ending: Ending::Fault(65535),
-        },
-    ),
-    (
-        b"END T1 SUSPENDED OLDER T2 9",
-        Event::End {
-            terminal: 0,
-            ending: Ending::Suspended(Cause::Older {
-                terminal: 1,
-                unit: 9,
-            }),
-        },
-    ),
-    (
-        b"END T1 SUSPENDED TAKEOVER TCP-1",
-        Event::End {
-            terminal: 0,
-            ending: Ending::Suspended(Cause::Takeover(0)),
-        },
-    ),
-    (
-        b"END T1 SUSPENDED SERVER 1",
-        Event::End {
-            terminal: 0,
-            ending: Ending::Suspended(Cause::Server(1)),
-        },
-    ),
-    (
-        b"END T1 SUSPENDED REDO",
-        Event::End {
-            terminal: 0,
-            ending: Ending::Suspended(Cause::Redo),
-        },
-    ),
-    (
-        b"END T1 LOST",
-        Event::End {
-            terminal: 0,
-            ending: Ending::Lost,
-        },
-    ),
-];
+/// The lines that both lock rules have, and their entries.
+const LINES: &str =
+    "SHOW T1 0.10.4294967295|Show { terminal: 0, phase: 0, attempt: 10, k: 4294967295 }
+KEY T2 0|Key { terminal: 1, k: 0 }
+CHECK T1 START|CheckStart { terminal: 0 }
+CHECK T1 END|CheckEnd { terminal: 0 }
+CHECK T2 COPY|CheckCopy { terminal: 1 }
+APPLIED T2|Applied { terminal: 1 }
+BEGIN T1 3 12|Begin { terminal: 0, unit: 3, restarts: 12 }
+SEND T2 4 STORE|Send { terminal: 1, unit: 4, class: 0 }
+TAKE STORE 2 T1|Take { class: 0, process: 2, terminal: 0 }
+REPLY DESK 1 T2 OK|Reply { class: 1, process: 1, terminal: 1, fault: None }
+REPLY STORE 1 T1 FAULT 203|Reply { class: 0, process: 1, terminal: 0, fault: Some(203) }
+AGAIN T1 7|Again { terminal: 0, unit: 7 }
+COMMIT T1 7|Commit { terminal: 0, unit: 7 }
+BACK T2 8|Back { terminal: 1, unit: 8 }
+RESTART T1 5 OLDER T2 9|Restart { terminal: 0, unit: 5, cause: Older { terminal: 1, unit: 9 } }
+RESTART T1 5 TAKEOVER TCP-2|Restart { terminal: 0, unit: 5, cause: Takeover(1) }
+RESTART T1 5 SERVER 64|Restart { terminal: 0, unit: 5, cause: Server(64) }
+RESTART T1 5 REDO|Restart { terminal: 0, unit: 5, cause: Redo }
+FAIL TCP TCP-1 PRIMARY 1|FailTcp { tcp: 0, primary: true, line: 1 }
+FAIL TCP TCP-2 BACKUP 2|FailTcp { tcp: 1, primary: false, line: 2 }
+FAIL SERVER DESK 1 3|FailServer { class: 1, process: 1, line: 3 }
+TAKEOVER TCP-1|Takeover { tcp: 0 }
+RAISE TCP-2|Raise { tcp: 1 }
+END T1 STOPPED|End { terminal: 0, ending: Stopped }
+END T1 NOENTRIES|End { terminal: 0, ending: NoEntries }
+END T1 FAULT 65535|End { terminal: 0, ending: Fault(65535) }
+END T1 SUSPENDED OLDER T2 9|End { terminal: 0, ending: Suspended(Older { terminal: 1, unit: 9 }) }
+END T1 SUSPENDED TAKEOVER TCP-1|End { terminal: 0, ending: Suspended(Takeover(0)) }
+END T1 SUSPENDED SERVER 1|End { terminal: 0, ending: Suspended(Server(1)) }
+END T1 SUSPENDED REDO|End { terminal: 0, ending: Suspended(Redo) }
+END T1 LOST|End { terminal: 0, ending: Lost }";
 
-/// FILE lines where readers share.
-static SHARED: [(&[u8], Event); 6] = [
-    (
-        b"FILE STORE 2 READ S ORDERS 0",
-        Event::File {
-            class: 0,
-            process: 2,
-            op: FileOp::Read,
-            mode: LockMode::Shared,
-            file: 1,
-            status: 0,
-        },
-    ),
-    (
-        b"FILE STORE 2 READ X ORDERS 11",
-        Event::File {
-            class: 0,
-            process: 2,
-            op: FileOp::Read,
-            mode: LockMode::Exclusive,
-            file: 1,
-            status: 11,
-        },
-    ),
-    (
-        b"FILE STORE 2 NEXT S ORDERS 1",
-        Event::File {
-            class: 0,
-            process: 2,
-            op: FileOp::Next,
-            mode: LockMode::Shared,
-            file: 1,
-            status: 1,
-        },
-    ),
-    (
-        b"FILE STORE 2 WRITE X ORDERS 10",
-        Event::File {
-            class: 0,
-            process: 2,
-            op: FileOp::Write,
-            mode: LockMode::Exclusive,
-            file: 1,
-            status: 10,
-        },
-    ),
-    (
-        b"FILE STORE 2 REWRITE X ORDERS 0",
-        Event::File {
-            class: 0,
-            process: 2,
-            op: FileOp::Rewrite,
-            mode: LockMode::Exclusive,
-            file: 1,
-            status: 0,
-        },
-    ),
-    (
-        b"FILE STORE 2 DELETE X ORDERS 65535",
-        Event::File {
-            class: 0,
-            process: 2,
-            op: FileOp::Delete,
-            mode: LockMode::Exclusive,
-            file: 1,
-            status: 65535,
-        },
-    ),
-];
+/// FILE lines where readers share, and their entries.
+const SHARED: &str =
+    "FILE STORE 2 READ S ORDERS 0|File { class: 0, process: 2, op: Read, mode: Shared, file: 1, status: 0 }
+FILE STORE 2 READ X ORDERS 11|File { class: 0, process: 2, op: Read, mode: Exclusive, file: 1, status: 11 }
+FILE STORE 2 NEXT S ORDERS 1|File { class: 0, process: 2, op: Next, mode: Shared, file: 1, status: 1 }
+FILE STORE 2 WRITE X ORDERS 10|File { class: 0, process: 2, op: Write, mode: Exclusive, file: 1, status: 10 }
+FILE STORE 2 REWRITE X ORDERS 0|File { class: 0, process: 2, op: Rewrite, mode: Exclusive, file: 1, status: 0 }
+FILE STORE 2 DELETE X ORDERS 65535|File { class: 0, process: 2, op: Delete, mode: Exclusive, file: 1, status: 65535 }";
 
-/// FILE lines where all locks are exclusive.
-static EXCLUSIVE: [(&[u8], Event); 5] = [
-    (
-        b"FILE STORE 2 READ ORDERS 0",
-        Event::File {
-            class: 0,
-            process: 2,
-            op: FileOp::Read,
-            mode: LockMode::Exclusive,
-            file: 1,
-            status: 0,
-        },
-    ),
-    (
-        b"FILE STORE 2 NEXT ORDERS 1",
-        Event::File {
-            class: 0,
-            process: 2,
-            op: FileOp::Next,
-            mode: LockMode::Exclusive,
-            file: 1,
-            status: 1,
-        },
-    ),
-    (
-        b"FILE STORE 2 WRITE ORDERS 10",
-        Event::File {
-            class: 0,
-            process: 2,
-            op: FileOp::Write,
-            mode: LockMode::Exclusive,
-            file: 1,
-            status: 10,
-        },
-    ),
-    (
-        b"FILE STORE 2 REWRITE ORDERS 11",
-        Event::File {
-            class: 0,
-            process: 2,
-            op: FileOp::Rewrite,
-            mode: LockMode::Exclusive,
-            file: 1,
-            status: 11,
-        },
-    ),
-    (
-        b"FILE STORE 2 DELETE ORDERS 0",
-        Event::File {
-            class: 0,
-            process: 2,
-            op: FileOp::Delete,
-            mode: LockMode::Exclusive,
-            file: 1,
-            status: 0,
-        },
-    ),
-];
+/// FILE lines where all locks are exclusive, and their entries.
+const EXCLUSIVE: &str =
+    "FILE STORE 2 READ ORDERS 0|File { class: 0, process: 2, op: Read, mode: Exclusive, file: 1, status: 0 }
+FILE STORE 2 NEXT ORDERS 1|File { class: 0, process: 2, op: Next, mode: Exclusive, file: 1, status: 1 }
+FILE STORE 2 WRITE ORDERS 10|File { class: 0, process: 2, op: Write, mode: Exclusive, file: 1, status: 10 }
+FILE STORE 2 REWRITE ORDERS 11|File { class: 0, process: 2, op: Rewrite, mode: Exclusive, file: 1, status: 11 }
+FILE STORE 2 DELETE ORDERS 0|File { class: 0, process: 2, op: Delete, mode: Exclusive, file: 1, status: 0 }";
 
-/// The lines that both lock rules have, with their entries.
-fn lines() -> &'static [(&'static [u8], Event)] {
-    &LINES
-}
-
-/// FILE lines under a lock rule, with their entries.
-fn file_lines(rule: LockRule) -> &'static [(&'static [u8], Event)] {
+/// FILE lines under a lock rule, and their entries.
+fn file_lines(rule: LockRule) -> &'static str {
     match rule {
-        LockRule::ReadersShare => &SHARED,
-        LockRule::AllExclusive => &EXCLUSIVE,
+        LockRule::ReadersShare => SHARED,
+        LockRule::AllExclusive => EXCLUSIVE,
     }
 }
 
-/// Asserts that each line is read as its entry, and that the entry is printed as the line.
-fn expect_lines(
-    rt: &(impl Abort + AllocGlobal),
-    names: &SystemNames,
-    lines: &[(&[u8], Event)],
-) -> Result<(), Fail> {
-    for (line, event) in lines {
-        let read = names.read_event(rt.alloc(), line)?;
-        assert_eq!(rt; read, *event, "{line:?}");
-        let text = print_event(rt.alloc(), names.system(), &read)?;
-        assert_eq!(rt; text.as_slice(), *line);
+/// Asserts what the entry of a line is.
+fn expect_event(rt: &(impl Abort + AllocGlobal), event: Event, wanted: &str) -> Result<(), Fail> {
+    let found = format!(in rt.alloc(); "{event:?}")?;
+    assert_eq!(rt; found.as_str(), wanted);
+    Ok(())
+}
+
+/// Asserts that the line of a row is read as its entry, and that the entry is printed as the line.
+fn expect_line(rt: &(impl Abort + AllocGlobal), system: &System, row: &str) -> Result<(), Fail>
+    requires names { HasNames system.now }
+    requires few { HasFew system.now }
+{
+    let (line, wanted) = row.split_once('|').ok_or("no entry")?;
+    let event = read_event(rt.alloc(), system, line.as_bytes())?;
+    expect_event(rt, event, wanted)?;
+    let text = print_event(rt.alloc(), system, &event)?;
+    assert_eq!(rt; text.as_slice(), line.as_bytes());
+    Ok(())
+}
+
+/// Asserts it of each row of a table.
+fn expect_lines(rt: &(impl Abort + AllocGlobal), system: &System, table: &str) -> Result<(), Fail>
+    requires names { HasNames system.now }
+    requires few { HasFew system.now }
+{
+    for row in table.split('\n') {
+        expect_line(rt, system, row)?;
     }
     Ok(())
 }
@@ -369,9 +102,8 @@ fn expect_lines(
 /// Asserts it of the lines that a lock rule has.
 fn expect_lines_under(rt: &(impl Abort + AllocGlobal), rule: LockRule) -> Result<(), Fail> {
     let system = system_under(rt.alloc(), rule)?;
-    let names = SystemNames::new(rt.alloc(), &system)?;
-    expect_lines(rt, &names, lines())?;
-    expect_lines(rt, &names, file_lines(rule))
+    expect_lines(rt, &system, LINES)?;
+    expect_lines(rt, &system, file_lines(rule))
 }
 
 #[test]

@@ -1,5 +1,4 @@
-ghost use Rattle.std.specs.Prelude.{◌≤◌, length, OnOk};
-
+use crate::tests::rows::{case_of, fault_of, short, unescaped};
 use pw_base::bytes::Bytes;
 use pw_base::fault::Refusal;
 use pw_base::list::List;
@@ -9,26 +8,114 @@ use pw_sections::heading::{Heading, heading_of};
 use pw_sections::part::{next_section, split_front};
 use pw_sections::record::{printable, records};
 use std::alloc::Global;
+use std::fmt::Write;
+use std::process::Abort;
 use std::test::Fail;
 
-/// The line and the number of a refusal, and 0 twice where there is none.
-fn fault_of<T: Drop>(outcome: Result<T, Refusal>) -> (u32, u16) {
-    match outcome {
-        Ok(_) => (0, 0),
-        Err(Refusal::At { line, code }) => (line, code.number()),
-        Err(Refusal::Memory) => (0, 1),
-    }
-}
+/// Entry lines, and their fault.
+const ENTRIES: &str = r#"|0 0
+\n  \r\n|0 0
+F1\nF16\nSF1\nSF16|0 0
+F1 A=|0 0
+F1 A=1 B-2=x=y|0 0
+F1 A=""|0 0
+F1 A="a b""c" B=|0 0
+F1 A=""""|0 0
+F1 A=a'b,;|0 0
+F1\n F1|3 195
+F1 |2 195
+F1  A=1|2 195
+F1 A=1 |2 195
+F0|2 195
+F17|2 195
+F01|2 195
+SF17|2 195
+f1|2 195
+F1A|2 195
+* F1|2 195
+F1 A|2 195
+F1 =1|2 195
+F1 1A=1|2 195
+F1 A_B=1|2 195
+F1 A=1 a=2|2 195
+F1 A=a"b|2 195
+F1 A="|2 195
+F1 A="a|2 195
+F1 A="a"b|2 195
+F1 A="a""|2 195
+F1 A="a"B=1|2 195
+F1 ABCDEFGHIJABCDEFGHIJABCDEFGHIJ=1|0 0
+F1 ABCDEFGHIJABCDEFGHIJABCDEFGHIJK=1|2 195
+F1\nF2 A=1\nFLY\nF3 =|4 195"#;
 
-/// Refuses a long text.
-fn short(text: &[u8]) -> Result<(), Refusal>
-    ensures { OnOk result (length text.now ≤ 100000) }
-{
-    if text.len() > 100_000 {
-        return Err(Refusal::Memory);
-    }
-    Ok(())
-}
+/// Records of a file whose key has two characters, and their fault.
+const RECORDS: &str = r"|0 0
+A1\nA2x\n\n   \nB1|0 0
+A|2 194
+A1\nA1|3 194
+A1x\nA2\nA1y|4 194
+A1\r\nB\r\n|3 194
+* 1\n* 2|3 194
+a1\nA1|0 0
+ 1\n 2|0 0";
+
+/// Lines, and the fault of the first that has a character that is not printable.
+const PRINTABLE: &str = r"|0 0
+ ~\r\n\n|0 0
+A\rB|2 101
+A\nB\r|3 101
+A\n\tB|3 101
+A\n\t|3 101
+\x7F\n\x80|2 101";
+
+/// What may stand behind 4,096 entry lines, and the fault that they have then.
+const LAST_ENTRIES: &str = r"|0 0
+\nF1\n|4099 196
+\nF1\nFLY\n|4099 196";
+
+/// What may stand behind an entry line with the fields A1 to A1839, and the fault that it has then.
+const LAST_FIELDS: &str = " A0=|0 0
+ A1=|2 195
+ A0= B=|2 195";
+
+/// Section lines, and what they say.
+const HEADINGS: &str = r"?PATHCOM|pathcom
+?pathcom  |pathcom
+?PATHCOM X|none
+? PATHCOM|none
+?SCREEN-COBOL Hello|requester
+?SCREEN-COBOL|none
+?SCREEN-COBOL 1A|none
+?SERVER   A-1|server
+?SERVER A B|none
+?FILE F KEY 007|file 7
+?file f key 255|file 255
+?FILE F KEY 256|none
+?FILE F KEY 0|none
+?FILE F KEY 0000000007|none
+?FILE F KEY +7|none
+?FILE F KEYS 7|none
+?FILE F|none
+?FILE F KEY 7 8|none
+?ENTRIES T1|entries
+?ENTRIES|none
+?FAIL|fail
+?LOG|log
+?LOG\t|none
+?END|end
+?END\r|none
+?END NOW|none
+?FLY|none
+?|none";
+
+/// Decks, with a bar in front of each of their sections.
+const PARTS: &str = r"
+A\n ?B
+|?A
+\n\n|?A\n|?B\n
+|?A\nx?\n\n|?B\r\n
+|??\n|??
+|?A\r?B\n|?C";
 
 fn read_entries(alloc: Global, text: &[u8]) -> Result<List<EntryLine>, Refusal> {
     short(text)?;
@@ -45,48 +132,34 @@ fn read_printable(text: &[u8]) -> Result<(), Refusal> {
     printable(text, 2)
 }
 
-#[test]
-fn entry_lines_by_hand(rt: HostRuntime) -> Result<(), Fail> {
-    let cases: [(&[u8], (u32, u16)); 34] = [
-        (b"", (0, 0)),
-        (b"\n  \r\n", (0, 0)),
-        (b"F1\nF16\nSF1\nSF16", (0, 0)),
-        (b"F1 A=", (0, 0)),
-        (b"F1 A=1 B-2=x=y", (0, 0)),
-        (b"F1 A=\"\"", (0, 0)),
-        (b"F1 A=\"a b\"\"c\" B=", (0, 0)),
-        (b"F1 A=\"\"\"\"", (0, 0)),
-        (b"F1 A=a'b,;", (0, 0)),
-        (b"F1\n F1", (3, 195)),
-        (b"F1 ", (2, 195)),
-        (b"F1  A=1", (2, 195)),
-        (b"F1 A=1 ", (2, 195)),
-        (b"F0", (2, 195)),
-        (b"F17", (2, 195)),
-        (b"F01", (2, 195)),
-        (b"SF17", (2, 195)),
-        (b"f1", (2, 195)),
-        (b"F1A", (2, 195)),
-        (b"* F1", (2, 195)),
-        (b"F1 A", (2, 195)),
-        (b"F1 =1", (2, 195)),
-        (b"F1 1A=1", (2, 195)),
-        (b"F1 A_B=1", (2, 195)),
-        (b"F1 A=1 a=2", (2, 195)),
-        (b"F1 A=a\"b", (2, 195)),
-        (b"F1 A=\"", (2, 195)),
-        (b"F1 A=\"a", (2, 195)),
-        (b"F1 A=\"a\"b", (2, 195)),
-        (b"F1 A=\"a\"\"", (2, 195)),
-        (b"F1 A=\"a\"B=1", (2, 195)),
-        (b"F1 ABCDEFGHIJABCDEFGHIJABCDEFGHIJ=1", (0, 0)),
-        (b"F1 ABCDEFGHIJABCDEFGHIJABCDEFGHIJK=1", (2, 195)),
-        (b"F1\nF2 A=1\nFLY\nF3 =", (4, 195)),
-    ];
-    for (text, fault) in cases {
-        assert_eq!(rt; fault_of(read_entries(rt.alloc(), text)), fault);
+/// Asserts the fault of entry lines with what stands behind them in each row of a table.
+fn expect_entries(rt: &(impl Abort + AllocGlobal), front: &[u8], table: &str) -> Result<(), Fail> {
+    for row in table.split('\n') {
+        let (behind, fault) = case_of(rt.alloc(), row)?;
+        let text = [front, behind.as_slice()].concat(rt.alloc())?;
+        assert_eq!(rt;
+            fault_of(read_entries(rt.alloc(), &text)),
+            fault,
+            "at {row}"
+        );
     }
     Ok(())
+}
+
+#[test]
+fn entry_lines_by_hand(rt: HostRuntime) -> Result<(), Fail> {
+    expect_entries(&rt, b"", ENTRIES)
+}
+
+/// The fields of an entry line, each on a line.
+fn told_fields(alloc: Global, entry: &EntryLine) -> Result<String, Fail> {
+    let mut text = String::new(alloc);
+    for field in entry.fields.as_slice() {
+        let name = std::str::from_utf8(field.0.as_slice())?;
+        let value = std::str::from_utf8(field.1.as_slice())?;
+        writeln!(text, "{name}={value}")?;
+    }
+    Ok(text)
 }
 
 #[test]
@@ -95,16 +168,8 @@ fn an_entry(rt: HostRuntime) -> Result<(), Fail> {
     assert_eq!(rt; found.len(), 2);
     let second = found.get(1).ok_or("no second entry")?;
     assert_eq!(rt; second.key, 18);
-    assert_eq!(rt; second.fields.len(), 3);
-    for (place, name, value) in [
-        (0, b"F-OP".as_slice(), b"I".as_slice()),
-        (1, b"F-KEY", b"A \"1"),
-        (2, b"X", b""),
-    ] {
-        let field = second.fields.get(place).ok_or("no field")?;
-        assert!(rt; field.0.as_slice() == name);
-        assert!(rt; field.1.as_slice() == value);
-    }
+    let fields = told_fields(rt.alloc(), second)?;
+    assert_eq!(rt; fields.as_str(), "F-OP=I\nF-KEY=A \"1\nX=\n");
     Ok(())
 }
 
@@ -114,79 +179,47 @@ fn entry_limit(rt: HostRuntime) -> Result<(), Fail> {
     for _entry in 0..4_096 {
         text.extend_from_slice(b"F1\n")?;
     }
-    assert_eq!(rt; fault_of(read_entries(rt.alloc(), text.as_slice())), (0, 0));
-    text.extend_from_slice(b"\nF1\n")?;
-    assert_eq!(rt;
-        fault_of(read_entries(rt.alloc(), text.as_slice())),
-        (4_099, 196)
-    );
-    text.extend_from_slice(b"FLY\n")?;
-    assert_eq!(rt;
-        fault_of(read_entries(rt.alloc(), text.as_slice())),
-        (4_099, 196)
-    );
-    Ok(())
+    expect_entries(&rt, &text, LAST_ENTRIES)
 }
 
 #[test]
 fn pair_limit(rt: HostRuntime) -> Result<(), Fail> {
-    let mut text = Vec::from_slice(rt.alloc(), b"F1")?;
+    let mut text = String::new(rt.alloc());
+    text.push_str("F1")?;
     for number in 1..1_840 {
-        text.extend_from_slice(format!(in rt.alloc(); " A{number}=")?.as_bytes())?;
+        write!(text, " A{number}=")?;
     }
-    let cases: [(&[u8], (u32, u16)); 3] = [
-        (b" A0=", (0, 0)),
-        (b" A1=", (2, 195)),
-        (b" A0= B=", (2, 195)),
-    ];
-    for (end, fault) in cases {
-        let mut line = text.clone()?;
-        line.extend_from_slice(end)?;
-        assert_eq!(rt; fault_of(read_entries(rt.alloc(), line.as_slice())), fault);
-    }
-    Ok(())
+    expect_entries(&rt, text.as_bytes(), LAST_FIELDS)
+}
+
+/// The fault of a record of so many characters.
+fn record_fault(alloc: Global, characters: usize) -> Result<(u32, usize), Fail> {
+    let text = vec![in alloc; b'A'; characters]?;
+    Ok(fault_of(read_records(alloc, &text)))
 }
 
 #[test]
 fn records_by_hand(rt: HostRuntime) -> Result<(), Fail> {
-    let cases: [(&[u8], (u32, u16)); 9] = [
-        (b"", (0, 0)),
-        (b"A1\nA2x\n\n   \nB1", (0, 0)),
-        (b"A", (2, 194)),
-        (b"A1\nA1", (3, 194)),
-        (b"A1x\nA2\nA1y", (4, 194)),
-        (b"A1\r\nB\r\n", (3, 194)),
-        (b"* 1\n* 2", (3, 194)),
-        (b"a1\nA1", (0, 0)),
-        (b" 1\n 2", (0, 0)),
-    ];
-    for (text, fault) in cases {
-        assert_eq!(rt; fault_of(read_records(rt.alloc(), text)), fault);
+    for row in RECORDS.split('\n') {
+        let (text, fault) = case_of(rt.alloc(), row)?;
+        assert_eq!(rt;
+            fault_of(read_records(rt.alloc(), &text)),
+            fault,
+            "at {row}"
+        );
     }
-    let mut text = vec![in rt.alloc(); b'A'; 4_000]?;
-    assert_eq!(rt; fault_of(read_records(rt.alloc(), text.as_slice())), (0, 0));
-    text.push(b'A')?;
-    assert_eq!(rt;
-        fault_of(read_records(rt.alloc(), text.as_slice())),
-        (2, 194)
-    );
+    assert_eq!(rt; record_fault(rt.alloc(), 4_000)?, (0, 0));
+    assert_eq!(rt; record_fault(rt.alloc(), 4_001)?, (2, 194));
     Ok(())
 }
 
 #[test]
-fn printable_lines(rt: HostRuntime) {
-    let cases: [(&[u8], (u32, u16)); 7] = [
-        (b"", (0, 0)),
-        (b" ~\r\n\n", (0, 0)),
-        (b"A\rB", (2, 101)),
-        (b"A\nB\r", (3, 101)),
-        (b"A\n\tB", (3, 101)),
-        (b"A\n\t", (3, 101)),
-        (b"\x7F\n\x80", (2, 101)),
-    ];
-    for (text, fault) in cases {
-        assert_eq!(rt; fault_of(read_printable(text)), fault);
+fn printable_lines(rt: HostRuntime) -> Result<(), Fail> {
+    for row in PRINTABLE.split('\n') {
+        let (text, fault) = case_of(rt.alloc(), row)?;
+        assert_eq!(rt; fault_of(read_printable(&text)), fault, "at {row}");
     }
+    Ok(())
 }
 
 /// What a section line says, in one word.
@@ -208,71 +241,39 @@ fn said(heading: Option<Heading>) -> &'static str {
 
 #[test]
 fn section_lines_by_hand(rt: HostRuntime) -> Result<(), Fail> {
-    for (line, wanted) in [
-        (b"?PATHCOM".as_slice(), "pathcom"),
-        (b"?pathcom  ", "pathcom"),
-        (b"?PATHCOM X", "none"),
-        (b"? PATHCOM", "none"),
-        (b"?SCREEN-COBOL Hello", "requester"),
-        (b"?SCREEN-COBOL", "none"),
-        (b"?SCREEN-COBOL 1A", "none"),
-        (b"?SERVER   A-1", "server"),
-        (b"?SERVER A B", "none"),
-        (b"?FILE F KEY 007", "file 7"),
-        (b"?file f key 255", "file 255"),
-        (b"?FILE F KEY 256", "none"),
-        (b"?FILE F KEY 0", "none"),
-        (b"?FILE F KEY 0000000007", "none"),
-        (b"?FILE F KEY +7", "none"),
-        (b"?FILE F KEYS 7", "none"),
-        (b"?FILE F", "none"),
-        (b"?FILE F KEY 7 8", "none"),
-        (b"?ENTRIES T1", "entries"),
-        (b"?ENTRIES", "none"),
-        (b"?FAIL", "fail"),
-        (b"?LOG", "log"),
-        (b"?LOG\t", "none"),
-        (b"?END", "end"),
-        (b"?END\r", "none"),
-        (b"?END NOW", "none"),
-        (b"?FLY", "none"),
-        (b"?", "none"),
-    ] {
-        assert!(rt; said(heading_of(rt.alloc(), line)?) == wanted);
+    for row in HEADINGS.split('\n') {
+        let (line, wanted) = row.split_once('|').ok_or("no heading")?;
+        let line = unescaped(rt.alloc(), line)?;
+        assert_eq!(rt; said(heading_of(rt.alloc(), &line)?), wanted, "at {row}");
     }
     Ok(())
 }
 
-/// Whether a deck is cut into these parts.
-fn is_cut(deck: &[u8], front: &[u8], sections: &[&[u8]]) -> bool {
-    let (found, mut rest) = split_front(deck);
-    if found != front {
-        return false;
-    }
-    for section in sections {
-        let Some((found, behind)) = next_section(rest) else {
-            return false;
-        };
-        if found != *section {
-            return false;
-        }
+/// The deck of a row: its bytes without the bars.
+fn deck_of(alloc: Global, row: &str) -> Result<Vec<u8>, Fail> {
+    let written = row.replace(alloc, "|", "")?;
+    unescaped(alloc, written.as_str())
+}
+
+/// A deck with a bar in front of each section that is cut from it.
+fn barred(alloc: Global, deck: &[u8]) -> Result<Vec<u8>, Fail> {
+    let (front, mut rest) = split_front(deck);
+    let mut found = Vec::from_slice(alloc, front)?;
+    while let Some((section, behind)) = next_section(rest) {
+        found.push(b'|')?;
+        found.extend_from_slice(section)?;
         rest = behind;
     }
-    rest.is_empty()
+    Ok(found)
 }
 
 #[test]
-fn parts_by_hand(rt: HostRuntime) {
-    let cases: [(&[u8], &[u8], &[&[u8]]); 7] = [
-        (b"", b"", &[]),
-        (b"A\n ?B", b"A\n ?B", &[]),
-        (b"?A", b"", &[b"?A"]),
-        (b"\n\n?A\n?B\n", b"\n\n", &[b"?A\n", b"?B\n"]),
-        (b"?A\nx?\n\n?B\r\n", b"", &[b"?A\nx?\n\n", b"?B\r\n"]),
-        (b"??\n??", b"", &[b"??\n", b"??"]),
-        (b"?A\r?B\n?C", b"", &[b"?A\r?B\n", b"?C"]),
-    ];
-    for (deck, front, sections) in cases {
-        assert!(rt; is_cut(deck, front, sections));
+fn parts_by_hand(rt: HostRuntime) -> Result<(), Fail> {
+    for row in PARTS.split('\n') {
+        let deck = deck_of(rt.alloc(), row)?;
+        let found = barred(rt.alloc(), &deck)?;
+        let wanted = unescaped(rt.alloc(), row)?;
+        assert_eq!(rt; found.as_slice(), wanted.as_slice(), "at {row}");
     }
+    Ok(())
 }

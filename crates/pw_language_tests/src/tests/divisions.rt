@@ -1,311 +1,222 @@
 ghost use Rattle.std.specs.Prelude.{◌≤◌, length};
 
+use crate::tests::rows::{lines_of, refusal_shown};
 use pw_base::fault::Refusal;
 use pw_base::read_all::MAX_INPUT;
 use pw_divisions::divisions::divide;
 use pw_text::token::Token;
 use pw_text::tokens::tokens;
-use std::alloc::Global;
+use std::alloc::{AllocError, Global};
 use std::process::Abort;
 use std::test::Fail;
 
-/// What stands behind the identification division, and the line and the code of its refusal; the first
-/// line is 3.
-type Refused = (&'static [u8], u32, u16);
+/// What stands in front of the text of a row: its first line is then line 3.
+const IDENTIFICATION: &str = "IDENTIFICATION DIVISION.\nPROGRAM-ID. P.\n";
 
-/// A text, and its parts: working storage and linkage, screens, USING and procedure.
-type Good = (&'static [u8], &'static [Part]);
+/// Texts, and their parts: working storage and linkage, screens, USING and procedure, each as its first
+/// word (`-` for none) and how many tokens it has. A section ends inside an entry that lacks its period;
+/// another word in front of SECTION belongs to its entry; names are taken as they stand, for the data are
+/// read later.
+const GOOD: &str = "PROCEDURE DIVISION.|- 0, - 0, - 0, - 0
+procedure Division. MAIN. STOP RUN.|- 0, - 0, - 0, MAIN 5
+ENVIRONMENT DIVISION. ANY TEXT. 1 2 \"X\" ( DATA SECTION. PROCEDURE. PROCEDURE DIVISION. A.|- 0, - 0, - 0, A 2
+ENVIRONMENT DIVISION. DATA DIVISION. PROCEDURE DIVISION. A.|- 0, - 0, - 0, A 2
+DATA DIVISION. WORKING-STORAGE SECTION. PROCEDURE DIVISION.|WORKING-STORAGE 3, - 0, - 0, - 0
+DATA DIVISION. SCREEN SECTION. 01 S. PROCEDURE DIVISION.|- 0, 01 3, - 0, - 0
+DATA DIVISION. WORKING-STORAGE SECTION. 01 A PIC X. LINKAGE SECTION. 01 L PIC X. SCREEN SECTION. 01 S. PROCEDURE DIVISION USING L. B.|WORKING-STORAGE 16, 01 3, L 1, B 2
+DATA DIVISION. WORKING-STORAGE SECTION. 01 A PIC X LINKAGE SECTION. 01 L SCREEN SECTION. 01 S PROCEDURE DIVISION USING L.|WORKING-STORAGE 12, 01 2, L 1, - 0
+DATA DIVISION. WORKING-STORAGE SECTION. 01 A FOO SECTION. PROCEDURE. PROCEDURE DIVISION.|WORKING-STORAGE 10, - 0, - 0, - 0
+DATA DIVISION. LINKAGE SECTION. 01 L. 02 M PIC X. 1 n. 01 M. PROCEDURE DIVISION USING l, N L; M.|LINKAGE 17, - 0, l 4, - 0
+DATA DIVISION. LINKAGE SECTION. 01 L PIC Q FOO. 01 IF. PROCEDURE DIVISION USING L IF.|LINKAGE 12, - 0, L 2, - 0
+PROCEDURE DIVISION. PROCEDURE DIVISION USING X.|- 0, - 0, - 0, PROCEDURE 5";
 
-/// The first word of a part, and how many tokens it has.
-type Part = (&'static [u8], usize);
+/// The line and the code with which a requester is refused, and what stands behind its identification
+/// division.
+const REQUESTERS: &str = "2 151|
+2 151|//* NOTHING
+3 151|PROCEDURE
+4 151|PROCEDURE/DIVISION
+3 151|PROCEDURE.
+4 151|PROCEDURE DIVISION/MAIN.
+4 151|PROCEDURE DIVISION USING/.
+4 151|PROCEDURE DIVISION/USING
+4 151|PROCEDURE DIVISION USING/L.
+3 151|AUTHOR. ME./PROCEDURE DIVISION.
+3 151|MAIN.
+3 151|.
+4 151|ENVIRONMENT/.
+4 151|ENVIRONMENT DIVISION/PROCEDURE DIVISION.
+4 151|ENVIRONMENT DIVISION./ANY TEXT.
+5 151|ENVIRONMENT DIVISION./X/INPUT-OUTPUT/DIVISION.
+4 151|ENVIRONMENT DIVISION./ENVIRONMENT DIVISION.
+4 151|ENVIRONMENT DIVISION./\"X\" DIVISION.
+4 151|ENVIRONMENT DIVISION. PROCEDURE DIVISION/X.
+4 151|DATA DIVISION./ENVIRONMENT DIVISION./PROCEDURE DIVISION.
+4 151|DATA DIVISION./FILE SECTION.
+4 151|DATA DIVISION./01 A PIC X.
+3 151|DATA DIVISION.
+4 151|DATA DIVISION/WORKING-STORAGE SECTION.
+4 151|DATA DIVISION./DATA DIVISION.
+5 151|DATA DIVISION. WORKING-STORAGE/SECTION/01 A PIC X.
+4 151|DATA DIVISION. WORKING-STORAGE/01 A PIC X.
+4 151|DATA DIVISION. WORKING-STORAGE SECTION./01 A PIC X.//
+4 151|DATA DIVISION. WORKING-STORAGE SECTION./WORKING-STORAGE SECTION.
+5 151|DATA DIVISION. LINKAGE SECTION./01 L./WORKING-STORAGE SECTION.
+4 151|DATA DIVISION. LINKAGE SECTION./LINKAGE SECTION.
+5 151|DATA DIVISION. SCREEN SECTION./01 S./LINKAGE SECTION.
+5 151|DATA DIVISION. SCREEN SECTION./01 S/SCREEN SECTION.
+4 151|DATA DIVISION. SCREEN SECTION. 01 S./FOO/DIVISION.
+4 151|DATA DIVISION. SCREEN SECTION. 01 S./DATA DIVISION.
+5 151|DATA DIVISION. WORKING-STORAGE SECTION. 01 A./LINKAGE/DIVISION.
+5 151|DATA DIVISION. WORKING-STORAGE SECTION. 01 A./PROCEDURE DIVISION USING/A.
+5 151|DATA DIVISION. LINKAGE SECTION. 01 L. 02 M./PROCEDURE DIVISION USING L/M.
+5 151|DATA DIVISION. LINKAGE SECTION. 01 FILLER./PROCEDURE DIVISION/USING FILLER.
+5 151|DATA DIVISION. LINKAGE SECTION. 77 L./PROCEDURE DIVISION/USING L.
+5 151|DATA DIVISION. LINKAGE SECTION. 01 L./PROCEDURE DIVISION USING L/\"L\".
+5 151|DATA DIVISION. LINKAGE SECTION. 01 L./PROCEDURE DIVISION USING L/USING L.
+4 151|DATA DIVISION. LINKAGE SECTION. 01 L./PROCEDURE DIVISION USING L";
 
-const IDENTIFICATION: &[u8] = b"IDENTIFICATION DIVISION.\nPROGRAM-ID. P.\n";
+/// The same of servers.
+const SERVERS: &str = "2 151|
+4 151|PROCEDURE DIVISION/USING A.
+4 151|DATA DIVISION./LINKAGE SECTION.
+4 151|DATA DIVISION./SCREEN SECTION.
+4 151|DATA DIVISION. WORKING-STORAGE SECTION. 01 A/LINKAGE SECTION.
+4 151|DATA DIVISION. WORKING-STORAGE SECTION. 01 A./SCREEN SECTION.";
 
-const GOOD: &[Good] = &[
-    (
-        b"PROCEDURE DIVISION.",
-        &[(b"", 0), (b"", 0), (b"", 0), (b"", 0)],
-    ),
-    (
-        b"procedure Division. MAIN. STOP RUN.",
-        &[(b"", 0), (b"", 0), (b"", 0), (b"MAIN", 5)],
-    ),
-    (
-        b"ENVIRONMENT DIVISION. ANY TEXT. 1 2 \"X\" ( DATA SECTION. PROCEDURE. PROCEDURE DIVISION. A.",
-        &[(b"", 0), (b"", 0), (b"", 0), (b"A", 2)],
-    ),
-    (
-        b"ENVIRONMENT DIVISION. DATA DIVISION. PROCEDURE DIVISION. A.",
-        &[(b"", 0), (b"", 0), (b"", 0), (b"A", 2)],
-    ),
-    (
-        b"DATA DIVISION. WORKING-STORAGE SECTION. PROCEDURE DIVISION.",
-        &[(b"WORKING-STORAGE", 3), (b"", 0), (b"", 0), (b"", 0)],
-    ),
-    (
-        b"DATA DIVISION. SCREEN SECTION. 01 S. PROCEDURE DIVISION.",
-        &[(b"", 0), (b"01", 3), (b"", 0), (b"", 0)],
-    ),
-    (
-        b"DATA DIVISION. WORKING-STORAGE SECTION. 01 A PIC X. LINKAGE SECTION. 01 L PIC X. \
-SCREEN SECTION. 01 S. PROCEDURE DIVISION USING L. B.",
-        &[(b"WORKING-STORAGE", 16), (b"01", 3), (b"L", 1), (b"B", 2)],
-    ),
-    // A section ends inside an entry that lacks its period.
-    (
-        b"DATA DIVISION. WORKING-STORAGE SECTION. 01 A PIC X LINKAGE SECTION. 01 L SCREEN SECTION. 01 S \
-PROCEDURE DIVISION USING L.",
-        &[(b"WORKING-STORAGE", 12), (b"01", 2), (b"L", 1), (b"", 0)],
-    ),
-    // Another word in front of SECTION belongs to its entry.
-    (
-        b"DATA DIVISION. WORKING-STORAGE SECTION. 01 A FOO SECTION. PROCEDURE. PROCEDURE DIVISION.",
-        &[(b"WORKING-STORAGE", 10), (b"", 0), (b"", 0), (b"", 0)],
-    ),
-    (
-        b"DATA DIVISION. LINKAGE SECTION. 01 L. 02 M PIC X. 1 n. 01 M. \
-PROCEDURE DIVISION USING l, N L; M.",
-        &[(b"LINKAGE", 17), (b"", 0), (b"l", 4), (b"", 0)],
-    ),
-    // Names are taken as they stand: the data are read later.
-    (
-        b"DATA DIVISION. LINKAGE SECTION. 01 L PIC Q FOO. 01 IF. PROCEDURE DIVISION USING L IF.",
-        &[(b"LINKAGE", 12), (b"", 0), (b"L", 2), (b"", 0)],
-    ),
-    (
-        b"PROCEDURE DIVISION. PROCEDURE DIVISION USING X.",
-        &[(b"", 0), (b"", 0), (b"", 0), (b"PROCEDURE", 5)],
-    ),
-];
+/// The same of whole texts, whose first line is 5.
+const BEGINNINGS: &str = "5 151|
+5 151|//
+5 151|* A COMMENT/* ANOTHER
+7 151|//IDENTIFICATION
+5 151|ID DIVISION.
+5 151|PROGRAM-ID. P.
+6 151|IDENTIFICATION/DIVISION
+6 151|IDENTIFICATION DIVISION/PROGRAM-ID. P.
+6 151|IDENTIFICATION DIVISION./PROCEDURE DIVISION.
+6 151|IDENTIFICATION DIVISION./PROGRAM-ID P.
+5 151|IDENTIFICATION DIVISION. PROGRAM-ID.//* LATER
+6 151|IDENTIFICATION DIVISION. PROGRAM-ID./Q.
+6 151|IDENTIFICATION DIVISION. PROGRAM-ID./\"P\".
+6 151|IDENTIFICATION DIVISION. PROGRAM-ID./PP.
+6 151|IDENTIFICATION DIVISION. PROGRAM-ID. P/PROCEDURE DIVISION.";
 
-const REQUESTERS: &[Refused] = &[
-    (b"", 2, 151),
-    (b"\n\n* NOTHING", 2, 151),
-    (b"PROCEDURE", 3, 151),
-    (b"PROCEDURE\nDIVISION", 4, 151),
-    (b"PROCEDURE.", 3, 151),
-    (b"PROCEDURE DIVISION\nMAIN.", 4, 151),
-    (b"PROCEDURE DIVISION USING\n.", 4, 151),
-    (b"PROCEDURE DIVISION\nUSING", 4, 151),
-    (b"PROCEDURE DIVISION USING\nL.", 4, 151),
-    (b"AUTHOR. ME.\nPROCEDURE DIVISION.", 3, 151),
-    (b"MAIN.", 3, 151),
-    (b".", 3, 151),
-    (b"ENVIRONMENT\n.", 4, 151),
-    (b"ENVIRONMENT DIVISION\nPROCEDURE DIVISION.", 4, 151),
-    (b"ENVIRONMENT DIVISION.\nANY TEXT.", 4, 151),
-    (b"ENVIRONMENT DIVISION.\nX\nINPUT-OUTPUT\nDIVISION.", 5, 151),
-    (b"ENVIRONMENT DIVISION.\nENVIRONMENT DIVISION.", 4, 151),
-    (b"ENVIRONMENT DIVISION.\n\"X\" DIVISION.", 4, 151),
-    (b"ENVIRONMENT DIVISION. PROCEDURE DIVISION\nX.", 4, 151),
-    (
-        b"DATA DIVISION.\nENVIRONMENT DIVISION.\nPROCEDURE DIVISION.",
-        4,
-        151,
-    ),
-    (b"DATA DIVISION.\nFILE SECTION.", 4, 151),
-    (b"DATA DIVISION.\n01 A PIC X.", 4, 151),
-    (b"DATA DIVISION.", 3, 151),
-    (b"DATA DIVISION\nWORKING-STORAGE SECTION.", 4, 151),
-    (b"DATA DIVISION.\nDATA DIVISION.", 4, 151),
-    (
-        b"DATA DIVISION. WORKING-STORAGE\nSECTION\n01 A PIC X.",
-        5,
-        151,
-    ),
-    (b"DATA DIVISION. WORKING-STORAGE\n01 A PIC X.", 4, 151),
-    (
-        b"DATA DIVISION. WORKING-STORAGE SECTION.\n01 A PIC X.\n\n",
-        4,
-        151,
-    ),
-    (
-        b"DATA DIVISION. WORKING-STORAGE SECTION.\nWORKING-STORAGE SECTION.",
-        4,
-        151,
-    ),
-    (
-        b"DATA DIVISION. LINKAGE SECTION.\n01 L.\nWORKING-STORAGE SECTION.",
-        5,
-        151,
-    ),
-    (b"DATA DIVISION. LINKAGE SECTION.\nLINKAGE SECTION.", 4, 151),
-    (
-        b"DATA DIVISION. SCREEN SECTION.\n01 S.\nLINKAGE SECTION.",
-        5,
-        151,
-    ),
-    (
-        b"DATA DIVISION. SCREEN SECTION.\n01 S\nSCREEN SECTION.",
-        5,
-        151,
-    ),
-    (
-        b"DATA DIVISION. SCREEN SECTION. 01 S.\nFOO\nDIVISION.",
-        4,
-        151,
-    ),
-    (
-        b"DATA DIVISION. SCREEN SECTION. 01 S.\nDATA DIVISION.",
-        4,
-        151,
-    ),
-    (
-        b"DATA DIVISION. WORKING-STORAGE SECTION. 01 A.\nLINKAGE\nDIVISION.",
-        5,
-        151,
-    ),
-    (
-        b"DATA DIVISION. WORKING-STORAGE SECTION. 01 A.\nPROCEDURE DIVISION USING\nA.",
-        5,
-        151,
-    ),
-    (
-        b"DATA DIVISION. LINKAGE SECTION. 01 L. 02 M.\nPROCEDURE DIVISION USING L\nM.",
-        5,
-        151,
-    ),
-    (
-        b"DATA DIVISION. LINKAGE SECTION. 01 FILLER.\nPROCEDURE DIVISION\nUSING FILLER.",
-        5,
-        151,
-    ),
-    (
-        b"DATA DIVISION. LINKAGE SECTION. 77 L.\nPROCEDURE DIVISION\nUSING L.",
-        5,
-        151,
-    ),
-    (
-        b"DATA DIVISION. LINKAGE SECTION. 01 L.\nPROCEDURE DIVISION USING L\n\"L\".",
-        5,
-        151,
-    ),
-    (
-        b"DATA DIVISION. LINKAGE SECTION. 01 L.\nPROCEDURE DIVISION USING L\nUSING L.",
-        5,
-        151,
-    ),
-    (
-        b"DATA DIVISION. LINKAGE SECTION. 01 L.\nPROCEDURE DIVISION USING L",
-        4,
-        151,
-    ),
-];
-
-const SERVERS: &[Refused] = &[
-    (b"", 2, 151),
-    (b"PROCEDURE DIVISION\nUSING A.", 4, 151),
-    (b"DATA DIVISION.\nLINKAGE SECTION.", 4, 151),
-    (b"DATA DIVISION.\nSCREEN SECTION.", 4, 151),
-    (
-        b"DATA DIVISION. WORKING-STORAGE SECTION. 01 A\nLINKAGE SECTION.",
-        4,
-        151,
-    ),
-    (
-        b"DATA DIVISION. WORKING-STORAGE SECTION. 01 A.\nSCREEN SECTION.",
-        4,
-        151,
-    ),
-];
-
-/// Whole texts of a requester P, with the line of their refusal; the first line is 5.
-const BEGINNINGS: &[(&'static [u8], u32)] = &[
-    (b"", 5),
-    (b"\n\n", 5),
-    (b"* A COMMENT\n* ANOTHER", 5),
-    (b"\n\nIDENTIFICATION", 7),
-    (b"ID DIVISION.", 5),
-    (b"PROGRAM-ID. P.", 5),
-    (b"IDENTIFICATION\nDIVISION", 6),
-    (b"IDENTIFICATION DIVISION\nPROGRAM-ID. P.", 6),
-    (b"IDENTIFICATION DIVISION.\nPROCEDURE DIVISION.", 6),
-    (b"IDENTIFICATION DIVISION.\nPROGRAM-ID P.", 6),
-    (b"IDENTIFICATION DIVISION. PROGRAM-ID.\n\n* LATER", 5),
-    (b"IDENTIFICATION DIVISION. PROGRAM-ID.\nQ.", 6),
-    (b"IDENTIFICATION DIVISION. PROGRAM-ID.\n\"P\".", 6),
-    (b"IDENTIFICATION DIVISION. PROGRAM-ID.\nPP.", 6),
-    (
-        b"IDENTIFICATION DIVISION. PROGRAM-ID. P\nPROCEDURE DIVISION.",
-        6,
-    ),
-];
-
-/// The line and the code with which a text is refused, if it is.
+/// With what a text is refused, if it is.
 fn refusal_of(
     alloc: Global,
     server: bool,
     text: &[u8],
     first_line: u32,
-) -> Result<Option<(u32, u16)>, Fail>
+) -> Result<Option<Refusal>, Refusal>
     requires size { length text.now ≤ MAX_INPUT }
     requires line { (1 ≤ first_line) × (first_line ≤ 5) }
 {
     let tokens = tokens(alloc, text, first_line)?;
-    match divide(alloc, server, b"P", text, &tokens, first_line) {
-        Err(Refusal::At { line, code }) => Ok(Some((line, code.number()))),
-        _ => Ok(None),
-    }
+    Ok(divide(alloc, server, b"P", text, &tokens, first_line).err())
 }
 
-/// Asserts that the texts are refused as they have to be.
-fn assert_refused(
-    rt: &impl Abort,
-    alloc: Global,
+/// A text of a row behind its identification division.
+fn identified(alloc: Global, text: &str) -> Result<String, AllocError> {
+    let mut whole = lines_of(alloc, IDENTIFICATION)?;
+    whole.push_str(lines_of(alloc, text)?.as_str())?;
+    Ok(whole)
+}
+
+/// Asserts that the text of a row is refused behind its identification division.
+fn expect_refused(rt: &(impl Abort + AllocGlobal), server: bool, row: &str) -> Result<(), Fail> {
+    let (wanted, text) = row.split_once('|').ok_or("no text")?;
+    let whole = identified(rt.alloc(), text)?;
+    let text = whole.as_bytes();
+    assert!(rt; text.len() <= MAX_INPUT);
+    let refusal = refusal_of(rt.alloc(), server, text, 1)?;
+    assert_eq!(rt;
+        refusal_shown(rt.alloc(), refusal)?.as_str(),
+        wanted,
+        "{row}"
+    );
+    Ok(())
+}
+
+#[test]
+fn divisions_that_are_refused(rt: HostRuntime) -> Result<(), Fail> {
+    for row in REQUESTERS.split('\n') {
+        expect_refused(&rt, false, row)?;
+    }
+    for row in SERVERS.split('\n') {
+        expect_refused(&rt, true, row)?;
+    }
+    Ok(())
+}
+
+/// Asserts that the text of a row is refused from line 5 on.
+fn expect_no_beginning(
+    rt: &(impl Abort + AllocGlobal),
     server: bool,
-    refused: &[Refused],
+    row: &str,
 ) -> Result<(), Fail> {
-    for (text, line, code) in refused {
-        let mut whole = Vec::from_slice(alloc, IDENTIFICATION)?;
-        whole.extend_from_slice(text)?;
-        assert!(rt; whole.len() <= MAX_INPUT);
-        let refusal = refusal_of(alloc, server, &whole, 1)?;
-        assert_eq!(rt; refusal, Some((*line, *code)), "{text:?}");
+    let (wanted, text) = row.split_once('|').ok_or("no text")?;
+    let lines = lines_of(rt.alloc(), text)?;
+    let text = lines.as_bytes();
+    assert!(rt; text.len() <= MAX_INPUT);
+    let refusal = refusal_of(rt.alloc(), server, text, 5)?;
+    assert_eq!(rt;
+        refusal_shown(rt.alloc(), refusal)?.as_str(),
+        wanted,
+        "{row}"
+    );
+    Ok(())
+}
+
+#[test]
+fn beginnings_that_are_refused(rt: HostRuntime) -> Result<(), Fail> {
+    for row in BEGINNINGS.split('\n') {
+        expect_no_beginning(&rt, false, row)?;
+        expect_no_beginning(&rt, true, row)?;
     }
     Ok(())
 }
 
 /// Asserts how a part begins, and how many tokens it has.
-fn assert_part(rt: &impl Abort, text: &[u8], tokens: &[Token], part: (&[u8], usize)) {
-    let first: &[u8] = match tokens.first() {
+fn expect_part(
+    rt: &(impl Abort + AllocGlobal),
+    text: &[u8],
+    part: &[Token],
+    wanted: &str,
+) -> Result<(), Fail> {
+    let first: &[u8] = match part.first() {
         Some(token) => token.spelling(text),
-        None => b"",
+        None => b"-",
     };
-    assert_eq!(rt; first, part.0);
-    assert_eq!(rt; tokens.len(), part.1, "{first:?}");
+    let (word, count) = wanted.split_once(' ').ok_or("no count")?;
+    assert_eq!(rt; first, word.as_bytes(), "{wanted}");
+    assert_eq!(rt; part.len(), count.parse::<usize>()?, "{wanted}");
+    Ok(())
 }
 
-#[test]
-fn divisions_that_are_refused(rt: HostRuntime) -> Result<(), Fail> {
-    assert_refused(&rt, rt.alloc(), false, REQUESTERS)?;
-    assert_refused(&rt, rt.alloc(), true, SERVERS)
-}
-
-#[test]
-fn beginnings_that_are_refused(rt: HostRuntime) -> Result<(), Fail> {
-    for (text, line) in BEGINNINGS {
-        assert!(rt; text.len() <= MAX_INPUT);
-        for server in [false, true] {
-            let refusal = refusal_of(rt.alloc(), server, text, 5)?;
-            assert_eq!(rt; refusal, Some((*line, 151)), "{text:?}");
-        }
+/// Asserts that the text of a row has its parts.
+fn expect_parts(rt: &(impl Abort + AllocGlobal), server: bool, row: &str) -> Result<(), Fail> {
+    let (text, wanted) = row.split_once('|').ok_or("no parts")?;
+    let whole = identified(rt.alloc(), text)?;
+    let text = whole.as_bytes();
+    assert!(rt; text.len() <= MAX_INPUT);
+    let tokens = tokens(rt.alloc(), text, 1)?;
+    let found = divide(rt.alloc(), server, b"p", text, &tokens, 1)?;
+    let mut wanted = wanted.split(", ");
+    for part in [
+        found.stored,
+        found.screens,
+        found.using_names,
+        found.procedure,
+    ] {
+        expect_part(rt, text, part, wanted.next().ok_or("no part")?)?;
     }
     Ok(())
 }
 
 #[test]
 fn divisions_of_requesters(rt: HostRuntime) -> Result<(), Fail> {
-    for (text, parts) in GOOD {
-        let mut whole = Vec::from_slice(rt.alloc(), IDENTIFICATION)?;
-        whole.extend_from_slice(text)?;
-        assert!(rt; whole.len() <= MAX_INPUT);
-        let tokens = tokens(rt.alloc(), &whole, 1)?;
-        let found = divide(rt.alloc(), false, b"p", &whole, &tokens, 1)?;
-        assert_eq!(rt; parts.len(), 4);
-        assert_part(&rt, &whole, found.stored, parts[0]);
-        assert_part(&rt, &whole, found.screens, parts[1]);
-        assert_part(&rt, &whole, found.using_names, parts[2]);
-        assert_part(&rt, &whole, found.procedure, parts[3]);
+    for row in GOOD.split('\n') {
+        expect_parts(&rt, false, row)?;
     }
     Ok(())
 }
@@ -316,9 +227,8 @@ fn divisions_of_a_server(rt: HostRuntime) -> Result<(), Fail> {
 WORKING-STORAGE SECTION. 01 A PIC X. PROCEDURE DIVISION. P1.";
     let tokens = tokens(rt.alloc(), text, 1)?;
     let found = divide(rt.alloc(), true, b"P", text, &tokens, 1)?;
-    assert_part(&rt, text, found.stored, (b"WORKING-STORAGE", 8));
-    assert!(rt; found.screens.is_empty());
-    assert!(rt; found.using_names.is_empty());
-    assert_part(&rt, text, found.procedure, (b"P1", 2));
-    Ok(())
+    expect_part(&rt, text, found.stored, "WORKING-STORAGE 8")?;
+    expect_part(&rt, text, found.screens, "- 0")?;
+    expect_part(&rt, text, found.using_names, "- 0")?;
+    expect_part(&rt, text, found.procedure, "P1 2")
 }

@@ -1,9 +1,10 @@
 ghost use Rattle.std.specs.Prelude.{◌≤◌, length};
 
 use crate::tests::forms_rows::{
-    Good, REFUSED, REQUESTER, REQUESTER_NO_FORM, Refused, SERVER, SERVER_BARRED, SERVER_NO_FORM,
-    TEXTS,
+    REQUESTER, REQUESTER_NO_FORM, REQUESTER_REFUSED, SERVER, SERVER_BARRED, SERVER_NO_FORM,
+    SERVER_REFUSED, TEXTS,
 };
+use crate::tests::rows::{lines_of, refusal_shown};
 use pw_base::bytes::Bytes;
 use pw_base::fault::Refusal;
 use pw_base::memory::Memory;
@@ -11,7 +12,7 @@ use pw_base::read_all::MAX_INPUT;
 use pw_forms::read::procedure;
 use pw_forms::statement::{Procedure, Statement};
 use pw_text::tokens::tokens;
-use std::alloc::Global;
+use std::alloc::{AllocError, Global};
 use std::process::Abort;
 use std::test::Fail;
 
@@ -23,16 +24,6 @@ fn read(alloc: Global, text: &[u8], server: bool) -> Result<Procedure, Refusal>
     requires { length text.now ≤ MAX_INPUT }
 {
     procedure(alloc, text, &tokens(alloc, text, 1)?, server)
-}
-
-/// The line and the code of a refusal.
-fn refused(alloc: Global, text: &[u8], server: bool) -> Option<(u32, u16)>
-    requires { length text.now ≤ MAX_INPUT }
-{
-    match read(alloc, text, server) {
-        Err(Refusal::At { line, code }) => Some((line, code.number())),
-        _ => None,
-    }
 }
 
 /// The form of a statement, in a word.
@@ -115,136 +106,148 @@ fn shown(alloc: Global, procedure: &Procedure) -> Result<Bytes, Memory> {
     Ok(shown)
 }
 
-/// A procedure with one piece in its paragraph, from line 2 on.
-fn around(alloc: Global, piece: &[u8]) -> Result<Bytes, Memory> {
-    let mut text = Bytes::from_slice(alloc, b"P.\n")?;
-    text.extend(piece)?;
-    text.extend(b".\n")?;
-    Ok(text)
-}
-
-/// Asserts what pieces are.
-fn assert_good(rt: &impl Abort, alloc: Global, server: bool, good: &[Good]) -> Result<(), Fail> {
-    for (piece, word) in good {
-        let text = around(alloc, piece)?;
-        assert!(rt; text.len() <= MAX_INPUT);
-        let shown = shown(alloc, &read(alloc, text.as_slice(), server)?)?;
-        assert_eq!(rt;
-            shown.as_slice(),
-            around_shown(alloc, word)?.as_slice(),
-            "{piece:?}"
-        );
-    }
-    Ok(())
-}
-
-/// What is shown of a procedure with one piece.
-fn around_shown(alloc: Global, word: &[u8]) -> Result<Bytes, Memory> {
-    let mut shown = Bytes::from_slice(alloc, b"P:")?;
-    shown.extend(word)?;
-    shown.push(b' ')?;
-    Ok(shown)
-}
-
-/// Asserts that each piece is refused with a code.
-fn assert_no_form(
-    rt: &impl Abort,
-    alloc: Global,
+/// Asserts how the tree of a text is shown, but for a blank at its end.
+fn expect_tree(
+    rt: &(impl Abort + AllocGlobal),
     server: bool,
-    pieces: &[&[u8]],
-    code: u16,
+    text: &str,
+    wanted: &str,
 ) -> Result<(), Fail> {
-    for piece in pieces {
-        let text = around(alloc, piece)?;
-        assert!(rt; text.len() <= MAX_INPUT);
-        assert_eq!(rt;
-            refused(alloc, text.as_slice(), server),
-            Some((2, code)),
-            "{piece:?}"
-        );
+    let lines = lines_of(rt.alloc(), text)?;
+    let text = lines.as_bytes();
+    assert!(rt; text.len() <= MAX_INPUT);
+    let shown = shown(rt.alloc(), &read(rt.alloc(), text, server)?)?;
+    assert!(rt;
+        shown.as_slice().trim_ascii_end() == wanted.as_bytes(),
+        "{lines}: {wanted}"
+    );
+    Ok(())
+}
+
+/// Asserts on which line and with what code a text is refused.
+fn expect_refused(
+    rt: &(impl Abort + AllocGlobal),
+    server: bool,
+    text: &str,
+    wanted: &str,
+) -> Result<(), Fail> {
+    let lines = lines_of(rt.alloc(), text)?;
+    let text = lines.as_bytes();
+    assert!(rt; text.len() <= MAX_INPUT);
+    let refusal = read(rt.alloc(), text, server).err();
+    assert_eq!(rt;
+        refusal_shown(rt.alloc(), refusal)?.as_str(),
+        wanted,
+        "{lines}"
+    );
+    Ok(())
+}
+
+/// A procedure with one piece in its paragraph, from line 2 on.
+fn around(alloc: Global, piece: &str) -> Result<String, AllocError> {
+    format!(in alloc; "P./{piece}./")
+}
+
+/// Asserts what the piece of a row is.
+fn expect_form(rt: &(impl Abort + AllocGlobal), server: bool, row: &str) -> Result<(), Fail> {
+    let (piece, form) = row.split_once(" => ").ok_or("no form")?;
+    let text = around(rt.alloc(), piece)?;
+    let shown = format!(in rt.alloc(); "P:{form}")?;
+    expect_tree(rt, server, text.as_str(), shown.as_str())
+}
+
+/// Asserts what the pieces of a table are.
+fn expect_forms(rt: &(impl Abort + AllocGlobal), server: bool, rows: &str) -> Result<(), Fail> {
+    for row in rows.split('\n') {
+        expect_form(rt, server, row)?;
     }
     Ok(())
 }
 
-/// Asserts where texts are refused.
-fn assert_refused(rt: &impl Abort, alloc: Global, rows: &[Refused]) {
-    for (server, text, line, code) in rows {
-        assert!(rt; text.len() <= MAX_INPUT);
-        assert_eq!(rt;
-            refused(alloc, text, *server),
-            Some((*line, *code)),
-            "{text:?}"
-        );
+/// Asserts that each piece of a table is refused with a code.
+fn expect_no_forms(
+    rt: &(impl Abort + AllocGlobal),
+    server: bool,
+    pieces: &str,
+    wanted: &str,
+) -> Result<(), Fail> {
+    for piece in pieces.split('\n') {
+        expect_refused(rt, server, around(rt.alloc(), piece)?.as_str(), wanted)?;
     }
+    Ok(())
 }
 
-/// A front, and behind it a piece so many times.
-fn repeated(alloc: Global, front: &[u8], piece: &[u8], times: u32) -> Result<Bytes, Memory> {
-    let mut text = Bytes::from_slice(alloc, front)?;
-    for _ in 0..times {
-        text.extend(piece)?;
+/// Asserts that each text of a table is refused as its row says.
+fn expect_all_refused(
+    rt: &(impl Abort + AllocGlobal),
+    server: bool,
+    rows: &str,
+) -> Result<(), Fail> {
+    for row in rows.split('\n') {
+        let (wanted, text) = row.split_once('|').ok_or("no text")?;
+        expect_refused(rt, server, text, wanted)?;
     }
-    Ok(text)
+    Ok(())
 }
 
 #[test]
 fn forms_of_requesters(rt: HostRuntime) -> Result<(), Fail> {
-    assert_good(&rt, rt.alloc(), false, REQUESTER)?;
-    assert_no_form(&rt, rt.alloc(), false, REQUESTER_NO_FORM, 131)
+    expect_forms(&rt, false, REQUESTER)?;
+    expect_no_forms(&rt, false, REQUESTER_NO_FORM, "2 131")
 }
 
 #[test]
 fn forms_of_servers(rt: HostRuntime) -> Result<(), Fail> {
-    assert_good(&rt, rt.alloc(), true, SERVER)?;
-    assert_no_form(&rt, rt.alloc(), true, SERVER_NO_FORM, 131)?;
-    assert_no_form(&rt, rt.alloc(), true, SERVER_BARRED, 152)
+    expect_forms(&rt, true, SERVER)?;
+    expect_no_forms(&rt, true, SERVER_NO_FORM, "2 131")?;
+    expect_no_forms(&rt, true, SERVER_BARRED, "2 152")
 }
 
 #[test]
 fn branches_and_paragraphs(rt: HostRuntime) -> Result<(), Fail> {
-    for (text, expected) in TEXTS {
-        assert!(rt; text.len() <= MAX_INPUT);
-        let shown = shown(rt.alloc(), &read(rt.alloc(), text, false)?)?;
-        assert_eq!(rt; shown.as_slice(), *expected, "{text:?}");
+    expect_tree(&rt, false, "", "")?;
+    for row in TEXTS.split('\n') {
+        let (text, wanted) = row.split_once(" => ").ok_or("no tree")?;
+        expect_tree(&rt, false, text, wanted)?;
     }
-    assert_refused(&rt, rt.alloc(), REFUSED);
-    Ok(())
+    expect_all_refused(&rt, false, REQUESTER_REFUSED)?;
+    expect_all_refused(&rt, true, SERVER_REFUSED)
 }
 
 #[test]
-fn unknown_statement_line(rt: HostRuntime) {
-    let text = b"MAIN.\nACCEPT S.\nSTOP RUN.\n";
-    assert_eq!(rt; refused(rt.alloc(), text, false), Some((2, 131)));
+fn unknown_statement_line(rt: HostRuntime) -> Result<(), Fail> {
+    expect_refused(&rt, false, "MAIN./ACCEPT S./STOP RUN./", "2 131")
+}
+
+/// Asserts what becomes of so many branches, each open inside the one before.
+fn expect_branches(
+    rt: &(impl Abort + AllocGlobal),
+    count: usize,
+    wanted: &str,
+) -> Result<(), Fail> {
+    let branches = "IF A = 1/".repeat(rt.alloc(), count)?;
+    let text = format!(in rt.alloc(); "MAIN./{branches}DISPLAY \"X\"./")?;
+    expect_refused(rt, false, text.as_str(), wanted)
 }
 
 #[test]
 fn sixty_five_open_branches(rt: HostRuntime) -> Result<(), Fail> {
-    let mut text = repeated(rt.alloc(), b"MAIN.\n", b"IF A = 1\n", 64)?;
-    text.extend(b"DISPLAY \"X\".\n")?;
-    assert!(rt; text.len() <= MAX_INPUT);
-    assert!(rt; read(rt.alloc(), text.as_slice(), false).is_ok());
+    expect_branches(&rt, 64, "not refused")?;
+    expect_branches(&rt, 65, "66 131")
+}
 
-    let mut text = repeated(rt.alloc(), b"MAIN.\n", b"IF A = 1\n", 65)?;
-    text.extend(b"DISPLAY \"X\".\n")?;
-    assert!(rt; text.len() <= MAX_INPUT);
-    assert_eq!(rt;
-        refused(rt.alloc(), text.as_slice(), false),
-        Some((66, 131))
-    );
+/// Asserts that a statement may have a piece 9,999 times behind its front, and not once more.
+fn expect_most(rt: &(impl Abort + AllocGlobal), front: &str, piece: &str) -> Result<(), Fail> {
+    for (times, wanted) in [(9_999, "not refused"), (10_000, "2 131")] {
+        let pieces = piece.repeat(rt.alloc(), times)?;
+        let text = format!(in rt.alloc(); "P./{front}{pieces}")?;
+        expect_refused(rt, false, text.as_str(), wanted)?;
+    }
     Ok(())
 }
 
 #[test]
 fn at_most_9999_keys_and_codes(rt: HostRuntime) -> Result<(), Fail> {
-    let keys = b"P.\nACCEPT S UNTIL".as_slice();
-    let codes = b"P.\nSEND A TO B REPLY".as_slice();
-    for (front, piece) in [(keys, b" SF16".as_slice()), (codes, b" CODE 0 YIELDS A")] {
-        let text = repeated(rt.alloc(), front, piece, 9_999)?;
-        assert!(rt; text.len() <= MAX_INPUT);
-        assert_eq!(rt; refused(rt.alloc(), text.as_slice(), false), None);
-        let text = repeated(rt.alloc(), front, piece, 10_000)?;
-        assert!(rt; text.len() <= MAX_INPUT);
-        assert_eq!(rt; refused(rt.alloc(), text.as_slice(), false), Some((2, 131)));
-    }
-    Ok(())
+    expect_most(&rt, "ACCEPT S UNTIL", " SF16")?;
+    expect_most(&rt, "SEND A TO B REPLY", " CODE 0 YIELDS A")
 }

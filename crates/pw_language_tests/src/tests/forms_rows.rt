@@ -1,311 +1,265 @@
-//! Pieces and procedures, taken by hand from the rules.
+//! Pieces and procedures, taken by hand from the rules: each table is one text, with a row on each line.
 
-/// A piece, and the form that it has.
-pub type Good = (&'static [u8], &'static [u8]);
-
-/// Whether it is that of a server, a text, and the line and the code of its refusal.
-pub type Refused = (bool, &'static [u8], u32, u16);
-
-/// Pieces of requesters.
-pub const REQUESTER: &[Good] = &[
-    (b"MOVE A TO B", b"MOVE"),
-    (b"MOVE 5 TO A (3) B C", b"MOVE"),
-    (b"MOVE \"X\" TO A", b"MOVE"),
-    (b"MOVE SPACES TO A", b"MOVE"),
-    (b"MOVE ZEROES TO A", b"MOVE"),
-    (b"move a to b (i)", b"MOVE"),
-    (b"MOVE TERMINATION-STATUS TO A (RESTART-COUNTER)", b"MOVE"),
-    (b"MOVE A (+3) TO 5", b"MOVE"),
-    (b"MOVE A (1.5) TO B", b"MOVE"),
-    (b"ADD 1 TO A", b"ARITHMETIC"),
-    (b"ADD A TO B GIVING C", b"ARITHMETIC"),
-    (b"SUBTRACT 1 FROM A", b"ARITHMETIC"),
-    (b"MULTIPLY A BY 2 GIVING B", b"ARITHMETIC"),
-    (b"DIVIDE 2 INTO A", b"ARITHMETIC"),
-    (b"ADD \"X\" TO ZERO", b"ARITHMETIC"),
-    (b"ADD 1 TO A ON SIZE ERROR", b"SIZE{|}"),
-    (
-        b"DIVIDE A INTO B GIVING C ON SIZE ERROR EXIT",
-        b"SIZE{EXIT |}",
-    ),
-    (b"IF A = 1", b"IF{|}"),
-    (b"IF A IS NOT > B THEN EXIT", b"IF{EXIT |}"),
-    (b"IF A EQUAL TO B", b"IF{|}"),
-    (b"IF A EQUAL B", b"IF{|}"),
-    (b"IF A GREATER THAN B", b"IF{|}"),
-    (b"IF A GREATER B", b"IF{|}"),
-    (b"IF A IS LESS THAN 3", b"IF{|}"),
-    (b"IF A LESS 3", b"IF{|}"),
-    (b"IF A <= B OR C >= D AND E < F THEN", b"IF{|}"),
-    (b"IF A IS NUMERIC", b"IF{|}"),
-    (b"IF A (1) IS NOT NUMERIC THEN", b"IF{|}"),
-    (b"IF \"A\" = SPACES", b"IF{|}"),
-    (b"PERFORM P", b"PERFORM"),
-    (b"PERFORM P 3 TIMES", b"TIMES"),
-    (b"PERFORM P N (2) TIMES", b"TIMES"),
-    (b"PERFORM P UNTIL A = 1 OR B = 2", b"UNTIL"),
-    (b"PERFORM ONE OF P DEPENDING ON A", b"ONE"),
-    (
-        b"PERFORM ONE OF P Q R DEPENDING ON TERMINATION-STATUS",
-        b"ONE",
-    ),
-    (b"EXIT", b"EXIT"),
-    (b"EXIT PROGRAM", b"PROGRAM"),
-    (b"STOP RUN", b"STOP"),
-    (b"DISPLAY BASE S", b"BASE"),
-    (b"DISPLAY S", b"DISPLAY"),
-    (b"DISPLAY \"X\"", b"DISPLAY"),
-    (b"DISPLAY A (1)", b"DISPLAY"),
-    (b"DISPLAY -12.50", b"DISPLAY"),
-    (b"DISPLAY ZEROS", b"DISPLAY"),
-    (b"ACCEPT S UNTIL F1", b"ACCEPT"),
-    (b"ACCEPT S UNTIL F1, f16 SF1 F1 sf16", b"ACCEPT"),
-    (b"CALL P", b"CALL"),
-    (b"CALL \"hello\" USING A B (1)", b"CALL"),
-    (b"CALL TO USING A", b"CALL"),
-    (b"SEND A TO C REPLY CODE 0 YIELDS B", b"SEND"),
-    (
-        b"SEND A TO \"C\" REPLY CODE 0009 YIELDS B CODE 9999 YIELDS C (1)",
-        b"SEND",
-    ),
-    (b"BEGIN-TRANSACTION", b"BEGIN"),
-    (b"END-TRANSACTION", b"END"),
-    (b"ABORT-TRANSACTION", b"ABORT"),
-    (b"RESTART-TRANSACTION", b"RESTART"),
-];
+/// Pieces of requesters, and the form that each has.
+pub const REQUESTER: &str = r#"MOVE A TO B => MOVE
+MOVE 5 TO A (3) B C => MOVE
+MOVE "X" TO A => MOVE
+MOVE SPACES TO A => MOVE
+MOVE ZEROES TO A => MOVE
+move a to b (i) => MOVE
+MOVE TERMINATION-STATUS TO A (RESTART-COUNTER) => MOVE
+MOVE A (+3) TO 5 => MOVE
+MOVE A (1.5) TO B => MOVE
+ADD 1 TO A => ARITHMETIC
+ADD A TO B GIVING C => ARITHMETIC
+SUBTRACT 1 FROM A => ARITHMETIC
+MULTIPLY A BY 2 GIVING B => ARITHMETIC
+DIVIDE 2 INTO A => ARITHMETIC
+ADD "X" TO ZERO => ARITHMETIC
+ADD 1 TO A ON SIZE ERROR => SIZE{|}
+DIVIDE A INTO B GIVING C ON SIZE ERROR EXIT => SIZE{EXIT |}
+IF A = 1 => IF{|}
+IF A IS NOT > B THEN EXIT => IF{EXIT |}
+IF A EQUAL TO B => IF{|}
+IF A EQUAL B => IF{|}
+IF A GREATER THAN B => IF{|}
+IF A GREATER B => IF{|}
+IF A IS LESS THAN 3 => IF{|}
+IF A LESS 3 => IF{|}
+IF A <= B OR C >= D AND E < F THEN => IF{|}
+IF A IS NUMERIC => IF{|}
+IF A (1) IS NOT NUMERIC THEN => IF{|}
+IF "A" = SPACES => IF{|}
+PERFORM P => PERFORM
+PERFORM P 3 TIMES => TIMES
+PERFORM P N (2) TIMES => TIMES
+PERFORM P UNTIL A = 1 OR B = 2 => UNTIL
+PERFORM ONE OF P DEPENDING ON A => ONE
+PERFORM ONE OF P Q R DEPENDING ON TERMINATION-STATUS => ONE
+EXIT => EXIT
+EXIT PROGRAM => PROGRAM
+STOP RUN => STOP
+DISPLAY BASE S => BASE
+DISPLAY S => DISPLAY
+DISPLAY "X" => DISPLAY
+DISPLAY A (1) => DISPLAY
+DISPLAY -12.50 => DISPLAY
+DISPLAY ZEROS => DISPLAY
+ACCEPT S UNTIL F1 => ACCEPT
+ACCEPT S UNTIL F1, f16 SF1 F1 sf16 => ACCEPT
+CALL P => CALL
+CALL "hello" USING A B (1) => CALL
+CALL TO USING A => CALL
+SEND A TO C REPLY CODE 0 YIELDS B => SEND
+SEND A TO "C" REPLY CODE 0009 YIELDS B CODE 9999 YIELDS C (1) => SEND
+BEGIN-TRANSACTION => BEGIN
+END-TRANSACTION => END
+ABORT-TRANSACTION => ABORT
+RESTART-TRANSACTION => RESTART"#;
 
 /// Pieces that no form of requesters has.
-pub const REQUESTER_NO_FORM: &[&[u8]] = &[
-    b"MOVE A B",
-    b"MOVE A TO",
-    b"MOVE TO B",
-    b"MOVE A TO B FROM",
-    b"MOVE A (\"1\") TO B",
-    b"MOVE A ( TO B",
-    b"MOVE A (1 TO B",
-    b"MOVE A (TO) TO B",
-    b"MOVE 5 (1) TO A",
-    b"MOVE SPACES (1) TO A",
-    b"MOVE IS TO A",
-    b"MOVE $RECEIVE TO A",
-    b"MOVE BASE TO A",
-    b"MOVE A TO B (1) (2)",
-    b"ADD 1 FROM A",
-    b"ADD 1 TO A GIVING",
-    b"ADD 1 TO A GIVING B GIVING C",
-    b"ADD 1 TO A B",
-    b"ADD 1 TO A ON SIZE",
-    b"ADD 1 TO A SIZE ERROR",
-    b"ADD 1 TO A ON SIZE ERROR 5",
-    b"SUBTRACT 1 TO A",
-    b"MULTIPLY A INTO B",
-    b"DIVIDE A BY B",
-    b"IF A",
-    b"IF A =",
-    b"IF = 1",
-    b"IF",
-    b"IF A = 1 OR",
-    b"IF A = 1 AND OR B = 2",
-    b"IF NOT A = 1",
-    b"IF A NOT",
-    b"IF A = 1 THEN THEN",
-    b"IF A NOT IS = 1",
-    b"IF A EQUAL THAN B",
-    b"IF A = 1 2",
-    b"IF A NOT NOT NUMERIC",
-    b"IF (A = 1)",
-    b"PERFORM",
-    b"PERFORM 3 TIMES",
-    b"PERFORM P TIMES 3",
-    b"PERFORM P 3",
-    b"PERFORM P UNTIL",
-    b"PERFORM \"P\"",
-    b"PERFORM P (1)",
-    b"PERFORM TO",
-    b"PERFORM P 3 TIMES 4",
-    b"PERFORM ONE OF DEPENDING ON A",
-    b"PERFORM ONE P DEPENDING ON A",
-    b"PERFORM ONE OF P Q",
-    b"PERFORM ONE OF P DEPENDING A",
-    b"PERFORM ONE OF P DEPENDING ON A B",
-    b"EXIT P",
-    b"EXIT PROGRAM 5",
-    b"STOP",
-    b"STOP RUN RUN",
-    b"DISPLAY",
-    b"DISPLAY \"A\" \"B\"",
-    b"DISPLAY BASE",
-    b"DISPLAY BASE \"S\"",
-    b"DISPLAY BASE S (1)",
-    b"DISPLAY USING",
-    b"ACCEPT S",
-    b"ACCEPT S UNTIL",
-    b"ACCEPT S UNTIL F17",
-    b"ACCEPT S UNTIL F01",
-    b"ACCEPT S UNTIL SF0",
-    b"ACCEPT S UNTIL \"F1\"",
-    b"ACCEPT \"S\" UNTIL F1",
-    b"ACCEPT S UNTIL F1 A",
-    b"ACCEPT S F1",
-    b"CALL",
-    b"CALL 5",
-    b"CALL P A",
-    b"CALL P USING",
-    b"CALL $RECEIVE",
-    b"CALL P (1)",
-    b"SEND A C REPLY CODE 0 YIELDS B",
-    b"SEND A TO C REPLY",
-    b"SEND A TO C CODE 0 YIELDS B",
-    b"SEND A TO C REPLY CODE 10000 YIELDS B",
-    b"SEND A TO C REPLY CODE -1 YIELDS B",
-    b"SEND A TO C REPLY CODE 1.0 YIELDS B",
-    b"SEND A TO C REPLY CODE \"1\" YIELDS B",
-    b"SEND A TO C REPLY CODE 0 B",
-    b"SEND A TO C REPLY CODE 0 YIELDS B CODE 1",
-    b"SEND A TO C REPLY CODE 0 YIELDS B C",
-    b"BEGIN-TRANSACTION 1",
-    b"END-TRANSACTION A",
-    b"READ F KEY K INTO R",
-    b"READ $RECEIVE INTO A",
-    b"WRITE F FROM A",
-    b"REWRITE F FROM A",
-    b"DELETE F KEY K",
-];
+pub const REQUESTER_NO_FORM: &str = r#"MOVE A B
+MOVE A TO
+MOVE TO B
+MOVE A TO B FROM
+MOVE A ("1") TO B
+MOVE A ( TO B
+MOVE A (1 TO B
+MOVE A (TO) TO B
+MOVE 5 (1) TO A
+MOVE SPACES (1) TO A
+MOVE IS TO A
+MOVE $RECEIVE TO A
+MOVE BASE TO A
+MOVE A TO B (1) (2)
+ADD 1 FROM A
+ADD 1 TO A GIVING
+ADD 1 TO A GIVING B GIVING C
+ADD 1 TO A B
+ADD 1 TO A ON SIZE
+ADD 1 TO A SIZE ERROR
+ADD 1 TO A ON SIZE ERROR 5
+SUBTRACT 1 TO A
+MULTIPLY A INTO B
+DIVIDE A BY B
+IF A
+IF A =
+IF = 1
+IF
+IF A = 1 OR
+IF A = 1 AND OR B = 2
+IF NOT A = 1
+IF A NOT
+IF A = 1 THEN THEN
+IF A NOT IS = 1
+IF A EQUAL THAN B
+IF A = 1 2
+IF A NOT NOT NUMERIC
+IF (A = 1)
+PERFORM
+PERFORM 3 TIMES
+PERFORM P TIMES 3
+PERFORM P 3
+PERFORM P UNTIL
+PERFORM "P"
+PERFORM P (1)
+PERFORM TO
+PERFORM P 3 TIMES 4
+PERFORM ONE OF DEPENDING ON A
+PERFORM ONE P DEPENDING ON A
+PERFORM ONE OF P Q
+PERFORM ONE OF P DEPENDING A
+PERFORM ONE OF P DEPENDING ON A B
+EXIT P
+EXIT PROGRAM 5
+STOP
+STOP RUN RUN
+DISPLAY
+DISPLAY "A" "B"
+DISPLAY BASE
+DISPLAY BASE "S"
+DISPLAY BASE S (1)
+DISPLAY USING
+ACCEPT S
+ACCEPT S UNTIL
+ACCEPT S UNTIL F17
+ACCEPT S UNTIL F01
+ACCEPT S UNTIL SF0
+ACCEPT S UNTIL "F1"
+ACCEPT "S" UNTIL F1
+ACCEPT S UNTIL F1 A
+ACCEPT S F1
+CALL
+CALL 5
+CALL P A
+CALL P USING
+CALL $RECEIVE
+CALL P (1)
+SEND A C REPLY CODE 0 YIELDS B
+SEND A TO C REPLY
+SEND A TO C CODE 0 YIELDS B
+SEND A TO C REPLY CODE 10000 YIELDS B
+SEND A TO C REPLY CODE -1 YIELDS B
+SEND A TO C REPLY CODE 1.0 YIELDS B
+SEND A TO C REPLY CODE "1" YIELDS B
+SEND A TO C REPLY CODE 0 B
+SEND A TO C REPLY CODE 0 YIELDS B CODE 1
+SEND A TO C REPLY CODE 0 YIELDS B C
+BEGIN-TRANSACTION 1
+END-TRANSACTION A
+READ F KEY K INTO R
+READ $RECEIVE INTO A
+WRITE F FROM A
+REWRITE F FROM A
+DELETE F KEY K"#;
 
-/// Pieces of servers.
-pub const SERVER: &[Good] = &[
-    (b"READ $RECEIVE INTO A", b"RECEIVE"),
-    (b"WRITE $receive FROM A", b"REPLY"),
-    (b"READ F KEY K INTO R", b"READ"),
-    (b"READ NEXT F AFTER K INTO R", b"NEXT"),
-    (b"READ F WITH LOCK KEY K INTO R", b"READ-LOCK"),
-    (b"READ NEXT F WITH LOCK AFTER K INTO R", b"NEXT-LOCK"),
-    (b"READ NEXT KEY K INTO R", b"READ"),
-    (b"READ NEXT WITH LOCK KEY K INTO R", b"READ-LOCK"),
-    (b"READ NEXT KEY AFTER K INTO R", b"NEXT"),
-    (b"READ NEXT WITH WITH LOCK AFTER K INTO R", b"NEXT-LOCK"),
-    (b"READ WITH WITH LOCK KEY K INTO R", b"READ-LOCK"),
-    (b"READ F KEY \"A\" INTO 5", b"READ"),
-    (b"WRITE F FROM A", b"WRITE"),
-    (b"WRITE LOCK FROM A", b"WRITE"),
-    (b"REWRITE F FROM A (1)", b"REWRITE"),
-    (b"DELETE F KEY K", b"DELETE"),
-    (b"MOVE FILE-STATUS TO A", b"MOVE"),
-    (b"MOVE BASE TO CODE", b"MOVE"),
-    (b"EXIT PROGRAM", b"PROGRAM"),
-    (b"MOVE TERMINATION-STATUS TO A", b"MOVE"),
-];
+/// Pieces of servers, and the form that each has.
+pub const SERVER: &str = r#"READ $RECEIVE INTO A => RECEIVE
+WRITE $receive FROM A => REPLY
+READ F KEY K INTO R => READ
+READ NEXT F AFTER K INTO R => NEXT
+READ F WITH LOCK KEY K INTO R => READ-LOCK
+READ NEXT F WITH LOCK AFTER K INTO R => NEXT-LOCK
+READ NEXT KEY K INTO R => READ
+READ NEXT WITH LOCK KEY K INTO R => READ-LOCK
+READ NEXT KEY AFTER K INTO R => NEXT
+READ NEXT WITH WITH LOCK AFTER K INTO R => NEXT-LOCK
+READ WITH WITH LOCK KEY K INTO R => READ-LOCK
+READ F KEY "A" INTO 5 => READ
+WRITE F FROM A => WRITE
+WRITE LOCK FROM A => WRITE
+REWRITE F FROM A (1) => REWRITE
+DELETE F KEY K => DELETE
+MOVE FILE-STATUS TO A => MOVE
+MOVE BASE TO CODE => MOVE
+EXIT PROGRAM => PROGRAM
+MOVE TERMINATION-STATUS TO A => MOVE"#;
 
 /// Pieces that no form of servers has.
-pub const SERVER_NO_FORM: &[&[u8]] = &[
-    b"READ F INTO R",
-    b"READ F KEY K",
-    b"READ NEXT F KEY K INTO R",
-    b"READ F AFTER K INTO R",
-    b"READ F WITH KEY K INTO R",
-    b"READ F LOCK KEY K INTO R",
-    b"READ NEXT F AFTER K WITH LOCK INTO R",
-    b"READ \"F\" KEY K INTO R",
-    b"READ $RECEIVE KEY K INTO R",
-    b"READ $RECEIVE INTO",
-    b"READ",
-    b"WRITE $RECEIVE INTO A",
-    b"WRITE F A",
-    b"REWRITE $RECEIVE FROM A",
-    b"DELETE F",
-    b"DELETE $RECEIVE KEY K",
-    b"DELETE F KEY",
-    b"READ F KEY $RECEIVE INTO R",
-    b"MOVE WITH TO A",
-    b"READ F KEY K INTO R S",
-    b"WRITE F FROM A B",
-];
+pub const SERVER_NO_FORM: &str = r#"READ F INTO R
+READ F KEY K
+READ NEXT F KEY K INTO R
+READ F AFTER K INTO R
+READ F WITH KEY K INTO R
+READ F LOCK KEY K INTO R
+READ NEXT F AFTER K WITH LOCK INTO R
+READ "F" KEY K INTO R
+READ $RECEIVE KEY K INTO R
+READ $RECEIVE INTO
+READ
+WRITE $RECEIVE INTO A
+WRITE F A
+REWRITE $RECEIVE FROM A
+DELETE F
+DELETE $RECEIVE KEY K
+DELETE F KEY
+READ F KEY $RECEIVE INTO R
+MOVE WITH TO A
+READ F KEY K INTO R S
+WRITE F FROM A B"#;
 
 /// Pieces that are not for servers.
-pub const SERVER_BARRED: &[&[u8]] = &[
-    b"ACCEPT S UNTIL F1",
-    b"ACCEPT",
-    b"DISPLAY \"A\" \"B\"",
-    b"CALL P",
-    b"SEND A TO C REPLY CODE 0 YIELDS B",
-    b"BEGIN-TRANSACTION",
-    b"END-TRANSACTION A",
-    b"ABORT-TRANSACTION",
-    b"RESTART-TRANSACTION",
-];
+pub const SERVER_BARRED: &str = r#"ACCEPT S UNTIL F1
+ACCEPT
+DISPLAY "A" "B"
+CALL P
+SEND A TO C REPLY CODE 0 YIELDS B
+BEGIN-TRANSACTION
+END-TRANSACTION A
+ABORT-TRANSACTION
+RESTART-TRANSACTION"#;
 
 /// Procedures of requesters, and how their trees are shown.
-pub const TEXTS: &[Good] = &[
-    (b"", b""),
-    (b"A.", b"A:"),
-    (b"A. B.", b"A:B:"),
-    (b"A. . EXIT.. . STOP RUN. B. EXIT", b"A:EXIT STOP B:EXIT "),
-    (b"PIC-X.\nEXIT.", b"PIC-X:EXIT "),
-    (b"A. IF B = 1 EXIT ELSE STOP RUN.", b"A:IF{EXIT |STOP } "),
-    (
-        b"A. IF B = 1 IF C = 1 EXIT ELSE STOP RUN ELSE EXIT PROGRAM. EXIT.",
-        b"A:IF{IF{EXIT |STOP } |PROGRAM } EXIT ",
-    ),
-    (b"A. IF B = 1 IF C = 1 END-IF EXIT.", b"A:IF{IF{|} EXIT |} "),
-    (
-        b"A. IF B = 1 THEN IF C = 1 EXIT ELSE END-IF ELSE STOP RUN END-IF EXIT.",
-        b"A:IF{IF{EXIT |} |STOP } EXIT ",
-    ),
-    (
-        b"A. ADD 1 TO B ON SIZE ERROR EXIT ELSE STOP RUN END-IF EXIT.",
-        b"A:SIZE{EXIT |STOP } EXIT ",
-    ),
-    (
-        b"A. IF B = 1 ADD 1 TO B ON SIZE ERROR ELSE EXIT ELSE STOP RUN.",
-        b"A:IF{SIZE{|EXIT } |STOP } ",
-    ),
-    (
-        b"A. IF B = 1 IF C = 1 IF D = 1. EXIT. B. EXIT.",
-        b"A:IF{IF{IF{|} |} |} EXIT B:EXIT ",
-    ),
-    (
-        b"A. IF B = 1 EXIT END-IF IF C = 1 EXIT ELSE STOP RUN.",
-        b"A:IF{EXIT |} IF{EXIT |STOP } ",
-    ),
-];
+pub const TEXTS: &str = r#"A. => A:
+A. B. => A:B:
+A. . EXIT.. . STOP RUN. B. EXIT => A:EXIT STOP B:EXIT
+PIC-X./EXIT. => PIC-X:EXIT
+A. IF B = 1 EXIT ELSE STOP RUN. => A:IF{EXIT |STOP }
+A. IF B = 1 IF C = 1 EXIT ELSE STOP RUN ELSE EXIT PROGRAM. EXIT. => A:IF{IF{EXIT |STOP } |PROGRAM } EXIT
+A. IF B = 1 IF C = 1 END-IF EXIT. => A:IF{IF{|} EXIT |}
+A. IF B = 1 THEN IF C = 1 EXIT ELSE END-IF ELSE STOP RUN END-IF EXIT. => A:IF{IF{EXIT |} |STOP } EXIT
+A. ADD 1 TO B ON SIZE ERROR EXIT ELSE STOP RUN END-IF EXIT. => A:SIZE{EXIT |STOP } EXIT
+A. IF B = 1 ADD 1 TO B ON SIZE ERROR ELSE EXIT ELSE STOP RUN. => A:IF{SIZE{|EXIT } |STOP }
+A. IF B = 1 IF C = 1 IF D = 1. EXIT. B. EXIT. => A:IF{IF{IF{|} |} |} EXIT B:EXIT
+A. IF B = 1 EXIT END-IF IF C = 1 EXIT ELSE STOP RUN. => A:IF{EXIT |} IF{EXIT |STOP }"#;
 
-/// Procedures that are refused.
-pub const REFUSED: &[Refused] = &[
-    (false, b"EXIT.", 1, 131),
-    (false, b".", 1, 131),
-    (false, b"\nA B. EXIT.", 2, 131),
-    (false, b"A EXIT.", 1, 131),
-    (false, b"A", 1, 131),
-    (false, b"5.", 1, 131),
-    (false, b"\"A\".", 1, 131),
-    (false, b"A. EXIT.\nB EXIT.", 2, 131),
-    (false, b"A.\nB C.\nEXIT.", 2, 131),
-    (false, b"A.\n(1).", 2, 131),
-    (false, b"TO.", 1, 122),
-    (false, b"A.\nBASE.", 2, 122),
-    (true, b"A.\nWITH.", 2, 122),
-    (true, b"A.\nLOCK.\nEXIT.", 2, 122),
-    (true, b"$RECEIVE.", 1, 122),
-    (false, b"$RECEIVE.", 1, 131),
-    (false, b"THEN.\nTHEN.", 1, 122),
-    (false, b"A. B.\nA.", 2, 133),
-    (false, b"A. EXIT.\na. EXIT.\nA.", 2, 133),
-    (false, b"A.\nELSE.", 2, 132),
-    (false, b"A.\nEND-IF.", 2, 132),
-    (false, b"A.\nIF B = 1 ELSE\nELSE.", 3, 132),
-    (false, b"A.\nIF B = 1.\nEND-IF.", 3, 132),
-    (false, b"A.\nIF B = 1 END-IF\nEND-IF.", 3, 132),
-    (false, b"A.\nIF B = 1 END-IF\nELSE EXIT.", 3, 132),
-    (false, b"ELSE.", 1, 131),
-    (false, b"A.\nELSE 5.", 2, 131),
-    (false, b"A.\nIF B = 1 EXIT\nELSE 5 EXIT.", 3, 131),
-    (false, b"A.\nIF B = 1 EXIT\nEND-IF 5.", 3, 131),
-    (false, b"A.\nMOVE A B.\nELSE.", 2, 131),
-    (false, b"A.\nELSE.\nMOVE A.", 2, 132),
-    (false, b"A.\nELSE. MOVE A.", 2, 131),
-    (false, b"A.\nEXIT. A. ELSE. TO.", 2, 122),
-    (true, b"A.\nDISPLAY 5 5. ELSE.", 2, 132),
-    (true, b"A.\nCALL. MOVE A.", 2, 131),
-    (true, b"DISPLAY A.", 1, 131),
-    (true, b"A.\nACCEPT.\nMOVE A.", 2, 152),
-];
+/// The line and the code with which a procedure of a requester is refused, and the procedure.
+pub const REQUESTER_REFUSED: &str = r#"1 131|EXIT.
+1 131|.
+2 131|/A B. EXIT.
+1 131|A EXIT.
+1 131|A
+1 131|5.
+1 131|"A".
+2 131|A. EXIT./B EXIT.
+2 131|A./B C./EXIT.
+2 131|A./(1).
+1 122|TO.
+2 122|A./BASE.
+1 131|$RECEIVE.
+1 122|THEN./THEN.
+2 133|A. B./A.
+2 133|A. EXIT./a. EXIT./A.
+2 132|A./ELSE.
+2 132|A./END-IF.
+3 132|A./IF B = 1 ELSE/ELSE.
+3 132|A./IF B = 1./END-IF.
+3 132|A./IF B = 1 END-IF/END-IF.
+3 132|A./IF B = 1 END-IF/ELSE EXIT.
+1 131|ELSE.
+2 131|A./ELSE 5.
+3 131|A./IF B = 1 EXIT/ELSE 5 EXIT.
+3 131|A./IF B = 1 EXIT/END-IF 5.
+2 131|A./MOVE A B./ELSE.
+2 132|A./ELSE./MOVE A.
+2 131|A./ELSE. MOVE A.
+2 122|A./EXIT. A. ELSE. TO."#;
+
+/// The same of servers.
+pub const SERVER_REFUSED: &str = r#"2 122|A./WITH.
+2 122|A./LOCK./EXIT.
+1 122|$RECEIVE.
+2 132|A./DISPLAY 5 5. ELSE.
+2 131|A./CALL. MOVE A.
+1 131|DISPLAY A.
+2 152|A./ACCEPT./MOVE A."#;

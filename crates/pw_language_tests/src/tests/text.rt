@@ -1,330 +1,152 @@
+use crate::tests::rows::{lines_of, refusal_shown};
+use pw_base::bytes::Bytes;
 use pw_base::fault::Refusal;
 use pw_base::fault_code::FaultCode;
 use pw_base::read_all::MAX_INPUT;
 use pw_text::cursor::Cursor;
-use pw_text::token::{TokenKind, token_limits};
+use pw_text::token::{Token, TokenKind, token_limits};
 use pw_text::tokens::tokens;
-use std::alloc::Global;
 use std::process::Abort;
 use std::test::Fail;
 
-/// What a token has to be: its kind, its line and its bytes.
-type Wanted = (TokenKind, u32, &'static [u8]);
+/// Texts, and their tokens: the kind, the line and the bytes of each, with a `~` behind it.
+const WORDS_AND_NUMBERS: &str = "~
+   ~
+/\r/  /~
+* A COMMENT \" #~
+ A~Word 1 A~
+A/b/~Word 1 A~Word 2 b~
+A\r/\r/B~Word 1 A~Word 3 B~
+*C/A~Word 2 A~
+12A~Number 1 12~Word 1 A~
+1-2~Number 1 1~Number 1 -2~
++5~Number 1 +5~
+A-1~Word 1 A-1~
+A -1~Word 1 A~Number 1 -1~
+1.5~Number 1 1.5~
+-1.5.~Number 1 -1.5~Period 1 .~
+5.~Number 1 5~Period 1 .~
+.5~Period 1 .~Number 1 5~
+123456789012345678~Number 1 123456789012345678~
+-123456789.123456789~Number 1 -123456789.123456789~
+ABCDEFGHIJKLMNOPQRSTUVWXYZ-123~Word 1 ABCDEFGHIJKLMNOPQRSTUVWXYZ-123~
+$receive.~Word 1 $receive~Period 1 .~
+A,B;C|D~Word 1 A~Word 1 B~Word 1 C~Word 1 D~";
 
-/// A text, and what its tokens have to be.
-type Read = (&'static [u8], &'static [Wanted]);
-
-const WORDS_AND_NUMBERS: &[Read] = &[
-    (b"", &[]),
-    (b"   ", &[]),
-    (b"\n\r\n  \n", &[]),
-    (b"* A COMMENT \" #", &[]),
-    (b" A", &[(TokenKind::Word, 1, b"A")]),
-    (
-        b"A\nb\n",
-        &[(TokenKind::Word, 1, b"A"), (TokenKind::Word, 2, b"b")],
-    ),
-    (
-        b"A\r\n\r\nB",
-        &[(TokenKind::Word, 1, b"A"), (TokenKind::Word, 3, b"B")],
-    ),
-    (b"*C\nA", &[(TokenKind::Word, 2, b"A")]),
-    (
-        b"12A",
-        &[(TokenKind::Number, 1, b"12"), (TokenKind::Word, 1, b"A")],
-    ),
-    (
-        b"1-2",
-        &[(TokenKind::Number, 1, b"1"), (TokenKind::Number, 1, b"-2")],
-    ),
-    (b"+5", &[(TokenKind::Number, 1, b"+5")]),
-    (b"A-1", &[(TokenKind::Word, 1, b"A-1")]),
-    (
-        b"A -1",
-        &[(TokenKind::Word, 1, b"A"), (TokenKind::Number, 1, b"-1")],
-    ),
-    (b"1.5", &[(TokenKind::Number, 1, b"1.5")]),
-    (
-        b"-1.5.",
-        &[
-            (TokenKind::Number, 1, b"-1.5"),
-            (TokenKind::Period, 1, b"."),
-        ],
-    ),
-    (
-        b"5.",
-        &[(TokenKind::Number, 1, b"5"), (TokenKind::Period, 1, b".")],
-    ),
-    (
-        b".5",
-        &[(TokenKind::Period, 1, b"."), (TokenKind::Number, 1, b"5")],
-    ),
-    (
-        b"123456789012345678",
-        &[(TokenKind::Number, 1, b"123456789012345678")],
-    ),
-    (
-        b"-123456789.123456789",
-        &[(TokenKind::Number, 1, b"-123456789.123456789")],
-    ),
-    (
-        b"ABCDEFGHIJKLMNOPQRSTUVWXYZ-123",
-        &[(TokenKind::Word, 1, b"ABCDEFGHIJKLMNOPQRSTUVWXYZ-123")],
-    ),
-    (
-        b"$receive.",
-        &[
-            (TokenKind::Word, 1, b"$receive"),
-            (TokenKind::Period, 1, b"."),
-        ],
-    ),
-    (
-        b"A,B;C|D",
-        &[
-            (TokenKind::Word, 1, b"A"),
-            (TokenKind::Word, 1, b"B"),
-            (TokenKind::Word, 1, b"C"),
-            (TokenKind::Word, 1, b"D"),
-        ],
-    ),
-];
-
-const TEXTS_PICTURES_AND_MARKS: &[Read] = &[
-    (b"\"AB\"", &[(TokenKind::Text, 1, b"AB")]),
-    (b"\"\"", &[(TokenKind::Text, 1, b"")]),
-    (b"\"A\"\"B\"", &[(TokenKind::Text, 1, b"A\"\"B")]),
-    (b"\"\"\"\"", &[(TokenKind::Text, 1, b"\"\"")]),
-    (
-        b"\"*,;|#\"\"A\"\r\n",
-        &[(TokenKind::Text, 1, b"*,;|#\"\"A")],
-    ),
-    (
-        b"\"A\" \"B\"",
-        &[(TokenKind::Text, 1, b"A"), (TokenKind::Text, 1, b"B")],
-    ),
-    (
-        b"PIC X(5).",
-        &[
-            (TokenKind::Word, 1, b"PIC"),
-            (TokenKind::Picture, 1, b"X(5)"),
-            (TokenKind::Period, 1, b"."),
-        ],
-    ),
-    (
-        b"PICTURE IS 9(4)V99 A",
-        &[
-            (TokenKind::Word, 1, b"PICTURE"),
-            (TokenKind::Word, 1, b"IS"),
-            (TokenKind::Picture, 1, b"9(4)V99"),
-            (TokenKind::Word, 1, b"A"),
-        ],
-    ),
-    (
-        b"pic is x",
-        &[
-            (TokenKind::Word, 1, b"pic"),
-            (TokenKind::Word, 1, b"is"),
-            (TokenKind::Picture, 1, b"x"),
-        ],
-    ),
-    (
-        b"PIC\nX(5)",
-        &[
-            (TokenKind::Word, 1, b"PIC"),
-            (TokenKind::Word, 2, b"X"),
-            (TokenKind::LeftParen, 2, b"("),
-            (TokenKind::Number, 2, b"5"),
-            (TokenKind::RightParen, 2, b")"),
-        ],
-    ),
-    (
-        b"PIC IS\nX.",
-        &[
-            (TokenKind::Word, 1, b"PIC"),
-            (TokenKind::Word, 1, b"IS"),
-            (TokenKind::Word, 2, b"X"),
-            (TokenKind::Period, 2, b"."),
-        ],
-    ),
-    (
-        b"PIC .",
-        &[(TokenKind::Word, 1, b"PIC"), (TokenKind::Period, 1, b".")],
-    ),
-    (
-        b"PIC ZZ,ZZ9.99-.",
-        &[
-            (TokenKind::Word, 1, b"PIC"),
-            (TokenKind::Picture, 1, b"ZZ,ZZ9.99-"),
-            (TokenKind::Period, 1, b"."),
-        ],
-    ),
-    (
-        b"PIC X, VALUE \"A\"",
-        &[
-            (TokenKind::Word, 1, b"PIC"),
-            (TokenKind::Picture, 1, b"X,"),
-            (TokenKind::Word, 1, b"VALUE"),
-            (TokenKind::Text, 1, b"A"),
-        ],
-    ),
-    (
-        b"PIC \"A;| B",
-        &[
-            (TokenKind::Word, 1, b"PIC"),
-            (TokenKind::Picture, 1, b"\"A;|"),
-            (TokenKind::Word, 1, b"B"),
-        ],
-    ),
-    (
-        b"PIC X\r\nA",
-        &[
-            (TokenKind::Word, 1, b"PIC"),
-            (TokenKind::Picture, 1, b"X"),
-            (TokenKind::Word, 2, b"A"),
-        ],
-    ),
-    (
-        b"EPIC X",
-        &[(TokenKind::Word, 1, b"EPIC"), (TokenKind::Word, 1, b"X")],
-    ),
-    (
-        b"(A=B)",
-        &[
-            (TokenKind::LeftParen, 1, b"("),
-            (TokenKind::Word, 1, b"A"),
-            (TokenKind::Equal, 1, b"="),
-            (TokenKind::Word, 1, b"B"),
-            (TokenKind::RightParen, 1, b")"),
-        ],
-    ),
-    (
-        b"< <= > >=",
-        &[
-            (TokenKind::Less, 1, b"<"),
-            (TokenKind::LessEqual, 1, b"<="),
-            (TokenKind::Greater, 1, b">"),
-            (TokenKind::GreaterEqual, 1, b">="),
-        ],
-    ),
-    (
-        b"=<>=",
-        &[
-            (TokenKind::Equal, 1, b"="),
-            (TokenKind::Less, 1, b"<"),
-            (TokenKind::GreaterEqual, 1, b">="),
-        ],
-    ),
-];
+/// The same of other texts.
+const TEXTS_PICTURES_AND_MARKS: &str = "\"AB\"~Text 1 AB~
+\"\"~Text 1 ~
+\"A\"\"B\"~Text 1 A\"\"B~
+\"\"\"\"~Text 1 \"\"~
+\"*,;|#\"\"A\"\r/~Text 1 *,;|#\"\"A~
+\"A\" \"B\"~Text 1 A~Text 1 B~
+PIC X(5).~Word 1 PIC~Picture 1 X(5)~Period 1 .~
+PICTURE IS 9(4)V99 A~Word 1 PICTURE~Word 1 IS~Picture 1 9(4)V99~Word 1 A~
+pic is x~Word 1 pic~Word 1 is~Picture 1 x~
+PIC/X(5)~Word 1 PIC~Word 2 X~LeftParen 2 (~Number 2 5~RightParen 2 )~
+PIC IS/X.~Word 1 PIC~Word 1 IS~Word 2 X~Period 2 .~
+PIC .~Word 1 PIC~Period 1 .~
+PIC ZZ,ZZ9.99-.~Word 1 PIC~Picture 1 ZZ,ZZ9.99-~Period 1 .~
+PIC X, VALUE \"A\"~Word 1 PIC~Picture 1 X,~Word 1 VALUE~Text 1 A~
+PIC \"A;| B~Word 1 PIC~Picture 1 \"A;|~Word 1 B~
+PIC X\r/A~Word 1 PIC~Picture 1 X~Word 2 A~
+EPIC X~Word 1 EPIC~Word 1 X~
+(A=B)~LeftParen 1 (~Word 1 A~Equal 1 =~Word 1 B~RightParen 1 )~
+< <= > >=~Less 1 <~LessEqual 1 <=~Greater 1 >~GreaterEqual 1 >=~
+=<>=~Equal 1 =~Less 1 <~GreaterEqual 1 >=~";
 
 /// Texts, each with the line and the code of its refusal.
-const REFUSED: &[(&[u8], u32, FaultCode)] = &[
-    (b"#", 1, FaultCode::BadCharacter),
-    (b"A\n#", 2, FaultCode::BadCharacter),
-    (b"- 5", 1, FaultCode::BadCharacter),
-    (b"+A", 1, FaultCode::BadCharacter),
-    (b"$REC", 1, FaultCode::BadCharacter),
-    (b"$RECEIVEX", 1, FaultCode::BadCharacter),
-    (b"A $ B", 1, FaultCode::BadCharacter),
-    (b" * A", 1, FaultCode::BadCharacter),
-    (b"?END", 1, FaultCode::BadCharacter),
-    (b"A\tB", 1, FaultCode::BadCharacter),
-    (b"*\x1f", 1, FaultCode::BadCharacter),
-    (b"A\n*\x7f", 2, FaultCode::BadCharacter),
-    (b"\"\xff\"", 1, FaultCode::BadCharacter),
-    (b"PIC X\x7f", 1, FaultCode::BadCharacter),
-    (b"A\rB", 1, FaultCode::BadCharacter),
-    (b"A\r", 1, FaultCode::BadCharacter),
-    (b"A\r\r\n", 1, FaultCode::BadCharacter),
-    (b"\"AB", 1, FaultCode::UnclosedLiteral),
-    (b"\"AB\r\nC\"", 1, FaultCode::UnclosedLiteral),
-    (b"\"\"\"", 1, FaultCode::UnclosedLiteral),
-    (
-        b"ABCDEFGHIJKLMNOPQRSTUVWXYZ-1234",
-        1,
-        FaultCode::WordTooLong,
-    ),
-    (b"1234567890123456789", 1, FaultCode::NumberTooLong),
-    (b"1234567890.123456789", 1, FaultCode::NumberTooLong),
-    (
-        b"ABCDEFGHIJKLMNOPQRSTUVWXYZ-1234 \"A",
-        1,
-        FaultCode::UnclosedLiteral,
-    ),
-    (
-        b"ABCDEFGHIJKLMNOPQRSTUVWXYZ-1234 #",
-        1,
-        FaultCode::BadCharacter,
-    ),
-    (
-        b"1234567890123456789 ABCDEFGHIJKLMNOPQRSTUVWXYZ-1234",
-        1,
-        FaultCode::WordTooLong,
-    ),
-    (b"\"A\x01", 1, FaultCode::BadCharacter),
-    (b"A\n\"A\n#", 2, FaultCode::UnclosedLiteral),
-    (b"1234567890123456789\n#", 1, FaultCode::NumberTooLong),
-];
+const REFUSED: &str = "1 101|#
+2 101|A/#
+1 101|- 5
+1 101|+A
+1 101|$REC
+1 101|$RECEIVEX
+1 101|A $ B
+1 101| * A
+1 101|?END
+1 101|A\tB
+1 101|*\x1f
+2 101|A/*\x7f
+1 101|PIC X\x7f
+1 101|A\rB
+1 101|A\r
+1 101|A\r\r/
+1 102|\"AB
+1 102|\"AB\r/C\"
+1 102|\"\"\"
+1 103|ABCDEFGHIJKLMNOPQRSTUVWXYZ-1234
+1 104|1234567890123456789
+1 104|1234567890.123456789
+1 102|ABCDEFGHIJKLMNOPQRSTUVWXYZ-1234 \"A
+1 101|ABCDEFGHIJKLMNOPQRSTUVWXYZ-1234 #
+1 103|1234567890123456789 ABCDEFGHIJKLMNOPQRSTUVWXYZ-1234
+1 101|\"A\x01
+2 102|A/\"A/#
+1 104|1234567890123456789/#";
 
-/// Asserts that the text has these tokens.
-fn assert_tokens(
-    rt: &impl Abort,
-    alloc: Global,
-    text: &[u8],
-    wanted: &[Wanted],
-) -> Result<(), Fail> {
-    assert!(rt; text.len() <= MAX_INPUT);
-    let found = tokens(alloc, text, 1)?;
-    assert_eq!(rt; found.len(), wanted.len(), "{text:?}");
-    for (token, (kind, line, bytes)) in found.iter().zip(wanted) {
+/// The tokens of a text, as a row has them.
+fn shown(rt: &(impl Abort + AllocGlobal), text: &[u8], tokens: &[Token]) -> Result<Bytes, Fail> {
+    let mut shown = Bytes::new(rt.alloc());
+    for token in tokens {
         assert!(rt; token.start <= token.end && token.end as usize <= text.len());
-        assert_eq!(rt; token.kind, *kind, "{text:?}");
-        assert_eq!(rt; token.line, *line, "{text:?}");
-        assert_eq!(rt;
-            &text[token.start as usize..token.end as usize],
-            *bytes,
-            "{text:?}"
-        );
+        shown.extend(format!(in rt.alloc(); "{:?} {} ", token.kind, token.line)?.as_bytes())?;
+        shown.extend(token.spelling(text))?;
+        shown.push(b'~')?;
     }
+    Ok(shown)
+}
+
+/// Asserts that the text of a row has its tokens.
+fn expect_tokens(rt: &(impl Abort + AllocGlobal), row: &str) -> Result<(), Fail> {
+    let (text, wanted) = row.split_once('~').ok_or("no tokens")?;
+    let lines = lines_of(rt.alloc(), text)?;
+    let text = lines.as_bytes();
+    assert!(rt; text.len() <= MAX_INPUT);
+    let found = tokens(rt.alloc(), text, 1)?;
+    let shown = shown(rt, text, &found)?;
+    assert!(rt; shown.as_slice() == wanted.as_bytes(), "{row}");
     Ok(())
 }
 
 #[test]
 fn tokens_of_a_move(rt: HostRuntime) -> Result<(), Fail> {
-    let wanted: &[Wanted] = &[
-        (TokenKind::Word, 1, b"MOVE"),
-        (TokenKind::Number, 1, b"12"),
-        (TokenKind::Word, 1, b"TO"),
-        (TokenKind::Word, 1, b"A"),
-        (TokenKind::Period, 1, b"."),
-    ];
-    assert_tokens(&rt, rt.alloc(), b"MOVE 12 TO A.", wanted)
+    expect_tokens(
+        &rt,
+        "MOVE 12 TO A.~Word 1 MOVE~Number 1 12~Word 1 TO~Word 1 A~Period 1 .~",
+    )
 }
 
 #[test]
 fn texts_and_their_tokens(rt: HostRuntime) -> Result<(), Fail> {
-    for (text, wanted) in WORDS_AND_NUMBERS {
-        assert_tokens(&rt, rt.alloc(), text, wanted)?;
+    for row in WORDS_AND_NUMBERS.split('\n') {
+        expect_tokens(&rt, row)?;
     }
-    for (text, wanted) in TEXTS_PICTURES_AND_MARKS {
-        assert_tokens(&rt, rt.alloc(), text, wanted)?;
+    for row in TEXTS_PICTURES_AND_MARKS.split('\n') {
+        expect_tokens(&rt, row)?;
     }
     Ok(())
 }
 
+/// Asserts on which line and with what code a text is refused.
+fn expect_refused(rt: &(impl Abort + AllocGlobal), text: &[u8], wanted: &str) -> Result<(), Fail> {
+    assert!(rt; text.len() <= MAX_INPUT);
+    let refusal = tokens(rt.alloc(), text, 1).err();
+    assert_eq!(rt;
+        refusal_shown(rt.alloc(), refusal)?.as_str(),
+        wanted,
+        "{text:?}"
+    );
+    Ok(())
+}
+
 #[test]
-fn texts_and_their_refusals(rt: HostRuntime) {
-    for (text, line, code) in REFUSED {
-        assert!(rt; text.len() <= MAX_INPUT);
-        let refusal = Refusal::At {
-            line: *line,
-            code: *code,
-        };
-        assert_eq!(rt;
-            tokens(rt.alloc(), text, 1).err(),
-            Some(refusal),
-            "{text:?}"
-        );
+fn texts_and_their_refusals(rt: HostRuntime) -> Result<(), Fail> {
+    for row in REFUSED.split('\n') {
+        let (wanted, text) = row.split_once('|').ok_or("no text")?;
+        expect_refused(&rt, lines_of(rt.alloc(), text)?.as_bytes(), wanted)?;
     }
+    expect_refused(&rt, b"\"\xff\"", "1 101")
 }
 
 #[test]
@@ -342,16 +164,18 @@ fn lines_count_from_the_first(rt: HostRuntime) -> Result<(), Fail> {
     Ok(())
 }
 
-#[test]
-fn cursor_steps(rt: HostRuntime) -> Result<(), Fail> {
-    let text = b"PIC IS X(3) OCCURS 2.".as_slice();
-    let found = tokens(rt.alloc(), text, 1)?;
-    let mut cursor = Cursor::new(text, &found);
+/// Steps over PIC IS and a picture.
+fn expect_picture(rt: &impl Abort, cursor: &mut Cursor<'_>) -> Result<(), Fail> {
     assert!(rt; !cursor.eat_word(b"IS"));
     assert!(rt; cursor.eat_word(b"pic") && cursor.expect_word(b"IS").is_some());
     let picture = cursor.expect(TokenKind::Picture).ok_or("no picture")?;
     assert_eq!(rt; cursor.spelling(picture), b"X(3)".as_slice());
     assert_eq!(rt; cursor.expect(TokenKind::Number), None);
+    Ok(())
+}
+
+/// Steps over OCCURS and its number.
+fn expect_occurs(rt: &impl Abort, cursor: &mut Cursor<'_>) -> Result<(), Fail> {
     assert!(rt; cursor.sees_word(b"occurs") && cursor.len() == 3);
     let number = cursor.peek_at(1).ok_or("no number")?;
     assert!(rt; number.kind.is(TokenKind::Number));
@@ -359,9 +183,24 @@ fn cursor_steps(rt: HostRuntime) -> Result<(), Fail> {
     let front = cursor.take(2);
     assert_eq!(rt; front.tokens().len(), 2);
     assert_eq!(rt; ahead.len(), 3);
+    Ok(())
+}
+
+/// Steps over the period, which is the last token.
+fn expect_end(rt: &impl Abort, cursor: &mut Cursor<'_>) {
     assert!(rt; cursor.peek().is_some() && cursor.sees(TokenKind::Period));
     assert!(rt; cursor.eat(TokenKind::Period) && cursor.is_empty());
     assert_eq!(rt; cursor.next(), None);
+}
+
+#[test]
+fn cursor_steps(rt: HostRuntime) -> Result<(), Fail> {
+    let text = b"PIC IS X(3) OCCURS 2.".as_slice();
+    let found = tokens(rt.alloc(), text, 1)?;
+    let mut cursor = Cursor::new(text, &found);
+    expect_picture(&rt, &mut cursor)?;
+    expect_occurs(&rt, &mut cursor)?;
+    expect_end(&rt, &mut cursor);
     token_limits();
     Ok(())
 }

@@ -15,15 +15,19 @@ use pw_counts::shown::Numbers;
 use pw_event::event::{Cause, Event};
 use pw_listing::numbers::Number;
 use std::alloc::Global;
+use std::process::Abort;
 use std::test::Fail;
 
+/// A unit begins on the first terminal.
+const BEGUN: Event = Event::Begin {
+    terminal: 0,
+    unit: 1,
+    restarts: 0,
+};
+
 /// A unit begins on each terminal; that of the second restarts for that of the first, which commits.
-const LOG: [Event; 4] = [
-    Event::Begin {
-        terminal: 0,
-        unit: 1,
-        restarts: 0,
-    },
+static LOG: [Event; 4] = [
+    BEGUN,
     Event::Begin {
         terminal: 1,
         unit: 1,
@@ -43,6 +47,11 @@ const LOG: [Event; 4] = [
     },
 ];
 
+/// The entries of that log.
+fn log() -> &'static [Event] {
+    &LOG
+}
+
 /// A terminal of the pair TCP-1.
 fn terminal(alloc: Global, name: &[u8]) -> Result<TermInfo, Memory> {
     Ok(TermInfo {
@@ -54,22 +63,44 @@ fn terminal(alloc: Global, name: &[u8]) -> Result<TermInfo, Memory> {
     })
 }
 
-/// A system of T1 and T2, their pair TCP-1, and the file STOCK.
-fn system(alloc: Global) -> Result<System, Memory>
-    ensures terminals { IfOk result (λ system. length system.terminals ≡ 2) }
-    ensures files { IfOk result (λ system. length system.files ≡ 1) }
+/// The terminals T1 and T2.
+fn terminals(alloc: Global) -> Result<List<TermInfo>, Memory>
+    ensures { IfOk result (λ terminals. length terminals ≡ 2) }
 {
     let mut terminals = List::new(alloc);
     terminals.push(terminal(alloc, b"T1")?)?;
     terminals.push(terminal(alloc, b"T2")?)?;
+    Ok(terminals)
+}
+
+/// The pair TCP-1.
+fn tcps(alloc: Global) -> Result<List<Bytes>, Memory> {
     let mut tcps = List::new(alloc);
     tcps.push(Bytes::from_slice(alloc, b"TCP-1")?)?;
+    Ok(tcps)
+}
+
+/// The file STOCK.
+fn files(alloc: Global) -> Result<List<FileInfo>, Memory>
+    ensures { IfOk result (λ files. length files ≡ 1) }
+{
     let mut files = List::new(alloc);
     files.push(FileInfo {
         name: Bytes::from_slice(alloc, b"STOCK")?,
         key: 1,
         records: List::new(alloc),
     })?;
+    Ok(files)
+}
+
+/// A system of T1 and T2, their pair TCP-1, and the file STOCK.
+fn system(alloc: Global) -> Result<System, Memory>
+    ensures terminals { IfOk result (λ system. length system.terminals ≡ 2) }
+    ensures files { IfOk result (λ system. length system.files ≡ 1) }
+{
+    let files = files(alloc)?;
+    let tcps = tcps(alloc)?;
+    let terminals = terminals(alloc)?;
     Ok(System {
         programs: List::new(alloc),
         servers: List::new(alloc),
@@ -82,19 +113,25 @@ fn system(alloc: Global) -> Result<System, Memory>
     })
 }
 
-#[test]
-fn a_log_is_counted(rt: HostRuntime) -> Result<(), Fail> {
-    let alloc = rt.alloc();
-    let system = system(alloc)?;
-    let mut counters = Counters::new(alloc, 2, 1)?;
-    let mut attempts = Attempts::new(alloc, &system)?;
-    for entry in &LOG {
+/// The units that begin and restart are counted.
+fn expect_begun(rt: &(impl Abort + AllocGlobal)) -> Result<(), Fail> {
+    let mut counters = Counters::new(rt.alloc(), 2, 1)?;
+    for entry in log() {
         counters.push(entry);
-        attempts.push(entry, false);
     }
     assert_eq!(rt; counters.begun(), 2);
     assert_eq!(rt; counters.older(), 1);
     assert_eq!(rt; counters.redo(), 0);
+    Ok(())
+}
+
+/// The units that end are counted.
+fn expect_ended(rt: &(impl Abort + AllocGlobal)) -> Result<(), Fail> {
+    let system = system(rt.alloc())?;
+    let mut attempts = Attempts::new(rt.alloc(), &system)?;
+    for entry in log() {
+        attempts.push(entry, false);
+    }
     assert_eq!(rt; attempts.committed(), 1);
     assert_eq!(rt; attempts.dropped(), 0);
     assert_eq!(rt; attempts.left(), 0);
@@ -102,21 +139,44 @@ fn a_log_is_counted(rt: HostRuntime) -> Result<(), Fail> {
 }
 
 #[test]
-fn there_is_room_for_each_count(rt: HostRuntime) -> Result<(), Fail> {
-    let alloc = rt.alloc();
+fn a_log_is_counted(rt: HostRuntime) -> Result<(), Fail> {
+    expect_begun(&rt)?;
+    expect_ended(&rt)
+}
+
+/// There is room for the records of each file and of each terminal.
+fn expect_room_for_records(alloc: Global) -> Result<(), Fail> {
     let system = system(alloc)?;
-    let mut longest = Longest::new(alloc, 1)?;
-    longest.push(&LOG[0], 0);
-    let mut locks = Locks::new(alloc, 1, 2)?;
-    locks.reserve(1)?;
     let mut records = Records::new(alloc, &system)?;
     records.reserve(1)?;
+    Ok(())
+}
+
+/// There is room for the locks of one file and of two terminals.
+fn expect_room_for_locks(alloc: Global) -> Result<(), Fail> {
+    let mut locks = Locks::new(alloc, 1, 2)?;
+    locks.reserve(1)?;
+    Ok(())
+}
+
+/// The first refresh of the second terminal is a new one.
+fn is_new_number(alloc: Global) -> Result<bool, Fail> {
     let mut numbers = Numbers::new(alloc, 2)?;
     let number = Number {
         phase: 0,
         attempt: 0,
         k: 1,
     };
-    assert!(rt; numbers.note(1, number)?);
+    Ok(numbers.note(1, number)?)
+}
+
+#[test]
+fn there_is_room_for_each_count(rt: HostRuntime) -> Result<(), Fail> {
+    let alloc = rt.alloc();
+    let mut longest = Longest::new(alloc, 1)?;
+    longest.push(&BEGUN, 0);
+    expect_room_for_records(alloc)?;
+    expect_room_for_locks(alloc)?;
+    assert!(rt; is_new_number(alloc)?);
     Ok(())
 }

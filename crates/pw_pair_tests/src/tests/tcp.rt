@@ -88,248 +88,224 @@ const PAIRED: Note = Note {
     ended: 2,
 };
 
-/// Expects these next steps of programs at a verb: without a transaction, and of an attempt inside one.
-fn expect(rt: &impl Abort, verb: &Verb, cases: &[(Terminal, bool, Note, Option<TcpStep>)]) {
-    for (terminal, in_unit, note, want) in cases {
-        let step = step_where_asked(terminal, verb, *in_unit, note, 2);
-        assert_eq!(rt; step, *want, "{verb:?} {terminal:?} {in_unit} {note:?}");
-    }
+/// A verb, by its name and number.
+fn verb_of(alloc: Global, name: &str) -> Result<Verb, Fail> {
+    let verb = match name {
+        "Show" => Verb::Show,
+        "Accept 1" => Verb::Accept(1),
+        "Accept 4" => Verb::Accept(4),
+        "Begin" => Verb::Begin,
+        "Send" => Verb::Send {
+            class: 1,
+            message: Bytes::new(alloc),
+        },
+        "End" => Verb::End,
+        "Drop" => Verb::Drop,
+        "Redo" => Verb::Redo,
+        "Stop" => Verb::Stop,
+        "Fault 201" => Verb::Fault(201),
+        "Fault 204" => Verb::Fault(204),
+        _ => return Err("no verb".into()),
+    };
+    Ok(verb)
 }
 
-#[test]
-fn verbs_that_need_no_check(rt: HostRuntime) {
-    let last = Terminal {
-        entries_left: false,
-        ..IDLE
-    };
-    let in_flight = Note {
-        in_flight: true,
-        ..PAIRED
-    };
-    let alone = Note {
-        paired: false,
-        ..PAIRED
-    };
-    for (verb, step) in [
-        (Verb::Show, TcpStep::Show),
-        (Verb::Accept(4), TcpStep::Key),
-        (Verb::Stop, TcpStep::Stopped),
-        (Verb::Fault(204), TcpStep::Fault(204)),
-    ] {
-        expect(
-            &rt,
-            &verb,
-            &[
-                (IDLE, false, PAIRED, Some(step)),
-                (AT_WORK, true, PAIRED, Some(step)),
-                (AT_WORK, true, in_flight, Some(step)),
-                (IDLE, false, alone, Some(TcpStep::Wait)),
-            ],
-        );
-    }
-    expect(
-        &rt,
-        &Verb::Accept(4),
-        &[(last, false, PAIRED, Some(TcpStep::NoEntries))],
-    );
-    expect(
-        &rt,
-        &Verb::Redo,
-        &[
-            (AT_WORK, true, PAIRED, Some(TcpStep::Restart)),
-            (
-                Terminal {
-                    restarts: 2,
-                    ..AT_WORK
-                },
-                true,
-                PAIRED,
-                Some(TcpStep::Suspend),
-            ),
-            (AT_WORK, true, alone, Some(TcpStep::Wait)),
-            (IDLE, false, PAIRED, None),
-        ],
-    );
-}
-
-#[test]
-fn verbs_that_begin_a_unit(rt: HostRuntime) {
-    let in_flight = Note {
-        in_flight: true,
-        ..PAIRED
-    };
-    let held = Note {
-        start_held: true,
-        ..PAIRED
-    };
-    let held_and_in_flight = Note {
-        start_held: true,
-        ..in_flight
-    };
-    let alone = Note {
-        paired: false,
-        ..held
-    };
-    let ended = Note { ended: 3, ..PAIRED };
-    let awaiting = Terminal {
-        awaited_open: true,
-        restarts: 1,
-        ..IDLE
-    };
-    let send = Verb::Send {
-        class: 1,
-        message: Bytes::new(rt.alloc()),
-    };
-    for verb in [&Verb::Begin, &send] {
-        expect(
-            &rt,
-            verb,
-            &[
-                (IDLE, false, PAIRED, Some(TcpStep::CheckStart)),
-                (IDLE, false, in_flight, Some(TcpStep::Wait)),
-                (IDLE, false, held, Some(TcpStep::Begin)),
-                (IDLE, false, held_and_in_flight, Some(TcpStep::Begin)),
-                (IDLE, false, alone, Some(TcpStep::Wait)),
-                (awaiting, false, held, Some(TcpStep::Wait)),
-                (awaiting, false, PAIRED, Some(TcpStep::Wait)),
-            ],
-        );
-    }
-    expect(
-        &rt,
-        &Verb::Begin,
-        &[(IDLE, false, ended, None), (AT_WORK, false, held, None)],
-    );
-    let out = Terminal {
-        request_out: true,
-        ..AT_WORK
-    };
-    expect(
-        &rt,
-        &send,
-        &[
-            (IDLE, false, ended, Some(TcpStep::Again)),
-            (
-                IDLE,
-                false,
-                Note {
-                    in_flight: true,
-                    ..ended
-                },
-                Some(TcpStep::Again),
-            ),
-            (AT_WORK, false, held, Some(TcpStep::Send)),
-            (AT_WORK, true, PAIRED, Some(TcpStep::Send)),
-            (AT_WORK, true, in_flight, Some(TcpStep::Send)),
-            (out, true, held, Some(TcpStep::Wait)),
-            (out, false, held, Some(TcpStep::Wait)),
-            (IDLE, true, held, None),
-        ],
-    );
-}
-
-#[test]
-fn verbs_that_end_a_transaction(rt: HostRuntime) {
-    let in_flight = Note {
-        in_flight: true,
-        ..PAIRED
-    };
-    let held = Note {
-        end_held: true,
-        ..PAIRED
-    };
-    for (verb, step) in [(Verb::End, TcpStep::Commit), (Verb::Drop, TcpStep::Back)] {
-        expect(
-            &rt,
-            &verb,
-            &[
-                (AT_WORK, true, PAIRED, Some(TcpStep::CheckEnd)),
-                (AT_WORK, true, in_flight, Some(TcpStep::Wait)),
-                (AT_WORK, true, held, Some(step)),
-                (
-                    AT_WORK,
-                    true,
-                    Note {
-                        in_flight: true,
-                        ..held
-                    },
-                    Some(step),
-                ),
-                (
-                    AT_WORK,
-                    true,
-                    Note {
-                        paired: false,
-                        ..held
-                    },
-                    Some(TcpStep::Wait),
-                ),
-                (IDLE, false, held, None),
-            ],
-        );
-    }
-}
-
-#[test]
-fn pending_causes(rt: HostRuntime) {
-    let alone = Note {
-        paired: false,
-        ..PAIRED
-    };
-    let send = Verb::Send {
-        class: 1,
-        message: Bytes::new(rt.alloc()),
-    };
-    for (pending, note, step) in [
-        (Pending::Takeover, PAIRED, Some(TcpStep::Restart)),
-        (Pending::Takeover, alone, Some(TcpStep::Restart)),
-        (Pending::Server, PAIRED, Some(TcpStep::Restart)),
-        (Pending::Server, alone, Some(TcpStep::Wait)),
-    ] {
-        let caused = Terminal { pending, ..AT_WORK };
-        let full = Terminal {
-            restarts: 2,
-            ..caused
-        };
-        let over = Terminal {
-            restarts: 3,
-            ..caused
-        };
-        let suspended = match step {
-            Some(TcpStep::Restart) => Some(TcpStep::Suspend),
-            other => other,
-        };
-        for verb in [
-            &Verb::Show,
-            &Verb::Accept(1),
-            &Verb::Begin,
-            &send,
-            &Verb::End,
-            &Verb::Drop,
-            &Verb::Redo,
-            &Verb::Stop,
-            &Verb::Fault(201),
-        ] {
-            expect(
-                &rt,
-                verb,
-                &[
-                    (caused, false, note, step),
-                    (full, false, note, suspended),
-                    (over, false, note, None),
-                    (
-                        Terminal {
-                            running: false,
-                            ..caused
-                        },
-                        false,
-                        note,
-                        None,
-                    ),
-                ],
-            );
+/// A terminal, by words: whether it is idle or at work, and then what is changed of it.
+fn terminal_of(words: &str) -> Result<Terminal, Fail> {
+    let mut terminal = IDLE;
+    for word in words.split(' ') {
+        match word {
+            "idle" => terminal = IDLE,
+            "working" => terminal = AT_WORK,
+            "last" => terminal.entries_left = false,
+            "stopped" => terminal.running = false,
+            "once" => terminal.restarts = 1,
+            "twice" => terminal.restarts = 2,
+            "thrice" => terminal.restarts = 3,
+            "awaiting" => terminal.awaited_open = true,
+            "requesting" => terminal.request_out = true,
+            "takeover" => terminal.pending = Pending::Takeover,
+            "server" => terminal.pending = Pending::Server,
+            _ => return Err("no terminal".into()),
         }
     }
+    Ok(terminal)
+}
+
+/// A note, by words: whether the pair is Paired, and then what is in flight, held or ended.
+fn note_of(words: &str) -> Result<Note, Fail> {
+    let mut note = PAIRED;
+    for word in words.split(' ') {
+        match word {
+            "paired" => note.paired = true,
+            "alone" => note.paired = false,
+            "flying" => note.in_flight = true,
+            "start" => note.start_held = true,
+            "end" => note.end_held = true,
+            "ended" => note.ended = 3,
+            _ => return Err("no note".into()),
+        }
+    }
+    Ok(note)
+}
+
+/// Whether an attempt stands in a transaction.
+fn is_inside(place: &str) -> Result<bool, Fail> {
+    match place {
+        "inside" => Ok(true),
+        "outside" => Ok(false),
+        _ => Err("no place".into()),
+    }
+}
+
+/// The next step of a program at a verb, where it may be asked for.
+fn step_at(
+    alloc: Global,
+    verb: &str,
+    terminal: &str,
+    place: &str,
+    note: &str,
+) -> Result<Option<TcpStep>, Fail> {
+    let terminal = terminal_of(terminal)?;
+    let in_unit = is_inside(place)?;
+    let note = note_of(note)?;
+    let verb = verb_of(alloc, verb)?;
+    Ok(step_where_asked(&terminal, &verb, in_unit, &note, 2))
+}
+
+/// Expects a step of this name, or None where no step may be asked for.
+fn expect_step(
+    rt: &(impl Abort + AllocGlobal),
+    step: Option<TcpStep>,
+    wanted: &str,
+    row: &str,
+) -> Result<(), Fail> {
+    let found = match step {
+        Some(step) => format!(in rt.alloc(); "{step:?}")?,
+        None => format!(in rt.alloc(); "None")?,
+    };
+    assert_eq!(rt; found.as_str(), wanted, "{row}");
+    Ok(())
+}
+
+/// Expects the next step of a program at a verb. The row has the terminal, where it stands, the note and the step.
+fn expect_at(rt: &(impl Abort + AllocGlobal), verb: &str, row: &str) -> Result<(), Fail> {
+    let (terminal, rest) = row.split_once('|').ok_or("no terminal")?;
+    let (place, rest) = rest.split_once('|').ok_or("no place")?;
+    let (note, wanted) = rest.split_once('|').ok_or("no note")?;
+    let step = step_at(rt.alloc(), verb, terminal, place, note)?;
+    expect_step(rt, step, wanted, row)
+}
+
+/// Each verb that a terminal's program may ask.
+const ANY: &str = "Show,Accept 1,Begin,Send,End,Drop,Redo,Stop,Fault 201";
+
+/// Expects the next step of a row at each of the verbs in front of it.
+fn expect_row(rt: &(impl Abort + AllocGlobal), row: &str) -> Result<(), Fail> {
+    let (verbs, row) = row.split_once('|').ok_or("no verbs")?;
+    let verbs = if verbs == "any" { ANY } else { verbs };
+    for verb in verbs.split(',') {
+        expect_at(rt, verb, row)?;
+    }
+    Ok(())
+}
+
+/// Expects the next steps of the rows of a table.
+fn expect(rt: &(impl Abort + AllocGlobal), rows: &str) -> Result<(), Fail> {
+    for row in rows.split('\n') {
+        expect_row(rt, row)?;
+    }
+    Ok(())
+}
+
+/// Next steps at verbs that need no check.
+const WITHOUT_CHECK: &str = "Show|idle|outside|paired|Show
+Show|working|inside|paired|Show
+Show|working|inside|paired flying|Show
+Show|idle|outside|alone|Wait
+Accept 4|idle|outside|paired|Key
+Accept 4|working|inside|paired|Key
+Accept 4|working|inside|paired flying|Key
+Accept 4|idle|outside|alone|Wait
+Accept 4|idle last|outside|paired|NoEntries
+Stop|idle|outside|paired|Stopped
+Stop|working|inside|paired|Stopped
+Stop|working|inside|paired flying|Stopped
+Stop|idle|outside|alone|Wait
+Fault 204|idle|outside|paired|Fault(204)
+Fault 204|working|inside|paired|Fault(204)
+Fault 204|working|inside|paired flying|Fault(204)
+Fault 204|idle|outside|alone|Wait
+Redo|working|inside|paired|Restart
+Redo|working twice|inside|paired|Suspend
+Redo|working|inside|alone|Wait
+Redo|idle|outside|paired|None";
+
+#[test]
+fn verbs_that_need_no_check(rt: HostRuntime) -> Result<(), Fail> {
+    expect(&rt, WITHOUT_CHECK)
+}
+
+/// Next steps at verbs that begin a unit.
+const BEGINNING: &str = "Begin,Send|idle|outside|paired|CheckStart
+Begin,Send|idle|outside|paired flying|Wait
+Begin,Send|idle|outside|paired start|Begin
+Begin,Send|idle|outside|paired flying start|Begin
+Begin,Send|idle|outside|alone start|Wait
+Begin,Send|idle once awaiting|outside|paired start|Wait
+Begin,Send|idle once awaiting|outside|paired|Wait
+Begin|idle|outside|paired ended|None
+Begin|working|outside|paired start|None
+Send|idle|outside|paired ended|Again
+Send|idle|outside|paired flying ended|Again
+Send|working|outside|paired start|Send
+Send|working|inside|paired|Send
+Send|working|inside|paired flying|Send
+Send|working requesting|inside|paired start|Wait
+Send|working requesting|outside|paired start|Wait
+Send|idle|inside|paired start|None";
+
+#[test]
+fn verbs_that_begin_a_unit(rt: HostRuntime) -> Result<(), Fail> {
+    expect(&rt, BEGINNING)
+}
+
+/// Next steps at verbs that end a transaction.
+const ENDING: &str = "End,Drop|working|inside|paired|CheckEnd
+End,Drop|working|inside|paired flying|Wait
+End|working|inside|paired end|Commit
+Drop|working|inside|paired end|Back
+End|working|inside|paired flying end|Commit
+Drop|working|inside|paired flying end|Back
+End,Drop|working|inside|alone end|Wait
+End,Drop|idle|outside|paired end|None";
+
+#[test]
+fn verbs_that_end_a_transaction(rt: HostRuntime) -> Result<(), Fail> {
+    expect(&rt, ENDING)
+}
+
+/// Next steps where a cause is pending.
+const PENDING: &str = "any|working takeover|outside|paired|Restart
+any|working takeover twice|outside|paired|Suspend
+any|working takeover thrice|outside|paired|None
+any|working takeover stopped|outside|paired|None
+any|working takeover|outside|alone|Restart
+any|working takeover twice|outside|alone|Suspend
+any|working takeover thrice|outside|alone|None
+any|working takeover stopped|outside|alone|None
+any|working server|outside|paired|Restart
+any|working server twice|outside|paired|Suspend
+any|working server thrice|outside|paired|None
+any|working server stopped|outside|paired|None
+any|working server|outside|alone|Wait
+any|working server twice|outside|alone|Wait
+any|working server thrice|outside|alone|None
+any|working server stopped|outside|alone|None";
+
+#[test]
+fn pending_causes(rt: HostRuntime) -> Result<(), Fail> {
+    expect(&rt, PENDING)
 }
 
 /// A program at work with these registers.
@@ -355,19 +331,36 @@ fn context(alloc: Global, phase: u32, attempt: u32, shown: u32) -> Result<Contex
     })
 }
 
+/// The number of the next refresh of a program at work with the registers of a row.
+fn refresh_at(alloc: Global, registers: &str) -> Result<(u32, u32, u32), Fail> {
+    let (phase, rest) = registers.split_once(' ').ok_or("no attempt")?;
+    let (attempt, shown) = rest.split_once(' ').ok_or("no screens")?;
+    let context = context(alloc, phase.parse()?, attempt.parse()?, shown.parse()?)?;
+    Ok(refresh(&context))
+}
+
+/// A phase, an attempt and a number of screens shown, and the number of the refresh then.
+const REFRESHES: &str = "0 0 0|0.0.1
+0 0 2|0.0.3
+1 0 0|1.0.1
+1 2 0|1.2.1
+3 1 4|3.1.5
+4 0 0|4.0.1
+4 0 4294967294|4.0.4294967295";
+
+/// Asserts what a row of the table says.
+fn expect_refresh(rt: &(impl Abort + AllocGlobal), row: &str) -> Result<(), Fail> {
+    let (registers, wanted) = row.split_once('|').ok_or("no refresh")?;
+    let (phase, attempt, k) = refresh_at(rt.alloc(), registers)?;
+    let number = format!(in rt.alloc(); "{phase}.{attempt}.{k}")?;
+    assert_eq!(rt; number.as_str(), wanted);
+    Ok(())
+}
+
 #[test]
 fn refresh_numbers(rt: HostRuntime) -> Result<(), Fail> {
-    for (phase, attempt, shown, number) in [
-        (0, 0, 0, (0, 0, 1)),
-        (0, 0, 2, (0, 0, 3)),
-        (1, 0, 0, (1, 0, 1)),
-        (1, 2, 0, (1, 2, 1)),
-        (3, 1, 4, (3, 1, 5)),
-        (4, 0, 0, (4, 0, 1)),
-        (4, 0, 4_294_967_294, (4, 0, 4_294_967_295)),
-    ] {
-        let context = context(rt.alloc(), phase, attempt, shown)?;
-        assert_eq!(rt; refresh(&context), number);
+    for row in REFRESHES.split('\n') {
+        expect_refresh(&rt, row)?;
     }
     Ok(())
 }

@@ -74,19 +74,39 @@ fn expect_same(rt: &impl Abort, one: &Context, other: &Context, same: bool) {
     assert_eq!(rt; other.is_same(one), same);
 }
 
+/// Asserts that two copies of a context are the same as it is, until one loses its frames and one counts on.
+fn expect_copies(rt: &(impl Abort + AllocGlobal), context: &Context) -> Result<(), Fail> {
+    let mut copy = context.copy(rt.alloc())?;
+    expect_same(rt, context, &copy, true);
+    copy.frames = List::new(rt.alloc());
+    expect_same(rt, context, &copy, false);
+    let mut copy = context.duplicate()?;
+    expect_same(rt, context, &copy, true);
+    copy.count = 13;
+    expect_same(rt, context, &copy, false);
+    Ok(())
+}
+
+/// Asserts that a context is another than the one with this place of a cell and so many turns.
+fn expect_other(
+    rt: &(impl Abort + AllocGlobal),
+    context: &Context,
+    place: usize,
+    turns: u64,
+) -> Result<(), Fail>
+    requires { place < 1920 }
+{
+    let other = context_with(rt.alloc(), place, turns)?;
+    expect_same(rt, context, &other, false);
+    Ok(())
+}
+
 #[test]
 fn a_copy_is_the_same_until_a_part_changes(rt: HostRuntime) -> Result<(), Fail> {
     let context = context_with(rt.alloc(), 1919, 4)?;
-    let mut copy = context.copy(rt.alloc())?;
-    expect_same(&rt, &context, &copy, true);
-    expect_same(&rt, &context, &context.duplicate()?, true);
-    expect_same(&rt, &context, &context_with(rt.alloc(), 1919, 5)?, false);
-    expect_same(&rt, &context, &context_with(rt.alloc(), 1918, 4)?, false);
-    copy.frames = List::new(rt.alloc());
-    expect_same(&rt, &context, &copy, false);
-    let mut copy = context.duplicate()?;
-    copy.count = 13;
-    expect_same(&rt, &context, &copy, false);
+    expect_copies(&rt, &context)?;
+    expect_other(&rt, &context, 1919, 5)?;
+    expect_other(&rt, &context, 1918, 4)?;
     limit_laws();
     Ok(())
 }
@@ -128,113 +148,157 @@ fn place() -> Place {
     }
 }
 
-/// A program that moves a text, compares it with SPACES and stops.
-fn code(alloc: Global, name: &[u8]) -> Result<Code, Memory> {
-    let text = Operand::Text(Bytes::from_slice(alloc, b"HELLO")?);
-    let to = list_of(alloc, place())?;
+/// The condition that an item is not less than SPACES.
+fn cond(alloc: Global) -> Result<Cond, Memory> {
     let test = Comparison::Compare {
         left: Operand::Item(place()),
         negated: true,
         operator: Operator::Less,
         right: Operand::Spaces,
     };
-    let cond = Cond {
+    Ok(Cond {
         any: list_of(alloc, list_of(alloc, test)?)?,
-    };
-    let mut instrs = list_of(alloc, Instr::Move { from: text, to })?;
-    instrs.push(Instr::JumpUnless(cond, 1))?;
+    })
+}
+
+/// Instructions that move a text, compare it with SPACES and stop.
+fn instrs(alloc: Global) -> Result<List<Instr>, Memory> {
+    let from = Operand::Text(Bytes::from_slice(alloc, b"HELLO")?);
+    let to = list_of(alloc, place())?;
+    let mut instrs = list_of(alloc, Instr::Move { from, to })?;
+    instrs.push(Instr::JumpUnless(cond(alloc)?, 1))?;
     instrs.push(Instr::StopRun)?;
-    let name = Bytes::from_slice(alloc, name)?;
-    let storage = Bytes::from_slice(alloc, b"AB0000")?;
-    let linkage = list_of(alloc, (2, 4))?;
+    Ok(instrs)
+}
+
+/// A program of these instructions.
+fn code(alloc: Global, name: &[u8]) -> Result<Code, Memory> {
     Ok(Code {
-        name,
-        instrs,
-        storage,
-        linkage,
+        name: Bytes::from_slice(alloc, name)?,
+        instrs: instrs(alloc)?,
+        storage: Bytes::from_slice(alloc, b"AB0000")?,
+        linkage: list_of(alloc, (2, 4))?,
+    })
+}
+
+/// An entry line with one field.
+fn entry_line(alloc: Global) -> Result<EntryLine, Memory> {
+    let pair = (
+        Bytes::from_slice(alloc, b"F-OP")?,
+        Bytes::from_slice(alloc, b"I")?,
+    );
+    Ok(EntryLine {
+        key: 17,
+        fields: list_of(alloc, pair)?,
     })
 }
 
 /// A terminal with one entry line.
 fn terminal(alloc: Global) -> Result<TermInfo, Memory> {
-    let pair = (
-        Bytes::from_slice(alloc, b"F-OP")?,
-        Bytes::from_slice(alloc, b"I")?,
-    );
-    let line = EntryLine {
-        key: 17,
-        fields: list_of(alloc, pair)?,
-    };
     Ok(TermInfo {
         name: Bytes::from_slice(alloc, b"T1")?,
         tcp: 0,
         program: 0,
         max_restarts: 5,
-        entries: list_of(alloc, line)?,
+        entries: list_of(alloc, entry_line(alloc)?)?,
+    })
+}
+
+/// A class of two processes.
+fn class(alloc: Global) -> Result<ClassInfo, Memory> {
+    Ok(ClassInfo {
+        name: Bytes::from_slice(alloc, b"STORE")?,
+        server: 0,
+        processes: 2,
+    })
+}
+
+/// A file of one record.
+fn file(alloc: Global) -> Result<FileInfo, Memory> {
+    Ok(FileInfo {
+        name: Bytes::from_slice(alloc, b"STOCK")?,
+        key: 2,
+        records: list_of(alloc, Bytes::from_slice(alloc, b"AA0001")?)?,
     })
 }
 
 /// A system with one of each part.
 fn system(alloc: Global) -> Result<System, Memory> {
-    let class = ClassInfo {
-        name: Bytes::from_slice(alloc, b"STORE")?,
-        server: 0,
-        processes: 2,
-    };
-    let file = FileInfo {
-        name: Bytes::from_slice(alloc, b"STOCK")?,
-        key: 2,
-        records: list_of(alloc, Bytes::from_slice(alloc, b"AA0001")?)?,
-    };
     Ok(System {
         programs: list_of(alloc, code(alloc, b"KEYS")?)?,
         servers: list_of(alloc, code(alloc, b"STORE-P")?)?,
         screens: List::new(alloc),
-        classes: list_of(alloc, class)?,
-        files: list_of(alloc, file)?,
+        classes: list_of(alloc, class(alloc)?)?,
+        files: list_of(alloc, file(alloc)?)?,
         tcps: list_of(alloc, Bytes::from_slice(alloc, b"TCP-1")?)?,
         terminals: list_of(alloc, terminal(alloc)?)?,
         rule: LockRule::AllExclusive,
     })
 }
 
-#[test]
-fn a_system_copy_has_its_parts(rt: HostRuntime) -> Result<(), Fail> {
-    let copy = system(rt.alloc())?.copy(rt.alloc())?;
-    let [server] = copy.servers.as_slice() else {
+/// Asserts that a list has a server alone, with its parts.
+fn expect_server(rt: &impl Abort, servers: &[Code]) {
+    let [server] = servers else {
         panic!(rt; "not one server");
     };
     assert_eq!(rt; server.name.as_slice(), b"STORE-P".as_slice());
     assert_eq!(rt; server.storage.as_slice(), b"AB0000".as_slice());
     assert_eq!(rt; server.linkage.as_slice(), [(2, 4)].as_slice());
+    expect_instrs(rt, server.instrs.as_slice());
+}
+
+/// Asserts that the instructions are those of each program.
+fn expect_instrs(rt: &impl Abort, instrs: &[Instr]) {
     let [
         Instr::Move { from, to },
         Instr::JumpUnless(_, over),
         Instr::StopRun,
-    ] = server.instrs.as_slice()
+    ] = instrs
     else {
         panic!(rt; "not the instructions");
     };
     assert!(rt; matches!(from, Operand::Text(_)));
     assert_eq!(rt; to.as_slice(), [place()].as_slice());
     assert_eq!(rt; *over, 1);
-    let [file] = copy.files.as_slice() else {
+}
+
+/// Asserts that a list has a file alone, with its record.
+fn expect_file(rt: &impl Abort, files: &[FileInfo]) {
+    let [file] = files else {
         panic!(rt; "not one file");
     };
     assert_eq!(rt; file.key, 2);
     assert_eq!(rt; file.records.len(), 1);
-    let [terminal] = copy.terminals.as_slice() else {
+}
+
+/// Asserts that a list has a terminal alone, with its entry line.
+fn expect_terminal(rt: &impl Abort, terminals: &[TermInfo]) {
+    let [terminal] = terminals else {
         panic!(rt; "not one terminal");
     };
-    let [line] = terminal.entries.as_slice() else {
+    assert_eq!(rt; terminal.max_restarts, 5);
+    expect_entry_line(rt, terminal.entries.as_slice());
+}
+
+/// Asserts that a list has an entry line alone, with its key and its field.
+fn expect_entry_line(rt: &impl Abort, lines: &[EntryLine]) {
+    let [line] = lines else {
         panic!(rt; "not one entry line");
     };
+    assert_eq!(rt; line.key, 17);
     let [(name, value)] = line.fields.as_slice() else {
         panic!(rt; "not one pair");
     };
-    assert_eq!(rt; (terminal.max_restarts, line.key), (5, 17));
     assert_eq!(rt; name.as_slice(), b"F-OP".as_slice());
     assert_eq!(rt; value.as_slice(), b"I".as_slice());
+}
+
+#[test]
+fn a_system_copy_has_its_parts(rt: HostRuntime) -> Result<(), Fail> {
+    let copy = system(rt.alloc())?.copy(rt.alloc())?;
+    expect_server(&rt, copy.servers.as_slice());
+    expect_file(&rt, copy.files.as_slice());
+    expect_terminal(&rt, copy.terminals.as_slice());
     assert!(rt; matches!(copy.rule, LockRule::AllExclusive));
     Ok(())
 }

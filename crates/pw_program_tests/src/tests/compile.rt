@@ -1,25 +1,19 @@
 ghost use Rattle.std.specs.Prelude.{◌≤◌, length};
 
-use pw_base::bytes::Bytes;
+use crate::tests::parts::{file_named, give_names, listed, program_of};
 use pw_base::fault::Refusal;
 use pw_base::list::List;
 use pw_base::memory::Memory;
 use pw_base::read_all::MAX_INPUT;
 use pw_code::code::Code;
-use pw_code::field::ScreenTable;
-use pw_code::file::FileInfo;
 use pw_code::instr::Instr;
 use pw_code::links::Links;
 use pw_code::operand::Operand;
 use pw_code::place::{Kind, Place, Register, Subscript, Table};
 use pw_compile::compile::compile;
-use pw_data::layout::Layout;
-use pw_data::read::layout;
-use pw_forms::read::procedure;
-use pw_forms::statement::Procedure;
 use pw_scobol::requester::Requester;
-use pw_text::tokens::tokens;
 use std::alloc::Global;
+use std::process::Abort;
 use std::test::Fail;
 
 /// What an instruction is, with up to two of its numbers: places of paragraphs, sizes of jumps,
@@ -30,76 +24,79 @@ type Shape = (&'static str, u32, u32);
 const DATA: &[u8] = b"WORKING-STORAGE SECTION. 01 A PIC 9(4). 01 T. 02 I PIC X(3) OCCURS 5. \
 01 N PIC S9(3)V99. 01 K PIC 99.";
 
-/// Each form of a requester, and the instructions of the procedure by hand.
-const REQUESTER: (&[u8], &[Shape]) = (
+/// Each form of a requester.
+const REQUESTER: &[u8] =
     b"MAIN. MOVE A TO K I (2). ADD 1 TO A. IF A = 1 AND K > 2 MOVE 1 TO A ELSE MOVE 2 TO A MOVE 3 TO A END-IF. \
 ADD 1 TO A ON SIZE ERROR STOP RUN END-IF. PERFORM SUB. PERFORM SUB 3 TIMES. PERFORM LAST UNTIL A > 5. \
 PERFORM ONE OF MAIN SUB LAST DEPENDING ON K. SUB. EXIT. DISPLAY BASE S2. DISPLAY S1. DISPLAY A. \
 DISPLAY \"X\". ACCEPT S2 UNTIL F1 SF16. CALL OTHER USING A I (K). CALL OTHER USING I (TERMINATION-STATUS). \
 SEND T TO C2 REPLY CODE 0 YIELDS T CODE 1 YIELDS A. LAST. BEGIN-TRANSACTION. END-TRANSACTION. \
-ABORT-TRANSACTION. RESTART-TRANSACTION. EXIT PROGRAM. STOP RUN.",
-    &[
-        ("move", 2, 0),
-        ("compute", 0, 0),
-        ("unless", 2, 0),
-        ("move", 1, 0),
-        ("jump", 2, 0),
-        ("move", 1, 0),
-        ("move", 1, 0),
-        ("size error", 2, 0),
-        ("stop", 0, 0),
-        ("jump", 0, 0),
-        ("perform", 16, 26),
-        ("times", 16, 26),
-        ("exit", 0, 0),
-        ("until", 27, 33),
-        ("one of", 3, 0),
-        ("end", 0, 0),
-        ("exit", 0, 0),
-        ("screen", 8, 1),
-        ("screen", 7, 0),
-        ("display", 0, 0),
-        ("display", 0, 0),
-        ("accept", 8, 2),
-        ("call", 1, 2),
-        ("call keeps", 1, 1),
-        ("send", 1, 2),
-        ("no code", 0, 0),
-        ("end", 16, 0),
-        ("begin", 0, 0),
-        ("end unit", 0, 0),
-        ("abort", 0, 0),
-        ("restart", 0, 0),
-        ("leave", 0, 0),
-        ("stop", 0, 0),
-        ("end", 27, 0),
-    ],
-);
+ABORT-TRANSACTION. RESTART-TRANSACTION. EXIT PROGRAM. STOP RUN.";
+
+/// The instructions of the requester by hand, a line for each, as `Shape` has them.
+const REQUESTER_INSTRS: &str = "\
+move 2 0
+compute 0 0
+unless 2 0
+move 1 0
+jump 2 0
+move 1 0
+move 1 0
+size error 2 0
+stop 0 0
+jump 0 0
+perform 16 26
+times 16 26
+exit 0 0
+until 27 33
+one of 3 0
+end 0 0
+exit 0 0
+screen 8 1
+screen 7 0
+display 0 0
+display 0 0
+accept 8 2
+call 1 2
+call keeps 1 1
+send 1 2
+no code 0 0
+end 16 0
+begin 0 0
+end unit 0 0
+abort 0 0
+restart 0 0
+leave 0 0
+stop 0 0
+end 27 0
+";
 
 /// Each form of a server alone.
-const SERVER: (&[u8], &[Shape]) = (
+const SERVER: &[u8] =
     b"MAIN. READ $RECEIVE INTO T. READ F2 KEY K INTO T. READ F1 WITH LOCK KEY K INTO T. \
 READ NEXT F2 WITH LOCK AFTER K INTO T. READ NEXT F1 AFTER K INTO T. WRITE F2 FROM T. REWRITE F1 FROM T. \
-DELETE F2 KEY K. WRITE $RECEIVE FROM T.",
-    &[
-        ("receive", 4, 0),
-        ("read", 1, 0),
-        ("read", 0, 1),
-        ("next", 1, 1),
-        ("next", 0, 0),
-        ("write", 1, 0),
-        ("rewrite", 0, 0),
-        ("delete", 1, 0),
-        ("reply", 0, 0),
-        ("end", 0, 0),
-    ],
-);
+DELETE F2 KEY K. WRITE $RECEIVE FROM T.";
+
+/// The instructions of the server by hand.
+const SERVER_INSTRS: &str = "\
+receive 4 0
+read 1 0
+read 0 1
+next 1 1
+next 0 0
+write 1 0
+rewrite 0 0
+delete 1 0
+reply 0 0
+end 0 0
+";
 
 /// A count as a number of a shape: none of these is too long.
 fn count(things: usize) -> u32 {
     u32::try_from(things).unwrap_or(u32::MAX)
 }
 
+/// What an instruction is.
 fn shape(instr: &Instr) -> Shape {
     match instr {
         Instr::Jump(over) => ("jump", *over, 0),
@@ -142,219 +139,195 @@ fn shape(instr: &Instr) -> Shape {
     }
 }
 
-fn layout_of(alloc: Global, text: &[u8], server: bool) -> Result<Layout, Refusal>
+/// What the instructions of a program are, a line for each.
+fn shapes(alloc: Global, instrs: &[Instr]) -> Result<String, Memory> {
+    let mut lines = String::new(alloc);
+    for instr in instrs {
+        let (word, first, second) = shape(instr);
+        lines.push_str(&format!(in alloc; "{word} {first} {second}\n")?)?;
+    }
+    Ok(lines)
+}
+
+/// A program with this procedure.
+fn program(alloc: Global, text: &[u8], server: bool) -> Result<Requester, Refusal>
     requires { length text.now ≤ MAX_INPUT }
 {
-    layout(alloc, text, &tokens(alloc, text, 1)?, server)
+    let mut program = program_of(alloc, DATA, text, 1, server)?;
+    give_names(alloc, &mut program, "MAIN", "S1,S2", "N,T,NONE")?;
+    Ok(program)
 }
 
-fn procedure_of(alloc: Global, text: &[u8], server: bool) -> Result<Procedure, Refusal>
-    requires { length text.now ≤ MAX_INPUT }
-{
-    procedure(alloc, text, &tokens(alloc, text, 1)?, server)
-}
-
-fn listed(alloc: Global, names: &[&[u8]]) -> Result<List<Bytes>, Memory> {
-    let mut list = List::new(alloc);
-    for name in names {
-        list.push(Bytes::from_slice(alloc, name)?)?;
+/// What the program may name.
+fn links(alloc: Global) -> Result<Links, Memory> {
+    let mut files = List::new(alloc);
+    for name in ["F1", "F2"] {
+        files.push(file_named(alloc, name, 2)?)?;
     }
-    Ok(list)
-}
-
-fn screens_named(alloc: Global, names: &[&[u8]]) -> Result<List<ScreenTable>, Memory> {
-    let mut list = List::new(alloc);
-    for name in names {
-        list.push(ScreenTable {
-            name: Bytes::from_slice(alloc, name)?,
-            fields: List::new(alloc),
-        })?;
-    }
-    Ok(list)
-}
-
-fn files_named(alloc: Global, names: &[&[u8]]) -> Result<List<FileInfo>, Memory> {
-    let mut list = List::new(alloc);
-    for name in names {
-        list.push(FileInfo {
-            name: Bytes::from_slice(alloc, name)?,
-            key: 2,
-            records: List::new(alloc),
-        })?;
-    }
-    Ok(list)
+    Ok(Links {
+        programs: listed(alloc, "MAIN,OTHER")?,
+        classes: listed(alloc, "C1,C2")?,
+        files,
+    })
 }
 
 /// The code of a program with this procedure, whose first screen is number 7.
 fn compiled(alloc: Global, text: &[u8], server: bool) -> Result<Code, Refusal>
     requires { length text.now ≤ MAX_INPUT }
 {
-    let program = Requester {
-        name: Bytes::from_slice(alloc, b"MAIN")?,
-        layout: layout_of(alloc, DATA, server)?,
-        screens: screens_named(alloc, &[b"S1", b"S2"])?,
-        using: listed(alloc, &[b"N", b"T", b"NONE"])?,
-        procedure: procedure_of(alloc, text, server)?,
-    };
-    let links = Links {
-        programs: listed(alloc, &[b"MAIN", b"OTHER"])?,
-        classes: listed(alloc, &[b"C1", b"C2"])?,
-        files: files_named(alloc, &[b"F1", b"F2"])?,
-    };
+    let program = program(alloc, text, server)?;
+    let links = links(alloc)?;
     Ok(compile(alloc, &program, &links, 7)?)
+}
+
+/// Asserts that a program has the name, the storage and the linkage of those here.
+fn expect_data(rt: &impl Abort, code: &Code) {
+    assert_eq!(rt; code.name.as_slice(), b"MAIN".as_slice());
+    assert_eq!(rt; code.storage.len(), 27);
+    assert_eq!(rt;
+        code.linkage.as_slice(),
+        [(19, 6), (4, 15), (0, 0)].as_slice()
+    );
+}
+
+/// Asserts what a program with this procedure is compiled to.
+fn expect_instrs(
+    rt: &(impl Abort + AllocGlobal),
+    text: &[u8],
+    server: bool,
+    wanted: &str,
+) -> Result<(), Fail> {
+    assert!(rt; text.len() <= MAX_INPUT);
+    let code = compiled(rt.alloc(), text, server)?;
+    let found = shapes(rt.alloc(), code.instrs.as_slice())?;
+    assert_eq!(rt; found.as_str(), wanted);
+    expect_data(rt, &code);
+    Ok(())
 }
 
 #[test]
 fn each_form_at_its_place(rt: HostRuntime) -> Result<(), Fail> {
-    for (server, (text, shapes)) in [(false, REQUESTER), (true, SERVER)] {
-        assert!(rt; text.len() <= MAX_INPUT);
-        let code = compiled(rt.alloc(), text, server)?;
-        assert_eq!(rt; code.instrs.len(), shapes.len());
-        for (place, instr) in code.instrs.as_slice().iter().enumerate() {
-            assert_eq!(rt; shape(instr), shapes[place], "{place}");
-        }
-        assert_eq!(rt; code.name.as_slice(), b"MAIN".as_slice());
-        assert_eq!(rt; code.storage.len(), 27);
-        assert_eq!(rt;
-            code.linkage.as_slice(),
-            [(19, 6), (4, 15), (0, 0)].as_slice()
-        );
-    }
-    Ok(())
+    expect_instrs(&rt, REQUESTER, false, REQUESTER_INSTRS)?;
+    expect_instrs(&rt, SERVER, true, SERVER_INSTRS)
 }
 
-/// Operands of a MOVE, and what the first receiver is.
-const RECEIVERS: &[(&[u8], Place)] = &[
-    (
-        b"MAIN. MOVE 1 TO N.",
-        Place {
-            at: 19,
-            size: 6,
-            kind: Kind::Number {
-                digits: 5,
-                places: 2,
-                signed: true,
-            },
-            table: None,
+/// The place of N.
+fn signed_number() -> Place {
+    Place {
+        at: 19,
+        size: 6,
+        kind: Kind::Number {
+            digits: 5,
+            places: 2,
+            signed: true,
         },
-    ),
-    (
-        b"MAIN. MOVE 1 TO T.",
-        Place {
-            at: 4,
-            size: 15,
-            kind: Kind::Group,
-            table: None,
-        },
-    ),
-    (
-        b"MAIN. MOVE 1 TO I (5).",
-        Place {
-            at: 4,
-            size: 3,
-            kind: Kind::Text,
-            table: Some(Table {
-                subscript: Subscript::Number(5),
-                occurs: 5,
-                step: 3,
-            }),
-        },
-    ),
-    (
-        b"MAIN. MOVE 1 TO I (70000).",
-        Place {
-            at: 4,
-            size: 3,
-            kind: Kind::Text,
-            table: Some(Table {
-                subscript: Subscript::Number(6),
-                occurs: 5,
-                step: 3,
-            }),
-        },
-    ),
-    (
-        b"MAIN. MOVE 1 TO I (K).",
-        Place {
-            at: 4,
-            size: 3,
-            kind: Kind::Text,
-            table: Some(Table {
-                subscript: Subscript::Item {
-                    at: 25,
-                    digits: 2,
-                    places: 0,
-                },
-                occurs: 5,
-                step: 3,
-            }),
-        },
-    ),
-    (
-        b"MAIN. MOVE 1 TO I (RESTART-COUNTER).",
-        Place {
-            at: 4,
-            size: 3,
-            kind: Kind::Text,
-            table: Some(Table {
-                subscript: Subscript::Register(Register::Restarts),
-                occurs: 5,
-                step: 3,
-            }),
-        },
-    ),
-];
+        table: None,
+    }
+}
+
+/// The place of T.
+fn group() -> Place {
+    Place {
+        at: 4,
+        size: 15,
+        kind: Kind::Group,
+        table: None,
+    }
+}
+
+/// The place of I with a subscript.
+fn item(subscript: Subscript) -> Place {
+    Place {
+        at: 4,
+        size: 3,
+        kind: Kind::Text,
+        table: Some(Table {
+            subscript,
+            occurs: 5,
+            step: 3,
+        }),
+    }
+}
+
+/// The place of the first receiver of the MOVE that a procedure begins with.
+fn first_receiver(alloc: Global, text: &[u8]) -> Result<Option<Place>, Refusal>
+    requires { length text.now ≤ MAX_INPUT }
+{
+    let code = compiled(alloc, text, false)?;
+    Ok(match code.instrs.as_slice() {
+        [Instr::Move { to, .. }, ..] => to.get(0).copied(),
+        _ => None,
+    })
+}
+
+/// Asserts where the first receiver of a MOVE lies.
+fn expect_receiver(
+    rt: &(impl Abort + AllocGlobal),
+    text: &[u8],
+    wanted: Place,
+) -> Result<(), Fail> {
+    assert!(rt; text.len() <= MAX_INPUT);
+    let found = first_receiver(rt.alloc(), text)?;
+    assert_eq!(rt; found, Some(wanted), "{text:?}");
+    Ok(())
+}
 
 #[test]
 fn receivers_lie_where_their_items_do(rt: HostRuntime) -> Result<(), Fail> {
-    for (text, place) in RECEIVERS {
-        assert!(rt; text.len() <= MAX_INPUT);
-        let code = compiled(rt.alloc(), text, false)?;
-        let found = match code.instrs.as_slice() {
-            [Instr::Move { to, .. }, ..] => to.get(0).copied(),
-            _ => None,
-        };
-        assert_eq!(rt; found, Some(*place), "{text:?}");
-    }
-    Ok(())
+    let of_k = Subscript::Item {
+        at: 25,
+        digits: 2,
+        places: 0,
+    };
+    let counter = Subscript::Register(Register::Restarts);
+    expect_receiver(&rt, b"MAIN. MOVE 1 TO N.", signed_number())?;
+    expect_receiver(&rt, b"MAIN. MOVE 1 TO T.", group())?;
+    expect_receiver(&rt, b"MAIN. MOVE 1 TO I (5).", item(Subscript::Number(5)))?;
+    expect_receiver(
+        &rt,
+        b"MAIN. MOVE 1 TO I (70000).",
+        item(Subscript::Number(6)),
+    )?;
+    expect_receiver(&rt, b"MAIN. MOVE 1 TO I (K).", item(of_k))?;
+    expect_receiver(&rt, b"MAIN. MOVE 1 TO I (RESTART-COUNTER).", item(counter))
 }
 
-/// What is shown, and what it is.
+/// The kind of operand that is shown. Asserts what its parts are.
+fn operand_kind(rt: &impl Abort, instr: &Instr) -> &'static str {
+    match instr {
+        Instr::Display(Operand::Number { spelling, value }) => {
+            assert_eq!(rt; spelling.as_slice(), b"-1.50".as_slice());
+            assert_eq!(rt; (value.units(), value.places()), (-150, 2));
+            "number"
+        }
+        Instr::Display(Operand::Text(chars)) => {
+            assert_eq!(rt; chars.as_slice(), b"Ab".as_slice());
+            "text"
+        }
+        Instr::Display(Operand::Spaces) => "spaces",
+        Instr::Display(Operand::Zeros) => "zeros",
+        Instr::Display(Operand::Register(Register::Termination)) => "register",
+        Instr::Display(Operand::Item(place)) => {
+            assert_eq!(rt; place.at, 19);
+            "item"
+        }
+        _ => "end",
+    }
+}
+
 #[test]
 fn operands_are_items_registers_or_literals(rt: HostRuntime) -> Result<(), Fail> {
     let text =
         b"MAIN. DISPLAY -1.50. DISPLAY \"Ab\". DISPLAY SPACES. DISPLAY ZEROS. DISPLAY TERMINATION-STATUS. DISPLAY N.";
     let code = compiled(rt.alloc(), text, false)?;
-    let mut found = Vec::new(rt.alloc());
+    let mut kinds = String::new(rt.alloc());
     for instr in code.instrs.as_slice() {
-        let word = match instr {
-            Instr::Display(Operand::Number { spelling, value }) => {
-                assert_eq!(rt; spelling.as_slice(), b"-1.50".as_slice());
-                assert_eq!(rt; value.units(), -150);
-                assert_eq!(rt; value.places(), 2);
-                "number"
-            }
-            Instr::Display(Operand::Text(chars)) => {
-                assert_eq!(rt; chars.as_slice(), b"Ab".as_slice());
-                "text"
-            }
-            Instr::Display(Operand::Spaces) => "spaces",
-            Instr::Display(Operand::Zeros) => "zeros",
-            Instr::Display(Operand::Register(Register::Termination)) => "register",
-            Instr::Display(Operand::Item(place)) => {
-                assert_eq!(rt; place.at, 19);
-                "item"
-            }
-            _ => "end",
-        };
-        found.push(word)?;
+        kinds.push_str(operand_kind(&rt, instr))?;
+        kinds.push(' ')?;
     }
     assert_eq!(rt;
-        found.as_slice(),
-        [
-            "number", "text", "spaces", "zeros", "register", "item", "end"
-        ]
-        .as_slice()
+        kinds.as_str(),
+        "number text spaces zeros register item end "
     );
     Ok(())
 }

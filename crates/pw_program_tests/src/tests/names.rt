@@ -1,26 +1,23 @@
 ghost use Rattle.std.specs.Prelude.{◌≤◌, length};
 
 use crate::tests::names_rows::{
-    DATA, NAMES, ORDERS, OTHERS, Place, REQUESTER, REQUESTER_OPERANDS, SERVER, SERVER_OPERANDS,
+    DATA, NAMES, ORDERS, REQUESTER, REQUESTER_OPERANDS, SERVER, SERVER_OPERANDS, SUB, TWICE,
+};
+use crate::tests::parts::{
+    file_named, give_names, layout_of, lines_of, listed, procedure_of, program_of,
 };
 use pw_base::bytes::Bytes;
 use pw_base::fault::Refusal;
 use pw_base::list::List;
 use pw_base::memory::Memory;
 use pw_base::read_all::MAX_INPUT;
-use pw_code::field::ScreenTable;
-use pw_code::file::FileInfo;
 use pw_code::links::Links;
-use pw_data::layout::Layout;
-use pw_data::read::layout;
-use pw_forms::read::procedure;
-use pw_forms::statement::Procedure;
 use pw_names::names::names;
 use pw_scobol::requester::Requester;
 use pw_server::server::Server;
-use pw_text::tokens::tokens;
 use std::alloc::Global;
 use std::process::Abort;
+use std::slice;
 use std::test::Fail;
 
 /// The lines on which the procedures of MAIN and of the server begin.
@@ -28,93 +25,58 @@ const MAIN_LINE: u32 = 20;
 
 const SERVER_LINE: u32 = 10;
 
-/// The layout of data.
-fn layout_of(alloc: Global, text: &[u8], server: bool) -> Result<Layout, Refusal>
-    requires { length text.now ≤ MAX_INPUT }
-{
-    layout(alloc, text, &tokens(alloc, text, 1)?, server)
-}
-
-/// The procedure that a text is.
-fn procedure_of(alloc: Global, text: &[u8], server: bool) -> Result<Procedure, Refusal>
-    requires { length text.now ≤ MAX_INPUT }
-{
-    let line = if server { SERVER_LINE } else { MAIN_LINE };
-    procedure(alloc, text, &tokens(alloc, text, line)?, server)
-}
-
-/// Names as a list.
-fn listed(alloc: Global, names: &[&[u8]]) -> Result<List<Bytes>, Memory> {
-    let mut list = List::new(alloc);
-    for name in names {
-        list.push(Bytes::from_slice(alloc, name)?)?;
-    }
-    Ok(list)
-}
-
-/// A screen without fields.
-fn screen(alloc: Global, name: &[u8]) -> Result<List<ScreenTable>, Memory> {
-    let mut screens = List::new(alloc);
-    screens.push(ScreenTable {
-        name: Bytes::from_slice(alloc, name)?,
-        fields: List::new(alloc),
-    })?;
-    Ok(screens)
-}
-
 /// A requester with one screen.
 fn requester(
     alloc: Global,
-    name: &[u8],
+    name: &str,
     data: &[u8],
-    screen_name: &[u8],
-    using: &[&[u8]],
+    screen: &str,
+    using: &str,
     text: &[u8],
 ) -> Result<Requester, Refusal>
     requires data { length data.now ≤ MAX_INPUT }
     requires text { length text.now ≤ MAX_INPUT }
 {
-    Ok(Requester {
-        name: Bytes::from_slice(alloc, name)?,
-        layout: layout_of(alloc, data, false)?,
-        screens: screen(alloc, screen_name)?,
-        using: listed(alloc, using)?,
-        procedure: procedure_of(alloc, text, false)?,
-    })
+    let mut program = program_of(alloc, data, text, MAIN_LINE, false)?;
+    give_names(alloc, &mut program, name, screen, using)?;
+    Ok(program)
 }
 
 /// What the programs may name.
 fn links(alloc: Global) -> Result<Links, Memory> {
     let mut files = List::new(alloc);
-    for (name, key) in [(b"F", 4), (b"E", 3)] {
-        files.push(FileInfo {
-            name: Bytes::from_slice(alloc, name)?,
-            key,
-            records: List::new(alloc),
-        })?;
+    for (name, key) in [("F", 4), ("E", 3)] {
+        files.push(file_named(alloc, name, key)?)?;
     }
     Ok(Links {
-        programs: listed(alloc, &[b"MAIN", b"SUB", b"TWICE"])?,
-        classes: listed(alloc, &[b"D", b"C"])?,
+        programs: listed(alloc, "MAIN,SUB,TWICE")?,
+        classes: listed(alloc, "D,C")?,
         files,
     })
+}
+
+/// Puts a requester that MAIN may call behind the others.
+fn push_other(
+    rt: &impl Abort,
+    programs: &mut Vec<Requester>,
+    name: &str,
+    data: &[u8],
+    using: &str,
+) -> Result<(), Refusal> {
+    assert!(rt; data.len() <= MAX_INPUT);
+    let alloc = *programs.allocator();
+    let other = requester(alloc, name, data, "OTHER", using, b"S1. EXIT.")?;
+    Ok(push(programs, other)?)
 }
 
 /// The requesters of a deck: MAIN with this procedure, and the others.
 fn requesters(rt: &impl Abort, alloc: Global, main: &[u8]) -> Result<Vec<Requester>, Refusal> {
     assert!(rt; main.len() <= MAX_INPUT && DATA.len() <= MAX_INPUT);
     let mut programs = Vec::new(alloc);
-    push(
-        &mut programs,
-        requester(alloc, b"MAIN", DATA, b"SCR", &[], main)?,
-    )?;
-    for (name, data, using, text) in OTHERS {
-        assert!(rt; data.len() <= MAX_INPUT && text.len() <= MAX_INPUT);
-        push(
-            &mut programs,
-            requester(alloc, name, data, b"OTHER", using, text)?,
-        )?;
-    }
+    let program = requester(alloc, "MAIN", DATA, "SCR", "", main)?;
+    push(&mut programs, program)?;
+    push_other(rt, &mut programs, "SUB", SUB, "L,M")?;
+    push_other(rt, &mut programs, "TWICE", TWICE, "L,L")?;
     Ok(programs)
 }
 
@@ -130,16 +92,16 @@ fn server(rt: &impl Abort, alloc: Global, text: &[u8]) -> Result<Server, Refusal
     Ok(Server {
         name: Bytes::from_slice(alloc, b"STORE")?,
         layout: layout_of(alloc, DATA, true)?,
-        procedure: procedure_of(alloc, text, true)?,
+        procedure: procedure_of(alloc, text, SERVER_LINE, true)?,
     })
 }
 
 /// What names says of a deck of these procedures.
 fn looked_at(rt: &impl Abort, alloc: Global, main: &[u8], store: &[u8]) -> Result<(), Refusal> {
     let requesters = requesters(rt, alloc, main)?;
-    let servers = [server(rt, alloc, store)?];
+    let server = server(rt, alloc, store)?;
     let links = links(alloc)?;
-    names(alloc, &requesters, &servers, &links)
+    names(alloc, &requesters, slice::from_ref(&server), &links)
 }
 
 /// The line and the code of the first fault, 0 and 0 where there is none.
@@ -152,13 +114,13 @@ fn first_fault(rt: &impl Abort, alloc: Global, main: &[u8], store: &[u8]) -> Opt
 }
 
 /// A procedure of one paragraph P and a statement, with an operand in each place for one.
-fn around(alloc: Global, statement: &[u8], operand: &[u8]) -> Result<Bytes, Memory> {
+fn around(alloc: Global, statement: &str, operand: &str) -> Result<Bytes, Memory> {
     let mut text = Bytes::from_slice(alloc, b"P.\n")?;
-    for byte in statement {
-        if *byte == b'~' {
-            text.extend(operand)?;
+    for byte in statement.bytes() {
+        if byte == b'~' {
+            text.extend(operand.as_bytes())?;
         } else {
-            text.push(*byte)?;
+            text.push(byte)?;
         }
     }
     text.extend(b".\n")?;
@@ -175,57 +137,86 @@ fn answer(letter: u8, line: u32) -> Option<(u32, u16)> {
     }
 }
 
-/// Asserts what each operand is in each place.
-fn assert_places(
+/// Asserts that a statement of one of the programs has the fault that a letter stands for.
+fn expect_answer(rt: &impl Abort, alloc: Global, is_server: bool, text: &[u8], letter: u8) {
+    let (found, line) = if is_server {
+        (first_fault(rt, alloc, b"", text), SERVER_LINE + 1)
+    } else {
+        (first_fault(rt, alloc, text, b""), MAIN_LINE + 1)
+    };
+    assert_eq!(rt; found, answer(letter, line), "{text:?}");
+}
+
+/// Asserts what each operand is in the place that a row gives.
+fn expect_place(
     rt: &impl Abort,
     alloc: Global,
     is_server: bool,
-    places: &[Place],
-    operands: &[&[u8]],
+    row: &str,
+    operands: &str,
 ) -> Result<(), Fail> {
-    for (statement, letters) in places {
-        assert_eq!(rt; letters.len(), operands.len());
-        for (letter, operand) in letters.iter().zip(operands) {
-            let text = around(alloc, statement, operand)?;
-            if is_server {
-                let found = first_fault(rt, alloc, b"", text.as_slice());
-                assert_eq!(rt; found, answer(*letter, SERVER_LINE + 1), "{text:?}");
-            } else {
-                let found = first_fault(rt, alloc, text.as_slice(), b"");
-                assert_eq!(rt; found, answer(*letter, MAIN_LINE + 1), "{text:?}");
-            }
-        }
+    let (statement, letters) = row.split_once('|').ok_or("no letters")?;
+    assert_eq!(rt; letters.len(), operands.split('\n').count(), "{row}");
+    for (letter, operand) in letters.bytes().zip(operands.split('\n')) {
+        let text = around(alloc, statement, operand)?;
+        expect_answer(rt, alloc, is_server, text.as_slice(), letter);
     }
     Ok(())
 }
 
 #[test]
 fn operands_of_requesters(rt: HostRuntime) -> Result<(), Fail> {
-    assert_places(&rt, rt.alloc(), false, REQUESTER, REQUESTER_OPERANDS)
-}
-
-#[test]
-fn operands_of_servers(rt: HostRuntime) -> Result<(), Fail> {
-    assert_places(&rt, rt.alloc(), true, SERVER, SERVER_OPERANDS)
-}
-
-#[test]
-fn names_of_requesters(rt: HostRuntime) -> Result<(), Fail> {
-    for (statement, code) in NAMES {
-        let text = around(rt.alloc(), statement, b"")?;
-        let line = if *code == 0 { 0 } else { MAIN_LINE + 1 };
-        let found = first_fault(&rt, rt.alloc(), text.as_slice(), b"");
-        assert_eq!(rt; found, Some((line, *code)), "{text:?}");
+    for row in REQUESTER.split('\n') {
+        expect_place(&rt, rt.alloc(), false, row, REQUESTER_OPERANDS)?;
     }
     Ok(())
 }
 
 #[test]
-fn earlier_code_wins_over_earlier_line(rt: HostRuntime) {
-    for (main, store, line, code) in ORDERS {
-        let found = first_fault(&rt, rt.alloc(), main, store);
-        assert_eq!(rt; found, Some((*line, *code)), "{main:?} {store:?}");
+fn operands_of_servers(rt: HostRuntime) -> Result<(), Fail> {
+    for row in SERVER.split('\n') {
+        expect_place(&rt, rt.alloc(), true, row, SERVER_OPERANDS)?;
     }
+    Ok(())
+}
+
+/// Asserts that a row's statement has the fault of its code.
+fn expect_code(rt: &impl Abort, alloc: Global, row: &str) -> Result<(), Fail> {
+    let (statement, code) = row.split_once('|').ok_or("no code")?;
+    let code = code.parse::<u16>()?;
+    let line = if code == 0 { 0 } else { MAIN_LINE + 1 };
+    let text = around(alloc, statement, "")?;
+    let found = first_fault(rt, alloc, text.as_slice(), b"");
+    assert_eq!(rt; found, Some((line, code)), "{row}");
+    Ok(())
+}
+
+#[test]
+fn names_of_requesters(rt: HostRuntime) -> Result<(), Fail> {
+    for row in NAMES.split('\n') {
+        expect_code(&rt, rt.alloc(), row)?;
+    }
+    Ok(())
+}
+
+/// Asserts what the first fault of a row's programs is.
+fn expect_first(rt: &impl Abort, alloc: Global, row: &str) -> Result<(), Fail> {
+    let (main, rest) = row.split_once('|').ok_or("no server")?;
+    let (store, wanted) = rest.split_once('|').ok_or("no fault")?;
+    let main = lines_of(alloc, main)?;
+    let store = lines_of(alloc, store)?;
+    let (line, code) = first_fault(rt, alloc, main.as_slice(), store.as_slice()).ok_or("memory")?;
+    let found = format!(in alloc; "{line} {code}")?;
+    assert!(rt; found.as_str() == wanted, "{row}: {found}");
+    Ok(())
+}
+
+#[test]
+fn earlier_code_wins_over_earlier_line(rt: HostRuntime) -> Result<(), Fail> {
+    for row in ORDERS.split('\n') {
+        expect_first(&rt, rt.alloc(), row)?;
+    }
+    Ok(())
 }
 
 #[test]

@@ -40,18 +40,28 @@ fn class(alloc: Global, name: &[u8], processes: u32) -> Result<ClassInfo, Memory
     })
 }
 
+/// The servers of a system: that one alone.
+fn servers(alloc: Global) -> Result<List<Code>, Memory>
+    ensures one { IfOk result (λ servers. length servers ≡ 1) }
+    ensures empty { IfOk result (All (λ code. (code.instrs ≡ []) × (code.storage ≡ []) × (code.linkage ≡ []))) }
+{
+    let mut servers = List::new(alloc);
+    servers.push(server(alloc)?)?;
+    Ok(servers)
+}
+
 /// A system of one server with these classes.
-fn system_of(alloc: Global, classes: List<ClassInfo>) -> Result<System, Memory>
+fn system_of(alloc: Global, servers: List<Code>, classes: List<ClassInfo>) -> System
+    requires one { length servers ≡ 1 }
+    requires empty { All (λ code. (code.instrs ≡ []) × (code.storage ≡ []) × (code.linkage ≡ [])) servers }
     requires servers { All (λ class. class.server ≡ 0) classes }
     requires some { All (λ class. 1 ≤ class.processes) classes }
     requires few { All (λ class. class.processes ≤ 16) classes }
     requires names { AreNames (map (λ class. class.name) classes) }
     requires room { length classes ≤ 16 }
-    ensures { IfOk result IsValid }
+    ensures { IsValid result }
 {
-    let mut servers = List::new(alloc);
-    servers.push(server(alloc)?)?;
-    Ok(System {
+    System {
         programs: List::new(alloc),
         servers,
         screens: List::new(alloc),
@@ -60,7 +70,7 @@ fn system_of(alloc: Global, classes: List<ClassInfo>) -> Result<System, Memory>
         tcps: List::new(alloc),
         terminals: List::new(alloc),
         rule: LockRule::ReadersShare,
-    })
+    }
 }
 
 /// A system of one class with three processes.
@@ -69,7 +79,8 @@ fn one_class(alloc: Global) -> Result<System, Memory>
 {
     let mut classes = List::new(alloc);
     classes.push(class(alloc, b"STORE", 3)?)?;
-    system_of(alloc, classes)
+    let servers = servers(alloc)?;
+    Ok(system_of(alloc, servers, classes))
 }
 
 /// A system of two classes, with one process and with two.
@@ -79,33 +90,87 @@ fn two_classes(alloc: Global) -> Result<System, Memory>
     let mut classes = List::new(alloc);
     classes.push(class(alloc, b"STORE", 1)?)?;
     classes.push(class(alloc, b"PRICE", 2)?)?;
-    system_of(alloc, classes)
+    let servers = servers(alloc)?;
+    Ok(system_of(alloc, servers, classes))
 }
 
-/// A step of a script on a class book.
-#[derive(Clone, Copy, Debug)]
-enum Act {
-    /// The terminal's request is put for the class.
-    Put(u32, u32),
-    /// The next request of the class goes to the process, and is that of the terminal.
-    Take(u32, u32, u32),
-    /// No request of the class waits.
-    TakeEmpty(u32),
-    /// Every process of the class is busy.
-    TakeNoneFree(u32),
-    /// The process of the class replies to the terminal.
-    Reply(u32, u32, u32),
-    /// The terminal's request is cancelled.
-    Cancel(u32),
-    /// The first that waits for the class is of the terminal.
-    First(u32, u32),
-    /// None waits for the class.
-    FirstNone(u32),
-    /// Where the terminal's request is.
-    Find(u32, Option<Place>),
-    /// The process of the class works for the terminal, or for nobody.
-    At(u32, u32, Option<u32>),
-}
+/// Three processes of one class serve its requests in order. A row of a script tells a step and what comes of it:
+/// `put CLASS TERMINAL`; `take CLASS`, by which process for which terminal; `reply CLASS PROCESS`, to which terminal;
+/// `cancel TERMINAL`; `first CLASS`, the terminal of the first that waits; `find TERMINAL`, where its request is; and
+/// `at CLASS PROCESS`, the terminal for which it works.
+const IN_ORDER: &str = "first 0|none
+take 0|empty
+put 0 4|done
+put 0 2|done
+put 0 9|done
+put 0 1|done
+first 0|4
+find 9|waits for 0
+take 0|1 for 4
+take 0|2 for 2
+first 0|9
+take 0|3 for 9
+take 0|none free
+first 0|1
+find 2|at 0 2
+at 0 0|none
+at 0 1|4
+at 0 3|9
+at 0 4|none
+reply 0 2|2
+at 0 2|none
+find 2|none
+take 0|2 for 1
+take 0|empty
+reply 0 3|9
+reply 0 1|4
+put 0 4|done
+take 0|1 for 4
+reply 0 2|1
+reply 0 1|4
+take 0|empty";
+
+/// Requests are cancelled, whether they wait or not.
+const CANCELLED: &str = "put 0 1|done
+put 0 2|done
+put 0 3|done
+put 0 4|done
+take 0|1 for 1
+take 0|2 for 2
+cancel 3|done
+find 3|none
+first 0|4
+cancel 1|done
+at 0 1|none
+at 0 2|2
+cancel 5|done
+first 0|4
+put 0 1|done
+take 0|1 for 4
+take 0|3 for 1
+cancel 2|done
+find 2|none
+put 0 2|done
+take 0|2 for 2
+take 0|empty";
+
+/// Each of two classes has its own processes and requests, and a third one has none.
+const TWO_CLASSES: &str = "put 1 1|done
+first 0|none
+take 0|empty
+put 0 2|done
+put 0 3|done
+take 0|1 for 2
+take 0|none free
+take 1|1 for 1
+find 1|at 1 1
+cancel 1|done
+at 1 1|none
+at 0 1|2
+first 0|3
+first 2|none
+take 2|empty
+at 2 1|none";
 
 /// The unit of the one request of a terminal in a script.
 fn unit_of(terminal: u32) -> u32 {
@@ -117,22 +182,15 @@ fn message_of(alloc: Global, terminal: u32) -> Result<Bytes, Memory> {
     Bytes::from_slice(alloc, &[b'T', (terminal % 10) as u8 + b'0', b'!'])
 }
 
-/// Asserts that the request is the one of the terminal, all of it.
-fn expect_request(
-    rt: &impl Abort,
-    alloc: Global,
-    request: &Request,
-    terminal: u32,
-) -> Result<(), Memory> {
-    assert_eq!(rt; request.terminal, terminal);
-    assert_eq!(rt; request.unit, unit_of(terminal));
-    assert_eq!(rt;
-        request.message.as_slice(),
-        message_of(alloc, terminal)?.as_slice()
-    );
+/// Asserts that the request is the one of its terminal, all of it.
+fn expect_whole(rt: &impl Abort, alloc: Global, request: &Request) -> Result<(), Memory> {
+    let message = message_of(alloc, request.terminal)?;
+    assert_eq!(rt; request.unit, unit_of(request.terminal));
+    assert_eq!(rt; request.message.as_slice(), message.as_slice());
     Ok(())
 }
 
+/// Puts the terminal's request for the class.
 fn put(
     rt: &impl Abort,
     alloc: Global,
@@ -152,164 +210,107 @@ fn put(
     )
 }
 
-/// Asserts that the terminals of two requests are one, or that there is neither.
-fn expect_terminal(rt: &impl Abort, request: Option<&Request>, terminal: Option<u32>) {
-    assert_eq!(rt; request.map(|request| request.terminal), terminal);
+/// The terminal of a request, if there is one.
+fn terminal_text(alloc: Global, request: Option<&Request>) -> Result<String, Fail> {
+    Ok(match request {
+        Some(request) => format!(in alloc; "{}", request.terminal)?,
+        None => format!(in alloc; "none")?,
+    })
 }
 
-fn perform(rt: &impl Abort, alloc: Global, book: &mut ClassBook, step: Act) -> Result<(), Memory> {
-    match step {
-        Act::Put(class, terminal) => put(rt, alloc, book, class, terminal)?,
-        Act::Take(class, number, terminal) => match book.take(class) {
-            Taken::Got { process, request } => {
-                assert_eq!(rt; process, number);
-                expect_request(rt, alloc, &request, terminal)?;
-            }
-            Taken::Empty => assert!(rt; false, "empty"),
-            Taken::NoneFree => assert!(rt; false, "none free"),
-        },
-        Act::TakeEmpty(class) => assert!(rt; matches!(book.take(class), Taken::Empty)),
-        Act::TakeNoneFree(class) => assert!(rt; matches!(book.take(class), Taken::NoneFree)),
-        Act::Reply(class, process, terminal) => {
-            assert!(rt; book.request_at(class, process).is_some());
-            let request = book.reply(class, process);
-            expect_request(rt, alloc, &request, terminal)?;
+/// Gives the next request of the class to a process. Tells which process it is, and of which terminal the request.
+fn take(rt: &impl Abort, alloc: Global, book: &mut ClassBook, class: u32) -> Result<String, Fail> {
+    match book.take(class) {
+        Taken::Got { process, request } => {
+            expect_whole(rt, alloc, &request)?;
+            Ok(format!(in alloc; "{process} for {}", request.terminal)?)
         }
-        Act::Cancel(terminal) => book.cancel(terminal),
-        Act::First(class, terminal) => expect_terminal(rt, book.first(class), Some(terminal)),
-        Act::FirstNone(class) => expect_terminal(rt, book.first(class), None),
-        Act::Find(terminal, place) => assert_eq!(rt; book.request_of(terminal), place),
-        Act::At(class, process, terminal) => {
-            expect_terminal(rt, book.request_at(class, process), terminal);
-        }
+        Taken::Empty => Ok(format!(in alloc; "empty")?),
+        Taken::NoneFree => Ok(format!(in alloc; "none free")?),
     }
+}
+
+/// Has the process of the class reply. Tells the terminal.
+fn reply(
+    rt: &impl Abort,
+    alloc: Global,
+    book: &mut ClassBook,
+    class: u32,
+    process: u32,
+) -> Result<String, Fail> {
+    assert!(rt; book.request_at(class, process).is_some());
+    let request = book.reply(class, process);
+    expect_whole(rt, alloc, &request)?;
+    terminal_text(alloc, Some(&request))
+}
+
+/// Where a request is: the class for which it waits, or the class and its process that works on it.
+fn place_text(alloc: Global, place: Option<Place>) -> Result<String, Fail> {
+    Ok(match place {
+        Some(Place::Waiting { class }) => format!(in alloc; "waits for {class}")?,
+        Some(Place::Busy { class, process }) => format!(in alloc; "at {class} {process}")?,
+        None => format!(in alloc; "none")?,
+    })
+}
+
+/// Does a step of a script on a class book. Gives what came of it.
+fn perform(
+    rt: &impl Abort,
+    alloc: Global,
+    book: &mut ClassBook,
+    act: &str,
+    of: u32,
+    with: u32,
+) -> Result<String, Fail> {
+    match act {
+        "put" => put(rt, alloc, book, of, with)?,
+        "cancel" => book.cancel(of),
+        "take" => return take(rt, alloc, book, of),
+        "reply" => return reply(rt, alloc, book, of, with),
+        "first" => return terminal_text(alloc, book.first(of)),
+        "find" => return place_text(alloc, book.request_of(of)),
+        "at" => return terminal_text(alloc, book.request_at(of, with)),
+        _ => return Err("no such step".into()),
+    }
+    Ok(format!(in alloc; "done")?)
+}
+
+/// Does what a row of a script tells, and asserts what comes of it.
+fn expect_row(rt: &impl Abort, alloc: Global, book: &mut ClassBook, row: &str) -> Result<(), Fail> {
+    let (step, wanted) = row.split_once('|').ok_or("no outcome")?;
+    let (act, numbers) = step.split_once(' ').ok_or("no numbers")?;
+    let (of, with) = numbers.split_once(' ').unwrap_or((numbers, "0"));
+    let found = perform(rt, alloc, book, act, of.parse()?, with.parse()?)?;
+    assert_eq!(rt; found.as_str(), wanted, "{row}");
     Ok(())
 }
 
-fn play(rt: &impl Abort, alloc: Global, system: &System, steps: &[Act]) -> Result<(), Memory>
+/// Does what a script tells on the class book of a system.
+fn play(rt: &impl Abort, alloc: Global, system: &System, script: &str) -> Result<(), Fail>
     requires { IsValid system.now }
 {
     let mut book = ClassBook::new(alloc, system)?;
-    for &step in steps {
-        perform(rt, alloc, &mut book, step)?;
+    for row in script.split('\n') {
+        expect_row(rt, alloc, &mut book, row)?;
     }
     Ok(())
 }
 
 #[test]
 fn three_processes_serve_in_order(rt: HostRuntime) -> Result<(), Fail> {
-    play(
-        &rt,
-        rt.alloc(),
-        &one_class(rt.alloc())?,
-        &[
-            Act::FirstNone(0),
-            Act::TakeEmpty(0),
-            Act::Put(0, 4),
-            Act::Put(0, 2),
-            Act::Put(0, 9),
-            Act::Put(0, 1),
-            Act::First(0, 4),
-            Act::Find(9, Some(Place::Waiting { class: 0 })),
-            Act::Take(0, 1, 4),
-            Act::Take(0, 2, 2),
-            Act::First(0, 9),
-            Act::Take(0, 3, 9),
-            Act::TakeNoneFree(0),
-            Act::First(0, 1),
-            Act::Find(
-                2,
-                Some(Place::Busy {
-                    class: 0,
-                    process: 2,
-                }),
-            ),
-            Act::At(0, 0, None),
-            Act::At(0, 1, Some(4)),
-            Act::At(0, 3, Some(9)),
-            Act::At(0, 4, None),
-            Act::Reply(0, 2, 2),
-            Act::At(0, 2, None),
-            Act::Find(2, None),
-            Act::Take(0, 2, 1),
-            Act::TakeEmpty(0),
-            Act::Reply(0, 3, 9),
-            Act::Reply(0, 1, 4),
-            Act::Put(0, 4),
-            Act::Take(0, 1, 4),
-            Act::Reply(0, 2, 1),
-            Act::Reply(0, 1, 4),
-            Act::TakeEmpty(0),
-        ],
-    )?;
-    Ok(())
+    let system = one_class(rt.alloc())?;
+    play(&rt, rt.alloc(), &system, IN_ORDER)
 }
 
 #[test]
 fn cancelled_requests_are_gone(rt: HostRuntime) -> Result<(), Fail> {
-    play(
-        &rt,
-        rt.alloc(),
-        &one_class(rt.alloc())?,
-        &[
-            Act::Put(0, 1),
-            Act::Put(0, 2),
-            Act::Put(0, 3),
-            Act::Put(0, 4),
-            Act::Take(0, 1, 1),
-            Act::Take(0, 2, 2),
-            Act::Cancel(3),
-            Act::Find(3, None),
-            Act::First(0, 4),
-            Act::Cancel(1),
-            Act::At(0, 1, None),
-            Act::At(0, 2, Some(2)),
-            Act::Cancel(5),
-            Act::First(0, 4),
-            Act::Put(0, 1),
-            Act::Take(0, 1, 4),
-            Act::Take(0, 3, 1),
-            Act::Cancel(2),
-            Act::Find(2, None),
-            Act::Put(0, 2),
-            Act::Take(0, 2, 2),
-            Act::TakeEmpty(0),
-        ],
-    )?;
-    Ok(())
+    let system = one_class(rt.alloc())?;
+    play(&rt, rt.alloc(), &system, CANCELLED)
 }
 
 #[test]
 fn classes_stand_apart(rt: HostRuntime) -> Result<(), Fail> {
-    play(
-        &rt,
-        rt.alloc(),
-        &two_classes(rt.alloc())?,
-        &[
-            Act::Put(1, 1),
-            Act::FirstNone(0),
-            Act::TakeEmpty(0),
-            Act::Put(0, 2),
-            Act::Put(0, 3),
-            Act::Take(0, 1, 2),
-            Act::TakeNoneFree(0),
-            Act::Take(1, 1, 1),
-            Act::Find(
-                1,
-                Some(Place::Busy {
-                    class: 1,
-                    process: 1,
-                }),
-            ),
-            Act::Cancel(1),
-            Act::At(1, 1, None),
-            Act::At(0, 1, Some(2)),
-            Act::First(0, 3),
-            Act::FirstNone(2),
-            Act::TakeEmpty(2),
-            Act::At(2, 1, None),
-        ],
-    )?;
     take_laws();
-    Ok(())
+    let system = two_classes(rt.alloc())?;
+    play(&rt, rt.alloc(), &system, TWO_CLASSES)
 }

@@ -26,14 +26,39 @@ const FAILED: u16 = 200;
 /// How many statuses a run has.
 const STATUSES: usize = 18;
 
-/// The disc of the test system, on which no unit has begun, kept by a pair whose members fail by these lines.
-fn started(alloc: Global, lines: &[DiscLine]) -> Result<DiscPair, Memory>
+/// A script of one line.
+fn script_of(alloc: Global, line: DiscLine) -> Result<DiscScript, Memory> {
+    let mut lines = List::new(alloc);
+    lines.push(line)?;
+    Ok(DiscScript { lines })
+}
+
+/// The line that a text tells.
+fn line_of(text: &str) -> Result<DiscLine, Fail> {
+    let (member, after) = text.split_once(' ').ok_or("no number of calls")?;
+    let after = after.parse()?;
+    match member {
+        "primary" => Ok(DiscLine::Primary(after)),
+        "held" => Ok(DiscLine::Held(after)),
+        "backup" => Ok(DiscLine::Backup(after)),
+        _ => Err("no member".into()),
+    }
+}
+
+/// The script of lines that a text tells, with commas between them.
+fn script_from(alloc: Global, text: &str) -> Result<DiscScript, Fail> {
+    let mut lines = List::new(alloc);
+    for line in text.split(',') {
+        lines.push(line_of(line)?)?;
+    }
+    Ok(DiscScript { lines })
+}
+
+/// The disc of the test system, on which no unit has begun, kept by a pair whose members fail by this script.
+fn started(alloc: Global, script: DiscScript) -> Result<DiscPair, Memory>
     ensures { IfOk result (λ pair. IsFresh (state_of pair).told) }
 {
     let made = system(alloc)?;
-    let script = DiscScript {
-        lines: List::from_vec(Vec::from_slice(alloc, lines)?),
-    };
     let pair = DiscPair::new(alloc, &made, script)?;
     Ok(pair)
 }
@@ -104,6 +129,37 @@ fn expect_statuses(rt: &impl Abort, statuses: &[u16], failed_from: usize) {
     }
 }
 
+/// Makes twenty calls, and asserts which of them failed.
+fn expect_calls<D: Disc>(
+    rt: &impl Abort,
+    alloc: Global,
+    disc: &mut D,
+    failed_from: usize,
+) -> Result<(), Fail>
+    requires { IsFresh (D.told disc.old) }
+    ensures { OnOk result (0 < (D.told disc.new).file_count) }
+{
+    let statuses = twenty_calls(alloc, disc)?;
+    expect_statuses(rt, &statuses, failed_from);
+    Ok(())
+}
+
+/// Asserts that a pair does twenty calls, and how it stands then.
+fn expect_all_done(
+    rt: &impl Abort,
+    alloc: Global,
+    pair: &mut DiscPair,
+    standing: Standing,
+) -> Result<(), Fail>
+    requires { IsFresh (state_of pair.old).told }
+{
+    expect_calls(rt, alloc, pair, STATUSES)?;
+    expect_records(rt, alloc, pair, "AA one\nBB two\n")?;
+    assert!(rt; pair.standing() == standing);
+    assert_eq!(rt; pair.faults(), 0);
+    Ok(())
+}
+
 /// Asserts what twenty calls come to under one line.
 fn expect_kept(
     rt: &impl Abort,
@@ -111,13 +167,8 @@ fn expect_kept(
     line: DiscLine,
     standing: Standing,
 ) -> Result<(), Fail> {
-    let mut pair = started(alloc, &[line])?;
-    let statuses = twenty_calls(alloc, &mut pair)?;
-    expect_statuses(rt, &statuses, STATUSES);
-    expect_records(rt, alloc, &pair, &[b"AA one", b"BB two"])?;
-    assert!(rt; pair.standing() == standing);
-    assert_eq!(rt; pair.faults(), 0);
-    Ok(())
+    let mut pair = started(alloc, script_of(alloc, line)?)?;
+    expect_all_done(rt, alloc, &mut pair, standing)
 }
 
 #[test]
@@ -136,44 +187,52 @@ fn each_line_at_each_call(rt: HostRuntime) -> Result<(), Fail> {
     Ok(())
 }
 
+/// Lines, from which status on the calls of twenty fail under them, 18 where none does, and how many fail.
+const FAILING: &str = "primary 5,primary 5|3 15
+backup 5,primary 5|3 15
+backup 2,backup 2,primary 0|0 18
+primary 19,primary 19|17 1
+primary 6,primary 5|4 14
+held 5,primary 5,backup 5,primary 5|4 14
+primary 20,primary 20|18 0
+primary 4,primary 5|18 0
+primary 5,backup 5,backup 5|18 0
+held 5,primary 5|18 0
+primary 5,held 5,primary 5|18 0
+held 0,held 0,held 0,held 0|18 0";
+
 /// Asserts from which status on the calls of twenty fail, and how the pair stands then.
 fn expect_failed_from(
     rt: &impl Abort,
     alloc: Global,
-    lines: &[DiscLine],
+    pair: &mut DiscPair,
     failed_from: usize,
     faults: u64,
-) -> Result<(), Fail> {
-    let mut pair = started(alloc, lines)?;
-    let statuses = twenty_calls(alloc, &mut pair)?;
-    expect_statuses(rt, &statuses, failed_from);
+) -> Result<(), Fail>
+    requires { IsFresh (state_of pair.old).told }
+{
+    expect_calls(rt, alloc, pair, failed_from)?;
     assert_eq!(rt; pair.faults(), faults);
     assert!(rt; (pair.standing() == Standing::Lost) == (faults > 0));
     if faults > 0 {
-        expect_records(rt, alloc, &pair, &[b"AA one"])?;
+        expect_records(rt, alloc, pair, "AA one\n")?;
     }
     Ok(())
 }
 
+/// Asserts what a row tells.
+fn expect_row(rt: &impl Abort, alloc: Global, row: &str) -> Result<(), Fail> {
+    let (lines, rest) = row.split_once('|').ok_or("no statuses")?;
+    let (failed_from, faults) = rest.split_once(' ').ok_or("no faults")?;
+    let (failed_from, faults) = (failed_from.parse()?, faults.parse()?);
+    let mut pair = started(alloc, script_from(alloc, lines)?)?;
+    expect_failed_from(rt, alloc, &mut pair, failed_from, faults)
+}
+
 #[test]
 fn lines_that_lose_a_pair(rt: HostRuntime) -> Result<(), Fail> {
-    use DiscLine::{Backup, Held, Primary};
-    let alloc = rt.alloc();
-    for (lines, failed_from, faults) in [
-        ([Primary(5), Primary(5)].as_slice(), 3, 15),
-        (&[Backup(5), Primary(5)], 3, 15),
-        (&[Backup(2), Backup(2), Primary(0)], 0, 18),
-        (&[Primary(19), Primary(19)], 17, 1),
-        (&[Primary(6), Primary(5)], 4, 14),
-        (&[Held(5), Primary(5), Backup(5), Primary(5)], 4, 14),
-        (&[Primary(20), Primary(20)], STATUSES, 0),
-        (&[Primary(4), Primary(5)], STATUSES, 0),
-        (&[Primary(5), Backup(5), Backup(5)], STATUSES, 0),
-        (&[Held(5), Primary(5)], STATUSES, 0),
-        (&[Primary(5), Held(5), Primary(5)], STATUSES, 0),
-        (&[Held(0), Held(0), Held(0), Held(0)], STATUSES, 0),
-    ] {
-        expect_failed_from(&rt, alloc, lines, failed_from, faults)?;
+    for row in FAILING.split('\n') {
+        expect_row(&rt, rt.alloc(), row)?;
     }
     Ok(())
 }
@@ -190,17 +249,25 @@ fn expect_held<D: Disc>(rt: &impl Abort, alloc: Global, disc: &mut D) -> Result<
     Ok(())
 }
 
+/// Asserts that of a pair, which stays one of two.
+fn expect_two(rt: &impl Abort, alloc: Global, pair: &mut DiscPair) -> Result<(), Fail>
+    requires { IsFresh (state_of pair.old).told }
+{
+    expect_held(rt, alloc, pair)?;
+    assert!(rt; pair.standing() == Standing::Two);
+    Ok(())
+}
+
+/// Asserts that of a pair under one line.
+fn expect_waiting(rt: &impl Abort, alloc: Global, line: &str) -> Result<(), Fail> {
+    let mut pair = started(alloc, script_from(alloc, line)?)?;
+    expect_two(rt, alloc, &mut pair)
+}
+
 #[test]
 fn held_lines_wait_for_locks(rt: HostRuntime) -> Result<(), Fail> {
-    let alloc = rt.alloc();
-    for (line, standing) in [
-        (DiscLine::Held(2), Standing::Two),
-        (DiscLine::Held(3), Standing::Two),
-        (DiscLine::Backup(3), Standing::Two),
-    ] {
-        let mut pair = started(alloc, &[line])?;
-        expect_held(&rt, alloc, &mut pair)?;
-        assert!(rt; pair.standing() == standing);
+    for line in "held 2,held 3,backup 3".split(',') {
+        expect_waiting(&rt, rt.alloc(), line)?;
     }
     Ok(())
 }

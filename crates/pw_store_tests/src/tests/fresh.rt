@@ -1,7 +1,8 @@
-ghost use Rattle.std.specs.Prelude.{◌≡◌, [], ◌∷◌, IfOk};
+ghost use Rattle.std.specs.Prelude.{◌≡◌, [], ◌∷◌, codes, IfOk};
 ghost use Rattle.pw_code.specs.Valid.{IsValid};
 ghost use Rattle.pw_tmf.specs.Tmf.{told_of};
 ghost use Rattle.pw_tmf.specs.TwoUnits.{IsFresh, IsTestSystem, stock_file};
+ghost use Rattle.pw_tmf.proofs.SystemLemmas.{terminal_named};
 
 use pw_base::bytes::Bytes;
 use pw_base::list::List;
@@ -98,16 +99,39 @@ fn program(alloc: Global) -> Result<Code, Memory>
     })
 }
 
+/// The files of a system: that one alone.
+fn files(alloc: Global) -> Result<List<FileInfo>, Memory>
+    ensures { IfOk result (λ files. files ≡ stock_file ∷ []) }
+{
+    list_of(alloc, stock(alloc)?)
+}
+
+/// The pairs of a system: one, by its name.
+fn tcps(alloc: Global) -> Result<List<Bytes>, Memory>
+    ensures { IfOk result (λ tcps. tcps ≡ codes "TCP-1" ∷ []) }
+{
+    list_of(alloc, bytes(alloc, b"TCP-1")?)
+}
+
+/// Three terminals.
+fn terminals(alloc: Global) -> Result<List<TermInfo>, Memory>
+    ensures { IfOk result (λ terminals. terminals ≡ terminal_named (codes "T1") ∷ terminal_named (codes "T2") ∷ terminal_named (codes "T3") ∷ []) }
+{
+    let mut terminals = list_of(alloc, terminal(alloc, b"T1")?)?;
+    terminals.push(terminal(alloc, b"T2")?)?;
+    terminals.push(terminal(alloc, b"T3")?)?;
+    Ok(terminals)
+}
+
 /// A system of three terminals and that file.
 pub fn system(alloc: Global) -> Result<System, Memory>
     ensures { IfOk result (λ system. IsValid system × IsTestSystem system) }
 {
-    let programs = list_of(alloc, program(alloc)?)?;
-    let files = list_of(alloc, stock(alloc)?)?;
-    let tcps = list_of(alloc, bytes(alloc, b"TCP-1")?)?;
-    let mut terminals = list_of(alloc, terminal(alloc, b"T1")?)?;
-    terminals.push(terminal(alloc, b"T2")?)?;
-    terminals.push(terminal(alloc, b"T3")?)?;
+    let program = program(alloc)?;
+    let programs = list_of(alloc, program)?;
+    let files = files(alloc)?;
+    let tcps = tcps(alloc)?;
+    let terminals = terminals(alloc)?;
     Ok(system_of(alloc, programs, files, tcps, terminals))
 }
 

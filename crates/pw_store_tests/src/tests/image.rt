@@ -5,6 +5,7 @@ use pw_base::bytes::Bytes;
 use pw_base::list::List;
 use pw_code::context::{Context, Frame, Return};
 use pw_code::screen::{CELLS, ScreenImage};
+use pw_image::changed::Changes;
 use pw_image::changes::changes;
 use pw_image::decode::decode;
 use pw_image::encode::encode;
@@ -126,35 +127,67 @@ fn image_prefixes(rt: HostRuntime) -> Result<(), Fail> {
     Ok(())
 }
 
-#[test]
-fn bytes_of_no_image(rt: HostRuntime) -> Result<(), Fail> {
-    for (place, byte, bad) in [
-        (0, 0x51, true),
-        (1, 0x77, true),
-        (2, 0x02, true),
-        (3, 0xff, false),
-        (28, 0xff, false),
-        (29, 1, false),
-        (29, 2, true),
-        (30, 1, false),
-        (30, 2, true),
-        (31, 0xff, false),
-        (1951, 0, true),
-        (1951, 2, true),
-        (1952, 0xff, false),
-        (1961, 1, true),
-        (1962, 1, true),
-    ] {
-        let mut image = start_image(rt.alloc())?;
-        assert!(rt; place < image.len());
-        image.overwrite(place, &[byte]);
-        assert_eq!(rt;
-            is_bad(rt.alloc(), image.as_slice()),
-            bad,
-            "{byte} at {place}"
-        );
+/// Bytes, in hexadecimal, and the places at which they make an image bad.
+const BAD: &str =
+    "51 at 0,77 at 1,02 at 2,02 at 29,02 at 30,00 at 1951,02 at 1951,01 at 1961,01 at 1962";
+
+/// The same of bytes with which it stays an image.
+const GOOD: &str = "ff at 3,ff at 28,01 at 29,01 at 30,ff at 31,ff at 1952";
+
+/// Whether an image is bad where a byte of it is changed.
+fn is_bad_with(alloc: Global, change: &str) -> Result<bool, Fail> {
+    let (byte, place) = change.split_once(" at ").ok_or("no place")?;
+    let byte = u8::from_str_radix(byte, 16)?;
+    let place = place.parse()?;
+    let mut image = start_image(alloc)?;
+    if place >= image.len() {
+        return Err("no place of the image".into());
+    }
+    image.overwrite(place, &[byte]);
+    Ok(is_bad(alloc, image.as_slice()))
+}
+
+/// Asserts of each of these whether the image is bad with it.
+fn expect_changes(rt: &impl Abort, alloc: Global, changes: &str, bad: bool) -> Result<(), Fail> {
+    for change in changes.split(',') {
+        let found = is_bad_with(alloc, change)?;
+        assert_eq!(rt; found, bad, "{change}");
     }
     Ok(())
+}
+
+#[test]
+fn bytes_of_no_image(rt: HostRuntime) -> Result<(), Fail> {
+    expect_changes(&rt, rt.alloc(), BAD, true)?;
+    expect_changes(&rt, rt.alloc(), GOOD, false)
+}
+
+/// A context of so many programs, each with so many characters and so many active PERFORMs, as `9 3 2` tells.
+fn context_of(alloc: Global, numbers: &str) -> Result<Context, Fail> {
+    let (programs, rest) = numbers.split_once(' ').ok_or("no characters")?;
+    let (storage, returns) = rest.split_once(' ').ok_or("no PERFORMs")?;
+    let (storage, returns) = (storage.parse()?, returns.parse()?);
+    let mut frames = Vec::new(alloc);
+    for program in 0..programs.parse()? {
+        frames.push(frame(alloc, program, storage, returns)?)?;
+    }
+    context(alloc, frames)
+}
+
+/// The same context with other registers.
+fn with_registers(plain: Context) -> Context {
+    Context {
+        termination: 65_535,
+        restarts: 1,
+        phase: 4_294_967_295,
+        attempt: 3,
+        shown: 70_000,
+        entries: 5,
+        units: 16_777_216,
+        in_unit: true,
+        mode: 1,
+        ..plain
+    }
 }
 
 /// Asserts that a context comes back from its image of this length.
@@ -170,55 +203,42 @@ fn expect_again(
     Ok(())
 }
 
+/// Asserts that of the contexts of a row, whose images have the length that stands behind them.
+fn expect_row(rt: &(impl Abort + AllocGlobal), row: &str) -> Result<(), Fail> {
+    let (numbers, length) = row.split_once('|').ok_or("no length")?;
+    let length = length.parse()?;
+    let plain = context_of(rt.alloc(), numbers)?;
+    expect_again(rt, &plain, length)?;
+    expect_again(rt, &with_registers(plain), length)
+}
+
 #[test]
 fn contexts_come_back(rt: HostRuntime) -> Result<(), Fail> {
-    let alloc = rt.alloc();
-    for (programs, storage, returns, length) in [
-        (1, 0, 0, 1963),
-        (1, 64_000, 64, 66_987),
-        (9, 3, 2, 2366),
-    ] {
-        let mut frames = Vec::new(alloc);
-        for program in 0..programs {
-            frames.push(frame(alloc, program, storage, returns)?)?;
-        }
-        let plain = context(alloc, frames)?;
-        expect_again(&rt, &plain, length)?;
-        let full = Context {
-            termination: 65_535,
-            restarts: 1,
-            phase: 4_294_967_295,
-            attempt: 3,
-            shown: 70_000,
-            entries: 5,
-            units: 16_777_216,
-            in_unit: true,
-            mode: 1,
-            ..plain
-        };
-        expect_again(&rt, &full, length)?;
+    for row in "1 0 0|1963,1 64000 64|66987,9 3 2|2366".split(',') {
+        expect_row(&rt, row)?;
+    }
+    Ok(())
+}
+
+/// Whether the context of these numbers has an image.
+fn has_image_of(alloc: Global, numbers: &str) -> Result<bool, Fail> {
+    let context = context_of(alloc, numbers)?;
+    Ok(has_image(&context))
+}
+
+/// Asserts of each of these contexts whether it has an image.
+fn expect_images(rt: &impl Abort, alloc: Global, contexts: &str, has: bool) -> Result<(), Fail> {
+    for numbers in contexts.split(',') {
+        let found = has_image_of(alloc, numbers)?;
+        assert_eq!(rt; found, has, "{numbers}");
     }
     Ok(())
 }
 
 #[test]
 fn contexts_without_an_image(rt: HostRuntime) -> Result<(), Fail> {
-    let alloc = rt.alloc();
-    for (programs, storage, returns, has) in [
-        (0, 0, 0, false),
-        (1, 64_000, 64, true),
-        (1, 64_001, 0, false),
-        (1, 0, 65, false),
-        (9, 0, 0, true),
-        (10, 0, 0, false),
-    ] {
-        let mut frames = Vec::new(alloc);
-        for program in 0..programs {
-            frames.push(frame(alloc, program, storage, returns)?)?;
-        }
-        assert_eq!(rt; has_image(&context(alloc, frames)?), has);
-    }
-    Ok(())
+    expect_images(&rt, rt.alloc(), "1 64000 64,9 0 0", true)?;
+    expect_images(&rt, rt.alloc(), "0 0 0,1 64001 0,1 0 65,10 0 0", false)
 }
 
 #[test]
@@ -245,20 +265,22 @@ fn equal_images_no_change(rt: HostRuntime) -> Result<(), Fail> {
     Ok(())
 }
 
+/// Whether all bytes of an image of zeros become another, with the same changes as these.
+fn is_same_change(alloc: Global, one: &Changes, length: usize, byte: u8) -> Result<bool, Fail> {
+    let old = vec![in alloc; 0; length]?;
+    let new = vec![in alloc; byte; length]?;
+    Ok(one.is_same(&changes(alloc, &old, &new)?))
+}
+
 #[test]
 fn copies_of_changes(rt: HostRuntime) -> Result<(), Fail> {
     let alloc = rt.alloc();
-    let old = [0u8; 130];
-    let one = changes(alloc, &old, &[1u8; 130])?;
+    let one = changes(alloc, &[0u8; 130], &[1u8; 130])?;
     let copy = one.copy(alloc)?;
     assert!(rt; copy.is_same(&one) && one.is_same(&copy));
     assert_eq!(rt; copy.as_slice().len(), 3);
-    for other in [
-        changes(alloc, &old, &[2u8; 130])?,
-        changes(alloc, &old, &old)?,
-        changes(alloc, &[0u8; 129], &[1u8; 129])?,
-    ] {
-        assert!(rt; !one.is_same(&other));
-    }
+    assert!(rt; !is_same_change(alloc, &one, 130, 2)?);
+    assert!(rt; !is_same_change(alloc, &one, 130, 0)?);
+    assert!(rt; !is_same_change(alloc, &one, 129, 1)?);
     Ok(())
 }

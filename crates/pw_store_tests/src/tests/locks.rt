@@ -1,12 +1,8 @@
-mod mixed;
-mod pairs;
+mod tables;
 
-use Keys::{Above, At, Between};
-use mixed::MIXED;
-use pairs::{Keys, POINTS, POINTS_AND_SPANS, Row, SPANS};
 use pw_base::bytes::Bytes;
 use pw_base::memory::Memory;
-use pw_code::lock::LockMode::{Exclusive, Shared};
+use pw_code::lock::LockMode;
 use pw_code::unit::Unit;
 use pw_locks::book::LockBook;
 use pw_locks::laws::{conflict_laws, span_laws};
@@ -15,22 +11,33 @@ use pw_locks::span::Span;
 use std::alloc::Global;
 use std::process::Abort;
 use std::test::Fail;
+use tables::{MIXED, POINTS, POINTS_AND_SPANS, SPANS};
 
 fn key(alloc: Global, text: &str) -> Result<Bytes, Memory> {
     Bytes::from_slice(alloc, text.as_bytes())
 }
 
-fn span_of(alloc: Global, keys: Keys) -> Result<Span, Memory> {
-    match keys {
-        At(text) => Ok(Span::Point(key(alloc, text)?)),
-        Between(low, high) => Ok(Span::After {
-            low: key(alloc, low)?,
-            high: Some(key(alloc, high)?),
-        }),
-        Above(low) => Ok(Span::After {
+/// What a lock covers, as a table tells it.
+fn span_of(alloc: Global, keys: &str) -> Result<Span, Memory> {
+    match keys.split_once("..") {
+        None => Ok(Span::Point(key(alloc, keys)?)),
+        Some((low, "")) => Ok(Span::After {
             low: key(alloc, low)?,
             high: None,
         }),
+        Some((low, high)) => Ok(Span::After {
+            low: key(alloc, low)?,
+            high: Some(key(alloc, high)?),
+        }),
+    }
+}
+
+/// How a lock is held, as a table tells it.
+fn mode_of(text: &str) -> Option<LockMode> {
+    match text {
+        "X" => Some(LockMode::Exclusive),
+        "S" => Some(LockMode::Shared),
+        _ => None,
     }
 }
 
@@ -43,30 +50,52 @@ fn unit_of(terminal: u32) -> Unit {
     }
 }
 
-fn add_row(alloc: Global, book: &mut LockBook, row: Row) -> Result<(), Memory> {
-    book.add(&unit_of(row.0), row.1, span_of(alloc, row.2)?, row.3)
-}
-
-fn lock_of(alloc: Global, row: Row) -> Result<Lock, Memory> {
+/// A lock of a table.
+fn lock_of(alloc: Global, text: &str) -> Result<Lock, Fail> {
+    let (terminal, rest) = text.split_once(',').ok_or("no file")?;
+    let (file, rest) = rest.split_once(',').ok_or("no keys")?;
+    let (keys, mode) = rest.split_once(',').ok_or("no mode")?;
     Ok(Lock {
-        unit: unit_of(row.0),
-        file: row.1,
-        span: span_of(alloc, row.2)?,
-        mode: row.3,
+        unit: unit_of(terminal.parse()?),
+        file: file.parse()?,
+        mode: mode_of(mode).ok_or("neither mode")?,
+        span: span_of(alloc, keys)?,
     })
 }
 
-/// Who holds a lock that conflicts with that of the row.
-fn holder_for(alloc: Global, book: &LockBook, row: Row) -> Result<Option<Unit>, Memory> {
-    Ok(book.conflict(&unit_of(row.0), row.1, &span_of(alloc, row.2)?, row.3))
+/// The two locks of a row, and whether they conflict.
+fn pair_of(alloc: Global, row: &str) -> Result<(Lock, Lock, bool), Fail> {
+    let (first, rest) = row.split_once('|').ok_or("no second lock")?;
+    let (second, conflict) = rest.split_once('|').ok_or("no outcome")?;
+    let conflict = conflict.parse()?;
+    Ok((lock_of(alloc, first)?, lock_of(alloc, second)?, conflict))
+}
+
+/// Adds a lock to a book.
+fn add(alloc: Global, book: &mut LockBook, lock: &Lock) -> Result<(), Memory> {
+    book.add(&lock.unit, lock.file, lock.span.copy(alloc)?, lock.mode)
+}
+
+/// Adds the locks of a table to a book.
+fn add_all(alloc: Global, book: &mut LockBook, locks: &str) -> Result<(), Fail> {
+    for text in locks.split('\n') {
+        add(alloc, book, &lock_of(alloc, text)?)?;
+    }
+    Ok(())
+}
+
+/// Who holds a lock that conflicts with this one.
+fn holder_for(book: &LockBook, asked: &Lock) -> Option<Unit> {
+    book.conflict(&asked.unit, asked.file, &asked.span, asked.mode)
 }
 
 /// The same as a plain list of locks has it.
-fn holder_in(alloc: Global, locks: &[Lock], row: Row) -> Result<Option<Unit>, Memory> {
-    let span = span_of(alloc, row.2)?;
+fn holder_in(locks: &[Lock], asked: &Lock) -> Option<Unit> {
     let mut oldest: Option<Unit> = None;
     for held in locks {
-        if is_same_unit(&held.unit, &unit_of(row.0)) || !held.excludes(row.1, &span, row.3) {
+        if is_same_unit(&held.unit, &asked.unit)
+            || !held.excludes(asked.file, &asked.span, asked.mode)
+        {
             continue;
         }
         match oldest {
@@ -74,105 +103,129 @@ fn holder_in(alloc: Global, locks: &[Lock], row: Row) -> Result<Option<Unit>, Me
             _ => oldest = Some(held.unit),
         }
     }
-    Ok(oldest)
+    oldest
 }
 
-/// The book gives the holders of the list for each of the rows.
+/// The book gives the holder of the list for a lock.
+fn expect_same_holder(rt: &impl Abort, book: &LockBook, locks: &[Lock], asked: &Lock) {
+    let holder = holder_for(book, asked);
+    assert_eq!(rt; holder, holder_in(locks, asked), "{asked:?}");
+}
+
+/// The book gives the holders of the list for each lock of the rows.
 fn expect_same(
     rt: &impl Abort,
     alloc: Global,
     book: &LockBook,
     locks: &[Lock],
-) -> Result<(), Memory> {
-    for rows in [POINTS_AND_SPANS.as_slice(), SPANS.as_slice()] {
-        for &(first, second, _) in rows {
-            for row in [first, second] {
-                assert_eq!(rt;
-                    holder_for(alloc, book, row)?,
-                    holder_in(alloc, locks, row)?,
-                    "{row:?}"
-                );
-            }
-        }
+) -> Result<(), Fail> {
+    for row in POINTS_AND_SPANS.split('\n').chain(SPANS.split('\n')) {
+        let (first, second, _) = pair_of(alloc, row)?;
+        expect_same_holder(rt, book, locks, &first);
+        expect_same_holder(rt, book, locks, &second);
     }
     Ok(())
 }
 
-/// Whether the lock of the second row conflicts with the only lock of a book, that of the first.
-fn meets(alloc: Global, held: Row, asked: Row) -> Result<bool, Fail> {
+/// Whether a lock conflicts with the only lock of a book.
+fn meets(alloc: Global, held: &Lock, asked: &Lock) -> Result<bool, Fail> {
     let mut book = LockBook::new(alloc)?;
-    add_row(alloc, &mut book, held)?;
-    let found = holder_for(alloc, &book, asked)?;
-    if held.0 != asked.0 {
-        let overlaps = book.overlaps(
-            &unit_of(held.0),
-            asked.1,
-            &span_of(alloc, asked.2)?,
-            asked.3,
-        );
-        if overlaps != found.is_some() {
-            return Err(Fail::from("overlaps and conflict differ"));
-        }
+    add(alloc, &mut book, held)?;
+    let found = holder_for(&book, asked);
+    let overlaps = book.overlaps(&held.unit, asked.file, &asked.span, asked.mode);
+    if held.unit.terminal != asked.unit.terminal && overlaps != found.is_some() {
+        return Err("overlaps and conflict differ".into());
     }
-    Ok(found == Some(unit_of(held.0)))
+    Ok(found == Some(held.unit))
+}
+
+/// The two locks of a row conflict where the row says so, whichever is held.
+fn expect_conflict(rt: &impl Abort, alloc: Global, row: &str) -> Result<(), Fail> {
+    let (first, second, conflict) = pair_of(alloc, row)?;
+    assert_eq!(rt; meets(alloc, &first, &second)?, conflict, "{row}");
+    assert_eq!(rt;
+        meets(alloc, &second, &first)?,
+        conflict,
+        "{row}, the second held"
+    );
+    Ok(())
 }
 
 #[test]
 fn locks_conflict_as_defined(rt: HostRuntime) -> Result<(), Fail> {
-    let alloc = rt.alloc();
-    for rows in [
-        POINTS.as_slice(),
-        POINTS_AND_SPANS.as_slice(),
-        SPANS.as_slice(),
-    ] {
-        for &(first, second, conflict) in rows {
-            assert_eq!(rt;
-                meets(alloc, first, second)?,
-                conflict,
-                "{first:?} and {second:?}"
-            );
-            assert_eq!(rt;
-                meets(alloc, second, first)?,
-                conflict,
-                "{second:?} and {first:?}"
-            );
-        }
+    let points = POINTS.split('\n').chain(POINTS_AND_SPANS.split('\n'));
+    for row in points.chain(SPANS.split('\n')) {
+        expect_conflict(&rt, rt.alloc(), row)?;
     }
     conflict_laws();
     span_laws();
     Ok(())
 }
 
+/// Asserts whose lock conflicts with the lock of a row: that of a terminal's unit, or none.
+fn expect_holder(rt: &impl Abort, alloc: Global, book: &LockBook, row: &str) -> Result<(), Fail> {
+    let (asked, holder) = row.split_once('|').ok_or("no holder")?;
+    let holder = match holder {
+        "none" => None,
+        terminal => Some(unit_of(terminal.parse()?)),
+    };
+    let asked = lock_of(alloc, asked)?;
+    assert_eq!(rt; holder_for(book, &asked), holder, "{row}");
+    Ok(())
+}
+
+/// Asserts the same of each row of a table.
+fn expect_holders(rt: &impl Abort, alloc: Global, book: &LockBook, rows: &str) -> Result<(), Fail> {
+    for row in rows.split('\n') {
+        expect_holder(rt, alloc, book, row)?;
+    }
+    Ok(())
+}
+
+/// Whether the unit of a lock holds one that conflicts with it.
+fn overlaps(alloc: Global, book: &LockBook, text: &str) -> Result<bool, Fail> {
+    let lock = lock_of(alloc, text)?;
+    Ok(book.overlaps(&lock.unit, lock.file, &lock.span, lock.mode))
+}
+
+/// Locks of four units, one of them on another file.
+const FOUR_UNITS: &str = "7,0,A..C,S
+3,0,B,S
+5,0,..,S
+2,1,B,X";
+
+/// Who bars a lock where those are held.
+const OLDEST: &str = "9,0,B,X|3
+3,0,B,X|5
+9,0,B,S|none
+9,0,D,X|5
+9,1,B,S|2
+9,2,B,X|none";
+
 #[test]
 fn oldest_other_holder_is_given(rt: HostRuntime) -> Result<(), Fail> {
     let alloc = rt.alloc();
     let mut book = LockBook::new(alloc)?;
-    add_row(alloc, &mut book, (7, 0, Between("A", "C"), Shared))?;
-    add_row(alloc, &mut book, (3, 0, At("B"), Shared))?;
-    add_row(alloc, &mut book, (5, 0, Above(""), Shared))?;
-    add_row(alloc, &mut book, (2, 1, At("B"), Exclusive))?;
-    assert_eq!(rt;
-        holder_for(alloc, &book, (9, 0, At("B"), Exclusive))?,
-        Some(unit_of(3))
-    );
-    assert_eq!(rt;
-        holder_for(alloc, &book, (3, 0, At("B"), Exclusive))?,
-        Some(unit_of(5))
-    );
-    assert_eq!(rt; holder_for(alloc, &book, (9, 0, At("B"), Shared))?, None);
-    assert_eq!(rt;
-        holder_for(alloc, &book, (9, 0, At("D"), Exclusive))?,
-        Some(unit_of(5))
-    );
-    assert_eq!(rt;
-        holder_for(alloc, &book, (9, 1, At("B"), Shared))?,
-        Some(unit_of(2))
-    );
-    assert_eq!(rt; holder_for(alloc, &book, (9, 2, At("B"), Exclusive))?, None);
-    assert!(rt; book.overlaps(&unit_of(7), 0, &span_of(alloc, At("B"))?, Exclusive));
-    assert!(rt; !book.overlaps(&unit_of(7), 0, &span_of(alloc, At("D"))?, Exclusive));
-    assert!(rt; !book.overlaps(&unit_of(2), 0, &span_of(alloc, At("B"))?, Exclusive));
+    add_all(alloc, &mut book, FOUR_UNITS)?;
+    expect_holders(&rt, alloc, &book, OLDEST)?;
+    assert!(rt; overlaps(alloc, &book, "7,0,B,X")?);
+    assert!(rt; !overlaps(alloc, &book, "7,0,D,X")?);
+    assert!(rt; !overlaps(alloc, &book, "2,0,B,X")?);
     Ok(())
+}
+
+/// Releases the locks of a terminal's unit from a book and a list, which are the same then too.
+fn expect_released(
+    rt: &impl Abort,
+    alloc: Global,
+    book: &mut LockBook,
+    list: &mut Vec<Lock>,
+    terminal: u32,
+) -> Result<(), Fail> {
+    let unit = unit_of(terminal);
+    book.release(&unit);
+    list.retain(|held| !is_same_unit(&held.unit, &unit));
+    expect_same(rt, alloc, book, list)
 }
 
 #[test]
@@ -180,18 +233,16 @@ fn book_answers_as_a_list_does(rt: HostRuntime) -> Result<(), Fail> {
     let alloc = rt.alloc();
     let mut book = LockBook::new(alloc)?;
     let mut list = Vec::new(alloc);
-    for &(first, second, _) in POINTS_AND_SPANS.as_slice() {
-        for row in [first, second] {
-            add_row(alloc, &mut book, row)?;
-            list.push(lock_of(alloc, row)?)?;
-        }
+    for row in POINTS_AND_SPANS.split('\n') {
+        let (first, second, _) = pair_of(alloc, row)?;
+        add(alloc, &mut book, &first)?;
+        add(alloc, &mut book, &second)?;
+        list.push(first)?;
+        list.push(second)?;
     }
     expect_same(&rt, alloc, &book, &list)?;
     for terminal in 1..3 {
-        let unit = unit_of(terminal);
-        book.release(&unit);
-        list.retain(|held| !is_same_unit(&held.unit, &unit));
-        expect_same(&rt, alloc, &book, &list)?;
+        expect_released(&rt, alloc, &mut book, &mut list, terminal)?;
     }
     Ok(())
 }
@@ -201,59 +252,58 @@ fn spans_in_mixed_order_are_found(rt: HostRuntime) -> Result<(), Fail> {
     let alloc = rt.alloc();
     let mut book = LockBook::new(alloc)?;
     let mut list = Vec::new(alloc);
-    for &row in MIXED.as_slice() {
-        add_row(alloc, &mut book, row)?;
-        list.push(lock_of(alloc, row)?)?;
+    for text in MIXED.split('\n') {
+        let lock = lock_of(alloc, text)?;
+        add(alloc, &mut book, &lock)?;
+        list.push(lock)?;
         expect_same(&rt, alloc, &book, &list)?;
     }
     book.take_back();
     list.pop();
     expect_same(&rt, alloc, &book, &list)?;
     for terminal in 3..7 {
-        let unit = unit_of(terminal);
-        book.release(&unit);
-        list.retain(|held| !is_same_unit(&held.unit, &unit));
-        expect_same(&rt, alloc, &book, &list)?;
+        expect_released(&rt, alloc, &mut book, &mut list, terminal)?;
     }
     assert!(rt; list.is_empty());
     Ok(())
 }
 
+/// A later unit of the first terminal.
+const LATER: Unit = Unit {
+    terminal: 1,
+    number: 2,
+    birth: 4,
+};
+
+/// Locks of two units, those of the first on two files.
+const TWO_UNITS: &str = "1,0,A,X
+2,0,B,X
+1,1,M..,S";
+
+/// Who bars a lock once the first of them has released its locks.
+const RELEASED: &str = "9,0,A,X|none
+9,1,N,X|none
+9,0,B,X|2";
+
+/// A book with those locks, and one of the later unit.
+fn book_of_three(alloc: Global) -> Result<LockBook, Fail> {
+    let mut book = LockBook::new(alloc)?;
+    add_all(alloc, &mut book, TWO_UNITS)?;
+    book.add(&LATER, 2, span_of(alloc, "A")?, LockMode::Exclusive)?;
+    Ok(book)
+}
+
 #[test]
 fn release_takes_all_locks_of_the_unit(rt: HostRuntime) -> Result<(), Fail> {
     let alloc = rt.alloc();
-    let mut book = LockBook::new(alloc)?;
-    add_row(alloc, &mut book, (1, 0, At("A"), Exclusive))?;
-    add_row(alloc, &mut book, (2, 0, At("B"), Exclusive))?;
-    add_row(alloc, &mut book, (1, 1, Above("M"), Shared))?;
-    let later = Unit {
-        terminal: 1,
-        number: 2,
-        birth: 4,
-    };
-    book.add(&later, 2, span_of(alloc, At("A"))?, Exclusive)?;
+    let mut book = book_of_three(alloc)?;
     let whole = book.copy(alloc)?;
-    add_row(alloc, &mut book, (2, 3, At("A"), Exclusive))?;
+    add_all(alloc, &mut book, "2,3,A,X")?;
     book.take_back();
-    assert_eq!(rt; holder_for(alloc, &book, (9, 3, At("A"), Exclusive))?, None);
+    expect_holders(&rt, alloc, &book, "9,3,A,X|none")?;
     book.release(&unit_of(1));
-    assert_eq!(rt; holder_for(alloc, &book, (9, 0, At("A"), Exclusive))?, None);
-    assert_eq!(rt; holder_for(alloc, &book, (9, 1, At("N"), Exclusive))?, None);
-    assert_eq!(rt;
-        holder_for(alloc, &book, (9, 0, At("B"), Exclusive))?,
-        Some(unit_of(2))
-    );
-    assert_eq!(rt;
-        holder_for(alloc, &book, (9, 2, At("A"), Exclusive))?,
-        Some(later)
-    );
-    assert_eq!(rt;
-        holder_for(alloc, &whole, (9, 0, At("A"), Exclusive))?,
-        Some(unit_of(1))
-    );
-    assert_eq!(rt;
-        holder_for(alloc, &whole, (9, 1, At("N"), Exclusive))?,
-        Some(unit_of(1))
-    );
-    Ok(())
+    expect_holders(&rt, alloc, &book, RELEASED)?;
+    let asked = lock_of(alloc, "9,2,A,X")?;
+    assert_eq!(rt; holder_for(&book, &asked), Some(LATER));
+    expect_holders(&rt, alloc, &whole, "9,0,A,X|1\n9,1,N,X|1")
 }

@@ -1,4 +1,6 @@
-ghost use Rattle.std.specs.Prelude.{◌≡◌, ◌<◌, OnOk};
+ghost use Rattle.std.specs.Prelude.{◌≡◌, ◌<◌, true, false, IfOk, OnOk};
+ghost use Rattle.pw_onecopy.specs.IsBehaviour.{is_written};
+ghost use Rattle.pw_tmf.specs.Tmf.{told_of};
 ghost use Rattle.pw_tmf.specs.TwoUnits.{AreBoth, IsFresh, IsTestCall};
 
 use crate::tests::fresh::{bytes, started};
@@ -12,7 +14,8 @@ use pw_code::unit::Unit;
 use pw_tmf::answer::{DiscFault, FileAnswer, Foreseen};
 use pw_tmf::disc::Disc;
 use pw_tmf::faulty::Faulty;
-use std::alloc::Global;
+use pw_tmf::tmf::Tmf;
+use std::alloc::{AllocError, Global};
 use std::process::Abort;
 use std::test::Fail;
 
@@ -23,17 +26,120 @@ const THIRD: Unit = Unit {
     birth: 2,
 };
 
-/// The answer of an operation that was done.
-fn expect_done(rt: &impl Abort, answer: FileAnswer, status: u16, content: Option<&[u8]>) {
+/// The younger unit meets the locks of the older one. A row of these tables tells who does it, the operation, the key or
+/// the record, and what comes of it: the file status and the record that was read, if any, or whose lock bars it.
+const CONFLICT: &str = "older|WRITE|BB two|0
+older|WRITE|BB two|10
+older|REWRITE|BB three|0
+older|DELETE|AA|0
+older|READ|BB|0 BB three
+younger|READ|BB|lock of older
+younger awaits older|READ|BB|true
+younger awaits older|READ|CC|false
+younger foresees|READ|BB|lock of older
+younger foresees|READ|CC|11";
+
+/// The younger unit writes a record, which the older one does not see behind the last.
+const WRITTEN: &str = "younger foresees|WRITE|BB two|0
+younger|WRITE|BB two|0
+younger foresees|WRITE|BB two|10
+younger foresees|READ NEXT|BB|1
+older|READ NEXT|BB|1";
+
+/// The younger unit changes two records.
+const CHANGED: &str = "younger|WRITE|BB two|0
+younger|REWRITE|AA two|0";
+
+/// It does so again in its next attempt, and meets the lock that the older one has taken between them.
+const CHANGED_AGAIN: &str = "older|READ|BB|11
+younger|WRITE|BB three|lock of older
+younger|REWRITE|AA two|0";
+
+/// Each unit changes a record of its own.
+const APART: &str = "older|WRITE|BB two|0
+younger|REWRITE|AA two|0";
+
+/// Reads share a lock with reads and bar writes, and a READ NEXT bars a later write into its span.
+const MODES: &str = "younger|READ|AA|0 AA one
+older|READ|AA|0 AA one
+older|REWRITE|AA two|lock of younger
+older|READ WITH LOCK|AA|lock of younger
+younger|READ WITH LOCK|AA|lock of older
+younger|READ NEXT|AA|1
+older|WRITE|BB two|lock of younger
+older|WRITE|A0 two|0
+younger|WRITE|A0 two|lock of older";
+
+/// An operation by a key.
+fn keyed(alloc: Global, op: FileOp, key: &str) -> Result<FileCall, Fail>
+    requires { is_written op ≡ false }
+    ensures { IfOk result IsTestCall }
+{
+    let key = key.as_bytes();
+    if key.len() != 2 {
+        return Err("no key".into());
+    }
+    Ok(by_key(alloc, op, key)?)
+}
+
+/// An operation that writes a record.
+fn written(alloc: Global, op: FileOp, record: &str) -> Result<FileCall, Fail>
+    requires { is_written op ≡ true }
+    ensures { IfOk result IsTestCall }
+{
+    let record = record.as_bytes();
+    if record.len() < 2 || record.len() > 100 {
+        return Err("no record".into());
+    }
+    Ok(writing(alloc, op, record)?)
+}
+
+/// The operation of a row.
+fn call_of(alloc: Global, operation: &str, text: &str) -> Result<FileCall, Fail>
+    ensures { IfOk result IsTestCall }
+{
+    match operation {
+        "READ" => keyed(alloc, FileOp::Read, text),
+        "READ WITH LOCK" => keyed(alloc, FileOp::ReadLock, text),
+        "READ NEXT" => keyed(alloc, FileOp::Next, text),
+        "DELETE" => keyed(alloc, FileOp::Delete, text),
+        "WRITE" => written(alloc, FileOp::Write, text),
+        "REWRITE" => written(alloc, FileOp::Rewrite, text),
+        _ => Err("no operation".into()),
+    }
+}
+
+/// Which of the two units it is.
+fn name_of(unit: Unit) -> &'static str {
+    match unit {
+        OLDER => "older",
+        YOUNGER => "younger",
+        _ => "another",
+    }
+}
+
+/// What an operation came to.
+fn answer_text(alloc: Global, answer: &FileAnswer) -> Result<String, AllocError> {
     match answer {
         FileAnswer::Done {
-            status: found,
-            content: read,
+            status,
+            content: Some(record),
         } => {
-            assert_eq!(rt; found, status);
-            assert_eq!(rt; read.as_ref().map(|record| record.as_slice()), content);
+            let text = str::from_utf8(record.as_slice()).unwrap_or("no text");
+            format!(in alloc; "{status} {text}")
         }
-        _ => panic!(rt; "not done"),
+        FileAnswer::Done { status, .. } => format!(in alloc; "{status}"),
+        FileAnswer::Conflict(holder) => format!(in alloc; "lock of {}", name_of(*holder)),
+        FileAnswer::Failed => format!(in alloc; "failed"),
+        FileAnswer::Memory => format!(in alloc; "memory"),
+    }
+}
+
+/// What an operation would come to.
+fn foreseen_text(alloc: Global, foreseen: Foreseen) -> Result<String, AllocError> {
+    match foreseen {
+        Foreseen::Done(status) => format!(in alloc; "{status}"),
+        Foreseen::Conflict(holder) => format!(in alloc; "lock of {}", name_of(holder)),
     }
 }
 
@@ -119,29 +225,60 @@ fn copied(alloc: Global, reply: Option<&[u8]>) -> Result<Option<Bytes>, Memory> 
     })
 }
 
+/// Does what a row tells of an operation. Gives what came of it.
+fn outcome<D: Disc>(alloc: Global, disc: &mut D, who: &str, call: &FileCall) -> Result<String, Fail>
+    requires both { AreBoth (D.told disc.old) }
+    requires call { IsTestCall call.now }
+    ensures { AreBoth (D.told disc.new) }
+{
+    match who {
+        "older" => Ok(answer_text(alloc, &older_does(disc, call))?),
+        "younger" => Ok(answer_text(alloc, &younger_does(disc, call))?),
+        "younger awaits older" => Ok(format!(in alloc; "{}", awaits(disc, call)?)?),
+        "younger foresees" => Ok(foreseen_text(alloc, foresees(disc, call)?)?),
+        _ => Err("nobody does it".into()),
+    }
+}
+
+/// Does what a row tells, and asserts what comes of it.
+fn expect_row<D: Disc>(rt: &impl Abort, alloc: Global, disc: &mut D, row: &str) -> Result<(), Fail>
+    requires { AreBoth (D.told disc.old) }
+    ensures { AreBoth (D.told disc.new) }
+{
+    let (who, rest) = row.split_once('|').ok_or("no operation")?;
+    let (operation, rest) = rest.split_once('|').ok_or("no key")?;
+    let (text, wanted) = rest.split_once('|').ok_or("no outcome")?;
+    let call = call_of(alloc, operation, text)?;
+    let found = outcome(alloc, disc, who, &call)?;
+    assert_eq!(rt; found.as_str(), wanted, "{row}");
+    Ok(())
+}
+
+/// Does what the rows of a table tell, one behind the other.
+fn expect_rows<D: Disc>(
+    rt: &impl Abort,
+    alloc: Global,
+    disc: &mut D,
+    rows: &str,
+) -> Result<(), Fail>
+    requires { AreBoth (D.told disc.old) }
+    ensures { AreBoth (D.told disc.new) }
+{
+    for row in rows.split('\n') {
+        expect_row(rt, alloc, disc, row)?;
+    }
+    Ok(())
+}
+
 /// The younger unit meets the locks of the older one; its before-images are put back.
 fn expect_conflict<D: Disc>(rt: &impl Abort, alloc: Global, disc: &mut D) -> Result<(), Fail>
     requires { IsFresh (D.told disc.old) }
 {
-    let write = writing(alloc, FileOp::Write, b"BB two")?;
-    let rewrite = writing(alloc, FileOp::Rewrite, b"BB three")?;
-    let delete = by_key(alloc, FileOp::Delete, b"AA")?;
-    let read = by_key(alloc, FileOp::Read, b"BB")?;
-    let apart = by_key(alloc, FileOp::Read, b"CC")?;
     begin_both(disc)?;
-    expect_done(rt, older_does(disc, &write), 0, None);
-    expect_done(rt, older_does(disc, &write), 10, None);
-    expect_done(rt, older_does(disc, &rewrite), 0, None);
-    expect_done(rt, older_does(disc, &delete), 0, None);
-    expect_done(rt, older_does(disc, &read), 0, Some(b"BB three"));
-    assert!(rt; matches!(younger_does(disc, &read), FileAnswer::Conflict(OLDER)));
-    assert!(rt; awaits(disc, &read)?);
-    assert!(rt; !awaits(disc, &apart)?);
-    assert!(rt; matches!(foresees(disc, &read)?, Foreseen::Conflict(OLDER)));
-    assert!(rt; matches!(foresees(disc, &apart)?, Foreseen::Done(11)));
-    expect_records(rt, alloc, disc, &[b"AA one"])?;
+    expect_rows(rt, alloc, disc, CONFLICT)?;
+    expect_records(rt, alloc, disc, "AA one\n")?;
     back_out_both(disc)?;
-    expect_records(rt, alloc, disc, &[b"AA one"])?;
+    expect_records(rt, alloc, disc, "AA one\n")?;
     Ok(())
 }
 
@@ -154,16 +291,10 @@ fn expect_commit<D: Disc>(
 ) -> Result<(), Fail>
     requires { IsFresh (D.told disc.old) }
 {
-    let write = writing(alloc, FileOp::Write, b"BB two")?;
-    let next = by_key(alloc, FileOp::Next, b"BB")?;
     begin_both(disc)?;
-    assert!(rt; matches!(foresees(disc, &write)?, Foreseen::Done(0)));
-    expect_done(rt, younger_does(disc, &write), 0, None);
-    assert!(rt; matches!(foresees(disc, &write)?, Foreseen::Done(10)));
-    assert!(rt; matches!(foresees(disc, &next)?, Foreseen::Done(1)));
-    expect_done(rt, older_does(disc, &next), 1, None);
+    expect_rows(rt, alloc, disc, WRITTEN)?;
     commit(disc, copied(alloc, reply)?)?;
-    expect_records(rt, alloc, disc, &[b"AA one", b"BB two"])?;
+    expect_records(rt, alloc, disc, "AA one\nBB two\n")?;
     expect_none_ended(rt, disc);
     expect_ended(rt, disc, 1, reply);
     Ok(())
@@ -174,20 +305,13 @@ fn expect_commit<D: Disc>(
 fn expect_restart<D: Disc>(rt: &impl Abort, alloc: Global, disc: &mut D) -> Result<(), Fail>
     requires { IsFresh (D.told disc.old) }
 {
-    let write = writing(alloc, FileOp::Write, b"BB two")?;
-    let again = writing(alloc, FileOp::Write, b"BB three")?;
-    let rewrite = writing(alloc, FileOp::Rewrite, b"AA two")?;
-    let read = by_key(alloc, FileOp::Read, b"BB")?;
     begin_both(disc)?;
-    expect_done(rt, younger_does(disc, &write), 0, None);
-    expect_done(rt, younger_does(disc, &rewrite), 0, None);
+    expect_rows(rt, alloc, disc, CHANGED)?;
     restart_younger(disc)?;
-    expect_done(rt, older_does(disc, &read), 11, None);
-    assert!(rt; matches!(younger_does(disc, &again), FileAnswer::Conflict(OLDER)));
-    expect_done(rt, younger_does(disc, &rewrite), 0, None);
-    expect_records(rt, alloc, disc, &[b"AA one"])?;
+    expect_rows(rt, alloc, disc, CHANGED_AGAIN)?;
+    expect_records(rt, alloc, disc, "AA one\n")?;
     drop_younger(disc)?;
-    expect_records(rt, alloc, disc, &[b"AA one"])?;
+    expect_records(rt, alloc, disc, "AA one\n")?;
     expect_none_ended(rt, disc);
     expect_ended(rt, disc, 1, None);
     Ok(())
@@ -197,60 +321,84 @@ fn expect_restart<D: Disc>(rt: &impl Abort, alloc: Global, disc: &mut D) -> Resu
 fn expect_three<D: Disc>(rt: &impl Abort, alloc: Global, disc: &mut D) -> Result<(), Fail>
     requires { IsFresh (D.told disc.old) }
 {
-    let write = writing(alloc, FileOp::Write, b"BB two")?;
-    let rewrite = writing(alloc, FileOp::Rewrite, b"AA two")?;
     begin_both(disc)?;
-    expect_done(rt, older_does(disc, &write), 0, None);
-    expect_done(rt, younger_does(disc, &rewrite), 0, None);
+    expect_rows(rt, alloc, disc, APART)?;
     drop_three(disc)?;
-    expect_records(rt, alloc, disc, &[b"AA one"])?;
+    expect_records(rt, alloc, disc, "AA one\n")?;
     for terminal in 0..3 {
         expect_ended(rt, disc, terminal, None);
     }
     Ok(())
 }
 
-/// Which of these calls is the first to fail: 1 a begin, 2 the operation, 3 the end; 0 is none.
-fn first_failure<D: Disc>(alloc: Global, disc: &mut D, commits: bool) -> Result<u8, Memory>
-    requires { IsFresh (D.told disc.old) }
+/// Whether a WRITE of the younger unit fails.
+fn write_fails<D: Disc>(alloc: Global, disc: &mut D) -> Result<bool, Memory>
+    requires { AreBoth (D.told disc.old) }
+    ensures { AreBoth (D.told disc.new) }
 {
     let write = writing(alloc, FileOp::Write, b"BB two")?;
-    let reply = Some(bytes(alloc, b"0000")?);
-    if begin_both(disc).is_err() {
-        return Ok(1);
-    }
-    if let FileAnswer::Failed = younger_does(disc, &write) {
-        return Ok(2);
-    }
-    let end = if commits {
-        commit(disc, reply)
-    } else {
-        back_out_both(disc)
-    };
-    Ok(if end.is_err() { 3 } else { 0 })
+    Ok(matches!(younger_does(disc, &write), FileAnswer::Failed))
 }
 
-/// Reads share a lock with reads and bar writes, and a READ NEXT bars a later write into its span.
+/// Whether a commit of the younger unit fails, or else that both are backed out.
+fn end_fails<D: Disc>(alloc: Global, disc: &mut D, commits: bool) -> Result<bool, Memory>
+    requires { AreBoth (D.told disc.old) }
+{
+    if !commits {
+        return Ok(back_out_both(disc).is_err());
+    }
+    let reply = bytes(alloc, b"0000")?;
+    Ok(commit(disc, Some(reply)).is_err())
+}
+
+/// Which of these is the first to fail: that the units begin, the operation, the end, or none.
+fn first_failure<D: Disc>(
+    alloc: Global,
+    disc: &mut D,
+    commits: bool,
+) -> Result<&'static str, Memory>
+    requires { IsFresh (D.told disc.old) }
+{
+    if begin_both(disc).is_err() {
+        return Ok("begin");
+    }
+    if write_fails(alloc, disc)? {
+        return Ok("operation");
+    }
+    Ok(if end_fails(alloc, disc, commits)? {
+        "end"
+    } else {
+        "none"
+    })
+}
+
+/// The call of a faulty disc that fails, how the unit ends, and what is the first to fail.
+const FAILURES: &str = "1|commit|begin
+2|commit|begin
+3|commit|operation
+4|commit|end
+4|back out|end
+5|commit|none
+5|back out|none";
+
+/// Asserts what a row of that table tells.
+fn expect_failure(rt: &impl Abort, alloc: Global, tmf: &Tmf, row: &str) -> Result<(), Fail>
+    requires { IsFresh (told_of tmf.now) }
+{
+    let (call, rest) = row.split_once('|').ok_or("no end")?;
+    let (end, wanted) = rest.split_once('|').ok_or("no failure")?;
+    let mut faulty = Faulty::new(alloc, tmf.copy(alloc)?, &[call.parse()?])?;
+    let found = first_failure(alloc, &mut faulty, end == "commit")?;
+    assert_eq!(rt; found, wanted, "{row}");
+    Ok(())
+}
+
+/// Each row of the table of modes comes to what it tells.
 fn expect_modes<D: Disc>(rt: &impl Abort, alloc: Global, disc: &mut D) -> Result<(), Fail>
     requires { IsFresh (D.told disc.old) }
 {
-    let read = by_key(alloc, FileOp::Read, b"AA")?;
-    let locking = by_key(alloc, FileOp::ReadLock, b"AA")?;
-    let rewrite = writing(alloc, FileOp::Rewrite, b"AA two")?;
-    let next = by_key(alloc, FileOp::Next, b"AA")?;
-    let within = writing(alloc, FileOp::Write, b"BB two")?;
-    let outside = writing(alloc, FileOp::Write, b"A0 two")?;
     begin_both(disc)?;
-    expect_done(rt, younger_does(disc, &read), 0, Some(b"AA one"));
-    expect_done(rt, older_does(disc, &read), 0, Some(b"AA one"));
-    assert!(rt; matches!(older_does(disc, &rewrite), FileAnswer::Conflict(YOUNGER)));
-    assert!(rt; matches!(older_does(disc, &locking), FileAnswer::Conflict(YOUNGER)));
-    assert!(rt; matches!(younger_does(disc, &locking), FileAnswer::Conflict(OLDER)));
-    expect_done(rt, younger_does(disc, &next), 1, None);
-    assert!(rt; matches!(older_does(disc, &within), FileAnswer::Conflict(YOUNGER)));
-    expect_done(rt, older_does(disc, &outside), 0, None);
-    assert!(rt; matches!(younger_does(disc, &outside), FileAnswer::Conflict(OLDER)));
-    Ok(())
+    expect_rows(rt, alloc, disc, MODES)
 }
 
 #[test]
@@ -299,17 +447,8 @@ fn unit_restarts_and_writes_again(rt: HostRuntime) -> Result<(), Fail> {
 fn a_faulty_disc_fails_at_each_call(rt: HostRuntime) -> Result<(), Fail> {
     let alloc = rt.alloc();
     let tmf = started(alloc)?;
-    for (call, commits, failure) in [
-        (1, true, 1),
-        (2, true, 1),
-        (3, true, 2),
-        (4, true, 3),
-        (4, false, 3),
-        (5, true, 0),
-        (5, false, 0),
-    ] {
-        let mut faulty = Faulty::new(alloc, tmf.copy(alloc)?, &[call])?;
-        assert_eq!(rt; first_failure(alloc, &mut faulty, commits)?, failure);
+    for row in FAILURES.split('\n') {
+        expect_failure(&rt, alloc, &tmf, row)?;
     }
     Ok(())
 }

@@ -13,6 +13,7 @@ use pw_trail::recover::Recovery;
 use pw_volume::disk::Disk;
 use pw_volume::mem_disk::MemDisk;
 use std::alloc::Global;
+use std::process::Abort;
 use std::test::Fail;
 
 /// The files of a deck with one file, whose keys have 2 characters.
@@ -60,108 +61,101 @@ fn opened(alloc: Global, disk: MemDisk) -> Result<(Log<MemDisk>, Vec<u32>), Open
     }
 }
 
-/// No place of a trail that is whole.
-const WHOLE: u64 = 99;
-
-/// How these bytes are read: the numbers of the first two units, 0 where there is none, and the place of the damage.
-fn reading(alloc: Global, bytes: &[u8]) -> Result<(u32, u32, u64), Fail> {
+/// How these bytes are read: the numbers of the first two units, 0 where there is none, or the place of the damage.
+fn reading(alloc: Global, bytes: &[u8]) -> Result<String, Fail> {
     let mut disk = MemDisk::new(alloc)?;
     disk.write_at(0, bytes)?;
     match opened(alloc, disk) {
         Ok((_log, numbers)) => {
             let first = numbers.first().copied().unwrap_or(0);
             let second = numbers.get(1).copied().unwrap_or(0);
-            Ok((first, second, WHOLE))
+            Ok(format!(in alloc; "units {first} {second}")?)
         }
-        Err(OpenFault::Damaged { at }) => Ok((0, 0, at)),
+        Err(OpenFault::Damaged { at }) => Ok(format!(in alloc; "damaged at {at}")?),
         Err(fault) => Err(fault.into()),
     }
 }
 
 /// Two records, a zero byte and two bytes more. The first is of unit 1 of terminal 0, which puts a record; the second of
 /// unit 2 of terminal 1, which takes it away.
-const TRAIL: [u8; 60] = [
-    1, 0, 0, 0, 24, 0, 0, 0, 0, 0, 0, 0, 1, 0, 0, 0, 1, 0, 0, 0, 0, 0, 0, 0, 0, 3, b'A', b'A',
-    b'x', 7, 0, 0, 0, 23, 0, 0, 0, 1, 0, 0, 0, 2, 0, 0, 0, 1, 0, 0, 0, 0, 1, 0, 0, 0, 2, b'A',
-    b'A', 0, 9, 9,
-];
+const TRAIL: [u8; 60] = *b"\x01\0\0\0\x18\0\0\0\0\0\0\0\x01\0\0\0\x01\0\0\0\0\0\0\0\0\x03AAx\
+    \x07\0\0\0\x17\0\0\0\x01\0\0\0\x02\0\0\0\x01\0\0\0\0\x01\0\0\0\x02AA\
+    \0\x09\x09";
 
-/// How the trail is read when it is cut behind so many bytes, for rows of lengths from one up to another.
-const CUTS: [(usize, usize, (u32, u32, u64)); 4] = [
-    (0, 28, (0, 0, 0)),
-    (29, 56, (0, 0, 29)),
-    (57, 57, (0, 0, 57)),
-    (58, 60, (1, 2, WHOLE)),
-];
+/// How the trail is read when it is cut behind so many bytes, for lengths from one up to another.
+const CUTS: &str = "0-28|damaged at 0
+29-56|damaged at 29
+57-57|damaged at 57
+58-60|units 1 2";
 
-/// How the trail is read when one is added to a byte, for rows of places from one up to another.
-const CHANGES: [(usize, usize, (u32, u32, u64)); 22] = [
-    // The gate of the first record, and its length.
-    (0, 0, (1, 2, WHOLE)),
-    (1, 4, (0, 0, 0)),
-    // The terminal, the unit's number, and the number of changes.
-    (5, 8, (1, 2, WHOLE)),
-    (9, 9, (16_777_217, 2, WHOLE)),
-    (10, 10, (65_537, 2, WHOLE)),
-    (11, 11, (257, 2, WHOLE)),
-    (12, 12, (2, 2, WHOLE)),
-    (13, 16, (0, 0, 0)),
-    // The file, the kind and the length of the change, and its record.
-    (17, 25, (0, 0, 0)),
-    (26, 28, (1, 2, WHOLE)),
-    // The same of the second record.
-    (29, 29, (1, 2, WHOLE)),
-    (30, 33, (0, 0, 29)),
-    (34, 37, (1, 2, WHOLE)),
-    (38, 38, (1, 16_777_218, WHOLE)),
-    (39, 39, (1, 65_538, WHOLE)),
-    (40, 40, (1, 258, WHOLE)),
-    (41, 41, (1, 3, WHOLE)),
-    (42, 45, (0, 0, 29)),
-    (46, 54, (0, 0, 29)),
-    (55, 56, (1, 2, WHOLE)),
-    // The zero gate, and what stands behind it.
-    (57, 57, (0, 0, 57)),
-    (58, 59, (1, 2, WHOLE)),
-];
+/// How the trail is read when one is added to a byte, for places from one up to another. The first record has a gate and
+/// a length of 4 bytes at 0, the terminal, the unit's number and the number of changes at 5, and the file, the kind, the
+/// length and the record of the change at 17. The second has the same from 29 on, and the zero gate is at 57.
+const CHANGES: &str = "0-0|units 1 2
+1-4|damaged at 0
+5-8|units 1 2
+9-9|units 16777217 2
+10-10|units 65537 2
+11-11|units 257 2
+12-12|units 2 2
+13-16|damaged at 0
+17-25|damaged at 0
+26-28|units 1 2
+29-29|units 1 2
+30-33|damaged at 29
+34-37|units 1 2
+38-38|units 1 16777218
+39-39|units 1 65538
+40-40|units 1 258
+41-41|units 1 3
+42-45|damaged at 29
+46-54|damaged at 29
+55-56|units 1 2
+57-57|damaged at 57
+58-59|units 1 2";
 
 /// How the trail is read by the row that a number stands in.
-fn row(rows: &[(usize, usize, (u32, u32, u64))], number: usize) -> Option<(u32, u32, u64)> {
-    for (from, to, expected) in rows {
-        if *from <= number && number <= *to {
-            return Some(*expected);
+fn row(rows: &'static str, number: usize) -> Result<&'static str, Fail> {
+    for row in rows.split('\n') {
+        let (range, expected) = row.split_once('|').ok_or("no outcome")?;
+        let (from, to) = range.split_once('-').ok_or("no range")?;
+        if from.parse::<usize>()? <= number && number <= to.parse()? {
+            return Ok(expected);
         }
     }
-    None
+    Err("no row".into())
+}
+
+/// Asserts how bytes are read.
+fn expect_reading(rt: &impl Abort, alloc: Global, bytes: &[u8], wanted: &str) -> Result<(), Fail> {
+    let found = reading(alloc, bytes)?;
+    assert_eq!(rt; found.as_str(), wanted);
+    Ok(())
 }
 
 #[test]
 fn trail_cut_at_each_byte(rt: HostRuntime) -> Result<(), Fail> {
-    let alloc = rt.alloc();
     for length in 0..61 {
         let front = TRAIL.get(..length).unwrap_or(&[]);
-        assert_eq!(rt; Some(reading(alloc, front)?), row(&CUTS, length));
+        expect_reading(&rt, rt.alloc(), front, row(CUTS, length)?)?;
     }
     Ok(())
 }
 
 #[test]
 fn trail_with_each_byte_changed(rt: HostRuntime) -> Result<(), Fail> {
-    let alloc = rt.alloc();
     for place in 0..60 {
         let mut bytes = TRAIL;
         bytes[place] = bytes[place].wrapping_add(1);
-        assert_eq!(rt; Some(reading(alloc, &bytes)?), row(&CHANGES, place));
+        expect_reading(&rt, rt.alloc(), &bytes, row(CHANGES, place)?)?;
     }
     Ok(())
 }
 
 #[test]
 fn open_damaged_trail(rt: HostRuntime) -> Result<(), Fail> {
-    let alloc = rt.alloc();
-    assert_eq!(rt; reading(alloc, &[1, 0, 0, 0, 1, 0])?, (0, 0, 0));
-    assert_eq!(rt; reading(alloc, &[0])?, (0, 0, WHOLE));
-    Ok(())
+    expect_reading(&rt, rt.alloc(), &[1, 0, 0, 0, 1, 0], "damaged at 0")?;
+    expect_reading(&rt, rt.alloc(), &[0], "units 0 0")
 }
 
 /// What unit `number` of the first terminal has changed: it puts a record.
@@ -179,24 +173,38 @@ fn unit(alloc: Global, number: u32) -> Result<UnitChanges, Memory> {
     })
 }
 
-/// How many of three units are there behind a crash, where so many calls of the disk pass before it stops, and how many
-/// were acknowledged.
-fn recovered(alloc: Global, calls: u64, keep: bool) -> Result<(usize, usize), Fail> {
+/// A disk with an empty trail that stops once it has been opened and so many calls more have passed.
+pub fn stopping_disk(alloc: Global, calls: u64) -> Result<MemDisk, Fail> {
     let mut disk = MemDisk::new(alloc)?;
     format(&mut disk)?;
     // To open it takes three of them.
     disk.stop_after(calls.saturating_add(3));
+    Ok(disk)
+}
+
+/// Whether the log takes the unit.
+fn takes(alloc: Global, log: &mut Log<MemDisk>, number: u32) -> Result<bool, Fail> {
+    let unit = unit(alloc, number)?;
+    Ok(log.fits(&unit) && log.append(alloc, &unit).is_ok())
+}
+
+/// Appends three units. Gives the disk, and how many were acknowledged.
+fn appended(alloc: Global, disk: MemDisk) -> Result<(MemDisk, usize), Fail> {
     let (mut log, _none) = opened(alloc, disk)?;
     let mut acknowledged = 0usize;
     for number in 1..4 {
-        let unit = unit(alloc, number)?;
-        if log.fits(&unit) && log.append(alloc, &unit).is_ok() {
+        if takes(alloc, &mut log, number)? {
             acknowledged = acknowledged.saturating_add(1);
         }
     }
-    let Ok(disk) = log.close().crash(alloc, keep) else {
-        return Err(Memory.into());
-    };
+    Ok((log.close(), acknowledged))
+}
+
+/// How many of three units are there behind a crash, where so many calls of the disk pass before it stops, and how many
+/// were acknowledged.
+fn recovered(alloc: Global, calls: u64, keep: bool) -> Result<(usize, usize), Fail> {
+    let (disk, acknowledged) = appended(alloc, stopping_disk(alloc, calls)?)?;
+    let disk = disk.crash(alloc, keep).ok().ok_or("no memory")?;
     let (_log, numbers) = opened(alloc, disk)?;
     Ok((numbers.len(), acknowledged))
 }

@@ -4,12 +4,12 @@ ghost use Rattle.pw_tmf.specs.Tmf.{told_of};
 ghost use Rattle.pw_tmf.specs.TwoUnits.{IsFresh, IsTestCall};
 
 use crate::tests::fresh::system;
+use crate::tests::trail::stopping_disk;
 use crate::tests::units::{begin_both, commit, writing, younger_does};
 use pw_base::memory::Memory;
 use pw_code::file::{FileCall, FileOp};
 use pw_tmf::answer::FileAnswer;
 use pw_tmf::disc::Disc;
-use pw_trail::append::format;
 use pw_trail::trail::Trail;
 use pw_volume::mem_disk::MemDisk;
 use std::alloc::Global;
@@ -51,19 +51,19 @@ fn is_rewritten<D: Disc>(alloc: Global, disc: &D) -> Result<bool, Memory>
     })
 }
 
-/// Whether a unit committed, and whether its record is there behind a crash, where so many calls of the disk pass before
-/// it stops.
-fn recovered(alloc: Global, calls: u64, keep: bool) -> Result<(bool, bool), Fail> {
-    let mut disk = MemDisk::new(alloc)?;
-    format(&mut disk)?;
-    // To open it takes three of them.
-    disk.stop_after(calls.saturating_add(3));
+/// Has a unit commit on a disk, and gives the disk as a crash leaves it. Tells whether the unit committed.
+fn crashed(alloc: Global, disk: MemDisk, keep: bool) -> Result<(bool, MemDisk), Fail> {
     let call = writing(alloc, FileOp::Rewrite, b"AA two")?;
     let mut trail = opened(alloc, disk)?;
     let committed = commits(&mut trail, &call);
-    let Ok(disk) = trail.close().crash(alloc, keep) else {
-        return Err(Memory.into());
-    };
+    let disk = trail.close().crash(alloc, keep).ok().ok_or("no memory")?;
+    Ok((committed, disk))
+}
+
+/// Whether a unit committed, and whether its record is there behind a crash, where so many calls of the disk pass before
+/// it stops.
+fn recovered(alloc: Global, calls: u64, keep: bool) -> Result<(bool, bool), Fail> {
+    let (committed, disk) = crashed(alloc, stopping_disk(alloc, calls)?, keep)?;
     let trail = opened(alloc, disk)?;
     Ok((committed, is_rewritten(alloc, &trail)?))
 }

@@ -54,20 +54,22 @@ pub fn writing(alloc: Global, op: FileOp, content: &[u8]) -> Result<FileCall, Me
     })
 }
 
-/// The committed records of the first file.
+/// Asserts that these, each on a line of its own, are the committed records of the first file.
 pub fn expect_records<D: Disc>(
     rt: &impl Abort,
     alloc: Global,
     disc: &D,
-    records: &[&[u8]],
+    records: &str,
 ) -> Result<(), Memory>
     requires { 0 < (D.told disc.now).file_count }
 {
     let committed = disc.committed(alloc, 0)?;
-    assert_eq!(rt; committed.len(), records.len());
-    for (found, wanted) in committed.iter().zip(records) {
-        assert_eq!(rt; found.as_slice(), *wanted);
+    let mut lines = Bytes::new(alloc);
+    for record in &committed {
+        lines.extend(record.as_slice())?;
+        lines.push(b'\n')?;
     }
+    assert_eq!(rt; lines.as_slice(), records.as_bytes());
     Ok(())
 }
 
