@@ -1,3 +1,4 @@
 pub mod Codes
 pub mod NameLemmas
 pub mod PathLemmas
+pub mod Uppers

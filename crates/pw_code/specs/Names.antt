@@ -2,7 +2,7 @@
 use Rattle.std.specs.Prelude.{ℕ, List, [], ◌∷◌, length, Bool, false, ◌&&◌, ◌||◌, ◌==◌, nat_le, IsTrue, All}
 use Rattle.std.specs.Char.{is_ascii_digit, is_ascii_uppercase}
 use Rattle.std.specs.List.{list_all, IsDistinct}
-use Rattle.std.specs.Str.{bytes_eq}
+use Rattle.std.specs.Str.{bytes_eq, str_to_ascii_uppercase}
 
 -- a letter, a digit or a hyphen, in upper case
 abbrev pub is_name_byte : ℕ → Bool
@@ -16,6 +16,10 @@ begins_with_letter (b ∷ rest) = is_ascii_uppercase b
 -- 1 to 30 letters, digits and hyphens, of which the first is a letter
 abbrev pub is_name : List ℕ → Bool
 is_name name = begins_with_letter name && (nat_le (length name) 30 && list_all is_name_byte name)
+
+-- a name as it may stand in a line: 1 to 30 letters, digits and hyphens, of which the first is a letter, in either case
+abbrev pub may_name : List ℕ → Bool
+may_name word = is_name (str_to_ascii_uppercase word)
 
 -- the text is a name
 abbrev pub IsName : List ℕ → Type 0

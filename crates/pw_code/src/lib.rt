@@ -13,6 +13,7 @@ pub mod instr;
 pub mod limits;
 pub mod links;
 pub mod lock;
+pub mod names;
 pub mod operand;
 pub mod place;
 pub mod same;

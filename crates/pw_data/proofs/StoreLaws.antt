@@ -24,7 +24,7 @@ use Rattle.pw_data.proofs.Held.{items-fit, is_kept}
 use Rattle.pw_data.proofs.Kept.{Each-All}
 use Rattle.pw_data.proofs.Stores.{no_faults, neither, Lie-cells}
 
-no_fault-here : (is_fault : Bool) (line : ℕ) (code : FaultCode) → only_if is_fault line code ≡ [] → is_fault ≡ false
+pub no_fault-here : (is_fault : Bool) (line : ℕ) (code : FaultCode) → only_if is_fault line code ≡ [] → is_fault ≡ false
 no_fault-here true line code none = absurd cc
 no_fault-here false line code none = refl
 
@@ -35,7 +35,7 @@ good-by text linked line reading (Some level) none =
     let entry : Entry = entry_with text linked line reading level in
     (record { kind = (neither (has_no_kind text entry) (is_bad_occurs entry || is_bad_value text entry entry.clauses.value) none).0; kept = refl; size = refl; occurs = refl }, tt)
 
-Each-append : (P : Entry → Type 0) (xs ys : List Entry) → Each P xs → Each P ys → Each P (xs ++ ys)
+pub Each-append : (P : Entry → Type 0) (xs ys : List Entry) → Each P xs → Each P ys → Each P (xs ++ ys)
 Each-append P [] ys front back = back
 Each-append P (x ∷ xs) ys front back = (front.0, Each-append P xs ys front.1 back)
 
@@ -56,11 +56,11 @@ good-parts server text (part ∷ parts) none =
     let both = no_faults (part_faults server text part) (faults_of_parts server text parts) none in
     Each-append (Good text) (option_to_list (entry_of server text part)) (entries_of server text parts) (good-part server text part both.0) (good-parts server text parts both.1)
 
-unless-ok : (fault : Option Fault) (value layout : Laid) → unless fault value ≡ Ok layout → (fault ≡ None) × (value ≡ layout)
+pub unless-ok : (fault : Option Fault) (value layout : Laid) → unless fault value ≡ Ok layout → (fault ≡ None) × (value ≡ layout)
 unless-ok None value layout is = (refl, cc)
 unless-ok (Some fault) value layout is = absurd cc
 
-none-first : (a b : Option Fault) → option_or a b ≡ None → a ≡ None
+pub none-first : (a b : Option Fault) → option_or a b ≡ None → a ≡ None
 none-first None b is = refl
 none-first (Some fault) b is = absurd cc
 
@@ -74,12 +74,12 @@ store-of_entries text entries good none =
     }
 
 -- what is known of the entries of a layout
-record Fine (text : List ℕ) (tokens : List Token) (server : Bool) (layout : Laid) : Type 0 where
-  is_laid : laid text (entries_in text tokens server) ≡ layout
-  good : Each (Good text) (entries_in text tokens server)
-  placed : tree_faults true false (forest (entries_in text tokens server)) ≡ []
+pub record Fine (text : List ℕ) (tokens : List Token) (server : Bool) (layout : Laid) : Type 0 where
+  pub is_laid : laid text (entries_in text tokens server) ≡ layout
+  pub good : Each (Good text) (entries_in text tokens server)
+  pub placed : tree_faults true false (forest (entries_in text tokens server)) ≡ []
 
-fine : (text : List ℕ) (tokens : List Token) (server : Bool) (layout : Laid) → layout_of text tokens server ≡ Ok layout → Fine text tokens server layout
+pub fine : (text : List ℕ) (tokens : List Token) (server : Bool) (layout : Laid) → layout_of text tokens server ≡ Ok layout → Fine text tokens server layout
 fine text tokens server layout is =
     let entries : List Entry = entries_in text tokens server in
     let both = unless-ok (first_fault text tokens server) (laid text entries) layout is in

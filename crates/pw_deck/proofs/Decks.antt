@@ -1,115 +1,50 @@
 -- A deck without a fault has the tables of a valid system.
-use Rattle.std.proofs.Common.{◌≡◌, ℕ, ◌+◌, ◌<◌, ◌≤◌, ◌^◌, Bool, true, false, cond, List, [], ◌∷◌, ◌++◌, map, length, Option, None, Some, Result, Ok, Err, IfOk, refl, sym, ap, subst, ◌∙◌, arith}
-use Rattle.std.specs.Prelude.{◌&&◌, nat_le, nat_lt, flat_map, codes}
-use Rattle.std.specs.List.{filter, AllByRecursion}
-use Rattle.std.proofs.lemmas.Bool.{and_parts, leb-true, le-ltb}
+use Rattle.std.proofs.Common.{◌≡◌, ℕ, ◌+◌, ◌≤◌, Bool, true, false, cond, List, [], ◌∷◌, map, length, Option, None, Some, Result, Ok, Err, IfOk, refl, sym, ap, subst, ◌∙◌, arith}
+use Rattle.std.specs.Prelude.{nat_le, flat_map}
+use Rattle.std.proofs.lemmas.Bool.{le-ltb}
 use Rattle.std.proofs.lemmas.List.{length-map}
 use Rattle.pw_base.specs.First.{least, unless, Gives}
-use Rattle.pw_base.specs.Lengths.{IsKeyLength}
 use Rattle.pw_base.specs.Limits.{longest_input}
 use Rattle.pw_base.specs.declared.fault.Fault.{Fault}
 use Rattle.pw_base.specs.declared.fault.Refusal.{Refusal}
 use Rattle.pw_base.specs.declared.fault_code.FaultCode.TheVariants.{BadSection, InputTooLong}
-use Rattle.pw_code.specs.Valid.{IsTerminal, IsClass, HasNames, HasFew}
+use Rattle.pw_code.specs.Valid.{IsTerminal, IsClass}
 use Rattle.pw_code.specs.Limits.{most_programs, most_servers}
-use Rattle.pw_code.specs.declared.code.Code.{Code}
-use Rattle.pw_code.specs.declared.field.ScreenTable.{ScreenTable}
 use Rattle.pw_code.specs.declared.lock.LockRule.TheVariants.{ReadersShare}
 use Rattle.pw_code.specs.declared.system.System.{System}
 use Rattle.pw_code.specs.declared.system.TermInfo.{TermInfo}
 use Rattle.pw_lines.specs.Lines.{lines}
 use Rattle.pw_lines.specs.Steps.{◌>>=◌, refused, or_refused}
-use Rattle.pw_lines.specs.Words.{words, name_in, number_in}
+use Rattle.pw_lines.specs.Words.{words}
 use Rattle.pw_names.specs.Names.{names_of}
 use Rattle.pw_pathcom.specs.Objects.{unknown, unknown_terminal, unknown_class}
 use Rattle.pw_pathcom.specs.declared.commands.Started.{Started}
-use Rattle.pw_pathcom.specs.declared.commands.TermCommand.{TermCommand}
 use Rattle.pw_scobol.specs.Requesters.{requester_of}
 use Rattle.pw_scobol.specs.declared.requester.Requester.{Requester}
-use Rattle.pw_sections.specs.Headings.{plain_heading, named_heading, keyed_heading, file_heading, heading_by, heading_of}
+use Rattle.pw_sections.specs.Headings.{heading_of}
 use Rattle.pw_sections.specs.Parts.{front, sections}
 use Rattle.pw_sections.specs.declared.heading.Heading.{Heading}
 use Rattle.pw_sections.specs.declared.heading.Heading.TheVariants as heading
 use Rattle.pw_server.specs.Servers.{server_of}
 use Rattle.pw_server.specs.declared.server.Server.{Server}
 use Rattle.pw_tables.proofs.Commands.{and_then, Any, any_of}
-use Rattle.pw_tables.proofs.Good.{IsGood, good_names, good_few}
+use Rattle.pw_tables.proofs.Good.{good_names, good_few}
 use Rattle.pw_tables.specs.Objects.{one_more}
 use Rattle.pw_tables.specs.Pieces.{section_line, section_text}
-use Rattle.pw_tables.specs.Tables.{tcp_names, is_started, class_of, terminal_of, with_entries}
-use Rattle.pw_tables.specs.Unknown.{tables_of, all_unknown, known, startable, fails_of, log_of, told_with, told_of}
+use Rattle.pw_tables.specs.Tables.{with_entries}
+use Rattle.pw_tables.specs.Unknown.{tables_of, all_unknown, known, startable, fails_of, log_of, told_of}
 use Rattle.pw_tables.specs.declared.objects.Objects.{Objects}
 use Rattle.pw_tables.specs.declared.objects.TermEntries.{TermEntries}
 use Rattle.pw_tables.specs.declared.told.Told.{Told}
-use Rattle.pw_words.specs.Words.{Word, same_word}
+use Rattle.pw_words.specs.Words.{Word}
 use Rattle.pw_deck.specs.Deck.{sized, end_found, links_of, deck_in, deck_of}
 use Rattle.pw_deck.specs.Parts.{no_parts, has_requester, has_server, requester_section, server_section, with_objects, section_of, section_read, sections_read, front_read, parts_of, program_names, server_names}
-use Rattle.pw_deck.specs.Sound.{AreTables, with_code, HasTables}
+use Rattle.pw_deck.specs.Sound.{AreTables, HasTables}
 use Rattle.pw_deck.specs.declared.deck.Deck.{Deck}
 use Rattle.pw_deck.specs.declared.parts.Parts.{Parts}
-use Rattle.pw_deck.proofs.Good.{ArePartsGood, parts_good}
+use Rattle.pw_deck.proofs.Good.{ArePartsGood, HasFile, heading_says, or_refused_says, parts_good}
 use Rattle.pw_deck.proofs.Sound.{IsSound, nothing_sound, pathcom_sound, file_sound, entries_sound, fail_sound, log_sound}
 use Rattle.pw_deck.proofs.Tabled.{none_first, nothing_in, all_known, all_served, terminals_are, classes_are, files_are, to_all}
-
--- the keys of a file have a length that they may have
-abbrev HasKey : Heading → Type 0
-HasKey heading.Pathcom = Unit {0}
-HasKey (heading.Requester name) = Unit {0}
-HasKey (heading.Server name) = Unit {0}
-HasKey (heading.File name key) = IsKeyLength key
-HasKey (heading.Entries name) = Unit {0}
-HasKey heading.Fail = Unit {0}
-HasKey heading.Log = Unit {0}
-HasKey heading.End = Unit {0}
-
-abbrev Says : Option Heading → Type 0
-Says None = Unit {0}
-Says (Some heading) = HasKey heading
-
-plain_says : (word : Word) → Says (plain_heading word)
-plain_says word = go (same_word word (codes "?PATHCOM")) (same_word word (codes "?FAIL")) (same_word word (codes "?LOG")) (same_word word (codes "?END"))
-  where
-    go : (a b c d : Bool) → Says (cond a (Some heading.Pathcom) (cond b (Some heading.Fail) (cond c (Some heading.Log) (cond d (Some heading.End) None))))
-    go true b c d = tt
-    go false true c d = tt
-    go false false true d = tt
-    go false false false true = tt
-    go false false false false = tt
-
-named_says : (word : Word) (name : Option Word) → Says (named_heading word name)
-named_says word None = tt
-named_says word (Some name) = go (same_word word (codes "?SCREEN-COBOL")) (same_word word (codes "?SERVER")) (same_word word (codes "?ENTRIES"))
-  where
-    go : (a b c : Bool) → Says (cond a (Some (heading.Requester name)) (cond b (Some (heading.Server name)) (cond c (Some (heading.Entries name)) None)))
-    go true b c = tt
-    go false true c = tt
-    go false false true = tt
-    go false false false = tt
-
-keyed_says : (name : Word) (key : ℕ) → Says (keyed_heading name key)
-keyed_says name key = go (nat_le 1 key && nat_le key 255) refl
-  where
-    go : (b : Bool) → (nat_le 1 key && nat_le key 255) ≡ b → Says (cond b (Some (heading.File name key)) None)
-    go true is = let both = and_parts (nat_le 1 key) (nat_le key 255) is in (leb-true 1 key both.0, leb-true key 255 both.1)
-    go false is = tt
-
-file_says : (is_file : Bool) (name : Option Word) (key : Option ℕ) → Says (file_heading is_file name key)
-file_says true (Some name) (Some key) = keyed_says name key
-file_says true (Some name) None = tt
-file_says true None key = tt
-file_says false name key = tt
-
-heading_says : (ws : List Word) → Says (heading_by ws)
-heading_says [] = tt
-heading_says (word ∷ []) = plain_says word
-heading_says (word ∷ name ∷ []) = named_says word (name_in name)
-heading_says (word ∷ name ∷ key ∷ []) = tt
-heading_says (word ∷ name ∷ key ∷ number ∷ []) = file_says (same_word word (codes "?FILE") && same_word key (codes "KEY")) (name_in name) (number_in number)
-heading_says (word ∷ name ∷ key ∷ number ∷ more ∷ rest) = tt
-
-or_says : (line : ℕ) (heading : Option Heading) → Says heading → IfOk (or_refused line BadSection heading) HasKey
-or_says line None says = tt
-or_says line (Some heading) says = says
 
 -- what the sections say is sound
 abbrev HasSound : Parts → Type 0
@@ -128,11 +63,11 @@ server_sound parts line text name sound =
 with_sound : (parts : Parts) (read : Result Objects Fault) → IfOk read IsSound → IfOk (with_objects parts read) HasSound
 with_sound parts read objects = and_then read _ IsSound HasSound objects (λ o s. s)
 
-section_sound : (parts : Parts) (line : ℕ) (text : List ℕ) (heading : Heading) → HasKey heading → HasSound parts → IfOk (section_of parts line text heading) HasSound
+section_sound : (parts : Parts) (line : ℕ) (text : List ℕ) (heading : Heading) → HasFile heading → HasSound parts → IfOk (section_of parts line text heading) HasSound
 section_sound parts line text heading.Pathcom has sound = with_sound parts _ (pathcom_sound parts.objects line text sound)
 section_sound parts line text (heading.Requester name) has sound = requester_sound parts line text name sound
 section_sound parts line text (heading.Server name) has sound = server_sound parts line text name sound
-section_sound parts line text (heading.File name key) has sound = with_sound parts _ (file_sound parts.objects line text name key has sound)
+section_sound parts line text (heading.File name key) has sound = with_sound parts _ (file_sound parts.objects line text name key has.1 sound)
 section_sound parts line text (heading.Entries name) has sound = with_sound parts _ (entries_sound parts.objects line text name sound)
 section_sound parts line text heading.Fail has sound = with_sound parts _ (fail_sound parts.objects line text sound)
 section_sound parts line text heading.Log has sound = with_sound parts _ (log_sound parts.objects line text sound)
@@ -140,8 +75,8 @@ section_sound parts line text heading.End has sound = sound
 
 read_sound : (parts : Parts) (line : ℕ) (section : List ℕ) → HasSound parts → IfOk (section_read parts line section) HasSound
 read_sound parts line section sound =
-    and_then (or_refused line BadSection (heading_of (section_line section))) _ HasKey HasSound
-    (or_says line (heading_of (section_line section)) (heading_says (words (section_line section))))
+    and_then (or_refused line BadSection (heading_of (section_line section))) _ HasFile HasSound
+    (or_refused_says line (heading_of (section_line section)) (heading_says (words (section_line section))))
     (λ heading has. section_sound parts line (section_text section) heading has sound)
 
 all_sound : (parts : Parts) (line : ℕ) (all : List (List ℕ)) → HasSound parts → IfOk (sections_read parts line all) HasSound

@@ -2,13 +2,15 @@
 use Rattle.std.proofs.Common.{◌≡◌, ℕ, ◌+◌, ◌≤◌, Bool, true, false, cond, List, [], ◌∷◌, length, Option, None, Some, Result, Ok, IfOk, refl, subst, arith}
 use Rattle.std.specs.Prelude.{◌&&◌, nat_le, codes}
 use Rattle.std.specs.Str.{str_to_ascii_uppercase}
+use Rattle.std.proofs.lemmas.Bool.{and_parts, leb-true}
+use Rattle.pw_base.specs.Lengths.{IsKeyLength}
 use Rattle.pw_base.specs.declared.fault.Fault.{Fault}
 use Rattle.pw_base.specs.declared.fault_code.FaultCode.TheVariants.{BadSection}
 use Rattle.pw_code.specs.Limits.{most_programs, most_servers}
-use Rattle.pw_code.specs.Names.{IsName}
+use Rattle.pw_code.specs.Names.{IsName, may_name}
 use Rattle.pw_lines.specs.Lines.{lines}
-use Rattle.pw_lines.specs.Steps.{◌>>=◌, or_refused}
-use Rattle.pw_lines.specs.Words.{words, may_name, name_in, number_in}
+use Rattle.pw_lines.specs.Steps.{or_refused}
+use Rattle.pw_lines.specs.Words.{words, name_in, number_in}
 use Rattle.pw_scobol.specs.Requesters.{requester_of}
 use Rattle.pw_sections.specs.Headings.{plain_heading, named_heading, keyed_heading, file_heading, heading_by, heading_of}
 use Rattle.pw_sections.specs.Parts.{front, sections}
@@ -24,20 +26,20 @@ use Rattle.pw_words.specs.Words.{Word, same_word}
 use Rattle.pw_deck.specs.Parts.{no_parts, has_requester, has_server, requester_section, server_section, with_objects, section_of, section_read, sections_read, front_read, parts_of}
 use Rattle.pw_deck.specs.declared.parts.Parts.{Parts}
 
--- the name of a file is a name
-abbrev HasName : Heading → Type 0
-HasName heading.Pathcom = Unit {0}
-HasName (heading.Requester name) = Unit {0}
-HasName (heading.Server name) = Unit {0}
-HasName (heading.File name key) = IsName name
-HasName (heading.Entries name) = Unit {0}
-HasName heading.Fail = Unit {0}
-HasName heading.Log = Unit {0}
-HasName heading.End = Unit {0}
+-- the name of a file is a name, and its keys have a length that they may have
+abbrev pub HasFile : Heading → Type 0
+HasFile heading.Pathcom = Unit {0}
+HasFile (heading.Requester name) = Unit {0}
+HasFile (heading.Server name) = Unit {0}
+HasFile (heading.File name key) = IsName name × IsKeyLength key
+HasFile (heading.Entries name) = Unit {0}
+HasFile heading.Fail = Unit {0}
+HasFile heading.Log = Unit {0}
+HasFile heading.End = Unit {0}
 
-abbrev Says : Option Heading → Type 0
+abbrev pub Says : Option Heading → Type 0
 Says None = Unit {0}
-Says (Some heading) = HasName heading
+Says (Some heading) = HasFile heading
 
 plain_says : (word : Word) → Says (plain_heading word)
 plain_says word = go (same_word word (codes "?PATHCOM")) (same_word word (codes "?FAIL")) (same_word word (codes "?LOG")) (same_word word (codes "?END"))
@@ -60,11 +62,11 @@ named_says word (Some name) = go (same_word word (codes "?SCREEN-COBOL")) (same_
     go false false false = tt
 
 keyed_says : (name : Word) (key : ℕ) → IsName name → Says (keyed_heading name key)
-keyed_says name key is = go (nat_le 1 key && nat_le key 255)
+keyed_says name key is = go (nat_le 1 key && nat_le key 255) refl
   where
-    go : (b : Bool) → Says (cond b (Some (heading.File name key)) None)
-    go true = is
-    go false = tt
+    go : (b : Bool) → (nat_le 1 key && nat_le key 255) ≡ b → Says (cond b (Some (heading.File name key)) None)
+    go true fits = let both = and_parts (nat_le 1 key) (nat_le key 255) fits in (is, (leb-true 1 key both.0, leb-true key 255 both.1))
+    go false fits = tt
 
 file_says : (is_file : Bool) (word : Word) (key : Option ℕ) → Says (file_heading is_file (name_in word) key)
 file_says is_file word key = go (may_name word) refl is_file key
@@ -76,7 +78,7 @@ file_says is_file word key = go (may_name word) refl is_file key
     go false is true k = tt
     go false is false k = tt
 
-heading_says : (ws : List Word) → Says (heading_by ws)
+pub heading_says : (ws : List Word) → Says (heading_by ws)
 heading_says [] = tt
 heading_says (word ∷ []) = plain_says word
 heading_says (word ∷ name ∷ []) = named_says word (name_in name)
@@ -84,7 +86,7 @@ heading_says (word ∷ name ∷ key ∷ []) = tt
 heading_says (word ∷ name ∷ key ∷ number ∷ []) = file_says (same_word word (codes "?FILE") && same_word key (codes "KEY")) name (number_in number)
 heading_says (word ∷ name ∷ key ∷ number ∷ more ∷ rest) = tt
 
-or_refused_says : (line : ℕ) (heading : Option Heading) → Says heading → IfOk (or_refused line BadSection heading) HasName
+pub or_refused_says : (line : ℕ) (heading : Option Heading) → Says heading → IfOk (or_refused line BadSection heading) HasFile
 or_refused_says line None says = tt
 or_refused_says line (Some heading) says = says
 
@@ -112,11 +114,11 @@ with_good : (parts : Parts) (read : Result Objects Fault) → ArePartsGood parts
 with_good parts read good objects =
     and_then read _ IsGood ArePartsGood objects (λ o g. record { objects = g; requesters = good.requesters; servers = good.servers })
 
-section_good : (parts : Parts) (line : ℕ) (text : List ℕ) (heading : Heading) → HasName heading → ArePartsGood parts → IfOk (section_of parts line text heading) ArePartsGood
+section_good : (parts : Parts) (line : ℕ) (text : List ℕ) (heading : Heading) → HasFile heading → ArePartsGood parts → IfOk (section_of parts line text heading) ArePartsGood
 section_good parts line text heading.Pathcom has good = with_good parts _ good (pathcom_good parts.objects line text good.objects)
 section_good parts line text (heading.Requester name) has good = requester_good parts line text name good
 section_good parts line text (heading.Server name) has good = server_good parts line text name good
-section_good parts line text (heading.File name key) has good = with_good parts _ good (file_good parts.objects line text name key has good.objects)
+section_good parts line text (heading.File name key) has good = with_good parts _ good (file_good parts.objects line text name key has.0 good.objects)
 section_good parts line text (heading.Entries name) has good = with_good parts _ good (entries_good parts.objects line text name good.objects)
 section_good parts line text heading.Fail has good = with_good parts _ good (fail_good parts.objects line text good.objects)
 section_good parts line text heading.Log has good = with_good parts _ good (log_good parts.objects line text good.objects)
@@ -124,7 +126,7 @@ section_good parts line text heading.End has good = record { objects = good.obje
 
 read_good : (parts : Parts) (line : ℕ) (section : List ℕ) → ArePartsGood parts → IfOk (section_read parts line section) ArePartsGood
 read_good parts line section good =
-    and_then (or_refused line BadSection (heading_of (section_line section))) _ HasName ArePartsGood
+    and_then (or_refused line BadSection (heading_of (section_line section))) _ HasFile ArePartsGood
     (or_refused_says line (heading_of (section_line section)) (heading_says (words (section_line section))))
     (λ heading has. section_good parts line (section_text section) heading has good)
 

@@ -1,3 +1,2 @@
-pub mod Decks
 pub mod Lifts
 pub mod Runs

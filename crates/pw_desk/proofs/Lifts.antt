@@ -6,7 +6,7 @@ use Rattle.pw_code.specs.declared.lock.LockRule.TheVariants.{ReadersShare}
 use Rattle.pw_code.specs.declared.system.System.{System}
 use Rattle.pw_deck.specs.Deck.{deck_of}
 use Rattle.pw_deck.specs.declared.deck.Deck as trees
-use Rattle.pw_desk.proofs.Decks.{IsOf}
+use Rattle.pw_whole.proofs.Decks.{IsOf}
 use Rattle.pw_desk.specs.Headline.{Prints, Reports}
 use Rattle.pw_desk.specs.Meaning.{meaning, named}
 use Rattle.pw_desk.specs.Replays.{Answers, Replays, Verifies}

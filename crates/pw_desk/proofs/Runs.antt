@@ -9,7 +9,7 @@ use Rattle.pw_code.specs.Limits.{most_log_lines}
 use Rattle.pw_code.specs.declared.lock.LockRule.TheVariants.{ReadersShare}
 use Rattle.pw_code.specs.declared.system.System.{System}
 use Rattle.pw_deck.specs.Deck.{deck_of}
-use Rattle.pw_desk.proofs.Decks.{IsOf, refuses}
+use Rattle.pw_whole.proofs.Decks.{IsOf, refuses}
 use Rattle.pw_desk.specs.Meaning.{meaning, named}
 use Rattle.pw_desk.specs.Trials.{Tries, TriesSystem}
 use Rattle.pw_event.specs.declared.event.Event.{Event}

@@ -1,6 +1,5 @@
 -- What the replay of a deck's log comes to.
-use Rattle.std.specs.Prelude.{◌≡◌, ℕ, List, [], ◌∷◌, ◌++◌, Ok, codes}
-use Rattle.std.specs.Fmt.{decimal}
+use Rattle.std.specs.Prelude.{◌≡◌, ℕ, List, Ok}
 use Rattle.pw_code.specs.declared.lock.LockRule.{LockRule}
 use Rattle.pw_code.specs.declared.system.System.{System}
 use Rattle.pw_deck.specs.Deck.{deck_of}
@@ -14,11 +13,8 @@ use Rattle.pw_listing.specs.Meaning.{report_text}
 use Rattle.pw_monitor_world.specs.Calls.{IsFirstNoStep}
 use Rattle.pw_onecopy.specs.Behaviour.{Behaviour}
 use Rattle.pw_paired.specs.Step.{IsRun}
+use Rattle.pw_run.specs.NoStep.{no_step_line}
 use Rattle.pw_script.specs.Log.{rule_of}
-
--- the line of an entry that is no step
-abbrev pub no_step_line : ℕ → List ℕ
-no_step_line n = codes "NOT A STEP " ++ (decimal n ++ 10 ∷ [])
 
 -- the text is the line of the first entry that is no step
 abbrev pub IsNoStep : Behaviour → List Event → List ℕ → Type 0

@@ -2,7 +2,7 @@ ghost use Rattle.std.specs.Prelude.{◌≡◌, ◌-◌, ◌<◌, ◌≤◌, ◌^
 ghost use Rattle.pw_base.specs.First.{Refuses};
 ghost use Rattle.pw_code.specs.Valid.{IsValid};
 ghost use Rattle.pw_deck.specs.Deck.{deck_of};
-ghost use Rattle.pw_desk.specs.Replays.{Replays, Verifies, no_step_line};
+ghost use Rattle.pw_desk.specs.Replays.{Replays, Verifies};
 ghost use Rattle.pw_exec.specs.OfSystem.{behaviour};
 ghost use Rattle.pw_kept.specs.May.{IsLineThere};
 ghost use Rattle.pw_onecopy.specs.IsBehaviour.{IsBehaviour};
@@ -15,6 +15,7 @@ use pw_event::event::Event;
 use pw_event::script::Script;
 use pw_monitor::replay::ReplayFault;
 use pw_monitor::world::World;
+use pw_run::no_step::no_step_line;
 use pw_run::taken::{let_go, report_of};
 use pw_runs::laws::ending_laws;
 use pw_script::log::rule_of;
@@ -85,14 +86,4 @@ fn replay(
         Err(ReplayFault::DiscFault(_)) => unreachable!(),
         Err(ReplayFault::Memory) => Err(Memory),
     }
-}
-
-/// The line of an entry that is no step.
-fn no_step_line(alloc: Global, number: u64) -> Result<Bytes, Memory>
-    ensures { IfOk result (λ text. text ≡ no_step_line number) }
-{
-    let words = format!(in alloc; "NOT A STEP {number}")?;
-    let mut text = Bytes::from_slice(alloc, words.as_bytes())?;
-    text.push(b'\n')?;
-    Ok(text)
 }

@@ -7,7 +7,7 @@ use Rattle.pw_base.specs.declared.fault.Refusal.TheVariants.{At, Memory}
 use Rattle.pw_code.specs.declared.lock.LockRule.TheVariants.{ReadersShare}
 use Rattle.pw_deck.specs.Deck.{deck_of}
 use Rattle.pw_deck.specs.declared.deck.Deck as trees
-use Rattle.pw_desk.proofs.Decks.{IsOf}
+use Rattle.pw_whole.proofs.Decks.{IsOf}
 use Rattle.pw_desk.proofs.Lifts.{AreOnce, AreSerial, reports}
 use Rattle.pw_desk.specs.Meaning.{meaning}
 use Rattle.pw_disc_call.specs.Script.{script_of}

@@ -12,7 +12,8 @@ use Rattle.pw_event.specs.declared.keyword.Keyword.{Keyword}
 use Rattle.pw_event.specs.declared.keyword.Keyword.TheVariants as plain
 use Rattle.pw_event.specs.Keywords.{text_of, keyword}
 use Rattle.pw_event.specs.Line.{Names as NamesBy, Word, names_of, spelling, cause_words, ending_words, IsInRange, IsThere}
-use Rattle.pw_event.specs.Reading.{may_name, AreFormed}
+use Rattle.pw_event.specs.Reading.{AreFormed}
+use Rattle.pw_code.specs.Names.{may_name}
 use Rattle.pw_event.specs.Parsing.{named, number, counted, terminal, pair, cause_of, cause_in, ending_of, restart, end}
 use Rattle.pw_event.proofs.Numbers.{counted_out}
 use Rattle.pw_event.proofs.Sound.{keyword_out, named_out, small_out, code_out, terminal_out, pair_out}

@@ -6,7 +6,7 @@ use Rattle.std.specs.List.{AllByRecursion, slice_split}
 use Rattle.std.specs.Str.{str_to_ascii_uppercase}
 use Rattle.std.proofs.lemmas.Bool.{leb-true, le-leb, ne_eqb, eqb-false}
 use Rattle.std.proofs.lemmas.List.Splits.{join_with_byte-slice_split}
-use Rattle.pw_code.specs.Names.{is_name, IsName}
+use Rattle.pw_code.specs.Names.{is_name, IsName, may_name}
 use Rattle.pw_code.specs.Valid.{HasNames}
 use Rattle.pw_code.specs.declared.system.ClassInfo.{ClassInfo}
 use Rattle.pw_code.specs.declared.system.System.{System}
@@ -19,7 +19,7 @@ use Rattle.pw_event.specs.declared.keyword.Keyword.{Keyword}
 use Rattle.pw_event.specs.declared.keyword.Keyword.TheVariants as plain
 use Rattle.pw_event.specs.Keywords.{text_of, keyword}
 use Rattle.pw_event.specs.Line.{Names as NamesBy, no_class, spelling, sentence, pair_name, class_name, IsInRange}
-use Rattle.pw_event.specs.Reading.{may_name, AreFormed}
+use Rattle.pw_event.specs.Reading.{AreFormed}
 use Rattle.pw_event.specs.Parsing.{named, number, among, class_names, member, after_of, after, fail_process, tcp_line, fail_class, class_line, fail_line_of, fail_of, GivesUnlessMemory}
 use Rattle.pw_event.proofs.Grammar.{cond_in, among_in}
 use Rattle.pw_event.proofs.Leaves.{named_formed, thing_name, pair_among_of, class_among_of}

@@ -14,7 +14,8 @@ use Rattle.pw_event.specs.declared.event.Event.TheVariants.{Show, Key, CheckStar
 use Rattle.pw_event.specs.declared.fault.EventFault.TheVariants.{Unknown}
 use Rattle.pw_event.specs.Keywords.{keyword}
 use Rattle.pw_event.specs.Line.{Names, spelling, event_words, HasLine, IsInRange}
-use Rattle.pw_event.specs.Reading.{may_name, AreFormed}
+use Rattle.pw_event.specs.Reading.{AreFormed}
+use Rattle.pw_code.specs.Names.{may_name}
 use Rattle.pw_event.specs.Parsing.{or_unknown, among, terminal, pair, class, file, process, fault_of, cause_of, cause_in, ending_of, show, terminal_and_number, check, applied, begin, send, taken, file_at, file_line, reply, restart, fail_tcp, fail_server, failure_of, fail, takeover, raise, end, line_of, event_of, member}
 use Rattle.pw_event.proofs.Numbers.{counted-decimal}
 use Rattle.pw_event.proofs.Leaves.{number_of, code_of, refresh_of, named_formed, op_of, mode_of}

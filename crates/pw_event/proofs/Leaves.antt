@@ -4,7 +4,7 @@ use Rattle.std.specs.Prelude.{slice_index_or}
 use Rattle.std.specs.Fmt.{decimal}
 use Rattle.std.proofs.lemmas.Bool.{le-leb}
 use Rattle.std.proofs.lemmas.List.{get_or-map, length-map, map-id}
-use Rattle.pw_code.specs.Names.{AreNames, IsName}
+use Rattle.pw_code.specs.Names.{AreNames, IsName, may_name}
 use Rattle.pw_code.specs.Valid.{HasNames}
 use Rattle.pw_code.specs.declared.file.FileInfo.{FileInfo}
 use Rattle.pw_code.specs.declared.file.FileOp.{FileOp}
@@ -16,7 +16,6 @@ use Rattle.pw_code.specs.declared.system.TermInfo.{TermInfo}
 use Rattle.pw_code.specs.declared.system.System.{System}
 use Rattle.pw_event.specs.Keywords.{keyword}
 use Rattle.pw_event.specs.Line.{no_terminal, no_class, no_file, terminal_name, pair_name, class_name, file_name, refresh_number, op_text, mode_text, IsPlain}
-use Rattle.pw_event.specs.Reading.{may_name}
 use Rattle.pw_event.specs.Parsing.{named, number, refresh, among, class_names, terminal, pair, class, file, process, op, mode}
 use Rattle.pw_event.proofs.Looked.{among_at, among_thing}
 use Rattle.pw_event.proofs.Numbers.{number-decimal, counted-decimal}

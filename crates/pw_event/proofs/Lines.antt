@@ -14,7 +14,8 @@ use Rattle.pw_event.specs.declared.keyword.Keyword.TheVariants as plain
 use Rattle.pw_event.specs.Keywords.{text_of, keyword}
 use Rattle.pw_event.specs.Line.{Names, Word, Plain, TerminalName, PairName, ClassName, FileName, Process, FailNumber, Number, Code, Refresh, terminal_name, pair_name, class_name, file_name, IsThere, names_of, spelling, sentence, event_words}
 use Rattle.pw_event.specs.Parsing.{line_of, event_of}
-use Rattle.pw_event.specs.Reading.{may_name, AreFormed, IsLine, IsLineOf, Reads}
+use Rattle.pw_event.specs.Reading.{AreFormed, IsLine, IsLineOf, Reads}
+use Rattle.pw_code.specs.Names.{may_name}
 use Rattle.pw_event.proofs.Complete.{words_of, complete}
 use Rattle.pw_event.proofs.Ends.{restart_spells, end_spells}
 use Rattle.pw_event.proofs.Grammar.{spelled, grammar}

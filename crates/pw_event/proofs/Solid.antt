@@ -8,7 +8,7 @@ use Rattle.std.specs.Str.{str_to_ascii_uppercase}
 use Rattle.std.proofs.lemmas.Bool.{and_parts, ne_eqb, not-true, false≢true}
 use Rattle.std.proofs.lemmas.List.Elements.{All-append, All-cons}
 use Rattle.std.proofs.lemmas.List.Recursion.{and_at}
-use Rattle.pw_code.specs.Names.{is_name_byte, begins_with_letter}
+use Rattle.pw_code.specs.Names.{is_name_byte, begins_with_letter, may_name}
 use Rattle.pw_code.specs.Valid.{HasNames}
 use Rattle.pw_code.specs.declared.file.FileInfo.{FileInfo}
 use Rattle.pw_code.specs.declared.file.FileOp.{FileOp}
@@ -26,11 +26,12 @@ use Rattle.pw_event.specs.declared.event.Ending.TheVariants as ending
 use Rattle.pw_event.specs.declared.event.Event.{Event}
 use Rattle.pw_event.specs.declared.event.Event.TheVariants.{File, Reply, Restart, FailTcp, End}
 use Rattle.pw_event.specs.Line.{Names, terminal_name, pair_name, class_name, file_name, Word, Plain, TerminalName, PairName, ClassName, FileName, Process, FailNumber, Number, Code, Refresh, no_terminal, no_class, no_file, names_of, spelling, sentence, event_words, cause_words, IsInRange, IsThere}
-use Rattle.pw_event.specs.Reading.{may_name, AreFormed}
+use Rattle.pw_event.specs.Reading.{AreFormed}
 use Rattle.pw_event.proofs.Leaves.{thing_name}
 use Rattle.pw_event.proofs.Points.{decimal_lacks}
 use Rattle.pw_event.proofs.Splits.{Lacks, split_joined}
-use Rattle.pw_event.proofs.Uppers.{list_all-map, may_name-name}
+use Rattle.pw_event.proofs.Uppers.{may_name-name}
+use Rattle.pw_code.proofs.Uppers.{list_all-map}
 
 -- a word of the format has no space
 abbrev pub solid : Word → Bool

@@ -15,7 +15,7 @@ use Rattle.pw_event.specs.declared.keyword.Keyword.{Keyword}
 use Rattle.pw_event.specs.declared.keyword.Keyword.TheVariants as plain
 use Rattle.pw_event.specs.Keywords.{text_of, keywords, or_bad, keyword}
 use Rattle.pw_event.specs.Line.{no_terminal, no_class, no_file, pair_name, class_name, refresh_number, op_text, mode_text, member_text, IsPlain}
-use Rattle.pw_event.specs.Reading.{may_name}
+use Rattle.pw_code.specs.Names.{may_name}
 use Rattle.pw_event.specs.Parsing.{◌>>=◌, named, number, counted, or_unknown, cut, refresh, among, class_names, terminal, pair, class, file, process, op_of, op, mode_of, mode, member_of, member}
 use Rattle.pw_event.proofs.Looked.{found_is, thing_is}
 use Rattle.pw_event.proofs.Numbers.{number_out, counted_out}

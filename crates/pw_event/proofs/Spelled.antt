@@ -17,7 +17,8 @@ use Rattle.pw_event.specs.declared.keyword.Keyword.{Keyword}
 use Rattle.pw_event.specs.declared.keyword.Keyword.TheVariants as plain
 use Rattle.pw_event.specs.Keywords.{text_of, keyword}
 use Rattle.pw_event.specs.Line.{Names as NamesBy, no_terminal, names_of, spelling, event_words, reply_words, HasLine, IsInRange, IsThere}
-use Rattle.pw_event.specs.Reading.{may_name, AreFormed}
+use Rattle.pw_event.specs.Reading.{AreFormed}
+use Rattle.pw_code.specs.Names.{may_name}
 use Rattle.pw_event.specs.Parsing.{◌>>=◌, named, number, counted, refresh, terminal, pair, class, file, process, op, mode, member, fault_of, show, terminal_and_number, check_of, check, applied, begin, send, taken, file_at, file_line, reply, fail_tcp, fail_server, failure_of, fail, takeover, raise}
 use Rattle.pw_event.proofs.Numbers.{counted_out}
 use Rattle.pw_event.proofs.Sound.{Names, IsProcess, keyword_out, named_out, small_out, code_out, refresh_out, terminal_out, pair_out, class_out, file_out, process_out, op_out, mode_out, member_out}

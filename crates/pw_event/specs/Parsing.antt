@@ -26,7 +26,7 @@ use Rattle.pw_event.specs.declared.script.FailLine.{FailLine}
 use Rattle.pw_event.specs.declared.script.FailLine.TheVariants as line
 use Rattle.pw_event.specs.Keywords.{or_bad, keyword}
 use Rattle.pw_event.specs.Line.{no_class}
-use Rattle.pw_event.specs.Reading.{may_name}
+use Rattle.pw_code.specs.Names.{may_name}
 
 -- the next step, where there is no fault yet
 infixl 10 ◌>>=◌

@@ -1,19 +1,14 @@
 -- What it is to read a line of the log.
-use Rattle.std.specs.Prelude.{◌≡◌, ℕ, List, map, Bool, true, Result, Ok, Err}
+use Rattle.std.specs.Prelude.{◌≡◌, ℕ, List, map, true, Result, Ok, Err}
 use Rattle.std.specs.List.{AllByRecursion}
-use Rattle.std.specs.Str.{str_to_ascii_uppercase}
-use Rattle.pw_code.specs.Names.{is_name}
 use Rattle.pw_code.specs.Valid.{HasNames, HasFew}
 use Rattle.pw_code.specs.declared.lock.LockRule.{LockRule}
 use Rattle.pw_code.specs.declared.system.System.{System}
 use Rattle.pw_event.specs.declared.event.Event.{Event}
 use Rattle.pw_event.specs.declared.fault.EventFault.{EventFault}
 use Rattle.pw_event.specs.declared.fault.EventFault.TheVariants.{Bad, Unknown, Memory}
+use Rattle.pw_code.specs.Names.{may_name}
 use Rattle.pw_event.specs.Line.{Names, spelling, sentence, event_words, event_text, HasLine, IsInRange, IsNamed}
-
--- a name as it may stand in a line: 1 to 30 letters, digits and hyphens, of which the first is a letter, in either case
-abbrev pub may_name : List ℕ → Bool
-may_name word = is_name (str_to_ascii_uppercase word)
 
 -- the names may stand in a line
 pub record AreFormed (names : Names) : Type 0 where

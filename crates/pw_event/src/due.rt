@@ -20,8 +20,8 @@ fn pair_of(system: &System, terminal: u32) -> u32
     }
 }
 
-/// Whom an entry belongs to.
-fn owner_of(system: &System, event: &Event) -> Owner
+/// Whom an entry belongs to; a terminal that is not there is of the first pair.
+pub fn owner_of(system: &System, event: &Event) -> Owner
     ensures { result ≡ owner_of (pair_of system.now) event.now }
 {
     match *event {

@@ -1,10 +1,5 @@
 ghost use Rattle.std.specs.Prelude.{◌≡◌, ◌≢◌, ◌==◌, ◌<◌, ◌≤◌, ◌^◌, ℕ, length, position, IfSome, IfOk, MatchOption};
 ghost use Rattle.std.specs.Fmt.{decimal};
-ghost use Rattle.std.specs.List.{list_all};
-ghost use Rattle.std.specs.Char.{to_ascii_uppercase};
-ghost use Rattle.std.specs.Str.{str_to_ascii_uppercase};
-ghost use Rattle.pw_code.specs.Names.{is_name_byte, begins_with_letter};
-ghost use Rattle.pw_event.specs.Reading.{may_name};
 ghost use Rattle.std.specs.Option.{option_map};
 ghost use Rattle.pw_event.specs.Parsing.{named, is_odd, number, counted, cut, refresh, op, mode, member, after};
 
@@ -12,45 +7,14 @@ use crate::fault::EventFault;
 use crate::keyword::Keyword;
 use pw_code::file::FileOp;
 use pw_code::lock::LockMode;
-
-/// The most bytes that a name has.
-const MAX_NAME: usize = 30;
-
-fn is_name_byte(byte: u8) -> bool
-    ensures { result ≡ is_name_byte (to_ascii_uppercase byte) }
-{
-    let upper = byte.to_ascii_uppercase();
-    upper.is_ascii_uppercase() || (upper.is_ascii_digit() || upper == b'-')
-}
-
-fn are_name_bytes(word: &[u8]) -> bool
-    ensures { result ≡ list_all (λ byte. is_name_byte (to_ascii_uppercase byte)) word.now }
-{
-    word.iter().all(|byte| is_name_byte(*byte))
-}
-
-fn begins_with_letter(word: &[u8]) -> bool
-    ensures { result ≡ begins_with_letter (str_to_ascii_uppercase word.now) }
-{
-    match word {
-        [first, ..] => first.to_ascii_uppercase().is_ascii_uppercase(),
-        [] => false,
-    }
-}
-
-/// Whether the bytes are 1 to 30 letters, digits and hyphens, of which the first is a letter, in either case.
-fn is_name(word: &[u8]) -> bool
-    ensures { result ≡ may_name word.now }
-{
-    begins_with_letter(word) && (word.len() <= MAX_NAME && are_name_bytes(word))
-}
+use pw_code::names::may_name;
 
 /// Refuses a word that is no name.
 #[tactic(auto, unfolding(crate::specs::Parsing::named))]
 pub fn named(word: &[u8]) -> Result<(), EventFault>
     ensures { result ≡ named word.now }
 {
-    if is_name(word) {
+    if may_name(word) {
         Ok(())
     } else {
         Err(EventFault::Bad)

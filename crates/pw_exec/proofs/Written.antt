@@ -34,10 +34,10 @@ use Rattle.pw_exec.specs.Reading.{Registers, Spot, Taken, at_this_moment, chars_
 pub length-written : (place : ℕ) (text cells : List ℕ) → place + length text ≤ length cells → length (written place text cells) ≡ length cells
 length-written place text cells le = simp (length-append, length-take, length-drop) (omega (arith, le))
 
-length-fitted : (size : ℕ) (text : List ℕ) → length (fitted size text) ≡ size
+pub length-fitted : (size : ℕ) (text : List ℕ) → length (fitted size text) ≡ size
 length-fitted size text = simp (length-append, length-take, length-replicate) (omega arith)
 
-length-text_in : (size : ℕ) (value : Value) → length (text_in size value) ≡ size
+pub length-text_in : (size : ℕ) (value : Value) → length (text_in size value) ≡ size
 length-text_in size (Chars p chars) = length-fitted size (text_of (Chars p chars))
 length-text_in size (Register digits v) = length-fitted size (text_of (Register digits v))
 length-text_in size (Number' spelling) = length-fitted size (text_of (Number' spelling))
@@ -49,7 +49,7 @@ pub length-digits_of : (count size : ℕ) → length (digits_of count size) ≡ 
 length-digits_of zero size = refl
 length-digits_of (suc count) size = omega (arith, length-digits_of count size)
 
-length-chars_of : (digits size : ℕ) (sign negative : Bool) → length (chars_of digits sign negative size) ≡ (if sign then digits + 1 else digits)
+pub length-chars_of : (digits size : ℕ) (sign negative : Bool) → length (chars_of digits sign negative size) ≡ (if sign then digits + 1 else digits)
 length-chars_of digits size true negative = omega (arith, length-digits_of digits size)
 length-chars_of digits size false negative = length-digits_of digits size
 

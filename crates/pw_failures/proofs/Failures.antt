@@ -9,6 +9,7 @@ use Rattle.pw_event.specs.declared.script.FailLine.{FailLine}
 use Rattle.pw_event.specs.declared.script.FailLine.TheVariants as line
 use Rattle.pw_exec.specs.OfSystem.{processes_by}
 use Rattle.pw_kept.specs.May.{IsLineThere}
+use Rattle.pw_whole.proofs.Lines.{line-like}
 use Rattle.pw_whole.specs.Named.{IsNamed}
 
 processes-same : (classes : List ClassInfo) (c : ℕ) → c < length classes
@@ -26,10 +27,15 @@ line-there system (line.Server c i after) named =
       high = omega (arith, named.0.1, processes-same system.classes c named.0.0);
     }
 
+-- those of a system are there in one with the same pairs and classes too
+pub lines-like : (system other : System) → system.tcps ≡ other.tcps → system.classes ≡ other.classes
+    → (lines : List FailLine) → All (IsNamed system) lines → All (IsLineThere other) lines
+lines-like system other pairs classes [] all = All-nil (IsLineThere other)
+lines-like system other pairs classes (one ∷ lines) all =
+    All-cons (IsLineThere other) one lines
+    (line-there other one (line-like system other pairs classes one (All-head (IsNamed system) one lines all)))
+    (lines-like system other pairs classes lines (All-tail (IsNamed system) one lines all))
+
 pub lines-there : (system : System) (lines : List FailLine) → All (IsNamed system) lines
     → All (IsLineThere system) lines
-lines-there system [] all = All-nil (IsLineThere system)
-lines-there system (x ∷ xs) all =
-    All-cons (IsLineThere system) x xs
-    (line-there system x (All-head (IsNamed system) x xs all))
-    (lines-there system xs (All-tail (IsNamed system) x xs all))
+lines-there system lines all = lines-like system system refl refl lines all

@@ -14,13 +14,13 @@ use Rattle.pw_files.specs.Records.{key_cmp, below, above, with_record, without_k
 use Rattle.pw_files.proofs.Lists.{map-filter, sorted-append, sorted-around}
 
 -- what the test for less says
-lt_is : (o : Ordering) → is_lt o ≡ true → o ≡ Less
+pub lt_is : (o : Ordering) → is_lt o ≡ true → o ≡ Less
 lt_is Less h = refl
 lt_is Equal h = cc
 lt_is Greater h = cc
 
 -- what the test for greater says
-gt_is : (o : Ordering) → is_gt o ≡ true → o ≡ Greater
+pub gt_is : (o : Ordering) → is_gt o ≡ true → o ≡ Greater
 gt_is Less h = cc
 gt_is Equal h = cc
 gt_is Greater h = refl

@@ -23,7 +23,7 @@ module _ {A : Type 0} (read : List ℕ → Front A) where
       rw (k, h) (regroup front x (many_at read (count - (i + 1)) after)) in
       sym one ∙ so_far
 
-  ends : (front : List A) (count i : ℕ) (bytes : List ℕ) (total : Front (List A)) → i < count → read bytes ≡ None
+  pub ends : (front : List A) (count i : ℕ) (bytes : List ℕ) (total : Front (List A)) → i < count → read bytes ≡ None
       → with_front front (many_at read (count - i) bytes) ≡ total → total ≡ None
   unfolding many_at
   ends front count i bytes total lt h so_far =

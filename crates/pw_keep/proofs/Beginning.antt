@@ -15,15 +15,15 @@ use Rattle.pw_code.specs.declared.system.ClassInfo.{ClassInfo}
 use Rattle.pw_code.specs.declared.system.System.{System}
 use Rattle.pw_code.specs.declared.system.TermInfo.{TermInfo}
 use Rattle.pw_keep.specs.Keeps.{HasVerb, IsKeep, IsStaffed, JobHasVerb, is_run, job_of, job_terminal, jobs_at, kept_by, kept_of, no_pair, no_seat, pair_at, request_terminal, seat_at, terminals_in}
-use Rattle.pw_keep.specs.Starting.{AreFirstPairs, IsIdleDisc, context_for, first_context, first_kept, members_from, members_of, no_jobs_for, seat_for}
+use Rattle.pw_keep.specs.Starting.{AreFirstPairs, IsIdleDisc, context_for, first_context, first_kept, no_jobs_for, seat_for}
+use Rattle.pw_kept.specs.Members.{members_from, members_of, AreOf}
 use Rattle.pw_class.specs.Queue.{Queue}
 use Rattle.pw_keep.proofs.Loops.{left-is}
-use Rattle.pw_keep.proofs.Members.{members-are, seats-are}
+use Rattle.pw_kept.proofs.Members.{members-are, seats-are}
 use Rattle.pw_keep.proofs.Parts.{of-parts}
 use Rattle.pw_keep.proofs.Posts.{no_queue, some-is}
 use Rattle.pw_kept.specs.Changes.{first_pair, first_terminal}
 use Rattle.pw_kept.specs.Kept.{KeptTerminal}
-use Rattle.pw_kept.specs.Members.{AreOf}
 use Rattle.pw_pair.specs.Pairs.{SeenPair}
 use Rattle.pw_seats.specs.Jobs.{context_of}
 use Rattle.pw_seats.specs.declared.job.Job.{Job}

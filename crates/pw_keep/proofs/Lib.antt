@@ -3,7 +3,6 @@ pub mod Cancelling
 pub mod Changed
 pub mod Failing
 pub mod Loops
-pub mod Members
 pub mod Operating
 pub mod Out
 pub mod Pairing

@@ -1,5 +1,5 @@
 -- What a monitor keeps before the first entry.
-use Rattle.std.specs.Prelude.{◌≡◌, ℕ, ◌+◌, ◌==◌, ◌<◌, List, [], ◌∷◌, length, replicate, Option, Some, None, slice_get, if◌then◌else◌}
+use Rattle.std.specs.Prelude.{◌≡◌, ℕ, ◌<◌, List, length, replicate, Option, Some, None, slice_get}
 use Rattle.pw_code.specs.declared.context.Context.{Context}
 use Rattle.pw_code.specs.declared.system.ClassInfo.{ClassInfo}
 use Rattle.pw_code.specs.declared.system.System.{System}
@@ -8,21 +8,12 @@ use Rattle.pw_exec.specs.Config.{closed, fresh, starting}
 use Rattle.pw_keep.specs.Keeps.{pair_at}
 use Rattle.pw_kept.specs.Changes.{first_pair, kept_start}
 use Rattle.pw_kept.specs.Kept.{Kept}
+use Rattle.pw_kept.specs.Members.{members_of}
 use Rattle.pw_pair.specs.Pairs.{SeenPair}
 use Rattle.pw_seats.specs.Seats.{first_seat}
 use Rattle.pw_seats.specs.declared.job.Job.{Job}
 use Rattle.pw_seats.specs.declared.seat.Seat.{Seat}
 use Rattle.pw_tmf.specs.Told.{Told}
-
--- the terminals of the pair among these, of which the first has this number
-abbrev pub members_from : ℕ → ℕ → List TermInfo → List ℕ
-members_from p t [] = []
-members_from p t (info ∷ infos) =
-    if info.tcp == p then t ∷ members_from p (t + 1) infos else members_from p (t + 1) infos
-
--- the terminals of the pair, in order
-abbrev pub members_of : System → ℕ → List ℕ
-members_of system p = members_from p 0 system.terminals
 
 -- a terminal starts at the first instruction of its first program
 abbrev pub context_for : System → Option TermInfo → Context

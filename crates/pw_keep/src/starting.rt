@@ -2,7 +2,8 @@
 
 ghost use Rattle.std.specs.Prelude.{◌≡◌, ◌<◌, ◌^◌, IfOk, length, map};
 ghost use Rattle.pw_code.specs.Valid.{IsValid};
-ghost use Rattle.pw_keep.specs.Starting.{AreFirstPairs, members_from, no_jobs_for, seat_for};
+ghost use Rattle.pw_keep.specs.Starting.{AreFirstPairs, no_jobs_for, seat_for};
+ghost use Rattle.pw_kept.specs.Members.{members_from};
 
 use pw_base::memory::Memory;
 use pw_code::system::{ClassInfo, System, TermInfo};

@@ -6,7 +6,7 @@ use Rattle.pw_code.specs.declared.system.System.{System}
 use Rattle.pw_code.specs.declared.system.TermInfo.{TermInfo}
 use Rattle.pw_kept.specs.Members.{AreOf, IsOf}
 use Rattle.pw_kept.proofs.Components.{some_is}
-use Rattle.pw_kept.proofs.Seats.{any-so}
+use Rattle.pw_pair.proofs.Seating.{any-so}
 use Rattle.pw_tmf.specs.Leaving.{is_among}
 
 -- what holds of each holds of one of them

@@ -10,7 +10,8 @@ use Rattle.pw_kept.specs.Arrivals.{IsReady, StandsForPath}
 use Rattle.pw_kept.specs.Changes.{at_terminal, kept_ran, with_context, with_ready}
 use Rattle.pw_kept.specs.Kept.{Kept}
 use Rattle.pw_kept.specs.Stands.{Stands, StandsForTerminal}
-use Rattle.pw_kept.proofs.Components.{ending-stays, pairs-same, some_is, tells-same, terminal-changed}
+use Rattle.pw_kept.proofs.Components.{ending-stays, pairs-same, some_is, terminal-changed}
+use Rattle.pw_tmf.proofs.Leaving.{tells-same}
 use Rattle.pw_onecopy.specs.Path.{PathAnswer}
 use Rattle.pw_onecopy.proofs.Update.{upd_elim}
 use Rattle.pw_paired.specs.State.{State, Term}

@@ -8,8 +8,9 @@ use Rattle.pw_exec.specs.OfSystem.{behaviour}
 use Rattle.pw_kept.specs.Changes.{kept_applied}
 use Rattle.pw_kept.specs.Kept.{Kept}
 use Rattle.pw_kept.specs.Stands.{Stands, StandsForHeld, StandsForMessage, StandsForPair, StandsForSeat, StandsIfAny, works}
-use Rattle.pw_kept.proofs.Components.{apart, pair-changed, pair-of, seat-same, some_is, tells-same}
-use Rattle.pw_kept.proofs.Seats.{all-at, keeps-terminal, still-there}
+use Rattle.pw_kept.proofs.Components.{apart, pair-changed, pair-of, seat-same, some_is}
+use Rattle.pw_tmf.proofs.Leaving.{tells-same}
+use Rattle.pw_pair.proofs.Seating.{all-at, keeps-terminal, still-there}
 use Rattle.pw_kept.proofs.Settled.{settles, terminals-work, works-settle}
 use Rattle.pw_onecopy.specs.Update.{upd}
 use Rattle.pw_onecopy.proofs.Update.{upd-other, upd-same, upd_elim}

@@ -6,7 +6,7 @@ use Rattle.pw_event.specs.declared.script.FailLine.{FailLine}
 use Rattle.pw_kept.specs.Changes.{at_pair}
 use Rattle.pw_kept.specs.Kept.{Kept}
 use Rattle.pw_kept.specs.Stands.{Stands, StandsForMessage, StandsForPair, StandsForSeat, StandsIfAny}
-use Rattle.pw_kept.proofs.Seats.{all-at, keeps-terminal, still-there}
+use Rattle.pw_pair.proofs.Seating.{all-at, keeps-terminal, still-there}
 use Rattle.pw_onecopy.proofs.Update.{upd_elim}
 use Rattle.pw_pair.specs.Pairs.{SeenPair, changed_at}
 use Rattle.pw_pair.specs.Seats.{built, start_of, with_whole}

@@ -7,9 +7,11 @@ use Rattle.pw_event.specs.declared.script.FailLine.{FailLine}
 use Rattle.pw_exec.specs.OfSystem.{behaviour}
 use Rattle.pw_kept.specs.Changes.{kept_check}
 use Rattle.pw_kept.specs.Kept.{Kept}
-use Rattle.pw_kept.specs.Stands.{IsPathImage, IsUnitIn, Stands, StandsForPair, StandsForSeat, has_flights, kind_of, path_in}
-use Rattle.pw_kept.proofs.Components.{apart, pair-same, seat-same, some_is, tells-same}
-use Rattle.pw_kept.proofs.Seats.{all-at, keeps-terminal, still-there}
+use Rattle.pw_kept.specs.Stands.{IsPathImage, Stands, StandsForPair, StandsForSeat}
+use Rattle.pw_pair.specs.Follows.{IsUnitIn, has_flights, kind_of, path_in}
+use Rattle.pw_kept.proofs.Components.{apart, pair-same, seat-same, some_is}
+use Rattle.pw_tmf.proofs.Leaving.{tells-same}
+use Rattle.pw_pair.proofs.Seating.{all-at, keeps-terminal, still-there}
 use Rattle.pw_onecopy.specs.Update.{upd}
 use Rattle.pw_onecopy.proofs.Update.{upd-other, upd-same, upd_elim}
 use Rattle.pw_pair.specs.Pairs.{SeenPair, after_send}

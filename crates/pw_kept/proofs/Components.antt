@@ -8,14 +8,11 @@ use Rattle.pw_event.specs.declared.script.FailLine.{FailLine}
 use Rattle.pw_exec.specs.OfSystem.{behaviour, number_by}
 use Rattle.pw_kept.specs.Kept.{KeptTerminal}
 use Rattle.pw_kept.specs.Stands.{StandsForPair, StandsForSeat, StandsForTerminal}
-use Rattle.pw_onecopy.specs.Behaviour.{Behaviour}
 use Rattle.pw_onecopy.specs.Update.{upd}
 use Rattle.pw_onecopy.proofs.Update.{upd-other, upd-same, upd_both, upd_elim}
 use Rattle.pw_pair.specs.Pairs.{SeenPair}
 use Rattle.pw_pair.specs.declared.seat.Seat.{Seat}
-use Rattle.pw_paired.specs.State.{BackupCopy, Message, Mode, OpenUnit, State, Term}
-use Rattle.pw_tmf.specs.Tells.{Tells}
-use Rattle.pw_tmf.specs.Told.{Told}
+use Rattle.pw_paired.specs.State.{BackupCopy, Message, Mode, OpenUnit, Term}
 
 -- ---- small things
 
@@ -124,18 +121,3 @@ pair-changed system modes terms new_terms memory new_memory flight new_flight pa
     (λ is. subst (λ x. x < length system.tcps → StandsForPair system x at new_terms new_memory new_flight pair) (sym is) new few)
     (λ ne. pair-same system j (modes j) terms new_terms memory new_memory flight new_flight (pairs j)
     (λ t info here of. same t info here (λ e. ne (sym of ∙ e))) (old j few))
-
--- ---- the disc
-
--- the disc tells of another state what that has the same
-pub tells-same : (sys : Behaviour) (state new : State) (told : Told) → new.files ≡ state.files → new.locks ≡ state.locks → new.units ≡ state.units → new.before ≡ state.before → new.ended ≡ state.ended
-    → Tells sys state told → Tells sys new told
-tells-same sys state new told files locks units before ended h = record {
-  rule = h.rule;
-  keys = h.keys;
-  files = h.files ∙ sym files;
-  locks = h.locks ∙ sym locks;
-  units = rw units (rw before h.units);
-  ended = h.ended ∙ sym ended;
-  idle = rw units (rw before h.idle);
-}

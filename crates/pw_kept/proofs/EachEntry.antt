@@ -18,7 +18,7 @@ use Rattle.pw_kept.specs.Tested.{IsPlaced}
 use Rattle.pw_kept.proofs.Agreeing.{agrees-of, tells-left}
 use Rattle.pw_kept.proofs.Applied.{applied-stands}
 use Rattle.pw_kept.proofs.Behind.{again-enters, key-enters, show-enters}
-use Rattle.pw_kept.proofs.Components.{tells-same}
+use Rattle.pw_tmf.proofs.Leaving.{tells-same}
 use Rattle.pw_kept.proofs.Ending.{end-stands, left-at}
 use Rattle.pw_kept.proofs.Failing.{fails-stands}
 use Rattle.pw_kept.proofs.Leaving.{cancel-stands, left-stands}

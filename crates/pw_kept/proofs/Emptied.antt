@@ -7,9 +7,10 @@ use Rattle.pw_code.specs.declared.system.System.{System}
 use Rattle.pw_code.specs.declared.system.TermInfo.{TermInfo}
 use Rattle.pw_event.specs.declared.script.FailLine.{FailLine}
 use Rattle.pw_exec.specs.OfSystem.{behaviour}
-use Rattle.pw_kept.specs.Stands.{StandsForPair, StandsForSeat, mode_as}
+use Rattle.pw_kept.specs.Stands.{StandsForPair, StandsForSeat}
+use Rattle.pw_pair.specs.Follows.{mode_as}
 use Rattle.pw_kept.proofs.Components.{pair-of}
-use Rattle.pw_kept.proofs.Seats.{still-there}
+use Rattle.pw_pair.proofs.Seating.{still-there}
 use Rattle.pw_pair.specs.Pairs.{SeenPair, in_mode}
 use Rattle.pw_pair.specs.Seats.{without_backup, without_flight}
 use Rattle.pw_pair.specs.declared.seat.Seat.{Seat}

@@ -11,9 +11,10 @@ use Rattle.pw_kept.specs.Changes.{at_pair, at_terminal, leave, leave_at}
 use Rattle.pw_kept.specs.Kept.{Kept}
 use Rattle.pw_kept.specs.Stands.{Stands, StandsForPair, StandsForSeat, works}
 use Rattle.pw_kept.proofs.Agreeing.{only-agrees-in, tells-alone}
-use Rattle.pw_kept.proofs.Components.{apart, pair-changed, pair-of, seat-same, tells-same, terminal-changed}
+use Rattle.pw_kept.proofs.Components.{apart, pair-changed, pair-of, seat-same, terminal-changed}
+use Rattle.pw_tmf.proofs.Leaving.{tells-same}
 use Rattle.pw_kept.proofs.Leaving.{left-stands}
-use Rattle.pw_kept.proofs.Seats.{all-at, keeps-terminal, still-there}
+use Rattle.pw_pair.proofs.Seating.{all-at, keeps-terminal, still-there}
 use Rattle.pw_kept.proofs.Settled.{settles, terminals-work, works-settle}
 use Rattle.pw_onecopy.specs.Update.{upd}
 use Rattle.pw_onecopy.proofs.Update.{upd-other, upd-same, upd_elim}

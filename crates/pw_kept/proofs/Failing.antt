@@ -7,9 +7,11 @@ use Rattle.pw_exec.specs.OfSystem.{behaviour}
 use Rattle.pw_kept.specs.Changes.{at_each, at_pair, backup_lost, cancel, kept_fail_tcp, leave, primary_lost, without_path}
 use Rattle.pw_kept.specs.Kept.{Kept, KeptTerminal}
 use Rattle.pw_kept.specs.Members.{AreOf}
-use Rattle.pw_kept.specs.Stands.{Stands, StandsForPair, mode_as, works}
+use Rattle.pw_kept.specs.Stands.{Stands, StandsForPair, works}
+use Rattle.pw_pair.specs.Follows.{mode_as}
 use Rattle.pw_kept.proofs.Among.{among-is}
-use Rattle.pw_kept.proofs.Components.{TerminalsStand, pair-changed, pair-of, tells-same}
+use Rattle.pw_kept.proofs.Components.{TerminalsStand, pair-changed, pair-of}
+use Rattle.pw_tmf.proofs.Leaving.{tells-same}
 use Rattle.pw_kept.proofs.Emptied.{emptied, grounded, with-others, with-own}
 use Rattle.pw_kept.proofs.Settled.{terminals-work}
 use Rattle.pw_onecopy.specs.Update.{upd}

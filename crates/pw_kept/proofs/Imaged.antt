@@ -47,7 +47,7 @@ fault-failed (Failed code) = refl
 fault-failed Ended = refl
 fault-failed Dropped = refl
 
-arrives-last : (system : System) (answers : List Answer) (a : Answer) (c d : Config) → Arrives system c (answers ++ a ∷ []) d
+pub arrives-last : (system : System) (answers : List Answer) (a : Answer) (c d : Config) → Arrives system c (answers ++ a ∷ []) d
     → (from : Config) × (at : Config) × Arrives system c answers from × Reaches system from at × (put system a at ≡ d)
 arrives-last system [] a c d first = (c, first.0, refl, first.1.0, first.1.1)
 arrives-last system (one ∷ answers) a c d first =

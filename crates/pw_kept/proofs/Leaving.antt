@@ -10,7 +10,7 @@ use Rattle.pw_kept.specs.Changes.{cancel, leave, without_unit}
 use Rattle.pw_kept.specs.Kept.{Kept, KeptTerminal}
 use Rattle.pw_kept.specs.Stands.{Stands, StandsForTerminal}
 use Rattle.pw_kept.proofs.Cancelled.{AgreesOn, cancelled-stands}
-use Rattle.pw_kept.proofs.Components.{tells-same}
+use Rattle.pw_tmf.proofs.Leaving.{tells-same}
 use Rattle.pw_paired.specs.State.{Mode, OpenUnit, State, Term}
 use Rattle.pw_paired.specs.Units.{cancel_requests, leave_units}
 use Rattle.pw_tmf.specs.Tells.{Tells}

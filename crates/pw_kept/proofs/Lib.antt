@@ -23,6 +23,7 @@ pub mod Leaving
 pub mod Legally
 pub mod Mays
 pub mod Meeting
+pub mod Members
 pub mod Needed
 pub mod OfRuns
 pub mod PathLengths
@@ -31,7 +32,6 @@ pub mod Readings
 pub mod Replying
 pub mod Restarted
 pub mod RunOn
-pub mod Seats
 pub mod Sending
 pub mod Served
 pub mod Serving

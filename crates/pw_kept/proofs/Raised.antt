@@ -5,8 +5,10 @@ use Rattle.pw_event.specs.declared.script.FailLine.{FailLine}
 use Rattle.pw_exec.specs.OfSystem.{behaviour}
 use Rattle.pw_kept.specs.Changes.{kept_raise}
 use Rattle.pw_kept.specs.Kept.{Kept}
-use Rattle.pw_kept.specs.Stands.{Stands, StandsForPair, has_flights, works}
-use Rattle.pw_kept.proofs.Components.{pair-changed, tells-same}
+use Rattle.pw_kept.specs.Stands.{Stands, StandsForPair, works}
+use Rattle.pw_pair.specs.Follows.{has_flights}
+use Rattle.pw_kept.proofs.Components.{pair-changed}
+use Rattle.pw_tmf.proofs.Leaving.{tells-same}
 use Rattle.pw_kept.proofs.Emptied.{emptied, with-others, with-own}
 use Rattle.pw_kept.proofs.Settled.{terminals-work}
 use Rattle.pw_onecopy.proofs.Update.{upd_elim}

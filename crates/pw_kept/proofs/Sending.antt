@@ -15,7 +15,8 @@ use Rattle.pw_kept.specs.Asked.{answered_with, unit_in}
 use Rattle.pw_kept.specs.Changes.{attempted, births_behind, kept_check, unit_at, with_context, without_unit}
 use Rattle.pw_kept.specs.Entered.{answering, begin_at, closing_context, copied, entered_back, entered_begin, entered_check_copy, entered_check_end, entered_check_start, entered_commit, entered_send, image_message, send_image, sent_by, tcp_of, verb_of}
 use Rattle.pw_kept.specs.Kept.{Kept, KeptTerminal}
-use Rattle.pw_kept.specs.Stands.{IsPathImage, Stands, StandsForKnown, StandsIfAny, has_flights}
+use Rattle.pw_kept.specs.Stands.{IsPathImage, Stands, StandsForKnown, StandsIfAny}
+use Rattle.pw_pair.specs.Follows.{has_flights}
 use Rattle.pw_kept.specs.Tested.{Carries, IsAsking, IsPlaced}
 use Rattle.pw_kept.proofs.Checked.{checked}
 use Rattle.pw_kept.proofs.Components.{pair-of, some_is}

@@ -16,7 +16,8 @@ use Rattle.pw_kept.specs.Changes.{birth_for, free_process, kept_fail_server, kep
 use Rattle.pw_kept.specs.Kept.{Kept}
 use Rattle.pw_kept.specs.Stands.{Stands, StandsForClass, StandsForJob, StandsIfAny}
 use Rattle.pw_kept.proofs.Classes.{class-changed}
-use Rattle.pw_kept.proofs.Components.{ending-stays, pairs-same, some_is, tells-same, terminal-changed}
+use Rattle.pw_kept.proofs.Components.{ending-stays, pairs-same, some_is, terminal-changed}
+use Rattle.pw_tmf.proofs.Leaving.{tells-same}
 use Rattle.pw_onecopy.specs.Update.{upd}
 use Rattle.pw_onecopy.proofs.Update.{upd-other, upd-same, upd_both, upd_elim}
 use Rattle.pw_paired.specs.Failure.{do_fail_server, process_fails}

@@ -1,5 +1,5 @@
 -- A pair is Paired behind an entry where its memory lacks no live terminal.
-use Rattle.std.proofs.Common.{◌≡◌, ℕ, ◌<◌, ◌==◌, ◌&&◌, List, Option, Some, None, Bool, true, false, not, refl, sym, ap, ◌∙◌, length, ⊎_elim, arith, true≢false, is_some, is_none}
+use Rattle.std.proofs.Common.{◌≡◌, ℕ, ◌<◌, ◌==◌, ◌&&◌, List, Option, Some, None, Bool, true, false, not, refl, sym, ap, ◌∙◌, length, ⊎_elim, arith, is_some, is_none}
 use Rattle.std.specs.Prelude.{slice_get}
 use Rattle.std.specs.List.{list_any}
 use Rattle.std.proofs.lemmas.List.Elements.{All-weaker}
@@ -9,9 +9,10 @@ use Rattle.pw_code.specs.declared.system.System.{System}
 use Rattle.pw_event.specs.declared.event.Ending.{Ending}
 use Rattle.pw_event.specs.declared.script.FailLine.{FailLine}
 use Rattle.pw_exec.specs.OfSystem.{behaviour}
-use Rattle.pw_kept.specs.Stands.{StandsForHeld, StandsForPair, StandsForSeat, StandsIfAny, has_flights, mode_as, works}
+use Rattle.pw_kept.specs.Stands.{StandsForHeld, StandsForPair, StandsForSeat, StandsIfAny, works}
 use Rattle.pw_kept.proofs.Components.{TerminalsStand, pair-of}
-use Rattle.pw_kept.proofs.Seats.{any-so, any-then}
+use Rattle.pw_pair.proofs.Following.{all-of, both-of, flights-settle, mode-settles, same-truth}
+use Rattle.pw_pair.proofs.Seating.{any-so, any-then}
 use Rattle.pw_pair.specs.Pairs as pair
 use Rattle.pw_pair.specs.Pairs.{SeenPair, settled}
 use Rattle.pw_pair.specs.Seats.{is_lacking, is_seat_of}
@@ -24,22 +25,6 @@ use Rattle.pw_kept.specs.Kept.{KeptTerminal}
 use Rattle.pw_progress.proofs.Lacking.{any_below-some, any_below-true}
 
 -- ---- modes
-
-mode-settles : (at : Mode) (lacks : Bool) → pair.settled_mode (mode_as at) lacks ≡ mode_as (settled_mode at lacks)
-mode-settles Alone lacks = refl
-mode-settles Raising true = refl
-mode-settles Raising false = refl
-mode-settles Paired lacks = refl
-mode-settles Down lacks = refl
-mode-settles Gone lacks = refl
-
-flights-settle : (at : Mode) (lacks : Bool) → has_flights (settled_mode at lacks) ≡ has_flights at
-flights-settle Alone lacks = refl
-flights-settle Raising true = refl
-flights-settle Raising false = refl
-flights-settle Paired lacks = refl
-flights-settle Down lacks = refl
-flights-settle Gone lacks = refl
 
 pub works-settle : (at : Mode) (lacks : Bool) → works (settled_mode at lacks) ≡ works at
 works-settle Alone lacks = refl
@@ -75,19 +60,6 @@ lacking-same R None (Some copy) (Some held) h = refl
 lacking-same R None None (Some held) h = absurd h
 lacking-same R None (Some copy) None h = absurd h
 lacking-same R (Some ending) copy held h = refl
-
-both-of : (a b c : Bool) → ((a && b) && c) ≡ true → (a ≡ true) × ((b && c) ≡ true)
-both-of true b c e = (refl, e)
-both-of false b c e = absurd (true≢false (sym e))
-
-all-of : (a b c : Bool) → a ≡ true → (b && c) ≡ true → ((a && b) && c) ≡ true
-all-of true b c a e = e
-all-of false b c a e = absurd (true≢false (sym a))
-
-same-truth : (a b : Bool) → (a ≡ true → b ≡ true) → (b ≡ true → a ≡ true) → a ≡ b
-same-truth true b there back = sym (there refl)
-same-truth false true there back = back refl
-same-truth false false there back = refl
 
 -- a place that is there is below the length
 below-length : {X : Type 0} (xs : List X) (i : ℕ) (x : X) → slice_get xs i ≡ Some x → i < length xs

@@ -17,9 +17,11 @@ use Rattle.pw_image.proofs.ImageForms.{read-again}
 use Rattle.pw_kept.specs.Changes.{kept_takeover, memory_in, resumed, resumed_live, runs_told}
 use Rattle.pw_kept.specs.Kept.{Kept, KeptTerminal}
 use Rattle.pw_kept.specs.Members.{AreOf}
-use Rattle.pw_kept.specs.Stands.{IsPathImage, Stands, StandsForHeld, StandsForKnown, StandsForPair, StandsForSeat, StandsForTerminal, StandsIfAny, has_flights}
+use Rattle.pw_kept.specs.Stands.{IsPathImage, Stands, StandsForHeld, StandsForKnown, StandsForPair, StandsForSeat, StandsForTerminal, StandsIfAny}
+use Rattle.pw_pair.specs.Follows.{has_flights}
 use Rattle.pw_kept.proofs.Among.{among-is}
-use Rattle.pw_kept.proofs.Components.{pair-changed, pair-of, some_is, tells-same}
+use Rattle.pw_kept.proofs.Components.{pair-changed, pair-of, some_is}
+use Rattle.pw_tmf.proofs.Leaving.{tells-same}
 use Rattle.pw_kept.proofs.Emptied.{emptied, with-others, with-own}
 use Rattle.pw_onecopy.specs.Path.{PathAnswer}
 use Rattle.pw_onecopy.proofs.Update.{upd-other, upd-same}

@@ -11,7 +11,8 @@ use Rattle.pw_exec.specs.OfSystem.{behaviour, number_by, processes_by}
 use Rattle.pw_kept.specs.Changes.{runs_told}
 use Rattle.pw_kept.specs.Kept.{Kept}
 use Rattle.pw_kept.specs.PairTests.{is_alone, is_down, is_gone, is_in, is_raising, is_sending, may_apply, may_copy, may_lose, may_raise, may_take_over}
-use Rattle.pw_kept.specs.Stands.{Stands, StandsForClass, StandsForHeld, StandsForPair, StandsForSeat, StandsIfAny, mode_as}
+use Rattle.pw_kept.specs.Stands.{Stands, StandsForClass, StandsForHeld, StandsForPair, StandsForSeat, StandsIfAny}
+use Rattle.pw_pair.specs.Follows.{mode_as}
 use Rattle.pw_kept.specs.TerminalTests as kept
 use Rattle.pw_kept.specs.TerminalTests.{can_where, entries_of, flies, is_live, may_again, may_end_entries, may_fault, may_key, may_send, may_show, may_stop, pair_of, seat_at}
 use Rattle.pw_kept.specs.Tested.{IsAsking, IsPlaced}

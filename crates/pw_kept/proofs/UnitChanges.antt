@@ -14,7 +14,8 @@ use Rattle.pw_kept.specs.Changes.{at_terminal, attempted, birth_for, births_behi
 use Rattle.pw_kept.specs.Kept.{Kept, KeptTerminal}
 use Rattle.pw_kept.specs.Stands.{Stands, StandsForKnown, StandsForTerminal, StandsIfAny, works}
 use Rattle.pw_kept.proofs.Classes.{class-changed}
-use Rattle.pw_kept.proofs.Components.{TerminalsStand, ending-stays, pair-of, pairs-same, some_is, tells-same, terminal-and-unit}
+use Rattle.pw_kept.proofs.Components.{TerminalsStand, ending-stays, pair-of, pairs-same, some_is, terminal-and-unit}
+use Rattle.pw_tmf.proofs.Leaving.{tells-same}
 use Rattle.pw_code.specs.declared.verb.Verb.TheVariants as verb
 use Rattle.pw_onecopy.specs.Path.{Begun, Dropped, PathAnswer}
 use Rattle.pw_onecopy.specs.Update.{upd}

@@ -1,5 +1,5 @@
 -- The terminals of a pair, and what is of a terminal of the system.
-use Rattle.std.specs.Prelude.{◌≡◌, ℕ, ◌==◌, ◌<◌, List, All, Some, true, slice_get}
+use Rattle.std.specs.Prelude.{◌≡◌, ℕ, ◌+◌, ◌==◌, ◌<◌, List, [], ◌∷◌, All, Some, true, slice_get, if◌then◌else◌}
 use Rattle.std.specs.List.{IsDistinct}
 use Rattle.pw_code.specs.declared.system.System.{System}
 use Rattle.pw_code.specs.declared.system.TermInfo.{TermInfo}
@@ -9,6 +9,16 @@ use Rattle.pw_onecopy.specs.Path.{PathAnswer}
 use Rattle.pw_paired.specs.State.{Job, OpenUnit, State}
 use Rattle.pw_paired.specs.Terminal.{next_verb}
 use Rattle.pw_tmf.specs.Leaving.{is_among}
+
+-- the terminals of the pair among these, of which the first has this number
+abbrev pub members_from : ℕ → ℕ → List TermInfo → List ℕ
+members_from p t [] = []
+members_from p t (info ∷ infos) =
+    if info.tcp == p then t ∷ members_from p (t + 1) infos else members_from p (t + 1) infos
+
+-- the terminals of the pair, in order
+abbrev pub members_of : System → ℕ → List ℕ
+members_of system p = members_from p 0 system.terminals
 
 -- the terminal is one of the pair
 pub record IsOf (system : System) (p t : ℕ) : Type 0 where

@@ -14,17 +14,14 @@ use Rattle.pw_kept.specs.Arrivals.{IsReady, StandsForPath}
 use Rattle.pw_kept.specs.Kept.{Kept, KeptTerminal}
 use Rattle.pw_onecopy.specs.Path.{PathAnswer}
 use Rattle.pw_pair.specs.Bodies.{image_in}
+use Rattle.pw_pair.specs.Follows.{IsUnitIn, has_flights, kind_of, mode_as, path_in}
 use Rattle.pw_pair.specs.Pairs.{SeenPair}
 use Rattle.pw_pair.specs.Seats.{is_seat_of, start_of}
 use Rattle.pw_pair.specs.declared.backup.Held.{Held}
-use Rattle.pw_pair.specs.declared.message.CheckKind.{CheckKind}
-use Rattle.pw_pair.specs.declared.message.CheckKind.TheVariants as kind
-use Rattle.pw_pair.specs.declared.mode.Mode as pair
-use Rattle.pw_pair.specs.declared.mode.Mode.TheVariants as mode
 use Rattle.pw_pair.specs.declared.seat.Flight.{Flight}
 use Rattle.pw_pair.specs.declared.seat.Seat.{Seat}
 use Rattle.pw_paired.specs.Queues.{queue_of}
-use Rattle.pw_paired.specs.State.{Mode, Alone, Raising, Paired, Down, Gone, BackupCopy, Class, Job, Message, Start, End, Copy, OpenUnit, State, Term}
+use Rattle.pw_paired.specs.State.{Mode, Alone, Raising, Paired, Down, Gone, BackupCopy, Class, Job, Message, OpenUnit, State, Term}
 use Rattle.pw_paired.specs.Terminal.{awaited_of}
 use Rattle.pw_paired.specs.Units.{attempt_of, restarts_of}
 use Rattle.pw_tmf.specs.Tells.{Tells}
@@ -44,22 +41,6 @@ works Raising = true
 works Paired = true
 works Down = false
 works Gone = false
-
--- messages fly to a backup
-abbrev pub has_flights : Mode → Bool
-has_flights Raising = true
-has_flights Paired = true
-has_flights Alone = false
-has_flights Down = false
-has_flights Gone = false
-
--- a mode as a pair has it
-abbrev pub mode_as : Mode → pair.Mode
-mode_as Alone = mode.Alone
-mode_as Raising = mode.Raising
-mode_as Paired = mode.Paired
-mode_as Down = mode.Down
-mode_as Gone = mode.Gone
 
 -- ---- paths
 
@@ -118,24 +99,6 @@ pub record StandsForHeld (system : System) (terminal : TermInfo) (copy : BackupC
   pub unit : held.unit ≡ copy.unit
   pub start : IsPathImage system terminal copy.start held.start
   pub end : StandsIfAny (IsPathImage system terminal) copy.end held.end
-
--- what a message is for
-abbrev pub kind_of : Message → CheckKind
-kind_of (Start unit path) = kind.Start
-kind_of (End path) = kind.End
-kind_of (Copy unit path) = kind.Copy
-
--- the path of a message
-abbrev pub path_in : Message → List PathAnswer
-path_in (Start unit path) = path
-path_in (End path) = path
-path_in (Copy unit path) = path
-
--- the message has this unit number; an End has none
-abbrev pub IsUnitIn : Message → ℕ → Type 0
-IsUnitIn (Start unit path) number = number ≡ unit
-IsUnitIn (End path) number = Unit {0}
-IsUnitIn (Copy unit path) number = number ≡ unit
 
 -- a message in flight is of the same kind and unit, and what its body stands for over the start image
 -- that is held is an image for its path

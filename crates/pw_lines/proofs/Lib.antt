@@ -3,4 +3,3 @@ pub mod Folds
 pub mod Numbers
 pub mod Runs
 pub mod Steps
-pub mod Uppers

@@ -4,7 +4,7 @@ use Rattle.std.specs.Char.{is_ascii_digit}
 use Rattle.std.specs.List.{list_all}
 use Rattle.std.specs.Str.{str_to_ascii_uppercase}
 use Rattle.std.specs.Str.Parse.{digits_value}
-use Rattle.pw_code.specs.Names.{is_name}
+use Rattle.pw_code.specs.Names.{may_name}
 use Rattle.pw_lines.specs.Lines.{in_front}
 
 -- no word goes on there: a space stands in front, or nothing does
@@ -19,10 +19,6 @@ words (b ∷ rest) =
     if b == 32 then words rest
     else (if ends_word rest then (b ∷ []) ∷ words rest
     else in_front b (words rest))
-
--- a name as it may stand in a line: 1 to 30 letters, digits and hyphens, of which the first is a letter, in either case
-abbrev pub may_name : List ℕ → Bool
-may_name word = is_name (str_to_ascii_uppercase word)
 
 -- the name that a word is, in upper case
 abbrev pub name_in : List ℕ → Option (List ℕ)

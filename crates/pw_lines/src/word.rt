@@ -1,21 +1,18 @@
 ghost use Rattle.std.specs.Prelude.{◌≡◌, ◌==◌, ◌≢◌, ◌<◌, ◌≤◌, [], ◌∷◌, length, not, take_while, true, IfSome, IfOk, MatchOption, MatchBool};
 ghost use Rattle.std.specs.List.{list_all};
-ghost use Rattle.std.specs.Char.{is_ascii_digit, to_ascii_uppercase};
+ghost use Rattle.std.specs.Char.{is_ascii_digit};
 ghost use Rattle.std.specs.Str.{str_to_ascii_uppercase};
 ghost use Rattle.std.specs.Str.Parse.{digits_value};
-ghost use Rattle.pw_code.specs.Names.{is_name_byte, begins_with_letter};
 ghost use Rattle.pw_base.specs.First.{Gives};
 ghost use Rattle.pw_lines.specs.Steps.{or_refused};
-ghost use Rattle.pw_lines.specs.Words.{words, may_name, name_in, is_number, number_in};
+ghost use Rattle.pw_lines.specs.Words.{words, name_in, is_number, number_in};
 
 use pw_base::bytes::Bytes;
 use pw_base::fault::Refusal;
 use pw_base::fault_code::FaultCode;
 use pw_base::memory::Memory;
+use pw_code::names::may_name;
 use std::alloc::Global;
-
-/// The most bytes that a name has.
-pub const MAX_NAME: usize = 30;
 
 /// The most digits that a number has.
 const MAX_DIGITS: usize = 9;
@@ -53,36 +50,6 @@ pub fn is_blank(line: &[u8]) -> bool
     ensures { MatchBool result (words line.now ≡ []) (words line.now ≢ []) }
 {
     next_word(line).is_none()
-}
-
-fn is_name_byte(byte: u8) -> bool
-    ensures { result ≡ is_name_byte (to_ascii_uppercase byte) }
-{
-    let upper = byte.to_ascii_uppercase();
-    upper.is_ascii_uppercase() || (upper.is_ascii_digit() || upper == b'-')
-}
-
-fn are_name_bytes(word: &[u8]) -> bool
-    ensures { result ≡ list_all (λ byte. is_name_byte (to_ascii_uppercase byte)) word.now }
-{
-    word.iter().all(|byte| is_name_byte(*byte))
-}
-
-fn begins_with_letter(word: &[u8]) -> bool
-    ensures { result ≡ begins_with_letter (str_to_ascii_uppercase word.now) }
-{
-    match word {
-        [first, ..] => first.to_ascii_uppercase().is_ascii_uppercase(),
-        [] => false,
-    }
-}
-
-/// Whether a word is 1 to 30 letters, digits and hyphens, of which the first is a letter, in either
-/// case.
-pub fn may_name(word: &[u8]) -> bool
-    ensures { result ≡ may_name word.now }
-{
-    begins_with_letter(word) && (word.len() <= MAX_NAME && are_name_bytes(word))
 }
 
 /// The word in upper case.

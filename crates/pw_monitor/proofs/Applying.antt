@@ -18,7 +18,8 @@ use Rattle.pw_monitor.specs.Judging.{IsOfWork, Passes}
 use Rattle.pw_monitor.specs.PutBack.{RanFrom, faulted_as, leaves_work, put_back_for, ran_back}
 use Rattle.pw_monitor.specs.Running.{RunsTo}
 use Rattle.pw_monitor_world.proofs.Steps.{passes-shown}
-use Rattle.pw_monitor_world.specs.Actors.{IsActor, members_of}
+use Rattle.pw_monitor_world.specs.Actors.{IsActor}
+use Rattle.pw_kept.specs.Members.{members_of}
 use Rattle.pw_monitor_world.specs.Answers.{Comes, FailsOnly, IsBuilt, IsFull, LeavesApplied, Pushes, ran, ran_from, with_out}
 use Rattle.pw_monitor_world.specs.Pushed.{CanPush, pushed}
 use Rattle.pw_monitor_world.specs.Seen.{Seen, work_of}

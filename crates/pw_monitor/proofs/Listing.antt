@@ -9,7 +9,7 @@ use Rattle.pw_monitor.proofs.Touching.{grows-as, grows-by, grows-more}
 use Rattle.pw_monitor.specs.States.{IsMonitor, WorldState, seen}
 use Rattle.pw_monitor.specs.Ledgers.{books_of}
 use Rattle.pw_monitor.specs.Touched.{Grows, asks_at, cancels_at, named}
-use Rattle.pw_monitor_world.specs.Actors.{members_of}
+use Rattle.pw_kept.specs.Members.{members_of}
 use Rattle.pw_monitor_world.specs.Pushed.{CanPush}
 use Rattle.pw_monitor_world.specs.Touches.{loses}
 use Rattle.pw_monitor_world.specs.Touching.{touches_at}

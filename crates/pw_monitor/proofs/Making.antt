@@ -26,7 +26,7 @@ use Rattle.pw_kept.specs.Entered.{copied}
 use Rattle.pw_kept.specs.May.{IsThere, may}
 use Rattle.pw_kept.specs.Read.{AreValued, IsEntryRead}
 use Rattle.pw_kept.specs.Needs.{ClosingFits, Needs}
-use Rattle.pw_kept.specs.Stands.{mode_as}
+use Rattle.pw_pair.specs.Follows.{mode_as}
 use Rattle.pw_kept.specs.TerminalTests.{closing, pair_of}
 use Rattle.pw_kept.specs.Tested.{IsAsking, IsPlaced, IsServing}
 use Rattle.pw_kept.proofs.Agreeing.{there-is}

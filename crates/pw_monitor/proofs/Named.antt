@@ -19,7 +19,8 @@ use Rattle.pw_monitor_world.proofs.Behind.{needs}
 use Rattle.pw_monitor_world.proofs.OfUnits.{works}
 use Rattle.pw_monitor_world.proofs.Paths.{paths-are}
 use Rattle.pw_monitor_world.proofs.Steps.{there}
-use Rattle.pw_monitor_world.specs.Actors.{IsActor, members_of}
+use Rattle.pw_monitor_world.specs.Actors.{IsActor}
+use Rattle.pw_kept.specs.Members.{members_of}
 use Rattle.pw_monitor_world.specs.Pushed.{CanPush}
 use Rattle.pw_monitor_world.specs.Seen.{Seen, state_of, sys_of}
 use Rattle.pw_monitor_world.specs.Touches.{cancels_where, is_at, is_at_class, is_at_process, leaves, loses, tells_of_pair}

@@ -1,8 +1,9 @@
 -- What is noted of actors is no part of a log: a world stays one where it changes.
-use Rattle.std.proofs.Common.{◌≡◌, ◌∙◌, ℕ, Bool, true, false, ap, refl, subst, sym, inl, inr, arith, rules}
+use Rattle.std.proofs.Common.{◌≡◌, ◌∙◌, ℕ, Bool, true, false, ap, refl, subst, sym, inl, inr}
 use Rattle.std.proofs.lemmas.Bool.{cases_Bool}
 use Rattle.std.specs.Prelude.{if◌then◌else◌}
 use Rattle.std.proofs.Math.Path.{fun_ext}
+use Rattle.pw_monitor_world.proofs.SameWork.{marked-so, out-so}
 use Rattle.pw_monitor_world.specs.Actors.{IsActor}
 use Rattle.pw_monitor_world.specs.Enabled.{MayWork}
 use Rattle.pw_monitor_world.specs.Pushed.{AreMarked}
@@ -11,30 +12,11 @@ use Rattle.pw_monitor_world.specs.Stamps.{IsStamp}
 use Rattle.pw_monitor_world.specs.Worlds.{Books, IsWorld}
 use Rattle.pw_monitor.specs.Ledgers.{IsNoted, LedgerState, books_of}
 use Rattle.pw_monitor.specs.States.{IsMonitor, WorldState, seen}
+use Rattle.pw_roster.proofs.Placing.{same-is}
 use Rattle.pw_roster.specs.Places.{all_marked, is_placed, is_same_actor, noted, notes_in, with_mark, with_out}
 use Rattle.pw_roster.specs.declared.actor.Actor.{Actor}
-use Rattle.pw_roster.specs.declared.actor.Actor.TheVariants.{Terminal, Process, Pair, Class}
 use Rattle.pw_roster.specs.declared.roster.Note.{Note}
 use Rattle.pw_tmf.specs.Told.{Told}
-
--- two actors that are one are equal
-pub same-is : (a b : Actor) → is_same_actor a b ≡ true → a ≡ b
-same-is (Terminal t) (Terminal u) e = let h : t ≡ u = grind arith in ap Terminal h
-same-is (Terminal t) (Process d j) e = search rules
-same-is (Terminal t) (Pair q) e = search rules
-same-is (Terminal t) (Class d) e = search rules
-same-is (Process c i) (Terminal u) e = search rules
-same-is (Process c i) (Process d j) e = let h : c ≡ d = grind arith in let k : i ≡ j = grind arith in ap (Process c) k ∙ ap (λ x. Process x j) h
-same-is (Process c i) (Pair q) e = search rules
-same-is (Process c i) (Class d) e = search rules
-same-is (Pair p) (Terminal u) e = search rules
-same-is (Pair p) (Process d j) e = search rules
-same-is (Pair p) (Pair q) e = let h : p ≡ q = grind arith in ap Pair h
-same-is (Pair p) (Class d) e = search rules
-same-is (Class c) (Terminal u) e = search rules
-same-is (Class c) (Process d j) e = search rules
-same-is (Class c) (Pair q) e = search rules
-same-is (Class c) (Class d) e = let h : c ≡ d = grind arith in ap Class h
 
 -- what is noted of actors, one by one
 abbrev pub outs_of : (Actor → Note) → Actor → Bool
@@ -108,17 +90,10 @@ all-mark notes a placed = ap (λ b. (if b then with_mark true (notes a) else not
 
 -- ---- the world
 
-may-in : (world : Seen) (o : Actor → Bool) (actor : Actor) → MayWork (record world { out = o }) actor → MayWork world actor
-may-in world o actor may =
-    elim may [
-      | inl step ↦ inl (step.0, record { legal = step.1.legal; at_verb = step.1.at_verb; own = step.1.own })
-      | inr unread ↦ inr unread
-    ]
-
--- other stamps that are the same, marks of all that may work, and whoever is out
-pub world-noted : (world : Seen) (books : Books) (o : Actor → Bool) (stamps : Actor → ℕ) (marked : Actor → Bool) → IsWorld world books
-    → stamps ≡ books.stamps → AreMarked world marked → IsWorld (record world { out = o }) (record books { stamps = stamps; marked = marked })
-world-noted world books o stamps marked w same marks = record {
+-- the same stamps for each actor of the system
+pub restamped : (world : Seen) (books : Books) (own : Actor → ℕ) → IsWorld world books → ((a : Actor) → IsActor world.system a → own a ≡ books.stamps a)
+    → IsWorld world (record books { stamps = own })
+restamped world books own w same = record {
   valid = w.valid;
   deck = w.deck;
   run = w.run;
@@ -138,10 +113,17 @@ world-noted world books o stamps marked w same marks = record {
     one_sends = w.books.one_sends;
     due = w.books.due;
     live = w.books.live;
-    stamps = λ actor known. subst (λ (s : Actor → ℕ). IsStamp (sys_of world) world.log actor (s actor)) (sym same) (w.books.stamps actor known);
-    marked = λ actor known may. marks actor known (may-in world o actor may);
+    stamps = λ a known. subst (IsStamp (sys_of world) world.log a) (sym (same a known)) (w.books.stamps a known);
+    marked = w.books.marked;
   };
 }
+
+-- other stamps that are the same, marks of all that may work, and whoever is out
+pub world-noted : (world : Seen) (books : Books) (o : Actor → Bool) (stamps : Actor → ℕ) (marked : Actor → Bool) → IsWorld world books
+    → stamps ≡ books.stamps → AreMarked world marked → IsWorld (record world { out = o }) (record books { stamps = stamps; marked = marked })
+world-noted world books o stamps marked w same marks =
+    out-so world (record books { stamps = stamps; marked = marked })
+    (marked-so world (record books { stamps = stamps }) (restamped world books stamps w (λ a known. ap (λ (s : Actor → ℕ). s a) same)) marked marks) o
 
 -- ---- a world over a disc
 

@@ -16,7 +16,7 @@ use Rattle.pw_keep.specs.Keeps.{IsChanged, IsRefused, KeepState, kept_in, termin
 use Rattle.pw_kept.specs.Entered.{entered}
 use Rattle.pw_kept.specs.Kept.{Kept}
 use Rattle.pw_monitor.proofs.Named.{or-nothing}
-use Rattle.pw_monitor.proofs.Noting.{all-mark, all-out, all-stamp, marks_of, outs_of, stamps_of}
+use Rattle.pw_monitor.proofs.Noting.{all-mark, all-out, all-stamp, marks_of, outs_of, restamped, stamps_of}
 use Rattle.pw_monitor.proofs.Stamped.{each-out, each-stamp}
 use Rattle.pw_monitor.specs.Bookings.{IsBooked, IsBookingOf, mode_in, stamped_each, turned}
 use Rattle.pw_monitor.specs.Ledgers.{LedgerState, books_of, listed}
@@ -28,51 +28,21 @@ use Rattle.pw_monitor_world.proofs.Cancelled.{by-class, by-pair}
 use Rattle.pw_monitor_world.proofs.SameWork.{has-failed}
 use Rattle.pw_monitor_world.proofs.Steps.{owner as owned, placed, there}
 use Rattle.pw_monitor_world.proofs.Touched.{stamps}
-use Rattle.pw_monitor_world.specs.Actors.{IsActor, is_same_actor, members_of}
+use Rattle.pw_monitor_world.specs.Actors.{IsActor, is_same_actor}
+use Rattle.pw_kept.specs.Members.{members_of}
 use Rattle.pw_monitor_world.specs.Dues.{IsOwner, count_of, counted, without_fail}
 use Rattle.pw_monitor_world.specs.OneSends.{begins_one_send}
 use Rattle.pw_monitor_world.specs.Pushed.{AreMarked, CanPush, booked, live_behind, pushed}
 use Rattle.pw_monitor_world.specs.Seen.{Seen, state_of, sys_of}
-use Rattle.pw_monitor_world.specs.Stamps.{IsStamp}
 use Rattle.pw_monitor_world.specs.Touches.{is_same_mode, stamped, touches, turns}
 use Rattle.pw_monitor_world.specs.Touching.{actors_of_pair, touches_at}
-use Rattle.pw_monitor_world.specs.Worlds.{Books, IsWorld}
+use Rattle.pw_monitor_world.specs.Worlds.{IsWorld}
 use Rattle.pw_paired.specs.Shown.{refresh_of}
 use Rattle.pw_roster.specs.Places.{is_placed, notes_in}
 use Rattle.pw_roster.specs.declared.actor.Actor.{Actor}
 use Rattle.pw_roster.specs.declared.roster.Note.{Note}
 use Rattle.pw_tmf.specs.Told.{Told}
 use Rattle.pw_tmf.specs.declared.answer.DiscFault.TheVariants as fault
-
--- ---- other stamps
-
--- the same stamps for each actor of the system
-restamped : (world : Seen) (books : Books) (own : Actor → ℕ) → IsWorld world books → ((a : Actor) → IsActor world.system a → own a ≡ books.stamps a)
-    → IsWorld world (record books { stamps = own })
-restamped world books own w same = record {
-  valid = w.valid;
-  deck = w.deck;
-  run = w.run;
-  room = w.room;
-  few = w.few;
-  stands = w.stands;
-  members = w.members;
-  terminals = w.terminals;
-  files = w.files;
-  lines = w.lines;
-  few_lines = w.few_lines;
-  asking = w.asking;
-  count = w.count;
-  failed = w.failed;
-  books = record {
-    refreshes = w.books.refreshes;
-    one_sends = w.books.one_sends;
-    due = w.books.due;
-    live = w.books.live;
-    stamps = λ a known. subst (IsStamp (sys_of world) world.log a) (sym (same a known)) (w.books.stamps a known);
-    marked = w.books.marked;
-  };
-}
 
 any-unless : (f : Actor → Bool) (b : Bool) (xs : List Actor) → list_any f (if b then [] else xs) ≡ (not b && list_any f xs)
 any-unless f true xs = refl

@@ -6,18 +6,18 @@ use Rattle.pw_code.specs.declared.context.Context.{Context}
 use Rattle.pw_code.specs.declared.system.System.{System}
 use Rattle.pw_keep.specs.Keeps.{IsChanged, KeepState, kept_in}
 use Rattle.pw_kept.specs.Kept.{Kept}
-use Rattle.pw_kept.specs.Stands.{Stands}
 use Rattle.pw_monitor.proofs.Noting.{marks_of}
 use Rattle.pw_monitor.proofs.RanTo.{has-program}
 use Rattle.pw_monitor.specs.Ledgers.{books_of}
 use Rattle.pw_monitor.specs.PutBack.{RanFrom, faulted_as, put_back, ran_back}
 use Rattle.pw_monitor.specs.Running.{HasProgram, ran_to}
 use Rattle.pw_monitor.specs.States.{IsMonitor, WorldState, seen}
+use Rattle.pw_monitor_world.proofs.SameWork.{faulted-stands}
 use Rattle.pw_monitor_world.proofs.Outcomes.{process-back, terminal-back}
 use Rattle.pw_monitor_world.specs.Actors.{IsActor}
 use Rattle.pw_monitor_world.specs.Answers.{FailsOnly, run_on}
 use Rattle.pw_monitor_world.specs.Pushed.{AreMarked}
-use Rattle.pw_monitor_world.specs.Seen.{Seen, at_answer, kept_context, state_of, work_of}
+use Rattle.pw_monitor_world.specs.Seen.{Seen, at_answer, kept_context, work_of}
 use Rattle.pw_monitor_world.specs.Worlds.{Books, IsWorld}
 use Rattle.pw_roster.specs.Places.{notes_in}
 use Rattle.pw_roster.specs.declared.actor.Actor.{Actor}
@@ -55,24 +55,6 @@ with_count n kept = record kept { disc = record kept.disc { faults = n } }
 abbrev faulted : Bool → ℕ → Seen → Seen
 faulted failed n world = record world { failed = failed; kept = with_count n world.kept }
 
-faulted-stands : (world : Seen) (books : Books) (n : ℕ) → IsWorld world books
-    → Stands world.system world.script (state_of world) (with_count n world.kept)
-faulted-stands world books n w = record {
-  terminals = w.stands.terminals;
-  disc = record {
-    rule = w.stands.disc.rule;
-    keys = w.stands.disc.keys;
-    files = w.stands.disc.files;
-    locks = w.stands.disc.locks;
-    units = w.stands.disc.units;
-    ended = w.stands.disc.ended;
-    idle = w.stands.disc.idle;
-  };
-  classes = w.stands.classes;
-  pairs = w.stands.pairs;
-  births = w.stands.births;
-}
-
 -- a world behind the same log as another, with the faults and the books of that
 faulted-world : (world : Seen) (books : Books) (kept : Kept) (failed : Bool) (n : ℕ) (own : Books)
     (marked : Actor → Bool) → IsWorld world books
@@ -85,7 +67,7 @@ faulted-world world books kept failed n own marked w other are = record {
   run = w.run;
   room = w.room;
   few = w.few;
-  stands = faulted-stands world books n w;
+  stands = faulted-stands world books w n;
   members = w.members;
   terminals = w.terminals;
   files = w.files;

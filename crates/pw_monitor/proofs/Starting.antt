@@ -1,7 +1,6 @@
 -- The world before the first entry.
-use Rattle.std.proofs.Common.{◌≡◌, ◌∙◌, ℕ, ◌+◌, ◌-◌, ◌==◌, ◌<◌, ◌≤◌, ◌^◌, All, Bool, false, List, [], ◌∷◌, Some, length, ap, refl, subst, sym}
-use Rattle.std.proofs.Math.Path.{fun_ext}
-use Rattle.std.specs.Prelude.{if◌then◌else◌, slice_get}
+use Rattle.std.proofs.Common.{◌≡◌, ◌∙◌, ℕ, ◌-◌, ◌<◌, ◌≤◌, ◌^◌, All, Bool, false, List, [], Some, length, ap, refl, subst, sym}
+use Rattle.std.specs.Prelude.{slice_get}
 use Rattle.pw_code.specs.Valid.{IsValid}
 use Rattle.pw_code.specs.declared.system.System.{System}
 use Rattle.pw_code.specs.declared.system.TermInfo.{TermInfo}
@@ -12,7 +11,6 @@ use Rattle.pw_exec.specs.OfSystem.{behaviour}
 use Rattle.pw_keep.specs.Keeps.{kept_in}
 use Rattle.pw_keep.specs.Starting as keep
 use Rattle.pw_kept.specs.Arrivals.{StandsForPath}
-use Rattle.pw_kept.specs.Changes.{kept_start}
 use Rattle.pw_kept.specs.Kept.{Kept}
 use Rattle.pw_kept.specs.May.{IsLineThere}
 use Rattle.pw_monitor.proofs.Noting.{all-mark, all-out, all-stamp, outs_of, world-noted}
@@ -20,7 +18,6 @@ use Rattle.pw_monitor.specs.Ledgers.{IsFirstLedger, LedgerState, books_of}
 use Rattle.pw_monitor.specs.States.{IsMonitor, WorldState, seen}
 use Rattle.pw_monitor_world.proofs.First.{first-world}
 use Rattle.pw_monitor_world.proofs.Steps.{placed}
-use Rattle.pw_monitor_world.specs.Actors as world
 use Rattle.pw_monitor_world.specs.Pushed.{AreMarked, first_books, first_world}
 use Rattle.pw_monitor_world.specs.Seen.{Seen}
 use Rattle.pw_monitor_world.specs.Worlds.{Books, IsDiscOf, IsNew, IsWorld}
@@ -31,18 +28,6 @@ use Rattle.pw_roster.specs.declared.roster.Note.{Note}
 use Rattle.pw_tmf.specs.Told.{Told}
 
 -- ---- what is kept
-
-members-from : (p t : ℕ) (infos : List TermInfo) → keep.members_from p t infos ≡ world.members_from p t infos
-members-from p t [] = refl
-members-from p t (info ∷ infos) = ap (λ (rest : List ℕ). if info.tcp == p then t ∷ rest else rest) (members-from p (t + 1) infos)
-
-members-same : (system : System) → keep.members_of system ≡ world.members_of system
-members-same system = fun_ext (λ p. members-from p 0 system.terminals)
-
-kept-same : (system : System) (disc : Told)
-    → keep.first_kept system disc ≡ kept_start system (world.members_of system) (keep.first_context system) disc
-kept-same system disc =
-    ap (λ (members : ℕ → List ℕ). kept_start system members (keep.first_context system) disc) (members-same system)
 
 stands-first : (system : System) (t : ℕ) (info : TermInfo) → slice_get system.terminals t ≡ Some info
     → StandsForPath system info [] (keep.first_context system t)
@@ -119,7 +104,7 @@ seen-first told w system disc is kept same sound l =
     let out = outs_of (notes_in w.ledger.notes) in
     let now = (first system w.script (told disc) w.limit).kept in
     ap (λ s. with-parts w.script w.limit s (kept_in told w.keep) faults w.ledger.log w.failed out) is
-    ∙ ap (λ k. with-parts w.script w.limit system k faults w.ledger.log w.failed out) (kept ∙ kept-same system (told disc))
+    ∙ ap (λ k. with-parts w.script w.limit system k faults w.ledger.log w.failed out) kept
     ∙ ap (λ d. with-parts w.script w.limit system now (told d).faults w.ledger.log w.failed out) same
     ∙ ap (λ log. with-parts w.script w.limit system now (told disc).faults log w.failed out) l.log
     ∙ ap (λ failed. with-parts w.script w.limit system now (told disc).faults [] failed out) sound

@@ -1,28 +1,17 @@
 -- What a process works on, and who waits for a class.
-use Rattle.std.proofs.Common.{◌≡◌, ◌∙◌, ℕ, zero, suc, ◌+◌, ◌-◌, ◌<◌, ◌≤◌, ⊎_elim, Option, Some, None, ap, arith, length, refl, sym}
+use Rattle.std.proofs.Common.{◌≡◌, ◌∙◌, ℕ, ◌+◌, ◌-◌, ◌<◌, ◌≤◌, ⊎_elim, Option, Some, None, ap, arith, length, refl, sym}
 use Rattle.std.proofs.lemmas.Bool.{cases_eq, cases_lt, eq-eqb, ne_eqb}
 use Rattle.std.specs.Option.{option_map}
-use Rattle.std.specs.Prelude.{◌==◌, IsSome, is_some, slice_index_or, if◌then◌else◌}
+use Rattle.std.specs.Prelude.{IsSome, is_some, slice_index_or, if◌then◌else◌}
 use Rattle.pw_class.specs.Queue.{Queue, at_process}
 use Rattle.pw_class.specs.declared.request.Request.{Request}
 use Rattle.pw_kept.proofs.Agreeing.{there-is}
+use Rattle.pw_monitor_world.proofs.OfUnits.{index-requests, past-requests}
 use Rattle.pw_monitor_world.specs.Seen.{Seen, state_of}
 use Rattle.pw_monitor_world.specs.Worlds.{Books, IsWorld}
 use Rattle.pw_paired.specs.Queues.{queue_of, requests_from}
 use Rattle.pw_paired.specs.State.{Class, Job}
 use Rattle.pw_paired.specs.Units.{request_in}
-
-past-requests : (busy : ℕ → Option Job) (i n k : ℕ) → n ≤ k → slice_index_or (requests_from busy i n) k None ≡ None
-past-requests busy i zero k low = refl
-past-requests busy i (suc n) zero low = absurd (omega (arith, low))
-past-requests busy i (suc n) (suc k) low = past-requests busy (i + 1) n k (omega (arith, low))
-
-index-requests : (busy : ℕ → Option Job) (i n k : ℕ) → k < n → slice_index_or (requests_from busy i n) k None ≡ request_in (busy (i + k))
-index-requests busy i zero k low = absurd (omega (arith, low))
-index-requests busy i (suc n) zero low = let e : i ≡ i + 0 = omega arith in ap (λ j. request_in (busy j)) e
-index-requests busy i (suc n) (suc k) low =
-    let e : i + 1 + k ≡ i + suc k = omega arith in
-    index-requests busy (i + 1) n k (omega (arith, low)) ∙ ap (λ j. request_in (busy j)) e
 
 module _ (n i : ℕ) (class : Class) (within : IsSome (class.busy i) → (1 ≤ i) × (i ≤ n)) where
   -- a process that is not there has no job

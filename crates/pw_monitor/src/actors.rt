@@ -8,6 +8,7 @@ ghost use Rattle.pw_monitor.specs.Owners.{owner_in};
 ghost use Rattle.pw_monitor_world.specs.Actors.{IsActor, actor_of};
 
 use pw_code::system::System;
+use pw_event::due;
 use pw_event::event::Event;
 use pw_event::script::Owner;
 use pw_roster::actor::Actor;
@@ -59,28 +60,7 @@ pub fn owner_of_actor(system: &System, actor: Actor) -> Owner
 pub fn owner_of(system: &System, event: &Event) -> Owner
     ensures { result ≡ owner_of (tcp_of system.now) event.now }
 {
-    match *event {
-        Event::Take { class, .. }
-        | Event::File { class, .. }
-        | Event::Reply { class, .. }
-        | Event::FailServer { class, .. } => Owner::Class(class),
-        Event::FailTcp { tcp, .. } | Event::Takeover { tcp } | Event::Raise { tcp } => {
-            Owner::Tcp(tcp)
-        }
-        Event::Show { terminal, .. }
-        | Event::Key { terminal, .. }
-        | Event::CheckStart { terminal }
-        | Event::CheckEnd { terminal }
-        | Event::CheckCopy { terminal }
-        | Event::Applied { terminal }
-        | Event::Begin { terminal, .. }
-        | Event::Send { terminal, .. }
-        | Event::Again { terminal, .. }
-        | Event::Commit { terminal, .. }
-        | Event::Back { terminal, .. }
-        | Event::Restart { terminal, .. }
-        | Event::End { terminal, .. } => Owner::Tcp(tcp_of(system, terminal)),
-    }
+    due::owner_of(system, event)
 }
 
 /// Whose step an entry is.

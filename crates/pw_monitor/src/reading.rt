@@ -2,7 +2,7 @@
 
 ghost use Rattle.std.specs.Prelude.{◌≡◌, ◌↔◌, ◌<◌, ◌≤◌, IfOk, IsTrue, length};
 ghost use Rattle.pw_code.specs.Valid.{IsValid};
-ghost use Rattle.pw_kept.specs.Stands.{mode_as};
+ghost use Rattle.pw_pair.specs.Follows.{mode_as};
 ghost use Rattle.pw_monitor.specs.States.{seen};
 ghost use Rattle.pw_monitor_world.specs.OneSends.{BeginsOneSend};
 ghost use Rattle.pw_monitor_world.specs.Seen.{finished, state_of, sys_of};

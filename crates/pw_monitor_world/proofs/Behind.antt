@@ -20,7 +20,8 @@ use Rattle.pw_kept.specs.TerminalTests.{is_out}
 use Rattle.pw_kept.proofs.EachEntry.{next-enters}
 use Rattle.pw_kept.proofs.Needed as needed
 use Rattle.pw_kept.proofs.Readings as readings
-use Rattle.pw_monitor_world.specs.Actors.{IsActor, members_of}
+use Rattle.pw_monitor_world.specs.Actors.{IsActor}
+use Rattle.pw_kept.specs.Members.{members_of}
 use Rattle.pw_monitor_world.specs.OneSends.{begins_one_send}
 use Rattle.pw_monitor_world.specs.Pushed.{AreMarked, CanPush, booked, live_behind, pushed}
 use Rattle.pw_monitor_world.specs.Seen.{Seen, state_of, sys_of}
@@ -30,7 +31,7 @@ use Rattle.pw_monitor_world.specs.Worlds.{Books, IsWorld, live_below}
 use Rattle.pw_monitor_world.proofs.Books.{screens-more, sends-more}
 use Rattle.pw_monitor_world.proofs.Dues.{next-is}
 use Rattle.pw_monitor_world.proofs.Endings.{live-more, same-live}
-use Rattle.pw_monitor_world.proofs.Members.{members-are}
+use Rattle.pw_kept.proofs.Members.{members-are}
 use Rattle.pw_monitor_world.proofs.Outs.{out-same}
 use Rattle.pw_monitor_world.proofs.Readies.{ready-stays}
 use Rattle.pw_monitor_world.proofs.Placed as placed

@@ -13,13 +13,14 @@ use Rattle.pw_event.specs.declared.event.Event.{Event}
 use Rattle.pw_event.specs.declared.script.Owner.TheVariants as owner
 use Rattle.pw_kept.specs.Entered.{tcp_of}
 use Rattle.pw_kept.specs.TerminalTests.{is_out}
-use Rattle.pw_monitor_world.specs.Actors.{IsActor, is_same_actor, members_of}
+use Rattle.pw_monitor_world.specs.Actors.{IsActor, is_same_actor}
+use Rattle.pw_kept.specs.Members.{members_of}
 use Rattle.pw_monitor_world.specs.Pushed.{CanPush}
 use Rattle.pw_monitor_world.specs.Seen.{Seen, sys_of}
 use Rattle.pw_monitor_world.specs.Touches.{is_at, tells_of_pair, touches, turns}
 use Rattle.pw_monitor_world.specs.Touching.{actors_at, actors_of_pair, touches_at}
 use Rattle.pw_monitor_world.specs.Worlds.{Books, IsWorld}
-use Rattle.pw_monitor_world.proofs.Members.{members-are}
+use Rattle.pw_kept.proofs.Members.{members-are}
 use Rattle.pw_monitor_world.proofs.Outs.{or-second}
 use Rattle.pw_monitor_world.proofs.Queues.{none-in-line, one-class, one-process, others-stay}
 use Rattle.pw_kept.proofs.Agreeing.{pair-among}

@@ -14,12 +14,12 @@ use Rattle.pw_kept.specs.May.{IsLineThere}
 use Rattle.pw_kept.specs.Stands.{Stands}
 use Rattle.pw_kept.specs.TerminalTests as kept
 use Rattle.pw_kept.proofs.Starting.{start-stands}
-use Rattle.pw_monitor_world.specs.Actors.{members_of}
+use Rattle.pw_kept.specs.Members.{members_of}
 use Rattle.pw_monitor_world.specs.Pushed.{first_books, first_world}
 use Rattle.pw_monitor_world.specs.Stamps.{IsStamp, state_at}
 use Rattle.pw_monitor_world.specs.Worlds.{IsDiscOf, IsWorld, live_below}
 use Rattle.pw_monitor_world.proofs.Dues.{first-is}
-use Rattle.pw_monitor_world.proofs.Members.{members-are, seats-are}
+use Rattle.pw_kept.proofs.Members.{members-are, seats-are}
 use Rattle.pw_monitor_world.proofs.Outs.{out-same}
 use Rattle.pw_onecopy.specs.Behaviour.{Behaviour}
 use Rattle.pw_onecopy.specs.IsBehaviour.{IsBehaviour}

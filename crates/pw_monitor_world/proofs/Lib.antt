@@ -10,7 +10,6 @@ pub mod Failures
 pub mod First
 pub mod HeldBirths
 pub mod Idle
-pub mod Members
 pub mod OfUnits
 pub mod Outcomes
 pub mod Outs

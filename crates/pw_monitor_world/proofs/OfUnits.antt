@@ -41,6 +41,18 @@ use Rattle.pw_tmf.specs.Tells.{as_told, images_by}
 use Rattle.pw_tmf.specs.Told.{ToldUnit}
 use Rattle.pw_tmf.specs.Units.{IsOpen, IsRunning}
 
+-- ---- the requests of processes
+
+pub past-requests : (busy : ℕ → Option Job) (i n k : ℕ) → n ≤ k → slice_index_or (requests_from busy i n) k None ≡ None
+past-requests busy i zero k low = refl
+past-requests busy i (suc n) zero low = absurd (omega (arith, low))
+past-requests busy i (suc n) (suc k) low = past-requests busy (i + 1) n k (omega (arith, low))
+
+pub index-requests : (busy : ℕ → Option Job) (i n k : ℕ) → k < n → slice_index_or (requests_from busy i n) k None ≡ request_in (busy (i + k))
+index-requests busy i zero k low = absurd (omega (arith, low))
+index-requests busy i (suc n) zero low = let e : i ≡ i + 0 = omega arith in ap (λ j. request_in (busy j)) e
+index-requests busy i (suc n) (suc k) low = let e : i + 1 + k ≡ i + suc k = omega arith in index-requests busy (i + 1) n k (omega (arith, low)) ∙ ap (λ j. request_in (busy j)) e
+
 module _ (world : Seen) (books : Books) (w : IsWorld world books) where
   abbrev sys : Behaviour
   sys = sys_of world
@@ -113,16 +125,6 @@ module _ (world : Seen) (books : Books) (w : IsWorld world books) where
       (each-lock state.locks (held sys w.deck world.log w.run) (lock-births sys w.deck world.log w.run)))
 
   -- ---- servers
-
-  past-requests : (busy : ℕ → Option Job) (i n k : ℕ) → n ≤ k → slice_index_or (requests_from busy i n) k None ≡ None
-  past-requests busy i zero k low = refl
-  past-requests busy i (suc n) zero low = absurd (omega (arith, low))
-  past-requests busy i (suc n) (suc k) low = past-requests busy (i + 1) n k (omega (arith, low))
-
-  index-requests : (busy : ℕ → Option Job) (i n k : ℕ) → k < n → slice_index_or (requests_from busy i n) k None ≡ request_in (busy (i + k))
-  index-requests busy i zero k low = absurd (omega (arith, low))
-  index-requests busy i (suc n) zero low = let e : i ≡ i + 0 = omega arith in ap (λ j. request_in (busy j)) e
-  index-requests busy i (suc n) (suc k) low = let e : i + 1 + k ≡ i + suc k = omega arith in index-requests busy (i + 1) n k (omega (arith, low)) ∙ ap (λ j. request_in (busy j)) e
 
   -- a request at a process is that of a job there
   pub job-at : (c i : ℕ) (request : Request) → c < length world.system.classes → at_process (world.kept.queues c) i ≡ Some request → (job : Job) × (((state.classes c).busy i ≡ Some job) × (job.request ≡ request))

@@ -19,7 +19,8 @@ use Rattle.pw_kept.specs.Changes.{backup_lost, leave_at, primary_lost, process_s
 use Rattle.pw_kept.specs.Entered.{begin_at, closing_context, copied, entered, file_at, file_by, is_outside_at, replies_last, replies_to, reply_by, send_image, unit_of_ready, verb_of}
 use Rattle.pw_kept.specs.Kept.{Kept, KeptTerminal}
 use Rattle.pw_kept.specs.Members.{AreOf}
-use Rattle.pw_kept.specs.Stands.{Stands, mode_as}
+use Rattle.pw_kept.specs.Stands.{Stands}
+use Rattle.pw_pair.specs.Follows.{mode_as}
 use Rattle.pw_kept.proofs.Agreeing.{pair-among}
 use Rattle.pw_monitor_world.specs.Touches.{loses}
 use Rattle.pw_monitor_world.proofs.Placed.{loses_in, out-at, outs, somewhere}

@@ -129,27 +129,28 @@ module _ (world : Seen) (kept : Kept) (failed : Bool) (out : Actor → Bool) (te
 -- ---- each change
 
 module _ (world : Seen) (books : Books) (w : IsWorld world books) where
+  -- what is kept stands with any count of faults
+  pub faulted-stands : (n : ℕ) → Stands world.system world.script (state_of world) (record world.kept { disc = record world.kept.disc { faults = n } })
+  faulted-stands n = record {
+    terminals = w.stands.terminals;
+    disc = record {
+      rule = w.stands.disc.rule;
+      keys = w.stands.disc.keys;
+      files = w.stands.disc.files;
+      locks = w.stands.disc.locks;
+      units = w.stands.disc.units;
+      ended = w.stands.disc.ended;
+      idle = w.stands.disc.idle;
+    };
+    classes = w.stands.classes;
+    pairs = w.stands.pairs;
+    births = w.stands.births;
+  }
+
   -- the disc has failed
   pub has-failed : (n : ℕ) → Rose world.faults n → IsWorld (record world { failed = true; kept = record world.kept { disc = record world.kept.disc { faults = n } } }) books
   has-failed n rose =
-      changed world (record world.kept { disc = record world.kept.disc { faults = n } }) true world.out refl refl books w refl stands (λ p. refl) refl refl (omega (arith, rose)) (λ e. rose) books.marked w.books.marked
-    where
-      stands : Stands world.system world.script (state_of world) (record world.kept { disc = record world.kept.disc { faults = n } })
-      stands = record {
-        terminals = w.stands.terminals;
-        disc = record {
-          rule = w.stands.disc.rule;
-          keys = w.stands.disc.keys;
-          files = w.stands.disc.files;
-          locks = w.stands.disc.locks;
-          units = w.stands.disc.units;
-          ended = w.stands.disc.ended;
-          idle = w.stands.disc.idle;
-        };
-        classes = w.stands.classes;
-        pairs = w.stands.pairs;
-        births = w.stands.births;
-      }
+      changed world (record world.kept { disc = record world.kept.disc { faults = n } }) true world.out refl refl books w refl (faulted-stands n) (λ p. refl) refl refl (omega (arith, rose)) (λ e. rose) books.marked w.books.marked
 
   -- other actors are marked, and out
   pub marked-so : (marked : Actor → Bool) → AreMarked world marked → IsWorld world (record books { marked = marked })

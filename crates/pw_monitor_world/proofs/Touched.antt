@@ -17,12 +17,12 @@ use Rattle.pw_exec.specs.OfSystem.{processes_by}
 use Rattle.pw_kept.specs.Entered.{entered, tcp_of}
 use Rattle.pw_kept.specs.Kept.{Kept}
 use Rattle.pw_kept.specs.May.{IsProcessOf, IsThere}
-use Rattle.pw_kept.specs.Members.{IsOf, KnowsAll}
-use Rattle.pw_kept.specs.Stands.{mode_as}
+use Rattle.pw_kept.specs.Members.{IsOf, KnowsAll, members_of}
+use Rattle.pw_pair.specs.Follows.{mode_as}
 use Rattle.pw_kept.proofs.Agreeing.{pair-among, there-is}
 use Rattle.pw_kept.proofs.OfRuns.{knows-all}
-use Rattle.pw_kept.proofs.Seats.{any-so}
-use Rattle.pw_monitor_world.specs.Actors.{IsActor, members_of}
+use Rattle.pw_pair.proofs.Seating.{any-so}
+use Rattle.pw_monitor_world.specs.Actors.{IsActor}
 use Rattle.pw_monitor_world.specs.Pushed.{CanPush, pushed}
 use Rattle.pw_monitor_world.specs.Seen.{Seen, state_of, sys_of}
 use Rattle.pw_monitor_world.specs.Stamps.{IsStamp, OfClass, OfProcess, state_at, state_in}
@@ -33,7 +33,7 @@ use Rattle.pw_monitor_world.proofs.Behind.{live-of, stands, then-is}
 use Rattle.pw_monitor_world.proofs.Cancels.{cancel-none, cancel-some, cancels_in, class-cancels, class-spared, may_cancel, process-cancels, process-spared}
 use Rattle.pw_monitor_world.proofs.Classes.{at_class, class-differs, class-stays, process-differs, process-stays}
 use Rattle.pw_monitor_world.proofs.Classes as class
-use Rattle.pw_monitor_world.proofs.Members.{members-are}
+use Rattle.pw_kept.proofs.Members.{members-are}
 use Rattle.pw_monitor_world.proofs.Outs.{at-same, has-same, job-has}
 use Rattle.pw_monitor_world.proofs.Pairs.{at_pair, pair-differs, pair-stays}
 use Rattle.pw_monitor_world.proofs.Readies.{loses-same}

@@ -6,7 +6,6 @@ use Rattle.pw_code.specs.Valid.{IsValid}
 use Rattle.pw_code.specs.declared.context.Context.{Context}
 use Rattle.pw_code.specs.declared.system.System.{System}
 use Rattle.pw_code.specs.declared.system.TermInfo.{TermInfo}
-use Rattle.pw_code.specs.declared.verb.Answer.{Answer}
 use Rattle.pw_event.specs.declared.event.Cause.{Cause}
 use Rattle.pw_event.specs.declared.event.Cause.TheVariants as cause
 use Rattle.pw_event.specs.declared.event.Ending.TheVariants.{Stopped, NoEntries, Fault, Suspended, Lost}
@@ -16,7 +15,6 @@ use Rattle.pw_event.specs.declared.script.FailLine.{FailLine}
 use Rattle.pw_exec.specs.Answers.{put}
 use Rattle.pw_exec.specs.Config.{Config, starting}
 use Rattle.pw_exec.specs.OfSystem.{behaviour, told}
-use Rattle.pw_exec.specs.Runs.{Reaches}
 use Rattle.pw_exec.proofs.Counting.{IsBehind, behind-answer, follows, follows-on}
 use Rattle.pw_kept.specs.Arrivals.{Arrives, StandsForPath}
 use Rattle.pw_kept.specs.Meeting.{IsRedoRead, IsStepRead}
@@ -24,7 +22,7 @@ use Rattle.pw_kept.specs.Read.{IsRead, IsServerRead}
 use Rattle.pw_kept.specs.Stands.{StandsForKnown}
 use Rattle.pw_kept.proofs.Arrived.{arrives-comes}
 use Rattle.pw_kept.proofs.Forced.{suits-behind, suits-front}
-use Rattle.pw_kept.proofs.Imaged.{last-of}
+use Rattle.pw_kept.proofs.Imaged.{arrives-last, last-of}
 use Rattle.pw_kept.proofs.Readings as readings
 use Rattle.pw_kept.proofs.UnitChanges.{has-context}
 use Rattle.pw_monitor_world.specs.Actors.{actor_of}
@@ -38,13 +36,6 @@ use Rattle.pw_paired.specs.Terminal.{path_of}
 use Rattle.pw_roster.specs.declared.actor.Actor.TheVariants as actor
 
 -- ---- a context behind a path stands at an answer
-
-arrives-last : (system : System) (answers : List Answer) (a : Answer) (c d : Config) → Arrives system c (answers ++ a ∷ []) d
-    → (from : Config) × (at : Config) × Arrives system c answers from × Reaches system from at × (put system a at ≡ d)
-arrives-last system [] a c d first = (c, first.0, refl, first.1.0, first.1.1)
-arrives-last system (one ∷ answers) a c d first =
-    let rest = arrives-last system answers a (put system one first.0) d first.1.1 in
-    (rest.0, rest.1, (first.0, (first.1.0, rest.2)), rest.3, rest.4)
 
 module _ (system : System) (script : List FailLine) (t : ℕ) (info : TermInfo) (valid : IsValid system) (here : slice_get system.terminals t ≡ Some info) where
   abbrev sys : Behaviour

@@ -1,8 +1,7 @@
 -- Who the actors of a system are, and whose step an entry is.
 pub use Rattle.pw_roster.specs.Places.{is_same_actor}
-use Rattle.std.specs.Prelude.{ℕ, ◌+◌, ◌<◌, ◌≤◌, ◌==◌, List, [], ◌∷◌, length, slice_get, if◌then◌else◌}
+use Rattle.std.specs.Prelude.{◌<◌, ◌≤◌, length, slice_get}
 use Rattle.pw_code.specs.declared.system.System.{System}
-use Rattle.pw_code.specs.declared.system.TermInfo.{TermInfo}
 use Rattle.pw_event.specs.declared.event.Event.{Event}
 use Rattle.pw_exec.specs.OfSystem.{processes_by}
 use Rattle.pw_roster.specs.declared.actor.Actor.{Actor}
@@ -27,15 +26,3 @@ as_actor (serial.Class c) = Class c
 -- whose step an entry is
 abbrev pub actor_of : Behaviour → Event → Actor
 actor_of sys entry = as_actor (serial.actor_of sys entry)
-
--- ---- the terminals of a pair
-
--- the terminals of the pair among these, of which the first has this number
-abbrev pub members_from : ℕ → ℕ → List TermInfo → List ℕ
-members_from p t [] = []
-members_from p t (info ∷ infos) =
-    if info.tcp == p then t ∷ members_from p (t + 1) infos else members_from p (t + 1) infos
-
--- the terminals of the pair, in order
-abbrev pub members_of : System → ℕ → List ℕ
-members_of system p = members_from p 0 system.terminals

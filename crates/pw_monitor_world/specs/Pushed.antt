@@ -9,7 +9,8 @@ use Rattle.pw_kept.specs.Changes.{kept_start}
 use Rattle.pw_kept.specs.Entered.{entered}
 use Rattle.pw_kept.specs.Meeting.{IsStepRead}
 use Rattle.pw_kept.specs.Read.{AreValued, IsReplyRead}
-use Rattle.pw_monitor_world.specs.Actors.{IsActor, members_of}
+use Rattle.pw_monitor_world.specs.Actors.{IsActor}
+use Rattle.pw_kept.specs.Members.{members_of}
 use Rattle.pw_monitor_world.specs.Dues.{after_entry, first_book}
 use Rattle.pw_monitor_world.specs.Enabled.{MayWork}
 use Rattle.pw_monitor_world.specs.OneSends.{begins_one_send}

@@ -9,7 +9,7 @@ use Rattle.pw_event.specs.declared.event.Event.{Event}
 use Rattle.pw_event.specs.declared.event.Event.TheVariants.{Show, Key, CheckStart, CheckEnd, CheckCopy, Applied, Begin, Send, Take, File, Reply, Again, Commit, Back, Restart, FailTcp, FailServer, Takeover, Raise, End}
 use Rattle.pw_kept.specs.Entered.{entered, tcp_of}
 use Rattle.pw_kept.specs.Kept.{Kept}
-use Rattle.pw_monitor_world.specs.Actors.{members_of}
+use Rattle.pw_kept.specs.Members.{members_of}
 use Rattle.pw_pair.specs.declared.mode.Mode.{Mode}
 use Rattle.pw_pair.specs.declared.mode.Mode.TheVariants.{Alone, Raising, Paired, Down, Gone}
 use Rattle.pw_paired.specs.Raising.{is_takeover}

@@ -8,7 +8,8 @@ use Rattle.pw_exec.specs.OfSystem.{behaviour}
 use Rattle.pw_kept.specs.May.{IsLineThere}
 use Rattle.pw_kept.specs.Stands.{Stands}
 use Rattle.pw_kept.specs.TerminalTests.{is_out}
-use Rattle.pw_monitor_world.specs.Actors.{IsActor, members_of}
+use Rattle.pw_monitor_world.specs.Actors.{IsActor}
+use Rattle.pw_kept.specs.Members.{members_of}
 use Rattle.pw_monitor_world.specs.Dues.{DueBook, IsBookOf}
 use Rattle.pw_monitor_world.specs.Enabled.{MayWork}
 use Rattle.pw_monitor_world.specs.OneSends.{one_sends}

@@ -43,7 +43,7 @@ one-more P seats t all new = by (list_any (is_seat_of t) seats)
     by true = all
     by false = All-push P seats (new_seat t) all new
 
-all-seats : (P : Seat → Type 0) (terminals : List ℕ) (seats : List Seat) → All P seats → All (λ t. P (new_seat t)) terminals → All P (seats_with seats terminals)
+pub all-seats : (P : Seat → Type 0) (terminals : List ℕ) (seats : List Seat) → All P seats → All (λ t. P (new_seat t)) terminals → All P (seats_with seats terminals)
 all-seats P [] seats all each = all
 all-seats P (t ∷ terminals) seats all each =
     all-seats P terminals (with_terminal seats t) (one-more P seats t all (All-head (λ x. P (new_seat x)) t terminals each)) (All-tail (λ x. P (new_seat x)) t terminals each)
@@ -71,7 +71,7 @@ or-second : (a b : Bool) → a ≡ false → (a || b) ≡ true → b ≡ true
 or-second false b none some = some
 or-second true b none some = absurd (true≢false none)
 
-has-seat : (s : ℕ) (terminals : List ℕ) (seats : List Seat) → list_any (λ own. own == s) terminals ≡ true → list_any (is_seat_of s) (seats_with seats terminals) ≡ true
+pub has-seat : (s : ℕ) (terminals : List ℕ) (seats : List Seat) → list_any (λ own. own == s) terminals ≡ true → list_any (is_seat_of s) (seats_with seats terminals) ≡ true
 has-seat s [] seats among = absurd (true≢false (sym among))
 has-seat s (t ∷ terminals) seats among =
     ⊎_elim (λ is. keeps s terminals (with_terminal seats t) (joins s t seats is))

@@ -67,7 +67,7 @@ whole image held (Some message) (Some flight) h = record { kind_is = h.kind_is; 
 
 -- ---- modes
 
-mode-settles : (at : Mode) (lacks : Bool) → pair.settled_mode (mode_as at) lacks ≡ mode_as (settled_mode at lacks)
+pub mode-settles : (at : Mode) (lacks : Bool) → pair.settled_mode (mode_as at) lacks ≡ mode_as (settled_mode at lacks)
 mode-settles Alone lacks = refl
 mode-settles Raising true = refl
 mode-settles Raising false = refl
@@ -75,7 +75,7 @@ mode-settles Paired lacks = refl
 mode-settles Down lacks = refl
 mode-settles Gone lacks = refl
 
-flights-settle : (at : Mode) (lacks : Bool) → has_flights (settled_mode at lacks) ≡ has_flights at
+pub flights-settle : (at : Mode) (lacks : Bool) → has_flights (settled_mode at lacks) ≡ has_flights at
 flights-settle Alone lacks = refl
 flights-settle Raising true = refl
 flights-settle Raising false = refl
@@ -92,15 +92,15 @@ lacking-same f None None = refl
 lacking-same f None (Some copy) = refl
 lacking-same f (Some ending) copy = refl
 
-both-of : (a b c : Bool) → ((a && b) && c) ≡ true → (a ≡ true) × ((b && c) ≡ true)
+pub both-of : (a b c : Bool) → ((a && b) && c) ≡ true → (a ≡ true) × ((b && c) ≡ true)
 both-of true b c e = (refl, e)
 both-of false b c e = absurd (true≢false (sym e))
 
-all-of : (a b c : Bool) → a ≡ true → (b && c) ≡ true → ((a && b) && c) ≡ true
+pub all-of : (a b c : Bool) → a ≡ true → (b && c) ≡ true → ((a && b) && c) ≡ true
 all-of true b c a e = e
 all-of false b c a e = absurd (true≢false (sym a))
 
-same-truth : (a b : Bool) → (a ≡ true → b ≡ true) → (b ≡ true → a ≡ true) → a ≡ b
+pub same-truth : (a b : Bool) → (a ≡ true → b ≡ true) → (b ≡ true → a ≡ true) → a ≡ b
 same-truth true b there back = sym (there refl)
 same-truth false true there back = back refl
 same-truth false false there back = refl

@@ -1,9 +1,6 @@
 -- The records that are found again.
-use Rattle.std.proofs.Common.{◌≡◌, ⊎_elim, ℕ, ◌+◌, ◌<◌, List, [], ◌∷◌, ◌++◌, length, sym, ◌∙◌, ap, subst, arith}
+use Rattle.std.proofs.Common.{◌≡◌, ℕ, ◌+◌, ◌<◌, List, ◌++◌, length, sym, ◌∙◌, ap, subst}
 use Rattle.std.specs.Prelude.{Result, Ok, Err, codes}
-use Rattle.std.proofs.Math.ListN.{get_or, get_or-append}
-use Rattle.std.proofs.Math.Seq.{get_or-append_seam}
-use Rattle.std.proofs.lemmas.Bool.{cases_lt}
 use Rattle.pw_code.specs.declared.file.FileInfo.{FileInfo}
 use Rattle.pw_code.specs.declared.system.System.{System}
 use Rattle.pw_listing.proofs.Printed.{files-same}
@@ -36,18 +33,6 @@ found-same files own other bytes again told next same same_too units leads leads
     ∙ (ap (λ (fs : List FileInfo). files_read fs (units_in other again)) (sym same_too) ∙ leads_too) in
     let joined : ◌≡◌ {A = Result (ℕ → List (List ℕ)) ℕ} (Ok (committed told)) (Ok (committed next)) = sym first ∙ second in
     cc
-
--- the records of one file more
-pub filed : (files : List (List (List ℕ))) (records : List (List ℕ)) (n : ℕ) (of_file : ℕ → List (List ℕ)) → length files ≡ n
-    → ((f : ℕ) → f < n → records_in files f ≡ of_file f) → records ≡ of_file n
-    → (f : ℕ) → f < n + 1 → records_in (files ++ records ∷ []) f ≡ of_file f
-filed files records n of_file count before is f low =
-    ⊎_elim (λ first. get_or-append files (records ∷ []) [] f (omega arith) ∙ before f first)
-    (λ last.
-    let at : f ≡ length files = omega arith in
-    let own : n ≡ f = omega arith in
-    ap (λ i. get_or (files ++ records ∷ []) i []) at ∙ (get_or-append_seam files records [] [] ∙ (is ∙ ap of_file own)))
-    (cases_lt f n)
 
 -- the FILES of lists that have the records of each file
 pub part-same : (system : System) (files : List (List (List ℕ))) (records : ℕ → List (List ℕ))

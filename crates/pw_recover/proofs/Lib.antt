@@ -4,4 +4,3 @@ mod Finding
 mod Lifting
 mod Outcomes
 mod Starts
-mod Telling

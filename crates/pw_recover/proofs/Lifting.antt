@@ -2,7 +2,7 @@
 use Rattle.std.proofs.Common.{◌≡◌, ℕ, List, ap, subst}
 use Rattle.pw_code.specs.declared.lock.LockRule.TheVariants.{ReadersShare}
 use Rattle.pw_code.specs.declared.system.System.{System}
-use Rattle.pw_desk.proofs.Decks.{IsOf}
+use Rattle.pw_whole.proofs.Decks.{IsOf}
 use Rattle.pw_desk.proofs.Lifts.{AreOnce, AreSerial}
 use Rattle.pw_desk.specs.Meaning.{meaning, named}
 use Rattle.pw_onecopy.specs.Behaviour.{Behaviour}

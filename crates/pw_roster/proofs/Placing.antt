@@ -21,7 +21,7 @@ use Rattle.pw_roster.specs.declared.actor.Actor.TheVariants.{Terminal, Process, 
 use Rattle.pw_roster.specs.declared.roster.Note.{Note}
 
 -- two actors that are one are equal
-same-is : (a b : Actor) → is_same_actor a b ≡ true → a ≡ b
+pub same-is : (a b : Actor) → is_same_actor a b ≡ true → a ≡ b
 same-is (Terminal t) (Terminal u) e = let h : t ≡ u = grind arith in ap Terminal h
 same-is (Terminal t) (Process d j) e = search rules
 same-is (Terminal t) (Pair q) e = search rules

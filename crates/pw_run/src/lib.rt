@@ -2,6 +2,7 @@
 #![tactic(auto)]
 
 pub mod ending;
+pub mod no_step;
 pub mod over;
 pub mod run;
 pub mod taken;

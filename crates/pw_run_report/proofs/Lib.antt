@@ -1,3 +1,3 @@
-mod Committing
+pub mod Committing
 mod Printing
 mod Reading

@@ -1,5 +1,5 @@
 mod ApartLaws
 mod Marks
 mod Readings
-mod Sound
+pub mod Sound
 mod Steps

@@ -35,7 +35,8 @@ use Rattle.pw_compile.specs.Programs.{linked_by, linkage_of}
 use Rattle.pw_terminal.specs.Shown.{written}
 use Rattle.pw_sound.proofs.Flat.{flat-chars, flat-put, take-front, drop-front, joined-append}
 use Rattle.pw_sound.proofs.Ground.{Ground, IsCut, ground-kept}
-use Rattle.pw_sound.proofs.Readings.{Sits, sits-kept, length-digits_of}
+use Rattle.pw_sound.proofs.Readings.{Sits, sits-kept}
+use Rattle.pw_exec.proofs.Written.{length-digits_of}
 use Rattle.std.specs.Prelude.{IfSome}
 use Rattle.pw_sound.proofs.Suits.{IsFew, IsKeptIndex, IsKeptTable, IsKeptPlace}
 use Rattle.pw_sound.specs.Premises.{AreItems}

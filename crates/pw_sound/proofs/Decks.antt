@@ -31,7 +31,7 @@ use Rattle.std.proofs.lemmas.List.{length-map}
 use Rattle.pw_source.proofs.Resolved.{got-below}
 use Rattle.pw_sound.proofs.Items.{places-few}
 use Rattle.pw_sound.proofs.Sending.{position-map}
-use Rattle.pw_sound.specs.Written.{IsWritten, RowIsWritten}
+use Rattle.pw_source.specs.Written.{IsWritten, RowIsWritten}
 use Rattle.pw_sound.proofs.Upper.{kept-places}
 use Rattle.pw_sound.proofs.Grounds.{known-of, ground-of, starts-of}
 use Rattle.pw_sound.proofs.Resolving.{Shaped, RowShaped, suited, receivers-own, named-own}

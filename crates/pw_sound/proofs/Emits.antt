@@ -47,7 +47,7 @@ use Rattle.pw_compile.specs.Plan as plans
 use Rattle.pw_compile.specs.Plan.{Plan, plan_of, turn_of}
 use Rattle.pw_compile.specs.Sizes.{row_size, body_size}
 use Rattle.pw_sound.specs.Premises.{IsLiteral, AreLiterals, CallFits, CallsFit, RowCallsFit, IsRead, RowIsRead}
-use Rattle.pw_sound.specs.Written.{IsWritten, RowIsWritten}
+use Rattle.pw_source.specs.Written.{IsWritten, RowIsWritten}
 use Rattle.pw_sound.specs.Systems.{code_in, codes_in, system_of}
 use Rattle.pw_sound.proofs.Decks.{code-in, codes-long, program-below}
 use Rattle.pw_sound.proofs.Items.{variable-of, place-lies, item-lies, any-lies, amount-lies, is-item-there}

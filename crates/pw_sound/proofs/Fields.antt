@@ -29,7 +29,7 @@ use Rattle.pw_source.proofs.storage.Cuts.{Cut}
 use Rattle.pw_exec.specs.Entries as entry
 use Rattle.pw_sound.proofs.Flat.{flat-chars, flat-put}
 use Rattle.pw_sound.proofs.Ground.{Ground, IsCut, cut-kept, ground-kept}
-use Rattle.pw_sound.proofs.Readings.{length-fitted, length-chars_of}
+use Rattle.pw_exec.proofs.Written.{length-fitted, length-chars_of}
 use Rattle.pw_sound.specs.Premises.{IsItemAt, IsShownOf}
 
 -- the item of a field is a run of cells of the store

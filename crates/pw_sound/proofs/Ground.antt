@@ -8,6 +8,7 @@ use Rattle.pw_source.specs.Program.{Program}
 use Rattle.pw_source.specs.Store.{Store, Spot, put_at}
 use Rattle.pw_source.proofs.Stores.{put-sizes}
 use Rattle.pw_source.proofs.storage.Cuts.{Cut}
+use Rattle.pw_source.proofs.storage.Places.{each-map}
 
 abbrev sizes : Store → List ℕ
 sizes cells = map (λ cell. length cell.chars) cells
@@ -75,10 +76,6 @@ IsCut store item = (k : ℕ) → 1 ≤ k → k ≤ max item.occurs 1 → Cut sto
 -- so is each occurrence of each item of a program, and together the cells are as long as its storage
 abbrev pub Ground : Program → Store → Type 0
 Ground program store = Each (IsCut store) program.layout.items × (length (joined store) ≡ length program.layout.storage)
-
-pub each-map : (P Q : Item → Type 0) (xs : List Item) → ((x : Item) → P x → Q x) → Each P xs → Each Q xs
-each-map P Q [] f each = tt
-each-map P Q (x ∷ xs) f each = (f x each.0, each-map P Q xs f each.1)
 
 pub ground-kept : (program : Program) (spot : Spot) (chars : List ℕ) (store : Store) → Ground program store → Ground program (put_at spot chars store)
 ground-kept program spot chars store ok = (

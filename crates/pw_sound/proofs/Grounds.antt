@@ -5,7 +5,7 @@ use Rattle.pw_data.specs.Layouts.{FitsPicture, no_table, entries_in}
 use Rattle.pw_data.specs.Store.{joined, store_of}
 use Rattle.pw_data.specs.Tree.{forest}
 use Rattle.pw_data.specs.declared.item.Item.{Item}
-use Rattle.pw_data.proofs.StoreLaws.{pictures-of_layout}
+use Rattle.pw_data.proofs.StoreLaws.{pictures-of_layout, fine}
 use Rattle.pw_operands.specs.Resolved.{Each}
 use Rattle.pw_source.specs.Program.{Program}
 use Rattle.pw_source.specs.Sound.{IsLayout}
@@ -13,7 +13,7 @@ use Rattle.pw_source.specs.Store.{Store, initial_store}
 use Rattle.pw_source.proofs.storage.Cuts.{Cut, Covers, covers}
 use Rattle.pw_source.proofs.storage.Initial.{all-each, initial-is, initial-store}
 use Rattle.pw_source.proofs.storage.Named.{no-item}
-use Rattle.pw_source.proofs.storage.Shaped.{fine, shaped}
+use Rattle.pw_source.proofs.storage.Shaped.{shaped}
 use Rattle.pw_sound.proofs.Ground.{Ground, IsCut}
 use Rattle.pw_sound.proofs.Operands.{Known}
 

@@ -21,7 +21,7 @@ use Rattle.pw_data.specs.declared.item.Kind.TheVariants as kinds
 use Rattle.pw_data.specs.declared.item.Table as tables
 use Rattle.pw_text.specs.declared.token.Token.{Token}
 use Rattle.pw_data.proofs.Cells.{Good, AllIn, All-forest}
-use Rattle.pw_source.proofs.storage.Shaped.{fine}
+use Rattle.pw_data.proofs.StoreLaws.{fine, length-of_layout, unless-ok}
 use Rattle.pw_source.proofs.storage.Places.{each-append}
 use Rattle.pw_forms.specs.declared.operand.Operand.{Operand}
 use Rattle.pw_forms.specs.declared.operand.Operand.TheVariants as operands
@@ -50,8 +50,6 @@ use Rattle.pw_base.specs.First.{least}
 use Rattle.pw_text.specs.Cursor.{spelling}
 use Rattle.pw_data.specs.Layouts.{faults_in}
 use Rattle.pw_data.proofs.Sizes.{too_large-none}
-use Rattle.pw_data.proofs.StoreLaws.{length-of_layout}
-use Rattle.pw_source.proofs.storage.Shaped.{unless-ok}
 use Rattle.pw_code.specs.Instrs as instrs
 use Rattle.pw_code.specs.Valid.{IsLinked}
 use Rattle.pw_compile.specs.Programs.{linked_by}

@@ -25,7 +25,6 @@ mod Items
 mod Emits
 pub mod Valid
 pub mod Showing
-pub mod written
 mod Upper
 pub mod Fitting
 pub mod Given

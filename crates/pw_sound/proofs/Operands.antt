@@ -47,6 +47,7 @@ use Rattle.pw_exec.specs.Reading.{register_value, subscript_of, spot_at, taken}
 use Rattle.pw_compile.specs.Operands as code
 use Rattle.pw_sound.proofs.Flat.{flat-chars}
 use Rattle.pw_sound.proofs.Ground.{Ground, IsCut}
+use Rattle.pw_source.proofs.Resolved.{each-found}
 
 -- ---- lists and tests
 
@@ -55,14 +56,6 @@ Some-same a b h = cc
 
 no-some : {A : Type 0} (x : A) → None ≡ Some x → ⊥
 no-some x h = cc
-
-found-by : {A : Type 0} (P : A → Type 0) (b : Bool) (rest : Option A) (y x : A) → P y → (rest ≡ Some x → P x) → (if b then Some y else rest) ≡ Some x → P x
-found-by P true rest y x one others e = subst P (Some-same y x e) one
-found-by P false rest y x one others e = others e
-
-each-found : {A : Type 0} (P : A → Type 0) (test : A → Bool) (xs : List A) (x : A) → Each P xs → find test xs ≡ Some x → P x
-each-found P test [] x each e = absurd cc
-each-found P test (y ∷ ys) x each e = found-by P (test y) (find test ys) y x each.0 (each-found P test ys x each.1) e
 
 -- ---- pictures and places
 

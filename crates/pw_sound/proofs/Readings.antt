@@ -1,15 +1,13 @@
 -- What conditions, moves and arithmetic of the code do is what those of the tree do.
-use Rattle.std.proofs.Common.{◌≡◌, ℕ, zero, suc, ◌+◌, ◌≤◌, max, Bool, true, false, List, [], ◌∷◌, ◌++◌, length, map, Option, Some, None, if◌then◌else◌, refl, sym, ap, ◌∙◌, subst, arith}
+use Rattle.std.proofs.Common.{◌≡◌, ℕ, ◌+◌, ◌≤◌, max, Bool, true, false, List, [], ◌∷◌, ◌++◌, length, map, Option, Some, None, if◌then◌else◌, refl, sym, ap, ◌∙◌, subst, arith}
 use Rattle.std.specs.Prelude.{nat_le, ◌&&◌, ◌||◌, ◌%◌, ◌^◌, option_map, Result, Ok, Err, bytes_eq, codes}
 use Rattle.std.specs.Option.{ForSome}
 use Rattle.std.specs.declared.cmp.Ordering.{Ordering}
 use Rattle.std.proofs.lemmas.Bool.{and_parts, leb-true}
-use Rattle.std.proofs.lemmas.List.{length-append, length-take, length-replicate}
 use Rattle.pw_number.specs.Number.{Number}
 use Rattle.pw_number.specs.declared.size_error.SizeError.{SizeError}
 use Rattle.pw_picture.specs.Grammar.{IsPicture, size_of}
-use Rattle.pw_picture.specs.Stored.{digits_of, chars_of, moved, is_kept, is_negative, size_at}
-use Rattle.pw_picture.specs.Text.{fitted}
+use Rattle.pw_picture.specs.Stored.{moved, is_kept, is_negative, size_at}
 use Rattle.pw_picture.specs.declared.picture.Picture.{Picture}
 use Rattle.pw_picture.specs.declared.picture.Picture.TheVariants as picture
 use Rattle.pw_words.specs.Words.{Word}
@@ -33,7 +31,7 @@ use Rattle.pw_source.specs.Program.{Deck, Program, item_named}
 use Rattle.pw_source.specs.Store.{Store, Spot, no_spot}
 use Rattle.pw_source.specs.Store as tree
 use Rattle.pw_source.specs.State.{State}
-use Rattle.pw_source.specs.Values.{Value, Chars, Register, Number', Text', Spaces', Zeros', text_in, text_of, number_of}
+use Rattle.pw_source.specs.Values.{Value, Chars, number_of}
 use Rattle.pw_source.specs.Operands.{Taken, Stored, Fixed, one_more, spot_in}
 use Rattle.pw_source.specs.Operands as source
 use Rattle.pw_source.specs.Conditions as conditions
@@ -41,6 +39,7 @@ use Rattle.pw_source.specs.Conditions.{turned, compared, is_numeric, of_both}
 use Rattle.pw_source.specs.Moves.{moved_chars}
 use Rattle.pw_source.specs.Moves as moving
 use Rattle.pw_source.specs.Arithmetic as computing
+use Rattle.pw_exec.proofs.Written.{length-chars_of, length-text_in}
 use Rattle.pw_exec.specs.Reading.{put_at, spot_of, spots_of, value_in, read}
 use Rattle.pw_exec.specs.Conditions as tests
 use Rattle.pw_exec.specs.Moves as moves
@@ -81,25 +80,6 @@ value-same store tail (Stored spot) s = ap (Chars spot.picture) (flat-chars spot
 value-same store tail (Fixed value) s = refl
 
 -- ---- moves
-
-pub length-fitted : (size : ℕ) (text : List ℕ) → length (fitted size text) ≡ size
-length-fitted size text = simp (length-append, length-take, length-replicate) (omega arith)
-
-length-text_in : (size : ℕ) (value : Value) → length (text_in size value) ≡ size
-length-text_in size (Chars p chars) = length-fitted size (text_of (Chars p chars))
-length-text_in size (Register digits v) = length-fitted size (text_of (Register digits v))
-length-text_in size (Number' spelling) = length-fitted size (text_of (Number' spelling))
-length-text_in size (Text' chars) = length-fitted size (text_of (Text' chars))
-length-text_in size Spaces' = length-replicate size 32
-length-text_in size Zeros' = length-replicate size 48
-
-pub length-digits_of : (count size : ℕ) → length (digits_of count size) ≡ count
-length-digits_of zero size = refl
-length-digits_of (suc count) size = omega (arith, length-digits_of count size)
-
-pub length-chars_of : (digits size : ℕ) (sign negative : Bool) → length (chars_of digits sign negative size) ≡ (if sign then digits + 1 else digits)
-length-chars_of digits size true negative = omega (arith, length-digits_of digits size)
-length-chars_of digits size false negative = length-digits_of digits size
 
 length-moved_chars : (p : Option Picture) (size : ℕ) (value : Value) → ((q : Picture) → p ≡ Some q → size_of q ≡ size) → length (moved_chars p size value) ≡ size
 length-moved_chars None size value fits = length-text_in size value

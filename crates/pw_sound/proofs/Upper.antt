@@ -24,7 +24,7 @@ use Rattle.pw_source.specs.Program.{Deck, Program, item_named}
 use Rattle.pw_source.specs.Sound.{scope_of}
 use Rattle.pw_compile.specs.Operands as code
 use Rattle.pw_sound.specs.Premises.{arguments_of}
-use Rattle.pw_sound.specs.Written.{IsUpper, HasUpperIndex}
+use Rattle.pw_source.specs.Written.{IsUpper, HasUpperIndex}
 use Rattle.pw_sound.proofs.Operands.{Indexed}
 use Rattle.pw_sound.proofs.Suits.{IsKept, IsKeptIndex, IsKeptPlace}
 

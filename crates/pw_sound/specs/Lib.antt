@@ -1,5 +1,4 @@
 pub mod Systems
 pub mod Premises
 pub mod Answered
-pub mod Written
 pub mod Tokens

@@ -15,7 +15,7 @@ use Rattle.pw_operands.specs.Resolved.{Each}
 use Rattle.pw_code.specs.declared.field.FieldKind.{FieldKind}
 use Rattle.pw_code.specs.declared.field.FieldKind.TheVariants as fields
 use Rattle.pw_code.specs.Fields.{IsTable}
-use Rattle.pw_sound.specs.Written.{IsWritten}
+use Rattle.pw_source.specs.Written.{IsWritten}
 use Rattle.pw_code.specs.Places.{IsOperand}
 use Rattle.pw_code.specs.declared.operand.Operand.TheVariants as coded
 use Rattle.pw_data.specs.Layouts.{Laid, place_of}

@@ -31,7 +31,7 @@ ghost use Rattle.pw_text.specs.declared.token.Token.{Token};
 ghost use Rattle.pw_sound.specs.Answered.{AnswersAs};
 ghost use Rattle.pw_sound.specs.Premises.{AreFitting, AreItems, AreRead, CallsFit, HasTables, IsRead, IsShownOf};
 ghost use Rattle.pw_sound.specs.Tokens.{HasNumber};
-ghost use Rattle.pw_sound.specs.Written.{IsWritten};
+ghost use Rattle.pw_source.specs.Written.{IsWritten};
 ghost use Rattle.pw_sound.specs.Systems.{named_in, system_of};
 
 /// The code of each program of a deck whose names resolve does what the tree of the program means: a

@@ -12,7 +12,8 @@ use Rattle.pw_source.specs.Program.{Program}
 use Rattle.pw_source.specs.Store.{Store, Spot, spot_of, lies_in, chars_from, chars_at, put_at, initial_store}
 use Rattle.pw_source.specs.Sound.{IsLayout}
 use Rattle.pw_source.proofs.Stores.{put-sizes}
-use Rattle.pw_source.proofs.storage.Shaped.{fine, shaped}
+use Rattle.pw_source.proofs.storage.Shaped.{shaped}
+use Rattle.pw_data.proofs.StoreLaws.{fine}
 use Rattle.pw_source.proofs.storage.Initial.{initial-is}
 use Rattle.pw_source.proofs.storage.Cuts.{Cut, Covers, covers}
 

@@ -1,2 +1,3 @@
+pub mod Holding
 pub mod Readers
 pub mod Pieces

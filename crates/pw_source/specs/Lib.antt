@@ -20,3 +20,4 @@ pub mod Sound
 pub mod Statements
 pub mod Store
 pub mod Values
+pub mod Written

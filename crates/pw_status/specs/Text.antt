@@ -5,7 +5,7 @@ use Rattle.pw_code.specs.declared.system.System.{System}
 use Rattle.pw_event.specs.Line.{class_name, ending_text, file_name, pair_name, sentence, terminal_name}
 use Rattle.pw_event.specs.declared.event.Ending.{Ending}
 use Rattle.pw_event.specs.declared.event.Event.{Event}
-use Rattle.pw_kept.specs.Stands.{mode_as}
+use Rattle.pw_pair.specs.Follows.{mode_as}
 use Rattle.pw_listing.specs.Lines.{line}
 use Rattle.pw_onecopy.specs.Behaviour.{Behaviour}
 use Rattle.pw_pair.specs.declared.mode.Mode.{Mode}

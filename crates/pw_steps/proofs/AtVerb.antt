@@ -1,6 +1,8 @@
 -- What a terminal may do whose program stands at a verb.
-use Rattle.std.proofs.Common.{◌≡◌, ℕ, ◌&&◌, Bool, true, false, not, Option, Some, None, is_some, refl, ap, ◌∙◌, cond}
+use Rattle.std.proofs.Common.{◌≡◌, ℕ, ◌&&◌, Bool, true, false, not, Option, Some, None, is_some, refl, sym, ap, ◌∙◌, cond}
 use Rattle.std.proofs.lemmas.Bool.{and_left, and_right}
+use Rattle.std.specs.Borrow.{Bor}
+use Rattle.std.specs.Option.{option_copied, option_map}
 use Rattle.std.specs.Prelude.{IsSome}
 use Rattle.pw_code.specs.declared.context.Context.{Context}
 use Rattle.pw_code.specs.declared.system.System.{System}
@@ -11,6 +13,8 @@ use Rattle.pw_kept.specs.Kept.{Kept}
 use Rattle.pw_kept.specs.TerminalTests.{begins_unit, can_step, can_where, closing, end_held, flies, may_again, may_back, may_begin, may_check_end, may_check_start, may_commit, may_end_entries, may_fault, may_key, may_send, may_show, may_stop}
 use Rattle.pw_legal.specs.Values.{some_with}
 use Rattle.pw_legal.specs.Verbs.{asks_accept, asks_drop, asks_end, asks_fault, asks_send, asks_send_to, asks_show, asks_stop}
+use Rattle.pw_seats.specs.declared.seat.Ready.{Ready}
+use Rattle.pw_steps.proofs.At.{read-at}
 use Rattle.pw_steps.specs.Known.{stepping}
 use Rattle.pw_steps.specs.Verbs.{HasNoSend, HasNoVerbStep, HasNoneAt}
 
@@ -206,3 +210,9 @@ module _ (system : System) (kept : Kept) (t : ℕ) where
     none-at (verb.Reply reply) asked h =
         begins-only (verb.Reply reply) asked refl refl refl refl refl refl (λ x. refl)
         (no-send (verb.Reply reply) asked (λ outside. refl) (λ c. refl) refl)
+
+-- the test at the verb that was read
+pub told-at : (system : System) (kept : Kept) (t : ℕ) (r : Option (Bor Ready)) (ready : Bor Ready)
+    → option_map (λ (one : Ready). one.context) (option_copied r) ≡ stepping system kept t → r ≡ Some ready
+    → (test : Context → Bool) → test ready.now.context ≡ can_where system kept t test
+told-at system kept t r ready stands is test = sym (at system kept t ready.now.context (read-at r ready (stepping system kept t) stands is) test)

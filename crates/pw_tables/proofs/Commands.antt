@@ -7,10 +7,10 @@ use Rattle.pw_base.specs.declared.fault.Fault.{Fault}
 use Rattle.pw_base.specs.declared.fault_code.FaultCode.TheVariants.{BadCommand}
 use Rattle.std.specs.Str.{bytes_eq, str_to_ascii_uppercase}
 use Rattle.pw_code.specs.Limits.{most_tcps, most_classes, most_terminals, most_processes, most_restarts}
-use Rattle.pw_code.specs.Names.{IsName}
+use Rattle.pw_code.specs.Names.{IsName, may_name}
 use Rattle.pw_lines.specs.Lines.{lines}
 use Rattle.pw_lines.specs.Steps.{◌>>=◌, or_refused}
-use Rattle.pw_lines.specs.Words.{words, may_name}
+use Rattle.pw_lines.specs.Words.{words}
 use Rattle.pw_words.specs.Words.{Word}
 use Rattle.pw_pathcom.specs.Reading.{no_commands, starting, named, ranged, admitted, has_tcp, has_class, has_terminal, added, first_start, start_tcp, start_class, start_terminal, started, taken, taken_if, is_comment, is_none, line_read, lines_read, commands_of}
 use Rattle.pw_pathcom.specs.Verbs.{command_of}

@@ -1,27 +1,24 @@
--- What is known of a terminal behind every run: where its path is behind a takeover, that its entry lines are there, and that
--- a request that is out is one that its program asks for.
-use Rattle.std.proofs.Common.{◌≡◌, ◌≢◌, ℕ, zero, suc, ◌+◌, ◌<◌, ◌≤◌, ◌==◌, ⊎_elim, Bool, true, false, ◌||◌, is_some, cond, unwrap_or, List, [], ◌∷◌, ◌++◌, Option, Some, None, refl, ap, sym, subst, append-nil, append_assoc, arith, ◌∙◌}
+-- What is known of a terminal behind every run: where its path is behind a takeover, and that a request that is out is one that
+-- its program asks for.
+use Rattle.std.proofs.Common.{◌≡◌, ◌≢◌, ℕ, ◌+◌, ◌<◌, ◌==◌, Bool, true, false, ◌||◌, unwrap_or, List, [], ◌∷◌, Option, Some, None, refl, ap, sym, subst, arith, ◌∙◌}
 use Rattle.std.specs.List.{list_any}
 use Rattle.std.proofs.lemmas.Bool.{cond-false, false≢true, true≢false, ne_eqb}
 use Rattle.pw_class.specs.Queue.{is_of, works_for}
 use Rattle.pw_class.specs.declared.request.Request.{Request}
-use Rattle.pw_code.specs.declared.verb.Verb.{Verb}
-use Rattle.pw_code.specs.declared.verb.Verb.TheVariants as verb
 use Rattle.pw_event.specs.declared.event.Cause.{Cause}
-use Rattle.pw_event.specs.declared.event.Cause.TheVariants as cause
 use Rattle.pw_event.specs.declared.event.Event.{Event}
 use Rattle.pw_onecopy.specs.Behaviour.{Behaviour}
-use Rattle.pw_onecopy.specs.IsBehaviour.{IsBehaviour, Suits, SuitsFrom}
-use Rattle.pw_onecopy.specs.Path.{PathAnswer, Begun, Dropped, Ended, Entry, Failed, Replied, Shown, entries_on, unit_number}
+use Rattle.pw_onecopy.specs.IsBehaviour.{IsBehaviour}
+use Rattle.pw_onecopy.specs.Path.{PathAnswer, unit_number}
 use Rattle.pw_paired.specs.Failure.{resumed_path}
 use Rattle.pw_paired.specs.Raising.{is_takeover}
-use Rattle.pw_paired.specs.State.{BackupCopy, Class, Job, LastEnded, OpenUnit, State}
+use Rattle.pw_paired.specs.State.{BackupCopy, Class, Job, OpenUnit, State}
 use Rattle.pw_paired.specs.Step.{IsRun, after}
 use Rattle.pw_paired.specs.Units.{any_below, has_request, is_out, request_in}
 use Rattle.pw_progress.proofs.Lacking.{any_below-some}
 use Rattle.pw_runs.proofs.induction.Moving.{TermAt, holds-of-terms}
 use Rattle.pw_runs.proofs.induction.Views as move
-use Rattle.pw_runs.proofs.induction.Views.{Moves, View, path_in, view_of}
+use Rattle.pw_runs.proofs.induction.Views.{Moves, View, path_in}
 use Rattle.pw_runs.proofs.kept.Kept.{Inv}
 use Rattle.pw_runs.proofs.requests.Classes.{IsWithout, NoneOf, NotFor}
 use Rattle.pw_runs.proofs.requests.Requests.{AtWork, InLine, Nowhere, Place, Placed, Sent, sent_of}
@@ -85,51 +82,6 @@ pub taken-over : (sys : Behaviour) → IsBehaviour sys → (log : List Event) �
 taken-over sys b log run t known =
     holds-of-terms sys b t known {A = Unit {0}} (λ v w a. tt) tt (λ v a. TakenOk sys t v)
     (λ v w before behind move a ok. taken-kept sys t v w before move ok) (quiet refl) log run
-
--- ---- entry lines
-
--- entries on a path that goes on
-entries-append : (p q : List PathAnswer) → entries_on (p ++ q) ≡ entries_on p + entries_on q
-entries-append [] q = omega arith
-entries-append (Shown ∷ p) q = entries-append p q
-entries-append (Entry k ∷ p) q = let rest = entries-append p q in omega (arith, rest)
-entries-append (Begun r ∷ p) q = entries-append p q
-entries-append (Replied reply ∷ p) q = entries-append p q
-entries-append (Failed x ∷ p) q = entries-append p q
-entries-append (Ended ∷ p) q = entries-append p q
-entries-append (Dropped ∷ p) q = entries-append p q
-
--- an entry on a path exists
-suits-entry : (sys : Behaviour) (t k : ℕ) (path : List PathAnswer) (v : Verb) → Suits sys t path v (Entry k) → (k ≡ entries_on path + 1) × (k ≤ sys.entries t)
-suits-entry sys t k path (verb.Accept screen) suits = suits
-suits-entry sys t k path verb.Show suits = absurd suits
-suits-entry sys t k path verb.Begin suits = absurd suits
-suits-entry sys t k path (verb.Send class message) suits = absurd suits
-suits-entry sys t k path verb.End suits = absurd suits
-suits-entry sys t k path verb.Drop suits = absurd suits
-suits-entry sys t k path verb.Redo suits = absurd suits
-suits-entry sys t k path verb.Stop suits = absurd suits
-suits-entry sys t k path (verb.Fault x) suits = absurd suits
-suits-entry sys t k path (verb.File call) suits = absurd suits
-suits-entry sys t k path (verb.Reply reply) suits = absurd suits
-
-one-entry : (sys : Behaviour) (t : ℕ) (before : List PathAnswer) (a : PathAnswer) → Suits sys t before (sys.ask t before) a → entries_on before ≤ sys.entries t → entries_on (before ++ a ∷ []) ≤ sys.entries t
-one-entry sys t before (Entry k) suits low =
-    let both = suits-entry sys t k before (sys.ask t before) suits in
-    let next = both.0 in let exists = both.1 in let sum = entries-append before (Entry k ∷ []) in omega (arith, next, exists, sum)
-one-entry sys t before Shown suits low = let sum = entries-append before (Shown ∷ []) in omega (arith, low, sum)
-one-entry sys t before (Begun r) suits low = let sum = entries-append before (Begun r ∷ []) in omega (arith, low, sum)
-one-entry sys t before (Replied reply) suits low = let sum = entries-append before (Replied reply ∷ []) in omega (arith, low, sum)
-one-entry sys t before (Failed x) suits low = let sum = entries-append before (Failed x ∷ []) in omega (arith, low, sum)
-one-entry sys t before Ended suits low = let sum = entries-append before (Ended ∷ []) in omega (arith, low, sum)
-one-entry sys t before Dropped suits low = let sum = entries-append before (Dropped ∷ []) in omega (arith, low, sum)
-
--- a path has no more entries than there are
-pub entries-from : (sys : Behaviour) (t : ℕ) (before path : List PathAnswer) → SuitsFrom sys t before path → entries_on before ≤ sys.entries t → entries_on (before ++ path) ≤ sys.entries t
-entries-from sys t before [] suits low = subst (λ (p : List PathAnswer). entries_on p ≤ sys.entries t) (sym (append-nil before)) low
-entries-from sys t before (a ∷ path) suits low =
-    subst (λ (p : List PathAnswer). entries_on p ≤ sys.entries t) (append_assoc before (a ∷ []) path)
-    (entries-from sys t (before ++ a ∷ []) path suits.1 (one-entry sys t before a suits.0 low))
 
 -- ---- requests
 

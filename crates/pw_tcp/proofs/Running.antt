@@ -36,7 +36,8 @@ use Rattle.pw_serial.proofs.restarts.Few.{counts-ok}
 use Rattle.pw_tcp.specs.InState.{FitsTogether, HasMember, IsOfPath, MayPend, MayStep, WaitsAtStart, is_within, note_of, pending_of, terminal_of}
 use Rattle.pw_tcp.specs.NextStep.{BeginsAnew, MayAsk, RunsWhere, ends_attempt, is_pending}
 use Rattle.pw_tcp.proofs.Fitting.{not-true}
-use Rattle.pw_tcp.proofs.Known.{IsTaken, entries-from, out-sent, taken-over}
+use Rattle.pw_tcp.proofs.Known.{IsTaken, out-sent, taken-over}
+use Rattle.pw_serial.proofs.steps.Terminals.{entries-from}
 
 -- a member of the pair works
 works-as : (mode : Mode) → HasMember mode → IsWorking mode

@@ -8,6 +8,7 @@ use Rattle.std.specs.Ordering.{is_gt, is_lt, ordering_reverse}
 use Rattle.std.proofs.lemmas.Cmp.{nat_list_cmp_total}
 use Rattle.std.proofs.lemmas.List.{append-nil}
 use Rattle.std.proofs.lemmas.List.Elements.{filter-append}
+use Rattle.pw_files.proofs.RecordLemmas.{gt_is, lt_is}
 use Rattle.pw_files.specs.Records.{above, below, key_cmp}
 use Rattle.pw_paired.specs.Units.{put_back}
 use Rattle.pw_tmf.specs.Leaving.{HasKey}
@@ -95,16 +96,6 @@ module _ {X : Type 0} (low above_low high_below high : X → Bool)
       ∙ ap (λ t. filter low xs ++ (first ++ t)) above_of_low)
 
 -- ---- records round two keys
-
-lt_is : (o : Ordering) → is_lt o ≡ true → o ≡ Less
-lt_is Less h = refl
-lt_is Equal h = cc
-lt_is Greater h = cc
-
-gt_is : (o : Ordering) → is_gt o ≡ true → o ≡ Greater
-gt_is Less h = cc
-gt_is Equal h = cc
-gt_is Greater h = refl
 
 -- the records round a key, with these between them
 abbrev placed : ℕ → List ℕ → List (List ℕ) → List (List ℕ) → List (List ℕ)

@@ -14,7 +14,7 @@ use Rattle.pw_counts.specs.declared.counts.TerminalCounts.{TerminalCounts}
 use Rattle.pw_event.specs.declared.event.Ending.{Ending}
 use Rattle.pw_event.specs.declared.event.Event.{Event}
 use Rattle.pw_exec.specs.OfSystem.{processes_by}
-use Rattle.pw_kept.specs.Stands.{mode_as}
+use Rattle.pw_pair.specs.Follows.{mode_as}
 use Rattle.pw_listing.specs.Listing.{counted}
 use Rattle.pw_listing.specs.declared.numbers.Number.{Number}
 use Rattle.pw_monitor.specs.States.{WorldState}

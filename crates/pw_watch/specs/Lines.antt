@@ -1,7 +1,7 @@
 -- The lines of a status text, by the number of a pair, a terminal, a class or a file.
 use Rattle.std.specs.Prelude.{ℕ, List}
 use Rattle.pw_counts.specs.Counts.{class_counts, file_counts, terminal_counts}
-use Rattle.pw_kept.specs.Stands.{mode_as}
+use Rattle.pw_pair.specs.Follows.{mode_as}
 use Rattle.pw_status.specs.Text.{class_line, file_line, pair_line, terminal_line}
 use Rattle.pw_watch.specs.Watching.{WatchState, state_in, sys_in}
 

@@ -1,6 +1,5 @@
 -- What `status` answers of a deck.
-use Rattle.std.specs.Prelude.{◌≡◌, ℕ, List, [], ◌∷◌, ◌++◌, Ok, codes, take}
-use Rattle.std.specs.Fmt.{decimal}
+use Rattle.std.specs.Prelude.{◌≡◌, ℕ, List, Ok, take}
 use Rattle.pw_code.specs.declared.system.System.{System}
 use Rattle.pw_deck.specs.Deck.{deck_of}
 use Rattle.pw_deck.specs.declared.deck.Deck.{Deck}
@@ -8,6 +7,7 @@ use Rattle.pw_event.specs.declared.event.Event.{Event}
 use Rattle.pw_monitor_world.specs.Calls.{IsFirstNoStep}
 use Rattle.pw_onecopy.specs.Behaviour.{Behaviour}
 use Rattle.pw_paired.specs.Step.{IsRun}
+use Rattle.pw_run.specs.NoStep.{no_step_line}
 use Rattle.pw_script.specs.Log.{rule_of}
 use Rattle.pw_sound.specs.Systems.{system_of}
 use Rattle.pw_source.specs.OfDeck.{behaviour}
@@ -15,10 +15,6 @@ use Rattle.pw_status.specs.Text.{status_text}
 use Rattle.pw_watch.specs.declared.status.Counted.{Counted}
 use Rattle.pw_watch.specs.declared.status.Counted.TheVariants.{NotAStep, Run}
 use Rattle.pw_whole.specs.Whole.{trees_of}
-
--- the line of an entry that is no step
-abbrev pub no_step_line : ℕ → List ℕ
-no_step_line n = codes "NOT A STEP " ++ (decimal n ++ 10 ∷ [])
 
 -- the text is the status text of the log, which is a run, or the line of its first entry that is no step
 abbrev pub Counts : Behaviour → System → List Event → Counted → List ℕ → Type 0

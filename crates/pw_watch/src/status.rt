@@ -7,7 +7,7 @@ ghost use Rattle.pw_deck.specs.Deck.{deck_of};
 ghost use Rattle.pw_exec.specs.OfSystem.{behaviour};
 ghost use Rattle.pw_kept.specs.May.{IsLineThere};
 ghost use Rattle.pw_onecopy.specs.IsBehaviour.{IsBehaviour};
-ghost use Rattle.pw_watch.specs.Status.{Counts, IsStatusOf, no_step_line};
+ghost use Rattle.pw_watch.specs.Status.{Counts, IsStatusOf};
 ghost use Rattle.pw_watch.specs.Watching.{sys_in};
 
 use crate::watch::{Watch, WatchFault};
@@ -17,6 +17,7 @@ use pw_base::memory::Memory;
 use pw_code::system::System;
 use pw_event::event::Event;
 use pw_event::script::Script;
+use pw_run::no_step::no_step_line;
 use pw_script::log::rule_of;
 use pw_whole::deck::{Deck, read};
 use std::alloc::Global;
@@ -101,14 +102,4 @@ fn count_over(alloc: Global, watch: &mut Watch, log: &[Event]) -> Result<(Counte
         }
     }
     Ok((Counted::Run, watch.text(alloc)?))
-}
-
-/// The line of an entry that is no step.
-fn no_step_line(alloc: Global, number: u64) -> Result<Bytes, Memory>
-    ensures { IfOk result (λ text. text ≡ no_step_line number) }
-{
-    let words = format!(in alloc; "NOT A STEP {number}")?;
-    let mut text = Bytes::from_slice(alloc, words.as_bytes())?;
-    text.push(b'\n')?;
-    Ok(text)
 }

@@ -37,7 +37,7 @@ use Rattle.pw_screen.specs.declared.entry.Entry.TheVariants as entry
 use Rattle.pw_screen.specs.declared.entry.Placed.{Placed}
 use Rattle.pw_screen.specs.declared.shown.ItemClause.{ItemClause}
 use Rattle.pw_screen.specs.declared.shown.Shown.{Shown}
-use Rattle.pw_whole.proofs.Shown.{item-sound}
+use Rattle.pw_screen.proofs.Sound.{item-sound}
 use Rattle.pw_source.specs.Program.{no_program}
 use Rattle.pw_source.specs.Sound.{IsLayout}
 use Rattle.pw_source.specs.Store.{Store, initial_store}

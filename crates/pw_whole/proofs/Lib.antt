@@ -1,4 +1,5 @@
 pub mod Coding
+pub mod Decks
 pub mod Failures
 pub mod Fields
 pub mod Lines
@@ -7,6 +8,5 @@ pub mod Parts
 pub mod Pictures
 pub mod Read
 pub mod Rules
-pub mod Shown
 pub mod Sources
 pub mod Whole

@@ -30,10 +30,6 @@ line-like a b pairs classes (line.Tcp p primary after) there = (omega (arith, th
 line-like a b pairs classes (line.Server c i after) there =
     ((omega (arith, there.0.0, ap length classes), omega (arith, there.0.1, ap (λ all. (slice_index_or all c no_class).processes) classes)), there.1)
 
-pub each-kept : {A : Type 0} (P Q : A → Type 0) (xs : List A) → ((x : A) → P x → Q x) → Each P xs → Each Q xs
-each-kept P Q [] keep all = tt
-each-kept P Q (x ∷ xs) keep all = (keep x all.0, each-kept P Q xs keep all.1)
-
 module _ (system : System) where
   known-there : (number : ℕ) (r : Result FailLine EventFault) → IfOk r (IsNamed system) → IfOk (or_unknown number r) (IsNamed system)
   known-there number (Ok one) is = is

@@ -47,9 +47,10 @@ use Rattle.pw_words.specs.Names.{has_name}
 use Rattle.pw_words.specs.Words.{Word}
 use Rattle.pw_whole.specs.Whole.{of_requester, of_server, trees_of}
 use Rattle.pw_whole.specs.Named.{IsNamed}
-use Rattle.pw_whole.proofs.Lines.{IsCounted, each-kept, fails-there, few-fails, line-like}
+use Rattle.pw_whole.proofs.Lines.{IsCounted, fails-there, few-fails, line-like}
 use Rattle.pw_whole.proofs.Logs.{IsLogCounted, few-entries}
 use Rattle.pw_whole.proofs.Sources.{IsReadRequester, IsReadServer, requester-is, server-is}
+use Rattle.pw_source.proofs.storage.Places.{each-map}
 
 -- ---- sections
 
@@ -226,7 +227,7 @@ deck-is parts told all named is =
       requesters = all.requesters;
       servers = all.servers;
       names = ap (names_of parts.requesters parts.servers) (sym (same-links parts is.fails is.events)) ∙ named;
-      lines = each-kept (IsNamed tables) (IsNamed (entered parts.objects.entries tables)) is.fails (line-like tables (entered parts.objects.entries tables) refl refl) is.there;
+      lines = each-map (IsNamed tables) (IsNamed (entered parts.objects.entries tables)) is.fails (line-like tables (entered parts.objects.entries tables) refl refl) is.there;
       few = is.few;
       log = is.log;
       rule = refl;

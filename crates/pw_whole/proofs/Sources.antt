@@ -22,12 +22,11 @@ use Rattle.pw_scobol.proofs.Named.{all-named}
 use Rattle.pw_server.specs.Servers.{server_of}
 use Rattle.pw_server.specs.declared.server.Server.{Server}
 use Rattle.pw_source.specs.Sound.{HasForms, IsLayout}
-use Rattle.pw_source.proofs.sides.Pieces.{procedure-forms}
+use Rattle.pw_source.proofs.sides.Pieces.{procedure-forms, procedure-written}
 use Rattle.pw_sound.specs.Premises.{IsRead, IsShownOf}
-use Rattle.pw_sound.specs.Written.{IsWritten}
+use Rattle.pw_source.specs.Written.{IsWritten}
 use Rattle.pw_sound.proofs.Showing.{screens-show}
 use Rattle.pw_sound.proofs.numbers.Sources.{requester-read, server-read}
-use Rattle.pw_sound.proofs.written.Pieces.{procedure-written}
 use Rattle.pw_whole.proofs.Fields.{screens-tables}
 
 -- the statements of paragraphs are those of a side, written as their reader sees to, with literals that are numbers

@@ -46,9 +46,10 @@ use Rattle.pw_source.proofs.Behaviours.{sound-behaviour}
 use Rattle.pw_whole.specs.Named.{IsNamed}
 use Rattle.pw_whole.specs.Short.{IsShort, IsSmall}
 use Rattle.pw_whole.specs.Whole.{of_requester, of_server, trees_of, compiled}
-use Rattle.pw_whole.proofs.Lines.{line-like, each-kept}
+use Rattle.pw_whole.proofs.Lines.{line-like}
 use Rattle.pw_whole.proofs.Parts.{IsReadDeck, deck-known}
 use Rattle.pw_whole.proofs.Sources.{IsReadRequester, IsReadServer}
+use Rattle.pw_source.proofs.storage.Places.{each-map}
 
 -- ---- lists
 
@@ -152,8 +153,8 @@ module _ (bytes : List ℕ) (deck : Deck) (is : deck_of bytes ≡ Ok deck) where
       record {
         programs = programs-sound;
         servers = servers-sound;
-        terminals = each-kept (IsTerminal bare) (IsSoundTerminal trees) trees.terminals terminal-sound (all-each (IsTerminal bare) trees.terminals told.terminals);
-        classes = each-kept (IsClass bare) (IsSoundClass trees) trees.classes class-sound (all-each (IsClass bare) trees.classes told.classes);
+        terminals = each-map (IsTerminal bare) (IsSoundTerminal trees) trees.terminals terminal-sound (all-each (IsTerminal bare) trees.terminals told.terminals);
+        classes = each-map (IsClass bare) (IsSoundClass trees) trees.classes class-sound (all-each (IsClass bare) trees.classes told.classes);
         files = all-each IsDeckFile trees.files told.files;
       }
 
@@ -229,4 +230,4 @@ module _ (bytes : List ℕ) (deck : Deck) (is : deck_of bytes ≡ Ok deck) where
   lines-few = known.few
 
   pub lines-there : All (IsNamed system) trees.script
-  lines-there = each-all (IsNamed system) trees.script (each-kept (IsNamed deck.told.system) (IsNamed system) trees.script (line-like deck.told.system system refl refl) known.lines)
+  lines-there = each-all (IsNamed system) trees.script (each-map (IsNamed deck.told.system) (IsNamed system) trees.script (line-like deck.told.system system refl refl) known.lines)

@@ -71,7 +71,7 @@ one-entry sys t before (Failed x) suits low = let sum = entries-append before (F
 one-entry sys t before Ended suits low = let sum = entries-append before (Ended ∷ []) in omega (arith, low, sum)
 one-entry sys t before Dropped suits low = let sum = entries-append before (Dropped ∷ []) in omega (arith, low, sum)
 
-entries-from : (sys : Behaviour) (t : ℕ) (before path : List PathAnswer) → SuitsFrom sys t before path → entries_on before ≤ sys.entries t → entries_on (before ++ path) ≤ sys.entries t
+pub entries-from : (sys : Behaviour) (t : ℕ) (before path : List PathAnswer) → SuitsFrom sys t before path → entries_on before ≤ sys.entries t → entries_on (before ++ path) ≤ sys.entries t
 entries-from sys t before [] suits low = subst (λ (p : List PathAnswer). entries_on p ≤ sys.entries t) (sym (append-nil before)) low
 entries-from sys t before (a ∷ path) suits low =
     subst (λ (p : List PathAnswer). entries_on p ≤ sys.entries t) (append_assoc before (a ∷ []) path)

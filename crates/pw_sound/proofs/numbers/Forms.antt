@@ -25,6 +25,7 @@ use Rattle.pw_forms.specs.Operands.{operand, code, name, file_name, program_name
 use Rattle.pw_forms.specs.Conditions.{condition}
 use Rattle.pw_forms.specs.Forms as reads
 use Rattle.pw_forms.specs.FileForms as reads_files
+use Rattle.pw_source.proofs.sides.Holding.{HoldsForm}
 use Rattle.pw_sound.specs.Premises.{IsLiteral, AreLiterals, IsRead}
 use Rattle.pw_sound.proofs.numbers.Steps.{Any, Yields, yields-bind, yields-any, yields-pure, yields-fails, yields-if, yields-test, eats-gives, expects-gives, ends-gives, most-gives, some-gives, up-to-gives}
 use Rattle.pw_sound.proofs.numbers.Operands.{operand-gives, name-gives, file-gives, program-gives, key-gives, code-gives, condition-gives}
@@ -39,8 +40,7 @@ HeadIsRead (head.OnSizeError line a) = IsLiteral a.first × IsLiteral a.second
 
 -- the number literals of a form
 abbrev pub IsOf : Form → Type 0
-IsOf (forms.Whole statement) = IsRead statement
-IsOf (forms.Opens head) = HeadIsRead head
+IsOf form = HoldsForm IsRead HeadIsRead form
 
 module _ (text : List ℕ) where
   abbrev Gives : Reader Form → Type 0

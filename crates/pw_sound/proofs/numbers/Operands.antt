@@ -21,7 +21,8 @@ use Rattle.pw_forms.specs.Operands.{operand, operand_by, item, figurative, subsc
 use Rattle.pw_forms.specs.Conditions.{word_operator, operator_by, operator, compared, comparison, all, condition}
 use Rattle.pw_sound.specs.Premises.{IsLiteral, AreLiterals}
 use Rattle.pw_sound.specs.Tokens.{Says, HasNumber}
-use Rattle.pw_sound.proofs.numbers.Steps.{Any, Good, Yields, as_read, found-is, found-if, yields-bind, yields-any, yields-pure, yields-fails, yields-if, token-gives, eats-gives, takes-gives, separated-gives}
+use Rattle.pw_sound.proofs.numbers.Steps.{Any, Good, Yields, found-is, found-if, yields-bind, yields-any, yields-pure, yields-fails, yields-if, token-gives, eats-gives, takes-gives, separated-gives}
+use Rattle.pw_source.proofs.sides.Readers.{as_read}
 
 module _ (text : List ℕ) where
   -- behind a token comes what needs nothing of it

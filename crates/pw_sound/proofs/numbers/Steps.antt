@@ -8,18 +8,11 @@ use Rattle.pw_words.specs.Words.{Word}
 use Rattle.pw_forms.specs.Readers.{Rest, Reader, and_then, ◌>>=◌, pure, fails, token, takes, left, is_done, expects, eats, ends, some, some_from, up_to, up_to_from, separated, separated_from, behind, past, past_kind, sees, sees_kind}
 use Rattle.pw_forms.specs.Forms as reads
 use Rattle.pw_sound.specs.Tokens.{HasNumber}
+use Rattle.pw_source.proofs.sides.Readers.{as_read, each-more, first_read}
 
 -- nothing is said of a value
 abbrev pub Any : {A : Type 0} → A → Type 0
 Any x = Unit {0}
-
--- a value that was read, with what is left
-abbrev pub as_read : {A : Type 0} → A → Rest → Option (A × Rest)
-as_read x rest = Some (x, rest)
-
-abbrev first_read : {A : Type 0} → Option (A × Rest) → A → A
-first_read None other = other
-first_read (Some found) other = found.0
 
 abbrev rest_read : {A : Type 0} → Option (A × Rest) → Rest → Rest
 rest_read None other = other
@@ -28,10 +21,6 @@ rest_read (Some found) other = found.1
 each-drop : {A : Type 0} (P : A → Type 0) (xs : List A) → Each P xs → Each P (drop 1 xs)
 each-drop P [] each = tt
 each-drop P (x ∷ xs) each = each.1
-
-each-more : {A : Type 0} (P : A → Type 0) (xs : List A) (x : A) → Each P xs → P x → Each P (xs ++ x ∷ [])
-each-more P [] x each is = (is, tt)
-each-more P (y ∷ ys) x each is = (each.0, each-more P ys x each.1 is)
 
 module _ (text : List ℕ) where
   -- what is left is of this text, and its numbers are those that they are written as

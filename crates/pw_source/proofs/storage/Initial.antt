@@ -15,13 +15,13 @@ use Rattle.pw_data.specs.Tree.{forest}
 use Rattle.pw_data.specs.Laid.{items_in}
 use Rattle.pw_data.specs.Layouts.{Laid, laid, no_table, entries_in, FitsPicture}
 use Rattle.pw_data.specs.Store.{Cell, joined, LiesAt, LieFrom, IsStoreOf, store_of}
-use Rattle.pw_data.proofs.StoreLaws.{store-of_layout, pictures-of_layout}
+use Rattle.pw_data.proofs.StoreLaws.{store-of_layout, pictures-of_layout, fine}
 use Rattle.pw_operands.specs.Resolved.{Each}
 use Rattle.pw_source.specs.Program.{Program}
 use Rattle.pw_source.specs.Store.{is_offset, occurrence_at, begins_at, cell_at, cells_from, initial_store}
 use Rattle.pw_source.specs.Sound.{IsLayout}
 use Rattle.pw_source.proofs.Resolved.{each-got}
-use Rattle.pw_source.proofs.storage.Shaped.{fine, shaped}
+use Rattle.pw_source.proofs.storage.Shaped.{shaped}
 use Rattle.pw_source.proofs.storage.Places.{Starts, HasSize, HasStep, ApartFrom, AllApart, all-apart, all-step}
 
 -- ---- where an item begins, by the test

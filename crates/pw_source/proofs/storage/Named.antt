@@ -29,7 +29,7 @@ use Rattle.pw_operands.specs.Resolved.{Each}
 use Rattle.pw_operands.specs.declared.register.Register.TheVariants.{TerminationStatus, RestartCounter, FileStatus}
 use Rattle.pw_operands.specs.Variables.{register_of}
 use Rattle.pw_source.specs.Sound.{IsLayout}
-use Rattle.pw_source.proofs.storage.Shaped.{no_fault-here, Each-append, unless-ok, none-first, fine}
+use Rattle.pw_data.proofs.StoreLaws.{no_fault-here, Each-append, unless-ok, none-first, fine}
 use Rattle.pw_source.proofs.storage.Places.{each-append}
 
 -- ---- entries

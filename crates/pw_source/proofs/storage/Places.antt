@@ -93,7 +93,7 @@ pub each-map : {A : Type 0} (P Q : A → Type 0) (xs : List A) → ((x : A) → 
 each-map P Q [] f each = tt
 each-map P Q (x ∷ xs) f each = (f x each.0, each-map P Q xs f each.1)
 
-each-all : {A : Type 0} (P : A → Type 0) (xs : List A) → ((x : A) → P x) → Each P xs
+pub each-all : {A : Type 0} (P : A → Type 0) (xs : List A) → ((x : A) → P x) → Each P xs
 each-all P [] f = tt
 each-all P (x ∷ xs) f = (f x, each-all P xs f)
 

@@ -1,5 +1,6 @@
 use Rattle.std.proofs.Common.{refl}
-use Rattle.pw_desk.proofs.Decks.{lines-there, refuses, whole-is}
+use Rattle.pw_failures.proofs.Failures.{lines-like}
+use Rattle.pw_whole.proofs.Decks.{refuses, whole-is}
 use Rattle.pw_desk.proofs.Lifts.{reports}
 use Rattle.pw_exec.specs.OfSystem.{behaviour}
 use Rattle.pw_desk.proofs.run.run.Goals as goal
@@ -9,7 +10,7 @@ returns-in-Err-clause-fault g c = refuses c.args.bytes.now c.in-Err.refusal c.in
 
 pub run_system-requires-clause-lines : goal.run_system-requires-clause-lines
 run_system-requires-clause-lines g c κs within =
-    lines-there c.in-Ok.deck.system c.in-Ok.deck.system refl refl c.in-Ok.deck.script.lines c.in-Ok.ensures.lines
+    lines-like c.in-Ok.deck.system c.in-Ok.deck.system refl refl c.in-Ok.deck.script.lines c.in-Ok.ensures.lines
 
 pub returns-clause-ok : goal.returns-clause-ok
 returns-clause-ok g c =

@@ -1,5 +1,6 @@
 use Rattle.std.proofs.Common.{◌≡◌, ◌∙◌, refl, subst, sym}
-use Rattle.pw_desk.proofs.Decks.{lines-there, whole-is}
+use Rattle.pw_failures.proofs.Failures.{lines-like}
+use Rattle.pw_whole.proofs.Decks.{whole-is}
 use Rattle.pw_desk.proofs.Runs.{not-refused, tried}
 use Rattle.pw_desk.proofs.trial.trial.Goals as goal
 use Rattle.pw_exec.specs.OfSystem.{behaviour}
@@ -16,7 +17,7 @@ unreachable-requires g c =
 
 pub try_system-requires-clause-lines : goal.try_system-requires-clause-lines
 try_system-requires-clause-lines g c κs within =
-    lines-there c.in-Ok.deck.system c.in-Ok.deck.system refl refl c.in-Ok.deck.script.lines c.in-Ok.ensures.lines
+    lines-like c.in-Ok.deck.system c.in-Ok.deck.system refl refl c.in-Ok.deck.script.lines c.in-Ok.ensures.lines
 
 pub returns : goal.returns
 returns g c =

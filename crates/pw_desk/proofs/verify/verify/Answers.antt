@@ -1,5 +1,6 @@
 use Rattle.std.proofs.Common.{◌≡◌, ◌≤◌, length, refl, subst, sym}
-use Rattle.pw_desk.proofs.Decks.{lines-there, refuses, whole-is}
+use Rattle.pw_failures.proofs.Failures.{lines-like}
+use Rattle.pw_whole.proofs.Decks.{refuses, whole-is}
 use Rattle.pw_desk.proofs.Lifts.{verifies-from, whole-behaves, whole-log, whole-valid}
 use Rattle.pw_desk.proofs.verify.verify.Goals as goal
 
@@ -18,7 +19,7 @@ replay-requires-clause-deck c =
 
 pub replay-requires-clause-lines : goal.replay-requires-clause-lines
 replay-requires-clause-lines c =
-    lines-there c.in-Ok.deck.system (record c.in-Ok.deck.system { rule = c.rule_of.result }) refl refl
+    lines-like c.in-Ok.deck.system (record c.in-Ok.deck.system { rule = c.rule_of.result }) refl refl
     c.in-Ok.deck.script.lines c.in-Ok.ensures.lines
 
 pub replay-requires-clause-log : goal.replay-requires-clause-log

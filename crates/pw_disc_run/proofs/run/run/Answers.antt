@@ -1,16 +1,17 @@
 use Rattle.std.proofs.Common.{refl}
-use Rattle.pw_desk.proofs.Decks.{lines-there, whole-is}
-use Rattle.pw_desk.proofs.Decks as desk
+use Rattle.pw_failures.proofs.Failures.{lines-like}
+use Rattle.pw_whole.proofs.Decks.{whole-is}
+use Rattle.pw_whole.proofs.Decks as decks
 use Rattle.pw_disc_run.proofs.Comings.{comes, deck-refuses}
 use Rattle.pw_disc_run.proofs.run.run.Goals as goal
 
 pub returns-in-Err-clause-fault : goal.returns-in-Err-clause-fault
 returns-in-Err-clause-fault g c =
-    deck-refuses c.args.bytes.now c.in-Err.refusal (desk.refuses c.args.bytes.now c.in-Err.refusal c.in-Err.ensures.gives)
+    deck-refuses c.args.bytes.now c.in-Err.refusal (decks.refuses c.args.bytes.now c.in-Err.refusal c.in-Err.ensures.gives)
 
 pub run_pair-requires-clause-lines : goal.run_pair-requires-clause-lines
 run_pair-requires-clause-lines g c κs within =
-    lines-there c.in-Ok.deck.system c.in-Ok.deck.system refl refl c.in-Ok.deck.script.lines c.in-Ok.ensures.lines
+    lines-like c.in-Ok.deck.system c.in-Ok.deck.system refl refl c.in-Ok.deck.script.lines c.in-Ok.ensures.lines
 
 pub returns-clause-ok : goal.returns-clause-ok
 returns-clause-ok g c =

@@ -1,6 +1,6 @@
 -- What is left to be looked at leads to all.
 use Rattle.std.proofs.Common.{◌≡◌, ◌++◌, drop}
-use Rattle.pw_keep.specs.Starting.{members_from}
+use Rattle.pw_kept.specs.Members.{members_from}
 use Rattle.pw_keep.proofs.starting.members.Given as goal
 
 abbrev pub invariant-loop-place : goal.invariant-loop-place

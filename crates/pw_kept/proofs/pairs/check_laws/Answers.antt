@@ -1,6 +1,6 @@
 use Rattle.std.proofs.Common.{ap, sym, ◌∙◌, refl}
 use Rattle.pw_exec.specs.OfSystem.{behaviour}
-use Rattle.pw_kept.specs.Stands.{has_flights}
+use Rattle.pw_pair.specs.Follows.{has_flights}
 use Rattle.pw_kept.proofs.Checked.{checked}
 use Rattle.pw_kept.proofs.Components.{pair-of}
 use Rattle.pw_onecopy.specs.Path.{unit_number}

@@ -1,7 +1,8 @@
 use Rattle.std.proofs.Common.{◌≡◌, ◌∙◌, ℕ, List, [], ◌∷◌, ap, length, length-append, arith, subst}
 use Rattle.std.specs.Prelude.{IfOk}
 use Rattle.pw_listing.specs.Listing.{files_part, records_in}
-use Rattle.pw_recover.proofs.Finding.{filed, part-same}
+use Rattle.pw_recover.proofs.Finding.{part-same}
+use Rattle.pw_run_report.proofs.Committing.{filed}
 use Rattle.pw_tmf.specs.Committed.{committed}
 use Rattle.pw_tmf.specs.Tmf.{told_of}
 use Rattle.pw_tmf.specs.Told.{Told}

@@ -1,7 +1,7 @@
 use Rattle.std.proofs.Common.{◌∙◌, ap, sym, subst}
 use Rattle.pw_monitor.specs.States.{seen}
 use Rattle.pw_monitor_world.specs.Seen.{state_of, sys_of}
-use Rattle.pw_recover.proofs.Telling.{images-there}
+use Rattle.pw_run_report.proofs.Committing.{images-there}
 use Rattle.pw_recover.specs.Kept.{IsKept, TrailState, told_in}
 use Rattle.pw_tmf.specs.Committed.{committed}
 use Rattle.pw_tmf.specs.Told.{Told}

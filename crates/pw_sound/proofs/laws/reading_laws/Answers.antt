@@ -4,7 +4,7 @@ use Rattle.pw_sound.proofs.Scanned.{tokens-say}
 use Rattle.pw_sound.proofs.Showing.{screens-show}
 use Rattle.pw_sound.proofs.numbers.Pieces.{procedure-read}
 use Rattle.pw_sound.proofs.numbers.Sources.{requester-read, server-read}
-use Rattle.pw_sound.proofs.written.Pieces.{procedure-written}
+use Rattle.pw_source.proofs.sides.Pieces.{procedure-written}
 use Rattle.pw_sound.proofs.laws.reading_laws.Goals as goal
 
 pub returns : goal.returns

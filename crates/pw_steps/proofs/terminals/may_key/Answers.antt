@@ -1,22 +1,17 @@
 -- The test of what was read.
-use Rattle.std.proofs.Common.{ap, sym, ◌∙◌, ◌&&◌, ◌+◌, ◌==◌, nat_le}
+use Rattle.std.proofs.Common.{ap, ◌∙◌, ◌&&◌, ◌+◌, ◌==◌, nat_le}
 use Rattle.pw_keep.specs.Keeps.{kept_in}
 use Rattle.pw_kept.specs.Asked.{verb_in}
 use Rattle.pw_kept.specs.TerminalTests.{entries_of}
 use Rattle.pw_legal.specs.Verbs.{asks_accept}
-use Rattle.pw_steps.specs.Known.{stepping}
-use Rattle.pw_steps.proofs.At.{read-at}
-use Rattle.pw_steps.proofs.AtVerb.{at}
+use Rattle.pw_steps.proofs.AtVerb.{told-at}
 use Rattle.pw_steps.proofs.terminals.may_key.Goals as goal
 
 pub returns-in-Some : goal.returns-in-Some
 returns-in-Some g c =
-    let system = c.args.keep.now.system in
     let kept = kept_in g.D.Disc.told c.args.keep.now in
     let t = c.args.terminal in
-    let ready = c.in-Some.at in
-    let context = ready.now.context in
-    let stands = read-at c.stepping.result ready (stepping system kept t) c.stepping.ensures.context c.in-Some.is in
+    let context = c.in-Some.at.now.context in
     c.takes.ensures
     ∙ (ap (λ v. asks_accept v && (c.args.k == context.entries + 1 && nat_le c.args.k c.entries_of.result)) c.in-Some.ensures.verb
-    ∙ ap (λ n. asks_accept (verb_in system context) && (c.args.k == context.entries + 1 && nat_le c.args.k n)) (c.entries_of.ensures ∙ ap (λ s. entries_of s t) c.system.ensures) ∙ sym (at system kept t context stands _))
+    ∙ ap (λ n. asks_accept (verb_in c.args.keep.now.system context) && (c.args.k == context.entries + 1 && nat_le c.args.k n)) (c.entries_of.ensures ∙ ap (λ s. entries_of s t) c.system.ensures) ∙ told-at c.args.keep.now.system kept t c.stepping.result c.in-Some.at c.stepping.ensures.context c.in-Some.is _)

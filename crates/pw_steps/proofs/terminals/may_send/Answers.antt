@@ -1,22 +1,17 @@
 -- The test of what was read.
-use Rattle.std.proofs.Common.{ap, sym, ◌∙◌, ◌&&◌, not}
+use Rattle.std.proofs.Common.{ap, ◌∙◌, ◌&&◌, not}
 use Rattle.pw_keep.specs.Keeps.{kept_in}
 use Rattle.pw_kept.specs.Changes.{runs_told}
 use Rattle.pw_kept.specs.TerminalTests.{is_out}
 use Rattle.pw_legal.specs.Verbs.{asks_send_to}
-use Rattle.pw_steps.specs.Known.{stepping}
-use Rattle.pw_steps.proofs.At.{read-at}
-use Rattle.pw_steps.proofs.AtVerb.{at}
+use Rattle.pw_steps.proofs.AtVerb.{told-at}
 use Rattle.pw_steps.proofs.terminals.may_send.Goals as goal
 
 pub returns-in-Some : goal.returns-in-Some
 returns-in-Some g c =
-    let system = c.args.keep.now.system in
     let kept = kept_in g.D.Disc.told c.args.keep.now in
     let t = c.args.terminal in
-    let ready = c.in-Some.at in
-    let context = ready.now.context in
-    let stands = read-at c.stepping.result ready (stepping system kept t) c.stepping.ensures.context c.in-Some.is in
+    let context = c.in-Some.at.now.context in
     c.is_sent_by.ensures
-    ∙ (ap (λ v. runs_told c.args.unit (kept.disc.units t) && (asks_send_to c.args.class v && not (is_out system kept t))) c.in-Some.ensures.verb
-    ∙ sym (at system kept t context stands _))
+    ∙ (ap (λ v. runs_told c.args.unit (kept.disc.units t) && (asks_send_to c.args.class v && not (is_out c.args.keep.now.system kept t))) c.in-Some.ensures.verb
+    ∙ told-at c.args.keep.now.system kept t c.stepping.result c.in-Some.at c.stepping.ensures.context c.in-Some.is _)

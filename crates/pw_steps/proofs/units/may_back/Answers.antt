@@ -1,19 +1,14 @@
 -- The test of what was read.
-use Rattle.std.proofs.Common.{sym, ◌∙◌}
+use Rattle.std.proofs.Common.{◌∙◌}
 use Rattle.pw_keep.specs.Keeps.{kept_in}
-use Rattle.pw_steps.specs.Known.{stepping}
-use Rattle.pw_steps.proofs.At.{read-at}
-use Rattle.pw_steps.proofs.AtVerb.{at}
+use Rattle.pw_steps.proofs.AtVerb.{told-at}
 use Rattle.pw_steps.proofs.EndTests.{back-same}
 use Rattle.pw_steps.proofs.units.may_back.Goals as goal
 
 pub returns-in-Some : goal.returns-in-Some
 returns-in-Some g c =
-    let system = c.args.keep.now.system in
     let kept = kept_in g.D.Disc.told c.args.keep.now in
     let t = c.args.terminal in
-    let ready = c.in-Some.at in
-    let context = ready.now.context in
-    let stands = read-at c.stepping.result ready (stepping system kept t) c.stepping.ensures.context c.in-Some.is in
+    let context = c.in-Some.at.now.context in
     c.is_dropped_by.ensures
-    ∙ (back-same system kept t context c.args.unit ready.now.verb c.in-Some.ensures.verb ∙ sym (at system kept t context stands _))
+    ∙ (back-same c.args.keep.now.system kept t context c.args.unit c.in-Some.at.now.verb c.in-Some.ensures.verb ∙ told-at c.args.keep.now.system kept t c.stepping.result c.in-Some.at c.stepping.ensures.context c.in-Some.is _)

@@ -1,5 +1,7 @@
 use Rattle.std.proofs.Common.{◌≡◌, ◌∙◌, ap, arith, length, refl, take}
-use Rattle.pw_watch.proofs.Decks.{few-taken, lines-there, refuses, status-of, whole-behaves, whole-is, whole-log, whole-valid}
+use Rattle.pw_watch.proofs.Decks.{few-taken, status-of, whole-behaves, whole-log, whole-valid}
+use Rattle.pw_failures.proofs.Failures.{lines-like}
+use Rattle.pw_whole.proofs.Decks.{refuses, whole-is}
 use Rattle.pw_watch.proofs.status.status.Goals as goal
 
 pub returns-in-Err-clause-fault : goal.returns-in-Err-clause-fault
@@ -17,7 +19,7 @@ count-requires-clause-deck c =
 
 pub count-requires-clause-lines : goal.count-requires-clause-lines
 count-requires-clause-lines c =
-    lines-there c.in-Ok.deck.system (record c.in-Ok.deck.system { rule = c.rule_of.result }) refl refl
+    lines-like c.in-Ok.deck.system (record c.in-Ok.deck.system { rule = c.rule_of.result }) refl refl
     c.in-Ok.deck.script.lines c.in-Ok.ensures.lines
 
 pub count-requires-clause-log : goal.count-requires-clause-log

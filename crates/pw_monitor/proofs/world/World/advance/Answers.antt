@@ -3,7 +3,7 @@ use Rattle.pw_code.specs.declared.system.System.{System}
 use Rattle.pw_monitor.proofs.Applying.{advance-comes, advances, after-from}
 use Rattle.pw_monitor.specs.Applying.{StepsTo}
 use Rattle.pw_monitor.specs.States.{seen}
-use Rattle.pw_monitor_world.specs.Actors.{members_of}
+use Rattle.pw_kept.specs.Members.{members_of}
 use Rattle.pw_monitor_world.specs.Seen.{Seen}
 use Rattle.pw_monitor.proofs.world.World.advance.Goals as goal
 

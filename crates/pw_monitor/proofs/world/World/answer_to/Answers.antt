@@ -2,7 +2,7 @@ use Rattle.std.proofs.Common.{false, refl}
 use Rattle.pw_monitor.proofs.Applying.{leaves-out}
 use Rattle.pw_monitor.specs.States.{seen}
 use Rattle.pw_monitor_world.proofs.Steps.{placed}
-use Rattle.pw_monitor_world.specs.Actors.{members_of}
+use Rattle.pw_kept.specs.Members.{members_of}
 use Rattle.pw_monitor_world.specs.Answers.{with_out}
 use Rattle.pw_monitor.proofs.world.World.answer_to.Goals as goal
 

@@ -7,8 +7,7 @@ use Rattle.std.proofs.lemmas.List.Elements.{All-from_recursion}
 use Rattle.std.proofs.lemmas.List.Folds.{list_any-append}
 use Rattle.pw_code.specs.declared.system.System.{System}
 use Rattle.pw_code.specs.declared.system.TermInfo.{TermInfo}
-use Rattle.pw_kept.specs.Members.{AreOf, IsOf}
-use Rattle.pw_keep.specs.Starting.{members_from, members_of}
+use Rattle.pw_kept.specs.Members.{AreOf, IsOf, members_from, members_of}
 use Rattle.pw_pair.specs.Seats.{is_seat_of, new_seat, seats_with, with_terminal}
 use Rattle.pw_pair.specs.declared.seat.Seat.{Seat}
 use Rattle.pw_tmf.specs.Leaving.{is_among}

@@ -6,10 +6,9 @@ use Rattle.std.specs.List.{list_all}
 use Rattle.std.specs.Str.{str_to_ascii_uppercase}
 use Rattle.std.proofs.lemmas.Bool.{le-leb}
 use Rattle.std.proofs.lemmas.List.{length-map}
-use Rattle.pw_code.specs.Names.{is_name_byte, begins_with_letter}
-use Rattle.pw_lines.specs.Words.{may_name}
+use Rattle.pw_code.specs.Names.{is_name_byte, begins_with_letter, may_name}
 
-list_all-map : {A B : Type 0} (test : B → Bool) (f : A → B) (xs : List A) → list_all test (map f xs) ≡ list_all (λ x. test (f x)) xs
+pub list_all-map : {A B : Type 0} (test : B → Bool) (f : A → B) (xs : List A) → list_all test (map f xs) ≡ list_all (λ x. test (f x)) xs
 list_all-map test f [] = refl
 list_all-map test f (x ∷ xs) = ap (λ rest. test (f x) && rest) (list_all-map test f xs)
 
