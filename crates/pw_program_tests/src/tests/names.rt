@@ -29,15 +29,15 @@ const SERVER_LINE: u32 = 10;
 fn requester(
     alloc: Global,
     name: &str,
-    data: &[u8],
+    storage: &[u8],
     screen: &str,
     using: &str,
     text: &[u8],
 ) -> Result<Requester, Refusal>
-    requires data { length data.now ≤ MAX_INPUT }
+    requires storage { length storage.now ≤ MAX_INPUT }
     requires text { length text.now ≤ MAX_INPUT }
 {
-    let mut program = program_of(alloc, data, text, MAIN_LINE, false)?;
+    let mut program = program_of(alloc, storage, text, MAIN_LINE, false)?;
     give_names(alloc, &mut program, name, screen, using)?;
     Ok(program)
 }
@@ -60,12 +60,12 @@ fn push_other(
     rt: &impl Abort,
     programs: &mut Vec<Requester>,
     name: &str,
-    data: &[u8],
+    storage: &[u8],
     using: &str,
 ) -> Result<(), Refusal> {
-    assert!(rt; data.len() <= MAX_INPUT);
+    assert!(rt; storage.len() <= MAX_INPUT);
     let alloc = *programs.allocator();
-    let other = requester(alloc, name, data, "OTHER", using, b"S1. EXIT.")?;
+    let other = requester(alloc, name, storage, "OTHER", using, b"S1. EXIT.")?;
     Ok(push(programs, other)?)
 }
 

@@ -40,17 +40,17 @@ pub fn procedure_of(
 /// A program of this data and procedure, whose first line has this number. It has no names yet.
 pub fn program_of(
     alloc: Global,
-    data: &[u8],
+    storage: &[u8],
     text: &[u8],
     line: u32,
     server: bool,
 ) -> Result<Requester, Refusal>
-    requires data { length data.now ≤ MAX_INPUT }
+    requires storage { length storage.now ≤ MAX_INPUT }
     requires text { length text.now ≤ MAX_INPUT }
     requires first { 1 ≤ line }
     requires last { line ≤ MAX_INPUT }
 {
-    let layout = layout_of(alloc, data, server)?;
+    let layout = layout_of(alloc, storage, server)?;
     let procedure = procedure_of(alloc, text, line, server)?;
     Ok(Requester {
         name: Bytes::new(alloc),
