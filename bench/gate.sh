@@ -1,8 +1,8 @@
 #!/usr/bin/env bash
 # What the gate costs from nothing: for each crate the processor time of its proof, of its tests and of
 # its must-fail edits, in minutes, the dearest first, and the time by the clock. With names of crates it
-# is the same for these and those below them. It works in a clone of what is committed. Interrupted, it tells what
-# it has seen so far.
+# is the same for these and those below them, where the kit's gate takes names. It works in a clone of what is committed.
+# Interrupted, it tells what it has seen so far.
 #
 #     bench/gate.sh [CRATE..]
 set -eu
@@ -52,6 +52,16 @@ def sample(seen):
             seen[pid, fields[19]] = part, (int(fields[11]) + int(fields[12])) / TICKS
 
 
+def gate_of(crates):
+    """The words that run the gate from nothing: a kit whose gate keeps what passed has a flag for that."""
+    said = subprocess.run(["rt", "help"], capture_output=True, text=True)
+    if "--anew" in said.stdout + said.stderr:
+        return ["rt", "ci", "--anew", *crates]
+    if crates:
+        sys.exit("gate.sh: the gate of this kit takes no names of crates")
+    return ["rt", "ci"]
+
+
 def lines_of(crate):
     """The lines of a crate's code and of its specifications and proofs."""
     names = subprocess.run(["git", "ls-files", f"crates/{crate}"], capture_output=True, text=True).stdout.split()
@@ -64,7 +74,7 @@ def main(crates):
     with tempfile.TemporaryDirectory(prefix="gate-") as room:
         subprocess.run(["git", "clone", "-q", ".", f"{room}/clone"], check=True)
         with open("/tmp/gate.log", "w") as log:
-            gate = subprocess.Popen(["rt", "ci", "--anew", *crates], cwd=f"{room}/clone", stdout=log,
+            gate = subprocess.Popen(gate_of(crates), cwd=f"{room}/clone", stdout=log,
                 stderr=subprocess.STDOUT, env={**os.environ, "PATHWAY_GATE": str(os.getpid())}, start_new_session=True)
             try:
                 while gate.poll() is None:

@@ -253,6 +253,8 @@ def compare(reports, browser, pictures):
     failed = count = 0
     with tempfile.TemporaryDirectory() as name:
         folder = pathlib.Path(name)
+        if pictures:
+            pictures.mkdir(parents=True, exist_ok=True)
         for report in reports:
             deck = report.with_suffix(".deck")
             text, deck_text = report.read_text(), deck.read_text() if deck.exists() else ""
