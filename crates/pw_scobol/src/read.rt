@@ -55,14 +55,17 @@ pub fn requester(
 {
     let tokens = tokens(alloc, text, first_line)?;
     let divisions = divide(alloc, false, name, text, &tokens, first_line)?;
+    // What is light is taken first, so that few ways out let go of a layout or of screens.
+    let name = Bytes::from_slice(alloc, name)?;
+    let using = upper_names(alloc, text, divisions.using_names)?;
     let layout = layout(alloc, text, divisions.stored, false)?;
     let screens = screens(alloc, text, divisions.screens, &layout)?;
     let procedure = procedure(alloc, text, divisions.procedure, false)?;
     Ok(Requester {
-        name: Bytes::from_slice(alloc, name)?,
+        name,
         layout,
         screens: List::from_vec(screens),
-        using: upper_names(alloc, text, divisions.using_names)?,
+        using,
         procedure,
     })
 }

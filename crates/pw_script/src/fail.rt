@@ -2,6 +2,7 @@ ghost use Rattle.std.specs.Prelude.{◌≡◌, ◌+◌, ◌*◌, ◌≤◌, leng
 ghost use Rattle.pw_base.specs.First.{Gives};
 ghost use Rattle.pw_base.specs.Limits.{longest_input};
 ghost use Rattle.pw_code.specs.Limits.{most_fail_lines};
+ghost use Rattle.pw_code.specs.Valid.{HasNames};
 ghost use Rattle.pw_code.specs.declared.lock.LockRule.TheVariants.{ReadersShare};
 ghost use Rattle.pw_event.specs.Parsing.{failure_in};
 ghost use Rattle.pw_lines.specs.Steps.{line_taken};
@@ -14,6 +15,7 @@ use pw_base::fault_code::FaultCode;
 use pw_base::list::List;
 use pw_base::memory::Memory;
 use pw_code::lock::LockRule;
+use pw_code::system::System;
 use pw_event::fault::EventFault;
 use pw_event::script::{FailLine, MAX_FAIL_LINES};
 use pw_event::system_names::SystemNames;
@@ -87,6 +89,23 @@ fn count_lines(
     Ok(count)
 }
 
+/// How many failure lines a text has, whose first line has the number `first_line`, with the names of a
+/// system without a name.
+fn count_of_nobody(
+    alloc: Global,
+    system: &System,
+    text: &[u8],
+    first_line: u32,
+) -> Result<u32, Refusal>
+    requires system { system.now ≡ nobody ReadersShare }
+    requires names { HasNames system.now }
+    requires lines { first_line + length text.now ≤ 2 * longest_input + 1 }
+    ensures { Gives (λ count. count) result (failures_counted text.now first_line) }
+{
+    let names = SystemNames::new(alloc, system)?;
+    count_lines(alloc, &names, text, first_line)
+}
+
 /// How many failure lines a text has, whose first line has the number `first_line` (docs/DECK.md).
 ///
 /// It refuses exactly with the first fault, by line and on one line by code: 172 for a line outside
@@ -96,8 +115,7 @@ pub fn count_failures(alloc: Global, text: &[u8], first_line: u32) -> Result<u32
     ensures { Gives (λ count. count) result (failures_counted text.now first_line) }
 {
     let system = nobody(alloc, LockRule::ReadersShare);
-    let names = SystemNames::new(alloc, &system)?;
-    count_lines(alloc, &names, text, first_line)
+    count_of_nobody(alloc, &system, text, first_line)
 }
 
 /// Reads a failure line behind the others. An `Err` says nothing of what was read.

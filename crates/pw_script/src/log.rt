@@ -4,6 +4,7 @@ ghost use Rattle.std.specs.Fmt.{decimal};
 ghost use Rattle.pw_base.specs.First.{Gives};
 ghost use Rattle.pw_base.specs.Limits.{longest_input};
 ghost use Rattle.pw_code.specs.Limits.{most_log_lines};
+ghost use Rattle.pw_code.specs.Valid.{HasNames};
 ghost use Rattle.pw_event.specs.Parsing.{GivesUnlessMemory};
 ghost use Rattle.pw_lines.specs.Lines.{lines};
 ghost use Rattle.pw_lines.specs.Steps.{line_taken, each_line};
@@ -18,6 +19,7 @@ use pw_base::fault_code::FaultCode;
 use pw_base::list::List;
 use pw_base::memory::Memory;
 use pw_code::lock::LockRule;
+use pw_code::system::System;
 use pw_event::event::Event;
 use pw_event::fault::EventFault;
 use pw_event::system_names::SystemNames;
@@ -221,14 +223,29 @@ fn count_lines(
     Ok(count)
 }
 
+/// How many entries the lines of a text have, with the names of a system without a name.
+fn count_of_nobody(
+    alloc: Global,
+    system: &System,
+    text: &[u8],
+    first_line: u32,
+) -> Result<u32, Refusal>
+    requires system { system.now ≡ nobody system.now.rule }
+    requires names { HasNames system.now }
+    requires lines { first_line + length text.now ≤ 2 * longest_input + 1 }
+    ensures { Gives (λ count. count) result (each_line (entry_counted system.now.rule) first_line 0 (lines text.now)) }
+{
+    let names = SystemNames::new(alloc, system)?;
+    count_lines(alloc, &names, text, first_line)
+}
+
 /// How many entries the lines of a text have under a rule of locking.
 fn count_under(alloc: Global, rule: LockRule, text: &[u8], first_line: u32) -> Result<u32, Refusal>
     requires { first_line + length text.now ≤ 2 * longest_input + 1 }
     ensures { Gives (λ count. count) result (each_line (entry_counted rule) first_line 0 (lines text.now)) }
 {
     let system = nobody(alloc, rule);
-    let names = SystemNames::new(alloc, &system)?;
-    count_lines(alloc, &names, text, first_line)
+    count_of_nobody(alloc, &system, text, first_line)
 }
 
 /// How many entries the log of a text has, whose first line has the number `first_line`

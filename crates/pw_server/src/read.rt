@@ -25,10 +25,11 @@ pub fn server(alloc: Global, name: &[u8], text: &[u8], first_line: u32) -> Resul
 {
     let tokens = tokens(alloc, text, first_line)?;
     let divisions = divide(alloc, true, name, text, &tokens, first_line)?;
+    let name = Bytes::from_slice(alloc, name)?;
     let layout = layout(alloc, text, divisions.stored, true)?;
     let procedure = procedure(alloc, text, divisions.procedure, true)?;
     Ok(Server {
-        name: Bytes::from_slice(alloc, name)?,
+        name,
         layout,
         procedure,
     })

@@ -1,8 +1,11 @@
-ghost use Rattle.std.specs.Prelude.{◌≡◌, ◌≤◌, ◌^◌, length};
+ghost use Rattle.std.specs.Prelude.{◌≡◌, ◌≤◌, ◌^◌, List, length, OnOk};
 ghost use Rattle.pw_base.specs.First.{Gives};
 ghost use Rattle.pw_code.specs.Valid.{HasNames, HasFew};
+ghost use Rattle.pw_code.specs.declared.file.FileInfo.{FileInfo};
 ghost use Rattle.pw_code.specs.declared.lock.LockRule.{LockRule};
-ghost use Rattle.pw_tables.specs.Unknown.{tables_of, told_of};
+ghost use Rattle.pw_code.specs.declared.lock.LockRule.TheVariants.{ReadersShare};
+ghost use Rattle.pw_tables.specs.Tables.{tables};
+ghost use Rattle.pw_tables.specs.Unknown.{tables_of, told_of, told_with};
 
 use crate::objects::Objects;
 use crate::tables::{enter, tables};
@@ -13,10 +16,11 @@ use pw_base::list::List;
 use pw_code::lock::LockRule;
 use pw_code::system::System;
 use pw_event::event::Event;
-use pw_event::script::Script;
+use pw_event::script::{FailLine, Script};
 use pw_pathcom::objects::first_unknown;
 use pw_script::log::rule_of;
 use std::alloc::Global;
+use std::mem::replace;
 
 /// What a deck says besides its programs.
 #[derive(Debug, Drop)]
@@ -28,6 +32,44 @@ pub struct Told {
     pub log: List<Event>,
     /// The version of the log, 1 or 2: 2 where there is none.
     pub version: u8,
+}
+
+/// The failure lines and the log of a deck.
+#[derive(Drop)]
+struct Lines {
+    fails: List<FailLine>,
+    log: List<Event>,
+}
+
+/// The failure lines and the log of a deck whose files stand in its tables. It refuses as [`tell`], and
+/// leaves the tables as they are where it does not.
+fn lines_in(
+    alloc: Global,
+    objects: &Objects,
+    system: &mut System,
+    programs: &[Bytes],
+    servers: &[Bytes],
+) -> Result<Lines, Refusal>
+    requires names { (rule : LockRule) → HasNames (record system.old { rule = rule }) }
+    requires counts { (rule : LockRule) → HasFew (record system.old { rule = rule }) }
+    ensures told { (files : List FileInfo)
+        → system.old ≡ tables objects.now.commands programs.now servers.now files ReadersShare
+        → Gives (λ lines. told_with (record objects.now { files = files }) programs.now servers.now lines.fails lines.log)
+        result (told_of (record objects.now { files = files }) programs.now servers.now) }
+    ensures same { OnOk result (system.new ≡ system.old) }
+{
+    let rule = system.rule;
+    let fails = failures_in(alloc, system, &objects.fail)?;
+    system.rule = rule_of(log_version(&objects.log));
+    let events = events_in(alloc, system, &objects.log)?;
+    system.rule = rule;
+    let adds = first_unknown(&objects.commands, programs, servers);
+    unless(first_of_all(adds, system, objects.entries.as_slice(), &fails, &events))?;
+    unless(first_start(alloc, &objects.commands, &objects.pathcom)?)?;
+    Ok(Lines {
+        fails: fails?,
+        log: events?,
+    })
 }
 
 /// What the sections of a deck say that are no source, with the names of the deck's programs of
@@ -48,37 +90,22 @@ pub fn tell(
     requires counts { (rule : LockRule) → HasFew (tables_of objects programs.now servers.now rule) }
     ensures { Gives (λ told. told) result (told_of objects.entry programs.now servers.now) }
 {
-    let Objects {
-        pathcom,
-        commands,
-        files,
-        entries,
-        fail,
-        log,
-        ..
-    } = objects;
+    let mut objects = objects;
+    let files = replace(&mut objects.files, List::new(alloc));
     let mut system = tables(
         alloc,
-        &commands,
+        &objects.commands,
         programs,
         servers,
         files,
         LockRule::ReadersShare,
     )?;
-    let fails = failures_in(alloc, &system, &fail)?;
-    let version = log_version(&log);
-    system.rule = rule_of(version);
-    let events = events_in(alloc, &system, &log)?;
-    system.rule = LockRule::ReadersShare;
-    let adds = first_unknown(&commands, programs, servers);
-    unless(first_of_all(adds, &system, entries.as_slice(), &fails, &events))?;
-    unless(first_start(alloc, &commands, &pathcom)?)?;
-    let script = Script { lines: fails? };
-    let log = events?;
+    let lines = lines_in(alloc, &objects, &mut system, programs, servers)?;
+    let version = log_version(&objects.log);
     Ok(Told {
-        system: enter(alloc, system, entries),
-        script,
-        log,
+        system: enter(alloc, system, objects.entries),
+        script: Script { lines: lines.fails },
+        log: lines.log,
         version,
     })
 }

@@ -1,6 +1,5 @@
 use Rattle.std.proofs.Common.{List, All, sym, subst}
 use Rattle.pw_words.specs.Words.{Word}
-use Rattle.pw_data.specs.Layouts.{Laid}
 use Rattle.pw_divisions.specs.Divided.{Divided}
 use Rattle.pw_scobol.specs.Using.{IsParameter}
 use Rattle.pw_scobol.proofs.Divided.{HasUsing, divisions-ok}
@@ -13,5 +12,4 @@ returns-clause-parameters c =
     let known = divisions-ok c.args.name.now c.args.text.now c.deref.result.now c.args.first_line c.in_ok-divisions.divisions c.in_ok-divisions.ensures in
     let named = subst (λ (d : Divided). HasUsing c.args.text.now d) (sym c.divisions.view_is) known in
     let all = all-named c.args.text.now _ c.in_ok-layout.layout named c.in_ok-layout.ensures in
-    let there = subst (λ (names : List Word). All (IsParameter c.in_ok-layout.layout) names) (sym c.in_ok-upper_names.ensures) all in
-    subst (λ (l : Laid). All (IsParameter l) c.in_ok-upper_names.field-0) (sym c.layout-2.view_is) there
+    subst (λ (names : List Word). All (IsParameter c.in_ok-layout.layout) names) (sym c.in_ok-using.ensures) all
