@@ -15,7 +15,5 @@ pub mod read_all;
 pub mod read_source;
 pub mod sink;
 pub mod source;
-#[cfg(test)]
-mod tests;
 pub mod write_all;
 pub mod write_sink;

@@ -56,37 +56,3 @@ impl<I: Read> Source for ReadSource<I> {
         }
     }
 }
-
-#[cfg(test)]
-mod tests {
-    use super::*;
-    use std::io::{self, ErrorKind};
-
-    /// Gives one byte, and then fails.
-    #[derive(Drop)]
-    struct Broken {
-        is_first: bool,
-    }
-
-    impl Read for Broken {
-        fn read(&mut self, buf: &mut [u8]) -> io::Result<usize> {
-            if !self.is_first || buf.is_empty() {
-                return Err(io::Error::from(ErrorKind::Other));
-            }
-            self.is_first = false;
-            buf[0] = b'A';
-            Ok(1)
-        }
-    }
-
-    #[test]
-    fn failure_is_counted(rt: HostRuntime) {
-        let mut source = ReadSource::new(Broken { is_first: true });
-        let mut piece = [0; 4];
-        assert_eq!(rt; source.read(&mut piece), Got::Got(1));
-        assert_eq!(rt; source.faults, 0);
-        assert_eq!(rt; source.read(&mut piece), Got::Failed);
-        assert_eq!(rt; source.faults, 1);
-        assert_eq!(rt; piece[0], b'A');
-    }
-}

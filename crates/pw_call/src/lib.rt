@@ -5,5 +5,3 @@
 pub mod input;
 pub mod output;
 pub mod status;
-#[cfg(test)]
-mod tests;

@@ -1,9 +1,12 @@
+mod call;
 mod deck;
 mod disc_call;
 mod event;
 mod event_due;
 mod event_line;
 mod event_malformed;
+mod generated;
+mod lines;
 mod pathcom;
 mod rows;
 mod script;

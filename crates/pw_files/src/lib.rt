@@ -4,5 +4,3 @@
 pub mod laws;
 pub mod record_file;
 pub mod sorted_file;
-#[cfg(test)]
-mod tests;

@@ -4,5 +4,3 @@
 pub mod generate;
 mod lines;
 mod parts;
-#[cfg(test)]
-mod tests;

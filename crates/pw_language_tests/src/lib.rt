@@ -1,4 +1,4 @@
-//! Tests of the language: pictures, words and texts, data and forms. They stand beside their crates, since a crate with tests is proved twice.
+//! Tests of the language: bytes and lists, numbers and pictures, words and texts, data and forms. They stand beside their crates, since a crate with tests is proved twice.
 #![tactic(auto)]
 
 #[cfg(test)]

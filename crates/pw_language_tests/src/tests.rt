@@ -1,7 +1,10 @@
+mod base;
 mod data;
 mod divisions;
 mod forms;
 mod forms_rows;
+mod number;
 mod picture;
 mod rows;
 mod text;
+mod words;

@@ -2,6 +2,4 @@
 #![tactic(auto)]
 
 pub mod line;
-#[cfg(test)]
-mod tests;
 pub mod word;

@@ -6,5 +6,3 @@ mod lines;
 pub mod listing;
 pub mod numbers;
 mod parts;
-#[cfg(test)]
-mod tests;

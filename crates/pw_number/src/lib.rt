@@ -10,5 +10,3 @@ pub mod multiply;
 pub mod power;
 pub mod scaled;
 pub mod size_error;
-#[cfg(test)]
-mod tests;

@@ -1,5 +1,7 @@
 mod counts;
+mod listing;
 mod net;
 mod order;
 mod pair;
+mod status;
 mod tcp;

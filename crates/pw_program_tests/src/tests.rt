@@ -3,4 +3,6 @@ mod compile;
 mod names;
 mod names_rows;
 mod parts;
+mod scobol;
 mod screen;
+mod server;

@@ -3,5 +3,3 @@
 
 pub mod read;
 pub mod requester;
-#[cfg(test)]
-mod tests;

@@ -3,5 +3,3 @@
 
 pub mod read;
 pub mod server;
-#[cfg(test)]
-mod tests;

@@ -1,6 +1,7 @@
 mod blocks;
 mod class;
 mod disc;
+mod files;
 mod fresh;
 mod image;
 mod locks;
@@ -8,3 +9,4 @@ mod tmf;
 mod trail;
 mod trail_disc;
 mod units;
+mod volume;

@@ -4,5 +4,3 @@
 pub mod disk;
 pub mod fault;
 pub mod mem_disk;
-#[cfg(test)]
-mod tests;

@@ -4,6 +4,4 @@
 
 pub mod names;
 pub mod table;
-#[cfg(test)]
-mod tests;
 pub mod texts;

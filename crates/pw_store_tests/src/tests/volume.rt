@@ -1,7 +1,7 @@
-use crate::disk::Disk;
-use crate::fault::{DiskFailed, WriteFault};
-use crate::mem_disk::MemDisk;
 use pw_base::memory::Memory;
+use pw_volume::disk::Disk;
+use pw_volume::fault::{DiskFailed, WriteFault};
+use pw_volume::mem_disk::MemDisk;
 use std::alloc::Global;
 use std::test::Fail;
 

@@ -1,4 +1,4 @@
-use crate::generate::generate;
+use pw_gen::generate::generate;
 use std::alloc::Global;
 use std::test::Fail;
 

@@ -1,11 +1,11 @@
 ghost use Rattle.std.specs.Prelude.{◌≡◌, IfOk};
 ghost use Rattle.pw_files.specs.Records.{IsContent};
 
-use crate::laws::{file_laws, lookup_laws, next_laws};
-use crate::record_file::RecordFile;
-use crate::sorted_file::SortedFile;
 use pw_base::bytes::Bytes;
 use pw_base::memory::Memory;
+use pw_files::laws::{file_laws, lookup_laws, next_laws};
+use pw_files::record_file::RecordFile;
+use pw_files::sorted_file::SortedFile;
 use std::alloc::Global;
 use std::process::Abort;
 use std::test::Fail;

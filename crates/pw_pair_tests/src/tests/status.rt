@@ -1,8 +1,5 @@
 ghost use Rattle.std.specs.Prelude.{◌≡◌, IfOk, length};
 
-use crate::lines::{
-    print_class, print_entries, print_file, print_pair, print_terminal, print_units,
-};
 use pw_base::bytes::Bytes;
 use pw_base::list::List;
 use pw_base::memory::Memory;
@@ -12,6 +9,9 @@ use pw_code::system::{ClassInfo, System, TermInfo};
 use pw_counts::counts::{ClassCounts, FileCounts, TerminalCounts, UnitCounts};
 use pw_event::event::{Cause, Ending};
 use pw_pair::mode::Mode;
+use pw_status::lines::{
+    print_class, print_entries, print_file, print_pair, print_terminal, print_units,
+};
 use std::alloc::Global;
 use std::process::Abort;
 use std::test::Fail;

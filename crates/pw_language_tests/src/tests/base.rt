@@ -1,20 +1,21 @@
 ghost use Rattle.std.specs.Prelude.{◌≡◌, ◌∷◌, [], IfOk, IfSome};
 
-use crate::bytes::Bytes;
-use crate::fault::{Fault, Refusal, better, noted};
-use crate::fault_code::FaultCode;
-use crate::laws::{fault_code_laws, first_fault_laws};
-use crate::list::List;
-use crate::mem_sink::MemSink;
-use crate::mem_source::MemSource;
-use crate::memory::Memory;
-use crate::read_all::{MAX_INPUT, ReadFault, read_all};
-use crate::read_source::ReadSource;
-use crate::sink::Sink;
-use crate::source::Source;
-use crate::write_all::write_all_of;
-use crate::write_sink::WriteSink;
+use pw_base::bytes::Bytes;
+use pw_base::fault::{Fault, Refusal, better, noted};
+use pw_base::fault_code::FaultCode;
+use pw_base::laws::{fault_code_laws, first_fault_laws};
+use pw_base::list::List;
+use pw_base::mem_sink::MemSink;
+use pw_base::mem_source::MemSource;
+use pw_base::memory::Memory;
+use pw_base::read_all::{MAX_INPUT, ReadFault, read_all};
+use pw_base::read_source::ReadSource;
+use pw_base::sink::Sink;
+use pw_base::source::{Got, Source};
+use pw_base::write_all::write_all_of;
+use pw_base::write_sink::WriteSink;
 use std::alloc::Global;
+use std::io::{self, ErrorKind, Read};
 use std::test::Fail;
 
 fn read_through<S: Source>(alloc: Global, source: &mut S) -> Result<Bytes, ReadFault> {
@@ -190,4 +191,30 @@ fn first_fault_is_kept(rt: HostRuntime) -> Result<(), Fail> {
     first_fault_laws();
     fault_code_laws();
     Ok(())
+}
+
+/// Gives one byte, and then fails.
+#[derive(Drop)]
+struct Broken {
+    is_first: bool,
+}
+
+impl Read for Broken {
+    fn read(&mut self, buf: &mut [u8]) -> io::Result<usize> {
+        if !self.is_first || buf.is_empty() {
+            return Err(io::Error::from(ErrorKind::Other));
+        }
+        self.is_first = false;
+        buf[0] = b'A';
+        Ok(1)
+    }
+}
+
+#[test]
+fn failure_of_a_reader_is_told(rt: HostRuntime) {
+    let mut source = ReadSource::new(Broken { is_first: true });
+    let mut piece = [0; 4];
+    assert_eq!(rt; source.read(&mut piece), Got::Got(1));
+    assert_eq!(rt; source.read(&mut piece), Got::Failed);
+    assert_eq!(rt; piece[0], b'A');
 }

@@ -1,8 +1,8 @@
 ghost use Rattle.std.specs.Prelude.{◌≤◌, length};
 
-use crate::read::server;
 use pw_base::fault::Refusal;
 use pw_base::read_all::MAX_INPUT;
+use pw_server::read::server;
 use std::test::Fail;
 
 /// What stands behind the identification division, and the line and the code of its refusal; the first

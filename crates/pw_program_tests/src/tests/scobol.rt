@@ -1,9 +1,9 @@
 ghost use Rattle.std.specs.Prelude.{◌≤◌, length};
 
-use crate::read::requester;
-use crate::requester::Requester;
 use pw_base::fault::Refusal;
 use pw_base::read_all::MAX_INPUT;
+use pw_scobol::read::requester;
+use pw_scobol::requester::Requester;
 use std::alloc::Global;
 use std::test::Fail;
 

@@ -1,6 +1,5 @@
 ghost use Rattle.std.specs.Prelude.{◌≡◌, length, IfOk};
 
-use crate::listing::{files_part, report};
 use pw_base::bytes::Bytes;
 use pw_base::list::List;
 use pw_base::memory::Memory;
@@ -8,6 +7,7 @@ use pw_code::file::FileInfo;
 use pw_code::lock::LockRule;
 use pw_code::system::{System, TermInfo};
 use pw_event::event::{Ending, Event};
+use pw_listing::listing::{files_part, report};
 use pw_onecopy::refresh::Refresh;
 use pw_order::block::{Block, How};
 use pw_terminal::images::{blank, message};

@@ -1,10 +1,10 @@
-use crate::input::read_input;
-use crate::output::{or_memory, written};
-use crate::status::Status;
 use pw_base::bytes::Bytes;
 use pw_base::mem_sink::MemSink;
 use pw_base::mem_source::MemSource;
 use pw_base::memory::Memory;
+use pw_call::input::read_input;
+use pw_call::output::{or_memory, written};
+use pw_call::status::Status;
 use std::test::Fail;
 
 /// The report of a deck without terminals.

@@ -1,4 +1,4 @@
-use crate::scaled::Scaled;
+use pw_number::scaled::Scaled;
 use std::cmp::Ordering;
 use std::process::Abort;
 
