@@ -9,7 +9,7 @@ use Rattle.pw_call.specs.Inputs.{IsInput}
 use Rattle.pw_call.specs.declared.status.Status.{Status}
 use Rattle.pw_call.specs.declared.status.Status.TheVariants as status
 use Rattle.pw_deck.specs.Deck.{deck_of}
-use Rattle.pw_disc_run.specs.PairRuns.{pair_deck_of}
+use Rattle.pw_desk.specs.disc.PairRuns.{pair_deck_of}
 use Rattle.pathway.specs.declared.decks.DeckCommand.{DeckCommand}
 use Rattle.pathway.specs.declared.decks.DeckCommand.TheVariants as asked
 use Rattle.pathway.specs.declared.runs.RunCommand.{RunCommand}

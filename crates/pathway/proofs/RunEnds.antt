@@ -3,8 +3,8 @@ use Rattle.std.proofs.Common.{◌≡◌, ℕ, List}
 use Rattle.pathway.specs.Decks.{PairRuns, Runs, Trials}
 use Rattle.pw_desk.specs.Headline.{Reports}
 use Rattle.pw_desk.specs.Trials.{Tries}
-use Rattle.pw_disc_run.specs.PairRuns.{Comes}
-use Rattle.pw_disc_run.specs.declared.ending.PairRan.TheVariants.{Ended as PairEnded}
+use Rattle.pw_desk.specs.disc.PairRuns.{Comes}
+use Rattle.pw_desk.specs.declared.disc.ending.PairRan.TheVariants.{Ended as PairEnded}
 use Rattle.pw_run.specs.Endings.{status_of}
 use Rattle.pw_run.specs.declared.ending.Ended.{Ended}
 use Rattle.pw_run.specs.declared.ending.Ended.TheVariants.{Regular, Irregular, Full}

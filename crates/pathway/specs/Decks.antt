@@ -15,11 +15,11 @@ use Rattle.pw_desk.specs.Replays.{Verifies}
 use Rattle.pw_desk.specs.Trials.{Tries}
 use Rattle.pw_desk.specs.declared.verify.Verified.{Verified}
 use Rattle.pw_desk.specs.declared.verify.Verified.TheVariants as verified
-use Rattle.pw_disc_run.specs.PairRuns.{Comes, pair_deck_of}
-use Rattle.pw_disc_run.specs.declared.ending.PairRan.TheVariants as pair
-use Rattle.pw_recover.specs.Headline.{Recovers}
-use Rattle.pw_recover.specs.declared.ending.Recovered.{Recovered}
-use Rattle.pw_recover.specs.declared.ending.Recovered.TheVariants as recovered
+use Rattle.pw_desk.specs.disc.PairRuns.{Comes, pair_deck_of}
+use Rattle.pw_desk.specs.declared.disc.ending.PairRan.TheVariants as pair
+use Rattle.pw_desk.specs.recovery.Headline.{Recovers}
+use Rattle.pw_desk.specs.declared.recovery.ending.Recovered.{Recovered}
+use Rattle.pw_desk.specs.declared.recovery.ending.Recovered.TheVariants as recovered
 use Rattle.pw_run.specs.declared.ending.Ended.TheVariants as ran
 use Rattle.pw_watch.specs.Status.{IsStatusOf}
 use Rattle.pw_watch.specs.declared.status.Counted.{Counted}

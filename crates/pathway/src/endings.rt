@@ -4,8 +4,8 @@ ghost use Rattle.std.specs.Prelude.{◌≡◌, List, ℕ};
 ghost use Rattle.pathway.specs.Decks.{PairRuns, Runs, Trials};
 ghost use Rattle.pw_desk.specs.Headline.{Reports};
 ghost use Rattle.pw_desk.specs.Trials.{Tries};
-ghost use Rattle.pw_disc_run.specs.PairRuns.{Comes};
-ghost use Rattle.pw_disc_run.specs.declared.ending.PairRan.TheVariants.{Ended as PairEnded};
+ghost use Rattle.pw_desk.specs.disc.PairRuns.{Comes};
+ghost use Rattle.pw_desk.specs.declared.disc.ending.PairRan.TheVariants.{Ended as PairEnded};
 ghost use Rattle.pw_run.specs.Endings.{status_of};
 
 use pw_call::status::Status;

@@ -4,7 +4,7 @@ ghost use Rattle.std.specs.Prelude.{◌≡◌, ◌≤◌, IfErr, IfOk, List, OnO
 ghost use Rattle.pathway.specs.Decks.{IsInRange, PairRuns, Runs, RunsBy, TrailRuns, status_behind};
 ghost use Rattle.pathway.specs.Statuses.{OfBytes};
 ghost use Rattle.pw_call.specs.Inputs.{GivesUp};
-ghost use Rattle.pw_recover.specs.Headline.{Recovers};
+ghost use Rattle.pw_desk.specs.recovery.Headline.{Recovers};
 
 use crate::answers::{TOO_LONG, refused};
 use crate::endings::status_of;
@@ -15,11 +15,11 @@ use pw_base::source::Source;
 use pw_call::input::read_input;
 use pw_call::output::or_memory;
 use pw_call::status::Status;
+use pw_desk::disc::ending::PairRan;
+use pw_desk::disc::run::run as run_pair;
+use pw_desk::recovery::ending::Recovered;
+use pw_desk::recovery::recover::trail;
 use pw_desk::run::run;
-use pw_disc_run::ending::PairRan;
-use pw_disc_run::run::run as run_pair;
-use pw_recover::ending::Recovered;
-use pw_recover::recover::trail;
 use pw_run::gate::Gate;
 use std::alloc::Global;
 use std::sync::Wait;

@@ -21,7 +21,7 @@ use Rattle.pw_order.specs.Shadow.{IsOf, reading_after}
 use Rattle.pw_order.specs.declared.block.Block.{Block}
 use Rattle.pw_paired.specs.State.{OpenUnit, State, starting}
 use Rattle.pw_paired.specs.Step.{after}
-use Rattle.pw_runs.proofs.induction.Runs.{after-more}
+use Rattle.pw_laws.proofs.induction.Runs.{after-more}
 
 -- a count of the blocks of a log with one more entry
 counts-more : (p : Block → Bool) (sys : Behaviour) (log : List Event) (entry : Event) (n : ℕ) → count_by p (blocks_behind sys log entry) ≡ n

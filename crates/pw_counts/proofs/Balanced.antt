@@ -14,7 +14,7 @@ use Rattle.pw_event.specs.declared.event.Ending.{Ending}
 use Rattle.pw_event.specs.declared.event.Ending.TheVariants as ending
 use Rattle.pw_event.specs.declared.event.Event.{Event}
 use Rattle.pw_event.specs.declared.event.Event.TheVariants as event
-use Rattle.pw_locking.proofs.records.RecordsOk.{RecordsOk}
+use Rattle.pw_laws.proofs.records.RecordsOk.{RecordsOk}
 use Rattle.pw_onecopy.specs.Behaviour.{Behaviour}
 use Rattle.pw_onecopy.specs.Path.{is_outside, unit_number}
 use Rattle.pw_paired.specs.Server.{free_process, reply_at}
@@ -22,7 +22,7 @@ use Rattle.pw_paired.specs.State.{BeforeImage, State}
 use Rattle.pw_paired.specs.Step.{effect}
 use Rattle.pw_paired.specs.Terminal.{path_of}
 use Rattle.pw_paired.specs.Units.{commit_unit, restored_files}
-use Rattle.pw_runs.proofs.induction.Failed.{process-cases}
+use Rattle.pw_laws.proofs.induction.Failed.{process-cases}
 
 module _ (sys : Behaviour) (s : State) where
   -- the files and before-images behind attempts that are over

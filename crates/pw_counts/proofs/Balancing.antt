@@ -6,15 +6,15 @@ use Rattle.pw_counts.proofs.Sums.{sum-parts, sum-same}
 use Rattle.pw_counts.specs.Records.{Balances, grown_in, images_of, kept_changes, shrunk_in, sum_to}
 use Rattle.pw_counts.specs.declared.records.Change.{Change}
 use Rattle.pw_files.specs.Records.{IsFile, record_at}
-use Rattle.pw_locking.proofs.records.Images.{ImageOk, restored-file}
-use Rattle.pw_locking.proofs.records.RecordsOk.{RecordsOk}
-use Rattle.pw_locking.proofs.records.Withdrawn.{backed-out-committed}
-use Rattle.pw_locking.proofs.seeing.SameFiles.{same_files}
+use Rattle.pw_laws.proofs.records.Images.{ImageOk, restored-file}
+use Rattle.pw_laws.proofs.records.RecordsOk.{RecordsOk}
+use Rattle.pw_laws.proofs.records.Withdrawn.{backed-out-committed}
+use Rattle.pw_laws.proofs.seeing.SameFiles.{same_files}
 use Rattle.pw_locks.specs.declared.lock.Lock.{Lock}
 use Rattle.pw_onecopy.specs.Behaviour.{Behaviour}
 use Rattle.pw_paired.specs.State.{BeforeImage}
 use Rattle.pw_paired.specs.Units.{has_image, restored_files}
-use Rattle.pw_runs.proofs.Tests.{all-filter, and-second, any-filter, any-more}
+use Rattle.pw_laws.proofs.Tests.{all-filter, and-second, any-filter, any-more}
 
 -- ---- the before-images of some terminals
 

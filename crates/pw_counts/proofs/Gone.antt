@@ -6,8 +6,8 @@ use Rattle.pw_onecopy.specs.Behaviour.{Behaviour}
 use Rattle.pw_paired.specs.Failure.{do_fail_tcp, lose_backup, lose_pair, lose_primary}
 use Rattle.pw_paired.specs.Serial.{is_gone, makes_gone}
 use Rattle.pw_paired.specs.State.{Alone, Down, Gone, Mode, Paired, Raising, State}
-use Rattle.pw_runs.proofs.induction.Failed.{fail-cases}
-use Rattle.pw_runs.specs.Losses.{Breaks}
+use Rattle.pw_laws.proofs.induction.Failed.{fail-cases}
+use Rattle.pw_laws.specs.runs.Losses.{Breaks}
 
 none-lost : (mode : Mode) → (is_gone mode && not (is_gone mode)) ≡ false
 none-lost Alone = refl

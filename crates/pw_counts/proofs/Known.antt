@@ -26,9 +26,9 @@ use Rattle.pw_paired.specs.End.{LegalEnd}
 use Rattle.pw_paired.specs.State.{Job, State, starting}
 use Rattle.pw_paired.specs.Step.{Fits, IsRun, Legal, after, after_from, effect}
 use Rattle.pw_paired.specs.Units.{without_locks}
-use Rattle.pw_runs.proofs.induction.Runs.{holds-behind, kept}
-use Rattle.pw_runs.proofs.kept.Kept.{Inv}
-use Rattle.pw_runs.proofs.requests.Requests.{place_of_job, sent_of}
+use Rattle.pw_laws.proofs.induction.Runs.{holds-behind, kept}
+use Rattle.pw_laws.proofs.kept.Kept.{Inv}
+use Rattle.pw_laws.proofs.requests.Requests.{place_of_job, sent_of}
 
 -- ---- terminals whose attempts are over
 

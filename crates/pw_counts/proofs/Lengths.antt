@@ -12,10 +12,10 @@ use Rattle.pw_counts.specs.Records.{grows, shrinks}
 use Rattle.pw_files.proofs.Lookups.{record_at-found, record_at-with_other, record_at-with_record, record_at-without_key, record_at-without_other}
 use Rattle.pw_files.proofs.RecordLemmas.{IsFile-with_record, IsFile-without_key}
 use Rattle.pw_files.specs.Records.{IsContent, IsFile, above, below, record_at, with_record, without_key}
-use Rattle.pw_locking.proofs.records.Images.{cases_bytes, same_bytes}
-use Rattle.pw_locking.proofs.seeing.SameFiles.{same_files}
+use Rattle.pw_laws.proofs.records.Images.{cases_bytes, same_bytes}
+use Rattle.pw_laws.proofs.seeing.SameFiles.{same_files}
 use Rattle.pw_onecopy.specs.Operation.{answer_of, change_answer, changed_records, changes_records, is_change, records_behind}
-use Rattle.pw_runs.proofs.Tests.{and-second}
+use Rattle.pw_laws.proofs.Tests.{and-second}
 
 module _ (n : ℕ) (records : List (List ℕ)) (file : IsFile n records) where
   -- how many records have other keys

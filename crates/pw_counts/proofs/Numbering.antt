@@ -14,7 +14,7 @@ use Rattle.pw_listing.specs.Numbers.{number_cmp, number_of}
 use Rattle.pw_listing.specs.declared.numbers.Number.{Number}
 use Rattle.pw_onecopy.specs.Refreshes.{once, refreshes_of, same_number}
 use Rattle.pw_onecopy.specs.declared.refresh.Refresh.{Refresh}
-use Rattle.pw_serial.proofs.screens.Once.{has_number, once-new, once-there, parts-same, same-parts}
+use Rattle.pw_laws.proofs.screens.Once.{has_number, once-new, once-there, parts-same, same-parts}
 
 -- before the first refresh
 pub none-shown : (t : ℕ) (numbers : BTreeSet Number) → numbers.keys ≡ [] → HasNumbers [] t numbers

@@ -16,12 +16,12 @@ use Rattle.pw_counts.proofs.Sums.{sum-more}
 use Rattle.pw_counts.specs.Records.{Balances, grown_in, grows, images_of, shrinks, shrunk_in, sum_to}
 use Rattle.pw_counts.specs.declared.records.Change.{Change}
 use Rattle.pw_files.specs.Records.{IsContent, IsFile, record_at}
-use Rattle.pw_locking.proofs.records.Images.{ImageOk, cases_bytes, is_at, restored-at, restored-file, same_bytes, stands_at, stands_at-none}
-use Rattle.pw_locking.proofs.records.OperationKept.{operation-committed, operation-ok}
-use Rattle.pw_locking.proofs.records.RecordsOk.{RecordsOk}
-use Rattle.pw_locking.proofs.records.Withdrawn.{any-image}
-use Rattle.pw_locking.proofs.seeing.SameFiles.{same_files}
-use Rattle.pw_locking.proofs.seeing.Seeing.{effect_leaves, operated-unchanged, operated_is_file, same_effect}
+use Rattle.pw_laws.proofs.records.Images.{ImageOk, cases_bytes, is_at, restored-at, restored-file, same_bytes, stands_at, stands_at-none}
+use Rattle.pw_laws.proofs.records.OperationKept.{operation-committed, operation-ok}
+use Rattle.pw_laws.proofs.records.RecordsOk.{RecordsOk}
+use Rattle.pw_laws.proofs.records.Withdrawn.{any-image}
+use Rattle.pw_laws.proofs.seeing.SameFiles.{same_files}
+use Rattle.pw_laws.proofs.seeing.Seeing.{effect_leaves, operated-unchanged, operated_is_file, same_effect}
 use Rattle.pw_locks.specs.Conflicts.{holders}
 use Rattle.pw_locks.specs.declared.lock.Lock.{Lock}
 use Rattle.pw_onecopy.proofs.Update.{upd-other, upd-same}
@@ -31,7 +31,7 @@ use Rattle.pw_onecopy.specs.Operation.{answer_of, change_answer, changes_records
 use Rattle.pw_onecopy.specs.Update.{upd}
 use Rattle.pw_paired.specs.State.{BeforeImage}
 use Rattle.pw_paired.specs.Units.{has_image, image_before, is_first_change, restored_files}
-use Rattle.pw_runs.proofs.Tests.{all-filter, and-first, any-filter, any-more}
+use Rattle.pw_laws.proofs.Tests.{all-filter, and-first, any-filter, any-more}
 
 swap-and : (a b : Bool) → (a && b) ≡ (b && a)
 swap-and true true = refl

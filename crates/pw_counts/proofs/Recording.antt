@@ -15,7 +15,7 @@ use Rattle.pw_counts.specs.declared.records.Change.{Change}
 use Rattle.pw_event.specs.declared.event.Event.{Event}
 use Rattle.pw_event.specs.declared.event.Event.TheVariants.{File}
 use Rattle.pw_files.specs.Records.{IsContent}
-use Rattle.pw_locking.proofs.records.Committed.{records-ok}
+use Rattle.pw_laws.proofs.records.Committed.{records-ok}
 use Rattle.pw_onecopy.specs.Behaviour.{Behaviour}
 use Rattle.pw_onecopy.specs.IsBehaviour.{IsBehaviour, is_written}
 use Rattle.pw_onecopy.specs.Operation.{answer_of, changes_records, is_change, plain_op}
@@ -24,8 +24,8 @@ use Rattle.pw_paired.specs.Server.{LegalFile, do_operation}
 use Rattle.pw_paired.specs.State.{State}
 use Rattle.pw_paired.specs.Step.{IsRun, after, effect}
 use Rattle.pw_paired.specs.Units.{unit_of}
-use Rattle.pw_runs.proofs.induction.Runs.{kept}
-use Rattle.pw_runs.proofs.induction.Served.{file-is}
+use Rattle.pw_laws.proofs.induction.Runs.{kept}
+use Rattle.pw_laws.proofs.induction.Served.{file-is}
 
 -- an operation by the name that its entry has
 grows-plain : (op : FileOp) (ok : Bool) → ((is_change op && ok) && grows op) ≡ (grows (plain_op op) && ok)

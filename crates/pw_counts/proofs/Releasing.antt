@@ -19,8 +19,8 @@ use Rattle.pw_paired.specs.State.{State}
 use Rattle.pw_paired.specs.Step.{effect}
 use Rattle.pw_paired.specs.Terminal.{path_of}
 use Rattle.pw_paired.specs.Units.{commit_unit, without_locks}
-use Rattle.pw_runs.proofs.induction.Failed.{process-cases}
-use Rattle.pw_runs.proofs.induction.Served.{file-is}
+use Rattle.pw_laws.proofs.induction.Failed.{process-cases}
+use Rattle.pw_laws.proofs.induction.Served.{file-is}
 
 -- where nothing goes, all stay
 pub none-go : (locks : List Lock) → locks ≡ without_locks (λ t. false) locks

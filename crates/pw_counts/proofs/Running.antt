@@ -30,8 +30,8 @@ use Rattle.pw_paired.specs.State.{OpenUnit, State}
 use Rattle.pw_paired.specs.Step.{effect}
 use Rattle.pw_paired.specs.Terminal.{path_of, unit_with_attempt}
 use Rattle.pw_paired.specs.Units.{attempt_of, commit_unit, only}
-use Rattle.pw_runs.proofs.induction.Failed.{process-cases}
-use Rattle.pw_runs.proofs.induction.Served.{file-cases}
+use Rattle.pw_laws.proofs.induction.Failed.{process-cases}
+use Rattle.pw_laws.proofs.induction.Served.{file-cases}
 
 -- whether one runs behind an entry
 abbrev pub runs_behind : (ℕ → ℕ) → Option ℕ → Option Over → ℕ → Bool → Bool

@@ -48,7 +48,7 @@ use Rattle.pw_order.specs.declared.block.How as order
 use Rattle.pw_order.specs.declared.block.How.TheVariants as how
 use Rattle.pw_paired.specs.State.{Job, State}
 use Rattle.pw_paired.specs.Step.{IsRun, Legal, after, effect}
-use Rattle.pw_runs.proofs.induction.Runs.{after-more, kept}
+use Rattle.pw_laws.proofs.induction.Runs.{after-more, kept}
 
 -- ---- lengths
 

@@ -19,9 +19,9 @@ use Rattle.pw_paired.specs.State.{Class, State, starting}
 use Rattle.pw_paired.specs.Step.{after, after_from, effect}
 use Rattle.pw_paired.specs.Terminal.{message_of, next_verb, with_request}
 use Rattle.pw_paired.specs.Units.{only, without_requests}
-use Rattle.pw_runs.proofs.Runs.{after_from-append}
-use Rattle.pw_runs.proofs.induction.Failed.{end-any, fail-cases, process-cases}
-use Rattle.pw_runs.proofs.induction.Served.{file-cases, reply-any}
+use Rattle.pw_laws.proofs.RunSteps.{after_from-append}
+use Rattle.pw_laws.proofs.induction.Failed.{end-any, fail-cases, process-cases}
+use Rattle.pw_laws.proofs.induction.Served.{file-cases, reply-any}
 
 -- ---- entries that are no SEND to the class
 

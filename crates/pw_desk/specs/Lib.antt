@@ -2,3 +2,5 @@ pub mod Headline
 pub mod Meaning
 pub mod Replays
 pub mod Trials
+pub mod disc
+pub mod recovery

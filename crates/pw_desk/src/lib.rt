@@ -1,8 +1,10 @@
-//! What the bytes of a deck come to: a run of it with its report, or the replay of its log. And a run of
-//! a generated deck, with its files.
+//! What the bytes of a deck come to: a run of it with its report, also over a disc pair or a trail that is crashed
+//! and recovered, or the replay of its log. And a run of a generated deck, with its files.
 #![tactic(auto)]
 
+pub mod disc;
 mod over_tmf;
+pub mod recovery;
 pub mod run;
 pub mod trial;
 pub mod verify;

@@ -33,13 +33,13 @@ use Rattle.pw_paired.specs.State.{BackupCopy, OpenUnit, State}
 use Rattle.pw_paired.specs.Step.{IsRun, after}
 use Rattle.pw_paired.specs.Terminal.{CanStep, closing_answer, next_verb, path_of}
 use Rattle.pw_paired.specs.Units.{attempt_of}
-use Rattle.pw_runs.proofs.Paths.{IsPath-push}
-use Rattle.pw_runs.proofs.induction.Views.{View, view_of}
-use Rattle.pw_runs.proofs.terms.TermOk.{HasMessages, IsWorking, PathOf, PathOk, RunningPath, TermOk}
-use Rattle.pw_serial.proofs.frontier.Frontier.{Closes, EndsOne, FrontierOk, IsClosing, IsHeld, RunsFrom, transacts, sends, fails}
-use Rattle.pw_serial.proofs.frontier.Frontiers.{frontier_after}
-use Rattle.pw_serial.proofs.frontier.Leads.{Leads, Next, goes_on, is_there, next-of}
-use Rattle.pw_serial.proofs.frontier.Standing.{Where, closed, resumed-start, running, waiting, where-of}
+use Rattle.pw_laws.proofs.Paths.{IsPath-push}
+use Rattle.pw_laws.proofs.induction.Views.{View, view_of}
+use Rattle.pw_laws.proofs.terms.TermOk.{HasMessages, IsWorking, PathOf, PathOk, RunningPath, TermOk}
+use Rattle.pw_laws.proofs.frontier.Frontier.{Closes, EndsOne, FrontierOk, IsClosing, IsHeld, RunsFrom, transacts, sends, fails}
+use Rattle.pw_laws.proofs.frontier.Frontiers.{frontier_after}
+use Rattle.pw_laws.proofs.frontier.Leads.{Leads, Next, goes_on, is_there, next-of}
+use Rattle.pw_laws.proofs.frontier.Standing.{Where, closed, resumed-start, running, waiting, where-of}
 
 -- ---- counts of one context
 

@@ -14,7 +14,7 @@ use Rattle.pw_kept.specs.Stands.{StandsForClass, StandsForJob, StandsIfAny}
 use Rattle.pw_paired.specs.Queues.{queue_of, requests_from}
 use Rattle.pw_paired.specs.State.{Class, Job}
 use Rattle.pw_paired.specs.Units.{freed_of, only, request_in, without_requests}
-use Rattle.pw_runs.proofs.requests.Queues.{works-queue}
+use Rattle.pw_laws.proofs.requests.Queues.{works-queue}
 use Rattle.pw_tmf.specs.Leaving.{is_among}
 
 -- a test of two numbers, turned round

@@ -33,11 +33,11 @@ use Rattle.pw_kept.proofs.Agreeing.{there-is}
 use Rattle.pw_kept.proofs.Components.{some_is}
 use Rattle.pw_kept.proofs.Serving.{unit-same, where-works}
 use Rattle.pw_kept.proofs.Testing.{alone-as, and-guard, any-same, can-same, gone-as, own-mode, paired-as, where-is}
-use Rattle.pw_legal.specs.Causes as legal
-use Rattle.pw_legal.specs.Causes.{is_legal_restart, job_meets}
-use Rattle.pw_legal.specs.Pairs.{is_legal_end}
-use Rattle.pw_legal.specs.Values.{is_server_by, is_takeover_by, some_with}
-use Rattle.pw_legal.specs.Verbs.{asks_file, asks_redo}
+use Rattle.pw_laws.specs.legal.Causes as legal
+use Rattle.pw_laws.specs.legal.Causes.{is_legal_restart, job_meets}
+use Rattle.pw_laws.specs.legal.Pairs.{is_legal_end}
+use Rattle.pw_laws.specs.legal.Values.{is_server_by, is_takeover_by, some_with}
+use Rattle.pw_laws.specs.legal.Verbs.{asks_file, asks_redo}
 use Rattle.pw_locks.specs.Conflicts.{conflict, is_same_unit}
 use Rattle.pw_locks.specs.declared.lock.Lock.{Lock}
 use Rattle.pw_onecopy.specs.Operation.{lock_for}
@@ -45,7 +45,7 @@ use Rattle.pw_paired.specs.Failure.{unit_named}
 use Rattle.pw_paired.specs.Server.{server_verb}
 use Rattle.pw_paired.specs.State.{BeforeImage, Job, OpenUnit, State}
 use Rattle.pw_paired.specs.Units.{request_in, restarts_of}
-use Rattle.pw_runs.proofs.requests.Queues.{works-queue}
+use Rattle.pw_laws.proofs.requests.Queues.{works-queue}
 use Rattle.pw_tmf.specs.Tells.{as_told, images_by}
 use Rattle.pw_tmf.specs.Told.{ToldUnit}
 

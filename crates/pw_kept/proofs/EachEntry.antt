@@ -36,7 +36,7 @@ use Rattle.pw_paired.specs.Failure.{is_of_pair}
 use Rattle.pw_paired.specs.Raising.{do_applied, lacks_one}
 use Rattle.pw_paired.specs.State.{Down, State, starting}
 use Rattle.pw_paired.specs.Step.{Fits, IsRun, Legal, after, change, effect}
-use Rattle.pw_runs.proofs.Runs.{after_from-append}
+use Rattle.pw_laws.proofs.RunSteps.{after_from-append}
 use Rattle.pw_paired.specs.Terminal.{LegalBegin, LegalCheckEnd, closing_answer, do_begin, do_check_end, next_verb, path_of}
 use Rattle.pw_tmf.specs.Leaving.{CanLeave}
 

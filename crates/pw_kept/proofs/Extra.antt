@@ -16,14 +16,14 @@ use Rattle.pw_paired.specs.State.{Mode, Alone, Raising, Paired, Down, Gone, Back
 use Rattle.pw_paired.specs.Step.{IsRun, after}
 use Rattle.pw_paired.specs.Terminal.{begun_path, kept_reply, unit_with_attempt}
 use Rattle.pw_paired.specs.Units.{attempt_of, restarts_of}
-use Rattle.pw_runs.proofs.induction.Moving.{TermAt, holds-of-terms}
-use Rattle.pw_runs.proofs.induction.Views as move
-use Rattle.pw_runs.proofs.induction.Views.{Able, Moves, View, Waits, path_in, verb_in, view_of}
-use Rattle.pw_runs.proofs.terms.TermOk.{HasMessages, IsWorking, messages-work}
-use Rattle.pw_serial.proofs.frontier.Frontier.{EndFlies, EndsOne, FrontierAt, FrontierOk, RunsFrom, transacts, sends, fails, frontier_behind}
-use Rattle.pw_serial.proofs.frontier.Frontiers.{frontier-kept, frontier_after, frontiers}
-use Rattle.pw_serial.proofs.frontier.Leads.{leads-short}
-use Rattle.pw_serial.proofs.frontier.Standing.{Where, closed, raised-there, running, waiting, where-of, works-there}
+use Rattle.pw_laws.proofs.induction.Moving.{TermAt, holds-of-terms}
+use Rattle.pw_laws.proofs.induction.Views as move
+use Rattle.pw_laws.proofs.induction.Views.{Able, Moves, View, Waits, path_in, verb_in, view_of}
+use Rattle.pw_laws.proofs.terms.TermOk.{HasMessages, IsWorking, messages-work}
+use Rattle.pw_laws.proofs.frontier.Frontier.{EndFlies, EndsOne, FrontierAt, FrontierOk, RunsFrom, transacts, sends, fails, frontier_behind}
+use Rattle.pw_laws.proofs.frontier.Frontiers.{frontier-kept, frontier_after, frontiers}
+use Rattle.pw_laws.proofs.frontier.Leads.{leads-short}
+use Rattle.pw_laws.proofs.frontier.Standing.{Where, closed, raised-there, running, waiting, where-of, works-there}
 
 -- ---- how a path ends
 

@@ -8,8 +8,8 @@ use Rattle.pw_onecopy.specs.Behaviour.{Behaviour}
 use Rattle.pw_onecopy.specs.IsBehaviour.{IsBehaviour, IsPath, Suits, SuitsFrom}
 use Rattle.pw_onecopy.specs.Path.{PathAnswer, Begun, Dropped, Ended, Entry, Failed, Replied, Shown, Standing, entries_on, is_outside, standing, standing_after_answer, standing_after_reply, unit_number}
 use Rattle.pw_paired.specs.State.{LastEnded}
-use Rattle.pw_runs.proofs.Paths.{IsPath-push, standing-push}
-use Rattle.pw_serial.proofs.frontier.Leads.{AreForced, IsForced, Leads}
+use Rattle.pw_laws.proofs.Paths.{IsPath-push, standing-push}
+use Rattle.pw_laws.proofs.frontier.Leads.{AreForced, IsForced, Leads}
 
 -- ---- forced answers
 

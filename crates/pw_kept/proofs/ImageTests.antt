@@ -22,13 +22,13 @@ use Rattle.pw_kept.specs.Tested.{IsAsking, IsAskingEnd, IsAskingStart, TellsEnd,
 use Rattle.pw_kept.proofs.Arrived.{one-context}
 use Rattle.pw_kept.proofs.Testing.{ended, flies-same, not-some, seat-held, where-can-is, where-is}
 use Rattle.pw_kept.proofs.UnitChanges.{has-context}
-use Rattle.pw_legal.specs.Terminals as legal
-use Rattle.pw_legal.specs.Terminals.{holds_end, holds_start, is_legal_back, is_legal_begin, is_legal_check_end, is_legal_check_start, is_legal_commit, is_over}
-use Rattle.pw_legal.specs.Values.{is_same_path, some_with}
-use Rattle.pw_legal.specs.Verbs as verbs
-use Rattle.pw_legal.specs.Verbs.{asks_drop, asks_end}
-use Rattle.pw_legal.proofs.decided.Terminals as decided
-use Rattle.pw_legal.proofs.decided.Values.{same_path}
+use Rattle.pw_laws.specs.legal.Terminals as legal
+use Rattle.pw_laws.specs.legal.Terminals.{holds_end, holds_start, is_legal_back, is_legal_begin, is_legal_check_end, is_legal_check_start, is_legal_commit, is_over}
+use Rattle.pw_laws.specs.legal.Values.{is_same_path, some_with}
+use Rattle.pw_laws.specs.legal.Verbs as verbs
+use Rattle.pw_laws.specs.legal.Verbs.{asks_drop, asks_end}
+use Rattle.pw_laws.proofs.decided.Terminals as decided
+use Rattle.pw_laws.proofs.decided.Values.{same_path}
 use Rattle.pw_onecopy.specs.Behaviour.{Behaviour}
 use Rattle.pw_onecopy.specs.Path.{PathAnswer, Dropped, Ended, is_outside, unit_number}
 use Rattle.pw_pair.specs.Pairs.{passes}

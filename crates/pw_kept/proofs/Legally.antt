@@ -11,10 +11,10 @@ use Rattle.pw_kept.specs.May.{IsThere, may}
 use Rattle.pw_kept.specs.Read.{AreValued, IsEntryRead}
 use Rattle.pw_kept.specs.Stands.{Stands}
 use Rattle.pw_kept.proofs.Mays.{may-same}
-use Rattle.pw_legal.specs.Legality as test
-use Rattle.pw_legal.specs.Values.{is_same_number}
-use Rattle.pw_legal.proofs.decided.Legality as decided
-use Rattle.pw_legal.proofs.decided.Values.{same_number}
+use Rattle.pw_laws.specs.legal.Legality as test
+use Rattle.pw_laws.specs.legal.Values.{is_same_number}
+use Rattle.pw_laws.proofs.decided.Legality as decided
+use Rattle.pw_laws.proofs.decided.Values.{same_number}
 use Rattle.pw_onecopy.specs.Behaviour.{Behaviour}
 use Rattle.pw_onecopy.specs.IsBehaviour.{IsBehaviour}
 use Rattle.pw_paired.specs.State.{State}

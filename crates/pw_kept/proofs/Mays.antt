@@ -43,11 +43,11 @@ use Rattle.pw_kept.proofs.Imaged.{has-image, last-of}
 use Rattle.pw_kept.proofs.Readings as readings
 use Rattle.pw_kept.proofs.Serving.{file-same, reply-same, take-same}
 use Rattle.pw_kept.proofs.Testing.{again-same, and-guard, apply-same, can-same, copy-same, entries-same, fault-same, key-same, lose-same, raise-same, send-same, show-same, stop-same, takeover-same}
-use Rattle.pw_legal.specs.Classes.{is_legal_file, is_legal_reply}
-use Rattle.pw_legal.specs.Legality.{fits}
-use Rattle.pw_legal.specs.Terminals as legal
-use Rattle.pw_legal.specs.Values.{some_with}
-use Rattle.pw_legal.proofs.decided.Terminals as decided
+use Rattle.pw_laws.specs.legal.Classes.{is_legal_file, is_legal_reply}
+use Rattle.pw_laws.specs.legal.Legality.{fits}
+use Rattle.pw_laws.specs.legal.Terminals as legal
+use Rattle.pw_laws.specs.legal.Values.{some_with}
+use Rattle.pw_laws.proofs.decided.Terminals as decided
 use Rattle.pw_onecopy.specs.Attempt.{BeginsUnit}
 use Rattle.pw_onecopy.specs.Behaviour.{Behaviour}
 use Rattle.pw_onecopy.specs.IsBehaviour.{IsBehaviour, IsPath, Suits, SuitsFrom}
@@ -56,8 +56,8 @@ use Rattle.pw_paired.specs.State.{Job, State}
 use Rattle.pw_paired.specs.Step.{IsRun, after}
 use Rattle.pw_paired.specs.Terminal.{CanStep, next_verb, path_of}
 use Rattle.pw_paired.specs.Units.{request_in}
-use Rattle.pw_runs.proofs.Paths.{IsPath-push}
-use Rattle.pw_runs.proofs.requests.Queues.{works-queue}
+use Rattle.pw_laws.proofs.Paths.{IsPath-push}
+use Rattle.pw_laws.proofs.requests.Queues.{works-queue}
 
 -- ---- small things
 

@@ -30,14 +30,14 @@ use Rattle.pw_kept.proofs.Components.{some_is}
 use Rattle.pw_kept.proofs.Mays as mays
 use Rattle.pw_kept.proofs.Readings as readings
 use Rattle.pw_kept.proofs.Testing.{gone-as, own-mode}
-use Rattle.pw_legal.specs.Causes as legal
-use Rattle.pw_legal.specs.Values.{some_with}
-use Rattle.pw_legal.specs.Verbs.{asks_file}
-use Rattle.pw_legal.proofs.Deciding.{below, both, denied, either, given, itself, like, number, one_with, some, some_below}
-use Rattle.pw_legal.proofs.decided.Causes as decided
-use Rattle.pw_legal.proofs.decided.Legality.{jobs-there}
-use Rattle.pw_legal.proofs.decided.Values.{gone}
-use Rattle.pw_legal.proofs.decided.Verbs as asked
+use Rattle.pw_laws.specs.legal.Causes as legal
+use Rattle.pw_laws.specs.legal.Values.{some_with}
+use Rattle.pw_laws.specs.legal.Verbs.{asks_file}
+use Rattle.pw_laws.proofs.Deciding.{below, both, denied, either, given, itself, like, number, one_with, some, some_below}
+use Rattle.pw_laws.proofs.decided.Causes as decided
+use Rattle.pw_laws.proofs.decided.Legality.{jobs-there}
+use Rattle.pw_laws.proofs.decided.Values.{gone}
+use Rattle.pw_laws.proofs.decided.Verbs as asked
 use Rattle.pw_onecopy.specs.Behaviour.{Behaviour}
 use Rattle.pw_onecopy.specs.IsBehaviour.{IsBehaviour}
 use Rattle.pw_onecopy.specs.Path.{PathAnswer}
@@ -48,7 +48,7 @@ use Rattle.pw_paired.specs.Server.{server_verb}
 use Rattle.pw_paired.specs.State.{Gone, BeforeImage, Job, OpenUnit, State}
 use Rattle.pw_paired.specs.Step.{IsRun, after}
 use Rattle.pw_paired.specs.Units.{request_in, restarts_of}
-use Rattle.pw_runs.proofs.requests.Queues.{works-queue}
+use Rattle.pw_laws.proofs.requests.Queues.{works-queue}
 use Rattle.pw_tmf.specs.Tells.{as_told, images_by}
 use Rattle.pw_tmf.specs.Told.{ToldUnit}
 

@@ -34,8 +34,8 @@ use Rattle.pw_kept.proofs.Mays.{sound-at}
 use Rattle.pw_kept.proofs.OfRuns.{begins-same}
 use Rattle.pw_kept.proofs.Readings as readings
 use Rattle.pw_kept.proofs.UnitChanges.{has-context}
-use Rattle.pw_legal.proofs.decided.Terminals as decided
-use Rattle.pw_legal.specs.Terminals as legal
+use Rattle.pw_laws.proofs.decided.Terminals as decided
+use Rattle.pw_laws.specs.legal.Terminals as legal
 use Rattle.pw_onecopy.specs.Behaviour.{Behaviour}
 use Rattle.pw_onecopy.specs.IsBehaviour.{IsBehaviour, IsPath}
 use Rattle.pw_onecopy.specs.Path.{PathAnswer}
@@ -46,13 +46,13 @@ use Rattle.pw_paired.specs.Step as step
 use Rattle.pw_paired.specs.Step.{IsRun, after}
 use Rattle.pw_paired.specs.Terminal.{CanStep, LegalCheckStart, next_verb, path_of}
 use Rattle.pw_paired.specs.Units.{attempt_of}
-use Rattle.pw_runs.proofs.induction.Views.{view_of}
-use Rattle.pw_runs.proofs.terms.KeepsChecks.{path_ok-is}
-use Rattle.pw_runs.proofs.terms.TermOk.{HasMessages, IsWorking, TermOk}
-use Rattle.pw_serial.proofs.frontier.Frontier.{FrontierOk}
-use Rattle.pw_serial.proofs.frontier.Frontiers.{frontier_after}
-use Rattle.pw_serial.proofs.frontier.Leads.{IsForced, Leads, Next, goes_on, is_there, next-of}
-use Rattle.pw_serial.proofs.frontier.Standing.{Where, closed, running, waiting, where-of}
+use Rattle.pw_laws.proofs.induction.Views.{view_of}
+use Rattle.pw_laws.proofs.terms.KeepsChecks.{path_ok-is}
+use Rattle.pw_laws.proofs.terms.TermOk.{HasMessages, IsWorking, TermOk}
+use Rattle.pw_laws.proofs.frontier.Frontier.{FrontierOk}
+use Rattle.pw_laws.proofs.frontier.Frontiers.{frontier_after}
+use Rattle.pw_laws.proofs.frontier.Leads.{IsForced, Leads, Next, goes_on, is_there, next-of}
+use Rattle.pw_laws.proofs.frontier.Standing.{Where, closed, running, waiting, where-of}
 
 module _ (system : System) (script : List FailLine) (valid : IsValid system) (b : IsBehaviour (behaviour script system)) (log : List Event) (run : IsRun (behaviour script system) log)
     (own : Kept) (stands : Stands system script (after (behaviour script system) log) own) where

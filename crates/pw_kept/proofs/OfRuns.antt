@@ -8,10 +8,10 @@ use Rattle.pw_class.specs.declared.request.Request.{Request}
 use Rattle.pw_event.specs.declared.event.Ending.{Ending}
 use Rattle.pw_event.specs.declared.event.Event.{Event}
 use Rattle.pw_kept.specs.Members.{KnowsAll, RunsFor}
-use Rattle.pw_locking.specs.Held.{IsHeld}
-use Rattle.pw_locking.proofs.Holding.{held}
-use Rattle.pw_locking.proofs.records.Committed.{records-ok}
-use Rattle.pw_locking.proofs.records.Images.{ImageOk}
+use Rattle.pw_laws.specs.locking.Held.{IsHeld}
+use Rattle.pw_laws.proofs.Holding.{held}
+use Rattle.pw_laws.proofs.records.Committed.{records-ok}
+use Rattle.pw_laws.proofs.records.Images.{ImageOk}
 use Rattle.pw_locks.specs.declared.lock.Lock.{Lock}
 use Rattle.pw_onecopy.specs.Behaviour.{Behaviour}
 use Rattle.pw_onecopy.specs.IsBehaviour.{IsBehaviour}
@@ -22,10 +22,10 @@ use Rattle.pw_paired.specs.State.{Down, BackupCopy, BeforeImage, Job, OpenUnit, 
 use Rattle.pw_paired.specs.Step.{IsRun, after}
 use Rattle.pw_paired.specs.Terminal.{LegalBegin, path_of}
 use Rattle.pw_paired.specs.Units.{any_below, attempt_of}
-use Rattle.pw_runs.proofs.induction.Runs.{kept}
-use Rattle.pw_runs.proofs.kept.Kept.{Inv}
-use Rattle.pw_runs.proofs.requests.Requests.{place_in_line, place_of_job, sent_of}
-use Rattle.pw_runs.proofs.terms.TermOk.{HasMemory, IsWorking, PathOf, PathOk, RestingPath, TermOk}
+use Rattle.pw_laws.proofs.induction.Runs.{kept}
+use Rattle.pw_laws.proofs.kept.Kept.{Inv}
+use Rattle.pw_laws.proofs.requests.Requests.{place_in_line, place_of_job, sent_of}
+use Rattle.pw_laws.proofs.terms.TermOk.{HasMemory, IsWorking, PathOf, PathOk, RestingPath, TermOk}
 use Rattle.pw_tmf.specs.Leaving.{CanLeave, HasKey, IsKeyed}
 
 module _ (sys : Behaviour) (s : State) (i : Inv sys s) where

@@ -17,12 +17,12 @@ use Rattle.pw_paired.specs.State.{BackupCopy, Class, Copy, End, Job, Message, Op
 use Rattle.pw_paired.specs.Step.{IsRun, after, change, effect}
 use Rattle.pw_paired.specs.Terminal.{begun_path, message_of, next_verb, path_of, unit_with_attempt, with_request}
 use Rattle.pw_paired.specs.Units.{attempt_of, freed_of, only, restarts_of, without_requests}
-use Rattle.pw_runs.proofs.induction.Moving.{carried_view, holds-of-terms}
-use Rattle.pw_runs.proofs.induction.Failed.{end-any, fail-cases, process-cases}
-use Rattle.pw_runs.proofs.induction.Served.{file-cases, reply-any}
-use Rattle.pw_runs.proofs.induction.Runs.{behind-runs, carried_from}
-use Rattle.pw_runs.proofs.induction.Views as move
-use Rattle.pw_runs.proofs.induction.Views.{Moves, View, verb_in, view_of}
+use Rattle.pw_laws.proofs.induction.Moving.{carried_view, holds-of-terms}
+use Rattle.pw_laws.proofs.induction.Failed.{end-any, fail-cases, process-cases}
+use Rattle.pw_laws.proofs.induction.Served.{file-cases, reply-any}
+use Rattle.pw_laws.proofs.induction.Runs.{behind-runs, carried_from}
+use Rattle.pw_laws.proofs.induction.Views as move
+use Rattle.pw_laws.proofs.induction.Views.{Moves, View, verb_in, view_of}
 
 -- ---- paths
 

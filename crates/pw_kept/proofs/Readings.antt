@@ -31,11 +31,11 @@ use Rattle.pw_paired.specs.Server.{server_verb}
 use Rattle.pw_paired.specs.State.{Job, OpenUnit, State}
 use Rattle.pw_paired.specs.Step.{IsRun, after}
 use Rattle.pw_paired.specs.Terminal.{CanStep, path_of}
-use Rattle.pw_runs.proofs.induction.Runs as runs
-use Rattle.pw_runs.proofs.kept.Kept.{Inv}
-use Rattle.pw_runs.proofs.requests.Requests.{Sent, place_of_job, sent_of}
-use Rattle.pw_runs.proofs.terms.KeepsChecks.{path_ok-is}
-use Rattle.pw_runs.proofs.terms.KeepsEnds.{OutOk}
+use Rattle.pw_laws.proofs.induction.Runs as runs
+use Rattle.pw_laws.proofs.kept.Kept.{Inv}
+use Rattle.pw_laws.proofs.requests.Requests.{Sent, place_of_job, sent_of}
+use Rattle.pw_laws.proofs.terms.KeepsChecks.{path_ok-is}
+use Rattle.pw_laws.proofs.terms.KeepsEnds.{OutOk}
 
 module _ (system : System) (script : List FailLine) (valid : IsValid system) (b : IsBehaviour (behaviour script system)) (log : List Event) (run : IsRun (behaviour script system) log) where
   abbrev pub sys : Behaviour

@@ -18,7 +18,7 @@ use Rattle.pw_onecopy.specs.Path.{PathAnswer}
 use Rattle.pw_paired.specs.Failure.{awaited_after, do_restart, with_restart, with_start_path}
 use Rattle.pw_paired.specs.State.{Class, Job, Mode, OpenUnit, State, Term}
 use Rattle.pw_paired.specs.Units.{attempt_of, freed_of, only, request_in, without_requests}
-use Rattle.pw_runs.proofs.requests.Queues.{cancelled-queue, works-queue}
+use Rattle.pw_laws.proofs.requests.Queues.{cancelled-queue, works-queue}
 use Rattle.pw_tmf.proofs.Telling.{tells-restart}
 
 -- ---- the terminal

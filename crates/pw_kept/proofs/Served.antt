@@ -27,7 +27,7 @@ use Rattle.pw_paired.specs.Server.{answer_on, do_file, do_job, do_operation, do_
 use Rattle.pw_paired.specs.State.{Class, Job, OpenUnit, State}
 use Rattle.pw_paired.specs.Units.{birth_of, request_in}
 use Rattle.pw_onecopy.specs.Path.{PathAnswer}
-use Rattle.pw_runs.proofs.requests.Queues.{next-queue, replied-queue, taken-queue, works-queue}
+use Rattle.pw_laws.proofs.requests.Queues.{next-queue, replied-queue, taken-queue, works-queue}
 use Rattle.pw_tmf.specs.Operation.{after_operation}
 use Rattle.pw_tmf.specs.Tells.{Tells, as_told, images_by}
 use Rattle.pw_tmf.proofs.Telling.{tells-operate}

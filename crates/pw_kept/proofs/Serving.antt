@@ -26,10 +26,10 @@ use Rattle.pw_kept.specs.ClassTests.{is_call_for, is_got, may_file, may_reply, m
 use Rattle.pw_kept.specs.Kept.{Kept}
 use Rattle.pw_kept.specs.Stands.{Stands, StandsForClass}
 use Rattle.pw_kept.specs.Tested.{IsServing}
-use Rattle.pw_legal.specs.Classes.{is_call, is_legal_file, is_legal_reply, is_legal_take}
-use Rattle.pw_legal.specs.Values.{is_empty, is_same_mode, is_same_op, some_with}
-use Rattle.pw_legal.specs.Verbs.{asks_file, replies}
-use Rattle.pw_legal.proofs.decided.Classes as decided
+use Rattle.pw_laws.specs.legal.Classes.{is_call, is_legal_file, is_legal_reply, is_legal_take}
+use Rattle.pw_laws.specs.legal.Values.{is_empty, is_same_mode, is_same_op, some_with}
+use Rattle.pw_laws.specs.legal.Verbs.{asks_file, replies}
+use Rattle.pw_laws.proofs.decided.Classes as decided
 use Rattle.pw_locks.specs.Conflicts.{holders}
 use Rattle.pw_locks.specs.declared.lock.Lock.{Lock}
 use Rattle.pw_onecopy.specs.Operation.{answer_of, lock_for, plain_op}
@@ -37,7 +37,7 @@ use Rattle.pw_paired.specs.Queues.{queue_of}
 use Rattle.pw_paired.specs.Server.{LegalTake, server_verb}
 use Rattle.pw_paired.specs.State.{State}
 use Rattle.pw_paired.specs.Units.{birth_of, request_in, unit_of}
-use Rattle.pw_runs.proofs.requests.Queues.{got-queue, taken-queue, works-queue}
+use Rattle.pw_laws.proofs.requests.Queues.{got-queue, taken-queue, works-queue}
 use Rattle.pw_tmf.specs.Tells.{as_told, images_by}
 
 same-truth : (a b : Bool) → (a ≡ true → b ≡ true) → (b ≡ true → a ≡ true) → a ≡ b

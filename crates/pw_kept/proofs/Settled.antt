@@ -22,7 +22,7 @@ use Rattle.pw_paired.specs.Failure.{is_live_of}
 use Rattle.pw_paired.specs.Raising.{lacks_one, settled_mode}
 use Rattle.pw_paired.specs.State.{Mode, Alone, Raising, Paired, Down, Gone, BackupCopy, OpenUnit, State, Term}
 use Rattle.pw_kept.specs.Kept.{KeptTerminal}
-use Rattle.pw_progress.proofs.Lacking.{any_below-some, any_below-true}
+use Rattle.pw_laws.proofs.Lacking.{any_below-some, any_below-true}
 
 -- ---- modes
 

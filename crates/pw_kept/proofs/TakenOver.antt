@@ -33,7 +33,7 @@ use Rattle.pw_pair.specs.declared.seat.Seat.{Seat}
 use Rattle.pw_paired.specs.Failure.{do_takeover, is_live_of, is_of_pair, resume_terminal, resumed_path, runs_unit}
 use Rattle.pw_paired.specs.Raising.{lacks_one}
 use Rattle.pw_paired.specs.State.{Alone, Down, BackupCopy, BeforeImage, LastEnded, Message, Mode, OpenUnit, State, Term}
-use Rattle.pw_runs.proofs.terms.KeepsPairs.{any_below-false}
+use Rattle.pw_laws.proofs.terms.KeepsPairs.{any_below-false}
 use Rattle.pw_tmf.specs.Tells.{as_told}
 use Rattle.pw_tmf.specs.Told.{ToldUnit}
 use Rattle.pw_tmf.specs.Leaving.{is_among}

@@ -19,12 +19,12 @@ use Rattle.pw_kept.specs.Tested.{IsAsking, IsPlaced}
 use Rattle.pw_kept.proofs.Agreeing.{there-is}
 use Rattle.pw_kept.proofs.Components.{some_is}
 use Rattle.pw_kept.proofs.TakenOver.{found-seat, runs-same}
-use Rattle.pw_legal.specs.Pairs.{is_legal_applied, is_legal_check_copy, is_legal_end, is_legal_raise, is_legal_takeover}
-use Rattle.pw_legal.specs.Terminals as legal
-use Rattle.pw_legal.specs.Terminals.{is_legal_again, is_legal_key, is_legal_send, is_legal_show}
-use Rattle.pw_legal.specs.Values as values
-use Rattle.pw_legal.specs.Values.{is_same_refresh, some_with}
-use Rattle.pw_legal.specs.Verbs.{asks_accept, asks_fault, asks_send, asks_send_to, asks_show, asks_stop}
+use Rattle.pw_laws.specs.legal.Pairs.{is_legal_applied, is_legal_check_copy, is_legal_end, is_legal_raise, is_legal_takeover}
+use Rattle.pw_laws.specs.legal.Terminals as legal
+use Rattle.pw_laws.specs.legal.Terminals.{is_legal_again, is_legal_key, is_legal_send, is_legal_show}
+use Rattle.pw_laws.specs.legal.Values as values
+use Rattle.pw_laws.specs.legal.Values.{is_same_refresh, some_with}
+use Rattle.pw_laws.specs.legal.Verbs.{asks_accept, asks_fault, asks_send, asks_send_to, asks_show, asks_stop}
 use Rattle.pw_pair.specs.Pairs.{passes, seat_of}
 use Rattle.pw_pair.specs.Seats.{has_memory, is_flying}
 use Rattle.pw_pair.specs.declared.seat.Seat.{Seat}
@@ -34,7 +34,7 @@ use Rattle.pw_paired.specs.Serial as serial
 use Rattle.pw_paired.specs.State.{Mode, Alone, Raising, Paired, Down, Gone, LastEnded, State}
 use Rattle.pw_paired.specs.Units as units
 use Rattle.pw_paired.specs.Units.{any_below}
-use Rattle.pw_runs.proofs.requests.Queues.{has-queue}
+use Rattle.pw_laws.proofs.requests.Queues.{has-queue}
 
 -- ---- modes
 

@@ -12,9 +12,9 @@ use Rattle.pw_event.specs.declared.script.FailLine.{FailLine}
 use Rattle.pw_event.specs.declared.script.FailLine.TheVariants as line
 use Rattle.pw_exec.specs.OfSystem.{behaviour}
 use Rattle.pw_kept.specs.May.{IsLineThere, IsProcessOf, IsThere}
-use Rattle.pw_legal.proofs.Deciding.{both, itself, some_below}
-use Rattle.pw_legal.proofs.decided.Legality.{jobs-there}
-use Rattle.pw_legal.specs.Causes.{JobsAreThere}
+use Rattle.pw_laws.proofs.Deciding.{both, itself, some_below}
+use Rattle.pw_laws.proofs.decided.Legality.{jobs-there}
+use Rattle.pw_laws.specs.legal.Causes.{JobsAreThere}
 use Rattle.pw_onecopy.proofs.Update.{upd_elim}
 use Rattle.pw_onecopy.specs.Behaviour.{Behaviour}
 use Rattle.pw_onecopy.specs.IsBehaviour.{IsBehaviour, IsPath}
@@ -27,10 +27,10 @@ use Rattle.pw_paired.specs.State.{Mode, Alone, Raising, Paired, Down, Gone, Job,
 use Rattle.pw_paired.specs.Step.{IsRun, Legal, after, change, effect}
 use Rattle.pw_paired.specs.Step as step
 use Rattle.pw_paired.specs.Units.{any_below, leave_units, only}
-use Rattle.pw_runs.proofs.induction.Failed.{end-any, fail-cases, process-cases}
-use Rattle.pw_runs.proofs.induction.Runs as runs
-use Rattle.pw_runs.proofs.induction.Served.{file-cases, reply-any}
-use Rattle.pw_runs.proofs.kept.Kept.{Inv}
+use Rattle.pw_laws.proofs.induction.Failed.{end-any, fail-cases, process-cases}
+use Rattle.pw_laws.proofs.induction.Runs as runs
+use Rattle.pw_laws.proofs.induction.Served.{file-cases, reply-any}
+use Rattle.pw_laws.proofs.kept.Kept.{Inv}
 use Rattle.pw_paired.specs.Raising as raising
 
 -- ---- messages and modes

@@ -16,8 +16,8 @@ use Rattle.pw_kept.specs.ClassTests.{works_where}
 use Rattle.pw_kept.specs.Kept.{Kept}
 use Rattle.pw_kept.specs.PairTests.{is_alone, is_gone}
 use Rattle.pw_kept.specs.TerminalTests.{can_where, is_paired, pair_of}
-use Rattle.pw_legal.specs.Values.{is_server_by, is_takeover_by, some_with}
-use Rattle.pw_legal.specs.Verbs.{asks_file, asks_redo}
+use Rattle.pw_laws.specs.legal.Values.{is_server_by, is_takeover_by, some_with}
+use Rattle.pw_laws.specs.legal.Verbs.{asks_file, asks_redo}
 use Rattle.pw_locks.specs.Conflicts.{conflict, is_same_unit}
 use Rattle.pw_locks.specs.declared.lock.Lock.{Lock}
 use Rattle.pw_onecopy.specs.Operation.{lock_for}

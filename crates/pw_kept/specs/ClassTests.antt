@@ -13,8 +13,8 @@ use Rattle.pw_code.specs.declared.system.System.{System}
 use Rattle.pw_kept.specs.Asked.{verb_in}
 use Rattle.pw_kept.specs.Changes.{unit_at}
 use Rattle.pw_kept.specs.Kept.{Kept}
-use Rattle.pw_legal.specs.Values.{is_empty, is_same_mode, is_same_op, some_with}
-use Rattle.pw_legal.specs.Verbs.{asks_file, replies}
+use Rattle.pw_laws.specs.legal.Values.{is_empty, is_same_mode, is_same_op, some_with}
+use Rattle.pw_laws.specs.legal.Verbs.{asks_file, replies}
 use Rattle.pw_locks.specs.Conflicts.{holders}
 use Rattle.pw_onecopy.specs.Operation.{answer_of, lock_for, plain_op}
 

@@ -12,7 +12,7 @@ use Rattle.pw_kept.specs.ClassTests.{may_file, may_reply, may_take}
 use Rattle.pw_kept.specs.Kept.{Kept}
 use Rattle.pw_kept.specs.PairTests.{may_apply, may_copy, may_lose, may_raise, may_take_over}
 use Rattle.pw_kept.specs.TerminalTests.{may_again, may_back, may_begin, may_check_end, may_check_start, may_commit, may_end_entries, may_fault, may_key, may_send, may_show, may_stop}
-use Rattle.pw_legal.specs.Pairs.{is_legal_fail_server, is_legal_fail_tcp}
+use Rattle.pw_laws.specs.legal.Pairs.{is_legal_fail_server, is_legal_fail_tcp}
 
 -- a FAIL entry is one of the script; the test of any other looks at what is kept
 abbrev pub may : System → List FailLine → Kept → Event → Bool

@@ -13,9 +13,9 @@ use Rattle.pw_image.specs.Image.{image_of}
 use Rattle.pw_kept.specs.Asked.{answered_with, number_in, unit_in, verb_in}
 use Rattle.pw_kept.specs.Changes.{runs_told}
 use Rattle.pw_kept.specs.Kept.{Kept, KeptTerminal}
-use Rattle.pw_legal.specs.Terminals.{is_over}
-use Rattle.pw_legal.specs.Values.{is_same_refresh, some_with}
-use Rattle.pw_legal.specs.Verbs.{asks_accept, asks_drop, asks_end, asks_fault, asks_send, asks_send_to, asks_show, asks_stop}
+use Rattle.pw_laws.specs.legal.Terminals.{is_over}
+use Rattle.pw_laws.specs.legal.Values.{is_same_refresh, some_with}
+use Rattle.pw_laws.specs.legal.Verbs.{asks_accept, asks_drop, asks_end, asks_fault, asks_send, asks_send_to, asks_show, asks_stop}
 use Rattle.pw_pair.specs.Pairs.{SeenPair, passes, seat_of}
 use Rattle.pw_pair.specs.Seats.{holds_end, holds_start, is_flying}
 use Rattle.pw_pair.specs.declared.mode.Mode.{Mode}

@@ -14,10 +14,10 @@ ghost use Rattle.pw_kept.specs.PairTests.{may_apply, may_copy, may_lose, may_rai
 ghost use Rattle.pw_kept.specs.Stands.{Stands};
 ghost use Rattle.pw_kept.specs.TerminalTests.{may_again, may_back, may_begin, may_check_end, may_check_start, may_commit, may_end_entries, may_fault, may_key, may_send, may_show, may_stop};
 ghost use Rattle.pw_kept.specs.Tested.{CauseTested, IsAsking, IsAskingEnd, IsAskingStart, IsPlaced, IsServing};
-ghost use Rattle.pw_legal.specs.Causes.{is_legal_restart};
-ghost use Rattle.pw_legal.specs.Classes.{is_legal_file, is_legal_reply, is_legal_take};
-ghost use Rattle.pw_legal.specs.Pairs.{is_legal_applied, is_legal_check_copy, is_legal_end, is_legal_raise, is_legal_takeover};
-ghost use Rattle.pw_legal.specs.Terminals.{is_legal_again, is_legal_back, is_legal_begin, is_legal_check_end, is_legal_check_start, is_legal_commit, is_legal_key, is_legal_send, is_legal_show};
+ghost use Rattle.pw_laws.specs.legal.Causes.{is_legal_restart};
+ghost use Rattle.pw_laws.specs.legal.Classes.{is_legal_file, is_legal_reply, is_legal_take};
+ghost use Rattle.pw_laws.specs.legal.Pairs.{is_legal_applied, is_legal_check_copy, is_legal_end, is_legal_raise, is_legal_takeover};
+ghost use Rattle.pw_laws.specs.legal.Terminals.{is_legal_again, is_legal_back, is_legal_begin, is_legal_check_end, is_legal_check_start, is_legal_commit, is_legal_key, is_legal_send, is_legal_show};
 ghost use Rattle.pw_paired.specs.State.{State};
 
 /// SHOW, KEY, SEND, AGAIN, and END STOPPED, NOENTRIES and FAULT: the test of what is kept says

@@ -12,7 +12,7 @@ ghost use Rattle.pw_kept.specs.Members.{AreOf};
 ghost use Rattle.pw_kept.specs.Needs.{Needs};
 ghost use Rattle.pw_kept.specs.Read.{AreValued, IsEntryRead, IsReplyRead};
 ghost use Rattle.pw_kept.specs.Stands.{Stands};
-ghost use Rattle.pw_legal.specs.Legality.{fits};
+ghost use Rattle.pw_laws.specs.legal.Legality.{fits};
 ghost use Rattle.pw_onecopy.specs.IsBehaviour.{IsBehaviour};
 ghost use Rattle.pw_paired.specs.Step.{IsRun, Legal, after, is_finished, line_due, line_wanted};
 

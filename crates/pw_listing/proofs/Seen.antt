@@ -14,7 +14,7 @@ use Rattle.pw_listing.specs.Numbers.{first_part, is_seen, number_cmp, number_of}
 use Rattle.pw_listing.specs.declared.numbers.Number.{Number}
 use Rattle.pw_onecopy.specs.Refreshes.{once, refreshes_of, same_number}
 use Rattle.pw_onecopy.specs.declared.refresh.Refresh.{Refresh}
-use Rattle.pw_serial.proofs.screens.Once.{has_number, once-new, once-there, same-back}
+use Rattle.pw_laws.proofs.screens.Once.{has_number, once-new, once-there, same-back}
 
 -- the set has the numbers of these refreshes, and no other
 abbrev pub HasSeen : BTreeSet Number → List Refresh → Type 0

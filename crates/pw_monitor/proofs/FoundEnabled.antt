@@ -18,7 +18,7 @@ use Rattle.pw_pair.specs.declared.seat.Flight.{Flight}
 use Rattle.pw_pair.specs.declared.seat.Seat.{Seat}
 use Rattle.pw_paired.specs.Step.{line_wanted}
 use Rattle.pw_roster.specs.declared.actor.Actor.{Actor}
-use Rattle.pw_serial.specs.Guarded.{is_fail}
+use Rattle.pw_laws.specs.serial.Guarded.{is_fail}
 use Rattle.pw_steps.specs.Actors.{actor_in}
 use Rattle.pw_steps.specs.Steps.{IsStepFound, IsStepOf, IsUnbuilt}
 use Rattle.pw_monitor.proofs.Testing.{own-passes, own-shows}

@@ -59,16 +59,16 @@ use Rattle.pw_paired.specs.State.{Mode, Alone, Raising, Paired, Down, Job, LastE
 use Rattle.pw_paired.specs.Step.{Legal, after_from, effect}
 use Rattle.pw_paired.specs.Terminal.{CanStep, LegalBegin, births_after, closing_answer, next_verb, path_of}
 use Rattle.pw_paired.specs.Units.{attempt_of, birth_of, has_request, is_out, request_in, restarts_of}
-use Rattle.pw_runs.proofs.Births.{births-ok}
-use Rattle.pw_runs.proofs.induction.Failed.{end-any, fail-cases, process-cases}
-use Rattle.pw_runs.proofs.induction.Runs.{kept}
-use Rattle.pw_runs.proofs.induction.Served.{file-cases, reply-any}
-use Rattle.pw_runs.proofs.kept.Failing.{out-job}
-use Rattle.pw_runs.proofs.kept.Kept.{Inv}
-use Rattle.pw_runs.proofs.requests.Classes.{IsProcess}
-use Rattle.pw_runs.proofs.terms.KeepsChecks.{can_path, path_ok-is, within}
-use Rattle.pw_runs.proofs.terms.KeepsEnds.{OutOk, out-path}
-use Rattle.pw_runs.proofs.terms.KeepsPairs.{any_below-false}
+use Rattle.pw_laws.proofs.Births.{births-ok}
+use Rattle.pw_laws.proofs.induction.Failed.{end-any, fail-cases, process-cases}
+use Rattle.pw_laws.proofs.induction.Runs.{kept}
+use Rattle.pw_laws.proofs.induction.Served.{file-cases, reply-any}
+use Rattle.pw_laws.proofs.kept.Failing.{out-job}
+use Rattle.pw_laws.proofs.kept.Kept.{Inv}
+use Rattle.pw_laws.proofs.requests.Classes.{IsProcess}
+use Rattle.pw_laws.proofs.terms.KeepsChecks.{can_path, path_ok-is, within}
+use Rattle.pw_laws.proofs.terms.KeepsEnds.{OutOk, out-path}
+use Rattle.pw_laws.proofs.terms.KeepsPairs.{any_below-false}
 use Rattle.pw_tmf.specs.Operation.{lock_now}
 use Rattle.pw_tmf.specs.Tells.{as_told, images_by}
 use Rattle.pw_tmf.specs.Told.{ToldUnit}

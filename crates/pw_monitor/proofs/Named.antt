@@ -31,7 +31,7 @@ use Rattle.pw_paired.specs.Terminal.{path_of}
 use Rattle.pw_roster.specs.Places.{is_same_actor}
 use Rattle.pw_roster.specs.declared.actor.Actor.{Actor}
 use Rattle.pw_roster.specs.declared.actor.Actor.TheVariants as actor
-use Rattle.pw_runs.proofs.requests.Classes.{found_free}
+use Rattle.pw_laws.proofs.requests.Classes.{found_free}
 
 -- ---- tests
 

@@ -25,7 +25,7 @@ use Rattle.pw_monitor_world.specs.Actors.{IsActor}
 use Rattle.pw_monitor_world.specs.Seen.{Seen, at_answer, sys_of}
 use Rattle.pw_monitor_world.specs.Worlds.{Books, IsWorld}
 use Rattle.pw_roster.specs.declared.actor.Actor.TheVariants as actor
-use Rattle.pw_runs.proofs.induction.Runs.{kept}
+use Rattle.pw_laws.proofs.induction.Runs.{kept}
 use Rattle.pw_monitor.specs.Bare.{IsBare}
 
 -- ---- the server at work for a terminal

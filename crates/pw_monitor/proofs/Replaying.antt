@@ -15,7 +15,7 @@ use Rattle.pw_monitor_world.specs.Worlds.{IsNew}
 use Rattle.pw_monitor_world.specs.declared.answers.Entered.TheVariants as enter
 use Rattle.pw_onecopy.specs.Behaviour.{Behaviour}
 use Rattle.pw_paired.specs.Step.{IsRun, Legal, after}
-use Rattle.pw_runs.proofs.induction.Runs.{run-more}
+use Rattle.pw_laws.proofs.induction.Runs.{run-more}
 use Rattle.pw_tmf.specs.Told.{Told}
 
 module _ (system : System) (script : List FailLine) (disc : Told) where

@@ -16,7 +16,7 @@ use Rattle.pw_kept.specs.Arrivals.{IsReady}
 use Rattle.pw_kept.specs.Asked.{verb_in}
 use Rattle.pw_kept.specs.Kept.{KeptTerminal}
 use Rattle.pw_kept.specs.Stands.{IsReadyIfAny}
-use Rattle.pw_legal.specs.Verbs.{asks_send}
+use Rattle.pw_laws.specs.legal.Verbs.{asks_send}
 use Rattle.pw_monitor.specs.Ledgers.{listed}
 use Rattle.pw_monitor_world.proofs.Behind.{needs}
 use Rattle.pw_monitor_world.specs.OneSends.{begins_one_send}

@@ -13,8 +13,8 @@ use Rattle.pw_kept.specs.Read.{AreValued, ClosedValues}
 use Rattle.pw_kept.proofs.Agreeing.{there-is}
 use Rattle.pw_kept.proofs.Readings as readings
 use Rattle.pw_kept.proofs.Testing.{copy-same}
-use Rattle.pw_legal.proofs.decided.Pairs as decided
-use Rattle.pw_legal.specs.Pairs.{is_legal_check_copy}
+use Rattle.pw_laws.proofs.decided.Pairs as decided
+use Rattle.pw_laws.specs.legal.Pairs.{is_legal_check_copy}
 use Rattle.pw_monitor_world.specs.Actors.{actor_of}
 use Rattle.pw_monitor_world.specs.Dues.{due_in}
 use Rattle.pw_monitor_world.specs.Enabled.{IsEnabled}

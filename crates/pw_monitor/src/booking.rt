@@ -2,7 +2,7 @@
 
 ghost use Rattle.std.specs.Prelude.{◌≡◌, IfOk, length};
 ghost use Rattle.pw_keep.specs.Keeps.{kept_in};
-ghost use Rattle.pw_legal.specs.Verbs.{asks_send};
+ghost use Rattle.pw_laws.specs.legal.Verbs.{asks_send};
 ghost use Rattle.pw_monitor.specs.Bookings.{IsBookingOf, mode_in};
 ghost use Rattle.pw_monitor.specs.Ledgers.{listed};
 ghost use Rattle.pw_monitor.specs.States.{seen};

@@ -26,9 +26,9 @@ use Rattle.pw_paired.specs.Terminal.{closed_path, path_of, unit_with_attempt}
 use Rattle.pw_paired.specs.Server.{free_process}
 use Rattle.pw_paired.specs.Units.{attempt_of, commit_unit, give_answer, is_out, request_in}
 use Rattle.pw_roster.specs.declared.actor.Actor.TheVariants.{Terminal}
-use Rattle.pw_runs.proofs.induction.Served.{reply-any}
-use Rattle.pw_runs.proofs.kept.Failing.{out-job}
-use Rattle.pw_runs.proofs.kept.Kept.{Inv}
+use Rattle.pw_laws.proofs.induction.Served.{reply-any}
+use Rattle.pw_laws.proofs.kept.Failing.{out-job}
+use Rattle.pw_laws.proofs.kept.Kept.{Inv}
 
 -- ---- parts of the state of an actor
 

@@ -46,10 +46,10 @@ use Rattle.pw_paired.specs.State.{State, starting}
 use Rattle.pw_paired.specs.Step.{IsRun, Legal, after, change, effect}
 use Rattle.pw_paired.specs.Units as units
 use Rattle.pw_roster.specs.declared.actor.Actor.{Actor}
-use Rattle.pw_runs.proofs.Runs.{IsRunFrom-append, after_from-append}
-use Rattle.pw_runs.proofs.induction.Runs.{kept}
-use Rattle.pw_runs.proofs.kept.Kept.{Inv}
-use Rattle.pw_serial.proofs.steps.Living.{live-ok}
+use Rattle.pw_laws.proofs.RunSteps.{IsRunFrom-append, after_from-append}
+use Rattle.pw_laws.proofs.induction.Runs.{kept}
+use Rattle.pw_laws.proofs.kept.Kept.{Inv}
+use Rattle.pw_laws.proofs.steps.Living.{live-ok}
 
 module _ (world : Seen) (books : Books) (w : IsWorld world books) (entry : Event) (can : CanPush world entry) where
   abbrev sys : Behaviour

@@ -7,7 +7,7 @@ use Rattle.pw_code.specs.declared.verb.Verb.{Verb}
 use Rattle.pw_code.specs.declared.verb.Verb.TheVariants as verb
 use Rattle.pw_event.specs.declared.event.Event.{Event}
 use Rattle.pw_event.specs.declared.event.Event.TheVariants.{Show, Key, CheckStart, CheckEnd, CheckCopy, Applied, Begin, Send, Take, File, Reply, Again, Commit, Back, Restart, FailTcp, FailServer, Takeover, Raise, End}
-use Rattle.pw_legal.specs.Verbs.{asks_send}
+use Rattle.pw_laws.specs.legal.Verbs.{asks_send}
 use Rattle.pw_monitor_world.specs.OneSends.{BeginsOneSend, begins_one_send, one_sends_from}
 use Rattle.pw_monitor_world.specs.Worlds.{live_below}
 use Rattle.pw_onecopy.specs.Behaviour.{Behaviour}

@@ -19,8 +19,8 @@ use Rattle.pw_paired.specs.Failure.{backup_fails, is_of_pair, primary_fails}
 use Rattle.pw_paired.specs.State.{Mode, Alone, Raising, Paired, Down, Gone, Job, State}
 use Rattle.pw_paired.specs.Step.{change}
 use Rattle.pw_paired.specs.Units.{freed_of, has_request, only, request_in, without_requests}
-use Rattle.pw_runs.proofs.requests.Cancelling.{cancelled-none, cancelled-same}
-use Rattle.pw_runs.proofs.requests.Classes.{without_cancelled}
+use Rattle.pw_laws.proofs.requests.Cancelling.{cancelled-none, cancelled-same}
+use Rattle.pw_laws.proofs.requests.Classes.{without_cancelled}
 use Rattle.pw_tmf.specs.Leaving.{is_among}
 
 -- the entry cancels a request of a terminal that passes a test; the lists have the terminals of each pair

@@ -17,7 +17,7 @@ use Rattle.pw_paired.specs.State.{Class, Job, State}
 use Rattle.pw_paired.specs.Step.{Legal, change}
 use Rattle.pw_paired.specs.Terminal.{message_of, next_verb, with_request}
 use Rattle.pw_paired.specs.Units.{request_in}
-use Rattle.pw_runs.proofs.induction.Served.{file-cases, file-is, reply-any, take-is}
+use Rattle.pw_laws.proofs.induction.Served.{file-cases, file-is, reply-any, take-is}
 
 -- the entry is one of the class or of a process of it
 abbrev pub at_class : State → ℕ → Event → Bool

@@ -17,8 +17,8 @@ use Rattle.pw_paired.specs.Failure.{is_live_of, is_of_pair, resume_terminal, wit
 use Rattle.pw_paired.specs.State.{BackupCopy, LastEnded, OpenUnit, State, Term}
 use Rattle.pw_paired.specs.Step.{change}
 use Rattle.pw_paired.specs.Units.{attempt_of}
-use Rattle.pw_runs.proofs.induction.Failed.{fail-cases, process-cases}
-use Rattle.pw_runs.proofs.induction.Served.{file-cases, reply-any}
+use Rattle.pw_laws.proofs.induction.Failed.{fail-cases, process-cases}
+use Rattle.pw_laws.proofs.induction.Served.{file-cases, reply-any}
 
 -- the entry is an END
 abbrev is_end : Event → Bool

@@ -5,8 +5,8 @@ use Rattle.pw_event.specs.declared.event.Cause.{Cause}
 use Rattle.pw_event.specs.declared.event.Cause.TheVariants as cause
 use Rattle.pw_event.specs.declared.event.Event.{Event}
 use Rattle.pw_event.specs.declared.event.Event.TheVariants.{Show, Key, CheckStart, CheckEnd, CheckCopy, Applied, Begin, Send, Take, File, Reply, Again, Commit, Back, Restart, FailTcp, FailServer, Takeover, Raise, End}
-use Rattle.pw_locking.specs.Held.{IsHeld}
-use Rattle.pw_locking.proofs.Holding.{held}
+use Rattle.pw_laws.specs.locking.Held.{IsHeld}
+use Rattle.pw_laws.proofs.Holding.{held}
 use Rattle.pw_locks.specs.declared.lock.Lock.{Lock}
 use Rattle.pw_onecopy.specs.Behaviour.{Behaviour}
 use Rattle.pw_onecopy.specs.IsBehaviour.{IsBehaviour}
@@ -17,11 +17,11 @@ use Rattle.pw_paired.specs.State.{Awaited, OpenUnit, State}
 use Rattle.pw_paired.specs.Step.{Fits, IsRun, after, change, effect}
 use Rattle.pw_paired.specs.Terminal.{awaited_of}
 use Rattle.pw_paired.specs.Units.{birth_of, only, without_locks}
-use Rattle.pw_runs.proofs.induction.Failed.{end-any, fail-cases, process-cases}
-use Rattle.pw_runs.proofs.induction.Runs.{holds-behind, kept}
-use Rattle.pw_runs.proofs.induction.Served.{file-is, reply-any}
-use Rattle.pw_runs.proofs.kept.Kept.{Inv}
-use Rattle.pw_serial.proofs.steps.Awaiting.{UnitMoves, ends, opens, runs, stays, unit-moves}
+use Rattle.pw_laws.proofs.induction.Failed.{end-any, fail-cases, process-cases}
+use Rattle.pw_laws.proofs.induction.Runs.{holds-behind, kept}
+use Rattle.pw_laws.proofs.induction.Served.{file-is, reply-any}
+use Rattle.pw_laws.proofs.kept.Kept.{Inv}
+use Rattle.pw_laws.proofs.steps.Awaiting.{UnitMoves, ends, opens, runs, stays, unit-moves}
 
 -- ---- locks
 

@@ -23,11 +23,11 @@ use Rattle.pw_paired.specs.State.{Job, OpenUnit}
 use Rattle.pw_paired.specs.Step.{Legal}
 use Rattle.pw_roster.specs.declared.actor.Actor.{Actor}
 use Rattle.pw_roster.specs.declared.actor.Actor.TheVariants as actor
-use Rattle.pw_runs.proofs.induction.Runs.{kept}
-use Rattle.pw_runs.proofs.kept.Kept.{Inv}
-use Rattle.pw_runs.proofs.requests.Classes.{IsProcess}
-use Rattle.pw_runs.proofs.requests.Requests.{place_of_job, sent_of}
-use Rattle.pw_serial.proofs.steps.Unstuck.{some-actor-steps}
+use Rattle.pw_laws.proofs.induction.Runs.{kept}
+use Rattle.pw_laws.proofs.kept.Kept.{Inv}
+use Rattle.pw_laws.proofs.requests.Classes.{IsProcess}
+use Rattle.pw_laws.proofs.requests.Requests.{place_of_job, sent_of}
+use Rattle.pw_laws.proofs.steps.Unstuck.{some-actor-steps}
 
 module _ (world : Seen) (books : Books) (w : IsWorld world books) where
   inv : Inv (sys_of world) (state_of world)

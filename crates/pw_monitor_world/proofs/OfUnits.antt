@@ -20,8 +20,8 @@ use Rattle.pw_kept.proofs.Components.{some_is}
 use Rattle.pw_kept.proofs.OfRuns.{works-for}
 use Rattle.pw_kept.proofs.Readings as readings
 use Rattle.pw_files.specs.Records.{IsContent}
-use Rattle.pw_locking.proofs.Holding.{held}
-use Rattle.pw_locking.specs.Held.{IsHeld}
+use Rattle.pw_laws.proofs.Holding.{held}
+use Rattle.pw_laws.specs.locking.Held.{IsHeld}
 use Rattle.pw_locks.specs.declared.lock.Lock.{Lock}
 use Rattle.pw_monitor_world.specs.Seen.{Seen, state_of, sys_of}
 use Rattle.pw_monitor_world.specs.Worlds.{Books, IsWorld}
@@ -34,8 +34,8 @@ use Rattle.pw_paired.specs.Server.{server_verb}
 use Rattle.pw_paired.specs.State.{Awaited, Job, OpenUnit, State}
 use Rattle.pw_paired.specs.Terminal.{awaited_of}
 use Rattle.pw_paired.specs.Units.{request_in}
-use Rattle.pw_runs.proofs.induction.Runs.{kept}
-use Rattle.pw_runs.proofs.kept.Kept.{Inv}
+use Rattle.pw_laws.proofs.induction.Runs.{kept}
+use Rattle.pw_laws.proofs.kept.Kept.{Inv}
 use Rattle.pw_tmf.specs.Operation.{IsCall}
 use Rattle.pw_tmf.specs.Tells.{as_told, images_by}
 use Rattle.pw_tmf.specs.Told.{ToldUnit}

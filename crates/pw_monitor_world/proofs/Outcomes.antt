@@ -30,7 +30,7 @@ use Rattle.pw_paired.specs.Terminal.{path_of}
 use Rattle.pw_paired.specs.Units.{request_in}
 use Rattle.pw_roster.specs.declared.actor.Actor.{Actor}
 use Rattle.pw_roster.specs.declared.actor.Actor.TheVariants as actor
-use Rattle.pw_runs.proofs.induction.Runs.{kept}
+use Rattle.pw_laws.proofs.induction.Runs.{kept}
 
 -- a context that is to run on stands at an answer
 at-answer-is : (o : Option Context) (context : Context) → at_answer o ≡ Some context → (o ≡ Some context) × (context.at_verb ≡ false)

@@ -15,8 +15,8 @@ use Rattle.pw_kept.proofs.Testing.{any-same}
 use Rattle.pw_onecopy.specs.Behaviour.{Behaviour}
 use Rattle.pw_paired.specs.State.{Job, State}
 use Rattle.pw_paired.specs.Units.{any_below, has_request, is_out, request_in}
-use Rattle.pw_runs.proofs.requests.Classes.{IsProcess}
-use Rattle.pw_runs.proofs.requests.Queues.{has-queue, works-queue}
+use Rattle.pw_laws.proofs.requests.Classes.{IsProcess}
+use Rattle.pw_laws.proofs.requests.Queues.{has-queue, works-queue}
 
 -- ---- numbers below a bound
 

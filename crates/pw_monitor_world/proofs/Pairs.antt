@@ -23,9 +23,9 @@ use Rattle.pw_paired.specs.Server.{free_process}
 use Rattle.pw_paired.specs.Terminal.{path_of}
 use Rattle.pw_paired.specs.Units.{attempt_of, commit_unit, give_answer, request_in}
 use Rattle.pw_roster.specs.declared.actor.Actor.TheVariants.{Pair}
-use Rattle.pw_runs.proofs.induction.Served.{reply-any}
-use Rattle.pw_runs.proofs.kept.Failing.{out-job}
-use Rattle.pw_runs.proofs.kept.Kept.{Inv}
+use Rattle.pw_laws.proofs.induction.Served.{reply-any}
+use Rattle.pw_laws.proofs.kept.Failing.{out-job}
+use Rattle.pw_laws.proofs.kept.Kept.{Inv}
 
 -- the entry changes what the pair knows of one of its terminals
 abbrev pub at_pair : Behaviour → State → ℕ → Event → Bool

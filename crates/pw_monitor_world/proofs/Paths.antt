@@ -19,11 +19,11 @@ use Rattle.pw_onecopy.specs.Path.{PathAnswer, Begun, Dropped, Ended, Entry, Fail
 use Rattle.pw_paired.specs.State.{BackupCopy}
 use Rattle.pw_paired.specs.Step.{IsRun, after}
 use Rattle.pw_paired.specs.Terminal.{begun_path, path_of}
-use Rattle.pw_runs.proofs.Paths.{IsPath-push}
-use Rattle.pw_runs.proofs.induction.Moving.{TermAt, holds-of-terms}
-use Rattle.pw_runs.proofs.induction.Views as move
-use Rattle.pw_runs.proofs.induction.Views.{Moves, View, path_in, verb_in}
-use Rattle.pw_runs.proofs.terms.TermOk.{MemoryOk}
+use Rattle.pw_laws.proofs.Paths.{IsPath-push}
+use Rattle.pw_laws.proofs.induction.Moving.{TermAt, holds-of-terms}
+use Rattle.pw_laws.proofs.induction.Views as move
+use Rattle.pw_laws.proofs.induction.Views.{Moves, View, path_in, verb_in}
+use Rattle.pw_laws.proofs.terms.TermOk.{MemoryOk}
 
 module _ (sys : Behaviour) (t : ℕ) (known : t < sys.terminals) (v w : View) (ok : TermAt sys t v) (path : IsPath sys t (path_in v)) where
   at : (x : View) → w ≡ x → IsPath sys t (path_in x) → IsPath sys t (path_in w)

@@ -21,11 +21,11 @@ use Rattle.pw_paired.specs.State.{Mode, Alone, Raising, Paired, Down, Gone, Clas
 use Rattle.pw_paired.specs.Step.{Legal, change}
 use Rattle.pw_paired.specs.Terminal.{path_of}
 use Rattle.pw_paired.specs.Units.{any_below, commit_unit, give_answer, has_request, is_out, only, request_in, without_requests}
-use Rattle.pw_runs.proofs.induction.Served.{file-cases, reply-any}
-use Rattle.pw_runs.proofs.kept.Kept.{Inv}
-use Rattle.pw_runs.proofs.requests.Classes.{InBounds, IsWithout, NoneOf, NotFor}
-use Rattle.pw_runs.proofs.requests.Requests.{AtWork, InLine, Nowhere, Place, Placed, RequestsOk, place_inside, requests_cancelled, requests_filed, requests_freed, requests_sent, place_of_first, requests_taken, without_places}
-use Rattle.pw_runs.proofs.terms.KeepsChecks.{can_path, path_ok-is}
+use Rattle.pw_laws.proofs.induction.Served.{file-cases, reply-any}
+use Rattle.pw_laws.proofs.kept.Kept.{Inv}
+use Rattle.pw_laws.proofs.requests.Classes.{InBounds, IsWithout, NoneOf, NotFor}
+use Rattle.pw_laws.proofs.requests.Requests.{AtWork, InLine, Nowhere, Place, Placed, RequestsOk, place_inside, requests_cancelled, requests_filed, requests_freed, requests_sent, place_of_first, requests_taken, without_places}
+use Rattle.pw_laws.proofs.terms.KeepsChecks.{can_path, path_ok-is}
 
 -- ---- a place says whether a request is out
 

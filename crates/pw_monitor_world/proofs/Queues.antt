@@ -23,12 +23,12 @@ use Rattle.pw_onecopy.proofs.Update.{upd-other}
 use Rattle.pw_paired.specs.State.{Class, Job, State}
 use Rattle.pw_paired.specs.Step.{change}
 use Rattle.pw_paired.specs.Units.{has_request}
-use Rattle.pw_runs.proofs.induction.Failed.{end-any, fail-cases, process-cases}
-use Rattle.pw_runs.proofs.induction.Runs.{kept}
-use Rattle.pw_runs.proofs.induction.Served.{file-cases, reply-any}
-use Rattle.pw_runs.proofs.kept.Kept.{Inv}
-use Rattle.pw_runs.proofs.requests.Classes.{HasAtWork}
-use Rattle.pw_runs.proofs.requests.Requests.{AtWork, InLine, Nowhere, OnlyAt, Place, Placed, place_of_job}
+use Rattle.pw_laws.proofs.induction.Failed.{end-any, fail-cases, process-cases}
+use Rattle.pw_laws.proofs.induction.Runs.{kept}
+use Rattle.pw_laws.proofs.induction.Served.{file-cases, reply-any}
+use Rattle.pw_laws.proofs.kept.Kept.{Inv}
+use Rattle.pw_laws.proofs.requests.Classes.{HasAtWork}
+use Rattle.pw_laws.proofs.requests.Requests.{AtWork, InLine, Nowhere, OnlyAt, Place, Placed, place_of_job}
 
 -- ---- places
 

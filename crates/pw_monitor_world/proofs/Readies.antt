@@ -36,10 +36,10 @@ use Rattle.pw_paired.specs.State.{Mode, Alone, Raising, Paired, Down, Gone, Stat
 use Rattle.pw_paired.specs.Step.{Legal, change}
 use Rattle.pw_paired.specs.Terminal.{next_verb}
 use Rattle.pw_paired.specs.Units.{attempt_of, is_out}
-use Rattle.pw_runs.proofs.kept.Kept.{Inv}
-use Rattle.pw_runs.proofs.requests.Requests.{AtWork, InLine, Nowhere, Place, Sent, sent_of}
-use Rattle.pw_runs.proofs.terms.KeepsEnds.{OutOk, out-path}
-use Rattle.pw_runs.proofs.terms.TermOk.{IsWorking}
+use Rattle.pw_laws.proofs.kept.Kept.{Inv}
+use Rattle.pw_laws.proofs.requests.Requests.{AtWork, InLine, Nowhere, Place, Sent, sent_of}
+use Rattle.pw_laws.proofs.terms.KeepsEnds.{OutOk, out-path}
+use Rattle.pw_laws.proofs.terms.TermOk.{IsWorking}
 use Rattle.pw_tmf.specs.Leaving.{is_among}
 
 -- ---- what a request that is out says

@@ -20,7 +20,7 @@ use Rattle.pw_kept.proofs.PathLengths.{done-short, path-short, start-short}
 use Rattle.pw_kept.proofs.Readings as readings
 use Rattle.pw_kept.proofs.Testing.{can-same}
 use Rattle.pw_kept.proofs.Sounds.{job-sound, kept-sound, ready-kept-sound, start-kept-sound}
-use Rattle.pw_legal.proofs.decided.Terminals as decided
+use Rattle.pw_laws.proofs.decided.Terminals as decided
 use Rattle.pw_machine.proofs.RoomLemmas.{room_of_servers, room_of_terminals}
 use Rattle.pw_machine.specs.Stack.{HasRoom}
 use Rattle.pw_monitor_world.specs.Actors.{IsActor}

@@ -32,7 +32,7 @@ use Rattle.pw_paired.specs.Step.{Legal, after_from, effect, line_due, line_wante
 use Rattle.pw_roster.specs.Places.{is_placed}
 use Rattle.pw_roster.specs.declared.actor.Actor.{Actor}
 use Rattle.pw_roster.specs.declared.actor.Actor.TheVariants as actor
-use Rattle.pw_serial.specs.Guarded.{is_fail}
+use Rattle.pw_laws.specs.serial.Guarded.{is_fail}
 
 -- the log of the state behind a log
 pub log-from : (sys : Behaviour) (s : State) (log : List Event) → (after_from sys s log).log ≡ s.log ++ log

@@ -47,9 +47,9 @@ use Rattle.pw_paired.specs.Step.{Legal, after, change}
 use Rattle.pw_paired.specs.Units.{has_request, request_in}
 use Rattle.pw_roster.specs.declared.actor.Actor.{Actor}
 use Rattle.pw_roster.specs.declared.actor.Actor.TheVariants as actor
-use Rattle.pw_runs.proofs.induction.Runs.{kept}
-use Rattle.pw_runs.proofs.kept.Kept.{Inv}
-use Rattle.pw_runs.proofs.requests.Classes.{IsProcess, found_free}
+use Rattle.pw_laws.proofs.induction.Runs.{kept}
+use Rattle.pw_laws.proofs.kept.Kept.{Inv}
+use Rattle.pw_laws.proofs.requests.Classes.{IsProcess, found_free}
 use Rattle.pw_tmf.specs.Leaving.{is_among}
 
 -- ---- modes

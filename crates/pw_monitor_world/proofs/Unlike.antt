@@ -19,8 +19,8 @@ use Rattle.pw_paired.specs.State.{Mode, Alone, Raising, Paired, Down, Gone, Job,
 use Rattle.pw_paired.specs.Step.{Legal, change}
 use Rattle.pw_paired.specs.Units.{is_out, only, request_in}
 use Rattle.pw_roster.specs.declared.actor.Actor.TheVariants.{Terminal}
-use Rattle.pw_runs.proofs.induction.Served.{file-cases, reply-any}
-use Rattle.pw_runs.proofs.kept.Kept.{Inv}
+use Rattle.pw_laws.proofs.induction.Served.{file-cases, reply-any}
+use Rattle.pw_laws.proofs.kept.Kept.{Inv}
 
 -- ---- the entries of a terminal
 

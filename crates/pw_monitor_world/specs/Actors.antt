@@ -7,7 +7,7 @@ use Rattle.pw_exec.specs.OfSystem.{processes_by}
 use Rattle.pw_roster.specs.declared.actor.Actor.{Actor}
 use Rattle.pw_roster.specs.declared.actor.Actor.TheVariants.{Terminal, Process, Pair, Class}
 use Rattle.pw_onecopy.specs.Behaviour.{Behaviour}
-use Rattle.pw_serial.specs.Actors as serial
+use Rattle.pw_laws.specs.serial.Actors as serial
 
 -- the actor is one of the system
 abbrev pub IsActor : System → Actor → Type 0

@@ -23,7 +23,7 @@ ghost use Rattle.pw_onecopy.specs.IsBehaviour.{IsBehaviour};
 ghost use Rattle.pw_paired.specs.Step.{Legal, line_wanted};
 ghost use Rattle.pw_roster.specs.Places.{is_placed};
 ghost use Rattle.pw_roster.specs.declared.actor.Actor.{Actor};
-ghost use Rattle.pw_serial.specs.Guarded.{is_fail};
+ghost use Rattle.pw_laws.specs.serial.Guarded.{is_fail};
 ghost use Rattle.pw_tmf.specs.Told.{Told};
 
 /// Which entries of a world are steps: those that name what is there, pass the test of what is kept,

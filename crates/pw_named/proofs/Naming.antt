@@ -39,12 +39,12 @@ use Rattle.pw_paired.specs.State.{OpenUnit, State, starting}
 use Rattle.pw_paired.specs.Step.{IsRun, Legal, after, after_from, effect}
 use Rattle.pw_paired.specs.Step as step
 use Rattle.pw_paired.specs.Terminal.{CanStep, LegalSend, path_of}
-use Rattle.pw_runs.proofs.Tests.{all-last}
-use Rattle.pw_runs.proofs.induction.Runs as runs
-use Rattle.pw_runs.proofs.kept.Kept.{Inv}
-use Rattle.pw_runs.proofs.requests.Classes.{found_free}
-use Rattle.pw_runs.proofs.terms.KeepsChecks.{path_ok-is}
-use Rattle.pw_runs.proofs.terms.TermOk.{IsWorking}
+use Rattle.pw_laws.proofs.Tests.{all-last}
+use Rattle.pw_laws.proofs.induction.Runs as runs
+use Rattle.pw_laws.proofs.kept.Kept.{Inv}
+use Rattle.pw_laws.proofs.requests.Classes.{found_free}
+use Rattle.pw_laws.proofs.terms.KeepsChecks.{path_ok-is}
+use Rattle.pw_laws.proofs.terms.TermOk.{IsWorking}
 use Rattle.pw_paired.specs.Raising.{is_takeover}
 
 -- the log of the state behind a log

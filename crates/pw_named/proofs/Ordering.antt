@@ -26,7 +26,7 @@ use Rattle.pw_paired.specs.State.{OpenUnit, State, starting}
 use Rattle.pw_paired.specs.Step.{IsRun, Legal, after, effect}
 use Rattle.pw_paired.specs.Step as step
 use Rattle.pw_paired.specs.Terminal.{path_of}
-use Rattle.pw_runs.proofs.induction.Runs as runs
+use Rattle.pw_laws.proofs.induction.Runs as runs
 
 module _ (system : System) where
   -- each of these blocks has a line

@@ -15,9 +15,9 @@ use Rattle.pw_paired.specs.State.{BackupCopy, LastEnded, OpenUnit, State, Term}
 use Rattle.pw_paired.specs.Step.{IsRun, Legal, after, change, effect}
 use Rattle.pw_paired.specs.Step as step
 use Rattle.pw_paired.specs.Units.{attempt_of}
-use Rattle.pw_runs.proofs.induction.Failed.{end-any, fail-cases, process-cases}
-use Rattle.pw_runs.proofs.induction.Runs as runs
-use Rattle.pw_runs.proofs.induction.Served.{file-cases, reply-any}
+use Rattle.pw_laws.proofs.induction.Failed.{end-any, fail-cases, process-cases}
+use Rattle.pw_laws.proofs.induction.Runs as runs
+use Rattle.pw_laws.proofs.induction.Served.{file-cases, reply-any}
 
 -- a cause that names a pair names one below n
 abbrev Below : ℕ → Option Cause → Type 0

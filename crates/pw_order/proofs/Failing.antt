@@ -20,8 +20,8 @@ use Rattle.pw_paired.specs.Failure.{backup_fails, do_fail_tcp, is_live_of, is_of
 use Rattle.pw_paired.specs.Raising.{lacks_one}
 use Rattle.pw_paired.specs.Serial.{Reading, is_gone, makes_gone}
 use Rattle.pw_paired.specs.State.{Alone, BackupCopy, Down, Gone, Mode, Paired, Raising, State}
-use Rattle.pw_progress.proofs.Lacking.{any_below-some}
-use Rattle.pw_runs.proofs.Tests.{and-first, and-second, drop-false}
+use Rattle.pw_laws.proofs.Lacking.{any_below-some}
+use Rattle.pw_laws.proofs.Tests.{and-first, and-second, drop-false}
 
 -- what is lost when a member fails
 abbrev pub state_loss : Mode → Bool → Loss

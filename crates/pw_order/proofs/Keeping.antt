@@ -32,7 +32,7 @@ use Rattle.pw_paired.specs.State.{BackupCopy, Copy, End, LastEnded, Message, Ope
 use Rattle.pw_paired.specs.Step.{Fits, change}
 use Rattle.pw_paired.specs.Terminal.{begun_path, closing_answer, kept_reply, next_verb, path_of, path_with, unit_with_attempt}
 use Rattle.pw_paired.specs.Units.{attempt_of, commit_unit, give_answer, last_after_leaving, leave_units, only}
-use Rattle.pw_runs.proofs.Paths.{Dropped-closing, Ended-closing, Entry-plain, Failed-plain, IsClosing, IsPlain, Shown-plain}
+use Rattle.pw_laws.proofs.Paths.{Dropped-closing, Ended-closing, Entry-plain, Failed-plain, IsClosing, IsPlain, Shown-plain}
 
 -- what closes a transaction ends a unit
 closing-ends : (v : Verb) (a : PathAnswer) → closing_answer v ≡ Some a → IsClosing a

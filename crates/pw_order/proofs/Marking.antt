@@ -4,7 +4,7 @@ use Rattle.pw_onecopy.specs.Path.{Begun, PathAnswer, Replied, Standing, is_outsi
 use Rattle.pw_order.specs.Marks.{mark_begun, mark_closed, mark_more}
 use Rattle.pw_order.specs.Shadow.{mark_of}
 use Rattle.pw_order.specs.declared.mark.Mark.{Mark}
-use Rattle.pw_runs.proofs.Paths.{IsClosing, IsPlain, reply-inside, reply-outside, standing-push}
+use Rattle.pw_laws.proofs.Paths.{IsClosing, IsPlain, reply-inside, reply-outside, standing-push}
 
 abbrev mark : ℕ → ℕ → Bool → Mark
 mark answers ended within = record { answers = answers; ended = ended; within = within }

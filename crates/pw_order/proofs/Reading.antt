@@ -26,9 +26,9 @@ use Rattle.pw_order.specs.declared.seat.Seat.{Seat}
 use Rattle.pw_paired.specs.Serial.{Reading, blocks, blocks_of, entry_blocks_from, last_blocks_from, left_blocks, read_on, reading_starts}
 use Rattle.pw_paired.specs.State.{State, starting}
 use Rattle.pw_paired.specs.Step.{IsRun, after, after_from, effect}
-use Rattle.pw_progress.proofs.Lacking.{lacking}
-use Rattle.pw_runs.proofs.Runs.{IsRunFrom-split}
-use Rattle.pw_runs.proofs.induction.Runs.{after-more, kept}
+use Rattle.pw_laws.proofs.Lacking.{lacking}
+use Rattle.pw_laws.proofs.RunSteps.{IsRunFrom-split}
+use Rattle.pw_laws.proofs.induction.Runs.{after-more, kept}
 
 module _ (sys : Behaviour) where
   reading-from-more : (s : State) (r : Reading) (log : List Event) (entry : Event)

@@ -39,11 +39,11 @@ use Rattle.pw_paired.specs.Serial.{Reading, blocks_of, left_blocks, read_on}
 use Rattle.pw_paired.specs.Server.{LegalReply}
 use Rattle.pw_paired.specs.State.{Alone, BackupCopy, Down, Gone, Mode, Paired, Raising, State}
 use Rattle.pw_paired.specs.Step.{Fits, change, effect}
-use Rattle.pw_runs.proofs.induction.Failed.{end-any, process-cases}
-use Rattle.pw_runs.proofs.induction.Served.{file-cases, reply-any}
-use Rattle.pw_runs.proofs.kept.Failing.{out-job}
-use Rattle.pw_runs.proofs.kept.Kept.{Inv}
-use Rattle.pw_runs.proofs.terms.TermOk.{HasMemory}
+use Rattle.pw_laws.proofs.induction.Failed.{end-any, process-cases}
+use Rattle.pw_laws.proofs.induction.Served.{file-cases, reply-any}
+use Rattle.pw_laws.proofs.kept.Failing.{out-job}
+use Rattle.pw_laws.proofs.kept.Kept.{Inv}
+use Rattle.pw_laws.proofs.terms.TermOk.{HasMemory}
 
 -- Raising and Paired are one
 settled-as : (m : Mode) (lacking : Bool) → mode_of (settled_mode m lacking) ≡ mode_of m

@@ -18,8 +18,8 @@ use Rattle.pw_paired.specs.Serial.{Reading}
 use Rattle.pw_paired.specs.State.{LastEnded, State, Term}
 use Rattle.pw_paired.specs.Step.{change}
 use Rattle.pw_paired.specs.Units.{leave_units, only}
-use Rattle.pw_runs.proofs.induction.Failed.{end-any, process-cases}
-use Rattle.pw_runs.proofs.induction.Served.{file-cases, reply-any}
+use Rattle.pw_laws.proofs.induction.Failed.{end-any, process-cases}
+use Rattle.pw_laws.proofs.induction.Served.{file-cases, reply-any}
 
 -- an entry of a pair
 abbrev pub is_of_pairs : Event → Bool

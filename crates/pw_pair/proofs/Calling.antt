@@ -24,8 +24,8 @@ use Rattle.pw_paired.specs.State.{Alone, BackupCopy, Copy, Down, End, Gone, Last
 use Rattle.pw_paired.specs.Step.{Fits, change, effect}
 use Rattle.pw_paired.specs.Terminal.{closed_path, path_of}
 use Rattle.pw_paired.specs.Units.{attempt_of, leave_units, only}
-use Rattle.pw_runs.proofs.induction.Failed.{end-any, fail-cases, process-cases}
-use Rattle.pw_runs.proofs.induction.Served.{file-cases, reply-any}
+use Rattle.pw_laws.proofs.induction.Failed.{end-any, fail-cases, process-cases}
+use Rattle.pw_laws.proofs.induction.Served.{file-cases, reply-any}
 
 -- an ending stays where a terminal's is changed otherwise
 ending-stays : (terms : ℕ → Term) (t : ℕ) (term : Term) → term.ending ≡ (terms t).ending → (j : ℕ) → (upd terms t term j).ending ≡ (terms j).ending

@@ -26,7 +26,7 @@ use Rattle.pw_paired.specs.Failure.{is_live_of, is_of_pair}
 use Rattle.pw_paired.specs.Raising as raising
 use Rattle.pw_paired.specs.Raising.{lacks_one, settled_mode}
 use Rattle.pw_paired.specs.State.{Alone, BackupCopy, Copy, Down, End, Gone, Message, Mode, Paired, Raising, Start, State, Term}
-use Rattle.pw_progress.proofs.Lacking.{any_below-some, any_below-true}
+use Rattle.pw_laws.proofs.Lacking.{any_below-some, any_below-true}
 
 -- ---- what is taken in
 

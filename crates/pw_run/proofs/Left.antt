@@ -18,7 +18,7 @@ use Rattle.pw_run.specs.Runs.{IsFailed, IsIdle, IsLeft, IsReported, Writing}
 use Rattle.pw_run.specs.declared.ending.Ended.{Ended}
 use Rattle.pw_tmf.specs.Tells.{Tells}
 use Rattle.pw_tmf.specs.Told.{Told}
-use Rattle.pw_workers.specs.Ends.{GoesOn, IsFor}
+use Rattle.pw_run.specs.Ends.{GoesOn, IsFor}
 
 pub for-new : (system : System) (lines : List FailLine) (disc : Told) (events : ℕ) (first world : Seen)
     → IsNew system lines disc events first

@@ -1,3 +1,8 @@
+mod Claimed
+pub mod Committing
+mod Crossing
 mod Left
+mod Printing
 mod Ran
+mod Reading
 pub mod Starts

@@ -1,5 +1,9 @@
 pub mod Endings
+pub mod Ends
+pub mod Lanes
+pub mod Locked
 pub mod NoStep
 pub mod Over
+pub mod Read
 pub mod Runs
-pub use Rattle.pw_workers.specs.Ends
+pub mod Turns

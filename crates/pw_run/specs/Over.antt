@@ -9,7 +9,7 @@ use Rattle.pw_run.specs.Endings.{EndsAs}
 use Rattle.pw_run.specs.declared.over.Over as over
 use Rattle.pw_run.specs.declared.over.Over.TheVariants.{Ended, Failed}
 use Rattle.pw_tmf.specs.Told.{Told}
-use Rattle.pw_workers.specs.Ends.{GoesOn, IsFor}
+use Rattle.pw_run.specs.Ends.{GoesOn, IsFor}
 
 -- The world is one of this system, script and limit, over this disc: its log has ended so; or its disc has failed, and
 -- its log is neither finished nor as long as it may be.

@@ -11,15 +11,15 @@ ghost use Rattle.pw_onecopy.specs.IsBehaviour.{IsBehaviour};
 ghost use Rattle.pw_run.specs.Endings.{EndsAs};
 ghost use Rattle.pw_run.specs.Over.{Leaves};
 
+use crate::end::RunEnd;
 use crate::ending::{Ended, are_regular};
+use crate::gate::Gate;
+use crate::workers::run_workers;
 use pw_base::memory::Memory;
 use pw_code::system::System;
 use pw_event::script::Script;
 use pw_monitor::world::World;
 use pw_tmf::disc::Disc;
-use pw_workers::end::RunEnd;
-use pw_workers::gate::Gate;
-use pw_workers::workers::run_workers;
 use std::alloc::Global;
 use std::sync::Wait;
 use std::thread::Threads;

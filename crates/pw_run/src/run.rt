@@ -9,16 +9,16 @@ ghost use Rattle.pw_monitor_world.specs.Worlds.{IsDiscOf};
 ghost use Rattle.pw_onecopy.specs.IsBehaviour.{IsBehaviour};
 ghost use Rattle.pw_run.specs.Runs.{IsSure, RunsWith};
 
+use crate::gate::Gate;
 use crate::over::{Over, run_over};
+use crate::report::report;
 use pw_base::memory::Memory;
 use pw_base::sink::Sink;
 use pw_call::output::written;
 use pw_call::status::Status;
 use pw_code::system::System;
 use pw_event::script::Script;
-use pw_run_report::report::report;
 use pw_tmf::disc::Disc;
-use pw_workers::gate::Gate;
 use std::alloc::Global;
 use std::sync::Wait;
 use std::thread::Threads;

@@ -7,11 +7,11 @@ ghost use Rattle.pw_monitor.specs.States.{seen};
 ghost use Rattle.pw_monitor_world.specs.Seen.{sys_of};
 ghost use Rattle.pw_paired.specs.Step.{IsRun};
 
+use crate::report;
 use pw_base::bytes::Bytes;
 use pw_base::memory::Memory;
 use pw_code::system::System;
 use pw_monitor::world::World;
-use pw_run_report::report;
 use pw_tmf::disc::Disc;
 use std::alloc::Global;
 

@@ -8,7 +8,7 @@ use Rattle.pw_kept.specs.CauseTests.{meets, work_meets}
 use Rattle.pw_kept.specs.ClassTests.{works_where}
 use Rattle.pw_kept.specs.Kept.{Kept}
 use Rattle.pw_paired.specs.Units.{any_below}
-use Rattle.pw_progress.proofs.Lacking.{any_below-some, any_below-true}
+use Rattle.pw_laws.proofs.Lacking.{any_below-some, any_below-true}
 use Rattle.pw_steps.specs.Causes.{IsOlder, IsOlderFound, units_meet}
 
 -- one more number

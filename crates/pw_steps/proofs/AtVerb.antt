@@ -11,8 +11,8 @@ use Rattle.pw_code.specs.declared.verb.Verb.TheVariants as verb
 use Rattle.pw_kept.specs.Asked.{verb_in}
 use Rattle.pw_kept.specs.Kept.{Kept}
 use Rattle.pw_kept.specs.TerminalTests.{begins_unit, can_step, can_where, closing, end_held, flies, may_again, may_back, may_begin, may_check_end, may_check_start, may_commit, may_end_entries, may_fault, may_key, may_send, may_show, may_stop}
-use Rattle.pw_legal.specs.Values.{some_with}
-use Rattle.pw_legal.specs.Verbs.{asks_accept, asks_drop, asks_end, asks_fault, asks_send, asks_send_to, asks_show, asks_stop}
+use Rattle.pw_laws.specs.legal.Values.{some_with}
+use Rattle.pw_laws.specs.legal.Verbs.{asks_accept, asks_drop, asks_end, asks_fault, asks_send, asks_send_to, asks_show, asks_stop}
 use Rattle.pw_seats.specs.declared.seat.Ready.{Ready}
 use Rattle.pw_steps.proofs.At.{read-at}
 use Rattle.pw_steps.specs.Known.{stepping}

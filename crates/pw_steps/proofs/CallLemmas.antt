@@ -11,7 +11,7 @@ use Rattle.pw_kept.specs.Asked.{verb_in}
 use Rattle.pw_kept.specs.ClassTests.{works_where}
 use Rattle.pw_kept.specs.Kept.{Kept}
 use Rattle.pw_kept.specs.Read.{IsServerRead}
-use Rattle.pw_legal.specs.Values.{some_with}
+use Rattle.pw_laws.specs.legal.Values.{some_with}
 use Rattle.pw_steps.specs.Calls.{AsksCall, IsAtVerb, IsVerbAt, call_in}
 
 module _ (system : System) (kept : Kept) (c i : ℕ) where

@@ -10,8 +10,8 @@ use Rattle.pw_kept.specs.CauseTests.{holds}
 use Rattle.pw_kept.specs.Kept.{Kept}
 use Rattle.pw_kept.specs.PairTests.{is_gone}
 use Rattle.pw_kept.specs.TerminalTests.{can_where, pair_of}
-use Rattle.pw_legal.specs.Values.{is_server_by, is_takeover_by, some_with}
-use Rattle.pw_legal.specs.Verbs.{asks_redo}
+use Rattle.pw_laws.specs.legal.Values.{is_server_by, is_takeover_by, some_with}
+use Rattle.pw_laws.specs.legal.Verbs.{asks_redo}
 use Rattle.pw_steps.proofs.Meets.{open-of-unit}
 use Rattle.pw_steps.proofs.OlderTest.{is-first, is-left, none-open, of-open}
 use Rattle.pw_steps.proofs.Opened.{unit-found}

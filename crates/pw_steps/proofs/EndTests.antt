@@ -10,8 +10,8 @@ use Rattle.pw_image.specs.Image.{image_of}
 use Rattle.pw_kept.specs.Asked.{unit_in, verb_in}
 use Rattle.pw_kept.specs.Kept.{Kept}
 use Rattle.pw_kept.specs.TerminalTests.{closing, end_held, flies, seat_at}
-use Rattle.pw_legal.specs.Values.{some_with}
-use Rattle.pw_legal.specs.Verbs.{asks_drop, asks_end}
+use Rattle.pw_laws.specs.legal.Values.{some_with}
+use Rattle.pw_laws.specs.legal.Verbs.{asks_drop, asks_end}
 use Rattle.pw_pair.specs.Pairs.{passes}
 use Rattle.pw_pair.specs.Seats.{holds_end}
 use Rattle.pw_steps.specs.Images.{behind_end}

@@ -15,8 +15,8 @@ use Rattle.pw_kept.specs.CauseTests.{holds, most_restarts, unit_named}
 use Rattle.pw_kept.specs.Kept.{Kept}
 use Rattle.pw_kept.specs.Meeting.{IsRedoRead}
 use Rattle.pw_kept.specs.PairTests.{may_lose}
-use Rattle.pw_legal.specs.Values.{some_with}
-use Rattle.pw_legal.specs.Verbs.{asks_redo}
+use Rattle.pw_laws.specs.legal.Values.{some_with}
+use Rattle.pw_laws.specs.legal.Verbs.{asks_redo}
 use Rattle.pw_roster.specs.declared.actor.Actor.TheVariants.{Terminal}
 use Rattle.pw_steps.proofs.Found.{found-of-terminal}
 use Rattle.pw_steps.proofs.NoStep.{no-step-of-terminal}

@@ -19,8 +19,8 @@ use Rattle.pw_kept.specs.Changes.{unit_at}
 use Rattle.pw_kept.specs.ClassTests.{works_where}
 use Rattle.pw_kept.specs.Kept.{Kept}
 use Rattle.pw_kept.specs.Read.{IsServerRead}
-use Rattle.pw_legal.specs.Values.{some_with}
-use Rattle.pw_legal.specs.Verbs.{asks_file}
+use Rattle.pw_laws.specs.legal.Values.{some_with}
+use Rattle.pw_laws.specs.legal.Verbs.{asks_file}
 use Rattle.pw_locks.specs.Conflicts.{conflict, holders, is_same_unit}
 use Rattle.pw_locks.specs.Oldest.{IsOldest}
 use Rattle.pw_locks.specs.declared.lock.Lock.{Lock}

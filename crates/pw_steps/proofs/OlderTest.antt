@@ -7,7 +7,7 @@ use Rattle.pw_kept.specs.CauseTests.{is_older, meets, unit_named}
 use Rattle.pw_kept.specs.Kept.{Kept}
 use Rattle.pw_kept.specs.PairTests.{is_gone}
 use Rattle.pw_kept.specs.TerminalTests.{pair_of}
-use Rattle.pw_legal.specs.Values.{some_with}
+use Rattle.pw_laws.specs.legal.Values.{some_with}
 use Rattle.pw_steps.proofs.Anywhere.{meets-either}
 use Rattle.pw_steps.proofs.Opened.{named}
 use Rattle.pw_steps.specs.Causes.{IsUnit, comes_before, units_meet}

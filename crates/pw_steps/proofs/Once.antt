@@ -9,8 +9,8 @@ use Rattle.pw_kept.specs.Asked.{unit_in, verb_in}
 use Rattle.pw_kept.specs.Changes.{runs_told}
 use Rattle.pw_kept.specs.Kept.{Kept}
 use Rattle.pw_kept.specs.TerminalTests.{may_again, may_back, may_begin, may_commit, may_key, may_send, start_held}
-use Rattle.pw_legal.specs.Terminals.{is_over}
-use Rattle.pw_legal.specs.Verbs.{asks_send_to}
+use Rattle.pw_laws.specs.legal.Terminals.{is_over}
+use Rattle.pw_laws.specs.legal.Verbs.{asks_send_to}
 use Rattle.pw_steps.specs.Known.{stepping}
 use Rattle.pw_steps.proofs.AtVerb.{at}
 use Rattle.pw_code.specs.declared.unit.Unit as unit

@@ -6,7 +6,7 @@ use Rattle.pw_code.specs.declared.unit.Unit as unit
 use Rattle.pw_event.specs.declared.event.Cause.{Cause}
 use Rattle.pw_kept.specs.CauseTests.{holds, may_restart, may_suspend, most_restarts}
 use Rattle.pw_kept.specs.Kept.{Kept}
-use Rattle.pw_legal.specs.Values.{some_with}
+use Rattle.pw_laws.specs.legal.Values.{some_with}
 use Rattle.pw_steps.proofs.Opened.{IsRun, run-terminal}
 use Rattle.pw_steps.specs.Causes.{running_told}
 use Rattle.pw_tmf.specs.Told.{ToldUnit}

@@ -24,9 +24,9 @@ use Rattle.pw_kept.specs.ClassTests.{is_call_for, may_file, may_reply, works_whe
 use Rattle.pw_kept.specs.Kept.{Kept}
 use Rattle.pw_kept.specs.May.{IsProcessOf}
 use Rattle.pw_kept.specs.Read.{IsServerRead}
-use Rattle.pw_legal.proofs.decided.Values.{same_mode, same_op}
-use Rattle.pw_legal.specs.Values.{is_empty, is_same_mode, is_same_op, some_with}
-use Rattle.pw_legal.specs.Verbs.{asks_file, replies}
+use Rattle.pw_laws.proofs.decided.Values.{same_mode, same_op}
+use Rattle.pw_laws.specs.legal.Values.{is_empty, is_same_mode, is_same_op, some_with}
+use Rattle.pw_laws.specs.legal.Verbs.{asks_file, replies}
 use Rattle.pw_locks.specs.Conflicts.{holders}
 use Rattle.pw_onecopy.specs.Operation.{answer_of, plain_op}
 use Rattle.pw_roster.specs.declared.actor.Actor.TheVariants.{Process}

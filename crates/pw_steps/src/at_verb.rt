@@ -3,7 +3,7 @@
 ghost use Rattle.std.specs.Prelude.{◌≡◌, ◌<◌, ℕ, false, length, true};
 ghost use Rattle.pw_keep.specs.Keeps.{kept_in};
 ghost use Rattle.pw_kept.specs.TerminalTests.{may_send};
-ghost use Rattle.pw_legal.specs.Verbs.{asks_send_to};
+ghost use Rattle.pw_laws.specs.legal.Verbs.{asks_send_to};
 ghost use Rattle.pw_steps.specs.Known.{IsKnown};
 ghost use Rattle.pw_steps.specs.Steps.{IsFoundOr};
 ghost use Rattle.pw_steps.specs.Verbs.{HasNoAgain, HasNoBegin, HasNoDrop, HasNoEnd, HasNoKey, HasNoSend, HasNoVerbStep, HasNoneAt, IsAt};

@@ -5,7 +5,7 @@ ghost use Rattle.pw_event.specs.declared.event.Event.TheVariants.{End};
 ghost use Rattle.pw_keep.specs.Keeps.{kept_in};
 ghost use Rattle.pw_kept.specs.May.{IsThere, may};
 ghost use Rattle.pw_kept.specs.Meeting.{IsStepRead};
-ghost use Rattle.pw_legal.specs.Values.{is_line_of_member, is_line_of_process, some_with};
+ghost use Rattle.pw_laws.specs.legal.Values.{is_line_of_member, is_line_of_process, some_with};
 ghost use Rattle.pw_paired.specs.Failure.{fail_line};
 ghost use Rattle.pw_steps.specs.Known.{IsKnown};
 

@@ -3,8 +3,8 @@
 ghost use Rattle.std.specs.Prelude.{◌≡◌, is_some};
 ghost use Rattle.pw_kept.specs.PairTests.{is_sending};
 ghost use Rattle.pw_kept.specs.TerminalTests.{begins_unit, closing};
-ghost use Rattle.pw_legal.specs.Values.{is_same_mode, is_same_op, is_server_by, is_takeover_by, some_with};
-ghost use Rattle.pw_legal.specs.Verbs.{asks_accept, asks_drop, asks_end, asks_fault, asks_redo, asks_send, asks_send_to, asks_show, asks_stop, replies};
+ghost use Rattle.pw_laws.specs.legal.Values.{is_same_mode, is_same_op, is_server_by, is_takeover_by, some_with};
+ghost use Rattle.pw_laws.specs.legal.Verbs.{asks_accept, asks_drop, asks_end, asks_fault, asks_redo, asks_send, asks_send_to, asks_show, asks_stop, replies};
 ghost use Rattle.pw_onecopy.specs.Operation.{plain_op};
 ghost use Rattle.pw_paired.specs.Raising.{is_takeover};
 

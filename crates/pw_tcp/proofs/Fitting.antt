@@ -6,13 +6,13 @@ use Rattle.pw_code.specs.declared.verb.Verb.{Verb}
 use Rattle.pw_code.specs.declared.verb.Verb.TheVariants as verb
 use Rattle.pw_event.specs.declared.event.Cause.{Cause}
 use Rattle.pw_event.specs.declared.event.Cause.TheVariants as cause
-use Rattle.pw_legal.proofs.Deciding.{both, itself, some, none}
-use Rattle.pw_legal.proofs.decided.Terminals as decided
-use Rattle.pw_legal.proofs.decided.Values as value
-use Rattle.pw_legal.proofs.decided.Verbs as asked
-use Rattle.pw_legal.specs.Terminals.{holds_end, holds_start}
-use Rattle.pw_legal.specs.Values.{is_paired}
-use Rattle.pw_legal.specs.Verbs.{asks_redo}
+use Rattle.pw_laws.proofs.Deciding.{both, itself, some, none}
+use Rattle.pw_laws.proofs.decided.Terminals as decided
+use Rattle.pw_laws.proofs.decided.Values as value
+use Rattle.pw_laws.proofs.decided.Verbs as asked
+use Rattle.pw_laws.specs.legal.Terminals.{holds_end, holds_start}
+use Rattle.pw_laws.specs.legal.Values.{is_paired}
+use Rattle.pw_laws.specs.legal.Verbs.{asks_redo}
 use Rattle.pw_onecopy.specs.Attempt.{BeginsUnit}
 use Rattle.pw_onecopy.specs.Behaviour.{Behaviour}
 use Rattle.pw_onecopy.specs.Path.{PathAnswer, Ended, Dropped, entries_on, is_outside, unit_number}

@@ -15,14 +15,14 @@ use Rattle.pw_paired.specs.Raising.{is_takeover}
 use Rattle.pw_paired.specs.State.{BackupCopy, Class, Job, OpenUnit, State}
 use Rattle.pw_paired.specs.Step.{IsRun, after}
 use Rattle.pw_paired.specs.Units.{any_below, has_request, is_out, request_in}
-use Rattle.pw_progress.proofs.Lacking.{any_below-some}
-use Rattle.pw_runs.proofs.induction.Moving.{TermAt, holds-of-terms}
-use Rattle.pw_runs.proofs.induction.Views as move
-use Rattle.pw_runs.proofs.induction.Views.{Moves, View, path_in}
-use Rattle.pw_runs.proofs.kept.Kept.{Inv}
-use Rattle.pw_runs.proofs.requests.Classes.{IsWithout, NoneOf, NotFor}
-use Rattle.pw_runs.proofs.requests.Requests.{AtWork, InLine, Nowhere, Place, Placed, Sent, sent_of}
-use Rattle.pw_runs.proofs.terms.TermOk.{IsRest}
+use Rattle.pw_laws.proofs.Lacking.{any_below-some}
+use Rattle.pw_laws.proofs.induction.Moving.{TermAt, holds-of-terms}
+use Rattle.pw_laws.proofs.induction.Views as move
+use Rattle.pw_laws.proofs.induction.Views.{Moves, View, path_in}
+use Rattle.pw_laws.proofs.kept.Kept.{Inv}
+use Rattle.pw_laws.proofs.requests.Classes.{IsWithout, NoneOf, NotFor}
+use Rattle.pw_laws.proofs.requests.Requests.{AtWork, InLine, Nowhere, Place, Placed, Sent, sent_of}
+use Rattle.pw_laws.proofs.terms.TermOk.{IsRest}
 
 -- ---- behind a takeover
 

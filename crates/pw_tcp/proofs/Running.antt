@@ -7,9 +7,9 @@ use Rattle.pw_code.specs.declared.verb.Verb.TheVariants as verb
 use Rattle.pw_event.specs.declared.event.Cause.{Cause}
 use Rattle.pw_event.specs.declared.event.Cause.TheVariants as cause
 use Rattle.pw_event.specs.declared.event.Event.{Event}
-use Rattle.pw_legal.proofs.decided.Terminals as decided
-use Rattle.pw_legal.specs.Terminals.{is_over}
-use Rattle.pw_legal.specs.Verbs.{asks_send}
+use Rattle.pw_laws.proofs.decided.Terminals as decided
+use Rattle.pw_laws.specs.legal.Terminals.{is_over}
+use Rattle.pw_laws.specs.legal.Verbs.{asks_send}
 use Rattle.pw_onecopy.specs.Attempt.{BeginsUnit}
 use Rattle.pw_onecopy.specs.Behaviour.{Behaviour}
 use Rattle.pw_onecopy.specs.IsBehaviour.{IsAsked, IsBehaviour, IsPath}
@@ -19,25 +19,25 @@ use Rattle.pw_paired.specs.State.{Alone, Awaited, Down, Gone, LastEnded, Mode, O
 use Rattle.pw_paired.specs.Step.{IsRun, after}
 use Rattle.pw_paired.specs.Terminal.{IsIdle, IsLive, IsOver, awaited_of, next_verb, path_of}
 use Rattle.pw_paired.specs.Units.{attempt_of, is_out, restarts_of}
-use Rattle.pw_progress.proofs.BeginsOnce.{few-restarts}
-use Rattle.pw_progress.proofs.Pending.{Pends, pending-ok}
-use Rattle.pw_progress.specs.Running.{Runs}
-use Rattle.pw_runs.proofs.induction.Runs.{kept}
-use Rattle.pw_runs.proofs.induction.Views.{view_of}
-use Rattle.pw_runs.proofs.kept.Kept.{Inv}
-use Rattle.pw_runs.proofs.terms.KeepsChecks as checks
-use Rattle.pw_runs.proofs.terms.KeepsEnds.{OutOk}
-use Rattle.pw_runs.proofs.terms.TermOk.{HasMessages, IsRest, IsWorking, PathOf, PathOk, TermOk}
-use Rattle.pw_serial.proofs.frontier.Frontier.{FrontierOk}
-use Rattle.pw_serial.proofs.frontier.Frontiers.{frontier_after, frontiers}
-use Rattle.pw_serial.proofs.frontier.Leads.{IsForced, Next, goes_on, is_there, next-of}
-use Rattle.pw_serial.proofs.frontier.Standing.{Where, closed, running, waiting, where-of, works-there}
-use Rattle.pw_serial.proofs.restarts.Few.{counts-ok}
+use Rattle.pw_laws.proofs.BeginsOnce.{few-restarts}
+use Rattle.pw_laws.proofs.Pending.{Pends, pending-ok}
+use Rattle.pw_laws.specs.progress.Running.{Runs}
+use Rattle.pw_laws.proofs.induction.Runs.{kept}
+use Rattle.pw_laws.proofs.induction.Views.{view_of}
+use Rattle.pw_laws.proofs.kept.Kept.{Inv}
+use Rattle.pw_laws.proofs.terms.KeepsChecks as checks
+use Rattle.pw_laws.proofs.terms.KeepsEnds.{OutOk}
+use Rattle.pw_laws.proofs.terms.TermOk.{HasMessages, IsRest, IsWorking, PathOf, PathOk, TermOk}
+use Rattle.pw_laws.proofs.frontier.Frontier.{FrontierOk}
+use Rattle.pw_laws.proofs.frontier.Frontiers.{frontier_after, frontiers}
+use Rattle.pw_laws.proofs.frontier.Leads.{IsForced, Next, goes_on, is_there, next-of}
+use Rattle.pw_laws.proofs.frontier.Standing.{Where, closed, running, waiting, where-of, works-there}
+use Rattle.pw_laws.proofs.restarts.Few.{counts-ok}
 use Rattle.pw_tcp.specs.InState.{FitsTogether, HasMember, IsOfPath, MayPend, MayStep, WaitsAtStart, is_within, note_of, pending_of, terminal_of}
 use Rattle.pw_tcp.specs.NextStep.{BeginsAnew, MayAsk, RunsWhere, ends_attempt, is_pending}
 use Rattle.pw_tcp.proofs.Fitting.{not-true}
 use Rattle.pw_tcp.proofs.Known.{IsTaken, out-sent, taken-over}
-use Rattle.pw_serial.proofs.steps.Terminals.{entries-from}
+use Rattle.pw_laws.proofs.steps.Terminals.{entries-from}
 
 -- a member of the pair works
 works-as : (mode : Mode) → HasMember mode → IsWorking mode

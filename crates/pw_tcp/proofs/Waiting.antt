@@ -9,12 +9,12 @@ use Rattle.pw_event.specs.declared.event.Cause.TheVariants as cause
 use Rattle.pw_event.specs.declared.event.Ending.TheVariants as ending
 use Rattle.pw_event.specs.declared.event.Event.{Event}
 use Rattle.pw_event.specs.declared.event.Event.TheVariants as entry
-use Rattle.pw_legal.proofs.Deciding.{both, either, itself}
-use Rattle.pw_legal.proofs.decided.Terminals as decided
-use Rattle.pw_legal.proofs.decided.Values as value
-use Rattle.pw_legal.specs.Terminals.{holds_end, holds_start, is_over}
-use Rattle.pw_legal.specs.Values.{is_paired}
-use Rattle.pw_legal.specs.Verbs.{asks_redo, asks_send}
+use Rattle.pw_laws.proofs.Deciding.{both, either, itself}
+use Rattle.pw_laws.proofs.decided.Terminals as decided
+use Rattle.pw_laws.proofs.decided.Values as value
+use Rattle.pw_laws.specs.legal.Terminals.{holds_end, holds_start, is_over}
+use Rattle.pw_laws.specs.legal.Values.{is_paired}
+use Rattle.pw_laws.specs.legal.Verbs.{asks_redo, asks_send}
 use Rattle.pw_onecopy.specs.Attempt.{BeginsUnit}
 use Rattle.pw_onecopy.specs.Behaviour.{Behaviour}
 use Rattle.pw_onecopy.specs.Path.{PathAnswer, Ended, Dropped, unit_number}

@@ -2,9 +2,9 @@
 use Rattle.std.specs.Prelude.{◌≡◌, ◌≢◌, ℕ, ◌≤◌, nat_lt, Bool, true, not, Option, Some, None, is_some}
 use Rattle.pw_event.specs.declared.event.Cause.{Cause}
 use Rattle.pw_event.specs.declared.event.Cause.TheVariants as cause
-use Rattle.pw_legal.specs.Terminals.{holds_end, holds_start, is_over}
-use Rattle.pw_legal.specs.Values.{is_paired}
-use Rattle.pw_legal.specs.Verbs.{asks_send}
+use Rattle.pw_laws.specs.legal.Terminals.{holds_end, holds_start, is_over}
+use Rattle.pw_laws.specs.legal.Values.{is_paired}
+use Rattle.pw_laws.specs.legal.Verbs.{asks_send}
 use Rattle.pw_onecopy.specs.Attempt.{BeginsUnit}
 use Rattle.pw_onecopy.specs.Behaviour.{Behaviour}
 use Rattle.pw_onecopy.specs.Path.{entries_on, is_outside, unit_number}

@@ -2,7 +2,7 @@
 use Rattle.std.specs.Prelude.{◌≡◌, ◌≢◌, ℕ, ◌==◌, ◌&&◌, ◌||◌, Bool, true, false, not, if◌then◌else◌}
 use Rattle.pw_code.specs.declared.verb.Verb.{Verb}
 use Rattle.pw_code.specs.declared.verb.Verb.TheVariants as verb
-use Rattle.pw_legal.specs.Verbs.{asks_redo}
+use Rattle.pw_laws.specs.legal.Verbs.{asks_redo}
 use Rattle.pw_tcp.specs.declared.step.TcpStep.{TcpStep}
 use Rattle.pw_tcp.specs.declared.step.TcpStep.TheVariants as step
 use Rattle.pw_tcp.specs.declared.terminal.Note.{Note}

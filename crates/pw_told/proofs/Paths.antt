@@ -30,11 +30,11 @@ use Rattle.pw_paired.specs.Step.{IsRun, Legal, after, effect}
 use Rattle.pw_paired.specs.Step as step
 use Rattle.pw_paired.specs.Terminal.{begun_path, closed_path, closing_answer, next_verb, path_of, path_with, unit_with_attempt}
 use Rattle.pw_paired.specs.Units.{attempt_of, only, restarts_of}
-use Rattle.pw_progress.proofs.BeginsOnce.{few-restarts}
-use Rattle.pw_runs.proofs.Tests.{all-last}
-use Rattle.pw_runs.proofs.induction.Failed.{end-any, fail-cases, process-cases}
-use Rattle.pw_runs.proofs.induction.Runs as runs
-use Rattle.pw_runs.proofs.induction.Served.{fault-verb, file-cases, reply-cases}
+use Rattle.pw_laws.proofs.BeginsOnce.{few-restarts}
+use Rattle.pw_laws.proofs.Tests.{all-last}
+use Rattle.pw_laws.proofs.induction.Failed.{end-any, fail-cases, process-cases}
+use Rattle.pw_laws.proofs.induction.Runs as runs
+use Rattle.pw_laws.proofs.induction.Served.{fault-verb, file-cases, reply-cases}
 use Rattle.pw_told.proofs.Faults as faults
 use Rattle.pw_told.proofs.Faults.{IsSmall, IsTold}
 

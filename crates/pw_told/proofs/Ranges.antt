@@ -35,9 +35,9 @@ use Rattle.pw_paired.specs.State.{OpenUnit, State}
 use Rattle.pw_paired.specs.Step.{IsRun, Legal, after}
 use Rattle.pw_paired.specs.Step as step
 use Rattle.pw_paired.specs.Terminal.{LegalShow, path_of}
-use Rattle.pw_runs.proofs.Tests.{all-last}
-use Rattle.pw_runs.proofs.induction.Runs as runs
-use Rattle.pw_runs.proofs.requests.Classes.{found_free}
+use Rattle.pw_laws.proofs.Tests.{all-last}
+use Rattle.pw_laws.proofs.induction.Runs as runs
+use Rattle.pw_laws.proofs.requests.Classes.{found_free}
 use Rattle.pw_told.proofs.Causes.{IsLineNumber, line-number, pending-names}
 use Rattle.pw_told.proofs.Paths.{AreFine, ask-small, paths-fine, reply-small, restarts-small}
 use Rattle.pw_told.proofs.Units.{number-few, unit-few}

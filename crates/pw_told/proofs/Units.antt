@@ -9,12 +9,12 @@ use Rattle.pw_paired.specs.State.{OpenUnit, LastEnded, State, starting}
 use Rattle.pw_paired.specs.Step.{IsRun, after, effect}
 use Rattle.pw_paired.specs.Terminal.{CanStep, path_of}
 use Rattle.pw_paired.specs.Units.{last_after_leaving}
-use Rattle.pw_runs.proofs.induction.Moving.{TermAt, carried_view, holds-of-terms}
-use Rattle.pw_runs.proofs.induction.Runs.{carried_from, kept}
-use Rattle.pw_runs.proofs.induction.Views as move
-use Rattle.pw_runs.proofs.induction.Views.{Able, Moves, View, Waits, path_in, view_of}
-use Rattle.pw_runs.proofs.kept.Kept.{Inv}
-use Rattle.pw_runs.proofs.terms.TermOk.{IsWorking, PathOf, PathOk}
+use Rattle.pw_laws.proofs.induction.Moving.{TermAt, carried_view, holds-of-terms}
+use Rattle.pw_laws.proofs.induction.Runs.{carried_from, kept}
+use Rattle.pw_laws.proofs.induction.Views as move
+use Rattle.pw_laws.proofs.induction.Views.{Able, Moves, View, Waits, path_in, view_of}
+use Rattle.pw_laws.proofs.kept.Kept.{Inv}
+use Rattle.pw_laws.proofs.terms.TermOk.{IsWorking, PathOf, PathOk}
 
 -- the number of a terminal's path is at most the next one behind the last ended unit
 path-number : (sys : Behaviour) (t last : ℕ) (unit : Option OpenUnit) (path : List PathAnswer)

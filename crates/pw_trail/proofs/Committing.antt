@@ -12,13 +12,13 @@ use Rattle.pw_code.specs.declared.file.FileInfo.{FileInfo}
 use Rattle.pw_code.specs.declared.unit.Unit as unit
 use Rattle.pw_files.proofs.Lookups.{record_at-found}
 use Rattle.pw_files.specs.Records.{IsContent, IsFile, record_at}
-use Rattle.pw_locking.proofs.records.Images.{ImageOk, dropped, is_at, kept, restored-at, restored-file, stands_at}
-use Rattle.pw_locking.proofs.records.Withdrawn.{any-image}
-use Rattle.pw_locking.proofs.seeing.SameFiles.{same_files}
+use Rattle.pw_laws.proofs.records.Images.{ImageOk, dropped, is_at, kept, restored-at, restored-file, stands_at}
+use Rattle.pw_laws.proofs.records.Withdrawn.{any-image}
+use Rattle.pw_laws.proofs.seeing.SameFiles.{same_files}
 use Rattle.pw_onecopy.specs.Update.{upd}
 use Rattle.pw_paired.specs.State.{BeforeImage}
 use Rattle.pw_paired.specs.Units.{committed_files, only, put_back, restored_files}
-use Rattle.pw_runs.proofs.Tests.{all-filter, and-first, and-second, any-filter}
+use Rattle.pw_laws.proofs.Tests.{all-filter, and-first, and-second, any-filter}
 use Rattle.pw_tmf.specs.Committed.{committed, images_of}
 use Rattle.pw_tmf.specs.Restored.{changed_in, changes_of}
 use Rattle.pw_tmf.specs.Starting.{key_of_file}

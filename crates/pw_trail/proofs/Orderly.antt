@@ -10,11 +10,11 @@ use Rattle.pw_code.specs.declared.file.FileOp.TheVariants.{Read, Next, Write, Re
 use Rattle.pw_code.specs.declared.unit.Unit as unit
 use Rattle.pw_event.specs.declared.event.Cause.TheVariants as cause
 use Rattle.pw_files.specs.Records.{IsContent, IsFile, record_at}
-use Rattle.pw_locking.proofs.records.Images.{ImageOk, restored-file}
-use Rattle.pw_locking.proofs.records.OperationKept.{operation-committed, operation-ok}
-use Rattle.pw_locking.proofs.records.RecordsOk.{RecordsOk}
-use Rattle.pw_locking.proofs.records.Withdrawn.{backed-out-committed, backed-out-ok, ended-ok}
-use Rattle.pw_locking.proofs.seeing.SameFiles.{same_files}
+use Rattle.pw_laws.proofs.records.Images.{ImageOk, restored-file}
+use Rattle.pw_laws.proofs.records.OperationKept.{operation-committed, operation-ok}
+use Rattle.pw_laws.proofs.records.RecordsOk.{RecordsOk}
+use Rattle.pw_laws.proofs.records.Withdrawn.{backed-out-committed, backed-out-ok, ended-ok}
+use Rattle.pw_laws.proofs.seeing.SameFiles.{same_files}
 use Rattle.pw_locks.specs.Conflicts.{holders}
 use Rattle.pw_onecopy.specs.Behaviour.{Behaviour}
 use Rattle.pw_onecopy.specs.IsBehaviour.{is_written}
@@ -33,7 +33,7 @@ use Rattle.pw_tmf.specs.Told.{Told, ToldUnit}
 use Rattle.pw_tmf.specs.Units.{CanBegin, IsRunning, MayBegin, all_backed_out, backed_out, begun, ended}
 use Rattle.pw_tmf.proofs.Telling.{tells-begin, tells-commit, tells-drop, tells-operate, tells-restart}
 use Rattle.pw_tmf.proofs.Together.{committed-told}
-use Rattle.pw_runs.proofs.Tests.{all-filter}
+use Rattle.pw_laws.proofs.Tests.{all-filter}
 use Rattle.pw_trail.specs.Orderly.{IsOrderly, IsPlaced, IsRecord, Stays}
 
 -- what holds of each holds in other words

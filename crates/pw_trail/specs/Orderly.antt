@@ -2,7 +2,7 @@
 use Rattle.std.specs.Prelude.{◌≡◌, ℕ, ◌<◌, List, length, take, true, Some}
 use Rattle.std.specs.List.{AllByRecursion}
 use Rattle.pw_files.specs.Records.{IsContent, IsFile}
-use Rattle.pw_locking.specs.Held.{has_key_lock}
+use Rattle.pw_laws.specs.locking.Held.{has_key_lock}
 use Rattle.pw_onecopy.specs.Behaviour.{Behaviour}
 use Rattle.pw_paired.specs.State.{BeforeImage, State}
 use Rattle.pw_paired.specs.Units.{has_image}

@@ -10,7 +10,7 @@ use Rattle.pw_exec.specs.OfSystem.{behaviour}
 use Rattle.pw_monitor_world.specs.Calls.{IsFirstNoStep}
 use Rattle.pw_onecopy.specs.Behaviour.{Behaviour}
 use Rattle.pw_paired.specs.Step.{IsRun, Legal, after}
-use Rattle.pw_runs.proofs.induction.Runs.{run-more}
+use Rattle.pw_laws.proofs.induction.Runs.{run-more}
 use Rattle.pw_status.specs.Text.{status_text}
 use Rattle.pw_watch.specs.Watching.{WatchState, state_in, sys_in}
 

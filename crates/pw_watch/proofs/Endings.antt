@@ -18,7 +18,7 @@ use Rattle.pw_onecopy.specs.Behaviour.{Behaviour}
 use Rattle.pw_onecopy.specs.IsBehaviour.{IsBehaviour}
 use Rattle.pw_paired.specs.State.{State, Term}
 use Rattle.pw_paired.specs.Step.{IsRun, Legal, after, effect}
-use Rattle.pw_runs.proofs.induction.Runs.{holds-behind}
+use Rattle.pw_laws.proofs.induction.Runs.{holds-behind}
 
 -- the words of an ending name what is there
 abbrev pub AreThere : System → Option Ending → Type 0

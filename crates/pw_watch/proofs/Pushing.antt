@@ -39,7 +39,7 @@ use Rattle.pw_paired.specs.Serial.{is_gone}
 use Rattle.pw_paired.specs.Shown.{refresh_of, refreshes}
 use Rattle.pw_paired.specs.State.{State, starting}
 use Rattle.pw_paired.specs.Step.{Legal, after, effect}
-use Rattle.pw_runs.proofs.induction.Runs.{after-more, kept}
+use Rattle.pw_laws.proofs.induction.Runs.{after-more, kept}
 use Rattle.pw_tmf.specs.Tmf.{TmfState, told_of}
 use Rattle.pw_watch.specs.Meeting.{ends_then, may_end, replied, waits_then}
 use Rattle.pw_watch.specs.Noting.{Forgets, IsKept, Notes, shown_in}

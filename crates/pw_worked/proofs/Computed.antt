@@ -2,10 +2,10 @@
 use Rattle.std.proofs.Common.{◌≡◌, true, false, List}
 use Rattle.std.proofs.lemmas.Bool.Decides.{not_from_Decides}
 use Rattle.pw_event.specs.declared.event.Event.{Event}
-use Rattle.pw_legal.proofs.decided.Blocks.{block, serial}
-use Rattle.pw_legal.proofs.decided.Legality.{legal, run-sound}
-use Rattle.pw_legal.specs.Blocks.{is_legal_block, is_serial}
-use Rattle.pw_legal.specs.Legality.{is_legal, is_run}
+use Rattle.pw_laws.proofs.decided.Blocks.{block, serial}
+use Rattle.pw_laws.proofs.decided.Legality.{legal, run-sound}
+use Rattle.pw_laws.specs.legal.Blocks.{is_legal_block, is_serial}
+use Rattle.pw_laws.specs.legal.Legality.{is_legal, is_run}
 use Rattle.pw_onecopy.specs.Blocks.{Block}
 use Rattle.pw_onecopy.specs.OneCopy.{one_copy}
 use Rattle.pw_onecopy.specs.Refreshes.{once, refreshes_of}

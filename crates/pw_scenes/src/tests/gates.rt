@@ -1,7 +1,7 @@
 //! A gate that holds a worker for another terminal.
 
 use pw_roster::actor::Actor;
-use pw_workers::gate::{Gate, Step};
+use pw_run::gate::{Gate, Step};
 use std::sync::atomic::{AtomicBool, AtomicU64, Ordering};
 use std::thread;
 

@@ -8,7 +8,7 @@ use super::{decks, reports};
 use pw_base::mem_sink::MemSink;
 use pw_run::run::{Ran, run_with};
 use pw_tmf::faulty::Calls;
-use pw_workers::gate::{Gate, NoGate};
+use pw_run::gate::{Gate, NoGate};
 use std::alloc::Global;
 use std::sync::Wait;
 use std::test::Fail;

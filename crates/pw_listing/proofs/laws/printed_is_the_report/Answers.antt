@@ -1,6 +1,6 @@
 use Rattle.pw_listing.proofs.Printed.{files-printed, text-printed}
 use Rattle.pw_listing.proofs.laws.printed_is_the_report.Goals as goal
-use Rattle.pw_serial.proofs.blocks.Serializable.{is-serializable}
+use Rattle.pw_laws.proofs.blocks.Serializable.{is-serializable}
 
 pub returns-clause-text : goal.returns-clause-text
 returns-clause-text c = λ system sys b log run. text-printed system sys log (is-serializable sys b log run)

@@ -1,7 +1,7 @@
 -- Of SEND the one that could be is not.
 use Rattle.std.proofs.Common.{ap, sym, ◌∙◌}
 use Rattle.pw_keep.specs.Keeps.{kept_in}
-use Rattle.pw_legal.specs.Verbs.{asks_send_to}
+use Rattle.pw_laws.specs.legal.Verbs.{asks_send_to}
 use Rattle.pw_steps.proofs.Once.{sent-none, sent-some}
 use Rattle.pw_steps.proofs.at_verb.own_send.Goals as goal
 

@@ -2,7 +2,7 @@
 use Rattle.std.proofs.Common.{ap, ◌∙◌, ◌&&◌, ◌==◌, not}
 use Rattle.pw_keep.specs.Keeps.{kept_in}
 use Rattle.pw_kept.specs.Asked.{unit_in}
-use Rattle.pw_legal.specs.Verbs.{asks_send}
+use Rattle.pw_laws.specs.legal.Verbs.{asks_send}
 use Rattle.pw_steps.proofs.AtVerb.{told-at}
 use Rattle.pw_steps.proofs.terminals.may_again.Goals as goal
 

@@ -3,7 +3,7 @@ use Rattle.std.proofs.Common.{ap, ◌∙◌, ◌&&◌, ◌==◌}
 use Rattle.pw_keep.specs.Keeps.{kept_in}
 use Rattle.pw_kept.specs.Asked.{verb_in}
 use Rattle.pw_kept.specs.TerminalTests.{entries_of}
-use Rattle.pw_legal.specs.Verbs.{asks_accept}
+use Rattle.pw_laws.specs.legal.Verbs.{asks_accept}
 use Rattle.pw_steps.proofs.AtVerb.{told-at}
 use Rattle.pw_steps.proofs.terminals.may_end_entries.Goals as goal
 

@@ -1,7 +1,7 @@
 -- The test of what was read.
 use Rattle.std.proofs.Common.{ap, ◌∙◌}
 use Rattle.pw_keep.specs.Keeps.{kept_in}
-use Rattle.pw_legal.specs.Verbs.{asks_fault}
+use Rattle.pw_laws.specs.legal.Verbs.{asks_fault}
 use Rattle.pw_steps.proofs.AtVerb.{told-at}
 use Rattle.pw_steps.proofs.terminals.may_fault.Goals as goal
 

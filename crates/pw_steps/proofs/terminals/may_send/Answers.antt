@@ -3,7 +3,7 @@ use Rattle.std.proofs.Common.{ap, ◌∙◌, ◌&&◌, not}
 use Rattle.pw_keep.specs.Keeps.{kept_in}
 use Rattle.pw_kept.specs.Changes.{runs_told}
 use Rattle.pw_kept.specs.TerminalTests.{is_out}
-use Rattle.pw_legal.specs.Verbs.{asks_send_to}
+use Rattle.pw_laws.specs.legal.Verbs.{asks_send_to}
 use Rattle.pw_steps.proofs.AtVerb.{told-at}
 use Rattle.pw_steps.proofs.terminals.may_send.Goals as goal
 

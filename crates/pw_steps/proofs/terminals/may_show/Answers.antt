@@ -2,8 +2,8 @@
 use Rattle.std.proofs.Common.{ap, ◌∙◌, ◌&&◌}
 use Rattle.pw_keep.specs.Keeps.{kept_in}
 use Rattle.pw_kept.specs.Asked.{number_in}
-use Rattle.pw_legal.specs.Values.{is_same_refresh}
-use Rattle.pw_legal.specs.Verbs.{asks_show}
+use Rattle.pw_laws.specs.legal.Values.{is_same_refresh}
+use Rattle.pw_laws.specs.legal.Verbs.{asks_show}
 use Rattle.pw_steps.proofs.AtVerb.{told-at}
 use Rattle.pw_steps.proofs.terminals.may_show.Goals as goal
 

@@ -3,7 +3,7 @@ use Rattle.std.proofs.Common.{ap, ◌∙◌, ◌&&◌, ◌==◌, is_none, not}
 use Rattle.pw_keep.specs.Keeps.{kept_in}
 use Rattle.pw_kept.specs.Asked.{unit_in}
 use Rattle.pw_kept.specs.TerminalTests.{begins_unit, start_held}
-use Rattle.pw_legal.specs.Terminals.{is_over}
+use Rattle.pw_laws.specs.legal.Terminals.{is_over}
 use Rattle.pw_steps.proofs.AtVerb.{told-at}
 use Rattle.pw_steps.proofs.units.may_begin.Goals as goal
 

@@ -2,7 +2,7 @@
 use Rattle.std.proofs.Common.{None, Some, ap, refl, ◌∙◌}
 use Rattle.std.proofs.lemmas.Bool.{eq-eqb}
 use Rattle.pw_keep.specs.Keeps.{kept_in}
-use Rattle.pw_legal.specs.Verbs.{replies}
+use Rattle.pw_laws.specs.legal.Verbs.{replies}
 use Rattle.pw_steps.proofs.Found.{found-of-process}
 use Rattle.pw_steps.proofs.Working.{no-step-other, process-of, reply-step}
 use Rattle.pw_steps.proofs.works.step_at.Goals as goal

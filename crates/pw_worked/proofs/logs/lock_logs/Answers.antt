@@ -1,7 +1,7 @@
 use Rattle.std.proofs.Common.{refl}
-use Rattle.pw_legal.specs.Blocks.{is_legal_block}
-use Rattle.pw_legal.specs.Causes.{meets}
-use Rattle.pw_legal.specs.Legality.{is_legal}
+use Rattle.pw_laws.specs.legal.Blocks.{is_legal_block}
+use Rattle.pw_laws.specs.legal.Causes.{meets}
+use Rattle.pw_laws.specs.legal.Legality.{is_legal}
 use Rattle.pw_onecopy.specs.Update.{upd}
 use Rattle.pw_worked.proofs.Computed.{works}
 use Rattle.pw_worked.proofs.logs.lock_logs.Goals as goal

@@ -1,5 +1,5 @@
 use Rattle.std.proofs.Common.{[], ◌∷◌, refl}
-use Rattle.pw_legal.specs.Blocks.{is_legal_block}
+use Rattle.pw_laws.specs.legal.Blocks.{is_legal_block}
 use Rattle.pw_onecopy.specs.Blocks.{Out, Attempted, Left, Restarted}
 use Rattle.pw_onecopy.specs.Update.{upd}
 use Rattle.pw_worked.proofs.Computed.{barred}

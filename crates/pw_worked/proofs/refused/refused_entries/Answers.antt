@@ -4,8 +4,8 @@ use Rattle.pw_event.specs.declared.event.Cause.TheVariants as cause
 use Rattle.pw_event.specs.declared.event.Ending.TheVariants.{NoEntries}
 use Rattle.pw_event.specs.declared.event.Event.TheVariants.{Again, Begin, Commit, End, FailTcp, File, Key, Raise, Restart, Show, Take, Takeover}
 use Rattle.pw_event.specs.declared.script.FailLine.TheVariants as line
-use Rattle.pw_legal.specs.Causes.{meets}
-use Rattle.pw_legal.specs.Legality.{is_legal}
+use Rattle.pw_laws.specs.legal.Causes.{meets}
+use Rattle.pw_laws.specs.legal.Legality.{is_legal}
 use Rattle.pw_onecopy.specs.Update.{upd}
 use Rattle.pw_worked.proofs.Computed.{refused}
 use Rattle.pw_worked.proofs.refused.refused_entries.Goals as goal

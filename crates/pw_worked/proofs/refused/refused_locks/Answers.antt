@@ -4,8 +4,8 @@ use Rattle.pw_code.specs.declared.lock.LockRule.TheVariants.{AllExclusive}
 use Rattle.pw_event.specs.declared.event.Cause.TheVariants as cause
 use Rattle.pw_event.specs.declared.event.Ending.TheVariants.{Suspended}
 use Rattle.pw_event.specs.declared.event.Event.TheVariants.{Begin, End, File, Restart, Take}
-use Rattle.pw_legal.specs.Causes.{meets}
-use Rattle.pw_legal.specs.Legality.{is_legal}
+use Rattle.pw_laws.specs.legal.Causes.{meets}
+use Rattle.pw_laws.specs.legal.Legality.{is_legal}
 use Rattle.pw_onecopy.specs.Update.{upd}
 use Rattle.pw_worked.proofs.Computed.{refused}
 use Rattle.pw_worked.proofs.refused.refused_locks.Goals as goal

@@ -2,9 +2,9 @@ use Rattle.std.proofs.Common.{◌≡◌, ◌∙◌, false, refl, sym}
 use Rattle.std.proofs.lemmas.Bool.{false≢true}
 use Rattle.pw_event.specs.declared.event.Cause.TheVariants as cause
 use Rattle.pw_event.specs.declared.event.Event.TheVariants.{Restart}
-use Rattle.pw_legal.proofs.decided.Legality.{legality}
-use Rattle.pw_legal.specs.Causes.{meets}
-use Rattle.pw_legal.specs.Legality.{is_legal}
+use Rattle.pw_laws.proofs.decided.Legality.{legality}
+use Rattle.pw_laws.specs.legal.Causes.{meets}
+use Rattle.pw_laws.specs.legal.Legality.{is_legal}
 use Rattle.pw_onecopy.specs.Update.{upd}
 use Rattle.pw_worked.proofs.refused.states_of_no_run.Goals as goal
 use Rattle.pw_worked.specs.Deck.{deck}

@@ -1,5 +1,0 @@
-use Rattle.pw_attempts.proofs.alone.AloneRuns.{commits-alone, send-commits-alone}
-use Rattle.pw_attempts.proofs.laws.commit_laws.Goals as goal
-
-pub returns : goal.returns
-returns c = record { commit = commits-alone; send = send-commits-alone }

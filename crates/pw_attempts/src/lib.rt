@@ -1,4 +1,0 @@
-//! The laws of attempts: a running attempt is alone, and a unit commits what it would leave alone.
-#![tactic(auto)]
-
-pub mod laws;

@@ -1,2 +1,0 @@
-mod Comings
-mod Runs

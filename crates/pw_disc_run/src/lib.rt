@@ -1,6 +1,0 @@
-//! What the bytes of a deck come to over a disc pair whose members fail as the deck's disc script says.
-#![tactic(auto)]
-
-pub mod ending;
-pub mod pairs;
-pub mod run;

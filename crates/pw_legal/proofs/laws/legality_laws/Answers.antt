@@ -1,8 +1,0 @@
-use Rattle.pw_legal.proofs.decided.Legality.{legality}
-use Rattle.pw_legal.proofs.laws.legality_laws.Goals as goal
-
-pub returns : goal.returns
-returns c = record {
-  sound = λ sys state entry. (legality sys state entry).0;
-  complete = λ sys state entry. (legality sys state entry).1;
-}

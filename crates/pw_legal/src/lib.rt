@@ -1,5 +1,0 @@
-//! Legality as a test that computes: of the entries of the paired system, and of the blocks of the
-//! one-copy machine.
-#![tactic(auto)]
-
-pub mod laws;

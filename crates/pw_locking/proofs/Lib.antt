@@ -1,4 +1,0 @@
-pub mod Holding
-pub mod Releasing
-pub mod records
-pub mod seeing

@@ -1,5 +1,0 @@
-use Rattle.pw_locking.proofs.laws.record_laws.Goals as goal
-use Rattle.pw_locking.proofs.records.Committed.{are-files, commits-alone, records-ok}
-
-pub returns : goal.returns
-returns c = record { file = are-files; stay = commits-alone; covered = λ sys b log run. (records-ok sys b log run).locked }

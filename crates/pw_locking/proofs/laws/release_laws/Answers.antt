@@ -1,5 +1,0 @@
-use Rattle.pw_locking.proofs.Releasing.{release-none, release-stays, release-unit}
-use Rattle.pw_locking.proofs.laws.release_laws.Goals as goal
-
-pub returns : goal.returns
-returns c = record { unit = release-unit; none = release-none; stay = release-stays }

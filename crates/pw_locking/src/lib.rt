@@ -1,6 +1,0 @@
-//! The laws of locks and records: what an operation sees, what locks keep apart, and what is
-//! committed.
-#![tactic(auto)]
-
-pub mod laws;
-pub mod operations;

@@ -1,6 +1,0 @@
-pub mod BeginsOnce
-pub mod OpenThen
-pub mod Pending
-pub mod Lacking
-pub mod PairSteps
-pub mod Losing

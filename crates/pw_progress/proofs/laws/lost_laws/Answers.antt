@@ -1,5 +1,0 @@
-use Rattle.pw_progress.proofs.Losing.{lost-by-failure, made-gone}
-use Rattle.pw_progress.proofs.laws.lost_laws.Goals as goal
-
-pub returns : goal.returns
-returns c = record { gone = made-gone; lost = lost-by-failure }

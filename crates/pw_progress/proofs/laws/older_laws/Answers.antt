@@ -1,6 +1,0 @@
-use Rattle.pw_progress.proofs.BeginsOnce.{older-once}
-use Rattle.pw_progress.proofs.OpenThen.{open-then}
-use Rattle.pw_progress.proofs.laws.older_laws.Goals as goal
-
-pub returns : goal.returns
-returns c = record { differ = older-once; open_before = open-then }

@@ -1,6 +1,0 @@
-mod Calling
-mod Counting
-mod Finding
-mod Lifting
-mod Outcomes
-mod Starts

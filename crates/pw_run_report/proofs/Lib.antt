@@ -1,3 +1,0 @@
-pub mod Committing
-mod Printing
-mod Reading

@@ -1,9 +1,0 @@
-pub mod Births
-pub mod Paths
-pub mod Runs
-pub mod Tests
-pub mod ends
-pub mod induction
-pub mod kept
-pub mod requests
-pub mod terms

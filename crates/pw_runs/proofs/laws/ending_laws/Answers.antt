@@ -1,5 +1,0 @@
-use Rattle.pw_runs.proofs.ends.EndsOnce.{ends-once, never-falls}
-use Rattle.pw_runs.proofs.laws.ending_laws.Goals as goal
-
-pub returns : goal.returns
-returns c = record { rises = never-falls; once = ends-once }

@@ -1,5 +1,0 @@
-use Rattle.pw_serial.proofs.blocks.Images.{equal-numbers-equal-images}
-use Rattle.pw_serial.proofs.laws.equal_numbers_equal_images.Goals as goal
-
-pub returns : goal.returns
-returns c = equal-numbers-equal-images

@@ -1,5 +1,0 @@
-use Rattle.pw_serial.proofs.laws.older_restarts_are_few.Goals as goal
-use Rattle.pw_serial.proofs.restarts.Few.{older-few}
-
-pub returns : goal.returns
-returns c = older-few

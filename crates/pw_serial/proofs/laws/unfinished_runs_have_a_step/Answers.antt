@@ -1,5 +1,0 @@
-use Rattle.pw_serial.proofs.laws.unfinished_runs_have_a_step.Goals as goal
-use Rattle.pw_serial.proofs.steps.Unstuck.{some-actor-steps}
-
-pub returns : goal.returns
-returns c = some-actor-steps

@@ -1,4 +1,0 @@
-pub mod Ends
-pub mod Lanes
-pub mod Locked
-pub mod Turns
