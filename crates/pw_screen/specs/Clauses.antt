@@ -1,13 +1,14 @@
 -- What stands behind the name of a screen and of a field.
-use Rattle.std.specs.Prelude.{ℕ, zero, suc, length, Bool, false, ◌&&◌, ◌||◌, ◌==◌, is_some, codes, Option, Some, None, option_and_then, option_map, if◌then◌else◌}
+use Rattle.std.specs.Prelude.{ℕ, zero, suc, length, Bool, true, false, ◌&&◌, ◌||◌, ◌==◌, is_some, codes, Option, Some, None, option_and_then, option_map, if◌then◌else◌}
 use Rattle.pw_text.specs.declared.token.TokenKind.TheVariants as kind
 use Rattle.pw_text.specs.declared.token.Token.{Token}
-use Rattle.pw_text.specs.Cursor.{Left, Reader, ◌>>=◌, pure, spelling, sees_word, behind, after, eat_word, expect, expect_word}
+use Rattle.pw_text.specs.Cursor.{Left, Reader, ◌>>=◌, pure, spelling, sees, sees_word, behind, after, eat_word, expect, expect_word}
 use Rattle.pw_data.specs.Literals.{whole_number}
 use Rattle.pw_data.specs.Clauses.{is_end}
 use Rattle.pw_screen.specs.declared.clauses.Clause.{Clause}
 use Rattle.pw_screen.specs.declared.clauses.Clause.TheVariants as clause
 use Rattle.pw_screen.specs.declared.clauses.Clauses.{Clauses}
+use Rattle.pw_screen.specs.declared.clauses.ItemName.{ItemName}
 use Rattle.pw_screen.specs.declared.body.At.{At}
 use Rattle.pw_screen.specs.declared.body.Body.{Body}
 
@@ -43,7 +44,7 @@ is_screen_end left =
 
 -- no clause
 abbrev pub no_clauses : Clauses
-no_clauses = record { picture = None; value = None; from = None; to = None; using = None }
+no_clauses = record { picture = None; value = None; from = None; to = None; using = None; subscripted = false }
 
 -- the clause and those before it, where none of them is of its kind
 abbrev pub added : Clauses → Clause → Option Clauses
@@ -51,12 +52,15 @@ added found (clause.Picture token) =
     if is_some found.picture then None else Some (record found { picture = Some token })
 added found (clause.Value token) =
     if is_some found.value then None else Some (record found { value = Some token })
-added found (clause.From token) =
-    if is_some found.from then None else Some (record found { from = Some token })
-added found (clause.To token) =
-    if is_some found.to then None else Some (record found { to = Some token })
-added found (clause.Using token) =
-    if is_some found.using then None else Some (record found { using = Some token })
+added found (clause.From item) =
+    if is_some found.from then None
+    else Some (record found { from = Some item.name; subscripted = found.subscripted || item.subscripted })
+added found (clause.To item) =
+    if is_some found.to then None
+    else Some (record found { to = Some item.name; subscripted = found.subscripted || item.subscripted })
+added found (clause.Using item) =
+    if is_some found.using then None
+    else Some (record found { using = Some item.name; subscripted = found.subscripted || item.subscripted })
 
 -- behind PIC, a picture; IS may stand before it
 abbrev pub picture_clause : Reader Clause
@@ -72,11 +76,33 @@ value_clause = do
   token ← expect kind.Text
   pure (clause.Value token)
 
--- behind FROM, TO or USING, a word
-abbrev pub item_clause : (Token → Clause) → Reader Clause
+-- a number or a word
+abbrev pub index : Reader Token
+index left = if sees kind.Number left then expect kind.Number left else expect kind.Word left
+
+-- behind a left parenthesis, an index and a right one
+abbrev pub subscript_end : Reader Bool
+subscript_end = do
+  value ← index
+  close ← expect kind.RightParen
+  pure true
+
+-- a subscript, where a parenthesis opens; whether there is one
+abbrev pub subscript : Reader Bool
+subscript left = if sees kind.LeftParen left then subscript_end (behind 1 left) else Some (false, left)
+
+-- the name of an item, with a subscript or without one
+abbrev pub item_name : Reader ItemName
+item_name = do
+  name ← expect kind.Word
+  subscripted ← subscript
+  pure (record { name = name; subscripted = subscripted })
+
+-- behind FROM, TO or USING, an item
+abbrev pub item_clause : (ItemName → Clause) → Reader Clause
 item_clause clause_of = do
-  token ← expect kind.Word
-  pure (clause_of token)
+  item ← item_name
+  pure (clause_of item)
 
 -- the clause in front
 abbrev pub one_clause : Reader Clause

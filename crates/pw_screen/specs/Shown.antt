@@ -40,6 +40,10 @@ only_one None (Some item) None = Some (item_for item false true)
 only_one None None (Some item) = Some (item_for item true true)
 only_one _ _ _ = None
 
+-- the item of the only clause for one, where it has no subscript
+abbrev pub only_item : Clauses → Option ItemClause
+only_item c = if c.subscripted then None else only_one c.from c.to c.using
+
 -- the characters of a VALUE
 abbrev pub literal_of : List ℕ → Token → List ℕ
 literal_of text value = unquoted false (spelling text value)
@@ -84,7 +88,7 @@ shown_by text laid _ _ named one = None
 -- what a field shows, where its clauses go together
 abbrev pub shown_of : List ℕ → Laid → Clauses → Option Shown
 shown_of text laid c =
-    shown_by text laid c.picture c.value (names_item c) (only_one c.from c.to c.using)
+    shown_by text laid c.picture c.value (names_item c) (only_item c)
 
 -- the size of the picture, where there is one
 abbrev pub size_by : Option Picture → ℕ

@@ -2,7 +2,7 @@ ghost use Rattle.std.specs.Prelude.{◌≡◌, ◌<◌, ◌≤◌, ◌||◌, IsS
 ghost use Rattle.pw_text.specs.Cursor.{Reads, sees_word, after};
 ghost use Rattle.pw_data.specs.Clauses.{is_end};
 ghost use Rattle.pw_screen.specs.declared.clauses.Clause.TheVariants as clause;
-ghost use Rattle.pw_screen.specs.Clauses.{no_clauses, added, picture_clause, value_clause, item_clause, one_clause, clauses_in};
+ghost use Rattle.pw_screen.specs.Clauses.{no_clauses, added, picture_clause, value_clause, index, subscript, item_name, item_clause, one_clause, clauses_in};
 
 use pw_text::cursor::Cursor;
 use pw_text::token::{Token, TokenKind};
@@ -16,6 +16,15 @@ pub struct Clauses {
     pub from: Option<Token>,
     pub to: Option<Token>,
     pub using: Option<Token>,
+    /// Whether one of the items has a subscript.
+    pub subscripted: bool,
+}
+
+/// The item of a clause: its name, and whether a subscript stands behind it.
+#[derive(Clone, Copy)]
+pub struct ItemName {
+    pub name: Token,
+    pub subscripted: bool,
 }
 
 /// One clause.
@@ -23,9 +32,9 @@ pub struct Clauses {
 pub enum Clause {
     Picture(Token),
     Value(Token),
-    From(Token),
-    To(Token),
-    Using(Token),
+    From(ItemName),
+    To(ItemName),
+    Using(ItemName),
 }
 
 impl Clauses {
@@ -39,6 +48,7 @@ impl Clauses {
             from: None,
             to: None,
             using: None,
+            subscripted: false,
         }
     }
 
@@ -61,24 +71,27 @@ impl Clauses {
                     ..self
                 }),
             },
-            Clause::From(token) => match self.from {
+            Clause::From(item) => match self.from {
                 Some(_) => None,
                 None => Some(Clauses {
-                    from: Some(token),
+                    from: Some(item.name),
+                    subscripted: self.subscripted || item.subscripted,
                     ..self
                 }),
             },
-            Clause::To(token) => match self.to {
+            Clause::To(item) => match self.to {
                 Some(_) => None,
                 None => Some(Clauses {
-                    to: Some(token),
+                    to: Some(item.name),
+                    subscripted: self.subscripted || item.subscripted,
                     ..self
                 }),
             },
-            Clause::Using(token) => match self.using {
+            Clause::Using(item) => match self.using {
                 Some(_) => None,
                 None => Some(Clauses {
-                    using: Some(token),
+                    using: Some(item.name),
+                    subscripted: self.subscripted || item.subscripted,
                     ..self
                 }),
             },
@@ -104,28 +117,63 @@ fn value_clause(cursor: &mut Cursor<'_>) -> Option<Clause>
     Some(Clause::Value(cursor.expect(TokenKind::Text)?))
 }
 
-/// Reads what is behind FROM: a word.
+/// Reads what stands in the parentheses of a subscript: a number or a word.
+fn index(cursor: &mut Cursor<'_>) -> Option<Token>
+    ensures value { Reads (index cursor.old) result cursor.new }
+    ensures shorter { length cursor.new.tokens ≤ length cursor.old.tokens }
+{
+    if cursor.sees(TokenKind::Number) {
+        cursor.expect(TokenKind::Number)
+    } else {
+        cursor.expect(TokenKind::Word)
+    }
+}
+
+/// Reads a subscript, where a parenthesis opens, and gives whether there is one.
+fn subscript(cursor: &mut Cursor<'_>) -> Option<bool>
+    ensures value { Reads (subscript cursor.old) result cursor.new }
+    ensures shorter { length cursor.new.tokens ≤ length cursor.old.tokens }
+{
+    if !cursor.eat(TokenKind::LeftParen) {
+        return Some(false);
+    }
+    let _index = index(cursor)?;
+    let _close = cursor.expect(TokenKind::RightParen)?;
+    Some(true)
+}
+
+/// Reads the name of an item, with a subscript or without one.
+fn item_name(cursor: &mut Cursor<'_>) -> Option<ItemName>
+    ensures value { Reads (item_name cursor.old) result cursor.new }
+    ensures shorter { length cursor.new.tokens ≤ length cursor.old.tokens }
+{
+    let name = cursor.expect(TokenKind::Word)?;
+    let subscripted = subscript(cursor)?;
+    Some(ItemName { name, subscripted })
+}
+
+/// Reads what is behind FROM: an item.
 fn from_clause(cursor: &mut Cursor<'_>) -> Option<Clause>
     ensures value { Reads (item_clause clause.From cursor.old) result cursor.new }
     ensures shorter { length cursor.new.tokens ≤ length cursor.old.tokens }
 {
-    Some(Clause::From(cursor.expect(TokenKind::Word)?))
+    Some(Clause::From(item_name(cursor)?))
 }
 
-/// Reads what is behind TO: a word.
+/// Reads what is behind TO: an item.
 fn to_clause(cursor: &mut Cursor<'_>) -> Option<Clause>
     ensures value { Reads (item_clause clause.To cursor.old) result cursor.new }
     ensures shorter { length cursor.new.tokens ≤ length cursor.old.tokens }
 {
-    Some(Clause::To(cursor.expect(TokenKind::Word)?))
+    Some(Clause::To(item_name(cursor)?))
 }
 
-/// Reads what is behind USING: a word.
+/// Reads what is behind USING: an item.
 fn using_clause(cursor: &mut Cursor<'_>) -> Option<Clause>
     ensures value { Reads (item_clause clause.Using cursor.old) result cursor.new }
     ensures shorter { length cursor.new.tokens ≤ length cursor.old.tokens }
 {
-    Some(Clause::Using(cursor.expect(TokenKind::Word)?))
+    Some(Clause::Using(item_name(cursor)?))
 }
 
 /// Takes the word PIC or PICTURE, if it comes next. It gives whether it does.

@@ -3,7 +3,7 @@ ghost use Rattle.pw_picture.specs.Grammar.{IsPicture, size_of};
 ghost use Rattle.pw_data.specs.Entries.{picture_at};
 ghost use Rattle.pw_data.specs.Layouts.{PlaceEndsBy, PlaceFitsPicture};
 ghost use Rattle.pw_code.specs.Fields.{is_source_of};
-ghost use Rattle.pw_screen.specs.Shown.{is_unknown, names_unknown, names_item, only_one, literal_of, item_at, item_shown, literal_shown, shown_of, size_by, length_by, extent_of, is_inside, is_outside, IsShown};
+ghost use Rattle.pw_screen.specs.Shown.{is_unknown, names_unknown, names_item, only_one, only_item, literal_of, item_at, item_shown, literal_shown, shown_of, size_by, length_by, extent_of, is_inside, is_outside, IsShown};
 
 use crate::body::At;
 use crate::clauses::Clauses;
@@ -113,6 +113,18 @@ impl Clauses {
             _ => None,
         }
     }
+
+    /// That item, where it has no subscript.
+    fn only_item(self) -> Option<ItemClause>
+        ensures one { result ≡ only_item self }
+        ensures serves { IfSome result (λ one. IsTrue (one.show || one.takes)) }
+    {
+        if self.subscripted {
+            None
+        } else {
+            self.only_one()
+        }
+    }
 }
 
 /// Whether a field of a picture may be of an item of another one: a Text field of a Text item, a Number
@@ -206,7 +218,7 @@ pub fn shown_of(
 {
     match (clauses.picture, clauses.value) {
         (None, Some(_)) => literal_shown(clauses.names_item(), literal),
-        (Some(_), None) => item_shown(layout, text, clauses.only_one(), picture),
+        (Some(_), None) => item_shown(layout, text, clauses.only_item(), picture),
         _ => None,
     }
 }

@@ -21,7 +21,7 @@ use Rattle.pw_divisions.specs.Entries.{entries_of}
 use Rattle.pw_divisions.specs.Names.{name_of, own_name_of}
 use Rattle.pw_screen.specs.Entries.{Before, at_first, after, begins_screen, has_bad_picture, is_twice, refused_if, screen_by, screen_of, field_name, field_with, field_on, field_by, form_of, may_stand, field_in, field_of, entry_of}
 use Rattle.pw_screen.specs.Screens.{placed_from, faults_of, with_entry, behind, Behind, screens_of}
-use Rattle.pw_screen.specs.Shown.{names_item, names_unknown, is_outside, extent_of, item_with, item_at, item_by, item_shown, literal_shown, literal_of, only_one, shown_by, shown_of}
+use Rattle.pw_screen.specs.Shown.{names_item, names_unknown, is_outside, extent_of, item_with, item_at, item_by, item_shown, literal_shown, literal_of, only_item, shown_by, shown_of}
 use Rattle.pw_screen.specs.declared.body.At.{At}
 use Rattle.pw_screen.specs.declared.body.Body.{Body}
 use Rattle.pw_screen.specs.declared.entry.Entry.{Entry}
@@ -91,7 +91,7 @@ module _ (laid : Laid) where
       refused-in (names_unknown part.text laid body.clauses) _ _
       (refused-in (is_outside body.at (extent_of part.text body.clauses)) _ _
       (field-by-in used (may_stand begun part) (field_name part.text (own_name_of part)) body.at (extent_of part.text body.clauses) (shown_of part.text laid body.clauses)
-      (shown-by-in part.text body.clauses.picture body.clauses.value (names_item body.clauses) (only_one body.clauses.from body.clauses.to body.clauses.using))))
+      (shown-by-in part.text body.clauses.picture body.clauses.value (names_item body.clauses) (only_item body.clauses))))
 
   screen-by-in : (text : List ℕ) (o : Option Token) (b : Bool) → EntryIn (screen_by text o b)
   screen-by-in text None b = tt
