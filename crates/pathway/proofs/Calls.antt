@@ -1,5 +1,5 @@
 -- What inputs, texts and calls come to.
-use Rattle.std.proofs.Common.{◌≡◌, inl, inr, ℕ, List, [], Option, None, Some, ◌∙◌, append-nil}
+use Rattle.std.proofs.Common.{◌≡◌, refl, inl, inr, ℕ, Bool, true, false, List, [], Option, None, Some, ◌∙◌, append-nil}
 use Rattle.std.specs.Io.KnownBytes.{Appends, Keeps}
 use Rattle.pw_call.specs.Outputs.{EndsWriting}
 use Rattle.pw_call.specs.declared.status.Status.{Status}
@@ -9,9 +9,9 @@ use Rattle.pw_command.specs.declared.words.Command.TheVariants as command
 use Rattle.pw_command.specs.declared.words.Words.{Words}
 use Rattle.pw_expand.specs.declared.expand.Ending.{Ending}
 use Rattle.pw_expand.specs.declared.expand.Ending.TheVariants as ending
-use Rattle.pathway.specs.Commands.{said, usage_line}
+use Rattle.pathway.specs.Commands.{said, reads_source, usage_line}
 use Rattle.pathway.specs.Schedules.{status_by}
-use Rattle.pathway.specs.Statuses.{Call, Counts, EndsWith, HasText, IsCutOff, Means, OutputBy}
+use Rattle.pathway.specs.Statuses.{AsksSource, Call, Counts, EndsWith, HasText, IsCutOff, Means, OutputBy}
 
 -- ---- texts
 
@@ -20,68 +20,68 @@ no-usage-by : (how : Ending) → status.Usage ≡ status_by how → ⊥
 no-usage-by ending.Expanded same = absurd (cc same)
 no-usage-by ending.Refused same = absurd (cc same)
 
-no-usage : (words : Words) (which : Command) (left left_then : Option (List ℕ)) (text : List ℕ)
-    → OutputBy which words left left_then status.Usage text → ⊥
-no-usage words command.Run left left_then text o = o.defined
-no-usage words command.Trial left left_then text o = o.tried
-no-usage words command.Check left left_then text o = o.defined
-no-usage words command.Verify left left_then text o = o.defined
-no-usage words command.Gen left left_then text o = absurd (cc o.finished)
-no-usage words command.Disc left left_then text o = o.defined
-no-usage words command.Trail left left_then text o = o.defined
-no-usage words command.Status left left_then text o = o.defined
-no-usage words command.Expand left left_then text o = no-usage-by o.ending o.is
+no-usage : (words : Words) (which : Command) (left : Option (List ℕ)) (text : List ℕ)
+    → OutputBy which words left status.Usage text → ⊥
+no-usage words command.Run left text o = o.defined
+no-usage words command.Trial left text o = o
+no-usage words command.Check left text o = o.defined
+no-usage words command.Verify left text o = o.defined
+no-usage words command.Gen left text o = absurd (cc o.finished)
+no-usage words command.Disc left text o = o.defined
+no-usage words command.Trail left text o = o.defined
+no-usage words command.Status left text o = o.defined
+no-usage words command.Expand left text o = no-usage-by o.ending o.is
 
 -- a schedule that is answered has another status than ReadFault, and so has each output
 no-read_fault-by : (how : Ending) → status.ReadFault ≡ status_by how → ⊥
 no-read_fault-by ending.Expanded same = absurd (cc same)
 no-read_fault-by ending.Refused same = absurd (cc same)
 
-no-read_fault : (words : Words) (which : Command) (left left_then : Option (List ℕ)) (text : List ℕ)
-    → OutputBy which words left left_then status.ReadFault text → ⊥
-no-read_fault words command.Run left left_then text o = o.defined
-no-read_fault words command.Trial left left_then text o = o.tried
-no-read_fault words command.Check left left_then text o = o.defined
-no-read_fault words command.Verify left left_then text o = o.defined
-no-read_fault words command.Gen left left_then text o = absurd (cc o.finished)
-no-read_fault words command.Disc left left_then text o = o.defined
-no-read_fault words command.Trail left left_then text o = o.defined
-no-read_fault words command.Status left left_then text o = o.defined
-no-read_fault words command.Expand left left_then text o = no-read_fault-by o.ending o.is
+no-read_fault : (words : Words) (which : Command) (left : Option (List ℕ)) (text : List ℕ)
+    → OutputBy which words left status.ReadFault text → ⊥
+no-read_fault words command.Run left text o = o.defined
+no-read_fault words command.Trial left text o = o
+no-read_fault words command.Check left text o = o.defined
+no-read_fault words command.Verify left text o = o.defined
+no-read_fault words command.Gen left text o = absurd (cc o.finished)
+no-read_fault words command.Disc left text o = o.defined
+no-read_fault words command.Trail left text o = o.defined
+no-read_fault words command.Status left text o = o.defined
+no-read_fault words command.Expand left text o = no-read_fault-by o.ending o.is
 
 -- a schedule that is answered has another status than WriteFault, and so has each output
 no-write_fault-by : (how : Ending) → status.WriteFault ≡ status_by how → ⊥
 no-write_fault-by ending.Expanded same = absurd (cc same)
 no-write_fault-by ending.Refused same = absurd (cc same)
 
-no-write_fault : (words : Words) (which : Command) (left left_then : Option (List ℕ)) (text : List ℕ)
-    → OutputBy which words left left_then status.WriteFault text → ⊥
-no-write_fault words command.Run left left_then text o = o.defined
-no-write_fault words command.Trial left left_then text o = o.tried
-no-write_fault words command.Check left left_then text o = o.defined
-no-write_fault words command.Verify left left_then text o = o.defined
-no-write_fault words command.Gen left left_then text o = absurd (cc o.finished)
-no-write_fault words command.Disc left left_then text o = o.defined
-no-write_fault words command.Trail left left_then text o = o.defined
-no-write_fault words command.Status left left_then text o = o.defined
-no-write_fault words command.Expand left left_then text o = no-write_fault-by o.ending o.is
+no-write_fault : (words : Words) (which : Command) (left : Option (List ℕ)) (text : List ℕ)
+    → OutputBy which words left status.WriteFault text → ⊥
+no-write_fault words command.Run left text o = o.defined
+no-write_fault words command.Trial left text o = o
+no-write_fault words command.Check left text o = o.defined
+no-write_fault words command.Verify left text o = o.defined
+no-write_fault words command.Gen left text o = absurd (cc o.finished)
+no-write_fault words command.Disc left text o = o.defined
+no-write_fault words command.Trail left text o = o.defined
+no-write_fault words command.Status left text o = o.defined
+no-write_fault words command.Expand left text o = no-write_fault-by o.ending o.is
 
 -- a schedule that is answered has another status than Memory, and so has each output
 no-memory-by : (how : Ending) → status.Memory ≡ status_by how → ⊥
 no-memory-by ending.Expanded same = absurd (cc same)
 no-memory-by ending.Refused same = absurd (cc same)
 
-no-memory : (words : Words) (which : Command) (left left_then : Option (List ℕ)) (text : List ℕ)
-    → OutputBy which words left left_then status.Memory text → ⊥
-no-memory words command.Run left left_then text o = o.defined
-no-memory words command.Trial left left_then text o = o.tried
-no-memory words command.Check left left_then text o = o.defined
-no-memory words command.Verify left left_then text o = o.defined
-no-memory words command.Gen left left_then text o = absurd (cc o.finished)
-no-memory words command.Disc left left_then text o = o.defined
-no-memory words command.Trail left left_then text o = o.defined
-no-memory words command.Status left left_then text o = o.defined
-no-memory words command.Expand left left_then text o = no-memory-by o.ending o.is
+no-memory : (words : Words) (which : Command) (left : Option (List ℕ)) (text : List ℕ)
+    → OutputBy which words left status.Memory text → ⊥
+no-memory words command.Run left text o = o.defined
+no-memory words command.Trial left text o = o
+no-memory words command.Check left text o = o.defined
+no-memory words command.Verify left text o = o.defined
+no-memory words command.Gen left text o = absurd (cc o.finished)
+no-memory words command.Disc left text o = o.defined
+no-memory words command.Trail left text o = o.defined
+no-memory words command.Status left text o = o.defined
+no-memory words command.Expand left text o = no-memory-by o.ending o.is
 
 -- a schedule that is answered is no fault of the disc
 no-disc_fault-by : (how : Ending) → status.DiscFault ≡ status_by how → ⊥
@@ -89,17 +89,17 @@ no-disc_fault-by ending.Expanded same = absurd (cc same)
 no-disc_fault-by ending.Refused same = absurd (cc same)
 
 -- nothing is written of a run whose pair is lost
-lost-text : (words : Words) (which : Command) (left left_then : Option (List ℕ)) (text : List ℕ)
-    → OutputBy which words left left_then status.DiscFault text → text ≡ []
-lost-text words command.Run left left_then text o = absurd o.defined
-lost-text words command.Trial left left_then text o = absurd o.tried
-lost-text words command.Check left left_then text o = absurd o.defined
-lost-text words command.Verify left left_then text o = absurd o.defined
-lost-text words command.Gen left left_then text o = absurd (cc o.finished)
-lost-text words command.Disc left left_then text o = o.defined.1.ends.1
-lost-text words command.Trail left left_then text o = absurd o.defined
-lost-text words command.Status left left_then text o = absurd o.defined
-lost-text words command.Expand left left_then text o = absurd (no-disc_fault-by o.ending o.is)
+lost-text : (words : Words) (which : Command) (left : Option (List ℕ)) (text : List ℕ)
+    → OutputBy which words left status.DiscFault text → text ≡ []
+lost-text words command.Run left text o = absurd o.defined
+lost-text words command.Trial left text o = absurd o
+lost-text words command.Check left text o = absurd o.defined
+lost-text words command.Verify left text o = absurd o.defined
+lost-text words command.Gen left text o = absurd (cc o.finished)
+lost-text words command.Disc left text o = o.defined.1.ends.1
+lost-text words command.Trail left text o = absurd o.defined
+lost-text words command.Status left text o = absurd o.defined
+lost-text words command.Expand left text o = absurd (no-disc_fault-by o.ending o.is)
 
 -- where nothing is appended, what is there is kept
 appends-nothing : (before now : Option (List ℕ)) → Appends before now [] → Keeps before now
@@ -109,9 +109,18 @@ appends-nothing (Some had) (Some has) appends = appends ∙ append-nil had
 
 -- ---- calls
 
+-- words that do not ask for the source are of a command that does not read it
+pub no-source : (does : Command → Bool) (words : List (List ℕ)) (read : Words) → said does words ≡ Some read
+    → ¬ AsksSource does words → reads_source read.command ≡ false
+no-source does words read say none = by (reads_source read.command) refl
+  where
+    by : (reads : Bool) → reads_source read.command ≡ reads → reads ≡ false
+    by true is = absurd (none (read, say, is))
+    by false is = refl
+
 -- the text of a status that the words and the source define
 has-output : (call : Call) (given : Status) (text : List ℕ) (words : Words) → said call.does call.words ≡ Some words
-    → OutputBy words.command words call.left call.left_then given text → HasText given call text
+    → OutputBy words.command words call.left given text → HasText given call text
 has-output call status.Finished text words say o = record { words = words; say = say; output = o }
 has-output call status.Irregular text words say o = record { words = words; say = say; output = o }
 has-output call status.Refused text words say o = record { words = words; say = say; output = o }
@@ -119,37 +128,37 @@ has-output call status.Limit text words say o = record { words = words; say = sa
 has-output call status.ReadFault text words say o = record { words = words; say = say; output = o }
 has-output call status.WriteFault text words say o = record { words = words; say = say; output = o }
 has-output call status.Memory text words say o = record { words = words; say = say; output = o }
-has-output call status.Usage text words say o = absurd (no-usage words words.command call.left call.left_then text o)
+has-output call status.Usage text words say o = absurd (no-usage words words.command call.left text o)
 has-output call status.NotAStep text words say o = record { words = words; say = say; output = o }
 has-output call status.DiscFault text words say o = record { words = words; say = say; output = o }
 
 -- a whole text means its status
 means-told : (call : Call) (given : Status) (text : List ℕ) (words : Words) → said call.does call.words ≡ Some words
-    → OutputBy words.command words call.left call.left_then given text
+    → OutputBy words.command words call.left given text
     → Appends call.written call.written_then text → Means given call
 means-told call status.Finished text words say o appends = (text, record { words = words; say = say; output = o }, appends)
 means-told call status.Irregular text words say o appends = (text, record { words = words; say = say; output = o }, appends)
 means-told call status.Refused text words say o appends = (text, record { words = words; say = say; output = o }, appends)
 means-told call status.Limit text words say o appends = (text, record { words = words; say = say; output = o }, appends)
-means-told call status.ReadFault text words say o appends = absurd (no-read_fault words words.command call.left call.left_then text o)
-means-told call status.WriteFault text words say o appends = absurd (no-write_fault words words.command call.left call.left_then text o)
-means-told call status.Memory text words say o appends = absurd (no-memory words words.command call.left call.left_then text o)
-means-told call status.Usage text words say o appends = absurd (no-usage words words.command call.left call.left_then text o)
+means-told call status.ReadFault text words say o appends = absurd (no-read_fault words words.command call.left text o)
+means-told call status.WriteFault text words say o appends = absurd (no-write_fault words words.command call.left text o)
+means-told call status.Memory text words say o appends = absurd (no-memory words words.command call.left text o)
+means-told call status.Usage text words say o appends = absurd (no-usage words words.command call.left text o)
 means-told call status.NotAStep text words say o appends = (text, record { words = words; say = say; output = o }, appends)
 means-told call status.DiscFault text words say o appends =
-    let none = lost-text words words.command call.left call.left_then text o in
+    let none = lost-text words words.command call.left text o in
     ((text, record { words = words; say = say; output = o }, appends), appends-nothing call.written call.written_then (rw none at appends))
 
 -- where the text is whole no count has risen
 counts-told : (call : Call) (given : Status) (text : List ℕ) (words : Words)
-    → OutputBy words.command words call.left call.left_then given text
+    → OutputBy words.command words call.left given text
     → call.read_faults_then ≡ call.read_faults → call.write_faults_then ≡ call.write_faults → Counts given call
 counts-told call status.Finished text words o read write = (read, write)
 counts-told call status.Irregular text words o read write = (read, write)
 counts-told call status.Refused text words o read write = (read, write)
 counts-told call status.Limit text words o read write = (read, write)
-counts-told call status.ReadFault text words o read write = absurd (no-read_fault words words.command call.left call.left_then text o)
-counts-told call status.WriteFault text words o read write = absurd (no-write_fault words words.command call.left call.left_then text o)
+counts-told call status.ReadFault text words o read write = absurd (no-read_fault words words.command call.left text o)
+counts-told call status.WriteFault text words o read write = absurd (no-write_fault words words.command call.left text o)
 counts-told call status.Memory text words o read write = (read, write)
 counts-told call status.Usage text words o read write = (read, write)
 counts-told call status.NotAStep text words o read write = (read, write)
@@ -157,7 +166,7 @@ counts-told call status.DiscFault text words o read write = (read, write)
 
 -- a call whose output is written
 pub ends-told : (call : Call) (given result : Status) (text : List ℕ) (words : Words)
-    → said call.does call.words ≡ Some words → OutputBy words.command words call.left call.left_then given text
+    → said call.does call.words ≡ Some words → OutputBy words.command words call.left given text
     → call.read_faults_then ≡ call.read_faults
     → EndsWriting given result text call.written call.written_then call.write_faults call.write_faults_then
     → EndsWith result call
@@ -176,12 +185,12 @@ ends-told call given result text words say o read (inr cut) =
 
 -- a call whose words say nothing
 pub ends-usage : (call : Call) (result : Status) (text : List ℕ) → said call.does call.words ≡ None → text ≡ usage_line
-    → Keeps call.left call.left_then → call.read_faults_then ≡ call.read_faults
+    → call.read_faults_then ≡ call.read_faults
     → EndsWriting status.Usage result text call.written call.written_then call.write_faults call.write_faults_then
     → EndsWith result call
-ends-usage call result text none line keeps read (inl whole) =
-    rw whole.0 (((text, (none, line), whole.1.all), keeps), (read, whole.1.count))
-ends-usage call result text none line keeps read (inr cut) =
+ends-usage call result text none line read (inl whole) =
+    rw whole.0 ((text, (none, line), whole.1.all), (read, whole.1.count))
+ends-usage call result text none line read (inr cut) =
     let means : IsCutOff call = record {
       status = status.Usage;
       text = text;

@@ -1,5 +1,5 @@
 -- What is printed of a run that ended so is defined by the status of its end.
-use Rattle.std.proofs.Common.{◌≡◌, ℕ, List}
+use Rattle.std.proofs.Common.{ℕ, List}
 use Rattle.pathway.specs.Decks.{PairRuns, Runs, Trials}
 use Rattle.pw_desk.specs.Headline.{Reports}
 use Rattle.pw_desk.specs.Trials.{Tries}

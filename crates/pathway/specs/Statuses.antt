@@ -13,12 +13,12 @@ use Rattle.pathway.specs.Commands.{said, usage_line, reads_source}
 use Rattle.pathway.specs.Decks.{Checks, PairRuns, Replays, Runs, StatusCounts, TrailRuns, Trials}
 use Rattle.pathway.specs.Schedules.{OfSchedule}
 
--- one call: the commands that it does, its words, and what source and sink tell before it and after it
+-- one call: the commands that it does, its words, what the source tells before it, and what the sink tells before it and
+-- after it, with the counts of faults
 pub record Call : Type 0 where
   pub does : Command → Bool
   pub words : List (List ℕ)
   pub left : Option (List ℕ)
-  pub left_then : Option (List ℕ)
   pub read_faults : ℕ
   pub read_faults_then : ℕ
   pub written : Option (List ℕ)
@@ -32,38 +32,32 @@ pub record OfBytes (defines : Status → List ℕ → List ℕ → Type 0) (left
   pub read : IfSome left (λ had. had ≡ bytes)
   pub defined : defines status bytes text
 
--- the text is the generated deck, and the source was not read
-pub record OfSeed (said : Words) (left left_then : Option (List ℕ)) (status : Status) (text : List ℕ) : Type 0 where
+-- the text is the generated deck
+pub record OfSeed (said : Words) (status : Status) (text : List ℕ) : Type 0 where
   pub finished : status ≡ Finished
   pub deck : text ≡ generated said.seed said.terms
-  pub unread : Keeps left left_then
-
--- the text is of a run of the generated deck, and the source was not read
-pub record OfTrial (said : Words) (left left_then : Option (List ℕ)) (status : Status) (text : List ℕ) : Type 0 where
-  pub tried : Trials said.seed said.terms status text
-  pub unread : Keeps left left_then
 
 -- the text of a status, by the command
-abbrev pub OutputBy : Command → Words → Option (List ℕ) → Option (List ℕ) → Status → List ℕ → Type 0
-OutputBy command.Run said left left_then status text = OfBytes (Runs said.events) left status text
-OutputBy command.Trial said left left_then status text = OfTrial said left left_then status text
-OutputBy command.Check said left left_then status text = OfBytes Checks left status text
-OutputBy command.Verify said left left_then status text = OfBytes Replays left status text
-OutputBy command.Gen said left left_then status text = OfSeed said left left_then status text
-OutputBy command.Disc said left left_then status text = OfBytes (PairRuns said.events) left status text
-OutputBy command.Trail said left left_then status text = OfBytes (TrailRuns said.events said.at) left status text
-OutputBy command.Status said left left_then status text = OfBytes (StatusCounts said.at) left status text
-OutputBy command.Expand said left left_then status text = OfSchedule left status text
+abbrev pub OutputBy : Command → Words → Option (List ℕ) → Status → List ℕ → Type 0
+OutputBy command.Run said left status text = OfBytes (Runs said.events) left status text
+OutputBy command.Trial said left status text = Trials said.seed said.terms status text
+OutputBy command.Check said left status text = OfBytes Checks left status text
+OutputBy command.Verify said left status text = OfBytes Replays left status text
+OutputBy command.Gen said left status text = OfSeed said status text
+OutputBy command.Disc said left status text = OfBytes (PairRuns said.events) left status text
+OutputBy command.Trail said left status text = OfBytes (TrailRuns said.events said.at) left status text
+OutputBy command.Status said left status text = OfBytes (StatusCounts said.at) left status text
+OutputBy command.Expand said left status text = OfSchedule left status text
 
 -- the text of a status, for words that say something
 pub record IsOutput (status : Status) (call : Call) (text : List ℕ) : Type 0 where
   pub words : Words
   pub say : said call.does call.words ≡ Some words
-  pub output : OutputBy words.command words call.left call.left_then status text
+  pub output : OutputBy words.command words call.left status text
 
 -- the words ask for a command that reads the source
-abbrev pub AsksSource : Call → Type 0
-AsksSource call = (words : Words) × (said call.does call.words ≡ Some words) × (reads_source words.command ≡ true)
+abbrev pub AsksSource : (Command → Bool) → List (List ℕ) → Type 0
+AsksSource does words = (read : Words) × (said does words ≡ Some read) × (reads_source read.command ≡ true)
 
 -- the usage line is the text of words that say nothing
 abbrev pub IsUsage : Call → List ℕ → Type 0
@@ -95,8 +89,8 @@ Means Limit call = Writes Limit call
 Means Refused call = Writes Refused call
 Means NotAStep call = Writes NotAStep call
 Means DiscFault call = Writes DiscFault call × Keeps call.written call.written_then
-Means Usage call = Writes Usage call × Keeps call.left call.left_then
-Means ReadFault call = AsksSource call × Keeps call.written call.written_then
+Means Usage call = Writes Usage call
+Means ReadFault call = AsksSource call.does call.words × Keeps call.written call.written_then
 Means WriteFault call = IsCutOff call
 Means Memory call = Keeps call.written call.written_then
 

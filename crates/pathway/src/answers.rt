@@ -39,6 +39,7 @@ pub fn refused(alloc: Global, fault: Fault) -> Result<(Status, Bytes), Memory>
     Ok((Status::Refused, text))
 }
 
+/// The line that tells a fault: its line, its code and its text.
 fn fault_line(alloc: Global, fault: Fault) -> Result<Bytes, Memory>
     ensures { IfOk result (λ text. text ≡ fault_line fault) }
 {

@@ -2,7 +2,7 @@
 
 ghost use Rattle.std.specs.Prelude.{◌≡◌, ◌≤◌, map, string_bytes};
 ghost use Rattle.pathway.specs.Commands.{is_for_desk};
-ghost use Rattle.pathway.specs.Statuses.{Ends, EndsWith};
+ghost use Rattle.pathway.specs.Statuses.{AsksSource, Ends, EndsWith};
 
 use crate::answers::usage_line;
 use crate::commands::said_to_desk;
@@ -18,13 +18,12 @@ use std::alloc::Global;
 /// log, or counts its first entries; or it writes the generated deck; or it reads a schedule, and writes its
 /// messages and marks (docs/COMMANDS.md). It answers the exit status.
 ///
-/// The clause `ends` is that of `pathway`, where the words of the other commands say nothing.
+/// The clauses are those of `pathway`, where the words of the other commands say nothing.
 pub fn desk<S: Source, K: Sink>(alloc: Global, words: &[String], source: &mut S, sink: &mut K) -> u8
     ensures ends { Ends (record {
       does = is_for_desk;
       words = map string_bytes words.now;
       left = S.left source.old;
-      left_then = S.left source.new;
       read_faults = S.faults source.old;
       read_faults_then = S.faults source.new;
       written = K.written sink.old;
@@ -32,6 +31,7 @@ pub fn desk<S: Source, K: Sink>(alloc: Global, words: &[String], source: &mut S,
       write_faults = K.faults sink.old;
       write_faults_then = K.faults sink.new;
     }) result }
+    ensures unread { ¬ AsksSource is_for_desk (map string_bytes words.now) → source.new ≡ source.old }
     ensures read_count { S.faults source.old ≤ S.faults source.new }
     ensures write_count { K.faults sink.old ≤ K.faults sink.new }
 {
@@ -49,7 +49,6 @@ fn desk_call<S: Source, K: Sink>(
       does = is_for_desk;
       words = map string_bytes words.now;
       left = S.left source.old;
-      left_then = S.left source.new;
       read_faults = S.faults source.old;
       read_faults_then = S.faults source.new;
       written = K.written sink.old;
@@ -57,6 +56,7 @@ fn desk_call<S: Source, K: Sink>(
       write_faults = K.faults sink.old;
       write_faults_then = K.faults sink.new;
     }) }
+    ensures unread { ¬ AsksSource is_for_desk (map string_bytes words.now) → source.new ≡ source.old }
     ensures read_count { S.faults source.old ≤ S.faults source.new }
     ensures write_count { K.faults sink.old ≤ K.faults sink.new }
 {

@@ -1,6 +1,6 @@
 //! The status and the text of a command.
 
-ghost use Rattle.std.specs.Prelude.{◌≡◌, ◌≤◌, true, IfErr, IfOk, OnOk};
+ghost use Rattle.std.specs.Prelude.{◌≡◌, ◌≤◌, false, true, IfErr, IfOk, OnOk};
 ghost use Rattle.pathway.specs.Commands.{is_for_desk, reads_source};
 ghost use Rattle.pathway.specs.Statuses.{OutputBy};
 ghost use Rattle.pw_call.specs.Inputs.{GivesUp};
@@ -29,9 +29,10 @@ pub fn output_by<S: Source, G: Gate, R: Threads + Wait + Sync>(
     gate: &G,
 ) -> Result<(Status, Bytes), Status>
     requires range { IsInRange said }
-    ensures ok { IfOk result (λ output. OutputBy said.command said (S.left source.old) (S.left source.new) output.0 output.1) }
+    ensures ok { IfOk result (λ output. OutputBy said.command said (S.left source.old) output.0 output.1) }
     ensures err { IfErr result (λ status. GivesUp status (S.faults source.old) (S.faults source.new)) }
     ensures reads { IfErr result (λ status. status ≡ Status.ReadFault → reads_source said.command ≡ true) }
+    ensures unread { reads_source said.command ≡ false → source.new ≡ source.old }
     ensures kept { OnOk result (S.faults source.new ≡ S.faults source.old) }
     ensures count { S.faults source.old ≤ S.faults source.new }
 {
@@ -62,7 +63,7 @@ pub fn output_by<S: Source, G: Gate, R: Threads + Wait + Sync>(
     }
 }
 
-/// The same of a command that waits for no thread.
+/// The status and the text of a command that waits for no thread, or the status of a call that has none.
 pub fn desk_output<S: Source>(
     alloc: Global,
     said: Words,
@@ -70,9 +71,10 @@ pub fn desk_output<S: Source>(
 ) -> Result<(Status, Bytes), Status>
     requires desk { is_for_desk said.command ≡ true }
     requires range { IsInRange said }
-    ensures ok { IfOk result (λ output. OutputBy said.command said (S.left source.old) (S.left source.new) output.0 output.1) }
+    ensures ok { IfOk result (λ output. OutputBy said.command said (S.left source.old) output.0 output.1) }
     ensures err { IfErr result (λ status. GivesUp status (S.faults source.old) (S.faults source.new)) }
     ensures reads { IfErr result (λ status. status ≡ Status.ReadFault → reads_source said.command ≡ true) }
+    ensures unread { reads_source said.command ≡ false → source.new ≡ source.old }
     ensures kept { OnOk result (S.faults source.new ≡ S.faults source.old) }
     ensures count { S.faults source.old ≤ S.faults source.new }
 {

@@ -2,7 +2,7 @@
 
 ghost use Rattle.std.specs.Prelude.{◌≡◌, ◌≤◌, map, string_bytes};
 ghost use Rattle.pathway.specs.Commands.{is_for_program};
-ghost use Rattle.pathway.specs.Statuses.{Ends, EndsWith};
+ghost use Rattle.pathway.specs.Statuses.{AsksSource, Ends, EndsWith};
 
 use crate::answers::usage_line;
 use crate::commands::said;
@@ -26,7 +26,8 @@ use std::thread::Threads;
 /// whatever fails; the screens, each numbered refresh counted once, and the records are those of a
 /// machine that runs the log's serial order one unit at a time; and each unit number ends at most once.
 /// It has the cause of every status: the source's count of faults rises at status 4 alone, and the sink's at
-/// status 5 alone. All output is made before its first byte is written.
+/// status 5 alone. The clause `unread`: where the words ask for no command that reads the source, it is as it was. All
+/// output is made before its first byte is written.
 pub fn pathway<S: Source, K: Sink, G: Gate, R: Threads + Wait + Sync>(
     rt: &R,
     alloc: Global,
@@ -39,7 +40,6 @@ pub fn pathway<S: Source, K: Sink, G: Gate, R: Threads + Wait + Sync>(
       does = is_for_program;
       words = map string_bytes words.now;
       left = S.left source.old;
-      left_then = S.left source.new;
       read_faults = S.faults source.old;
       read_faults_then = S.faults source.new;
       written = K.written sink.old;
@@ -47,6 +47,7 @@ pub fn pathway<S: Source, K: Sink, G: Gate, R: Threads + Wait + Sync>(
       write_faults = K.faults sink.old;
       write_faults_then = K.faults sink.new;
     }) result }
+    ensures unread { ¬ AsksSource is_for_program (map string_bytes words.now) → source.new ≡ source.old }
     ensures read_count { S.faults source.old ≤ S.faults source.new }
     ensures write_count { K.faults sink.old ≤ K.faults sink.new }
 {
@@ -66,7 +67,6 @@ fn call<S: Source, K: Sink, G: Gate, R: Threads + Wait + Sync>(
       does = is_for_program;
       words = map string_bytes words.now;
       left = S.left source.old;
-      left_then = S.left source.new;
       read_faults = S.faults source.old;
       read_faults_then = S.faults source.new;
       written = K.written sink.old;
@@ -74,6 +74,7 @@ fn call<S: Source, K: Sink, G: Gate, R: Threads + Wait + Sync>(
       write_faults = K.faults sink.old;
       write_faults_then = K.faults sink.new;
     }) }
+    ensures unread { ¬ AsksSource is_for_program (map string_bytes words.now) → source.new ≡ source.old }
     ensures read_count { S.faults source.old ≤ S.faults source.new }
     ensures write_count { K.faults sink.old ≤ K.faults sink.new }
 {

@@ -11,15 +11,17 @@ use Rattle.pw_paired.specs.Headline.{EndsOnce, IsSerializable}
 use Rattle.pw_paired.specs.Step.{IsRun}
 use Rattle.pw_run.specs.Endings.{EndsAs}
 use Rattle.pw_run.specs.declared.ending.Ended.{Ended}
+use Rattle.pw_told.specs.ReadFrom.{IsReadFrom}
 
 -- The log is a run of the deck. The one-copy machine runs its serial order, where units run one at a time, with these
--- screens, each numbered refresh counted once, and these records; each unit number ends at most once; and the text is
--- the report of the log.
+-- screens, each numbered refresh counted once, and these records; each unit number ends at most once; the text is the
+-- report of the log; and the log is the one that is read back from the text.
 pub record Prints (rule : LockRule) (deck : Deck) (log : List Event) (text : List ℕ) : Type 0 where
   pub run : IsRun (meaning rule deck) log
   pub serial : IsSerializable (meaning rule deck) log
   pub once : EndsOnce (meaning rule deck) log
   pub is : text ≡ report_text (named rule deck) (meaning rule deck) log
+  pub read : IsReadFrom (named rule deck) text log
 
 -- the deck of the bytes has no fault, and the text is printed of a log of it that ended so
 pub record Reports (bytes : List ℕ) (events : ℕ) (ran : Ended) (text : List ℕ) : Type 0 where

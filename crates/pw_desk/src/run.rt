@@ -19,6 +19,7 @@ use pw_laws::serial::laws::runs_are_serializable;
 use pw_run::ending::Ended;
 use pw_run::gate::Gate;
 use pw_run::taken::report_of;
+use pw_told::laws::decks_are_read_back;
 use pw_whole::deck::{Deck, read};
 use std::alloc::Global;
 use std::sync::Wait;
@@ -29,7 +30,8 @@ use std::thread::Threads;
 /// wait for a thread.
 ///
 /// The log is a run of the deck, by the trees of its programs. Its screens and records are those of the
-/// one-copy machine on its serial order, and each unit number ends at most once.
+/// one-copy machine on its serial order, and each unit number ends at most once. It is the log that is read
+/// back from the report.
 pub fn run<G: Gate, R: Threads + Wait + Sync>(
     rt: &R,
     alloc: Global,
@@ -45,6 +47,7 @@ pub fn run<G: Gate, R: Threads + Wait + Sync>(
 {
     runs_are_serializable();
     ending_laws();
+    decks_are_read_back();
     let deck = match read(alloc, bytes) {
         Ok(deck) => deck,
         Err(refusal) => return Err(refusal),

@@ -22,7 +22,7 @@ use std::sync::Wait;
 use std::thread::Threads;
 
 /// How many entries the log of a trial may have.
-const MOST_ENTRIES: u32 = 500_000;
+const MAX_ENTRIES: u32 = 500_000;
 
 /// Runs the deck that is generated of a seed for 1 to 64 terminals, with from 1 to 16 workers, for at
 /// most 500,000 entries (docs/DESK.md): how the run ended, and the FILES part of its report. The deck has
@@ -66,7 +66,7 @@ fn try_system<G: Gate, R: Threads + Wait + Sync>(
     requires workers { (1 ≤ workers) × (workers ≤ 16) }
     ensures { IfOk result (λ output. TriesSystem (behaviour script.lines system) system output.0 output.1) }
 {
-    let (ended, world) = run_over_tmf(rt, alloc, system, script, workers, MOST_ENTRIES, gate)?;
+    let (ended, world) = run_over_tmf(rt, alloc, system, script, workers, MAX_ENTRIES, gate)?;
     let text = files_of(alloc, world)?;
     Ok((ended, text))
 }

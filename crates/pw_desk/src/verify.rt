@@ -21,6 +21,7 @@ use pw_run::no_step::no_step_line;
 use pw_run::taken::{let_go, report_of};
 use pw_script::log::rule_of;
 use pw_tmf::tmf::Tmf;
+use pw_told::laws::decks_are_read_back;
 use pw_whole::deck::{Deck, read};
 use std::alloc::Global;
 
@@ -41,6 +42,7 @@ pub fn verify(alloc: Global, bytes: &[u8]) -> Result<(Verified, Bytes), Refusal>
 {
     runs_are_serializable();
     ending_laws();
+    decks_are_read_back();
     let deck = match read(alloc, bytes) {
         Ok(deck) => deck,
         Err(refusal) => return Err(refusal),

@@ -1,7 +1,7 @@
 mod Claimed
 pub mod Committing
 mod Crossing
-mod Left
+pub mod Left
 mod Printing
 mod Ran
 mod Reading

@@ -1,5 +1,5 @@
 -- How a run ends.
-use Rattle.std.specs.Prelude.{◌≡◌, ℕ, Bool, true, false, List, length}
+use Rattle.std.specs.Prelude.{◌≡◌, ℕ, ◌≤◌, Bool, true, false, List, length}
 use Rattle.std.specs.List.{list_all}
 use Rattle.pw_call.specs.declared.status.Status as call
 use Rattle.pw_call.specs.declared.status.Status.TheVariants as status
@@ -29,11 +29,16 @@ is_regular _ = true
 abbrev pub all_regular : List Event → Bool
 all_regular log = list_all is_regular log
 
--- the log is finished, with such endings alone or with another one; or it has as many entries as it may
-abbrev pub EndsAs : Ended → ℕ → Behaviour → List Event → Type 0
-EndsAs Regular events sys log = (is_finished sys (after sys log) ≡ true) × (all_regular log ≡ true)
-EndsAs Irregular events sys log = (is_finished sys (after sys log) ≡ true) × (all_regular log ≡ false)
-EndsAs Full events sys log = (length log ≡ events) × (is_finished sys (after sys log) ≡ false)
+-- the log is finished, with such endings alone or with another one; or it has as many entries as it may, and is not
+abbrev pub HasEndedAs : Ended → ℕ → Behaviour → List Event → Type 0
+HasEndedAs Regular events sys log = (is_finished sys (after sys log) ≡ true) × (all_regular log ≡ true)
+HasEndedAs Irregular events sys log = (is_finished sys (after sys log) ≡ true) × (all_regular log ≡ false)
+HasEndedAs Full events sys log = (length log ≡ events) × (is_finished sys (after sys log) ≡ false)
+
+-- a log of at most so many entries has ended so
+pub record EndsAs (ended : Ended) (events : ℕ) (sys : Behaviour) (log : List Event) : Type 0 where
+  pub room : length log ≤ events
+  pub has : HasEndedAs ended events sys log
 
 -- the status of a run that ended so
 abbrev pub status_of : Ended → call.Status

@@ -19,6 +19,7 @@ pub record CanBuild (system : System) (tcp : ℕ) (lane : LinkLane) : Type 0 whe
   pub pair : tcp < length system.tcps
   pub waits : IsSome lane.waiting
 
+-- what a worker is given can be done in this system
 abbrev pub CanDo : System → Turn → Type 0
 CanDo system (Build tcp lane) = CanBuild system tcp lane
 CanDo system (Run task) = CanRun system task

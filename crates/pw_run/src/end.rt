@@ -1,4 +1,4 @@
-//! How a run of a world ends.
+//! Why the workers of a run stopped.
 
 ghost use Rattle.std.specs.Prelude.{◌≡◌, ◌≢◌};
 ghost use Rattle.pw_monitor.specs.States.{seen};
@@ -9,7 +9,7 @@ ghost use Rattle.pw_run.specs.declared.end.RunEnd.TheVariants as ends;
 use pw_monitor::world::World;
 use pw_tmf::disc::Disc;
 
-/// How a run ends (docs/WORKERS.md).
+/// Why the workers of a run stopped (docs/WORKERS.md).
 #[derive(Clone, Copy, Debug, PartialEq, Eq)]
 pub enum RunEnd {
     /// The log is finished.

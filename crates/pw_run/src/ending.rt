@@ -1,4 +1,4 @@
-//! How a run ends.
+//! How the log of a run stands at its end.
 
 ghost use Rattle.std.specs.Prelude.{◌≡◌};
 ghost use Rattle.pw_run.specs.Endings.{all_regular, is_regular, status_of};
@@ -6,7 +6,7 @@ ghost use Rattle.pw_run.specs.Endings.{all_regular, is_regular, status_of};
 use pw_call::status::Status;
 use pw_event::event::{Ending, Event};
 
-/// How a run ends (docs/DESK.md).
+/// How the log of a run stands at its end (docs/DESK.md).
 #[derive(Clone, Copy, Debug, PartialEq, Eq)]
 pub enum Ended {
     /// Every terminal has ended, each STOPPED or NOENTRIES.

@@ -179,7 +179,7 @@ impl<D: Disc, N: Naming> Shared<D, N> {
         }
     }
 
-    /// The same, where the run goes on.
+    /// Applies what came of a task where the run goes on, and lends the work of building images.
     fn apply_on<R: Wait>(&mut self, rt: &R, outcome: Outcome)
         requires goes_on { self.old.end ≡ None }
         requires over { outcome.over.value ≡ N.system }

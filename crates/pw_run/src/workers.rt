@@ -41,7 +41,7 @@ impl<D: Disc, N: Naming> Lock<D, N> {
         self.leave(rt, self.shared.lock(rt))
     }
 
-    /// The same for a worker that is done with something, and has the lock. Where there is more to do, it
+    /// What a worker does next that is done with something and has the lock. Where there is more to do, it
     /// calls another that waits.
     fn leave<R: Wait>(&self, rt: &R, mut shared: MutexGuard<'_, Shared<D, N>>) -> Turn
         ensures { CanDo N.system result }
@@ -231,7 +231,7 @@ fn prepare(alloc: Global, system: &System) -> Result<(System, Vec<Option<LinkLan
     Ok((copy, lanes))
 }
 
-/// The same over a world that knows which it is.
+/// Runs a world that knows which it is with so many workers, and gives it back with how the run ended.
 fn run_named<D: Disc, N: Naming, G: Gate, R: Threads + Wait + Sync>(
     rt: &R,
     alloc: Global,

@@ -52,7 +52,7 @@ pub fn run_pair<G: Gate, R: Threads + Wait + Sync>(
     }
 }
 
-/// The same, where the disc script may lose the pair.
+/// Runs a system over a disc pair that its disc script may lose.
 fn run_losing<G: Gate, R: Threads + Wait + Sync>(
     rt: &R,
     alloc: Global,
@@ -78,11 +78,14 @@ fn run_losing<G: Gate, R: Threads + Wait + Sync>(
     };
     match run_over(rt, alloc, system, script, disc, workers, events, gate)? {
         Over::Ended(ended, world) => Ok((PairRan::Ended(ended), report_of(alloc, world)?)),
-        Over::Failed(world) => Ok((PairRan::Lost(world.into_disc()), Bytes::new(alloc))),
+        Over::Failed(world) => {
+            world.holds();
+            Ok((PairRan::Lost(world.into_disc()), Bytes::new(alloc)))
+        }
     }
 }
 
-/// The same, where the disc script loses no pair.
+/// Runs a system over a disc pair that its disc script never loses.
 fn run_lasting<G: Gate, R: Threads + Wait + Sync>(
     rt: &R,
     alloc: Global,

@@ -13,6 +13,7 @@ use pw_laws::runs::laws::ending_laws;
 use pw_laws::serial::laws::runs_are_serializable;
 use pw_run::gate::Gate;
 use pw_run::taken::let_go;
+use pw_told::laws::decks_are_read_back;
 use pw_whole::deck::{Deck, read};
 use std::alloc::Global;
 use std::sync::Wait;
@@ -40,6 +41,7 @@ pub fn run<G: Gate, R: Threads + Wait + Sync>(
 {
     runs_are_serializable();
     ending_laws();
+    decks_are_read_back();
     let deck = match read(alloc, bytes) {
         Ok(deck) => deck,
         Err(refusal) => return Err(refusal),

@@ -93,7 +93,8 @@ fn run_and_recover<G: Gate, R: Threads + Wait + Sync>(
     output
 }
 
-/// The same, with a copy of the system, by which the trail is opened.
+/// Runs a system over a trail that is opened by a copy of it: how the run ended, and the list of what is
+/// found.
 fn run_beside<G: Gate, R: Threads + Wait + Sync>(
     rt: &R,
     alloc: Global,

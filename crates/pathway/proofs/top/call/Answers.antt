@@ -1,12 +1,11 @@
 use Rattle.std.proofs.Common.{refl, sym}
-use Rattle.std.proofs.KnownBytes.{Keeps-refl}
 use Rattle.pathway.proofs.Calls.{ends-told, ends-usage}
 use Rattle.pathway.proofs.top.call.Goals as goal
 
 pub returns-in-Ok-None-clause-ends : goal.returns-in-Ok-None-clause-ends
 returns-in-Ok-None-clause-ends g c =
     let none = rw c.in-Ok-None.field-0-is at c.in-Ok-None.ensures.says in
-    ends-usage _ c.written.result c.usage_line.result.now (sym none) c.usage_line.ensures (Keeps-refl _) refl c.written.ensures.ends
+    ends-usage _ c.written.result c.usage_line.result.now (sym none) c.usage_line.ensures refl c.written.ensures.ends
 
 pub returns-in-Ok-clause-ends : goal.returns-in-Ok-clause-ends
 returns-in-Ok-clause-ends g c =
