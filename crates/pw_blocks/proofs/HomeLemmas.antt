@@ -1,5 +1,5 @@
 -- The block that may have a key, by the index of first keys.
-use Rattle.std.proofs.Common.{◌≡◌, ◌≢◌, ℕ, zero, suc, ◌-◌, ◌<◌, ◌≤◌, ◌∙◌, sym, ap, subst, refl, arith, true, false, Bool, List, [], ◌∷◌, ◌++◌, map, take, drop, get_or, length}
+use Rattle.std.proofs.Common.{◌≡◌, ◌≢◌, ℕ, zero, suc, ◌-◌, ◌<◌, ◌≤◌, ◌∙◌, sym, ap, subst, refl, arith, true, false, Bool, List, [], ◌∷◌, ◌++◌, map, take, drop, get_or, slice_index_or, length}
 use Rattle.std.specs.List.{AllByRecursion}
 use Rattle.std.specs.List.Sorted.{IsStrictlySortedBy, IsPartitionPoint, IsPartitionedBy}
 use Rattle.std.specs.Ordering.{is_lt, is_le}
@@ -64,6 +64,12 @@ module _ (n : ℕ) where
   -- the first keys of the blocks
   abbrev firsts : List (List (List ℕ)) → List (List ℕ)
   firsts blocks = map (first_key n) blocks
+
+  -- the first key of the block at a place
+  first_at : (blocks : List (List (List ℕ))) (i : ℕ) → first_key n (slice_index_or blocks i []) ≡ get_or (firsts blocks) i []
+  first_at [] i = refl
+  first_at (block ∷ blocks) zero = refl
+  first_at (block ∷ blocks) (suc i) = first_at blocks i
 
   -- the first key of a block is the key of one of its records
   first_among : (Q : List ℕ → Type 0) (blocks : List (List (List ℕ))) → NoneEmpty blocks → AllByRecursion (λ c. Q (key_of c)) (records_of blocks) → (i : ℕ) → i < length blocks → Q (get_or (firsts blocks) i [])
@@ -144,12 +150,21 @@ module _ (n : ℕ) (blocks : List (List (List ℕ))) (index : List (List ℕ)) (
   home_is point within parts =
       let long : length index ≡ length blocks = ap length file.first_keys ∙ length-map blocks (first_key n) in
       record {
+        within = omega (arith, within, long);
+        begins = begins_of point within parts.0;
         low = All-from_recursion (λ c. compared n key c ≡ Less) (records_of (take (point - 1) blocks)) (low_of long point within parts.0);
         high = All-from_recursion (λ c. compared n key c ≡ Greater) (records_of (drop (suc (point - 1)) blocks)) (high_of (suc (point - 1)) (omega arith) long parts.1);
       }
     where
       first_is : (k : ℕ) → get_or (firsts n blocks) k [] ≡ get_or index k []
       first_is k = ap (λ keys. get_or keys k []) (sym file.first_keys)
+
+      begins_of : (point : ℕ) → point ≤ length index → ((k : ℕ) (d : List ℕ) → 0 ≤ k → k < point → at_most (get_or index k d) ≡ true) → 0 < point - 1 → at_most (first_key n (slice_index_or blocks (point - 1) [])) ≡ true
+      begins_of zero h all some = absurd (omega (arith, some))
+      begins_of (suc before) h all some =
+          let same : before ≡ suc before - 1 = omega arith in
+          subst (λ k. at_most (first_key n (slice_index_or blocks k [])) ≡ true) same
+          (ap at_most (first_at n blocks before ∙ first_is before) ∙ all before [] (omega arith) (omega arith))
 
       low_of : length index ≡ length blocks → (point : ℕ) → point ≤ length index → ((k : ℕ) (d : List ℕ) → 0 ≤ k → k < point → at_most (get_or index k d) ≡ true) → AllLess n key (records_of (take (point - 1) blocks))
       low_of long zero h all = tt

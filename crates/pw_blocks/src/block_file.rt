@@ -93,8 +93,7 @@ impl BlockFile {
 
     /// The place of the only block that may have a record with this key. It is 0 in an empty file.
     fn home(&self, key: &[u8]) -> usize
-        ensures place { IsHome self.now.key self.now.blocks key.now result }
-        ensures within { result ≤ length self.now.blocks - 1 }
+        ensures { IsHome self.now.key self.now.blocks key.now result }
     {
         self.index
             .partition_point(|first| first.as_slice().cmp(key).is_le())
@@ -118,7 +117,6 @@ impl BlockFile {
         ensures seat { IsSeat self.now.key self.now.blocks key.now result.0 result.1 }
         ensures home { IsHome self.now.key self.now.blocks key.now result.0 }
         ensures cut { IsCut self.now.key (slice_index_or self.now.blocks result.0 []) key.now result.1 }
-        ensures within { result.0 ≤ length self.now.blocks - 1 }
         ensures file { IsFile self.now.key (records_of self.now.blocks) }
     {
         let place = self.home(key);
@@ -160,11 +158,12 @@ impl BlockFile {
         Ok(())
     }
 
-    /// Puts a content in its place, if there `is` a record with its key or if there is none.
-    fn write(&mut self, content: &[u8], is: bool) -> Result<bool, Memory>
+    /// Puts a content in its place. It is false, and changes nothing, where `there` does not tell whether
+    /// a record with its key is there.
+    fn write(&mut self, content: &[u8], there: bool) -> Result<bool, Memory>
         requires { IsContent self.old.key content.now }
         ensures answer { let n = self.old.key in IfOk result (λ done. IsTrue done
-            ↔ (has_key n (records_of self.old.blocks) (take n content.now) ≡ is)) }
+            ↔ (has_key n (records_of self.old.blocks) (take n content.now) ≡ there)) }
         ensures records { records_of self.new.blocks ≡ if_done result
             (with_record self.old.key (records_of self.old.blocks) content.now)
             (records_of self.old.blocks) }
@@ -175,7 +174,7 @@ impl BlockFile {
     {
         let alloc = *self.blocks.allocator();
         let (place, cut) = self.seek(&content[..usize::from(self.key)]);
-        if cut.here.is_some() != is {
+        if cut.here.is_some() != there {
             return Ok(false);
         }
         let parts = pieces(alloc, cut.before, content, cut.behind)?;

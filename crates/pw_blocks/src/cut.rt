@@ -2,7 +2,8 @@ ghost use Rattle.std.specs.Prelude.{◌≡◌, ◌≤◌, length};
 ghost use Rattle.pw_blocks.specs.Cuts.{IsCut, Rises};
 ghost use Rattle.pw_blocks.specs.Packing.{IsBlock, IsFinger, from_key, packed_all, unpacked};
 
-use crate::packing::{compared, first_record, from_key};
+use crate::packing::{first_record, from_key};
+use pw_files::sorted_file::compared;
 
 /// The bytes of the records below a key, the content of the record at it, and the bytes of the
 /// records above it.

@@ -1,8 +1,7 @@
 ghost use Rattle.std.specs.Prelude.{◌≡◌, ◌<◌, ◌≤◌, ℕ, List, length, IfSome};
-ghost use Rattle.pw_files.specs.Records.{compared};
 ghost use Rattle.pw_blocks.specs.Packing.{IsFirst, from_key, packed_all};
 
-use std::cmp::Ordering;
+use pw_files::sorted_file::compared;
 
 /// The content of the first record of some bytes, and the bytes behind it.
 pub fn first_record(bytes: &[u8]) -> Option<(&[u8], &[u8])>
@@ -20,13 +19,6 @@ pub fn first_record(bytes: &[u8]) -> Option<(&[u8], &[u8])>
         }
         _ => None,
     }
-}
-
-/// How the key of a content compares with a key.
-pub fn compared(content: &[u8], key_length: usize, key: &[u8]) -> Ordering
-    ensures { result ≡ compared key_length key.now content.now }
-{
-    content[..key_length.min(content.len())].cmp(key)
 }
 
 /// The bytes of the records from the first one on whose key is not below this one.

@@ -92,6 +92,7 @@ abbrev pub ran_from : Option Context → Outcome → Kept → Kept
 ran_from None outcome kept = kept
 ran_from (Some given) outcome kept = run_on outcome.actor outcome.work kept
 
+-- the world in which the actor's context has run on as the outcome says
 abbrev pub ran : Seen → Outcome → Seen
 ran world outcome =
     record world { kept = ran_from (work_of world outcome.actor) outcome world.kept }

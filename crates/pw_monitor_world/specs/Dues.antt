@@ -46,6 +46,7 @@ counted (Class c) book =
 abbrev pub without_fail : Event → List OpenLine → List OpenLine
 without_fail entry lines = filter (λ line. not (is_fail_of line.number entry)) lines
 
+-- the book of failure lines behind one more entry
 abbrev pub after_entry : (ℕ → ℕ) → Event → DueBook → DueBook
 after_entry pair_of entry book =
     counted (owner_of pair_of entry) (record book { waiting = without_fail entry book.waiting })

@@ -30,5 +30,6 @@ one_sends_from sys state [] = []
 one_sends_from sys state (entry ∷ log) =
     begins_one_send sys state entry ∷ one_sends_from sys (effect sys state entry) log
 
+-- for each entry of a log whether it begins a unit that is one SEND
 abbrev pub one_sends : Behaviour → List Event → List Bool
 one_sends sys log = one_sends_from sys (starting sys) log

@@ -76,6 +76,7 @@ first_world system script contexts disc limit = record {
   out = λ actor. false;
 }
 
+-- the books before the first entry
 abbrev pub first_books : System → List FailLine → Books
 first_books system script = record {
   refreshes = [];

@@ -12,6 +12,7 @@ use Rattle.pw_onecopy.specs.Behaviour.{Behaviour}
 use Rattle.pw_paired.specs.State.{State}
 use Rattle.pw_paired.specs.Step.{after, is_finished}
 
+-- what is seen of a world
 pub record Seen : Type 0 where
   pub system : System
   pub script : List FailLine

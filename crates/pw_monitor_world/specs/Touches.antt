@@ -18,6 +18,7 @@ use Rattle.pw_roster.specs.declared.actor.Actor.TheVariants.{Terminal, Process, 
 
 -- ---- pairs
 
+-- two modes are one
 abbrev pub is_same_mode : Mode → Mode → Bool
 is_same_mode Alone Alone = true
 is_same_mode Raising Raising = true

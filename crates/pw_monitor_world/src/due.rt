@@ -1,8 +1,8 @@
 ghost use Rattle.std.specs.Prelude.{◌≡◌, ◌<◌, ◌^◌, ◌+◌, ◌-◌, IfOk, find, length, slice_index_or, slice_set};
-ghost use Rattle.pw_event.specs.Due.{after_of, is_fail_of, is_same_owner, owner_of_line};
 ghost use Rattle.pw_monitor_world.specs.Dues.{IsOwner, count_of, counted, due_in, first_book, if_due, is_line_of, without_fail};
 
 use pw_base::memory::Memory;
+use pw_event::due::{after_of, is_fail_of};
 use pw_event::event::Event;
 use pw_event::script::{FailLine, Owner, Script};
 use std::alloc::Global;
@@ -147,25 +147,6 @@ fn is_line_of(owner: Owner, one: &OpenLine) -> bool
     match (one.line, owner) {
         (FailLine::Tcp { tcp, .. }, Owner::Tcp(own)) => tcp == own,
         (FailLine::Server { class, .. }, Owner::Class(own)) => class == own,
-        _ => false,
-    }
-}
-
-/// After how many entries of its owner a failure line is due.
-fn after_of(line: FailLine) -> u32
-    ensures { result ≡ after_of line }
-{
-    match line {
-        FailLine::Tcp { after, .. } | FailLine::Server { after, .. } => after,
-    }
-}
-
-/// Whether an entry is the FAIL entry of the failure line of this number.
-fn is_fail_of(number: u32, event: &Event) -> bool
-    ensures { result ≡ is_fail_of number event.now }
-{
-    match *event {
-        Event::FailTcp { line, .. } | Event::FailServer { line, .. } => line == number,
         _ => false,
     }
 }

@@ -3,21 +3,29 @@ ghost use Rattle.pw_event.specs.Due.{due_line, owner_of};
 ghost use Rattle.pw_event.specs.declared.event.Event.{Event};
 ghost use Rattle.pw_event.specs.declared.script.FailLine.{FailLine};
 ghost use Rattle.pw_event.specs.declared.script.Owner.{Owner};
+ghost use Rattle.pw_monitor_world.specs.Answers.{IsFresh, IsWork};
 ghost use Rattle.pw_monitor_world.specs.Dues.{DueBook, IsBookOf, IsOwner, after_entry, due_in, first_book};
 ghost use Rattle.pw_monitor_world.specs.OneSends.{BeginsOneSend, begins_one_send, one_sends};
+ghost use Rattle.pw_monitor_world.specs.Seen.{Seen, sys_of};
 ghost use Rattle.pw_monitor_world.specs.Stamps.{IsStamp};
 ghost use Rattle.pw_monitor_world.specs.Worlds.{live_below};
+ghost use Rattle.pw_monitor_world.specs.declared.task.Outcome.{Outcome};
+ghost use Rattle.pw_monitor_world.specs.declared.task.Task.{Task};
 ghost use Rattle.pw_roster.specs.declared.actor.Actor.{Actor};
 ghost use Rattle.pw_onecopy.specs.Behaviour.{Behaviour};
 ghost use Rattle.pw_paired.specs.Shown.{refresh_of, refreshes};
 ghost use Rattle.pw_paired.specs.State.{State};
 ghost use Rattle.pw_paired.specs.Step.{after, is_finished};
 
-/// An actor has one stamp.
+/// An actor has one stamp. What came of a claimed task has it as long as no entry is pushed, so such an outcome is
+/// Stale only where one was pushed since the claim (docs/WORLD.md).
 pub fn stamp_laws()
     ensures one { (sys : Behaviour) (log : List Event) (actor : Actor) (n m : ℕ)
         → IsStamp sys log actor n
         → IsStamp sys log actor m → n ≡ m }
+    ensures fresh { (world new : Seen) (task : Task) (outcome : Outcome) → IsWork world task
+        → outcome.actor ≡ task.actor → outcome.stamp ≡ task.stamp
+        → sys_of new ≡ sys_of world → new.log ≡ world.log → IsFresh new outcome }
 {}
 
 /// A book of failure lines that is one of a log tells which line is due, and is one of the log with

@@ -26,6 +26,7 @@ abbrev pub ended_with_reply : Option (List ℕ) → Option ToldUnit → LastEnde
 ended_with_reply reply None last = last
 ended_with_reply reply (Some unit) last = record { number = unit.number; reply = reply }
 
+-- the units of a terminal once the open one has ended with this reply
 abbrev pub ended_slot : Option (List ℕ) → SlotState → SlotState
 ended_slot reply slot = record { open_unit = None; ended = ended_with_reply reply slot.open_unit slot.ended }
 

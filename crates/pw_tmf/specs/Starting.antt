@@ -15,6 +15,7 @@ all_put n records (content ∷ contents) = all_put n (with_record n records cont
 abbrev pub key_in_system : FileInfo → ℕ
 key_in_system file = file.key
 
+-- the records of a system's file in the order of their keys
 abbrev pub records_in_system : FileInfo → List (List ℕ)
 records_in_system file = all_put file.key [] file.records
 
@@ -23,6 +24,7 @@ abbrev pub key_of_file : Option FileInfo → ℕ
 key_of_file None = 1
 key_of_file (Some file) = key_in_system file
 
+-- the records of a file, none for one that is not there
 abbrev pub records_of_file : Option FileInfo → List (List ℕ)
 records_of_file None = []
 records_of_file (Some file) = records_in_system file
@@ -45,5 +47,6 @@ told_at_start system = record {
 abbrev pub key_in : BlocksState → ℕ
 key_in file = file.key
 
+-- the records of a file in blocks
 abbrev pub records_in : BlocksState → List (List ℕ)
 records_in file = records_of file.blocks

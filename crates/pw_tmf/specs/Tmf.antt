@@ -24,12 +24,15 @@ pub record TmfState : Type 0 where
 abbrev pub no_slot : SlotState
 no_slot = record { open_unit = None; ended = record { number = 0; reply = None } }
 
+-- a file that is not there
 abbrev pub no_file : BlocksState
 no_file = record { key = 1; blocks = [] }
 
+-- the units of a terminal
 abbrev pub slot_at : List SlotState → ℕ → SlotState
 slot_at slots t = slice_index_or slots t no_slot
 
+-- the file of a number
 abbrev pub file_at : List BlocksState → ℕ → BlocksState
 file_at files f = slice_index_or files f no_file
 
@@ -37,6 +40,7 @@ file_at files f = slice_index_or files f no_file
 abbrev pub key_lengths : List BlocksState → ℕ → ℕ
 key_lengths files f = (file_at files f).key
 
+-- the records of a file as they lie in the blocks
 abbrev pub stored : List BlocksState → ℕ → List (List ℕ)
 stored files f = records_of (file_at files f).blocks
 

@@ -32,6 +32,7 @@ pub record IsFresh (told : Told) : Type 0 where
 abbrev pub older_unit : unit.Unit
 older_unit = record { terminal = 0; number = 1; birth = 0 }
 
+-- a unit that began after the other
 abbrev pub younger_unit : unit.Unit
 younger_unit = record { terminal = 1; number = 1; birth = 1 }
 

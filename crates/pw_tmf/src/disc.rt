@@ -14,6 +14,9 @@ use pw_code::unit::Unit;
 use std::alloc::Global;
 
 /// What keeps the records of files, and the units that change them under locks. docs/TMF.md has the rules.
+///
+/// `Failed` comes only where the count of faults that is told rose, or stands at its end. Every `Err` leaves all that
+/// is told but that count.
 pub trait Disc: Send + Drop {
     ghost told: { Self → Told };
 

@@ -1,6 +1,8 @@
-ghost use Rattle.std.specs.Prelude.{◌≡◌, IfOk};
-ghost use Rattle.pw_base.specs.Outside.{counted, is_listed};
-ghost use Rattle.pw_tmf.specs.Faulty.{counted_if};
+ghost use Rattle.std.specs.Prelude.{◌≡◌, ◌≢◌, [], true, All, Err, IfErr, IfOk, OnOk};
+ghost use Rattle.pw_tmf.specs.Answers.{Leaves, Operates};
+ghost use Rattle.pw_tmf.specs.Faulty.{called, fails_next, told_by};
+ghost use Rattle.pw_tmf.specs.Operation.{IsCall};
+ghost use Rattle.pw_tmf.specs.Units.{AreApart, CanBackOut, CanBegin, IsRunning, all_backed_out, begun, ended};
 
 use crate::answer::{DiscFault, Ended, FileAnswer, Foreseen};
 use crate::disc::Disc;
@@ -21,10 +23,8 @@ pub struct Calls {
 impl Calls {
     /// Counts a call, and tells whether it fails.
     fn fails(&mut self) -> bool
-        ensures answer { result ≡ is_listed self.old.fail_at.items self.old.made }
-        ensures made { self.new.made ≡ counted self.old.made }
-        ensures faults { self.new.faults ≡ counted_if result self.old.faults }
-        ensures listed { self.new.fail_at ≡ self.old.fail_at }
+        ensures answer { result ≡ fails_next self.old }
+        ensures counts { self.new ≡ called self.old }
     {
         self.made = self.made.saturating_add(1);
         let fails = self.fail_at.contains(&self.made);
@@ -36,7 +36,7 @@ impl Calls {
 }
 
 /// A disc that fails at calls which it is told: those of `begin`, `operate`, `commit` and `back_out` are numbered together
-/// from 1. A call that fails does not reach the disc inside.
+/// from 1. A call that fails answers Failed and does not reach the disc inside (docs/TMF.md).
 #[derive(Drop)]
 pub struct Faulty<D: Disc> {
     pub inner: D,
@@ -63,32 +63,63 @@ impl<D: Disc> Faulty<D> {
 }
 
 impl<D: Disc> Disc for Faulty<D> {
-    ghost use Rattle.pw_tmf.specs.Faulty.{with_faults};
+    ghost use Rattle.pw_tmf.specs.Faulty.{told_by};
 
-    ghost told = { λ faulty. with_faults faulty.calls.faults (D.told faulty.inner) };
+    ghost told = { λ faulty. told_by D.told faulty };
 
-    fn begin(&mut self, unit: &Unit) -> Result<(), DiscFault> {
+    fn begin(&mut self, unit: &Unit) -> Result<(), DiscFault>
+        requires { CanBegin (told_by D.told self.old) unit.now }
+        ensures ok { OnOk result (told_by D.told self.new ≡ begun (told_by D.told self.old) unit.now) }
+        ensures err { IfErr result (λ fault. Leaves fault (told_by D.told self.old) (told_by D.told self.new)) }
+        ensures calls { self.new.calls ≡ called self.old.calls }
+        ensures failed { fails_next self.old.calls ≡ true
+            → (result ≡ Err DiscFault.Failed) × (self.new.inner ≡ self.old.inner) }
+    {
         if self.calls.fails() {
             return Err(DiscFault::Failed);
         }
         self.inner.begin(unit)
     }
 
-    fn operate(&mut self, unit: &Unit, call: &FileCall) -> FileAnswer {
+    fn operate(&mut self, unit: &Unit, call: &FileCall) -> FileAnswer
+        requires unit { IsRunning (told_by D.told self.old) unit.now }
+        requires call { IsCall (told_by D.told self.old) call.now }
+        ensures answer { Operates result (told_by D.told self.old) unit.now call.now (told_by D.told self.new) }
+        ensures calls { self.new.calls ≡ called self.old.calls }
+        ensures failed { fails_next self.old.calls ≡ true
+            → (result ≡ FileAnswer.Failed) × (self.new.inner ≡ self.old.inner) }
+    {
         if self.calls.fails() {
             return FileAnswer::Failed;
         }
         self.inner.operate(unit, call)
     }
 
-    fn commit(&mut self, unit: &Unit, reply: Option<Bytes>) -> Result<(), DiscFault> {
+    fn commit(&mut self, unit: &Unit, reply: Option<Bytes>) -> Result<(), DiscFault>
+        requires { IsRunning (told_by D.told self.old) unit.now }
+        ensures ok { OnOk result (told_by D.told self.new ≡ ended (told_by D.told self.old) unit.now reply) }
+        ensures err { IfErr result (λ fault. Leaves fault (told_by D.told self.old) (told_by D.told self.new)) }
+        ensures calls { self.new.calls ≡ called self.old.calls }
+        ensures failed { fails_next self.old.calls ≡ true
+            → (result ≡ Err DiscFault.Failed) × (self.new.inner ≡ self.old.inner) }
+    {
         if self.calls.fails() {
             return Err(DiscFault::Failed);
         }
         self.inner.commit(unit, reply)
     }
 
-    fn back_out(&mut self, units: &[Unit], ends: bool) -> Result<(), DiscFault> {
+    fn back_out(&mut self, units: &[Unit], ends: bool) -> Result<(), DiscFault>
+        requires some { units.now ≢ [] }
+        requires apart { AreApart units.now }
+        requires units { All (CanBackOut ends (told_by D.told self.old)) units.now }
+        ensures ok { OnOk result (told_by D.told self.new
+            ≡ all_backed_out ends (told_by D.told self.old) units.now) }
+        ensures err { IfErr result (λ fault. Leaves fault (told_by D.told self.old) (told_by D.told self.new)) }
+        ensures calls { self.new.calls ≡ called self.old.calls }
+        ensures failed { fails_next self.old.calls ≡ true
+            → (result ≡ Err DiscFault.Failed) × (self.new.inner ≡ self.old.inner) }
+    {
         if self.calls.fails() {
             return Err(DiscFault::Failed);
         }

@@ -30,6 +30,7 @@ impl Model for Image {
 }
 
 impl Image {
+    /// What was at this place, a file and a key, before the open unit of a terminal changed it.
     pub fn new(terminal: u32, place: (u32, Bytes), content: Option<Bytes>) -> Image
         ensures { result ≡ record { terminal = terminal; file = place.0; key = place.1; content = content } }
     {
@@ -47,6 +48,7 @@ impl Image {
         self.place.0
     }
 
+    /// The key.
     pub fn key(&self) -> &[u8]
         ensures { result.now ≡ self.now.key }
     {
@@ -60,7 +62,7 @@ impl Image {
         &self.place
     }
 
-    /// The same, copied.
+    /// A copy of the number of the file and of the key.
     pub fn copy_place(&self, alloc: Global) -> Result<(u32, Bytes), Memory>
         ensures { IfOk result (λ place. place ≡ (self.now.file, self.now.key)) }
     {

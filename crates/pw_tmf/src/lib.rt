@@ -1,4 +1,5 @@
 //! The units of terminals, their changes of files and their locks.
+//! docs/TMF.md has the rules.
 #![tactic(auto)]
 
 pub mod answer;

@@ -50,6 +50,7 @@ impl OpenUnit {
         self.number
     }
 
+    /// Its before-images.
     pub fn images(&self) -> &Images
         ensures { result.now ≡ self.now.before }
     {

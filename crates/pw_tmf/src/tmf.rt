@@ -117,7 +117,7 @@ impl Tmf {
         self.changes_settled(terminal)
     }
 
-    /// The same where nothing is to be put back.
+    /// What is now at each key that the open unit of a terminal has changed, where nothing is to be put back.
     fn changes_settled(&self, terminal: u32) -> Result<Vec<Changed>, Memory>
         requires settled { self.now.pending ≡ [] }
         requires terminal { terminal < (told_of self.now).terminals }

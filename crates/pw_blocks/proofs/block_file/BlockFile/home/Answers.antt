@@ -3,8 +3,8 @@ use Rattle.std.proofs.lemmas.Fn.{always_returns_same}
 use Rattle.pw_blocks.proofs.HomeLemmas.{at_most, home_is, index_parts}
 use Rattle.pw_blocks.proofs.block_file.BlockFile.home.Goals as goal
 
-pub returns-clause-place : goal.returns-clause-place
-returns-clause-place c =
+pub returns : goal.returns
+returns c =
     let n = c.self.inside.key in
     let blocks = c.self.inside.blocks.items in
     let index = c.self.inside.index.items in

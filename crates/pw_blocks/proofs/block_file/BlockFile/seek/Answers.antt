@@ -7,6 +7,6 @@ cut_at-requires-clause-rises c =
 
 pub returns-clause-seat : goal.returns-clause-seat
 returns-clause-seat c =
-    let home = rw (← c.self.view_is) at c.home-place.ensures.place in
+    let home = rw (← c.self.view_is) at c.home-place.ensures in
     let cut = rw (c.from.ensures, c.contents-finger.ensures.records, ← c.self.view_is) at c.cut_at.ensures in
     rw (← c.self.view_is) (seat_is c.self.inside.key c.self.inside.blocks.items c.home-place.result c.args.key.now c.cut_at.result home cut)
