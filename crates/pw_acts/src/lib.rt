@@ -1,4 +1,5 @@
 //! The entries of a run, each done to what a monitor keeps.
+//! docs/WORLD.md has the rules.
 #![tactic(auto)]
 
 pub mod act;

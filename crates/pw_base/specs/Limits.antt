@@ -5,10 +5,6 @@ use Rattle.std.specs.Prelude.{ℕ}
 abbrev pub longest_input : ℕ
 longest_input = 16777216
 
--- the most entries of a log
-abbrev pub most_entries : ℕ
-most_entries = 100000
-
 -- the most characters of storage of a program
 abbrev pub most_storage : ℕ
 most_storage = 32000

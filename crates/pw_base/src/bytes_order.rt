@@ -1,4 +1,4 @@
-// Runs of bytes in the order of bytes, a run before the longer ones that begin with it.
+//! Runs of bytes in the order of bytes, a run before the longer ones that begin with it.
 ghost use Rattle.std.specs.Prelude.{nat_eq, Some};
 ghost use Rattle.std.specs.Cmp.{partial_equiv_from_equiv};
 ghost use Rattle.std.specs.Cmp.Lexicographic.{pointwise, slice_cmp, nat_list_eq_equiv, nat_list_cmp_total, texts_ties, texts_po};

@@ -91,20 +91,16 @@ impl ClassBook {
     pub fn first(&self, class: u32) -> Option<&Request>
         ensures { option_copied result ≡ slice_get (queue_at self.now class).waiting 0 }
     {
-        match self.classes.get(class as usize) {
-            Some(queue) => queue.first(),
-            None => None,
-        }
+        let queue = self.classes.get(class as usize)?;
+        queue.first()
     }
 
     /// What a process of the class works on, None exactly where it is free or there is no such process.
     pub fn request_at(&self, class: u32, process: u32) -> Option<&Request>
         ensures { option_copied result ≡ request_at self.now class process }
     {
-        match self.classes.get(class as usize) {
-            Some(queue) => queue.at_process(process),
-            None => None,
-        }
+        let queue = self.classes.get(class as usize)?;
+        queue.at_process(process)
     }
 
     /// Where a request of the terminal is, None exactly where none waits and none is at a process.

@@ -36,10 +36,8 @@ impl Places {
     pub fn get(&self, terminal: u32) -> Option<Place>
         ensures { result ≡ noted self.now terminal }
     {
-        match self.places.get(terminal as usize) {
-            Some(place) => *place,
-            None => None,
-        }
+        let place = self.places.get(terminal as usize)?;
+        *place
     }
 
     /// Makes room for a terminal. What is noted stays, whatever comes of it.

@@ -56,10 +56,8 @@ impl Queue {
     pub fn first(&self) -> Option<&Request>
         ensures { option_copied result ≡ slice_get self.now.waiting 0 }
     {
-        match self.waiting.front() {
-            Some(twin) => Some(twin.request()),
-            None => None,
-        }
+        let twin = self.waiting.front()?;
+        Some(twin.request())
     }
 
     /// What a process works on, None exactly where it is free or there is no such process.
@@ -69,10 +67,8 @@ impl Queue {
         if process == 0 {
             return None;
         }
-        match self.busy.get(process as usize - 1) {
-            Some(work) => work.as_ref(),
-            None => None,
-        }
+        let work = self.busy.get(process as usize - 1)?;
+        work.as_ref()
     }
 
     /// Whether a request of the terminal waits.

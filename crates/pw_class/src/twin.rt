@@ -38,6 +38,7 @@ impl Twin {
         })
     }
 
+    /// The request.
     pub fn request(&self) -> &Request
         ensures { result.now ≡ self.now }
     {

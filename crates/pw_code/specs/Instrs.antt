@@ -39,6 +39,7 @@ digits_of_register register.Termination = 4
 digits_of_register register.Restarts = 5
 digits_of_register register.FileStatus = 4
 
+-- how many characters an operand that is an item or a register has, 0 for any other
 abbrev pub size_of_item : Operand → ℕ
 size_of_item (operand.Item place) = place.size
 size_of_item (operand.Register register) = digits_of_register register
@@ -75,6 +76,7 @@ pub record IsScreen (system : System) (storage screen : ℕ) : Type 0 where
 abbrev pub most_keys : ℕ
 most_keys = 9999
 
+-- a code of a reply is at most 9999, and the item that it yields lies in the storage
 abbrev pub IsReplyCode : ℕ → ReplyCode → Type 0
 IsReplyCode storage code = (code.number ≤ 9999) × IsPlace storage code.yields
 

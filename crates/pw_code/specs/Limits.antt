@@ -5,6 +5,7 @@ use Rattle.std.specs.Prelude.{ℕ}
 abbrev pub most_programs : ℕ
 most_programs = 32
 
+-- programs of servers
 abbrev pub most_servers : ℕ
 most_servers = 32
 
@@ -12,6 +13,7 @@ most_servers = 32
 abbrev pub most_classes : ℕ
 most_classes = 16
 
+-- processes of one class
 abbrev pub most_processes : ℕ
 most_processes = 16
 
@@ -23,6 +25,7 @@ most_files = 16
 abbrev pub most_tcps : ℕ
 most_tcps = 8
 
+-- started terminals
 abbrev pub most_terminals : ℕ
 most_terminals = 128
 
@@ -34,9 +37,11 @@ most_restarts = 32767
 abbrev pub most_entry_lines : ℕ
 most_entry_lines = 4096
 
+-- pairs of a name and a value in one entry line
 abbrev pub most_pairs : ℕ
 most_pairs = 1840
 
+-- the number of the last key, SF16
 abbrev pub last_key : ℕ
 last_key = 32
 
@@ -44,6 +49,7 @@ last_key = 32
 abbrev pub most_fail_lines : ℕ
 most_fail_lines = 64
 
+-- entries after which a failure line is due
 abbrev pub most_after : ℕ
 most_after = 500000
 

@@ -61,5 +61,6 @@ abbrev pub IsComparison : ℕ → Comparison → Type 0
 IsComparison storage (comparison.Compare left negated op right) = IsOperand storage left × IsOperand storage right
 IsComparison storage (comparison.Numeric a negated) = IsOperand storage a
 
+-- each comparison of a condition fits a storage of so many characters
 abbrev pub IsCond : ℕ → Cond → Type 0
 IsCond storage cond = All (All (IsComparison storage)) cond.any

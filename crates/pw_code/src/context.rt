@@ -41,10 +41,11 @@ pub struct Context {
     pub restarts: u32,
     /// FILE-STATUS.
     pub file_status: u16,
-    /// The phase and the attempt of refresh numbers, and how often the screen was shown since they
-    /// last changed.
+    /// The phase of refresh numbers.
     pub phase: u32,
+    /// The attempt of refresh numbers.
     pub attempt: u32,
+    /// How often the screen was shown since phase or attempt last changed.
     pub shown: u32,
     /// The entry lines that were taken.
     pub entries: u32,

@@ -5,14 +5,23 @@ use std::alloc::AllocError;
 /// What the program is asked to do (docs/COMMANDS.md).
 #[derive(Clone, Copy, Debug, PartialEq, Eq)]
 pub enum Command {
+    /// Runs a deck, and prints its report.
     Run,
+    /// Runs the generated deck, and prints its files.
     Trial,
+    /// Tells whether a deck has a fault.
     Check,
+    /// Replays the log of a deck.
     Verify,
+    /// Makes the generated deck.
     Gen,
+    /// Runs a deck over a disc pair.
     Disc,
+    /// Runs a deck over an audit trail, which is crashed and recovered.
     Trail,
+    /// Prints the status text of the first entries of a log.
     Status,
+    /// Plays a schedule of transactions over several systems.
     Expand,
 }
 
@@ -35,6 +44,7 @@ pub struct Words {
 /// Why there is no command.
 #[derive(Clone, Copy, Debug, PartialEq, Eq)]
 pub enum WordsFault {
+    /// Memory ran out.
     Memory,
     /// The words are not the command's.
     Refused,

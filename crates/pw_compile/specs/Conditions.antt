@@ -20,6 +20,7 @@ use Rattle.pw_code.specs.declared.instr.Operation as actions
 use Rattle.pw_code.specs.declared.instr.Operation.TheVariants as operation
 use Rattle.pw_compile.specs.Operands.{operand_of, place_in}
 
+-- how a comparison compares, as code has it
 abbrev pub operator_of : Operator → signs.Operator
 operator_of operators.Equal = operator.Equal
 operator_of operators.Less = operator.Less
@@ -27,6 +28,7 @@ operator_of operators.Greater = operator.Greater
 operator_of operators.LessEqual = operator.LessEqual
 operator_of operators.GreaterEqual = operator.GreaterEqual
 
+-- a comparison, as code has it
 abbrev pub comparison_of : Laid → Comparison → tests.Comparison
 comparison_of layout (comparisons.Compare left negated op right) =
     comparison.Compare (operand_of layout left) negated (operator_of op) (operand_of layout right)
@@ -37,6 +39,7 @@ comparison_of layout (comparisons.Numeric one negated) =
 abbrev pub cond_of : Laid → Cond → conds.Cond
 cond_of layout cond = record { any = map (map (comparison_of layout)) cond.any }
 
+-- an operation of arithmetic, as code has it
 abbrev pub operation_of : Operation → actions.Operation
 operation_of operations.Add = operation.Add
 operation_of operations.Subtract = operation.Subtract
@@ -48,6 +51,7 @@ abbrev pub receiver_by : Option Operand → Operand → Operand
 receiver_by None second = second
 receiver_by (Some item) second = item
 
+-- an arithmetic statement, as code has it
 abbrev pub arithmetic_of : Laid → Arithmetic → computed.Arithmetic
 arithmetic_of layout a = record {
   operation = operation_of a.operation;

@@ -23,13 +23,16 @@ use Rattle.pw_compile.specs.Sizes.{row_size, body_size}
 
 -- ---- DISPLAY: a screen, where the name is one, and else an operand
 
+-- a program has a screen of this name
 abbrev pub has_screen : List ScreenTable → Word → Bool
 has_screen screens name = is_some (position (λ screen. bytes_eq screen.name name) screens)
 
+-- DISPLAY of a name, by whether a screen has it
 abbrev pub display_by : Plan → Bool → Word → Operand → Instr
 display_by plan true name shown = instr.DisplayScreen (screen_of plan name) false
 display_by plan false name shown = instr.Display (operand_of plan.layout shown)
 
+-- DISPLAY of an operand
 abbrev pub display_of : Plan → Operand → Instr
 display_of plan (operands.Item name None) =
     display_by plan (has_screen plan.screens name) name (operands.Item name None)
@@ -37,14 +40,17 @@ display_of plan shown = instr.Display (operand_of plan.layout shown)
 
 -- ---- CALL: it keeps the registers where one is a subscript
 
+-- a subscript is a register
 abbrev pub is_register : index.Subscript → Bool
 is_register (subscript.Register register) = true
 is_register _ = false
 
+-- a register says which occurrence of a table is meant
 abbrev pub is_by_register : Option Table → Bool
 is_by_register None = false
 is_by_register (Some table) = is_register table.subscript
 
+-- a CALL with these arguments keeps the registers
 abbrev pub keeps : List Place → Bool
 keeps places = list_any (λ place. is_by_register place.table) places
 
@@ -52,12 +58,14 @@ keeps places = list_any (λ place. is_by_register place.table) places
 abbrev pub places_of : Plan → List Operand → List Place
 places_of plan operands = map (place_in plan.layout) operands
 
+-- CALL of a program with arguments
 abbrev pub call_of : Plan → Word → List Operand → Instr
 call_of plan program arguments =
     instr.Call (program_of plan program) (places_of plan arguments) (keeps (places_of plan arguments))
 
 -- ---- SEND
 
+-- a code of a SEND, and the place of the item that it yields
 abbrev pub reply_code : Plan → Code → ReplyCode
 reply_code plan code = record { number = code.number; yields = place_in plan.layout code.yields }
 

@@ -50,6 +50,7 @@ abbrev pub index_at : ℕ → Option Picture → index.Subscript
 index_at at (Some (picture.Number digits places signed)) = subscript.Item at digits places
 index_at at _ = subscript.Item at 0 0
 
+-- a subscript by the item of its name, and a register where no item has the name
 abbrev pub index_by : Option items.Place → Word → index.Subscript
 index_by None name = subscript.Register (register_named name)
 index_by (Some place) name = index_at place.at place.picture
@@ -78,6 +79,7 @@ placed layout place one = record {
 abbrev pub no_place : Place
 no_place = record { at = 0; size = 0; kind = kind.Group; table = None }
 
+-- the place of an item with its subscript, and no place where there is no item
 abbrev pub place_by : Laid → Option items.Place → Option Subscript → Place
 place_by layout None one = no_place
 place_by layout (Some place) one = placed layout place one
@@ -89,6 +91,7 @@ place_in layout _ = no_place
 
 -- ---- operands
 
+-- an operand by the item of its name, and a register where no item has the name
 abbrev pub operand_by : Laid → Option items.Place → Word → Option Subscript → coded.Operand
 operand_by layout None name one = operand.Register (register_named name)
 operand_by layout (Some place) name one = operand.Item (placed layout place one)

@@ -47,8 +47,10 @@ screen_of plan name = plan.first + number_of (λ screen. screen.name) plan.scree
 abbrev pub program_of : Plan → Word → ℕ
 program_of plan name = number_of (λ program. program) plan.links.programs name
 
+-- the number of the class of a name
 abbrev pub class_of : Plan → Word → ℕ
 class_of plan name = number_of (λ class. class) plan.links.classes name
 
+-- the number of the file of a name
 abbrev pub file_of : Plan → Word → ℕ
 file_of plan name = number_of (λ file. file.name) plan.links.files name

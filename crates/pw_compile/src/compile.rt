@@ -9,8 +9,9 @@ use pw_scobol::requester::Requester;
 use pw_server::server::Server;
 use std::alloc::Global;
 
-/// The code of a requester whose names resolve, where its screens are numbered from
-/// `first_screen` on. It has fewer than 2^32 instructions.
+/// The code of a requester whose names resolve, where its screens are numbered from `first_screen` on
+/// (docs/CODE.md). It has fewer than 2^32 instructions: more, or a number of a screen that does not fit
+/// a `u32`, are `Memory`.
 pub fn compile(
     alloc: Global,
     program: &Requester,
@@ -34,7 +35,8 @@ pub fn compile(
     )
 }
 
-/// The code of a server whose names resolve. It has fewer than 2^32 instructions.
+/// The code of a server whose names resolve (docs/CODE.md). It has fewer than 2^32 instructions: more
+/// are `Memory`.
 pub fn compile_server(alloc: Global, program: &Server, links: &Links) -> Result<Code, Memory>
     ensures code { IfOk result (λ code. code ≡ code_of program.now.name program.now.layout [] []
         program.now.procedure.paragraphs 0 links.now) }

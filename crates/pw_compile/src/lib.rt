@@ -1,4 +1,5 @@
 //! The code of programs: what each statement of a requester or of a server becomes.
+//! docs/CODE.md has the rules.
 #![tactic(auto)]
 
 pub mod compile;

@@ -16,10 +16,7 @@ pub fn add(a: u32, b: u32) -> Result<u32, Memory>
     ensures sum { IfOk result (λ sum. sum ≡ a + b) }
     ensures fits { IfOk result (λ sum. sum < 2 ^ 32) }
 {
-    match a.checked_add(b) {
-        Some(sum) => Ok(sum),
-        None => Err(Memory),
-    }
+    a.checked_add(b).ok_or(Memory)
 }
 
 /// A number of a thing as it stands in code.

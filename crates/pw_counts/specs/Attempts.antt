@@ -19,6 +19,7 @@ use Rattle.pw_paired.specs.State.{State}
 use Rattle.pw_paired.specs.Step.{after}
 use Rattle.pw_paired.specs.Units.{attempt_of}
 
+-- attempts: how many have committed, were dropped and were left, and which run
 pub record AttemptsState : Type 0 where
   pub committed : ℕ
   pub dropped : ℕ
@@ -29,6 +30,7 @@ pub record AttemptsState : Type 0 where
 abbrev pub first_seat : TermInfo → Seat
 first_seat terminal = record { tcp = terminal.tcp; runs = false }
 
+-- the counts before the first entry of a log of the system
 pub record IsStart (system : System) (attempts : AttemptsState) : Type 0 where
   pub committed : attempts.committed ≡ 0
   pub dropped : attempts.dropped ≡ 0
@@ -40,10 +42,12 @@ abbrev pub commits : order.How → Bool
 commits how.Commit = true
 commits _ = false
 
+-- attempts are dropped
 abbrev pub drops : order.How → Bool
 drops how.Dropped = true
 drops _ = false
 
+-- the attempts that are over, if any, are over in this way
 abbrev pub is_over_by : (order.How → Bool) → Option Over → Bool
 is_over_by kind None = false
 is_over_by kind (Some over) = kind over.how
@@ -72,6 +76,7 @@ abbrev pub stopped : Whose → List Seat → List Seat
 stopped (One t) seats = changed_at t (with_runs false) seats
 stopped (Pair p) seats = map (stopped_of p) seats
 
+-- the attempts that are over, if any, run no more
 abbrev pub stopped_by : Option Over → List Seat → List Seat
 stopped_by None seats = seats
 stopped_by (Some over) seats = stopped over.whose seats
@@ -98,6 +103,7 @@ is_running state t = is_some (attempt_of (state.units t))
 abbrev pub seat_of : Behaviour → State → ℕ → Seat
 seat_of sys state t = record { tcp = sys.pair_of t; runs = is_running state t }
 
+-- the seats are those of the terminals in a state
 pub record AreSeatsOf (sys : Behaviour) (state : State) (seats : List Seat) : Type 0 where
   pub count : length seats ≡ sys.terminals
   pub seat : (t : ℕ) → t < sys.terminals → slice_get seats t ≡ Some (seat_of sys state t)

@@ -4,6 +4,7 @@ use Rattle.pw_counts.specs.Counts.{is_begin, is_older, is_redo, is_restart_of, i
 use Rattle.pw_event.specs.declared.event.Cause.{Cause}
 use Rattle.pw_event.specs.declared.event.Event.{Event}
 
+-- counters: BEGIN entries, and RESTART entries by their cause
 pub record CountersState : Type 0 where
   pub begun : ℕ
   pub older : ℕ
@@ -18,6 +19,7 @@ pub record CountersState : Type 0 where
 abbrev pub more : ℕ → ℕ
 more n = min (n + 1) (2 ^ 32 - 1)
 
+-- one more where it counts
 abbrev pub more_if : Bool → ℕ → ℕ
 more_if one n = if one then more n else n
 
@@ -47,6 +49,7 @@ caused why counters = record counters {
   redo = more_if (is_redo why) counters.redo;
 }
 
+-- the counters are those of a log
 pub record AreCountersOf (log : List Event) (counters : CountersState) : Type 0 where
   pub begun : counters.begun ≡ count_by is_begin log
   pub older : counters.older ≡ count_by (restarts_by is_older) log

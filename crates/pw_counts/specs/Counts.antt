@@ -32,9 +32,11 @@ abbrev pub restarted : Event → Option ℕ
 restarted (Restart t n cause) = Some t
 restarted _ = None
 
+-- an entry is a RESTART of this terminal
 abbrev pub is_restart_of : ℕ → Event → Bool
 is_restart_of t entry = is_one t (restarted entry)
 
+-- what is counted of a terminal
 abbrev pub terminal_counts : Behaviour → List Event → ℕ → TerminalCounts
 terminal_counts sys log t = record {
   units = ((after sys log).ended t).number;
@@ -50,6 +52,7 @@ abbrev pub taken_from : Event → Option ℕ
 taken_from (Take c i t) = Some c
 taken_from _ = None
 
+-- an entry is a TAKE of this class
 abbrev pub is_take_of : ℕ → Event → Bool
 is_take_of c entry = is_one c (taken_from entry)
 
@@ -69,6 +72,7 @@ longest_from sys state c [] = waiting state c
 longest_from sys state c (entry ∷ log) =
     max (waiting state c) (longest_from sys (effect sys state entry) c log)
 
+-- what is counted of a class
 abbrev pub class_counts : Behaviour → List Event → ℕ → ClassCounts
 class_counts sys log c = record {
   waiting = waiting (after sys log) c;
@@ -88,22 +92,27 @@ file_counts sys log f = record {
 
 -- ---- units
 
+-- an entry is a BEGIN
 abbrev pub is_begin : Event → Bool
 is_begin (Begin t n r) = true
 is_begin _ = false
 
+-- a cause is OLDER
 abbrev pub is_older : Cause → Bool
 is_older (cause.Older o m) = true
 is_older _ = false
 
+-- a cause is TAKEOVER
 abbrev pub is_takeover : Cause → Bool
 is_takeover (cause.Takeover p) = true
 is_takeover _ = false
 
+-- a cause is SERVER
 abbrev pub is_server : Cause → Bool
 is_server (cause.Server k) = true
 is_server _ = false
 
+-- a cause is REDO
 abbrev pub is_redo : Cause → Bool
 is_redo cause.Redo = true
 is_redo _ = false
@@ -118,10 +127,12 @@ abbrev pub is_committed : Block → Bool
 is_committed (block.Ended t n how.Commit) = true
 is_committed _ = false
 
+-- a block is of an attempt that was dropped
 abbrev pub is_dropped : Block → Bool
 is_dropped (block.Ended t n how.Dropped) = true
 is_dropped _ = false
 
+-- a block is of an attempt that was left
 abbrev pub is_left : Block → Bool
 is_left (block.Ended t n how.Left) = true
 is_left _ = false

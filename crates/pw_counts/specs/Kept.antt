@@ -13,9 +13,11 @@ pub record RecordsState : Type 0 where
   pub files : List ℕ
   pub terminals : List ChangesState
 
+-- no change, and no room for one
 abbrev pub none_changed : ChangesState
 none_changed = record { changes = []; spare = false }
 
+-- the changes of a terminal
 abbrev pub changes_by : RecordsState → ℕ → ChangesState
 changes_by records t = slice_index_or records.terminals t none_changed
 
@@ -29,6 +31,7 @@ IsSameBut t old new = new ≡ record old {
 abbrev pub changed_by : Bool → ℕ → ℕ
 changed_by grew n = if grew then min (n + 1) (2 ^ 64 - 1) else n - 1
 
+-- the counts behind a change of one file
 abbrev pub changed_at : Change → List ℕ → List ℕ
 changed_at change counts =
     slice_set counts change.file (changed_by change.grew (slice_index_or counts change.file 0))

@@ -17,9 +17,11 @@ pub record LocksState : Type 0 where
   pub files : List ℕ
   pub terminals : List FilesState
 
+-- no lock, and no room for one
 abbrev pub none_held : FilesState
 none_held = record { files = []; spare = false }
 
+-- the locks of a terminal
 abbrev pub held_by : LocksState → ℕ → FilesState
 held_by locks t = slice_index_or locks.terminals t none_held
 
@@ -48,11 +50,13 @@ pub record IsReleased (t : ℕ) (old new : LocksState) : Type 0 where
 abbrev pub locked_by : List Lock → ℕ → List ℕ
 locked_by locks t = map (λ lock. lock.file) (filter (λ lock. only t lock.unit.terminal) locks)
 
+-- the locks that are kept are those that are held
 pub record AreLocksOf (locks : List Lock) (kept : LocksState) : Type 0 where
   pub files : (f : ℕ) → f < length kept.files
       → slice_index_or kept.files f 0 ≡ count_by (λ lock. lock.file == f) locks
   pub terminals : (t : ℕ) → t < length kept.terminals → (held_by kept t).files ≡ locked_by locks t
 
+-- an entry is a FILE
 abbrev pub is_file : Event → Bool
 is_file (File c i op mode f status) = true
 is_file _ = false

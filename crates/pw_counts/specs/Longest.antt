@@ -17,6 +17,7 @@ longest_with None waiting longest = longest
 longest_with (Some c) waiting longest =
     slice_set longest c (max (slice_index_or longest c 0) waiting)
 
+-- for each class the greatest number of requests that waited at once in a log
 abbrev pub AreLongestOf : Behaviour → List Event → List ℕ → Type 0
 AreLongestOf sys log longest =
     (c : ℕ) → c < length longest

@@ -18,6 +18,7 @@ abbrev pub grows : FileOp → Bool
 grows Write = true
 grows _ = false
 
+-- an operation takes a record away
 abbrev pub shrinks : FileOp → Bool
 shrinks Delete = true
 shrinks _ = false
@@ -26,6 +27,7 @@ shrinks _ = false
 abbrev pub grown_in : ℕ → List Change → ℕ
 grown_in f changes = count_by (λ change. change.file == f && change.grew) changes
 
+-- how many of the changes took a record out of this file
 abbrev pub shrunk_in : ℕ → List Change → ℕ
 shrunk_in f changes = count_by (λ change. change.file == f && not change.grew) changes
 

@@ -12,6 +12,7 @@ use Rattle.std.specs.List.{list_any}
 abbrev pub no_numbers : BTreeSet Number
 no_numbers = record { keys = [] }
 
+-- the refresh numbers of a terminal
 abbrev pub numbers_of : List (BTreeSet Number) → ℕ → BTreeSet Number
 numbers_of sets t = slice_index_or sets t no_numbers
 
@@ -40,6 +41,7 @@ pub record HasNumbers (refreshes : List Refresh) (t : ℕ) (numbers : BTreeSet N
       ≡ list_any (same_number r) (refreshes_of t refreshes)
   pub count : btree_set_len numbers ≡ length (counted refreshes t)
 
+-- the refresh numbers that are kept are those of the refreshes
 abbrev pub AreShownOf : List Refresh → List (BTreeSet Number) → Type 0
 AreShownOf refreshes sets =
     (t : ℕ) → t < length sets → HasNumbers refreshes t (numbers_of sets t)

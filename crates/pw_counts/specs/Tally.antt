@@ -28,6 +28,7 @@ use Rattle.pw_order.specs.declared.block.How.TheVariants as how
 use Rattle.pw_paired.specs.State.{Job, State}
 use Rattle.pw_paired.specs.Step.{after}
 
+-- all that is counted of a log entry by entry, but for the refresh numbers
 pub record TallyState : Type 0 where
   pub counters : CountersState
   pub longest : List ℕ
@@ -56,6 +57,7 @@ units_in tally = record {
 
 -- ---- before the first entry
 
+-- what is counted before the first entry of a log of the system
 pub record IsFirstTally (system : System) (tally : TallyState) : Type 0 where
   pub restarts : length tally.counters.restarts ≡ length system.terminals
   pub taken : length tally.counters.taken ≡ length system.classes
@@ -93,6 +95,7 @@ pub record HasRoomFor (tally : TallyState) (t : ℕ) : Type 0 where
   pub lock : t < length tally.locks.terminals → (held_by tally.locks t).spare ≡ true
   pub change : t < length tally.records.terminals → (changes_by tally.records t).spare ≡ true
 
+-- there is room for one more lock and change of the terminal, if there is one
 abbrev pub HasRoom : Option ℕ → TallyState → Type 0
 HasRoom None tally = Unit {0}
 HasRoom (Some t) tally = HasRoomFor tally t
@@ -108,10 +111,12 @@ LocksSettled seats None old new = new ≡ old
 LocksSettled seats (Some over) old new =
     HasSeat seats over.whose → AreReleased (is_whose seats over.whose) old new
 
+-- the locks behind an entry: an operation adds one, and else those of attempts that are over go
 abbrev pub LocksBehind : List Seat → Option ℕ → Option Operation → Option Over → LocksState → LocksState → Type 0
 LocksBehind seats terminal (Some operation) over old new = LocksAdded terminal operation.file old new
 LocksBehind seats terminal None over old new = LocksSettled seats over old new
 
+-- the records behind an operation for a terminal, if there is one
 abbrev pub RecordsAdded : Option ℕ → Operation → RecordsState → RecordsState → Type 0
 RecordsAdded None operation old new = new ≡ old
 RecordsAdded (Some t) operation old new = Changed t (change_of operation) old new
@@ -121,11 +126,13 @@ abbrev pub ChangesSettled : List Seat → Whose → order.How → RecordsState �
 ChangesSettled seats (One t) how.Commit old new = new ≡ without_changes t (changes_by new t).spare old
 ChangesSettled seats whose how old new = AreTakenBack (length seats) (is_whose seats whose) old new
 
+-- the records once attempts are over, if any are
 abbrev pub RecordsSettled : List Seat → Option Over → RecordsState → RecordsState → Type 0
 RecordsSettled seats None old new = new ≡ old
 RecordsSettled seats (Some over) old new =
     HasSeat seats over.whose → ChangesSettled seats over.whose over.how old new
 
+-- the records behind an entry: changed by an operation, and else settled where attempts are over
 abbrev pub RecordsBehind : List Seat → Option ℕ → Option Operation → Option Over → RecordsState → RecordsState → Type 0
 RecordsBehind seats terminal (Some operation) over old new = RecordsAdded terminal operation old new
 RecordsBehind seats terminal None over old new = RecordsSettled seats over old new
@@ -150,6 +157,7 @@ pub record AreRecordsAt (sys : Behaviour) (state : State) (entries : ℕ) (recor
   pub room : (f : ℕ) → f < length records.files → slice_index_or records.files f 0
       + sum_to sys.terminals (λ t. true) (λ t. shrunk_in f (changes_by records t).changes) ≤ 2 ^ 63 + entries
 
+-- the records that are counted are those behind a log
 abbrev pub AreRecordsOf : Behaviour → List Event → RecordsState → Type 0
 AreRecordsOf sys log records = AreRecordsAt sys (after sys log) (length log) records
 

@@ -53,8 +53,8 @@ impl Attempts {
         })
     }
 
-    /// Takes one more entry in, which where it is a REPLY or a FAIL TCP ends attempts or not. It takes
-    /// no memory.
+    /// Takes one more entry in. `ends` tells of a REPLY whether it commits its unit, and of a FAIL TCP
+    /// whether it loses its pair. It takes no memory.
     pub fn push(&mut self, entry: &Event, ends: bool)
         ensures { self.new ≡ attempts_behind ends entry.now self.old }
     {
@@ -203,6 +203,7 @@ fn stop_pair(seats: &mut Vec<Seat>, tcp: u32)
     }
 }
 
+/// The attempt of a terminal is over where the terminal is of the pair.
 fn stop_one(seat: &mut Seat, tcp: u32)
     ensures { seat.new ≡ stopped_of tcp seat.old }
 {

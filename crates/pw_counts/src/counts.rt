@@ -14,8 +14,9 @@ pub struct TerminalCounts {
 /// What is counted of a class.
 #[derive(Clone, Copy, Debug, PartialEq, Eq)]
 pub struct ClassCounts {
-    /// Requests that wait for it, and processes that work.
+    /// Requests that wait for it.
     pub waiting: u32,
+    /// Processes of it that work.
     pub busy: u32,
     /// Its TAKE entries.
     pub taken: u32,
@@ -37,13 +38,18 @@ pub struct FileCounts {
 pub struct UnitCounts {
     /// BEGIN entries.
     pub begun: u32,
-    /// Attempts that are over, by how, so far as entries tell.
+    /// Attempts that have committed.
     pub committed: u32,
+    /// Attempts that were dropped.
     pub dropped: u32,
+    /// Attempts that were left, so far as entries tell.
     pub left: u64,
-    /// RESTART entries, by cause.
+    /// RESTART entries with the cause OLDER.
     pub older: u32,
+    /// RESTART entries with the cause TAKEOVER.
     pub takeover: u32,
+    /// RESTART entries with the cause SERVER.
     pub server: u32,
+    /// RESTART entries with the cause REDO.
     pub redo: u32,
 }

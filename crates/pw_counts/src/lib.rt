@@ -1,4 +1,5 @@
 //! What STATUS and STATS count in a log, entry by entry.
+//! docs/STATUS.md has the rules.
 #![tactic(auto)]
 
 pub mod attempts;

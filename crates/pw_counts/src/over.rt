@@ -1,9 +1,9 @@
 ghost use Rattle.std.specs.Prelude.{◌≡◌, ◌<◌, length};
 ghost use Rattle.pw_counts.specs.Over.{begun, is_theirs, left_at, over_at, over_if};
-ghost use Rattle.pw_order.specs.Entries.{leaves};
 
-use pw_event::event::{Ending, Event};
+use pw_event::event::Event;
 use pw_order::block::How;
+use pw_order::entry::leaves;
 
 /// Terminals: one, or those of a pair.
 #[derive(Clone, Copy, Debug, PartialEq, Eq)]
@@ -42,7 +42,8 @@ pub fn begun(entry: &Event) -> Option<u32>
     }
 }
 
-/// The attempts that are over at an entry; a REPLY and a FAIL TCP end some or none.
+/// The attempts that are over at an entry. `ends` tells of a REPLY whether it commits its unit, and of a FAIL TCP
+/// whether it loses its pair.
 pub fn over_at(entry: &Event, ends: bool) -> Option<Over>
     ensures { result ≡ over_at ends entry.now }
 {
@@ -63,31 +64,21 @@ pub fn over_at(entry: &Event, ends: bool) -> Option<Over>
     }
 }
 
-/// The attempts of these terminals are over so, or not.
+/// The attempts of these terminals, which are over so where `ends` says it.
 fn over_if(ends: bool, whose: Whose, how: How) -> Option<Over>
     ensures { result ≡ over_if ends whose how }
 {
-    if ends {
-        Some(Over { whose, how })
-    } else {
-        None
-    }
+    ends.then_some(Over { whose, how })
 }
 
-/// Whether an open unit is left with this ending.
-fn leaves(ending: Ending) -> bool
-    ensures { result ≡ leaves ending }
-{
-    !matches!(ending, Ending::Stopped | Ending::Lost)
-}
-
-/// The terminals whose attempts, so far as they run, are left at an entry.
+/// The terminals whose attempts, so far as they run, are left at an entry. `ends` tells whether a FAIL TCP loses its
+/// pair.
 pub fn left_at(entry: &Event, ends: bool) -> Option<Whose>
     ensures { result ≡ left_at ends entry.now }
 {
     match *entry {
         Event::End { terminal, .. } => Some(Whose::One(terminal)),
-        Event::FailTcp { tcp, .. } => { if ends { Some(Whose::Pair(tcp)) } else { None } }
+        Event::FailTcp { tcp, .. } => ends.then_some(Whose::Pair(tcp)),
         _ => None,
     }
 }

@@ -50,7 +50,7 @@ fn settle_changes(records: &mut Records, seats: &[Seat], whose: Whose, how: How)
     }
 }
 
-/// The same of the attempt of one terminal.
+/// The changes of one terminal's attempt stay where it commits, and else are taken back.
 fn settle_one(records: &mut Records, seats: &[Seat], terminal: u32, how: How)
     requires seats { length records.old.terminals ≡ length seats.now }
     ensures { HasSeat seats.now (Whose.One terminal)

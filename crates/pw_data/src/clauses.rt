@@ -104,8 +104,9 @@ fn occurs_clause(cursor: &mut Cursor<'_>) -> Option<Clause>
     Some(Clause::Occurs(token))
 }
 
-/// Takes the word PIC or PICTURE, if it comes next. It gives whether it does.
-fn eat_pic(cursor: &mut Cursor<'_>) -> bool
+/// Takes the word PIC or PICTURE, if it comes next. It gives whether it does. Else the cursor stays
+/// where it is (docs/DATA.md).
+pub fn eat_pic(cursor: &mut Cursor<'_>) -> bool
     ensures found { result ≡ (sees_word (codes "PIC") cursor.old || sees_word (codes "PICTURE") cursor.old) }
     ensures left { cursor.new ≡ after (sees_word (codes "PIC") cursor.old || sees_word (codes "PICTURE") cursor.old) cursor.old }
 {
@@ -132,8 +133,8 @@ fn one_clause(cursor: &mut Cursor<'_>) -> Option<Clause>
     }
 }
 
-/// Whether a period is all that is left.
-fn is_end(cursor: &Cursor<'_>) -> bool
+/// Whether a period is all that is left: the last token, and the end of its entry (docs/DATA.md).
+pub fn is_end(cursor: &Cursor<'_>) -> bool
     ensures { result ≡ is_end cursor.now.tokens }
 {
     match cursor.tokens() {

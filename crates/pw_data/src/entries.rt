@@ -67,8 +67,8 @@ fn has_table_name(server: bool, text: &[u8], name: Option<Token>) -> bool
     }
 }
 
-/// The first token's line, 0 where there is none.
-fn line_of(tokens: &[Token]) -> u32
+/// The first token's line, 0 where there is none. A refused entry has its fault there (docs/DATA.md).
+pub fn line_of(tokens: &[Token]) -> u32
     ensures { result ≡ line_of tokens.now }
 {
     match tokens {

@@ -44,18 +44,21 @@ impl Entry {
         self.level == 1 || self.level == 77
     }
 
+    /// Whether it has a picture.
     pub fn has_picture(self) -> bool
         ensures { result ≡ has_picture self }
     {
         self.clauses.picture.is_some()
     }
 
+    /// Whether it has a VALUE.
     pub fn has_value(self) -> bool
         ensures { result ≡ has_value self }
     {
         self.clauses.value.is_some()
     }
 
+    /// Whether it has an OCCURS.
     pub fn has_occurs(self) -> bool
         ensures { result ≡ has_occurs self }
     {
@@ -88,7 +91,8 @@ impl Entry {
     }
 }
 
-/// The picture that a token is, where there is one.
+/// The picture that a token is (docs/NUMBERS.md). It is None without a token, and for one that is no
+/// picture.
 pub fn picture_at(
     alloc: Global,
     text: &[u8],

@@ -62,10 +62,8 @@ fn kind_of(picture: &Picture) -> Option<Kind>
 pub fn kind_at(picture: &Option<Picture>) -> Option<Kind>
     ensures { result ≡ option_and_then kind_of picture.now }
 {
-    match picture {
-        Some(picture) => kind_of(picture),
-        None => None,
-    }
+    let picture = picture.as_ref()?;
+    kind_of(picture)
 }
 
 /// The table in which an item stands: how often it occurs, and how many characters lie from one

@@ -1,10 +1,11 @@
 //! Working storage and linkage: the items of a program's data, where each lies in its storage, and
 //! the characters with which the storage begins.
+//! docs/DATA.md has the rules.
 #![tactic(auto)]
 
-mod clauses;
-mod entries;
-mod entry;
+pub mod clauses;
+pub mod entries;
+pub mod entry;
 mod index;
 pub mod item;
 pub mod laws;
@@ -14,7 +15,7 @@ pub mod literal;
 pub mod names;
 mod parts;
 pub mod read;
-mod reading;
+pub mod reading;
 mod storage;
 mod tree;
 pub mod words;

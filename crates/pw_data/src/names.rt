@@ -16,10 +16,8 @@ use std::alloc::Global;
 pub fn name_of<'a>(text: &'a [u8], entry: Entry) -> Option<&'a [u8]>
     ensures { option_copied result ≡ name_of text.entry.now entry }
 {
-    match entry.name {
-        Some(token) => Some(token.spelling(text)),
-        None => None,
-    }
+    let token = entry.name?;
+    Some(token.spelling(text))
 }
 
 /// A name in lower case.

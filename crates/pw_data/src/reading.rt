@@ -25,8 +25,8 @@ fn level_of(number: u16) -> Option<u8>
     }
 }
 
-/// The level that a token is.
-fn level_in(text: &[u8], token: Token) -> Option<u8>
+/// The level that a token is: 1 to 49 or 77, and None for a token that is no level (docs/DATA.md).
+pub fn level_in(text: &[u8], token: Token) -> Option<u8>
     ensures { result ≡ level_in text.now token }
 {
     if token.kind.is(TokenKind::Number) {

@@ -25,11 +25,7 @@ impl Entry {
     fn is_in_section_of(self, other: Entry) -> bool
         ensures { result ≡ same_section other self }
     {
-        if other.linked {
-            self.linked
-        } else {
-            !self.linked
-        }
+        self.linked == other.linked
     }
 
     /// Whether it may belong to another one.
@@ -95,12 +91,14 @@ pub enum Within {
 }
 
 impl Within {
+    /// Whether they are at the top.
     fn is_top(self) -> bool
         ensures { result ≡ is_top self }
     {
         matches!(self, Within::Nothing)
     }
 
+    /// Whether they are inside an OCCURS.
     fn in_table(self) -> bool
         ensures { result ≡ in_table self }
     {

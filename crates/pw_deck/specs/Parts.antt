@@ -27,6 +27,7 @@ no_parts = record { requesters = []; servers = []; objects = no_objects; has_end
 abbrev pub has_requester : Parts → Word → Bool
 has_requester parts name = list_any (λ requester. bytes_eq requester.name name) parts.requesters
 
+-- a server of this name was read
 abbrev pub has_server : Parts → Word → Bool
 has_server parts name = list_any (λ server. bytes_eq server.name name) parts.servers
 
@@ -75,6 +76,7 @@ sections_read parts line (section ∷ rest) =
 abbrev pub front_line : ℕ → Unit {0} → List ℕ → Result (Unit {0}) Fault
 front_line number done line = refused number BadSection
 
+-- the lines in front of the first section, each without a word
 abbrev pub front_read : List ℕ → Result (Unit {0}) Fault
 front_read text = each_line front_line 1 (tt {0}) (lines text)
 
@@ -87,5 +89,6 @@ parts_of bytes =
 abbrev pub program_names : Parts → List Word
 program_names parts = map (λ requester. requester.name) parts.requesters
 
+-- the names of the servers, in their order
 abbrev pub server_names : Parts → List Word
 server_names parts = map (λ server. server.name) parts.servers

@@ -1,4 +1,5 @@
 //! The reader of decks.
+//! docs/DECK.md has the rules.
 #![tactic(auto)]
 
 pub mod deck;

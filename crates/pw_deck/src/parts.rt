@@ -40,6 +40,7 @@ impl<'a> Parts<'a> {
         }
     }
 
+    /// Whether a requester of this name was read.
     fn has_requester(&self, name: &[u8]) -> bool
         ensures { result ≡ has_requester self.now name.now }
     {
@@ -49,6 +50,7 @@ impl<'a> Parts<'a> {
             .any(|requester| requester.name.as_slice() == name)
     }
 
+    /// Whether a server of this name was read.
     fn has_server(&self, name: &[u8]) -> bool
         ensures { result ≡ has_server self.now name.now }
     {

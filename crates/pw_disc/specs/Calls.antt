@@ -59,6 +59,7 @@ abbrev pub came_of : Result (Unit {0}) DiscFault → Result Outcome Memory
 came_of (Ok done) = Ok outcome.Done
 came_of (Err fault) = Err (record {})
 
+-- what came of an operation of a member: a disc in memory answers no fault but want of memory
 abbrev pub came_of_operation : FileAnswer → Result Outcome Memory
 came_of_operation (answer.Done status content) = Ok (outcome.Operated status content)
 came_of_operation (answer.Conflict holder) = Ok (outcome.Conflict holder)

@@ -15,6 +15,7 @@ abbrev pub is_held : DiscLine → Bool
 is_held (Held n) = true
 is_held _ = false
 
+-- a line is one of a primary at the start of a call
 abbrev pub is_primary : DiscLine → Bool
 is_primary (Primary n) = true
 is_primary _ = false

@@ -1,4 +1,5 @@
 //! A disc process as a fault-tolerant pair: the disc of docs/TMF.md, kept by a primary and its backup.
+//! docs/DISC.md has the rules.
 #![tactic(auto)]
 
 pub mod acting;

@@ -27,6 +27,7 @@ piece_at = counted_at (number_at w32) is_any block_at
 abbrev pub is_op : ℕ → Bool
 is_op byte = nat_le byte 6
 
+-- the operation that a byte from 0 to 6 stands for
 abbrev pub op_of : ℕ → FileOp
 op_of zero = Read
 op_of (suc zero) = Next
@@ -67,9 +68,11 @@ others_at = counted_at (number_at w32) is_any (many_at unit_at)
 abbrev pub operate_from : unit.Unit × FileCall → DiscCall
 operate_from parts = Operate parts.0 parts.1
 
+-- a commit from the unit and the reply that were read
 abbrev pub commit_from : unit.Unit × Option (List ℕ) → DiscCall
 commit_from parts = Commit parts.0 parts.1
 
+-- a backing out from the first unit, whether the units end, and the others
 abbrev pub back_out_from : unit.Unit × (ℕ × List unit.Unit) → DiscCall
 back_out_from parts = BackOut (parts.0 ∷ parts.1.1) (truth_of parts.1.0)
 

@@ -1,4 +1,5 @@
 //! What a disc process sends to its backup: the calls of a disc as bytes, both ways; and the script of its failures.
+//! docs/DISC.md has the rules.
 #![tactic(auto)]
 
 pub mod call;

@@ -47,10 +47,8 @@ fn behind<'a>(text: &[u8], line: &'a [u8]) -> Option<&'a [u8]>
 fn number_behind(text: &[u8], line: &[u8]) -> Option<u32>
     ensures { result ≡ number_behind text.now line.now }
 {
-    match behind(text, line) {
-        Some(word) => after_in(word),
-        None => None,
-    }
+    let word = behind(text, line)?;
+    after_in(word)
 }
 
 /// What a line says; None where it says nothing.

@@ -43,6 +43,7 @@ impl Units {
         })
     }
 
+    /// The units in order, at least one. It takes no memory.
     pub fn as_slice(&self) -> &[Unit]
         ensures units { result.now ≡ self.now }
         ensures some { self.now ≢ [] }

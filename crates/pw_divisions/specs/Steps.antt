@@ -16,6 +16,7 @@ abbrev pub and_then : {A B : Type 0}
 and_then (Ok found) next = next found.0 found.1
 and_then (Err left) next = Err left
 
+-- the next step, behind one that was made
 infixl 10 ◌>>=◌
 abbrev pub ◌>>=◌ : {A B : Type 0} → Step A → (A → Step B) → Step B
 first >>= next = λ left. and_then (first left) next

@@ -1,39 +1,17 @@
 ghost use Rattle.std.specs.Prelude.{◌≡◌, ◌||◌, false, IfOk, OnOk};
 ghost use Rattle.pw_words.specs.Words.{Word, same_word};
-ghost use Rattle.pw_data.specs.Entries.{level_of as level_by, level_in, name_in, proper_name};
+ghost use Rattle.pw_data.specs.Entries.{name_in, proper_name};
 ghost use Rattle.pw_data.specs.Names.{has_name};
 ghost use Rattle.pw_divisions.specs.Names.{level_of, name_of, own_name_of, upper_name, is_taken, with_name};
 
 use pw_base::bytes::Bytes;
 use pw_base::memory::Memory;
-use pw_data::literal::whole_number;
 use pw_data::names::in_lower_case;
+use pw_data::reading::level_in;
 use pw_text::cursor::Cursor;
 use pw_text::token::{Token, TokenKind};
 use pw_words::names::Names;
 use std::alloc::Global;
-
-/// The level that a number is.
-fn level_by(number: u16) -> Option<u8>
-    ensures { result ≡ level_by number }
-{
-    if number >= 1 && number <= 49 || number == 77 {
-        Some(number as u8)
-    } else {
-        None
-    }
-}
-
-/// The level that a token is.
-fn level_in(text: &[u8], token: Token) -> Option<u8>
-    ensures { result ≡ level_in text.now token }
-{
-    if token.kind.is(TokenKind::Number) {
-        level_by(whole_number(token.spelling(text))?)
-    } else {
-        None
-    }
-}
 
 /// The level of an entry, 1 to 49 or 77: its first token, where that is one.
 pub fn level_of(entry: &Cursor<'_>) -> Option<u8>

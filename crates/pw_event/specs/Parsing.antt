@@ -81,9 +81,11 @@ among names word = or_unknown (position (λ name. bytes_eq name word) names)
 abbrev pub terminal_names : System → List (List ℕ)
 terminal_names system = map (λ terminal. terminal.name) system.terminals
 
+-- the names of a system's classes, in their order
 abbrev pub class_names : System → List (List ℕ)
 class_names system = map (λ class. class.name) system.classes
 
+-- the names of a system's files, in their order
 abbrev pub file_names : System → List (List ℕ)
 file_names system = map (λ file. file.name) system.files
 

@@ -58,8 +58,8 @@ fn owner_of_line(line: FailLine) -> Owner
     }
 }
 
-/// After how many entries of its owner a failure line is due.
-fn after_of(line: FailLine) -> u32
+/// After how many entries of its owner, a pair or a class, a failure line is due (docs/LOG.md).
+pub fn after_of(line: FailLine) -> u32
     ensures { result ≡ after_of line }
 {
     match line {
@@ -86,8 +86,9 @@ fn entries_of(system: &System, owner: Owner, log: &[Event]) -> usize
         .count()
 }
 
-/// Whether an entry is the FAIL entry of the failure line of this number.
-fn is_fail_of(number: u32, event: &Event) -> bool
+/// Whether an entry is the FAIL entry of the failure line of this number, from 1 over the whole script
+/// (docs/LOG.md).
+pub fn is_fail_of(number: u32, event: &Event) -> bool
     ensures { result ≡ is_fail_of number event.now }
 {
     match *event {

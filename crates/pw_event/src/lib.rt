@@ -1,4 +1,5 @@
-//! The entries of the log, and their spelling.
+//! The entries of the log and the failure lines: their spelling, and which failure line is due.
+//! docs/LOG.md has the rules.
 #![tactic(auto)]
 
 mod causes;

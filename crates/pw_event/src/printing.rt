@@ -238,6 +238,7 @@ fn named_number(alloc: Global, word: &[u8], name: &[u8], number: u32) -> Result<
     sentence(alloc, &[word, name, number.as_bytes()])
 }
 
+/// BEGIN t n r.
 fn print_begin(alloc: Global, name: &[u8], unit: u32, restarts: u32) -> Result<Bytes, Memory>
     ensures { IfOk result (λ text. text ≡ sentence (codes "BEGIN" ∷ name.now ∷ decimal unit ∷ decimal restarts ∷ [])) }
 {
@@ -249,6 +250,7 @@ fn print_begin(alloc: Global, name: &[u8], unit: u32, restarts: u32) -> Result<B
     )
 }
 
+/// SEND t n c.
 fn print_send(alloc: Global, name: &[u8], unit: u32, class: &[u8]) -> Result<Bytes, Memory>
     ensures { IfOk result (λ text. text ≡ sentence (codes "SEND" ∷ name.now ∷ decimal unit ∷ class.now ∷ [])) }
 {
@@ -256,6 +258,7 @@ fn print_send(alloc: Global, name: &[u8], unit: u32, class: &[u8]) -> Result<Byt
     sentence(alloc, &[b"SEND", name, unit.as_bytes(), class])
 }
 
+/// TAKE c i t.
 fn print_take(alloc: Global, class: &[u8], process: u32, name: &[u8]) -> Result<Bytes, Memory>
     ensures { IfOk result (λ text. text ≡ sentence (codes "TAKE" ∷ class.now ∷ decimal process ∷ name.now ∷ [])) }
 {
@@ -349,6 +352,7 @@ fn print_fault<'a>(
     sentence(alloc, &[b"REPLY", class, process, name, b"FAULT", fault])
 }
 
+/// RESTART t n cause.
 fn print_restart(
     alloc: Global,
     system: &System,
@@ -368,6 +372,7 @@ fn print_restart(
     )
 }
 
+/// FAIL TCP p PRIMARY k, or FAIL TCP p BACKUP k.
 fn print_fail_tcp(alloc: Global, name: &[u8], member: &[u8], line: u32) -> Result<Bytes, Memory>
     ensures { IfOk result (λ text. text
         ≡ sentence (codes "FAIL" ∷ codes "TCP" ∷ name.now ∷ member.now ∷ decimal line ∷ [])) }
@@ -383,6 +388,7 @@ pub fn member_text(primary: bool) -> &'static [u8]
     if primary { b"PRIMARY" } else { b"BACKUP" }
 }
 
+/// FAIL SERVER c i k.
 fn print_fail_server(alloc: Global, name: &[u8], process: u32, line: u32) -> Result<Bytes, Memory>
     ensures { IfOk result (λ text. text
         ≡ sentence (codes "FAIL" ∷ codes "SERVER" ∷ name.now ∷ decimal process ∷ decimal line ∷ [])) }

@@ -49,6 +49,7 @@ entry_checked table line found c =
 
 -- ---- units: the phase of refresh numbers is 2n - 1 in unit n, and 2m behind m ended units
 
+-- behind the beginning of a unit's attempt with r restarts
 abbrev pub unit_begun : ℕ → Context → Context
 unit_begun r rest =
     record (answered rest) {
@@ -59,6 +60,7 @@ unit_begun r rest =
       shown = 0;
     }
 
+-- behind the end of a unit
 abbrev pub unit_ended : Context → Context
 unit_ended rest =
     record (answered rest) {
@@ -97,6 +99,7 @@ yielded (Some found) reply c =
       rest = record (reply_taken c.rest) { termination = found.0 + 1 };
     })
 
+-- behind a reply: it goes to the item of the first code equal to its own
 abbrev pub replied : List ReplyCode → List ℕ → Config → Config
 replied codes reply c =
     yielded (option_and_then (spot_among c codes) (place_among codes reply)) reply c
@@ -132,19 +135,23 @@ read_done into status content c =
 abbrev pub passed : Config → Config
 passed c = on (record c { rest = answered c.rest })
 
+-- behind the answer to an ACCEPT
 abbrev pub entry_put : ScreenTable → List ℕ → Answer → Config → Config
 entry_put table keys (answer.Entry line) c = entry_checked table line (check table keys line) c
 entry_put table keys _ c = passed c
 
+-- behind the answer to a SEND
 abbrev pub reply_put : List ReplyCode → Answer → Config → Config
 reply_put codes (answer.Replied reply) c = replied codes reply c
 reply_put codes (answer.Failed code) c = failed code c
 reply_put codes _ c = over 1 (record c { rest = answered c.rest })
 
+-- behind the answer to BEGIN-TRANSACTION
 abbrev pub begin_put : Answer → Config → Config
 begin_put (answer.Begun r) c = on (record c { rest = unit_begun r c.rest })
 begin_put _ c = passed c
 
+-- behind the answer to END- and ABORT-TRANSACTION
 abbrev pub unit_end_put : Config → Config
 unit_end_put c = on (record c { rest = unit_ended c.rest })
 
@@ -152,14 +159,17 @@ unit_end_put c = on (record c { rest = unit_ended c.rest })
 abbrev pub file_passed : Config → Config
 file_passed c = on (record c { rest = record c.rest { at_verb = false } })
 
+-- behind the answer to READ and READ NEXT
 abbrev pub read_put : Place → Answer → Config → Config
 read_put into (answer.FileDone status content) c = read_done into status content c
 read_put into _ c = file_passed c
 
+-- behind the answer to WRITE, REWRITE and DELETE
 abbrev pub file_put : Answer → Config → Config
 file_put (answer.FileDone status content) c = file_done None status content c
 file_put _ c = file_passed c
 
+-- behind the answer to the instruction that asked; one that asks nothing stays
 abbrev pub answered_by : System → Option Instr → Answer → Config → Config
 answered_by system (Some (DisplayScreen screen base)) a c = on (shown c)
 answered_by system (Some (Display one)) a c = on (shown c)

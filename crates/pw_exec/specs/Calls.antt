@@ -17,6 +17,7 @@ use Rattle.pw_exec.specs.Turns.{split_last}
 abbrev pub items_of : System → Frame → ℕ
 items_of system frame = length (code_at system frame.program).storage
 
+-- how many characters the items of all programs at work have
 abbrev pub active : System → Config → ℕ
 active system c = sum_by (items_of system) c.rest.frames + items_of system c.top
 
@@ -42,10 +43,12 @@ put_all (spot ∷ spots) (chars ∷ rest) storage = put_all spots rest (put_at s
 -- ---- the registers that a CALL keeps, by which its arguments' subscripts go also when they are
 -- copied back
 
+-- the digits of the registers, where the CALL keeps them
 abbrev pub kept : Bool → Registers → List ℕ
 kept true registers = digits_of 4 registers.termination ++ digits_of 5 registers.restarts
 kept false registers = []
 
+-- the registers that a CALL kept in these characters
 abbrev pub kept_in : List ℕ → Registers
 kept_in chars = record {
   termination = value_of 0 (take 4 chars);
@@ -117,5 +120,6 @@ abbrev pub leaves_by : System → Option (List Frame × Frame) → Config → Co
 leaves_by system None c = stops system c
 leaves_by system (Some found) c = returned system found.0 found.1 c
 
+-- a program is left: its caller goes on, and one that no other called stops
 abbrev pub leaves : System → Config → Config
 leaves system c = leaves_by system (split_last c.rest.frames) c

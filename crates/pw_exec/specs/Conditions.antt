@@ -21,10 +21,12 @@ holds_by operator.GreaterEqual found = is_ge found
 
 -- ---- conditions; none where a subscript is outside
 
+-- a test of a value, where there is one
 abbrev pub of_one : {A : Type 0} → (Value → A) → Option Value → Option A
 of_one test None = None
 of_one test (Some a) = Some (test a)
 
+-- a test of two values, where there are both
 abbrev pub of_two : {A : Type 0} → (Value → Value → A) → Option Value → Option Value → Option A
 of_two test None b = None
 of_two test (Some a) b = of_one (test a) b

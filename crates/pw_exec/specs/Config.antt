@@ -96,6 +96,7 @@ counted next c =
 abbrev pub on : Config → Config
 on c = record c { top = record c.top { at = c.top.at + 1 } }
 
+-- behind the instruction, and so many more
 abbrev pub over : ℕ → Config → Config
 over n c = record c { top = record c.top { at = c.top.at + 1 + n } }
 

@@ -13,6 +13,7 @@ entered_in (field.Literal text) value storage = storage
 entered_in (field.Item picture at source show) value storage =
     written at (entered_chars source value) storage
 
+-- the storage with a value in the item of a field, if there is such a field
 abbrev pub entered_by : Option Field → List ℕ → List ℕ → List ℕ
 entered_by None value storage = storage
 entered_by (Some found) value storage = entered_in found.shown value storage

@@ -46,6 +46,7 @@ stored_by None spot n storage = None
 stored_by (Some p) spot n storage =
     if is_kept p n then Some (put_at spot (moved p n) storage) else None
 
+-- the storage with a result in a spot; nothing on a size error
 abbrev pub stored_in : Spot → Result Number SizeError → List ℕ → Option (List ℕ)
 stored_in spot (Ok n) storage = stored_by spot.picture spot n storage
 stored_in spot (Err error) storage = None
@@ -62,6 +63,7 @@ pub record Operands : Type 0 where
   pub second : Value
   pub receiver : Spot
 
+-- the operands of arithmetic, where each was taken
 abbrev pub operands_with : Option Value → Option Value → Option Spot → Option Operands
 operands_with None second receiver = None
 operands_with (Some first) None receiver = None
@@ -69,6 +71,7 @@ operands_with (Some first) (Some second) None = None
 operands_with (Some first) (Some second) (Some receiver) =
     Some (record { first = first; second = second; receiver = receiver })
 
+-- the operands of an arithmetic statement at this moment, nothing where a subscript is outside
 abbrev pub operands_of : Registers → List ℕ → Arithmetic → Option Operands
 operands_of registers storage a =
     operands_with (read registers storage a.first) (read registers storage a.second)

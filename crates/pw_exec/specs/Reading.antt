@@ -31,6 +31,7 @@ registers_of context =
       file_status = context.file_status;
     }
 
+-- the value of a register
 abbrev pub register_value : Registers → registers.Register → ℕ
 register_value registers register.Termination = registers.termination
 register_value registers register.Restarts = registers.restarts
@@ -68,6 +69,7 @@ at_this_moment registers storage at (Some table) =
 abbrev pub spot_at : Place → ℕ → Spot
 spot_at place at = record { at = at; size = place.size; picture = picture_of place.kind place.size }
 
+-- where an item lies at this moment, nothing where its subscript is outside
 abbrev pub spot_of : Registers → List ℕ → Place → Option Spot
 spot_of registers storage place =
     option_map (spot_at place) (at_this_moment registers storage place.at place.table)

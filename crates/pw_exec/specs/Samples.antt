@@ -56,6 +56,7 @@ compares place operator spelling = Compare (operand.Item place) false operator (
 abbrev pub both : Comparison → Comparison → Cond
 both a b = record { any = (a ∷ b ∷ []) ∷ [] }
 
+-- a condition of one comparison alone
 abbrev pub alone : Comparison → Cond
 alone a = record { any = (a ∷ []) ∷ [] }
 
@@ -74,6 +75,7 @@ paragraph start end = record { start = start; end = end }
 
 -- ---- systems
 
+-- a sample program with these instructions
 abbrev pub code : List ℕ → List Instr → Code
 code storage instrs =
     record { name = codes "SAMPLE"; instrs = instrs; storage = storage; linkage = [] }

@@ -32,6 +32,7 @@ AreWaiting system [] top = Unit {0}
 AreWaiting system (frame ∷ frames) top =
     Waits system frame (slice_index_or frames 0 top) × AreWaiting system frames top
 
+-- a configuration is sound: each program at work is one of the system, and few wait
 pub record IsSound (system : System) (c : Config) : Type 0 where
   pub top : IsFrame system c.top
   pub waiting : AreWaiting system c.rest.frames c.top

@@ -25,18 +25,23 @@ use Rattle.pw_source.specs.Values.{Value, as_it_stands, number_of, whole_part}
 
 -- ---- operands of the program at work
 
+-- where an item of the program at work lies
 abbrev pub spot_here : Config → Place → Option Spot
 spot_here c place = spot_of (registers_of c.rest) c.top.storage place
 
+-- where items of the program at work lie, nothing where a subscript is outside
 abbrev pub spots_here : Config → List Place → Option (List Spot)
 spots_here c places = spots_of (registers_of c.rest) c.top.storage places
 
+-- an operand of the program at work, as it was taken
 abbrev pub taken_here : Config → Operand → Option Taken
 taken_here c one = taken (registers_of c.rest) c.top.storage one
 
+-- the value of an operand of the program at work
 abbrev pub read_here : Config → Operand → Option Value
 read_here c one = read (registers_of c.rest) c.top.storage one
 
+-- whether a condition of the program at work holds
 abbrev pub holds_here : Config → Cond → Option Bool
 holds_here c cond = holds (registers_of c.rest) c.top.storage cond
 
@@ -59,6 +64,7 @@ abbrev pub or_else : Option (List ℕ) → (Config → Config) → (Config → C
 or_else None on_error else' c = on_error c
 or_else (Some storage) on_error else' c = else' (with_storage storage c)
 
+-- arithmetic: goes one way on a size error, and else the other
 abbrev pub computes : Arithmetic → (Config → Config) → (Config → Config) → Config → Config
 computes a on_error else' c =
     with_taken (operands_of (registers_of c.rest) c.top.storage a) (λ found d.
@@ -79,6 +85,7 @@ abbrev pub reads : Operand → Place → Config → Config
 reads key into c =
     with_taken (taken_here c key) (λ found. with_taken (spot_here c into) (λ item. asks)) c
 
+-- an operation on a file with one operand: its subscript is taken, and it is asked
 abbrev pub operates : Operand → Config → Config
 operates one c = with_taken (taken_here c one) (λ found. asks) c
 
@@ -158,6 +165,7 @@ abbrev pub chars_by : Option Value → List ℕ
 chars_by None = []
 chars_by (Some value) = as_it_stands value
 
+-- the characters of an operand of the program at work
 abbrev pub chars_here : Config → Operand → List ℕ
 chars_here c one = chars_by (read_here c one)
 
@@ -166,6 +174,7 @@ abbrev pub by_key : ℕ → FileOp → List ℕ → Verb
 by_key file operation key =
     verb.File (record { file = file; op = operation; key = key; content = [] })
 
+-- an operation with a record, and without a key
 abbrev pub by_record : ℕ → FileOp → List ℕ → Verb
 by_record file operation content =
     verb.File (record { file = file; op = operation; key = []; content = content })

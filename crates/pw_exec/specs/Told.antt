@@ -7,6 +7,7 @@ use Rattle.pw_exec.specs.Config.{starting}
 use Rattle.pw_exec.specs.Runs.{after}
 use Rattle.pw_exec.specs.Steps.{verb_of}
 
+-- the verb that the first program asks after answers
 abbrev pub asked : System → List Answer → Verb
 asked system answers = verb_of system (after system (starting system 0) answers)
 

@@ -10,6 +10,7 @@ abbrev pub last_behind : {A : Type 0} → A → Option (List A × A) → Option 
 last_behind first None = Some ([], first)
 last_behind first (Some found) = Some (first ∷ found.0, found.1)
 
+-- a list as all but its last item, and that
 abbrev pub split_last : {A : Type 0} → List A → Option (List A × A)
 split_last [] = None
 split_last (item ∷ items) = last_behind item (split_last items)
@@ -42,6 +43,7 @@ abbrev pub chosen : Option Turn → Config → Config
 chosen None c = on c
 chosen (Some paragraph) c = turn (c.top.at + 1) paragraph 0 c
 
+-- the paragraph at a position from 1
 abbrev pub at_position : List Turn → ℕ → Option Turn
 at_position paragraphs position =
     if position == 0 then None else slice_get paragraphs (position - 1)
@@ -59,5 +61,6 @@ ends_by start None c = on c
 ends_by start (Some found) c =
     if found.1.until == c.top.at then comes_back start found.0 found.1 c else on c
 
+-- the end of the paragraph that begins there, by the last active PERFORM
 abbrev pub ends : ℕ → Config → Config
 ends start c = ends_by start (split_last c.top.returns) c

@@ -15,7 +15,7 @@ use pw_lines::word::is_blank;
 use std::alloc::Global;
 
 /// The most lines of events.
-const MOST_EVENTS: u32 = 10_000;
+const MAX_EVENTS: u32 = 10_000;
 
 /// Does the event that a line names.
 fn play_event(
@@ -29,16 +29,11 @@ fn play_event(
     ensures { StepsTo result (world_of world.old.members.entries world.old.sent.items)
         (world_of world.new.members.entries world.new.sent.items) number (event_in systems line.now) }
 {
-    let Ok(named) = event_in(alloc, systems, line) else {
-        return Err(ScheduleFault::Memory);
-    };
-    let Some(event) = named else {
+    let Some(event) = event_in(alloc, systems, line)? else {
         return Err(ScheduleFault::At { line: number });
     };
-    match world.take(&event) {
-        Ok(()) => Ok(()),
-        Err(_) => Err(ScheduleFault::Memory),
-    }
+    world.take(&event)?;
+    Ok(())
 }
 
 /// Does what a line says, where so many lines of events may still come. It gives how many may come
@@ -85,7 +80,7 @@ fn play_events(
         (events_from systems first_line most_events (lines text.now))) }
 {
     let mut number = first_line;
-    let mut left = MOST_EVENTS;
+    let mut left = MAX_EVENTS;
     let mut rest = text;
     while let Some((line, behind)) = next_line(rest) {
         left = play_line(alloc, world, systems, number, left, line)?;
@@ -110,16 +105,11 @@ fn play_from(
         (schedule_played (world_of world.old.members.entries world.old.sent.items)
         (begun number (systems_in line.now) (lines behind.now))) }
 {
-    let Ok(named) = systems_in(alloc, line) else {
-        return Err(ScheduleFault::Memory);
-    };
-    let Some(systems) = named else {
+    let Some(systems) = systems_in(alloc, line)? else {
         return Err(ScheduleFault::At { line: number });
     };
-    match play_events(alloc, world, systems, number + 1, behind) {
-        Ok(()) => Ok(systems),
-        Err(fault) => Err(fault),
-    }
+    play_events(alloc, world, systems, number + 1, behind)?;
+    Ok(systems)
 }
 
 /// Does the events of the schedule that a text of at most 16 MiB is (docs/EXPAND.md). It gives how
@@ -154,8 +144,6 @@ pub fn play_schedule(alloc: Global, bytes: &[u8]) -> Result<(u32, Systems), Sche
         return Err(ScheduleFault::At { line: 0 });
     }
     let mut world = Systems::new(alloc);
-    match play(alloc, &mut world, bytes) {
-        Ok(systems) => Ok((systems, world)),
-        Err(fault) => Err(fault),
-    }
+    let systems = play(alloc, &mut world, bytes)?;
+    Ok((systems, world))
 }

@@ -7,7 +7,8 @@ use pw_base::bytes::Bytes;
 use pw_base::memory::Memory;
 
 /// A file of records. Each record is its content, and its key is the first bytes of it, as many as
-/// the file's keys are long. Keys are compared as bytes, and no two records have the same one.
+/// the file's keys are long, 1 to 255. Keys are compared as bytes, and no two records have the same one.
+/// docs/FILES.md has the rules.
 pub trait RecordFile {
     ghost key_length: { Self → ℕ };
 
@@ -26,7 +27,8 @@ pub trait RecordFile {
             ≡ record_after (key_length self.now) (records self.now) after.now }
         ensures file { IsFile (key_length self.now) (records self.now) };
 
-    /// Puts a new record in its place. It is false exactly where its key is there already.
+    /// Puts a new record in its place. It is false exactly where its key is there already. `Memory` leaves
+    /// the file as it was; so below.
     fn insert(&mut self, content: Bytes) -> Result<bool, Memory>
         requires { IsContent (key_length self.old) content }
         ensures answer { let n = key_length self.old in

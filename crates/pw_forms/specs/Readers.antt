@@ -18,21 +18,26 @@ pub record Rest : Type 0 where
 abbrev pub Reader : Type 0 → Type 0
 Reader A = Rest → Option (A × Rest)
 
+-- what is read behind something that was found
 abbrev pub and_then : {A B : Type 0} → Option (A × Rest) → (A → Reader B) → Option (B × Rest)
 and_then None next = None
 and_then (Some found) next = next found.0 found.1
 
+-- reads one thing, and then what that asks for
 infixl 10 ◌>>=◌
 abbrev pub ◌>>=◌ : {A B : Type 0} → Reader A → (A → Reader B) → Reader B
 reader >>= next = λ rest. and_then (reader rest) next
 
+-- reads one thing, which is passed over, and then another
 infixl 10 ◌>>◌
 abbrev pub ◌>>◌ : {A B : Type 0} → Reader A → Reader B → Reader B
 reader >> next = reader >>= (λ _. next)
 
+-- reads nothing, and gives this
 abbrev pub pure : {A : Type 0} → A → Reader A
 pure value = λ rest. Some (value, rest)
 
+-- no form has what stands there
 abbrev pub fails : {A : Type 0} → Reader A
 fails = λ rest. None
 
@@ -110,6 +115,7 @@ some_from one (suc n) found = do
   (λ rest.
       if is_done rest then Some (found ++ x ∷ [], rest) else some_from one n (found ++ x ∷ []) rest)
 
+-- one or more, to the end
 abbrev pub some : {A : Type 0} → Reader A → Reader (List A)
 some one = λ rest. some_from one (left rest) [] rest
 
@@ -121,6 +127,7 @@ up_to_from word one (suc n) found = do
   last ← eats word
   if last then pure (found ++ x ∷ []) else up_to_from word one n (found ++ x ∷ [])
 
+-- one or more, up to a word
 abbrev pub up_to : {A : Type 0} → Word → Reader A → Reader (List A)
 up_to word one = λ rest. up_to_from word one (left rest) [] rest
 
@@ -132,6 +139,7 @@ separated_from word one (suc n) found = do
   more ← eats word
   if more then separated_from word one n (found ++ x ∷ []) else pure (found ++ x ∷ [])
 
+-- one or more, with a word between two of them
 abbrev pub separated : {A : Type 0} → Word → Reader A → Reader (List A)
 separated word one = λ rest. separated_from word one (left rest) [] rest
 

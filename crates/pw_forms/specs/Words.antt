@@ -40,12 +40,15 @@ is_table_word server word = is_some (table_place server word)
 abbrev pub arithmetic : Operation → Mark
 arithmetic operation = mark.Verb (verb.Arithmetic operation)
 
+-- the mark of a verb of files
 abbrev pub file : FileVerb → Mark
 file found = mark.Verb (verb.File found)
 
+-- the mark of a verb of terminals
 abbrev pub terminal : TerminalVerb → Mark
 terminal found = mark.Verb (verb.Terminal found)
 
+-- the mark of a verb of transactions
 abbrev pub transaction : TransactionVerb → Mark
 transaction found = terminal (terminals.Transaction found)
 

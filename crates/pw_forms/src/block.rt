@@ -15,7 +15,7 @@ use std::alloc::Global;
 use std::mem;
 
 /// The most branches that may be open at once.
-const MOST_OPEN: usize = 64;
+const MAX_OPEN: usize = 64;
 
 /// Arithmetic with ON SIZE ERROR and its two branches.
 fn on_size_error(
@@ -94,6 +94,7 @@ fn any_lacks_else(branches: &[Open]) -> bool
 }
 
 impl Block {
+    /// No statement, and no open branch. It takes no memory.
     pub fn new(alloc: Global) -> Block
         ensures open { result.open.items ≡ [] }
         ensures current { result.current ≡ [] }
@@ -108,7 +109,7 @@ impl Block {
     pub fn is_full(&self) -> bool
         ensures { result ≡ is_full (branches self.now.open.items) }
     {
-        self.open.as_slice().len() >= MOST_OPEN
+        self.open.as_slice().len() >= MAX_OPEN
     }
 
     /// Whether a branch has no ELSE yet.

@@ -31,6 +31,7 @@ fn complete(
 }
 
 impl Build {
+    /// No paragraph, and none that has begun. It takes no memory.
     pub fn new(alloc: Global) -> Build
         ensures paragraphs { result.paragraphs ≡ [] }
         ensures begun { result.begun ≡ None }

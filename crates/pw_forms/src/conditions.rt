@@ -44,6 +44,7 @@ fn operator_by(rest: &mut Cursor<'_>, first: Token) -> Result<Operator, Lack>
     }
 }
 
+/// Reads an operator: a mark, or a word with the TO or THAN behind it.
 #[tactic(auto, unfolding(crate::specs::Conditions::operator))]
 fn operator(rest: &mut Cursor<'_>) -> Result<Operator, Lack>
     ensures { Reads (spec.operator rest.old) result rest.new }
@@ -72,6 +73,7 @@ fn compared(
     })
 }
 
+/// Reads a comparison: an operand that is NUMERIC, or one that is compared with another.
 #[tactic(auto, unfolding(crate::specs::Conditions::comparison))]
 fn comparison(alloc: Global, rest: &mut Cursor<'_>) -> Result<Comparison, Lack>
     ensures { Reads (spec.comparison rest.old) result rest.new }

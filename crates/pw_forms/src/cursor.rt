@@ -27,6 +27,7 @@ impl<'a> Model for Cursor<'a> {
 }
 
 impl<'a> Cursor<'a> {
+    /// A cursor in front of tokens of a text, of a server's or a requester's.
     pub fn new(server: bool, text: &'a [u8], tokens: &'a [Token]) -> Cursor<'a>
         ensures { result ≡ record { server = server; text = text.now; tokens = tokens.now } }
     {
@@ -43,6 +44,7 @@ impl<'a> Cursor<'a> {
         self.server
     }
 
+    /// The text.
     pub fn text(&self) -> &'a [u8]
         ensures { result.now ≡ self.now.text }
     {
@@ -57,6 +59,7 @@ impl<'a> Cursor<'a> {
         self.left.len()
     }
 
+    /// Whether no token is left.
     #[tactic(auto, unfolding(crate::specs::Readers::is_done))]
     pub fn is_done(&self) -> bool
         ensures { result ≡ is_done self.now }

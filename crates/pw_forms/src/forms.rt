@@ -8,7 +8,7 @@ use crate::cursor::Cursor;
 use crate::file_forms::file_form;
 use crate::form::{Form, Head};
 use crate::lack::Lack;
-use crate::lists::{Code, Codes, Keys, MOST};
+use crate::lists::{Code, Codes, Keys, MAX_LISTED};
 use crate::mark::{TerminalVerb, TransactionVerb, Verb};
 use crate::operand::Operand;
 use crate::operands::{code, key, name, operand, program_name};
@@ -201,6 +201,7 @@ fn perform_one_of(alloc: Global, line: u32, rest: &mut Cursor<'_>) -> Result<For
     }))
 }
 
+/// The forms of PERFORM.
 #[tactic(auto, unfolding(crate::specs::Forms::perform))]
 fn perform(alloc: Global, line: u32, rest: &mut Cursor<'_>) -> Result<Form, Lack>
     ensures { Reads (spec.perform line rest.old) result rest.new }
@@ -256,6 +257,7 @@ fn display_any(alloc: Global, line: u32, rest: &mut Cursor<'_>) -> Result<Form, 
     Ok(Form::Whole(Statement::Display { line, shown }))
 }
 
+/// The forms of DISPLAY.
 #[tactic(auto, unfolding(crate::specs::Forms::display))]
 fn display(alloc: Global, line: u32, rest: &mut Cursor<'_>) -> Result<Form, Lack>
     ensures { Reads (spec.display line rest.old) result rest.new }
@@ -289,7 +291,7 @@ fn accept(alloc: Global, line: u32, rest: &mut Cursor<'_>) -> Result<Form, Lack>
     let screen = name(alloc, rest)?;
     rest.expects(b"UNTIL")?;
     let keys = keys(alloc, rest)?;
-    if keys.len() > MOST {
+    if keys.len() > MAX_LISTED {
         return Err(Lack::NoForm);
     }
     let keys = Keys::new(keys);
@@ -359,7 +361,7 @@ fn send(alloc: Global, line: u32, rest: &mut Cursor<'_>) -> Result<Form, Lack>
     let class = program_name(alloc, rest)?;
     rest.expects(b"REPLY")?;
     let codes = code_clauses(alloc, rest)?;
-    if codes.len() > MOST {
+    if codes.len() > MAX_LISTED {
         return Err(Lack::NoForm);
     }
     let codes = Codes::new(codes);

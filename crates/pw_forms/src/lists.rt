@@ -5,7 +5,7 @@ use pw_base::list::List;
 use std::marker::Model;
 
 /// The most keys of an ACCEPT, and the most codes of a SEND.
-pub const MOST: usize = 9_999;
+pub const MAX_LISTED: usize = 9_999;
 
 /// The keys of an ACCEPT, at most 9,999, in their order: 1 to 16 for F1 to F16, and 17 to 32 for SF1
 /// to SF16.
@@ -28,6 +28,7 @@ impl Model for Keys {
 }
 
 impl Keys {
+    /// The keys of an ACCEPT, at most `MAX_LISTED` of them. It takes no memory.
     pub fn new(keys: List<u8>) -> Keys
         requires { length keys ≤ 9999 }
         ensures { result ≡ keys }
@@ -35,6 +36,7 @@ impl Keys {
         Keys { keys }
     }
 
+    /// The keys in their order. It takes no memory.
     pub fn as_slice(&self) -> &[u8]
         ensures keys { result.now ≡ self.now }
         ensures bound { length result.now ≤ 9999 }
@@ -68,6 +70,7 @@ impl Model for Codes {
 }
 
 impl Codes {
+    /// The codes of a SEND, at most `MAX_LISTED` of them. It takes no memory.
     pub fn new(codes: List<Code>) -> Codes
         requires { length codes ≤ 9999 }
         ensures { result ≡ codes }
@@ -75,6 +78,7 @@ impl Codes {
         Codes { codes }
     }
 
+    /// The codes in their order. It takes no memory.
     pub fn as_slice(&self) -> &[Code]
         ensures codes { result.now ≡ self.now }
         ensures bound { length result.now ≤ 9999 }

@@ -4,7 +4,7 @@ ghost use Rattle.std.specs.Char.{is_ascii_digit};
 ghost use Rattle.pw_forms.specs.Operands.{value_of, is_code};
 
 /// The largest number of a code.
-const LARGEST_CODE: u16 = 9_999;
+const MAX_CODE: u16 = 9_999;
 
 /// The value of digits, where a value above 9,999 counts as 10,000.
 pub fn value_of(digits: &[u8]) -> u16
@@ -13,7 +13,7 @@ pub fn value_of(digits: &[u8]) -> u16
 {
     let mut value: u32 = 0;
     for digit in digits {
-        value = (10 * value + digit.saturating_sub(b'0') as u32).min(LARGEST_CODE as u32 + 1);
+        value = (10 * value + digit.saturating_sub(b'0') as u32).min(MAX_CODE as u32 + 1);
     }
     value as u16
 }
@@ -29,5 +29,5 @@ fn are_digits(bytes: &[u8]) -> bool
 pub fn is_code(bytes: &[u8]) -> bool
     ensures { result ≡ is_code bytes.now }
 {
-    are_digits(bytes) && value_of(bytes) <= LARGEST_CODE
+    are_digits(bytes) && value_of(bytes) <= MAX_CODE
 }

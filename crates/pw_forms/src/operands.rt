@@ -189,10 +189,8 @@ fn key_place(word: &[u8]) -> Option<usize>
 fn key_of(word: &[u8]) -> Option<u8>
     ensures { result ≡ spec.key_of word.now }
 {
-    match key_place(word) {
-        Some(place) => Some(place as u8 + 1),
-        None => None,
-    }
+    let place = key_place(word)?;
+    Some(place as u8 + 1)
 }
 
 /// A key, by its number.

@@ -14,6 +14,7 @@ use pw_base::memory::Memory;
 use pw_text::token::{Token, TokenKind};
 use std::alloc::Global;
 
+/// Whether a mark is a period.
 fn is_period(mark: Mark) -> bool
     ensures { result ≡ spec.is_period mark }
 {

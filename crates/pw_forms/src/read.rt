@@ -77,6 +77,7 @@ fn noted_code(known: Option<Fault>, line: u32, code: Option<FaultCode>) -> Optio
 }
 
 impl Reading {
+    /// No piece was read. It takes no memory.
     fn new(alloc: Global) -> Reading
         ensures { (pieces : List PlacedPiece) → outcome result pieces ≡ outcome_of pieces }
     {

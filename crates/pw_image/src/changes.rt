@@ -9,7 +9,8 @@ use pw_base::bytes::Bytes;
 use pw_base::memory::Memory;
 use std::alloc::Global;
 
-/// The records of the new image that differ from those of the old one. It costs the bytes of one image.
+/// The records of the new image that differ from those of the old one, which is as long (docs/IMAGE.md). It costs the
+/// bytes of one image. An image with more than 2^32 - 1 records is `Memory`.
 pub fn changes(alloc: Global, old: &[u8], new: &[u8]) -> Result<Changes, Memory>
     requires { length old.now ≡ length new.now }
     ensures { IfOk result (λ changes. changes ≡ changed_records old.now new.now) }

@@ -1,4 +1,5 @@
 //! Checkpoint images: the bytes of a context, both ways, and the records of an image that changed.
+//! docs/IMAGE.md has the rules.
 #![tactic(auto)]
 
 pub mod changed;

@@ -1,4 +1,5 @@
 //! Things by their names.
+//! docs/NAMES.md has the rules.
 #![tactic(auto)]
 
 pub mod index;

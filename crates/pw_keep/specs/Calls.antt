@@ -25,6 +25,7 @@ abbrev pub is_given : Taken → Bool
 is_given (Got process request) = true
 is_given _ = false
 
+-- a request waits for the class and a process is free
 abbrev pub can_take : Queue → Bool
 can_take queue = is_given (taken queue)
 
@@ -33,6 +34,7 @@ abbrev pub process_of : Taken → ℕ
 process_of (Got process request) = process
 process_of _ = 0
 
+-- the process of the class that takes its first waiting request
 abbrev pub taker : Queue → ℕ
 taker queue = process_of (taken queue)
 
@@ -80,6 +82,7 @@ abbrev pub call_in : Option Verb → Option FileCall
 call_in (Some (verb.File call)) = Some call
 call_in _ = None
 
+-- the operation on a file at which a job stands
 abbrev pub call_of : Option Job → Option FileCall
 call_of None = None
 call_of (Some job) = call_in job.verb

@@ -59,12 +59,15 @@ no_seat = record {
   ending = None;
 }
 
+-- a pair that is not there
 abbrev pub no_pair : SeenPair
 no_pair = record { mode = Alone; seats = [] }
 
+-- what is kept of a terminal
 abbrev pub seat_at : List Seat → ℕ → Seat
 seat_at seats t = slice_index_or seats t no_seat
 
+-- the jobs of the processes of a class
 abbrev pub jobs_at : List (List (Option Job)) → ℕ → List (Option Job)
 jobs_at jobs c = slice_index_or jobs c []
 
@@ -72,6 +75,7 @@ jobs_at jobs c = slice_index_or jobs c []
 abbrev pub job_of : List (Option Job) → ℕ → Option Job
 job_of jobs i = if i == 0 then None else job_in jobs (i - 1)
 
+-- what is kept of a pair
 abbrev pub pair_at : List SeenPair → ℕ → SeenPair
 pair_at pairs p = slice_index_or pairs p no_pair
 
@@ -98,6 +102,7 @@ pub record KeepState (D : Type 0) : Type 0 where
   pub pairs : List SeenPair
   pub births : ℕ
 
+-- what is kept, by what the disc tells
 abbrev pub kept_in : {D : Type 0} → (D → Told) → KeepState D → Kept
 kept_in told keep =
     kept_by keep.seats (told keep.disc) keep.book keep.jobs keep.pairs keep.births
@@ -124,6 +129,7 @@ abbrev pub IsVerbOf : System → Context → Option Verb → Type 0
 IsVerbOf system context None = context.at_verb ≡ false
 IsVerbOf system context (Some verb) = (context.at_verb ≡ true) × (verb ≡ verb_in system context)
 
+-- a job's verb, where it is known, is that of its context
 abbrev pub JobHasVerb : System → Option Job → Type 0
 JobHasVerb system job = IfSome job (λ (own : Job). IsVerbOf system own.context own.verb)
 
@@ -131,6 +137,7 @@ JobHasVerb system job = IfSome job (λ (own : Job). IsVerbOf system own.context 
 abbrev pub job_terminal : Option Job → Option ℕ
 job_terminal job = option_map (λ (own : Job). own.terminal) job
 
+-- the terminal of a request, if there is one
 abbrev pub request_terminal : Option Request → Option ℕ
 request_terminal request = option_map (λ (own : Request). own.terminal) request
 

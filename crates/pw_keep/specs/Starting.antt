@@ -20,6 +20,7 @@ abbrev pub context_for : System → Option TermInfo → Context
 context_for system None = fresh
 context_for system (Some info) = closed (starting system info.program)
 
+-- the context of a terminal at the start of its program
 abbrev pub first_context : System → ℕ → Context
 first_context system t = context_for system (slice_get system.terminals t)
 
@@ -27,9 +28,11 @@ first_context system t = context_for system (slice_get system.terminals t)
 abbrev pub seat_for : System → TermInfo → Seat
 seat_for system info = first_seat (closed (starting system info.program))
 
+-- no job at any process of a class
 abbrev pub no_jobs_for : ClassInfo → List (Option Job)
 no_jobs_for class = replicate class.processes None
 
+-- the pairs before the first entry: so many, each with its terminals
 pub record AreFirstPairs (system : System) (count : ℕ) (pairs : List SeenPair) : Type 0 where
   pub size : length pairs ≡ count
   pub each : (p : ℕ) → p < count → pair_at pairs p ≡ first_pair (members_of system p)

@@ -127,10 +127,8 @@ impl<D: Disc> Keep<D> {
         ensures { result
             ≡ request_terminal (at_process ((kept_in D.told self.now).queues class) process) }
     {
-        match self.classes.request_at(class, process) {
-            Some(request) => Some(request.terminal),
-            None => None,
-        }
+        let request = self.classes.request_at(class, process)?;
+        Some(request.terminal)
     }
 
     /// FAIL SERVER: a process stops with what it works on, and the cause is pending for the terminal

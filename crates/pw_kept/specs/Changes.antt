@@ -102,6 +102,7 @@ kept_ran t new kept = at_terminal t (with_ready new) kept
 abbrev pub kept_show : ℕ → Context → Kept → Kept
 kept_show t new kept = at_terminal t (with_context new) kept
 
+-- KEY: the context that was answered is kept
 abbrev pub kept_key : ℕ → Context → Kept → Kept
 kept_key t new kept = at_terminal t (with_context new) kept
 

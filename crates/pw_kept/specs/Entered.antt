@@ -45,6 +45,7 @@ abbrev pub answering : System → Answer → KeptTerminal → KeptTerminal
 answering system a own =
     record own { context = option_map (answered_with system a) own.ready; ready = None }
 
+-- a terminal's program takes an answer at its verb
 abbrev pub answer_terminal : System → ℕ → Answer → Kept → Kept
 answer_terminal system t a kept = at_terminal t (answering system a) kept
 
@@ -59,6 +60,7 @@ abbrev pub image_message : ℕ → CheckKind → Context → CheckMessage
 image_message t kind context =
     record { terminal = t; kind = kind; unit = unit_in context; image = image_of context }
 
+-- a message with the image of a context goes to the backup of the terminal's pair, if there is one
 abbrev pub send_image : System → ℕ → CheckKind → Option Context → Kept → Kept
 send_image system t kind None kept = kept
 send_image system t kind (Some context) kept =
@@ -77,6 +79,7 @@ closing_context system _ own = None
 
 -- ---- BEGIN and SEND
 
+-- BEGIN by the verb: at Begin the program takes an answer, and at a SEND it stays
 abbrev pub begin_at : System → ℕ → ℕ → ℕ → Option Verb → Kept → Kept
 begin_at system t n r (Some verb.Begin) kept =
     with_attempt t n (λ own. answering system (answer.Begun r) (attempted own)) kept
@@ -93,10 +96,12 @@ sent_by _ = []
 abbrev pub entered_show : System → ℕ → Kept → Kept
 entered_show system t kept = answer_terminal system t answer.Shown kept
 
+-- KEY: the program takes its k-th entry line
 abbrev pub entered_key : System → ℕ → ℕ → Kept → Kept
 entered_key system t k kept =
     answer_terminal system t (answer.Entry (entry_at (lines_of (slice_get system.terminals t)) k)) kept
 
+-- AGAIN: the program takes the reply that TMF keeps
 abbrev pub entered_again : System → ℕ → Kept → Kept
 entered_again system t kept =
     answer_terminal system t (answer.Replied (kept_reply (kept.disc.ended t))) kept
@@ -106,11 +111,13 @@ abbrev pub entered_check_start : System → ℕ → Kept → Kept
 entered_check_start system t kept =
     send_image system t kind.Start (kept.terminals t).context kept
 
+-- CHECK END: the image behind the answer that ends the transaction is sent
 abbrev pub entered_check_end : System → ℕ → Kept → Kept
 entered_check_end system t kept =
     send_image system t kind.End
     (closing_context system (verb_of system (kept.terminals t)) (kept.terminals t)) kept
 
+-- CHECK COPY: the image of the attempt's start, or else of the path, is sent
 abbrev pub entered_check_copy : System → ℕ → Kept → Kept
 entered_check_copy system t kept =
     send_image system t kind.Copy (copied (kept.terminals t).start (kept.terminals t).context) kept
@@ -120,6 +127,7 @@ abbrev pub entered_begin : System → ℕ → ℕ → ℕ → Kept → Kept
 entered_begin system t n r kept =
     begin_at system t n r (verb_of system (kept.terminals t)) kept
 
+-- SEND: the program's message waits for the class
 abbrev pub entered_send : System → ℕ → ℕ → ℕ → Kept → Kept
 entered_send system t n c kept =
     kept_send t n c (sent_by (verb_of system (kept.terminals t))) kept
@@ -131,6 +139,7 @@ entered_commit system t n kept =
       disc = ended kept.disc (unit_at kept t n) None;
     }
 
+-- BACK: the unit is backed out and ends, and the program takes Dropped
 abbrev pub entered_back : System → ℕ → ℕ → Kept → Kept
 entered_back system t n kept =
     record (at_terminal t (λ own. without_unit (answering system answer.Dropped own)) kept) {
@@ -143,6 +152,7 @@ started_on system (Some info) (request ∷ others) =
     closed (starting_server system info.server request.message)
 started_on system _ _ = closed (starting_server system 0 [])
 
+-- TAKE: a process starts on the first waiting request
 abbrev pub entered_take : System → ℕ → ℕ → Kept → Kept
 entered_take system c i kept =
     kept_take c i (started_on system (slice_get system.classes c) (kept.queues c).waiting) kept
@@ -152,16 +162,19 @@ abbrev pub answer_on : Kept → FileCall → FileAnswer
 answer_on kept call =
     answer_of (kept.disc.key_length call.file) (kept.disc.files call.file) call.op call
 
+-- FILE by the request and the verb of the process
 abbrev pub file_at : System → ℕ → ℕ → Option Request → Context → Verb → Kept → Kept
 file_at system c i (Some request) context (verb.File call) kept =
     kept_file c i request call (answered_with system (file_told (answer_on kept call)) context) kept
 file_at system c i _ context _ kept = kept
 
+-- FILE by the context of the process
 abbrev pub file_by : System → ℕ → ℕ → Option Context → Kept → Kept
 file_by system c i None kept = kept
 file_by system c i (Some context) kept =
     file_at system c i (at_process (kept.queues c) i) context (verb_in system context) kept
 
+-- FILE: the operation is done, and the server takes its answer
 abbrev pub entered_file : System → ℕ → ℕ → Kept → Kept
 entered_file system c i kept = file_by system c i (kept.jobs c i) kept
 
@@ -181,10 +194,12 @@ abbrev pub unit_of_ready : Option Context → ℕ
 unit_of_ready None = 0
 unit_of_ready (Some context) = unit_in context
 
+-- REPLY inside a transaction: the program takes the reply, and the process is free
 abbrev pub replies_to : System → ℕ → ℕ → ℕ → List ℕ → Kept → Kept
 replies_to system c i t reply kept =
     answer_terminal system t (answer.Replied reply) (free_process c i kept)
 
+-- REPLY of one SEND: the unit ends with its changes and its kept reply
 abbrev pub replies_last : System → ℕ → ℕ → ℕ → ℕ → List ℕ → Kept → Kept
 replies_last system c i t n reply kept =
     record (at_terminal t (λ own. without_unit (answering system (answer.Replied reply) own))
@@ -192,6 +207,7 @@ replies_last system c i t n reply kept =
       disc = ended kept.disc (unit_at kept t n) (Some reply);
     }
 
+-- REPLY: with a reply, or with the run fault of the server
 abbrev pub entered_reply : System → ℕ → ℕ → ℕ → Option ℕ → Kept → Kept
 entered_reply system c i t None kept =
     let reply = reply_by system (kept.jobs c i) in
@@ -203,6 +219,7 @@ entered_reply system c i t (Some x) kept =
 
 -- ---- every entry; the lists have the terminals of each pair
 
+-- what an entry of each kind leaves of what is kept
 abbrev pub entered : System → (ℕ → List ℕ) → Event → Kept → Kept
 entered system members (Show t phase attempt k) kept = entered_show system t kept
 entered system members (Key t k) kept = entered_key system t k kept

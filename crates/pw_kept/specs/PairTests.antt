@@ -13,18 +13,22 @@ use Rattle.pw_paired.specs.Units.{any_below}
 
 -- ---- modes
 
+-- the mode is Alone
 abbrev pub is_alone : Mode → Bool
 is_alone Alone = true
 is_alone _ = false
 
+-- the mode is Raising
 abbrev pub is_raising : Mode → Bool
 is_raising Raising = true
 is_raising _ = false
 
+-- the mode is Down
 abbrev pub is_down : Mode → Bool
 is_down Down = true
 is_down _ = false
 
+-- the mode is Gone
 abbrev pub is_gone : Mode → Bool
 is_gone Gone = true
 is_gone _ = false

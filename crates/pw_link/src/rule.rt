@@ -1,5 +1,5 @@
-// The rule of a lane's channel, and the kinds of atomic step that are made on it: to send, to take, to split a pass and to
-// join one.
+//! The rule of a lane's channel, and the kinds of atomic step that are made on it: to send, to take, to
+//! split a pass and to join one.
 ghost use Rattle.std.specs.Prelude.{◌≡◌, ◌<◌, Some, None, length, ⊤};
 ghost use Rattle.pw_link.specs.Rule.{note, longer};
 

@@ -1,4 +1,5 @@
 //! The text of the report, from its parts.
+//! docs/LOG.md has the rules.
 #![tactic(auto)]
 
 pub mod laws;

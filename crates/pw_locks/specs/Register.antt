@@ -14,6 +14,7 @@ use Rattle.pw_locks.specs.declared.register.Register.{Register}
 abbrev pub name_of : unit.Unit → ℕ × ℕ
 name_of unit = (unit.terminal, unit.number)
 
+-- the order of units by terminal, and of one terminal by number
 abbrev pub name_cmp : ℕ × ℕ → ℕ × ℕ → Ordering
 name_cmp a b = ordering_then (nat_cmp a.0 b.0) (nat_cmp a.1 b.1)
 

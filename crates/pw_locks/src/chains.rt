@@ -29,24 +29,14 @@ impl Chains {
         ensures fits { IfSome result (λ place. (d : SeenChain)
             → Fits (slice_index_or self.now.all.items place d).runs low.now high.now) }
     {
-        for (place, chain) in self.all.iter().enumerate() {
-            if chain.fits(low, high) {
-                return Some(place);
-            }
-        }
-        None
+        self.all.iter().position(|chain| chain.fits(low, high))
     }
 
     /// The place of the chain that has the number of a lock on a span that begins here.
     fn place_of(&self, low: &Bytes, number: u64) -> Option<usize>
         ensures { IfSome result (λ place. place < vec_len self.now.all) }
     {
-        for (place, chain) in self.all.iter().enumerate() {
-            if chain.has(low, number) {
-                return Some(place);
-            }
-        }
-        None
+        self.all.iter().position(|chain| chain.has(low, number))
     }
 
     /// Puts the number of a lock on a span. What was there stays, also after an `Err`.

@@ -27,6 +27,7 @@ fixed_by (operand.Text chars) = reading.Fixed (Text' chars)
 fixed_by operand.Zeros = reading.Fixed Zeros'
 fixed_by _ = reading.Fixed Spaces'
 
+-- an operand that was taken, as the machine has it
 abbrev pub taken_by : Operand → takens.Taken → reading.Taken
 taken_by one (found.Stored spot) = reading.Stored (spot_by spot)
 taken_by one (found.Register digits value) = reading.Fixed (Register digits value)

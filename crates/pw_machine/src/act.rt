@@ -38,8 +38,8 @@ fn does_here(
     match instr {
         Instr::JumpUnless(cond, over) => branch(top, context, cond, *over),
         Instr::Move { from, to } => move_to(top, context, from, to.as_slice())?,
-        Instr::Compute(arithmetic) => calculate(top, context, arithmetic, 0, 0),
-        Instr::OnSizeError { arithmetic, over } => calculate(top, context, arithmetic, 0, *over),
+        Instr::Compute(arithmetic) => calculate(top, context, arithmetic, 0),
+        Instr::OnSizeError { arithmetic, over } => calculate(top, context, arithmetic, *over),
         Instr::Perform(paragraph) => turn(top, context, top.at + 1, *paragraph, 0)?,
         Instr::PerformTimes { turn, times } => perform_times(top, context, *turn, times)?,
         Instr::PerformOneOf { turns, position } => {

@@ -41,7 +41,7 @@ fn places_of(kind: Kind) -> u8
     }
 }
 
-/// Stores a number in a spot, or says that it is a size error, which leaves all as it is.
+/// Stores a number in a spot. It is false exactly on a size error, which leaves all as it is.
 fn stored_by(storage: &mut [u8], spot: Spot, value: Scaled) -> bool
     requires { IsSpot (length storage.old) spot }
     ensures stored { (if result then Some storage.new else None) ≡ stored_by (picture_of spot.kind spot.size) (spot_by spot) value storage.old }
@@ -65,7 +65,8 @@ fn stored_by(storage: &mut [u8], spot: Spot, value: Scaled) -> bool
     }
 }
 
-/// Does an operation, whose result a spot receives, or says that it is a size error, which leaves all as it is.
+/// Does an operation, whose result a spot receives. It is false exactly on a size error, which leaves all as it is; a
+/// divisor of zero is one (docs/NUMBERS.md).
 pub fn computed(
     storage: &mut [u8],
     operation: Operation,

@@ -4,7 +4,7 @@ ghost use Rattle.std.specs.Prelude.{◌≡◌, ◌≤◌, ◌<◌, ◌+◌, ◌^
 ghost use Rattle.pw_code.specs.Instrs.{IsArithmetic};
 ghost use Rattle.pw_code.specs.Places.{IsOperand, IsPlace, IsCond};
 ghost use Rattle.pw_source.specs.Values.{whole_part, number_of};
-ghost use Rattle.pw_exec.specs.Config.{with_taken, over};
+ghost use Rattle.pw_exec.specs.Config.{with_taken, over as goes_over};
 ghost use Rattle.pw_exec.specs.Steps as steps;
 ghost use Rattle.pw_exec.specs.Turns as paragraphs;
 ghost use Rattle.pw_machine.specs.Config.{config_of};
@@ -63,25 +63,18 @@ pub fn move_to(
     Ok(())
 }
 
-/// Arithmetic: goes on behind so many instructions on a size error, and behind others else.
-pub fn calculate(
-    top: &mut Top,
-    context: &mut Context,
-    arithmetic: &Arithmetic,
-    on_error: u32,
-    no_error: u32,
-)
+/// Arithmetic: goes on with the next instruction on a size error, and else behind so many.
+pub fn calculate(top: &mut Top, context: &mut Context, arithmetic: &Arithmetic, over: u32)
     requires arithmetic { IsArithmetic (length top.old.storage.items) arithmetic.now }
-    requires on_error { top.old.at + 1 + on_error < 2 ^ 32 }
-    requires no_error { top.old.at + 1 + no_error < 2 ^ 32 }
+    requires place { top.old.at + 1 + over < 2 ^ 32 }
     ensures config { config_of top.new context.new
-        ≡ steps.computes arithmetic.now (over on_error) (over no_error) (config_of top.old context.old) }
+        ≡ steps.computes arithmetic.now (goes_over 0) (goes_over over) (config_of top.old context.old) }
     ensures stays { StaysAt (config_of top.old context.old) (config_of top.new context.new) }
 {
     let registers = Registers::of(context);
     match compute(registers, top.storage.as_mut_slice(), arithmetic) {
-        Some(true) => go_over(top, no_error),
-        Some(false) => go_over(top, on_error),
+        Some(true) => go_over(top, over),
+        Some(false) => go_over(top, 0),
         None => fault(context, 203),
     }
 }

@@ -33,10 +33,10 @@ use pw_code::system::System;
 use std::mem;
 
 /// The most CALLs that are active in a terminal.
-const MOST_CALLS: usize = 8;
+const MAX_CALLS: usize = 8;
 
 /// The most characters of storage of the programs that are active in a terminal.
-const MOST_ACTIVE: u128 = 64_000;
+const MAX_ACTIVE: u128 = 64_000;
 
 /// Keeps the registers behind the items of a called program, where its CALL asks for it.
 fn keep(storage: &mut Vec<u8>, registers: Registers, keeps: bool) -> Result<(), Memory>
@@ -137,12 +137,12 @@ pub fn call(
         fault(context, 203);
         return Ok(());
     };
-    if context.frames.len() >= MOST_CALLS {
+    if context.frames.len() >= MAX_CALLS {
         fault(context, 202);
         return Ok(());
     }
     let size = system.programs.as_slice()[program as usize].storage.len();
-    if active(system, top, context) + size as u128 > MOST_ACTIVE {
+    if active(system, top, context) + size as u128 > MAX_ACTIVE {
         fault(context, 208);
         return Ok(());
     }

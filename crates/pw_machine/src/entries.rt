@@ -28,14 +28,7 @@ use pw_code::entry::EntryLine;
 use pw_code::field::{Field, FieldKind, ScreenTable};
 use pw_code::place::Kind;
 use pw_picture::picture::Picture;
-use pw_terminal::entries::{EntryAnswer, advise, check_entry};
-
-/// Whether a field takes entries under this name, in either case. FILLER has no name.
-fn is_entry_field(name: &[u8], field: &Field) -> bool
-    ensures { result ≡ is_entry_field name.now field.now }
-{
-    field.takes && !name.is_empty() && field.name.as_slice().eq_ignore_ascii_case(name)
-}
+use pw_terminal::entries::{EntryAnswer, advise, check_entry, is_entry_field};
 
 /// The first field that takes entries under this name.
 fn field_named<'a>(fields: &'a [Field], name: &[u8]) -> Option<&'a Field>

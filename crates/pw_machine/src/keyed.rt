@@ -2,8 +2,6 @@
 
 ghost use Rattle.std.specs.Prelude.{◌≡◌, ◌<◌, ◌≤◌, ◌+◌, ◌*◌, ◌/◌, ◌%◌, ◌-◌, ◌^◌, ◌==◌, length, filter, position, IfSome};
 ghost use Rattle.std.specs.Char.{is_ascii_digit};
-ghost use Rattle.pw_number.specs.Number.{number};
-ghost use Rattle.pw_number.specs.Sign.{signed};
 ghost use Rattle.pw_picture.specs.Symbols.{begins_with};
 ghost use Rattle.pw_picture.specs.declared.picture.Picture.TheVariants as Picture;
 ghost use Rattle.pw_picture.specs.Grammar.{IsPicture, size_of};
@@ -15,7 +13,7 @@ use crate::moves::number_to;
 use crate::spot::Spot;
 use crate::texts::{digit_of_spelling, digits_in};
 use pw_code::place::Kind;
-use pw_number::scaled::Scaled;
+use pw_picture::read::number_with;
 
 /// Where the point of a number stands.
 fn point_in(value: &[u8]) -> Option<usize>
@@ -74,17 +72,6 @@ fn low_digits(value: &[u8], digits: u8, places: u8) -> u64
         size = size * 10 + digit as u64;
     }
     size
-}
-
-/// The number of this sign and size.
-fn number_with(negative: bool, size: u64, places: u8) -> Scaled
-    requires size { size < 10 ^ 18 }
-    requires places { places ≤ 18 }
-    ensures { result ≡ number (signed negative size) places }
-{
-    let units = size as i128;
-    let units = if negative { -units } else { units };
-    Scaled::new(units, places).unwrap()
 }
 
 /// Whether a number that is keyed in has a minus sign.

@@ -1,4 +1,5 @@
 //! The machine that runs compiled code.
+//! docs/MACHINE.md has the rules.
 #![tactic(auto)]
 
 mod act;

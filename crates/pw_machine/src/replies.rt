@@ -51,10 +51,8 @@ fn place_among(codes: &[ReplyCode], reply: &[u8]) -> Option<usize>
     ensures place { result ≡ answers.place_among codes.now reply.now }
     ensures within { IfSome result (λ place. place < length codes.now) }
 {
-    match code_of(reply) {
-        Some(code) => place_of(codes, code),
-        None => None,
-    }
+    let code = code_of(reply)?;
+    place_of(codes, code)
 }
 
 /// The place among the CODEs, from 0, and the spot to which the reply goes.

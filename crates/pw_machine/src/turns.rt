@@ -11,10 +11,10 @@ use pw_code::context::{Context, Return};
 use pw_code::instr::Turn;
 
 /// The most statements and turns between two answers.
-const MOST_COUNTED: u32 = 100_000;
+const MAX_COUNTED: u32 = 100_000;
 
 /// The most PERFORMs that are active in a program.
-const MOST_PERFORMS: usize = 64;
+const MAX_PERFORMS: usize = 64;
 
 /// Stands at a run fault.
 pub fn fault(context: &mut Context, code: u16)
@@ -29,7 +29,7 @@ pub fn count(context: &mut Context) -> bool
     ensures told { result ≡ nat_lt context.old.count most_counted }
     ensures context { context.new ≡ (if result then record context.old { count = context.old.count + 1 } else record context.old { fault = 201; at_verb = true }) }
 {
-    if context.count < MOST_COUNTED {
+    if context.count < MAX_COUNTED {
         context.count += 1;
         true
     } else {
@@ -58,7 +58,7 @@ pub fn turn(
     ensures stays { StaysAt (config_of top.old context.old) (config_of top.new context.new) }
 {
     if count(context) {
-        if top.returns.len() < MOST_PERFORMS {
+        if top.returns.len() < MAX_PERFORMS {
             top.returns.push(Return {
                 resume,
                 until: paragraph.end,

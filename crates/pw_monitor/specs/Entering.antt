@@ -14,6 +14,7 @@ abbrev pub older_by : ℕ → Cause → Option (ℕ × ℕ)
 older_by t (Older o m) = Some (t, o)
 older_by t _ = None
 
+-- the terminals of the two units of which the cause OLDER of an entry speaks
 abbrev pub older_in : Event → Option (ℕ × ℕ)
 older_in (Restart t n cause) = older_by t cause
 older_in (End t (Suspended cause)) = older_by t cause

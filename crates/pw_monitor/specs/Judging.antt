@@ -17,6 +17,7 @@ abbrev pub IsOfWork : Seen → Outcome → Type 0
 IsOfWork world outcome =
     (context : Context) → work_of world outcome.actor ≡ Some context → outcome.given ≡ Some context
 
+-- an outcome passes: it is not refused, and it is of the actor's work
 pub record Passes (world : Seen) (outcome : Outcome) : Type 0 where
   pub accepted : IsAccepted world outcome
   pub work : IsOfWork world outcome

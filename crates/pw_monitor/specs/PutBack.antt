@@ -17,6 +17,7 @@ put_back (Terminal t) given kept = kept_show t given kept
 put_back (Process c i) given kept = with_job c i (Some given) kept
 put_back actor given kept = kept
 
+-- the kept context of an actor is the one from which it ran again
 abbrev pub ran_back : Actor → Context → Seen → Seen
 ran_back actor given world = record world { kept = put_back actor given world.kept }
 

@@ -25,10 +25,10 @@ impl<D: Disc> World<D> {
                     None => seat.context.as_ref(),
                 }
             }
-            Actor::Process { class, process } => match self.keep.job(class, process) {
-                Some(job) => Some(&job.context),
-                None => None,
-            },
+            Actor::Process { class, process } => {
+                let job = self.keep.job(class, process)?;
+                Some(&job.context)
+            }
             Actor::Pair(_) | Actor::Class(_) => None,
         }
     }

@@ -42,9 +42,10 @@ pub fn known_laws()
 {}
 
 /// What `step` tells of an actor, while no failure line is due for its entries and the contexts of a
-/// terminal have numbers and characters of their types: a step that it finds is one that shows, and where it finds none and the actor has nothing to run on, the actor has none. A
-/// step that it finds with a message that is not built is one of an actor that has no other, and every
-/// other one that passes its test is built.
+/// terminal have numbers and characters of their types: a step that it finds is one that shows, and
+/// where it finds none and the actor has nothing to run on, the actor has none. A step that it finds
+/// with a message that is not built is one of an actor that has no other, and every other one that
+/// passes its test is built.
 pub fn found_laws()
     ensures some { (world : Seen) (books : Books) (actor : Actor) (entry : Event)
         → IsWorld world books → IsUndue world books actor → finished world ≡ false

@@ -35,8 +35,8 @@ pub enum ReplayFault<D> {
 }
 
 impl<D: Disc> World<D> {
-    /// The world of this system, script and disc behind a log of at most 500000 entries, which it may
-    /// have.
+    /// The world of this system, script and disc behind a log of at most `MAX_ENTRIES` entries. It refuses
+    /// exactly with the first entry that is no step, by its number; `DiscFault` gives the disc back.
     pub fn replay(
         alloc: Global,
         system: System,

@@ -59,7 +59,7 @@ impl<D: Disc> Model for World<D> {
 
 impl<D: Disc> World<D> {
     /// A new world of a system, whose failure lines name what it has, over a disc of it. Its log may
-    /// have `limit` entries, at most 500000. No actor is out.
+    /// have `limit` entries, at most `MAX_ENTRIES`. No actor is out.
     pub fn new(
         alloc: Global,
         system: System,

@@ -22,10 +22,8 @@ use std::alloc::Global;
 fn length_of(layout: &Layout, name: &Bytes) -> Option<u32>
     ensures { result ≡ option_map (λ place. place.size) (place_of layout.now name.now) }
 {
-    match layout.place(name.as_slice()) {
-        Some(place) => Some(place.size),
-        None => None,
-    }
+    let place = layout.place(name.as_slice())?;
+    Some(place.size)
 }
 
 /// How long the items of names are.
@@ -73,7 +71,7 @@ fn requester_fault(
     Ok(scope.program_fault(known))
 }
 
-/// The same of a server.
+/// The first of the fault that is known and of those of a server.
 fn server_fault(
     alloc: Global,
     server: &Server,
@@ -105,7 +103,7 @@ fn requesters_fault(
     Ok(found)
 }
 
-/// The same of servers.
+/// The first of the fault that is known and of those of servers.
 fn servers_fault(
     alloc: Global,
     servers: &[Server],

@@ -7,7 +7,7 @@ use pw_operands::variable::Variable;
 use pw_picture::picture::Picture;
 
 /// The most characters of a record.
-const LONGEST_RECORD: u32 = 4_000;
+const MAX_RECORD: u32 = 4_000;
 
 /// What the item or register that an operand names has to be.
 #[derive(Clone, Copy, Debug, PartialEq, Eq)]
@@ -53,7 +53,7 @@ impl Extent {
         let key = file.key as u32;
         match self {
             Extent::Key => variable.size == key,
-            Extent::Record => key <= variable.size && variable.size <= LONGEST_RECORD,
+            Extent::Record => key <= variable.size && variable.size <= MAX_RECORD,
         }
     }
 }

@@ -21,6 +21,7 @@ impl Model for Ballot {
 }
 
 impl Ballot {
+    /// A ballot of these other systems, of which these have not voted yet. It takes no memory.
     pub fn new(others: Vec<u32>, missing: Vec<u32>) -> Ballot
         ensures { result ≡ record { others = others.items; missing = missing.items } }
     {

@@ -10,7 +10,9 @@ use std::marker::Model;
 /// What a member answers: its new standing, where it changes, and the messages to send.
 #[derive(Debug, Drop)]
 pub struct Reply {
+    /// The new standing, none where it stays.
     pub turns: Option<Standing>,
+    /// What is sent, in order.
     pub messages: Vec<Net>,
 }
 

@@ -16,6 +16,7 @@ pub enum Standing {
 }
 
 impl Standing {
+    /// Its mark, without the votes.
     pub fn mark(&self) -> Mark
         ensures { result ≡ mark_in self.now }
     {

@@ -124,6 +124,7 @@ abbrev pub loss_in : Option Mode → Bool → Bool → Loss
 loss_in None primary lacking = Nothing
 loss_in (Some mode) primary lacking = loss_of mode primary lacking
 
+-- what the pair of this number loses when a member of it fails
 abbrev pub loss_at : Shadow → ℕ → Bool → Loss
 loss_at shadow p primary = loss_in (slice_get shadow.modes p) primary (lacks p shadow.seats)
 
@@ -149,6 +150,7 @@ abbrev pub changed_in : {A : Type 0} → Option A → ℕ → (A → A) → List
 changed_in None place change items = items
 changed_in (Some item) place change items = slice_set items place (change item)
 
+-- a list with the item at a place changed
 abbrev pub changed_at : {A : Type 0} → ℕ → (A → A) → List A → List A
 changed_at place change items = changed_in (slice_get items place) place change items
 

@@ -158,6 +158,7 @@ abbrev pub path_in : ℕ → Mark → Option Held → Mark
 path_in last path None = path
 path_in last path (Some held) = path_held last held
 
+-- the path at which a takeover goes on with a terminal
 abbrev pub resumed_path : Seat → Mark
 resumed_path seat = path_in seat.last seat.path seat.memory
 

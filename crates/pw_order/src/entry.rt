@@ -29,14 +29,16 @@ pub fn terminal_in(entry: &Event) -> Option<u32>
     }
 }
 
-/// Whether an open unit is left with this ending.
-fn leaves(ending: Ending) -> bool
+/// Whether an open unit is left with this ending of its terminal: with each but Stopped and Lost
+/// (docs/LOG.md).
+pub fn leaves(ending: Ending) -> bool
     ensures { result ≡ leaves ending }
 {
     !matches!(ending, Ending::Stopped | Ending::Lost)
 }
 
-/// The seat of its terminal behind an entry; a BEGIN is of one SEND or begins with Begun.
+/// The seat of its terminal behind an entry. `one_send` tells of a BEGIN whether its unit is one SEND.
+/// `Memory` comes only where a number would not fit.
 pub fn seat_behind(seat: Seat, entry: &Event, one_send: bool) -> Result<Seat, Memory>
     ensures { IfOk result (λ next. next ≡ seat_behind one_send entry.now seat) }
 {
@@ -56,6 +58,7 @@ pub fn seat_behind(seat: Seat, entry: &Event, one_send: bool) -> Result<Seat, Me
     }
 }
 
+/// The seat behind a REPLY: with a reply, or with the run fault of the server.
 fn seat_behind_reply(seat: Seat, fault: Option<u16>) -> Result<Seat, Memory>
     ensures { IfOk result (λ next. next ≡ seat_behind_reply fault seat) }
 {
@@ -73,7 +76,7 @@ pub struct Given {
 }
 
 /// The blocks of an entry of the terminal, from its seat before.
-pub fn seat_gives(seat: Seat, terminal: u32, entry: &Event) -> Result<Given, Memory>
+pub(crate) fn seat_gives(seat: Seat, terminal: u32, entry: &Event) -> Result<Given, Memory>
     ensures { IfOk result (λ given. option_to_list given.unit ++ option_to_list given.own
         ≡ seat_gives entry.now terminal seat) }
 {
@@ -91,6 +94,7 @@ pub fn seat_gives(seat: Seat, terminal: u32, entry: &Event) -> Result<Given, Mem
     }
 }
 
+/// The block of a unit, if there is one, and none of the terminal.
 fn only(block: Option<Block>) -> Given
     ensures { option_to_list result.unit ++ option_to_list result.own ≡ option_to_list block }
 {
@@ -100,6 +104,7 @@ fn only(block: Option<Block>) -> Given
     }
 }
 
+/// The block of an attempt that is over in this way.
 fn over(terminal: u32, unit: u32, how: How) -> Block
     ensures { result ≡ Block.Ended terminal unit how }
 {
@@ -145,7 +150,7 @@ pub fn unit_left(terminal: u32, unit: Option<OpenUnit>) -> Option<Block>
 
 impl Given {
     /// Puts the blocks behind others. An `Err` leaves these as they were.
-    pub fn put(self, order: &mut Vec<Block>) -> Result<(), Memory>
+    pub(crate) fn put(self, order: &mut Vec<Block>) -> Result<(), Memory>
         ensures ok { OnOk result (order.new.items
             ≡ order.old.items ++ (option_to_list self.unit ++ option_to_list self.own)) }
         ensures err { OnErr result (order.new.items ≡ order.old.items) }

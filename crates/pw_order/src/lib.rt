@@ -1,8 +1,9 @@
 //! The serial order of a log, entry by entry.
+//! docs/LOG.md has the rules.
 #![tactic(auto)]
 
 pub mod block;
-mod entry;
+pub mod entry;
 pub mod laws;
 pub mod mark;
 pub mod order;

@@ -47,7 +47,7 @@ impl SerialOrder {
     }
 
     /// Reads the next entry of a run, and puts the blocks that it gives behind others. Where it is
-    /// the BEGIN of a unit, the flag tells whether this unit is one SEND. An `Err` leaves both as
+    /// the BEGIN of a unit, `one_send` tells whether this unit is one SEND. An `Err` leaves both as
     /// they were.
     pub fn push(
         &mut self,

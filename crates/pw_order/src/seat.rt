@@ -182,7 +182,7 @@ impl Seat {
         }
     }
 
-    /// An attempt of the unit of this number begins, which is one SEND or begins with Begun.
+    /// An attempt of the unit of this number begins. `one_send` tells whether the unit is one SEND.
     pub fn begun(self, number: u32, one_send: bool) -> Result<Seat, Memory>
         ensures { IfOk result (λ seat. seat ≡ begun number one_send self) }
     {
@@ -256,7 +256,7 @@ impl Seat {
         }
     }
 
-    /// The terminal ends, with its open unit left or without one.
+    /// The terminal ends. `leaves` tells whether its open unit, if there is one, is left.
     pub fn done(self, leaves: bool) -> Seat
         ensures { result ≡ done leaves self }
     {

@@ -95,6 +95,7 @@ pub fn lose(seats: &mut Vec<Seat>, tcp: u32, loss: Loss)
     }
 }
 
+/// Changes a seat by a loss where it is of the pair.
 fn lose_one(seat: &mut Seat, tcp: u32, loss: Loss)
     ensures { seat.new ≡ (if is_of tcp seat.old then seat_behind_loss loss seat.old else seat.old) }
 {
@@ -112,6 +113,7 @@ pub fn take_over(seats: &mut Vec<Seat>, tcp: u32)
     }
 }
 
+/// A seat goes on behind a takeover where it is of the pair.
 fn resume_one(seat: &mut Seat, tcp: u32)
     ensures { seat.new ≡ (if is_of tcp seat.old then resumed seat.old else seat.old) }
 {
@@ -129,6 +131,7 @@ pub fn empty_memory(seats: &mut Vec<Seat>, tcp: u32)
     }
 }
 
+/// Empties what the backup holds of a terminal where it is of the pair.
 fn empty_one(seat: &mut Seat, tcp: u32)
     ensures { seat.new ≡ (if is_of tcp seat.old then without_memory seat.old else seat.old) }
 {

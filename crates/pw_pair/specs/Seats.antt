@@ -139,6 +139,7 @@ abbrev pub flies_built : Option Flight → Bool
 flies_built None = false
 flies_built (Some flight) = flight.built
 
+-- the terminal's message is in flight and built
 abbrev pub is_built : Seat → Bool
 is_built seat = flies_built seat.flight
 
@@ -147,6 +148,7 @@ abbrev pub flies_waiting : Option Flight → Bool
 flies_waiting None = false
 flies_waiting (Some flight) = not flight.built
 
+-- the terminal's message is in flight and not built
 abbrev pub is_waiting : Seat → Bool
 is_waiting seat = flies_waiting seat.flight
 
@@ -155,6 +157,7 @@ abbrev pub has_start : ℕ → List ℕ → Option Held → Bool
 has_start unit image None = false
 has_start unit image (Some held) = held.unit == unit && bytes_eq held.start image
 
+-- the memory has this unit and start image of the terminal
 abbrev pub holds_start : ℕ → List ℕ → Seat → Bool
 holds_start unit image seat = has_start unit image seat.memory
 
@@ -163,10 +166,12 @@ abbrev pub is_end : List ℕ → Option (List ℕ) → Bool
 is_end image None = false
 is_end image (Some end) = bytes_eq end image
 
+-- what is held, if anything is, has this end image
 abbrev pub has_end : List ℕ → Option Held → Bool
 has_end image None = false
 has_end image (Some held) = is_end image held.end
 
+-- the memory has this end image of the terminal
 abbrev pub holds_end : List ℕ → Seat → Bool
 holds_end image seat = has_end image seat.memory
 
@@ -175,6 +180,7 @@ abbrev pub flies_as : Option (List ℕ) → List ℕ → Option Flight → Type 
 flies_as start image None = Unit {0}
 flies_as start image (Some flight) = image_in start flight.message.body ≡ image
 
+-- the terminal's message in flight stands for this image
 abbrev pub stands_for : List ℕ → Seat → Type 0
 stands_for image seat = flies_as (start_of seat.memory) image seat.flight
 
@@ -185,9 +191,11 @@ abbrev pub end_is_image : Option (List ℕ) → Bool
 end_is_image None = true
 end_is_image (Some image) = is_image image
 
+-- what is held is in the image format
 abbrev pub held_is_sound : Held → Bool
 held_is_sound held = is_image held.start && end_is_image held.end
 
+-- what is held, if anything is, is of the terminal and in the image format
 abbrev pub memory_is_sound : ℕ → Option Held → Bool
 memory_is_sound terminal None = true
 memory_is_sound terminal (Some held) = held.terminal == terminal && held_is_sound held
@@ -201,6 +209,7 @@ flight_is_sound start (Some flight) =
     && (is_image (image_in start flight.message.body)
     && (if flight.built then is_whole flight.message.body else true))
 
+-- what a seat keeps: its memory and its message in flight are sound
 abbrev pub is_sound : Seat → Bool
 is_sound seat =
     memory_is_sound seat.terminal seat.memory && flight_is_sound (start_of seat.memory) seat.flight

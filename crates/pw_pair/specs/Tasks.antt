@@ -18,6 +18,7 @@ task_in terminal held (Some flight) =
     if flight.built then None
     else Some (record { terminal = terminal; message = flight.message; held = held })
 
+-- the task of the terminal's message in flight
 abbrev pub task_of : Seat → Option SeenTask
 task_of seat = task_in seat.terminal (start_of seat.memory) seat.flight
 

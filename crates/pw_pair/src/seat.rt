@@ -202,10 +202,8 @@ impl Seat {
     pub fn start(&self) -> Option<&Bytes>
         ensures { option_copied result ≡ start_of self.now.memory }
     {
-        match &self.memory {
-            Some(held) => Some(&held.start),
-            None => None,
-        }
+        let held = self.memory.as_ref()?;
+        Some(&held.start)
     }
 
     /// The task of the message in flight, which is not built.

@@ -1,4 +1,5 @@
 //! The paired system: its state, its steps and runs, and what a log means.
+//! docs/PAIRED.md has the rules.
 #![tactic(auto)]
 
 pub mod entries;

@@ -62,9 +62,11 @@ admitted line is_there is_full =
 abbrev pub has_tcp : Commands → Word → Bool
 has_tcp commands name = list_any (λ tcp. bytes_eq tcp.name name) commands.tcps
 
+-- a class of this name was added
 abbrev pub has_class : Commands → Word → Bool
 has_class commands name = list_any (λ class. bytes_eq class.name name) commands.classes
 
+-- a terminal of this name was added
 abbrev pub has_terminal : Commands → Word → Bool
 has_terminal commands name = list_any (λ terminal. bytes_eq terminal.name name) commands.terminals
 
@@ -101,9 +103,11 @@ first_start line (Some before) = Some before
 abbrev pub start_tcp : ℕ → Word → Started → Started
 start_tcp line name tcp = if bytes_eq tcp.name name then record tcp { started = first_start line tcp.started } else tcp
 
+-- START of a class of this name
 abbrev pub start_class : ℕ → Word → ClassCommand → ClassCommand
 start_class line name class = if bytes_eq class.name name then record class { started = first_start line class.started } else class
 
+-- START of a terminal of this name
 abbrev pub start_terminal : ℕ → Word → TermCommand → TermCommand
 start_terminal line name terminal =
     if bytes_eq terminal.name name then record terminal { started = first_start line terminal.started } else terminal

@@ -1,4 +1,5 @@
 //! The commands of a deck: what they set, add and start.
+//! docs/DECK.md has the rules.
 #![tactic(auto)]
 
 pub mod commands;

@@ -58,6 +58,7 @@ impl Commands {
         tcps.iter().any(|tcp| tcp.name.as_slice() == name && is_before(line, tcp.started))
     }
 
+    /// Whether a TCP of the name was added before the line and is not started.
     fn may_start_tcp(&self, line: u32, name: &[u8]) -> bool
         ensures { result ≡ may_start self.now line Object.Tcp name.now }
     {
@@ -65,6 +66,7 @@ impl Commands {
         tcps.iter().any(|tcp| tcp.name.as_slice() == name && waits(line, tcp.line, tcp.started))
     }
 
+    /// Whether a class of the name was added before the line and is not started.
     fn may_start_class(&self, line: u32, name: &[u8]) -> bool
         ensures { result ≡ may_start self.now line Object.Server name.now }
     {
@@ -73,6 +75,7 @@ impl Commands {
             && waits(line, class.line, class.started))
     }
 
+    /// Whether a terminal of the name waits for its START, and its TCP was started before the line.
     fn may_start_terminal(&self, line: u32, name: &[u8]) -> bool
         ensures { result ≡ may_start self.now line Object.Term name.now }
     {
@@ -224,8 +227,9 @@ pub fn first_bad_start(
     Ok(best)
 }
 
-/// Nothing, or the refusal for a fault.
-fn unless(fault: Option<Fault>) -> Result<(), Refusal>
+/// The outcome of a pass that gives nothing else: nothing, or the refusal for its fault, with the same
+/// line and code (docs/DECK.md).
+pub fn unless(fault: Option<Fault>) -> Result<(), Refusal>
     ensures { Gives (λ done. done) result (unless fault (tt {0})) }
 {
     match fault {

@@ -158,6 +158,7 @@ fn start_terminals(terminals: &mut Vec<TermCommand>, line: u32, name: &[u8])
 }
 
 impl Commands {
+    /// Whether a TCP of the name was added.
     fn has_tcp(&self, name: &[u8]) -> bool
         ensures { result ≡ has_tcp self.now name.now }
     {
@@ -167,6 +168,7 @@ impl Commands {
             .any(|tcp| tcp.name.as_slice() == name)
     }
 
+    /// Whether a class of the name was added.
     fn has_class(&self, name: &[u8]) -> bool
         ensures { result ≡ has_class self.now name.now }
     {
@@ -176,6 +178,7 @@ impl Commands {
             .any(|class| class.name.as_slice() == name)
     }
 
+    /// Whether a terminal of the name was added.
     fn has_terminal(&self, name: &[u8]) -> bool
         ensures { result ≡ has_terminal self.now name.now }
     {

@@ -1,4 +1,5 @@
 //! Pictures of items: which texts are one, and how numbers and texts are held by them.
+//! docs/NUMBERS.md has the rules.
 #![tactic(auto)]
 
 pub mod edit;
@@ -9,10 +10,10 @@ mod kind;
 pub mod laws;
 mod number;
 pub mod picture;
-mod read;
+pub mod read;
 mod room;
 mod run;
 mod runs;
 mod store;
-mod symbols;
+pub mod symbols;
 pub mod text;

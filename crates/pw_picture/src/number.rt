@@ -9,7 +9,7 @@ use crate::run::Run;
 use crate::runs::{are_none, begin_with, length_of, strip};
 
 /// The most digits of a number.
-const MOST_DIGITS: usize = 18;
+const MAX_DIGITS: usize = 18;
 
 /// Whether all symbols are this one.
 fn are_all(symbol: u8, runs: &[Run]) -> bool
@@ -60,7 +60,7 @@ fn number_with(signed: bool, whole: usize, places: usize) -> Option<Picture>
     ensures { result ≡ number_with signed whole places }
 {
     let digits = whole + places;
-    if digits >= 1 && digits <= MOST_DIGITS {
+    if digits >= 1 && digits <= MAX_DIGITS {
         Some(Picture::Number {
             digits: digits as u8,
             places: places as u8,

@@ -32,8 +32,8 @@ fn value_of(chars: &[u8]) -> u64
     value
 }
 
-/// The number of this sign and size.
-fn number_with(negative: bool, size: u64, places: u8) -> Scaled
+/// The number of this sign and size, with so many of its digits behind the point (docs/NUMBERS.md).
+pub fn number_with(negative: bool, size: u64, places: u8) -> Scaled
     requires size { size < 10 ^ 18 }
     requires places { places ≤ 18 }
     ensures { result ≡ number (signed negative size) places }

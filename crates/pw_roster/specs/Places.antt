@@ -40,12 +40,15 @@ abbrev pub noted : Actor → (Note → Note) → (Actor → Note) → Actor → 
 noted actor change notes other =
     if is_same_actor other actor then change (notes other) else notes other
 
+-- the state changed behind n entries
 abbrev pub stamped : ℕ → Note → Note
 stamped n note = record note { stamp = n }
 
+-- the actor is out, or is not
 abbrev pub with_out : Bool → Note → Note
 with_out out note = record note { out = out }
 
+-- the actor is marked, or is not
 abbrev pub with_mark : Bool → Note → Note
 with_mark marked note = record note { marked = marked }
 

@@ -1,4 +1,5 @@
-//  Who acts in a system, and what a world notes of each actor.
+//! Who acts in a system, and what a world notes of each actor.
+//! docs/WORLD.md has the rules.
 #![tactic(auto)]
 
 pub mod actor;

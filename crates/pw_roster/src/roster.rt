@@ -15,7 +15,7 @@ const PLACES: usize = 408;
 pub struct Note {
     /// The length of the log when the actor's state last changed.
     pub stamp: u64,
-    /// Whether it is out.
+    /// Whether it is out: its task was claimed, and no outcome of it was applied yet.
     pub out: bool,
     /// Whether it is looked at for work.
     pub marked: bool,

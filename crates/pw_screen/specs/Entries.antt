@@ -43,6 +43,7 @@ abbrev pub is_screen_level : Option ℕ → Bool
 is_screen_level None = false
 is_screen_level (Some level) = level == 1
 
+-- an entry of the screen section begins a screen
 abbrev pub begins_screen : Left → Bool
 begins_screen part = is_screen_level (level_of part)
 

@@ -56,6 +56,7 @@ item_with picture at outside show takes (Some source) =
     then Some (record { kind = Item picture at source show; takes = takes })
     else None
 
+-- the item at a place, as a field of a picture has it
 abbrev pub item_at : Picture → ItemClause → Option Place → Option Shown
 item_at picture one None = None
 item_at picture one (Some place) =

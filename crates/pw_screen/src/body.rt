@@ -2,7 +2,8 @@ ghost use Rattle.std.specs.Prelude.{◌≡◌};
 ghost use Rattle.pw_text.specs.Cursor.{Reads, behind};
 ghost use Rattle.pw_screen.specs.Clauses.{whole, position, place, is_size_end, is_screen_end, body_by, body_of};
 
-use crate::clauses::{Clauses, clauses_in, is_end};
+use crate::clauses::{Clauses, clauses_in};
+use pw_data::clauses::is_end;
 use pw_data::literal::whole_number;
 use pw_text::cursor::Cursor;
 use pw_text::token::TokenKind;

@@ -1,9 +1,9 @@
-ghost use Rattle.std.specs.Prelude.{◌≡◌, ◌<◌, ◌≤◌, ◌||◌, IsSome, length, codes};
-ghost use Rattle.pw_text.specs.Cursor.{Reads, sees_word, after};
-ghost use Rattle.pw_data.specs.Clauses.{is_end};
+ghost use Rattle.std.specs.Prelude.{◌≡◌, ◌<◌, ◌≤◌, IsSome, length};
+ghost use Rattle.pw_text.specs.Cursor.{Reads};
 ghost use Rattle.pw_screen.specs.declared.clauses.Clause.TheVariants as clause;
 ghost use Rattle.pw_screen.specs.Clauses.{no_clauses, added, picture_clause, value_clause, index, subscript, item_name, item_clause, one_clause, clauses_in};
 
+use pw_data::clauses::{eat_pic, is_end};
 use pw_text::cursor::Cursor;
 use pw_text::token::{Token, TokenKind};
 
@@ -176,20 +176,6 @@ fn using_clause(cursor: &mut Cursor<'_>) -> Option<Clause>
     Some(Clause::Using(item_name(cursor)?))
 }
 
-/// Takes the word PIC or PICTURE, if it comes next. It gives whether it does.
-fn eat_pic(cursor: &mut Cursor<'_>) -> bool
-    ensures found { result
-        ≡ (sees_word (codes "PIC") cursor.old || sees_word (codes "PICTURE") cursor.old) }
-    ensures left { let found = sees_word (codes "PIC") cursor.old || sees_word (codes "PICTURE") cursor.old
-        in cursor.new ≡ after found cursor.old }
-{
-    let found = cursor.sees_word(b"PIC") || cursor.sees_word(b"PICTURE");
-    if found {
-        let _word = cursor.next();
-    }
-    found
-}
-
 /// Reads the clause in front.
 fn one_clause(cursor: &mut Cursor<'_>) -> Option<Clause>
     ensures value { Reads (one_clause cursor.old) result cursor.new }
@@ -207,16 +193,6 @@ fn one_clause(cursor: &mut Cursor<'_>) -> Option<Clause>
         using_clause(cursor)
     } else {
         None
-    }
-}
-
-/// Whether a period is all that is left.
-pub fn is_end(cursor: &Cursor<'_>) -> bool
-    ensures { result ≡ is_end cursor.now.tokens }
-{
-    match cursor.tokens() {
-        [token] => token.kind.is(TokenKind::Period),
-        _ => false,
     }
 }
 

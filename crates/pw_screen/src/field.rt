@@ -9,11 +9,12 @@ ghost use Rattle.pw_screen.specs.Entries.{is_field_level, where_cells, field_nam
 use crate::body::{At, Body, body_of};
 use crate::cells::Cells;
 use crate::entry::Entry;
-use crate::shown::{Shown, extent_of, literal_at, names_unknown, picture_at, shown_of};
+use crate::shown::{Shown, extent_of, literal_at, names_unknown, shown_of};
 use pw_base::bytes::Bytes;
 use pw_base::fault_code::FaultCode;
 use pw_base::memory::Memory;
 use pw_code::field::Field;
+use pw_data::entry::picture_at;
 use pw_data::layout::Layout;
 use pw_divisions::names::{level_of, name_of, own_name_of, upper_name};
 use pw_text::cursor::Cursor;

@@ -2,7 +2,6 @@ ghost use Rattle.std.specs.Prelude.{◌≡◌, ◌∷◌, [], ℕ, List, length,
 ghost use Rattle.pw_base.specs.First.{least, Gives};
 ghost use Rattle.pw_text.specs.declared.token.Token.{Token as TokenValue};
 ghost use Rattle.pw_code.specs.Fields.{IsTable};
-ghost use Rattle.pw_data.specs.Entries.{line_of};
 ghost use Rattle.pw_data.specs.Layouts.{Laid};
 ghost use Rattle.pw_divisions.specs.Entries.{entries_of};
 ghost use Rattle.pw_screen.specs.Entries.{at_first, entry_of, after, IsSound};
@@ -17,22 +16,13 @@ use crate::taken::Taken;
 use pw_base::fault::{Fault, Refusal, better};
 use pw_base::memory::Memory;
 use pw_code::field::ScreenTable;
+use pw_data::entries::line_of;
 use pw_data::layout::Layout;
 use pw_divisions::entries::take_entry;
 use pw_text::cursor::Cursor;
 use pw_text::token::Token;
 use pw_words::names::Names;
 use std::alloc::Global;
-
-/// The first token's line, 0 where there is none.
-fn line_of(tokens: &[Token]) -> u32
-    ensures { result ≡ line_of tokens.now }
-{
-    match tokens {
-        [token, ..] => token.line,
-        [] => 0,
-    }
-}
 
 /// The first of the fault that is known and of that of an entry, where it is refused.
 fn noted(known: Option<Fault>, line: u32, entry: &Entry) -> Option<Fault>
@@ -85,6 +75,7 @@ impl Taken {
 }
 
 impl Reading {
+    /// No entry was read. It takes no memory.
     fn new(alloc: Global) -> Reading
         ensures outcome { (text : List ℕ) (tokens : List TokenValue) (laid : Laid)
             → outcome text laid result (entries_of tokens) ≡ screens_of text tokens laid }

@@ -13,8 +13,6 @@ use pw_code::field::FieldKind;
 use pw_data::item::Place;
 use pw_data::layout::Layout;
 use pw_data::literal::unquoted;
-use pw_picture::fault::PictureFault;
-use pw_picture::grammar::picture;
 use pw_picture::picture::Picture;
 use pw_text::token::Token;
 use std::alloc::Global;
@@ -32,25 +30,6 @@ pub struct ItemClause {
     pub item: Token,
     pub show: bool,
     pub takes: bool,
-}
-
-/// The picture that a token is, where there is one.
-pub fn picture_at(
-    alloc: Global,
-    text: &[u8],
-    token: Option<Token>,
-) -> Result<Option<Picture>, Memory>
-    ensures picture { IfOk result (λ picture. picture ≡ picture_at text.now token) }
-    ensures valid { IfOk result (λ picture. IfSome picture (λ p. IsPicture p)) }
-{
-    let Some(token) = token else {
-        return Ok(None);
-    };
-    match picture(alloc, token.spelling(text)) {
-        Ok(picture) => Ok(Some(picture)),
-        Err(PictureFault::Bad) => Ok(None),
-        Err(PictureFault::Memory) => Err(Memory),
-    }
 }
 
 /// The characters of a VALUE, where there is one.

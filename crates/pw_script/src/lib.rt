@@ -1,4 +1,5 @@
 //! The failure lines and the log of a deck.
+//! docs/DECK.md and docs/LOG.md have the rules.
 #![tactic(auto)]
 
 pub mod fail;

@@ -28,6 +28,7 @@ abbrev pub runs_numbered : ℕ → Bool → Option Unit → Bool
 runs_numbered number runs None = false
 runs_numbered number runs (Some unit) = unit.number == number && runs
 
+-- an attempt of the unit of this number runs
 abbrev pub runs_unit : ℕ → Seat → Bool
 runs_unit number seat = runs_numbered number (is_some seat.start) seat.unit
 

@@ -52,10 +52,8 @@ impl Jobs {
     pub fn get(&self, place: usize) -> Option<&Job>
         ensures { option_copied result ≡ job_in self.now place }
     {
-        match self.jobs.get(place) {
-            Some(job) => job.as_ref(),
-            None => None,
-        }
+        let job = self.jobs.get(place)?;
+        job.as_ref()
     }
 
     /// The first place without a job, None exactly where each has one.

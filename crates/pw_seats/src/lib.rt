@@ -1,4 +1,5 @@
-//  What a monitor keeps of a terminal and of a server at work.
+//! What a monitor keeps of a terminal and of a server at work.
+//! docs/WORLD.md has the rules.
 #![tactic(auto)]
 
 pub mod job;

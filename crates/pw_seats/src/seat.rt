@@ -25,17 +25,19 @@ pub struct Ready {
 pub struct Seat {
     /// The context of its path at the last answer, none where the path is gone.
     pub context: Option<Context>,
-    /// The same at its next verb, where it has run on to that.
+    /// Its program at its next verb, where it has run on to that.
     pub ready: Option<Ready>,
     /// The context of the start path of the attempt that runs, if one does.
     pub start: Option<Context>,
     /// Its open unit, as the disc is asked for it.
     pub unit: Option<Unit>,
-    /// The recorded restarts of its open unit, and the unit that this one awaits.
+    /// The recorded restarts of its open unit.
     pub restarts: u32,
+    /// The unit that its open unit awaits.
     pub awaits: Option<AwaitedUnit>,
-    /// The cause that is pending for it, and its ending.
+    /// The cause that is pending for it.
     pub pending: Option<Cause>,
+    /// Its ending, once it has one.
     pub ending: Option<Ending>,
 }
 

@@ -47,10 +47,8 @@ fn key_place(word: &[u8]) -> Option<usize>
 fn key_of(word: &[u8]) -> Option<u8>
     ensures { result ≡ key_of word.now }
 {
-    match key_place(word) {
-        Some(place) => Some(place as u8 + 1),
-        None => None,
-    }
+    let place = key_place(word)?;
+    Some(place as u8 + 1)
 }
 
 /// Whether a byte ends a part.

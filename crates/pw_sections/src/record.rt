@@ -18,12 +18,14 @@ use std::alloc::Global;
 /// The most bytes of a record.
 const MAX_RECORD: usize = 4_000;
 
+/// Whether a byte is from 0x20 to 0x7E.
 fn is_printable(byte: u8) -> bool
     ensures { result ≡ is_printable byte }
 {
     byte >= b' ' && byte <= b'~'
 }
 
+/// Whether each byte of a line is from 0x20 to 0x7E.
 fn are_printable(line: &[u8]) -> bool
     ensures { result ≡ list_all is_printable line.now }
 {

@@ -84,6 +84,7 @@ abbrev pub IsLiteral : Operand → Type 0
 IsLiteral (operands.Number spelling) = IsOperand 0 (coded.Number spelling (unwrap_or (number_of spelling) (number (pos 0) 0)))
 IsLiteral _ = Unit {0}
 
+-- each number literal of a comparison is the number that it is written as
 abbrev pub AreLiterals : Comparison → Type 0
 AreLiterals (comparisons.Compare left negated op right) = IsLiteral left × IsLiteral right
 AreLiterals (comparisons.Numeric one negated) = IsLiteral one

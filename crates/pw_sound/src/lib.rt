@@ -1,4 +1,5 @@
 //! That compiled code does what the trees of its programs mean.
+//! docs/CODE.md has the rules.
 #![tactic(auto)]
 
 pub mod laws;

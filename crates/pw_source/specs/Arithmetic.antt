@@ -35,6 +35,7 @@ stored_by None spot n s = None
 stored_by (Some p) spot n s =
     if is_kept p n then Some (record s { store = put_at spot (moved p n) s.store }) else None
 
+-- the state with a result in a spot; nothing on a size error
 abbrev pub stored_in : Spot → Result Number SizeError → State → Option State
 stored_in spot (Ok n) s = stored_by spot.picture spot n s
 stored_in spot (Err error) s = None
@@ -55,6 +56,7 @@ abbrev pub receiver_by : Option Operand → Operand → Operand
 receiver_by None second = second
 receiver_by (Some item) second = item
 
+-- the item that receives: that of GIVING, and else the second operand
 abbrev pub receiver_of : arithmetic.Arithmetic → Operand
 receiver_of a = receiver_by a.giving a.second
 

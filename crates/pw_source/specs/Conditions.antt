@@ -96,10 +96,12 @@ is_numeric Zeros' = true
 abbrev pub turned : Bool → Bool → Bool
 turned negated holds = if negated then not holds else holds
 
+-- a test of an operand that was taken, where it was
 abbrev pub of_one : (Taken → Bool) → Option Taken → Option Bool
 of_one test None = None
 of_one test (Some a) = Some (test a)
 
+-- a test of two operands that were taken, where both were
 abbrev pub of_two : (Taken → Taken → Bool) → Option Taken → Option Taken → Option Bool
 of_two test None b = None
 of_two test (Some a) b = of_one (test a) b

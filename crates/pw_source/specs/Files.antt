@@ -31,6 +31,7 @@ file_done into status content s =
     Goes (moved_into into status content
     (record s { registers = record s.registers { file_status = status } }))
 
+-- behind the answer to an operation
 abbrev pub file_answered : Option Spot → Answer → State → Out
 file_answered into (answer.FileDone status content) s = file_done into status content s
 file_answered into _ s = Goes s
@@ -51,6 +52,7 @@ operation_done deck call into s =
     file_done into found.status found.content
     (record s { files = upd s.files call.file (records_behind n records call) })
 
+-- an operation: it is asked, or done where the server runs by itself
 abbrev pub operates : Setting → FileCall → Option Spot → State → Out
 operates setting call into s =
     if setting.alone then operation_done setting.deck call into s
@@ -76,10 +78,12 @@ read_by setting op file key into s =
     operates setting (call_by_key setting op file (chars_in found s.store))
     (Some (spot_in item)) s))
 
+-- READ, WITH LOCK or without
 abbrev pub read : Setting → Word → Bool → Operand → Operand → State → Out
 read setting file locking key into s =
     read_by setting (if locking then ReadLock else Read) file key into s
 
+-- READ NEXT, WITH LOCK or without
 abbrev pub read_next : Setting → Word → Bool → Operand → Operand → State → Out
 read_next setting file locking after into s =
     read_by setting (if locking then NextLock else Next) file after into s

@@ -23,6 +23,7 @@ abbrev pub asked_by : Deck → Option TermInfo → List PathAnswer → Verb
 asked_by deck None path = verb.Stop
 asked_by deck (Some terminal) path = verb_of (run_after deck terminal.program terminal.entries path)
 
+-- the next verb of a terminal after a path
 abbrev pub ask : Deck → ℕ → List PathAnswer → Verb
 ask deck t path = asked_by deck (slice_get deck.terminals t) path
 
@@ -32,6 +33,7 @@ image_by deck None path = []
 image_by deck (Some terminal) path =
     screen_of (run_after deck terminal.program terminal.entries path)
 
+-- the cells of a terminal's screen after a path
 abbrev pub image : Deck → ℕ → List PathAnswer → List ℕ
 image deck t path = image_by deck (slice_get deck.terminals t) path
 
@@ -45,6 +47,7 @@ abbrev pub ops_by : Deck → Option ClassInfo → List ℕ → List FileAnswer �
 ops_by deck None message done = verb.Fault 0
 ops_by deck (Some class) message done = operations deck class.server message done
 
+-- what a server of a class asks on a message behind file answers
 abbrev pub ops : Deck → ℕ → List ℕ → List FileAnswer → Verb
 ops deck c message done = ops_by deck (slice_get deck.classes c) message done
 
@@ -53,6 +56,7 @@ abbrev pub serve_by : Deck → Option ClassInfo → List ℕ → (ℕ → List (
 serve_by deck None message files = served.Fault 0
 serve_by deck (Some class) message files = served_alone deck class.server message files
 
+-- what a server of a class comes to by itself on a message and files
 abbrev pub serve : Deck → ℕ → List ℕ → (ℕ → List (List ℕ)) → Served
 serve deck c message files = serve_by deck (slice_get deck.classes c) message files
 

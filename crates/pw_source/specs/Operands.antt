@@ -72,6 +72,7 @@ spot_in _ = no_spot
 
 -- ---- operands of a statement, from left to right: where a subscript is outside it is SUBSCRIPT
 
+-- goes on with what was taken; a subscript outside is run fault 203
 abbrev pub with_taken : {A : Type 0} → Option A → State → (A → Out) → Out
 with_taken None s next = faults 203 s
 with_taken (Some found) s next = next found
@@ -82,6 +83,7 @@ one_more None rest = None
 one_more (Some first) None = None
 one_more (Some first) (Some rest) = Some (first ∷ rest)
 
+-- operands that are taken from left to right, where none is outside
 abbrev pub taken_all : Program → State → List Operand → Option (List Taken)
 taken_all program s [] = Some []
 taken_all program s (operand ∷ operands) =
@@ -91,5 +93,6 @@ taken_all program s (operand ∷ operands) =
 abbrev pub with_operand : Program → Operand → State → (Taken → Out) → Out
 with_operand program operand s next = with_taken (taken program s operand) s next
 
+-- what a statement does with its operands
 abbrev pub with_operands : Program → List Operand → State → (List Taken → Out) → Out
 with_operands program operands s next = with_taken (taken_all program s operands) s next

@@ -70,6 +70,7 @@ abbrev pub spot_by : Option Item → Spot
 spot_by None = no_spot
 spot_by (Some item) = spot_of item 1
 
+-- where the items of USING lie
 abbrev pub parameter_spots : Program → List Spot
 parameter_spots program = map (λ name. spot_by (item_named program name)) program.parameters
 
@@ -89,6 +90,7 @@ abbrev pub caller_state : Program → List Spot → Store → State → State
 caller_state callee places store s =
     record s { store = put_all places (chars_of_all (parameter_spots callee) s.store) store }
 
+-- a caller goes on behind its CALL, with its arguments copied back
 abbrev pub comes_back : Program → List Spot → Store → Out → Out
 comes_back callee places store (Goes s) = Goes (caller_state callee places store s)
 comes_back callee places store (Leaves s) = Goes (caller_state callee places store s)

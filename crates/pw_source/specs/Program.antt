@@ -56,10 +56,12 @@ abbrev pub program_number : Deck → Word → ℕ
 program_number deck name =
     unwrap_or (position (λ program. bytes_eq program.name name) deck.programs) 0
 
+-- the number of the class of a name
 abbrev pub class_number : Deck → Word → ℕ
 class_number deck name =
     unwrap_or (position (λ class. bytes_eq class.name name) deck.classes) 0
 
+-- the number of the file of a name
 abbrev pub file_number : Deck → Word → ℕ
 file_number deck name =
     unwrap_or (position (λ file. bytes_eq file.name name) deck.files) 0
@@ -69,6 +71,7 @@ abbrev pub key_length_by : Option FileInfo → ℕ
 key_length_by None = 1
 key_length_by (Some file) = file.key
 
+-- the length of the keys of a file
 abbrev pub key_length : Deck → ℕ → ℕ
 key_length deck f = key_length_by (slice_get deck.files f)
 

@@ -24,6 +24,7 @@ use Rattle.pw_source.specs.Statements.{body}
 abbrev pub most_performs : ℕ
 most_performs = 64
 
+-- CALLs that may be active in a terminal
 abbrev pub most_calls : ℕ
 most_calls = 8
 
@@ -126,6 +127,7 @@ screen_of (Asks v s) = s.screen
 
 -- ---- servers
 
+-- the setting of a server that runs on a message
 abbrev pub server_setting : Deck → ℕ → List ℕ → Bool → Setting
 server_setting deck q message alone = record {
   deck = deck;
@@ -141,6 +143,7 @@ server_setting deck q message alone = record {
 abbrev pub server_run : Setting → State → Out
 server_run setting s = ended setting (program_run setting (λ q arguments t. faults 202 t) s)
 
+-- a file's answer, as a program is given it
 abbrev pub file_told : FileAnswer → Answer
 file_told found = answer.FileDone found.status found.content
 
@@ -156,6 +159,7 @@ served_by (Asks (verb.Reply reply) s) = served.Reply reply s.files
 served_by (Asks (verb.Fault code) s) = served.Fault code
 served_by _ = served.Fault 0
 
+-- what a server comes to by itself on a message and files
 abbrev pub served_alone : Deck → ℕ → List ℕ → (ℕ → List (List ℕ)) → Served
 served_alone deck q message files =
     let setting = server_setting deck q message true in

@@ -56,6 +56,7 @@ line key pairs = record { key = key; fields = pairs }
 
 -- ---- a screen with fields of all kinds
 
+-- a screen with a field of each kind
 abbrev pub kinds_screen : ScreenTable
 kinds_screen = record {
   name = codes "S";

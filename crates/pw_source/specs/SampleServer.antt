@@ -10,6 +10,7 @@ store_data =
     codes "01 MSG. 02 M-OP PIC X. 02 M-REC. 03 M-KEY PIC XX. 03 M-N PIC 9(4). "
     ++ codes "01 ANS. 02 A-CODE PIC 9(4). 02 A-STATUS PIC 9(4). 02 A-REC PIC X(6)."
 
+-- the procedure of a server that does what its message says to STOCK
 abbrev pub store_text : List ℕ
 store_text =
     codes "P1. READ $RECEIVE INTO MSG. "

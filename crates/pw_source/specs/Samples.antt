@@ -30,6 +30,7 @@ abbrev pub laid_by : Result Laid Fault → Laid
 laid_by (Ok laid) = laid
 laid_by (Err fault) = record { items = []; storage = [] }
 
+-- the paragraphs of a procedure that has no fault, and none else
 abbrev pub paragraphs_by : Result Procedure Fault → List Paragraph
 paragraphs_by (Ok procedure) = procedure.paragraphs
 paragraphs_by (Err fault) = []
@@ -55,6 +56,7 @@ abbrev pub sample_files : List FileInfo
 sample_files =
     (record { name = codes "STOCK"; key = 2; records = codes "A10005" ∷ codes "B10007" ∷ [] }) ∷ []
 
+-- a deck of these programs and servers
 abbrev pub deck_of : List Program → List Program → Deck
 deck_of programs servers = record {
   programs = programs;
@@ -75,6 +77,7 @@ abbrev pub says_after : List PathAnswer → List ℕ → List ℕ → List ℕ
 says_after path data_text text =
     trimmed (drop 1840 (screen_of (run_after (main_deck data_text text) 0 [] path)))
 
+-- the verb of MAIN after a path
 abbrev pub asks_after : List PathAnswer → List ℕ → List ℕ → Verb
 asks_after path data_text text = verb_of (run_after (main_deck data_text text) 0 [] path)
 
@@ -82,6 +85,7 @@ asks_after path data_text text = verb_of (run_after (main_deck data_text text) 0
 abbrev pub says : List ℕ → List ℕ → List ℕ
 says data_text text = says_after [] data_text text
 
+-- the verb of MAIN at the start
 abbrev pub asks : List ℕ → List ℕ → Verb
 asks data_text text = asks_after [] data_text text
 
@@ -102,6 +106,7 @@ calling data_text text using sub_data sub_text =
 abbrev pub says_in : Deck → List ℕ
 says_in deck = trimmed (drop 1840 (screen_of (run_after deck 0 [] [])))
 
+-- the verb of the deck's first program at the start
 abbrev pub asks_in : Deck → Verb
 asks_in deck = verb_of (run_after deck 0 [] [])
 
@@ -117,12 +122,14 @@ screen_deck screens data_text text =
 abbrev pub asks_with : Deck → List Entry → List PathAnswer → Verb
 asks_with deck lines path = verb_of (run_after deck 0 lines path)
 
+-- a row, from 0, of the screen after a path of these entry lines
 abbrev pub row_with : ℕ → Deck → List Entry → List PathAnswer → List ℕ
 row_with row deck lines path =
     trimmed (take 80 (drop (row * 80) (screen_of (run_after deck 0 lines path))))
 
 -- ---- a server by itself
 
+-- a deck of one server, S
 abbrev pub server_deck : List ℕ → List ℕ → Deck
 server_deck data_text text = deck_of [] (program_of true (codes "S") [] data_text text ∷ [])
 
@@ -131,6 +138,7 @@ abbrev pub comes_to_on : List ℕ → List (List ℕ) → List ℕ → List ℕ 
 comes_to_on message records data_text text =
     served_alone (server_deck data_text text) 0 message (λ f. records)
 
+-- what a server comes to on the message M and on records of STOCK
 abbrev pub comes_to : List (List ℕ) → List ℕ → List ℕ → Served
 comes_to records data_text text = comes_to_on (codes "M") records data_text text
 
@@ -165,11 +173,13 @@ bare_screen = record { name = codes "S"; fields = [] }
 abbrev pub with_bare_screen : Program → Program
 with_bare_screen program = record program { screens = bare_screen ∷ [] }
 
+-- a deck whose programs have a screen without fields besides
 abbrev pub with_bare_screens : Deck → Deck
 with_bare_screens deck = record deck { programs = map with_bare_screen deck.programs }
 
 -- ---- runs that have counted so many statements
 
+-- the verb of MAIN where so many statements were counted before
 abbrev pub asks_counting : ℕ → List ℕ → List ℕ → Verb
 asks_counting count data_text text =
     let setting = setting_of (main_deck data_text text) 0 in

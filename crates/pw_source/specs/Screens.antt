@@ -53,6 +53,7 @@ display_by None setting shown s =
     with_operand setting.program shown s (λ found.
     shows (with_message (chars_in found s.store) s.screen) s)
 
+-- DISPLAY of a screen, an item, a register or a literal
 abbrev pub display : Setting → Operand → State → Out
 display setting shown s = display_by (screen_in setting.program shown) setting shown s
 
@@ -73,6 +74,7 @@ entered_in (field.Item picture at source show) value store =
     put_at (record { at = at; size = size_of source; picture = Some source })
     (entered_chars source value) store
 
+-- the store with a value in the item of a field, if there is such a field
 abbrev pub entered_by : Option Field → List ℕ → Store → Store
 entered_by None value store = store
 entered_by (Some found) value store = entered_in found.shown value store
@@ -119,6 +121,7 @@ abbrev pub accept_by : Option ScreenTable → List ℕ → ℕ → State → Out
 accept_by None keys number s = Goes s
 accept_by (Some table) keys number s = awaited table keys (verb.Accept number) s.answers s
 
+-- ACCEPT for a screen until one of the keys
 abbrev pub accept : Setting → Word → List ℕ → State → Out
 accept setting name keys s =
     accept_by (screen_named setting.program name) keys

@@ -32,6 +32,7 @@ place_of codes code = position (λ one. one.number == code) codes
 abbrev pub item_at : List Spot → ℕ → Option (ℕ × Spot)
 item_at items place = option_map (λ item. (place, item)) (slice_get items place)
 
+-- the place of the first code equal to the reply's, and the spot of its item
 abbrev pub found_by : List Code → List Spot → List ℕ → Option (ℕ × Spot)
 found_by codes items reply =
     option_and_then (item_at items) (option_and_then (place_of codes) (code_of reply))
@@ -54,6 +55,7 @@ replied codes items _ s = Goes s
 abbrev pub yields_of : List Code → List Operand
 yields_of codes = map (λ code. code.yields) codes
 
+-- SEND: the message and the items of its codes are taken, and it is asked
 abbrev pub send : Setting → Operand → Word → List Code → State → Out
 send setting message class codes s =
     with_operand setting.program message s (λ found.
@@ -81,9 +83,11 @@ outside _ s = Goes (record s { in_unit = false })
 abbrev pub end : State → Out
 end s = if s.in_unit then asks verb.End outside s else faults 206 s
 
+-- ABORT-TRANSACTION, which outside a transaction is run fault 206
 abbrev pub abort : State → Out
 abort s = if s.in_unit then asks verb.Drop outside s else faults 206 s
 
+-- RESTART-TRANSACTION, which outside a transaction is run fault 206
 abbrev pub restart : State → Out
 restart s = if s.in_unit then Asks verb.Redo s else faults 206 s
 

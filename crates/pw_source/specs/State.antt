@@ -11,6 +11,7 @@ pub record Registers : Type 0 where
   pub restarts : ℕ
   pub file_status : ℕ
 
+-- registers that are zero
 abbrev pub no_registers : Registers
 no_registers = record { termination = 0; restarts = 0; file_status = 0 }
 

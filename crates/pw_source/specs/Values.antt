@@ -62,6 +62,7 @@ abbrev pub is_number_picture : Option Picture → Bool
 is_number_picture (Some (picture.Number digits places sign)) = true
 is_number_picture _ = false
 
+-- an operand is a number
 abbrev pub is_number : Value → Bool
 is_number (Chars picture chars) = is_number_picture picture
 is_number (Register digits value) = true

@@ -34,13 +34,16 @@ ending_or_running system (Some ending) = ending_text system ending
 abbrev pub numbered : List ℕ → ℕ → List (List ℕ) → List (List ℕ)
 numbered word n rest = word ∷ decimal n ∷ rest
 
+-- the line of how many entries there are
 abbrev pub entries_line : ℕ → List ℕ
 entries_line n = line (sentence (numbered (codes "ENTRIES") n []))
 
+-- the line of a pair
 abbrev pub pair_line : System → ℕ → Mode → List ℕ
 pair_line system p mode =
     line (sentence (codes "TCP" ∷ pair_name system p ∷ mode_word mode ∷ []))
 
+-- the line of a terminal
 abbrev pub terminal_line : System → ℕ → Option Ending → TerminalCounts → List ℕ
 terminal_line system t ending counts =
     line (sentence (codes "TERM" ∷ terminal_name system t ∷ ending_or_running system ending
@@ -49,6 +52,7 @@ terminal_line system t ending counts =
     (numbered (codes "ENTRIES") counts.entries
     (numbered (codes "SHOWN") counts.shown [])))))
 
+-- the line of a class
 abbrev pub class_line : System → ℕ → ClassCounts → List ℕ
 class_line system c counts =
     line (sentence (codes "SERVER" ∷ class_name system c
@@ -57,11 +61,13 @@ class_line system c counts =
     (numbered (codes "TAKEN") counts.taken
     (numbered (codes "LONGEST") counts.longest [])))))
 
+-- the line of a file
 abbrev pub file_line : System → ℕ → FileCounts → List ℕ
 file_line system f counts =
     line (sentence (codes "FILE" ∷ file_name system f
     ∷ numbered (codes "RECORDS") counts.records (numbered (codes "LOCKS") counts.locks [])))
 
+-- the line of the units
 abbrev pub units_line : UnitCounts → List ℕ
 units_line counts =
     line (sentence (codes "TMF"

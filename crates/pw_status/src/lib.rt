@@ -1,4 +1,5 @@
-//! STATUS and STATS: a watch over a log, and the text of what it counts.
+//! The lines of the status text: the count of entries, each pair, terminal, class and file, and the units.
+//! docs/STATUS.md has the rules.
 #![tactic(auto)]
 
 pub mod lines;

@@ -29,7 +29,7 @@ pub fn verb_step<D: Disc>(keep: &Keep<D>, terminal: u32) -> Option<Event>
     }
 }
 
-/// The same where its program stands so.
+/// The entry of a terminal whose program stands at this verb, where it has one.
 fn step_at<D: Disc>(keep: &Keep<D>, terminal: u32, at: &Ready) -> Option<Event>
     requires there { terminal < length keep.now.system.terminals }
     requires known { IsKnown keep.now.system (kept_in D.told keep.now) }

@@ -51,10 +51,8 @@ pub fn verb_at<D: Disc>(keep: &Keep<D>, class: u32, process: u32) -> Option<&Ver
     requires process { 1 ≤ process }
     ensures { IsVerbAt keep.now.system (kept_in D.told keep.now) class process (option_copied result) }
 {
-    match keep.job(class, process) {
-        Some(job) => job.verb.as_ref(),
-        None => None,
-    }
+    let job = keep.job(class, process)?;
+    job.verb.as_ref()
 }
 
 /// The request of a busy process and the operation on a file at which its server stands, if it does.

@@ -74,7 +74,7 @@ fn behind<'a>(left: Option<&'a [u8]>, front: &[u8]) -> Option<&'a [u8]>
     }
 }
 
-/// The same of a number that is one byte.
+/// What is left of bytes behind a number that is one byte.
 fn behind_number<'a>(left: Option<&'a [u8]>, number: usize) -> Option<&'a [u8]>
     ensures { option_copied result ≡ left_of (number ∷ []) (option_copied left.entry) }
 {
@@ -84,7 +84,7 @@ fn behind_number<'a>(left: Option<&'a [u8]>, number: usize) -> Option<&'a [u8]>
     }
 }
 
-/// The same of the low four bytes of a number, the highest first.
+/// What is left of bytes behind the low four bytes of a number, the highest first.
 fn behind_word<'a>(left: Option<&'a [u8]>, number: u64) -> Option<&'a [u8]>
     ensures { option_copied result ≡ left_of (to_be_bytes w32 number) (option_copied left.entry) }
 {
@@ -92,7 +92,7 @@ fn behind_word<'a>(left: Option<&'a [u8]>, number: u64) -> Option<&'a [u8]>
     behind(left, &[bytes[4], bytes[5], bytes[6], bytes[7]])
 }
 
-/// The same of what an image has before the number of its programs, with these counts in place of
+/// What is left of bytes behind what an image has before its programs, with these counts in place of
 /// those of the context.
 fn behind_head<'a>(
     bytes: &'a [u8],
@@ -126,7 +126,7 @@ fn behind_head<'a>(
     behind(left, context.screen.cells())
 }
 
-/// The same of some programs.
+/// What is left of bytes behind some programs.
 fn behind_frames<'a>(left: Option<&'a [u8]>, frames: &[Frame]) -> Option<&'a [u8]>
     ensures { option_copied result ≡ left_of (flat_map frame_bytes frames.now) (option_copied left.entry) }
 {
@@ -137,7 +137,7 @@ fn behind_frames<'a>(left: Option<&'a [u8]>, frames: &[Frame]) -> Option<&'a [u8
     rest
 }
 
-/// The same of one program.
+/// What is left of bytes behind one program.
 fn behind_one<'a>(left: Option<&'a [u8]>, frame: &Frame) -> Option<&'a [u8]>
     ensures { option_copied result ≡ left_of (frame_bytes frame.now) (option_copied left.entry) }
 {
@@ -150,7 +150,7 @@ fn behind_one<'a>(left: Option<&'a [u8]>, frame: &Frame) -> Option<&'a [u8]>
     )
 }
 
-/// The same of one program, by its parts.
+/// What is left of bytes behind one program, by its parts.
 fn behind_frame<'a>(
     left: Option<&'a [u8]>,
     program: u16,
@@ -169,7 +169,7 @@ fn behind_frame<'a>(
     behind_returns(behind_number(left, returns.len()), returns)
 }
 
-/// The same of active PERFORMs.
+/// What is left of bytes behind active PERFORMs.
 fn behind_returns<'a>(left: Option<&'a [u8]>, returns: &[Return]) -> Option<&'a [u8]>
     ensures { option_copied result ≡ left_of (flat_map return_bytes returns.now) (option_copied left.entry) }
 {
@@ -180,7 +180,7 @@ fn behind_returns<'a>(left: Option<&'a [u8]>, returns: &[Return]) -> Option<&'a 
     rest
 }
 
-/// The same of an active PERFORM.
+/// What is left of bytes behind an active PERFORM.
 fn behind_return<'a>(left: Option<&'a [u8]>, active: &Return) -> Option<&'a [u8]>
     ensures { Leaves (return_bytes active.now) (option_copied left.entry) (option_copied result) }
 {

@@ -96,7 +96,7 @@ fn processes_of(system: &System, class: u32) -> u32
     }
 }
 
-/// The same of the processes of a class.
+/// Whether two open units meet by the next operation of a process of a class.
 #[tactic(auto, using(crate::proofs::Anywhere::any_more))]
 fn class_meets<D: Disc>(
     keep: &Keep<D>,
@@ -119,7 +119,7 @@ fn class_meets<D: Disc>(
     Ok(found)
 }
 
-/// The same of one process.
+/// Whether two open units meet by the next operation of one process.
 fn process_meets<D: Disc>(
     keep: &Keep<D>,
     one: &Unit,
@@ -182,7 +182,7 @@ pub fn find_older<D: Disc>(keep: &Keep<D>, own: &Unit) -> Result<Option<Unit>, M
     Ok(None)
 }
 
-/// The same by the processes of a class.
+/// An older open unit that the open unit meets by a process of a class, where there is one.
 fn older_in_class<D: Disc>(keep: &Keep<D>, own: &Unit, class: u32) -> Result<Option<Unit>, Memory>
     requires class { class < length keep.now.system.classes }
     requires open { IsUnit keep.now.system (kept_in D.told keep.now) own.now }
@@ -198,7 +198,7 @@ fn older_in_class<D: Disc>(keep: &Keep<D>, own: &Unit, class: u32) -> Result<Opt
     Ok(None)
 }
 
-/// The same by one process.
+/// An older open unit that the open unit meets by one process, where there is one.
 fn older_at<D: Disc>(
     keep: &Keep<D>,
     own: &Unit,

@@ -195,7 +195,7 @@ fn is_refresh(context: &Context, phase: u32, attempt: u32, k: u32) -> bool
     context.phase == phase && is_shown_next(context, attempt, k)
 }
 
-/// The same of its attempt and its last number.
+/// Whether the next refresh has this attempt, and this number in it.
 fn is_shown_next(context: &Context, attempt: u32, k: u32) -> bool
     requires { IsFewCounted context.now }
     ensures { result ≡ (context.now.attempt == attempt && context.now.shown + 1 == k) }

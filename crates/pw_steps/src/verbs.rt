@@ -3,13 +3,12 @@
 ghost use Rattle.std.specs.Prelude.{◌≡◌, is_some};
 ghost use Rattle.pw_kept.specs.PairTests.{is_sending};
 ghost use Rattle.pw_kept.specs.TerminalTests.{begins_unit, closing};
-ghost use Rattle.pw_laws.specs.legal.Values.{is_same_mode, is_same_op, is_server_by, is_takeover_by, some_with};
+ghost use Rattle.pw_laws.specs.legal.Values.{is_server_by, is_takeover_by, some_with};
 ghost use Rattle.pw_laws.specs.legal.Verbs.{asks_accept, asks_drop, asks_end, asks_fault, asks_redo, asks_send, asks_send_to, asks_show, asks_stop, replies};
 ghost use Rattle.pw_onecopy.specs.Operation.{plain_op};
 ghost use Rattle.pw_paired.specs.Raising.{is_takeover};
 
 use pw_code::file::FileOp;
-use pw_code::lock::LockMode;
 use pw_code::verb::Verb;
 use pw_event::event::Cause;
 use pw_pair::mode::Mode;
@@ -121,20 +120,6 @@ pub fn plain(op: FileOp) -> FileOp
         FileOp::NextLock => FileOp::Next,
         _ => op,
     }
-}
-
-/// Whether two operations are one.
-pub fn is_same_op(one: FileOp, other: FileOp) -> bool
-    ensures { result ≡ is_same_op one other }
-{
-    one == other
-}
-
-/// Whether two modes of locking are one.
-pub fn is_same_mode(one: LockMode, other: LockMode) -> bool
-    ensures { result ≡ is_same_mode one other }
-{
-    one == other
 }
 
 /// Whether messages fly to a backup in this mode.

@@ -45,7 +45,7 @@ pub fn process_step<D: Disc>(
     }
 }
 
-/// The same of one that works on this request, and whose server stands at this verb.
+/// FILE or REPLY of a process that works on this request, and whose server stands at this verb.
 fn step_at<D: Disc>(
     keep: &Keep<D>,
     class: u32,

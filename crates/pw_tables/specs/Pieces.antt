@@ -27,5 +27,6 @@ behind_place text (Some place) = drop (place + 1) text
 abbrev pub section_line : List ℕ → List ℕ
 section_line section = first_of (lines section)
 
+-- what stands behind the section line of a section
 abbrev pub section_text : List ℕ → List ℕ
 section_text section = behind_place section (position (λ b. b == 10) section)

@@ -19,6 +19,7 @@ use Rattle.pw_tables.specs.declared.objects.TermEntries.{TermEntries}
 abbrev pub tcp_names : Commands → List Word
 tcp_names commands = map (λ tcp. tcp.name) commands.tcps
 
+-- the names of the classes, in their order
 abbrev pub class_names : Commands → List Word
 class_names commands = map (λ class. class.name) commands.classes
 
@@ -31,6 +32,7 @@ abbrev pub or_first : Option ℕ → ℕ
 or_first None = 0
 or_first (Some place) = place
 
+-- the number of a name among names, 0 where it is none of them
 abbrev pub number_of : List Word → Word → ℕ
 number_of names word = or_first (position (λ name. bytes_eq name word) names)
 

@@ -99,6 +99,7 @@ impl<'a> Objects<'a> {
         }
     }
 
+    /// Whether a file of this name was read.
     fn has_file(&self, name: &[u8]) -> bool
         ensures { result ≡ has_file self.now name.now }
     {

@@ -1,9 +1,9 @@
-ghost use Rattle.std.specs.Prelude.{◌≡◌, ◌==◌, ◌+◌, ◌<◌, ◌≤◌, length, position, IfSome};
+ghost use Rattle.std.specs.Prelude.{◌≡◌, ◌+◌, ◌≤◌, length};
 ghost use Rattle.pw_base.specs.Limits.{longest_input};
 ghost use Rattle.pw_lines.specs.Lines.{lines};
 ghost use Rattle.pw_tables.specs.Pieces.{section_line, section_text};
 
-use pw_lines::line::next_line;
+use pw_lines::line::{line_end, next_line};
 use std::marker::Model;
 
 /// A piece of a deck, and the number of its first line. A deck is not too long, so a piece has no line
@@ -22,14 +22,6 @@ impl<'a> Model for Piece<'a> {
     ghost view = { λ piece. record { bytes = piece.bytes.now; first_line = piece.first_line } };
 
     ghost invariant = { λ piece. IsPiece (record { bytes = piece.bytes.now; first_line = piece.first_line }) };
-}
-
-/// The place of the first LF.
-fn line_end(text: &[u8]) -> Option<usize>
-    ensures place { result ≡ position (λ byte. byte == 10) text.now }
-    ensures bound { IfSome result (λ end. end < length text.now) }
-{
-    text.iter().position(|byte| *byte == b'\n')
 }
 
 /// The section line of a section.

@@ -9,7 +9,7 @@ ghost use Rattle.pw_tables.specs.Unknown.{tables_of, told_of, told_with};
 
 use crate::objects::Objects;
 use crate::tables::{enter, tables};
-use crate::unknown::{events_in, failures_in, first_of_all, first_start, log_version, unless};
+use crate::unknown::{events_in, failures_in, first_of_all, first_start, log_version};
 use pw_base::bytes::Bytes;
 use pw_base::fault::Refusal;
 use pw_base::list::List;
@@ -17,7 +17,7 @@ use pw_code::lock::LockRule;
 use pw_code::system::System;
 use pw_event::event::Event;
 use pw_event::script::{FailLine, Script};
-use pw_pathcom::objects::first_unknown;
+use pw_pathcom::objects::{first_unknown, unless};
 use pw_script::log::rule_of;
 use std::alloc::Global;
 use std::mem::replace;

@@ -1,6 +1,6 @@
 ghost use Rattle.std.specs.Prelude.{◌≡◌, ◌++◌, List, Ok, None, flat_map, IfOk};
 ghost use Rattle.pw_base.specs.declared.fault.Fault.{Fault};
-ghost use Rattle.pw_base.specs.First.{Gives, least, unless};
+ghost use Rattle.pw_base.specs.First.{least};
 ghost use Rattle.pw_code.specs.Valid.{HasNames, HasFew};
 ghost use Rattle.pw_tables.specs.Unknown.{refusing, failures_in, events_in, log_version, has_terminal, unknown_terminal, fault_in, bad_starts_in};
 
@@ -148,15 +148,5 @@ pub fn first_start(
     match piece {
         Some(piece) => first_bad_start(alloc, commands, piece.bytes, piece.first_line),
         None => Ok(None),
-    }
-}
-
-/// Nothing, or the refusal for a fault.
-pub fn unless(fault: Option<Fault>) -> Result<(), Refusal>
-    ensures { Gives (λ done. done) result (unless fault (tt {0})) }
-{
-    match fault {
-        None => Ok(()),
-        Some(fault) => Err(fault.into()),
     }
 }

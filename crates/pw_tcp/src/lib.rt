@@ -1,4 +1,6 @@
-//! A terminal's work in its control process: which step comes next for a program at its verb.
+//! A terminal's work in its control process: which step comes next for a program at its verb. It is the plain
+//! form of the rule: the program takes its steps by `pw_steps`.
+//! docs/PAIRS.md has the rules.
 #![tactic(auto)]
 
 pub mod laws;

@@ -93,8 +93,8 @@ fn has_value(field: &Field, name: &[u8], value: &[u8]) -> bool
     is_entry_field(name, field) && is_value_for(&field.shown, value)
 }
 
-/// Whether a field takes entries under this name, in either case. FILLER has no name.
-fn is_entry_field(name: &[u8], field: &Field) -> bool
+/// Whether a field takes entries under this name, in either case. FILLER has no name (docs/SCREENS.md).
+pub fn is_entry_field(name: &[u8], field: &Field) -> bool
     ensures { result ≡ is_entry_field name.now field.now }
 {
     field.takes && !name.is_empty() && field.name.as_slice().eq_ignore_ascii_case(name)

@@ -1,22 +1,12 @@
-ghost use Rattle.std.specs.Prelude.{◌≡◌, ◌==◌, ◌+◌, ◌<◌, ◌≤◌, ◌^◌, Some, ◌&&◌, not, length, take_while, IfSome, is_some};
+ghost use Rattle.std.specs.Prelude.{◌≡◌, ◌+◌, ◌<◌, ◌≤◌, ◌^◌, Some, length, IfSome};
 ghost use Rattle.std.specs.Char.{is_ascii_digit};
 ghost use Rattle.std.specs.List.{list_all};
-ghost use Rattle.pw_picture.specs.Symbols.{begins_with};
 ghost use Rattle.pw_code.specs.Fields.{is_text};
 ghost use Rattle.pw_terminal.specs.Entries.{behind_sign, decimals_in, digits_in, has_room, is_number_for, is_value_for};
 
 use pw_code::field::FieldKind;
 use pw_picture::picture::Picture;
-
-/// Whether the first character is this one.
-fn begins_with(wanted: u8, text: &[u8]) -> bool
-    ensures { result ≡ begins_with wanted text.now }
-{
-    match text {
-        [] => false,
-        [first, ..] => *first == wanted,
-    }
-}
+use pw_picture::symbols::{begins_with, digits_in_front};
 
 /// What is behind a sign in front, where there is one.
 fn behind_sign(value: &[u8]) -> &[u8]
@@ -26,14 +16,6 @@ fn behind_sign(value: &[u8]) -> &[u8]
         [b'+' | b'-', rest @ ..] => rest,
         _ => value,
     }
-}
-
-/// How many digits are in front.
-fn digits_in_front(text: &[u8]) -> usize
-    ensures digits { result ≡ length (take_while is_ascii_digit text.now) }
-    ensures bound { result ≤ length text.now }
-{
-    text.iter().take_while(|byte| byte.is_ascii_digit()).count()
 }
 
 /// Whether all characters are digits.

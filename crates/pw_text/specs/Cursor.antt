@@ -71,10 +71,12 @@ abbrev pub and_then : {A B : Type 0} → Option (A × Left) → (A → Reader B)
 and_then None next = None
 and_then (Some found) next = next found.0 found.1
 
+-- reads one thing, and then what that asks for
 infixl 10 ◌>>=◌
 abbrev pub ◌>>=◌ : {A B : Type 0} → Reader A → (A → Reader B) → Reader B
 first >>= next = λ left. and_then (first left) next
 
+-- reads one thing, which is passed over, and then another
 infixl 10 ◌>>◌
 abbrev pub ◌>>◌ : {A B : Type 0} → Reader A → Reader B → Reader B
 first >> second = first >>= (λ _. second)

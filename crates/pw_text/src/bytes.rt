@@ -5,18 +5,21 @@ ghost use Rattle.pw_text.specs.Bytes.{is_letter, is_digit, is_sign, is_signed, i
 use pw_base::fault::{Fault, noted};
 use pw_base::fault_code::FaultCode;
 
+/// Whether a byte is a letter, in either case.
 pub fn is_letter(byte: u8) -> bool
     ensures { result ≡ is_letter byte }
 {
     (byte >= b'A' && byte <= b'Z') || (byte >= b'a' && byte <= b'z')
 }
 
+/// Whether a byte is a decimal digit.
 pub fn is_digit(byte: u8) -> bool
     ensures { result ≡ is_digit byte }
 {
     byte >= b'0' && byte <= b'9'
 }
 
+/// Whether a byte is `+` or `-`.
 fn is_sign(byte: u8) -> bool
     ensures { result ≡ is_sign byte }
 {
@@ -30,12 +33,14 @@ pub fn is_separator(byte: u8) -> bool
     byte == b' ' || (byte == b',' || (byte == b';' || byte == b'|'))
 }
 
+/// Whether a byte may stand in a word: a letter, a digit or a hyphen.
 fn is_word_byte(byte: u8) -> bool
     ensures { result ≡ is_word_byte byte }
 {
     is_letter(byte) || (is_digit(byte) || byte == b'-')
 }
 
+/// Whether a byte may stand in a picture: any but a space and the end of a line.
 fn is_picture_byte(byte: u8) -> bool
     ensures { result ≡ is_picture_byte byte }
 {

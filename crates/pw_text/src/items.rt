@@ -11,6 +11,7 @@ use crate::token::{MAX_DIGITS, MAX_WORD, TokenKind};
 use pw_base::fault_code::FaultCode;
 use pw_words::table::is_same_word;
 
+/// A token of so many bytes. What follows stands further on in the line.
 fn token(kind: TokenKind, size: usize) -> Item
     ensures { result ≡ token kind size }
 {
@@ -21,6 +22,7 @@ fn token(kind: TokenKind, size: usize) -> Item
     }
 }
 
+/// A fault of so many bytes. What follows stands further on in the line.
 fn fault(code: FaultCode, size: usize) -> Item
     ensures { result ≡ fault code size }
 {
@@ -31,6 +33,7 @@ fn fault(code: FaultCode, size: usize) -> Item
     }
 }
 
+/// So many bytes that are no token, and the place behind them.
 fn gap(size: usize, next: Place) -> Item
     ensures { result ≡ gap size next }
 {
@@ -62,6 +65,7 @@ fn is_pic(word: &[u8]) -> bool
     is_same_word(word, b"PIC") || is_same_word(word, b"PICTURE")
 }
 
+/// A word in front: a token, or a fault where it is too long. A picture follows PIC.
 fn word_item(word: &[u8]) -> Item
     ensures value { result ≡ word_item word.now }
     ensures size { result.size ≡ length word.now }
@@ -150,6 +154,7 @@ fn or_equal(alone: TokenKind, with_equal: TokenKind, behind: &[u8]) -> Item
     }
 }
 
+/// A mark in front, by its first byte and those behind it, or a fault.
 fn mark_item(byte: u8, behind: &[u8]) -> Item
     ensures value { result ≡ mark_item byte behind.now }
     ensures some { 0 < result.size }

@@ -1,4 +1,5 @@
 //! The tokens of a source text.
+//! docs/WORDS.md has the rules.
 #![tactic(auto)]
 
 mod bytes;

@@ -68,6 +68,7 @@ change_at files = such_at (fits files) any_change_at
 unfoldable pub changes_at : List FileInfo → List ℕ → Front (List Change)
 changes_at files = counted_at (number_at w32) is_any (many_at (change_at files))
 
+-- a unit from its terminal, its number and its changes that were read
 abbrev pub unit_from : ℕ × (ℕ × List Change) → UnitChanges
 unit_from parts = record { terminal = parts.0; unit = parts.1.0; changes = parts.1.1 }
 

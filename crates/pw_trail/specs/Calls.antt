@@ -39,6 +39,7 @@ pub record Moment (S : Type 0) : Type 0 where
   pub disk : S
   pub is_broken : Bool
 
+-- the files, the disk and whether it is broken, at one moment
 abbrev pub moment : {S : Type 0} → List FileInfo → S → Bool → Moment S
 moment files disk is_broken = record { files = files; disk = disk; is_broken = is_broken }
 

@@ -17,6 +17,7 @@ abbrev pub change_of : ℕ → List ℕ → Option (List ℕ) → Change
 change_of file key None = record { file = file; kind = Remove; bytes = key }
 change_of file key (Some content) = record { file = file; kind = Put; bytes = content }
 
+-- the change that leads to what is at a key now
 abbrev pub change_to : Changed → Change
 change_to changed = change_of changed.file changed.key changed.content
 

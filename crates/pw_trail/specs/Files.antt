@@ -28,6 +28,7 @@ with_changes key_length files [] = files
 with_changes key_length files (change ∷ changes) =
     with_changes key_length (with_change key_length files change) changes
 
+-- the records with the changes of units, in order
 abbrev pub with_units : (ℕ → ℕ) → (ℕ → List (List ℕ)) → List UnitChanges → ℕ → List (List ℕ)
 with_units key_length files [] = files
 with_units key_length files (unit ∷ units) = with_units key_length (with_changes key_length files unit.changes) units
@@ -36,6 +37,7 @@ with_units key_length files (unit ∷ units) = with_units key_length (with_chang
 abbrev pub keys_of : List FileInfo → ℕ → ℕ
 keys_of files f = key_of_file (slice_get files f)
 
+-- the records of each file of a deck
 abbrev pub records_of : List FileInfo → ℕ → List (List ℕ)
 records_of files f = records_of_file (slice_get files f)
 

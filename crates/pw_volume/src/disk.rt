@@ -5,8 +5,8 @@ ghost use Rattle.pw_volume.specs.Life.{Life, Lives, has_failed, spent};
 
 use crate::fault::{DiskFailed, WriteFault};
 
-/// A run of bytes that outlives a crash, as far as it was synced. An error comes only where the count of faults rose;
-/// docs/VOLUME.md has what a crash may leave.
+/// A run of bytes that outlives a crash, as far as it was synced. `DiskFailed` and `WriteFault::Failed` come only where
+/// the count of faults rose, or stands at its end; docs/VOLUME.md has what a crash may leave.
 pub trait Disk: Send + Drop {
     /// The bytes that a read gives.
     ghost bytes: { Self → List ℕ };
@@ -33,7 +33,7 @@ pub trait Disk: Send + Drop {
         ensures lives { Lives (life self.old) (is_err result) }
         ensures life { life self.new ≡ life self.old };
 
-    /// Fills `into` with the bytes from a place on.
+    /// Fills `into` with the bytes from `at` on, all of which are there.
     fn read(&mut self, at: u64, into: &mut [u8]) -> Result<(), DiskFailed>
         requires { at + length into.old ≤ length (bytes self.old) }
         ensures read { OnOk result (into.new ≡ take (length into.old) (drop at (bytes self.old))) }
@@ -44,7 +44,8 @@ pub trait Disk: Send + Drop {
         ensures lives { Lives (life self.old) (is_err result) }
         ensures life { life self.new ≡ life self.old };
 
-    /// Writes a piece over what is there, past the end too. Want of memory comes only past the end, and changes nothing.
+    /// Writes a piece over what is there from `at` on, which is at most the length; it may go past the end. `Memory`
+    /// comes only past the end, and changes nothing; behind `Failed` a crash may leave any part of the piece.
     fn write_at(&mut self, at: u64, piece: &[u8]) -> Result<(), WriteFault>
         requires { IsWithin at (bytes self.old) }
         ensures written { OnOk result (bytes self.new ≡ written at piece.now (bytes self.old)) }
@@ -58,7 +59,7 @@ pub trait Disk: Send + Drop {
         ensures spent { OnOk result (life self.new ≡ spent (life self.old)) }
         ensures life { OnErr result (life self.new ≡ life self.old) };
 
-    /// Keeps the first bytes.
+    /// Keeps the first `length` bytes, at most as many as there are.
     fn cut(&mut self, length: u64) -> Result<(), DiskFailed>
         requires { IsWithin length (bytes self.old) }
         ensures cut { OnOk result (bytes self.new ≡ take length (bytes self.old)) }
@@ -69,7 +70,7 @@ pub trait Disk: Send + Drop {
         ensures spent { OnOk result (life self.new ≡ spent (life self.old)) }
         ensures life { OnErr result (life self.new ≡ life self.old) };
 
-    /// Behind it a crash leaves what a read gives.
+    /// Behind an Ok a crash leaves what a read gives, and nothing else; an `Err` settles nothing.
     fn sync(&mut self) -> Result<(), DiskFailed>
         ensures bytes { OnOk result (bytes self.new ≡ bytes self.old) }
         ensures durable { OnOk result (Only (bytes self.new) (may_leave self.new)) }

@@ -26,6 +26,7 @@ pub record IsUndone (shown : ℕ × Number) (fresh : Bool) (old new : List (BTre
   pub new_one : fresh ≡ true → IsForgotten shown.0 shown.1 old new
   pub seen : fresh ≡ false → new ≡ old
 
+-- a refresh number that was new, if there is one, is forgotten
 abbrev pub Forgets : Option (ℕ × Number) → Bool → List (BTreeSet Number) → List (BTreeSet Number) → Type 0
 Forgets None fresh old new = new ≡ old
 Forgets (Some shown) fresh old new = IsUndone shown fresh old new

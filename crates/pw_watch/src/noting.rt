@@ -47,7 +47,7 @@ pub(crate) fn forget(numbers: &mut Numbers, shown: Option<(u32, Number)>, fresh:
     }
 }
 
-/// The same of a number that there is.
+/// Forgets the refresh number of a terminal where it was new.
 fn forget_if(numbers: &mut Numbers, terminal: u32, number: Number, fresh: bool)
     requires { terminal < length numbers.old }
     ensures { IsUndone (terminal, number) fresh numbers.old numbers.new }

@@ -21,6 +21,7 @@ of_requester requester = record {
   paragraphs = requester.procedure.paragraphs;
 }
 
+-- a server as a program without screens and parameters
 abbrev pub of_server : Server → source.Program
 of_server server = record {
   name = server.name;
