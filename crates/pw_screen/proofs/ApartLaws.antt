@@ -28,7 +28,7 @@ use Rattle.pw_screen.specs.declared.entry.Entry.TheVariants.{Screen, Field as Fi
 use Rattle.pw_screen.specs.Cells.{first_cell, places_from, places_of, is_among, has_cell}
 use Rattle.pw_screen.specs.Entries.{Before, at_first, begins_screen, has_bad_picture, is_twice, refused_if, screen_by, screen_of, field_name, field_with, field_on, field_by, form_of, may_stand, field_in, field_of, entry_of, after}
 use Rattle.pw_screen.specs.Clauses.{is_screen_end}
-use Rattle.pw_screen.specs.Shown.{names_unknown, shown_of, extent_of, is_outside}
+use Rattle.pw_screen.specs.Shown.{shown_of, extent_of, is_outside}
 use Rattle.pw_screen.specs.Screens.{Behind, with_entry, behind, faults_of, placed_from, screens_of}
 use Rattle.pw_screen.specs.Apart.{ApartFrom, AreApart, AllApart}
 
@@ -64,7 +64,7 @@ in-free laid used begun part (Some body) field is =
     let last = field_by used (may_stand begun part) (field_name part.text (own_name_of part)) body.at cells (shown_of part.text laid body.clauses) in
     by-free used (may_stand begun part) (field_name part.text (own_name_of part)) body.at cells (shown_of part.text laid body.clauses) field
     (next-of (is_outside body.at cells) FieldOutside last field
-    (next-of (names_unknown part.text laid body.clauses) UnknownItem (refused_if (is_outside body.at cells) FieldOutside last) field is))
+    (next-of body.clauses.unknown UnknownItem (refused_if (is_outside body.at cells) FieldOutside last) field is))
 
 no-screen : (text : List ℕ) (name : Option Token) (form : Bool) (field : Field) → screen_by text name form ≡ FieldEntry field → ⊥
 no-screen text None form field is = cc
@@ -84,11 +84,11 @@ entry-free_by laid before part field true begins is =
     (next-of twice NameTwice last field (next-of (has_bad_picture part) BadPicture (refused_if twice NameTwice last) field screen)))
 entry-free_by laid before part field false begins is =
     let found : field_of laid before.fields before.used before.begun part ≡ FieldEntry field = rw begins at is in
-    let last = field_in laid before.used before.begun part (form_of part) in
+    let last = field_in laid before.used before.begun part (form_of laid part) in
     let twice = is_twice part.text before.fields (own_name_of part) in
     record {
       begins = begins;
-      free = in-free laid before.used before.begun part (form_of part) field
+      free = in-free laid before.used before.begun part (form_of laid part) field
           (next-of twice NameTwice last field (next-of (has_bad_picture part) BadPicture (refused_if twice NameTwice last) field found));
     }
 

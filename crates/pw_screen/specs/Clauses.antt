@@ -1,10 +1,11 @@
 -- What stands behind the name of a screen and of a field.
-use Rattle.std.specs.Prelude.{ℕ, zero, suc, length, Bool, true, false, ◌&&◌, ◌||◌, ◌==◌, is_some, codes, Option, Some, None, option_and_then, option_map, if◌then◌else◌}
+use Rattle.std.specs.Prelude.{ℕ, zero, suc, List, length, Bool, true, false, ◌&&◌, ◌||◌, ◌==◌, is_some, is_none, codes, Option, Some, None, option_map, if◌then◌else◌}
 use Rattle.pw_text.specs.declared.token.TokenKind.TheVariants as kind
 use Rattle.pw_text.specs.declared.token.Token.{Token}
 use Rattle.pw_text.specs.Cursor.{Left, Reader, ◌>>=◌, pure, spelling, sees, sees_word, behind, after, eat_word, expect, expect_word}
 use Rattle.pw_data.specs.Literals.{whole_number}
 use Rattle.pw_data.specs.Clauses.{is_end}
+use Rattle.pw_data.specs.Layouts.{Laid, place_of}
 use Rattle.pw_screen.specs.declared.clauses.Clause.{Clause}
 use Rattle.pw_screen.specs.declared.clauses.Clause.TheVariants as clause
 use Rattle.pw_screen.specs.declared.clauses.Clauses.{Clauses}
@@ -44,23 +45,55 @@ is_screen_end left =
 
 -- no clause
 abbrev pub no_clauses : Clauses
-no_clauses = record { picture = None; value = None; from = None; to = None; using = None; subscripted = false }
+no_clauses = record {
+  picture = None;
+  value = None;
+  from = None;
+  to = None;
+  using = None;
+  repeated = false;
+  subscripted = false;
+  unknown = false;
+}
 
--- the clause and those before it, where none of them is of its kind
-abbrev pub added : Clauses → Clause → Option Clauses
-added found (clause.Picture token) =
-    if is_some found.picture then None else Some (record found { picture = Some token })
-added found (clause.Value token) =
-    if is_some found.value then None else Some (record found { value = Some token })
-added found (clause.From item) =
-    if is_some found.from then None
-    else Some (record found { from = Some item.name; subscripted = found.subscripted || item.subscripted })
-added found (clause.To item) =
-    if is_some found.to then None
-    else Some (record found { to = Some item.name; subscripted = found.subscripted || item.subscripted })
-added found (clause.Using item) =
-    if is_some found.using then None
-    else Some (record found { using = Some item.name; subscripted = found.subscripted || item.subscripted })
+-- the first of the tokens, where there is one before
+abbrev pub first_of : Option Token → Token → Token
+first_of None token = token
+first_of (Some first) token = first
+
+-- there is no item of the name that a token is
+abbrev pub is_unknown : List ℕ → Laid → Token → Bool
+is_unknown text laid name = is_none (place_of laid (spelling text name))
+
+-- an item is named: whether it has a subscript and whether it is unknown
+abbrev pub naming : List ℕ → Laid → ItemName → Clauses → Clauses
+naming text laid item found = record found {
+  subscripted = found.subscripted || item.subscripted;
+  unknown = found.unknown || is_unknown text laid item.name;
+}
+
+-- the clauses before it and the clause: of each kind the first one stands, and whether one is repeated
+abbrev pub added : List ℕ → Laid → Clauses → Clause → Clauses
+added text laid found (clause.Picture token) = record found {
+  picture = Some (first_of found.picture token);
+  repeated = found.repeated || is_some found.picture;
+}
+added text laid found (clause.Value token) = record found {
+  value = Some (first_of found.value token);
+  repeated = found.repeated || is_some found.value;
+}
+added text laid found (clause.From item) = naming text laid item (record found {
+  from = Some (first_of found.from item.name);
+  repeated = found.repeated || is_some found.from;
+})
+added text laid found (clause.To item) = naming text laid item (record found {
+  to = Some (first_of found.to item.name);
+  repeated = found.repeated || is_some found.to;
+})
+added text laid found (clause.Using item) = naming text laid item (record found {
+  using = Some (first_of found.using item.name);
+  repeated = found.repeated || is_some found.using;
+})
 
 -- behind PIC, a picture; IS may stand before it
 abbrev pub picture_clause : Reader Clause
@@ -116,23 +149,22 @@ one_clause left =
     else None
 
 -- the clause in front is added to those before it, and reading goes on behind it
-abbrev pub with_clause : Clauses → Option (Clause × Left)
+abbrev pub with_clause : List ℕ → Laid → Clauses → Option (Clause × Left)
     → (Clauses → Left → Option Clauses) → Option Clauses
-with_clause found None next = None
-with_clause found (Some one) next =
-    option_and_then (λ clauses. next clauses one.1) (added found one.0)
+with_clause text laid found None next = None
+with_clause text laid found (Some one) next = next (added text laid found one.0) one.1
 
--- The clauses up to a period that is the last token, each kind at most once. The number bounds the clauses; each has a
--- token, so the number of tokens is enough.
-unfoldable pub clauses_from : ℕ → Clauses → Left → Option Clauses
-clauses_from zero found left = None
-clauses_from (suc turns) found left =
+-- The clauses up to a period that is the last token. The number bounds the clauses; each has a token, so the number of
+-- tokens is enough.
+unfoldable pub clauses_from : List ℕ → Laid → ℕ → Clauses → Left → Option Clauses
+clauses_from text laid zero found left = None
+clauses_from text laid (suc turns) found left =
     if is_end left.tokens then Some found
-    else with_clause found (one_clause left) (clauses_from turns)
+    else with_clause text laid found (one_clause left) (clauses_from text laid turns)
 
 -- the clauses of all that is left
-abbrev pub clauses_in : Left → Option Clauses
-clauses_in left = clauses_from (length left.tokens) no_clauses left
+abbrev pub clauses_in : Laid → Left → Option Clauses
+clauses_in laid left = clauses_from left.text laid (length left.tokens) no_clauses left
 
 -- AT, a row and a column
 abbrev pub place : Reader At
@@ -141,11 +173,11 @@ place = do
   position
 
 -- a place with clauses behind it
-abbrev pub body_by : Option (At × Left) → Option Body
-body_by None = None
-body_by (Some found) =
-    option_map (λ clauses. record { at = found.0; clauses = clauses }) (clauses_in found.1)
+abbrev pub body_by : Laid → Option (At × Left) → Option Body
+body_by laid None = None
+body_by laid (Some found) =
+    option_map (λ clauses. record { at = found.0; clauses = clauses }) (clauses_in laid found.1)
 
 -- behind the name of a field: AT row, column and clauses, up to a period as the last token
-abbrev pub body_of : Left → Option Body
-body_of left = body_by (place left)
+abbrev pub body_of : Laid → Left → Option Body
+body_of laid left = body_by laid (place left)

@@ -18,7 +18,7 @@ use Rattle.pw_screen.specs.declared.shown.Shown.{Shown}
 use Rattle.pw_screen.specs.declared.entry.Entry.{Entry}
 use Rattle.pw_screen.specs.declared.entry.Entry.TheVariants as entry
 use Rattle.pw_screen.specs.Clauses.{is_screen_end, body_of}
-use Rattle.pw_screen.specs.Shown.{names_unknown, shown_of, extent_of, is_outside}
+use Rattle.pw_screen.specs.Shown.{shown_of, extent_of, is_outside}
 use Rattle.pw_screen.specs.Cells.{places_of, has_cell}
 
 -- What the entries so far leave: whether a screen has begun, the names of items and screens, the names of the fields of
@@ -112,8 +112,8 @@ field_by used may_stand name at cells (Some shown) =
     refused_if (not may_stand) BadClause (field_on used (field_with name at cells shown))
 
 -- the form of a field: a level, a name or FILLER, AT row, column and clauses
-abbrev pub form_of : Left → Option Body
-form_of part = if is_some (name_of part) then body_of (behind 2 part) else None
+abbrev pub form_of : Laid → Left → Option Body
+form_of laid part = if is_some (name_of part) then body_of laid (behind 2 part) else None
 
 -- a screen has begun, and the level is a field's
 abbrev pub may_stand : Bool → Left → Bool
@@ -123,7 +123,7 @@ may_stand begun part = begun && is_field_level (level_of part)
 abbrev pub field_in : Laid → (ℕ → Bool) → Bool → Left → Option Body → Entry
 field_in laid used begun part None = entry.Refused BadClause
 field_in laid used begun part (Some body) =
-    refused_if (names_unknown part.text laid body.clauses) UnknownItem
+    refused_if body.clauses.unknown UnknownItem
     (refused_if (is_outside body.at (extent_of part.text body.clauses)) FieldOutside
     (field_by used (may_stand begun part) (field_name part.text (own_name_of part)) body.at
     (extent_of part.text body.clauses) (shown_of part.text laid body.clauses)))
@@ -135,7 +135,7 @@ abbrev pub field_of : Laid → (Word → Bool) → (ℕ → Bool) → Bool → L
 field_of laid fields used begun part =
     refused_if (has_bad_picture part) BadPicture
     (refused_if (is_twice part.text fields (own_name_of part)) NameTwice
-    (field_in laid used begun part (form_of part)))
+    (field_in laid used begun part (form_of laid part)))
 
 -- what an entry is
 abbrev pub entry_of : Laid → Before → Left → Entry

@@ -1,5 +1,5 @@
 -- What a field shows by its clauses, and how many cells it has.
-use Rattle.std.specs.Prelude.{◌≡◌, ℕ, ◌+◌, List, length, Bool, true, false, not, ◌&&◌, ◌||◌, is_some, ◌==◌, nat_lt, nat_le, is_none, Option, Some, None, option_map, if◌then◌else◌}
+use Rattle.std.specs.Prelude.{◌≡◌, ℕ, ◌+◌, List, length, Bool, true, false, not, ◌&&◌, ◌||◌, is_some, ◌==◌, nat_lt, nat_le, Option, Some, None, option_map, if◌then◌else◌}
 use Rattle.pw_picture.specs.declared.picture.Picture.{Picture}
 use Rattle.pw_picture.specs.Grammar.{picture_of, size_of}
 use Rattle.pw_text.specs.declared.token.Token.{Token}
@@ -14,16 +14,6 @@ use Rattle.pw_screen.specs.declared.clauses.Clauses.{Clauses}
 use Rattle.pw_screen.specs.declared.body.At.{At}
 use Rattle.pw_screen.specs.declared.shown.Shown.{Shown}
 use Rattle.pw_screen.specs.declared.shown.ItemClause.{ItemClause}
-
--- there is no item of the name that a token is, where there is one
-abbrev pub is_unknown : List ℕ → Laid → Option Token → Bool
-is_unknown text laid None = false
-is_unknown text laid (Some item) = is_none (place_of laid (spelling text item))
-
--- a clause names an item that there is not
-abbrev pub names_unknown : List ℕ → Laid → Clauses → Bool
-names_unknown text laid c =
-    is_unknown text laid c.from || (is_unknown text laid c.to || is_unknown text laid c.using)
 
 -- a clause names an item
 abbrev pub names_item : Clauses → Bool
@@ -40,9 +30,9 @@ only_one None (Some item) None = Some (item_for item false true)
 only_one None None (Some item) = Some (item_for item true true)
 only_one _ _ _ = None
 
--- the item of the only clause for one, where it has no subscript
+-- the item of the only clause for one, where no clause is repeated and it has no subscript
 abbrev pub only_item : Clauses → Option ItemClause
-only_item c = if c.subscripted then None else only_one c.from c.to c.using
+only_item c = if c.repeated || c.subscripted then None else only_one c.from c.to c.using
 
 -- the characters of a VALUE
 abbrev pub literal_of : List ℕ → Token → List ℕ
@@ -72,7 +62,7 @@ abbrev pub item_shown : List ℕ → Laid → Option ItemClause → Option Pictu
 item_shown text laid None picture = None
 item_shown text laid (Some one) picture = item_by laid text one picture
 
--- a VALUE, where no clause names an item
+-- a VALUE, where there is no more
 abbrev pub literal_shown : Bool → Option (List ℕ) → Option Shown
 literal_shown true literal = None
 literal_shown false None = None
@@ -81,15 +71,15 @@ literal_shown false (Some chars) = Some (record { kind = Literal chars; takes = 
 -- VALUE alone, or a picture and one item
 abbrev pub shown_by : List ℕ → Laid → Option Token → Option Token → Bool
     → Option ItemClause → Option Shown
-shown_by text laid None (Some value) named one = literal_shown named (Some (literal_of text value))
-shown_by text laid (Some picture) None named one =
+shown_by text laid None (Some value) more one = literal_shown more (Some (literal_of text value))
+shown_by text laid (Some picture) None more one =
     item_shown text laid one (picture_of (spelling text picture))
-shown_by text laid _ _ named one = None
+shown_by text laid _ _ more one = None
 
 -- what a field shows, where its clauses go together
 abbrev pub shown_of : List ℕ → Laid → Clauses → Option Shown
 shown_of text laid c =
-    shown_by text laid c.picture c.value (names_item c) (only_item c)
+    shown_by text laid c.picture c.value (c.repeated || names_item c) (only_item c)
 
 -- the size of the picture, where there is one
 abbrev pub size_by : Option Picture → ℕ
@@ -101,7 +91,7 @@ abbrev pub length_by : Option (List ℕ) → ℕ
 length_by None = 0
 length_by (Some chars) = length chars
 
--- how many cells a field has by its clauses: those of the picture, and without one those of the VALUE
+-- how many cells a field has by its clauses: those of the first picture, and without one those of the first VALUE
 abbrev pub extent_of : List ℕ → Clauses → ℕ
 extent_of text c =
     if is_some c.picture then size_by (picture_at text c.picture)

@@ -4,6 +4,7 @@ ghost use Rattle.pw_screen.specs.Clauses.{whole, position, place, is_size_end, i
 
 use crate::clauses::{Clauses, clauses_in};
 use pw_data::clauses::is_end;
+use pw_data::layout::Layout;
 use pw_data::literal::whole_number;
 use pw_text::cursor::Cursor;
 use pw_text::token::TokenKind;
@@ -73,11 +74,11 @@ fn place(cursor: &mut Cursor<'_>) -> Option<At>
 
 /// What stands behind the name of a field: AT row, column and clauses, up to a period as the last
 /// token. It is None where that has another form.
-pub fn body_of(cursor: &Cursor<'_>) -> Option<Body>
-    ensures { result ≡ body_of cursor.now }
+pub fn body_of(layout: &Layout, cursor: &Cursor<'_>) -> Option<Body>
+    ensures { result ≡ body_of layout.now cursor.now }
 {
     let mut ahead = cursor.fork();
     let at = place(&mut ahead)?;
-    let clauses = clauses_in(&ahead)?;
+    let clauses = clauses_in(layout, &ahead)?;
     Some(Body { at, clauses })
 }

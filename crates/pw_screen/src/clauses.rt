@@ -1,14 +1,15 @@
-ghost use Rattle.std.specs.Prelude.{◌≡◌, ◌<◌, ◌≤◌, IsSome, length};
+ghost use Rattle.std.specs.Prelude.{◌≡◌, ◌<◌, ◌≤◌, IsSome, Some, length};
 ghost use Rattle.pw_text.specs.Cursor.{Reads};
 ghost use Rattle.pw_screen.specs.declared.clauses.Clause.TheVariants as clause;
-ghost use Rattle.pw_screen.specs.Clauses.{no_clauses, added, picture_clause, value_clause, index, subscript, item_name, item_clause, one_clause, clauses_in};
+ghost use Rattle.pw_screen.specs.Clauses.{no_clauses, first_of, is_unknown, naming, added, picture_clause, value_clause, index, subscript, item_name, item_clause, one_clause, clauses_in};
 
 use pw_data::clauses::{eat_pic, is_end};
+use pw_data::layout::Layout;
 use pw_text::cursor::Cursor;
 use pw_text::token::{Token, TokenKind};
 
-/// The clauses of a field, each by the token that says what it is: the picture, the text of its VALUE,
-/// and the items of FROM, TO and USING.
+/// The clauses of a field, the first one of each kind by the token that says what it is: the picture,
+/// the text of its VALUE, and the items of FROM, TO and USING.
 #[derive(Clone, Copy)]
 pub struct Clauses {
     pub picture: Option<Token>,
@@ -16,8 +17,12 @@ pub struct Clauses {
     pub from: Option<Token>,
     pub to: Option<Token>,
     pub using: Option<Token>,
-    /// Whether one of the items has a subscript.
+    /// Whether a clause has the kind of one before it.
+    pub repeated: bool,
+    /// Whether an item that a clause names has a subscript.
     pub subscripted: bool,
+    /// Whether there is no item of a name that a clause names.
+    pub unknown: bool,
 }
 
 /// The item of a clause: its name, and whether a subscript stands behind it.
@@ -48,55 +53,75 @@ impl Clauses {
             from: None,
             to: None,
             using: None,
+            repeated: false,
             subscripted: false,
+            unknown: false,
         }
     }
 
-    /// The clause and those before it. It is None where one of them is of its kind.
-    fn with(self, clause: Clause) -> Option<Clauses>
-        ensures { result ≡ added self clause }
+    /// The clauses, where one of them names an item: whether it has a subscript, and whether it is unknown.
+    fn naming(self, layout: &Layout, text: &[u8], item: ItemName) -> Clauses
+        ensures { result ≡ naming text.now layout.now item self }
     {
-        match clause {
-            Clause::Picture(token) => match self.picture {
-                Some(_) => None,
-                None => Some(Clauses {
-                    picture: Some(token),
-                    ..self
-                }),
-            },
-            Clause::Value(token) => match self.value {
-                Some(_) => None,
-                None => Some(Clauses {
-                    value: Some(token),
-                    ..self
-                }),
-            },
-            Clause::From(item) => match self.from {
-                Some(_) => None,
-                None => Some(Clauses {
-                    from: Some(item.name),
-                    subscripted: self.subscripted || item.subscripted,
-                    ..self
-                }),
-            },
-            Clause::To(item) => match self.to {
-                Some(_) => None,
-                None => Some(Clauses {
-                    to: Some(item.name),
-                    subscripted: self.subscripted || item.subscripted,
-                    ..self
-                }),
-            },
-            Clause::Using(item) => match self.using {
-                Some(_) => None,
-                None => Some(Clauses {
-                    using: Some(item.name),
-                    subscripted: self.subscripted || item.subscripted,
-                    ..self
-                }),
-            },
+        Clauses {
+            subscripted: self.subscripted || item.subscripted,
+            unknown: self.unknown || is_unknown(layout, text, item.name),
+            ..self
         }
     }
+
+    /// The clauses and one more: of each kind the first one stays, and whether one is repeated.
+    fn with(self, layout: &Layout, text: &[u8], clause: Clause) -> Clauses
+        ensures { result ≡ added text.now layout.now self clause }
+    {
+        match clause {
+            Clause::Picture(token) => Clauses {
+                picture: Some(first_of(self.picture, token)),
+                repeated: self.repeated || self.picture.is_some(),
+                ..self
+            },
+            Clause::Value(token) => Clauses {
+                value: Some(first_of(self.value, token)),
+                repeated: self.repeated || self.value.is_some(),
+                ..self
+            },
+            Clause::From(item) => Clauses {
+                from: Some(first_of(self.from, item.name)),
+                repeated: self.repeated || self.from.is_some(),
+                ..self
+            }
+            .naming(layout, text, item),
+            Clause::To(item) => Clauses {
+                to: Some(first_of(self.to, item.name)),
+                repeated: self.repeated || self.to.is_some(),
+                ..self
+            }
+            .naming(layout, text, item),
+            Clause::Using(item) => Clauses {
+                using: Some(first_of(self.using, item.name)),
+                repeated: self.repeated || self.using.is_some(),
+                ..self
+            }
+            .naming(layout, text, item),
+        }
+    }
+}
+
+/// The first of the tokens, where there is one before.
+fn first_of(before: Option<Token>, token: Token) -> Token
+    ensures { result ≡ first_of before token }
+{
+    match before {
+        Some(first) => first,
+        None => token,
+    }
+}
+
+/// Whether there is no item of the name that a token is.
+fn is_unknown(layout: &Layout, text: &[u8], name: Token) -> bool
+    ensures { result ≡ is_unknown text.now layout.now name }
+{
+    layout.place(name.spelling(text)).is_none()
 }
 
 /// Reads what is behind PIC: a picture, and an IS before it or none.
@@ -196,16 +221,16 @@ fn one_clause(cursor: &mut Cursor<'_>) -> Option<Clause>
     }
 }
 
-/// The clauses up to a period that is the last token. It is None where they have another form, or two
-/// of them are of one kind.
-pub fn clauses_in(cursor: &Cursor<'_>) -> Option<Clauses>
-    ensures { result ≡ clauses_in cursor.now }
+/// The clauses up to a period that is the last token, by the items of the layout. It is None where they
+/// have another form.
+pub fn clauses_in(layout: &Layout, cursor: &Cursor<'_>) -> Option<Clauses>
+    ensures { result ≡ clauses_in layout.now cursor.now }
 {
     let mut found = Clauses::none();
     let mut ahead = cursor.fork();
     while !is_end(&ahead) {
         let one = one_clause(&mut ahead)?;
-        found = found.with(one)?;
+        found = found.with(layout, cursor.text(), one);
     }
     Some(found)
 }

@@ -153,5 +153,5 @@ pub fn read_field(
     if is_table_name(text, name) || taken {
         return Ok(Entry::Refused(FaultCode::NameTwice));
     }
-    field_in(alloc, layout, part, begun, form_of(part), used)
+    field_in(alloc, layout, part, begun, form_of(layout, part), used)
 }

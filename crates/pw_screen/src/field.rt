@@ -9,7 +9,7 @@ ghost use Rattle.pw_screen.specs.Entries.{is_field_level, where_cells, field_nam
 use crate::body::{At, Body, body_of};
 use crate::cells::Cells;
 use crate::entry::Entry;
-use crate::shown::{Shown, extent_of, literal_at, names_unknown, shown_of};
+use crate::shown::{Shown, extent_of, literal_at, shown_of};
 use pw_base::bytes::Bytes;
 use pw_base::fault_code::FaultCode;
 use pw_base::memory::Memory;
@@ -159,14 +159,14 @@ fn field_by(
 }
 
 /// What an entry has that has the form of a field: a level, a name or FILLER, AT row, column and clauses.
-pub fn form_of(part: &Cursor<'_>) -> Option<Body>
-    ensures { result ≡ form_of part.now }
+pub fn form_of(layout: &Layout, part: &Cursor<'_>) -> Option<Body>
+    ensures { result ≡ form_of layout.now part.now }
 {
     let mut behind_name = part.fork();
     let _level = behind_name.next();
     let _name = behind_name.next();
     if name_of(part).is_some() {
-        body_of(&behind_name)
+        body_of(layout, &behind_name)
     } else {
         None
     }
@@ -192,10 +192,10 @@ pub fn field_in(
     let Some(Body { at, clauses }) = body else {
         return Ok(Entry::Refused(FaultCode::BadClause));
     };
-    let text = part.text();
-    if names_unknown(layout, text, clauses) {
+    if clauses.unknown {
         return Ok(Entry::Refused(FaultCode::UnknownItem));
     }
+    let text = part.text();
     let picture = picture_at(alloc, text, clauses.picture)?;
     let literal = literal_at(alloc, text, clauses.value)?;
     let cells = extent_of(clauses, text, &picture, &literal);

@@ -3,7 +3,7 @@ ghost use Rattle.pw_picture.specs.Grammar.{IsPicture, size_of};
 ghost use Rattle.pw_data.specs.Entries.{picture_at};
 ghost use Rattle.pw_data.specs.Layouts.{PlaceEndsBy, PlaceFitsPicture};
 ghost use Rattle.pw_code.specs.Fields.{is_source_of};
-ghost use Rattle.pw_screen.specs.Shown.{is_unknown, names_unknown, names_item, only_one, only_item, literal_of, item_at, item_shown, literal_shown, shown_of, size_by, length_by, extent_of, is_inside, is_outside, IsShown};
+ghost use Rattle.pw_screen.specs.Shown.{names_item, only_one, only_item, literal_of, item_at, item_shown, literal_shown, shown_of, size_by, length_by, extent_of, is_inside, is_outside, IsShown};
 
 use crate::body::At;
 use crate::clauses::Clauses;
@@ -42,24 +42,6 @@ pub fn literal_at(alloc: Global, text: &[u8], value: Option<Token>) -> Result<Op
     }
 }
 
-/// Whether there is no item of the name that a token is, where there is one.
-fn is_unknown(layout: &Layout, text: &[u8], item: Option<Token>) -> bool
-    ensures { result ≡ is_unknown text.now layout.now item }
-{
-    match item {
-        Some(token) => layout.place(token.spelling(text)).is_none(),
-        None => false,
-    }
-}
-
-/// Whether a clause names an item that there is not.
-pub fn names_unknown(layout: &Layout, text: &[u8], clauses: Clauses) -> bool
-    ensures { result ≡ names_unknown text.now layout.now clauses }
-{
-    is_unknown(layout, text, clauses.from)
-        || (is_unknown(layout, text, clauses.to) || is_unknown(layout, text, clauses.using))
-}
-
 impl Clauses {
     /// Whether a clause names an item.
     fn names_item(self) -> bool
@@ -93,12 +75,12 @@ impl Clauses {
         }
     }
 
-    /// That item, where it has no subscript.
+    /// That item, where no clause is repeated and it has no subscript.
     fn only_item(self) -> Option<ItemClause>
         ensures one { result ≡ only_item self }
         ensures serves { IfSome result (λ one. IsTrue (one.show || one.takes)) }
     {
-        if self.subscripted {
+        if self.repeated || self.subscripted {
             None
         } else {
             self.only_one()
@@ -165,12 +147,12 @@ fn item_shown(
     item_at(picture?, one, layout.place(one.item.spelling(text)))
 }
 
-/// What a field shows that has VALUE alone.
-fn literal_shown(named: bool, literal: Option<Bytes>) -> Option<Shown>
-    ensures shown { result ≡ literal_shown named literal }
+/// What a field shows that has a VALUE, and no more.
+fn literal_shown(more: bool, literal: Option<Bytes>) -> Option<Shown>
+    ensures shown { result ≡ literal_shown more literal }
     ensures sound { (storage : ℕ) → IfSome result (IsShown storage (length_by literal)) }
 {
-    if named {
+    if more {
         return None;
     }
     Some(Shown {
@@ -196,7 +178,7 @@ pub fn shown_of(
         (IsShown (length layout.now.storage) (extent_of text.now clauses)) }
 {
     match (clauses.picture, clauses.value) {
-        (None, Some(_)) => literal_shown(clauses.names_item(), literal),
+        (None, Some(_)) => literal_shown(clauses.repeated || clauses.names_item(), literal),
         (Some(_), None) => item_shown(layout, text, clauses.only_item(), picture),
         _ => None,
     }
@@ -223,7 +205,8 @@ fn length_by(literal: &Option<Bytes>) -> usize
     }
 }
 
-/// How many cells a field has by its clauses: those of the picture, and without one those of the VALUE.
+/// How many cells a field has by its clauses: those of the first picture, and without one those of the
+/// first VALUE.
 pub fn extent_of(
     clauses: Clauses,
     text: &[u8],

@@ -1,5 +1,5 @@
 -- The fields of the screens that are read show items of the layout.
-use Rattle.std.proofs.Common.{◌≡◌, ℕ, Bool, true, false, not, List, [], ◌∷◌, Option, Some, None, Ok, if◌then◌else◌, refl, subst}
+use Rattle.std.proofs.Common.{◌≡◌, ℕ, Bool, true, false, not, ◌||◌, List, [], ◌∷◌, Option, Some, None, Ok, if◌then◌else◌, refl, subst}
 use Rattle.std.specs.Prelude.{◌&&◌, ◌==◌}
 use Rattle.pw_base.specs.declared.fault.Fault.{Fault}
 use Rattle.pw_base.specs.declared.fault_code.FaultCode.{FaultCode}
@@ -21,7 +21,7 @@ use Rattle.pw_divisions.specs.Entries.{entries_of}
 use Rattle.pw_divisions.specs.Names.{name_of, own_name_of}
 use Rattle.pw_screen.specs.Entries.{Before, at_first, after, begins_screen, has_bad_picture, is_twice, refused_if, screen_by, screen_of, field_name, field_with, field_on, field_by, form_of, may_stand, field_in, field_of, entry_of}
 use Rattle.pw_screen.specs.Screens.{placed_from, faults_of, with_entry, behind, Behind, screens_of}
-use Rattle.pw_screen.specs.Shown.{names_item, names_unknown, is_outside, extent_of, item_with, item_at, item_by, item_shown, literal_shown, literal_of, only_item, shown_by, shown_of}
+use Rattle.pw_screen.specs.Shown.{names_item, is_outside, extent_of, item_with, item_at, item_by, item_shown, literal_shown, literal_of, only_item, shown_by, shown_of}
 use Rattle.pw_screen.specs.declared.body.At.{At}
 use Rattle.pw_screen.specs.declared.body.Body.{Body}
 use Rattle.pw_screen.specs.declared.entry.Entry.{Entry}
@@ -88,10 +88,10 @@ module _ (laid : Laid) where
   field-in-in : (used : ℕ → Bool) (begun : Bool) (part : Left) (o : Option Body) → EntryIn (field_in laid used begun part o)
   field-in-in used begun part None = tt
   field-in-in used begun part (Some body) =
-      refused-in (names_unknown part.text laid body.clauses) _ _
+      refused-in body.clauses.unknown _ _
       (refused-in (is_outside body.at (extent_of part.text body.clauses)) _ _
       (field-by-in used (may_stand begun part) (field_name part.text (own_name_of part)) body.at (extent_of part.text body.clauses) (shown_of part.text laid body.clauses)
-      (shown-by-in part.text body.clauses.picture body.clauses.value (names_item body.clauses) (only_item body.clauses))))
+      (shown-by-in part.text body.clauses.picture body.clauses.value (body.clauses.repeated || names_item body.clauses) (only_item body.clauses))))
 
   screen-by-in : (text : List ℕ) (o : Option Token) (b : Bool) → EntryIn (screen_by text o b)
   screen-by-in text None b = tt
@@ -106,7 +106,7 @@ module _ (laid : Laid) where
   entry-in before part =
       entry-by-in (begins_screen part) (screen_of before.names part) (field_of laid before.fields before.used before.begun part)
       (refused-in (has_bad_picture part) _ _ (refused-in (is_twice part.text before.names (name_of part)) _ _ (screen-by-in part.text (name_of part) _)))
-      (refused-in (has_bad_picture part) _ _ (refused-in (is_twice part.text before.fields (own_name_of part)) _ _ (field-in-in before.used before.begun part (form_of part))))
+      (refused-in (has_bad_picture part) _ _ (refused-in (is_twice part.text before.fields (own_name_of part)) _ _ (field-in-in before.used before.begun part (form_of laid part))))
 
   all-in : (text : List ℕ) (before : Before) (parts : List (List Token)) → Each (λ (placed : Placed). EntryIn placed.entry) (placed_from text laid before parts)
   unfolding placed_from
