@@ -5,7 +5,7 @@ worked.
 
 The kit lets one command at a time work on a crate and on those below it. So crates are proved in lanes: the first is this
 checkout, each other one a copy of its crates, and each takes over what another one has built."""
-import os, shutil, signal, subprocess, sys, tempfile, time
+import glob, os, shutil, signal, subprocess, sys, tempfile, time
 
 HERE = os.path.dirname(os.path.realpath(__file__))
 PROGRAM = "pathway"
@@ -55,10 +55,6 @@ def longest_first(order, named):
     return sorted(order, key=lambda crate: -rows[crate])
 
 
-def processors():
-    return len(os.sched_getaffinity(0))
-
-
 def lane_count():
     """As many lanes as there are processors and memory, and one where the copies of a repository share nothing by this kit."""
     said = subprocess.run(["rt", "help"], stdout=subprocess.PIPE, stderr=subprocess.STDOUT, text=True).stdout
@@ -66,7 +62,7 @@ def lane_count():
         return 1
     with open("/proc/meminfo") as file:
         free = next(int(line.split()[1]) for line in file if line.startswith("MemAvailable"))
-    return max(1, min(processors(), free // (PROOF_MEMORY << 20)))
+    return max(1, min(len(os.sched_getaffinity(0)), free // (PROOF_MEMORY << 20)))
 
 
 def lanes_in(room):
@@ -81,12 +77,12 @@ def lanes_in(room):
 
 
 class Work:
-    """A crate that is proved in a lane, with so many processors."""
+    """A crate that is proved in a lane."""
 
-    def __init__(self, crate, lane, jobs, log):
-        self.crate, self.lane, self.jobs = crate, lane, jobs
+    def __init__(self, crate, lane, options, log):
+        self.crate, self.lane = crate, lane
         # The kit builds a program where it runs it. Without words it only prints its usage.
-        words = ["rt", "run" if crate == PROGRAM else "lib", "--jobs", str(jobs)]
+        words = ["rt", "run" if crate == PROGRAM else "lib", *options]
         with open(log, "w") as file:
             self.process = subprocess.Popen(words, cwd=f"{lane}/crates/{crate}", stdin=subprocess.DEVNULL, stdout=file, stderr=file)
 
@@ -107,6 +103,8 @@ class Build:
 
     def __init__(self, order, named, lanes, logs):
         self.total, self.named, self.lanes, self.logs = len(order), named, lanes, logs
+        # Side by side each crate has one job: each job works out anew what it needs, and a large crate takes longer with two.
+        self.options = ["--jobs", "1"] if len(lanes) > 1 else []
         self.waiting, self.at_work, self.built = list(order), [], set()
 
     def log_of(self, crate):
@@ -117,15 +115,11 @@ class Build:
         the first, which is the checkout."""
         ready = [it for it in self.waiting if self.built.issuperset(self.named[it])]
         free = [lane for lane in self.lanes if lane not in [work.lane for work in self.at_work]]
-        idle = processors() - sum(work.jobs for work in self.at_work)
-        together = min(len(ready), len(free))
-        for number, (crate, lane) in enumerate(zip(ready, free)):
-            jobs = max(1, idle // (together - number))
-            idle -= jobs
+        for crate, lane in zip(ready, free):
             self.waiting.remove(crate)
             minutes, seconds = divmod(int(time.monotonic() - BEGAN), 60)
             say(f"proving crate {self.total - len(self.waiting)} of {self.total}, {crate} ({minutes} min {seconds:02} s so far)")
-            self.at_work.append(Work(crate, lane, jobs, self.log_of(crate)))
+            self.at_work.append(Work(crate, lane, self.options, self.log_of(crate)))
 
     def run(self):
         """Builds all, and gives the crate that was not built, if there is one."""
@@ -152,6 +146,9 @@ def main():
         os.remove(BUILT)
     # Beside the checkout's own files, where the kit makes links in place of copies, and git and the gate do not look.
     beside = f"{HERE}/.git"
+    # What a call that was killed left: pathway makes one call at a time.
+    for left in glob.glob(f"{beside}/lanes-*"):
+        shutil.rmtree(left)
     with tempfile.TemporaryDirectory(prefix="lanes-", dir=beside if os.path.isdir(beside) else None) as room:
         build = Build(longest_first(order, named), named, lanes_in(room), room)
         failed = build.run()

@@ -8,7 +8,7 @@ cd "$(dirname "$0")/.."
 room=$(mktemp -d)
 trap 'rm -rf "$room"' EXIT
 export BUILT="$room/built" FAULTS="$room/faults" PATH="$room/bin:$PATH"
-mkdir -p "$room/bin" "$room/checkout"
+mkdir -p "$room/bin" "$room/checkout/.git/lanes-left"
 cp build.py crates.txt HANDLES "$room/checkout"
 for crate in crates/*; do
     mkdir -p "$room/checkout/$crate"
@@ -50,11 +50,13 @@ python3 "$room/checkout/build.py" 2> "$room/said" || fail "build.py ends with st
 [ ! -s "$FAULTS" ] || fail "$(cat "$FAULTS")"
 [ "$(ls "$BUILT" | sort)" = "$expected" ] || fail "other crates than those that the program stands on are built"
 [ -x "$room/checkout/crates/pathway/out/pathway" ] || fail "the program is not built in the checkout"
+[ -z "$(ls "$room/checkout/.git")" ] || fail "lanes are left: $(ls "$room/checkout/.git")"
 [ "$(grep -c "^pathway: proving crate" "$room/said")" = "$(wc -l <<< "$expected")" ] || fail "standard error does not tell each crate"
 
 rm -r "$BUILT" "$room/checkout/crates/pathway/out" && mkdir "$BUILT"
 status=0
 REFUSED=pw_event python3 "$room/checkout/build.py" 2> "$room/said" || status=$?
 [ "$status" = 6 ] || fail "build.py has status $status where a crate is not proved"
+[ -z "$(ls "$room/checkout/.git")" ] || fail "lanes are left where a crate is not proved: $(ls "$room/checkout/.git")"
 [ "$(tail -n 2 "$room/said")" = $'pw_event is not proved\npathway: the program is not built' ] ||
     fail "standard error does not tell which crate is not proved: $(cat "$room/said")"
