@@ -1,5 +1,5 @@
 -- What stands behind the name of a screen and of a field.
-use Rattle.std.specs.Prelude.{ℕ, zero, suc, List, length, Bool, true, false, ◌&&◌, ◌||◌, ◌==◌, is_some, is_none, codes, Option, Some, None, option_map, if◌then◌else◌}
+use Rattle.std.specs.Prelude.{ℕ, zero, suc, List, length, Bool, true, false, ◌&&◌, ◌||◌, ◌==◌, is_some, is_none, codes, Option, Some, None, option_map, unwrap_or, if◌then◌else◌}
 use Rattle.pw_text.specs.declared.token.TokenKind.TheVariants as kind
 use Rattle.pw_text.specs.declared.token.Token.{Token}
 use Rattle.pw_text.specs.Cursor.{Left, Reader, ◌>>=◌, pure, spelling, sees, sees_word, behind, after, eat_word, expect, expect_word}
@@ -56,11 +56,6 @@ no_clauses = record {
   unknown = false;
 }
 
--- the first of the tokens, where there is one before
-abbrev pub first_of : Option Token → Token → Token
-first_of None token = token
-first_of (Some first) token = first
-
 -- there is no item of the name that a token is
 abbrev pub is_unknown : List ℕ → Laid → Token → Bool
 is_unknown text laid name = is_none (place_of laid (spelling text name))
@@ -75,23 +70,23 @@ naming text laid item found = record found {
 -- the clauses before it and the clause: of each kind the first one stands, and whether one is repeated
 abbrev pub added : List ℕ → Laid → Clauses → Clause → Clauses
 added text laid found (clause.Picture token) = record found {
-  picture = Some (first_of found.picture token);
+  picture = Some (unwrap_or found.picture token);
   repeated = found.repeated || is_some found.picture;
 }
 added text laid found (clause.Value token) = record found {
-  value = Some (first_of found.value token);
+  value = Some (unwrap_or found.value token);
   repeated = found.repeated || is_some found.value;
 }
 added text laid found (clause.From item) = naming text laid item (record found {
-  from = Some (first_of found.from item.name);
+  from = Some (unwrap_or found.from item.name);
   repeated = found.repeated || is_some found.from;
 })
 added text laid found (clause.To item) = naming text laid item (record found {
-  to = Some (first_of found.to item.name);
+  to = Some (unwrap_or found.to item.name);
   repeated = found.repeated || is_some found.to;
 })
 added text laid found (clause.Using item) = naming text laid item (record found {
-  using = Some (first_of found.using item.name);
+  using = Some (unwrap_or found.using item.name);
   repeated = found.repeated || is_some found.using;
 })
 

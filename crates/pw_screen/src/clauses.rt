@@ -1,7 +1,7 @@
-ghost use Rattle.std.specs.Prelude.{◌≡◌, ◌<◌, ◌≤◌, IsSome, Some, length};
+ghost use Rattle.std.specs.Prelude.{◌≡◌, ◌<◌, ◌≤◌, IsSome, length};
 ghost use Rattle.pw_text.specs.Cursor.{Reads};
 ghost use Rattle.pw_screen.specs.declared.clauses.Clause.TheVariants as clause;
-ghost use Rattle.pw_screen.specs.Clauses.{no_clauses, first_of, is_unknown, naming, added, picture_clause, value_clause, index, subscript, item_name, item_clause, one_clause, clauses_in};
+ghost use Rattle.pw_screen.specs.Clauses.{no_clauses, is_unknown, naming, added, picture_clause, value_clause, index, subscript, item_name, item_clause, one_clause, clauses_in};
 
 use pw_data::clauses::{eat_pic, is_end};
 use pw_data::layout::Layout;
@@ -76,44 +76,34 @@ impl Clauses {
     {
         match clause {
             Clause::Picture(token) => Clauses {
-                picture: Some(first_of(self.picture, token)),
+                picture: Some(self.picture.unwrap_or(token)),
                 repeated: self.repeated || self.picture.is_some(),
                 ..self
             },
             Clause::Value(token) => Clauses {
-                value: Some(first_of(self.value, token)),
+                value: Some(self.value.unwrap_or(token)),
                 repeated: self.repeated || self.value.is_some(),
                 ..self
             },
             Clause::From(item) => Clauses {
-                from: Some(first_of(self.from, item.name)),
+                from: Some(self.from.unwrap_or(item.name)),
                 repeated: self.repeated || self.from.is_some(),
                 ..self
             }
             .naming(layout, text, item),
             Clause::To(item) => Clauses {
-                to: Some(first_of(self.to, item.name)),
+                to: Some(self.to.unwrap_or(item.name)),
                 repeated: self.repeated || self.to.is_some(),
                 ..self
             }
             .naming(layout, text, item),
             Clause::Using(item) => Clauses {
-                using: Some(first_of(self.using, item.name)),
+                using: Some(self.using.unwrap_or(item.name)),
                 repeated: self.repeated || self.using.is_some(),
                 ..self
             }
             .naming(layout, text, item),
         }
-    }
-}
-
-/// The first of the tokens, where there is one before.
-fn first_of(before: Option<Token>, token: Token) -> Token
-    ensures { result ≡ first_of before token }
-{
-    match before {
-        Some(first) => first,
-        None => token,
     }
 }
 
