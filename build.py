@@ -11,7 +11,7 @@ HERE = os.path.dirname(os.path.realpath(__file__))
 PROGRAM = "pathway"
 BUILT = f"{HERE}/crates/{PROGRAM}/out/{PROGRAM}"
 # The memory that the proof of a crate is reckoned with, in GiB.
-PROOF_MEMORY = 4
+PROOF_MEMORY = 5
 BEGAN = time.monotonic()
 
 
