@@ -1,6 +1,8 @@
 #!/usr/bin/env bash
 # Whether the pages name what is there: each file and link of README.md and docs/ exists, each name that has a file beside it
-# stands in that file, and each other name of code is one of the sources. It prints what is not so, and then fails.
+# stands in that file, each contract that carries a claim stands in one of the files of the claim, and each other name of code is
+# one of the sources. A row of a table that begins with crates is about these, and so is what stands below a heading of crates:
+# its files are theirs. It prints what is not so, and then fails.
 #
 #     bench/pages.sh
 set -eu
@@ -23,6 +25,10 @@ FREE = {"CRATE", "FILE", "LegalKIND", "do_kind", "ISX", "perf", "ENTERED"}
 PATH = r"[\w/-]*\w\.(?:rt|antt|md|deck|out|sh|py|edit|html|schedule)\b"
 # One name or several, and the file that they stand in.
 BESIDE = re.compile(r"((?:`[\w:]+`, )*`[\w:]+`)(?:,? in|,) `?((?:[\w-]+/)*\w+\.(?:rt|antt))\b")
+# What carries a claim, and the files of that.
+CLAIM = re.compile(r"\*\*by\*\* (.*?) — \*\*in\*\* ([^;]*)")
+# Crates, or modules of them, side by side.
+HEADED = r"((?:`\w+(?:::\w+)*`(?:, )?)+)"
 
 
 def candidates(path, crates=()):
@@ -32,24 +38,53 @@ def candidates(path, crates=()):
 
 
 def lines_of(page):
-    """Each line with its number and the crates that a table's row is about."""
-    crates = ()
+    """Each line with its number and the crates that it is about: those of its table's row, or those of the heading above it."""
+    crates = below = ()
     for number, line in enumerate(open(page).read().split("\n"), 1):
-        row = re.match(r"\| ((?:`\w+`(?:, )?)+) \|", line)
-        crates = re.findall(r"`(\w+)`", row[1]) if row else crates if line.startswith("|") else ()
+        row = re.match(rf"\| {HEADED} \|", line)
+        heading = re.fullmatch(rf"### {HEADED}", line)
+        said = CRATES.intersection(re.findall(r"`(\w+)", (row or heading or ["", ""])[1]))
+        if line.startswith("#"):
+            below = said
+        crates = said or crates if line.startswith("|") else below
         yield number, line, crates
+
+
+def pieces_of(page):
+    """These lines, where those of one claim about a crate are one that has the number of the first."""
+    piece = None
+    for number, line, crates in lines_of(page):
+        if piece and crates and piece[1].startswith("- ") and line.startswith("  "):
+            piece = (piece[0], f"{piece[1]} {line.strip()}", crates)
+            continue
+        if piece:
+            yield piece
+        piece = (number, line, crates)
+    yield piece
+
+
+def stands(name, files):
+    """Whether a name stands in one of the files."""
+    return any(re.search(rf"\b{name.split('::')[-1]}\b", SOURCES.get(file, "")) for file in files)
 
 
 def faults(page):
     whole = open(page).read()
     named = set(re.findall(r"\b(?:pw_\w+|pathway)\b", whole))
-    for number, line, crates in lines_of(page):
+    for number, line, crates in pieces_of(page):
         for path in re.findall(PATH, line):
             if not FREE & set(re.split(r"[/.]", path)) and path != "src/M.rt" and not candidates(path):
                 yield number, f"no file {path}"
+            if crates and path.startswith(("src/", "specs/")) and not any(it.split("/")[1] in crates for it in candidates(path, crates)):
+                yield number, f"no file {path} in {' and '.join(sorted(crates))}"
+        for carried, where in CLAIM.findall(line):
+            files = [it for path in re.findall(PATH, where) for it in candidates(path, crates)]
+            for name in re.findall(r"`([\w:]+)`", carried):
+                if files and not stands(name, files):
+                    yield number, f"no {name} in {' or '.join(re.findall(PATH, where))}"
         row = re.match(r"\| `([\w/]+\.(?:rt|antt))` \| (.*) \|$", line)
         for name in re.findall(r"`([\w:]+)`", row[2]) if row else ():
-            if not re.search(rf"\b{name.split('::')[-1]}\b", SOURCES.get(row[1], "")):
+            if not stands(name, [row[1]]):
                 yield number, f"no {name} in {row[1]}"
         for link in re.findall(r"\]\(([^)#:]+)\)", line):
             if not os.path.exists(os.path.join(os.path.dirname(page), link)):
@@ -58,14 +93,14 @@ def faults(page):
             files = candidates(path, crates or named)
             for name in re.findall(r"[\w:]+", names):
                 last = name.split("::")[-1]
-                if files and last not in FREE | CRATES and not any(re.search(rf"\b{last}\b", SOURCES.get(file, "")) for file in files):
+                if files and last not in FREE | CRATES and not stands(last, files):
                     yield number, f"no {name} in {path}"
     # A name and its file may stand on two lines.
     for found in BESIDE.finditer(re.sub(r"\n", " ", whole)):
         files = candidates(found[2], named)
         for name in re.findall(r"[\w:]+", found[1]):
             last = name.split("::")[-1]
-            if files and last not in FREE | CRATES and not any(re.search(rf"\b{last}\b", SOURCES.get(it, "")) for it in candidates(found[2])):
+            if files and last not in FREE | CRATES and not stands(last, candidates(found[2])):
                 yield whole[: found.start()].count("\n") + 1, f"no {name} in {found[2]}"
     for found in re.finditer(r"`((?:\w+::)*[A-Za-z_]\w*)`", re.sub(r"```.*?```", lambda it: "\n" * it[0].count("\n"), whole, flags=re.S)):
         for name in found[1].split("::"):
