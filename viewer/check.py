@@ -1,270 +1,219 @@
 #!/usr/bin/env python3
-"""Shows the picture of five runs in a real browser and fails where the page says another thing than the report.
+"""Shows runs in a headless browser, and fails where the page says another thing than the report, or cannot be used as it says.
 
     viewer/check.py [--screenshots FOLDER] [REPORT ..]
 
-It installs nothing: where no browser is found, or the one that is there does not run, it says so and ends with status 77. A report is a file NAME.report; the
-deck beside it, NAME.deck, is given to the page too. What is wanted is read off the report here, line by line, by none
-of the page's code.
+A report is a file with the text of one; the deck of the same name beside it, NAME.deck, is given to the page too. Without words
+these are the stored ones, and then a made-up run of 64 terminals and one of 500,000 entries are shown besides. It installs
+nothing: where no browser is found, or the one that is there does not run, it says so and ends with status 77. It prints what is
+not as it should be, and last how many checks passed and failed.
 """
-import html.parser
 import pathlib
 import re
-import shutil
-import subprocess
 import sys
 import tempfile
+import time
+
+sys.dont_write_bytecode = True
+
+import check_use as use
+import sample
+from browser import Browser, NoBrowser
+from check_report import HELPERS, Checks, Wanted, check_report
 
 HERE = pathlib.Path(__file__).resolve().parent
-BROWSERS = ["chromium", "chromium-browser", "google-chrome", "chrome"]
 SKIPPED = 77
-# Each screen's button is pressed, and what the glass then shows is kept for this script.
-PRESS = """<script>
-for (const button of document.querySelectorAll('#shown button')) {
-  button.click();
-  const kept = document.createElement('pre');
-  kept.className = 'kept';
-  kept.textContent = document.getElementById('glass').textContent;
-  document.body.append(kept);
-}
-</script></body>"""
+MOST_LINES = 500
+NETWORK = r"https?:|fetch\(|XMLHttpRequest|WebSocket|@import|sendBeacon"
+LARGE, MANY, MANY_ENTRIES = 500_000, 64, 20_000
+# What a picture and a step may cost. It is processor time that counts: by the clock other work of the machine holds them up.
+PICTURE_SECONDS, STEP_SECONDS = 15, 5
+# A takeover repeats the first entry of a terminal, and then the second is taken: the first KEY T1 1 gave the block.
+REPEATED = ["SERIAL", "OUT T1", "OUT T1", "OUT T1", "DONE T1 STOPPED", "SCREENS", "SCREEN T1 0.0.1", "24|HELLO", "FILES", "LOG",
+            "PATHWAY LOG 2", "1 RAISE TCP-1", "2 CHECK T1 COPY", "3 APPLIED T1", "4 KEY T1 1", "5 FAIL TCP TCP-1 PRIMARY 1",
+            "6 TAKEOVER TCP-1", "7 RAISE TCP-1", "8 CHECK T1 COPY", "9 APPLIED T1", "10 KEY T1 1", "11 KEY T1 2",
+            "12 SHOW T1 0.0.1", "13 END T1 STOPPED", "FINISHED"]
+DRAWN = "/^(Finished|Not finished|No report)/.test(get('verdict').textContent)"
 
 
-class NoBrowser(Exception):
-    """The browser did not run to its end, so nothing was shown."""
+class Session:
+    """The checks of one browser."""
+
+    def __init__(self, browser, pictures):
+        self.browser, self.pictures, self.checks, self.has_shown = browser, pictures, Checks(), False
+
+    def show(self, report, deck=None, anew=True):
+        """Gives the page, opened anew or as it is, a report and perhaps a deck, and keeps how many seconds it took to draw it."""
+        self.checks.about = report.stem
+        if anew:
+            self.browser.open()
+            self.browser.run(HELPERS)
+        self.browser.run("get('verdict').textContent = ''")
+        clock, used = time.monotonic(), self.browser.processor_seconds()
+        self.browser.give_files("#file", [report] + ([deck] if deck else []))
+        self.browser.until(DRAWN)
+        self.has_shown = True
+        self.clock, self.used = time.monotonic() - clock, self.browser.processor_seconds() - used
+        if self.pictures:
+            self.browser.picture((self.pictures / f"{report.stem}.png").resolve())
+
+    def user(self, report, deck=None, anew=True):
+        """A user before a page that shows a report."""
+        self.show(report, deck, anew)
+        return use.User(self.browser, self.checks, Wanted(report.read_text(), deck.read_text() if deck else ""))
+
+    def compare(self, report, anew):
+        """Whether the page says what a report says; it may have shown another one before."""
+        deck = report.with_suffix(".deck")
+        user = self.user(report, deck if deck.exists() else None, anew)
+        check_report(self.checks, self.browser, user.wanted)
+        use.check_jumps(user)
+        use.check_tile(user)
+        use.check_out(user)
+
+    def compare_small(self, folder):
+        """Small made-up runs, in which a takeover repeats screens and entries, as in none of the stored ones."""
+        report = folder / "made up.report"
+        report.write_text(sample.report(120, 2))
+        self.compare(report, True)
+        report.write_text("".join(f"{line}\n" for line in REPEATED))
+        self.compare(report, True)
+        self.checks.same("entries that gave the blocks", self.browser.run("[...page.report.serial.entry]"), [4, 11, 12, 13])
+
+    def refuse(self, report, folder):
+        """Texts that are no report: the page says in which line."""
+        lines = report.read_text().splitlines()
+        log = lines.index("LOG")
+        entry = next(i for i in range(log, len(lines)) if lines[i].startswith("1 "))
+        ill = lines[:entry] + ["1 NOTHING T1"] + lines[entry + 1:]
+        for what, broken, at in (
+            ("nothing", [], 1),
+            ("another first line", ["HELLO", *lines[1:]], 1),
+            ("an entry that is none", ill, entry + 1),
+            ("a missing last line", lines[:-1], len(lines)),
+            ("a line too many", [*lines, "MORE"], len(lines) + 1),
+        ):
+            path = folder / "ill.report"
+            path.write_text("".join(f"{line}\n" for line in broken))
+            self.show(path)
+            verdict = self.browser.run("get('verdict').textContent")
+            self.checks.same(f"{what}: where it is refused", re.findall(r"^No report: line (\d+):", verdict), [str(at)])
+            self.checks.same(f"{what}: the picture is hidden", self.browser.run("get('picture').hidden"), True)
+
+    def take(self, report):
+        """A report may be pasted and dropped too, and its lines may end as on Windows."""
+        self.checks.about = report.stem
+        text = report.read_text()
+        ways = {
+            "pasted": f"get('text').value = {text!r}; get('draw').click()",
+            "with CR": f"get('text').value = ''; input.take([new File([{text!r}.replaceAll('\\n', '\\r\\n')], 'report')])",
+            "dropped": f"""(() => {{ const data = new DataTransfer(); data.items.add(new File([{text!r}], 'report'));
+                document.body.dispatchEvent(new DragEvent('drop', {{ dataTransfer: data, bubbles: true, cancelable: true }})); }})()""",
+        }
+        for what, script in ways.items():
+            self.browser.open()
+            self.browser.run(f"{script}; 0")
+            self.browser.until(DRAWN)
+            self.checks.same(f"a report that is {what}", self.browser.run("page.report.log.count"), len(Wanted(text).entries))
+
+    def features(self):
+        """What a user does with a small run."""
+        takeover = HERE.parent / "decks/takeover.out"
+        user = self.user(takeover, takeover.with_suffix(".deck"))
+        use.check_looks(user)
+        use.check_zoom(user)
+        use.check_keys(user)
+        use.check_typed(user, {5: "F1 S-NUMBER=1 S-ITEM=BOLT S-QTY=30", 69: "SF16"})
+        user = self.user(takeover)
+        use.check_typed(user, {5: "The next screen, T1 2.0.1, shows 24|ENTERED", 69: "no screen was shown behind it"})
+        use.check_arrows(self.user(HERE / "reports/orders.report", HERE / "reports/orders.deck"))
+
+    def many(self, folder):
+        """A run of many terminals."""
+        report = folder / f"{MANY} terminals.report"
+        report.write_text(sample.report(MANY_ENTRIES, MANY))
+        self.show(report)
+        self.is_in_time(f"{MANY} terminals, {MANY_ENTRIES} entries")
+        user = use.User(self.browser, self.checks, Wanted(report.read_text()))
+        pairs = {f"TCP-{pair}": [f"T{number}" for number in range(pair, MANY + 1, sample.PAIRS)] for pair in range(1, sample.PAIRS + 1)}
+        for check in (use.check_labels, use.check_zoom, use.check_tile, use.check_jumps, use.check_arrows):
+            check(user)
+        use.check_groups(user, pairs)
+        use.check_filter(user, "T7", "3")
+        self.checks.same("tiles", self.browser.run("aid.tiles()"), user.wanted.tiles())
+        order = self.browser.run("[...page.report.serial.entry]")
+        self.checks.holds("each block has its entry, in order", 0 not in order and order == sorted(order))
+
+    def large(self, folder):
+        """The longest log that there may be."""
+        report = folder / f"{LARGE} entries.report"
+        report.write_text(sample.report(LARGE, MANY))
+        self.show(report)
+        self.is_in_time(f"{MANY} terminals, {LARGE} entries")
+        use.check_size(use.User(self.browser, self.checks, Wanted(report.read_text())), STEP_SECONDS)
+
+    def is_in_time(self, what):
+        print(f"viewer: {what}: {self.clock:.1f} s until the picture stands, {self.used:.1f} s of them of processors")
+        self.checks.holds(f"the picture stands within {PICTURE_SECONDS} s", self.used < PICTURE_SECONDS, self.used)
+
+    def sources(self):
+        """The page needs no library and no network, and each of its files is short."""
+        self.checks.about = "sources"
+        for path in sorted(HERE.iterdir()):
+            if path.suffix not in (".html", ".js", ".css", ".py", ""):
+                continue
+            if path.is_file():
+                text = path.read_text()
+                self.checks.holds(f"{path.name} is short", len(text.splitlines()) <= MOST_LINES)
+                if path.suffix in (".html", ".js", ".css"):
+                    self.checks.same(f"what {path.name} asks of a network", re.findall(NETWORK, text), [])
 
 
-class Page(html.parser.HTMLParser):
-    """The elements of a page in order, each with its tag, its attributes and the text right inside it."""
-
-    def __init__(self, text):
-        super().__init__()
-        self.elements, self.path = [], []
-        self.feed(text)
-
-    def handle_starttag(self, tag, attributes):
-        element = {"tag": tag, "at": dict(attributes), "text": "", "above": list(self.path)}
-        self.elements.append(element)
-        if tag not in {"meta", "link", "br", "input"}:
-            self.path.append(element)
-
-    def handle_endtag(self, tag):
-        while self.path and self.path.pop()["tag"] != tag:
-            pass
-
-    def handle_data(self, data):
-        if self.path:
-            self.path[-1]["text"] += data
-
-    def all(self, tag, **at):
-        for element in self.elements:
-            names = {key.rstrip("_").replace("_", "-"): value for key, value in at.items()}
-            if element["tag"] == tag and all(
-                value in (element["at"].get(key) or "").split() if key == "class" else element["at"].get(key) == value
-                for key, value in names.items()
-            ):
-                yield element
-
-    def inside(self, identity, tag):
-        for element in self.elements:
-            if element["tag"] == tag and any(above["at"].get("id") == identity for above in element["above"]):
-                yield element
+def stored_reports():
+    """The reports beside the viewer, and of those of the sample decks each other one in which something fails or goes back."""
+    paths = sorted((HERE / "reports").glob("*.report")) + sorted((HERE.parent / "decks").glob("*.out"))
+    texts = {path: path.read_text() for path in reversed(paths)}
+    first = {text: path for path, text in texts.items()}
+    is_told = lambda text: text.startswith("SERIAL\n") and re.search(r"FAIL|LEFT|RESTART|SUSPENDED|UNFINISHED| FAULT ", text)
+    return [path for path in paths if first[texts[path]] == path and (path.suffix == ".report" or is_told(texts[path]))]
 
 
-def parts(text):
-    """The lines of each part of a report, by its headline."""
-    found, name = {}, None
-    for line in text.splitlines():
-        if line in ("SERIAL", "SCREENS", "FILES", "LOG") and (name is None or line != "SERIAL"):
-            name = line
-            found[name] = []
-        else:
-            found[name].append(line)
-    return found
-
-
-def lane(words):
-    if words[:2] == ["FAIL", "SERVER"]:
-        return " ".join(words[2:4])
-    if words[:2] == ["FAIL", "TCP"]:
-        return words[2]
-    return " ".join(words[1:3]) if words[0] in ("TAKE", "FILE", "REPLY") else words[1]
-
-
-def wanted_screens(lines):
-    screens = []
-    for line in lines:
-        if line.startswith("SCREEN "):
-            screens.append((line.split()[1], line.split()[2], [""] * 24))
-        else:
-            screens[-1][2][int(line[:2]) - 1] = line[3:]
-    return screens
-
-
-def wanted_files(lines):
-    files = {}
-    for line in lines:
-        if line.startswith("FILE "):
-            name = line.split()[1]
-            files[name] = []
-        else:
-            files[name].append(line[1:])
-    return files
-
-
-def deck_files(text):
-    files, name = {}, None
-    for line in text.splitlines():
-        words = line.upper().split()
-        if line.startswith("?"):
-            name = words[1] if words[0] == "?FILE" else None
-            if name:
-                files[name] = []
-            if words[0] == "?END":
-                break
-        elif name and line.strip():
-            files[name].append(line)
-    return {name: sorted(records) for name, records in files.items()}
-
-
-class Checks:
-    def __init__(self, name):
-        self.name, self.count, self.failed = name, 0, 0
-
-    def same(self, what, got, want):
-        self.count += 1
-        if got != want:
-            self.failed += 1
-            print(f"{self.name}: {what}: the page has {got!r}, and the report {want!r}")
-
-
-def check_bars(checks, page, log, serial):
-    """One bar for each BEGIN; the outcomes of a unit in the order of the serial order's blocks."""
-    bars = sorted(page.all("rect", class_="bar"), key=lambda bar: int(bar["at"]["data-from"]))
-    begins = [(i + 1, entry.split()) for i, entry in enumerate(log) if entry.startswith("BEGIN ")]
-    checks.same("beginnings of bars", [int(bar["at"]["data-from"]) for bar in bars], [at for at, _ in begins])
-    for key in {(words[1], words[2]) for _, words in begins}:
-        got = [bar["at"]["data-how"] for bar in bars if (bar["at"]["data-terminal"], bar["at"]["data-unit"]) == key]
-        want = [line.split()[3] for line in serial if line.startswith(f"UNIT {key[0]} {key[1]} ")]
-        checks.same(f"what became of unit {key[1]} of {key[0]}", [how for how in got if how != "RUNS"], want)
-    for bar in bars:
-        at = bar["at"]
-        words = log[int(at["data-to"]) - 1].split()
-        ends = {"COMMIT": ("COMMIT", "REPLY", "END"), "DROP": ("BACK",), "RESTART": ("RESTART",)}.get(at["data-how"])
-        if ends:
-            checks.same(f"end of the bar from {at['data-from']}", (words[0] in ends, at["data-terminal"] in words), (True, True))
-
-
-def check_picture(checks, page, text, deck):
-    found = parts(text)
-    log = [line for line in found["LOG"] if line[:1].isdigit()]
-    entries = [line.split(" ", 1)[1] for line in log]
-    serial = found["SERIAL"]
-    says = "Finished" if found["LOG"][-1] == "FINISHED" else "Not finished"
-    checks.same("verdict", next(page.all("span", id="verdict"))["text"], f"{says} after {len(log)} entries")
-    tiles = {tile["at"]["data-name"]: tile for tile in page.all("div", class_="tile")}
-    numbers = {name: next(e["text"] for e in page.elements if e["tag"] == "b" and tile in e["above"]) for name, tile in tiles.items()}
-    count = lambda lines, form: str(sum(1 for line in lines if re.search(form, line)))
-    checks.same("tiles", numbers, {
-        "entries": str(len(log)), "screens shown": count(found["SCREENS"], "^SCREEN "),
-        "units committed": count(serial, "^UNIT .* COMMIT$"), "units backed out": count(serial, "^UNIT .* DROP$"),
-        "attempts restarted": count(serial, "^UNIT .* RESTART$"), "units left open": count(serial, "^UNIT .* LEFT$"),
-        "failures": count(entries, "^FAIL "), "takeovers": count(entries, "^TAKEOVER "),
-    })
-    marks = list(page.all("rect", class_="entry"))
-    titles = [next(e["text"] for e in page.elements if e["tag"] == "title" and e["above"][-1] is mark) for mark in marks]
-    checks.same("entries of the timeline", titles, log[:1000])
-    checks.same("lanes of the entries", [mark["at"]["data-lane"] for mark in marks], [lane(entry.split()) for entry in entries[:1000]])
-    heights = {e["at"]["data-lane"]: float(e["at"]["y"]) for e in page.all("text", class_="lane")}
-    checks.same("places of the entries", [float(mark["at"]["y"]) for mark in marks], [heights[lane(e.split())] - 11 for e in entries[:1000]])
-    check_bars(checks, page, entries, serial)
-    screens = wanted_screens(found["SCREENS"])
-    checks.same("list of screens", [(e["at"].get("data-terminal"), e["at"].get("data-number")) for e in page.inside("shown", "button")], [s[:2] for s in screens])
-    checks.same("screens", [[row.rstrip() for row in e["text"].split("\n")] for e in page.all("pre", class_="kept")], [s[2] for s in screens])
-    before = deck_files(deck) if deck else {}
-    for name, records in wanted_files(found["FILES"]).items():
-        box = next(page.all("div", data_file=name))
-        for half, want in (("before", before.get(name)), ("after", records)):
-            got = [e["text"] for e in page.all("div", class_="record") if box in e["above"] and e["above"][-1]["at"]["data-half"] == half]
-            checks.same(f"file {name} {half}", got, want or [])
-    checks.same("serial order", [e["text"] for e in page.inside("serial", "li")], serial)
-
-
-def shown(browser, folder, report, deck, screenshot=None):
-    """The page as the browser has it once it has drawn a report."""
-    text = (HERE / "index.html").read_text()
-    for name, given in (("report", report), ("deck", deck)):
-        empty = f'<script type="text/plain" id="given-{name}"></script>'
-        assert text.count(empty) == 1
-        text = text.replace(empty, empty.replace("></", f">{given}</"))
-    path = folder / "page.html"
-    path.write_text(text)
-    def run(*words):
-        try:
-            return subprocess.run([*command, *words, path.as_uri()], check=True, capture_output=True, text=True, timeout=120).stdout
-        except (OSError, subprocess.SubprocessError) as error:
-            raise NoBrowser(str(error)) from error
-
-    command = [browser, "--headless", "--no-sandbox", "--disable-gpu", f"--user-data-dir={folder}/profile", "--virtual-time-budget=10000"]
-    if screenshot:
-        run("--window-size=1400,2000", f"--screenshot={screenshot}")
-    path.write_text(text.replace("</body>", PRESS))
-    shown_page = run("--dump-dom")
-    if "</html>" not in shown_page:
-        raise NoBrowser("it gave no page")
-    return Page(shown_page)
-
-
-def check_refusals(checks, browser, folder, text):
-    """Texts that are no report: the page says in which line."""
-    lines = text.splitlines()
-    log = lines.index("LOG")
-    entry = next(i for i in range(log, len(lines)) if lines[i].startswith("1 "))
-    ill = lines[:entry] + ["1 NOTHING T1"] + lines[entry + 1:]
-    for what, broken, at in (
-        ("another first line", ["HELLO", *lines[1:]], 1),
-        ("an entry that is none", ill, entry + 1),
-        ("a missing last line", lines[:-1], len(lines)),
-        ("a line too many", [*lines, "MORE"], len(lines) + 1),
-    ):
-        page = shown(browser, folder, "\n".join(broken) + "\n", "")
-        verdict = next(page.all("span", id="verdict"))
-        checks.same(f"{what}: where it is refused", re.findall(r"^No report: line (\d+):", verdict["text"]), [str(at)])
-        checks.same(f"{what}: the picture is hidden", "hidden" in next(page.all("div", id="picture"))["at"]["class"], True)
+def check(session, named):
+    reports = named or stored_reports()
+    session.sources()
+    for report in reports:
+        session.compare(report, report == reports[0])
+    if named:
+        return
+    with tempfile.TemporaryDirectory() as name:
+        folder = pathlib.Path(name)
+        session.compare_small(folder)
+        session.refuse(reports[0], folder)
+        session.take(reports[0])
+        session.features()
+        session.many(folder)
+        session.large(folder)
 
 
 def main():
     words = sys.argv[1:]
-    pictures = pathlib.Path(words[words.index("--screenshots") + 1]) if "--screenshots" in words else None
-    named = [word for i, word in enumerate(words) if word != "--screenshots" and words[i - 1:i] != ["--screenshots"]]
-    reports = [pathlib.Path(word) for word in named] or sorted((HERE / "reports").glob("*.report"))
-    browser = next((path for path in map(shutil.which, BROWSERS) if path), None)
-    if browser is None:
-        print("viewer: no browser is installed, so the page was not shown")
-        return SKIPPED
+    pictures = None
+    if "--screenshots" in words:
+        place = words.index("--screenshots")
+        pictures = pathlib.Path(words[place + 1])
+        pictures.mkdir(parents=True, exist_ok=True)
+        del words[place:place + 2]
+    session = None
     try:
-        return compare(reports, browser, pictures)
+        with Browser() as browser:
+            session = Session(browser, pictures)
+            check(session, [pathlib.Path(word).resolve() for word in words])
     except NoBrowser as error:
-        print(f"viewer: {browser} did not run, so the page was not shown: {error}")
-        return SKIPPED
-
-
-def compare(reports, browser, pictures):
-    failed = count = 0
-    with tempfile.TemporaryDirectory() as name:
-        folder = pathlib.Path(name)
-        if pictures:
-            pictures.mkdir(parents=True, exist_ok=True)
-        for report in reports:
-            deck = report.with_suffix(".deck")
-            text, deck_text = report.read_text(), deck.read_text() if deck.exists() else ""
-            checks = Checks(report.stem)
-            check_picture(checks, shown(browser, folder, text, deck_text, pictures and (pictures / f"{report.stem}.png").resolve()), text, deck_text)
-            if report == reports[0]:
-                check_refusals(checks, browser, folder, text)
-            failed, count = failed + checks.failed, count + checks.count
-    print(f"viewer: {len(reports)} reports, {count - failed} passed, {failed} failed")
-    return 1 if failed or not reports else 0
+        print(f"viewer: the page was not shown: {error}")
+        # A browser that has shown a report runs: it is the page that has held it up.
+        return 1 if session and session.has_shown else SKIPPED
+    print(f"{session.checks.count - session.checks.failed} passed, {session.checks.failed} failed")
+    return 1 if session.checks.failed else 0
 
 
 if __name__ == "__main__":
