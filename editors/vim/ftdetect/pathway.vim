@@ -1,0 +1,1 @@
+autocmd BufNewFile,BufRead *.deck set filetype=pathway
