@@ -140,6 +140,9 @@ class Build:
 
 def main():
     signal.signal(signal.SIGTERM, lambda *_: sys.exit(6))
+    if not shutil.which("rt"):
+        say("rt, the command of the kit, is not on the PATH: see Prove it in README.md")
+        return 6
     order, named = [], named_crates()
     add_with_those_below(order, PROGRAM, named)
     if os.path.exists(BUILT):
