@@ -30,16 +30,7 @@ RT
 chmod +x "$room/bin/rt"
 
 # The crates that the program stands on, and itself.
-expected=$(awk '
-    /^[^#]/ { name = $1; sub(/:.*/, "", name); sub(/^[^:]*:/, ""); needs[name] = $0 }
-    function visit(name,   parts, count, i) {
-        if (name in seen || !(name in needs)) return
-        seen[name] = 1
-        print name
-        count = split(needs[name], parts, " ")
-        for (i = 1; i <= count; i++) visit(parts[i])
-    }
-    END { visit("pathway") }' crates.txt | sort)
+expected=$(release/files | sed -n 's|^crates/\([^/]*\)/src/.*|\1|p' | sort -u)
 
 fail() {
     echo "first run: $1" >&2

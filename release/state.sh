@@ -1,7 +1,7 @@
 # Which program stands for the sources of a checkout; sourced by ./pathway and release/renew, which set `here` to its top.
 built=$here/crates/pathway/out/pathway
 released=$here/release/pathway
-# Made where the released program was found to be of these sources: the names of all that was looked at, made before.
+# The names of all that was looked at when the released program was found to be of these sources, written before the look.
 compared=$here/release/out/compared
 
 # The files and folders that decide programs.
@@ -15,9 +15,10 @@ is_built() {
 
 # Whether the released program was built from these sources; where not, `why` says what differs.
 is_released() {
-    # What was looked at before is there, and has not changed since.
-    [ -e "$compared" ] && [ -z "$(cd "$here" && find -files0-from "$compared" -maxdepth 0 -cnewer "$compared" -print -quit 2>&1)" ] && return
+    # What was looked at before is there, and has not changed since. A list without a name says nothing.
+    [ -s "$compared" ] && [ -z "$(cd "$here" && find -files0-from "$compared" -maxdepth 0 -cnewer "$compared" -print -quit 2>&1)" ] && return
     local names
+    why="there is no room for a temporary file"
     names=$(mktemp) || return
     (cd "$here" && find crates crates.txt HANDLES release -name out -prune -o \
         -regextype posix-extended -regex "$deciding|crates(/[^/]+)?|release/[^/]+" -print0) > "$names" 2> /dev/null
