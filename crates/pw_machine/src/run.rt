@@ -92,6 +92,9 @@ fn run(system: &System, top: &mut Top, context: &mut Context) -> Result<(), Memo
     ensures reaches { IfOk result (λ _. Reaches system.now (config_of top.old context.old) (config_of top.new context.new)) }
     ensures sound { IfOk result (λ _. IsSound system.now (config_of top.new context.new)) }
 {
+    // Two loops for one walk, so that each has a number that falls: the outer one with each statement or turn that is
+    // counted, of which at most 100,000 come before a verb; the inner one with each step that counts none, since such a
+    // step goes on in the code, or goes back to a place that waits behind a PERFORM or a CALL.
     'verb: while !context.at_verb {
         let before = context.count;
         'count: while !context.at_verb && context.count == before {
