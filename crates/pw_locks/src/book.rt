@@ -73,7 +73,7 @@ impl LockBook {
 
     /// Whether `holder` holds a lock that conflicts with one of any other unit on `span` of `file` in this mode.
     /// It takes no memory.
-    pub fn overlaps(&self, holder: &Unit, file: u32, span: &Span, mode: LockMode) -> bool
+    pub fn blocks(&self, holder: &Unit, file: u32, span: &Span, mode: LockMode) -> bool
         ensures { result ≡
             list_any (λ held. is_same_unit held.unit holder.now && exclude file span.now mode held) self.now }
     {

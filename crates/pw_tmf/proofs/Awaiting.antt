@@ -10,9 +10,9 @@ use Rattle.pw_locks.specs.declared.lock.Lock.{Lock}
 use Rattle.pw_locks.specs.declared.span.Span.{Span}
 
 -- a lock of another terminal's unit is not the unit's own
-pub overlaps-conflict : (u holder : unit.Unit) (file : ℕ) (span : Span) (mode : LockMode) (locks : List Lock) → u.terminal ≢ holder.terminal
+pub blocks-conflict : (u holder : unit.Unit) (file : ℕ) (span : Span) (mode : LockMode) (locks : List Lock) → u.terminal ≢ holder.terminal
     → list_any (λ held. is_same_unit held.unit holder && exclude file span mode held) locks ≡ list_any (λ held. is_same_unit held.unit holder && conflict (lock_of u file span mode) held) locks
-overlaps-conflict u holder file span mode locks apart = ap (λ (p : Lock → Bool). list_any p locks) (fun_ext same)
+blocks-conflict u holder file span mode locks apart = ap (λ (p : Lock → Bool). list_any p locks) (fun_ext same)
   where
     same : (held : Lock) → (is_same_unit held.unit holder && exclude file span mode held) ≡ (is_same_unit held.unit holder && conflict (lock_of u file span mode) held)
     same held =

@@ -260,7 +260,7 @@ impl Disc for Tmf {
         let alloc = *self.files.allocator();
         let span = span_of(alloc, &self.files[call.file as usize], call)?;
         let mode = mode_of(self.rule, &call.op);
-        Ok(self.book.overlaps(holder, call.file, &span, mode))
+        Ok(self.book.blocks(holder, call.file, &span, mode))
     }
 
     fn foresee(&self, unit: &Unit, call: &FileCall) -> Result<Foreseen, Memory> {

@@ -132,9 +132,9 @@ fn meets(alloc: Global, held: &Lock, asked: &Lock) -> Result<bool, Fail> {
     let mut book = LockBook::new(alloc)?;
     add(alloc, &mut book, held)?;
     let found = holder_for(&book, asked);
-    let overlaps = book.overlaps(&held.unit, asked.file, &asked.span, asked.mode);
-    if held.unit.terminal != asked.unit.terminal && overlaps != found.is_some() {
-        return Err("overlaps and conflict differ".into());
+    let blocks = book.blocks(&held.unit, asked.file, &asked.span, asked.mode);
+    if held.unit.terminal != asked.unit.terminal && blocks != found.is_some() {
+        return Err("blocks and conflict differ".into());
     }
     Ok(found == Some(held.unit))
 }
@@ -182,10 +182,10 @@ fn expect_holders(rt: &impl Abort, alloc: Global, book: &LockBook, rows: &str) -
     Ok(())
 }
 
-/// Whether the unit of a lock holds one that conflicts with it.
-fn overlaps(alloc: Global, book: &LockBook, text: &str) -> Result<bool, Fail> {
+/// Whether the unit of a lock bars it to others by one that it holds.
+fn blocks(alloc: Global, book: &LockBook, text: &str) -> Result<bool, Fail> {
     let lock = lock_of(alloc, text)?;
-    Ok(book.overlaps(&lock.unit, lock.file, &lock.span, lock.mode))
+    Ok(book.blocks(&lock.unit, lock.file, &lock.span, lock.mode))
 }
 
 /// Locks of four units, one of them on another file.
@@ -208,9 +208,9 @@ fn oldest_other_holder_is_given(rt: HostRuntime) -> Result<(), Fail> {
     let mut book = LockBook::new(alloc)?;
     add_all(alloc, &mut book, FOUR_UNITS)?;
     expect_holders(&rt, alloc, &book, OLDEST)?;
-    assert!(rt; overlaps(alloc, &book, "7,0,B,X")?);
-    assert!(rt; !overlaps(alloc, &book, "7,0,D,X")?);
-    assert!(rt; !overlaps(alloc, &book, "2,0,B,X")?);
+    assert!(rt; blocks(alloc, &book, "7,0,B,X")?);
+    assert!(rt; !blocks(alloc, &book, "7,0,D,X")?);
+    assert!(rt; !blocks(alloc, &book, "2,0,B,X")?);
     Ok(())
 }
 

@@ -6,7 +6,7 @@ use Rattle.pw_locks.specs.Searches.{is_sought}
 use Rattle.pw_locks.specs.declared.search.Holders.TheVariants.{Only}
 use Rattle.pw_locks.specs.declared.search.Sought.{Sought}
 use Rattle.pw_locks.proofs.Holders.{found_oldest, found-any}
-use Rattle.pw_locks.proofs.book.LockBook.overlaps.Goals as goal
+use Rattle.pw_locks.proofs.book.LockBook.blocks.Goals as goal
 
 asked : goal.After-is_some → Sought
 asked c = record { holders = Only c.args.holder.now; file = c.args.file; span = c.args.span; mode = c.args.mode }
