@@ -12,8 +12,6 @@ use Rattle.std.specs.declared.cmp.Ordering.TheVariants.{Less, Equal, Greater}
 use Rattle.std.proofs.Math.Seq.{drop-cons}
 use Rattle.std.proofs.lemmas.Bool.Decides.{same_from_decides}
 use Rattle.std.proofs.lemmas.List.{drop_all}
-use Rattle.pw_words.specs.Words.{Word}
-use Rattle.pw_operands.specs.Scope.{number_in}
 use Rattle.pw_index.specs.Index.{number_of, IsIndexOf}
 
 bytes_eq-swap : (xs ys : List ℕ) → bytes_eq xs ys ≡ bytes_eq ys xs
@@ -65,22 +63,22 @@ equal_from Less is = absurd cc
 equal_from Equal is = refl
 equal_from Greater is = absurd cc
 
-module _ {A : Type 0} (index next : BTreeMap (Vec ℕ A) ℕ) (key : Vec ℕ A) (name : Word) (number : ℕ) (key_is : key.items ≡ name)
+module _ {A : Type 0} (index next : BTreeMap (Vec ℕ A) ℕ) (key : Vec ℕ A) (name : List ℕ) (number : ℕ) (key_is : key.items ≡ name)
     (next_is : next.entries ≡ insert_entry (λ x y. slice_cmp nat_cmp x.items y.items) index.entries key number)
     (fresh : is_some (get_by (λ x. slice_cmp nat_cmp key.items x.items) index) ≡ false) where
   -- the key is found by the word that is the name
-  found_by : (word : Word) → is_eq (slice_cmp nat_cmp word key.items) ≡ bytes_eq name word
+  found_by : (word : List ℕ) → is_eq (slice_cmp nat_cmp word key.items) ≡ bytes_eq name word
   found_by word = sym (texts_ties word key.items) ∙ bytes_eq-swap word key.items ∙ ap (λ bytes. bytes_eq bytes word) key_is
 
-  alike : (word : Word) (x : Vec ℕ A) → slice_cmp nat_cmp key.items x.items ≡ Equal → is_eq (slice_cmp nat_cmp word key.items) ≡ is_eq (slice_cmp nat_cmp word x.items)
+  alike : (word : List ℕ) (x : Vec ℕ A) → slice_cmp nat_cmp key.items x.items ≡ Equal → is_eq (slice_cmp nat_cmp word key.items) ≡ is_eq (slice_cmp nat_cmp word x.items)
   alike word x equal = ap (λ bytes. is_eq (slice_cmp nat_cmp word bytes)) (equal_bytes key.items x.items equal)
 
-  none_yet : (word : Word) → is_eq (slice_cmp nat_cmp word key.items) ≡ true → is_some (number_of index word) ≡ false
+  none_yet : (word : List ℕ) → is_eq (slice_cmp nat_cmp word key.items) ≡ true → is_some (number_of index word) ≡ false
   none_yet word hits =
       let same : word ≡ key.items = equal_bytes word key.items (equal_from (slice_cmp nat_cmp word key.items) hits) in
       ap (λ bytes. is_some (get_by (λ x. slice_cmp nat_cmp bytes x.items) index)) same ∙ fresh
 
-  by : (word : Word) (b : Bool) → is_eq (slice_cmp nat_cmp word key.items) ≡ b
+  by : (word : List ℕ) (b : Bool) → is_eq (slice_cmp nat_cmp word key.items) ≡ b
       → number_of next word ≡ option_or (number_of index word) (if b then Some number else None)
   by word true hits =
       let none : number_of index word ≡ None = none-of (number_of index word) (none_yet word hits) in
@@ -93,13 +91,13 @@ module _ {A : Type 0} (index next : BTreeMap (Vec ℕ A) ℕ) (key : Vec ℕ A) 
       ∙ or-none (number_of index word)
 
   -- an index with one name more
-  pub number_of-insert : (word : Word) → number_of next word ≡ option_or (number_of index word) (if bytes_eq name word then Some number else None)
+  pub number_of-insert : (word : List ℕ) → number_of next word ≡ option_or (number_of index word) (if bytes_eq name word then Some number else None)
   number_of-insert word =
       by word (is_eq (slice_cmp nat_cmp word key.items)) refl
       ∙ ap (λ b. option_or (number_of index word) (if b then Some number else None)) (found_by word)
 
 -- the number of the first thing of a name among things that are numbered from one on
-abbrev pub number_from : {T : Type 0} → (T → Word) → ℕ → List T → Word → Option ℕ
+abbrev pub number_from : {T : Type 0} → (T → List ℕ) → ℕ → List T → List ℕ → Option ℕ
 number_from name_of first things word = position_from (λ thing. bytes_eq (name_of thing) word) first things
 
 -- a name that is there stays before that of the next thing
@@ -109,13 +107,13 @@ or-next None false number rest = refl
 or-next (Some n) true number rest = refl
 or-next (Some n) false number rest = refl
 
-module _ {A T : Type 0} (name_of : T → Word) (things : List T) where
+module _ {A T : Type 0} (name_of : T → List ℕ) (things : List T) where
   -- the index of the things so far, with those that are left
   abbrev pub Leads : ℕ → BTreeMap (Vec ℕ A) ℕ → Type 0
-  Leads i index = (word : Word) → option_or (number_of index word) (number_from name_of i (drop i things) word) ≡ number_in name_of things word
+  Leads i index = (word : List ℕ) → option_or (number_of index word) (number_from name_of i (drop i things) word) ≡ number_from name_of 0 things word
 
-  pub index-further : (before now : BTreeMap (Vec ℕ A) ℕ) (i : ℕ) (thing : T) (name : Word) → i < length things → thing ≡ get_or things i thing → name ≡ name_of thing
-      → ((word : Word) → number_of now word ≡ option_or (number_of before word) (if bytes_eq name word then Some i else None)) → Leads i before → Leads (i + 1) now
+  pub index-further : (before now : BTreeMap (Vec ℕ A) ℕ) (i : ℕ) (thing : T) (name : List ℕ) → i < length things → thing ≡ get_or things i thing → name ≡ name_of thing
+      → ((word : List ℕ) → number_of now word ≡ option_or (number_of before word) (if bytes_eq name word then Some i else None)) → Leads i before → Leads (i + 1) now
   index-further before now i thing name within is name_is puts leads word =
       let front : drop i things ≡ thing ∷ drop (i + 1) things = rw (add-one, drop-cons things i thing) (ap (λ x. x ∷ drop (suc i) things) (sym is)) in
       let rest : Option ℕ = number_from name_of (i + 1) (drop (i + 1) things) word in
