@@ -3,5 +3,5 @@
 #![tactic(auto)]
 
 pub mod generate;
-mod lines;
-mod parts;
+pub mod lines;
+pub mod parts;

@@ -1,5 +1,8 @@
 //! The decks of the scenes.
 
+use pw_base::bytes::Bytes;
+use pw_gen::lines::put_lines;
+use pw_gen::parts::{REQUESTER, SERVER};
 use std::alloc::Global;
 use std::test::Fail;
 
@@ -152,81 +155,22 @@ pub const SECOND: &[u8] = b"ADD TERM T2
 START TERM T2
 ";
 
-/// The program of the terminals, that of the servers, and their file.
-const PROGRAMS: &[u8] = b"?SCREEN-COBOL KEYS
-IDENTIFICATION DIVISION.
-PROGRAM-ID. KEYS.
-DATA DIVISION.
-WORKING-STORAGE SECTION.
-01 MSG.
-  02 M-OP PIC X.
-  02 M-REC.
-    03 M-KEY PIC XX.
-    03 M-N PIC 9(4).
-01 ANS.
-  02 A-CODE PIC 9(4).
-  02 A-STATUS PIC 9(4).
-  02 A-REC PIC X(6).
-SCREEN SECTION.
-01 ASK.
-  02 FILLER AT 1, 1 VALUE \"OP KEY N\".
-  02 F-OP AT 2, 1 PIC X USING M-OP.
-  02 F-KEY AT 2, 4 PIC XX USING M-KEY.
-  02 F-N AT 2, 8 PIC 9(4) USING M-N.
-PROCEDURE DIVISION.
-P1.
-  PERFORM P2 UNTIL M-OP = \"Z\".
-  STOP RUN.
-P2.
-  ACCEPT ASK UNTIL F1, F2, F3, F4, F5.
-  PERFORM ONE OF P3, P4, P5, P6, P7
-    DEPENDING ON TERMINATION-STATUS.
-P3.
-  SEND MSG TO STORE REPLY CODE 0 YIELDS ANS.
-  DISPLAY ANS.
-P4.
-  BEGIN-TRANSACTION.
-P5.
-  END-TRANSACTION.
-P6.
-  ABORT-TRANSACTION.
-P7.
-  RESTART-TRANSACTION.
-?SERVER STORE-P
-IDENTIFICATION DIVISION.
-PROGRAM-ID. STORE-P.
-DATA DIVISION.
-WORKING-STORAGE SECTION.
-01 MSG.
-  02 M-OP PIC X.
-  02 M-REC.
-    03 M-KEY PIC XX.
-    03 M-N PIC 9(4).
-01 ANS.
-  02 A-CODE PIC 9(4).
-  02 A-STATUS PIC 9(4).
-  02 A-REC PIC X(6).
-PROCEDURE DIVISION.
-P1.
-  READ $RECEIVE INTO MSG.
-  IF M-OP = \"R\" READ STOCK KEY M-KEY INTO A-REC.
-  IF M-OP = \"N\" READ NEXT STOCK AFTER M-KEY INTO A-REC.
-  IF M-OP = \"W\" WRITE STOCK FROM M-REC.
-  IF M-OP = \"U\" REWRITE STOCK FROM M-REC.
-  IF M-OP = \"D\" DELETE STOCK KEY M-KEY.
-  IF M-OP = \"I\" READ STOCK KEY M-KEY INTO M-REC
-    ADD 1 TO M-N REWRITE STOCK FROM M-REC
-    MOVE M-REC TO A-REC.
-  MOVE FILE-STATUS TO A-STATUS.
-  WRITE $RECEIVE FROM ANS.
-?FILE STOCK KEY 2
+/// The file of the servers.
+const STOCK: &[u8] = b"?FILE STOCK KEY 2
 A10005
 B10007
 ";
 
-/// The deck of stocks with these commands and sections more.
-pub fn stocks(alloc: Global, commands: &[u8], sections: &[u8]) -> Result<Vec<u8>, Fail> {
-    Ok([STOCKS, commands, PROGRAMS, sections, b"?END\n"].concat(alloc)?)
+/// The deck of stocks with these commands and sections more. Its programs are those of a generated deck.
+pub fn stocks(alloc: Global, commands: &[u8], sections: &[u8]) -> Result<Bytes, Fail> {
+    let mut deck = Bytes::from_slice(alloc, STOCKS)?;
+    deck.extend(commands)?;
+    put_lines(&mut deck, &REQUESTER)?;
+    put_lines(&mut deck, &SERVER)?;
+    deck.extend(STOCK)?;
+    deck.extend(sections)?;
+    deck.extend(b"?END\n")?;
+    Ok(deck)
 }
 
 /// A unit that is open when the entries of its terminal end.
