@@ -1,7 +1,6 @@
 ghost use Rattle.std.specs.Prelude.{◌≡◌, ◌+◌, ◌*◌, ◌≤◌, length, IfOk};
 ghost use Rattle.pw_base.specs.First.{Gives};
 ghost use Rattle.pw_base.specs.Limits.{longest_input};
-ghost use Rattle.pw_code.specs.Limits.{most_fail_lines};
 ghost use Rattle.pw_code.specs.Valid.{HasNames};
 ghost use Rattle.pw_code.specs.declared.lock.LockRule.TheVariants.{ReadersShare};
 ghost use Rattle.pw_event.specs.Parsing.{failure_in};
@@ -9,6 +8,7 @@ ghost use Rattle.pw_lines.specs.Steps.{line_taken};
 ghost use Rattle.pw_script.specs.Grammar.{nobody, is_bad};
 ghost use Rattle.pw_script.specs.Fail.{failure_counted, failures_counted, failure_read, failures_of};
 
+use crate::count::{Counted, count_lines};
 use crate::nobody::nobody;
 use pw_base::fault::Refusal;
 use pw_base::fault_code::FaultCode;
@@ -35,58 +35,46 @@ fn is_bad(alloc: Global, names: &SystemNames, line: &[u8]) -> Result<bool, Memor
     }
 }
 
-/// Counts a failure line: how many there are with it.
-fn count_line(
-    alloc: Global,
-    names: &SystemNames,
-    number: u32,
-    count: u32,
-    line: &[u8],
-) -> Result<u32, Refusal>
-    requires names { names.now ≡ nobody ReadersShare }
-    requires count { count ≤ most_fail_lines }
-    ensures gives { Gives (λ count. count) result (line_taken failure_counted number count line.now) }
-    ensures bound { IfOk result (λ count. count ≤ most_fail_lines) }
-{
-    if is_blank(line) {
-        return Ok(count);
-    }
-    if is_bad(alloc, names, line)? {
-        return Err(Refusal::At {
-            line: number,
-            code: FaultCode::BadFailureLine,
-        });
-    }
-    if count as usize >= MAX_FAIL_LINES {
-        return Err(Refusal::At {
-            line: number,
-            code: FaultCode::TooMany,
-        });
-    }
-    Ok(count + 1)
-}
+/// Failure lines, read with the names of a system without a name.
+struct FailureLines;
 
-/// How many failure lines a text has, whose first line has the number `first_line`. The names are
-/// those of a system without a name.
-fn count_lines(
-    alloc: Global,
-    names: &SystemNames,
-    text: &[u8],
-    first_line: u32,
-) -> Result<u32, Refusal>
-    requires names { names.now ≡ nobody ReadersShare }
-    requires lines { first_line + length text.now ≤ 2 * longest_input + 1 }
-    ensures { Gives (λ count. count) result (failures_counted text.now first_line) }
-{
-    let mut count = 0;
-    let mut number = first_line;
-    let mut rest = text;
-    while let Some((line, behind)) = next_line(rest) {
-        count = count_line(alloc, names, number, count, line)?;
-        number += 1;
-        rest = behind;
+impl Counted for FailureLines {
+    ghost use Rattle.std.specs.Prelude.{◌≡◌};
+    ghost use Rattle.pw_code.specs.Limits.{most_fail_lines};
+    ghost use Rattle.pw_code.specs.declared.lock.LockRule.TheVariants.{ReadersShare};
+    ghost use Rattle.pw_script.specs.Fail.{failure_counted};
+    ghost use Rattle.pw_script.specs.Grammar.{nobody};
+
+    ghost are_read_by = { λ names. names ≡ nobody ReadersShare };
+
+    ghost counted = { λ names. failure_counted };
+
+    ghost most = { most_fail_lines };
+
+    fn count_line(
+        alloc: Global,
+        names: &SystemNames,
+        number: u32,
+        count: u32,
+        line: &[u8],
+    ) -> Result<u32, Refusal> {
+        if is_blank(line) {
+            return Ok(count);
+        }
+        if is_bad(alloc, names, line)? {
+            return Err(Refusal::At {
+                line: number,
+                code: FaultCode::BadFailureLine,
+            });
+        }
+        if count as usize >= MAX_FAIL_LINES {
+            return Err(Refusal::At {
+                line: number,
+                code: FaultCode::TooMany,
+            });
+        }
+        Ok(count + 1)
     }
-    Ok(count)
 }
 
 /// How many failure lines a text has, whose first line has the number `first_line`, with the names of a
@@ -103,7 +91,7 @@ fn count_of_nobody(
     ensures { Gives (λ count. count) result (failures_counted text.now first_line) }
 {
     let names = SystemNames::new(alloc, system)?;
-    count_lines(alloc, &names, text, first_line)
+    count_lines::<FailureLines>(alloc, &names, text, first_line)
 }
 
 /// How many failure lines a text has, whose first line has the number `first_line` (docs/DECK.md).

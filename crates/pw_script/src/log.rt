@@ -3,7 +3,6 @@ ghost use Rattle.std.specs.Option.{option_map};
 ghost use Rattle.std.specs.Fmt.{decimal};
 ghost use Rattle.pw_base.specs.First.{Gives};
 ghost use Rattle.pw_base.specs.Limits.{longest_input};
-ghost use Rattle.pw_code.specs.Limits.{most_log_lines};
 ghost use Rattle.pw_code.specs.Valid.{HasNames};
 ghost use Rattle.pw_event.specs.Parsing.{GivesUnlessMemory};
 ghost use Rattle.pw_lines.specs.Lines.{lines};
@@ -12,6 +11,7 @@ ghost use Rattle.pw_lines.specs.Words.{words};
 ghost use Rattle.pw_script.specs.Grammar.{nobody, is_bad};
 ghost use Rattle.pw_script.specs.Log.{opened, header, rule_of, behind_number, entry_behind, numbered_entry, entry_counted, entries_counted, version_of, event_read, events_of};
 
+use crate::count::{Counted, count_lines};
 use crate::nobody::nobody;
 use pw_base::bytes::Bytes;
 use pw_base::fault::Refusal;
@@ -169,58 +169,45 @@ fn is_bad(alloc: Global, names: &SystemNames, n: u32, line: &[u8]) -> Result<boo
     }
 }
 
-/// Counts the entry of a line: how many there are with it.
-fn count_line(
-    alloc: Global,
-    names: &SystemNames,
-    number: u32,
-    count: u32,
-    line: &[u8],
-) -> Result<u32, Refusal>
-    requires count { count ≤ most_log_lines }
-    requires names { names.now ≡ nobody names.now.rule }
-    ensures gives { Gives (λ count. count) result (line_taken (entry_counted names.now.rule) number count line.now) }
-    ensures bound { IfOk result (λ count. count ≤ most_log_lines) }
-{
-    if is_blank(line) {
-        return Ok(count);
-    }
-    if is_bad(alloc, names, count + 1, line)? {
-        return Err(Refusal::At {
-            line: number,
-            code: FaultCode::BadLogLine,
-        });
-    }
-    if count >= MAX_LOG_LINES {
-        return Err(Refusal::At {
-            line: number,
-            code: FaultCode::TooMany,
-        });
-    }
-    Ok(count + 1)
-}
+/// Log lines, read with the names of a system without a name.
+struct LogLines;
 
-/// How many entries the lines of a text have, the first of which has the number `first_line`. The
-/// names are those of a system without a name.
-fn count_lines(
-    alloc: Global,
-    names: &SystemNames,
-    text: &[u8],
-    first_line: u32,
-) -> Result<u32, Refusal>
-    requires names { names.now ≡ nobody names.now.rule }
-    requires lines { first_line + length text.now ≤ 2 * longest_input + 1 }
-    ensures { Gives (λ count. count) result (each_line (entry_counted names.now.rule) first_line 0 (lines text.now)) }
-{
-    let mut count = 0;
-    let mut number = first_line;
-    let mut rest = text;
-    while let Some((line, behind)) = next_line(rest) {
-        count = count_line(alloc, names, number, count, line)?;
-        number += 1;
-        rest = behind;
+impl Counted for LogLines {
+    ghost use Rattle.std.specs.Prelude.{◌≡◌};
+    ghost use Rattle.pw_code.specs.Limits.{most_log_lines};
+    ghost use Rattle.pw_script.specs.Grammar.{nobody};
+    ghost use Rattle.pw_script.specs.Log.{entry_counted};
+
+    ghost are_read_by = { λ names. names ≡ nobody names.rule };
+
+    ghost counted = { λ names. entry_counted names.rule };
+
+    ghost most = { most_log_lines };
+
+    fn count_line(
+        alloc: Global,
+        names: &SystemNames,
+        number: u32,
+        count: u32,
+        line: &[u8],
+    ) -> Result<u32, Refusal> {
+        if is_blank(line) {
+            return Ok(count);
+        }
+        if is_bad(alloc, names, count + 1, line)? {
+            return Err(Refusal::At {
+                line: number,
+                code: FaultCode::BadLogLine,
+            });
+        }
+        if count >= MAX_LOG_LINES {
+            return Err(Refusal::At {
+                line: number,
+                code: FaultCode::TooMany,
+            });
+        }
+        Ok(count + 1)
     }
-    Ok(count)
 }
 
 /// How many entries the lines of a text have, with the names of a system without a name.
@@ -236,7 +223,7 @@ fn count_of_nobody(
     ensures { Gives (λ count. count) result (each_line (entry_counted system.now.rule) first_line 0 (lines text.now)) }
 {
     let names = SystemNames::new(alloc, system)?;
-    count_lines(alloc, &names, text, first_line)
+    count_lines::<LogLines>(alloc, &names, text, first_line)
 }
 
 /// How many entries the lines of a text have under a rule of locking.
