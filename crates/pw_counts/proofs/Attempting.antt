@@ -5,6 +5,7 @@ use Rattle.std.proofs.lemmas.List.Sums.{sum_by-append}
 use Rattle.std.proofs.lemmas.Option.{slice_get-get_or, slice_get-map}
 use Rattle.std.specs.Option.{option_map}
 use Rattle.std.specs.Prelude.{count_by, min, if◌then◌else◌}
+use Rattle.pw_code.specs.Limits.{most_log_lines}
 use Rattle.pw_code.specs.declared.system.System.{System}
 use Rattle.pw_counts.proofs.Ending.{commits-in, drops-in, few-running, lefts-in, number}
 use Rattle.pw_counts.proofs.Running.{next-seats}
@@ -32,7 +33,7 @@ counts-more p sys log entry n is =
     ∙ ap (λ (m : ℕ). count_by p (entry_order sys log) + m) is)
 
 -- a counter with room
-more-number : (b : Bool) (n m : ℕ) → n ≤ m → m < 500000 → more_if b n ≡ n + number b
+more-number : (b : Bool) (n m : ℕ) → n ≤ m → m < most_log_lines → more_if b n ≡ n + number b
 more-number true n m few low = omega arith
 more-number false n m few low = omega arith
 
@@ -40,7 +41,7 @@ number-few : (b : Bool) → number b ≤ 1
 number-few true = omega arith
 number-few false = omega arith
 
-pub next-attempts : (sys : Behaviour) (log : List Event) (entry : Event) (attempts : AttemptsState) → sys.terminals ≤ 128 → length log < 500000
+pub next-attempts : (sys : Behaviour) (log : List Event) (entry : Event) (attempts : AttemptsState) → sys.terminals ≤ 128 → length log < most_log_lines
     → ((t : ℕ) (own : OpenUnit) → (after sys log).units t ≡ Some own → t < sys.terminals) → AreAttemptsOf sys log attempts
     → AreAttemptsOf sys (log ++ entry ∷ []) (attempts_behind (ends_at sys (after sys log) entry) entry attempts)
 next-attempts sys log entry attempts few short known are =

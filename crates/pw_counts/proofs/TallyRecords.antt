@@ -5,6 +5,7 @@ use Rattle.std.proofs.lemmas.Bool.{cases_eq, cases_lt, eq-eqb, ne_eqb, true≢fa
 use Rattle.std.proofs.lemmas.List.{append-nil, get_or-set_other, get_or-set_same, get_or_past, length-set}
 use Rattle.std.proofs.lemmas.List.Sums.{count_by-le-length, sum_by-append}
 use Rattle.std.specs.Prelude.{◌==◌, is_none, slice_index_or, if◌then◌else◌}
+use Rattle.pw_code.specs.Limits.{most_log_lines}
 use Rattle.pw_code.specs.declared.file.FileOp.{FileOp}
 use Rattle.pw_code.specs.declared.lock.LockMode.{LockMode}
 use Rattle.pw_counts.proofs.Balancing.{with-counts}
@@ -203,7 +204,7 @@ module _ (sys : Behaviour) (b : IsBehaviour sys) (log : List Event) (run : IsRun
     enough : (w : ℕ → Bool) (f : ℕ) → sum_to sys.terminals w (λ t. grown_in f (held old t)) ≤ count f + sum_to sys.terminals w (λ t. shrunk_in f (held old t))
     enough w f = let so = are.balances.without w f in omega (arith, so)
 
-    pub back-counts : (new : RecordsState) → length log < 500000 → is_backed_out over ≡ true → AreTakenBack sys.terminals whose old new → AreRecordsAt sys next (length log + 1) new
+    pub back-counts : (new : RecordsState) → length log < most_log_lines → is_backed_out over ≡ true → AreTakenBack sys.terminals whose old new → AreRecordsAt sys next (length log + 1) new
     back-counts new short is_back taken =
         behind whose is new taken.changes taken.count (λ f. (count f + shrunk f) - grown f)
         (record {
@@ -244,7 +245,7 @@ module _ (sys : Behaviour) (b : IsBehaviour sys) (log : List Event) (run : IsRun
       (cases_eq k t)
 
   -- the attempts of these are over so
-  module _ (seats : List Seat) (seated : AreSeatsOf sys s seats) (short : length log < 500000) (new : RecordsState) where
+  module _ (seats : List Seat) (seated : AreSeatsOf sys s seats) (short : length log < most_log_lines) (new : RecordsState) where
     abbrev Right : Type 0
     Right = AreRecordsAt sys next (length log + 1) new
 
@@ -344,7 +345,7 @@ both true false value now sh gr a b c = omega (arith, a, b, c)
 both false true value now sh gr a b c = omega (arith, a, b, c)
 both false false value now sh gr a b c = omega (arith, a, b, c)
 
-module _ (sys : Behaviour) (b : IsBehaviour sys) (log : List Event) (run : IsRun sys log) (short : length log < 500000) (old : RecordsState)
+module _ (sys : Behaviour) (b : IsBehaviour sys) (log : List Event) (run : IsRun sys log) (short : length log < most_log_lines) (old : RecordsState)
     (sized : length old.terminals ≡ sys.terminals) (are : AreRecordsAt sys (after sys log) (length log) old) (c i : ℕ) (op : FileOp) (mode : LockMode) (f status : ℕ)
     (legal : LegalFile sys (after sys log) c i op mode f status) (known : legal.job.request.terminal < sys.terminals) where
   abbrev before : State

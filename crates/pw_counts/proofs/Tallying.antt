@@ -5,6 +5,7 @@ use Rattle.std.proofs.lemmas.Bool.{cases_eq, cases_lt}
 use Rattle.std.proofs.lemmas.List.{get_or-map, get_or-set_other, get_or-set_same, get_or_past, length-map, length-set}
 use Rattle.std.specs.Option.{option_map}
 use Rattle.std.specs.Prelude.{slice_index_or}
+use Rattle.pw_code.specs.Limits.{most_log_lines}
 use Rattle.pw_code.specs.declared.file.FileInfo.{FileInfo}
 use Rattle.pw_code.specs.declared.file.FileOp.{FileOp}
 use Rattle.pw_code.specs.declared.lock.LockMode.{LockMode}
@@ -90,7 +91,7 @@ changed-lengths t (Some change) old new is = (
 
 -- ---- one more entry
 
-module _ (sys : Behaviour) (b : IsBehaviour sys) (few : sys.terminals ≤ 128) (log : List Event) (run : IsRun sys log) (short : length log < 500000)
+module _ (sys : Behaviour) (b : IsBehaviour sys) (few : sys.terminals ≤ 128) (log : List Event) (run : IsRun sys log) (short : length log < most_log_lines)
     (old new : TallyState) (attempts : AreAttemptsOf sys log old.attempts) (are_held : AreLocksOf (after sys log).locks old.locks)
     (are_kept : AreRecordsAt sys (after sys log) (length log) old.records) (sized : length old.records.terminals ≡ sys.terminals) where
   abbrev s : State
@@ -154,7 +155,7 @@ module _ (sys : Behaviour) (b : IsBehaviour sys) (few : sys.terminals ≤ 128) (
       (λ c i op mode f status legal met meets noted. file-settles c i op mode f status legal met.terminal meets.terminal noted.locks noted.records)
 
 pub next-tally : (system : System) (sys : Behaviour) → IsOf system sys → IsBehaviour sys → sys.terminals ≤ 128 → (log : List Event) → IsRun sys log
-    → length log < 500000 → (entry : Event) → Legal sys (after sys log) entry → (met : Met) → IsMet sys log entry met → (old new : TallyState)
+    → length log < most_log_lines → (entry : Event) → Legal sys (after sys log) entry → (met : Met) → IsMet sys log entry met → (old new : TallyState)
     → IsTallyOf system sys log old → IsNotedIn entry met old new → IsTallyOf system sys (log ++ entry ∷ []) new
 next-tally system sys of b few log run short entry legal met meets old new tally noted =
     let sized : length old.records.terminals ≡ sys.terminals = tally.record_terminals ∙ sym of.terminals in

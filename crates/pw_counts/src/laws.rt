@@ -1,5 +1,6 @@
 ghost use Rattle.std.specs.BTreeSet.{BTreeSet};
 ghost use Rattle.std.specs.Prelude.{◌≡◌, ◌+◌, ◌-◌, ◌<◌, ◌≤◌, ◌^◌, ◌++◌, ◌∷◌, [], Bool, List, Option, Some, false, length, slice_index_or, true, ℕ};
+ghost use Rattle.pw_code.specs.Limits.{most_log_lines};
 ghost use Rattle.pw_code.specs.declared.file.FileOp.{FileOp};
 ghost use Rattle.pw_code.specs.declared.lock.LockMode.{LockMode};
 ghost use Rattle.pw_code.specs.declared.system.System.{System};
@@ -57,7 +58,7 @@ pub fn attempt_laws()
     ensures start { (system : System) (sys : Behaviour) → IsOf system sys
         → (attempts : AttemptsState) → IsStart system attempts → AreAttemptsOf sys [] attempts }
     ensures next { (sys : Behaviour) (log : List Event) (entry : Event) (attempts : AttemptsState)
-        → sys.terminals ≤ 128 → length log < 500000
+        → sys.terminals ≤ 128 → length log < most_log_lines
         → ((t : ℕ) (own : OpenUnit) → (after sys log).units t ≡ Some own → t < sys.terminals)
         → AreAttemptsOf sys log attempts → AreAttemptsOf sys (log ++ entry ∷ [])
         (attempts_behind (ends_at sys (after sys log) entry) entry attempts) }
@@ -137,7 +138,7 @@ pub fn tally_laws()
         → length (sys.records f) ≡ length (slice_index_or system.files f no_file).records)
         → (tally : TallyState) → IsFirstTally system tally → IsTallyOf system sys [] tally }
     ensures next { (system : System) (sys : Behaviour) → IsOf system sys → IsBehaviour sys
-        → sys.terminals ≤ 128 → (log : List Event) → IsRun sys log → length log < 500000
+        → sys.terminals ≤ 128 → (log : List Event) → IsRun sys log → length log < most_log_lines
         → (entry : Event) → Legal sys (after sys log) entry
         → (met : Met) → IsMet sys log entry met → (old new : TallyState)
         → IsTallyOf system sys log old → IsNotedIn entry met old new

@@ -3,6 +3,7 @@ use Rattle.std.proofs.Common.{◌≡◌, ◌≤◌, ℕ, List, Ok, ap, refl, sub
 use Rattle.pw_base.specs.First.{Refuses}
 use Rattle.pw_base.specs.declared.fault.Refusal.{Refusal}
 use Rattle.pw_base.specs.declared.fault.Refusal.TheVariants.{At, Memory}
+use Rattle.pw_code.specs.Limits.{most_log_lines}
 use Rattle.pw_code.specs.declared.lock.LockRule.TheVariants.{ReadersShare}
 use Rattle.pw_deck.specs.Deck.{deck_of}
 use Rattle.pw_deck.specs.declared.deck.Deck as trees
@@ -38,7 +39,7 @@ module _ (serial : AreSerial) (once : AreOnce) (read : AreRead) (bytes : List �
     (small : IsSmall whole.system)
     (behaves : IsBehaviour (behaviour whole.script.lines whole.system))
     (same : behaviour whole.script.lines whole.system ≡ meaning ReadersShare of.deck)
-    (lines : List DiscLine) (is : script_of bytes ≡ Ok lines) (events : ℕ) (few : events ≤ 500000) where
+    (lines : List DiscLine) (is : script_of bytes ≡ Ok lines) (events : ℕ) (few : events ≤ most_log_lines) where
   lost-pair : (pair : PairKept) → HasLost (behaviour whole.script.lines whole.system) whole.system events lines pair
       → HasLost (meaning ReadersShare of.deck) (named ReadersShare of.deck) events lines pair
   lost-pair pair lost =

@@ -63,7 +63,7 @@ prints serial once read rule bytes deck says small behaves log run few text is =
 -- a run of a system
 pub reports : AreSerial → AreOnce → AreRead → (bytes : List ℕ) (whole : Deck) (of : IsOf bytes whole)
     → IsSmall whole.system → (sys : Behaviour) → IsBehaviour sys → sys ≡ meaning ReadersShare of.deck
-    → (events : ℕ) → events ≤ 500000 → (ran : Ended) (text : List ℕ)
+    → (events : ℕ) → events ≤ most_log_lines → (ran : Ended) (text : List ℕ)
     → RunsTo sys whole.system events ran text → Reports bytes events ran text
 reports serial once read bytes whole of small sys behaves same events few ran text runs =
     let system : whole.system ≡ named ReadersShare of.deck = ap (λ (w : Deck). w.system) of.is in
@@ -133,8 +133,8 @@ module _ (bytes : List ℕ) (whole : Deck) (of : IsOf bytes whole) (small : IsSm
       → IsBehaviour (code.behaviour whole.script.lines (record whole.system { rule = rule }))
   whole-behaves rule is = subst IsBehaviour (sym (whole-same rule is)) (ruled-behaves tree-rule bytes of.deck of.says)
 
-  pub whole-log : length whole.log ≤ 500000
-  whole-log = subst (λ (w : Deck). length w.log ≤ 500000) (sym of.is) (log-few tree-rule bytes of.deck of.says)
+  pub whole-log : length whole.log ≤ most_log_lines
+  whole-log = subst (λ (w : Deck). length w.log ≤ most_log_lines) (sym of.is) (log-few tree-rule bytes of.deck of.says)
 
   pub verifies-from : AreSerial → AreOnce → AreRead → (rule : LockRule) → rule ≡ rule_of whole.version
       → (log : List Event) → log ≡ whole.log → (verified : Verified) (text : List ℕ)

@@ -1,6 +1,7 @@
 //! A run of a system over the records of its files, which never fail.
 
 ghost use Rattle.std.specs.Prelude.{◌≡◌, ◌-◌, ◌<◌, ◌≤◌, ◌^◌, All, IfOk, length};
+ghost use Rattle.pw_code.specs.Limits.{most_log_lines};
 ghost use Rattle.pw_code.specs.Valid.{IsValid};
 ghost use Rattle.pw_exec.specs.OfSystem.{behaviour};
 ghost use Rattle.pw_kept.specs.May.{IsLineThere};
@@ -36,7 +37,7 @@ pub fn run_over_tmf<G: Gate, R: Threads + Wait + Sync>(
     requires lines { All (IsLineThere system) script.lines }
     requires few { length script.lines < 2 ^ 32 - 1 }
     requires workers { (1 ≤ workers) × (workers ≤ 16) }
-    requires events { events ≤ 500000 }
+    requires events { events ≤ most_log_lines }
     ensures system { IfOk result (λ ran. ran.1.keep.system ≡ system) }
     ensures script { IfOk result (λ ran. ran.1.script ≡ script.lines) }
     ensures ended { IfOk result (λ ran. EndsAs ran.0 events (behaviour script.lines system) ran.1.ledger.log) }

@@ -1,5 +1,6 @@
 ghost use Rattle.std.specs.Prelude.{◌≡◌, ◌-◌, ◌<◌, ◌≤◌, ◌^◌, All, IfErr, IfOk, length};
 ghost use Rattle.pw_base.specs.First.{Refuses};
+ghost use Rattle.pw_code.specs.Limits.{most_log_lines};
 ghost use Rattle.pw_code.specs.Valid.{IsValid};
 ghost use Rattle.pw_deck.specs.Deck.{deck_of};
 ghost use Rattle.pw_desk.specs.Headline.{Reports};
@@ -41,7 +42,7 @@ pub fn run<G: Gate, R: Threads + Wait + Sync>(
     gate: &G,
 ) -> Result<(Ended, Bytes), Refusal>
     requires workers { (1 ≤ workers) × (workers ≤ 16) }
-    requires events { events ≤ 500000 }
+    requires events { events ≤ most_log_lines }
     ensures ok { IfOk result (λ output. Reports bytes.now events output.0 output.1) }
     ensures fault { IfErr result (λ refusal. Refuses refusal (deck_of bytes.now)) }
 {
@@ -71,7 +72,7 @@ fn run_system<G: Gate, R: Threads + Wait + Sync>(
     requires lines { All (IsLineThere system) script.lines }
     requires few { length script.lines < 2 ^ 32 - 1 }
     requires workers { (1 ≤ workers) × (workers ≤ 16) }
-    requires events { events ≤ 500000 }
+    requires events { events ≤ most_log_lines }
     ensures { IfOk result (λ output. RunsTo (behaviour script.lines system) system events output.0
         output.1) }
 {

@@ -13,6 +13,7 @@ use pw_code::system::System;
 use pw_event::script::Script;
 use pw_gen::generate::generate;
 use pw_generated::laws::generated_laws;
+use pw_monitor::replay::MAX_ENTRIES;
 use pw_run::ending::Ended;
 use pw_run::gate::Gate;
 use pw_run::taken::files_of;
@@ -20,9 +21,6 @@ use pw_whole::deck::{Deck, read};
 use std::alloc::Global;
 use std::sync::Wait;
 use std::thread::Threads;
-
-/// How many entries the log of a trial may have.
-const MAX_ENTRIES: u32 = 500_000;
 
 /// Runs the deck that is generated of a seed for 1 to 64 terminals, with from 1 to 16 workers, for at
 /// most 500,000 entries (docs/DESK.md): how the run ended, and the FILES part of its report. The deck has

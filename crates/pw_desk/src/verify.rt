@@ -1,5 +1,6 @@
 ghost use Rattle.std.specs.Prelude.{◌≡◌, ◌-◌, ◌<◌, ◌≤◌, ◌^◌, All, IfErr, IfOk, length};
 ghost use Rattle.pw_base.specs.First.{Refuses};
+ghost use Rattle.pw_code.specs.Limits.{most_log_lines};
 ghost use Rattle.pw_code.specs.Valid.{IsValid};
 ghost use Rattle.pw_deck.specs.Deck.{deck_of};
 ghost use Rattle.pw_desk.specs.Replays.{Replays, Verifies};
@@ -71,7 +72,7 @@ fn replay(
     requires deck { IsBehaviour (behaviour script.lines system) }
     requires lines { All (IsLineThere system) script.lines }
     requires few { length script.lines < 2 ^ 32 - 1 }
-    requires log { length log.now ≤ 500000 }
+    requires log { length log.now ≤ most_log_lines }
     ensures { IfOk result (λ output. Replays (behaviour script.lines system) system log.now output.0
         output.1) }
 {

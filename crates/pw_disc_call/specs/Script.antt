@@ -3,6 +3,7 @@ use Rattle.std.specs.Prelude.{ℕ, ◌+◌, List, [], ◌∷◌, ◌++◌, lengt
 use Rattle.std.specs.Str.{bytes_eq}
 use Rattle.pw_base.specs.declared.fault.Fault.{Fault}
 use Rattle.pw_base.specs.declared.fault_code.FaultCode.TheVariants.{BadFailureLine, TooMany}
+use Rattle.pw_code.specs.Limits.{most_after}
 use Rattle.pw_disc_call.specs.declared.script.DiscLine.{DiscLine}
 use Rattle.pw_disc_call.specs.declared.script.DiscLine.TheVariants.{Primary, Held, Backup}
 use Rattle.pw_lines.specs.Lines.{lines}
@@ -20,7 +21,7 @@ has_leading_zero _ = false
 -- the number, where it is 0 to 500,000
 abbrev pub within : Option ℕ → Option ℕ
 within None = None
-within (Some n) = if nat_le n 500000 then Some n else None
+within (Some n) = if nat_le n most_after then Some n else None
 
 -- the number that a word is, which has no leading zeros
 abbrev pub after_in : List ℕ → Option ℕ

@@ -6,6 +6,7 @@ use Rattle.std.specs.List.{AllByRecursion, slice_split}
 use Rattle.std.specs.Str.{str_to_ascii_uppercase}
 use Rattle.std.proofs.lemmas.Bool.{leb-true, le-leb, ne_eqb, eqb-false}
 use Rattle.std.proofs.lemmas.List.Splits.{join_with_byte-slice_split}
+use Rattle.pw_code.specs.Limits.{most_after}
 use Rattle.pw_code.specs.Names.{is_name, IsName, may_name}
 use Rattle.pw_code.specs.Valid.{HasNames}
 use Rattle.pw_code.specs.declared.system.ClassInfo.{ClassInfo}
@@ -50,15 +51,15 @@ complete_fail : (system : System) → HasNames system → (by : NamesBy) (fail :
     → fail_of system (map (spelling by) (fail_words fail)) ≡ Ok fail
 unfolding fail_of fail_line_of keyword tcp_line class_line fail_class member
 complete_fail system names by (Tcp p true n) same there range =
-    rw (named_formed (by.pair p) (may_by (by.pair p) (pair_name system p) same (names.tcps.each p [] there)), after_is, number-decimal 500000 n range (omega (arith, range)), same, pair_among_of system names p there) refl
+    rw (named_formed (by.pair p) (may_by (by.pair p) (pair_name system p) same (names.tcps.each p [] there)), after_is, number-decimal most_after n range (omega (arith, range)), same, pair_among_of system names p there) refl
 complete_fail system names by (Tcp p false n) same there range =
-    rw (named_formed (by.pair p) (may_by (by.pair p) (pair_name system p) same (names.tcps.each p [] there)), after_is, number-decimal 500000 n range (omega (arith, range)), same, pair_among_of system names p there) refl
+    rw (named_formed (by.pair p) (may_by (by.pair p) (pair_name system p) same (names.tcps.each p [] there)), after_is, number-decimal most_after n range (omega (arith, range)), same, pair_among_of system names p there) refl
 complete_fail system names by (Server c i n) same there range =
     rw (
       named_formed (by.class c) (may_by (by.class c) (class_name system c) same (class_is_name system names c there.0)),
       process-decimal i (range.0, range.1),
       after_is,
-      number-decimal 500000 n range.2 (omega (arith, range.2)),
+      number-decimal most_after n range.2 (omega (arith, range.2)),
       same,
       class_among_of system names c there.0,
       le-leb i (slice_index_or system.classes c no_class).processes there.1,
@@ -69,11 +70,11 @@ complete_fail system names by (Server c i n) same there range =
 grammar_fail : (system : System) (names : NamesBy) → AreFormed names → (fail : FailLine) → IsFailInRange fail → InGrammar (fail_of system (map (spelling names) (fail_words fail)))
 unfolding fail_of fail_line_of keyword tcp_line class_line fail_class member
 grammar_fail system names formed (Tcp p true n) range =
-    rw (named_formed (names.pair p) (formed.pair p), after_is, number-decimal 500000 n range (omega (arith, range))) (in_grammar _ _ (among_in _ _) (λ p. tt))
+    rw (named_formed (names.pair p) (formed.pair p), after_is, number-decimal most_after n range (omega (arith, range))) (in_grammar _ _ (among_in _ _) (λ p. tt))
 grammar_fail system names formed (Tcp p false n) range =
-    rw (named_formed (names.pair p) (formed.pair p), after_is, number-decimal 500000 n range (omega (arith, range))) (in_grammar _ _ (among_in _ _) (λ p. tt))
+    rw (named_formed (names.pair p) (formed.pair p), after_is, number-decimal most_after n range (omega (arith, range))) (in_grammar _ _ (among_in _ _) (λ p. tt))
 grammar_fail system names formed (Server c i n) range =
-    rw (named_formed (names.class c) (formed.class c), process-decimal i (range.0, range.1), after_is, number-decimal 500000 n range.2 (omega (arith, range.2))) (in_grammar _ _ (among_in _ _) (λ c. cond_in _ _))
+    rw (named_formed (names.class c) (formed.class c), process-decimal i (range.0, range.1), after_is, number-decimal most_after n range.2 (omega (arith, range.2))) (in_grammar _ _ (among_in _ _) (λ c. cond_in _ _))
 
 -- what is read is what the line spells
 
@@ -117,7 +118,7 @@ tcp_spells system (p ∷ m ∷ a ∷ n ∷ []) =
     and_then _ _ U (named p) _ (named_out p U) (λ done formed.
     and_then _ _ U (member m) _ (member_out m U) (λ (b : Bool) told.
     and_then _ _ U (after a) _ (after_out a U) (λ done behind.
-    and_then _ _ U (number 500000 n) _ (number_out 500000 n U) (λ k number.
+    and_then _ _ U (number most_after n) _ (number_out most_after n U) (λ k number.
     let spelled : words ≡ map (spelling (single some p some some)) (fail_words (Tcp 0 b k)) = cc in
     let unknown : U = record { names = single some p some some; fail = Tcp 0 b k; formed = single_formed some p some some refl formed refl refl; numbers = number.1; spelled = spelled } in
     and_then _ _ U (among system.tcps (str_to_ascii_uppercase p)) _ (pair_among_out system (str_to_ascii_uppercase p) U unknown) (λ i name.
@@ -132,7 +133,7 @@ class_spells system (c ∷ i ∷ a ∷ n ∷ []) =
     and_then _ _ U (named c) _ (named_out c U) (λ done formed.
     and_then _ _ U (fail_process i) _ (fail_process_out i U) (λ q process.
     and_then _ _ U (after a) _ (after_out a U) (λ done behind.
-    and_then _ _ U (number 500000 n) _ (number_out 500000 n U) (λ k number.
+    and_then _ _ U (number most_after n) _ (number_out most_after n U) (λ k number.
     let spelled : words ≡ map (spelling (single some some c some)) (fail_words (Server 0 q k)) = cc in
     let numbers : IsFailInRange (Server 0 q k) = (process.1.0, process.1.1, number.1) in
     let unknown : U = record { names = single some some c some; fail = Server 0 q k; formed = single_formed some some c some refl refl formed refl; numbers = numbers; spelled = spelled } in

@@ -5,6 +5,7 @@ use Rattle.std.specs.Str.{bytes_eq, str_to_ascii_uppercase}
 use Rattle.std.specs.Str.Parse.{digits_value}
 use Rattle.std.specs.List.{slice_split}
 use Rattle.std.specs.Option.{option_map}
+use Rattle.pw_code.specs.Limits.{most_after}
 use Rattle.pw_code.specs.declared.file.FileOp.{FileOp}
 use Rattle.pw_code.specs.declared.file.FileOp.TheVariants.{Read, Next, Write, Rewrite, Delete}
 use Rattle.pw_code.specs.declared.lock.LockMode.{LockMode}
@@ -373,7 +374,7 @@ tcp_line system (p ∷ m ∷ a ∷ n ∷ []) = do
   done ← named p
   m ← member m
   done ← after a
-  n ← number 500000 n
+  n ← number most_after n
   p ← among system.tcps (str_to_ascii_uppercase p)
   Ok (line.Tcp p m n)
 tcp_line system _ = Err Bad
@@ -390,7 +391,7 @@ class_line system (c ∷ i ∷ a ∷ n ∷ []) = do
   done ← named c
   i ← fail_process i
   done ← after a
-  n ← number 500000 n
+  n ← number most_after n
   fail_class system (str_to_ascii_uppercase c) i n
 class_line system _ = Err Bad
 

@@ -9,6 +9,9 @@ use pw_code::context::{Frame, Return};
 use pw_code::screen::{CELLS, ScreenImage};
 use std::alloc::Global;
 
+/// The most characters of a program in an image.
+const MAX_STORAGE: u32 = 64_000;
+
 /// The number of two bytes at the front, and the rest.
 pub fn read_u16(bytes: &[u8]) -> Result<(u16, &[u8]), ImageFault>
     ensures { Gives (λ x. (x.0, x.1.now)) result (number_at w16 bytes.now) }
@@ -145,7 +148,7 @@ fn read_storage(alloc: Global, bytes: &[u8]) -> Result<(Bytes, &[u8]), ImageFaul
     ensures { Gives (λ x. (x.0, x.1.now)) result (storage_at bytes.now) }
 {
     let (count, rest) = read_u32(bytes)?;
-    if count > 64_000 {
+    if count > MAX_STORAGE {
         return Err(ImageFault::Bad);
     }
     read_block(alloc, count as usize, rest)

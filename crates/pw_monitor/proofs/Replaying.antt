@@ -4,6 +4,7 @@ use Rattle.std.proofs.lemmas.List.{take_more}
 use Rattle.std.proofs.lemmas.Option.{slice_get-get_or}
 use Rattle.std.specs.Prelude.{slice_get}
 use Rattle.pw_base.specs.Outside.{Rose}
+use Rattle.pw_code.specs.Limits.{most_log_lines}
 use Rattle.pw_code.specs.declared.system.System.{System}
 use Rattle.pw_event.specs.declared.event.Event.{Event}
 use Rattle.pw_event.specs.declared.script.FailLine.{FailLine}
@@ -22,7 +23,7 @@ module _ (system : System) (script : List FailLine) (disc : Told) where
   abbrev sys : Behaviour
   sys = behaviour script system
 
-  pub replayed-none : (log : List Event) (world : Seen) → IsNew system script disc 500000 world
+  pub replayed-none : (log : List Event) (world : Seen) → IsNew system script disc most_log_lines world
       → IsReplayed system script disc (take 0 log) world
   replayed-none log world new = record {
     run = tt;

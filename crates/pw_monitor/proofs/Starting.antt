@@ -1,6 +1,7 @@
 -- The world before the first entry.
 use Rattle.std.proofs.Common.{◌≡◌, ◌∙◌, ℕ, ◌-◌, ◌<◌, ◌≤◌, ◌^◌, All, Bool, false, List, [], Some, length, ap, refl, subst, sym}
 use Rattle.std.specs.Prelude.{slice_get}
+use Rattle.pw_code.specs.Limits.{most_log_lines}
 use Rattle.pw_code.specs.Valid.{IsValid}
 use Rattle.pw_code.specs.declared.system.System.{System}
 use Rattle.pw_code.specs.declared.system.TermInfo.{TermInfo}
@@ -54,7 +55,7 @@ marked-first : (system : System) (script : List FailLine) (disc : Told) (limit :
 marked-first system script disc limit valid actor known may = all-mark blank-notes actor (placed system valid actor known)
 
 world-first : (system : System) (script : List FailLine) (disc : Told) (limit : ℕ)
-    → IsValid system → IsBehaviour (behaviour script system) → limit ≤ 500000 → All (IsLineThere system) script
+    → IsValid system → IsBehaviour (behaviour script system) → limit ≤ most_log_lines → All (IsLineThere system) script
     → length script < 2 ^ 32 - 1 → IsDiscOf system script disc → IsWorld (first system script disc limit) (books system script)
 world-first system script disc limit valid b few lines few_lines of =
     world-noted (first system script disc limit) (first_books system script) (λ actor. false) (λ actor. 0) first-marks
@@ -113,7 +114,7 @@ seen-first told w system disc is kept same sound l =
 pub monitor-first : {D : Type 0} (told : D → Told) (w : WorldState D) (system : System) (disc : D)
     → w.keep.system ≡ system → kept_in told w.keep ≡ keep.first_kept system (told disc) → w.first ≡ disc → w.failed ≡ false
     → IsFirstLedger system w.script w.ledger
-    → IsValid system → IsBehaviour (behaviour w.script system) → w.limit ≤ 500000 → All (IsLineThere system) w.script
+    → IsValid system → IsBehaviour (behaviour w.script system) → w.limit ≤ most_log_lines → All (IsLineThere system) w.script
     → length w.script < 2 ^ 32 - 1 → IsDiscOf system w.script (told disc) → IsMonitor told w
 monitor-first told w system disc is kept same sound l valid b few lines few_lines of =
     subst (λ (world : Seen). IsWorld world (books_of w.ledger)) (sym (seen-first told w system disc is kept same sound l))

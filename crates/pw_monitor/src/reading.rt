@@ -1,6 +1,7 @@
 //! What a world tells of itself. None of these calls changes anything.
 
 ghost use Rattle.std.specs.Prelude.{◌≡◌, ◌↔◌, ◌<◌, ◌≤◌, IfOk, IsTrue, length};
+ghost use Rattle.pw_code.specs.Limits.{most_log_lines};
 ghost use Rattle.pw_code.specs.Valid.{IsValid};
 ghost use Rattle.pw_pair.specs.Follows.{mode_as};
 ghost use Rattle.pw_monitor.specs.States.{seen};
@@ -40,7 +41,7 @@ impl<D: Disc> World<D> {
         ensures log { result.now ≡ self.now.ledger.log }
         ensures run { IsRun (sys_of (seen D.told self.now)) self.now.ledger.log }
         ensures room { length self.now.ledger.log ≤ self.now.limit }
-        ensures few { self.now.limit ≤ 500000 }
+        ensures few { self.now.limit ≤ most_log_lines }
     {
         self.ledger.log()
     }

@@ -2,6 +2,7 @@
 
 ghost use Rattle.std.specs.Prelude.{◌≡◌, ◌-◌, ◌<◌, ◌≤◌, ◌^◌, All, Err, IfOk, ℕ, length};
 ghost use Rattle.pw_base.specs.Outside.{Rose};
+ghost use Rattle.pw_code.specs.Limits.{most_log_lines};
 ghost use Rattle.pw_code.specs.Valid.{IsValid};
 ghost use Rattle.pw_exec.specs.OfSystem.{behaviour};
 ghost use Rattle.pw_kept.specs.May.{IsLineThere};
@@ -49,7 +50,7 @@ impl<D: Disc> World<D> {
         requires lines { All (IsLineThere system) script.lines }
         requires few { length script.lines < 2 ^ 32 - 1 }
         requires disc { IsDiscOf system script.lines (D.told disc) }
-        requires log { length log.now ≤ 500000 }
+        requires log { length log.now ≤ most_log_lines }
         ensures ok { IfOk result (λ world.
             IsReplayed system script.lines (D.told disc) log.now (seen D.told world)) }
         ensures no_step { (n : ℕ) → result ≡ Err (fault.NotAStep n)

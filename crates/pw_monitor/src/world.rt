@@ -1,4 +1,5 @@
 ghost use Rattle.std.specs.Prelude.{◌≡◌, ◌-◌, ◌<◌, ◌≤◌, ◌^◌, All, IfOk, length};
+ghost use Rattle.pw_code.specs.Limits.{most_log_lines};
 ghost use Rattle.pw_code.specs.Valid.{IsValid};
 ghost use Rattle.pw_exec.specs.OfSystem.{behaviour};
 ghost use Rattle.pw_kept.specs.May.{IsLineThere};
@@ -72,7 +73,7 @@ impl<D: Disc> World<D> {
         requires lines { All (IsLineThere system) script.lines }
         requires few { length script.lines < 2 ^ 32 - 1 }
         requires disc { IsDiscOf system script.lines (D.told disc) }
-        requires limit { limit ≤ 500000 }
+        requires limit { limit ≤ most_log_lines }
         ensures { IfOk result (λ world. IsNew system script.lines (D.told disc) limit (seen D.told world)) }
     {
         first_laws();

@@ -1,6 +1,7 @@
 -- The world before the first entry.
 use Rattle.std.proofs.Common.{◌≡◌, ℕ, zero, suc, ◌+◌, ◌-◌, ◌<◌, ◌≤◌, ◌^◌, List, [], length, All, Some, Bool, false, inl, refl, ap, ◌∙◌, arith}
 use Rattle.std.specs.Prelude.{slice_get}
+use Rattle.pw_code.specs.Limits.{most_log_lines}
 use Rattle.pw_code.specs.Valid.{IsValid}
 use Rattle.pw_code.specs.declared.context.Context.{Context}
 use Rattle.pw_code.specs.declared.system.System.{System}
@@ -49,7 +50,7 @@ first-stamp sys actor = record {
 }
 
 pub first-world : (system : System) (script : List FailLine) (contexts : ℕ → Context) (disc : Told) (limit : ℕ)
-    → IsValid system → IsBehaviour (behaviour script system) → limit ≤ 500000 → All (IsLineThere system) script → length script < 2 ^ 32 - 1 → IsDiscOf system script disc
+    → IsValid system → IsBehaviour (behaviour script system) → limit ≤ most_log_lines → All (IsLineThere system) script → length script < 2 ^ 32 - 1 → IsDiscOf system script disc
     → ((t : ℕ) (info : TermInfo) → slice_get system.terminals t ≡ Some info → StandsForPath system info [] (contexts t))
     → IsWorld (first_world system script contexts disc limit) (first_books system script)
 first-world system script contexts disc limit valid b few lines few_lines of paths = record {

@@ -1,5 +1,6 @@
 -- What the other calls of a world answer: `lend`, `give_back` and `replay`.
 use Rattle.std.specs.Prelude.{◌≡◌, ◌-◌, ◌↔◌, ℕ, ◌≤◌, Bool, true, false, IsTrue, List, find, length, take, Option, Some, slice_get}
+use Rattle.pw_code.specs.Limits.{most_log_lines}
 use Rattle.pw_code.specs.declared.system.System.{System}
 use Rattle.pw_event.specs.declared.event.Event.{Event}
 use Rattle.pw_event.specs.declared.script.FailLine.{FailLine}
@@ -51,7 +52,7 @@ pub record IsReplayed (system : System) (script : List FailLine) (disc : Told) (
   pub system_is : world.system ≡ system
   pub script_is : world.script ≡ script
   pub log_is : world.log ≡ log
-  pub limit_is : world.limit ≡ 500000
+  pub limit_is : world.limit ≡ most_log_lines
   pub count : world.faults ≡ disc.faults
   pub sound : world.failed ≡ false
   pub inside : (actor : Actor) → world.out actor ≡ false

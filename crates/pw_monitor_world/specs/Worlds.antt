@@ -1,6 +1,7 @@
 -- A new world, and what the type of a world keeps.
 use Rattle.std.specs.Prelude.{◌≡◌, ◌+◌, ◌-◌, ◌^◌, ℕ, zero, suc, ◌<◌, ◌≤◌, All, Bool, true, false, IsSome, List, [], length, map, min, None, if◌then◌else◌}
 use Rattle.pw_base.specs.Outside.{Rose}
+use Rattle.pw_code.specs.Limits.{most_log_lines}
 use Rattle.pw_code.specs.Valid.{IsValid}
 use Rattle.pw_code.specs.declared.system.System.{System}
 use Rattle.pw_event.specs.declared.script.FailLine.{FailLine}
@@ -83,7 +84,7 @@ pub record IsWorld (world : Seen) (beside : Books) : Type 0 where
   pub deck : IsBehaviour (sys_of world)
   pub run : IsRun (sys_of world) world.log
   pub room : length world.log ≤ world.limit
-  pub few : world.limit ≤ 500000
+  pub few : world.limit ≤ most_log_lines
   pub stands : Stands world.system world.script (state_of world) world.kept
   -- each pair has the system's terminals of it, in order
   pub members : (p : ℕ) → p < length world.system.tcps

@@ -1,4 +1,5 @@
 ghost use Rattle.std.specs.Prelude.{◌≡◌, ◌≤◌, ◌<◌, ◌-◌, ◌^◌, [], ℕ, All, Bool, List, None, Some, false, length, slice_get, true};
+ghost use Rattle.pw_code.specs.Limits.{most_log_lines};
 ghost use Rattle.pw_code.specs.Valid.{IsValid};
 ghost use Rattle.pw_code.specs.declared.context.Context.{Context};
 ghost use Rattle.pw_code.specs.declared.system.System.{System};
@@ -97,7 +98,7 @@ pub fn idle_laws()
 pub fn first_laws()
     ensures world { (system : System) (script : List FailLine) (contexts : ℕ → Context) (disc : Told)
         (limit : ℕ)
-        → IsValid system → IsBehaviour (behaviour script system) → limit ≤ 500000
+        → IsValid system → IsBehaviour (behaviour script system) → limit ≤ most_log_lines
         → All (IsLineThere system) script → length script < 2 ^ 32 - 1
         → IsDiscOf system script disc
         → ((t : ℕ) (info : TermInfo) → slice_get system.terminals t ≡ Some info

@@ -1,6 +1,7 @@
 //! A run of a system over a disc that may fail.
 
 ghost use Rattle.std.specs.Prelude.{◌≡◌, ◌-◌, ◌<◌, ◌≤◌, ◌^◌, All, IfOk, length, true};
+ghost use Rattle.pw_code.specs.Limits.{most_log_lines};
 ghost use Rattle.pw_code.specs.Valid.{IsValid};
 ghost use Rattle.pw_exec.specs.OfSystem.{behaviour};
 ghost use Rattle.pw_kept.specs.May.{IsLineThere};
@@ -52,7 +53,7 @@ pub fn run_over<D: Disc, G: Gate, R: Threads + Wait + Sync>(
     requires few { length script.lines < 2 ^ 32 - 1 }
     requires disc { IsDiscOf system script.lines (D.told disc) }
     requires workers { (1 ≤ workers) × (workers ≤ 16) }
-    requires events { events ≤ 500000 }
+    requires events { events ≤ most_log_lines }
     ensures { IfOk result (Leaves D.told system script.lines events disc) }
 {
     let first = World::new(alloc, system, script, disc, events)?;

@@ -2,6 +2,7 @@
 
 ghost use Rattle.std.specs.Prelude.{◌≡◌, ◌-◌, ◌<◌, ◌≤◌, ◌^◌, All, length};
 ghost use Rattle.pw_call.specs.Numbers.{number_of};
+ghost use Rattle.pw_code.specs.Limits.{most_log_lines};
 ghost use Rattle.pw_code.specs.Valid.{IsValid};
 ghost use Rattle.pw_exec.specs.OfSystem.{behaviour};
 ghost use Rattle.pw_kept.specs.May.{IsLineThere};
@@ -53,7 +54,7 @@ pub fn run_with<D: Disc, K: Sink, G: Gate, R: Threads + Wait + Sync>(
     requires few { length script.lines < 2 ^ 32 - 1 }
     requires disc { IsDiscOf system script.lines (D.told disc) }
     requires workers { (1 ≤ workers) × (workers ≤ 16) }
-    requires events { events ≤ 500000 }
+    requires events { events ≤ most_log_lines }
     ensures runs { RunsWith D.told system script.lines events disc result (record {
       before = K.written sink.old;
       now = K.written sink.new;

@@ -10,6 +10,7 @@ mod statuses;
 
 use opening::{Opened, open};
 use pw_event::event::Event;
+use pw_monitor::replay::MAX_ENTRIES;
 use pw_monitor::task::run_task;
 use pw_monitor::world::World;
 use pw_monitor_world::answers::Applied;
@@ -29,7 +30,7 @@ fn world_of(alloc: Global, bytes: &[u8], fail_at: &[u64]) -> Result<World<Faulty
         script,
         disc,
     } = open(alloc, bytes, fail_at)?;
-    Ok(World::new(alloc, system, script, disc, 500_000)?)
+    Ok(World::new(alloc, system, script, disc, MAX_ENTRIES)?)
 }
 
 /// A program that stands at an answer has to run on first.

@@ -4,6 +4,7 @@ use Rattle.std.proofs.lemmas.List.Elements.{All-head, All-tail}
 use Rattle.std.specs.BTreeSet.{BTreeSet}
 use Rattle.std.specs.List.{AllByRecursion}
 use Rattle.std.specs.Prelude.{All, slice_get, slice_index_or}
+use Rattle.pw_code.specs.Limits.{most_log_lines}
 use Rattle.pw_code.specs.Valid.{IsDeckFile, IsValid}
 use Rattle.pw_code.specs.declared.file.FileInfo.{FileInfo}
 use Rattle.pw_code.specs.declared.system.System.{System}
@@ -44,7 +45,7 @@ records-long (file ∷ files) all zero low =
     ∙ zero-plus (length file.records)
 records-long (file ∷ files) all (suc f) low = records-long files (All-tail IsDeckFile file files all) f (omega (arith, low))
 
-module _ (world : WorldState TmfState) (system : System) (script : List FailLine) (disc : Told) (new : IsNew system script disc 500000 (seen told_of world)) where
+module _ (world : WorldState TmfState) (system : System) (script : List FailLine) (disc : Told) (new : IsNew system script disc most_log_lines (seen told_of world)) where
   pub begun-seen : watched world ≡ record { system = system; script = script; log = [] }
   begun-seen =
       ap (λ (s : System). record { system = s; script = world.script; log = world.ledger.log }) new.system_is

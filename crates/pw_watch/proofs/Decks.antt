@@ -1,5 +1,6 @@
 -- The system of a deck that was read, under the rule of its log.
 use Rattle.std.proofs.Common.{◌≡◌, ◌∙◌, ℕ, zero, suc, ◌≤◌, List, [], ◌∷◌, ap, arith, length, subst, sym, take}
+use Rattle.pw_code.specs.Limits.{most_log_lines}
 use Rattle.pw_code.specs.Valid.{IsValid}
 use Rattle.pw_code.specs.declared.lock.LockRule.{LockRule}
 use Rattle.pw_code.specs.declared.system.System.{System}
@@ -42,8 +43,8 @@ module _ (bytes : List ℕ) (whole : Deck) (of : IsOf bytes whole) (small : IsSm
   pub whole-behaves : (rule : LockRule) → rule ≡ rule_of whole.version → IsBehaviour (code.behaviour whole.script.lines (ruled rule))
   whole-behaves rule is = subst IsBehaviour (sym (whole-same rule is)) (ruled-behaves tree-rule bytes of.deck of.says)
 
-  pub whole-log : length whole.log ≤ 500000
-  whole-log = subst (λ (w : Deck). length w.log ≤ 500000) (sym of.is) (log-few tree-rule bytes of.deck of.says)
+  pub whole-log : length whole.log ≤ most_log_lines
+  whole-log = subst (λ (w : Deck). length w.log ≤ most_log_lines) (sym of.is) (log-few tree-rule bytes of.deck of.says)
 
   -- what is said of the first entries is said of the deck
   pub status-of : (rule : LockRule) → rule ≡ rule_of whole.version → (at : ℕ) (log : List Event) → log ≡ take at whole.log → (counted : Counted) (text : List ℕ)

@@ -4,6 +4,7 @@ use Rattle.std.proofs.lemmas.List.{append-nil, length-set}
 use Rattle.std.proofs.lemmas.Option.{slice_get-get_or}
 use Rattle.std.specs.BTreeSet.{BTreeSet}
 use Rattle.std.specs.Option.{IfSome}
+use Rattle.pw_code.specs.Limits.{most_log_lines}
 use Rattle.pw_code.specs.declared.system.System.{System}
 use Rattle.pw_code.specs.declared.system.TermInfo.{TermInfo}
 use Rattle.pw_counts.proofs.Known.{job-here}
@@ -210,7 +211,7 @@ module _ (old new : WorldState TmfState) (entry : Event) (world : IsWorld (seen 
   few : length old.keep.system.terminals ≤ 128
   few = world.valid.few.terminals
 
-  pub watch-more : (tally roomy behind : TallyState) (first mid : List (BTreeSet Number)) (terminal : Option ℕ) (fresh : Bool) (before met : Met) → length old.ledger.log < 500000
+  pub watch-more : (tally roomy behind : TallyState) (first mid : List (BTreeSet Number)) (terminal : Option ℕ) (fresh : Bool) (before met : Met) → length old.ledger.log < most_log_lines
       → IsWatch old tally first → IsSameTally terminal tally roomy → IsKept (shown_in entry) first → Notes (shown_in entry) fresh first mid
       → before.terminal ≡ worker_for (state_of (seen told_of old)) entry
       → before.ends ≡ may_end (state_of (seen told_of old)) entry

@@ -1,6 +1,7 @@
 -- What contracts see of a watch.
 use Rattle.std.specs.BTreeSet.{BTreeSet}
 use Rattle.std.specs.Prelude.{◌≡◌, ◌++◌, ◌∷◌, [], false, length, List, Result, Ok, Err}
+use Rattle.pw_code.specs.Limits.{most_log_lines}
 use Rattle.pw_code.specs.declared.system.System.{System}
 use Rattle.pw_counts.specs.Shown.{AreShownOf}
 use Rattle.pw_counts.specs.Tally.{IsTallyOf, TallyState}
@@ -46,7 +47,7 @@ watched world = record { system = world.keep.system; script = world.script; log 
 
 -- the world may have 500,000 entries and has met no fault, and what is counted is that of its log
 pub record IsWatch (world : WorldState TmfState) (tally : TallyState) (numbers : List (BTreeSet Number)) : Type 0 where
-  pub limit : world.limit ≡ 500000
+  pub limit : world.limit ≡ most_log_lines
   pub sound : world.failed ≡ false
   pub counted : IsTallyOf world.keep.system (sys_in (watched world)) world.ledger.log tally
   pub count : length numbers ≡ length world.keep.system.terminals

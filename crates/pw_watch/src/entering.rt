@@ -1,6 +1,7 @@
 //! An entry is entered, and counted if it is a step.
 
 ghost use Rattle.std.specs.Prelude.{◌≡◌, ◌<◌, length};
+ghost use Rattle.pw_code.specs.Limits.{most_log_lines};
 ghost use Rattle.pw_kept.specs.May.{IsThere};
 ghost use Rattle.pw_watch.specs.Watching.{IsWatch, Pushes, watched};
 
@@ -23,7 +24,7 @@ pub(crate) fn enter(
     event: &Event,
 ) -> Result<(), WatchFault>
     requires watch { IsWatch world.old tally.old numbers.old }
-    requires room { length world.old.ledger.log < 500000 }
+    requires room { length world.old.ledger.log < most_log_lines }
     requires there { IsThere world.old.keep.system event.now }
     ensures watch { IsWatch world.new tally.new numbers.new }
     ensures pushes { Pushes (watched world.old) event.now result (watched world.new) }

@@ -2,6 +2,7 @@
 
 ghost use Rattle.std.specs.Prelude.{◌≡◌, ◌-◌, ◌<◌, ◌≤◌, ◌^◌, [], All, IfErr, IfOk, length, take};
 ghost use Rattle.pw_base.specs.First.{Refuses};
+ghost use Rattle.pw_code.specs.Limits.{most_log_lines};
 ghost use Rattle.pw_code.specs.Valid.{IsValid};
 ghost use Rattle.pw_deck.specs.Deck.{deck_of};
 ghost use Rattle.pw_exec.specs.OfSystem.{behaviour};
@@ -74,7 +75,7 @@ fn count(
     requires deck { IsBehaviour (behaviour script.lines system) }
     requires lines { All (IsLineThere system) script.lines }
     requires few { length script.lines < 2 ^ 32 - 1 }
-    requires log { length log.now ≤ 500000 }
+    requires log { length log.now ≤ most_log_lines }
     ensures { IfOk result (λ output. Counts (behaviour script.lines system) system log.now output.0
         output.1) }
 {
@@ -87,7 +88,7 @@ fn count(
 /// Counts a log over a watch that is new.
 fn count_over(alloc: Global, watch: &mut Watch, log: &[Event]) -> Result<(Counted, Bytes), Memory>
     requires new { watch.old.log ≡ [] }
-    requires log { length log.now ≤ 500000 }
+    requires log { length log.now ≤ most_log_lines }
     ensures { IfOk result (λ output. Counts (sys_in watch.old) watch.old.system log.now output.0
         output.1) }
 {

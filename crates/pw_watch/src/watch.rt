@@ -1,4 +1,5 @@
 ghost use Rattle.std.specs.Prelude.{◌≡◌, ◌-◌, ◌<◌, ◌^◌, [], All, IfOk, length};
+ghost use Rattle.pw_code.specs.Limits.{most_log_lines};
 ghost use Rattle.pw_code.specs.Valid.{IsValid};
 ghost use Rattle.pw_counts.specs.Shown.{AreShownOf};
 ghost use Rattle.pw_counts.specs.Tally.{IsFirstTally};
@@ -98,7 +99,7 @@ impl Watch {
     /// Takes one more entry in, if it is a step. Every answer but Ok leaves the watch as it was. It costs
     /// what the entry touches.
     pub fn push(&mut self, event: Event) -> Result<(), WatchFault>
-        requires { length self.old.log < 500000 }
+        requires { length self.old.log < most_log_lines }
         ensures { Pushes self.old event result self.new }
     {
         self.world.holds();

@@ -8,6 +8,7 @@ use Rattle.std.specs.Str.Parse.{digits_value}
 use Rattle.std.proofs.lemmas.Bool.{eqb-false, leb-true}
 use Rattle.std.proofs.lemmas.List.{length-map}
 use Rattle.std.proofs.lemmas.List.Quantifiers.{position-Some}
+use Rattle.pw_code.specs.Limits.{most_after}
 use Rattle.pw_code.specs.declared.system.ClassInfo.{ClassInfo}
 use Rattle.pw_code.specs.declared.system.System.{System}
 use Rattle.pw_event.specs.Keywords.{keyword}
@@ -67,11 +68,11 @@ module _ (system : System) where
       next Any (IsNamed system) (named p) _ (any-of (named p)) (λ done h.
       next Any (IsNamed system) (member m) _ (any-of (member m)) (λ primary h.
       next Any (IsNamed system) (after a) _ (any-of (after a)) (λ done h.
-      next (λ k. k ≤ 500000) (IsNamed system) (number 500000 n) _ (number-in 500000 n) (λ k few.
+      next (λ k. k ≤ most_after) (IsNamed system) (number most_after n) _ (number-in most_after n) (λ k few.
       next (λ i. i < length system.tcps) (IsNamed system) (among system.tcps (str_to_ascii_uppercase p)) _ (among-in system.tcps (str_to_ascii_uppercase p)) (λ i there. (there, few))))))
   tcp-in _ = tt
 
-  class-in : (name : List ℕ) (i n : ℕ) → IsProcess i → n ≤ 500000 → IfOk (fail_class system name i n) (IsNamed system)
+  class-in : (name : List ℕ) (i n : ℕ) → IsProcess i → n ≤ most_after → IfOk (fail_class system name i n) (IsNamed system)
   unfolding fail_class
   class-in name i n is few =
       next (λ c. c < length (class_names system)) (IsNamed system) (among (class_names system) name) _ (among-in (class_names system) name)
@@ -89,7 +90,7 @@ module _ (system : System) where
       next Any (IsNamed system) (named c) _ (any-of (named c)) (λ done h.
       next IsProcess (IsNamed system) (fail_process i) _ (process-in i) (λ q is.
       next Any (IsNamed system) (after a) _ (any-of (after a)) (λ done h.
-      next (λ k. k ≤ 500000) (IsNamed system) (number 500000 n) _ (number-in 500000 n) (λ k few. class-in (str_to_ascii_uppercase c) q k is few))))
+      next (λ k. k ≤ most_after) (IsNamed system) (number most_after n) _ (number-in most_after n) (λ k few. class-in (str_to_ascii_uppercase c) q k is few))))
   server-in _ = tt
 
   line-in : (words : List (List ℕ)) (k : Keyword) → IfOk (fail_line_of system k words) (IsNamed system)

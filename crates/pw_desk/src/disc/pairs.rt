@@ -1,6 +1,7 @@
 //! The run of a system over a disc pair.
 
 ghost use Rattle.std.specs.Prelude.{◌≡◌, ◌-◌, ◌<◌, ◌≤◌, ◌^◌, All, IfOk, false, length, true};
+ghost use Rattle.pw_code.specs.Limits.{most_log_lines};
 ghost use Rattle.pw_code.specs.Valid.{IsValid};
 ghost use Rattle.pw_disc.specs.Lines.{may_lose};
 ghost use Rattle.pw_desk.specs.disc.Pairs.{RunsOver};
@@ -42,7 +43,7 @@ pub fn run_pair<G: Gate, R: Threads + Wait + Sync>(
     requires lines { All (IsLineThere system) script.lines }
     requires few { length script.lines < 2 ^ 32 - 1 }
     requires workers { (1 ≤ workers) × (workers ≤ 16) }
-    requires events { events ≤ 500000 }
+    requires events { events ≤ most_log_lines }
     ensures { IfOk result (λ output. RunsOver system script.lines events failures.lines output.0 output.1) }
 {
     if may_lose(failures.lines.as_slice()) {
@@ -68,7 +69,7 @@ fn run_losing<G: Gate, R: Threads + Wait + Sync>(
     requires lines { All (IsLineThere system) script.lines }
     requires few { length script.lines < 2 ^ 32 - 1 }
     requires workers { (1 ≤ workers) × (workers ≤ 16) }
-    requires events { events ≤ 500000 }
+    requires events { events ≤ most_log_lines }
     requires loses { may_lose failures.lines ≡ true }
     ensures { IfOk result (λ output. RunsOver system script.lines events failures.lines output.0 output.1) }
 {
@@ -101,7 +102,7 @@ fn run_lasting<G: Gate, R: Threads + Wait + Sync>(
     requires lines { All (IsLineThere system) script.lines }
     requires few { length script.lines < 2 ^ 32 - 1 }
     requires workers { (1 ≤ workers) × (workers ≤ 16) }
-    requires events { events ≤ 500000 }
+    requires events { events ≤ most_log_lines }
     requires lasts { may_lose failures.lines ≡ false }
     ensures { IfOk result (λ output. RunsOver system script.lines events failures.lines output.0 output.1) }
 {

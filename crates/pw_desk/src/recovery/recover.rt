@@ -2,6 +2,7 @@
 
 ghost use Rattle.std.specs.Prelude.{◌≡◌, ◌-◌, ◌<◌, ◌≤◌, ◌^◌, All, IfErr, IfOk, length};
 ghost use Rattle.pw_base.specs.First.{Refuses};
+ghost use Rattle.pw_code.specs.Limits.{most_log_lines};
 ghost use Rattle.pw_code.specs.Valid.{IsValid};
 ghost use Rattle.pw_deck.specs.Deck.{deck_of};
 ghost use Rattle.pw_exec.specs.OfSystem.{behaviour};
@@ -50,7 +51,7 @@ pub fn trail<G: Gate, R: Threads + Wait + Sync>(
     gate: &G,
 ) -> Result<(Recovered, Bytes), Refusal>
     requires workers { (1 ≤ workers) × (workers ≤ 16) }
-    requires events { events ≤ 500000 }
+    requires events { events ≤ most_log_lines }
     ensures ok { IfOk result (λ output. Recovers bytes.now events at output.0 output.1) }
     ensures fault { IfErr result (λ refusal. Refuses refusal (deck_of bytes.now)) }
 {
@@ -80,7 +81,7 @@ fn run_and_recover<G: Gate, R: Threads + Wait + Sync>(
     requires lines { All (IsLineThere system) script.lines }
     requires few { length script.lines < 2 ^ 32 - 1 }
     requires workers { (1 ≤ workers) × (workers ≤ 16) }
-    requires events { events ≤ 500000 }
+    requires events { events ≤ most_log_lines }
     ensures { IfOk result (λ output. RecoversTo (behaviour script.lines system) system events at output.0
         output.1) }
 {
@@ -112,7 +113,7 @@ fn run_beside<G: Gate, R: Threads + Wait + Sync>(
     requires lines { All (IsLineThere system) script.lines }
     requires few { length script.lines < 2 ^ 32 - 1 }
     requires workers { (1 ≤ workers) × (workers ≤ 16) }
-    requires events { events ≤ 500000 }
+    requires events { events ≤ most_log_lines }
     ensures { IfOk result (λ output. RecoversTo (behaviour script.lines system) system events at output.0
         output.1) }
 {

@@ -1,6 +1,7 @@
 //! The run of a system over a trail that knows which it is.
 
 ghost use Rattle.std.specs.Prelude.{◌≡◌, ◌-◌, ◌<◌, ◌≤◌, ◌^◌, All, IfOk, length};
+ghost use Rattle.pw_code.specs.Limits.{most_log_lines};
 ghost use Rattle.pw_code.specs.Valid.{IsValid};
 ghost use Rattle.pw_exec.specs.OfSystem.{behaviour};
 ghost use Rattle.pw_kept.specs.May.{IsLineThere};
@@ -72,7 +73,7 @@ pub fn run_known<N: Naming, G: Gate, R: Threads + Wait + Sync>(
     requires kept { IsKept N.files N.life (trail_state trail.log.files trail.log.disk
         trail.log.is_broken trail.faults trail.tmf) }
     requires workers { (1 ≤ workers) × (workers ≤ 16) }
-    requires events { events ≤ 500000 }
+    requires events { events ≤ most_log_lines }
     ensures ran { IfOk result (λ ran. Ran N.files N.life fit (behaviour script.lines system) events ran.0
         (committed (told_of ran.1.tmf))) }
     ensures files { IfOk result (λ ran. ran.1.log.files ≡ N.files) }

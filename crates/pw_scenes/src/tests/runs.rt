@@ -6,6 +6,7 @@ use super::gates::OtherComes;
 use super::opening::{Opened, open};
 use super::{decks, reports};
 use pw_base::mem_sink::MemSink;
+use pw_monitor::replay::MAX_ENTRIES;
 use pw_run::gate::{Gate, NoGate};
 use pw_run::run::{Ran, run_with};
 use pw_tmf::faulty::Calls;
@@ -41,7 +42,15 @@ fn run_deck<G: Gate, R: Threads + Wait + Sync>(
         disc,
     } = open(alloc, bytes, fail_at)?;
     let Ran { status, disc } = run_with(
-        rt, alloc, system, script, disc, workers, 500_000, &mut sink, gate,
+        rt,
+        alloc,
+        system,
+        script,
+        disc,
+        workers,
+        MAX_ENTRIES,
+        &mut sink,
+        gate,
     );
     let Some(disc) = disc else {
         return Err(Fail::new("memory ran out"));

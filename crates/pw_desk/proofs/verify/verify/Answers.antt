@@ -1,4 +1,5 @@
 use Rattle.std.proofs.Common.{◌≡◌, ◌≤◌, length, refl, subst, sym}
+use Rattle.pw_code.specs.Limits.{most_log_lines}
 use Rattle.pw_failures.proofs.Failures.{lines-like}
 use Rattle.pw_whole.proofs.Decks.{refuses, whole-is}
 use Rattle.pw_desk.proofs.Lifts.{verifies-from, whole-behaves, whole-log, whole-valid}
@@ -26,7 +27,7 @@ pub replay-requires-clause-log : goal.replay-requires-clause-log
 replay-requires-clause-log c =
     let of = whole-is c.args.bytes.now c.in-Ok.deck c.in-Ok.ensures.gives in
     let same : c.as_slice.result.now ≡ c.in-Ok.deck.log = cc in
-    subst (λ log. length log ≤ 500000) (sym same)
+    subst (λ log. length log ≤ most_log_lines) (sym same)
     (whole-log c.args.bytes.now c.in-Ok.deck of c.in-Ok.ensures.small)
 
 pub returns-clause-ok : goal.returns-clause-ok

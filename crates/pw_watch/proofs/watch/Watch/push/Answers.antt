@@ -1,4 +1,5 @@
 use Rattle.std.proofs.Common.{◌<◌, length, subst, sym}
+use Rattle.pw_code.specs.Limits.{most_log_lines}
 use Rattle.pw_code.specs.declared.system.System.{System}
 use Rattle.pw_kept.specs.May.{IsThere}
 use Rattle.pw_monitor.specs.Ledgers.{books_of}
@@ -21,7 +22,7 @@ returns-then-not-is_there c =
     )
 
 pub enter-requires-clause-room : goal.enter-requires-clause-room
-enter-requires-clause-room c = subst (λ (v : WatchState). length v.log < 500000) (sym c.self.view_is) c.requires
+enter-requires-clause-room c = subst (λ (v : WatchState). length v.log < most_log_lines) (sym c.self.view_is) c.requires
 
 pub enter-requires-clause-there : goal.enter-requires-clause-there
 enter-requires-clause-there c =
