@@ -9,6 +9,10 @@ longest_input = 16777216
 abbrev pub most_storage : ℕ
 most_storage = 32000
 
+-- the most bytes of a record of a file
+abbrev pub most_content : ℕ
+most_content = 4000
+
 -- the most characters of a word
 abbrev pub longest_word : ℕ
 longest_word = 30

@@ -3,12 +3,13 @@ use Rattle.std.proofs.Common.{◌≡◌, ℕ, ◌+◌, ◌≤◌, ◌∙◌, sym
 use Rattle.std.specs.Borrow.{Bor}
 use Rattle.std.proofs.lemmas.List.Elements.{All-append, All-nil}
 use Rattle.std.proofs.lemmas.List.Concat.{flat_map-append}
+use Rattle.pw_base.specs.Limits.{most_content}
 use Rattle.pw_blocks.specs.Packing.{packed, packed_all, unpacked, IsBlock, IsFinger, IsFirst}
 use Rattle.pw_blocks.proofs.PackingLemmas.{IsBlock-packed, unpacked-packed_all}
 
 -- no bytes are the block of no records
 pub IsBlock-none : IsBlock []
-IsBlock-none = IsBlock-packed [] [] refl (All-nil (λ content. length content ≤ 4000)) (omega arith)
+IsBlock-none = IsBlock-packed [] [] refl (All-nil (λ content. length content ≤ most_content)) (omega arith)
 
 -- and have none
 pub unpacked-none : unpacked [] ≡ []
@@ -28,7 +29,7 @@ module _ (before behind : List ℕ) (first : IsBlock before) (last : IsBlock beh
   pub IsBlock-beside : length before + length behind ≤ 4096 → IsBlock new
   IsBlock-beside fits =
       let long : length new ≡ length before + length behind = ap length is ∙ length-append before behind in
-      IsBlock-packed (unpacked before ++ unpacked behind) new beside_are (All-append (λ c. length c ≤ 4000) (unpacked before) (unpacked behind) first.contents last.contents) (omega arith)
+      IsBlock-packed (unpacked before ++ unpacked behind) new beside_are (All-append (λ c. length c ≤ most_content) (unpacked before) (unpacked behind) first.contents last.contents) (omega arith)
 
 -- what a first record leaves
 pub first_step : (parts : Bor (List ℕ) × Bor (List ℕ)) (left : List (List ℕ)) → IsFirst (Some parts) left → (more : List (List ℕ)) × (left ≡ parts.0.now ∷ more) × (parts.1.now ≡ packed_all more)

@@ -11,6 +11,7 @@ use Rattle.std.proofs.lemmas.Cmp.{nat_list_cmp_total}
 use Rattle.std.proofs.lemmas.List.{append-nil, take_at}
 use Rattle.std.proofs.lemmas.List.Elements.{All-from_recursion, recursion_from_All}
 use Rattle.std.proofs.lemmas.List.Concat.{flat_map-append}
+use Rattle.pw_base.specs.Limits.{most_content}
 use Rattle.pw_files.specs.Records.{key_cmp, compared, below, above, record_at}
 use Rattle.pw_blocks.specs.declared.cut.Cut.{Cut}
 use Rattle.pw_blocks.specs.Cuts.{IsCut, Rises}
@@ -76,7 +77,7 @@ module _ (n : ℕ) (key : List ℕ) where
   -- parts of the contents of a block, with those that may have the key between them
   pub cut_is : (bytes : List ℕ) (cut : Cut) (front middle back : List (List ℕ)) → IsBlock bytes → front ++ (middle ++ back) ≡ unpacked bytes → AllLess front → AllGreater back → cut.before.now ≡ packed_all front → cut.behind.now ≡ packed_all back → below n middle key ≡ [] → above n middle key ≡ [] → option_copied cut.here ≡ record_at n middle key → IsCut n (unpacked bytes) key cut
   cut_is bytes cut front middle back block whole less greater before behind none_below none_above here =
-      let small : List ℕ → Type 0 = λ content. length content ≤ 4000 in
+      let small : List ℕ → Type 0 = λ content. length content ≤ most_content in
       let l : All (λ content. compared n key content ≡ Less) front = All-from_recursion (λ content. compared n key content ≡ Less) front less in
       let g : All (λ content. compared n key content ≡ Greater) back = All-from_recursion (λ content. compared n key content ≡ Greater) back greater in
       let all_small : AllByRecursion small (front ++ (middle ++ back)) = recursion_from_All small (front ++ (middle ++ back)) (subst (All small) (sym whole) block.contents) in

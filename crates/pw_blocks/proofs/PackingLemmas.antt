@@ -8,6 +8,7 @@ use Rattle.pw_blocks.specs.Packing.{packed, packed_all, unpacked_most, unpacked,
 use Rattle.std.specs.Ordering.{is_lt}
 use Rattle.pw_files.specs.Records.{compared}
 use Rattle.std.specs.Borrow.{Bor}
+use Rattle.pw_base.specs.Limits.{most_content}
 
 -- the two bytes of a length give it back
 pub two_bytes : (n : ℕ) → n / 256 * 256 + n % 256 ≡ n
@@ -34,12 +35,12 @@ unfolding unpacked
 unpacked-packed_all contents = unpacked_most-packed_all contents (length (packed_all contents)) (omega arith)
 
 -- the bytes of some contents are a block, where they fit
-pub IsBlock-packed : (contents : List (List ℕ)) (bytes : List ℕ) → bytes ≡ packed_all contents → All (λ content. length content ≤ 4000) contents → length bytes ≤ 4096 → IsBlock bytes
+pub IsBlock-packed : (contents : List (List ℕ)) (bytes : List ℕ) → bytes ≡ packed_all contents → All (λ content. length content ≤ most_content) contents → length bytes ≤ 4096 → IsBlock bytes
 IsBlock-packed contents bytes is small fits =
     let same : unpacked bytes ≡ contents = ap unpacked is ∙ unpacked-packed_all contents in
     record {
       whole = ap packed_all same ∙ sym is;
-      contents = subst (All (λ content. length content ≤ 4000)) (sym same) small;
+      contents = subst (All (λ content. length content ≤ most_content)) (sym same) small;
       fits = fits;
     }
 
@@ -85,11 +86,11 @@ module _ (before content behind : List ℕ) (first : IsBlock before) (last : IsB
     place = ap length first.whole;
   }
 
-  pub IsBlock-joined : length content ≤ 4000 → length before + length content + 2 + length behind ≤ 4096 → (new : List ℕ) → new ≡ joined_bytes → IsBlock new
+  pub IsBlock-joined : length content ≤ most_content → length before + length content + 2 + length behind ≤ 4096 → (new : List ℕ) → new ≡ joined_bytes → IsBlock new
   IsBlock-joined small fits new is =
       let long : length new ≡ length before + length content + 2 + length behind = ap length is ∙ simp length-append (omega arith) in
       IsBlock-packed (unpacked before ++ content ∷ unpacked behind) new (is ∙ joined_are)
-      (All-append (λ c. length c ≤ 4000) (unpacked before) (content ∷ unpacked behind) first.contents (All-cons (λ c. length c ≤ 4000) content (unpacked behind) small last.contents))
+      (All-append (λ c. length c ≤ most_content) (unpacked before) (content ∷ unpacked behind) first.contents (All-cons (λ c. length c ≤ most_content) content (unpacked behind) small last.contents))
       (omega arith)
 
 -- the bytes from a finger on are those of the contents there

@@ -2,6 +2,7 @@
 use Rattle.std.specs.Prelude.{◌≡◌, ℕ, zero, suc, ◌+◌, ◌*◌, ◌/◌, ◌%◌, ◌≤◌, List, [], ◌∷◌, ◌++◌, length, take, drop, flat_map, All, Option, Some, None, if◌then◌else◌}
 use Rattle.std.specs.Borrow.{Bor}
 use Rattle.std.specs.Ordering.{is_lt}
+use Rattle.pw_base.specs.Limits.{most_content}
 use Rattle.pw_files.specs.Records.{compared}
 
 -- a content after its length in 2 bytes, the high one first
@@ -26,7 +27,7 @@ unpacked bytes = unpacked_most (length bytes) bytes
 -- the bytes are those of some contents, each of which has at most 4,000 bytes, and there are at most 4,096 of them
 pub record IsBlock (bytes : List ℕ) : Type 0 where
   pub whole : packed_all (unpacked bytes) ≡ bytes
-  pub contents : All (λ content. length content ≤ 4000) (unpacked bytes)
+  pub contents : All (λ content. length content ≤ most_content) (unpacked bytes)
   pub fits : length bytes ≤ 4096
 
 -- at this place in the bytes one of their contents begins, or the last one ends

@@ -1,4 +1,5 @@
 ghost use Rattle.std.specs.Prelude.{◌≡◌, ◌+◌, ◌≤◌, ◌∷◌, ◌++◌, length, IfOk, OnOk};
+ghost use Rattle.pw_base.specs.Limits.{most_content};
 ghost use Rattle.pw_blocks.specs.Blocks.{first_key};
 ghost use Rattle.pw_blocks.specs.Packing.{IsBlock, IsFinger, packed_all, unpacked};
 
@@ -74,7 +75,7 @@ impl Block {
     ) -> Result<Block, Memory>
         requires before { IsBlock before.now }
         requires behind { IsBlock behind.now }
-        requires content { length content.now ≤ 4000 }
+        requires content { length content.now ≤ most_content }
         requires fits { length before.now + length content.now + 2 + length behind.now ≤ 4096 }
         ensures { IfOk result (λ block.
             block ≡ unpacked before.now ++ content.now ∷ unpacked behind.now) }

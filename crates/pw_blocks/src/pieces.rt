@@ -1,4 +1,5 @@
 ghost use Rattle.std.specs.Prelude.{◌≡◌, ◌≢◌, ◌≤◌, ◌+◌, ◌++◌, ◌∷◌, [], All, IfOk, length, map};
+ghost use Rattle.pw_base.specs.Limits.{most_content};
 ghost use Rattle.pw_blocks.specs.Blocks.{first_key, records_of};
 ghost use Rattle.pw_blocks.specs.Packing.{IsBlock, unpacked};
 ghost use Rattle.pw_blocks.specs.Splits.{joined, split};
@@ -18,7 +19,7 @@ pub fn pieces(
 ) -> Result<Vec<Block>, Memory>
     requires before { IsBlock before.now }
     requires behind { IsBlock behind.now }
-    requires content { length content.now ≤ 4000 }
+    requires content { length content.now ≤ most_content }
     ensures records { IfOk result (λ blocks. records_of blocks.items
         ≡ unpacked before.now ++ content.now ∷ unpacked behind.now) }
     ensures none_empty { IfOk result (λ blocks. All (λ block. block ≢ []) blocks.items) }

@@ -1,5 +1,6 @@
 -- Instructions that a system may have.
 use Rattle.std.specs.Prelude.{◌≡◌, ℕ, ◌<◌, ◌≤◌, Bool, true, false, not, List, [], ◌∷◌, length, map, slice_index_or, IsTrue, All}
+use Rattle.pw_base.specs.Limits.{most_content}
 use Rattle.pw_code.specs.Fields.{IsTable}
 use Rattle.pw_code.specs.Places.{IsPlace, IsOperand, IsCond}
 use Rattle.pw_code.specs.declared.code.Code.{Code}
@@ -105,7 +106,7 @@ pub record IsRecord (system : System) (storage file : ℕ) (from : Operand) : Ty
   pub known : file < length system.files
   pub operand : IsItemOperand storage from
   pub least : (file_at system file).key ≤ size_of_item from
-  pub most : size_of_item from ≤ 4000
+  pub most : size_of_item from ≤ most_content
 
 -- the instruction is one of servers, of the programs of terminals, or of both
 abbrev pub is_for : Bool → Instr → Bool

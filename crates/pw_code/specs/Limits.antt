@@ -56,3 +56,7 @@ most_after = 500000
 -- entries of a log
 abbrev pub most_log_lines : ℕ
 most_log_lines = 500000
+
+-- the most characters of storage of the programs that are active in a terminal
+abbrev pub most_active : ℕ
+most_active = 64000

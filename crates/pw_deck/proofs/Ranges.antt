@@ -9,6 +9,7 @@ use Rattle.std.proofs.lemmas.List.{map-append}
 use Rattle.std.proofs.lemmas.Slice.Eq.{bytes_eq-Decides}
 use Rattle.std.proofs.lemmas.List.Quantifiers.{position-Some}
 use Rattle.pw_base.specs.Lengths.{IsContent}
+use Rattle.pw_base.specs.Limits.{most_content}
 use Rattle.pw_base.specs.declared.fault.Fault.{Fault}
 use Rattle.pw_base.specs.declared.fault_code.FaultCode.TheVariants.{BadCommand, OutOfRange, BadRecord, BadEntry, TooMany}
 use Rattle.pw_code.specs.Entry.{Entry}
@@ -189,10 +190,10 @@ record_kept key number records line kept = go (is_bad_record key records line) r
     go : (b : Bool) → is_bad_record key records line ≡ b → IfOk (cond b (refused number BadRecord) (Ok (records ++ line ∷ []))) (AreRecords key)
     go true is = tt
     go false is =
-        let short = or_false (nat_lt (length line) key) (nat_lt 4000 (length line) || is_seen (map (take key) records) (take key line)) is in
-        let long = or_false (nat_lt 4000 (length line)) (is_seen (map (take key) records) (take key line)) short.1 in
+        let short = or_false (nat_lt (length line) key) (nat_lt most_content (length line) || is_seen (map (take key) records) (take key line)) is in
+        let long = or_false (nat_lt most_content (length line)) (is_seen (map (take key) records) (take key line)) short.1 in
         record {
-          contents = all_more (IsContent key) records line kept.contents (ltb-false (length line) key short.0, ltb-false 4000 (length line) long.0);
+          contents = all_more (IsContent key) records line kept.contents (ltb-false (length line) key short.0, ltb-false most_content (length line) long.0);
           distinct = subst (IsDistinct bytes_eq) (sym (map-append (take key) records (line ∷ []))) (distinct_more (map (take key) records) (take key line) kept.distinct long.1);
         }
 

@@ -1,5 +1,6 @@
 -- CALL, and how a called program is left.
-pub use Rattle.pw_source.specs.Runs.{most_calls, most_active}
+pub use Rattle.pw_code.specs.Limits.{most_active}
+pub use Rattle.pw_source.specs.Runs.{most_calls}
 use Rattle.std.specs.Prelude.{ℕ, ◌+◌, nat_lt, Bool, true, false, List, [], ◌∷◌, ◌++◌, length, take, drop, map, sum_by, Option, Some, None, slice_get, if◌then◌else◌}
 use Rattle.pw_picture.specs.Stored.{digits_of, value_of}
 use Rattle.pw_terminal.specs.Shown.{written}

@@ -7,6 +7,7 @@ use Rattle.std.proofs.lemmas.List.{append-nil, take-append-drop}
 use Rattle.std.proofs.lemmas.List.Elements.{All-from_recursion, recursion_from_All}
 use Rattle.std.proofs.lemmas.Slice.Eq.{bytes_eq-Decides}
 use Rattle.std.specs.Str.{bytes_eq}
+use Rattle.pw_code.specs.Limits.{most_active}
 use Rattle.pw_code.specs.Screen.{IsWhole}
 use Rattle.pw_code.specs.declared.context.Context.{Context}
 use Rattle.pw_code.specs.declared.context.Frame.{Frame}
@@ -37,10 +38,10 @@ return-form =
 -- An active program.
 
 storage-form : IsForm storage_at (λ (l : List ℕ). to_be_bytes w32 (length l) ++ l)
-    (λ (l : List ℕ). (length l < 2 ^ 32) × ((nat_le (length l) 64000 ≡ true) × AreBytes l))
+    (λ (l : List ℕ). (length l < 2 ^ 32) × ((nat_le (length l) most_active ≡ true) × AreBytes l))
 unfolding storage_at
 storage-form =
-    counted (number_at w32) (λ count. nat_le count 64000) block_at (to_be_bytes w32) (λ l. l) (λ n. n < 2 ^ 32) (λ (l : List ℕ). length l) AreBytes number32 block
+    counted (number_at w32) (λ count. nat_le count most_active) block_at (to_be_bytes w32) (λ l. l) (λ n. n < 2 ^ 32) (λ (l : List ℕ). length l) AreBytes number32 block
 
 returns-form : IsForm returns_at (λ (xs : List Return). length xs ∷ flat_map return_bytes xs)
     (λ (xs : List Return). ((is_any (length xs) ≡ true) × (length xs < 256)) × ((nat_le (length xs) 64 ≡ true) × AllByRecursion ReturnHasValues xs))

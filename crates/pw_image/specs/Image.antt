@@ -2,6 +2,7 @@
 use Rattle.std.specs.Prelude.{◌≡◌, ℕ, ◌<◌, ◌≤◌, ◌^◌, Bool, true, false, List, [], ◌∷◌, ◌++◌, length, All}
 use Rattle.std.specs.Int.{w16, w32, w64, to_be_bytes}
 use Rattle.std.specs.List.{flat_map}
+use Rattle.pw_code.specs.Limits.{most_active}
 use Rattle.pw_code.specs.Screen.{IsWhole}
 use Rattle.pw_code.specs.declared.context.Context.{Context}
 use Rattle.pw_code.specs.declared.context.Frame.{Frame}
@@ -52,7 +53,7 @@ image_of context =
 
 -- the program has room in an image
 pub record FrameFits (frame : Frame) : Type 0 where
-  pub storage : length frame.storage ≤ 64000
+  pub storage : length frame.storage ≤ most_active
   pub returns : length frame.returns ≤ 64
 
 -- The context has an image: it is one of a terminal that stands at an answer, without a count, a fault

@@ -3,6 +3,7 @@
 use Rattle.std.specs.Prelude.{◌≡◌, ℕ, zero, suc, ◌&&◌, ◌==◌, Bool, true, false, List, [], ◌∷◌, length, take, drop, Option, Some, None, Result, Ok, Err, nat_lt, nat_le, if◌then◌else◌}
 use Rattle.std.specs.Int.{Width, w16, w32, w64, byte_len, from_be_bytes}
 use Rattle.std.specs.Str.{bytes_eq}
+use Rattle.pw_code.specs.Limits.{most_active}
 use Rattle.pw_code.specs.declared.context.Context.{Context}
 use Rattle.pw_code.specs.declared.context.Frame.{Frame}
 use Rattle.pw_code.specs.declared.context.Return.{Return}
@@ -94,7 +95,7 @@ return_at = made_at return_from (both_at (number_at w32) (both_at (number_at w32
 
 -- the characters of an active program
 unfoldable pub storage_at : List ℕ → Front (List ℕ)
-storage_at = counted_at (number_at w32) (λ count. nat_le count 64000) block_at
+storage_at = counted_at (number_at w32) (λ count. nat_le count most_active) block_at
 
 -- its active PERFORMs
 unfoldable pub returns_at : List ℕ → Front (List Return)

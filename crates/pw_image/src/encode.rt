@@ -1,6 +1,7 @@
 ghost use Rattle.std.specs.Prelude.{◌≡◌, ◌≤◌, ◌++◌, length, All, IfOk, OnOk};
 ghost use Rattle.std.specs.Int.{to_be_bytes, w32};
 ghost use Rattle.std.specs.List.{flat_map};
+ghost use Rattle.pw_code.specs.Limits.{most_active};
 ghost use Rattle.pw_image.specs.Image.{HasImage, FrameFits, count_bytes, frame_bytes, image_of, return_bytes};
 ghost use Rattle.pw_image.specs.Format.{IsImageOf};
 ghost use Rattle.pw_image.specs.Values.{AreBytes, CountsHaveValues, FrameHasValues, ReturnHasValues};
@@ -82,7 +83,7 @@ fn put_frame(image: &mut Bytes, frame: &Frame) -> Result<(), Memory>
 
 /// Puts the characters of a program behind their number.
 fn put_storage(image: &mut Bytes, storage: &[u8]) -> Result<(), Memory>
-    requires { length storage.now ≤ 64000 }
+    requires { length storage.now ≤ most_active }
     ensures bytes { OnOk result
         (image.new ≡ image.old ++ (to_be_bytes w32 (length storage.now) ++ storage.now)) }
     ensures values { OnOk result (AreBytes storage.now) }

@@ -4,6 +4,7 @@ use Rattle.std.specs.Prelude.{All, slice_get}
 use Rattle.std.proofs.lemmas.List.{map-append}
 use Rattle.std.proofs.lemmas.Option.{get_or_from_slice_get, slice_get_within}
 use Rattle.std.proofs.lemmas.List.Elements.{All-append, All-cons, All-nil}
+use Rattle.pw_code.specs.Limits.{most_active}
 use Rattle.pw_code.specs.Valid.{IsTerminal, IsValid}
 use Rattle.pw_code.specs.declared.context.Context.{Context}
 use Rattle.pw_code.specs.declared.context.Frame.{Frame}
@@ -58,7 +59,7 @@ arrives-last system (one ∷ answers) a c d first =
 
 -- each active program is as small as an image has room for
 abbrev HasSmallStorage : Context → Type 0
-HasSmallStorage context = All (λ (frame : Frame). length frame.storage ≤ 64000) context.frames
+HasSmallStorage context = All (λ (frame : Frame). length frame.storage ≤ most_active) context.frames
 
 module _ (system : System) (script : List FailLine) (t : ℕ) (info : TermInfo) (valid : IsValid system) (here : slice_get system.terminals t ≡ Some info) where
   abbrev sys : Behaviour

@@ -1,6 +1,7 @@
 -- The records of a file, and lines of bytes that may be printed.
 use Rattle.std.specs.Prelude.{ℕ, List, [], ◌∷◌, ◌++◌, map, take, length, Bool, ◌&&◌, ◌||◌, nat_le, nat_lt, Result, Ok, if◌then◌else◌}
 use Rattle.std.specs.List.{list_all}
+use Rattle.pw_base.specs.Limits.{most_content}
 use Rattle.pw_base.specs.declared.fault.Fault.{Fault}
 use Rattle.pw_base.specs.declared.fault_code.FaultCode.TheVariants.{BadCharacter, BadRecord}
 use Rattle.pw_lines.specs.Lines.{lines}
@@ -22,7 +23,7 @@ printable text first_line = each_line printable_line first_line (tt {0}) (lines 
 -- a record has its whole key and at most 4,000 bytes, and its key is new
 abbrev pub is_bad_record : ℕ → List (List ℕ) → List ℕ → Bool
 is_bad_record key records line =
-    nat_lt (length line) key || (nat_lt 4000 (length line) || is_seen (map (take key) records) (take key line))
+    nat_lt (length line) key || (nat_lt most_content (length line) || is_seen (map (take key) records) (take key line))
 
 -- the record of a line behind the others
 abbrev pub record_read : ℕ → ℕ → List (List ℕ) → List ℕ → Result (List (List ℕ)) Fault

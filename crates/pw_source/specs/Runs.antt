@@ -3,6 +3,7 @@ use Rattle.std.specs.Prelude.{ℕ, zero, suc, ◌+◌, ◌-◌, nat_lt, Bool, tr
 use Rattle.pw_words.specs.Words.{Word}
 use Rattle.pw_forms.specs.declared.statement.Paragraph.{Paragraph}
 use Rattle.pw_code.specs.Entry.{Entry}
+use Rattle.pw_code.specs.Limits.{most_active}
 use Rattle.pw_code.specs.declared.verb.Verb.{Verb}
 use Rattle.pw_code.specs.declared.verb.Verb.TheVariants as verb
 use Rattle.pw_code.specs.declared.verb.Answer.{Answer}
@@ -27,10 +28,6 @@ most_performs = 64
 -- CALLs that may be active in a terminal
 abbrev pub most_calls : ℕ
 most_calls = 8
-
--- the most characters of storage of the programs that are active in a terminal
-abbrev pub most_active : ℕ
-most_active = 64000
 
 -- one turn of a paragraph, from which control returns; d: how many more PERFORMs may be active
 abbrev pub performed : ℕ → Setting → (ℕ → List (List ℕ) → State → Out) → Word → State → Out

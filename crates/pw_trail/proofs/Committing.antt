@@ -8,6 +8,7 @@ use Rattle.std.proofs.lemmas.Bool.{and_from, eq-eqb, eqb-true, false_from_ne_tru
 use Rattle.std.proofs.lemmas.List.Elements.{All-cons, All-contains, All-map, All-nil}
 use Rattle.std.proofs.lemmas.Option.{slice_get-get_or}
 use Rattle.std.proofs.lemmas.Slice.Eq.{bytes_eq-Decides}
+use Rattle.pw_base.specs.Limits.{most_content}
 use Rattle.pw_code.specs.declared.file.FileInfo.{FileInfo}
 use Rattle.pw_code.specs.declared.unit.Unit as unit
 use Rattle.pw_files.proofs.Lookups.{record_at-found}
@@ -235,7 +236,7 @@ module _ (files : List FileInfo) (told : Told) (of : HasFiles files told) (o : I
       let content : IsContent (told.key_length image.file) c =
       All-contains (IsContent (told.key_length image.file)) (told.files image.file) c file.contents (record_at-found (told.key_length image.file) (told.files image.file) image.key c is).0 in
       let fit : IsContent info.key c = subst (λ n. IsContent n c) key_is content in
-      rw there (and_from (nat_le info.key (length c)) (nat_le (length c) 4000) (le-leb info.key (length c) fit.0) (le-leb (length c) 4000 fit.1))
+      rw there (and_from (nat_le info.key (length c)) (nat_le (length c) most_content) (le-leb info.key (length c) fit.0) (le-leb (length c) most_content fit.1))
 
   abbrev image-fits : BeforeImage → Type 0
   image-fits image = fits files (change_to (changed_in told.key_length told.files image)) ≡ true

@@ -6,6 +6,7 @@ use Rattle.std.proofs.lemmas.Bool.{and_parts, false≢true, leb-true}
 use Rattle.std.proofs.lemmas.List.{take_more}
 use Rattle.std.proofs.lemmas.List.Elements.{All-get_or, recursion_from_All}
 use Rattle.std.proofs.lemmas.Option.{slice_get-get_or, slice_get_within}
+use Rattle.pw_base.specs.Limits.{most_content}
 use Rattle.pw_code.specs.declared.file.FileInfo.{FileInfo}
 use Rattle.pw_code.specs.declared.system.System.{System}
 use Rattle.pw_code.specs.Valid.{IsDeckFile, IsValid}
@@ -34,8 +35,8 @@ fit-within files f kind bytes fit = by (slice_get files f) refl fit
 pub fit-content : (file : Option FileInfo) (bytes : List ℕ) → fits_file file Put bytes ≡ true → IsContent (key_of_file file) bytes
 fit-content None bytes wrong = absurd (false≢true wrong)
 fit-content (Some file) bytes fits =
-    let parts = and_parts (nat_le file.key (length bytes)) (nat_le (length bytes) 4000) fits in
-    (leb-true file.key (length bytes) parts.0, leb-true (length bytes) 4000 parts.1)
+    let parts = and_parts (nat_le file.key (length bytes)) (nat_le (length bytes) most_content) fits in
+    (leb-true file.key (length bytes) parts.0, leb-true (length bytes) most_content parts.1)
 
 -- one change more
 pub changes-more : (key_length : ℕ → ℕ) (before after : List Change) (files : ℕ → List (List ℕ))

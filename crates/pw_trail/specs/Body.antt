@@ -2,6 +2,7 @@
 use Rattle.std.specs.Prelude.{◌≡◌, ℕ, zero, suc, ◌==◌, ◌&&◌, Bool, false, List, [], ◌∷◌, ◌++◌, length, slice_get, Option, Some, None, Result, Ok, Err, nat_le, if◌then◌else◌}
 use Rattle.std.specs.Int.{w32, to_be_bytes}
 use Rattle.std.specs.List.{flat_map}
+use Rattle.pw_base.specs.Limits.{most_content}
 use Rattle.pw_code.specs.declared.file.FileInfo.{FileInfo}
 use Rattle.pw_image.specs.Reading.{Front, ◌>>=◌, all_of, block_at, both_at, byte_at, counted_at, is_any, is_truth, made_at, many_at, number_at}
 use Rattle.pw_trail.specs.declared.changes.Change.{Change}
@@ -32,7 +33,7 @@ body_of unit =
 -- a put has a whole record of its file, and a remove has its key
 abbrev pub fits_file : Option FileInfo → Kind → List ℕ → Bool
 fits_file None kind bytes = false
-fits_file (Some file) Put bytes = nat_le file.key (length bytes) && nat_le (length bytes) 4000
+fits_file (Some file) Put bytes = nat_le file.key (length bytes) && nat_le (length bytes) most_content
 fits_file (Some file) Remove bytes = length bytes == file.key
 
 -- the change is of one of the files

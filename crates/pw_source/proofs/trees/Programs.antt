@@ -4,6 +4,7 @@ use Rattle.std.specs.Prelude.{nat_lt}
 use Rattle.pw_words.specs.Words.{Word}
 use Rattle.pw_forms.specs.declared.operand.Operand.{Operand}
 use Rattle.pw_forms.specs.declared.statement.Paragraph.{Paragraph}
+use Rattle.pw_code.specs.Limits.{most_active}
 use Rattle.pw_code.specs.declared.verb.Verb.TheVariants as verb
 use Rattle.pw_code.specs.declared.verb.Answer.{Answer}
 use Rattle.pw_source.specs.Program.{Program, program_at, program_number, body_by, body_named, first_screen, storage_size}
@@ -13,7 +14,7 @@ use Rattle.pw_source.specs.Operands.{spot_in}
 use Rattle.pw_source.specs.Performs.{call_program, caller_state, comes_back, chars_of_all, parameter_spots, put_all}
 use Rattle.pw_source.specs.Sends.{stop}
 use Rattle.pw_source.specs.Statements.{body}
-use Rattle.pw_source.specs.Runs.{performed, most_performs, flow, program_run, setting_of, called, most_active, ended}
+use Rattle.pw_source.specs.Runs.{performed, most_performs, flow, program_run, setting_of, called, ended}
 use Rattle.pw_source.proofs.trees.Trees.{Files, at, Rules, Found, Behaves}
 use Rattle.pw_source.proofs.trees.Found.{found-same, found-by, found-here, found-fault, IsAt-own, then-behaves}
 use Rattle.pw_source.proofs.trees.Taken.{found-operands}
