@@ -2,8 +2,8 @@
 use Rattle.std.proofs.Common.{◌≡◌, ℕ, Bool, true, false, List, [], ◌∷◌, map, Option, Some, None, if◌then◌else◌, ◌∙◌, refl, sym, ap, ap₂, subst}
 use Rattle.std.specs.Option.{is_some, option_map}
 use Rattle.std.specs.Prelude.{find}
-use Rattle.std.proofs.Math.Path.{fun_ext}
 use Rattle.std.proofs.lemmas.Bool.{not-false}
+use Rattle.pw_keep.proofs.Parts.{upd-twice}
 use Rattle.pw_code.specs.declared.context.Context.{Context}
 use Rattle.pw_code.specs.declared.system.System.{System}
 use Rattle.pw_code.specs.declared.verb.Answer.{Answer}
@@ -29,7 +29,7 @@ use Rattle.pw_pair.specs.declared.message.CheckMessage.{CheckMessage}
 use Rattle.pw_pair.specs.declared.seat.Flight.{Flight}
 use Rattle.pw_pair.specs.declared.seat.Seat.{Seat}
 use Rattle.pw_onecopy.specs.Update.{upd}
-use Rattle.pw_onecopy.proofs.Update.{upd-other, upd-same, upd_elim}
+use Rattle.pw_onecopy.proofs.Update.{upd-same}
 
 -- ---- CHECK
 
@@ -109,13 +109,6 @@ each-built t (seat ∷ seats) = ap₂ (λ (s : Seat) (l : List Seat). s ∷ l) (
 
 pub pair-built : (t : ℕ) (pair : SeenPair) → after_applied t (changed_at t built pair) ≡ after_applied t pair
 pair-built t pair = ap (λ (seats : List Seat). settled (record pair { seats = seats })) (each-built t pair.seats)
-
--- of two changes at one place the last stays
-upd-twice : {A : Type 0} (f : ℕ → A) (k : ℕ) (a b : A) → upd (upd f k a) k b ≡ upd f k b
-upd-twice f k a b = fun_ext (λ j.
-    upd_elim (upd f k a) k b j (λ y. y ≡ upd f k b j)
-    (λ is. sym (upd-same f k b j is))
-    (λ ne. upd-other f k a j ne ∙ sym (upd-other f k b j ne)))
 
 pub built-applied : (p t : ℕ) (kept : Kept) → kept_applied p t (at_pair p (changed_at t built) kept) ≡ kept_applied p t kept
 built-applied p t kept =

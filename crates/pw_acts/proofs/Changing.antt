@@ -1,6 +1,5 @@
 -- Calls that change what is kept, said in other words.
-use Rattle.std.proofs.Common.{◌≡◌, ℕ, List, Result, Ok, Err, ◌∙◌, refl, sym, ap, subst}
-use Rattle.std.specs.Prelude.{OnOk}
+use Rattle.std.proofs.Common.{◌≡◌, ℕ, List, ◌∙◌, refl, sym, ap, subst}
 use Rattle.pw_code.specs.declared.system.System.{System}
 use Rattle.pw_event.specs.declared.event.Event.{Event}
 use Rattle.pw_keep.specs.Keeps.{IsChanged, IsRefused, KeepState, kept_in}
@@ -8,11 +7,6 @@ use Rattle.pw_kept.specs.Entered.{entered}
 use Rattle.pw_kept.specs.Kept.{Kept}
 use Rattle.pw_tmf.specs.Told.{Told}
 use Rattle.pw_tmf.specs.declared.answer.DiscFault.TheVariants as fault
-
--- what follows where the result is Ok
-pub on-ok : {A E P Q : Type 0} (r : Result A E) → OnOk r P → (P → Q) → OnOk r Q
-on-ok (Ok x) h f = f h
-on-ok (Err e) h f = tt
 
 -- two changes that do the same to what was kept
 pub changed-alike : {D : Type 0} (told : D → Told) (f g : Kept → Kept) (old new : KeepState D)

@@ -11,6 +11,7 @@ use Rattle.std.proofs.lemmas.Cmp.{nat_list_cmp_total}
 use Rattle.std.proofs.lemmas.List.{append-nil, take_at}
 use Rattle.std.proofs.lemmas.List.Elements.{All-from_recursion, recursion_from_All}
 use Rattle.std.proofs.lemmas.List.Concat.{flat_map-append}
+use Rattle.pw_base.proofs.Plain.{is_lt-Less}
 use Rattle.pw_base.specs.Limits.{most_content}
 use Rattle.pw_files.specs.Records.{key_cmp, compared, below, above, record_at}
 use Rattle.pw_blocks.specs.declared.cut.Cut.{Cut}
@@ -18,12 +19,6 @@ use Rattle.pw_blocks.specs.Cuts.{IsCut, Rises}
 use Rattle.pw_blocks.specs.Packing.{packed, packed_all, unpacked, IsBlock, from_key}
 use Rattle.pw_blocks.proofs.PackingLemmas.{IsBlock-packed, unpacked-packed_all}
 use Rattle.pw_blocks.proofs.RoundLemmas.{all_front, all_back, all_unmapped, sorted_back, round_below, round_above, round_at, above_not_below}
-
--- what the test for less says
-pub lt_is : (o : Ordering) → is_lt o ≡ true → o ≡ Less
-lt_is Less h = refl
-lt_is Equal h = cc
-lt_is Greater h = cc
 
 module _ (n : ℕ) (key : List ℕ) where
   abbrev pub AllLess : List (List ℕ) → Type 0
@@ -38,7 +33,7 @@ module _ (n : ℕ) (key : List ℕ) where
   before_key (content ∷ contents) =
       let at : (b : Bool) → is_lt (compared n key content) ≡ b → (front : List (List ℕ)) × (front ++ cond b (from_key n contents key) (content ∷ contents) ≡ content ∷ contents) × AllLess front =
       λ b is. elim b as (λ b. is_lt (compared n key content) ≡ b → (front : List (List ℕ)) × (front ++ cond b (from_key n contents key) (content ∷ contents) ≡ content ∷ contents) × AllLess front) [
-        | true ↦ λ e. let rest = before_key contents in (content ∷ rest.0, ap (λ xs. content ∷ xs) rest.1, (lt_is (compared n key content) e, rest.2))
+        | true ↦ λ e. let rest = before_key contents in (content ∷ rest.0, ap (λ xs. content ∷ xs) rest.1, (is_lt-Less (compared n key content) e, rest.2))
         | false ↦ λ e. ([], refl, tt)
       ] is in
       at (is_lt (compared n key content)) refl

@@ -10,11 +10,12 @@ use Rattle.std.proofs.lemmas.List.{length-map}
 use Rattle.std.proofs.lemmas.List.Elements.{All-from_recursion, recursion_from_All}
 use Rattle.std.proofs.lemmas.Map.Keys.{Less-from_sorted}
 use Rattle.std.proofs.lemmas.Map.Lookups.{exact_bytes}
+use Rattle.pw_base.proofs.Plain.{all-weaker, all-append}
 use Rattle.pw_files.specs.Records.{key_cmp, compared}
 use Rattle.pw_blocks.specs.Blocks.{records_of, first_key, IsBlockFile, IsHome}
 use Rattle.pw_blocks.specs.Cuts.{Rises}
 use Rattle.pw_blocks.proofs.CutLemmas.{AllLess, AllGreater}
-use Rattle.pw_blocks.proofs.RoundLemmas.{all_back, all_both, all_unmapped, all_weaker, sorted_back, sorted_across, above_not_below}
+use Rattle.pw_blocks.proofs.RoundLemmas.{all_back, all_unmapped, sorted_back, sorted_across, above_not_below}
 
 -- no block is empty
 abbrev NoneEmpty : List (List (List ℕ)) → Type 0
@@ -102,8 +103,8 @@ module _ (n : ℕ) where
     low_at (block ∷ blocks) some s (suc i) h e =
         let within : i < length blocks = omega (arith, h) in
         let first : List ℕ = get_or (firsts blocks) i [] in
-        all_both (λ c. compared n key c ≡ Less) block (records_of (take i blocks))
-        (all_weaker (λ c. AllByRecursion (λ d. key_cmp (key_of c) (key_of d) ≡ Less) (records_of blocks)) (λ c. compared n key c ≡ Less)
+        all-append (λ c. compared n key c ≡ Less) block (records_of (take i blocks))
+        (all-weaker (λ c. AllByRecursion (λ d. key_cmp (key_of c) (key_of d) ≡ Less) (records_of blocks)) (λ c. compared n key c ≡ Less)
         (λ c all. below_le (key_of c) first key (first_among (λ k. key_cmp (key_of c) k ≡ Less) blocks some.1 all i within) e) block
         (sorted_across key_cmp key_of block (records_of blocks) s))
         (low_at blocks some.1 (sorted_back key_cmp key_of block (records_of blocks) s) i within e)

@@ -1,5 +1,5 @@
 -- What a file answers for a key that lies in the middle of its records, and keys that rise in parts of a list.
-use Rattle.std.proofs.Common.{◌≡◌, ℕ, ◌∙◌, sym, ap, refl, false, Bool, List, [], ◌∷◌, ◌++◌, map, take, Some, None, Option}
+use Rattle.std.proofs.Common.{◌≡◌, ℕ, ◌∙◌, sym, ap, refl, false, Bool, List, [], ◌∷◌, ◌++◌, map, take}
 use Rattle.std.specs.Prelude.{filter, find, All}
 use Rattle.std.specs.List.{AllByRecursion}
 use Rattle.std.specs.List.Sorted.{IsStrictlySortedBy}
@@ -12,6 +12,7 @@ use Rattle.std.proofs.lemmas.List.{append-nil}
 use Rattle.std.proofs.lemmas.List.Elements.{filter-append, All-weaker}
 use Rattle.std.proofs.lemmas.List.Folds.{find-append}
 use Rattle.std.proofs.lemmas.Map.Lookups.{exact_bytes}
+use Rattle.pw_base.proofs.Plain.{option_or-None}
 use Rattle.pw_files.specs.Records.{key_cmp, compared, below, above, record_at}
 use Rattle.pw_files.proofs.Lists.{filter_all, filter_none, find_none}
 use Rattle.pw_files.proofs.Lists.{find-append as find-append_none}
@@ -25,20 +26,10 @@ pub all_back : {X : Type 0} (P : X → Type 0) (xs ys : List X) → AllByRecursi
 all_back P [] ys h = h
 all_back P (x ∷ xs) ys h = all_back P xs ys h.1
 
--- and of all of two parts of all of the whole
-pub all_both : {X : Type 0} (P : X → Type 0) (xs ys : List X) → AllByRecursion P xs → AllByRecursion P ys → AllByRecursion P (xs ++ ys)
-all_both P [] ys h k = k
-all_both P (x ∷ xs) ys h k = (h.0, all_both P xs ys h.1 k)
-
 -- a weaker fact, of what f gives
 pub all_unmapped : {X Y : Type 0} (f : X → Y) (P : Y → Type 0) (Q : X → Type 0) → ((x : X) → P (f x) → Q x) → (xs : List X) → AllByRecursion P (map f xs) → AllByRecursion Q xs
 all_unmapped f P Q w [] h = tt
 all_unmapped f P Q w (x ∷ xs) h = (w x h.0, all_unmapped f P Q w xs h.1)
-
--- a weaker fact
-pub all_weaker : {X : Type 0} (P Q : X → Type 0) → ((x : X) → P x → Q x) → (xs : List X) → AllByRecursion P xs → AllByRecursion Q xs
-all_weaker P Q w [] h = tt
-all_weaker P Q w (x ∷ xs) h = (w x h.0, all_weaker P Q w xs h.1)
 
 module _ {X K : Type 0} (R : K → K → Ordering) (f : X → K) where
   -- keys that rise in a list rise in its parts
@@ -64,11 +55,6 @@ module _ {X K : Type 0} (R : K → K → Ordering) (f : X → K) where
     all_back (λ y. R (f x) (f y) ≡ Less) xs ys (all_unmapped f (λ y. R (f x) y ≡ Less) (λ y. R (f x) (f y) ≡ Less) (λ y h. h) (xs ++ ys) s.0),
     sorted_across xs ys s.1,
   )
-
--- the first of nothing else
-option_or-none : {X : Type 0} (o : Option X) → option_or o None ≡ o
-option_or-none None = refl
-option_or-none (Some x) = refl
 
 -- a key that is above another has it below
 pub turned_greater : (a b : List ℕ) → key_cmp a b ≡ Greater → key_cmp b a ≡ Less
@@ -102,7 +88,7 @@ module _ (n : ℕ) (key : List ℕ) where
     round_at =
         let p : List ℕ → Bool = λ content. is_eq (compared n key content) in
         find-append_none p low (middle ++ high) (tested is_eq Less low l)
-        ∙ (find-append p middle high ∙ ap (λ o. option_or (find p middle) o) (find_none p high (tested is_eq Greater high h)) ∙ option_or-none (find p middle))
+        ∙ (find-append p middle high ∙ ap (λ o. option_or (find p middle) o) (find_none p high (tested is_eq Greater high h)) ∙ option_or-None (find p middle))
 
   -- what is above a content that is not below the key is above the key
   pub above_not_below : (content : List ℕ) → is_lt (compared n key content) ≡ false → (k : List ℕ) → key_cmp (take n content) k ≡ Less → key_cmp k key ≡ Greater

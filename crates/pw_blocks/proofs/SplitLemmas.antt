@@ -1,16 +1,9 @@
 -- Into which blocks a content splits its block.
-use Rattle.std.proofs.Common.{◌≡◌, ℕ, ◌+◌, ◌<◌, ◌≤◌, ◌∙◌, refl, sym, ap, true, false, List, [], ◌∷◌, ◌++◌, length, arith}
-use Rattle.std.specs.Prelude.{nat_le}
-use Rattle.std.proofs.lemmas.Bool.Decides.{nat_tests}
+use Rattle.std.proofs.Common.{◌≡◌, ℕ, ◌+◌, ◌<◌, ◌≤◌, ◌∙◌, refl, sym, ap, List, [], ◌∷◌, ◌++◌, length}
+use Rattle.pw_base.proofs.Plain.{le-true, le-false}
 use Rattle.pw_blocks.specs.Packing.{IsBlock, packed_all, unpacked}
 use Rattle.pw_blocks.specs.Splits.{split, split_by}
 use Rattle.pw_blocks.proofs.BlockLemmas.{unpacked-none}
-
-at-most : (a b : ℕ) → a ≤ b → nat_le a b ≡ true
-at-most a b h = grind (arith, nat_tests)
-
-above : (a b : ℕ) → b < a → nat_le a b ≡ false
-above a b h = grind (arith, nat_tests)
 
 -- two and three items that are pushed
 pub two-items : {A : Type 0} (s t u : List A) (x y v w : A) → s ≡ [] → t ≡ s ++ x ∷ [] → u ≡ t ++ y ∷ [] → x ≡ v → y ≡ w → u ≡ v ∷ w ∷ []
@@ -36,12 +29,12 @@ module _ (b h content : List ℕ) (block_b : IsBlock b) (block_h : IsBlock h) (f
 
   -- the content fits beside the first part
   pub split-first : length b + (length content + 2) ≤ 4096 → (unpacked b ++ content ∷ []) ∷ unpacked h ∷ [] ≡ split (unpacked b) content (unpacked h)
-  split-first fits = sym (sizes ∙ rw (above _ _ full, at-most _ _ fits) refl)
+  split-first fits = sym (sizes ∙ rw (le-false _ _ full, le-true _ _ fits) refl)
 
   -- or beside the second alone
   pub split-second : 4096 < length b + (length content + 2) → length content + 2 + length h ≤ 4096 → unpacked b ∷ (content ∷ unpacked h) ∷ [] ≡ split (unpacked b) content (unpacked h)
-  split-second first fits = sym (sizes ∙ rw (above _ _ full, above _ _ first, at-most _ _ fits) refl)
+  split-second first fits = sym (sizes ∙ rw (le-false _ _ full, le-false _ _ first, le-true _ _ fits) refl)
 
   -- or beside neither
   pub split-neither : 4096 < length b + (length content + 2) → 4096 < length content + 2 + length h → unpacked b ∷ (content ∷ []) ∷ unpacked h ∷ [] ≡ split (unpacked b) content (unpacked h)
-  split-neither first second = sym (sizes ∙ rw (above _ _ full, above _ _ first, above _ _ second) refl)
+  split-neither first second = sym (sizes ∙ rw (le-false _ _ full, le-false _ _ first, le-false _ _ second) refl)

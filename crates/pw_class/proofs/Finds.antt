@@ -1,5 +1,5 @@
 -- Whether a place is found.
-use Rattle.std.proofs.Common.{◌≡◌, ℕ, ◌+◌, ◌-◌, ◌<◌, ◌≤◌, ◌||◌, sym, List, length, get_or, Option, None, Some, Bool, true, false, cond, refl, ap, ◌∙◌, arith}
+use Rattle.std.proofs.Common.{◌≡◌, ℕ, ◌+◌, ◌-◌, ◌<◌, ◌≤◌, ◌||◌, sym, List, length, get_or, Option, None, Some, Bool, true, false, refl, ap, ◌∙◌, arith}
 use Rattle.std.specs.Prelude.{position, IfSome, IsTrue, is_some, ◌==◌}
 use Rattle.std.specs.List.{list_any, position_or_len}
 use Rattle.std.proofs.lemmas.Bool.Decides.{nat_tests}
@@ -7,20 +7,17 @@ use Rattle.std.proofs.lemmas.List.Folds.{list_any_none, list_any_at}
 use Rattle.std.proofs.lemmas.List.Quantifiers.{position-Some}
 use Rattle.std.proofs.lemmas.List.Sums.{fails_before_first}
 use Rattle.std.proofs.lemmas.List.{get_or_default}
+use Rattle.pw_base.proofs.Plain.{cond_none}
 use Rattle.pw_class.specs.Book.{queue_at}
 use Rattle.pw_class.specs.Places.{IsPlace}
 use Rattle.pw_class.specs.Queue.{Queue, is_of, works_for, at_process, has_request, IsIn}
 use Rattle.pw_class.specs.declared.request.Place.{Place}
 use Rattle.pw_class.specs.declared.request.Place.TheVariants.{Busy, Waiting}
 
-none_at : (b : Bool) (n : ℕ) → cond b (Some n) None ≡ None → b ≡ false
-none_at true n e = absurd (cc e)
-none_at false n e = refl
-
 -- where no place is found, none passes
 pub none-each : {X : Type 0} (p : X → Bool) (xs : List X) → position p xs ≡ None → (k : ℕ) (d : X) → k < length xs → p (get_or xs k d) ≡ false
 none-each p xs e k d lt =
-    let past = none_at _ _ e in
+    let past = cond_none _ _ e in
     let all : length xs ≤ position_or_len p xs = grind (arith, nat_tests, past) in
     fails_before_first p xs k d (omega arith)
 

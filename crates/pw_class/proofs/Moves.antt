@@ -6,6 +6,7 @@ use Rattle.std.proofs.lemmas.Bool.Decides.{nat_tests}
 use Rattle.std.proofs.lemmas.List.{get_or-set_same}
 use Rattle.std.proofs.lemmas.List.Folds.{list_any-append}
 use Rattle.std.proofs.lemmas.List.Quantifiers.{position-Some}
+use Rattle.pw_base.proofs.Plain.{or-false}
 use Rattle.pw_class.specs.Book.{is_out, queue_at}
 use Rattle.pw_class.specs.Places.{AreNoted, IsPlace, noted}
 use Rattle.pw_class.specs.Queue.{Queue, after_take, after_take_of, at_process, busy_without, free_place, has_request, is_of, taken, taken_of, with_free, with_request, without, works_for}
@@ -14,10 +15,6 @@ use Rattle.pw_class.specs.declared.request.Place.TheVariants.{Busy, Waiting}
 use Rattle.pw_class.specs.declared.request.Request.{Request}
 use Rattle.pw_class.specs.declared.request.Taken.TheVariants.{Got, Empty, NoneFree}
 use Rattle.pw_class.proofs.Noting.{SameBook, SameFor, book-map, book-set, out-at, room, same-queue, still-noted}
-
-or_false : (b : Bool) → (b || false) ≡ b
-or_false true = refl
-or_false false = refl
 
 -- the test of a process's work, where one place changes and passes as before
 set-each : {X : Type 0} (p : X → Bool) (xs : List X) (i : ℕ) (y d : X) → p (get_or xs i d) ≡ p y → (k : ℕ)
@@ -53,7 +50,7 @@ busy-set terminal queue place work same = record {
 
 pub put-same : (terminal : ℕ) (queue : Queue) (request : Request) → is_of terminal request ≡ false → SameFor terminal queue (with_request queue request)
 put-same terminal queue request differs = record {
-  waits = sym (list_any-append (is_of terminal) queue.waiting (request ∷ []) ∙ rw differs (or_false _));
+  waits = sym (list_any-append (is_of terminal) queue.waiting (request ∷ []) ∙ rw differs (or-false _));
   any = refl;
   each = λ process. refl;
 }

@@ -1,8 +1,9 @@
 -- What is taken of a class.
-use Rattle.std.proofs.Common.{◌≡◌, ◌≢◌, ℕ, ◌+◌, ◌-◌, ◌<◌, ◌≤◌, List, [], ◌∷◌, get_or, true, false, Option, None, Some, refl, sym, ap, subst, ◌∙◌, arith}
+use Rattle.std.proofs.Common.{◌≡◌, ◌≢◌, ℕ, ◌+◌, ◌-◌, ◌<◌, ◌≤◌, List, [], ◌∷◌, get_or, false, Option, None, Some, refl, sym, ap, subst, ◌∙◌, arith}
 use Rattle.std.specs.Prelude.{All, IsSome, is_none, position, slice_get, ◌==◌, ◌↔◌}
 use Rattle.std.proofs.lemmas.Bool.Decides.{nat_tests}
 use Rattle.std.proofs.lemmas.List.Quantifiers.{position-Some}
+use Rattle.pw_base.proofs.Plain.{is_none-None}
 use Rattle.pw_class.specs.Queue.{Queue, at_process, free_place, taken, taken_of}
 use Rattle.pw_class.specs.Taking.{IsFirstFree}
 use Rattle.pw_class.specs.declared.request.Request.{Request}
@@ -26,10 +27,6 @@ is_some_of : {X : Type 0} (work : Option X) → is_none work ≡ false → IsSom
 is_some_of None e = absurd (cc e)
 is_some_of (Some x) e = refl
 
-is_none_of : {X : Type 0} (work : Option X) → is_none work ≡ true → work ≡ None
-is_none_of None e = refl
-is_none_of (Some x) e = absurd (cc e)
-
 taken_none : (waiting : List Request) → waiting ≢ [] → taken_of waiting None ≡ NoneFree
 taken_none [] some = absurd (some refl)
 taken_none (request ∷ rest) some = refl
@@ -38,7 +35,7 @@ no_free : (busy : List (Option Request)) (free : Option ℕ) → position is_non
 no_free busy None e all = refl
 no_free busy (Some place) e all =
     let found = position-Some is_none busy place None e in
-    let none : get_or busy place None ≡ None = is_none_of _ found.1 in
+    let none : get_or busy place None ≡ None = is_none-None _ found.1 in
     let some : IsSome (get_or busy place None) = all place None found.0 in
     absurd (cc (none, some))
 
@@ -75,7 +72,7 @@ taken-Got queue process request e =
       record {
         from_one = from_one;
         there = omega (arith, found.0);
-        free = at_number queue process from_one ∙ (ap (λ k. get_or queue.busy k None) before ∙ is_none_of _ found.1);
+        free = at_number queue process from_one ∙ (ap (λ k. get_or queue.busy k None) before ∙ is_none-None _ found.1);
         smaller_busy = λ other le lt.
             let below : other - 1 < place = omega arith in
             subst IsSome (sym (at_number queue other le)) (is_some_of _ (found.2 (other - 1) below));

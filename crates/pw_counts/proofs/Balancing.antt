@@ -2,6 +2,7 @@
 use Rattle.std.proofs.Common.{◌≡◌, ℕ, ◌+◌, Bool, true, false, not, ◌&&◌, ◌||◌, cond, List, [], ◌∷◌, length, refl, sym, ap, ◌∙◌, arith}
 use Rattle.std.specs.Prelude.{◌==◌, if◌then◌else◌}
 use Rattle.std.specs.Str.{bytes_eq}
+use Rattle.pw_base.proofs.Plain.{and-second}
 use Rattle.pw_counts.proofs.Sums.{sum-parts, sum-same}
 use Rattle.pw_counts.specs.Records.{Balances, grown_in, images_of, kept_changes, shrunk_in, sum_to}
 use Rattle.pw_counts.specs.declared.records.Change.{Change}
@@ -14,7 +15,7 @@ use Rattle.pw_locks.specs.declared.lock.Lock.{Lock}
 use Rattle.pw_onecopy.specs.Behaviour.{Behaviour}
 use Rattle.pw_paired.specs.State.{BeforeImage}
 use Rattle.pw_paired.specs.Units.{has_image, restored_files}
-use Rattle.pw_laws.proofs.Tests.{all-filter, and-second, any-filter, any-more}
+use Rattle.pw_laws.proofs.Tests.{all-filter, any-filter, any-more}
 
 -- ---- the before-images of some terminals
 

@@ -25,6 +25,7 @@ use Rattle.pw_order.specs.declared.block.Block.{Block}
 use Rattle.pw_order.specs.declared.block.Block.TheVariants as block
 use Rattle.pw_order.specs.declared.block.How as order
 use Rattle.pw_order.specs.declared.block.How.TheVariants as how
+use Rattle.pw_order.proofs.Giving.{told-append}
 use Rattle.pw_paired.specs.Failure.{is_of_pair}
 use Rattle.pw_paired.specs.Serial.{Reading, blocks_of, is_idle, left_block, left_blocks, makes_gone}
 use Rattle.pw_paired.specs.State.{OpenUnit, State}
@@ -35,11 +36,6 @@ use Rattle.pw_paired.specs.Units.{attempt_of}
 abbrev pub number : Bool → ℕ
 number b = if b then 1 else 0
 
--- two parts
-map-parts : (front back : List one.Block) → map told (front ++ back) ≡ map told front ++ map told back
-map-parts [] back = refl
-map-parts (b ∷ front) back = ap (λ (rest : List Block). told b ∷ rest) (map-parts front back)
-
 -- ---- by a test that takes attempts by how they are over
 
 module _ (p : Block → Bool) (kind : order.How → Bool) (no_out : (t : ℕ) → p (block.Out t) ≡ false) (no_done : (t : ℕ) (e : Ending) → p (block.Done t e) ≡ false)
@@ -48,7 +44,7 @@ module _ (p : Block → Bool) (kind : order.How → Bool) (no_out : (t : ℕ) �
   counted_in blocks = count_by p (map told blocks)
 
   parts : (front back : List one.Block) → counted_in (front ++ back) ≡ counted_in front + counted_in back
-  parts front back = ap (count_by p) (map-parts front back) ∙ sum_by-append (λ (b : Block). if p b then 1 else 0) (map told front) (map told back)
+  parts front back = ap (count_by p) (told-append front back) ∙ sum_by-append (λ (b : Block). if p b then 1 else 0) (map told front) (map told back)
 
   shown-none : (b : Bool) (t : ℕ) → counted_in (if b then one.Out t ∷ [] else []) ≡ 0
   shown-none true t = one-item p (block.Out t) false (no_out t)

@@ -1,6 +1,5 @@
 -- What a run knows: the terminals of its jobs, of its locks and of the attempts that are over.
-use Rattle.std.proofs.Common.{◌≡◌, ℕ, ◌+◌, ◌<◌, ◌≤◌, Bool, true, false, ◌&&◌, cond, not, List, [], ◌∷◌, ◌++◌, length, length-append, Option, Some, None, refl, sym, ap, subst, ◌∙◌, append_assoc, arith}
-use Rattle.std.proofs.lemmas.List.{append-nil}
+use Rattle.std.proofs.Common.{◌≡◌, ℕ, ◌+◌, ◌<◌, ◌≤◌, Bool, true, false, ◌&&◌, cond, not, List, [], ◌∷◌, ◌++◌, length, length-append, Option, Some, None, refl, sym, ap, subst, ◌∙◌, arith}
 use Rattle.std.specs.List.{AllByRecursion}
 use Rattle.std.specs.Prelude.{is_none}
 use Rattle.pw_counts.proofs.Releasing.{file-adds, locks-next}
@@ -24,11 +23,12 @@ use Rattle.pw_order.specs.declared.block.How as order
 use Rattle.pw_order.specs.declared.block.How.TheVariants as how
 use Rattle.pw_paired.specs.End.{LegalEnd}
 use Rattle.pw_paired.specs.State.{Job, State, starting}
-use Rattle.pw_paired.specs.Step.{Fits, IsRun, Legal, after, after_from, effect}
+use Rattle.pw_paired.specs.Step.{Fits, IsRun, Legal, after, effect}
 use Rattle.pw_paired.specs.Units.{without_locks}
 use Rattle.pw_laws.proofs.induction.Runs.{holds-behind, kept}
 use Rattle.pw_laws.proofs.kept.Kept.{Inv}
 use Rattle.pw_laws.proofs.requests.Requests.{place_of_job, sent_of}
+use Rattle.pw_laws.proofs.restarts.Few.{log-from}
 
 -- ---- terminals whose attempts are over
 
@@ -159,11 +159,6 @@ module _ (sys : Behaviour) (b : IsBehaviour sys) (log : List Event) (run : IsRun
 
 pub locks-known : (sys : Behaviour) → IsBehaviour sys → (log : List Event) → IsRun sys log → LocksKnown sys.terminals (after sys log)
 locks-known sys b = holds-behind sys (LocksKnown sys.terminals) (keeps-locks sys b) (record { few = omega arith; known = tt })
-
--- the log of the state behind a log
-log-from : (sys : Behaviour) (s : State) (log : List Event) → (after_from sys s log).log ≡ s.log ++ log
-log-from sys s [] = sym (append-nil s.log)
-log-from sys s (entry ∷ log) = log-from sys (effect sys s entry) log ∙ append_assoc s.log (entry ∷ []) log
 
 pub few-locks : (sys : Behaviour) → IsBehaviour sys → (log : List Event) → IsRun sys log → length (after sys log).locks ≤ length log
 few-locks sys b log run = let known = locks-known sys b log run in let few = known.few in let same = ap length (log-from sys (starting sys) log) in omega (arith, few, same)

@@ -5,6 +5,7 @@ use Rattle.std.proofs.lemmas.List.Elements.{All-head, All-tail}
 use Rattle.std.specs.List.{AllByRecursion, IsDistinct}
 use Rattle.std.specs.Prelude.{◌==◌, All, fold, is_some, map, if◌then◌else◌}
 use Rattle.std.specs.Str.{bytes_eq}
+use Rattle.pw_base.proofs.Plain.{and-second, bytes_eq-same}
 use Rattle.pw_code.specs.declared.file.FileCall.{FileCall}
 use Rattle.pw_code.specs.declared.file.FileOp.{FileOp}
 use Rattle.pw_code.specs.declared.file.FileOp.TheVariants.{Read, Next, Write, Rewrite, Delete, ReadLock, NextLock}
@@ -12,10 +13,9 @@ use Rattle.pw_counts.specs.Records.{grows, shrinks}
 use Rattle.pw_files.proofs.Lookups.{record_at-found, record_at-with_other, record_at-with_record, record_at-without_key, record_at-without_other}
 use Rattle.pw_files.proofs.RecordLemmas.{IsFile-with_record, IsFile-without_key}
 use Rattle.pw_files.specs.Records.{IsContent, IsFile, above, below, record_at, with_record, without_key}
-use Rattle.pw_laws.proofs.records.Images.{cases_bytes, same_bytes}
+use Rattle.pw_laws.proofs.records.Images.{cases_bytes}
 use Rattle.pw_laws.proofs.seeing.SameFiles.{same_files}
 use Rattle.pw_onecopy.specs.Operation.{answer_of, change_answer, changed_records, changes_records, is_change, records_behind}
-use Rattle.pw_laws.proofs.Tests.{and-second}
 
 module _ (n : ℕ) (records : List (List ℕ)) (file : IsFile n records) where
   -- how many records have other keys
@@ -108,7 +108,7 @@ none-then : (n : ℕ) (records : List (List ℕ)) → IsFile n records → (cont
 none-then n records file content [] apart none = tt
 none-then n records file content (next ∷ rest) apart none = (
   ⊎_elim
-      (λ same. absurd (false≢true (sym apart.0 ∙ (ap (λ (key : List ℕ). bytes_eq key (take n next)) (sym same.0) ∙ same_bytes (take n next)))))
+      (λ same. absurd (false≢true (sym apart.0 ∙ (ap (λ (key : List ℕ). bytes_eq key (take n next)) (sym same.0) ∙ bytes_eq-same (take n next)))))
       (λ differ. record_at-with_other n records content (take n next) differ.0 ∙ none.0)
       (cases_bytes (take n next) (take n content)),
   none-then n records file content rest apart.1 none.1,

@@ -15,6 +15,7 @@ use Rattle.pw_listing.specs.declared.numbers.Number.{Number}
 use Rattle.pw_onecopy.specs.Refreshes.{once, refreshes_of, same_number}
 use Rattle.pw_onecopy.specs.declared.refresh.Refresh.{Refresh}
 use Rattle.pw_laws.proofs.screens.Once.{has_number, once-new, once-there, parts-same, same-parts}
+use Rattle.pw_laws.proofs.blocks.Own.{refreshes-more}
 
 -- before the first refresh
 pub none-shown : (t : ℕ) (numbers : BTreeSet Number) → numbers.keys ≡ [] → HasNumbers [] t numbers
@@ -39,10 +40,6 @@ other-more t k refreshes r own differ =
     one-more k refreshes r
     ∙ (ap (λ (b : Bool). refreshes_of k refreshes ++ (if b then r ∷ [] else [])) (ne_eqb r.terminal k (λ e. differ (sym e ∙ own)))
     ∙ append-nil (refreshes_of k refreshes))
-
-own-more : (t : ℕ) (refreshes : List Refresh) (r : Refresh) → r.terminal ≡ t → refreshes_of t (refreshes ++ r ∷ []) ≡ refreshes_of t refreshes ++ r ∷ []
-own-more t refreshes r own =
-    one-more t refreshes r ∙ ap (λ (b : Bool). refreshes_of t refreshes ++ (if b then r ∷ [] else [])) (eq-eqb r.terminal t own)
 
 -- one, where it is so
 abbrev flagged : Bool → ℕ
@@ -70,7 +67,7 @@ noted refreshes r t fresh old new known own is shown k low =
         let count = count-more r (refreshes_of t refreshes) (has_number r (refreshes_of t refreshes)) refl in
         let fresh_is : fresh ≡ not (has_number r (refreshes_of t refreshes)) = is.fresh_is ∙ ap not (before.has r) in
         let flag = ap flagged fresh_is in
-        let whole : length (counted (refreshes ++ r ∷ []) t) ≡ length (once (refreshes_of t refreshes ++ r ∷ [])) = ap (λ (l : List Refresh). length (once l)) (own-more t refreshes r own) in
+        let whole : length (counted (refreshes ++ r ∷ []) t) ≡ length (once (refreshes_of t refreshes ++ r ∷ [])) = ap (λ (l : List Refresh). length (once l)) (refreshes-more t refreshes r own) in
         let so = before.count in
         let now = is.count in
         record {

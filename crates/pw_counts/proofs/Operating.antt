@@ -5,6 +5,7 @@ use Rattle.std.proofs.lemmas.List.Sums.{sum_by-append}
 use Rattle.std.specs.List.{AllByRecursion, list_any}
 use Rattle.std.specs.Prelude.{◌==◌, count_by, is_some, if◌then◌else◌}
 use Rattle.std.specs.Str.{bytes_eq}
+use Rattle.pw_base.proofs.Plain.{and-first, and-swap, bytes_eq-same}
 use Rattle.pw_code.specs.declared.file.FileCall.{FileCall}
 use Rattle.pw_code.specs.declared.file.FileOp.{FileOp}
 use Rattle.pw_code.specs.declared.file.FileOp.TheVariants.{Read, Next, Write, Rewrite, Delete, ReadLock, NextLock}
@@ -16,7 +17,7 @@ use Rattle.pw_counts.proofs.Sums.{sum-more}
 use Rattle.pw_counts.specs.Records.{Balances, grown_in, grows, images_of, shrinks, shrunk_in, sum_to}
 use Rattle.pw_counts.specs.declared.records.Change.{Change}
 use Rattle.pw_files.specs.Records.{IsContent, IsFile, record_at}
-use Rattle.pw_laws.proofs.records.Images.{ImageOk, cases_bytes, is_at, restored-at, restored-file, same_bytes, stands_at, stands_at-none}
+use Rattle.pw_laws.proofs.records.Images.{ImageOk, cases_bytes, is_at, restored-at, restored-file, stands_at, stands_at-none}
 use Rattle.pw_laws.proofs.records.OperationKept.{operation-committed, operation-ok}
 use Rattle.pw_laws.proofs.records.RecordsOk.{RecordsOk}
 use Rattle.pw_laws.proofs.records.Withdrawn.{any-image}
@@ -31,13 +32,7 @@ use Rattle.pw_onecopy.specs.Operation.{answer_of, change_answer, changes_records
 use Rattle.pw_onecopy.specs.Update.{upd}
 use Rattle.pw_paired.specs.State.{BeforeImage}
 use Rattle.pw_paired.specs.Units.{has_image, image_before, is_first_change, restored_files}
-use Rattle.pw_laws.proofs.Tests.{all-filter, and-first, any-filter, any-more}
-
-swap-and : (a b : Bool) → (a && b) ≡ (b && a)
-swap-and true true = refl
-swap-and true false = refl
-swap-and false true = refl
-swap-and false false = refl
+use Rattle.pw_laws.proofs.Tests.{all-filter, any-filter, any-more}
 
 -- what an operation changes in the number of records
 abbrev pub changed_by : Bool → FileCall → List Change
@@ -107,7 +102,7 @@ theirs-one : (w : ℕ → Bool) (t : ℕ) (test : BeforeImage → Bool) → w t 
     → (w i.terminal && ((i.terminal == t) && test i)) ≡ ((i.terminal == t) && test i)
 theirs-one w t test theirs i true is = ap (λ (x : Bool). x && ((i.terminal == t) && test i)) (ap w (eqb-true i.terminal t is) ∙ theirs)
 theirs-one w t test theirs i false is =
-    ap (λ (x : Bool). w i.terminal && (x && test i)) is ∙ (swap-and (w i.terminal) false ∙ sym (ap (λ (x : Bool). x && test i) is))
+    ap (λ (x : Bool). w i.terminal && (x && test i)) is ∙ (and-swap (w i.terminal) false ∙ sym (ap (λ (x : Bool). x && test i) is))
 
 any-theirs : (w : ℕ → Bool) (t : ℕ) (test : BeforeImage → Bool) → w t ≡ true → (images : List BeforeImage)
     → list_any (λ i. w i.terminal && ((i.terminal == t) && test i)) images ≡ list_any (λ i. (i.terminal == t) && test i) images
@@ -151,7 +146,7 @@ module _ (sys : Behaviour) (files : ℕ → List (List ℕ)) (before : List Befo
       own-test : test u.terminal image ≡ true
       own-test =
           and_from (u.terminal == u.terminal) (call.file == call.file && bytes_eq own_key own_key) (eq-eqb u.terminal u.terminal refl)
-          (and_from (call.file == call.file) (bytes_eq own_key own_key) (eq-eqb call.file call.file refl) (same_bytes own_key))
+          (and_from (call.file == call.file) (bytes_eq own_key own_key) (eq-eqb call.file call.file refl) (bytes_eq-same own_key))
 
       mine : (b : Bool) → adds ≡ b → has_image u.terminal call.file own_key (if b then image ∷ before else before) ≡ true
       mine true is = or_left (test u.terminal image) (has_image u.terminal call.file own_key before) own-test
@@ -244,7 +239,7 @@ module _ (sys : Behaviour) (files : ℕ → List (List ℕ)) (before : List Befo
           ⊎_elim
           (λ there.
           let both : list_any (λ i. is_at call.file own_key i && w i.terminal) before ≡ true =
-          any-more (λ i. w i.terminal && is_at call.file own_key i) (λ i. is_at call.file own_key i && w i.terminal) (λ i e. sym (swap-and (w i.terminal) (is_at call.file own_key i)) ∙ e) before
+          any-more (λ i. w i.terminal && is_at call.file own_key i) (λ i. is_at call.file own_key i && w i.terminal) (λ i e. sym (and-swap (w i.terminal) (is_at call.file own_key i)) ∙ e) before
           (sym (any-filter (is_at call.file own_key) (λ i. w i.terminal) before) ∙ there) in
           let found = any-image w call.file own_key before both in
           absurd (true≢false (sym (ap w (alone changed found.0 found.2) ∙ found.1) ∙ not_theirs)))

@@ -6,6 +6,7 @@ use Rattle.std.proofs.lemmas.Bool.Decides.{nat_tests}
 use Rattle.std.proofs.lemmas.List.{get_or-set_other, get_or-set_same, length-set}
 use Rattle.std.proofs.lemmas.Option.{slice_get_within}
 use Rattle.std.specs.Prelude.{nat_lt, slice_get, slice_index_or, if◌then◌else◌}
+use Rattle.pw_base.proofs.Plain.{or-false, or-true, and-false}
 use Rattle.pw_counts.proofs.Locking.{released}
 use Rattle.pw_counts.specs.Kept.{ChangesState, IsBackedOut, RecordsState, changes_by, none_changed}
 use Rattle.pw_counts.specs.Records.{grown_in, shrunk_in, sum_to}
@@ -26,18 +27,6 @@ lt-false a b high = grind (arith, nat_tests, high)
 -- some terminals below a number
 abbrev pub first_of : ℕ → (ℕ → Bool) → ℕ → Bool
 first_of n w t = nat_lt t n && w t
-
-and-false : (b : Bool) → (b && false) ≡ false
-and-false true = refl
-and-false false = refl
-
-or-true : (b : Bool) → (b || true) ≡ true
-or-true true = refl
-or-true false = refl
-
-or-false : (b : Bool) → (b || false) ≡ b
-or-false true = refl
-or-false false = refl
 
 -- below, at, or above
 by-place : (P : Type 0) (t i : ℕ) → (t < i → P) → (t ≡ i → P) → (i < t → P) → P

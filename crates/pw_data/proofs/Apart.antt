@@ -1,15 +1,13 @@
 -- Cells that lie one behind the other do not overlap.
-use Rattle.std.proofs.Common.{◌≡◌, ℕ, ◌+◌, ◌-◌, ◌*◌, ◌≤◌, List, [], ◌∷◌, length, Some, inl, sym, ap, ◌∙◌, arith}
+use Rattle.std.proofs.Common.{◌≡◌, ℕ, ◌+◌, ◌-◌, ◌*◌, ◌≤◌, List, [], ◌∷◌, length, inl, sym, ap, ◌∙◌, arith}
+use Rattle.std.proofs.lemmas.Option.{same_Some}
 use Rattle.pw_data.specs.declared.item.Item.{Item}
 use Rattle.pw_data.specs.Store.{Cell, LiesAt, LieFrom, ApartFrom, AreApart}
-
-same-item : (a b : Item) → Some a ≡ Some b → a ≡ b
-same-item a b is = cc
 
 -- a cell lies at one place alone
 same-place : (items : List Item) (cell : Cell) (p q : ℕ) → LiesAt items p cell → LiesAt items q cell → p ≡ q
 same-place items cell p q a b =
-    a.begins ∙ ap (λ (item : Item). item.at + (cell.occurrence - 1) * item.step) (same-item a.item b.item (sym a.found ∙ b.found)) ∙ sym b.begins
+    a.begins ∙ ap (λ (item : Item). item.at + (cell.occurrence - 1) * item.step) (same_Some a.item b.item (sym a.found ∙ b.found)) ∙ sym b.begins
 
 -- cells from a place on are apart from one that ends there or before
 apart-from : (items : List Item) (cell : Cell) (end place : ℕ) (others : List Cell) → end ≤ place → ((p : ℕ) → LiesAt items p cell → p + length cell.chars ≡ end) → LieFrom items place others

@@ -57,7 +57,7 @@ module _ (P : Entry → Type 0) where
   All-forest [] each = tt
   All-forest (e ∷ es) each = let rest = All-forest es each.1 in (each.0, All-inside e (forest es) rest, All-past e (forest es) rest)
 
-joined-append : (xs ys : List Cell) → joined (xs ++ ys) ≡ joined xs ++ joined ys
+pub joined-append : (xs ys : List Cell) → joined (xs ++ ys) ≡ joined xs ++ joined ys
 joined-append [] ys = refl
 joined-append (x ∷ xs) ys = ap (λ cs. x.chars ++ cs) (joined-append xs ys) ∙ sym (append_assoc x.chars (joined xs) (joined ys))
 

@@ -5,6 +5,7 @@ use Rattle.std.specs.List.{list_all}
 use Rattle.std.proofs.lemmas.Bool.Decides.{nat_tests}
 use Rattle.std.proofs.lemmas.List.Elements.{All-nil, All-cons, All-append}
 use Rattle.pw_base.specs.declared.fault_code.FaultCode.TheVariants.{BadDataEntry}
+use Rattle.pw_base.proofs.Plain.{append-none}
 use Rattle.pw_picture.specs.declared.picture.Picture.{Picture}
 use Rattle.pw_picture.specs.declared.picture.Picture.TheVariants.{Text, Number, Edited}
 use Rattle.pw_picture.specs.Symbols.{longest, begins_with, bounded, symbols_behind}
@@ -21,7 +22,7 @@ use Rattle.pw_data.specs.Tree.{Forest, Empty, Node, is_group, is_misplaced, tree
 use Rattle.pw_data.specs.Laid.{times, size_in, table_of, item_of, items_in}
 use Rattle.pw_data.specs.Layouts.{FitsPicture}
 use Rattle.pw_data.proofs.Cells.{Good, AllIn}
-use Rattle.pw_data.proofs.Stores.{no_fault, no_faults, Placed, placed, no_members}
+use Rattle.pw_data.proofs.Stores.{no_fault, Placed, placed, no_members}
 
 -- a Text or Number picture is one that a text may be
 abbrev IsHeld : Picture → Type 0
@@ -42,7 +43,7 @@ held-decimals : (signed : Bool) (whole : ℕ) (places : Option ℕ) (p : Picture
 held-decimals signed whole None p is = absurd cc
 held-decimals signed whole (Some n) p is = held-number signed whole n (nat_le 1 (whole + n) && nat_le (whole + n) 18) p refl is
 
-held-text : (n : ℕ) (all : Bool) → (nat_le 1 n && all) ≡ true → 1 ≤ n
+pub held-text : (n : ℕ) (all : Bool) → (nat_le 1 n && all) ≡ true → 1 ≤ n
 held-text n all run = grind (arith, nat_tests)
 
 held-kind : (symbols : List ℕ) (run edited : Bool) (p : Picture) → length symbols ≤ longest → is_run_of 88 symbols ≡ run
@@ -114,7 +115,7 @@ items-fit text top table at around (Node e ms r) all none =
     let size : ℕ = e.size + size_in ms in
     let own : Table = table_of around e.occurs size in
     let here = no_fault (is_misplaced top table (is_group ms) e) e.line BadDataEntry (tree_faults false (table || has_occurs e) ms ++ tree_faults top table r) none in
-    let deeper = no_faults (tree_faults false (table || has_occurs e) ms) (tree_faults top table r) here.1 in
+    let deeper = append-none (tree_faults false (table || has_occurs e) ms) (tree_faults top table r) here.1 in
     let fine : Placed table e ms = placed top table e ms here.0 in
     All-cons FitsPicture (item_of text at size own e) (items_in text at own ms ++ items_in text (at + times e * size) around r) (item-fits text at own e ms all.0 fine.plain)
     (All-append FitsPicture (items_in text at own ms) (items_in text (at + times e * size) around r)

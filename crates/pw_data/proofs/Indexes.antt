@@ -6,11 +6,11 @@ use Rattle.std.specs.Str.{str_to_ascii_lowercase}
 use Rattle.std.specs.Cmp.Lexicographic.{bytes_decides}
 use Rattle.indexmap.specs.IndexMap.{IndexMap, insert_entry, get_by}
 use Rattle.std.specs.Map.{lookup}
+use Rattle.pw_base.proofs.Plain.{is_some-None, bytes_eq-swap}
 use Rattle.pw_words.specs.Words.{Word, same_word}
 use Rattle.pw_data.specs.declared.item.Item.{Item}
 use Rattle.pw_data.specs.Names.{is_this_name}
 use Rattle.pw_data.specs.Index.{number_of, number_in, Indexes}
-use Rattle.pw_data.proofs.Named.{bytes_eq-swap}
 
 -- an entry that does not pass is passed over
 skipped : {X : Type 0} (b : Bool) (x : X) (o : Option X) → is_some (cond b (Some x) o) ≡ false → (b ≡ false) × (is_some o ≡ false)
@@ -39,10 +39,6 @@ module _ {K X : Type 0} (eq : K → K → Bool) (test : K → Bool) (k : K) (v :
   lookup-other [] misses = rw misses refl
   lookup-other (e ∷ es) misses = other-by e es (eq k e.0) refl misses (lookup-other es misses)
 
-none-of : {X : Type 0} (o : Option X) → is_some o ≡ false → o ≡ None
-none-of None none = refl
-none-of (Some x) none = absurd cc
-
 or-none : {X : Type 0} (o : Option X) → o ≡ option_or o None
 or-none None = refl
 or-none (Some x) = refl
@@ -65,7 +61,7 @@ module _ {A S : Type 0} (index next : IndexMap (Vec ℕ A) ℕ S) (key : Vec ℕ
   by : (word : Word) (b : Bool) → bytes_eq (str_to_ascii_lowercase word) key.items ≡ b
       → number_of next word ≡ option_or (number_of index word) (if b then Some number else None)
   by word true hits =
-      let none : number_of index word ≡ None = none-of (number_of index word) (none_yet word hits) in
+      let none : number_of index word ≡ None = is_some-None (number_of index word) (none_yet word hits) in
       ap (λ es. lookup (λ (x : Vec ℕ A). bytes_eq (str_to_ascii_lowercase word) x.items) es) next_is
       ∙ lookup-new (λ x y. bytes_eq x.items y.items) (λ x. bytes_eq (str_to_ascii_lowercase word) x.items) key number (alike word) index.entries hits (none_yet word hits)
       ∙ ap (λ o. option_or o (Some number)) (sym none)

@@ -3,16 +3,11 @@ use Rattle.std.proofs.Common.{◌≡◌, ℕ, Bool, true, false, List, [], ◌�
 use Rattle.std.specs.Prelude.{◌||◌, bytes_eq}
 use Rattle.std.specs.List.{list_any}
 use Rattle.std.specs.Str.{str_to_ascii_lowercase}
-use Rattle.std.specs.Cmp.Lexicographic.{bytes_decides}
-use Rattle.std.proofs.lemmas.Bool.Decides.{same_from_decides}
 use Rattle.pw_base.specs.declared.memory.Memory.{Memory}
 use Rattle.pw_words.specs.Words.{Word, same_word}
 use Rattle.pw_words.specs.Names.{has_name as has_name_as_written}
 use Rattle.pw_data.specs.declared.entry.Entry.{Entry}
 use Rattle.pw_data.specs.Names.{name_of, is_this_name, is_taken, has_name, HasNamesOf}
-
-pub bytes_eq-swap : (xs ys : List ℕ) → bytes_eq xs ys ≡ bytes_eq ys xs
-bytes_eq-swap xs ys = same_from_decides (bytes_eq xs ys) (bytes_eq ys xs) (bytes_decides xs ys) (λ h. sym ((bytes_decides ys xs).0 h), λ is. (bytes_decides ys xs).1 (sym is))
 
 any-behind-by : (a b c : Bool) → c ≡ (b || a) → (x : Bool) → (x || c) ≡ (b || (x || a))
 any-behind-by a true c is true = refl

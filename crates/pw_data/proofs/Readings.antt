@@ -15,7 +15,7 @@ use Rattle.pw_data.specs.Clauses.{added, one_clause, is_end, clauses_from}
 use Rattle.pw_data.specs.Entries.{entry_of, part_faults, faults_of_parts, entries_of}
 
 -- where a period is left there is a token
-some-left : (tokens : List Token) → is_end tokens ≡ true → length tokens ≤ 0 → ⊥
+pub some-left : (tokens : List Token) → is_end tokens ≡ true → length tokens ≤ 0 → ⊥
 some-left [] end none = cc
 some-left (token ∷ rest) end none = omega arith
 

@@ -4,11 +4,13 @@ use Rattle.std.specs.Prelude.{◌||◌, option_map, option_and_then, option_to_l
 use Rattle.std.specs.List.{list_any}
 use Rattle.std.specs.Option.{option_or}
 use Rattle.std.proofs.lemmas.List.{append-nil}
+use Rattle.std.proofs.lemmas.Bool.{or_parts}
 use Rattle.pw_base.specs.declared.fault_code.FaultCode.{FaultCode}
 use Rattle.pw_base.specs.declared.fault_code.FaultCode.TheVariants.{BadDataEntry, BadPicture, NameTwice}
 use Rattle.pw_base.specs.declared.fault.Fault.{Fault}
 use Rattle.pw_base.specs.First.{least, unless}
 use Rattle.pw_base.proofs.FirstFault.{least-none}
+use Rattle.pw_base.proofs.Plain.{append-none}
 use Rattle.pw_text.specs.declared.token.Token.{Token}
 use Rattle.pw_data.specs.declared.reading.Reading.{Reading}
 use Rattle.pw_data.specs.declared.entry.Entry.{Entry}
@@ -22,7 +24,7 @@ use Rattle.pw_data.specs.Store.{IsStoreOf, store_of, cells_in}
 use Rattle.pw_data.proofs.Cells.{Good, Each, All-forest, joined-cells, length-chars}
 use Rattle.pw_data.proofs.Held.{items-fit, is_kept}
 use Rattle.pw_data.proofs.Kept.{Each-All}
-use Rattle.pw_data.proofs.Stores.{no_faults, neither, Lie-cells}
+use Rattle.pw_data.proofs.Stores.{Lie-cells}
 
 pub no_fault-here : (is_fault : Bool) (line : ℕ) (code : FaultCode) → only_if is_fault line code ≡ [] → is_fault ≡ false
 no_fault-here true line code none = absurd cc
@@ -33,7 +35,7 @@ good-by : (text : List ℕ) (linked : Bool) (line : ℕ) (reading : Reading) (le
 good-by text linked line reading None none = tt
 good-by text linked line reading (Some level) none =
     let entry : Entry = entry_with text linked line reading level in
-    (record { kind = (neither (has_no_kind text entry) (is_bad_occurs entry || is_bad_value text entry entry.clauses.value) none).0; kept = refl; size = refl; occurs = refl }, tt)
+    (record { kind = (or_parts (has_no_kind text entry) (is_bad_occurs entry || is_bad_value text entry entry.clauses.value) none).0; kept = refl; size = refl; occurs = refl }, tt)
 
 pub Each-append : (P : Entry → Type 0) (xs ys : List Entry) → Each P xs → Each P ys → Each P (xs ++ ys)
 Each-append P [] ys front back = back
@@ -46,14 +48,14 @@ good-part server text part none =
     let pictures : List Fault = only_if (list_any (is_bad_picture text) part.tokens) line BadPicture in
     let wrong : Bool = not (has_form reading) || is_bad_entry text (entry_of server text part) in
     let names : List Fault = only_if (has_table_name server text (option_and_then (proper_name text) reading.name)) line NameTwice in
-    let others = (no_faults pictures (only_if wrong line BadDataEntry ++ names) none).1 in
-    let fine : wrong ≡ false = no_fault-here wrong line BadDataEntry (no_faults (only_if wrong line BadDataEntry) names others).0 in
-    good-by text part.linked line reading reading.level (neither (not (has_form reading)) (is_bad_entry text (entry_of server text part)) fine).1
+    let others = (append-none pictures (only_if wrong line BadDataEntry ++ names) none).1 in
+    let fine : wrong ≡ false = no_fault-here wrong line BadDataEntry (append-none (only_if wrong line BadDataEntry) names others).0 in
+    good-by text part.linked line reading reading.level (or_parts (not (has_form reading)) (is_bad_entry text (entry_of server text part)) fine).1
 
 good-parts : (server : Bool) (text : List ℕ) (parts : List Part) → faults_of_parts server text parts ≡ [] → Each (Good text) (entries_of server text parts)
 good-parts server text [] none = tt
 good-parts server text (part ∷ parts) none =
-    let both = no_faults (part_faults server text part) (faults_of_parts server text parts) none in
+    let both = append-none (part_faults server text part) (faults_of_parts server text parts) none in
     Each-append (Good text) (option_to_list (entry_of server text part)) (entries_of server text parts) (good-part server text part both.0) (good-parts server text parts both.1)
 
 pub unless-ok : (fault : Option Fault) (value layout : Laid) → unless fault value ≡ Ok layout → (fault ≡ None) × (value ≡ layout)
@@ -84,11 +86,11 @@ fine text tokens server layout is =
     let entries : List Entry = entries_in text tokens server in
     let both = unless-ok (first_fault text tokens server) (laid text entries) layout is in
     let none : faults_in text tokens server ≡ [] = least-none (faults_in text tokens server) (none-first (least None (faults_in text tokens server)) (too_large 0 (forest entries)) both.0) in
-    let parts = no_faults (faults_of_parts server text (parts_of text tokens)) (tree_faults true false (forest entries) ++ clashes text [] entries) none in
+    let parts = append-none (faults_of_parts server text (parts_of text tokens)) (tree_faults true false (forest entries) ++ clashes text [] entries) none in
     record {
       is_laid = both.1;
       good = good-parts server text (parts_of text tokens) parts.0;
-      placed = (no_faults (tree_faults true false (forest entries)) (clashes text [] entries) parts.1).0;
+      placed = (append-none (tree_faults true false (forest entries)) (clashes text [] entries) parts.1).0;
     }
 
 -- a layout begins with the store of its entries

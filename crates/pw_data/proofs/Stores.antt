@@ -2,9 +2,11 @@
 use Rattle.std.proofs.Common.{◌≡◌, ℕ, zero, suc, ◌+◌, ◌-◌, ◌*◌, ◌≤◌, max, Bool, true, false, not, List, [], ◌∷◌, ◌++◌, length, Option, Some, None, refl, sym, ap, ◌∙◌, subst, append_assoc, arith, rules, length-append}
 use Rattle.std.specs.Prelude.{◌&&◌, ◌||◌, is_some, IsSome, slice_get, unwrap_or, if◌then◌else◌}
 use Rattle.std.proofs.lemmas.List.{append-nil}
+use Rattle.std.proofs.lemmas.Bool.{or_parts}
 use Rattle.pw_base.specs.declared.fault_code.FaultCode.{FaultCode}
 use Rattle.pw_base.specs.declared.fault_code.FaultCode.TheVariants.{BadDataEntry}
 use Rattle.pw_base.specs.declared.fault.Fault.{Fault}
+use Rattle.pw_base.proofs.Plain.{append-none}
 use Rattle.pw_picture.specs.declared.picture.Picture.{Picture}
 use Rattle.pw_text.specs.declared.token.Token.{Token}
 use Rattle.pw_data.specs.declared.entry.Entry.{Entry}
@@ -61,14 +63,6 @@ pub no_fault : (is_fault : Bool) (line : ℕ) (code : FaultCode) (faults : List 
 no_fault true line code faults none = absurd cc
 no_fault false line code faults none = (refl, none)
 
-pub no_faults : (xs ys : List Fault) → xs ++ ys ≡ [] → (xs ≡ []) × (ys ≡ [])
-no_faults [] ys none = (refl, none)
-no_faults (x ∷ xs) ys none = absurd cc
-
-pub neither : (a b : Bool) → (a || b) ≡ false → (a ≡ false) × (b ≡ false)
-neither true b none = absurd cc
-neither false b none = (refl, none)
-
 not_first : (a b : Bool) → b ≡ true → (a && b) ≡ false → a ≡ false
 not_first true b is none = absurd cc
 not_first false b is none = refl
@@ -79,22 +73,22 @@ pub record Placed (table : Bool) (entry : Entry) (members : Forest) : Type 0 whe
   pub alone : has_occurs entry ≡ true → table ≡ false
 
 plain_by : (entry : Entry) (group : Bool) → (if group then has_picture entry || has_value entry else not (has_picture entry)) ≡ false → group ≡ true → has_picture entry ≡ false
-plain_by entry true wrong is = (neither (has_picture entry) (has_value entry) wrong).0
+plain_by entry true wrong is = (or_parts (has_picture entry) (has_value entry) wrong).0
 plain_by entry false wrong is = absurd cc
 
 pub placed : (top table : Bool) (entry : Entry) (members : Forest) → is_misplaced top table (is_group members) entry ≡ false → Placed table entry members
 placed top table entry members wrong =
     let kind : Bool = if is_group members then has_picture entry || has_value entry else not (has_picture entry) in
     let value : Bool = (table || has_occurs entry) && has_value entry in
-    let behind_top = (neither (top && not (begins_item entry)) (kind || ((table && has_occurs entry) || value)) wrong).1 in
-    let parts = neither kind ((table && has_occurs entry) || value) behind_top in
+    let behind_top = (or_parts (top && not (begins_item entry)) (kind || ((table && has_occurs entry) || value)) wrong).1 in
+    let parts = or_parts kind ((table && has_occurs entry) || value) behind_top in
     record {
       plain = plain_by entry (is_group members) parts.0;
-      alone = λ is. not_first table (has_occurs entry) is (neither (table && has_occurs entry) value parts.1).0;
+      alone = λ is. not_first table (has_occurs entry) is (or_parts (table && has_occurs entry) value parts.1).0;
     }
 
 -- an entry with a number of its OCCURS has an OCCURS
-has_count : (text : List ℕ) (token : Option Token) → is_some (count_at text token) ≡ true → is_some token ≡ true
+pub has_count : (text : List ℕ) (token : Option Token) → is_some (count_at text token) ≡ true → is_some token ≡ true
 has_count text None is = absurd cc
 has_count text (Some token) is = refl
 
@@ -104,10 +98,10 @@ has_occurs-by text entry good is = has_count text entry.clauses.occurs (ap is_so
 -- where the table of an entry is none, there is none around it
 table-alone : (text : List ℕ) (entry : Entry) (table : Bool) (around : Table) (size : ℕ) (occurs : Option ℕ) → occurs ≡ entry.occurs → Good text entry
     → (table ≡ false → around.occurs ≡ 0) → (table || has_occurs entry) ≡ false → (table_of around occurs size).occurs ≡ 0
-table-alone text entry table around size None is good alone none = alone (neither table (has_occurs entry) none).0
+table-alone text entry table around size None is good alone none = alone (or_parts table (has_occurs entry) none).0
 table-alone text entry table around size (Some n) is good alone none =
     let has : has_occurs entry ≡ true = has_occurs-by text entry good (ap is_some (sym is)) in
-    absurd (cc ((neither table (has_occurs entry) none).1))
+    absurd (cc ((or_parts table (has_occurs entry) none).1))
 
 pub no_members : (members : Forest) → (is_group members ≡ true → ⊥) → members ≡ Empty
 no_members Empty none = refl
@@ -175,7 +169,7 @@ Lie-cells text items pre post top table at k around (Node e ms r) all none first
     let outer : List Item = items_in text (at + times e * size) around r in
     let good : Good text e = all.0 in
     let here = no_fault (is_misplaced top table (is_group ms) e) e.line BadDataEntry (tree_faults false (table || has_occurs e) ms ++ tree_faults top table r) none in
-    let deeper = no_faults (tree_faults false (table || has_occurs e) ms) (tree_faults top table r) here.1 in
+    let deeper = append-none (tree_faults false (table || has_occurs e) ms) (tree_faults top table r) here.1 in
     let fine : Placed table e ms = placed top table e ms here.0 in
     let in_front : items ≡ pre ++ (item ∷ (inner ++ (outer ++ post))) = items_is ∙ ap (λ xs. pre ++ (item ∷ xs)) (append_assoc inner outer post) in
     let behind_item : items ≡ (pre ++ item ∷ []) ++ (inner ++ (outer ++ post)) = in_front ∙ sym (append_assoc pre (item ∷ []) (inner ++ (outer ++ post))) in

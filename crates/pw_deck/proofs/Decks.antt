@@ -3,11 +3,14 @@ use Rattle.std.proofs.Common.{◌≡◌, ℕ, ◌+◌, ◌≤◌, Bool, true, fa
 use Rattle.std.specs.Prelude.{nat_le, flat_map}
 use Rattle.std.proofs.lemmas.Bool.{le-ltb}
 use Rattle.std.proofs.lemmas.List.{length-map}
+use Rattle.std.proofs.lemmas.List.Elements.{All-from_recursion}
 use Rattle.pw_base.specs.First.{least, unless, Gives}
 use Rattle.pw_base.specs.Limits.{longest_input}
 use Rattle.pw_base.specs.declared.fault.Fault.{Fault}
 use Rattle.pw_base.specs.declared.fault.Refusal.{Refusal}
 use Rattle.pw_base.specs.declared.fault_code.FaultCode.TheVariants.{BadSection, InputTooLong}
+use Rattle.pw_base.proofs.Plain.{append-none}
+use Rattle.pw_base.proofs.FirstFault.{least-none}
 use Rattle.pw_code.specs.Valid.{IsTerminal, IsClass}
 use Rattle.pw_code.specs.Limits.{most_programs, most_servers}
 use Rattle.pw_code.specs.declared.lock.LockRule.TheVariants.{ReadersShare}
@@ -44,7 +47,7 @@ use Rattle.pw_deck.specs.declared.deck.Deck.{Deck}
 use Rattle.pw_deck.specs.declared.parts.Parts.{Parts}
 use Rattle.pw_deck.proofs.Good.{ArePartsGood, HasFile, heading_says, or_refused_says, parts_good}
 use Rattle.pw_deck.proofs.Sound.{IsSound, nothing_sound, pathcom_sound, file_sound, entries_sound, fail_sound, log_sound}
-use Rattle.pw_deck.proofs.Tabled.{none_first, nothing_in, all_known, all_served, terminals_are, classes_are, files_are, to_all}
+use Rattle.pw_deck.proofs.Tabled.{all_known, all_served, terminals_are, classes_are, files_are}
 
 -- what the sections say is sound
 abbrev HasSound : Parts → Type 0
@@ -92,7 +95,7 @@ all_sound parts line (section ∷ rest) sound =
     go next more all false = all (line + length (lines section))
 
 -- both hold of what is read
-both_ok : {A : Type 0} (P Q : A → Type 0) (r : Result A Fault) → IfOk r P → IfOk r Q → IfOk r (λ a. P a × Q a)
+pub both_ok : {A : Type 0} (P Q : A → Type 0) (r : Result A Fault) → IfOk r P → IfOk r Q → IfOk r (λ a. P a × Q a)
 both_ok P Q (Ok a) p q = (p, q)
 both_ok P Q (Err fault) p q = tt
 
@@ -107,7 +110,7 @@ none_unknown : (faults : List Fault) → IfOk (unless (least None faults) (tt {0
 none_unknown faults = go (least None faults) refl
   where
     go : (o : Option Fault) → least None faults ≡ o → IfOk (unless o (tt {0})) (λ done. faults ≡ [])
-    go None is = none_first faults is
+    go None is = least-none faults is
     go (Some fault) is = tt
 
 -- the tables of what is told
@@ -120,7 +123,7 @@ told_is objects programs servers =
     (λ done none. and_then (startable objects) _ Any (IsTold objects programs servers) (any_of (startable objects))
     (λ done h. and_then (fails_of objects programs servers) _ Any (IsTold objects programs servers) (any_of (fails_of objects programs servers))
     (λ fails h. and_then (log_of objects programs servers) _ Any (IsTold objects programs servers) (any_of (log_of objects programs servers))
-    (λ events h. ((nothing_in (unknown objects.commands programs servers) _ none).0, refl)))))
+    (λ events h. ((append-none (unknown objects.commands programs servers) _ none).0, refl)))))
 
 terminal_names : (sections : List TermEntries) (ts : List TermInfo) → map (λ t. t.name) (map (with_entries sections) ts) ≡ map (λ t. t.name) ts
 terminal_names sections [] = refl
@@ -135,16 +138,16 @@ has_tables parts told good sound is programs servers screens sources serving sho
     let plain = tables_of objects first second ReadersShare in
     let P : System → Type 0 = λ system. AreTables (record system { programs = programs; servers = servers; screens = screens }) in
     let system : System = record plain { programs = programs; servers = servers; screens = screens; terminals = map (with_entries objects.entries) plain.terminals } in
-    let unknowns = nothing_in (flat_map (unknown_terminal objects.commands first) objects.commands.terminals) (flat_map (unknown_class second) objects.commands.classes) is.0 in
+    let unknowns = append-none (flat_map (unknown_terminal objects.commands first) objects.commands.terminals) (flat_map (unknown_class second) objects.commands.classes) is.0 in
     let firsts : length programs ≡ length first = sources ∙ sym (length-map parts.requesters (λ (r : Requester). r.name)) in
     let seconds : length servers ≡ length second = serving ∙ sym (length-map parts.servers (λ (s : Server). s.name)) in
     let names = good_names objects first second good.objects ReadersShare in
     let few = good_few objects first second good.objects ReadersShare in
     subst P (sym is.1) (record {
-      terminals = to_all (IsTerminal system) system.terminals (terminals_are system objects.commands first objects.entries objects.commands.terminals (length-map objects.commands.tcps (λ (tcp : Started). tcp.name)) firsts
+      terminals = All-from_recursion (IsTerminal system) system.terminals (terminals_are system objects.commands first objects.entries objects.commands.terminals (length-map objects.commands.tcps (λ (tcp : Started). tcp.name)) firsts
           (all_known objects.commands first objects.commands.terminals unknowns.0) sound.commands.terminals sound.entries);
-      classes = to_all (IsClass system) system.classes (classes_are system second objects.commands.classes seconds (all_served second objects.commands.classes unknowns.1) sound.commands.classes);
-      files = to_all _ objects.files (files_are objects.files sound.files);
+      classes = All-from_recursion (IsClass system) system.classes (classes_are system second objects.commands.classes seconds (all_served second objects.commands.classes unknowns.1) sound.commands.classes);
+      files = All-from_recursion _ objects.files (files_are objects.files sound.files);
       names = record {
         tcps = names.tcps;
         terminals = rw (terminal_names objects.entries plain.terminals) names.terminals;

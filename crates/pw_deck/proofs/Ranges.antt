@@ -3,7 +3,7 @@ use Rattle.std.proofs.Common.{◌≡◌, ℕ, zero, suc, ◌+◌, ◌<◌, ◌�
 use Rattle.std.specs.Prelude.{◌&&◌, nat_le, nat_lt, IfSome}
 use Rattle.std.specs.List.{list_any, position, AllByRecursion, IsDistinct}
 use Rattle.std.specs.Str.{bytes_eq}
-use Rattle.std.proofs.lemmas.Bool.{and_parts, leb-true, leb-false, ltb-false}
+use Rattle.std.proofs.lemmas.Bool.{and_parts, leb-true, leb-false, ltb-false, or_parts}
 use Rattle.std.specs.Option.{option_map}
 use Rattle.std.proofs.lemmas.List.{map-append}
 use Rattle.std.proofs.lemmas.Slice.Eq.{bytes_eq-Decides}
@@ -12,6 +12,7 @@ use Rattle.pw_base.specs.Lengths.{IsContent}
 use Rattle.pw_base.specs.Limits.{most_content}
 use Rattle.pw_base.specs.declared.fault.Fault.{Fault}
 use Rattle.pw_base.specs.declared.fault_code.FaultCode.TheVariants.{BadCommand, OutOfRange, BadRecord, BadEntry, TooMany}
+use Rattle.pw_base.proofs.Plain.{all-last}
 use Rattle.pw_code.specs.Entry.{Entry}
 use Rattle.pw_code.specs.Limits.{most_tcps, most_classes, most_terminals, most_restarts, most_processes, most_entry_lines, last_key}
 use Rattle.pw_code.specs.Valid.{HasKey}
@@ -33,10 +34,6 @@ use Rattle.pw_sections.specs.Keys.{is_seen}
 use Rattle.pw_sections.specs.Records.{is_bad_record, record_read, records_of}
 use Rattle.pw_words.specs.Words.{Word}
 use Rattle.pw_tables.proofs.Commands.{and_then, Any, any_of}
-
-pub all_more : {X : Type 0} (P : X → Type 0) (xs : List X) (x : X) → AllByRecursion P xs → P x → AllByRecursion P (xs ++ x ∷ [])
-all_more P [] x h p = (p, tt)
-all_more P (y ∷ ys) x h p = (h.0, all_more P ys x h.1 p)
 
 -- a unit of a terminal restarts not too often, and a class has a process and not too many
 abbrev pub FewRestarts : TermCommand → Type 0
@@ -76,10 +73,10 @@ added_kept line reading object.Tcp name kept =
     (λ done h. record { restarts = kept.restarts; some = kept.some; few = kept.few; terminals = kept.terminals; classes = kept.classes })
 added_kept line reading object.Server name kept =
     and_then (admitted line (has_class reading.commands name) (nat_le most_classes (length reading.commands.classes))) _ Any Kept (any_of (admitted line (has_class reading.commands name) (nat_le most_classes (length reading.commands.classes))))
-    (λ done h. record { restarts = kept.restarts; some = kept.some; few = kept.few; terminals = kept.terminals; classes = all_more FewProcesses reading.commands.classes _ kept.classes (kept.some, kept.few) })
+    (λ done h. record { restarts = kept.restarts; some = kept.some; few = kept.few; terminals = kept.terminals; classes = all-last FewProcesses reading.commands.classes _ kept.classes (kept.some, kept.few) })
 added_kept line reading object.Term name kept =
     and_then (admitted line (has_terminal reading.commands name) (nat_le most_terminals (length reading.commands.terminals))) _ Any Kept (any_of (admitted line (has_terminal reading.commands name) (nat_le most_terminals (length reading.commands.terminals))))
-    (λ done h. record { restarts = kept.restarts; some = kept.some; few = kept.few; terminals = all_more FewRestarts reading.commands.terminals _ kept.terminals kept.restarts; classes = kept.classes })
+    (λ done h. record { restarts = kept.restarts; some = kept.some; few = kept.few; terminals = all-last FewRestarts reading.commands.terminals _ kept.terminals kept.restarts; classes = kept.classes })
 
 terminals_stay : (line : ℕ) (name : Word) (ts : List TermCommand) → AllByRecursion FewRestarts ts → AllByRecursion FewRestarts (map (start_terminal line name) ts)
 terminals_stay line name [] h = tt
@@ -162,10 +159,6 @@ pub record AreRecords (key : ℕ) (records : List (List ℕ)) : Type 0 where
   pub contents : AllByRecursion (IsContent key) records
   pub distinct : IsDistinct bytes_eq (map (take key) records)
 
-or_false : (a b : Bool) → (a || b) ≡ false → (a ≡ false) × (b ≡ false)
-or_false true b h = absurd cc
-or_false false b h = (refl, h)
-
 turned : (a b : List ℕ) → bytes_eq a b ≡ false → bytes_eq b a ≡ false
 turned a b is = go (bytes_eq b a) refl
   where
@@ -181,8 +174,8 @@ distinct_more : (keys : List (List ℕ)) (key : List ℕ) → IsDistinct bytes_e
 unfolding IsDistinct
 distinct_more [] key distinct new = (tt, tt)
 distinct_more (k ∷ ks) key distinct new =
-    let apart = or_false (bytes_eq key k) (is_seen ks key) new in
-    (all_more (λ y. bytes_eq k y ≡ false) ks key distinct.0 (turned key k apart.0), distinct_more ks key distinct.1 apart.1)
+    let apart = or_parts (bytes_eq key k) (is_seen ks key) new in
+    (all-last (λ y. bytes_eq k y ≡ false) ks key distinct.0 (turned key k apart.0), distinct_more ks key distinct.1 apart.1)
 
 record_kept : (key number : ℕ) (records : List (List ℕ)) (line : List ℕ) → AreRecords key records → IfOk (record_read key number records line) (AreRecords key)
 record_kept key number records line kept = go (is_bad_record key records line) refl
@@ -190,10 +183,10 @@ record_kept key number records line kept = go (is_bad_record key records line) r
     go : (b : Bool) → is_bad_record key records line ≡ b → IfOk (cond b (refused number BadRecord) (Ok (records ++ line ∷ []))) (AreRecords key)
     go true is = tt
     go false is =
-        let short = or_false (nat_lt (length line) key) (nat_lt most_content (length line) || is_seen (map (take key) records) (take key line)) is in
-        let long = or_false (nat_lt most_content (length line)) (is_seen (map (take key) records) (take key line)) short.1 in
+        let short = or_parts (nat_lt (length line) key) (nat_lt most_content (length line) || is_seen (map (take key) records) (take key line)) is in
+        let long = or_parts (nat_lt most_content (length line)) (is_seen (map (take key) records) (take key line)) short.1 in
         record {
-          contents = all_more (IsContent key) records line kept.contents (ltb-false (length line) key short.0, ltb-false most_content (length line) long.0);
+          contents = all-last (IsContent key) records line kept.contents (ltb-false (length line) key short.0, ltb-false most_content (length line) long.0);
           distinct = subst (IsDistinct bytes_eq) (sym (map-append (take key) records (line ∷ []))) (distinct_more (map (take key) records) (take key line) kept.distinct long.1);
         }
 
@@ -241,7 +234,7 @@ entry_kept number entries line kept =
     go : (entry : Entry) → HasKey entry → (b : Bool) → nat_le most_entry_lines (length entries) ≡ b → IfOk (cond b (refused number TooMany) (Ok (entries ++ entry ∷ []))) AreEntries
     go entry has true is = tt
     go entry has false is = record {
-      keys = all_more HasKey entries entry kept.keys has;
+      keys = all-last HasKey entries entry kept.keys has;
       few = omega (arith, leb-false most_entry_lines (length entries) is, length-append entries (entry ∷ []));
     }
 

@@ -6,6 +6,7 @@ use Rattle.std.specs.Option.{is_some}
 use Rattle.std.specs.Str.{bytes_eq}
 use Rattle.pw_base.specs.Lengths.{IsKeyLength}
 use Rattle.pw_base.specs.declared.fault.Fault.{Fault}
+use Rattle.pw_base.proofs.Plain.{all-last}
 use Rattle.pw_code.specs.Limits.{most_files}
 use Rattle.pw_code.specs.declared.file.FileInfo.{FileInfo}
 use Rattle.pw_lines.specs.Steps.{◌>>=◌}
@@ -20,7 +21,7 @@ use Rattle.pw_tables.proofs.Commands.{and_then, Any, any_of}
 use Rattle.pw_tables.specs.Objects.{no_objects, has_file, once, one_more, pathcom_section, file_section, entries_section, fail_section, log_section}
 use Rattle.pw_tables.specs.declared.objects.Objects.{Objects}
 use Rattle.pw_tables.specs.declared.objects.TermEntries.{TermEntries}
-use Rattle.pw_deck.proofs.Ranges.{all_more, InRange, commands_in_range, AreRecords, records_kept, AreEntries, entries_kept}
+use Rattle.pw_deck.proofs.Ranges.{InRange, commands_in_range, AreRecords, records_kept, AreEntries, entries_kept}
 
 -- a file whose key and records have their lengths, and no key twice
 pub record IsGoodFile (file : FileInfo) : Type 0 where
@@ -53,7 +54,7 @@ file_sound objects line text name key is sound =
     (λ done h. and_then (records_of key text (line + 1)) _ (AreRecords key) IsSound (records_kept key text (line + 1))
     (λ records are. record {
       commands = sound.commands;
-      files = all_more IsGoodFile objects.files _ sound.files (record { key = is; records = are });
+      files = all-last IsGoodFile objects.files _ sound.files (record { key = is; records = are });
       entries = sound.entries;
     })))
 
@@ -62,7 +63,7 @@ entries_sound objects line text name sound =
     and_then (once line (has_name objects.entered name)) _ Any IsSound (any_of (once line (has_name objects.entered name)))
     (λ done h. and_then (printable text (line + 1)) _ Any IsSound (any_of (printable text (line + 1)))
     (λ done h. and_then (entries_of text (line + 1)) _ AreEntries IsSound (entries_kept text (line + 1))
-    (λ entries are. record { commands = sound.commands; files = sound.files; entries = all_more HasEntries objects.entries _ sound.entries are })))
+    (λ entries are. record { commands = sound.commands; files = sound.files; entries = all-last HasEntries objects.entries _ sound.entries are })))
 
 pub fail_sound : (objects : Objects) (line : ℕ) (text : List ℕ) → IsSound objects → IfOk (fail_section objects line text) IsSound
 fail_sound objects line text sound =

@@ -1,15 +1,16 @@
 -- The tables of a deck without a fault keep the limits of a system, and their numbers name what is there.
-use Rattle.std.proofs.Common.{◌≡◌, ℕ, suc, ◌+◌, ◌<◌, ◌≤◌, ◌^◌, Bool, true, false, cond, not, ltb, List, [], ◌∷◌, ◌++◌, map, length, Option, None, Some, Result, Ok, Err, IfOk, refl, sym, ap, subst, ◌∙◌, arith}
-use Rattle.std.specs.Prelude.{◌&&◌, ◌||◌, nat_le, nat_lt, flat_map, codes, All}
+use Rattle.std.proofs.Common.{◌≡◌, ℕ, suc, ◌+◌, ◌<◌, ◌≤◌, ◌^◌, Bool, true, false, cond, not, ltb, List, [], ◌∷◌, map, length, Option, None, Some, Result, Ok, Err, IfOk, refl, sym, ap, subst, ◌∙◌, arith}
+use Rattle.std.specs.Prelude.{◌&&◌, ◌||◌, nat_le, nat_lt, flat_map, codes}
 use Rattle.std.specs.List.{list_any, filter, position, prefix_len, AllByRecursion}
 use Rattle.std.specs.Option.{is_some}
 use Rattle.std.specs.Str.{bytes_eq}
 use Rattle.std.proofs.lemmas.Bool.{and_parts, leb-true}
 use Rattle.std.proofs.lemmas.List.{length-map}
-use Rattle.std.proofs.lemmas.List.Elements.{All-nil, All-cons}
+use Rattle.std.proofs.lemmas.List.Elements.{All-from_recursion}
 use Rattle.pw_base.specs.First.{is_before, least, better, unless}
 use Rattle.pw_base.specs.declared.fault.Fault.{Fault}
 use Rattle.pw_base.specs.declared.fault_code.FaultCode.TheVariants.{BadSection}
+use Rattle.pw_base.proofs.Plain.{append-none}
 use Rattle.pw_code.specs.Entry.{Entry}
 use Rattle.pw_code.specs.Limits.{most_programs, most_servers, most_entry_lines}
 use Rattle.pw_code.specs.Valid.{HasKey, IsTerminal, IsClass, IsDeckFile, HasNames, HasFew}
@@ -45,15 +46,6 @@ some_stays known [] is = absurd cc
 some_stays known (f ∷ fs) is =
     let next = still_some known f in
     some_stays next.0 fs (ap (λ o. least o fs) (sym next.1) ∙ is)
-
-pub none_first : (faults : List Fault) → least None faults ≡ None → faults ≡ []
-none_first [] is = refl
-none_first (f ∷ fs) is = absurd (some_stays f fs is)
-
--- two lists without a thing
-pub nothing_in : {A : Type 0} (xs ys : List A) → xs ++ ys ≡ [] → (xs ≡ []) × (ys ≡ [])
-nothing_in [] ys is = (refl, is)
-nothing_in (x ∷ xs) ys is = absurd cc
 
 -- a name that is among names has a place there
 found_place : (names : List Word) (word : Word) → list_any (λ name. bytes_eq name word) names ≡ true → prefix_len (λ name. not (bytes_eq name word)) names < length names
@@ -108,13 +100,13 @@ known_one commands programs t is =
 pub all_known : (commands : Commands) (programs : List Word) (ts : List TermCommand) → flat_map (unknown_terminal commands programs) ts ≡ [] → AllByRecursion (Known commands programs) ts
 all_known commands programs [] is = tt
 all_known commands programs (t ∷ ts) is =
-    let parts = nothing_in (unknown_terminal commands programs t) (flat_map (unknown_terminal commands programs) ts) is in
+    let parts = append-none (unknown_terminal commands programs t) (flat_map (unknown_terminal commands programs) ts) is in
     (known_one commands programs t parts.0, all_known commands programs ts parts.1)
 
 pub all_served : (servers : List Word) (cs : List ClassCommand) → flat_map (unknown_class servers) cs ≡ [] → AllByRecursion (λ c. number_of servers c.program < length servers) cs
 all_served servers [] is = tt
 all_served servers (c ∷ cs) is =
-    let parts = nothing_in (unknown_class servers c) (flat_map (unknown_class servers) cs) is in
+    let parts = append-none (unknown_class servers c) (flat_map (unknown_class servers) cs) is in
     (number_named servers c.program (unless_unknown _ _ parts.0), all_served servers cs parts.1)
 
 -- the entries of a terminal
@@ -129,10 +121,6 @@ theirs (s ∷ ss) name have = go (bytes_eq s.name name) (theirs ss name have.1)
     go : (b : Bool) → AreEntries (entries_for ss name) → AreEntries (cond b s.entries (entries_for ss name))
     go true rest = have.0
     go false rest = rest
-
-pub to_all : {X : Type 0} (P : X → Type 0) (xs : List X) → AllByRecursion P xs → All P xs
-to_all P [] h = All-nil P
-to_all P (x ∷ xs) h = All-cons P x xs h.0 (to_all P xs h.1)
 
 -- the terminals of the tables, in a system with as many pairs and programs
 pub terminals_are : (system : System) (commands : Commands) (programs : List Word) (sections : List TermEntries) (ts : List TermCommand)
@@ -151,7 +139,7 @@ terminals_are system commands programs sections (t ∷ ts) pairs sources known f
             program = omega (arith, known.0.program, sources);
             restarts = few.0;
             few = own.few;
-            keys = to_all HasKey (entries_for sections t.name) own.keys;
+            keys = All-from_recursion HasKey (entries_for sections t.name) own.keys;
           },
           rest,
         )
@@ -166,4 +154,4 @@ classes_are system servers (c ∷ cs) sources known few =
 pub files_are : (files : List FileInfo) → AllByRecursion IsGoodFile files → AllByRecursion IsDeckFile files
 files_are [] good = tt
 files_are (f ∷ fs) good =
-    (record { key = good.0.key; contents = to_all _ f.records good.0.records.contents; distinct = good.0.records.distinct }, files_are fs good.1)
+    (record { key = good.0.key; contents = All-from_recursion _ f.records good.0.records.contents; distinct = good.0.records.distinct }, files_are fs good.1)

@@ -18,11 +18,6 @@ use Rattle.pw_tmf.specs.declared.answer.DiscFault.TheVariants as fault
 use Rattle.pw_tmf.specs.declared.answer.FileAnswer.{FileAnswer}
 use Rattle.pw_tmf.specs.declared.answer.FileAnswer.TheVariants as answer
 
--- what follows where the result is Ok
-pub on-ok : {A E P Q : Type 0} (r : Result A E) → OnOk r P → (P → Q) → OnOk r Q
-on-ok (Ok x) h f = f h
-on-ok (Err e) h f = tt
-
 -- ---- no unit that is backed out makes the count rise
 
 one-faults : (ends : Bool) (told : Told) (u : DiscUnit) → (backed_out ends told u).faults ≡ told.faults

@@ -1,15 +1,17 @@
 -- The forms of a disc message, from its parts up.
-use Rattle.std.proofs.Common.{◌≡◌, ℕ, zero, suc, ◌^◌, ◌<◌, ◌≤◌, Bool, true, false, List, [], ◌∷◌, ◌++◌, length, All, Option, Some, None, refl, sym, ap, subst, ◌∙◌, arith}
+use Rattle.std.proofs.Common.{◌≡◌, ℕ, zero, suc, ◌^◌, ◌<◌, ◌≤◌, Bool, true, List, [], ◌∷◌, ◌++◌, length, All, Option, Some, None, refl, sym, ap, subst, ◌∙◌, arith}
 use Rattle.std.specs.Int.{w32, to_be_bytes}
 use Rattle.std.specs.List.{flat_map, AllByRecursion}
 use Rattle.std.proofs.lemmas.Bool.{leb-true}
 use Rattle.std.proofs.lemmas.List.{append-nil}
 use Rattle.std.proofs.lemmas.List.Elements.{All-from_recursion, recursion_from_All}
+use Rattle.pw_base.proofs.Plain.{some_is}
 use Rattle.pw_code.specs.declared.file.FileCall.{FileCall}
 use Rattle.pw_code.specs.declared.file.FileOp.{FileOp}
 use Rattle.pw_code.specs.declared.file.FileOp.TheVariants.{Read, Next, Write, Rewrite, Delete, ReadLock, NextLock}
 use Rattle.pw_code.specs.declared.unit.Unit as unit
-use Rattle.pw_image.proofs.Forms.{IsForm, Takes, block, both, byte, counted, made, many, number32, number64, some_is}
+use Rattle.pw_image.proofs.Forms.{IsForm, Takes, block, both, byte, counted, made, many, number32, number64}
+use Rattle.pw_image.proofs.ImageForms.{truth-of-truth, truth-small, all-is}
 use Rattle.pw_image.specs.Image.{truth}
 use Rattle.pw_image.specs.Reading.{Front, all_of, block_at, byte_at, is_any, is_truth, many_at, number_at, truth_of}
 use Rattle.pw_image.specs.Values.{AreBytes}
@@ -287,14 +289,6 @@ truth_again zero is = refl
 truth_again (suc zero) is = refl
 truth_again (suc (suc n)) is = let small : suc (suc n) ≤ 1 = leb-true _ _ is in absurd (omega arith)
 
-truth_is : (b : Bool) → truth_of (truth b) ≡ b
-truth_is true = refl
-truth_is false = refl
-
-truth_fits : (b : Bool) → (is_truth (truth b) ≡ true) × (truth b < 256)
-truth_fits true = (refl, omega arith)
-truth_fits false = (refl, omega arith)
-
 abbrev back_out_parts : DiscCall → unit.Unit × (ℕ × List unit.Unit)
 back_out_parts (BackOut (first ∷ others) ends) = (first, (truth ends, others))
 back_out_parts _ = (no_unit, (0, []))
@@ -313,7 +307,7 @@ back_out_whole (Begin u) is = absurd (let e : 1 ≡ 4 = is.0 in omega arith)
 back_out_whole (Operate u call) is = absurd (let e : 2 ≡ 4 = is.0 in omega arith)
 back_out_whole (Commit u reply) is = absurd (let e : 3 ≡ 4 = is.0 in omega arith)
 back_out_whole (BackOut [] ends) is = absurd is.1
-back_out_whole (BackOut (first ∷ others) ends) is = ap (λ (b : Bool). BackOut (first ∷ others) b) (truth_is ends)
+back_out_whole (BackOut (first ∷ others) ends) is = ap (λ (b : Bool). BackOut (first ∷ others) b) (truth-of-truth ends)
 
 back_out_fits : (y : DiscCall) → CallIs 4 y → BackOutIs (back_out_parts y)
 back_out_fits (Begin u) is = absurd (let e : 1 ≡ 4 = is.0 in omega arith)
@@ -321,7 +315,7 @@ back_out_fits (Operate u call) is = absurd (let e : 2 ≡ 4 = is.0 in omega arit
 back_out_fits (Commit u reply) is = absurd (let e : 3 ≡ 4 = is.0 in omega arith)
 back_out_fits (BackOut [] ends) is = absurd is.1
 back_out_fits (BackOut (first ∷ others) ends) is =
-    (is.1.0, (truth_fits ends, (is.1.1, (refl, recursion_from_All UnitHasValues others is.1.2))))
+    (is.1.0, (truth-small ends, (is.1.1, (refl, recursion_from_All UnitHasValues others is.1.2))))
 
 back_out-form : IsForm back_out_at rest_bytes (CallIs 4)
 unfolding back_out_at
@@ -372,16 +366,11 @@ call-form =
     form_as _ message_of message_of CountedCall HasValues (λ x is. refl) (λ x is. is.1.1) (λ x values. ((refl, kind_small x), (refl, values)))
     (counted (byte_at is_any) is_any call_behind (λ b. b ∷ []) rest_bytes (λ b. (is_any b ≡ true) × (b < 256)) kind_byte HasValues (byte is_any) kind-form)
 
-all_is : {A : Type 0} (front : Front A) (x : A) → all_of front ≡ Some x → front ≡ Some (x, [])
-all_is None x e = absurd cc
-all_is (Some (y, [])) x e = ap (λ z. Some (z, [])) (some_is e)
-all_is (Some (y, b ∷ bytes)) x e = absurd cc
-
 -- what is read as a call is its message
 pub is_message : (bytes : List ℕ) (call : DiscCall) → AreBytes bytes → call_in bytes ≡ Some call → IsMessageOf bytes call
 unfolding call_in
 is_message bytes call values e =
-    let found = call-form.takes bytes call [] values (all_is (call_at bytes) call e) in
+    let found = call-form.takes bytes call [] values (all-is (call_at bytes) call e) in
     record { has_values = found.1; is = found.0.parts ∙ append-nil (message_of call) }
 
 -- a message is read as its call

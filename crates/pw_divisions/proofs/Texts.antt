@@ -1,6 +1,5 @@
 -- How many tokens stand in front of the end of a text.
 use Rattle.std.proofs.Common.{◌≡◌, ℕ, ◌+◌, ◌<◌, Bool, true, false, List, [], ◌∷◌, length, refl, ap, arith}
-use Rattle.std.specs.Prelude.{◌==◌}
 use Rattle.pw_text.specs.declared.token.Token.{Token}
 use Rattle.pw_text.specs.Cursor.{Left, behind}
 use Rattle.pw_divisions.specs.Steps.{size_up_to}
@@ -24,11 +23,6 @@ module _ (test : Left → Bool) (text : List ℕ) where
   unfolding size_up_to
   size-more [] rest some is rest_is = absurd (omega arith)
   size-more (token ∷ tokens) rest some is rest_is = rw (is, rest_is) refl
-
--- some are left
-pub some_left : {A : Type 0} (list : List A) → false ≡ (length list == 0) → 0 < length list
-some_left [] some = absurd cc
-some_left (x ∷ xs) some = omega arith
 
 -- behind the next token there is one less
 pub behind-shorter : (text : List ℕ) (tokens : List Token) (rest : Left) → 0 < length tokens

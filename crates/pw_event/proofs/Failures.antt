@@ -6,6 +6,7 @@ use Rattle.std.specs.List.{AllByRecursion, slice_split}
 use Rattle.std.specs.Str.{str_to_ascii_uppercase}
 use Rattle.std.proofs.lemmas.Bool.{leb-true, le-leb, ne_eqb, eqb-false}
 use Rattle.std.proofs.lemmas.List.Splits.{join_with_byte-slice_split}
+use Rattle.pw_base.proofs.Plain.{same-ok}
 use Rattle.pw_code.specs.Limits.{most_after}
 use Rattle.pw_code.specs.Names.{is_name, IsName, may_name}
 use Rattle.pw_code.specs.Valid.{HasNames}
@@ -237,12 +238,9 @@ fail_is system names line (Server c i n) is =
       spelled = is.spelled;
     }
 
-one_value : (r : Result FailLine EventFault) (a b : FailLine) → r ≡ Ok a → r ≡ Ok b → a ≡ b
-one_value r a b is_a is_b = cc
-
 -- two failure lines with one line are one
 pub one_fail : (system : System) → HasNames system → (line : List ℕ) (a b : FailLine) → IsFailLineOf system line a → IsFailLineOf system line b → a ≡ b
-one_fail system names line a b is_a is_b = one_value (fail_of system (slice_split (λ b. b == 32) line)) a b (fail_gives system names line a is_a) (fail_gives system names line b is_b)
+one_fail system names line a b is_a is_b = same-ok (fail_of system (slice_split (λ b. b == 32) line)) a b (fail_gives system names line a is_a) (fail_gives system names line b is_b)
 
 -- the line of a failure line of a system is read as it
 pub fail_answer : (system : System) → HasNames system → (line : List ℕ) (fail : FailLine) (result : Result FailLine EventFault) → IsFailLineOf system line fail → ReadsFail system line result

@@ -2,20 +2,12 @@
 use Rattle.std.proofs.Common.{◌≡◌, ℕ, ◌+◌, ◌<◌, Bool, false, not, cond, List, [], ◌∷◌, ◌++◌, map, length, get_or, take, Bor, refl, sym, ap, ◌∙◌, arith}
 use Rattle.std.specs.List.{position, prefix_len, list_any, IsDistinct}
 use Rattle.std.specs.Str.{bytes_eq}
-use Rattle.std.proofs.lemmas.Bool.Decides.{same_from_decides}
 use Rattle.std.proofs.lemmas.List.{get_or-map, get_or-take, length-map, length-take-le, map-append, take_more}
 use Rattle.std.proofs.lemmas.List.Recursion.{or_from_places}
-use Rattle.std.proofs.lemmas.Slice.Eq.{bytes_eq-Decides}
+use Rattle.pw_base.proofs.Plain.{bytes_eq-swap}
 use Rattle.indexmap.specs.IndexSet.{insert_key}
 use Rattle.pw_event.proofs.Looked.{distinct_at}
 use Rattle.pw_event.proofs.Sentences.{texts}
-
--- the order of the two does not count
-bytes_eq-comm : (a b : List ℕ) → bytes_eq a b ≡ bytes_eq b a
-bytes_eq-comm a b =
-    let there = bytes_eq-Decides a b in
-    let back = bytes_eq-Decides b a in
-    same_from_decides {P = a ≡ b} (bytes_eq a b) (bytes_eq b a) there (λ is. sym (back.0 is), λ is. back.1 (sym is))
 
 prefix_like : {A B : Type 0} (p : B → Bool) (q : A → Bool) (f : A → B) → ((x : A) → p (f x) ≡ q x) → (xs : List A) → prefix_len p (map f xs) ≡ prefix_len q xs
 prefix_like p q f same [] = refl
@@ -26,7 +18,7 @@ pub position_like : {A B : Type 0} (p : B → Bool) (q : A → Bool) (f : A → 
 position_like p q f same xs = rw (prefix_like (λ x. not (p x)) (λ x. not (q x)) f (λ x. ap not (same x)) xs, length-map xs f) refl
 
 pub place_of_key : (keys : List (Bor (List ℕ))) (name : List ℕ) → position (λ key. bytes_eq name key.now) keys ≡ position (λ row. bytes_eq row name) (texts keys)
-place_of_key keys name = sym (position_like (λ row. bytes_eq row name) (λ (key : Bor (List ℕ)). bytes_eq name key.now) (λ (key : Bor (List ℕ)). key.now) (λ key. bytes_eq-comm key.now name) keys)
+place_of_key keys name = sym (position_like (λ row. bytes_eq row name) (λ (key : Bor (List ℕ)). bytes_eq name key.now) (λ (key : Bor (List ℕ)). key.now) (λ key. bytes_eq-swap key.now name) keys)
 
 abbrev pub same_key : Bor (List ℕ) → Bor (List ℕ) → Bool
 same_key a b = bytes_eq a.now b.now
@@ -40,7 +32,7 @@ key_is_new names keys key i distinct within so_far is =
     let below : k < i = omega arith in
     let text : (get_or keys k key).now ≡ get_or names k [] =
     sym (get_or-map (λ (k : Bor (List ℕ)). k.now) keys k key [] less) ∙ ap (λ ws. get_or ws k []) so_far ∙ get_or-take i names k [] below in
-    rw (text, is) (bytes_eq-comm (get_or names i []) (get_or names k []) ∙ distinct_at names distinct k i below within))
+    rw (text, is) (bytes_eq-swap (get_or names i []) (get_or names k []) ∙ distinct_at names distinct k i below within))
 
 -- one name more
 pub keys_more : (names : List (List ℕ)) (keys next : List (Bor (List ℕ))) (key : Bor (List ℕ)) (i : ℕ) → IsDistinct bytes_eq names → i < length names

@@ -4,6 +4,7 @@ use Rattle.std.specs.Prelude.{◌==◌, ◌⊎◌, codes, nat_lt}
 use Rattle.std.specs.List.{AllByRecursion, slice_split}
 use Rattle.std.proofs.lemmas.Bool.{ltb-true, lt-ltb}
 use Rattle.std.proofs.lemmas.List.Splits.{join_with_byte-slice_split}
+use Rattle.pw_base.proofs.Plain.{same-ok}
 use Rattle.pw_code.specs.Valid.{HasNames}
 use Rattle.pw_code.specs.declared.system.System.{System}
 use Rattle.pw_event.specs.declared.event.Event.{Event}
@@ -105,13 +106,9 @@ line_reads system names line words (Err Unknown) cut gives =
     )
 line_reads system names line words (Err Memory) cut gives = tt
 
--- a result has one value
-one_value : (r : Result Event EventFault) (a b : Event) → r ≡ Ok a → r ≡ Ok b → a ≡ b
-one_value r a b is_a is_b = cc
-
 -- two entries with one line are one
 pub one_entry : (system : System) → HasNames system → (line : List ℕ) (a b : Event) → IsLineOf system line a → IsLineOf system line b → a ≡ b
-one_entry system names line a b is_a is_b = one_value (event_of system (slice_split (λ b. b == 32) line)) a b (line_gives system names line a is_a) (line_gives system names line b is_b)
+one_entry system names line a b is_a is_b = same-ok (event_of system (slice_split (λ b. b == 32) line)) a b (line_gives system names line a is_a) (line_gives system names line b is_b)
 
 -- the name, or another one where the thing is not there
 abbrev name_or : Bool → List ℕ → List ℕ

@@ -8,9 +8,9 @@ use Rattle.std.proofs.lemmas.List.Elements.{All-from_recursion}
 use Rattle.std.proofs.lemmas.List.Quantifiers.{position-Some}
 use Rattle.std.proofs.lemmas.List.Sums.{position_or_len_is}
 use Rattle.std.proofs.lemmas.Slice.Eq.{bytes_eq-Decides}
+use Rattle.pw_base.proofs.Plain.{bytes_eq-same}
 use Rattle.pw_code.specs.Names.{AreNames}
 use Rattle.pw_event.specs.Parsing.{among}
-use Rattle.pw_event.proofs.Numbers.{bytes_eq-same}
 
 -- no two are the same
 pub distinct_at : (names : List (List ℕ)) → IsDistinct bytes_eq names → (k i : ℕ) → k < i → i < length names → bytes_eq (get_or names k []) (get_or names i []) ≡ false

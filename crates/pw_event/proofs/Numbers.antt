@@ -7,13 +7,11 @@ use Rattle.std.specs.Str.Parse.{digits_value}
 use Rattle.std.proofs.lemmas.Bool.{and_parts, leb-true, le-leb, lt-leb, eqb-false, ne_eqb}
 use Rattle.std.proofs.lemmas.Fmt.{decimal_is_IsNumeral}
 use Rattle.std.proofs.lemmas.Slice.Eq.{bytes_eq-Decides}
+use Rattle.pw_base.proofs.Plain.{bytes_eq-same}
 use Rattle.pw_event.specs.declared.fault.EventFault.{EventFault}
 use Rattle.pw_event.specs.declared.fault.EventFault.TheVariants.{Bad}
 use Rattle.pw_event.specs.Parsing.{number, counted}
 use Rattle.pw_event.proofs.Steps.{Outcome, and_then}
-
-pub bytes_eq-same : (word : List ℕ) → bytes_eq word word ≡ true
-bytes_eq-same word = (bytes_eq-Decides word word).1 refl
 
 -- a number is read from its digits
 pub number-decimal : (limit n : ℕ) → n ≤ limit → n < 2 ^ 64 → number limit (decimal n) ≡ Ok n

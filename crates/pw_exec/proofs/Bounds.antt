@@ -5,6 +5,7 @@ use Rattle.std.proofs.Math.ListN.{get_or-eq_default}
 use Rattle.std.proofs.Math.Nat.{mul-le-mul_left, mul-le-mul_right}
 use Rattle.std.proofs.lemmas.Bool.{cases_lt}
 use Rattle.std.proofs.lemmas.List.Elements.{All-nil, All-tail}
+use Rattle.std.proofs.lemmas.Nat.{mul-le}
 use Rattle.pw_terminal.specs.Entries.{check}
 use Rattle.pw_terminal.specs.declared.entries.EntryAnswer.{EntryAnswer}
 use Rattle.pw_terminal.specs.declared.entries.EntryAnswer.TheVariants.{Valid, BadKey, BadField}
@@ -162,7 +163,7 @@ put_shallow system a c s =
 abbrev IsShort : System → Type 0
 IsShort system = (n : ℕ) → length (code_at system n).instrs ≤ 2 ^ 32
 
-at_or : {A : Type 0} (P : A → Type 0) (xs : List A) (n : ℕ) (d : A) → All P xs → P d → P (get_or xs n d)
+pub at_or : {A : Type 0} (P : A → Type 0) (xs : List A) (n : ℕ) (d : A) → All P xs → P d → P (get_or xs n d)
 at_or P xs n d all one =
     elim (cases_lt n (length xs)) as (λ _. P (get_or xs n d)) [
       | inl less ↦ all n d less
@@ -183,15 +184,12 @@ back_bound : (most : ℕ) (items : List Return) → back most items ≤ length i
 back_bound most [] = omega arith
 back_bound most (one ∷ rest) = let ih = back_bound most rest in omega arith
 
-mul_bound : (a b m n : ℕ) → a ≤ m → b ≤ n → a * b ≤ m * n
-mul_bound a b m n le le' = let first : a * b ≤ a * n = mul-le-mul_left a le' in let second : a * n ≤ m * n = mul-le-mul_right n le in omega arith
-
 frame_bound : (system : System) (frame : Frame) → IsShort system → length frame.returns ≤ most_performs → hops_in system frame ≤ 65 * 2 ^ 32
 frame_bound system frame is few =
     let most : ℕ = length (code_at system frame.program).instrs in
     let le : most ≤ 2 ^ 32 = is frame.program in
     let back_le = back_bound most frame.returns in
-    let product : length frame.returns * most ≤ 64 * 2 ^ 32 = mul_bound (length frame.returns) most 64 (2 ^ 32) (omega arith) le in
+    let product : length frame.returns * most ≤ 64 * 2 ^ 32 = mul-le (length frame.returns) most 64 (2 ^ 32) (omega arith) le in
     omega arith
 
 frames_bound : (system : System) (frames : List Frame) → IsShort system → All (λ (frame : Frame). length frame.returns ≤ most_performs) frames
@@ -210,7 +208,7 @@ hops_bound : (system : System) (c : Config) → IsShort system → Shallow c →
 hops_bound system c is s =
     let top = frame_bound system c.top is s.top in
     let rest = frames_bound system c.rest.frames is s.waiting in
-    let product : length c.rest.frames * (65 * 2 ^ 32 + 1) ≤ 8 * (65 * 2 ^ 32 + 1) = mul_bound (length c.rest.frames) (65 * 2 ^ 32 + 1) 8 (65 * 2 ^ 32 + 1) s.few (omega arith) in
+    let product : length c.rest.frames * (65 * 2 ^ 32 + 1) ≤ 8 * (65 * 2 ^ 32 + 1) = mul-le (length c.rest.frames) (65 * 2 ^ 32 + 1) 8 (65 * 2 ^ 32 + 1) s.few (omega arith) in
     omega arith
 
 -- a bound on the steps before the next verb

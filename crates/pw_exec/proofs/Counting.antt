@@ -2,6 +2,7 @@
 use Rattle.std.proofs.Common.{◌≡◌, ◌≢◌, ℕ, zero, suc, ◌+◌, ◌*◌, ◌≤◌, ◌<◌, Bool, true, false, not, ◌||◌, is_some, is_none, List, [], ◌∷◌, ◌++◌, length, Option, Some, None, refl, sym, ap, ◌∙◌, subst, append-nil, append_assoc, arith}
 use Rattle.std.specs.Prelude.{map, slice_get, ◌==◌, if◌then◌else◌}
 use Rattle.std.proofs.lemmas.Bool.{eqb-true, eqb-false}
+use Rattle.pw_source.proofs.Terminals.{standing_from-append}
 use Rattle.pw_terminal.specs.Entries.{check}
 use Rattle.pw_terminal.specs.declared.entries.EntryAnswer.{EntryAnswer}
 use Rattle.pw_terminal.specs.declared.entries.EntryAnswer.TheVariants.{Valid, BadKey, BadField}
@@ -31,7 +32,7 @@ use Rattle.pw_exec.proofs.CountSteps.{Counts, counts_in, step_same}
 use Rattle.pw_exec.proofs.Progress.{Shallow, step_progress}
 use Rattle.pw_exec.proofs.RunLemmas as lemmas
 use Rattle.pw_onecopy.specs.IsBehaviour.{IsPath, Suits, SuitsFrom}
-use Rattle.pw_onecopy.specs.Path.{PathAnswer, Shown, Begun, Replied, Failed, Ended, Dropped, Standing, RefreshNumber, entries_on, is_outside, next_number, number_at, standing, standing_after_answer, standing_after_reply, standing_at_start, standing_from, unit_number}
+use Rattle.pw_onecopy.specs.Path.{PathAnswer, Shown, Begun, Replied, Failed, Ended, Dropped, Standing, RefreshNumber, entries_on, is_outside, next_number, number_at, standing, standing_after_answer, standing_after_reply, standing_at_start, unit_number}
 use Rattle.pw_onecopy.specs.Path as path
 
 -- ---- what a path counts
@@ -78,11 +79,6 @@ entries-push (Replied reply ∷ p) a = entries-push p a
 entries-push (Failed code ∷ p) a = entries-push p a
 entries-push (Ended ∷ p) a = entries-push p a
 entries-push (Dropped ∷ p) a = entries-push p a
-
--- where it leads
-pub standing-push : (at : Standing) (p : List PathAnswer) (a : PathAnswer) → standing_from at (p ++ a ∷ []) ≡ standing_after_answer (standing_from at p) a
-standing-push at [] a = refl
-standing-push at (b ∷ p) a = standing-push (standing_after_answer at b) p a
 
 -- ---- what a context counts
 
@@ -328,7 +324,7 @@ module _ (system : System) (script : List FailLine) (t : ℕ) (lines : List Entr
 
 -- the counts behind one answer more
 pub more-counts : (p : List PathAnswer) (a : PathAnswer) (rest : Context) → IsBehind (standing p) (entries_on p) (begun_from 0 p) a rest → HasCountsOf (p ++ a ∷ []) rest
-more-counts p a rest behind = rw (standing-push standing_at_start p a, entries-push p a, begun-push 0 p a) behind.counts
+more-counts p a rest behind = rw (standing_from-append standing_at_start p a, entries-push p a, begun-push 0 p a) behind.counts
 
 module _ (system : System) (script : List FailLine) (t : ℕ) (terminal : TermInfo) (valid : IsValid system) (here : slice_get system.terminals t ≡ Some terminal) where
   abbrev sys' : Config

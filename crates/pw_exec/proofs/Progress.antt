@@ -5,7 +5,7 @@ use Rattle.std.proofs.lemmas.Bool.{ltb-true}
 use Rattle.std.proofs.Math.ListN.{get_or-append}
 use Rattle.std.proofs.Math.Seq.{get_or-append_seam}
 use Rattle.std.proofs.lemmas.List.Elements.{All-append, All-cons, All-nil}
-use Rattle.std.proofs.lemmas.Option.{slice_get_within}
+use Rattle.std.proofs.lemmas.Option.{slice_get_within, same_Some}
 use Rattle.pw_code.specs.declared.cond.Cond.{Cond}
 use Rattle.pw_code.specs.declared.context.Context.{Context}
 use Rattle.pw_code.specs.declared.context.Frame.{Frame}
@@ -42,9 +42,6 @@ hops system c = hops_in system c.top + hops_of system c.rest.frames
 
 -- ---- the last of a list
 
-unsome : {A : Type 0} (a b : A) → Some a ≡ Some b → a ≡ b
-unsome a b e = cc
-
 behind_some : {A : Type 0} (x : A) (o : Option (List A × A)) → last_behind x o ≡ None → ⊥
 behind_some x None e = cc
 behind_some x (Some found) e = cc
@@ -61,11 +58,11 @@ seam {A} (item ∷ items) before last e = by_rest (split_last items) refl e (sea
         → ((front : List A) (end : A) → split_last items ≡ Some (front, end) → items ≡ front ++ end ∷ []) → item ∷ items ≡ before ++ last ∷ []
     by_rest None is e ih =
         let none : items ≡ [] = none_empty items is in
-        let same : ([], item) ≡ (before, last) = unsome _ _ e in
+        let same : ([], item) ≡ (before, last) = same_Some _ _ e in
         ap (λ l. item ∷ l) none ∙ ap (λ (p : List A × A). p.0 ++ p.1 ∷ []) same
     by_rest (Some found) is e ih =
         let rest : items ≡ found.0 ++ found.1 ∷ [] = ih found.0 found.1 is in
-        let same : (item ∷ found.0, found.1) ≡ (before, last) = unsome _ _ e in
+        let same : (item ∷ found.0, found.1) ≡ (before, last) = same_Some _ _ e in
         ap (λ l. item ∷ l) rest ∙ ap (λ (p : List A × A). p.0 ++ p.1 ∷ []) same
 
 back_append : (most : ℕ) (xs ys : List Return) → back most (xs ++ ys) ≡ back most xs + back most ys

@@ -5,10 +5,12 @@ use Rattle.std.proofs.lemmas.Bool.{lt-ltb, ltb-true}
 use Rattle.std.proofs.lemmas.Option.{get_or_from_slice_get, slice_get_within}
 use Rattle.std.proofs.lemmas.List.Elements.{All-cons, All-nil}
 use Rattle.pw_base.specs.Limits.{most_storage}
+use Rattle.pw_base.proofs.Plain.{some_is}
 use Rattle.pw_picture.specs.Stored.{digits_of}
 use Rattle.pw_terminal.specs.Entries.{check}
 use Rattle.pw_terminal.specs.declared.entries.EntryAnswer.{EntryAnswer}
 use Rattle.pw_terminal.specs.declared.entries.EntryAnswer.TheVariants.{Valid, BadKey, BadField}
+use Rattle.pw_terminal.proofs.Cells.{length-digits_of}
 use Rattle.pw_code.specs.Entry.{Entry}
 use Rattle.pw_code.specs.Fields.{IsField}
 use Rattle.pw_code.specs.Instrs.{AreInstrs, IsCall, IsInstr, IsReplyCode, no_code, program_at, screen_at}
@@ -35,7 +37,7 @@ use Rattle.pw_exec.specs.Sound.{AreWaiting, IsSound, IsSoundContext, Waits, kept
 use Rattle.pw_exec.specs.Steps.{act, does, holds_here, instr_of, spots_here, step}
 use Rattle.pw_exec.specs.Turns.{split_last}
 use Rattle.pw_exec.proofs.Progress.{seam}
-use Rattle.pw_exec.proofs.Written.{AreSpots, Sits, called-size, copied-back-size, entered-size, length-digits_of, move-size, spot-is, spots-are, unsome}
+use Rattle.pw_exec.proofs.Written.{AreSpots, Sits, called-size, copied-back-size, entered-size, move-size, spot-is, spots-are}
 use Rattle.pw_exec.proofs.Plain.{Plain, by_test, does_plain, ends_plain, is_inner, more, same, stops_plain, test_plain}
 
 -- ---- the programs at work
@@ -61,7 +63,7 @@ pub record Sized (system : System) (c : Config) : Type 0 where
   pub few : length c.rest.frames ≤ most_calls
   pub base : IsWhole system (bottom c.rest.frames c.top)
 
-waits-same : (system : System) (caller a b : Frame) → b.program ≡ a.program → length b.storage ≡ length a.storage → Waits system caller a → Waits system caller b
+pub waits-same : (system : System) (caller a b : Frame) → b.program ≡ a.program → length b.storage ≡ length a.storage → Waits system caller a → Waits system caller b
 waits-same system caller a b program size w = record {
   arguments = w.arguments;
   keeps = w.keeps;
@@ -108,7 +110,7 @@ chain-pop system (frame ∷ next ∷ frames) a b chain =
 
 -- ---- codes
 
-code-is : (system : System) (n : ℕ) → n < length system.programs → code_at system n ≡ program_at system n
+pub code-is : (system : System) (n : ℕ) → n < length system.programs → code_at system n ≡ program_at system n
 code-is system n low = ap (λ b. if b then program_at system n else slice_index_or system.servers (n - length system.programs) no_code) (lt-ltb n (length system.programs) low)
 
 valid-code : (system : System) → IsValid system → (n : ℕ) → n < length system.programs → IsCode false system (code_at system n)
@@ -311,7 +313,7 @@ module _ (system : System) (valid : IsValid system) where
       by : (o : Option Spot) → spot_of (registers_of c.rest) c.top.storage code.yields ≡ o → option_map (λ spot. (place, spot)) o ≡ Some found → Sits (length (code_of system c).storage) found.1
       by (Some spot) at e =
           let own = spot-is (registers_of c.rest) c.top.storage (length (code_of system c).storage) code.yields is spot at in
-          subst (λ (x : ℕ × Spot). Sits (length (code_of system c).storage) x.1) (unsome e) own.sits
+          subst (λ (x : ℕ × Spot). Sits (length (code_of system c).storage) x.1) (some_is e) own.sits
       by None at e = absurd (cc e)
 
   spot-among : (c : Config) (codes : List ReplyCode) (o : Option ℕ) → All (IsReplyCode (length (code_of system c).storage)) codes → (found : ℕ × Spot) → option_and_then (spot_among c codes) o ≡ Some found

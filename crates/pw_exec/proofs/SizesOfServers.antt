@@ -3,6 +3,7 @@ use Rattle.std.proofs.Common.{◌≡◌, ℕ, zero, suc, ◌+◌, ◌-◌, ◌�
 use Rattle.std.specs.Prelude.{All, IsTrue, map, slice_get, slice_index_or, nat_lt, ◌==◌, Result, Ok, Err, if◌then◌else◌}
 use Rattle.std.proofs.lemmas.Bool.{cases_lt, le-ltb}
 use Rattle.std.proofs.lemmas.List.{length-append, length-drop, length-take}
+use Rattle.pw_base.proofs.Plain.{some_is}
 use Rattle.pw_number.specs.Number.{Number}
 use Rattle.pw_number.specs.declared.size_error.SizeError.{SizeError}
 use Rattle.pw_picture.specs.Stored.{is_kept, moved}
@@ -33,7 +34,6 @@ use Rattle.pw_exec.specs.Runs.{Comes, Run, StandsForFiles, at_verb, runs}
 use Rattle.pw_exec.specs.Sound.{AreWaiting, IsFrame, IsSound, IsSoundContext}
 use Rattle.pw_exec.specs.Steps.{act, branch, does, holds_here, instr_of, or_else, read_here, spot_here, spots_here, step, taken_here}
 use Rattle.pw_exec.specs.Turns.{at_position, chosen, comes_back, ends_by, most_performs, placed, split_last, tested, turn, turns}
-use Rattle.pw_exec.proofs.Written.{unsome}
 
 -- ---- storages that do not get shorter
 
@@ -57,7 +57,7 @@ stored-long (Some p) spot m storage out e = by (is_kept p m) e
     by : (b : Bool) → (if b then Some (put_at spot (moved p m) storage) else None) ≡ Some out → length storage ≤ length out
     by true e =
         let long = written-long spot.at (moved p m) storage in
-        let same = ap (length {A = ℕ}) (unsome e) in
+        let same = ap (length {A = ℕ}) (some_is e) in
         omega (arith, long, same)
     by false e = absurd (cc e)
 

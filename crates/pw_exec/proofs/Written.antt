@@ -1,19 +1,21 @@
 -- What is written into a storage leaves its size, where the places are those of a valid code.
-use Rattle.std.proofs.Common.{◌≡◌, ℕ, zero, suc, ◌+◌, ◌-◌, ◌*◌, ◌≤◌, ◌<◌, Bool, true, false, List, [], ◌∷◌, ◌++◌, length, map, take, drop, Option, Some, None, if◌then◌else◌, refl, sym, ap, ◌∙◌, subst, arith}
+use Rattle.std.proofs.Common.{◌≡◌, ℕ, ◌+◌, ◌-◌, ◌*◌, ◌≤◌, ◌<◌, Bool, true, false, List, [], ◌∷◌, ◌++◌, length, map, take, drop, Option, Some, None, if◌then◌else◌, refl, sym, ap, ◌∙◌, subst, arith}
 use Rattle.std.specs.Prelude.{All, IfSome, find, nat_le, ◌&&◌, ◌%◌, ◌^◌, option_map, Result, Ok, Err}
 use Rattle.std.proofs.Math.Nat.{mul-le-mul_right}
 use Rattle.std.proofs.lemmas.Bool.{and_parts, leb-true}
-use Rattle.std.proofs.lemmas.List.{length-append, length-drop, length-take, length-replicate}
+use Rattle.std.proofs.lemmas.List.{length-take, length-replicate}
 use Rattle.std.proofs.lemmas.List.Elements.{All-head, All-tail}
+use Rattle.pw_base.proofs.Plain.{some_is}
 use Rattle.pw_number.specs.Number.{Number}
 use Rattle.pw_number.specs.declared.size_error.SizeError.{SizeError}
 use Rattle.pw_picture.specs.Grammar.{IsPicture, size_of}
-use Rattle.pw_picture.specs.Stored.{chars_of, digits_of, is_kept, is_negative, moved, size_at}
-use Rattle.pw_picture.specs.Text.{fitted}
+use Rattle.pw_picture.specs.Stored.{chars_of, is_kept, is_negative, moved, size_at}
 use Rattle.pw_picture.specs.declared.picture.Picture.{Picture}
 use Rattle.pw_picture.specs.declared.picture.Picture.TheVariants as picture
 use Rattle.pw_terminal.specs.Entries.{is_entry_field}
 use Rattle.pw_terminal.specs.Shown.{written}
+use Rattle.pw_terminal.proofs.Cells.{length-digits_of}
+use Rattle.pw_terminal.proofs.Written.{length-fitted, length-written}
 use Rattle.pw_code.specs.Fields.{HasClauses, IsField}
 use Rattle.pw_code.specs.Valid.{IsLinked}
 use Rattle.pw_code.specs.Places.{IsPlace, IsTableAt, LiesIn, picture_of}
@@ -31,12 +33,6 @@ use Rattle.pw_exec.specs.Reading.{Registers, Spot, Taken, at_this_moment, chars_
 
 -- ---- lists of characters
 
-pub length-written : (place : ℕ) (text cells : List ℕ) → place + length text ≤ length cells → length (written place text cells) ≡ length cells
-length-written place text cells le = simp (length-append, length-take, length-drop) (omega (arith, le))
-
-pub length-fitted : (size : ℕ) (text : List ℕ) → length (fitted size text) ≡ size
-length-fitted size text = simp (length-append, length-take, length-replicate) (omega arith)
-
 pub length-text_in : (size : ℕ) (value : Value) → length (text_in size value) ≡ size
 length-text_in size (Chars p chars) = length-fitted size (text_of (Chars p chars))
 length-text_in size (Register digits v) = length-fitted size (text_of (Register digits v))
@@ -44,10 +40,6 @@ length-text_in size (Number' spelling) = length-fitted size (text_of (Number' sp
 length-text_in size (Text' chars) = length-fitted size (text_of (Text' chars))
 length-text_in size Spaces' = length-replicate size 32
 length-text_in size Zeros' = length-replicate size 48
-
-pub length-digits_of : (count size : ℕ) → length (digits_of count size) ≡ count
-length-digits_of zero size = refl
-length-digits_of (suc count) size = omega (arith, length-digits_of count size)
 
 pub length-chars_of : (digits size : ℕ) (sign negative : Bool) → length (chars_of digits sign negative size) ≡ (if sign then digits + 1 else digits)
 length-chars_of digits size true negative = omega (arith, length-digits_of digits size)
@@ -86,9 +78,6 @@ fits-of : (o : Option Picture) (size : ℕ) → IfSome o (λ p. IsPicture p × (
 fits-of (Some q) size is p e = let same : q ≡ p = cc e in ap size_of (sym same) ∙ is.1
 fits-of None size is p e = absurd (cc e)
 
-pub unsome : {A : Type 0} {a b : A} → Some a ≡ Some b → a ≡ b
-unsome {a = a} e = ap (λ o. elim o as (λ _. _) [ None ↦ a | Some x ↦ x ]) e
-
 -- what is known of a place's spot
 pub record IsSpotOf (n : ℕ) (place : Place) (spot : Spot) : Type 0 where
   pub sits : Sits n spot
@@ -112,11 +101,11 @@ module _ (registers : Registers) (storage : List ℕ) (n : ℕ) where
         let high : k ≤ table.occurs = leb-true k table.occurs parts.1 in
         let product : (k - 1) * table.step ≤ (table.occurs - 1) * table.step = mul-le-mul_right table.step (omega (arith, high)) in
         let all : place.at + (table.occurs - 1) * table.step + place.size ≤ n = inside.inside in
-        subst (IsSpotOf n place) (unsome e) (at-place (place.at + (k - 1) * table.step) (omega (arith, product, all)))
+        subst (IsSpotOf n place) (some_is e) (at-place (place.at + (k - 1) * table.step) (omega (arith, product, all)))
     by-test table k spot inside false test e = absurd (cc e)
 
     by-table : (table : Option Table) (spot : Spot) → LiesIn n place.at place.size table → option_map (spot_at place) (at_this_moment registers storage place.at table) ≡ Some spot → IsSpotOf n place spot
-    by-table None spot inside e = subst (IsSpotOf n place) (unsome e) (at-place place.at inside)
+    by-table None spot inside e = subst (IsSpotOf n place) (some_is e) (at-place place.at inside)
     by-table (Some table) spot inside e =
         let k : ℕ = subscript_of registers storage table.subscript in
         by-test table k spot inside (nat_le 1 k && nat_le k table.occurs) refl e
@@ -126,12 +115,12 @@ module _ (registers : Registers) (storage : List ℕ) (n : ℕ) where
 
   one-more : (place : Place) (places : List Place) (o : Option Spot) (rest : Option (List Spot)) (spots : List Spot) → ((spot : Spot) → o ≡ Some spot → IsSpotOf n place spot)
       → ((others : List Spot) → rest ≡ Some others → AreSpots n places others) → one_more o rest ≡ Some spots → AreSpots n (place ∷ places) spots
-  one-more place places (Some spot) (Some others) spots first more e = subst (AreSpots n (place ∷ places)) (unsome e) (first spot refl, more others refl)
+  one-more place places (Some spot) (Some others) spots first more e = subst (AreSpots n (place ∷ places)) (some_is e) (first spot refl, more others refl)
   one-more place places (Some spot) None spots first more e = absurd (cc e)
   one-more place places None rest spots first more e = absurd (cc e)
 
   pub spots-are : (places : List Place) (spots : List Spot) → All (IsPlace n) places → spots_of registers storage places ≡ Some spots → AreSpots n places spots
-  spots-are [] spots all e = subst (AreSpots n []) (unsome e) tt
+  spots-are [] spots all e = subst (AreSpots n []) (some_is e) tt
   spots-are (place ∷ places) spots all e =
       one-more place places (spot_of registers storage place) (spots_of registers storage places) spots (spot-is place (All-head (IsPlace n) place places all))
       (λ others. spots-are places others (All-tail (IsPlace n) place places all)) e
@@ -164,7 +153,7 @@ module _ (n : ℕ) where
       by true e =
           let short = moved-short p m in
           let size = fits p refl in
-          ap (length {A = ℕ}) (sym (unsome e)) ∙ length-written spot.at (moved p m) storage (omega (arith, short, size, inside, le))
+          ap (length {A = ℕ}) (sym (some_is e)) ∙ length-written spot.at (moved p m) storage (omega (arith, short, size, inside, le))
       by false e = absurd (cc e)
 
   computed-in : (r : Result Number SizeError) (spot : Spot) (storage out : List ℕ) → Sits n spot → n ≤ length storage → stored_in spot r storage ≡ Some out → length out ≡ length storage
@@ -192,7 +181,7 @@ module _ (n : ℕ) where
   found-is test (first ∷ fields) all one e = by (test first) e (λ e. found-is test fields (All-tail (IsField n) first fields all) one e)
     where
       by : (b : Bool) → (if b then Some first else find test fields) ≡ Some one → (find test fields ≡ Some one → IsField n one) → IsField n one
-      by true e more = subst (IsField n) (unsome e) (All-head (IsField n) first fields all)
+      by true e more = subst (IsField n) (some_is e) (All-head (IsField n) first fields all)
       by false e more = more e
 
   pub entered-size : (fields : List Field) (pairs : List (List ℕ × List ℕ)) (storage : List ℕ) → All (IsField n) fields → n ≤ length storage → length (entered fields pairs storage) ≡ length storage

@@ -1,8 +1,9 @@
 -- Lines that are played one after the other.
-use Rattle.std.proofs.Common.{◌≡◌, ◌≢◌, ◌⊎◌, inl, inr, ℕ, zero, suc, ◌+◌, ◌-◌, ◌≤◌, cond, false, List, [], ◌∷◌, Option, Some, None, Result, Ok, Err, refl, sym, ap, ◌∙◌, subst, arith}
+use Rattle.std.proofs.Common.{◌≡◌, ◌≢◌, ◌⊎◌, inl, inr, ℕ, zero, suc, ◌+◌, ◌-◌, ◌≤◌, cond, List, [], ◌∷◌, Option, Some, None, Result, Ok, Err, refl, sym, ap, ◌∙◌, subst, arith}
 use Rattle.std.proofs.lemmas.Bool.{cases_eq}
 use Rattle.pw_lines.specs.Steps.{is_empty}
 use Rattle.pw_lines.specs.Words.{words}
+use Rattle.pw_lines.proofs.Folds.{some_word}
 use Rattle.pw_net.specs.Member.{Member, replied, own_id, standing_of, start, restart, turned}
 use Rattle.pw_net.specs.Rules.{Reply, on_word, on_refuse, on_wait, on_end}
 use Rattle.pw_net.specs.World.{World, NetEvent, Start, Refuse, Ask, GiveUp, Restart, Deliver, with_member, done, delivered, effect, message_at}
@@ -69,15 +70,11 @@ unfolding events_from
 blank-played world systems number left line rest none =
     ap (λ b. played world (cond b (events_from systems (number + 1) left rest) (then_events number (event_on systems left line) (events_from systems (number + 1) (left - 1) rest)))) (ap is_empty none)
 
-some-word : (ws : List (List ℕ)) → ws ≢ [] → is_empty ws ≡ false
-some-word [] some = absurd (some refl)
-some-word (w ∷ ws) some = refl
-
 full-line : (systems number left : ℕ) (line : List ℕ) (rest : List (List ℕ)) → words line ≢ []
     → events_from systems number left (line ∷ rest) ≡ then_events number (event_on systems left line) (events_from systems (number + 1) (left - 1) rest)
 unfolding events_from
 full-line systems number left line rest some =
-    ap (λ b. cond b (events_from systems (number + 1) left rest) (then_events number (event_on systems left line) (events_from systems (number + 1) (left - 1) rest))) (some-word (words line) some)
+    ap (λ b. cond b (events_from systems (number + 1) left rest) (then_events number (event_on systems left line) (events_from systems (number + 1) (left - 1) rest))) (some_word (words line) some)
 
 -- a line without an event is the fault
 pub fault-played : (world : World) (systems number left : ℕ) (line : List ℕ) (rest : List (List ℕ)) → words line ≢ [] → event_on systems left line ≡ None
@@ -153,7 +150,7 @@ blank-front world number line rest none = ap (λ b. schedule_played world (cond 
 pub full-front : (world : World) (number : ℕ) (line : List ℕ) (rest : List (List ℕ)) → words line ≢ []
     → schedule_played world (schedule_from number (line ∷ rest)) ≡ schedule_played world (begun number (systems_in line) rest)
 unfolding schedule_from
-full-front world number line rest some = ap (λ b. schedule_played world (cond b (schedule_from (number + 1) rest) (begun number (systems_in line) rest))) (some-word (words line) some)
+full-front world number line rest some = ap (λ b. schedule_played world (cond b (schedule_from (number + 1) rest) (begun number (systems_in line) rest))) (some_word (words line) some)
 
 -- where each line is blank, the fault is behind the last
 pub none-front : (world : World) (number : ℕ) (all : List (List ℕ)) → all ≡ [] → schedule_played world (schedule_from number all) ≡ Err number

@@ -7,6 +7,7 @@ use Rattle.std.specs.Cmp.{IsTotalOrder}
 use Rattle.std.specs.declared.cmp.Ordering.{Ordering}
 use Rattle.std.specs.declared.cmp.Ordering.TheVariants.{Less}
 use Rattle.std.proofs.lemmas.List.Elements.{All-head, All-tail}
+use Rattle.pw_base.proofs.Plain.{all-weaker, all-append}
 
 -- a test that all pass keeps all
 pub filter_all : {X : Type 0} (p : X → Bool) (xs : List X) → All (λ x. p x ≡ true) xs → filter p xs ≡ xs
@@ -51,23 +52,13 @@ map-filter f p (x ∷ xs) =
       | false ↦ map-filter f p xs
     ]
 
--- what holds of all of two parts holds of all of the whole
-all-append : {X : Type 0} (P : X → Type 0) (xs ys : List X) → AllByRecursion P xs → AllByRecursion P ys → AllByRecursion P (xs ++ ys)
-all-append P [] ys h k = k
-all-append P (x ∷ xs) ys h k = (h.0, all-append P xs ys h.1 k)
-
--- a weaker fact
-all_weaker : {X : Type 0} (P Q : X → Type 0) → ((x : X) → P x → Q x) → (xs : List X) → AllByRecursion P xs → AllByRecursion Q xs
-all_weaker P Q w [] h = tt
-all_weaker P Q w (x ∷ xs) h = (w x h.0, all_weaker P Q w xs h.1)
-
 module _ {K : Type 0} (R : K → K → Ordering) (o : IsTotalOrder R) (key : K) where
   -- keys below this one, and keys above it, are in order one behind the other
   pub sorted-append : (xs ys : List K) → IsStrictlySortedBy R xs → IsStrictlySortedBy R ys → AllByRecursion (λ x. R x key ≡ Less) xs → AllByRecursion (λ y. R key y ≡ Less) ys → IsStrictlySortedBy R (xs ++ ys)
   unfolding IsStrictlySortedBy
   sorted-append [] ys s t h k = t
   sorted-append (x ∷ xs) ys s t h k = (
-    all-append (λ y. R x y ≡ Less) xs ys s.0 (all_weaker (λ y. R key y ≡ Less) (λ y. R x y ≡ Less) (λ y l. o.trans x key y h.0 l) ys k),
+    all-append (λ y. R x y ≡ Less) xs ys s.0 (all-weaker (λ y. R key y ≡ Less) (λ y. R x y ≡ Less) (λ y l. o.trans x key y h.0 l) ys k),
     sorted-append xs ys s.1 t h.1 k,
   )
 
@@ -76,6 +67,6 @@ module _ {K : Type 0} (R : K → K → Ordering) (o : IsTotalOrder R) (key : K) 
   unfolding IsStrictlySortedBy
   sorted-around [] ys s t h k = (k, t)
   sorted-around (x ∷ xs) ys s t h k = (
-    all-append (λ y. R x y ≡ Less) xs (key ∷ ys) s.0 (h.0, all_weaker (λ y. R key y ≡ Less) (λ y. R x y ≡ Less) (λ y l. o.trans x key y h.0 l) ys k),
+    all-append (λ y. R x y ≡ Less) xs (key ∷ ys) s.0 (h.0, all-weaker (λ y. R key y ≡ Less) (λ y. R x y ≡ Less) (λ y l. o.trans x key y h.0 l) ys k),
     sorted-around xs ys s.1 t h.1 k,
   )

@@ -1,5 +1,5 @@
 -- What a file answers for a key, and what a change of the records makes of that.
-use Rattle.std.proofs.Common.{◌≡◌, ◌≢◌, ℕ, suc, ◌∙◌, sym, ap, refl, arith, Bool, true, false, cond, List, [], ◌∷◌, ◌++◌, take, Option, Some, None}
+use Rattle.std.proofs.Common.{◌≡◌, ◌≢◌, ℕ, suc, ◌∙◌, sym, ap, refl, arith, Bool, true, false, cond, List, [], ◌∷◌, ◌++◌, take, Some, None}
 use Rattle.std.specs.Prelude.{filter, find, All, Contains}
 use Rattle.std.specs.Option.{option_or}
 use Rattle.std.specs.Ordering.{is_lt, is_eq, is_gt}
@@ -9,6 +9,7 @@ use Rattle.std.proofs.lemmas.Cmp.{nat_list_cmp_total, tied_itself}
 use Rattle.std.proofs.lemmas.List.Elements.{All-nil, All-cons}
 use Rattle.std.proofs.lemmas.List.Folds.{find-append}
 use Rattle.std.proofs.lemmas.Map.Lookups.{exact_bytes}
+use Rattle.pw_base.proofs.Plain.{is_eq-Equal, option_or-None}
 use Rattle.pw_files.specs.Records.{key_cmp, compared, below, above, record_at, with_record, without_key}
 
 -- a test that passes only what another passes finds the same in what the other keeps
@@ -62,17 +63,6 @@ find_nothing {X} p (x ∷ xs) h =
     ] is in
     at (p x) refl h
 
--- the first of nothing else
-option_or-none : {X : Type 0} (o : Option X) → option_or o None ≡ o
-option_or-none None = refl
-option_or-none (Some x) = refl
-
--- what the test for equal says
-eq_is : (o : Ordering) → is_eq o ≡ true → o ≡ Equal
-eq_is Less h = cc
-eq_is Equal h = refl
-eq_is Greater h = cc
-
 -- equal is not less
 eq_not_lt : (o : Ordering) → is_eq o ≡ true → is_lt o ≡ false
 eq_not_lt Less h = cc
@@ -90,7 +80,7 @@ module _ (n : ℕ) (records : List (List ℕ)) where
   pub record_at-found : (key content : List ℕ) → record_at n records key ≡ Some content → Contains records content × (take n content ≡ key)
   record_at-found key content h =
       let found = find_some (λ c. is_eq (compared n key c)) records content h in
-      (found.0, exact_bytes (take n content) key (eq_is (compared n key content) found.1))
+      (found.0, exact_bytes (take n content) key (is_eq-Equal (compared n key content) found.1))
 
   -- where none is found, no record has the key
   pub record_at-missing : (key : List ℕ) → record_at n records key ≡ None → All (λ content. is_eq (compared n key content) ≡ false) records
@@ -103,7 +93,7 @@ module _ (n : ℕ) (records : List (List ℕ)) where
     -- records with the other key are all on its side of the key
     side : (f : Ordering → Bool) (o : Ordering) → key_cmp other key ≡ o → (content : List ℕ) → test content ≡ true → f (compared n key content) ≡ f o
     unfolding test
-    side f o is content h = ap (λ k. f (key_cmp k key)) (exact_bytes (take n content) other (eq_is (compared n other content) h)) ∙ ap f is
+    side f o is content h = ap (λ k. f (key_cmp k key)) (exact_bytes (take n content) other (is_eq-Equal (compared n other content) h)) ∙ ap f is
 
     -- so what stands in place of the key does not matter for the other one
     beside : (o : Ordering) → key_cmp other key ≡ o → (o ≡ Equal → ⊥) → (middle : List (List ℕ)) → find test middle ≡ None → find test (below n records key ++ (middle ++ above n records key)) ≡ find test records
@@ -111,7 +101,7 @@ module _ (n : ℕ) (records : List (List ℕ)) where
         find-append test (below n records key) (middle ++ above n records key)
         ∙ ap (λ o. option_or o (find test (middle ++ above n records key))) (find-filter test (λ c. is_lt (compared n key c)) (side is_lt Less is) records)
         ∙ ap (λ o. option_or (find test records) o) (find-append test middle (above n records key) ∙ ap (λ o. option_or o (find test (above n records key))) none ∙ find-filter_none test (λ c. is_gt (compared n key c)) (side is_gt Less is) records)
-        ∙ option_or-none (find test records)
+        ∙ option_or-None (find test records)
     beside Equal is ne middle none = absurd (ne refl)
     beside Greater is ne middle none =
         find-append test (below n records key) (middle ++ above n records key)
@@ -136,7 +126,7 @@ module _ (n : ℕ) (records : List (List ℕ)) where
       let key : List ℕ = take n content in
       let differ : (o : Ordering) → key_cmp other key ≡ o → o ≡ Equal → ⊥ = λ o is e. ne (exact_bytes other key (is ∙ e)) in
       let here : (b : Bool) → is_eq (compared n other content) ≡ b → cond b (Some content) None ≡ None =
-      λ b is. elim b as (λ b. is_eq (compared n other content) ≡ b → cond b (Some content) None ≡ None) [ true ↦ λ e. absurd (ne (sym (exact_bytes key other (eq_is (compared n other content) e)))) | false ↦ λ e. refl ] is in
+      λ b is. elim b as (λ b. is_eq (compared n other content) ≡ b → cond b (Some content) None ≡ None) [ true ↦ λ e. absurd (ne (sym (exact_bytes key other (is_eq-Equal (compared n other content) e)))) | false ↦ λ e. refl ] is in
       beside key other (key_cmp other key) refl (differ (key_cmp other key) refl) (content ∷ []) (here (is_eq (compared n other content)) refl)
 
   -- a key whose record was taken away has none

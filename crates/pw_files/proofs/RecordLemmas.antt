@@ -10,14 +10,9 @@ use Rattle.std.proofs.lemmas.Cmp.{nat_list_cmp_total}
 use Rattle.std.proofs.lemmas.List.{map-append}
 use Rattle.std.proofs.lemmas.List.Elements.{filter_passes, recursion_from_All, All-weaker, All-append, All-cons, All-filter, All-nil}
 use Rattle.std.proofs.lemmas.List.Kept.{IsStrictlySortedBy-filter}
+use Rattle.pw_base.proofs.Plain.{is_lt-Less}
 use Rattle.pw_files.specs.Records.{key_cmp, below, above, with_record, without_key, IsFile, IsContent, IsKeyLength}
 use Rattle.pw_files.proofs.Lists.{map-filter, sorted-append, sorted-around}
-
--- what the test for less says
-pub lt_is : (o : Ordering) → is_lt o ≡ true → o ≡ Less
-lt_is Less h = refl
-lt_is Equal h = cc
-lt_is Greater h = cc
 
 -- what the test for greater says
 pub gt_is : (o : Ordering) → is_gt o ≡ true → o ≡ Greater
@@ -60,7 +55,7 @@ module _ (n : ℕ) (records : List (List ℕ)) (file : IsFile n records) (key : 
   unfolding low
   low-below =
       recursion_from_All (λ k. key_cmp k key ≡ Less) low
-      (All-weaker (λ k. is_lt (key_cmp k key) ≡ true) (λ k. key_cmp k key ≡ Less) (λ k. lt_is (key_cmp k key)) low
+      (All-weaker (λ k. is_lt (key_cmp k key) ≡ true) (λ k. key_cmp k key ≡ Less) (λ k. is_lt-Less (key_cmp k key)) low
       (filter_passes (λ k. is_lt (key_cmp k key)) keys))
 
   high-above : AllByRecursion (λ k. key_cmp key k ≡ Less) high

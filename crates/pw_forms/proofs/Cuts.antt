@@ -1,17 +1,12 @@
 -- The pieces from the left: the first one, and those of what stands behind it.
 use Rattle.std.proofs.Common.{◌≡◌, ℕ, suc, ◌+◌, ◌<◌, Bool, true, false, not, List, [], ◌∷◌, ◌++◌, length, take, drop, take_while, cond, refl, sym, ap, subst, ◌∙◌, arith}
 use Rattle.std.proofs.lemmas.List.Sums.{take_while-cons}
-use Rattle.std.specs.Prelude.{◌==◌, if◌then◌else◌}
+use Rattle.std.specs.Prelude.{if◌then◌else◌}
 use Rattle.pw_text.specs.declared.token.Token.{Token}
 use Rattle.pw_forms.specs.declared.mark.Mark.{Mark}
 use Rattle.pw_forms.specs.declared.mark.Mark.TheVariants.{Verb, Else, EndIf, Period, Other}
 use Rattle.pw_forms.specs.Words.{mark_of, begins_piece}
 use Rattle.pw_forms.specs.Pieces.{is_period, first_mark, first_piece, before, cut, joined, run_size, piece_size, placed, placed_all}
-
--- some are left
-pub some_left : {A : Type 0} (list : List A) → false ≡ (length list == 0) → 0 < length list
-some_left [] some = absurd cc
-some_left (x ∷ xs) some = omega arith
 
 -- what begins no piece is no period
 no_period : (mark : Mark) → begins_piece mark ≡ false → is_period mark ≡ false

@@ -3,6 +3,7 @@ use Rattle.std.proofs.Common.{◌≡◌, ◌+◌, List, [], ◌∷◌, ◌++◌,
 use Rattle.std.specs.Prelude.{◌||◌, is_some}
 use Rattle.std.specs.List.{list_any}
 use Rattle.std.proofs.lemmas.List.{append-nil}
+use Rattle.pw_base.proofs.Plain.{or-false}
 use Rattle.pw_forms.specs.declared.form.Head.{Head}
 use Rattle.pw_forms.specs.declared.statement.Statement.{Statement}
 use Rattle.pw_forms.specs.declared.branch.Open.{Open}
@@ -41,10 +42,6 @@ any-branches_onto known (next ∷ all) = any-branches_onto (is_some next.first �
     any-group : (a b c : Bool) → ((a || b) || c) ≡ (a || (b || c))
     any-group true b c = refl
     any-group false b c = refl
-
-or-false : (a : Bool) → (a || false) ≡ a
-or-false true = refl
-or-false false = refl
 
 pub any-branches : (all : List Open) → list_any not (branches all) ≡ list_any (λ (next : Open). not (is_some next.first)) all
 any-branches all = any-branches_onto [] all ∙ or-false (list_any (λ (next : Open). not (is_some next.first)) all)

@@ -5,6 +5,7 @@ use Rattle.std.specs.List.{list_all}
 use Rattle.std.specs.Fmt.{digits}
 use Rattle.std.specs.Str.{bytes_eq}
 use Rattle.std.proofs.lemmas.Slice.Eq.{bytes_eq-Decides}
+use Rattle.std.proofs.lemmas.Bool.{and_parts}
 use Rattle.pw_base.specs.declared.fault.Fault.{Fault}
 use Rattle.pw_code.specs.declared.lock.LockRule.TheVariants.{ReadersShare}
 use Rattle.pw_gen.specs.Generated.{terminals_from, text_of}
@@ -22,7 +23,7 @@ use Rattle.pw_sections.specs.Records.{printable_line}
 use Rattle.pw_tables.specs.Tables.{class_names, tables}
 use Rattle.pw_tables.specs.Unknown.{has_terminal}
 use Rattle.pw_words.specs.Words.{Word}
-use Rattle.pw_generated.proofs.Texts.{both, Section, is_section, lines_in}
+use Rattle.pw_generated.proofs.Texts.{Section, is_section, lines_in}
 use Rattle.pw_generated.proofs.Tests.{holds_to, holds, name_of, is_short}
 use Rattle.pw_generated.proofs.Programs.{stock_file}
 use Rattle.pw_event.specs.Keywords.{keyword as event_keyword}
@@ -106,13 +107,13 @@ added_by : (n line : ℕ) (read : Result Reading Fault) → lines_read 2 startin
     → Added n line
 added_by n line (Err fault) is well rest = absurd cc
 added_by n line (Ok reading) is well rest =
-    let a = both (is_nil (unknown reading.commands programs servers)) _ well in
-    let b = both (is_nil (bad_starts reading.commands 2 (pathcom n).below)) _ a.1 in
-    let c = both (has_store (class_names reading.commands)) _ b.1 in
-    let d = both (holds_to (λ k. has_terminal (tables reading.commands programs servers (stock_file ∷ []) ReadersShare) (name_of k)) n) _ c.1 in
-    let e = both (is_ok (each_line printable_line 2 (tt {0}) (pathcom n).below)) _ rest in
-    let f = both (is_section (pathcom n)) _ e.1 in
-    let g = both (list_all is_short (lines_in (pathcom n))) _ f.1 in
+    let a = and_parts (is_nil (unknown reading.commands programs servers)) _ well in
+    let b = and_parts (is_nil (bad_starts reading.commands 2 (pathcom n).below)) _ a.1 in
+    let c = and_parts (has_store (class_names reading.commands)) _ b.1 in
+    let d = and_parts (holds_to (λ k. has_terminal (tables reading.commands programs servers (stock_file ∷ []) ReadersShare) (name_of k)) n) _ c.1 in
+    let e = and_parts (is_ok (each_line printable_line 2 (tt {0}) (pathcom n).below)) _ rest in
+    let f = and_parts (is_section (pathcom n)) _ e.1 in
+    let g = and_parts (list_all is_short (lines_in (pathcom n))) _ f.1 in
     record {
       reading = reading;
       read = is;
@@ -130,5 +131,5 @@ added_by n line (Ok reading) is well rest =
 pub added : (m line : ℕ) → m < 64 → Added (suc m) line
 added m line few =
     let all = holds (test line) 64 m (all_well line) few in
-    let a = both (reads_well (suc m) line (lines_read 2 starting (pathcom (suc m)).below)) _ all in
+    let a = and_parts (reads_well (suc m) line (lines_read 2 starting (pathcom (suc m)).below)) _ all in
     added_by (suc m) line (lines_read 2 starting (pathcom (suc m)).below) refl a.0 a.1

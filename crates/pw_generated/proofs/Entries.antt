@@ -1,10 +1,11 @@
 -- The entry lines of the generated deck are read.
-use Rattle.std.proofs.Common.{◌≡◌, ℕ, zero, suc, ◌+◌, ◌<◌, ◌≤◌, Bool, true, false, cond, ◌&&◌, List, [], ◌∷◌, ◌++◌, length, Option, None, Some, Result, Ok, refl, sym, ap, ◌∙◌, arith, length-append}
-use Rattle.std.specs.Prelude.{is_some, nat_le}
+use Rattle.std.proofs.Common.{◌≡◌, ℕ, zero, suc, ◌+◌, ◌<◌, ◌≤◌, Bool, true, false, cond, ◌&&◌, List, [], ◌∷◌, ◌++◌, length, Result, Ok, refl, sym, ap, ◌∙◌, arith, length-append}
+use Rattle.std.specs.Prelude.{nat_le}
 use Rattle.std.specs.List.{list_all, AllByRecursion}
 use Rattle.std.proofs.lemmas.Bool.{lt-leb}
 use Rattle.pw_base.specs.declared.fault.Fault.{Fault}
 use Rattle.pw_base.specs.declared.fault_code.FaultCode.TheVariants.{BadCharacter, BadEntry, TooMany}
+use Rattle.pw_base.proofs.Plain.{is_some-Some}
 use Rattle.pw_code.specs.Entry.{Entry}
 use Rattle.pw_code.specs.Limits.{most_entry_lines}
 use Rattle.pw_gen.specs.Generated.{next_number, digit_of, entry_line, entry_lines, text_of}
@@ -53,18 +54,13 @@ all_printed (l ∷ ls) number good =
 pub text_printed : (ls : List (List ℕ)) (number : ℕ) → AllByRecursion GoodEntry ls → printable (text_of ls) number ≡ Ok (tt {0})
 text_printed ls number good = ap (each_line printable_line number (tt {0})) (lines_of ls (are_all ls good)) ∙ all_printed ls number good
 
--- what is there
-pub found : {A : Type 0} (o : Option A) → is_some o ≡ true → (a : A) × (o ≡ Some a)
-found None is = absurd cc
-found (Some a) is = (a, refl)
-
 -- they are entries, of which there are not too many
 all_entered : (ls : List (List ℕ)) (number : ℕ) (before : List Entry) → AllByRecursion GoodEntry ls → length before + length ls ≤ most_entry_lines
     → (es : List Entry) × (each_line entry_read number before ls ≡ Ok es)
 unfolding each_line
 all_entered [] number before good few = (before, refl)
 all_entered (l ∷ ls) number before good few =
-    let e = found (entry_of l) good.0.entry in
+    let e = is_some-Some (entry_of l) good.0.entry in
     let next = before ++ e.0 ∷ [] in
     let after : List Entry → Result (List Entry) Fault = λ s. each_line entry_read (number + 1) s ls in
     let room : nat_le most_entry_lines (length before) ≡ false = lt-leb most_entry_lines (length before) (omega (arith, few)) in

@@ -44,7 +44,7 @@ use Rattle.pw_deck.specs.declared.parts.Parts.{Parts}
 use Rattle.pw_event.specs.Keywords.{keyword as event_keyword}
 use Rattle.pw_event.specs.Parsing.{named as event_named, number as event_number, counted as event_counted, cut as event_cut, refresh as event_refresh, among as event_among, terminal as event_terminal, pair as event_pair, class as event_class, file as event_file, process as event_process, op as event_op, mode as event_mode, member as event_member, fault_of as event_fault_of, cause_of as event_cause_of, cause_in as event_cause_in, ending_of as event_ending_of, show as event_show, terminal_and_number as event_terminal_and_number, check as event_check, applied as event_applied, begin as event_begin, send as event_send, taken as event_taken, file_at as event_file_at, file_line as event_file_line, reply as event_reply, restart as event_restart, fail_tcp as event_fail_tcp, fail_server as event_fail_server, failure_of as event_failure_of, fail as event_fail, takeover as event_takeover, raise as event_raise, end as event_end, line_of as event_line_of, event_of as event_event_of, after as event_after, fail_process as event_fail_process, tcp_line as event_tcp_line, fail_class as event_fail_class, class_line as event_class_line, fail_line_of as event_fail_line_of, fail_of as event_fail_of}
 use Rattle.pw_generated.specs.Faultless.{IsFaultless}
-use Rattle.pw_generated.proofs.Texts.{both, Section, lines_in, all_lines, is_section, texts_of, cut_of, lines_of}
+use Rattle.pw_generated.proofs.Texts.{Section, lines_in, all_lines, is_section, texts_of, cut_of, lines_of}
 use Rattle.pw_generated.proofs.Tests.{holds_to, holds, name_of, names_to}
 use Rattle.pw_generated.proofs.Pieces.{below_are, read_as, goes_on, ends}
 use Rattle.pw_generated.proofs.Programs.{stock_file, links, Read, programs_read, ok_is}

@@ -2,7 +2,7 @@
 use Rattle.std.proofs.Common.{◌≡◌, ℕ, suc, ◌+◌, ◌<◌, Bool, true, false, cond, not, ◌&&◌, eqb, ltb, List, [], ◌∷◌, ◌++◌, length, drop, Some, None, Result, Ok, refl, sym, ap, ◌∙◌, arith, length-append}
 use Rattle.std.specs.List.{list_all, position, prefix_len}
 use Rattle.std.proofs.Math.Seq.{drop-append-add}
-use Rattle.std.proofs.lemmas.Bool.{lt-ltb}
+use Rattle.std.proofs.lemmas.Bool.{lt-ltb, and_parts}
 use Rattle.pw_base.specs.declared.fault_code.FaultCode.TheVariants.{BadSection}
 use Rattle.pw_gen.specs.Generated.{text_of}
 use Rattle.pw_lines.specs.Lines.{lines}
@@ -12,12 +12,12 @@ use Rattle.pw_sections.specs.declared.heading.Heading.{Heading}
 use Rattle.pw_tables.specs.Pieces.{first_of, behind_place, section_line, section_text}
 use Rattle.pw_deck.specs.Parts.{section_of, section_read, sections_read}
 use Rattle.pw_deck.specs.declared.parts.Parts.{Parts}
-use Rattle.pw_generated.proofs.Texts.{both, inside, is_line, are_lines, are_others, Section, lines_in, is_section, lines_of}
+use Rattle.pw_generated.proofs.Texts.{inside, is_line, are_lines, are_others, Section, lines_in, is_section, lines_of}
 
 before_end : (line rest : List ℕ) → is_line line ≡ true → prefix_len (λ b. not (eqb b 10)) (line ++ 10 ∷ rest) ≡ length line
 before_end [] rest is = refl
 before_end (b ∷ bs) rest is =
-    let parts = both _ (is_line bs) is in
+    let parts = and_parts _ (is_line bs) is in
     let more : 1 + prefix_len (λ b. not (eqb b 10)) (bs ++ 10 ∷ rest) ≡ suc (length bs) = omega (arith, before_end bs rest parts.1) in
     ap (λ t. cond (not t) (1 + prefix_len (λ b. not (eqb b 10)) (bs ++ 10 ∷ rest)) 0) (inside b parts.0).0 ∙ more
 
@@ -30,21 +30,21 @@ end_of line rest is =
 -- the lines of a section
 pub all_are : (section : Section) → is_section section ≡ true → are_lines (lines_in section) ≡ true
 all_are section is =
-    let parts = both (is_line section.head) (are_lines section.below && are_others section.below) is in
-    let below = both (are_lines section.below) (are_others section.below) parts.1 in
+    let parts = and_parts (is_line section.head) (are_lines section.below && are_others section.below) is in
+    let below = and_parts (are_lines section.below) (are_others section.below) parts.1 in
     ap (λ t. t && are_lines section.below) parts.0 ∙ below.0
 
 pub below_are : (section : Section) → is_section section ≡ true → are_lines section.below ≡ true
 below_are section is =
-    let parts = both (is_line section.head) (are_lines section.below && are_others section.below) is in
-    (both (are_lines section.below) (are_others section.below) parts.1).0
+    let parts = and_parts (is_line section.head) (are_lines section.below && are_others section.below) is in
+    (and_parts (are_lines section.below) (are_others section.below) parts.1).0
 
 line_is : (section : Section) → is_section section ≡ true → section_line (text_of (lines_in section)) ≡ 63 ∷ section.head
 line_is section is = ap first_of (lines_of (lines_in section) (all_are section is))
 
 text_is : (section : Section) → is_section section ≡ true → section_text (text_of (lines_in section)) ≡ text_of section.below
 text_is section is =
-    let head : is_line (63 ∷ section.head) ≡ true = (both (is_line section.head) (are_lines section.below && are_others section.below) is).0 in
+    let head : is_line (63 ∷ section.head) ≡ true = (and_parts (is_line section.head) (are_lines section.below && are_others section.below) is).0 in
     ap (behind_place (text_of (lines_in section))) (end_of (63 ∷ section.head) (text_of section.below) head)
     ∙ drop-append-add (63 ∷ section.head) (10 ∷ text_of section.below) 1
 

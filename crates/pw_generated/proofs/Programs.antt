@@ -6,7 +6,7 @@ use Rattle.pw_forms.specs.declared.statement.Statement.TheBlock.{hidden-the_row-
 use Rattle.std.specs.Fmt.{digits}
 use Rattle.std.specs.Str.{bytes_eq}
 use Rattle.std.proofs.lemmas.Slice.Eq.{bytes_eq-Decides}
-use Rattle.pw_generated.proofs.Texts.{both}
+use Rattle.std.proofs.lemmas.Bool.{and_parts}
 use Rattle.pw_base.specs.declared.fault.Fault.{Fault}
 use Rattle.pw_code.specs.declared.file.FileInfo.{FileInfo}
 use Rattle.pw_code.specs.declared.links.Links.{Links}
@@ -74,8 +74,8 @@ read_by : (l m : ℕ) (r : Result Requester Fault) (t : Result Server Fault) →
 read_by l m (Err fault) t reads served good = absurd cc
 read_by l m (Ok r) (Err fault) reads served good = absurd cc
 read_by l m (Ok r) (Ok s) reads served good =
-    let a = both (bytes_eq r.name (codes "KEYS")) _ good in
-    let b = both (bytes_eq s.name (codes "STORE-P")) _ a.1 in
+    let a = and_parts (bytes_eq r.name (codes "KEYS")) _ good in
+    let b = and_parts (bytes_eq s.name (codes "STORE-P")) _ a.1 in
     record {
       requester_read = r;
       server_read = s;

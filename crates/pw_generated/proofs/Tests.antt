@@ -2,7 +2,7 @@
 use Rattle.std.proofs.Common.{◌≡◌, ℕ, zero, suc, pred, ◌+◌, ◌-◌, ◌≤◌, ◌<◌, Bool, true, false, not, eqb, ◌&&◌, List, [], ◌∷◌, ◌++◌, Option, None, Some, refl, sym, ap, subst, ◌∙◌, arith}
 use Rattle.std.specs.Prelude.{codes, is_ok, is_some, nat_le, length}
 use Rattle.std.specs.Fmt.{decimal, digits}
-use Rattle.std.proofs.lemmas.Bool.{eqb-true, eqb-false}
+use Rattle.std.proofs.lemmas.Bool.{eqb-true, eqb-false, and_parts, not-true}
 use Rattle.std.specs.List.{list_all}
 use Rattle.std.specs.Str.{bytes_eq}
 use Rattle.std.proofs.lemmas.Slice.Eq.{bytes_eq-Decides}
@@ -14,7 +14,7 @@ use Rattle.pw_sections.specs.Records.{is_printable}
 use Rattle.pw_sections.specs.declared.heading.Heading.{Heading}
 use Rattle.pw_sections.specs.declared.heading.Heading.TheVariants as heading
 use Rattle.pw_words.specs.Names.{has_name}
-use Rattle.pw_generated.proofs.Texts.{both, is_line, is_other}
+use Rattle.pw_generated.proofs.Texts.{is_line, is_other}
 
 -- a test holds of 1 to n
 abbrev pub holds_to : (ℕ → Bool) → ℕ → Bool
@@ -24,7 +24,7 @@ holds_to test (suc n) = test (suc n) && holds_to test n
 pub holds : (test : ℕ → Bool) (n m : ℕ) → holds_to test n ≡ true → m < n → test (suc m) ≡ true
 holds test zero m is few = absurd (omega (arith, few))
 holds test (suc n) m is few =
-    let parts = both (test (suc n)) (holds_to test n) is in
+    let parts = and_parts (test (suc n)) (holds_to test n) is in
     go (eqb m n) refl parts.0 (holds test n m parts.1)
   where
     go : (b : Bool) → eqb m n ≡ b → test (suc n) ≡ true → (m < n → test (suc m) ≡ true) → test (suc m) ≡ true
@@ -74,18 +74,14 @@ heads : holds_to head_test 64 ≡ true
 unfolding words digits
 heads = refl
 
-no : (t : Bool) → not t ≡ true → t ≡ false
-no true is = absurd cc
-no false is = refl
-
 pub head_is : (m : ℕ) → m < 64 → GoodHead (suc m) (names_to m)
 head_is m few =
     let k = suc m in
     let all = holds head_test 64 m heads few in
-    let a = both (is_line (head_of k)) _ all in
-    let b = both (is_short (63 ∷ head_of k)) _ a.1 in
-    let c = both (says_entries (heading_of (63 ∷ head_of k)) (name_of k)) _ b.1 in
-    record { line = a.0; short = b.0; says = says_is _ _ c.0; new = no _ c.1 }
+    let a = and_parts (is_line (head_of k)) _ all in
+    let b = and_parts (is_short (63 ∷ head_of k)) _ a.1 in
+    let c = and_parts (says_entries (heading_of (63 ∷ head_of k)) (name_of k)) _ b.1 in
+    record { line = a.0; short = b.0; says = says_is _ _ c.0; new = not-true _ c.1 }
 
 -- the entry line of a digit
 abbrev pub entry_at : ℕ → List ℕ
@@ -112,9 +108,9 @@ all_digits = refl
 pub entry_is : (d : ℕ) → d < 10 → GoodEntry (entry_at d)
 entry_is d few =
     let all = holds (λ k. entry_test (pred k)) 10 d all_digits few in
-    let a = both (is_line (entry_at d)) _ all in
-    let b = both (is_short (entry_at d)) _ a.1 in
-    let c = both (is_other (entry_at d)) _ b.1 in
-    let e = both (not (is_blank (entry_at d))) _ c.1 in
-    let f = both (list_all is_printable (entry_at d)) _ e.1 in
-    record { line = a.0; short = b.0; other = c.0; some = no _ e.0; printed = f.0; entry = f.1 }
+    let a = and_parts (is_line (entry_at d)) _ all in
+    let b = and_parts (is_short (entry_at d)) _ a.1 in
+    let c = and_parts (is_other (entry_at d)) _ b.1 in
+    let e = and_parts (not (is_blank (entry_at d))) _ c.1 in
+    let f = and_parts (list_all is_printable (entry_at d)) _ e.1 in
+    record { line = a.0; short = b.0; other = c.0; some = not-true _ e.0; printed = f.0; entry = f.1 }

@@ -2,7 +2,7 @@
 use Rattle.std.proofs.Common.{◌≡◌, ℕ, zero, suc, ◌+◌, ◌<◌, ◌≤◌, ◌*◌, Bool, true, false, cond, ◌&&◌, List, [], ◌∷◌, ◌++◌, map, length, drop, append_assoc, Option, None, Some, Result, Ok, Err, refl, sym, ap, subst, ◌∙◌, arith, length-append}
 use Rattle.std.specs.Prelude.{codes, is_ok, nat_le, nat_lt}
 use Rattle.std.specs.List.{list_all, AllByRecursion}
-use Rattle.std.proofs.lemmas.Bool.{le-ltb, leb-true}
+use Rattle.std.proofs.lemmas.Bool.{le-ltb, leb-true, and_parts}
 use Rattle.pw_base.specs.Limits.{longest_input}
 use Rattle.pw_base.specs.declared.fault.Fault.{Fault}
 use Rattle.pw_code.specs.Entry.{Entry}
@@ -24,7 +24,7 @@ use Rattle.pw_sections.specs.Entries.{entries_of}
 use Rattle.pw_sections.specs.Records.{printable}
 use Rattle.pw_deck.specs.Parts.{section_of, section_read, sections_read, with_objects}
 use Rattle.pw_deck.specs.declared.parts.Parts.{Parts}
-use Rattle.pw_generated.proofs.Texts.{both, Section, lines_in, all_lines, is_section, is_line, are_lines, are_others, texts_of}
+use Rattle.pw_generated.proofs.Texts.{Section, lines_in, all_lines, is_section, is_line, are_lines, are_others, texts_of}
 use Rattle.pw_generated.proofs.Tests.{holds_to, holds, name_of, head_of, names_to, is_short, GoodHead, head_is}
 use Rattle.pw_generated.proofs.Entries.{lines_good, lines_counted, are_all, are_all_others, are_all_short, text_printed, text_entered}
 use Rattle.pw_generated.proofs.Pieces.{read_as, goes_on}
@@ -93,7 +93,7 @@ sections_good (suc count) m t x at few =
 all_more : {A : Type 0} (p : A → Bool) (xs ys : List A) → list_all p xs ≡ true → list_all p ys ≡ true → list_all p (xs ++ ys) ≡ true
 all_more p [] ys some more = more
 all_more p (x ∷ xs) ys some more =
-    let parts = both (p x) (list_all p xs) some in
+    let parts = and_parts (p x) (list_all p xs) some in
     ap (λ b. b && list_all p (xs ++ ys)) parts.0 ∙ all_more p xs ys parts.1 more
 
 -- all of them are sections
@@ -106,7 +106,7 @@ whole_good seed n few first =
 text_size : (ls : List (List ℕ)) → list_all is_short ls ≡ true → length (text_of ls) ≤ 101 * length ls
 text_size [] short = omega arith
 text_size (l ∷ ls) short =
-    let parts = both (is_short l) (list_all is_short ls) short in
+    let parts = and_parts (is_short l) (list_all is_short ls) short in
     omega (arith, leb-true (length l) 100 parts.0, text_size ls parts.1, length-append l (10 ∷ text_of ls))
 
 entries_short : (count m t x : ℕ) → t ≡ suc m → m + count ≤ 64 → list_all is_short (all_lines (entry_sections count t x)) ≡ true

@@ -1,18 +1,19 @@
 -- The forms of an image, from its parts up.
-use Rattle.std.proofs.Common.{◌≡◌, ℕ, zero, suc, ◌+◌, ◌^◌, ◌<◌, ◌≤◌, Bool, true, false, ◌&&◌, cond, nat_le, nat_lt, List, [], ◌∷◌, ◌++◌, length, All, take, drop, Option, Some, None, refl, sym, ap, subst, ◌∙◌, arith}
+use Rattle.std.proofs.Common.{◌≡◌, ℕ, zero, suc, ◌+◌, ◌^◌, ◌<◌, ◌≤◌, Bool, true, false, cond, nat_le, nat_lt, List, [], ◌∷◌, ◌++◌, length, All, take, drop, Option, Some, None, refl, sym, ap, subst, ◌∙◌, arith}
 use Rattle.std.specs.Int.{w16, w32, w64, to_be_bytes}
 use Rattle.std.specs.List.{flat_map, AllByRecursion}
-use Rattle.std.proofs.lemmas.Bool.{leb-true, le-leb, true≢false}
+use Rattle.std.proofs.lemmas.Bool.{leb-true, le-leb, and_parts}
 use Rattle.std.proofs.lemmas.List.{append-nil, take-append-drop}
 use Rattle.std.proofs.lemmas.List.Elements.{All-from_recursion, recursion_from_All}
 use Rattle.std.proofs.lemmas.Slice.Eq.{bytes_eq-Decides}
 use Rattle.std.specs.Str.{bytes_eq}
+use Rattle.pw_base.proofs.Plain.{some_is, cond_passed}
 use Rattle.pw_code.specs.Limits.{most_active}
 use Rattle.pw_code.specs.Screen.{IsWhole}
 use Rattle.pw_code.specs.declared.context.Context.{Context}
 use Rattle.pw_code.specs.declared.context.Frame.{Frame}
 use Rattle.pw_code.specs.declared.context.Return.{Return}
-use Rattle.pw_image.proofs.Forms.{AreBytes-drop, IsForm, IsMade, Takes, block, both, byte, cond_passed, counted, made, many, number16, number32, number64, some_is}
+use Rattle.pw_image.proofs.Forms.{AreBytes-drop, IsForm, IsMade, Takes, block, both, byte, counted, made, many, number16, number32, number64}
 use Rattle.pw_image.specs.Format.{IsImageOf}
 use Rattle.pw_image.specs.Image.{FrameFits, HasImage, count_bytes, frame_bytes, image_of, mark, return_bytes, truth}
 use Rattle.pw_image.specs.Reading.{Counts, Front, all_of, block_at, both_at, byte_at, context_at, context_from, context_in, counts_at, frame_at, frame_from, frames_at, is_any, is_frame_count, is_truth, many_at, number_at, return_at, return_from, returns_at, screen_at, storage_at, truth_of}
@@ -115,7 +116,7 @@ behind_mark context =
 abbrev ContextIs : Context → Type 0
 ContextIs context = HasImage context × HasValues context
 
-truth-of-truth : (b : Bool) → truth_of (truth b) ≡ b
+pub truth-of-truth : (b : Bool) → truth_of (truth b) ≡ b
 truth-of-truth false = refl
 truth-of-truth true = refl
 
@@ -124,7 +125,7 @@ truth-again zero h = refl
 truth-again (suc zero) h = refl
 truth-again (suc (suc n)) h = absurd (let le : suc (suc n) ≤ 1 = leb-true _ _ h in omega arith)
 
-truth-small : (b : Bool) → (is_truth (truth b) ≡ true) × (truth b < 256)
+pub truth-small : (b : Bool) → (is_truth (truth b) ≡ true) × (truth b < 256)
 truth-small false = (refl, omega arith)
 truth-small true = (refl, omega arith)
 
@@ -140,10 +141,6 @@ whole-context c fits =
     ∙ ap (λ n. with_rest c c.file_status c.in_unit n false 0) (sym fits.0.fault)
     ∙ ap (λ b. with_rest c c.file_status c.in_unit c.fault b 0) (sym fits.0.at_answer)
     ∙ ap (λ n. with_rest c c.file_status c.in_unit c.fault c.at_verb n) (sym fits.0.count)
-
-both-true : (a b : Bool) → (a && b) ≡ true → (a ≡ true) × (b ≡ true)
-both-true true b e = (refl, e)
-both-true false b e = absurd (true≢false (sym e))
 
 frame-count : (n : ℕ) → 1 ≤ n → n ≤ 9 → is_frame_count n ≡ true
 frame-count n one nine = rw (le-leb 1 n one) (le-leb n 9 nine)
@@ -165,7 +162,7 @@ context-form =
           (truth-again x.1.0 fits.1.0.0);
       fit = λ x fits.
           let frames = fits.1.1.1.1 in
-          let count = both-true _ _ frames.1.0 in
+          let count = and_parts _ _ frames.1.0 in
           let each = fit-frames x.1.1.1.1 frames.1.1 in (
             record {
               file_status = refl;
@@ -222,7 +219,7 @@ context-form =
 
 -- An image.
 
-all-is : {A : Type 0} (front : Front A) (x : A) → all_of front ≡ Some x → front ≡ Some (x, [])
+pub all-is : {A : Type 0} (front : Front A) (x : A) → all_of front ≡ Some x → front ≡ Some (x, [])
 all-is None x e = absurd cc
 all-is (Some (y, [])) x e = ap (λ z. Some (z, [])) (some_is e)
 all-is (Some (y, b ∷ bytes)) x e = absurd cc

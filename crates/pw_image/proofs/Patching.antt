@@ -1,7 +1,7 @@
 -- The records that differ, put into the old image, give the new one.
 use Rattle.std.proofs.Common.{◌≡◌, ℕ, zero, suc, ◌+◌, ◌-◌, ◌*◌, min, ◌<◌, ◌≤◌, Bool, true, false, ◌&&◌, ◌==◌, cond, not, Decides, List, [], ◌∷◌, ◌++◌, length, get_or, take, drop, map, nat_lt, append_assoc, refl, sym, ap, ◌∙◌, inl, inr, ◌⊎◌, ⊎_elim, arith}
 use Rattle.std.proofs.Math.Seq.{drop-cons, take-add, take-append_seam, drop-append-add, drop-length}
-use Rattle.std.proofs.lemmas.Bool.{true≢false, lt-ltb, eq-eqb, cases_lt, ltb-true, eqb-true}
+use Rattle.std.proofs.lemmas.Bool.{true≢false, lt-ltb, eq-eqb, cases_lt, ltb-true, eqb-true, not-false}
 use Rattle.std.proofs.lemmas.List.{take_all, drop_all, drop-drop, take-append-drop, append-nil, length-append, length-take, length-take-le, length-drop}
 use Rattle.std.proofs.lemmas.List.FromFn.{filter_of_map_range_with_len_more}
 use Rattle.std.proofs.lemmas.Slice.Eq.{bytes_eq-Decides}
@@ -14,10 +14,6 @@ use Rattle.pw_image.specs.declared.changed.Changed.{Changed}
 Decides-both : (a b : Bool) → Decides (a && b) ((a ≡ true) × (b ≡ true))
 Decides-both true b = (λ e. (refl, e), λ h. h.1)
 Decides-both false b = (λ e. absurd (true≢false (sym e)), λ h. h.0)
-
-not-false : (b : Bool) → not b ≡ false → b ≡ true
-not-false true e = refl
-not-false false e = absurd (true≢false e)
 
 -- the records are those of all numbers below the count
 pub counted : (bytes k : ℕ) → k < record_count bytes → 64 * k < bytes

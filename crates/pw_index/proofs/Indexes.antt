@@ -10,12 +10,9 @@ use Rattle.std.specs.Map.{lookup}
 use Rattle.std.specs.declared.cmp.Ordering.{Ordering}
 use Rattle.std.specs.declared.cmp.Ordering.TheVariants.{Less, Equal, Greater}
 use Rattle.std.proofs.Math.Seq.{drop-cons}
-use Rattle.std.proofs.lemmas.Bool.Decides.{same_from_decides}
 use Rattle.std.proofs.lemmas.List.{drop_all}
+use Rattle.pw_base.proofs.Plain.{is_eq-Equal, is_some-None, bytes_eq-swap}
 use Rattle.pw_index.specs.Index.{number_of, IsIndexOf}
-
-bytes_eq-swap : (xs ys : List ℕ) → bytes_eq xs ys ≡ bytes_eq ys xs
-bytes_eq-swap xs ys = same_from_decides (bytes_eq xs ys) (bytes_eq ys xs) (bytes_decides xs ys) (λ h. sym ((bytes_decides ys xs).0 h), λ is. (bytes_decides ys xs).1 (sym is))
 
 -- bytes that compare as equal are equal
 equal_bytes : (xs ys : List ℕ) → slice_cmp nat_cmp xs ys ≡ Equal → xs ≡ ys
@@ -50,18 +47,9 @@ module _ {K X : Type 0} (cmp : K → K → Ordering) (test : K → Bool) (k : K)
   lookup-other [] misses = rw misses refl
   lookup-other (e ∷ es) misses = other-by e es (cmp k e.0) refl misses (lookup-other es misses)
 
-none-of : {X : Type 0} (o : Option X) → is_some o ≡ false → o ≡ None
-none-of None none = refl
-none-of (Some x) none = absurd cc
-
 or-none : {X : Type 0} (o : Option X) → o ≡ option_or o None
 or-none None = refl
 or-none (Some x) = refl
-
-equal_from : (o : Ordering) → is_eq o ≡ true → o ≡ Equal
-equal_from Less is = absurd cc
-equal_from Equal is = refl
-equal_from Greater is = absurd cc
 
 module _ {A : Type 0} (index next : BTreeMap (Vec ℕ A) ℕ) (key : Vec ℕ A) (name : List ℕ) (number : ℕ) (key_is : key.items ≡ name)
     (next_is : next.entries ≡ insert_entry (λ x y. slice_cmp nat_cmp x.items y.items) index.entries key number)
@@ -75,13 +63,13 @@ module _ {A : Type 0} (index next : BTreeMap (Vec ℕ A) ℕ) (key : Vec ℕ A) 
 
   none_yet : (word : List ℕ) → is_eq (slice_cmp nat_cmp word key.items) ≡ true → is_some (number_of index word) ≡ false
   none_yet word hits =
-      let same : word ≡ key.items = equal_bytes word key.items (equal_from (slice_cmp nat_cmp word key.items) hits) in
+      let same : word ≡ key.items = equal_bytes word key.items (is_eq-Equal (slice_cmp nat_cmp word key.items) hits) in
       ap (λ bytes. is_some (get_by (λ x. slice_cmp nat_cmp bytes x.items) index)) same ∙ fresh
 
   by : (word : List ℕ) (b : Bool) → is_eq (slice_cmp nat_cmp word key.items) ≡ b
       → number_of next word ≡ option_or (number_of index word) (if b then Some number else None)
   by word true hits =
-      let none : number_of index word ≡ None = none-of (number_of index word) (none_yet word hits) in
+      let none : number_of index word ≡ None = is_some-None (number_of index word) (none_yet word hits) in
       ap (λ es. lookup (λ (x : Vec ℕ A). is_eq (slice_cmp nat_cmp word x.items)) es) next_is
       ∙ lookup-new (λ x y. slice_cmp nat_cmp x.items y.items) (λ x. is_eq (slice_cmp nat_cmp word x.items)) key number (alike word) index.entries hits (none_yet word hits)
       ∙ ap (λ o. option_or o (Some number)) (sym none)

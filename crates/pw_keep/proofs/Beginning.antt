@@ -7,6 +7,7 @@ use Rattle.std.proofs.lemmas.Bool.{cases_lt, ne_eqb}
 use Rattle.std.proofs.lemmas.List.{get_or-map, get_or-replicate, get_or_append_left, get_or_past, length-map, length-replicate, length_push}
 use Rattle.std.proofs.lemmas.List.Elements.{All-head, All-tail}
 use Rattle.std.proofs.lemmas.Option.{slice_get-get_or, slice_get_past}
+use Rattle.pw_base.proofs.Plain.{some_is}
 use Rattle.pw_class.specs.Book.{first_queue, queue_at}
 use Rattle.pw_class.specs.declared.request.Request.{Request}
 use Rattle.pw_code.specs.Valid.{IsValid}
@@ -21,7 +22,7 @@ use Rattle.pw_class.specs.Queue.{Queue}
 use Rattle.pw_keep.proofs.Loops.{left-is}
 use Rattle.pw_kept.proofs.Members.{members-are, seats-are}
 use Rattle.pw_keep.proofs.Parts.{of-parts}
-use Rattle.pw_keep.proofs.Posts.{no_queue, some-is}
+use Rattle.pw_keep.proofs.Posts.{no_queue}
 use Rattle.pw_kept.specs.Changes.{first_pair, first_terminal}
 use Rattle.pw_kept.specs.Kept.{KeptTerminal}
 use Rattle.pw_pair.specs.Pairs.{SeenPair}
@@ -92,7 +93,7 @@ class-is : {B : Type 0} (f : ClassInfo → B) (e : B) (classes : List ClassInfo)
     → get_or (map f classes) c e ≡ f info
 class-is f e classes c info at =
     ⊎_elim
-    (λ lt. get_or-map f classes c no_info e lt ∙ ap f (some-is (sym (slice_get-get_or classes c no_info lt) ∙ at)))
+    (λ lt. get_or-map f classes c no_info e lt ∙ ap f (some_is (sym (slice_get-get_or classes c no_info lt) ∙ at)))
     (λ past. absurd (cc (at, slice_get_past classes c past)))
     (cases_lt c (length classes))
 

@@ -5,6 +5,7 @@ use Rattle.std.specs.List.{list_any}
 use Rattle.std.proofs.Math.Path.{fun_ext}
 use Rattle.std.proofs.lemmas.Bool.{cases_lt}
 use Rattle.std.proofs.lemmas.List.{get_or-map, get_or_past, length-map}
+use Rattle.pw_base.proofs.Plain.{some_is}
 use Rattle.pw_class.specs.Book.{queue_at}
 use Rattle.pw_class.specs.Queue.{Queue, at_process, busy_without, without, works_for}
 use Rattle.pw_class.specs.declared.request.Request.{Request}
@@ -13,7 +14,7 @@ use Rattle.pw_code.specs.declared.system.System.{System}
 use Rattle.pw_keep.specs.Calls.{cancel_of}
 use Rattle.pw_keep.specs.Keeps.{IsKeep, IsStaffed, JobHasVerb, job_of, job_terminal, jobs_at, kept_by, kept_of, pair_at, request_terminal, seat_at}
 use Rattle.pw_keep.proofs.Parts.{of-parts}
-use Rattle.pw_keep.proofs.Posts.{from-one, no_queue, post-terminal, some-is}
+use Rattle.pw_keep.proofs.Posts.{from-one, no_queue, post-terminal}
 use Rattle.pw_kept.specs.Changes.{cancel}
 use Rattle.pw_kept.specs.Kept.{Kept}
 use Rattle.pw_pair.specs.Pairs.{SeenPair}
@@ -49,7 +50,7 @@ for-same : (t : ℕ) (job : Option Job) (request : Option Request) → job_termi
 for-same t None None e = refl
 for-same t None (Some r) e = absurd (cc e)
 for-same t (Some own) None e = absurd (cc e)
-for-same t (Some own) (Some r) e = ap (λ k. k == t) (some-is e)
+for-same t (Some own) (Some r) e = ap (λ k. k == t) (some_is e)
 
 both-gone : (b : Bool) (job : Option Job) (request : Option Request) → job_terminal job ≡ request_terminal request → job_terminal (cond b None job) ≡ request_terminal (cond b None request)
 both-gone true job request e = refl

@@ -188,7 +188,7 @@ started-at seats t unit start seat new lt is made here =
 -- ---- one call behind another
 
 -- of two changes at one place the last stays
-upd-twice : {A : Type 0} (f : ℕ → A) (k : ℕ) (a b : A) → upd (upd f k a) k b ≡ upd f k b
+pub upd-twice : {A : Type 0} (f : ℕ → A) (k : ℕ) (a b : A) → upd (upd f k a) k b ≡ upd f k b
 upd-twice f k a b = fun_ext (λ j.
     upd_elim (upd f k a) k b j (λ y. y ≡ upd f k b j)
     (λ is. sym (upd-same f k b j is))

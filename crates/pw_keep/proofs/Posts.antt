@@ -7,6 +7,7 @@ use Rattle.std.proofs.lemmas.List.{get_or-set_same, get_or-set_other, get_or_def
 use Rattle.std.proofs.lemmas.List.Folds.{list_any_none}
 use Rattle.std.proofs.lemmas.List.Quantifiers.{position-Some}
 use Rattle.std.proofs.lemmas.Option.{slice_get-get_or}
+use Rattle.pw_base.proofs.Plain.{some_is}
 use Rattle.pw_class.specs.Book.{queue_at}
 use Rattle.pw_class.specs.Book.{is_out}
 use Rattle.pw_class.specs.Queue.{Queue, after_take, after_take_of, at_process, free_place, has_request, taken, taken_of, with_free}
@@ -252,16 +253,13 @@ request_in (Got process request) = Some request
 request_in Empty = None
 request_in NoneFree = None
 
-pub some-is : {A : Type 0} {x y : A} → Some x ≡ Some y → x ≡ y
-some-is {x = x} e = ap (λ o. elim o as (λ _. _) [ None ↦ x | Some y ↦ y ]) e
-
 took-of : (q : Queue) (waiting : List Request) (free : Option ℕ) (p : ℕ) (r : Request) → free_place q ≡ free → taken_of waiting free ≡ Got p r
     → TookAt q (after_take_of q waiting free) p r
 took-of q [] free p r f e = absurd (cc e)
 took-of q (w ∷ ws) None p r f e = absurd (cc e)
 took-of q (w ∷ ws) (Some k) p r f e =
     let at : k + 1 ≡ p = ap process_of e in
-    let who : w ≡ r = some-is (ap request_in e) in
+    let who : w ≡ r = some_is (ap request_in e) in
     let place : p - 1 ≡ k = omega (arith, at) in
     let found = position-Some is_none q.busy k None f in
     record {

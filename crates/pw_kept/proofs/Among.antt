@@ -2,10 +2,10 @@
 use Rattle.std.proofs.Common.{◌≡◌, ℕ, ◌==◌, List, Some, true, sym, ap, subst, ◌∙◌, ⊎_elim}
 use Rattle.std.specs.Prelude.{All, slice_get}
 use Rattle.std.proofs.lemmas.Bool.{cases_Bool, cases_eq, eq-eqb, eqb-true, ne_eqb}
+use Rattle.pw_base.proofs.Plain.{some_is}
 use Rattle.pw_code.specs.declared.system.System.{System}
 use Rattle.pw_code.specs.declared.system.TermInfo.{TermInfo}
 use Rattle.pw_kept.specs.Members.{AreOf, IsOf}
-use Rattle.pw_kept.proofs.Components.{some_is}
 use Rattle.pw_pair.proofs.Seating.{any-so}
 use Rattle.pw_tmf.specs.Leaving.{is_among}
 

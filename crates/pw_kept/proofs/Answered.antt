@@ -1,6 +1,8 @@
 -- A terminal's path gets an answer, and its context is the one that was given that answer.
 use Rattle.std.proofs.Common.{◌≡◌, ℕ, List, [], ◌∷◌, ◌++◌, Some, refl, sym, ap, subst, ◌∙◌}
 use Rattle.std.specs.Prelude.{slice_get}
+use Rattle.pw_base.proofs.Plain.{some_is}
+use Rattle.pw_pair.proofs.Calling.{ending-stays}
 use Rattle.pw_code.specs.declared.context.Context.{Context}
 use Rattle.pw_code.specs.declared.system.System.{System}
 use Rattle.pw_code.specs.declared.system.TermInfo.{TermInfo}
@@ -10,7 +12,7 @@ use Rattle.pw_kept.specs.Arrivals.{IsReady, StandsForPath}
 use Rattle.pw_kept.specs.Changes.{at_terminal, kept_ran, with_context, with_ready}
 use Rattle.pw_kept.specs.Kept.{Kept}
 use Rattle.pw_kept.specs.Stands.{Stands, StandsForTerminal}
-use Rattle.pw_kept.proofs.Components.{ending-stays, pairs-same, some_is, terminal-changed}
+use Rattle.pw_kept.proofs.Components.{pairs-same, terminal-changed}
 use Rattle.pw_tmf.proofs.Leaving.{tells-same}
 use Rattle.pw_onecopy.specs.Path.{PathAnswer}
 use Rattle.pw_onecopy.proofs.Update.{upd_elim}

@@ -2,6 +2,7 @@
 use Rattle.std.proofs.Common.{◌≡◌, ◌≢◌, ◌⊎◌, inl, inr, ⊎_elim, ℕ, ◌+◌, ◌<◌, ◌==◌, Bool, true, false, List, [], ◌∷◌, ◌++◌, Option, Some, None, unwrap_or, if◌then◌else◌, refl, sym, ap, subst, ◌∙◌, true≢false, arith}
 use Rattle.std.specs.Prelude.{slice_get}
 use Rattle.std.proofs.lemmas.Bool.{eqb-true, eqb-false}
+use Rattle.pw_base.proofs.Plain.{some_is}
 use Rattle.pw_code.specs.Valid.{IsValid}
 use Rattle.pw_code.specs.declared.context.Context.{Context}
 use Rattle.pw_code.specs.declared.system.System.{System}
@@ -19,7 +20,6 @@ use Rattle.pw_image.proofs.ImageForms.{read-again}
 use Rattle.pw_kept.specs.Arrivals.{StandsForPath}
 use Rattle.pw_kept.specs.Stands.{IsPathImage}
 use Rattle.pw_kept.specs.Tested.{TellsEnd, TellsStart}
-use Rattle.pw_kept.proofs.Components.{some_is}
 use Rattle.pw_kept.proofs.Extra.{Extra, extras}
 use Rattle.pw_kept.proofs.Forced.{begins-reply, begun-behind, begun-inside, same-lead}
 use Rattle.pw_kept.proofs.Readings as readings

@@ -1,6 +1,7 @@
 -- A message is taken in.
 use Rattle.std.proofs.Common.{◌≡◌, ℕ, List, Option, Some, None, Bool, true, refl, sym, ap, subst, ◌∙◌}
 use Rattle.std.specs.Prelude.{slice_get}
+use Rattle.pw_base.proofs.Plain.{some_is}
 use Rattle.pw_code.specs.declared.system.System.{System}
 use Rattle.pw_code.specs.declared.system.TermInfo.{TermInfo}
 use Rattle.pw_event.specs.declared.script.FailLine.{FailLine}
@@ -8,7 +9,7 @@ use Rattle.pw_exec.specs.OfSystem.{behaviour}
 use Rattle.pw_kept.specs.Changes.{kept_applied}
 use Rattle.pw_kept.specs.Kept.{Kept}
 use Rattle.pw_kept.specs.Stands.{Stands, StandsForHeld, StandsForMessage, StandsForPair, StandsForSeat, StandsIfAny, works}
-use Rattle.pw_kept.proofs.Components.{apart, pair-changed, pair-of, seat-same, some_is}
+use Rattle.pw_kept.proofs.Components.{apart, pair-changed, pair-of, seat-same}
 use Rattle.pw_tmf.proofs.Leaving.{tells-same}
 use Rattle.pw_pair.proofs.Seating.{all-at, keeps-terminal, still-there}
 use Rattle.pw_kept.proofs.Settled.{settles, terminals-work, works-settle}

@@ -1,9 +1,9 @@
 -- The requests of some terminals are cancelled.
-use Rattle.std.proofs.Common.{◌≡◌, ℕ, zero, suc, ◌+◌, ◌==◌, ◌||◌, List, [], ◌∷◌, get_or, map, filter, Option, Some, None, Bool, true, false, cond, not, ⊎_elim, refl, sym, ap, ap₂, subst, ◌∙◌}
+use Rattle.std.proofs.Common.{◌≡◌, ℕ, zero, suc, ◌+◌, ◌==◌, ◌||◌, List, [], ◌∷◌, get_or, map, filter, Option, Some, None, Bool, true, false, cond, not, refl, sym, ap, ap₂, subst, ◌∙◌}
 use Rattle.std.specs.Prelude.{All, IsSome}
 use Rattle.std.specs.List.{list_any}
-use Rattle.std.proofs.lemmas.Bool.{cases_eq, eq-eqb, ne_eqb}
 use Rattle.std.proofs.lemmas.List.Elements.{All-head, All-tail}
+use Rattle.pw_base.proofs.Plain.{or-false, eqb-swap}
 use Rattle.pw_class.specs.Queue.{Queue, at_process, busy_without, without, works_for}
 use Rattle.pw_class.specs.declared.request.Request.{Request}
 use Rattle.pw_code.specs.declared.context.Context.{Context}
@@ -17,10 +17,6 @@ use Rattle.pw_paired.specs.Units.{freed_of, only, request_in, without_requests}
 use Rattle.pw_laws.proofs.requests.Queues.{works-queue}
 use Rattle.pw_tmf.specs.Leaving.{is_among}
 
--- a test of two numbers, turned round
-turned : (a b : ℕ) → (a == b) ≡ (b == a)
-turned a b = ⊎_elim (λ is. eq-eqb a b is ∙ sym (eq-eqb b a (sym is))) (λ ne. ne_eqb a b ne ∙ sym (ne_eqb b a (λ e. ne (sym e)))) (cases_eq a b)
-
 -- ---- a process works for one of them
 
 -- the request is of one of these terminals
@@ -33,7 +29,7 @@ works-none (t ∷ terminals) = works-none terminals
 
 works-one : (terminals : List ℕ) (request : Request) → works_for_one terminals (Some request) ≡ is_among terminals request.terminal
 works-one [] request = refl
-works-one (t ∷ terminals) request = ap₂ (λ a b. a || b) (turned request.terminal t) (works-one terminals request)
+works-one (t ∷ terminals) request = ap₂ (λ a b. a || b) (eqb-swap request.terminal t) (works-one terminals request)
 
 -- what a process works on, but nothing where that was for one of them
 abbrev busy_without_each : List ℕ → Option Request → Option Request
@@ -71,7 +67,7 @@ spared-next : (t : ℕ) (terminals : List ℕ) (waiting : List Request) → spar
 spared-next t terminals [] = refl
 spared-next t terminals (request ∷ waiting) =
     spared-more t terminals request (filter (λ request. not (request.terminal == t)) waiting) waiting (spared-next t terminals waiting)
-    (request.terminal == t) (t == request.terminal) (turned request.terminal t)
+    (request.terminal == t) (t == request.terminal) (eqb-swap request.terminal t)
 
 mapped-twice : {A : Type 0} (f g h : A → A) → ((a : A) → f (g a) ≡ h a) → (xs : List A) → map f (map g xs) ≡ map h xs
 mapped-twice f g h same [] = refl
@@ -117,7 +113,7 @@ freed-all : (whose : ℕ → Bool) (terminals : List ℕ) (busy : ℕ → Option
 freed-all whose terminals busy k zero agrees = refl
 freed-all whose terminals busy k (suc n) agrees = ap₂ (λ x xs. x ∷ xs) (freed-same whose terminals (busy k) (agrees k)) (freed-all whose terminals busy (k + 1) n agrees)
 
-no-job : (R : Job → Context → Type 0) (b : Bool) → StandsIfAny R None (cond b None None)
+pub no-job : (R : Job → Context → Type 0) (b : Bool) → StandsIfAny R None (cond b None None)
 no-job R true = tt
 no-job R false = tt
 
@@ -153,12 +149,8 @@ cancelled-stands system info whose terminals class queue jobs agrees old = recor
 
 -- ---- a terminal alone
 
-or-false : (b : Bool) → (b || false) ≡ b
-or-false true = refl
-or-false false = refl
-
 pub only-among : (t s : ℕ) → only t s ≡ is_among (t ∷ []) s
-only-among t s = turned s t ∙ sym (or-false (t == s))
+only-among t s = eqb-swap s t ∙ sym (or-false (t == s))
 
 pub only-agrees : (t : ℕ) (class : Class) → AgreesOn (only t) (t ∷ []) class
 only-agrees t class = record {

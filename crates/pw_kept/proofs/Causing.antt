@@ -4,6 +4,7 @@ use Rattle.std.specs.Prelude.{slice_get}
 use Rattle.std.specs.List.{list_any}
 use Rattle.std.specs.Option.{option_map}
 use Rattle.std.proofs.lemmas.Bool.{eqb-true}
+use Rattle.pw_base.proofs.Plain.{some_is}
 use Rattle.pw_class.specs.Queue.{at_process}
 use Rattle.pw_class.specs.declared.request.Request.{Request}
 use Rattle.pw_code.specs.declared.context.Context.{Context}
@@ -30,7 +31,6 @@ use Rattle.pw_kept.specs.Stands.{Stands, StandsForClass}
 use Rattle.pw_kept.specs.TerminalTests.{is_paired}
 use Rattle.pw_kept.specs.Tested.{CauseTested, IsPlaced, IsServing}
 use Rattle.pw_kept.proofs.Agreeing.{there-is}
-use Rattle.pw_kept.proofs.Components.{some_is}
 use Rattle.pw_kept.proofs.Serving.{unit-same, where-works}
 use Rattle.pw_kept.proofs.Testing.{alone-as, and-guard, any-same, can-same, gone-as, own-mode, paired-as, where-is}
 use Rattle.pw_laws.specs.legal.Causes as legal

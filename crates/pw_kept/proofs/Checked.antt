@@ -1,6 +1,7 @@
 -- A message goes to the backup.
 use Rattle.std.proofs.Common.{◌≡◌, ℕ, ◌<◌, List, Option, Some, true, refl, sym, ap, subst, ◌∙◌, length, true≢false}
 use Rattle.std.specs.Prelude.{slice_get}
+use Rattle.pw_base.proofs.Plain.{some_is}
 use Rattle.pw_code.specs.declared.system.System.{System}
 use Rattle.pw_code.specs.declared.system.TermInfo.{TermInfo}
 use Rattle.pw_event.specs.declared.script.FailLine.{FailLine}
@@ -9,7 +10,7 @@ use Rattle.pw_kept.specs.Changes.{kept_check}
 use Rattle.pw_kept.specs.Kept.{Kept}
 use Rattle.pw_kept.specs.Stands.{IsPathImage, Stands, StandsForPair, StandsForSeat}
 use Rattle.pw_pair.specs.Follows.{IsUnitIn, has_flights, kind_of, path_in}
-use Rattle.pw_kept.proofs.Components.{apart, pair-same, seat-same, some_is}
+use Rattle.pw_kept.proofs.Components.{apart, pair-same, seat-same}
 use Rattle.pw_tmf.proofs.Leaving.{tells-same}
 use Rattle.pw_pair.proofs.Seating.{all-at, keeps-terminal, still-there}
 use Rattle.pw_onecopy.specs.Update.{upd}

@@ -1,7 +1,8 @@
 -- What is kept stands, component by component, where one place of it is changed.
-use Rattle.std.proofs.Common.{◌≡◌, ◌≢◌, ℕ, ◌<◌, List, Option, Some, None, refl, sym, ap, subst, ◌∙◌, length}
+use Rattle.std.proofs.Common.{◌≡◌, ◌≢◌, ℕ, ◌<◌, List, Option, Some, refl, sym, ap, subst, ◌∙◌, length}
 use Rattle.std.specs.Prelude.{is_some, slice_get}
 use Rattle.std.proofs.lemmas.List.Elements.{All-weaker}
+use Rattle.pw_base.proofs.Plain.{some_is}
 use Rattle.pw_code.specs.declared.system.System.{System}
 use Rattle.pw_code.specs.declared.system.TermInfo.{TermInfo}
 use Rattle.pw_event.specs.declared.script.FailLine.{FailLine}
@@ -9,15 +10,12 @@ use Rattle.pw_exec.specs.OfSystem.{behaviour, number_by}
 use Rattle.pw_kept.specs.Kept.{KeptTerminal}
 use Rattle.pw_kept.specs.Stands.{StandsForPair, StandsForSeat, StandsForTerminal}
 use Rattle.pw_onecopy.specs.Update.{upd}
-use Rattle.pw_onecopy.proofs.Update.{upd-other, upd-same, upd_both, upd_elim}
+use Rattle.pw_onecopy.proofs.Update.{upd-other, upd-same, upd_both}
 use Rattle.pw_pair.specs.Pairs.{SeenPair}
 use Rattle.pw_pair.specs.declared.seat.Seat.{Seat}
 use Rattle.pw_paired.specs.State.{BackupCopy, Message, Mode, OpenUnit, Term}
 
 -- ---- small things
-
-pub some_is : {A : Type 0} {x y : A} → Some x ≡ Some y → x ≡ y
-some_is {x = x} e = ap (λ o. elim o as (λ _. _) [ None ↦ x | Some y ↦ y ]) e
 
 -- a terminal that is there has the pair that it names
 pub pair-of : (system : System) (script : List FailLine) (t : ℕ) (info : TermInfo) → slice_get system.terminals t ≡ Some info
@@ -103,12 +101,6 @@ pub pairs-same : (system : System) (modes : ℕ → Mode) (terms new_terms : ℕ
 pairs-same system modes terms new_terms memory flight pairs same old p few =
     pair-same system p (modes p) terms new_terms memory memory flight flight (pairs p)
     (λ t info here of. record { ending = same t; memory_is = refl; flight_is = refl }) (old p few)
-
--- one terminal is changed, but not its ending
-pub ending-stays : (terms : ℕ → Term) (t : ℕ) (term : Term) → term.ending ≡ (terms t).ending → (j : ℕ) → (upd terms t term j).ending ≡ (terms j).ending
-ending-stays terms t term is j =
-    upd_elim terms t term j (λ a. a.ending ≡ (terms j).ending)
-    (λ same. is ∙ ap (λ x. (terms x).ending) (sym same)) (λ ne. refl)
 
 -- one pair is changed, with what it is told of its terminals
 pub pair-changed : (system : System) (modes : ℕ → Mode) (terms new_terms : ℕ → Term) (memory new_memory : ℕ → Option BackupCopy) (flight new_flight : ℕ → Option Message) (pairs : ℕ → SeenPair) (p : ℕ) (at : Mode) (pair : SeenPair)

@@ -1,5 +1,7 @@
 -- What paths count that lead to one frontier, and what the path of an attempt counts.
 use Rattle.std.proofs.Common.{◌≡◌, ◌≢◌, ◌⊎◌, inl, inr, ⊎_elim, ℕ, ◌+◌, ◌<◌, ◌≤◌, Bool, true, false, is_none, List, [], ◌∷◌, ◌++◌, length, Option, Some, None, refl, ap, ap₂, sym, subst, append-nil, append_assoc, arith, ◌∙◌, true≢false}
+use Rattle.std.proofs.lemmas.List.{nil_from_length}
+use Rattle.pw_base.proofs.Plain.{is_none-None}
 use Rattle.pw_code.specs.declared.verb.Verb.{Verb}
 use Rattle.pw_code.specs.declared.verb.Verb.TheVariants as verb
 use Rattle.pw_exec.proofs.Counting.{begun-push, begun_after, begun_from, entries-push}
@@ -65,10 +67,6 @@ Grown path n whole = (ended_on path < ended_on whole) ⊎ ((ended_on whole ≡ e
 abbrev One : List PathAnswer → PathAnswer → Type 0
 One path a = (ended_on (path ++ a ∷ []) ≡ ended_on path + 1) ⊎ ((ended_on (path ++ a ∷ []) ≡ ended_on path) × (weight (path ++ a ∷ []) ≡ weight path + 1))
 
-none-in : (w : Option ℕ) → is_none w ≡ true → w ≡ None
-none-in None e = refl
-none-in (Some r) e = absurd (cc e)
-
 one-more : (last : LastEnded) (path : List PathAnswer) (a : PathAnswer) → Kind last path a → One path a
 one-more last path a (is_shown is) =
     subst (One path) (sym is)
@@ -86,7 +84,7 @@ one-more last path a (is_entry k is) =
     ))
 one-more last path a (is_reply reply is outside kept) =
     subst (One path) (sym is)
-    (inl (ap (λ (at : Standing). at.ended) (standing-push path (Replied reply)) ∙ ap (λ (w : Option ℕ). (standing_after_reply (standing path) w).ended) (none-in (standing path).within outside)))
+    (inl (ap (λ (at : Standing). at.ended) (standing-push path (Replied reply)) ∙ ap (λ (w : Option ℕ). (standing_after_reply (standing path) w).ended) (is_none-None (standing path).within outside)))
 
 grows : (sys : Behaviour) (t : ℕ) (last : LastEnded) (path rest : List PathAnswer) → AreForced sys t last path rest → Grown path (length rest) (path ++ rest)
 grows sys t last path [] forced = inr (ap ended_on (append-nil path), let same = ap weight (append-nil path) in omega (arith, same))
@@ -118,16 +116,12 @@ forced-front : (sys : Behaviour) (t : ℕ) (last : LastEnded) (path m rest : Lis
 forced-front sys t last path [] rest forced = tt
 forced-front sys t last path (a ∷ m) rest forced = (forced.0, forced-front sys t last (path ++ a ∷ []) m rest forced.1)
 
-is-empty : (m : List PathAnswer) → length m ≡ 0 → m ≡ []
-is-empty [] e = refl
-is-empty (a ∷ m) e = absurd (omega (arith, e))
-
 -- a longer one of these counts more
 longer-same : (sys : Behaviour) (t : ℕ) (last : LastEnded) (p q m rest more : List PathAnswer) → AreForced sys t last p rest → rest ≡ m ++ more → q ≡ p ++ m
     → ended_on q ≡ ended_on p → weight q ≡ weight p → q ≡ p
 longer-same sys t last p q m rest more forced whole is ended same =
     let all = grows sys t last p m (forced-front sys t last p m more (subst (AreForced sys t last p) whole forced)) in
-    let none : m ≡ [] = is-empty m (none-left p (length m) q (subst (Grown p (length m)) (sym is) all) ended same) in
+    let none : m ≡ [] = nil_from_length m (none-left p (length m) q (subst (Grown p (length m)) (sym is) all) ended same) in
     is ∙ (ap (λ l. p ++ l) none ∙ append-nil p)
 
 -- paths that lead to one frontier and count the same are one
@@ -218,7 +212,7 @@ module _ (sys : Behaviour) (b : IsBehaviour sys) (t : ℕ) where
       (phases e r (p ++ a ∷ []) rest (IsPath-push sys t p a is_path suits.0) suits.1
       (rw (standing-push p a, begun-push 0 p a)
       (phase-more e r (standing p) (begun_from 0 p) a
-      (λ n is. none-in (standing p).within (b.begins t p is_path (begun-suits sys t p (sys.ask t p) n (subst (Suits sys t p (sys.ask t p)) is suits.0))))
+      (λ n is. is_none-None (standing p).within (b.begins t p is_path (begun-suits sys t p (sys.ask t p) n (subst (Suits sys t p (sys.ask t p)) is suits.0))))
       at)))
 
   -- a path that runs on in attempt r from a path

@@ -3,6 +3,7 @@ use Rattle.std.proofs.Common.{◌≡◌, ℕ, ◌==◌, ◌&&◌, List, [], ◌�
 use Rattle.std.specs.Prelude.{IsSome}
 use Rattle.std.proofs.lemmas.Bool.{eqb-true}
 use Rattle.std.proofs.lemmas.Slice.Eq.{bytes_eq-Decides}
+use Rattle.pw_base.proofs.Plain.{same-truth}
 use Rattle.pw_code.specs.declared.context.Context.{Context}
 use Rattle.pw_code.specs.declared.system.System.{System}
 use Rattle.pw_code.specs.declared.system.TermInfo.{TermInfo}
@@ -44,11 +45,6 @@ use Rattle.pw_paired.specs.Units.{attempt_of, restarts_of}
 and-where : (b c d : Bool) → (b ≡ true → c ≡ d) → (b && c) ≡ (b && d)
 and-where true c d same = same refl
 and-where false c d same = refl
-
-same-truth : (a b : Bool) → (a ≡ true → b ≡ true) → (b ≡ true → a ≡ true) → a ≡ b
-same-truth true b there back = sym (there refl)
-same-truth false true there back = back refl
-same-truth false false there back = refl
 
 none-same : {A B : Type 0} (R : A → B → Type 0) (a : Option A) (b : Option B) → StandsIfAny R a b → is_none b ≡ is_none a
 none-same R None None h = refl

@@ -35,7 +35,6 @@ use Rattle.pw_kept.proofs.Agreeing.{there-is}
 use Rattle.pw_kept.proofs.Apart.{tells-dropped, tells-ended, tells-start}
 use Rattle.pw_kept.proofs.Behind as behind
 use Rattle.pw_kept.proofs.Causing.{restart-same, suspend-same}
-use Rattle.pw_kept.proofs.Components.{some_is}
 use Rattle.pw_kept.proofs.Extra.{ends-push, ends_failed, is_fault}
 use Rattle.pw_kept.proofs.Forced.{suits-behind, suits-front}
 use Rattle.pw_kept.proofs.ImageTests.{back-same, begin-same, check-end-same, check-start-same, commit-same}

@@ -1,6 +1,7 @@
 -- In every run the test of a cause that looks at all servers, read or not, tells which causes show at verbs.
 use Rattle.std.proofs.Common.{◌≡◌, ◌⊎◌, inl, inr, ⊎_elim, ℕ, ◌+◌, ◌-◌, ◌<◌, ◌≤◌, ◌==◌, ◌&&◌, ◌||◌, nat_lt, List, Option, Some, None, Bool, true, false, not, is_some, length, Decides, refl, sym, ap, ap₂, subst, ◌∙◌, arith}
 use Rattle.std.specs.Prelude.{slice_get}
+use Rattle.pw_base.proofs.Plain.{some_is}
 use Rattle.pw_class.specs.Queue.{at_process}
 use Rattle.pw_class.specs.declared.request.Request.{Request}
 use Rattle.pw_code.specs.Valid.{IsValid}
@@ -26,7 +27,6 @@ use Rattle.pw_kept.specs.Stands.{Stands, StandsForClass}
 use Rattle.pw_kept.specs.Tested.{CauseTested, IsPlaced, IsServing}
 use Rattle.pw_kept.proofs.Agreeing.{there-is}
 use Rattle.pw_kept.proofs.Causing.{restart-same, suspend-same, told-same, work-same}
-use Rattle.pw_kept.proofs.Components.{some_is}
 use Rattle.pw_kept.proofs.Mays as mays
 use Rattle.pw_kept.proofs.Readings as readings
 use Rattle.pw_kept.proofs.Testing.{gone-as, own-mode}

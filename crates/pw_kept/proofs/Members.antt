@@ -1,10 +1,11 @@
 -- The terminals of a pair, and the seats that it has of them.
-use Rattle.std.proofs.Common.{◌≡◌, ℕ, zero, suc, ◌+◌, ◌<◌, ◌==◌, ◌||◌, List, [], ◌∷◌, ◌++◌, map, Some, Bool, true, false, refl, sym, ap, subst, append_assoc, ◌∙◌, arith}
+use Rattle.std.proofs.Common.{◌≡◌, ℕ, zero, suc, ◌+◌, ◌<◌, ◌==◌, List, [], ◌∷◌, ◌++◌, map, Some, Bool, true, false, refl, sym, ap, subst, append_assoc, ◌∙◌, arith}
 use Rattle.std.specs.Prelude.{if◌then◌else◌, slice_get}
 use Rattle.std.specs.List.{AllByRecursion, IsDistinct, list_any}
-use Rattle.std.proofs.lemmas.Bool.{eq-eqb, eqb-true, ne_eqb}
+use Rattle.std.proofs.lemmas.Bool.{eq-eqb, eqb-true, ne_eqb, or_right}
 use Rattle.std.proofs.lemmas.List.Elements.{All-from_recursion}
 use Rattle.std.proofs.lemmas.List.Folds.{list_any-append}
+use Rattle.pw_base.proofs.Plain.{some_is}
 use Rattle.pw_code.specs.declared.system.System.{System}
 use Rattle.pw_code.specs.declared.system.TermInfo.{TermInfo}
 use Rattle.pw_kept.specs.Members.{AreOf, IsOf, members_from, members_of}
@@ -43,17 +44,10 @@ distinct-from p t (info ∷ infos) = by (info.tcp == p) (distinct-from p (t + 1)
     by false later = later
     by true later = (above p t (t + 1) infos (omega arith), later)
 
-or-second : (a b : Bool) → b ≡ true → (a || b) ≡ true
-or-second true b e = refl
-or-second false b e = e
-
-some_eq : {A : Type 0} {x y : A} → Some x ≡ Some y → x ≡ y
-some_eq e = cc e
-
 every-from : (p t : ℕ) (infos : List TermInfo) (k : ℕ) (info : TermInfo) → slice_get infos k ≡ Some info → info.tcp ≡ p → is_among (members_from p t infos) (t + k) ≡ true
 every-from p t [] k info is of = absurd (cc is)
 every-from p t (x ∷ xs) zero info is of =
-    let same : x ≡ info = some_eq is in
+    let same : x ≡ info = some_is is in
     let mine : (x.tcp == p) ≡ true = eq-eqb x.tcp p (ap (λ (i : TermInfo). i.tcp) same ∙ of) in
     let first : (t == t + 0) ≡ true = eq-eqb t (t + 0) (omega arith) in
     rw (mine, first) refl
@@ -62,7 +56,7 @@ every-from p t (x ∷ xs) (suc k) info is of =
   where
     by : (b : Bool) → is_among (members_from p (t + 1) xs) (t + suc k) ≡ true → is_among (if b then t ∷ members_from p (t + 1) xs else members_from p (t + 1) xs) (t + suc k) ≡ true
     by false later = later
-    by true later = or-second (t == t + suc k) (is_among (members_from p (t + 1) xs) (t + suc k)) later
+    by true later = or_right (t == t + suc k) (is_among (members_from p (t + 1) xs) (t + suc k)) later
 
 pub members-are : (system : System) (p : ℕ) → AreOf system p (members_of system p)
 members-are system p = record {

@@ -16,13 +16,14 @@ use Rattle.pw_paired.specs.Server.{answer_on, with_answer, with_first_taken, wit
 use Rattle.pw_paired.specs.State.{BackupCopy, Class, Copy, End, Job, Message, OpenUnit, Start, State, starting}
 use Rattle.pw_paired.specs.Step.{IsRun, after, change, effect}
 use Rattle.pw_paired.specs.Terminal.{begun_path, message_of, next_verb, path_of, unit_with_attempt, with_request}
-use Rattle.pw_paired.specs.Units.{attempt_of, freed_of, only, restarts_of, without_requests}
+use Rattle.pw_paired.specs.Units.{attempt_of, only, restarts_of, without_requests}
 use Rattle.pw_laws.proofs.induction.Moving.{carried_view, holds-of-terms}
 use Rattle.pw_laws.proofs.induction.Failed.{end-any, fail-cases, process-cases}
 use Rattle.pw_laws.proofs.induction.Served.{file-cases, reply-any}
 use Rattle.pw_laws.proofs.induction.Runs.{behind-runs, carried_from}
 use Rattle.pw_laws.proofs.induction.Views as move
 use Rattle.pw_laws.proofs.induction.Views.{Moves, View, verb_in, view_of}
+use Rattle.pw_laws.proofs.requests.Classes.{freed_from}
 
 -- ---- paths
 
@@ -220,14 +221,6 @@ Comes n old new = (c i : ℕ) (job : Job) → (new c).busy i ≡ Some job → ((
 few-more : (n : ℕ) (old new : ℕ → Class) → AreFew old n → Comes n old new → AreFew new (n + 1)
 few-more n old new few comes = record { each = λ c i job works. ⊎_elim (λ before. let le = few.each c i job before in omega (arith, le)) (λ less. less) (comes c i job works) }
 
-freed-is : (whose : ℕ → Bool) (o : Option Job) (job : Job) → freed_of whose o ≡ Some job → o ≡ Some job
-freed-is whose None job e = e
-freed-is whose (Some own) job e = by (whose own.request.terminal) e
-  where
-    by : (b : Bool) → (if b then None else Some own) ≡ Some job → Some own ≡ Some job
-    by true e = absurd (cc e)
-    by false e = e
-
 abbrev done_of : Option Job → List FileAnswer
 done_of None = []
 done_of (Some job) = job.done
@@ -237,7 +230,7 @@ module _ (n : ℕ) (old : ℕ → Class) where
   stay c i job works = inl works
 
   cancelled : (whose : ℕ → Bool) → Comes n old (λ c. without_requests whose (old c))
-  cancelled whose c i job works = inl (freed-is whose ((old c).busy i) job works)
+  cancelled whose c i job works = inl (freed_from whose ((old c).busy i) job works)
 
   -- one class gets other servers
   changed : (c : ℕ) (class : Class) → ((i : ℕ) (job : Job) → class.busy i ≡ Some job → ((old c).busy i ≡ Some job) ⊎ (length job.done ≤ n + 1)) → Comes n old (upd old c class)

@@ -1,6 +1,7 @@
 -- An attempt is backed out, and its terminal is at its start again.
 use Rattle.std.proofs.Common.{◌≡◌, ℕ, ◌+◌, ◌||◌, List, [], ◌∷◌, Option, Some, None, Bool, true, false, cond, refl, sym, ap, subst, ◌∙◌}
 use Rattle.std.specs.Prelude.{IsSome}
+use Rattle.pw_pair.proofs.Calling.{start-ending, ending-stays}
 use Rattle.pw_class.specs.Queue.{Queue, at_process, without, works_for}
 use Rattle.pw_code.specs.declared.context.Context.{Context}
 use Rattle.pw_code.specs.declared.system.ClassInfo.{ClassInfo}
@@ -13,7 +14,8 @@ use Rattle.pw_kept.specs.Arrivals.{StandsForPath}
 use Rattle.pw_kept.specs.Changes.{job_without, kept_restart, restarted, unit_at}
 use Rattle.pw_kept.specs.Kept.{Kept, KeptTerminal}
 use Rattle.pw_kept.specs.Stands.{Stands, StandsForClass, StandsForJob, StandsForKnown, StandsForTerminal, StandsIfAny}
-use Rattle.pw_kept.proofs.Components.{ending-stays, pairs-same, terminal-and-unit}
+use Rattle.pw_kept.proofs.Components.{pairs-same, terminal-and-unit}
+use Rattle.pw_kept.proofs.Cancelled.{no-job}
 use Rattle.pw_onecopy.specs.Path.{PathAnswer}
 use Rattle.pw_paired.specs.Failure.{awaited_after, do_restart, with_restart, with_start_path}
 use Rattle.pw_paired.specs.State.{Class, Job, Mode, OpenUnit, State, Term}
@@ -48,15 +50,7 @@ at-start system info at term own unit start cause kept is_open runs old =
     }) old.start)
     old
 
-same-ending : (attempt : Option (List PathAnswer)) (term : Term) → (with_start_path attempt term).ending ≡ term.ending
-same-ending None term = refl
-same-ending (Some start) term = refl
-
 -- ---- the classes
-
-no-job : (R : Job → Context → Type 0) (b : Bool) → StandsIfAny R None (cond b None None)
-no-job R true = tt
-no-job R false = tt
 
 freed-job : (R : Job → Context → Type 0) (b : Bool) (job : Job) (context : Context) → R job context → StandsIfAny R (cond b None (Some job)) (cond (b || false) None (Some context))
 freed-job R true job context h = tt
@@ -90,6 +84,6 @@ restart-stands system script state kept t n cause unit start stands is_open runs
       (λ info here. at-start system info (state.modes info.tcp) (state.terms t) (state.units t) unit start cause (kept.terminals t) is_open runs (stands.terminals t info here));
   disc = tells-restart (behaviour script system) state kept.disc (unit_at kept t n) cause stands.disc;
   classes = λ c info here. cancelled-stands system info t (state.classes c) (kept.queues c) (kept.jobs c) (stands.classes c info here);
-  pairs = pairs-same system state.modes state.terms _ state.memory state.flight kept.pairs (ending-stays state.terms t _ (same-ending (attempt_of (state.units t)) (state.terms t))) stands.pairs;
+  pairs = pairs-same system state.modes state.terms _ state.memory state.flight kept.pairs (ending-stays state.terms t _ (start-ending (attempt_of (state.units t)) (state.terms t))) stands.pairs;
   births = stands.births;
 }

@@ -1,6 +1,7 @@
 -- What is kept behind a CHECK, a BEGIN, a SEND and the end of a unit stands for the state behind it.
 use Rattle.std.proofs.Common.{◌≡◌, ℕ, List, [], ◌∷◌, ◌++◌, Option, Some, None, true, refl, sym, ap, subst, ◌∙◌}
 use Rattle.std.specs.Prelude.{option_map, unwrap_or}
+use Rattle.pw_base.proofs.Plain.{some_is}
 use Rattle.pw_code.specs.declared.context.Context.{Context}
 use Rattle.pw_code.specs.declared.system.System.{System}
 use Rattle.pw_code.specs.declared.system.TermInfo.{TermInfo}
@@ -19,7 +20,7 @@ use Rattle.pw_kept.specs.Stands.{IsPathImage, Stands, StandsForKnown, StandsIfAn
 use Rattle.pw_pair.specs.Follows.{has_flights}
 use Rattle.pw_kept.specs.Tested.{Carries, IsAsking, IsPlaced}
 use Rattle.pw_kept.proofs.Checked.{checked}
-use Rattle.pw_kept.proofs.Components.{pair-of, some_is}
+use Rattle.pw_kept.proofs.Components.{pair-of}
 use Rattle.pw_kept.proofs.Behind.{answering-is, behind, verb-is}
 use Rattle.pw_kept.proofs.UnitChanges.{back-stands, begin-send-stands, begin-stands, ends-stands, send-stands}
 use Rattle.pw_onecopy.specs.Path.{Begun, Dropped, Ended, PathAnswer, unit_number}

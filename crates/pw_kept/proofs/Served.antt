@@ -2,6 +2,8 @@
 use Rattle.std.proofs.Common.{◌≡◌, ℕ, zero, suc, ◌+◌, ◌<◌, ◌≤◌, List, [], ◌∷◌, Option, Some, None, true, false, cond, is_none, refl, sym, ap, subst, ◌∙◌, arith}
 use Rattle.std.specs.Prelude.{IsSome, slice_get}
 use Rattle.std.specs.Option.{option_map}
+use Rattle.pw_base.proofs.Plain.{some_is}
+use Rattle.pw_pair.proofs.Calling.{ending-stays}
 use Rattle.pw_class.specs.Queue.{Queue, after_take, at_process, with_free}
 use Rattle.pw_class.specs.declared.request.Request.{Request}
 use Rattle.pw_code.specs.declared.context.Context.{Context}
@@ -16,7 +18,7 @@ use Rattle.pw_kept.specs.Changes.{birth_for, free_process, kept_fail_server, kep
 use Rattle.pw_kept.specs.Kept.{Kept}
 use Rattle.pw_kept.specs.Stands.{Stands, StandsForClass, StandsForJob, StandsIfAny}
 use Rattle.pw_kept.proofs.Classes.{class-changed}
-use Rattle.pw_kept.proofs.Components.{ending-stays, pairs-same, some_is, terminal-changed}
+use Rattle.pw_kept.proofs.Components.{pairs-same, terminal-changed}
 use Rattle.pw_tmf.proofs.Leaving.{tells-same}
 use Rattle.pw_onecopy.specs.Update.{upd}
 use Rattle.pw_onecopy.proofs.Update.{upd-other, upd-same, upd_both, upd_elim}

@@ -3,6 +3,7 @@ use Rattle.std.proofs.Common.{◌≡◌, ℕ, ◌==◌, ◌&&◌, List, Option, 
 use Rattle.std.specs.Prelude.{slice_get}
 use Rattle.std.specs.Option.{option_map}
 use Rattle.std.proofs.lemmas.Bool.{and_from, eq-eqb, eqb-true}
+use Rattle.pw_base.proofs.Plain.{same-truth}
 use Rattle.pw_class.specs.Queue.{at_process, taken}
 use Rattle.pw_class.specs.declared.request.Request.{Request}
 use Rattle.pw_class.specs.declared.request.Taken.{Taken}
@@ -39,11 +40,6 @@ use Rattle.pw_paired.specs.State.{State}
 use Rattle.pw_paired.specs.Units.{birth_of, request_in, unit_of}
 use Rattle.pw_laws.proofs.requests.Queues.{got-queue, taken-queue, works-queue}
 use Rattle.pw_tmf.specs.Tells.{as_told, images_by}
-
-same-truth : (a b : Bool) → (a ≡ true → b ≡ true) → (b ≡ true → a ≡ true) → a ≡ b
-same-truth true b there back = sym (there refl)
-same-truth false true there back = back refl
-same-truth false false there back = refl
 
 -- ---- TAKE
 

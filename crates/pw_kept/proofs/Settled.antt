@@ -1,17 +1,18 @@
 -- A pair is Paired behind an entry where its memory lacks no live terminal.
-use Rattle.std.proofs.Common.{◌≡◌, ℕ, ◌<◌, ◌==◌, ◌&&◌, List, Option, Some, None, Bool, true, false, not, refl, sym, ap, ◌∙◌, length, ⊎_elim, arith, is_some, is_none}
-use Rattle.std.specs.Prelude.{slice_get}
+use Rattle.std.proofs.Common.{◌≡◌, ℕ, ◌==◌, ◌&&◌, List, Option, Some, None, Bool, true, false, not, refl, sym, ap, ◌∙◌, length, is_some, is_none}
 use Rattle.std.specs.List.{list_any}
 use Rattle.std.proofs.lemmas.List.Elements.{All-weaker}
-use Rattle.std.proofs.lemmas.Option.{slice_get_cases, slice_get_within}
+use Rattle.std.proofs.lemmas.Option.{slice_get_within}
 use Rattle.std.proofs.lemmas.Bool.{eq-eqb, eqb-true}
+use Rattle.pw_base.proofs.Plain.{same-truth}
 use Rattle.pw_code.specs.declared.system.System.{System}
 use Rattle.pw_event.specs.declared.event.Ending.{Ending}
 use Rattle.pw_event.specs.declared.script.FailLine.{FailLine}
 use Rattle.pw_exec.specs.OfSystem.{behaviour}
 use Rattle.pw_kept.specs.Stands.{StandsForHeld, StandsForPair, StandsForSeat, StandsIfAny, works}
 use Rattle.pw_kept.proofs.Components.{TerminalsStand, pair-of}
-use Rattle.pw_pair.proofs.Following.{all-of, both-of, flights-settle, mode-settles, same-truth}
+use Rattle.pw_kept.proofs.Agreeing.{there-is}
+use Rattle.pw_pair.proofs.Following.{all-of, both-of, flights-settle, mode-settles}
 use Rattle.pw_pair.proofs.Seating.{any-so, any-then}
 use Rattle.pw_pair.specs.Pairs as pair
 use Rattle.pw_pair.specs.Pairs.{SeenPair, settled}
@@ -61,19 +62,12 @@ lacking-same R None None (Some held) h = absurd h
 lacking-same R None (Some copy) None h = absurd h
 lacking-same R (Some ending) copy held h = refl
 
--- a place that is there is below the length
-below-length : {X : Type 0} (xs : List X) (i : ℕ) (x : X) → slice_get xs i ≡ Some x → i < length xs
-below-length xs i x e = slice_get_within xs i x e
-
-there-is : {X : Type 0} (xs : List X) (i : ℕ) → i < length xs → (x : X) × (slice_get xs i ≡ Some x)
-there-is xs i lt = ⊎_elim (λ w. (w.0, w.2)) (λ past. absurd (omega (arith, lt, past.0))) (slice_get_cases xs i).1
-
 lacks-same : (system : System) (script : List FailLine) (p : ℕ) (at : Mode) (state : State) (seen : SeenPair)
     → StandsForPair system p at state.terms state.memory state.flight seen
     → list_any is_lacking seen.seats ≡ lacks_one (behaviour script system) p state
 lacks-same system script p at state seen stands = same-truth (list_any is_lacking seen.seats) (lacks_one (behaviour script system) p state)
     (any-so Stood is_lacking (lacks_one (behaviour script system) p state ≡ true) seen.seats stands.seats
-    (λ seat s lacks. any_below-true (length system.terminals) lacking seat.terminal (below-length system.terminals seat.terminal s.info s.here)
+    (λ seat s lacks. any_below-true (length system.terminals) lacking seat.terminal (slice_get_within system.terminals seat.terminal s.info s.here)
     (all-of (own seat.terminal) (is_none (state.terms seat.terminal).ending) (not (is_some (state.memory seat.terminal)))
     (eq-eqb _ _ (pair-of system script seat.terminal s.info s.here ∙ s.of_pair))
     (sym (seat-lacks seat s) ∙ lacks))))

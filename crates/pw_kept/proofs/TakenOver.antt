@@ -1,11 +1,10 @@
 -- The backup takes over.
-use Rattle.std.proofs.Common.{◌≡◌, ◌≢◌, ℕ, ◌<◌, ◌==◌, ◌&&◌, List, [], ◌∷◌, Option, Some, None, Bool, true, false, not, cond, is_some, is_none, refl, sym, ap, subst, ◌∙◌, length, ⊎_elim, find, true≢false, unwrap_or}
-use Rattle.std.specs.Prelude.{All, IsSome, slice_get}
-use Rattle.std.specs.List.{list_any}
+use Rattle.std.proofs.Common.{◌≡◌, ◌≢◌, ℕ, ◌<◌, ◌==◌, ◌&&◌, List, Option, Some, None, Bool, true, false, not, cond, is_some, is_none, refl, sym, ap, subst, ◌∙◌, length, ⊎_elim, true≢false, unwrap_or}
+use Rattle.std.specs.Prelude.{IsSome, slice_get}
 use Rattle.std.specs.Option.{option_map}
-use Rattle.std.proofs.lemmas.Bool.{cases_eq, eq-eqb, eqb-true, ne_eqb}
+use Rattle.std.proofs.lemmas.Bool.{cases_eq, eq-eqb, ne_eqb}
 use Rattle.std.proofs.lemmas.Option.{slice_get_within}
-use Rattle.std.proofs.lemmas.List.Elements.{All-head, All-tail}
+use Rattle.pw_base.proofs.Plain.{some_is, is_none-None}
 use Rattle.pw_code.specs.declared.system.System.{System}
 use Rattle.pw_code.specs.declared.system.TermInfo.{TermInfo}
 use Rattle.pw_event.specs.declared.event.Cause.TheVariants.{Takeover}
@@ -20,16 +19,16 @@ use Rattle.pw_kept.specs.Members.{AreOf}
 use Rattle.pw_kept.specs.Stands.{IsPathImage, Stands, StandsForHeld, StandsForKnown, StandsForPair, StandsForSeat, StandsForTerminal, StandsIfAny}
 use Rattle.pw_pair.specs.Follows.{has_flights}
 use Rattle.pw_kept.proofs.Among.{among-is}
-use Rattle.pw_kept.proofs.Components.{pair-changed, pair-of, some_is}
+use Rattle.pw_kept.proofs.Components.{pair-changed, pair-of}
 use Rattle.pw_tmf.proofs.Leaving.{tells-same}
 use Rattle.pw_kept.proofs.Emptied.{emptied, with-others, with-own}
 use Rattle.pw_onecopy.specs.Path.{PathAnswer}
 use Rattle.pw_onecopy.proofs.Update.{upd-other, upd-same}
 use Rattle.pw_pair.specs.Pairs.{SeenPair, after_take, seat_of}
-use Rattle.pw_pair.specs.Seats.{is_seat_of}
 use Rattle.pw_pair.specs.Takeover.{resumed_image}
 use Rattle.pw_pair.specs.declared.backup.Held.{Held}
 use Rattle.pw_pair.specs.declared.seat.Seat.{Seat}
+use Rattle.pw_pair.proofs.Beginning.{found-seat}
 use Rattle.pw_paired.specs.Failure.{do_takeover, is_live_of, is_of_pair, resume_terminal, resumed_path, runs_unit}
 use Rattle.pw_paired.specs.Raising.{lacks_one}
 use Rattle.pw_paired.specs.State.{Alone, Down, BackupCopy, BeforeImage, LastEnded, Message, Mode, OpenUnit, State, Term}
@@ -69,10 +68,6 @@ pub runs-same : (number : ℕ) (before : List BeforeImage) (unit : Option OpenUn
 runs-same number before None = refl
 runs-same number before (Some own) = refl
 
-none-is : {A : Type 0} (o : Option A) → is_none o ≡ true → o ≡ None
-none-is None e = refl
-none-is (Some a) e = absurd (true≢false (sym e))
-
 resumes : (system : System) (info : TermInfo) (at : Mode) (p : ℕ) (copy : Option BackupCopy) (held : Option Held) (unit : Option OpenUnit) (told : Option ToldUnit) (before : List BeforeImage) (last : LastEnded) (term : Term) (own : KeptTerminal)
     → StandsIfAny (StandsForHeld system info) copy held → IsSome copy → told ≡ option_map (as_told before) unit → StandsForTerminal system info at term unit own
     → StandsForTerminal system info Alone (resume_terminal p copy unit last term) unit (resumed p held told last.number own)
@@ -101,7 +96,7 @@ resumes-live system info at p copy held unit told before last term own h some is
     (by (is_none term.ending) refl)
   where
     by : (b : Bool) → is_none term.ending ≡ b → StandsForTerminal system info Alone (cond b (resume_terminal p copy unit last term) term) unit (cond b (resumed p held told last.number own) own)
-    by true e = resumes system info at p copy held unit told before last term own h (some (none-is term.ending e)) is old
+    by true e = resumes system info at p copy held unit told before last term own h (some (is_none-None term.ending e)) is old
     by false e = record {
       path = old.path;
       ready = old.ready;
@@ -114,18 +109,6 @@ resumes-live system info at p copy held unit told before last term own h some is
     }
 
 -- ---- its seat
-
-found-first : (P : Seat → Type 0) (t : ℕ) (seat : Seat) (seats : List Seat) → All P (seat ∷ seats)
-    → (list_any (is_seat_of t) seats ≡ true → (one : Seat) × (find (is_seat_of t) seats ≡ Some one) × P one × (one.terminal ≡ t))
-    → (b : Bool) → is_seat_of t seat ≡ b → list_any (is_seat_of t) (seat ∷ seats) ≡ true → (one : Seat) × (find (is_seat_of t) (seat ∷ seats) ≡ Some one) × P one × (one.terminal ≡ t)
-found-first P t seat seats all later true is e = (seat, rw is refl, All-head P seat seats all, eqb-true seat.terminal t is)
-found-first P t seat seats all later false is e =
-    let one = later (rw is at e) in
-    (one.0, rw is one.1, one.2, one.3)
-
-pub found-seat : (P : Seat → Type 0) (t : ℕ) (seats : List Seat) → All P seats → list_any (is_seat_of t) seats ≡ true → (seat : Seat) × (find (is_seat_of t) seats ≡ Some seat) × P seat × (seat.terminal ≡ t)
-found-seat P t [] all e = absurd (true≢false (sym e))
-found-seat P t (seat ∷ seats) all e = found-first P t seat seats all (λ later. found-seat P t seats (All-tail P seat seats all) later) (is_seat_of t seat) refl e
 
 held-seat : (system : System) (p : ℕ) (at : Mode) (terms : ℕ → Term) (memory : ℕ → Option BackupCopy) (flight : ℕ → Option Message) (seen : SeenPair) (t : ℕ) (info : TermInfo)
     → StandsForPair system p at terms memory flight seen → slice_get system.terminals t ≡ Some info → info.tcp ≡ p

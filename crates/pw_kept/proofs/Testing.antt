@@ -1,6 +1,7 @@
 -- The tests of what is kept are those of the state.
 use Rattle.std.proofs.Common.{◌≡◌, ℕ, zero, suc, ◌+◌, ◌<◌, ◌==◌, ◌&&◌, ◌||◌, nat_lt, nat_le, List, Option, Some, None, Bool, true, false, not, is_some, is_none, refl, sym, ap, ap₂, subst, ◌∙◌, length, arith}
 use Rattle.std.specs.Prelude.{slice_get}
+use Rattle.pw_base.proofs.Plain.{some_is}
 use Rattle.pw_class.specs.Queue as queue
 use Rattle.pw_code.specs.declared.context.Context.{Context}
 use Rattle.pw_code.specs.declared.system.System.{System}
@@ -17,8 +18,7 @@ use Rattle.pw_kept.specs.TerminalTests as kept
 use Rattle.pw_kept.specs.TerminalTests.{can_where, entries_of, flies, is_live, may_again, may_end_entries, may_fault, may_key, may_send, may_show, may_stop, pair_of, seat_at}
 use Rattle.pw_kept.specs.Tested.{IsAsking, IsPlaced}
 use Rattle.pw_kept.proofs.Agreeing.{there-is}
-use Rattle.pw_kept.proofs.Components.{some_is}
-use Rattle.pw_kept.proofs.TakenOver.{found-seat, runs-same}
+use Rattle.pw_kept.proofs.TakenOver.{runs-same}
 use Rattle.pw_laws.specs.legal.Pairs.{is_legal_applied, is_legal_check_copy, is_legal_end, is_legal_raise, is_legal_takeover}
 use Rattle.pw_laws.specs.legal.Terminals as legal
 use Rattle.pw_laws.specs.legal.Terminals.{is_legal_again, is_legal_key, is_legal_send, is_legal_show}
@@ -28,6 +28,7 @@ use Rattle.pw_laws.specs.legal.Verbs.{asks_accept, asks_fault, asks_send, asks_s
 use Rattle.pw_pair.specs.Pairs.{passes, seat_of}
 use Rattle.pw_pair.specs.Seats.{has_memory, is_flying}
 use Rattle.pw_pair.specs.declared.seat.Seat.{Seat}
+use Rattle.pw_pair.proofs.Beginning.{found-seat}
 use Rattle.pw_paired.specs.Failure.{is_live_of, is_of_pair}
 use Rattle.pw_paired.specs.Raising.{is_takeover}
 use Rattle.pw_paired.specs.Serial as serial

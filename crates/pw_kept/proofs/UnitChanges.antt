@@ -2,6 +2,8 @@
 use Rattle.std.proofs.Common.{◌≡◌, ℕ, List, [], ◌∷◌, ◌++◌, Option, Some, None, refl, sym, ap, subst, ◌∙◌}
 use Rattle.std.specs.Prelude.{IsSome, slice_get}
 use Rattle.std.specs.Option.{option_map}
+use Rattle.pw_base.proofs.Plain.{some_is}
+use Rattle.pw_pair.proofs.Calling.{ending-stays}
 use Rattle.pw_class.specs.declared.request.Request.{Request}
 use Rattle.pw_class.specs.Queue as queue
 use Rattle.pw_code.specs.declared.context.Context.{Context}
@@ -14,7 +16,7 @@ use Rattle.pw_kept.specs.Changes.{at_terminal, attempted, birth_for, births_behi
 use Rattle.pw_kept.specs.Kept.{Kept, KeptTerminal}
 use Rattle.pw_kept.specs.Stands.{Stands, StandsForKnown, StandsForTerminal, StandsIfAny, works}
 use Rattle.pw_kept.proofs.Classes.{class-changed}
-use Rattle.pw_kept.proofs.Components.{TerminalsStand, ending-stays, pair-of, pairs-same, some_is, terminal-and-unit}
+use Rattle.pw_kept.proofs.Components.{TerminalsStand, pair-of, pairs-same, terminal-and-unit}
 use Rattle.pw_tmf.proofs.Leaving.{tells-same}
 use Rattle.pw_code.specs.declared.verb.Verb.TheVariants as verb
 use Rattle.pw_onecopy.specs.Path.{Begun, Dropped, PathAnswer}

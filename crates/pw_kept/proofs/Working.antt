@@ -2,6 +2,7 @@
 use Rattle.std.proofs.Common.{◌≡◌, ℕ, List, [], ◌∷◌, ◌++◌, map, Option, Some, None, Bool, true, false, cond, refl, sym, ap, ap₂, subst, ◌∙◌}
 use Rattle.std.specs.Prelude.{slice_get}
 use Rattle.std.proofs.lemmas.List.{map-append}
+use Rattle.pw_base.proofs.Plain.{some_is}
 use Rattle.pw_class.specs.Queue.{Queue}
 use Rattle.pw_code.specs.declared.context.Context.{Context}
 use Rattle.pw_code.specs.declared.file.FileCall.{FileCall}
@@ -26,7 +27,6 @@ use Rattle.pw_kept.specs.Kept.{Kept}
 use Rattle.pw_kept.specs.Stands.{Stands, StandsForJob, StandsIfAny}
 use Rattle.pw_kept.specs.Tested.{IsAsking, IsServing}
 use Rattle.pw_kept.proofs.Behind.{answering-is, behind, takes-one}
-use Rattle.pw_kept.proofs.Components.{some_is}
 use Rattle.pw_kept.proofs.Replying.{failed-reply, replied, replied-last}
 use Rattle.pw_kept.proofs.Served.{file-stands, take-stands}
 use Rattle.pw_kept.proofs.Serving.{at-work}

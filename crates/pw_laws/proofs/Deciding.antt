@@ -2,6 +2,7 @@
 use Rattle.std.proofs.Common.{◌≡◌, ℕ, zero, suc, ◌<◌, ◌≤◌, ◌⊎◌, ⊎_elim, inl, inr, Bool, true, false, ◌&&◌, ◌||◌, not, List, [], ◌∷◌, Option, Some, None, is_none, is_some, nat_lt, nat_le, ◌==◌, Decides, refl, sym, subst, arith}
 use Rattle.std.proofs.lemmas.Bool.{true≢false, false≢true, leb-true, le-leb, ltb-true, lt-ltb, eqb-true, eq-eqb, cases_lt}
 use Rattle.std.proofs.lemmas.Bool.Decides.{Decides-and, Decides-or, Decides-not, Decides-like}
+use Rattle.pw_base.proofs.Plain.{some_is}
 use Rattle.pw_paired.specs.Units.{any_below}
 use Rattle.pw_laws.specs.legal.Values.{first_with, is_empty, some_with}
 
@@ -40,9 +41,6 @@ itself_not false = yes refl
 
 -- Facts on options and lists.
 
-some_value : {A : Type 0} {x y : A} → Some x ≡ Some y → x ≡ y
-some_value e = cc
-
 -- there is none
 pub none : {A : Type 0} (o : Option A) → Decides (is_none o) (o ≡ None)
 none None = yes refl
@@ -57,7 +55,7 @@ some (Some x) = yes (x, refl)
 pub one_with : {A : Type 0} {test : A → Bool} {P : A → Type 0} → ((x : A) → Decides (test x) (P x)) → (o : Option A)
     → Decides (some_with test o) ((x : A) × (o ≡ Some x) × P x)
 one_with each None = no (λ h. let e = h.1 in cc e)
-one_with {P = P} each (Some x) = like (each x) (λ p. (x, refl, p)) (λ h. subst P (sym (some_value h.1)) h.2)
+one_with {P = P} each (Some x) = like (each x) (λ p. (x, refl, p)) (λ h. subst P (sym (some_is h.1)) h.2)
 
 -- there is a first one of which the test holds
 pub first_one : {A : Type 0} {test : A → Bool} {P : A → Type 0} → ((x : A) → Decides (test x) (P x)) → (xs : List A)

@@ -1,7 +1,8 @@
 -- The locks of a run: whose they are, and that no two of them conflict.
 use Rattle.std.proofs.Common.{◌≡◌, ℕ, Bool, true, false, not, cond, List, [], ◌∷◌, ◌++◌, filter, Option, Some, None, if◌then◌else◌, refl, ap, sym, subst, ◌∙◌}
 use Rattle.std.specs.List.{list_any, AllByRecursion}
-use Rattle.std.proofs.lemmas.Bool.{false≢true, eqb-false, cond-false, or_parts}
+use Rattle.std.proofs.lemmas.Bool.{eqb-false, cond-false, or_parts, not-true}
+use Rattle.pw_base.proofs.Plain.{all-weaker}
 use Rattle.pw_code.specs.declared.file.FileCall.{FileCall}
 use Rattle.pw_event.specs.declared.event.Event.{Event}
 use Rattle.pw_event.specs.declared.event.Event.TheVariants.{Show, Key, CheckStart, CheckEnd, CheckCopy, Applied, Begin, Send, Take, File, Reply, Again, Commit, Back, Restart, FailTcp, FailServer, Takeover, Raise, End}
@@ -33,10 +34,6 @@ pub record LocksOk (units : ℕ → Option OpenUnit) (locks : List Lock) : Type 
   pub apart : AreApart locks
 
 -- lists of locks
-all-map : {X : Type 0} (P Q : X → Type 0) → ((x : X) → P x → Q x) → (xs : List X) → AllByRecursion P xs → AllByRecursion Q xs
-all-map P Q more [] all = all
-all-map P Q more (x ∷ xs) all = (more x all.0, all-map P Q more xs all.1)
-
 all-passing : {X : Type 0} (P Q : X → Type 0) (q : X → Bool) → ((x : X) → q x ≡ true → P x → Q x) → (xs : List X) → AllByRecursion P xs → AllByRecursion Q (filter q xs)
 all-passing P Q q more [] all = all
 all-passing P Q q more (x ∷ xs) all = by_test (q x) refl (all-passing P Q q more xs all.1)
@@ -66,10 +63,6 @@ apart-last lock (held ∷ locks) apart none =
 held-same : {units after : ℕ → Option OpenUnit} (lock : Lock) → after lock.unit.terminal ≡ units lock.unit.terminal → IsHeld units lock → IsHeld after lock
 held-same lock same held = record { unit = held.unit; is_open = same ∙ held.is_open; number = held.number; start = held.start; runs = held.runs }
 
-not-true : (b : Bool) → not b ≡ true → b ≡ false
-not-true true e = absurd (false≢true e)
-not-true false e = refl
-
 module _ (sys : Behaviour) (b : IsBehaviour sys) (s : State) (i : Inv sys s) (ok : LocksOk s.units s.locks) where
   same : LocksOk s.units s.locks
   same = ok
@@ -89,7 +82,7 @@ module _ (sys : Behaviour) (b : IsBehaviour sys) (s : State) (i : Inv sys s) (ok
   -- a unit begins: an idle one has no locks
   begins : (t : ℕ) (unit : Option OpenUnit) → IsIdle s t → LocksOk (upd s.units t unit) s.locks
   begins t unit idle = record {
-    held = all-map (IsHeld s.units) (IsHeld (upd s.units t unit))
+    held = all-weaker (IsHeld s.units) (IsHeld (upd s.units t unit))
         (λ lock held. held-same lock (upd-other s.units t unit lock.unit.terminal
         (λ mine. absurd (cc (ap attempt_of (sym (ap s.units mine) ∙ held.is_open), held.runs, idle)))) held) s.locks ok.held;
     apart = ok.apart;

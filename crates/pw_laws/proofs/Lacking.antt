@@ -1,6 +1,7 @@
 -- While a pair is Raising, its memory lacks a live terminal.
 use Rattle.std.proofs.Common.{◌≡◌, ◌≢◌, ℕ, zero, suc, ◌<◌, ⊎_elim, Bool, true, false, not, ◌&&◌, is_some, is_none, List, Option, Some, None, if◌then◌else◌, refl, ap, sym, subst, ◌∙◌, arith}
 use Rattle.std.proofs.lemmas.Bool.{cases_eq, cases_Bool, cond-true, cond-false, eqb-true, true≢false, and_from}
+use Rattle.pw_base.proofs.Plain.{and-first, and-second, drop-false}
 use Rattle.pw_event.specs.declared.event.Ending.{Ending}
 use Rattle.pw_event.specs.declared.event.Event.{Event}
 use Rattle.pw_event.specs.declared.event.Event.TheVariants.{Show, Key, CheckStart, CheckEnd, CheckCopy, Applied, Begin, Send, Take, File, Reply, Again, Commit, Back, Restart, FailTcp, FailServer, Takeover, Raise, End}
@@ -16,7 +17,6 @@ use Rattle.pw_paired.specs.State.{Alone, Down, Gone, LastEnded, BackupCopy, Mode
 use Rattle.pw_paired.specs.Step.{Fits, IsRun, after, effect}
 use Rattle.pw_paired.specs.Terminal.{path_of}
 use Rattle.pw_paired.specs.Units.{give_answer, any_below, attempt_of, commit_unit, leave_units, only}
-use Rattle.pw_laws.proofs.Tests.{and-first, and-second, drop-false}
 use Rattle.pw_laws.proofs.induction.Failed.{end-any, fail-cases, process-cases}
 use Rattle.pw_laws.proofs.induction.Runs.{holds-behind}
 use Rattle.pw_laws.proofs.induction.Served.{file-cases, reply-any}

@@ -2,6 +2,7 @@
 use Rattle.std.proofs.Common.{◌≡◌, ◌≢◌, ℕ, zero, suc, ◌+◌, ◌-◌, ◌≤◌, ⊎_elim, inl, inr, Bool, true, false, not, ◌&&◌, is_some, is_none, List, [], ◌∷◌, Option, Some, None, find, cond, refl, ap, sym, subst, ◌∙◌, arith}
 use Rattle.std.specs.List.{list_any, slice_get}
 use Rattle.std.proofs.lemmas.Bool.{cases_lt, cases_Bool, eq-eqb, eqb-true, true≢false, and_from}
+use Rattle.pw_base.proofs.Plain.{and-first, and-second}
 use Rattle.pw_event.specs.Due.{Numbered, due_line, entries_of, if_due, is_fail_of, is_same_owner, next_failure, numbered, owner_of, owner_of_line}
 use Rattle.pw_event.specs.declared.event.Cause.{Cause}
 use Rattle.pw_event.specs.declared.event.Cause.TheVariants as cause
@@ -25,7 +26,6 @@ use Rattle.pw_laws.proofs.BeginsOnce.{few-restarts}
 use Rattle.pw_laws.proofs.Lacking.{any_below-some, any_below-true, lacking}
 use Rattle.pw_laws.proofs.Pending.{pending-ok, pending-runs}
 use Rattle.pw_laws.specs.progress.Running.{HasStep}
-use Rattle.pw_laws.proofs.Tests.{and-first, and-second}
 use Rattle.pw_laws.proofs.kept.Runs.{kept-at-start, kept-from}
 
 -- owners that are the same
@@ -106,7 +106,8 @@ module _ (sys : Behaviour) (s : State) (unfinished : is_finished sys s ≡ false
       by None is = record { entry = entry; legal = record { unfinished = unfinished; due = is ∙ sym wanted; fits = fits } }
       by (Some k) is = fail-step (owner_of sys.pair_of entry) k is
 
-takeover-cause : (pending : Option Cause) → is_takeover pending ≡ true → (q : ℕ) × (pending ≡ Some (cause.Takeover q))
+-- a TAKEOVER that is pending
+pub takeover-cause : (pending : Option Cause) → is_takeover pending ≡ true → (q : ℕ) × (pending ≡ Some (cause.Takeover q))
 takeover-cause None is = absurd (true≢false (sym is))
 takeover-cause (Some (cause.Takeover q)) is = (q, refl)
 takeover-cause (Some (cause.Older t n)) is = absurd (true≢false (sym is))

@@ -1,6 +1,7 @@
 -- Where a path stands behind one more answer.
 use Rattle.std.proofs.Common.{◌≡◌, ℕ, ◌+◌, true, false, is_none, List, [], ◌∷◌, ◌++◌, Option, Some, None, refl, ap, sym, subst, append-nil, append_assoc, ◌∙◌}
-use Rattle.std.proofs.lemmas.Bool.{true≢false, false≢true}
+use Rattle.std.proofs.lemmas.Bool.{true≢false}
+use Rattle.pw_base.proofs.Plain.{is_none-None}
 use Rattle.pw_onecopy.specs.Behaviour.{Behaviour}
 use Rattle.pw_onecopy.specs.IsBehaviour.{IsPath, Suits, SuitsFrom}
 use Rattle.pw_onecopy.specs.Path.{PathAnswer, Shown, Entry, Begun, Replied, Failed, Ended, Dropped, Standing, standing_after_answer, standing, standing_from, standing_at_start, standing_after_reply, standing_after_unit, unit_number, is_outside}
@@ -72,17 +73,13 @@ closing-outside answer closing path =
     ap (λ (at : Standing). is_none at.within) (standing-push path answer) ∙ ap (λ (w : Option ℕ). is_none w) (closing.within (standing path))
 
 -- a reply outside a transaction ends a unit, and one inside it is plain
-none-within : (w : Option ℕ) → is_none w ≡ true → w ≡ None
-none-within None e = refl
-none-within (Some r) e = absurd (false≢true e)
-
 some-replied : (at : Standing) (w : Option ℕ) → is_none w ≡ false → standing_after_reply at w ≡ at
 some-replied at None e = absurd (true≢false e)
 some-replied at (Some r) e = refl
 
 -- a reply outside a transaction is the end of a unit
 pub reply-outside : (reply : List ℕ) (path : List PathAnswer) → is_outside path ≡ true → standing (path ++ Replied reply ∷ []) ≡ standing_after_unit (standing path)
-reply-outside reply path outside = standing-push path (Replied reply) ∙ ap (λ (w : Option ℕ). standing_after_reply (standing path) w) (none-within (standing path).within outside)
+reply-outside reply path outside = standing-push path (Replied reply) ∙ ap (λ (w : Option ℕ). standing_after_reply (standing path) w) (is_none-None (standing path).within outside)
 
 -- a reply in a transaction leaves where the path stands
 pub reply-inside : (reply : List ℕ) (path : List PathAnswer) → is_outside path ≡ false → standing (path ++ Replied reply ∷ []) ≡ standing path

@@ -1,6 +1,7 @@
 -- A pending cause is one of a running attempt.
 use Rattle.std.proofs.Common.{◌≡◌, ℕ, ◌<◌, ⊎_elim, Bool, true, false, if◌then◌else◌, ◌==◌, is_some, List, Option, Some, None, refl, ap, sym, subst, ◌∙◌, arith}
 use Rattle.std.proofs.lemmas.Bool.{cases_Bool, cases_lt, cond-false, cond-true, true≢false}
+use Rattle.pw_base.proofs.Plain.{and-second}
 use Rattle.pw_event.specs.declared.event.Cause.{Cause}
 use Rattle.pw_event.specs.declared.event.Cause.TheVariants as cause
 use Rattle.pw_event.specs.declared.event.Event.{Event}
@@ -15,7 +16,6 @@ use Rattle.pw_paired.specs.State.{BackupCopy, OpenUnit, State, Term}
 use Rattle.pw_paired.specs.Step.{IsRun, after, effect}
 use Rattle.pw_paired.specs.Units.{attempt_of}
 use Rattle.pw_laws.specs.progress.Running.{Runs}
-use Rattle.pw_laws.proofs.Tests.{and-second}
 use Rattle.pw_laws.proofs.induction.Failed.{end-any, fail-cases, process-cases}
 use Rattle.pw_laws.proofs.induction.Moving.{holds-of-view}
 use Rattle.pw_laws.proofs.induction.Runs.{holds-behind, kept}

@@ -2,6 +2,7 @@
 use Rattle.std.proofs.Common.{◌≡◌, ℕ, Bool, true, not, cond, List, [], ◌∷◌, filter, Option, Some, None, refl, sym, ap, ap₂, ◌∙◌, ⊎_elim}
 use Rattle.std.specs.List.{AllByRecursion}
 use Rattle.std.proofs.lemmas.Bool.{cases_eq, eq-eqb, ne_eqb}
+use Rattle.pw_base.proofs.Plain.{all-weaker}
 use Rattle.pw_laws.specs.locking.Held.{IsHeld}
 use Rattle.pw_locks.specs.Conflicts.{is_same_unit}
 use Rattle.pw_locks.specs.declared.lock.Lock.{Lock}
@@ -18,10 +19,6 @@ filter-same p q (x ∷ xs) same = ap₂ (λ b rest. cond b (x ∷ rest) rest) sa
 filter-all : {X : Type 0} (p : X → Bool) (xs : List X) → AllByRecursion (λ x. p x ≡ true) xs → filter p xs ≡ xs
 filter-all p [] all = refl
 filter-all p (x ∷ xs) all = ap₂ (λ b rest. cond b (x ∷ rest) rest) all.0 (filter-all p xs all.1)
-
-all-more : {X : Type 0} (P Q : X → Type 0) → ((x : X) → P x → Q x) → (xs : List X) → AllByRecursion P xs → AllByRecursion Q xs
-all-more P Q more [] all = all
-all-more P Q more (x ∷ xs) all = (more x all.0, all-more P Q more xs all.1)
 
 module _ (units : ℕ → Option OpenUnit) (t : ℕ) where
   -- a held lock is of the terminal where it is of its open unit
@@ -47,14 +44,14 @@ pub release-unit : (units : ℕ → Option OpenUnit) (locks : List Lock) → All
     → without_locks (only t) locks ≡ filter (λ held. not (is_same_unit held.unit (unit_named t unit))) locks
 release-unit units locks all t unit is =
     filter-same (λ lock. not (only t lock.unit.terminal)) (λ held. not (is_same_unit held.unit (unit_named t unit))) locks
-    (all-more (IsHeld units) _ (λ lock held. ap not (same-test units t unit is lock held)) locks all)
+    (all-weaker (IsHeld units) _ (λ lock held. ap not (same-test units t unit is lock held)) locks all)
 
 -- where none is open
 pub release-none : (units : ℕ → Option OpenUnit) (locks : List Lock) → AllByRecursion (IsHeld units) locks
     → (t : ℕ) → units t ≡ None → without_locks (only t) locks ≡ locks
 release-none units locks all t none =
     filter-all (λ lock. not (only t lock.unit.terminal)) locks
-    (all-more (IsHeld units) _ (λ lock held. other-test units t none lock held) locks all)
+    (all-weaker (IsHeld units) _ (λ lock held. other-test units t none lock held) locks all)
 
 -- the locks that stay are held
 pub release-stays : (units : ℕ → Option OpenUnit) (locks : List Lock) → AllByRecursion (IsHeld units) locks

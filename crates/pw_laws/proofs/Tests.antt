@@ -2,12 +2,8 @@
 use Rattle.std.proofs.Common.{◌≡◌, ⊎_elim, Bool, true, false, ◌&&◌, ◌||◌, cond, List, [], ◌∷◌, ◌++◌, filter, refl, ap, ◌∙◌}
 use Rattle.std.specs.List.{list_any, AllByRecursion}
 use Rattle.std.proofs.lemmas.List.Folds.{list_any-append}
-use Rattle.std.proofs.lemmas.Bool.{cases_Bool, true≢false, false≢true, or_left, or_right}
-
--- one of two tests passes, and it is not the first
-pub drop-false : (a b : Bool) → a ≡ false → (a || b) ≡ true → b ≡ true
-drop-false true b e is = absurd (true≢false e)
-drop-false false b e is = is
+use Rattle.std.proofs.lemmas.Bool.{cases_Bool, false≢true, or_left, or_right}
+use Rattle.pw_base.proofs.Plain.{drop-false}
 
 module _ {X : Type 0} where
   -- a test of some of the elements
@@ -39,16 +35,6 @@ module _ {X : Type 0} where
       by_test : (b : Bool) → AllByRecursion P (filter q xs) → AllByRecursion P (cond b (x ∷ filter q xs) (filter q xs))
       by_test true rest = (all.0, rest)
       by_test false rest = rest
-
--- of two tests that pass the first passes
-pub and-first : (a b : Bool) → (a && b) ≡ true → a ≡ true
-and-first true b e = refl
-and-first false b e = e
-
--- and the second
-pub and-second : (a b : Bool) → (a && b) ≡ true → b ≡ true
-and-second true b e = e
-and-second false b e = absurd (false≢true e)
 
 -- a test of a longer list
 pub any-before : {X : Type 0} (p : X → Bool) (xs ys : List X) → list_any p xs ≡ true → list_any p (xs ++ ys) ≡ true

@@ -43,7 +43,7 @@ one_refused {S} refusal step number state all rest line whole is refuses so_far 
 pub blank_taken : {S : Type 0} (step : ℕ → S → List ℕ → Result S Fault) (number : ℕ) (state : S) (line : List ℕ) → words line ≡ [] → line_taken step number state line ≡ Ok state
 blank_taken step number state line none = ap (λ b. cond b (Ok state) (step number state line)) (ap is_empty none)
 
-some_word : (ws : List (List ℕ)) → ws ≢ [] → is_empty ws ≡ false
+pub some_word : (ws : List (List ℕ)) → ws ≢ [] → is_empty ws ≡ false
 some_word [] some = absurd (some refl)
 some_word (w ∷ ws) some = refl
 

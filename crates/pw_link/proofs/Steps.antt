@@ -4,14 +4,11 @@ use mathlib.Core.Option.{some, some-injective, some-ne-none}
 use lib.ListN.{get_elem?}
 use Rattle.std.specs.Option.{is_some}
 use Rattle.std.proofs.lemmas.Option.{none-some, same_Some}
+use Rattle.pw_base.proofs.Plain.{is_some-Some}
 use Rattle.atomic_table.proofs.Lists.{at_set}
 use Rattle.crossbeam_channel.specs.Fifo.{Pushes, Pops, Forks, Merges, Learns}
 use Rattle.pw_link.specs.declared.rule.Note.{Note}
 use Rattle.pw_link.specs.Rule.{note, longer, Sole, Kept}
-
-pub the_some : {X : Type 0} (o : Option X) → is_some o ≡ true → (x : X) × (o ≡ Some x)
-the_some None h = absurd (grind arith)
-the_some (Some x) h = (x, refl)
 
 at_snoc : {A : Type 0} (l : List A) (a b : A) (j : ℕ) → get_elem? (l ++ a ∷ []) j ≡ some b → (get_elem? l j ≡ some b) ⊎ ((j ≡ length l) × (a ≡ b))
 at_snoc [] a b zero e = inr (refl, some-injective a b e)
@@ -72,7 +69,7 @@ module _ {M : Type 0} where
   sends pass v x knows (y ∷ items) views short kept here = absurd (omega arith)
   sends pass v x knows [] views short kept here =
       let w : Note M = note (longer v.took x) v.got (Some x) in
-      let l = the_some v.took knows in
+      let l = is_some-Some v.took knows in
       let grown = ap (λ o. longer o x) l.1 in
       let mine = ap (λ t. t ++ x ∷ []) (kept.primary.only pass v l.0 here l.1).1 in (
         w,
@@ -122,7 +119,7 @@ module _ {M : Type 0} where
   pub takes : (pass : ℕ) (v : Note M) (m : M) → is_some v.got ≡ true → v.due ≡ Some m → Pops Kept pass v (λ x w. (v.due ≡ Some x) × (w ≡ note v.took (longer v.got x) None))
   takes pass v m knows due x items views kept here =
       let w : Note M = note v.took (longer v.got x) None in
-      let l = the_some v.got knows in
+      let l = is_some-Some v.got knows in
       let grown = ap (λ o. longer o x) l.1 in
       let mine = ap (λ t. t ++ x ∷ []) (kept.backup.only pass v l.0 here l.1).1 in
       let only : x ∷ items ≡ m ∷ [] = (kept.waiting.only pass v m here due).1 in

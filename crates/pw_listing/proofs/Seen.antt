@@ -1,5 +1,5 @@
 -- The numbers that were seen are those of the refreshes so far.
-use Rattle.std.proofs.Common.{◌≡◌, ℕ, zero, suc, ◌+◌, ◌<◌, ⊎_elim, ◌==◌, ◌&&◌, ◌||◌, Bool, true, false, cond, List, [], ◌∷◌, ◌++◌, length, take, get_or, if◌then◌else◌, refl, ap, sym, append-nil, append_assoc, add-one, ◌∙◌, arith}
+use Rattle.std.proofs.Common.{◌≡◌, ℕ, ◌+◌, ◌<◌, ⊎_elim, ◌==◌, ◌&&◌, ◌||◌, Bool, true, false, cond, List, [], ◌∷◌, ◌++◌, length, take, get_or, if◌then◌else◌, refl, ap, sym, append-nil, append_assoc, ◌∙◌}
 use Rattle.std.proofs.lemmas.Bool.{cases_Bool, true≢false}
 use Rattle.std.specs.Cmp.{unsigned_tied}
 use Rattle.std.proofs.lemmas.List.Folds.{list_any-append}
@@ -7,6 +7,7 @@ use Rattle.std.specs.BTreeSet.{BTreeSet, Updates, contains}
 use Rattle.std.specs.Ordering.{is_eq, nat_cmp, ordering_then}
 use Rattle.std.specs.declared.cmp.Ordering.{Ordering}
 use Rattle.std.specs.declared.cmp.Ordering.TheVariants.{Less, Equal, Greater}
+use Rattle.std.proofs.lemmas.List.{take_more}
 use Rattle.pw_code.specs.declared.system.System.{System}
 use Rattle.pw_listing.specs.Lines.{refresh_part, refresh_parts}
 use Rattle.pw_listing.specs.Listing.{counted}
@@ -112,15 +113,9 @@ seen-more t all r seen next has is other =
     by true = ap (λ (c : Bool). has_number other (refreshes_of t all) || c) (or-false (same_number other r))
     by false = refl
 
--- the first refreshes with one more
-take-one : (all : List Refresh) (i : ℕ) (d : Refresh) → i < length all → take (i + 1) all ≡ take i all ++ get_or all i d ∷ []
-take-one [] i d within = absurd (omega arith)
-take-one (x ∷ all) zero d within = refl
-take-one (x ∷ all) (suc i) d within = rw add-one (ap (λ (l : List Refresh). x ∷ l) (ap (λ (n : ℕ). take n all) (sym (add-one i)) ∙ take-one all i d (omega arith)))
-
 -- the same, by the refresh there
 take-item : (all : List Refresh) (i : ℕ) (r : Refresh) → i < length all → r ≡ get_or all i r → take (i + 1) all ≡ take i all ++ r ∷ []
-take-item all i r within is = take-one all i r within ∙ ap (λ (x : Refresh). take i all ++ x ∷ []) (sym is)
+take-item all i r within is = take_more all i r within ∙ ap (λ (x : Refresh). take i all ++ x ∷ []) (sym is)
 
 pub text-step : (system : System) (t i : ℕ) (all : List Refresh) (r : Refresh) (seen : BTreeSet Number) (first before behind : List ℕ) → i < length all → r ≡ get_or all i r
     → HasSeen seen (refreshes_of t (take i all)) → before ≡ first ++ refresh_parts system (counted (take i all) t) → behind ≡ before ++ first_part system t seen r

@@ -7,7 +7,7 @@ use Rattle.std.specs.Cmp.Lexicographic.{slice_cmp}
 use Rattle.std.specs.List.{list_any}
 use Rattle.std.specs.Global.{Vec}
 use Rattle.std.specs.Map.{lookup}
-use Rattle.std.specs.Ordering.{nat_cmp, is_lt, is_gt, is_eq, ordering_reverse}
+use Rattle.std.specs.Ordering.{nat_cmp, is_lt, is_gt, ordering_reverse}
 use Rattle.std.specs.declared.cmp.Ordering.{Ordering}
 use Rattle.std.specs.declared.cmp.Ordering.TheVariants.{Less, Equal, Greater}
 use Rattle.std.proofs.lemmas.Bool.{and_parts, and_from}
@@ -15,6 +15,7 @@ use Rattle.std.proofs.lemmas.Bool.Decides.{nat_tests}
 use Rattle.std.proofs.lemmas.Cmp.{nat_list_cmp_total}
 use Rattle.std.proofs.lemmas.Map.Lookups.{exact_bytes}
 use Rattle.std.proofs.lemmas.Slice.Eq.{bytes_eq-Decides}
+use Rattle.pw_base.proofs.Plain.{or-true, is_eq-Equal}
 use Rattle.pw_locks.specs.Indexes.{has}
 use Rattle.pw_locks.specs.Keys.{is_below, ends_by, is_same_end}
 use Rattle.pw_locks.specs.Runs.{found_run, is_in_runs, EndsLast, EndsFirst, IsRising, Fits}
@@ -59,13 +60,8 @@ same_end-itself (Some a) = (bytes_eq-Decides a a).1 refl
 
 -- look-ups of runs
 
-equal_from : (r : Ordering) → is_eq r ≡ true → r ≡ Equal
-equal_from Less h = absurd (cc h)
-equal_from Equal h = refl
-equal_from Greater h = absurd (cc h)
-
 pub at_same : (low other : Key) → is_at (key_cmp low) other ≡ true → low ≡ other
-at_same low other h = exact_bytes low other (equal_from (key_cmp low other) h)
+at_same low other h = exact_bytes low other (is_eq-Equal (key_cmp low other) h)
 
 back : (a b : Key) → key_cmp a b ≡ Greater → Precedes b a
 back a b p = total.antisymm b a ∙ ap ordering_reverse p
@@ -222,10 +218,6 @@ filed None high n h = absurd (cc h)
 filed (Some run) high n h = let parts = and_parts (is_same_end run.high high) (has run.numbers.items n) h in (run, refl, same_end-is run.high high parts.0, parts.1)
 
 -- lists in which one element changes
-
-or-true : (b : Bool) → (b || true) ≡ true
-or-true true = refl
-or-true false = refl
 
 pub any-set : {X : Type 0} (p : X → Bool) (xs : List X) (i : ℕ) (y d : X) → i < length xs → (p (get_or xs i d) ≡ true → p y ≡ true)
     → list_any p xs ≡ true → list_any p (set xs i y) ≡ true

@@ -1,12 +1,13 @@
 -- The order of keys, and its tests.
 use Rattle.std.proofs.Common.{◌≡◌, ℕ, List, Bool, true, false, not, cond, Option, Some, None, refl, sym, ap, subst, ◌∙◌}
-use Rattle.std.specs.declared.cmp.Ordering.{Ordering}
 use Rattle.std.specs.declared.cmp.Ordering.TheVariants.{Less, Equal, Greater}
 use Rattle.std.specs.Cmp.{IsTotalOrder}
 use Rattle.std.specs.Cmp.Lexicographic.{slice_cmp}
 use Rattle.std.specs.Ordering.{nat_cmp, is_lt, ordering_reverse}
 use Rattle.std.specs.FinMap.{nat_cmp-IsAntisymmetric, slice_cmp-IsAntisymmetric}
 use Rattle.std.proofs.lemmas.Cmp.{tied_itself, nat_list_cmp_total}
+use Rattle.std.proofs.lemmas.Bool.{not-true}
+use Rattle.pw_base.proofs.Plain.{is_lt-Less}
 use Rattle.pw_locks.specs.Keys.{is_below, larger, is_up_to, is_below_end}
 use Rattle.pw_locks.specs.Spans.{Precedes, IsUpTo}
 
@@ -36,20 +37,11 @@ Precedes-up_to low key high below up_to =
           absurd (up_to (total.trans high low key back below))
     ] refl
 
-lt_less : (r : Ordering) → is_lt r ≡ true → r ≡ Less
-lt_less Less p = refl
-lt_less Equal p = absurd (cc p)
-lt_less Greater p = absurd (cc p)
-
 pub below-Precedes : (a b : Key) → is_below a b ≡ true → Precedes a b
-below-Precedes a b h = lt_less (slice_cmp nat_cmp a b) h
+below-Precedes a b h = is_lt-Less (slice_cmp nat_cmp a b) h
 
 pub Precedes-below : (a b : Key) → Precedes a b → is_below a b ≡ true
 Precedes-below a b h = ap is_lt h
-
-not_false : (b : Bool) → not b ≡ true → b ≡ false
-not_false true h = absurd (cc h)
-not_false false h = refl
 
 false_not : (b : Bool) → ¬ (b ≡ true) → not b ≡ true
 false_not true h = absurd (h refl)
@@ -57,7 +49,7 @@ false_not false h = refl
 
 pub up_to-IsUpTo : (key : Key) (high : Option Key) → is_up_to key high ≡ true → IsUpTo key high
 up_to-IsUpTo key None h = tt
-up_to-IsUpTo key (Some high) h = λ p. let no : is_below high key ≡ false = not_false _ h in let yes : is_below high key ≡ true = Precedes-below high key p in absurd (cc (no, yes))
+up_to-IsUpTo key (Some high) h = λ p. let no : is_below high key ≡ false = not-true _ h in let yes : is_below high key ≡ true = Precedes-below high key p in absurd (cc (no, yes))
 
 pub IsUpTo-up_to : (key : Key) (high : Option Key) → IsUpTo key high → is_up_to key high ≡ true
 IsUpTo-up_to key None h = refl

@@ -1,9 +1,10 @@
 -- When spans overlap, in words of the keys that they cover.
-use Rattle.std.proofs.Common.{◌≡◌, ◌⊎◌, inl, inr, ℕ, List, Bool, true, false, not, ◌&&◌, Option, Some, None, refl, sym, ap, subst, ◌∙◌}
+use Rattle.std.proofs.Common.{◌≡◌, ◌⊎◌, inl, inr, ℕ, List, true, false, not, ◌&&◌, Option, Some, None, refl, sym, ap, subst, ◌∙◌}
 use Rattle.std.specs.Prelude.{IsTrue, nat_eq}
 use Rattle.std.proofs.lemmas.Bool.{and_parts, and_from}
 use Rattle.std.proofs.lemmas.Cmp.{nat_eq_equiv}
 use Rattle.std.proofs.lemmas.Slice.Eq.{bytes_eq-Decides}
+use Rattle.pw_base.proofs.Plain.{same-truth}
 use Rattle.pw_code.specs.declared.lock.LockMode.{LockMode}
 use Rattle.pw_code.specs.declared.lock.LockMode.TheVariants.{Shared, Exclusive}
 use Rattle.pw_code.specs.declared.unit.Unit as unit
@@ -84,13 +85,8 @@ turned : (a b : Span) → Meet a b → Meet b a
 turned a b (inl h) = inl (h.0, h.2, h.1)
 turned a b (inr h) = inr (h.1, h.0)
 
-same_test : (p q : Bool) → (p ≡ true → q ≡ true) → (q ≡ true → p ≡ true) → p ≡ q
-same_test true q f g = sym (f refl)
-same_test false true f g = g refl
-same_test false false f g = refl
-
 overlap-comm : (a b : Span) → overlap a b ≡ overlap b a
-overlap-comm a b = same_test (overlap a b) (overlap b a) (λ h. meet-overlap b a (turned a b (overlap-meet a b h))) (λ h. meet-overlap a b (turned b a (overlap-meet b a h)))
+overlap-comm a b = same-truth (overlap a b) (overlap b a) (λ h. meet-overlap b a (turned a b (overlap-meet a b h))) (λ h. meet-overlap a b (turned b a (overlap-meet b a h)))
 
 are_both_shared-comm : (a b : LockMode) → are_both_shared a b ≡ are_both_shared b a
 are_both_shared-comm Shared Shared = refl

@@ -7,14 +7,14 @@ use Rattle.std.specs.Cmp.Lexicographic.{slice_cmp}
 use Rattle.std.specs.Global.{Vec}
 use Rattle.std.specs.List.{list_any}
 use Rattle.std.specs.Map.{lookup}
-use Rattle.std.specs.Ordering.{nat_cmp, is_eq, is_le, ordering_reverse}
-use Rattle.std.specs.declared.cmp.Ordering.{Ordering}
-use Rattle.std.specs.declared.cmp.Ordering.TheVariants.{Less, Equal, Greater}
+use Rattle.std.specs.Ordering.{nat_cmp, is_le, ordering_reverse}
+use Rattle.std.specs.declared.cmp.Ordering.TheVariants.{Less, Greater}
 use Rattle.std.specs.declared.ops.Bound.TheVariants.{Excluded, Unbounded}
-use Rattle.std.proofs.lemmas.Bool.{and_parts, and_from}
+use Rattle.std.proofs.lemmas.Bool.{and_parts, and_from, or_cases}
 use Rattle.std.proofs.lemmas.Cmp.{nat_list_cmp_total}
 use Rattle.std.proofs.lemmas.List.Folds.{list_any-append, list_any_more}
 use Rattle.std.proofs.lemmas.Map.Lookups.{exact_bytes}
+use Rattle.pw_base.proofs.Plain.{or-true, is_eq-Equal}
 use Rattle.pw_locks.specs.Chains.{IsMet, IsMetIn}
 use Rattle.pw_locks.specs.Indexes.{has, found_has}
 use Rattle.pw_locks.specs.Keys.{is_below, larger, is_up_to, is_below_end, ends_by}
@@ -29,7 +29,6 @@ use Rattle.pw_locks.specs.declared.span.Span.{Span}
 use Rattle.pw_locks.specs.declared.span.Span.TheVariants.{Point, After}
 use Rattle.pw_locks.proofs.Chaining.{ends_by-trans}
 use Rattle.pw_locks.proofs.Order.{below-Precedes, Precedes-below, Precedes-up_to, up_to-IsUpTo, below_end-from, larger-both}
-use Rattle.pw_locks.proofs.Searching.{or_cases}
 
 abbrev Key : Type 0
 Key = List ℕ
@@ -40,17 +39,8 @@ Entry = Key × Vec ℕ
 pub has-left : (xs ys : List ℕ) (n : ℕ) → has xs n ≡ true → has (xs ++ ys) n ≡ true
 has-left xs ys n h = list_any-append (nat_eq n) xs ys ∙ ap (λ b. b || has ys n) h
 
-or-true : (b : Bool) → (b || true) ≡ true
-or-true true = refl
-or-true false = refl
-
 pub has-right : (xs ys : List ℕ) (n : ℕ) → has ys n ≡ true → has (xs ++ ys) n ≡ true
 has-right xs ys n h = list_any-append (nat_eq n) xs ys ∙ (ap (λ b. has xs n || b) h ∙ or-true (has xs n))
-
-equal_from : (r : Ordering) → is_eq r ≡ true → r ≡ Equal
-equal_from Less h = absurd (cc h)
-equal_from Equal h = refl
-equal_from Greater h = absurd (cc h)
 
 kept_first : (b : Bool) (e : Entry) (es : List Entry) (n : ℕ) → b ≡ true → has e.1.items n ≡ true → has (numbers_of (cond b (e ∷ es) es)) n ≡ true
 kept_first true e es n is h = has-left e.1.items (numbers_of es) n h
@@ -67,7 +57,7 @@ reached p key n [] passes h = absurd (cc h)
 reached p key n (e ∷ es) passes h =
     elim (is_at (slice_cmp nat_cmp key) e.0) as (λ b. is_at (slice_cmp nat_cmp key) e.0 ≡ b → found_has (cond b (Some e.1) (lookup (is_at (slice_cmp nat_cmp key)) es)) n ≡ true → has (numbers_of (filter (λ e. p e.0) (e ∷ es))) n ≡ true) [
       | true ↦ λ is here.
-          let same : key ≡ e.0 = exact_bytes key e.0 (equal_from (slice_cmp nat_cmp key e.0) is) in
+          let same : key ≡ e.0 = exact_bytes key e.0 (is_eq-Equal (slice_cmp nat_cmp key e.0) is) in
           kept_first (p e.0) e (filter (λ e. p e.0) es) n (sym (ap p same) ∙ passes) here
       | false ↦ λ is there. kept_later (p e.0) e (filter (λ e. p e.0) es) n (reached p key n es passes there)
     ] refl h

@@ -3,16 +3,17 @@ use Rattle.std.proofs.Common.{◌≡◌, ℕ, ◌<◌, ◌+◌, List, [], ◌∷
 use Rattle.std.specs.Prelude.{nat_eq, filter, All}
 use Rattle.std.specs.BTreeMap.{BTreeMap, get, values, keys, is_at, insert_entry, IsOrdered}
 use Rattle.std.specs.Map.{lookup, remove_entry, keys_of, values_of}
-use Rattle.std.specs.Ordering.{nat_cmp, is_eq}
+use Rattle.std.specs.Ordering.{nat_cmp}
 use Rattle.std.specs.Cmp.{eq_by_cmp_equiv, nat_cmp_total}
 use Rattle.std.specs.Option.{IfSome}
-use Rattle.std.specs.declared.cmp.Ordering.{Ordering}
-use Rattle.std.specs.declared.cmp.Ordering.TheVariants.{Less, Equal, Greater}
+use Rattle.std.specs.declared.cmp.Ordering.TheVariants.{Greater}
 use Rattle.std.proofs.lemmas.Bool.Decides.{nat_tests}
 use Rattle.std.proofs.lemmas.List.Elements.{All-head, All-tail}
 use Rattle.std.proofs.lemmas.Map.Keys.{IsDistinct-from_sorted}
 use Rattle.std.proofs.lemmas.Map.Lookups.{exact_unsigned}
 use Rattle.std.proofs.lemmas.Map.Views.{All-values_from_lookup}
+use Rattle.std.proofs.lemmas.Bool.{false_from_ne_true}
+use Rattle.pw_base.proofs.Plain.{is_eq-Equal}
 use Rattle.pw_code.specs.declared.unit.Unit as unit
 use Rattle.pw_locks.specs.Conflicts.{is_same_unit}
 use Rattle.pw_locks.specs.Indexes.{has}
@@ -22,11 +23,6 @@ use Rattle.pw_locks.specs.declared.register.Register.{Register}
 
 abbrev Entry : Type 0
 Entry = ℕ × Lock
-
-equal_from : (r : Ordering) → is_eq r ≡ true → r ≡ Equal
-equal_from Less h = absurd (cc h)
-equal_from Equal h = refl
-equal_from Greater h = absurd (cc h)
 
 -- a lock that does not pass is not missed where it is taken away
 pub filter-removed : (p : Lock → Bool) (test : ℕ → Bool) (held : Lock) (es : List Entry) → lookup test es ≡ Some held → p held ≡ false
@@ -63,7 +59,7 @@ below-last [] n held last h is = absurd (cc is)
 below-last (e ∷ es) n held last h is =
     elim (is_at (nat_cmp n) e.0) as (λ b. is_at (nat_cmp n) e.0 ≡ b → cond b (Some e.1) (lookup (is_at (nat_cmp n)) es) ≡ Some held → n < last) [
       | true ↦ λ at here.
-          let same : n ≡ e.0 = exact_unsigned n e.0 (equal_from (nat_cmp n e.0) at) in
+          let same : n ≡ e.0 = exact_unsigned n e.0 (is_eq-Equal (nat_cmp n e.0) at) in
           let first : e.0 < last = All-head (λ k. k < last) e.0 (keys_of es) h in
           omega arith
       | false ↦ λ at there. below-last es n held last (All-tail (λ k. k < last) e.0 (keys_of es) h) there
@@ -101,14 +97,10 @@ left_less numbers i n lt ne h =
     let both : (nat_eq n (get_or numbers i 0) || has (drop (i + 1) numbers) n) ≡ true = rw cut at h in
     or_second (nat_eq n (get_or numbers i 0)) (has (drop (i + 1) numbers) n) (λ is. ne (grind (arith, nat_tests, is))) both
 
-false_from : (b : Bool) → (b ≡ true → ⊥) → b ≡ false
-false_from true never = absurd (never refl)
-false_from false never = refl
-
 -- where no number is left, none of the unit's locks is there
 pub none_own : (unit : unit.Unit) (old locks : BTreeMap ℕ Lock) (register : Register) → Releasing unit old locks register []
     → (n : ℕ) (held : Lock) → get nat_cmp locks n ≡ Some held → is_same_unit held.unit unit ≡ false
-none_own unit old locks register r n held is = false_from (is_same_unit held.unit unit) (λ same. let none = r.own n held is same in absurd (cc none))
+none_own unit old locks register r n held is = false_from_ne_true (is_same_unit held.unit unit) (λ same. let none = r.own n held is same in absurd (cc none))
 
 pub released : (unit : unit.Unit) (old locks : BTreeMap ℕ Lock) (register : Register) → Releasing unit old locks register []
     → values locks ≡ filter (λ (held : Lock). not (is_same_unit held.unit unit)) (values old)

@@ -1,5 +1,5 @@
 -- Searches for the oldest holder.
-use Rattle.std.proofs.Common.{◌≡◌, ◌⊎◌, inl, inr, ℕ, ◌+◌, ◌≤◌, ◌<◌, List, [], ◌∷◌, ◌++◌, ◌||◌, Bool, true, false, cond, Option, Some, None, take, length, get_or, refl, sym, ap, subst, ◌∙◌, arith}
+use Rattle.std.proofs.Common.{◌≡◌, ◌⊎◌, inl, inr, ℕ, ◌+◌, ◌≤◌, ◌<◌, List, [], ◌∷◌, ◌++◌, Bool, true, false, cond, Option, Some, None, take, length, get_or, refl, sym, ap, subst, ◌∙◌, arith}
 use Rattle.std.specs.Prelude.{nat_eq, nat_le, map, filter, Contains}
 use Rattle.std.specs.BTreeMap.{BTreeMap, get, values}
 use Rattle.std.specs.Option.{IfSome}
@@ -10,6 +10,7 @@ use Rattle.std.proofs.lemmas.List.Folds.{list_any-append, list_any_more}
 use Rattle.std.proofs.lemmas.Map.Lookups.{exact_unsigned}
 use Rattle.std.proofs.lemmas.Map.Made.{Contains-values_of}
 use Rattle.std.proofs.lemmas.Map.Views.{Contains-from_lookup, tells_apart}
+use Rattle.std.proofs.lemmas.Bool.{or_cases}
 use Rattle.pw_code.specs.declared.unit.Unit as unit
 use Rattle.pw_locks.specs.declared.lock.Lock.{Lock}
 use Rattle.pw_locks.specs.Indexes.{has}
@@ -106,10 +107,6 @@ Searched-then test locks known found last S T U cover a b = record {
 pub Searched-fewer : (test : Lock → Bool) (locks : BTreeMap ℕ Lock) (known found : Option unit.Unit) (S T : ℕ → Type 0) → ((n : ℕ) → T n → S n)
     → Searched test locks known found S → Searched test locks known found T
 Searched-fewer test locks known found S T fewer a = record { among = a.among; stays = a.stays; sees = λ n held seen is passes. a.sees n held (fewer n seen) is passes }
-
-pub or_cases : (a b : Bool) → (a || b) ≡ true → (a ≡ true) ⊎ (b ≡ true)
-or_cases true b h = inl refl
-or_cases false b h = inr h
 
 pub has-append : (xs ys : List ℕ) (n : ℕ) → has (xs ++ ys) n ≡ true → (has xs n ≡ true) ⊎ (has ys n ≡ true)
 has-append xs ys n h = or_cases (has xs n) (has ys n) (sym (list_any-append (nat_eq n) xs ys) ∙ h)

@@ -7,12 +7,12 @@ use Rattle.pw_code.specs.Instrs.{no_code, program_at}
 use Rattle.pw_code.specs.declared.code.Code.{Code}
 use Rattle.pw_code.specs.declared.system.System.{System}
 use Rattle.pw_exec.specs.Config.{code_at}
-use Rattle.pw_machine.proofs.SoundLemmas.{terminal_code}
+use Rattle.pw_exec.proofs.Sizes.{code-is}
 
 pub program_read : (system : System) (codes : List Code) (program : ℕ) (code : Code) → codes ≡ system.programs → code ≡ get_or codes program code → program < length system.programs
     → code ≡ code_at system program
 program_read system codes program code same is known =
-    is ∙ ap (λ (l : List Code). get_or l program code) same ∙ get_or_default system.programs program code no_code known ∙ sym (terminal_code system program known)
+    is ∙ ap (λ (l : List Code). get_or l program code) same ∙ get_or_default system.programs program code no_code known ∙ sym (code-is system program known)
 
 pub server_read : (system : System) (codes : List Code) (server : ℕ) (code : Code) → codes ≡ system.servers → code ≡ get_or codes server code → server < length system.servers
     → code ≡ code_at system (length system.programs + server)

@@ -7,18 +7,18 @@ use Rattle.std.proofs.lemmas.List.{length-take-le}
 use Rattle.std.proofs.lemmas.List.Recursion.{is_position_or_len}
 use Rattle.std.proofs.Math.Arith.{mod-mul}
 use Rattle.std.proofs.Math.Nat.{pow-suc, pow-succ', pow-le-pow_right, div-eq_of_lt, div-div-eq-div-mul, mul-div-mul_right, mul-mod_left, mod-lt, mul_assoc, mul-div_cancel, mod-mod, mod-eq_of_lt, mul-add-div_right, add-mul, add-mul-mod_self_right, mul_comm}
-use Rattle.std.proofs.lemmas.Bool.{cases_lt, ltb-false}
+use Rattle.std.proofs.lemmas.Bool.{cases_lt, ltb-false, and_parts}
 use Rattle.std.proofs.lemmas.Bool.Decides.{nat_tests}
 use Rattle.std.proofs.lemmas.Nat.{pow-add}
 use Rattle.pw_number.proofs.Scales.{ten-pos}
-use Rattle.pw_number.proofs.Quotients.{pow-parts}
+use Rattle.pw_number.proofs.Quotients.{pow-parts, abs-signed}
 use Rattle.pw_number.specs.Number.{Number, number}
 use Rattle.pw_number.specs.Sign.{signed}
 use Rattle.pw_picture.specs.Stored.{chars_of, digit_of, digits_of, is_negative, moved, sign_of, size_at, value_of}
 use Rattle.pw_picture.specs.declared.picture.Picture.TheVariants as picture
 use Rattle.pw_code.specs.Spelling.{decimals_in, number_in}
 use Rattle.pw_picture.specs.Symbols.{begins_with}
-use Rattle.pw_machine.proofs.Shorts.{abs-signed, value_of-below}
+use Rattle.pw_machine.proofs.Shorts.{value_of-below}
 
 -- ---- the digit at a weight
 
@@ -66,16 +66,11 @@ front d r n small below =
     let zero_rest : r / 10 ^ n ≡ 0 = div-eq_of_lt below in
     ap (λ m. m % 10) (mul-add-div_right (ten-pos n) d r) ∙ ap (λ m. (d + m) % 10) zero_rest ∙ ap (λ m. m % 10) (omega arith) ∙ mod-eq_of_lt small
 
-both : (a b : Bool) → (a && b) ≡ true → (a ≡ true) × (b ≡ true)
-both true true e = (refl, refl)
-both true false e = absurd (cc)
-both false b e = absurd (cc)
-
 pub digit_weight : (chars : List ℕ) (w : ℕ) → list_all is_ascii_digit chars ≡ true → w < length chars
     → 48 + value_of 0 chars / 10 ^ w % 10 ≡ get_or chars (length chars - 1 - w) 32
 digit_weight [] w all lt = absurd (omega arith)
 digit_weight (char ∷ chars) w all lt =
-    let digits = both (is_ascii_digit char) (list_all is_ascii_digit chars) all in
+    let digits = and_parts (is_ascii_digit char) (list_all is_ascii_digit chars) all in
     let d : ℕ = digit_of char in
     let n : ℕ = length chars in
     let r : ℕ = value_of 0 chars in

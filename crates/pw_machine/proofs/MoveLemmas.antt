@@ -1,7 +1,7 @@
 -- Characters that are copied and filled behind one another.
 use Rattle.std.proofs.Common.{◌≡◌, ℕ, zero, suc, ◌+◌, ◌-◌, ◌<◌, ◌≤◌, min, inl, inr, List, [], ◌∷◌, ◌++◌, length, take, drop, get_or, refl, sym, ap, ◌∙◌, arith, append_assoc, length-append, length-drop}
 use Rattle.std.specs.Prelude.{replicate}
-use Rattle.std.proofs.lemmas.List.{length-take, drop-drop, take-take, take_all, drop_all, take-append-drop, take_more}
+use Rattle.std.proofs.lemmas.List.{length-take, drop-drop, take-take, take_all, take-append-drop, take_more, drop_min}
 use Rattle.std.proofs.Math.Seq.{take-append_seam, drop-append-add, set-append_seam}
 use Rattle.std.proofs.Math.ListN.{set}
 use Rattle.std.proofs.lemmas.Bool.{cases_lt}
@@ -64,16 +64,6 @@ item_fitted s at size sign room count within fits is =
     ∙ ap (take room) (sym (drop_of_take sign size (drop at s))) in
     ap (λ l. l ++ replicate (room - count) 32) chars ∙ ap (λ (n : ℕ). take room text ++ replicate n 32) rest
 
--- to drop more than there is is to drop all
-drop_few : (k : ℕ) (xs : List ℕ) → drop (min k (length xs)) xs ≡ drop k xs
-drop_few k xs =
-    elim (cases_lt (length xs) k) [
-      | inl less ↦
-          let e : min k (length xs) ≡ length xs = omega (arith, less) in
-          ap (λ n. drop n xs) e ∙ drop_all (length xs) xs (omega arith) ∙ sym (drop_all k xs (omega (arith, less)))
-      | inr le ↦ let e : min k (length xs) ≡ k = omega (arith, le) in ap (λ n. drop n xs) e
-    ]
-
 -- an item that was moved to the spot of a text
 pub item_moved : (s copied filled text : List ℕ) (at size sign few room count to : ℕ) → at + size ≤ length s → to + room ≤ length s → few ≡ min sign size
     → count ≡ min (size - few) room → copied ≡ written to (take count (drop (at + few) s)) s
@@ -84,7 +74,7 @@ item_moved s copied filled text at size sign few room count to within room_is fe
     let long : length piece ≡ count = simp (length-take, length-drop) (omega arith) in
     let chars : List ℕ = take size (drop at s) in
     let all : length chars ≡ size = simp (length-take, length-drop) (omega arith) in
-    let same : drop few chars ≡ text = ap (λ n. drop n chars) (few_is ∙ ap (min sign) (sym all)) ∙ drop_few sign chars ∙ sym is in
+    let same : drop few chars ≡ text = ap (λ n. drop n chars) (few_is ∙ ap (min sign) (sym all)) ∙ drop_min sign chars ∙ sym is in
     fill ∙ ap (written (to + count) (replicate (room - count) 32)) copy
     ∙ ap (λ n. written (to + n) (replicate (room - count) 32) (written to piece s)) (sym long)
     ∙ written-twice to piece (replicate (room - count) 32) s (omega arith)

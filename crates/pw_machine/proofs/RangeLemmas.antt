@@ -1,9 +1,9 @@
 -- The instruction at which a program stands can be done on its storage, which is not smaller than that of its code.
 use Rattle.std.proofs.Common.{◌≡◌, ℕ, zero, suc, ◌+◌, ◌-◌, ◌<◌, ◌≤◌, Bool, true, false, List, [], ◌∷◌, length, Option, Some, None, refl, subst, arith}
-use Rattle.std.specs.Prelude.{All, slice_get, slice_index_or, nat_lt, if◌then◌else◌}
+use Rattle.std.specs.Prelude.{slice_get, slice_index_or, nat_lt, if◌then◌else◌}
 use Rattle.std.proofs.lemmas.Bool.{ltb-true, ltb-false}
-use Rattle.std.proofs.lemmas.List.Elements.{All-get_or}
-use Rattle.std.proofs.lemmas.Option.{slice_get_within}
+use Rattle.std.proofs.lemmas.List.Elements.{All-get_or, All-weaker}
+use Rattle.std.proofs.lemmas.Option.{slice_get_within, same_Some}
 use Rattle.pw_code.specs.Fields.{IsField, HasClauses}
 use Rattle.pw_code.specs.Instrs.{AreInstrs, HasRanges, IsArithmetic, IsInstr, IsItemOperand, IsKey, IsRecord, IsReplyCode, IsScreen, IsTurn, no_code, program_at, screen_at}
 use Rattle.pw_code.specs.Places.{IsComparison, IsOperand, IsPlace, IsSubscript, LiesIn}
@@ -29,9 +29,6 @@ use Rattle.pw_code.specs.declared.system.System.{System}
 use Rattle.pw_exec.specs.Config.{code_at}
 use Rattle.pw_exec.specs.Sound.{IsFrame}
 use Rattle.pw_machine.specs.Stack.{CanDo}
-
-all_more : {A : Type 0} (P Q : A → Type 0) → ((x : A) → P x → Q x) → (xs : List A) → All P xs → All Q xs
-all_more P Q h xs all = λ k d lt. h _ (all k d lt)
 
 -- ---- what lies in a storage lies in a larger one
 
@@ -71,7 +68,7 @@ field_grows : (m n : ℕ) → m ≤ n → (f : Field) → IsField m f → IsFiel
 field_grows m n le f is = record { clauses = clauses_grow m n le f.shown f.takes is.clauses; inside = is.inside }
 
 screen_grows : (m n : ℕ) → m ≤ n → (system : System) (screen : ℕ) → IsScreen system m screen → IsScreen system n screen
-screen_grows m n le system screen is = record { known = is.known; fields = all_more (IsField m) (IsField n) (field_grows m n le) (screen_at system screen).fields is.fields }
+screen_grows m n le system screen is = record { known = is.known; fields = All-weaker (IsField m) (IsField n) (field_grows m n le) (screen_at system screen).fields is.fields }
 
 item_grows : (m n : ℕ) → m ≤ n → (o : Operand) → IsItemOperand m o → IsItemOperand n o
 item_grows m n le o is = record { operand = operand_grows m n le o is.operand; item = is.item }
@@ -92,26 +89,26 @@ over code storage = record code { storage = storage }
 pub ranges_grow : (system : System) (code : Code) (s : List ℕ) → length code.storage ≤ length s → (behind : ℕ) (i : Instr) → HasRanges system code behind i → HasRanges system (over code s) behind i
 ranges_grow system code s le behind (Jump n) is = is
 ranges_grow system code s le behind (JumpUnless cond n) is =
-    (all_more _ _ (all_more _ _ (comparison_grows (length code.storage) (length s) le)) cond.any is.0, is.1)
+    (All-weaker _ _ (All-weaker _ _ (comparison_grows (length code.storage) (length s) le)) cond.any is.0, is.1)
 ranges_grow system code s le behind (ParagraphEnd start) is = is
-ranges_grow system code s le behind (Move from to) is = (operand_grows _ _ le from is.0, all_more _ _ (place_grows _ _ le) to is.1)
+ranges_grow system code s le behind (Move from to) is = (operand_grows _ _ le from is.0, All-weaker _ _ (place_grows _ _ le) to is.1)
 ranges_grow system code s le behind (Compute a) is = arithmetic_grows _ _ le a is
 ranges_grow system code s le behind (OnSizeError a n) is = (arithmetic_grows _ _ le a is.0, is.1)
 ranges_grow system code s le behind (Perform turn) is = record { start = is.start; end = is.end }
 ranges_grow system code s le behind (PerformTimes turn times) is = (record { start = is.0.start; end = is.0.end }, operand_grows _ _ le times is.1)
 ranges_grow system code s le behind (Until turn cond) is =
-    (record { start = is.0.start; end = is.0.end }, all_more _ _ (all_more _ _ (comparison_grows (length code.storage) (length s) le)) cond.any is.1)
+    (record { start = is.0.start; end = is.0.end }, All-weaker _ _ (All-weaker _ _ (comparison_grows (length code.storage) (length s) le)) cond.any is.1)
 ranges_grow system code s le behind (PerformOneOf turns position) is =
-    (all_more (IsTurn code) (IsTurn (over code s)) (λ turn is. record { start = is.start; end = is.end }) turns is.0, operand_grows _ _ le position is.1)
+    (All-weaker (IsTurn code) (IsTurn (over code s)) (λ turn is. record { start = is.start; end = is.end }) turns is.0, operand_grows _ _ le position is.1)
 ranges_grow system code s le behind Exit is = is
 ranges_grow system code s le behind ExitProgram is = is
 ranges_grow system code s le behind StopRun is = is
 ranges_grow system code s le behind (DisplayScreen screen base) is = screen_grows _ _ le system screen is
 ranges_grow system code s le behind (Display shown) is = operand_grows _ _ le shown is
 ranges_grow system code s le behind (Accept screen keys) is = (screen_grows _ _ le system screen is.0, is.1)
-ranges_grow system code s le behind (Call program arguments keeps) is = record { known = is.known; places = all_more _ _ (place_grows _ _ le) arguments is.places; sizes = is.sizes }
+ranges_grow system code s le behind (Call program arguments keeps) is = record { known = is.known; places = All-weaker _ _ (place_grows _ _ le) arguments is.places; sizes = is.sizes }
 ranges_grow system code s le behind (Send class message codes) is =
-    record { known = is.known; sent = item_grows _ _ le message is.sent; few = is.few; each = all_more _ _ (code_grows (length code.storage) (length s) le) codes is.each; over = is.over }
+    record { known = is.known; sent = item_grows _ _ le message is.sent; few = is.few; each = All-weaker _ _ (code_grows (length code.storage) (length s) le) codes is.each; over = is.over }
 ranges_grow system code s le behind NoCode is = is
 ranges_grow system code s le behind Begin is = is
 ranges_grow system code s le behind End is = is
@@ -127,18 +124,12 @@ ranges_grow system code s le behind (Delete file key) is = key_grows _ _ le syst
 
 -- ---- the instruction at a place
 
-none_there : {A : Type 0} (i : A) → None ≡ Some i → ⊥
-none_there i e = cc
-
-same_there : {A : Type 0} (x i : A) → Some x ≡ Some i → x ≡ i
-same_there x i e = cc
-
 instr_in : (server : Bool) (system : System) (code : Code) (instrs : List Instr) (k : ℕ) (i : Instr) → AreInstrs server system code instrs → slice_get instrs k ≡ Some i
     → IsInstr server system code (length instrs - (k + 1)) i
 instr_in server system code [] k i are e = absurd (omega (arith, slice_get_within [] k i e))
 instr_in server system code (x ∷ xs) zero i are e =
     let n : length xs ≡ length (x ∷ xs) - (0 + 1) = omega arith in
-    subst (λ m. IsInstr server system code m i) n (subst (IsInstr server system code (length xs)) (same_there x i e) are.0)
+    subst (λ m. IsInstr server system code m i) n (subst (IsInstr server system code (length xs)) (same_Some x i e) are.0)
 instr_in server system code (x ∷ xs) (suc k) i are e =
     let n : length xs - (k + 1) ≡ length (x ∷ xs) - (suc k + 1) = omega arith in
     subst (λ m. IsInstr server system code m i) n (instr_in server system code xs k i are.1 e)

@@ -1,10 +1,10 @@
 -- The numbers that operands say have at most 18 digits.
-use Rattle.std.proofs.Common.{◌≡◌, ℕ, zero, suc, ◌+◌, ◌*◌, ◌/◌, ◌^◌, ◌<◌, ◌≤◌, Bool, true, false, List, [], ◌∷◌, length, unsigned_abs, refl, subst, arith}
+use Rattle.std.proofs.Common.{◌≡◌, ℕ, ◌+◌, ◌*◌, ◌/◌, ◌^◌, ◌<◌, ◌≤◌, Bool, true, false, List, [], ◌∷◌, length, unsigned_abs, subst, arith}
 use Rattle.std.proofs.Math.Nat.{div-le_self, pow-le-pow_right, pow-succ', mul-le-mul_right}
 use Rattle.std.specs.Prelude.{if◌then◌else◌, IfSome}
 use Rattle.std.proofs.lemmas.Bool.Decides.{nat_tests}
 use Rattle.pw_number.specs.Number.{Number as Amount}
-use Rattle.pw_number.specs.Sign.{signed}
+use Rattle.pw_number.proofs.Quotients.{abs-signed}
 use Rattle.pw_picture.specs.declared.picture.Picture.TheVariants.{Number as NumberPicture}
 use Rattle.pw_picture.specs.Grammar.{IsPicture, size_of}
 use Rattle.pw_code.specs.Places.{picture_of}
@@ -33,12 +33,6 @@ value_of-below v (char ∷ chars) =
 -- of at most 18 characters
 pub value_of-short : (chars : List ℕ) → length chars ≤ 18 → value_of 0 chars < 10 ^ 18
 value_of-short chars few = omega (arith, value_of-below 0 chars, pow-le-pow_right {n = 10} (omega arith) few)
-
--- the size of a signed number
-pub abs-signed : (negative : Bool) (size : ℕ) → unsigned_abs (signed negative size) ≡ size
-abs-signed false size = refl
-abs-signed true zero = refl
-abs-signed true (suc size) = refl
 
 -- what is read of an item that is a Number
 pub read_of-short : (digits places : ℕ) (sign : Bool) (chars : List ℕ) → length chars ≤ (if sign then digits + 1 else digits) → digits ≤ 18

@@ -1,15 +1,14 @@
 -- Programs that wait for one another.
-use Rattle.std.proofs.Common.{◌≡◌, ℕ, ◌+◌, ◌-◌, ◌<◌, Bool, true, List, [], ◌∷◌, ◌++◌, length, length-append, Option, None, refl, sym, ap, ◌∙◌, subst, arith}
-use Rattle.std.specs.Prelude.{All, MatchOption, Some, map, nat_lt, slice_get, slice_index_or, if◌then◌else◌}
+use Rattle.std.proofs.Common.{◌≡◌, ℕ, ◌+◌, ◌-◌, ◌<◌, Bool, List, [], ◌∷◌, ◌++◌, length, length-append, Option, None, refl, sym, ap, ◌∙◌, subst, arith}
+use Rattle.std.specs.Prelude.{All, MatchOption, Some, map, slice_get}
 use Rattle.std.specs.Option.{option_to_list}
-use Rattle.std.proofs.lemmas.Bool.Decides.{nat_tests}
 use Rattle.std.proofs.lemmas.List.Elements.{All-cons, All-nil}
-use Rattle.pw_code.specs.Instrs.{no_code, program_at}
+use Rattle.std.proofs.lemmas.Option.{same_Some}
+use Rattle.pw_code.specs.Instrs.{program_at}
 use Rattle.pw_code.specs.Places.{IsPlace}
 use Rattle.pw_code.specs.Valid.{IsValid}
 use Rattle.pw_code.specs.declared.code.Code.{Code}
 use Rattle.pw_code.specs.declared.context.Frame.{Frame}
-use Rattle.pw_code.specs.declared.instr.Instr.{Instr}
 use Rattle.pw_code.specs.declared.instr.Instr.TheVariants.{Call}
 use Rattle.pw_code.specs.declared.place.Place.{Place}
 use Rattle.pw_code.specs.declared.system.System.{System}
@@ -17,23 +16,15 @@ use Rattle.pw_exec.specs.Calls.{most_calls}
 use Rattle.pw_exec.specs.Config.{Config, code_at}
 use Rattle.pw_exec.specs.Turns.{last_behind, split_last}
 use Rattle.pw_exec.specs.Sound.{AreWaiting, IsFrame, IsSound, Waits, kept_size}
+use Rattle.pw_exec.proofs.Sizes.{waits-same, code-is}
 use Rattle.pw_machine.specs.Stack.{AreKnown, StaysAt, popped}
 use Rattle.pw_machine.proofs.RangeLemmas.{can_do}
 
 -- a program that another waits for, at another place with another storage of the same size
-waits_same : (system : System) (caller a b : Frame) → b.program ≡ a.program → length b.storage ≡ length a.storage → Waits system caller a → Waits system caller b
-waits_same system caller a b program size w = record {
-  arguments = w.arguments;
-  keeps = w.keeps;
-  frame = w.frame;
-  call = w.call ∙ ap (λ n. Some (Call n w.arguments w.keeps)) (sym program);
-  size = size ∙ w.size ∙ ap (λ n. length (code_at system n).storage + kept_size w.keeps) (sym program);
-}
-
 pub waiting_same : (system : System) (frames : List Frame) (a b : Frame) → b.program ≡ a.program → length b.storage ≡ length a.storage
     → AreWaiting system frames a → AreWaiting system frames b
 waiting_same system [] a b program size w = tt
-waiting_same system (f ∷ []) a b program size w = (waits_same system f a b program size w.0, tt)
+waiting_same system (f ∷ []) a b program size w = (waits-same system f a b program size w.0, tt)
 waiting_same system (f ∷ (g ∷ rest)) a b program size w = (w.0, waiting_same system (g ∷ rest) a b program size w.1)
 
 -- one more that waits
@@ -88,18 +79,13 @@ none_case (Some x) P Q m e = absurd (cc)
 
 -- ---- a program is called
 
-pub terminal_code : (system : System) (program : ℕ) → program < length system.programs → code_at system program ≡ program_at system program
-terminal_code system program known =
-    let first : nat_lt program (length system.programs) ≡ true = grind (arith, nat_tests) in
-    ap (λ b. if b then program_at system program else slice_index_or system.servers (program - length system.programs) no_code) first
-
 pub call_sound : (system : System) (c d : Config) (program : ℕ) (arguments : List Place) (keeps : Bool) → IsSound system c → program < length system.programs
     → slice_get (code_at system c.top.program).instrs c.top.at ≡ Some (Call program arguments keeps) → length c.rest.frames < most_calls
     → d.top.program ≡ program → length d.top.storage ≡ length (program_at system program).storage + kept_size keeps → d.rest.frames ≡ c.rest.frames ++ c.top ∷ []
     → IsSound system d
 call_sound system c d program arguments keeps is known call few same size frames =
     let items : length (code_at system d.top.program).storage ≡ length (program_at system program).storage =
-    ap (λ n. length (code_at system n).storage) same ∙ ap (λ (code : Code). length code.storage) (terminal_code system program known) in
+    ap (λ n. length (code_at system n).storage) same ∙ ap (λ (code : Code). length code.storage) (code-is system program known) in
     let waits : Waits system c.top d.top = record {
       arguments = arguments;
       keeps = keeps;
@@ -121,9 +107,6 @@ pub record AtCall (system : System) (caller callee : Frame) (program : ℕ) (arg
   pub places : All (IsPlace (length caller.storage)) arguments
   pub linkage : map (λ (place : Place). place.size) arguments ≡ map (λ (item : ℕ × ℕ). item.1) (code_at system callee.program).linkage
 
-same_call : (a b : Instr) → Some a ≡ Some b → a ≡ b
-same_call a b e = cc
-
 same_program : (p q : ℕ) (xs ys : List Place) (k l : Bool) → Call p xs k ≡ Call q ys l → p ≡ q
 same_program p q xs ys k l e = cc
 
@@ -133,11 +116,11 @@ same_keeps p q xs ys k l e = cc
 pub at_call : (system : System) (caller callee : Frame) (program : ℕ) (arguments : List Place) (keeps : Bool) → IsValid system → Waits system caller callee
     → slice_get (code_at system caller.program).instrs caller.at ≡ Some (Call program arguments keeps) → AtCall system caller callee program arguments keeps
 at_call system caller callee program arguments keeps valid w at =
-    let same : Call program arguments keeps ≡ Call callee.program w.arguments w.keeps = same_call _ _ (sym at ∙ w.call) in
+    let same : Call program arguments keeps ≡ Call callee.program w.arguments w.keeps = same_Some _ _ (sym at ∙ w.call) in
     let can = can_do system caller (Call program arguments keeps) valid w.frame at in
     let kept : kept_size w.keeps ≡ kept_size keeps = ap kept_size (sym (same_keeps _ _ _ _ _ _ same)) in
     let is : program ≡ callee.program = same_program _ _ _ _ _ _ same in
-    let code : program_at system program ≡ code_at system callee.program = sym (terminal_code system program can.ranges.known) ∙ ap (code_at system) is in
+    let code : program_at system program ≡ code_at system callee.program = sym (code-is system program can.ranges.known) ∙ ap (code_at system) is in
     record {
       is = is;
       size = omega (arith, w.size, kept);

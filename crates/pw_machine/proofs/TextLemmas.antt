@@ -1,7 +1,8 @@
 -- Texts, character by character.
-use Rattle.std.proofs.Common.{◌≡◌, ℕ, zero, suc, ◌+◌, ◌-◌, ◌/◌, ◌%◌, ◌^◌, ◌<◌, Bool, true, false, List, [], ◌∷◌, ◌++◌, length, take, drop, get_or, filter, refl, sym, ap, ◌∙◌, arith, drop-cons, cond}
+use Rattle.std.proofs.Common.{◌≡◌, ℕ, zero, suc, ◌+◌, ◌-◌, ◌/◌, ◌%◌, ◌^◌, ◌<◌, Bool, true, false, List, [], ◌∷◌, ◌++◌, length, take, drop, get_or, filter, sym, ap, ◌∙◌, arith, drop-cons, cond}
 use Rattle.std.proofs.lemmas.List.{take_all, take_more}
 use Rattle.std.specs.Char.{is_ascii_digit}
+use Rattle.pw_terminal.proofs.Cells.{length-digits_of}
 use Rattle.pw_picture.specs.Stored.{digits_of}
 
 -- a digit among those of a value
@@ -13,11 +14,6 @@ get_or-digits_of (suc count) value zero lt =
 get_or-digits_of (suc count) value (suc place) lt =
     let e : suc count - 1 - suc place ≡ count - 1 - place = omega arith in
     get_or-digits_of count value place (omega arith) ∙ ap (λ k. 48 + value / 10 ^ k % 10) (sym e)
-
--- past the last
-pub length-digits_of : (count value : ℕ) → length (digits_of count value) ≡ count
-length-digits_of zero value = refl
-length-digits_of (suc count) value = ap suc (length-digits_of count value)
 
 -- a character that is a digit is passed, and one that is none
 digit_by : (t : Bool) (b : ℕ) (digits : List ℕ) (left : ℕ) → t ≡ true → 0 < left → get_or (cond t (b ∷ digits) digits) left 32 ≡ get_or digits (left - 1) 32

@@ -3,14 +3,12 @@ use Rattle.std.proofs.Common.{◌≡◌, ◌==◌, ℕ, Bool, true, false, List,
 use Rattle.std.proofs.lemmas.Bool.{cases_Bool}
 use Rattle.std.specs.List.{AllByRecursion, IsDistinct}
 use Rattle.std.specs.Prelude.{find}
+use Rattle.pw_base.proofs.Plain.{some_is}
 use Rattle.pw_pair.specs.Seats.{is_seat_of, is_waiting}
 use Rattle.pw_pair.specs.declared.seat.Seat.{Seat}
 
 abbrev terminals : List Seat → List ℕ
 terminals seats = map (λ (seat : Seat). seat.terminal) seats
-
-some-is : {X : Type 0} {x y : X} → Some x ≡ Some y → x ≡ y
-some-is e = cc e
 
 -- what holds of all terminals holds of that of a seat that is found
 found-all : (P : ℕ → Type 0) (test : Seat → Bool) (seats : List Seat) (seat : Seat) → AllByRecursion P (terminals seats)
@@ -18,7 +16,7 @@ found-all : (P : ℕ → Type 0) (test : Seat → Bool) (seats : List Seat) (sea
 found-all P test [] seat each found = absurd (cc found)
 found-all P test (x ∷ xs) seat each found =
     elim (cases_Bool (test x)) [
-      | inl passes ↦ let here : Some x ≡ Some seat = rw passes at found in subst (λ (s : Seat). P s.terminal) (some-is here) each.0
+      | inl passes ↦ let here : Some x ≡ Some seat = rw passes at found in subst (λ (s : Seat). P s.terminal) (some_is here) each.0
       | inr fails ↦ let later : find test xs ≡ Some seat = rw fails at found in found-all P test xs seat each.1 later
     ]
 
@@ -26,7 +24,7 @@ found-test : (test : Seat → Bool) (seats : List Seat) (seat : Seat) → find t
 found-test test [] seat found = absurd (cc found)
 found-test test (x ∷ xs) seat found =
     elim (cases_Bool (test x)) [
-      | inl passes ↦ let here : Some x ≡ Some seat = rw passes at found in subst (λ s. test s ≡ true) (some-is here) passes
+      | inl passes ↦ let here : Some x ≡ Some seat = rw passes at found in subst (λ s. test s ≡ true) (some_is here) passes
       | inr fails ↦ let later : find test xs ≡ Some seat = rw fails at found in found-test test xs seat later
     ]
 
@@ -43,7 +41,7 @@ own-seat test (x ∷ xs) seat distinct found =
           let here : Some x ≡ Some seat = rw passes at found in
           let own : (x.terminal == x.terminal) ≡ true = eq-eqb x.terminal x.terminal refl in
           let first : find (is_seat_of x.terminal) (x ∷ xs) ≡ Some x = rw own refl in
-          subst (λ (s : Seat). find (is_seat_of s.terminal) (x ∷ xs) ≡ Some s) (some-is here) first
+          subst (λ (s : Seat). find (is_seat_of s.terminal) (x ∷ xs) ≡ Some s) (some_is here) first
       | inr fails ↦
           let later : find test xs ≡ Some seat = rw fails at found in
           let other : (x.terminal == seat.terminal) ≡ false =

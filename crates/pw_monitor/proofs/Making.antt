@@ -1,10 +1,11 @@
 -- A legal entry whose programs have been read can be made.
-use Rattle.std.proofs.Common.{◌≡◌, ◌≢◌, ℕ, ◌+◌, ◌-◌, ◌<◌, ◌≤◌, ◌^◌, ◌&&◌, List, [], ◌∷◌, ◌++◌, length, map, Option, Some, None, Bool, true, false, is_some, inl, inr, ◌⊎◌, refl, sym, ap, ap₂, subst, ◌∙◌, ⊎_elim, length-append, arith}
+use Rattle.std.proofs.Common.{◌≡◌, ◌≢◌, ℕ, ◌+◌, ◌-◌, ◌<◌, ◌≤◌, ◌^◌, List, [], ◌∷◌, ◌++◌, length, map, Option, Some, None, true, false, is_some, inl, inr, ◌⊎◌, refl, sym, ap, ap₂, subst, ◌∙◌, ⊎_elim, length-append, arith}
 use Rattle.std.specs.Prelude.{IsSome}
 use Rattle.std.specs.Option.{option_map}
 use Rattle.std.proofs.lemmas.Bool.{cases_eq, cases_lt}
 use Rattle.std.proofs.lemmas.List.{length-map}
 use Rattle.std.proofs.lemmas.Option.{get_or_from_slice_get, slice_get_within}
+use Rattle.pw_base.proofs.Plain.{and-first}
 use Rattle.pw_class.specs.Queue as queue
 use Rattle.pw_class.specs.Queue.{at_process}
 use Rattle.pw_class.specs.declared.request.Request.{Request}
@@ -106,10 +107,6 @@ births-more sys s (End t ending) = end-any sys s (λ x. x.births ≤ s.births + 
 births-from : (sys : Behaviour) (s : State) (log : List Event) → (after_from sys s log).births ≤ s.births + length log
 births-from sys s [] = omega arith
 births-from sys s (entry ∷ log) = let one = births-more sys s entry in let rest = births-from sys (effect sys s entry) log in omega (arith, one, rest)
-
-and-first : (a b : Bool) → (a && b) ≡ true → a ≡ true
-and-first true b e = refl
-and-first false b e = absurd (cc e)
 
 -- a verb that closes a transaction is End or Drop, and its answer is that of the machine
 closes-with : (v : Verb) (a : PathAnswer) → closing_answer v ≡ Some a → ((v ≡ verb.End) × (a ≡ Ended)) ⊎ ((v ≡ verb.Drop) × (a ≡ Dropped))

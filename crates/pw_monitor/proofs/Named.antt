@@ -2,9 +2,10 @@
 use Rattle.std.proofs.Common.{◌≡◌, ◌∙◌, ℕ, ◌<◌, ◌==◌, ◌&&◌, ◌||◌, List, [], ◌∷◌, All, Bool, true, false, Option, Some, None, is_some, length, refl, sym, ap, subst, ⊎_elim, arith}
 use Rattle.std.specs.Prelude.{if◌then◌else◌}
 use Rattle.std.specs.List.{list_any}
-use Rattle.std.proofs.lemmas.Bool.{cases_eq, eq-eqb, ne_eqb}
+use Rattle.std.proofs.lemmas.Bool.{cases_eq, ne_eqb}
 use Rattle.std.proofs.lemmas.List.Elements.{All-cons, All-nil}
 use Rattle.std.proofs.lemmas.Option.{slice_get_within}
+use Rattle.pw_base.proofs.Plain.{or-false, and-false, eqb-swap}
 use Rattle.pw_class.specs.Queue.{at_process, works_for}
 use Rattle.pw_class.specs.declared.request.Request.{Request}
 use Rattle.pw_code.specs.declared.system.System.{System}
@@ -35,27 +36,16 @@ use Rattle.pw_laws.proofs.requests.Classes.{found_free}
 
 -- ---- tests
 
-eq-sym : (m n : ℕ) → (m == n) ≡ (n == m)
-eq-sym m n = ⊎_elim (λ same. eq-eqb m n same ∙ sym (eq-eqb n m (sym same))) (λ differ. ne_eqb m n differ ∙ sym (ne_eqb n m (λ is. differ (sym is)))) (cases_eq m n)
-
-pub or-nothing : (a : Bool) → (a || false) ≡ a
-or-nothing true = refl
-or-nothing false = refl
-
-and-nothing : (a : Bool) → (a && false) ≡ false
-and-nothing true = refl
-and-nothing false = refl
-
 and-so : (a : Bool) → (a && true) ≡ a
 and-so true = refl
 and-so false = refl
 
 -- one of a list, and none behind it
 one : (m n : ℕ) → ((m == n) || false) ≡ (n == m)
-one m n = or-nothing (m == n) ∙ eq-sym m n
+one m n = or-false (m == n) ∙ eqb-swap m n
 
 one-process : (c i d j : ℕ) → (((c == d) && (i == j)) || false) ≡ ((d == c) && (j == i))
-one-process c i d j = or-nothing ((c == d) && (i == j)) ∙ (ap (λ b. b && (i == j)) (eq-sym c d) ∙ ap (λ b. (d == c) && b) (eq-sym i j))
+one-process c i d j = or-false ((c == d) && (i == j)) ∙ (ap (λ b. b && (i == j)) (eqb-swap c d) ∙ ap (λ b. (d == c) && b) (eqb-swap i j))
 
 -- ---- what an entry names, for each kind of actor
 
@@ -106,7 +96,7 @@ module _ (system : System) (kept : Kept) where
 
   stopped-process : (c i d j : ℕ) (o : Option Request) → at_process (kept.queues d) j ≡ o → list_any (is_same_actor (actor.Process c i)) (posted d j o) ≡ ((d == c) && ((j == i) && is_some (at_process (kept.queues c) i)))
   stopped-process c i d j None is =
-      sym (same-busy c i d j ∙ (ap (λ (o : Option Request). (d == c) && ((j == i) && is_some o)) is ∙ (ap (λ b. (d == c) && b) (and-nothing (j == i)) ∙ and-nothing (d == c))))
+      sym (same-busy c i d j ∙ (ap (λ (o : Option Request). (d == c) && ((j == i) && is_some o)) is ∙ (ap (λ b. (d == c) && b) (and-false (j == i)) ∙ and-false (d == c))))
   stopped-process c i d j (Some request) is =
       one-process c i d j ∙ sym (same-busy c i d j ∙ (ap (λ (o : Option Request). (d == c) && ((j == i) && is_some o)) is ∙ ap (λ b. (d == c) && b) (and-so (j == i))))
 
@@ -134,7 +124,7 @@ module _ (system : System) (kept : Kept) where
 
   restarted-pair : (p t : ℕ) (b : Bool) → list_any (is_same_actor (actor.Pair p)) (if b then member system t else actor.Terminal t ∷ []) ≡ ((tcp_of system t == p) && b)
   restarted-pair p t true = one p (tcp_of system t) ∙ sym (and-so (tcp_of system t == p))
-  restarted-pair p t false = sym (and-nothing (tcp_of system t == p))
+  restarted-pair p t false = sym (and-false (tcp_of system t == p))
 
   stopped-pair : (p d j : ℕ) (o : Option Request) → list_any (is_same_actor (actor.Pair p)) (posted d j o) ≡ false
   stopped-pair p d j None = refl
@@ -173,7 +163,7 @@ module _ (system : System) (kept : Kept) where
       (cases_eq d c)
 
   stopped-class : (c d j : ℕ) (o : Option Request) → at_process (kept.queues d) j ≡ o → list_any (is_same_actor (actor.Class c)) (posted d j o) ≡ ((d == c) && is_some (at_process (kept.queues c) j))
-  stopped-class c d j None is = sym (busy-class c d j ∙ (ap (λ (o : Option Request). (d == c) && is_some o) is ∙ and-nothing (d == c)))
+  stopped-class c d j None is = sym (busy-class c d j ∙ (ap (λ (o : Option Request). (d == c) && is_some o) is ∙ and-false (d == c)))
   stopped-class c d j (Some request) is = one c d ∙ sym (busy-class c d j ∙ (ap (λ (o : Option Request). (d == c) && is_some o) is ∙ and-so (d == c)))
 
   named-class : (c : ℕ) (entry : Event) → list_any (is_same_actor (actor.Class c)) (named system kept entry) ≡ is_at_class kept c entry
@@ -221,18 +211,18 @@ module _ (system : System) (kept : Kept) where
   cancels-never (Commit t n) = refl
   cancels-never (Back t n) = refl
   cancels-never (Restart t n cause) = refl
-  cancels-never (FailTcp q primary k) = ap (λ b. loses primary (kept.pairs q).mode && b) (none-any (members_of system q)) ∙ and-nothing (loses primary (kept.pairs q).mode)
+  cancels-never (FailTcp q primary k) = ap (λ b. loses primary (kept.pairs q).mode && b) (none-any (members_of system q)) ∙ and-false (loses primary (kept.pairs q).mode)
   cancels-never (FailServer d j k) = refl
   cancels-never (Takeover q) = refl
   cancels-never (Raise q) = refl
-  cancels-never (End t ending) = and-nothing (leaves ending)
+  cancels-never (End t ending) = and-false (leaves ending)
 
   -- ---- the whole
 
   pub touches-parts : (entry : Event) (own : Actor) → (list_any (is_same_actor own) (named system kept entry) || cancels_at system kept entry own) ≡ touches_at system kept entry own
-  touches-parts entry (actor.Terminal u) = ap (λ b. list_any (is_same_actor (actor.Terminal u)) (named system kept entry) || b) (cancels-never entry) ∙ (or-nothing _ ∙ named-terminal u entry)
+  touches-parts entry (actor.Terminal u) = ap (λ b. list_any (is_same_actor (actor.Terminal u)) (named system kept entry) || b) (cancels-never entry) ∙ (or-false _ ∙ named-terminal u entry)
   touches-parts entry (actor.Process c i) = ap (λ b. b || cancels_at system kept entry (actor.Process c i)) (named-process c i entry)
-  touches-parts entry (actor.Pair p) = ap (λ b. list_any (is_same_actor (actor.Pair p)) (named system kept entry) || b) (cancels-never entry) ∙ (or-nothing _ ∙ named-pair p entry)
+  touches-parts entry (actor.Pair p) = ap (λ b. list_any (is_same_actor (actor.Pair p)) (named system kept entry) || b) (cancels-never entry) ∙ (or-false _ ∙ named-pair p entry)
   touches-parts entry (actor.Class c) = ap (λ b. b || cancels_at system kept entry (actor.Class c)) (named-class c entry)
 
 -- ---- they are actors of the system

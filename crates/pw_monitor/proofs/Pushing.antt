@@ -6,6 +6,7 @@ use Rattle.std.proofs.lemmas.Bool.{cases_eq, eq-eqb}
 use Rattle.std.proofs.lemmas.List.Elements.{All-nil, All-weaker}
 use Rattle.std.proofs.lemmas.List.Filters.{length-filter_both}
 use Rattle.pw_base.specs.Outside.{Rose}
+use Rattle.pw_base.proofs.Plain.{or-false}
 use Rattle.pw_code.specs.declared.system.System.{System}
 use Rattle.pw_event.specs.Due.{entries_of, is_same_owner, owner_of}
 use Rattle.pw_event.specs.declared.event.Event.{Event}
@@ -15,7 +16,6 @@ use Rattle.pw_keep.specs.Calls.{members_in}
 use Rattle.pw_keep.specs.Keeps.{IsChanged, IsRefused, KeepState, kept_in, terminals_in}
 use Rattle.pw_kept.specs.Entered.{entered}
 use Rattle.pw_kept.specs.Kept.{Kept}
-use Rattle.pw_monitor.proofs.Named.{or-nothing}
 use Rattle.pw_monitor.proofs.Noting.{all-mark, all-out, all-stamp, marks_of, outs_of, restamped, stamps_of}
 use Rattle.pw_monitor.proofs.Stamped.{each-out, each-stamp}
 use Rattle.pw_monitor.specs.Bookings.{IsBooked, IsBookingOf, mode_in, stamped_each, turned}
@@ -175,7 +175,7 @@ module _ {D : Type 0} (told : D → Told) (w : WorldState D) (m : IsMonitor told
         by (owner.Class c) own low =
             ap (λ x. x || list_any (is_same_actor a) (turned (kept_in told k) booking.owner booking.mode)) (b.touched.exact a known)
             ∙ (ap (λ x. touches_at world.system world.kept entry a || x) (turned-class c own a)
-            ∙ (or-nothing (touches_at world.system world.kept entry a)
+            ∙ (or-false (touches_at world.system world.kept entry a)
             ∙ sym (by-class world (books_of w.ledger) m entry can c a known (sym b.owner ∙ own))))
 
     stamps-are : (a : Actor) → IsActor world.system a → (notes_in l.notes a).stamp ≡ stamped world.system world.kept entry (length world.log + 1) (stamps_of (notes_in w.ledger.notes)) a

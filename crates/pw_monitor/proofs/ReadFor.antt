@@ -1,7 +1,7 @@
 -- What has been read for an entry, behind the programs that ran on for it.
-use Rattle.std.proofs.Common.{◌≡◌, ◌∙◌, ℕ, ◌<◌, ◌||◌, Bool, true, false, Option, Some, None, ap, length, refl, subst, sym, ⊎_elim}
+use Rattle.std.proofs.Common.{◌≡◌, ◌∙◌, ℕ, ◌<◌, true, false, Option, Some, None, ap, length, refl, subst, sym, ⊎_elim}
 use Rattle.std.specs.List.{list_any}
-use Rattle.std.proofs.lemmas.Bool.{cases_lt, eq-eqb}
+use Rattle.std.proofs.lemmas.Bool.{cases_lt, eq-eqb, or_left}
 use Rattle.pw_class.specs.Queue.{IsIn, Queue, at_process, is_of, works_for}
 use Rattle.pw_class.specs.declared.request.Place.TheVariants as place
 use Rattle.pw_class.specs.declared.request.Request.{Request}
@@ -35,10 +35,6 @@ works : (t i : ℕ) (queue : Queue) (request : Request) → at_process queue i �
     → works_for t (at_process queue i) ≡ true
 works t i queue request here for = ap (works_for t) here ∙ eq-eqb request.terminal t for
 
-or-left : (a b : Bool) → a ≡ true → (a || b) ≡ true
-or-left true b e = refl
-or-left false b e = absurd (cc e)
-
 module _ (world : Seen) (books : Books) (w : IsWorld world books) (t : ℕ) where
   pub none-works : is_out world.system world.kept t ≡ false → IsWorkRead world.system world.kept t
   none-works inside c i request low here for =
@@ -58,7 +54,7 @@ module _ (world : Seen) (books : Books) (w : IsWorld world books) (t : ℕ) wher
       absurd (cc (none, some)))
       (λ past.
       let none = bare.requests class t past in
-      let some = or-left (list_any (is_of t) (world.kept.queues class).waiting)
+      let some = or_left (list_any (is_of t) (world.kept.queues class).waiting)
       (list_any (works_for t) (world.kept.queues class).busy) at.1 in
       absurd (cc (none, some)))
       (cases_lt class (length world.system.classes))

@@ -2,6 +2,7 @@
 use Rattle.std.proofs.Common.{◌≡◌, ◌∙◌, ℕ, List, None, Some, map, true, ap, subst, sym}
 use Rattle.std.specs.Option.{option_map}
 use Rattle.std.specs.Prelude.{slice_get}
+use Rattle.pw_base.proofs.Plain.{some_is}
 use Rattle.pw_code.specs.declared.context.Context.{Context}
 use Rattle.pw_code.specs.declared.system.TermInfo.{TermInfo}
 use Rattle.pw_code.specs.declared.verb.Verb.{Verb}
@@ -11,7 +12,6 @@ use Rattle.pw_exec.specs.Config.{Config}
 use Rattle.pw_exec.specs.OfSystem.{image_of, told}
 use Rattle.pw_keep.specs.Keeps.{kept_of}
 use Rattle.pw_kept.proofs.Arrived.{at-its-verb, stands-ready}
-use Rattle.pw_kept.proofs.Components.{some_is}
 use Rattle.pw_kept.specs.Arrivals.{IsReady}
 use Rattle.pw_kept.specs.Asked.{verb_in}
 use Rattle.pw_kept.specs.Kept.{KeptTerminal}

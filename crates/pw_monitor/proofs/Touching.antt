@@ -1,12 +1,13 @@
 -- Lists of touched actors, and where requests are.
-use Rattle.std.proofs.Common.{◌≡◌, ◌∙◌, ℕ, zero, suc, ◌+◌, ◌-◌, ◌<◌, ◌≤◌, ◌==◌, ◌||◌, List, [], ◌∷◌, ◌++◌, All, Bool, true, false, Option, Some, None, Result, Ok, Err, get_or, length, map, take, refl, sym, ap, subst, ⊎_elim, arith}
-use Rattle.std.specs.Prelude.{IsTrue, OnOk, if◌then◌else◌, slice_get, slice_index_or}
+use Rattle.std.proofs.Common.{◌≡◌, ◌∙◌, ℕ, zero, suc, ◌+◌, ◌-◌, ◌<◌, ◌≤◌, ◌==◌, ◌||◌, List, [], ◌∷◌, ◌++◌, All, Bool, true, false, Option, Some, None, get_or, length, map, take, refl, sym, ap, subst, ⊎_elim, arith}
+use Rattle.std.specs.Prelude.{if◌then◌else◌, slice_get, slice_index_or}
 use Rattle.std.specs.List.{list_any}
 use Rattle.std.proofs.lemmas.Bool.{cases_lt, ne_eqb}
 use Rattle.std.proofs.lemmas.List.{get_or_past, map-append, take_more}
 use Rattle.std.proofs.lemmas.List.Elements.{All-append, All-cons, All-nil}
 use Rattle.std.proofs.lemmas.List.Folds.{list_any-append}
 use Rattle.std.proofs.lemmas.Option.{slice_get_within}
+use Rattle.pw_base.proofs.Plain.{or-false, or-assoc}
 use Rattle.pw_class.specs.Queue.{IsIn, Queue, at_process, class_of, is_of, works_for}
 use Rattle.pw_class.specs.declared.request.Place.{Place}
 use Rattle.pw_class.specs.declared.request.Place.TheVariants.{Waiting, Busy}
@@ -17,11 +18,10 @@ use Rattle.pw_exec.specs.OfSystem.{processes_by}
 use Rattle.pw_keep.specs.Keeps.{IsKeep, kept_in}
 use Rattle.pw_kept.proofs.Agreeing.{there-is}
 use Rattle.pw_kept.specs.TerminalTests.{is_out}
-use Rattle.pw_monitor.proofs.Named.{or-nothing}
 use Rattle.pw_monitor.specs.Ledgers.{books_of}
 use Rattle.pw_monitor.specs.States.{IsMonitor, WorldState, seen}
 use Rattle.pw_monitor.specs.Touched.{Grows, asks_at}
-use Rattle.pw_monitor_world.proofs.Cancelled.{of-idle, of-none, of-process, of-request}
+use Rattle.pw_monitor_world.proofs.Cancelled.{of-idle, of-none, of-process, of-request, true-is}
 use Rattle.pw_monitor_world.specs.Actors.{IsActor}
 use Rattle.pw_monitor_world.specs.Touching.{actors_at}
 use Rattle.pw_pair.specs.declared.seat.Seat.{Seat}
@@ -30,21 +30,12 @@ use Rattle.pw_roster.specs.declared.actor.Actor.{Actor}
 use Rattle.pw_roster.specs.declared.actor.Actor.TheVariants as actor
 use Rattle.pw_tmf.specs.Told.{Told}
 
-or-assoc : (a b c : Bool) → ((a || b) || c) ≡ (a || (b || c))
-or-assoc true b c = refl
-or-assoc false b c = refl
-
--- what follows where the result is Ok
-pub on-ok : {A E P Q : Type 0} (r : Result A E) → OnOk r P → (P → Q) → OnOk r Q
-on-ok (Ok x) h f = f h
-on-ok (Err e) h f = tt
-
 -- ---- lists that grow
 
 pub grows-none : (system : System) (test : Actor → Bool) (items : List Actor) → ((a : Actor) → IsActor system a → test a ≡ false) → Grows system test items items
 grows-none system test items none = record {
   known = λ all. all;
-  exact = λ a of. sym (or-nothing (list_any (is_same_actor a) items)) ∙ ap (λ b. list_any (is_same_actor a) items || b) (sym (none a of));
+  exact = λ a of. sym (or-false (list_any (is_same_actor a) items)) ∙ ap (λ b. list_any (is_same_actor a) items || b) (sym (none a of));
 }
 
 pub grows-by : (system : System) (added old new : List Actor) → All (IsActor system) added → new ≡ old ++ added
@@ -76,14 +67,6 @@ process-class system c i of = ⊎_elim (λ low. low) (λ past. by (slice_get sys
     by : (o : Option ClassInfo) → slice_get system.classes c ≡ o → 1 ≤ i → i ≤ processes_by o → length system.classes ≤ c → c < length system.classes
     by None is low high past = absurd (omega (arith, low, high))
     by (Some info) is low high past = slice_get_within system.classes c info is
-
-or-one : (a b : Bool) → a ≡ true → (a || b) ≡ true
-or-one true b e = refl
-or-one false b e = absurd (cc e)
-
-true-is : (b : Bool) → IsTrue b → b ≡ true
-true-is true is = refl
-true-is false is = absurd (cc is)
 
 -- a process that works is one of so many
 busy-low : (t : ℕ) (busy : List (Option Request)) (i : ℕ) → works_for t (at_process (record { waiting = []; busy = busy }) i) ≡ true → (1 ≤ i) × (i ≤ length busy)
@@ -179,4 +162,4 @@ requests-more system asks seats i seat old mid new lt is so_far one =
     (λ a of. sym (ap (λ s. list_any (λ t. asks t a) (terminals_of s)) more
     ∙ (ap (list_any (λ t. asks t a)) (map-append (λ (s : Seat). s.terminal) (take i seats) (seat ∷ []))
     ∙ (list_any-append (λ t. asks t a) (terminals_of (take i seats)) (seat.terminal ∷ [])
-    ∙ ap (λ b. list_any (λ t. asks t a) (terminals_of (take i seats)) || b) (or-nothing (asks seat.terminal a))))))
+    ∙ ap (λ b. list_any (λ t. asks t a) (terminals_of (take i seats)) || b) (or-false (asks seat.terminal a))))))

@@ -2,7 +2,8 @@
 use Rattle.std.proofs.Common.{◌≡◌, ℕ, zero, suc, ◌-◌, ◌<◌, ◌==◌, ◌&&◌, ◌||◌, List, [], ◌∷◌, length, map, Option, None, Bool, true, false, refl, sym, ap, subst, ◌∙◌, arith, ⊎_elim}
 use Rattle.std.specs.Prelude.{IsTrue, if◌then◌else◌, slice_index_or}
 use Rattle.std.specs.List.{list_any}
-use Rattle.std.proofs.lemmas.Bool.{cases_eq, eq-eqb, ne_eqb}
+use Rattle.std.proofs.lemmas.Bool.{cases_eq, eq-eqb, ne_eqb, or_left, or_right, false_from_ne_true, and_right}
+use Rattle.pw_base.proofs.Plain.{or-first-false, or-second-false, eqb-swap}
 use Rattle.pw_class.specs.Queue as queue
 use Rattle.pw_class.specs.Queue.{IsIn, Queue, at_process, class_of, is_of, works_for}
 use Rattle.pw_class.specs.declared.request.Place.{Place}
@@ -21,7 +22,6 @@ use Rattle.pw_monitor_world.specs.Touches.{is_at, tells_of_pair, touches, turns}
 use Rattle.pw_monitor_world.specs.Touching.{actors_at, actors_of_pair, touches_at}
 use Rattle.pw_monitor_world.specs.Worlds.{Books, IsWorld}
 use Rattle.pw_kept.proofs.Members.{members-are}
-use Rattle.pw_monitor_world.proofs.Outs.{or-second}
 use Rattle.pw_monitor_world.proofs.Queues.{none-in-line, one-class, one-process, others-stay}
 use Rattle.pw_kept.proofs.Agreeing.{pair-among}
 use Rattle.pw_paired.specs.Units.{any_below}
@@ -35,32 +35,9 @@ or-none : (a b : Bool) → b ≡ false → a ≡ (a || b)
 or-none true b e = refl
 or-none false b e = sym e
 
-and-none : (a b : Bool) → b ≡ false → (a && b) ≡ false
-and-none true b e = e
-and-none false b e = refl
-
 and-one : (a b : Bool) → b ≡ true → (a && b) ≡ a
 and-one true b e = e
 and-one false b e = refl
-
-or-one : (a b : Bool) → a ≡ true → (a || b) ≡ true
-or-one true b e = refl
-or-one false b e = absurd (cc e)
-
-or-left : (a b : Bool) → (a || b) ≡ false → a ≡ false
-or-left true b e = absurd (cc e)
-or-left false b e = refl
-
-or-right : (a b : Bool) → (a || b) ≡ false → b ≡ false
-or-right true b e = absurd (cc e)
-or-right false b e = e
-
-not-so : (b : Bool) → (b ≡ true → ⊥) → b ≡ false
-not-so true none = absurd (none refl)
-not-so false none = refl
-
-eq-both : (a b : ℕ) → (a == b) ≡ (b == a)
-eq-both a b = ⊎_elim (λ same. eq-eqb a b same ∙ sym (eq-eqb b a (sym same))) (λ differ. ne_eqb a b differ ∙ sym (ne_eqb b a (λ e. differ (sym e)))) (cases_eq a b)
 
 none-same : (own : Actor) (ts : List ℕ) → ((t : ℕ) → is_same_actor own (actor.Terminal t) ≡ false) → list_any (is_same_actor own) (map actor.Terminal ts) ≡ false
 none-same own [] none = refl
@@ -68,7 +45,7 @@ none-same own (t ∷ ts) none = let first = none t in let later = none-same own 
 
 same-terminal : (t : ℕ) (ts : List ℕ) → list_any (is_same_actor (actor.Terminal t)) (map actor.Terminal ts) ≡ is_among ts t
 same-terminal t [] = refl
-same-terminal t (u ∷ ts) = ap (λ b. b || list_any (is_same_actor (actor.Terminal t)) (map actor.Terminal ts)) (eq-both t u) ∙ ap (λ b. (u == t) || b) (same-terminal t ts)
+same-terminal t (u ∷ ts) = ap (λ b. b || list_any (is_same_actor (actor.Terminal t)) (map actor.Terminal ts)) (eqb-swap t u) ∙ ap (λ b. (u == t) || b) (same-terminal t ts)
 
 tcp-same : {p q : ℕ} → owner.Tcp p ≡ owner.Tcp q → p ≡ q
 tcp-same e = cc e
@@ -76,7 +53,7 @@ tcp-same e = cc e
 tcp-class : {p c : ℕ} → owner.Class c ≡ owner.Tcp p → ⊥
 tcp-class e = absurd (cc e)
 
-true-is : (b : Bool) → IsTrue b → b ≡ true
+pub true-is : (b : Bool) → IsTrue b → b ≡ true
 true-is b is = is
 
 module _ (world : Seen) (books : Books) (w : IsWorld world books) where
@@ -88,7 +65,7 @@ module _ (world : Seen) (books : Books) (w : IsWorld world books) where
     turns-own : (p q : ℕ) → owner_of (sys_of world).pair_of entry ≡ owner.Tcp p → q < length world.system.tcps → turned q ≡ (turned p && (q == p))
     turns-own p q of few = ⊎_elim
         (λ same. ap turned same ∙ sym (and-one (turned p) (q == p) (eq-eqb q p same)))
-        (λ differ. others-stay world books w entry can q few (λ is. differ (tcp-same (sym is ∙ of))) ∙ sym (and-none (turned p) (q == p) (ne_eqb q p differ)))
+        (λ differ. others-stay world books w entry can q few (λ is. differ (tcp-same (sym is ∙ of))) ∙ sym (and_right (turned p) (q == p) (ne_eqb q p differ)))
         (cases_eq q p)
 
     pub by-pair : (p : ℕ) (own : Actor) → IsActor world.system own → owner_of (sys_of world).pair_of entry ≡ owner.Tcp p
@@ -105,10 +82,10 @@ module _ (world : Seen) (books : Books) (w : IsWorld world books) where
         (turns-own p q of few ∙ ap (λ b. turned p && b) (or-none (q == p) (list_any (is_same_actor (actor.Pair q)) (map actor.Terminal (members_of world.system p))) none))
     by-pair p (actor.Process c i) is of =
         or-none _ (turned p && list_any (is_same_actor (actor.Process c i)) (actors_of_pair p (members_of world.system p)))
-        (and-none (turned p) (list_any (is_same_actor (actor.Process c i)) (map actor.Terminal (members_of world.system p))) (none-same (actor.Process c i) (members_of world.system p) (λ t. refl)))
+        (and_right (turned p) (list_any (is_same_actor (actor.Process c i)) (map actor.Terminal (members_of world.system p))) (none-same (actor.Process c i) (members_of world.system p) (λ t. refl)))
     by-pair p (actor.Class c) is of =
         or-none _ (turned p && list_any (is_same_actor (actor.Class c)) (actors_of_pair p (members_of world.system p)))
-        (and-none (turned p) (list_any (is_same_actor (actor.Class c)) (map actor.Terminal (members_of world.system p))) (none-same (actor.Class c) (members_of world.system p) (λ t. refl)))
+        (and_right (turned p) (list_any (is_same_actor (actor.Class c)) (map actor.Terminal (members_of world.system p))) (none-same (actor.Class c) (members_of world.system p) (λ t. refl)))
 
     pub by-class : (c : ℕ) (own : Actor) → IsActor world.system own → owner_of (sys_of world).pair_of entry ≡ owner.Class c
         → touches world.system world.kept entry own ≡ touches_at world.system world.kept entry own
@@ -128,8 +105,8 @@ module _ (world : Seen) (books : Books) (w : IsWorld world books) where
   at-busy : (t : ℕ) (busy : List (Option Request)) (k : ℕ) → works_for t (slice_index_or busy k None) ≡ true → list_any (works_for t) busy ≡ true
   at-busy t [] zero e = absurd (cc e)
   at-busy t [] (suc k) e = absurd (cc e)
-  at-busy t (o ∷ os) zero e = or-one (works_for t o) (list_any (works_for t) os) e
-  at-busy t (o ∷ os) (suc k) e = or-second (works_for t o) (list_any (works_for t) os) (at-busy t os k e)
+  at-busy t (o ∷ os) zero e = or_left (works_for t o) (list_any (works_for t) os) e
+  at-busy t (o ∷ os) (suc k) e = or_right (works_for t o) (list_any (works_for t) os) (at-busy t os k e)
 
   works-has : (t i : ℕ) (q : Queue) → works_for t (at_process q i) ≡ true → queue.has_request t q ≡ true
   works-has t zero q e = absurd (cc e)
@@ -138,10 +115,10 @@ module _ (world : Seen) (books : Books) (w : IsWorld world books) where
       let some : (suc i == 0) ≡ false = ne_eqb (suc i) 0 (λ is. omega (arith, is)) in
       let there : works_for t (slice_index_or q.busy (suc i - 1) None) ≡ true = subst (λ b. works_for t (if b then None else slice_index_or q.busy (suc i - 1) None) ≡ true) some e in
       let at : works_for t (slice_index_or q.busy i None) ≡ true = subst (λ k. works_for t (slice_index_or q.busy k None) ≡ true) same there in
-      or-second (list_any (is_of t) q.waiting) (list_any (works_for t) q.busy) (at-busy t q.busy i at)
+      or_right (list_any (is_of t) q.waiting) (list_any (works_for t) q.busy) (at-busy t q.busy i at)
 
   is-in-has : (t : ℕ) (place : Place) → IsIn (queues (class_of place)) (class_of place) t place → queue.has_request t (queues (class_of place)) ≡ true
-  is-in-has t (Waiting d) at = or-one (list_any (is_of t) (queues d).waiting) (list_any (works_for t) (queues d).busy) (true-is _ at.1)
+  is-in-has t (Waiting d) at = or_left (list_any (is_of t) (queues d).waiting) (list_any (works_for t) (queues d).busy) (true-is _ at.1)
   is-in-has t (Busy d j) at = works-has t j (queues d) (true-is _ at.1)
 
   same-class : (c : ℕ) (place : Place) → (c == class_of place) ≡ list_any (is_same_actor (actor.Class c)) (actors_at place)
@@ -155,35 +132,35 @@ module _ (world : Seen) (books : Books) (w : IsWorld world books) where
       let has : queue.has_request t (queues d) ≡ true = is-in-has t place at in
       let mine : queue.has_request t (queues c) ≡ (c == d) = ⊎_elim
       (λ same. ap (λ x. queue.has_request t (queues x)) same ∙ has ∙ sym (eq-eqb c d same))
-      (λ differ. not-so (queue.has_request t (queues c)) (λ e. differ (one-class world books w t c d low few e has)) ∙ sym (ne_eqb c d differ))
+      (λ differ. false_from_ne_true (queue.has_request t (queues c)) (λ e. differ (one-class world books w t c d low few e has)) ∙ sym (ne_eqb c d differ))
       (cases_eq c d) in
       mine ∙ same-class c place
 
   pub of-process : (t : ℕ) (place : Place) (c i : ℕ) → class_of place < length world.system.classes → c < length world.system.classes
       → IsIn (queues (class_of place)) (class_of place) t place → works_for t (at_process (queues c) i) ≡ list_any (is_same_actor (actor.Process c i)) (actors_at place)
   of-process t (Waiting d) c i few low at =
-      not-so (works_for t (at_process (queues c) i))
+      false_from_ne_true (works_for t (at_process (queues c) i))
       (λ e. let none : list_any (is_of t) (queues d).waiting ≡ false = none-in-line world books w t c i d low few e in let some : list_any (is_of t) (queues d).waiting ≡ true = true-is _ at.1 in absurd (cc (none, some)))
   of-process t (Busy d j) c i few low at =
       let works : works_for t (at_process (queues d) j) ≡ true = true-is _ at.1 in
       let two : works_for t (at_process (queues c) i) ≡ ((c == d) && (i == j)) = ⊎_elim
       (λ one. ⊎_elim
       (λ other. ap (λ x. works_for t (at_process (queues x) i)) one ∙ (ap (λ k. works_for t (at_process (queues d) k)) other ∙ (works ∙ sym (and-one (c == d) (i == j) (eq-eqb i j other) ∙ eq-eqb c d one))))
-      (λ differ. not-so _ (λ e. differ ((one-process world books w t c i d j low few e works).1)) ∙ sym (and-none (c == d) (i == j) (ne_eqb i j differ)))
+      (λ differ. false_from_ne_true _ (λ e. differ ((one-process world books w t c i d j low few e works).1)) ∙ sym (and_right (c == d) (i == j) (ne_eqb i j differ)))
       (cases_eq i j))
-      (λ differ. not-so _ (λ e. differ ((one-process world books w t c i d j low few e works).0)) ∙ let apart : (c == d) ≡ false = ne_eqb c d differ in sym (ap (λ b. b && (i == j)) apart))
+      (λ differ. false_from_ne_true _ (λ e. differ ((one-process world books w t c i d j low few e works).0)) ∙ let apart : (c == d) ≡ false = ne_eqb c d differ in sym (ap (λ b. b && (i == j)) apart))
       (cases_eq c d) in
       two ∙ or-none ((c == d) && (i == j)) false refl
 
   none-below : (n : ℕ) (has : ℕ → Bool) → any_below n has ≡ false → (c : ℕ) → c < n → has c ≡ false
   none-below zero has none c low = absurd (omega (arith, low))
   none-below (suc n) has none c low = ⊎_elim
-      (λ same. ap has same ∙ or-right (any_below n has) (has n) none)
-      (λ differ. none-below n has (or-left (any_below n has) (has n) none) c (omega (arith, low, differ)))
+      (λ same. ap has same ∙ or-second-false (any_below n has) (has n) none)
+      (λ differ. none-below n has (or-first-false (any_below n has) (has n) none) c (omega (arith, low, differ)))
       (cases_eq c n)
 
   pub of-none : (t c : ℕ) → c < length world.system.classes → is_out world.system world.kept t ≡ false → queue.has_request t (queues c) ≡ false
   of-none t c low inside = none-below (length world.system.classes) (λ d. queue.has_request t (queues d)) inside c low
 
   pub of-idle : (t c i : ℕ) → c < length world.system.classes → is_out world.system world.kept t ≡ false → works_for t (at_process (queues c) i) ≡ false
-  of-idle t c i low inside = not-so _ (λ e. let has = works-has t i (queues c) e in let none = of-none t c low inside in absurd (cc (none, has)))
+  of-idle t c i low inside = false_from_ne_true _ (λ e. let has = works-has t i (queues c) e in let none = of-none t c low inside in absurd (cc (none, has)))

@@ -3,7 +3,7 @@ use Rattle.std.proofs.Common.{◌≡◌, ℕ, ◌<◌, ◌==◌, ◌&&◌, ◌||
 use Rattle.std.specs.List.{AllByRecursion, list_any}
 use Rattle.std.specs.Option.{IfSome}
 use Rattle.std.proofs.Math.Path.{fun_ext}
-use Rattle.std.proofs.lemmas.Bool.{eq-eqb, eqb-true, true≢false}
+use Rattle.std.proofs.lemmas.Bool.{eq-eqb, eqb-true, true≢false, and_parts, or_right}
 use Rattle.std.proofs.lemmas.List.Elements.{recursion_from_All}
 use Rattle.pw_class.specs.Queue.{is_of, works_for}
 use Rattle.pw_class.specs.declared.request.Request.{Request}
@@ -12,7 +12,6 @@ use Rattle.pw_event.specs.declared.event.Event.{Event}
 use Rattle.pw_event.specs.declared.event.Event.TheVariants.{Show, Key, CheckStart, CheckEnd, CheckCopy, Applied, Begin, Send, Take, File, Reply, Again, Commit, Back, Restart, FailTcp, FailServer, Takeover, Raise, End}
 use Rattle.pw_kept.specs.Members.{KnowsAll}
 use Rattle.pw_monitor_world.specs.Touches.{leaves}
-use Rattle.pw_monitor_world.proofs.Outs.{or-second}
 use Rattle.pw_monitor_world.proofs.Placed.{loses_in, without-has}
 use Rattle.pw_onecopy.specs.Behaviour.{Behaviour}
 use Rattle.pw_paired.specs.Failure.{backup_fails, is_of_pair, primary_fails}
@@ -53,11 +52,6 @@ pub record CancelsNone (sys : Behaviour) (s x : State) (has : ℕ → Bool) : Ty
   pub classes : x.classes ≡ (λ c. without_requests whose (s.classes c))
   pub none : (t : ℕ) → t < sys.terminals → whose t ≡ true → has t ≡ false
 
-both-parts : (a b : Bool) → (a && b) ≡ true → (a ≡ true) × (b ≡ true)
-both-parts true true e = (refl, refl)
-both-parts true false e = absurd (cc e)
-both-parts false b e = absurd (cc e)
-
 -- one of a list passes
 passes-of : (has : ℕ → Bool) (ts : List ℕ) → list_any has ts ≡ true → (t : ℕ) × ((is_among ts t ≡ true) × (has t ≡ true))
 passes-of has [] e = absurd (cc e)
@@ -65,7 +59,7 @@ passes-of has (t ∷ ts) e = by (has t) refl e (passes-of has ts)
   where
     by : (b : Bool) → has t ≡ b → (b || list_any has ts) ≡ true → (list_any has ts ≡ true → (u : ℕ) × ((is_among ts u ≡ true) × (has u ≡ true))) → (u : ℕ) × ((is_among (t ∷ ts) u ≡ true) × (has u ≡ true))
     by true is e later = let own : (t == t) ≡ true = eq-eqb t t refl in (t, (rw own refl, is))
-    by false is e later = let found = later e in (found.0, (or-second (t == found.0) (is_among ts found.0) found.1.0, found.1.1))
+    by false is e later = let found = later e in (found.0, (or_right (t == found.0) (is_among ts found.0) found.1.0, found.1.1))
 
 -- none of a list passes
 fails-each : (has : ℕ → Bool) (ts : List ℕ) → list_any has ts ≡ false → (t : ℕ) → is_among ts t ≡ true → has t ≡ false
@@ -88,10 +82,10 @@ module _ (sys : Behaviour) (members : ℕ → List ℕ) (among : (p t : ℕ) →
   cancel-some (End t (Suspended cause)) has e = record { whose = only t; classes = refl; t = t; mine = eq-eqb t t refl; passes = e }
   cancel-some (End t Stopped) has e = absurd (cc e)
   cancel-some (End t Lost) has e = absurd (cc e)
-  cancel-some (FailTcp p true k) has e = by (s.modes p) refl (both-parts (loses_in true (s.modes p)) (list_any has (members p)) e).0
+  cancel-some (FailTcp p true k) has e = by (s.modes p) refl (and_parts (loses_in true (s.modes p)) (list_any has (members p)) e).0
     where
       found : (t : ℕ) × ((is_among (members p) t ≡ true) × (has t ≡ true))
-      found = passes-of has (members p) (both-parts (loses_in true (s.modes p)) (list_any has (members p)) e).1
+      found = passes-of has (members p) (and_parts (loses_in true (s.modes p)) (list_any has (members p)) e).1
 
       mine : is_of_pair sys p found.0 ≡ true
       mine = among p found.0 (within p found.0 found.1.0) ∙ found.1.0
@@ -102,10 +96,10 @@ module _ (sys : Behaviour) (members : ℕ → List ℕ) (among : (p t : ℕ) →
       by Alone is l = record { whose = is_of_pair sys p; classes = refl; t = found.0; mine = mine; passes = found.1.1 }
       by Down is l = absurd (cc l)
       by Gone is l = absurd (cc l)
-  cancel-some (FailTcp p false k) has e = by (s.modes p) refl (both-parts (loses_in false (s.modes p)) (list_any has (members p)) e).0
+  cancel-some (FailTcp p false k) has e = by (s.modes p) refl (and_parts (loses_in false (s.modes p)) (list_any has (members p)) e).0
     where
       found : (t : ℕ) × ((is_among (members p) t ≡ true) × (has t ≡ true))
-      found = passes-of has (members p) (both-parts (loses_in false (s.modes p)) (list_any has (members p)) e).1
+      found = passes-of has (members p) (and_parts (loses_in false (s.modes p)) (list_any has (members p)) e).1
 
       mine : is_of_pair sys p found.0 ≡ true
       mine = among p found.0 (within p found.0 found.1.0) ∙ found.1.0
@@ -227,7 +221,7 @@ module _ (sys : Behaviour) (s x : State) (knows : KnowsAll sys s) (c : ℕ) wher
     waiting-spared (request ∷ rest) low in-line =
         let own : is_of request.terminal request ≡ true = eq-eqb request.terminal request.terminal refl in
         let there = in-line request.terminal (or-left (is_of request.terminal request) (list_any (is_of request.terminal) rest) own) in
-        (spared request.terminal low.0 (or-left (list_any (is_of request.terminal) (s.classes c).waiting) _ there), waiting-spared rest low.1 (λ t e. in-line t (or-second (is_of t request) (list_any (is_of t) rest) e)))
+        (spared request.terminal low.0 (or-left (list_any (is_of request.terminal) (s.classes c).waiting) _ there), waiting-spared rest low.1 (λ t e. in-line t (or_right (is_of t request) (list_any (is_of t) rest) e)))
 
     busy-spared : (i : ℕ) (o : Option Job) → (s.classes c).busy i ≡ o → IfSome o (λ own. one.whose own.request.terminal ≡ false)
     busy-spared i None idle = tt

@@ -1,6 +1,6 @@
 -- What an entry changes of classes and processes.
 use Rattle.std.proofs.Common.{◌≡◌, ℕ, suc, ◌+◌, ◌==◌, ◌&&◌, List, [], ◌∷◌, ◌++◌, length, Option, Some, None, Bool, true, false, is_some, inl, inr, ◌⊎◌, refl, sym, ap, subst, ◌∙◌, ⊎_elim, length-append, arith}
-use Rattle.std.proofs.lemmas.Bool.{cases_eq, eq-eqb, eqb-false, eqb-true}
+use Rattle.std.proofs.lemmas.Bool.{cases_eq, eq-eqb, eqb-false, eqb-true, and_parts}
 use Rattle.pw_class.specs.declared.request.Request.{Request}
 use Rattle.pw_code.specs.declared.file.FileOp.{FileOp}
 use Rattle.pw_code.specs.declared.lock.LockMode.{LockMode}
@@ -51,12 +51,7 @@ abbrev done_in : Option Job → List FileAnswer
 done_in None = []
 done_in (Some job) = job.done
 
-both-are : (a b : Bool) → (a && b) ≡ true → (a ≡ true) × (b ≡ true)
-both-are true true e = (refl, refl)
-both-are true false e = absurd (cc e)
-both-are false b e = absurd (cc e)
-
-first-no : (a : Bool) → (a && true) ≡ false → a ≡ false
+pub first-no : (a : Bool) → (a && true) ≡ false → a ≡ false
 first-no true e = e
 first-no false e = refl
 
@@ -129,17 +124,17 @@ module _ (sys : Behaviour) (s : State) where
   pub process-differs : (entry : Event) → Legal sys s entry → ((c i t : ℕ) → entry ≡ Take c i t → (s.classes c).busy i ≡ None) → (c i : ℕ) → at_process s c i entry ≡ true
       → (s.classes c).busy i ≡ ((change sys s entry).classes c).busy i → ⊥
   process-differs (Take class process t) l free c i e =
-      let both = both-are (class == c) (process == i) e in
+      let both = and_parts (class == c) (process == i) e in
       to (change sys s (Take class process t)) class process c i both.0 both.1 (take-process class process t l (free class process t refl))
   process-differs (File class process op mode f status) l free c i e =
-      let both = both-are (class == c) (process == i) e in
+      let both = and_parts (class == c) (process == i) e in
       to (change sys s (File class process op mode f status)) class process c i both.0 both.1 (file-process class process op mode f status l)
   process-differs (Reply class process t fault) l free c i e =
-      let both = both-are (class == c) (process == i) e in
+      let both = and_parts (class == c) (process == i) e in
       to (change sys s (Reply class process t fault)) class process c i both.0 both.1 (frees (change sys s (Reply class process t fault)) class process l.fits.job l.fits.at_work (reply-classes class process t fault))
   process-differs (FailServer class process k) l free c i e =
-      let both = both-are (class == c) (process == i && is_some (request_in ((s.classes class).busy process))) e in
-      let second = both-are (process == i) (is_some (request_in ((s.classes class).busy process))) both.1 in
+      let both = and_parts (class == c) (process == i && is_some (request_in ((s.classes class).busy process))) e in
+      let second = and_parts (process == i) (is_some (request_in ((s.classes class).busy process))) both.1 in
       to (change sys s (FailServer class process k)) class process c i both.0 second.0 (stop-process class process k second.1)
   process-differs (Show t phase attempt k) l free c i e = absurd (cc e)
   process-differs (Key t k) l free c i e = absurd (cc e)
@@ -174,7 +169,7 @@ module _ (sys : Behaviour) (s : State) where
   class-differs (Reply class i t fault) l c e =
       at (change sys s (Reply class i t fault)) class c e (process-of (change sys s (Reply class i t fault)) class i (frees (change sys s (Reply class i t fault)) class i l.fits.job l.fits.at_work (reply-classes class i t fault)))
   class-differs (FailServer class i k) l c e =
-      let both = both-are (class == c) (is_some (request_in ((s.classes class).busy i))) e in
+      let both = and_parts (class == c) (is_some (request_in ((s.classes class).busy i))) e in
       at (change sys s (FailServer class i k)) class c both.0 (process-of (change sys s (FailServer class i k)) class i (stop-process class i k both.1))
   class-differs (Show t phase attempt k) l c e = absurd (cc e)
   class-differs (Key t k) l c e = absurd (cc e)

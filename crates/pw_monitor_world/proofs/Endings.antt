@@ -1,20 +1,19 @@
 -- An entry gives an ending to the terminal of an END, and to no other one; so it is known how many terminals are live.
-use Rattle.std.proofs.Common.{◌≡◌, ◌≢◌, ℕ, zero, suc, ◌+◌, ◌-◌, ◌<◌, List, Option, Some, None, Bool, true, false, is_none, refl, sym, ap, ap₂, ◌∙◌, ⊎_elim, arith}
+use Rattle.std.proofs.Common.{◌≡◌, ◌≢◌, ℕ, zero, suc, ◌+◌, ◌-◌, ◌<◌, Option, Some, None, Bool, true, false, is_none, refl, sym, ap, ap₂, ◌∙◌, ⊎_elim, arith}
 use Rattle.std.specs.Prelude.{if◌then◌else◌}
 use Rattle.std.proofs.lemmas.Bool.{cases_eq}
+use Rattle.pw_pair.proofs.Calling.{start-ending, ending-stays, resume-ending}
 use Rattle.pw_event.specs.declared.event.Ending.{Ending}
 use Rattle.pw_event.specs.declared.event.Ending.TheVariants.{Stopped, NoEntries, Fault, Suspended, Lost}
 use Rattle.pw_event.specs.declared.event.Event.{Event}
 use Rattle.pw_event.specs.declared.event.Event.TheVariants.{Show, Key, CheckStart, CheckEnd, CheckCopy, Applied, Begin, Send, Take, File, Reply, Again, Commit, Back, Restart, FailTcp, FailServer, Takeover, Raise, End}
-use Rattle.pw_kept.proofs.Components.{ending-stays}
 use Rattle.pw_monitor_world.specs.Pushed.{live_behind}
 use Rattle.pw_monitor_world.specs.Worlds.{live_below}
 use Rattle.pw_onecopy.specs.Behaviour.{Behaviour}
-use Rattle.pw_onecopy.specs.Path.{PathAnswer}
 use Rattle.pw_onecopy.specs.Update.{upd}
 use Rattle.pw_onecopy.proofs.Update.{upd-other, upd-same}
-use Rattle.pw_paired.specs.Failure.{is_live_of, is_of_pair, resume_terminal, with_start_path, without_path}
-use Rattle.pw_paired.specs.State.{BackupCopy, LastEnded, OpenUnit, State, Term}
+use Rattle.pw_paired.specs.Failure.{is_live_of, is_of_pair, resume_terminal, without_path}
+use Rattle.pw_paired.specs.State.{State, Term}
 use Rattle.pw_paired.specs.Step.{change}
 use Rattle.pw_paired.specs.Units.{attempt_of}
 use Rattle.pw_laws.proofs.induction.Failed.{fail-cases, process-cases}
@@ -24,14 +23,6 @@ use Rattle.pw_laws.proofs.induction.Served.{file-cases, reply-any}
 abbrev is_end : Event → Bool
 is_end (End t ending) = true
 is_end _ = false
-
-start-path : (o : Option (List PathAnswer)) (term : Term) → (with_start_path o term).ending ≡ term.ending
-start-path None term = refl
-start-path (Some start) term = refl
-
-resumes : (p : ℕ) (memory : Option BackupCopy) (unit : Option OpenUnit) (last : LastEnded) (term : Term) → (resume_terminal p memory unit last term).ending ≡ term.ending
-resumes p None unit last term = refl
-resumes p (Some held) unit last term = refl
 
 picks : (c : Bool) (a b : Term) → a.ending ≡ b.ending → (if c then a else b).ending ≡ b.ending
 picks true a b e = e
@@ -57,13 +48,13 @@ module _ (sys : Behaviour) (s : State) where
   endings (Again t n) plain = ending-stays s.terms t _ refl
   endings (Commit t n) plain = ending-stays s.terms t _ refl
   endings (Back t n) plain = ending-stays s.terms t _ refl
-  endings (Restart t n cause) plain = ending-stays s.terms t _ (start-path (attempt_of (s.units t)) (s.terms t))
+  endings (Restart t n cause) plain = ending-stays s.terms t _ (start-ending (attempt_of (s.units t)) (s.terms t))
   endings (FailTcp p primary k) plain =
       fail-cases sys s Same p (λ u. refl) (λ paired u. picks (is_of_pair sys p u) (without_path (s.terms u)) (s.terms u) refl)
       (λ member breaks u. picks (is_of_pair sys p u) (without_path (s.terms u)) (s.terms u) refl) (λ has u. refl) primary
   endings (FailServer c i k) plain = process-cases sys s Same c i k (λ u. refl) (λ job works. ending-stays s.terms job.request.terminal _ refl)
   endings (Takeover p) plain =
-      λ u. picks (is_live_of sys p s u) (resume_terminal p (s.memory u) (s.units u) (s.ended u) (s.terms u)) (s.terms u) (resumes p (s.memory u) (s.units u) (s.ended u) (s.terms u))
+      λ u. picks (is_live_of sys p s u) (resume_terminal p (s.memory u) (s.units u) (s.ended u) (s.terms u)) (s.terms u) (resume-ending p (s.memory u) (s.units u) (s.ended u) (s.terms u))
   endings (Raise p) plain = λ u. refl
   endings (End t ending) plain = absurd (cc plain)
 

@@ -1,5 +1,5 @@
 -- The world before the first entry.
-use Rattle.std.proofs.Common.{◌≡◌, ℕ, zero, suc, ◌+◌, ◌-◌, ◌<◌, ◌≤◌, ◌^◌, List, [], length, All, Some, Bool, false, inl, refl, ap, ◌∙◌, arith}
+use Rattle.std.proofs.Common.{◌≡◌, ℕ, zero, suc, ◌+◌, ◌-◌, ◌<◌, ◌≤◌, ◌^◌, List, [], length, All, Some, false, inl, refl, ap, ◌∙◌, arith}
 use Rattle.std.specs.Prelude.{slice_get}
 use Rattle.pw_code.specs.Limits.{most_log_lines}
 use Rattle.pw_code.specs.Valid.{IsValid}
@@ -25,17 +25,14 @@ use Rattle.pw_monitor_world.proofs.Outs.{out-same}
 use Rattle.pw_onecopy.specs.Behaviour.{Behaviour}
 use Rattle.pw_onecopy.specs.IsBehaviour.{IsBehaviour}
 use Rattle.pw_paired.specs.State.{starting}
-use Rattle.pw_paired.specs.Units.{any_below, has_request, is_out}
+use Rattle.pw_paired.specs.Units.{has_request, is_out}
+use Rattle.pw_paired.proofs.SingleEntries.{none_below}
 use Rattle.pw_roster.specs.declared.actor.Actor.{Actor}
 use Rattle.pw_tmf.specs.Told.{Told}
 
-any-false : (n : ℕ) (has : ℕ → Bool) → ((j : ℕ) → has j ≡ false) → any_below n has ≡ false
-any-false zero has none = refl
-any-false (suc n) has none = let first = any-false n has none in let last = none n in rw (first, last) refl
-
 -- no request is out
 none-out : (sys : Behaviour) (t : ℕ) → is_out sys (starting sys) t ≡ false
-none-out sys t = any-false sys.classes (λ c. has_request t (sys.processes c) ((starting sys).classes c)) (λ c. any-false (sys.processes c) (λ i. false) (λ i. refl))
+none-out sys t = none_below sys.classes (λ c. has_request t (sys.processes c) ((starting sys).classes c)) (λ c. none_below (sys.processes c) (λ i. false) (λ i. refl))
 
 -- every terminal is live
 all-live : (n : ℕ) (sys : Behaviour) → n ≡ live_below n (starting sys)

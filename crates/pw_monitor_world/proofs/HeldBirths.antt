@@ -1,6 +1,7 @@
 -- A lock has the birth of the open unit that holds it, and an awaited unit is one of a started terminal.
-use Rattle.std.proofs.Common.{◌≡◌, ℕ, ◌<◌, List, [], ◌∷◌, ◌++◌, filter, not, cond, Option, Some, None, Bool, true, false, refl, sym, ap, subst, ◌∙◌}
+use Rattle.std.proofs.Common.{◌≡◌, ℕ, ◌<◌, List, [], ◌∷◌, filter, not, cond, Option, Some, None, Bool, true, false, refl, sym, ap, subst, ◌∙◌}
 use Rattle.std.specs.List.{AllByRecursion}
+use Rattle.pw_base.proofs.Plain.{all-last}
 use Rattle.pw_event.specs.declared.event.Cause.{Cause}
 use Rattle.pw_event.specs.declared.event.Cause.TheVariants as cause
 use Rattle.pw_event.specs.declared.event.Event.{Event}
@@ -87,10 +88,6 @@ filtered P keep (lock ∷ locks) all = by (keep lock) (filtered P keep locks all
     by true later = (all.0, later)
     by false later = later
 
-added : (P : Lock → Type 0) (locks : List Lock) (lock : Lock) → AllByRecursion P locks → P lock → AllByRecursion P (locks ++ lock ∷ [])
-added P [] lock all one = (one, tt)
-added P (x ∷ locks) lock all one = (all.0, added P locks lock all.1 one)
-
 module _ (sys : Behaviour) (b : IsBehaviour sys) (s : State) (i : Inv sys s) (h : AllByRecursion (IsHeld s.units) s.locks) (ok : BirthsOk s) where
   -- the locks of some terminals go
   left : (entry : Event) → Fits sys s entry → (whose : ℕ → Bool) → AllByRecursion (HasBirth (change sys s entry)) (without_locks whose s.locks)
@@ -103,7 +100,7 @@ module _ (sys : Behaviour) (b : IsBehaviour sys) (s : State) (i : Inv sys s) (h 
   births-kept (File c p op mode f status) l =
       let to = file-is sys s c p op mode f status l in
       subst (λ (x : State). AllByRecursion (HasBirth x) x.locks) (sym to)
-      (added (HasBirth (do_operation sys c p l.job l.call s)) s.locks (lock_of_job sys s l.job l.call) (subst (λ (x : State). AllByRecursion (HasBirth x) s.locks) to (same (File c p op mode f status) l)) (λ u is. ap birth_of is))
+      (all-last (HasBirth (do_operation sys c p l.job l.call s)) s.locks (lock_of_job sys s l.job l.call) (subst (λ (x : State). AllByRecursion (HasBirth x) s.locks) to (same (File c p op mode f status) l)) (λ u is. ap birth_of is))
   births-kept (Commit t n) l = left (Commit t n) l (only t)
   births-kept (Back t n) l = left (Back t n) l (only t)
   births-kept (Restart t n kind) l = left (Restart t n kind) l (only t)

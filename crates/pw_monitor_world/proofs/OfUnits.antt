@@ -5,6 +5,7 @@ use Rattle.std.specs.List.{AllByRecursion}
 use Rattle.std.specs.Option.{option_map}
 use Rattle.std.proofs.lemmas.Bool.{cases_eq, cases_lt, eq-eqb, ne_eqb}
 use Rattle.std.proofs.lemmas.List.Elements.{All-from_recursion}
+use Rattle.pw_base.proofs.Plain.{some_is}
 use Rattle.pw_class.specs.Queue.{at_process}
 use Rattle.pw_class.specs.declared.request.Request.{Request}
 use Rattle.pw_code.specs.declared.context.Context.{Context}
@@ -16,7 +17,6 @@ use Rattle.pw_kept.specs.Asked.{verb_in}
 use Rattle.pw_kept.specs.Changes.{birth_for, unit_at}
 use Rattle.pw_kept.specs.Stands.{StandsForJob, StandsIfAny}
 use Rattle.pw_kept.proofs.Agreeing.{there-is}
-use Rattle.pw_kept.proofs.Components.{some_is}
 use Rattle.pw_kept.proofs.OfRuns.{works-for}
 use Rattle.pw_kept.proofs.Readings as readings
 use Rattle.pw_files.specs.Records.{IsContent}

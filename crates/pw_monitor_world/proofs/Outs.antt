@@ -1,7 +1,7 @@
 -- Requests in what is kept and in the state.
-use Rattle.std.proofs.Common.{◌≡◌, ℕ, zero, suc, ◌+◌, ◌-◌, ◌<◌, ◌≤◌, ◌||◌, List, length, Some, Bool, true, false, refl, sym, ap, subst, ◌∙◌, ⊎_elim, arith}
+use Rattle.std.proofs.Common.{◌≡◌, ℕ, ◌+◌, ◌-◌, ◌<◌, ◌≤◌, List, length, Some, Bool, true, refl, sym, ap, subst, ◌∙◌, arith}
 use Rattle.std.specs.List.{list_any}
-use Rattle.std.proofs.lemmas.Bool.{cases_eq, eq-eqb}
+use Rattle.std.proofs.lemmas.Bool.{eq-eqb, or_right}
 use Rattle.pw_class.specs.Queue as queue
 use Rattle.pw_class.specs.Queue.{at_process, works_for}
 use Rattle.pw_code.specs.declared.system.System.{System}
@@ -17,37 +17,17 @@ use Rattle.pw_paired.specs.State.{Job, State}
 use Rattle.pw_paired.specs.Units.{any_below, has_request, is_out, request_in}
 use Rattle.pw_laws.proofs.requests.Classes.{IsProcess}
 use Rattle.pw_laws.proofs.requests.Queues.{has-queue, works-queue}
+use Rattle.pw_laws.proofs.Lacking.{any_below-true}
 
 -- ---- numbers below a bound
-
-pub any-true : (n : ℕ) (has : ℕ → Bool) (j : ℕ) → j < n → has j ≡ true → any_below n has ≡ true
-any-true zero has j low is = absurd (omega (arith, low))
-any-true (suc n) has j low is = ⊎_elim
-    (λ same. or-right (any_below n has) (has n) (subst (λ k. has k ≡ true) same is))
-    (λ differ. or-left (any_below n has) (has n) (any-true n has j (omega (arith, low, differ)) is))
-    (cases_eq j n)
-  where
-    or-left : (a b : Bool) → a ≡ true → (a || b) ≡ true
-    or-left true b e = refl
-    or-left false b e = absurd (cc e)
-
-    or-right : (a b : Bool) → b ≡ true → (a || b) ≡ true
-    or-right true b e = refl
-    or-right false true e = refl
-    or-right false false e = absurd (cc e)
-
-pub or-second : (a b : Bool) → b ≡ true → (a || b) ≡ true
-or-second true b e = refl
-or-second false true e = refl
-or-second false false e = absurd (cc e)
 
 -- ---- a process at work
 
 -- its class has the request of a server at work
 pub job-has : (sys : Behaviour) (state : State) (c i : ℕ) (job : Job) → IsProcess sys c i → (state.classes c).busy i ≡ Some job → has_request job.request.terminal (sys.processes c) (state.classes c) ≡ true
 job-has sys state c i job of works =
-    or-second (list_any (queue.is_of t) (state.classes c).waiting) (any_below (sys.processes c) at)
-    (any-true (sys.processes c) at (i - 1) (omega (arith, of.from_one, of.within))
+    or_right (list_any (queue.is_of t) (state.classes c).waiting) (any_below (sys.processes c) at)
+    (any_below-true (sys.processes c) at (i - 1) (omega (arith, of.from_one, of.within))
     (let e : i - 1 + 1 ≡ i = omega (arith, of.from_one) in
     ap (λ j. works_for t (request_in ((state.classes c).busy j))) e ∙ (ap (λ o. works_for t (request_in o)) works ∙ eq-eqb t t refl)))
   where
@@ -60,7 +40,7 @@ job-has sys state c i job of works =
 -- so it is out
 pub job-out : (sys : Behaviour) (state : State) (c i : ℕ) (job : Job) → IsProcess sys c i → (state.classes c).busy i ≡ Some job → is_out sys state job.request.terminal ≡ true
 job-out sys state c i job of works =
-    any-true sys.classes (λ d. has_request job.request.terminal (sys.processes d) (state.classes d)) c of.there (job-has sys state c i job of works)
+    any_below-true sys.classes (λ d. has_request job.request.terminal (sys.processes d) (state.classes d)) c of.there (job-has sys state c i job of works)
 
 -- ---- what is kept says the same
 

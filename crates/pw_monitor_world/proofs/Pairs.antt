@@ -2,7 +2,8 @@
 use Rattle.std.proofs.Common.{◌≡◌, ℕ, ◌==◌, ◌&&◌, List, Option, Some, None, Bool, true, false, is_some, refl, sym, ap, ap₂, subst, ◌∙◌}
 use Rattle.std.specs.Prelude.{if◌then◌else◌}
 use Rattle.std.proofs.Math.Path.{fun_ext}
-use Rattle.std.proofs.lemmas.Bool.{eq-eqb, eqb-true}
+use Rattle.std.proofs.lemmas.Bool.{eq-eqb, eqb-true, and_parts}
+use Rattle.pw_pair.proofs.Calling.{start-ending}
 use Rattle.pw_class.specs.Queue.{works_for}
 use Rattle.pw_event.specs.declared.event.Ending.{Ending}
 use Rattle.pw_event.specs.declared.event.Event.{Event}
@@ -73,18 +74,9 @@ module _ (sys : Behaviour) (s x : State) (p t : ℕ) (mine : (sys.pair_of t == p
   ended-same : is_some (s.terms t).ending ≡ is_some (x.terms t).ending
   ended-same = ap ended_in known
 
-and-both : (a b : Bool) → (a && b) ≡ true → (a ≡ true) × (b ≡ true)
-and-both true true e = (refl, refl)
-and-both true false e = absurd (cc e)
-and-both false b e = absurd (cc e)
-
 calm-path : (o : Option (List PathAnswer)) (term : Term) → (with_start_path o term).pending ≡ None
 calm-path None term = refl
 calm-path (Some start) term = refl
-
-end-path : (o : Option (List PathAnswer)) (term : Term) → (with_start_path o term).ending ≡ term.ending
-end-path None term = refl
-end-path (Some start) term = refl
 
 module _ (sys : Behaviour) (b : IsBehaviour sys) (s : State) (i : Inv sys s) (p : ℕ) where
   -- a message of the terminal is in flight now
@@ -103,7 +95,7 @@ module _ (sys : Behaviour) (b : IsBehaviour sys) (s : State) (i : Inv sys s) (p 
       let gone : (change sys s (Applied t)).flight t ≡ None = upd-same s.flight t None t refl in
       absurd (cc (flies, same, gone))
   pair-differs (Restart t n cause) l live e is =
-      let both = and-both (sys.pair_of t == p) (is_takeover (s.terms t).pending) e in
+      let both = and_parts (sys.pair_of t == p) (is_takeover (s.terms t).pending) e in
       let same = taken-same sys s (change sys s (Restart t n cause)) p t both.0 is in
       let calm : is_takeover ((change sys s (Restart t n cause)).terms t).pending ≡ false = ap (λ (y : Term). is_takeover y.pending) (upd-same s.terms t _ t refl) ∙ ap is_takeover (calm-path (attempt_of (s.units t)) (s.terms t)) in
       let pends = both.1 in
@@ -175,7 +167,7 @@ module _ (sys : Behaviour) (b : IsBehaviour sys) (s : State) (i : Inv sys s) (p 
       let at : (change sys s (Restart own n cause)).terms own ≡ with_start_path (attempt_of (s.units own)) (s.terms own) = upd-same s.terms own _ own refl in
       to (change sys s (Restart own n cause)) own t e
       (by-parts (change sys s (Restart own n cause)) own
-      (ap (λ (y : Term). y.ending) at ∙ end-path (attempt_of (s.units own)) (s.terms own))
+      (ap (λ (y : Term). y.ending) at ∙ start-ending (attempt_of (s.units own)) (s.terms own))
       (ap (λ (y : Term). is_takeover y.pending) at ∙ (ap is_takeover (calm-path (attempt_of (s.units own)) (s.terms own)) ∙ sym quiet)) refl refl)
   own-stays (FailServer c q k) l none t of e = by ((s.classes c).busy q) refl e
     where

@@ -1,15 +1,16 @@
 -- Whose requests are out behind an entry.
-use Rattle.std.proofs.Common.{◌≡◌, ℕ, zero, suc, ◌+◌, ◌<◌, ◌==◌, ◌&&◌, ◌||◌, List, [], ◌∷◌, ◌++◌, Option, Some, None, Bool, true, false, refl, sym, ap, subst, ◌∙◌, ⊎_elim}
+use Rattle.std.proofs.Common.{◌≡◌, ℕ, ◌+◌, ◌<◌, ◌==◌, ◌&&◌, List, [], ◌∷◌, ◌++◌, Option, Some, None, Bool, true, false, refl, sym, ap, subst, ◌∙◌}
 use Rattle.std.specs.Prelude.{if◌then◌else◌}
 use Rattle.std.specs.List.{list_any}
-use Rattle.std.proofs.lemmas.Bool.{cases_eq, eq-eqb, ne_eqb}
+use Rattle.std.proofs.lemmas.Bool.{eq-eqb, ne_eqb, or_left, or_right}
+use Rattle.pw_base.proofs.Plain.{eqb-swap}
 use Rattle.pw_class.specs.Queue.{is_of, works_for}
 use Rattle.pw_class.specs.declared.request.Request.{Request}
 use Rattle.pw_event.specs.declared.event.Ending.TheVariants.{Stopped, NoEntries, Fault, Suspended, Lost}
 use Rattle.pw_event.specs.declared.event.Event.{Event}
 use Rattle.pw_event.specs.declared.event.Event.TheVariants.{Show, Key, CheckStart, CheckEnd, CheckCopy, Applied, Begin, Send, Take, File, Reply, Again, Commit, Back, Restart, FailTcp, FailServer, Takeover, Raise, End}
 use Rattle.pw_monitor_world.specs.Touches.{leaves}
-use Rattle.pw_monitor_world.proofs.Outs.{any-true, job-out, or-second}
+use Rattle.pw_monitor_world.proofs.Outs.{job-out}
 use Rattle.pw_onecopy.specs.Behaviour.{Behaviour}
 use Rattle.pw_onecopy.specs.IsBehaviour.{IsBehaviour}
 use Rattle.pw_onecopy.specs.Path.{Failed, Replied, unit_number}
@@ -20,12 +21,14 @@ use Rattle.pw_paired.specs.Server.{answer_on, do_operation, free_process, with_j
 use Rattle.pw_paired.specs.State.{Mode, Alone, Raising, Paired, Down, Gone, Class, Job, State}
 use Rattle.pw_paired.specs.Step.{Legal, change}
 use Rattle.pw_paired.specs.Terminal.{path_of}
-use Rattle.pw_paired.specs.Units.{any_below, commit_unit, give_answer, has_request, is_out, only, request_in, without_requests}
+use Rattle.pw_paired.specs.Units.{commit_unit, give_answer, has_request, is_out, only, request_in, without_requests}
+use Rattle.pw_paired.proofs.SingleEntries.{none_below}
 use Rattle.pw_laws.proofs.induction.Served.{file-cases, reply-any}
 use Rattle.pw_laws.proofs.kept.Kept.{Inv}
 use Rattle.pw_laws.proofs.requests.Classes.{InBounds, IsWithout, NoneOf, NotFor}
 use Rattle.pw_laws.proofs.requests.Requests.{AtWork, InLine, Nowhere, Place, Placed, RequestsOk, place_inside, requests_cancelled, requests_filed, requests_freed, requests_sent, place_of_first, requests_taken, without_places}
 use Rattle.pw_laws.proofs.terms.KeepsChecks.{can_path, path_ok-is}
+use Rattle.pw_laws.proofs.Lacking.{any_below-true}
 
 -- ---- a place says whether a request is out
 
@@ -33,10 +36,6 @@ abbrev pub somewhere : Place → Bool
 somewhere Nowhere = false
 somewhere (InLine c request) = true
 somewhere (AtWork c i job) = true
-
-any-false : (n : ℕ) (has : ℕ → Bool) → ((j : ℕ) → has j ≡ false) → any_below n has ≡ false
-any-false zero has none = refl
-any-false (suc n) has none = let first = any-false n has none in let last = none n in rw (first, last) refl
 
 pub none-waits : (t : ℕ) (requests : List Request) → NoneOf t requests → list_any (is_of t) requests ≡ false
 none-waits t [] none = refl
@@ -49,16 +48,12 @@ none-works t (Some job) none = ne_eqb job.request.terminal t none
 pub without-has : (t n : ℕ) (class : Class) → IsWithout t class → has_request t n class ≡ false
 without-has t n class without =
     let line = none-waits t class.waiting without.line in
-    let work = any-false n (λ i. works_for t (request_in (class.busy (i + 1)))) (λ i. none-works t (class.busy (i + 1)) (without.work (i + 1))) in
+    let work = none_below n (λ i. works_for t (request_in (class.busy (i + 1)))) (λ i. none-works t (class.busy (i + 1)) (without.work (i + 1))) in
     rw (line, work) refl
 
 one-waits : (t : ℕ) (front back : List Request) (request : Request) → request.terminal ≡ t → list_any (is_of t) (front ++ request ∷ back) ≡ true
 one-waits t [] back request whose = let mine = eq-eqb request.terminal t whose in rw mine refl
-one-waits t (x ∷ front) back request whose = or-second (is_of t x) (list_any (is_of t) (front ++ request ∷ back)) (one-waits t front back request whose)
-
-or-first : (a b : Bool) → a ≡ true → (a || b) ≡ true
-or-first true b e = refl
-or-first false b e = absurd (cc e)
+one-waits t (x ∷ front) back request whose = or_right (is_of t x) (list_any (is_of t) (front ++ request ∷ back)) (one-waits t front back request whose)
 
 line-there : (sys : Behaviour) (classes : ℕ → Class) → InBounds sys classes → (c : ℕ) (front back : List Request) (request : Request) → (classes c).waiting ≡ front ++ request ∷ back → c < sys.classes
 line-there sys classes bounds c [] back request is = bounds.line c request back is
@@ -70,12 +65,12 @@ out-at sys state places ok t = by (places t) refl
     by : (place : Place) → places t ≡ place → is_out sys state t ≡ somewhere place
     by Nowhere is =
         let placed : (c : ℕ) → IsWithout t (state.classes c) = subst (λ p. Placed state.classes t p) is (ok.placed t) in
-        any-false sys.classes (λ c. has_request t (sys.processes c) (state.classes c)) (λ c. without-has t (sys.processes c) (state.classes c) (placed c))
+        none_below sys.classes (λ c. has_request t (sys.processes c) (state.classes c)) (λ c. without-has t (sys.processes c) (state.classes c) (placed c))
     by (InLine c request) is =
         let here = subst (λ p. Placed state.classes t p) is (ok.placed t) in
         let line = here.here.line in
-        any-true sys.classes (λ d. has_request t (sys.processes d) (state.classes d)) c (line-there sys state.classes ok.bounds c line.front line.back request line.waits)
-        (or-first (list_any (is_of t) (state.classes c).waiting) _ (ap (list_any (is_of t)) line.waits ∙ one-waits t line.front line.back request line.whose))
+        any_below-true sys.classes (λ d. has_request t (sys.processes d) (state.classes d)) c (line-there sys state.classes ok.bounds c line.front line.back request line.waits)
+        (or_left (list_any (is_of t) (state.classes c).waiting) _ (ap (list_any (is_of t)) line.waits ∙ one-waits t line.front line.back request line.whose))
     by (AtWork c i job) is =
         let here = subst (λ p. Placed state.classes t p) is (ok.placed t) in
         let work = here.here.work in
@@ -104,9 +99,6 @@ fails_as sys p false m s = backup_fails sys p m s
 fails-is : (sys : Behaviour) (p k : ℕ) (primary : Bool) (s : State) → change sys s (FailTcp p primary k) ≡ fails_as sys p primary (s.modes p) s
 fails-is sys p k true s = refl
 fails-is sys p k false s = refl
-
-eqb-swap : (u v : ℕ) → (u == v) ≡ (v == u)
-eqb-swap u v = ⊎_elim (λ same. eq-eqb u v same ∙ sym (eq-eqb v u (sym same))) (λ differ. ne_eqb u v differ ∙ sym (ne_eqb v u (λ e. differ (sym e)))) (cases_eq u v)
 
 -- whether a terminal's request is out behind an entry, by whether it was before
 abbrev pub out_behind : Behaviour → State → Event → ℕ → Bool → Bool

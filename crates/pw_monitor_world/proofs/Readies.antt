@@ -24,6 +24,7 @@ use Rattle.pw_pair.specs.Follows.{mode_as}
 use Rattle.pw_kept.proofs.Agreeing.{pair-among}
 use Rattle.pw_monitor_world.specs.Touches.{loses}
 use Rattle.pw_monitor_world.proofs.Placed.{loses_in, out-at, outs, somewhere}
+use Rattle.pw_monitor_world.proofs.Classes.{first-no}
 use Rattle.pw_onecopy.specs.Behaviour.{Behaviour}
 use Rattle.pw_onecopy.specs.IsBehaviour.{IsBehaviour}
 use Rattle.pw_onecopy.specs.Update.{upd}
@@ -95,10 +96,6 @@ pick-ready : (b : Bool) (x y : KeptTerminal) → b ≡ false → (if b then x el
 pick-ready true x y e = absurd (cc e)
 pick-ready false x y e = refl
 
-and-true : (a : Bool) → (a && true) ≡ false → a ≡ false
-and-true true e = e
-and-true false e = refl
-
 -- a unit that is left changes no context
 left-stays : (b : Bool) (own : KeptTerminal) → (if b then without_unit own else own).ready ≡ own.ready
 left-stays true own = refl
@@ -106,16 +103,16 @@ left-stays false own = refl
 
 -- left by the failure, or not one of the terminals
 left-ready : (q : Bool) (m : pair.Mode) (terminals : List ℕ) (kept : Kept) (u : ℕ) → (is_among terminals u && loses q m) ≡ false → ReadyOf (fails_kept q m terminals kept) u ≡ ReadyOf kept u
-left-ready true mode.Paired terminals kept u out = pick-ready (is_among terminals u) _ _ (and-true (is_among terminals u) out)
-left-ready true mode.Raising terminals kept u out = pick-ready (is_among terminals u) _ _ (and-true (is_among terminals u) out) ∙ left-stays (is_among terminals u) (kept.terminals u)
-left-ready true mode.Alone terminals kept u out = pick-ready (is_among terminals u) _ _ (and-true (is_among terminals u) out) ∙ left-stays (is_among terminals u) (kept.terminals u)
+left-ready true mode.Paired terminals kept u out = pick-ready (is_among terminals u) _ _ (first-no (is_among terminals u) out)
+left-ready true mode.Raising terminals kept u out = pick-ready (is_among terminals u) _ _ (first-no (is_among terminals u) out) ∙ left-stays (is_among terminals u) (kept.terminals u)
+left-ready true mode.Alone terminals kept u out = pick-ready (is_among terminals u) _ _ (first-no (is_among terminals u) out) ∙ left-stays (is_among terminals u) (kept.terminals u)
 left-ready true mode.Down terminals kept u out = refl
 left-ready true mode.Gone terminals kept u out = refl
 left-ready false mode.Alone terminals kept u out = refl
 left-ready false mode.Raising terminals kept u out = refl
 left-ready false mode.Paired terminals kept u out = refl
 left-ready false mode.Gone terminals kept u out = refl
-left-ready false mode.Down terminals kept u out = pick-ready (is_among terminals u) _ _ (and-true (is_among terminals u) out) ∙ left-stays (is_among terminals u) (kept.terminals u)
+left-ready false mode.Down terminals kept u out = pick-ready (is_among terminals u) _ _ (first-no (is_among terminals u) out) ∙ left-stays (is_among terminals u) (kept.terminals u)
 
 module _ (system : System) (script : List FailLine) (b : IsBehaviour (behaviour script system)) (s : State) (i : Inv (behaviour script system) s) (members : ℕ → List ℕ) (are : (p : ℕ) → AreOf system p (members p))
     (kept : Kept) (stands : Stands system script s kept) (u : ℕ) (low : u < length system.terminals) where

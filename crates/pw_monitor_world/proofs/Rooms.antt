@@ -4,6 +4,7 @@ use Rattle.std.specs.Prelude.{if◌then◌else◌, slice_get}
 use Rattle.std.proofs.lemmas.Bool.{ltb-true}
 use Rattle.std.proofs.lemmas.List.{length-map}
 use Rattle.std.proofs.lemmas.Option.{slice_get_within}
+use Rattle.pw_base.proofs.Plain.{some_is}
 use Rattle.pw_code.specs.declared.context.Context.{Context}
 use Rattle.pw_code.specs.declared.system.ClassInfo.{ClassInfo}
 use Rattle.pw_code.specs.declared.system.TermInfo.{TermInfo}
@@ -15,7 +16,6 @@ use Rattle.pw_kept.specs.Stands.{IsReadyIfAny, StandsForJob, StandsForKnown, Sta
 use Rattle.pw_kept.specs.TerminalTests.{can_step}
 use Rattle.pw_kept.proofs.Agreeing.{there-is}
 use Rattle.pw_kept.proofs.Arrived.{stands-behind, stands-ready}
-use Rattle.pw_kept.proofs.Components.{some_is}
 use Rattle.pw_kept.proofs.PathLengths.{done-short, path-short, start-short}
 use Rattle.pw_kept.proofs.Readings as readings
 use Rattle.pw_kept.proofs.Testing.{can-same}

@@ -1,5 +1,5 @@
 -- Which entries of a world are steps, and whose.
-use Rattle.std.proofs.Common.{◌≡◌, ℕ, ◌<◌, ◌≤◌, ◌∷◌, ◌++◌, List, [], length, true, false, Option, Some, None, refl, sym, ap, subst, append_assoc, ◌∙◌, arith}
+use Rattle.std.proofs.Common.{◌≡◌, ℕ, ◌<◌, ◌≤◌, List, [], length, true, false, Option, Some, None, refl, sym, ap, subst, ◌∙◌, arith}
 use Rattle.std.specs.Prelude.{nat_lt, nat_le, slice_get}
 use Rattle.std.proofs.lemmas.Bool.{le-leb, lt-ltb}
 use Rattle.std.proofs.lemmas.Option.{get_or_from_slice_get, slice_get_within}
@@ -25,23 +25,14 @@ use Rattle.pw_monitor_world.specs.Enabled.{IsEnabled}
 use Rattle.pw_monitor_world.specs.Seen.{Seen, finished, state_of, sys_of}
 use Rattle.pw_monitor_world.specs.Worlds.{Books, IsWorld}
 use Rattle.pw_monitor_world.proofs.Dues.{due-is}
-use Rattle.pw_onecopy.specs.Behaviour.{Behaviour}
 use Rattle.pw_onecopy.specs.IsBehaviour.{IsBehaviour}
-use Rattle.pw_paired.specs.State.{State, starting}
-use Rattle.pw_paired.specs.Step.{Legal, after_from, effect, line_due, line_wanted}
+use Rattle.pw_paired.specs.State.{starting}
+use Rattle.pw_paired.specs.Step.{Legal, line_due, line_wanted}
 use Rattle.pw_roster.specs.Places.{is_placed}
 use Rattle.pw_roster.specs.declared.actor.Actor.{Actor}
 use Rattle.pw_roster.specs.declared.actor.Actor.TheVariants as actor
 use Rattle.pw_laws.specs.serial.Guarded.{is_fail}
-
--- the log of the state behind a log
-pub log-from : (sys : Behaviour) (s : State) (log : List Event) → (after_from sys s log).log ≡ s.log ++ log
-log-from sys s [] = sym (append-nothing s.log)
-  where
-    append-nothing : (xs : List Event) → xs ++ [] ≡ xs
-    append-nothing [] = refl
-    append-nothing (x ∷ xs) = ap (λ ys. x ∷ ys) (append-nothing xs)
-log-from sys s (entry ∷ log) = log-from sys (effect sys s entry) log ∙ append_assoc s.log (entry ∷ []) log
+use Rattle.pw_laws.proofs.restarts.Few.{log-from}
 
 -- ---- owners and actors
 

@@ -1,10 +1,10 @@
 -- The table of touched actors is exact, and says the stamps.
-use Rattle.std.proofs.Common.{◌≡◌, ◌⊎◌, ℕ, ◌+◌, ◌-◌, ◌<◌, ◌≤◌, ◌==◌, ◌&&◌, ◌||◌, not, List, [], ◌∷◌, ◌++◌, length, Option, Some, None, Bool, true, false, is_some, inl, inr, refl, sym, ap, ap₂, subst, ◌∙◌, ⊎_elim, length-append, arith}
+use Rattle.std.proofs.Common.{◌≡◌, ◌⊎◌, ℕ, ◌+◌, ◌-◌, ◌<◌, ◌≤◌, ◌==◌, ◌&&◌, not, List, [], ◌∷◌, ◌++◌, length, Option, Some, None, Bool, true, false, is_some, inl, inr, refl, sym, ap, ap₂, subst, ◌∙◌, ⊎_elim, length-append, arith}
 use Rattle.std.specs.Prelude.{if◌then◌else◌, slice_get}
 use Rattle.std.specs.List.{list_any}
 use Rattle.std.proofs.Math.Path.{fun_ext}
 use Rattle.std.proofs.Math.Seq.{take-length}
-use Rattle.std.proofs.lemmas.Bool.{cases_Bool, cases_lt, eqb-true}
+use Rattle.std.proofs.lemmas.Bool.{cases_Bool, cases_lt, eqb-true, not-true, or_parts, not-false, or_cases}
 use Rattle.std.proofs.lemmas.List.{take-append-le}
 use Rattle.std.proofs.lemmas.Option.{slice_get_within}
 use Rattle.pw_class.specs.Queue as queue
@@ -87,22 +87,6 @@ mode-eq Gone Raising e = absurd (cc e)
 mode-eq Gone Paired e = absurd (cc e)
 mode-eq Gone Down e = absurd (cc e)
 mode-eq Gone Gone e = refl
-
-not-true : (b : Bool) → not b ≡ true → b ≡ false
-not-true true e = absurd (cc e)
-not-true false e = refl
-
-not-false : (b : Bool) → not b ≡ false → b ≡ true
-not-false true e = refl
-not-false false e = absurd (cc e)
-
-either : (a b : Bool) → (a || b) ≡ true → (a ≡ true) ⊎ (b ≡ true)
-either true b e = inl refl
-either false b e = inr e
-
-neither : (a b : Bool) → (a || b) ≡ false → (a ≡ false) × (b ≡ false)
-neither true b e = absurd (cc e)
-neither false b e = (refl, e)
 
 module _ (world : Seen) (books : Books) (w : IsWorld world books) (entry : Event) (can : CanPush world entry) where
   abbrev sys : Behaviour
@@ -291,22 +275,22 @@ module _ (world : Seen) (books : Books) (w : IsWorld world books) (entry : Event
   terminal-differs t low e = ⊎_elim
       (λ at. own-differs sys w.deck state inv entry can.legal live t (sym (is-at t entry here) ∙ at))
       (λ turn is. turns-mode (sys.pair_of t) (w.deck.pairs t low) turn (ap mode_in is))
-      (either (is_at world.kept t entry) (turns world.system world.kept entry (tcp_of world.system t)) e)
+      (or_cases (is_at world.kept t entry) (turns world.system world.kept entry (tcp_of world.system t)) e)
 
   terminal-stays : (t : ℕ) → t < length world.system.terminals → touches world.system world.kept entry (actor.Terminal t) ≡ false → state_in sys state (actor.Terminal t) ≡ state_in sys (change sys state entry) (actor.Terminal t)
   terminal-stays t low e =
-      let both = neither (is_at world.kept t entry) (turns world.system world.kept entry (tcp_of world.system t)) e in
+      let both = or_parts (is_at world.kept t entry) (turns world.system world.kept entry (tcp_of world.system t)) e in
       stays-same sys w.deck state inv t entry can.legal (sym (is-at t entry here) ∙ both.0) (stays-mode (sys.pair_of t) (w.deck.pairs t low) both.1)
 
   pair-touched : (p : ℕ) → p < length world.system.tcps → touches world.system world.kept entry (actor.Pair p) ≡ true → state_in sys state (actor.Pair p) ≡ state_in sys (change sys state entry) (actor.Pair p) → ⊥
   pair-touched p few e = ⊎_elim
       (λ at. pair-differs sys w.deck state inv p entry can.legal live (sym (is-pair p entry here) ∙ at))
       (λ turn is. turns-mode p few turn (ap mode_in is))
-      (either (tells_of_pair world.system world.kept p entry) (turns world.system world.kept entry p) e)
+      (or_cases (tells_of_pair world.system world.kept p entry) (turns world.system world.kept entry p) e)
 
   pair-untouched : (p : ℕ) → p < length world.system.tcps → touches world.system world.kept entry (actor.Pair p) ≡ false → state_in sys state (actor.Pair p) ≡ state_in sys (change sys state entry) (actor.Pair p)
   pair-untouched p few e =
-      let both = neither (tells_of_pair world.system world.kept p entry) (turns world.system world.kept entry p) e in
+      let both = or_parts (tells_of_pair world.system world.kept p entry) (turns world.system world.kept entry p) e in
       pair-stays sys w.deck state inv p entry can.legal (sym (is-pair p entry here) ∙ both.0) (stays-mode p few both.1)
 
   class-cancel-is : (c : ℕ) → c < length world.system.classes
@@ -317,11 +301,11 @@ module _ (world : Seen) (books : Books) (w : IsWorld world books) (entry : Event
   class-touched c low e = ⊎_elim
       (λ at is. class-differs sys state entry can.legal c (sym (is-class c entry here) ∙ at) (ap class_in is))
       (λ cancel is. class-cancels sys state (change sys state entry) knows c (cancel-some sys (members_of world.system) among within state entry _ (sym (class-cancel-is c low) ∙ cancel)) (ap class_in is))
-      (either (is_at_class world.kept c entry) (cancels_where world.system world.kept entry (λ t. queue.has_request t (world.kept.queues c))) e)
+      (or_cases (is_at_class world.kept c entry) (cancels_where world.system world.kept entry (λ t. queue.has_request t (world.kept.queues c))) e)
 
   class-untouched : (c : ℕ) → c < length world.system.classes → touches world.system world.kept entry (actor.Class c) ≡ false → state_in sys state (actor.Class c) ≡ state_in sys (change sys state entry) (actor.Class c)
   class-untouched c low e =
-      let both = neither (is_at_class world.kept c entry) (cancels_where world.system world.kept entry (λ t. queue.has_request t (world.kept.queues c))) e in
+      let both = or_parts (is_at_class world.kept c entry) (cancels_where world.system world.kept entry (λ t. queue.has_request t (world.kept.queues c))) e in
       ap OfClass (⊎_elim
       (λ may. class-spared sys state (change sys state entry) knows c (cancel-none sys (members_of world.system) among within state entry _ may (sym (class-cancel-is c low) ∙ both.1))
       (λ i job works. job-has sys state c i job (inv.requests.bounds.work c i job works) works))
@@ -340,11 +324,11 @@ module _ (world : Seen) (books : Books) (w : IsWorld world books) (entry : Event
   process-touched c i of e = ⊎_elim
       (λ at is. process-differs sys state entry can.legal free-taken c i (sym (is-process c i entry here) ∙ at) (ap job_in is))
       (λ cancel is. process-cancels sys state (change sys state entry) knows c i (cancel-some sys (members_of world.system) among within state entry _ (sym (process-cancel-is c i of) ∙ cancel)) (ap job_in is))
-      (either (is_at_process world.kept c i entry) (cancels_where world.system world.kept entry (λ t. works_for t (at_process (world.kept.queues c) i))) e)
+      (or_cases (is_at_process world.kept c i entry) (cancels_where world.system world.kept entry (λ t. works_for t (at_process (world.kept.queues c) i))) e)
 
   process-untouched : (c i : ℕ) → IsProcess sys c i → touches world.system world.kept entry (actor.Process c i) ≡ false → state_in sys state (actor.Process c i) ≡ state_in sys (change sys state entry) (actor.Process c i)
   process-untouched c i of e =
-      let both = neither (is_at_process world.kept c i entry) (cancels_where world.system world.kept entry (λ t. works_for t (at_process (world.kept.queues c) i))) e in
+      let both = or_parts (is_at_process world.kept c i entry) (cancels_where world.system world.kept entry (λ t. works_for t (at_process (world.kept.queues c) i))) e in
       ap OfProcess (⊎_elim
       (λ may. process-spared sys state (change sys state entry) knows c i (cancel-none sys (members_of world.system) among within state entry _ may (sym (process-cancel-is c i of) ∙ both.1)))
       (λ plain. process-stays sys state entry can.legal plain c i (sym (is-process c i entry here) ∙ both.0)) (cases_Bool (may_cancel entry)))

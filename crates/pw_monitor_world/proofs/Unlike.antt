@@ -1,7 +1,8 @@
 -- What an entry leaves of a terminal at which it is not.
 use Rattle.std.proofs.Common.{◌≡◌, ◌≢◌, ℕ, ◌==◌, ◌&&◌, Option, Some, None, Bool, true, false, is_none, refl, sym, ap, ◌∙◌, ⊎_elim}
 use Rattle.std.specs.Prelude.{if◌then◌else◌}
-use Rattle.std.proofs.lemmas.Bool.{cases_eq, eqb-false, ne_eqb}
+use Rattle.std.proofs.lemmas.Bool.{cases_eq, eqb-false, ne_eqb, and_left}
+use Rattle.pw_base.proofs.Plain.{and-false}
 use Rattle.pw_class.specs.Queue.{works_for}
 use Rattle.pw_event.specs.declared.event.Ending.{Ending}
 use Rattle.pw_event.specs.declared.event.Ending.TheVariants.{Stopped, NoEntries, Fault, Suspended, Lost}
@@ -63,14 +64,6 @@ unlike t u e is = eqb-false t u e (sym is)
 pick-no : {A : Type 0} (b : Bool) (x y : A) → b ≡ false → (if b then x else y) ≡ y
 pick-no true x y e = absurd (cc e)
 pick-no false x y e = refl
-
-and-no : (a b : Bool) → a ≡ false → (a && b) ≡ false
-and-no false b e = refl
-and-no true b e = absurd (cc e)
-
-and-last : (a : Bool) → (a && false) ≡ false
-and-last true = refl
-and-last false = refl
 
 module _ (sys : Behaviour) (s : State) (u : ℕ) where
   -- a pair whose mode turns is not that of a terminal whose pair has its mode
@@ -159,7 +152,7 @@ module _ (sys : Behaviour) (s : State) (u : ℕ) where
   rest (Takeover p) l e m =
       let other = turned p Alone (λ d. let down = l.fits.down in absurd (cc (down, d))) m in
       record {
-        terms = pick-no (is_live_of sys p s u) _ _ (and-no (is_of_pair sys p u) (is_none (s.terms u).ending) other);
+        terms = pick-no (is_live_of sys p s u) _ _ (and_left (is_of_pair sys p u) (is_none (s.terms u).ending) other);
         units = refl;
         ended = refl;
         memory = pick-no (is_of_pair sys p u) _ _ other;
@@ -175,19 +168,19 @@ module _ (sys : Behaviour) (b : IsBehaviour sys) (s : State) (i : Inv sys s) (u 
   unless-turned p k true same = by (s.modes p) refl same
     where
       by : (m : Mode) → s.modes p ≡ m → (primary_fails sys p m s).modes (sys.pair_of u) ≡ s.modes (sys.pair_of u) → (is_of_pair sys p u && loses_in true m) ≡ false
-      by Paired is e = and-no (is_of_pair sys p u) true (turned sys s u p Down (λ d. absurd (cc (is, d))) e)
-      by Raising is e = and-no (is_of_pair sys p u) true (turned sys s u p Gone (λ d. absurd (cc (is, d))) e)
-      by Alone is e = and-no (is_of_pair sys p u) true (turned sys s u p Gone (λ d. absurd (cc (is, d))) e)
-      by Down is e = and-last (is_of_pair sys p u)
-      by Gone is e = and-last (is_of_pair sys p u)
+      by Paired is e = and_left (is_of_pair sys p u) true (turned sys s u p Down (λ d. absurd (cc (is, d))) e)
+      by Raising is e = and_left (is_of_pair sys p u) true (turned sys s u p Gone (λ d. absurd (cc (is, d))) e)
+      by Alone is e = and_left (is_of_pair sys p u) true (turned sys s u p Gone (λ d. absurd (cc (is, d))) e)
+      by Down is e = and-false (is_of_pair sys p u)
+      by Gone is e = and-false (is_of_pair sys p u)
   unless-turned p k false same = by (s.modes p) refl same
     where
       by : (m : Mode) → s.modes p ≡ m → (backup_fails sys p m s).modes (sys.pair_of u) ≡ s.modes (sys.pair_of u) → (is_of_pair sys p u && loses_in false m) ≡ false
-      by Down is e = and-no (is_of_pair sys p u) true (turned sys s u p Gone (λ d. absurd (cc (is, d))) e)
-      by Paired is e = and-last (is_of_pair sys p u)
-      by Raising is e = and-last (is_of_pair sys p u)
-      by Alone is e = and-last (is_of_pair sys p u)
-      by Gone is e = and-last (is_of_pair sys p u)
+      by Down is e = and_left (is_of_pair sys p u) true (turned sys s u p Gone (λ d. absurd (cc (is, d))) e)
+      by Paired is e = and-false (is_of_pair sys p u)
+      by Raising is e = and-false (is_of_pair sys p u)
+      by Alone is e = and-false (is_of_pair sys p u)
+      by Gone is e = and-false (is_of_pair sys p u)
 
   -- its request stays out, or in
   out-rest : (entry : Event) → Legal sys s entry → at_terminal s u entry ≡ false → (change sys s entry).modes (sys.pair_of u) ≡ s.modes (sys.pair_of u)
@@ -197,7 +190,7 @@ module _ (sys : Behaviour) (b : IsBehaviour sys) (s : State) (i : Inv sys s) (u 
   out-rest (FailServer c p k) l e m = pick-no (works_for u (request_in ((s.classes c).busy p))) false (is_out sys s u) e
   out-rest (Restart t n cause) l e m = pick-no (u == t) false (is_out sys s u) (ne_eqb u t (unlike t u e))
   out-rest (FailTcp p primary k) l e m = pick-no (is_of_pair sys p u && loses_in primary (s.modes p)) false (is_out sys s u) (unless-turned p k primary m)
-  out-rest (End t ending) l e m = pick-no (u == t && leaves ending) false (is_out sys s u) (and-no (u == t) (leaves ending) (ne_eqb u t (unlike t u e)))
+  out-rest (End t ending) l e m = pick-no (u == t && leaves ending) false (is_out sys s u) (and_left (u == t) (leaves ending) (ne_eqb u t (unlike t u e)))
   out-rest (Show t phase attempt k) l e m = refl
   out-rest (Key t k) l e m = refl
   out-rest (CheckStart t) l e m = refl

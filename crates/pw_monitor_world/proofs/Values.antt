@@ -1,9 +1,7 @@
 -- The context behind the answer that ends a transaction has numbers and characters of their types.
-use Rattle.std.proofs.Common.{◌≡◌, ℕ, ◌-◌, ◌<◌, ◌^◌, ◌==◌, List, [], ◌∷◌, ◌++◌, length, All, Option, Some, None, Bool, true, false, inl, inr, refl, sym, ap, subst, ◌∙◌, arith}
+use Rattle.std.proofs.Common.{◌≡◌, ℕ, ◌-◌, ◌<◌, ◌^◌, ◌==◌, List, [], ◌∷◌, ◌++◌, length, Option, Some, None, Bool, true, false, refl, sym, ap, subst, ◌∙◌, arith}
 use Rattle.std.specs.Prelude.{IsSome, get_or, if◌then◌else◌, nat_lt, slice_get}
 use Rattle.std.specs.List.{AllByRecursion}
-use Rattle.std.proofs.Math.ListN.{get_or-eq_default}
-use Rattle.std.proofs.lemmas.Bool.{cases_lt}
 use Rattle.std.proofs.lemmas.List.Elements.{All-from_recursion, recursion_from_All}
 use Rattle.std.proofs.lemmas.Option.{slice_get_within}
 use Rattle.pw_code.specs.Instrs.{no_code, program_at}
@@ -20,6 +18,7 @@ use Rattle.pw_exec.specs.Answers.{answered_by, put, shown, unit_end_put}
 use Rattle.pw_exec.specs.Config.{Config, closed, code_at, code_of, has_fault}
 use Rattle.pw_exec.specs.Sound.{IsSoundContext}
 use Rattle.pw_exec.specs.Steps.{asked_by, verb_of}
+use Rattle.pw_exec.proofs.Bounds.{at_or}
 use Rattle.pw_image.specs.Values.{FrameHasValues, HasValues}
 use Rattle.pw_kept.specs.Asked.{answered_with, verb_in}
 use Rattle.pw_kept.specs.TerminalTests.{closing}
@@ -31,19 +30,12 @@ use Rattle.pw_machine.specs.Stack.{HasRoom}
 abbrev IsShort : Code → Type 0
 IsShort code = length code.instrs < 2 ^ 32
 
-one-of : {A : Type 0} (P : A → Type 0) (xs : List A) (n : ℕ) (d : A) → All P xs → P d → P (get_or xs n d)
-one-of P xs n d all one =
-    elim (cases_lt n (length xs)) as (λ _. P (get_or xs n d)) [
-      | inl less ↦ all n d less
-      | inr le ↦ subst P (sym (get_or-eq_default xs d le)) one
-    ]
-
 short : (system : System) → IsValid system → (n : ℕ) → IsShort (code_at system n)
 short system valid n = pick (nat_lt n (length system.programs))
   where
     pick : (b : Bool) → IsShort (if b then program_at system n else get_or system.servers (n - length system.programs) no_code)
-    pick true = one-of IsShort system.programs n no_code (λ k d lt. (valid.programs k d lt).places) (omega arith)
-    pick false = one-of IsShort system.servers (n - length system.programs) no_code (λ k d lt. (valid.servers k d lt).places) (omega arith)
+    pick true = at_or IsShort system.programs n no_code (λ k d lt. (valid.programs k d lt).places) (omega arith)
+    pick false = at_or IsShort system.servers (n - length system.programs) no_code (λ k d lt. (valid.servers k d lt).places) (omega arith)
 
 -- ---- the last program
 

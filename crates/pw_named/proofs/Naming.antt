@@ -1,8 +1,7 @@
 -- In every run a legal entry has a line.
-use Rattle.std.proofs.Common.{◌≡◌, ℕ, ◌+◌, ◌<◌, ◌≤◌, List, [], ◌∷◌, ◌++◌, Option, Some, None, refl, sym, ap, subst, ◌∙◌, length, arith}
+use Rattle.std.proofs.Common.{◌≡◌, ℕ, ◌<◌, ◌≤◌, List, [], Option, Some, None, refl, sym, ap, subst, length, arith}
 use Rattle.std.specs.Prelude.{All, slice_get, slice_index_or}
 use Rattle.std.specs.List.{AllByRecursion}
-use Rattle.std.proofs.lemmas.List.{append_assoc, append-nil}
 use Rattle.std.proofs.lemmas.Option.{get_or_from_slice_get}
 use Rattle.pw_class.specs.declared.request.Request.{Request}
 use Rattle.pw_code.specs.Locks.{mode_of}
@@ -36,7 +35,7 @@ use Rattle.pw_paired.specs.End.{LegalEnd}
 use Rattle.pw_paired.specs.Failure.{Holds, IsCaused}
 use Rattle.pw_paired.specs.Server.{LegalFile, LegalReply, LegalTake}
 use Rattle.pw_paired.specs.State.{OpenUnit, State, starting}
-use Rattle.pw_paired.specs.Step.{IsRun, Legal, after, after_from, effect}
+use Rattle.pw_paired.specs.Step.{IsRun, Legal, after}
 use Rattle.pw_paired.specs.Step as step
 use Rattle.pw_paired.specs.Terminal.{CanStep, LegalSend, path_of}
 use Rattle.pw_laws.proofs.Tests.{all-last}
@@ -45,12 +44,8 @@ use Rattle.pw_laws.proofs.kept.Kept.{Inv}
 use Rattle.pw_laws.proofs.requests.Classes.{found_free}
 use Rattle.pw_laws.proofs.terms.KeepsChecks.{path_ok-is}
 use Rattle.pw_laws.proofs.terms.TermOk.{IsWorking}
+use Rattle.pw_laws.proofs.restarts.Few.{log-from}
 use Rattle.pw_paired.specs.Raising.{is_takeover}
-
--- the log of the state behind a log
-log-from : (sys : Behaviour) (s : State) (log : List Event) → (after_from sys s log).log ≡ s.log ++ log
-log-from sys s [] = sym (append-nil s.log)
-log-from sys s (entry ∷ log) = log-from sys (effect sys s entry) log ∙ append_assoc s.log (entry ∷ []) log
 
 pub log-is : (sys : Behaviour) (log : List Event) → (after sys log).log ≡ log
 log-is sys log = log-from sys (starting sys) log

@@ -1,9 +1,10 @@
 -- Where nothing is wrong with a program's names and operands, each resolves and has its kind and length.
 use Rattle.std.proofs.Common.{◌≡◌, ℕ, Bool, true, false, not, List, [], ◌∷◌, ◌++◌, Option, Some, None, IsSome, refl, sym, ap, ◌∙◌, arith}
-use Rattle.std.specs.Prelude.{◌&&◌, ◌==◌, is_some}
+use Rattle.std.specs.Prelude.{◌==◌, is_some}
 use Rattle.std.proofs.lemmas.Bool.Decides.{nat_tests}
 use Rattle.pw_base.specs.declared.fault_code.FaultCode.{FaultCode}
 use Rattle.pw_base.specs.declared.fault_code.FaultCode.TheVariants.{UnknownItem, WrongKind, UnknownName, WrongLength, UnknownParagraph}
+use Rattle.pw_base.proofs.Plain.{and-first, and-second}
 use Rattle.pw_words.specs.Words.{Word}
 use Rattle.pw_code.specs.declared.file.FileInfo.{FileInfo}
 use Rattle.pw_forms.specs.declared.operand.Subscript.{Subscript}
@@ -32,14 +33,6 @@ pub holds : (test : Bool) (code : FaultCode) → unless_holds test code ≡ [] �
 holds true code none = refl
 holds false code none = absurd cc
 
-both-front : (a b : Bool) → (a && b) ≡ true → a ≡ true
-both-front true b is = refl
-both-front false b is = is
-
-both-back : (a b : Bool) → (a && b) ≡ true → b ≡ true
-both-back true b is = is
-both-back false b is = absurd cc
-
 module _ (scope : Scope) where
   -- what a subscript names is there, and may be one
   index-found : (name : Word) (found : Option Variable) → variable_in scope name ≡ found → is_some found ≡ true → passes is_index found ≡ true → IsVariable scope is_index name
@@ -53,8 +46,8 @@ module _ (scope : Scope) where
   has_subscript-good : (variable : Variable) (subscript : Option Subscript) → knows_subscript scope subscript ≡ true → has_subscript scope subscript variable ≡ true → HasSubscript scope variable subscript
   has_subscript-good variable None there good = grind (arith, nat_tests)
   has_subscript-good variable (Some subscript) there good =
-      let some : not (variable.occurs == 0) ≡ true = both-front _ _ good in
-      (grind (arith, nat_tests), subscript-good subscript there (both-back (not (variable.occurs == 0)) _ good))
+      let some : not (variable.occurs == 0) ≡ true = and-first _ _ good in
+      (grind (arith, nat_tests), subscript-good subscript there (and-second (not (variable.occurs == 0)) _ good))
 
   named-found : (test : Variable → Bool) (name : Word) (subscript : Option Subscript) (found : Option Variable) → variable_in scope name ≡ found → is_some found ≡ true
       → knows_subscript scope subscript ≡ true → passes (is_of_kind scope test subscript) found ≡ true → IsNamed scope test name subscript
@@ -62,14 +55,14 @@ module _ (scope : Scope) where
   named-found test name subscript (Some variable) is there known good = record {
     variable = variable;
     found = is;
-    passes = both-front (test variable) _ good;
-    subscripted = has_subscript-good variable subscript known (both-back (test variable) _ good);
+    passes = and-first (test variable) _ good;
+    subscripted = has_subscript-good variable subscript known (and-second (test variable) _ good);
   }
 
   named-good : (test : Variable → Bool) (name : Word) (subscript : Option Subscript) → named_flaws scope test name subscript ≡ [] → IsNamed scope test name subscript
   named-good test name subscript none =
       let known : knows scope name subscript ≡ true = holds _ UnknownItem (none-front _ _ none) in
-      named-found test name subscript (variable_in scope name) refl (both-front _ _ known) (both-back (is_some (variable_in scope name)) _ known)
+      named-found test name subscript (variable_in scope name) refl (and-first _ _ known) (and-second (is_some (variable_in scope name)) _ known)
       (holds _ WrongKind (none-back (unless_holds (knows scope name subscript) UnknownItem) _ none))
 
   item-good : (test : Variable → Bool) (operand : Operand) → item_flaws scope test operand ≡ [] → IsItem scope test operand

@@ -1,7 +1,8 @@
 -- Where each name resolves and each operand fits its place, nothing is wrong with them.
 use Rattle.std.proofs.Common.{◌≡◌, ℕ, ◌<◌, Bool, true, false, not, List, [], ◌∷◌, ◌++◌, Option, Some, None, refl, ap, ◌∙◌, arith}
-use Rattle.std.specs.Prelude.{◌&&◌, ◌==◌, is_some}
+use Rattle.std.specs.Prelude.{◌==◌, is_some}
 use Rattle.std.proofs.lemmas.Bool.Decides.{nat_tests}
+use Rattle.std.proofs.lemmas.Bool.{and_from}
 use Rattle.pw_base.specs.declared.fault_code.FaultCode.{FaultCode}
 use Rattle.pw_base.specs.declared.fault_code.FaultCode.TheVariants.{UnknownItem, WrongKind, UnknownName, WrongLength, UnknownParagraph}
 use Rattle.pw_words.specs.Words.{Word}
@@ -26,10 +27,6 @@ pub no-parts : {A : Type 0} (xs ys : List A) → xs ≡ [] → ys ≡ [] → xs 
 no-parts [] ys front back = back
 no-parts (x ∷ xs) ys front back = absurd cc
 
-both : (a b : Bool) → a ≡ true → b ≡ true → (a && b) ≡ true
-both true b is and_is = and_is
-both false b is and_is = absurd cc
-
 module _ (scope : Scope) where
   subscript-known : (variable : Variable) (subscript : Option Subscript) → HasSubscript scope variable subscript → knows_subscript scope subscript ≡ true
   subscript-known variable None has = refl
@@ -45,14 +42,14 @@ module _ (scope : Scope) where
   has_subscript-right variable (Some subscript) has =
       let some : 0 < variable.occurs = has.0 in
       let within : not (variable.occurs == 0) ≡ true = grind (arith, nat_tests) in
-      both (not (variable.occurs == 0)) (is_subscript scope subscript) within (subscript-right subscript has.1)
+      and_from (not (variable.occurs == 0)) (is_subscript scope subscript) within (subscript-right subscript has.1)
 
   named-none : (test : Variable → Bool) (name : Word) (subscript : Option Subscript) → IsNamed scope test name subscript → named_flaws scope test name subscript ≡ []
   named-none test name subscript named =
       no-parts (unless_holds (knows scope name subscript) UnknownItem) _
-      (no-code (knows scope name subscript) UnknownItem (both (is_some (variable_in scope name)) _ (ap is_some named.found) (subscript-known named.variable subscript named.subscripted)))
+      (no-code (knows scope name subscript) UnknownItem (and_from (is_some (variable_in scope name)) _ (ap is_some named.found) (subscript-known named.variable subscript named.subscripted)))
       (no-code (passes (is_of_kind scope test subscript) (variable_in scope name)) WrongKind
-      (ap (passes (is_of_kind scope test subscript)) named.found ∙ both (test named.variable) _ named.passes (has_subscript-right named.variable subscript named.subscripted)))
+      (ap (passes (is_of_kind scope test subscript)) named.found ∙ and_from (test named.variable) _ named.passes (has_subscript-right named.variable subscript named.subscripted)))
 
   item-none : (test : Variable → Bool) (operand : Operand) → IsItem scope test operand → item_flaws scope test operand ≡ []
   item-none test (operands.Item name subscript) is = named-none test name subscript is

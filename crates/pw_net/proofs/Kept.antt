@@ -6,6 +6,7 @@ use Rattle.std.specs.BTreeMap.{insert_entry, is_at}
 use Rattle.std.specs.Map.{lookup}
 use Rattle.std.specs.Option.{option_map}
 use Rattle.std.specs.Ordering.{match_ordering}
+use Rattle.pw_base.proofs.Plain.{le-true, le-false}
 use Rattle.pw_net.specs.Ballot.{Ballot}
 use Rattle.pw_net.specs.Kept.{since, standings_now, is_collecting, AreBegun}
 use Rattle.pw_net.specs.Member.{id_order, mark_in}
@@ -15,12 +16,6 @@ use Rattle.pw_net.specs.declared.message.NetId.{NetId}
 use Rattle.pw_net.specs.declared.standing.Standing.{Standing}
 use Rattle.pw_net.specs.declared.standing.Standing.TheVariants.{Collecting, Prepared, Committed, Aborted}
 use Rattle.pw_net.proofs.Standings.{Entries, Found, found-first, found-later, id-exact, same_id}
-
-le-true : (a b : ℕ) → a ≤ b → nat_le a b ≡ true
-le-true a b h = grind (arith, nat_tests)
-
-le-false : (a b : ℕ) → b < a → nat_le a b ≡ false
-le-false a b h = grind (arith, nat_tests)
 
 above : (a b : ℕ) → nat_le a b ≡ false → b < a
 above a b h = grind (arith, nat_tests)

@@ -6,6 +6,7 @@ use Rattle.std.proofs.lemmas.Map.Lookups.{exact_unsigned}
 use Rattle.std.specs.BTreeMap.{insert_entry, is_at}
 use Rattle.std.specs.Map.{lookup}
 use Rattle.std.specs.Ordering.{ordering_then, match_ordering}
+use Rattle.pw_base.proofs.Plain.{is_eq-Equal}
 use Rattle.pw_net.specs.Member.{Member, id_order, standing_of, turned, restart}
 use Rattle.pw_net.specs.Rules.{restarted}
 use Rattle.pw_net.specs.declared.message.NetId.{NetId}
@@ -49,16 +50,11 @@ id-same a = ap (λ o. ordering_then o (nat_cmp a.number a.number)) (nat-same a.h
 at-same : (a : NetId) → is_at (id_order a) a ≡ true
 at-same a = ap is_eq (id-same a)
 
-eq-from : (o : Ordering) → is_eq o ≡ true → o ≡ Equal
-eq-from Less e = absurd (cc e)
-eq-from Equal e = refl
-eq-from Greater e = absurd (cc e)
-
 at-apart : (a b : NetId) → a ≢ b → is_at (id_order a) b ≡ false
 at-apart a b ne = apart (cases_Bool (is_at (id_order a) b))
   where
     apart : (is_at (id_order a) b ≡ true) ⊎ (is_at (id_order a) b ≡ false) → is_at (id_order a) b ≡ false
-    apart (inl is) = absurd (ne (id-exact a b (eq-from (id_order a b) is)))
+    apart (inl is) = absurd (ne (id-exact a b (is_eq-Equal (id_order a b) is)))
     apart (inr differ) = differ
 
 abbrev pub Entries : Type 0

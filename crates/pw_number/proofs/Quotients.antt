@@ -65,7 +65,7 @@ signs-times (negsuc a) (pos b) k l k_pos l_pos = differ-left (suc a * k) (b * l)
 signs-times (negsuc a) (negsuc b) k l k_pos l_pos = differ-neither (suc a * k) (suc b * l) (times_above a k k_pos) (times_above b l l_pos)
 
 -- the size of a signed number
-abs-signed : (negative : Bool) (size : ℕ) → unsigned_abs (signed negative size) ≡ size
+pub abs-signed : (negative : Bool) (size : ℕ) → unsigned_abs (signed negative size) ≡ size
 abs-signed false size = refl
 abs-signed true zero = refl
 abs-signed true (suc size) = refl

@@ -1,10 +1,12 @@
 -- What a pair loses, by its mode.
-use Rattle.std.proofs.Common.{◌≡◌, ℕ, ◌<◌, ⊎_elim, Bool, true, false, not, ◌&&◌, is_none, is_some, List, [], ◌∷◌, Option, Some, None, if◌then◌else◌, refl, ap, sym, subst, ◌∙◌, zero, suc}
-use Rattle.std.proofs.lemmas.Bool.{cases_Bool, eqb-true, or_left, or_right, false≢true}
+use Rattle.std.proofs.Common.{◌≡◌, ℕ, ◌<◌, ⊎_elim, Bool, true, false, not, ◌&&◌, is_none, is_some, List, [], ◌∷◌, Option, Some, None, if◌then◌else◌, refl, ap, sym, subst, ◌∙◌, suc}
+use Rattle.std.proofs.lemmas.Bool.{cases_Bool, eqb-true, false≢true}
 use Rattle.std.proofs.lemmas.Option.{slice_get_within}
 use Rattle.std.specs.List.{list_any}
 use Rattle.std.specs.Prelude.{slice_get}
 use Rattle.std.specs.Option.{option_map}
+use Rattle.std.proofs.lemmas.Map.Keys.{any_passes_from_place}
+use Rattle.pw_base.proofs.Plain.{and-first, and-second, drop-false}
 use Rattle.pw_event.specs.declared.event.Event.TheVariants as event
 use Rattle.pw_onecopy.proofs.Update.{upd-same}
 use Rattle.pw_onecopy.specs.Behaviour.{Behaviour}
@@ -21,7 +23,6 @@ use Rattle.pw_paired.specs.Raising.{lacks_one}
 use Rattle.pw_paired.specs.Serial.{Reading, is_gone, makes_gone}
 use Rattle.pw_paired.specs.State.{Alone, BackupCopy, Down, Gone, Mode, Paired, Raising, State}
 use Rattle.pw_laws.proofs.Lacking.{any_below-some}
-use Rattle.pw_laws.proofs.Tests.{and-first, and-second, drop-false}
 
 -- what is lost when a member fails
 abbrev pub state_loss : Mode → Bool → Loss
@@ -85,12 +86,6 @@ module _ (sys : Behaviour) (s : State) (p : ℕ) where
   makes-gone primary k =
       ap (λ (x : State). is_gone (x.modes p) && not (is_gone (s.modes p))) (fails-as primary) ∙ gone-as (s.modes p) primary refl
 
--- an item with a property
-pub any-at : {X : Type 0} (test : X → Bool) (xs : List X) (k : ℕ) (x : X) → slice_get xs k ≡ Some x → test x ≡ true → list_any test xs ≡ true
-any-at test [] k x is passes = absurd (cc is)
-any-at test (y ∷ xs) zero x is passes = let same : y ≡ x = cc is in or_left (test y) (list_any test xs) (ap test same ∙ passes)
-any-at test (y ∷ xs) (suc k) x is passes = or_right (test y) (list_any test xs) (any-at test xs k x is passes)
-
 pub any-place : {X : Type 0} (test : X → Bool) (xs : List X) → list_any test xs ≡ true → (k : ℕ) × (x : X) × (slice_get xs k ≡ Some x) × (test x ≡ true)
 any-place test [] is = absurd (false≢true is)
 any-place test (y ∷ xs) is =
@@ -118,7 +113,7 @@ module _ (sys : Behaviour) (s : State) (r : Reading) (shadow : Shadow) (stands :
   lacks-some : lacks_one sys p s ≡ true → lacks p shadow.seats ≡ true
   lacks-some some =
       let one = any_below-some sys.terminals (λ t. is_live_of sys p s t && not (is_some (s.memory t))) some in
-      any-at (λ (seat : Seat). is_of p seat && is_lacking seat) shadow.seats one.0 (seat_of sys s r one.0) (stands.seat one.0 one.1) (lacks-as one.0 ∙ one.2)
+      any_passes_from_place (λ (seat : Seat). is_of p seat && is_lacking seat) shadow.seats one.0 (seat_of sys s r one.0) (stands.seat one.0 one.1) (lacks-as one.0 ∙ one.2)
 
   -- and where it holds each, they do too
   lacks-none : ((t : ℕ) → t < sys.terminals → sys.pair_of t ≡ p → (s.terms t).ending ≡ None → (held : BackupCopy) × (s.memory t ≡ Some held)) → lacks p shadow.seats ≡ false

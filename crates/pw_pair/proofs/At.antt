@@ -1,8 +1,8 @@
 -- One seat of several is changed.
-use Rattle.std.proofs.Common.{◌≡◌, ◌≢◌, ℕ, zero, suc, ◌+◌, ◌-◌, ◌<◌, ◌≤◌, ◌==◌, ◌&&◌, ◌^◌, Bool, true, false, ◌||◌, cond, nat_lt, zero-add, is_some, List, [], ◌∷◌, length, get_or, map, sum_by, Option, Some, None, refl, sym, ap, subst, ◌∙◌, arith}
+use Rattle.std.proofs.Common.{◌≡◌, ◌≢◌, ℕ, zero, suc, ◌+◌, ◌-◌, ◌<◌, ◌≤◌, ◌==◌, ◌^◌, Bool, true, false, ◌||◌, cond, nat_lt, zero-add, is_some, List, [], ◌∷◌, length, get_or, map, sum_by, Option, Some, None, refl, sym, ap, subst, ◌∙◌, arith}
 use Rattle.std.proofs.Math.ListN.{set, length-set}
 use Rattle.std.proofs.Math.Seq.{map-set_same}
-use Rattle.std.proofs.lemmas.Bool.{true≢false, false≢true, eqb-true, eq-eqb, lt-ltb}
+use Rattle.std.proofs.lemmas.Bool.{true≢false, false≢true, eqb-true, eq-eqb, lt-ltb, and_parts}
 use Rattle.std.proofs.lemmas.List.{length-map}
 use Rattle.std.proofs.lemmas.List.Sums.{sum_by-cons, sum_by-set}
 use Rattle.std.specs.BTreeMap.{BTreeMap, get}
@@ -103,22 +103,18 @@ only-find t (seat ∷ seats) (suc k) d h =
     let own : is_seat_of t seat ≡ false = not-seat t seat (λ same. let e : 0 ≡ suc k = h.only zero (omega arith) same in omega arith) (is_seat_of t seat) refl in
     rw own (only-find t seats k d (behind t seat seats k d h))
 
-both-true : (a b : Bool) → (a && b) ≡ true → (a ≡ true) × (b ≡ true)
-both-true true b e = (refl, e)
-both-true false b e = absurd (false≢true e)
-
 -- each seat of several passes
 pub each-sound : (test : Seat → Bool) (seats : List Seat) (k : ℕ) (d : Seat) → list_all test seats ≡ true → k < length seats → test (get_or seats k d) ≡ true
 each-sound test [] k d h lt = absurd (omega arith)
-each-sound test (seat ∷ seats) zero d h lt = (both-true (test seat) (list_all test seats) h).0
-each-sound test (seat ∷ seats) (suc k) d h lt = each-sound test seats k d (both-true (test seat) (list_all test seats) h).1 (omega arith)
+each-sound test (seat ∷ seats) zero d h lt = (and_parts (test seat) (list_all test seats) h).0
+each-sound test (seat ∷ seats) (suc k) d h lt = each-sound test seats k d (and_parts (test seat) (list_all test seats) h).1 (omega arith)
 
 all-set : (test : Seat → Bool) (seats : List Seat) (k : ℕ) (new : Seat) → list_all test seats ≡ true → test new ≡ true → list_all test (set seats k new) ≡ true
 all-set test [] k new h own = refl
-all-set test (seat ∷ seats) zero new h own = rw own (both-true (test seat) (list_all test seats) h).1
+all-set test (seat ∷ seats) zero new h own = rw own (and_parts (test seat) (list_all test seats) h).1
 all-set test (seat ∷ seats) (suc k) new h own =
-    let first : test seat ≡ true = (both-true (test seat) (list_all test seats) h).0 in
-    rw first (all-set test seats k new (both-true (test seat) (list_all test seats) h).1 own)
+    let first : test seat ≡ true = (and_parts (test seat) (list_all test seats) h).0 in
+    rw first (all-set test seats k new (and_parts (test seat) (list_all test seats) h).1 own)
 
 -- seats keep what they keep where one is changed to a sound one of the same terminal
 pub keeps : (seats : List Seat) (places : BTreeMap ℕ ℕ) (lacking count k : ℕ) (d new : Seat) → AreSeats seats places lacking → k < length seats
@@ -227,7 +223,7 @@ terminals-map change same (seat ∷ seats) = ap (λ t. t ∷ terminals_of (map c
 sound-map : (change : Seat → Seat) → ((seat : Seat) → is_sound seat ≡ true → is_sound (change seat) ≡ true) → (seats : List Seat) → list_all is_sound seats ≡ true → list_all is_sound (map change seats) ≡ true
 sound-map change keep [] h = refl
 sound-map change keep (seat ∷ seats) h =
-    let k = both-true (is_sound seat) (list_all is_sound seats) h in
+    let k = and_parts (is_sound seat) (list_all is_sound seats) h in
     let own : is_sound (change seat) ≡ true = keep seat k.0 in
     rw own (sound-map change keep seats k.1)
 

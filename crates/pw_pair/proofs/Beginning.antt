@@ -1,11 +1,12 @@
 -- A new pair follows the start of the paired system, and a takeover goes on with the images of the paths.
-use Rattle.std.proofs.Common.{◌≡◌, ℕ, ◌<◌, ◌==◌, ◌||◌, Bool, true, false, cond, List, [], ◌∷◌, ◌++◌, Option, Some, None, find, is_some, unwrap_or, inl, inr, refl, sym, ap, subst, ◌∙◌, true≢false, ⊎_elim}
+use Rattle.std.proofs.Common.{◌≡◌, ℕ, ◌<◌, ◌==◌, Bool, true, false, cond, List, [], ◌∷◌, ◌++◌, Option, Some, None, find, is_some, unwrap_or, inl, inr, refl, sym, ap, subst, ◌∙◌, true≢false, ⊎_elim}
 use Rattle.std.specs.Prelude.{All}
 use Rattle.std.specs.List.{list_any}
 use Rattle.std.specs.Option.{option_map}
-use Rattle.std.proofs.lemmas.Bool.{cases_Bool, cond-false, cond-true, eqb-true}
+use Rattle.std.proofs.lemmas.Bool.{cases_Bool, cond-false, cond-true, eqb-true, or_left, or_right}
 use Rattle.std.proofs.lemmas.List.Elements.{All-head, All-nil, All-push, All-tail, All-weaker}
 use Rattle.std.proofs.lemmas.List.Folds.{list_any-append}
+use Rattle.pw_base.proofs.Plain.{drop-false}
 use Rattle.pw_event.specs.Due.{owner_of}
 use Rattle.pw_event.specs.declared.event.Event.{Event}
 use Rattle.pw_event.specs.declared.event.Event.TheVariants as event
@@ -28,14 +29,6 @@ use Rattle.pw_paired.specs.Step.{Fits}
 
 -- ---- the seats of a new pair
 
-or-true : (a b : Bool) → a ≡ true → (a || b) ≡ true
-or-true true b e = refl
-or-true false b e = absurd (true≢false (sym e))
-
-or-either : (a b : Bool) → b ≡ true → (a || b) ≡ true
-or-either true b e = refl
-or-either false b e = e
-
 one-more : (P : Seat → Type 0) (seats : List Seat) (t : ℕ) → All P seats → P (new_seat t) → All P (with_terminal seats t)
 one-more P seats t all new = by (list_any (is_seat_of t) seats)
   where
@@ -54,28 +47,24 @@ stays s t seats there = by (list_any (is_seat_of t) seats)
   where
     by : (b : Bool) → list_any (is_seat_of s) (cond b seats (seats ++ new_seat t ∷ [])) ≡ true
     by true = there
-    by false = list_any-append (is_seat_of s) seats (new_seat t ∷ []) ∙ or-true _ _ there
+    by false = list_any-append (is_seat_of s) seats (new_seat t ∷ []) ∙ or_left _ _ there
 
 joins : (s t : ℕ) (seats : List Seat) → (t == s) ≡ true → list_any (is_seat_of s) (with_terminal seats t) ≡ true
 joins s t seats is = by (list_any (is_seat_of t) seats) refl
   where
     by : (b : Bool) → list_any (is_seat_of t) seats ≡ b → list_any (is_seat_of s) (cond b seats (seats ++ new_seat t ∷ [])) ≡ true
     by true e = subst (λ x. list_any (is_seat_of x) seats ≡ true) (eqb-true t s is) e
-    by false e = list_any-append (is_seat_of s) seats (new_seat t ∷ []) ∙ or-either _ _ (or-true (t == s) false is)
+    by false e = list_any-append (is_seat_of s) seats (new_seat t ∷ []) ∙ or_right _ _ (or_left (t == s) false is)
 
 keeps : (s : ℕ) (terminals : List ℕ) (seats : List Seat) → list_any (is_seat_of s) seats ≡ true → list_any (is_seat_of s) (seats_with seats terminals) ≡ true
 keeps s [] seats there = there
 keeps s (t ∷ terminals) seats there = keeps s terminals (with_terminal seats t) (stays s t seats there)
 
-or-second : (a b : Bool) → a ≡ false → (a || b) ≡ true → b ≡ true
-or-second false b none some = some
-or-second true b none some = absurd (true≢false none)
-
 pub has-seat : (s : ℕ) (terminals : List ℕ) (seats : List Seat) → list_any (λ own. own == s) terminals ≡ true → list_any (is_seat_of s) (seats_with seats terminals) ≡ true
 has-seat s [] seats among = absurd (true≢false (sym among))
 has-seat s (t ∷ terminals) seats among =
     ⊎_elim (λ is. keeps s terminals (with_terminal seats t) (joins s t seats is))
-    (λ is. has-seat s terminals (with_terminal seats t) (or-second (t == s) (list_any (λ own. own == s) terminals) is among))
+    (λ is. has-seat s terminals (with_terminal seats t) (drop-false (t == s) (list_any (λ own. own == s) terminals) is among))
     (cases_Bool (t == s))
 
 -- a new pair of the terminals of a pair
@@ -113,13 +102,13 @@ resumes image t copy last = by (last.number == copy.unit)
 
 -- ---- where a call may be made
 
-found-seat : (P : Seat → Type 0) (t : ℕ) (seats : List Seat) → All P seats → list_any (is_seat_of t) seats ≡ true → (seat : Seat) × (find (is_seat_of t) seats ≡ Some seat) × P seat × (seat.terminal ≡ t)
+pub found-seat : (P : Seat → Type 0) (t : ℕ) (seats : List Seat) → All P seats → list_any (is_seat_of t) seats ≡ true → (seat : Seat) × (find (is_seat_of t) seats ≡ Some seat) × P seat × (seat.terminal ≡ t)
 found-seat P t [] all e = absurd (true≢false (sym e))
 found-seat P t (seat ∷ seats) all e =
     ⊎_elim
     (λ is. (seat, cond-true (is_seat_of t seat) (Some seat) (find (is_seat_of t) seats) is, All-head P seat seats all, eqb-true seat.terminal t is))
     (λ is.
-    let one = found-seat P t seats (All-tail P seat seats all) (or-second (is_seat_of t seat) (list_any (is_seat_of t) seats) is e) in
+    let one = found-seat P t seats (All-tail P seat seats all) (drop-false (is_seat_of t seat) (list_any (is_seat_of t) seats) is e) in
     (one.0, cond-false (is_seat_of t seat) (Some seat) (find (is_seat_of t) seats) is ∙ one.1, one.2, one.3))
     (cases_Bool (is_seat_of t seat))
 

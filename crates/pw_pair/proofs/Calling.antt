@@ -28,18 +28,18 @@ use Rattle.pw_laws.proofs.induction.Failed.{end-any, fail-cases, process-cases}
 use Rattle.pw_laws.proofs.induction.Served.{file-cases, reply-any}
 
 -- an ending stays where a terminal's is changed otherwise
-ending-stays : (terms : ℕ → Term) (t : ℕ) (term : Term) → term.ending ≡ (terms t).ending → (j : ℕ) → (upd terms t term j).ending ≡ (terms j).ending
+pub ending-stays : (terms : ℕ → Term) (t : ℕ) (term : Term) → term.ending ≡ (terms t).ending → (j : ℕ) → (upd terms t term j).ending ≡ (terms j).ending
 ending-stays terms t term is j =
     upd_elim terms t term j (λ a. a.ending ≡ (terms j).ending)
     (λ same. is ∙ ap (λ x. (terms x).ending) (sym same)) (λ ne. refl)
 
 -- a path that a restart sets leaves the ending
-start-ending : (start : Option (List PathAnswer)) (term : Term) → (with_start_path start term).ending ≡ term.ending
+pub start-ending : (start : Option (List PathAnswer)) (term : Term) → (with_start_path start term).ending ≡ term.ending
 start-ending None term = refl
 start-ending (Some path) term = refl
 
 -- a takeover leaves the ending
-resume-ending : (p : ℕ) (memory : Option BackupCopy) (unit : Option OpenUnit) (last : LastEnded) (term : Term) → (resume_terminal p memory unit last term).ending ≡ term.ending
+pub resume-ending : (p : ℕ) (memory : Option BackupCopy) (unit : Option OpenUnit) (last : LastEnded) (term : Term) → (resume_terminal p memory unit last term).ending ≡ term.ending
 resume-ending p None unit last term = refl
 resume-ending p (Some memory) unit last term = refl
 

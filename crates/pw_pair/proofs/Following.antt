@@ -5,6 +5,7 @@ use Rattle.std.specs.List.{list_any}
 use Rattle.std.specs.Option.{option_map}
 use Rattle.std.proofs.lemmas.Bool.{eq-eqb, eqb-true}
 use Rattle.std.proofs.lemmas.List.Elements.{All-map, All-weaker}
+use Rattle.pw_base.proofs.Plain.{same-truth}
 use Rattle.pw_event.specs.declared.event.Ending.{Ending}
 use Rattle.pw_onecopy.specs.Behaviour.{Behaviour}
 use Rattle.pw_onecopy.specs.Path.{PathAnswer}
@@ -99,11 +100,6 @@ both-of false b c e = absurd (true≢false (sym e))
 pub all-of : (a b c : Bool) → a ≡ true → (b && c) ≡ true → ((a && b) && c) ≡ true
 all-of true b c a e = e
 all-of false b c a e = absurd (true≢false (sym a))
-
-pub same-truth : (a b : Bool) → (a ≡ true → b ≡ true) → (b ≡ true → a ≡ true) → a ≡ b
-same-truth true b there back = sym (there refl)
-same-truth false true there back = back refl
-same-truth false false there back = refl
 
 -- of a terminal the pair is told the same
 pub record IsSameOf (terms new_terms : ℕ → Term) (memory new_memory : ℕ → Option BackupCopy) (flight new_flight : ℕ → Option Message) (t : ℕ) : Type 0 where

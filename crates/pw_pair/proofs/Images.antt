@@ -1,15 +1,11 @@
 -- What a takeover goes on with is in the image format.
-use Rattle.std.proofs.Common.{◌≡◌, ℕ, ◌==◌, ◌&&◌, Bool, true, false, cond, List, Option, Some, None, unwrap_or, is_some, refl, sym, ap, ◌∙◌}
-use Rattle.std.proofs.lemmas.Bool.{false≢true}
+use Rattle.std.proofs.Common.{◌≡◌, ℕ, ◌==◌, Bool, true, false, cond, List, Option, Some, None, unwrap_or, is_some, sym, ap, ◌∙◌}
+use Rattle.std.proofs.lemmas.Bool.{false≢true, and_parts}
 use Rattle.pw_image.specs.Reading.{context_in}
 use Rattle.pw_pair.specs.Bodies.{is_image}
 use Rattle.pw_pair.specs.Seats.{end_is_image, held_is_sound}
 use Rattle.pw_pair.specs.Takeover.{resumed_image}
 use Rattle.pw_pair.specs.declared.backup.Held.{Held}
-
-both-true : (a b : Bool) → (a && b) ≡ true → (a ≡ true) × (b ≡ true)
-both-true true b e = (refl, e)
-both-true false b e = absurd (false≢true e)
 
 either-image : (b : Bool) (start : List ℕ) (end : Option (List ℕ)) → is_image start ≡ true → end_is_image end ≡ true
     → is_image (cond b (unwrap_or end start) start) ≡ true
@@ -19,7 +15,7 @@ either-image false start end s e = s
 
 resumed-is-image : (held : Held) (last : ℕ) → held_is_sound held ≡ true → is_image (resumed_image held last) ≡ true
 resumed-is-image held last h =
-    let k = both-true (is_image held.start) (end_is_image held.end) h in
+    let k = and_parts (is_image held.start) (end_is_image held.end) h in
     either-image (last == held.unit) held.start held.end k.0 k.1
 
 -- so it is read

@@ -1,9 +1,9 @@
 -- The memory of one seat after the other is moved.
-use Rattle.std.proofs.Common.{◌≡◌, ℕ, zero, suc, ◌+◌, ◌<◌, ◌≤◌, ◌==◌, ◌&&◌, Bool, true, false, cond, List, [], ◌∷◌, ◌++◌, length, get_or, take, drop, map, Option, Some, None, refl, sym, ap, subst, ◌∙◌, arith}
+use Rattle.std.proofs.Common.{◌≡◌, ℕ, zero, suc, ◌+◌, ◌<◌, ◌≤◌, ◌==◌, ◌&&◌, Bool, true, cond, List, [], ◌∷◌, ◌++◌, length, get_or, take, drop, map, Option, Some, None, refl, sym, ap, subst, ◌∙◌, arith}
 use Rattle.std.specs.Prelude.{option_to_list, count_by}
 use Rattle.std.specs.List.{filter_map, list_all}
 use Rattle.std.proofs.Math.Seq.{drop-cons, get_or-append_seam}
-use Rattle.std.proofs.lemmas.Bool.{false≢true}
+use Rattle.std.proofs.lemmas.Bool.{and_parts}
 use Rattle.std.proofs.lemmas.List.{append-nil, length-map, length-take-le, take_more}
 use Rattle.std.proofs.lemmas.List.Elements.{filter_map-append}
 use Rattle.std.proofs.lemmas.List.Folds.{list_all-append}
@@ -44,15 +44,11 @@ count-from test xs i x lt is =
     ∙ sum_by-cons (λ s. cond (test s) 1 0) x (drop (suc i) xs)
     ∙ ap (λ n. cond (test x) 1 0 + count_by test (drop n xs)) (let P : suc i ≡ i + 1 = omega arith in P)
 
-both-true : (a b : Bool) → (a && b) ≡ true → (a ≡ true) × (b ≡ true)
-both-true true b e = (refl, e)
-both-true false b e = absurd (false≢true e)
-
 held-of : (terminal : ℕ) (memory : Option Held) (rest : List Held) → memory_is_sound terminal memory ≡ true → list_all held_is_sound rest ≡ true
     → list_all held_is_sound (option_to_list memory ++ rest) ≡ true
 held-of terminal None rest h k = k
 held-of terminal (Some held) rest h k =
-    let own : held_is_sound held ≡ true = (both-true (held.terminal == terminal) (held_is_sound held) h).1 in rw own k
+    let own : held_is_sound held ≡ true = (and_parts (held.terminal == terminal) (held_is_sound held) h).1 in rw own k
 
 memory-first : (seat : Seat) (seats : List Seat) (memory : Option Held) → seat.memory ≡ memory → option_to_list memory ++ memory_of seats ≡ memory_of (seat ∷ seats)
 memory-first seat seats None e = rw e refl
@@ -62,8 +58,8 @@ memory-first seat seats (Some held) e = rw e refl
 pub memory-sound : (seats : List Seat) → list_all is_sound seats ≡ true → list_all held_is_sound (memory_of seats) ≡ true
 memory-sound [] h = refl
 memory-sound (seat ∷ seats) h =
-    let k = both-true (is_sound seat) (list_all is_sound seats) h in
-    let own = both-true (memory_is_sound seat.terminal seat.memory) (flight_is_sound (start_of seat.memory) seat.flight) k.0 in
+    let k = and_parts (is_sound seat) (list_all is_sound seats) h in
+    let own = and_parts (memory_is_sound seat.terminal seat.memory) (flight_is_sound (start_of seat.memory) seat.flight) k.0 in
     ap (list_all held_is_sound) (sym (memory-first seat seats seat.memory refl))
     ∙ held-of seat.terminal seat.memory (memory_of seats) own.0 (memory-sound seats k.1)
 
@@ -87,8 +83,8 @@ put-next all rest held seats new e put =
 pub sound-parts : (all rest : List Held) (held : Held) → all ≡ rest ++ held ∷ [] → list_all held_is_sound all ≡ true
     → (list_all held_is_sound rest ≡ true) × (held_is_sound held ≡ true)
 sound-parts all rest held e h =
-    let k = both-true (list_all held_is_sound rest) (held_is_sound held && true) (sym (list_all-append held_is_sound rest (held ∷ [])) ∙ ap (list_all held_is_sound) (sym e) ∙ h) in
-    (k.0, (both-true (held_is_sound held) true k.1).0)
+    let k = and_parts (list_all held_is_sound rest) (held_is_sound held && true) (sym (list_all-append held_is_sound rest (held ∷ [])) ∙ ap (list_all held_is_sound) (sym e) ∙ h) in
+    (k.0, (and_parts (held_is_sound held) true k.1).0)
 
 -- nothing more is put in
 pub put-none : (seats : List Seat) → map (put_each []) seats ≡ seats

@@ -3,7 +3,7 @@ use Rattle.std.proofs.Common.{◌≡◌, ◌≢◌, ℕ, ◌==◌, ◌||◌, con
 use Rattle.std.specs.Prelude.{All}
 use Rattle.std.specs.List.{list_any}
 use Rattle.std.proofs.lemmas.List.Elements.{All-head, All-map, All-tail, All-weaker}
-use Rattle.std.proofs.lemmas.Bool.{eqb-true, eqb-false}
+use Rattle.std.proofs.lemmas.Bool.{eqb-true, eqb-false, or_right}
 use Rattle.pw_pair.specs.Seats.{at_terminal, is_seat_of}
 use Rattle.pw_pair.specs.declared.seat.Seat.{Seat}
 
@@ -45,15 +45,11 @@ any-so P p R (x ∷ xs) all f e =
       | false ↦ λ is some. any-so P p R xs (All-tail P x xs all) f some
     ] refl e
 
-or-right : (a b : Bool) → b ≡ true → (a || b) ≡ true
-or-right true b e = refl
-or-right false b e = e
-
 -- one has the property, so one has another that follows
 pub any-then : {X : Type 0} (P : X → Type 0) (p q : X → Bool) (xs : List X) → All P xs → ((x : X) → P x → p x ≡ true → q x ≡ true) → list_any p xs ≡ true → list_any q xs ≡ true
 any-then P p q [] all f e = e
 any-then P p q (x ∷ xs) all f e =
     elim (p x) as (λ b. p x ≡ b → (b || list_any p xs) ≡ true → (q x || list_any q xs) ≡ true) [
       | true ↦ λ is some. ap (λ b. b || list_any q xs) (f x (All-head P x xs all) is)
-      | false ↦ λ is some. or-right (q x) (list_any q xs) (any-then P p q xs (All-tail P x xs all) f some)
+      | false ↦ λ is some. or_right (q x) (list_any q xs) (any-then P p q xs (All-tail P x xs all) f some)
     ] refl e

@@ -71,7 +71,7 @@ none_at_work t whose own (Some job) = by (whose job.request.terminal) refl
     by true is = refl
     by false is = not-of t whose job.request own is
 
-none_below : (n : ℕ) (has : ℕ → Bool) → ((i : ℕ) → has i ≡ false) → any_below n has ≡ false
+pub none_below : (n : ℕ) (has : ℕ → Bool) → ((i : ℕ) → has i ≡ false) → any_below n has ≡ false
 none_below zero has none = refl
 none_below (suc n) has none = ap₂ (λ (a b : Bool). a || b) (none_below n has none) (none n)
 

@@ -10,15 +10,15 @@ use Rattle.pw_picture.specs.Stored.{digit_of, value_of, digits_of, sign_of, size
 use Rattle.pw_number.proofs.Scales.{ten-pos}
 
 -- a digit that is written is read again
-digit_of-written : (digit : ℕ) → digit < 10 → digit_of (48 + digit) ≡ digit
+pub digit_of-written : (digit : ℕ) → digit < 10 → digit_of (48 + digit) ≡ digit
 digit_of-written digit below = grind (arith, nat_tests)
 
 -- a digit in front of those of a rest
-digit_joined : (value digit power rest whole : ℕ) → whole ≡ digit * power + rest → (10 * value + digit) * power + rest ≡ value * (10 * power) + whole
+pub digit_joined : (value digit power rest whole : ℕ) → whole ≡ digit * power + rest → (10 * value + digit) * power + rest ≡ value * (10 * power) + whole
 digit_joined value digit power rest whole is = omega arith
 
 -- the digits of a value, behind those of another
-value_of-digits : (count value size : ℕ) → value_of value (digits_of count size) ≡ value * 10 ^ count + size % 10 ^ count
+pub value_of-digits : (count value size : ℕ) → value_of value (digits_of count size) ≡ value * 10 ^ count + size % 10 ^ count
 value_of-digits zero value size = omega arith
 value_of-digits (suc count) value size =
     let digit : ℕ = size / 10 ^ count % 10 in

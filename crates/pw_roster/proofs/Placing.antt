@@ -1,5 +1,5 @@
 -- Each actor has a place of its own, so what is noted of one is noted of no other.
-use Rattle.std.proofs.Common.{◌≡◌, ◌≢◌, ℕ, ◌+◌, ◌-◌, ◌<◌, ◌≤◌, Bool, true, false, List, length, Some, None, ⊎_elim, rules, refl, subst, sym, ap, ◌∙◌, arith, cond}
+use Rattle.std.proofs.Common.{◌≡◌, ◌≢◌, ℕ, ◌+◌, ◌-◌, ◌<◌, ◌≤◌, Bool, true, false, List, length, Some, None, ⊎_elim, rules, subst, sym, ap, ◌∙◌, arith}
 use Rattle.std.specs.Prelude.{slice_set, slice_index_or}
 use Rattle.std.proofs.Math.Path.{fun_ext}
 use Rattle.std.proofs.lemmas.Bool.{cases_Bool, cond-true, cond-false}
@@ -15,6 +15,7 @@ use Rattle.std.specs.Prelude.{if◌then◌else◌, drop, take, ◌++◌}
 use Rattle.std.specs.List.{sum_by}
 use Rattle.std.proofs.lemmas.List.{take-append-le, take_all}
 use Rattle.std.proofs.lemmas.List.Sums.{sum_by-set}
+use Rattle.pw_base.proofs.Plain.{cond_none}
 use Rattle.pw_roster.specs.Places.{NoneBelow, StartsAt, all_marked, blank, is_waiting, is_placed, is_same_actor, noted, notes_in, place_of, waiting, with_mark}
 use Rattle.pw_roster.specs.declared.actor.Actor.{Actor}
 use Rattle.pw_roster.specs.declared.actor.Actor.TheVariants.{Terminal, Process, Pair, Class}
@@ -115,10 +116,6 @@ all-blank notes is = fun_ext (λ a.
 
 -- ---- the first that waits
 
-none_at : (b : Bool) (n : ℕ) → cond b (Some n) None ≡ None → b ≡ false
-none_at true n e = absurd (cc e)
-none_at false n e = refl
-
 -- each place is below their number
 place-low : (a : Actor) → is_placed a ≡ true → place_of a < 408
 place-low (Terminal t) e = grind arith
@@ -153,7 +150,7 @@ starts-ahead notes from ahead starts e =
 pub starts-at-end : (notes : List Note) (from : ℕ) → StartsAt from notes → position is_waiting (drop from notes) ≡ None → StartsAt 408 notes
 starts-at-end notes from starts e =
     let rest = drop from notes in
-    let past = none_at _ _ e in
+    let past = cond_none _ _ e in
     let all : length rest ≤ position_or_len is_waiting rest = grind (arith, nat_tests, past) in
     let whole : from + length rest ≡ 408 = omega (arith, length-drop from notes, starts.size, starts.within) in
     let none : NoneBelow (length rest) rest = λ k lt. fails_before_first is_waiting rest k blank (omega (arith, all, lt)) in record {

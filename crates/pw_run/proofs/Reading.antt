@@ -1,10 +1,11 @@
 -- A world's log is read for its serial order, entry by entry.
-use Rattle.std.proofs.Common.{◌≡◌, ℕ, suc, ◌+◌, ◌≤◌, ◌↔◌, Bool, true, false, List, [], ◌∷◌, ◌++◌, length, Option, Some, refl, sym, ap, subst, ◌∙◌, arith}
+use Rattle.std.proofs.Common.{◌≡◌, ℕ, suc, ◌+◌, ◌≤◌, ◌↔◌, Bool, true, List, [], ◌∷◌, ◌++◌, length, Option, Some, refl, sym, ap, subst, ◌∙◌, arith}
 use Rattle.std.proofs.Math.Seq.{take-suc}
 use Rattle.std.proofs.lemmas.Bool.{true≢false}
 use Rattle.std.proofs.lemmas.List.{take-append-drop, take_all}
 use Rattle.std.proofs.lemmas.Option.{get_or_from_slice_get, slice_get-get_or, slice_get_within}
 use Rattle.std.specs.Prelude.{Err, IsTrue, Ok, OnOk, Result, drop, slice_get, take}
+use Rattle.pw_base.proofs.Plain.{same-truth}
 use Rattle.pw_code.specs.declared.system.System.{System}
 use Rattle.pw_code.specs.declared.system.TermInfo.{TermInfo}
 use Rattle.pw_code.specs.declared.verb.Verb.{Verb}
@@ -27,12 +28,6 @@ use Rattle.pw_paired.specs.Step.{IsRun, after}
 use Rattle.pw_paired.specs.Terminal.{next_verb}
 use Rattle.pw_laws.proofs.RunSteps.{IsRunFrom-split}
 
--- two tests that pass at once are one
-same-test : (a b : Bool) → (a ≡ true → b ≡ true) → (b ≡ true → a ≡ true) → a ≡ b
-same-test true b forth back = sym (forth refl)
-same-test false true forth back = back refl
-same-test false false forth back = refl
-
 -- a verb that sends names a class and a message
 send-of : (v : Verb) → is_send v ≡ true → (c : ℕ) × (message : List ℕ) × (v ≡ verb.Send c message)
 send-of (verb.Send c message) is = (c, message, refl)
@@ -50,7 +45,7 @@ send-of (verb.Reply reply) is = absurd (true≢false (sym is))
 begins : (sys : Behaviour) (log : List Event) (place t n r : ℕ) (one : Bool) → slice_get log place ≡ Some (event.Begin t n r)
     → (IsTrue one ↔ BeginsOneSend sys log place) → one ≡ is_send (next_verb sys (after sys (take place log)) t)
 begins sys log place t n r one here flag =
-    same-test one (is_send (next_verb sys (after sys (take place log)) t))
+    same-truth one (is_send (next_verb sys (after sys (take place log)) t))
     (λ is.
     let begun = flag.0 is in
     let entries : event.Begin begun.t begun.n begun.r ≡ event.Begin t n r = let first = begun.entry in cc (first, here) in

@@ -4,11 +4,12 @@ use Rattle.std.specs.Prelude.{◌&&◌, ◌||◌, take_while, codes, if◌then�
 use Rattle.std.specs.Str.{str_to_ascii_lowercase}
 use Rattle.std.specs.Cmp.Lexicographic.{bytes_decides}
 use Rattle.std.proofs.Math.Seq.{take-append_seam}
-use Rattle.std.proofs.lemmas.Bool.{and_parts, eqb-true}
+use Rattle.std.proofs.lemmas.Bool.{and_parts, eqb-true, and_right}
 use Rattle.std.proofs.lemmas.List.{take-append-drop}
 use Rattle.std.proofs.lemmas.List.Elements.{All-nil, All-cons}
 use Rattle.std.proofs.lemmas.List.Folds.{length-prefix_len}
 use Rattle.std.proofs.lemmas.List.Sums.{take_while-cons}
+use Rattle.pw_base.proofs.Plain.{and-false, or-first-false, same-ok}
 use Rattle.pw_words.specs.Words.{Word, same_word}
 use Rattle.pw_text.specs.declared.token.TokenKind.TheVariants as kind
 use Rattle.pw_text.specs.declared.token.Token.{Token}
@@ -22,9 +23,6 @@ use Rattle.pw_scobol.proofs.Items.{Among}
 use Rattle.pw_scobol.proofs.Linkage.{HasNoHeading, Begins, entry-part}
 
 -- ---- steps that go on
-
-same-ok : {A E : Type 0} (r : Result A E) (a b : A) → r ≡ Ok a → r ≡ Ok b → a ≡ b
-same-ok r a b left right = cc
 
 -- a step and the one behind it
 record Goes {A B : Type 0} (first : Result (A × Left) Left) (next : A → Step B) (out : B × Left) : Type 0 where
@@ -120,24 +118,16 @@ quiet text zero tokens size = tt
 quiet text (suc n) [] size = absurd (omega (arith, size-none text))
 quiet text (suc n) (x ∷ xs) size = quiet-by text n x xs (ends_text true (left_of text (x ∷ xs))) refl size (quiet text n xs)
 
-no-part : (a b : Bool) → (a || b) ≡ false → a ≡ false
-no-part true b is = absurd cc
-no-part false b is = refl
-
 less : (a b c d : Bool) → ((a || (b || c)) && d) ≡ false → ((a || b) && d) ≡ false
 less true b c d is = is
 less false true c d is = is
 less false false c d is = refl
 
-none-behind : (a : Bool) → (a && false) ≡ false
-none-behind true = refl
-none-behind false = refl
-
 no-heading : (text : List ℕ) (x : Token) (xs rest : List Token) → ends_text true (left_of text (x ∷ (xs ++ rest))) ≡ false → is_heading (left_of text (x ∷ xs)) ≡ false
-no-heading text x [] rest is = none-behind (is_the_word text (codes "WORKING-STORAGE") x || is_the_word text (codes "LINKAGE") x)
+no-heading text x [] rest is = and-false (is_the_word text (codes "WORKING-STORAGE") x || is_the_word text (codes "LINKAGE") x)
 no-heading text x (y ∷ ys) rest is =
     less (is_the_word text (codes "WORKING-STORAGE") x) (is_the_word text (codes "LINKAGE") x) (is_the_word text (codes "SCREEN") x) (is_the_word text (codes "SECTION") y)
-    (no-part (begins_section (left_of text (x ∷ (y ∷ (ys ++ rest))))) (begins_division (left_of text (x ∷ (y ∷ (ys ++ rest))))) is)
+    (or-first-false (begins_section (left_of text (x ∷ (y ∷ (ys ++ rest))))) (begins_division (left_of text (x ∷ (y ∷ (ys ++ rest))))) is)
 
 heading-free : (text : List ℕ) (xs rest : List Token) → Quiet text xs rest → HasNoHeading text xs
 heading-free text [] rest none = tt
@@ -245,13 +235,9 @@ linkage_alone spelled true section linkage =
     absurd (omega (arith, first))
 linkage_alone spelled false section linkage = refl
 
-and-none : (a b : Bool) → b ≡ false → (a && b) ≡ false
-and-none true b none = none
-and-none false b none = refl
-
 module _ (text : List ℕ) (h : Token) (named : is_the_word text (codes "LINKAGE") h ≡ true) where
   no_section : is_the_word text (codes "SECTION") h ≡ false
-  no_section = and-none _ _ (linkage_alone (spelling text h) _ refl (and_parts _ _ named).1)
+  no_section = and_right _ _ (linkage_alone (spelling text h) _ refl (and_parts _ _ named).1)
 
   no_period : has_kind kind.Period h ≡ false
   no_period = let word = eqb-true (kind_place h.kind) 0 (and_parts _ _ named).0 in rw word refl

@@ -2,15 +2,14 @@
 use Rattle.std.proofs.Common.{◌≡◌, ℕ, ◌+◌, ◌*◌, Bool, true, false, List, [], ◌∷◌, ◌++◌, Option, Some, None, Ok, ◌⊎◌, inl, inr, refl, sym, ap, subst, ◌∙◌, append_assoc}
 use Rattle.std.specs.Prelude.{◌||◌, find, if◌then◌else◌}
 use Rattle.std.specs.List.{list_any}
-use Rattle.std.specs.Option.{option_or}
 use Rattle.std.specs.Str.{str_to_ascii_lowercase}
 use Rattle.std.specs.Cmp.Lexicographic.{bytes_decides}
 use Rattle.std.proofs.lemmas.List.Folds.{list_any-append}
-use Rattle.pw_base.specs.declared.fault_code.FaultCode.{FaultCode}
+use Rattle.std.proofs.lemmas.Bool.{or_parts}
 use Rattle.pw_base.specs.declared.fault_code.FaultCode.TheVariants.{NameTwice}
-use Rattle.pw_base.specs.declared.fault.Fault.{Fault}
-use Rattle.pw_base.specs.First.{least, unless}
+use Rattle.pw_base.specs.First.{least}
 use Rattle.pw_base.proofs.FirstFault.{least-none}
+use Rattle.pw_base.proofs.Plain.{append-none}
 use Rattle.pw_words.specs.Words.{Word, same_word}
 use Rattle.pw_text.specs.declared.token.Token.{Token}
 use Rattle.pw_data.specs.declared.entry.Entry.{Entry}
@@ -22,7 +21,7 @@ use Rattle.pw_data.specs.Tree.{Forest, Empty, Node, stands_in, inside, past, for
 use Rattle.pw_data.specs.Names.{name_of, is_this_name, is_taken, clashes}
 use Rattle.pw_data.specs.Laid.{too_large, times, table_of, size_in, items_in}
 use Rattle.pw_data.specs.Layouts.{Laid, no_table, laid, entries_in, faults_in, first_fault, layout_of}
-use Rattle.pw_data.proofs.Stores.{no_faults, neither}
+use Rattle.pw_data.proofs.StoreLaws.{no_fault-here, unless-ok, none-first}
 
 -- one of a list
 abbrev pub Among : {A : Type 0} → A → List A → Type 0
@@ -82,25 +81,21 @@ pub record Finds (text : List ℕ) (items : List Item) (name : Word) (entry : En
   pub found : find (λ item. is_this_name item.name name) items ≡ Some item
   pub of : IsItemOf text entry item
 
-no_fault : (is_fault : Bool) (line : ℕ) (code : FaultCode) → only_if is_fault line code ≡ [] → is_fault ≡ false
-no_fault true line code none = absurd cc
-no_fault false line code none = refl
-
 not_taken-less : (text : List ℕ) (before : List Entry) (e : Entry) (name : Option Word) → is_taken text (before ++ e ∷ []) name ≡ false
     → (is_taken text before name ≡ false) × (is_taken text (e ∷ []) name ≡ false)
 not_taken-less text before e None none = (refl, refl)
 not_taken-less text before e (Some name) none =
     let test : Entry → Bool = λ entry. is_this_name (name_of text entry) name in
-    neither (list_any test before) (list_any test (e ∷ [])) (sym (list_any-append test before (e ∷ [])) ∙ none)
+    or_parts (list_any test before) (list_any test (e ∷ [])) (sym (list_any-append test before (e ∷ [])) ∙ none)
 
 -- where no two names clash, the name of an entry is that of none before
 not_taken : (text : List ℕ) (before es : List Entry) (E : Entry) → clashes text before es ≡ [] → Among E es → is_taken text before (name_of text E) ≡ false
 not_taken text before [] E none among = absurd among
 not_taken text before (e ∷ es) E none (inl same) =
-    let here = no_fault (is_taken text before (name_of text e)) e.line NameTwice (no_faults (only_if (is_taken text before (name_of text e)) e.line NameTwice) (clashes text (before ++ e ∷ []) es) none).0 in
+    let here = no_fault-here (is_taken text before (name_of text e)) e.line NameTwice (append-none (only_if (is_taken text before (name_of text e)) e.line NameTwice) (clashes text (before ++ e ∷ []) es) none).0 in
     ap (λ (x : Entry). is_taken text before (name_of text x)) same ∙ here
 not_taken text before (e ∷ es) E none (inr more) =
-    let rest = (no_faults (only_if (is_taken text before (name_of text e)) e.line NameTwice) (clashes text (before ++ e ∷ []) es) none).1 in
+    let rest = (append-none (only_if (is_taken text before (name_of text e)) e.line NameTwice) (clashes text (before ++ e ∷ []) es) none).1 in
     (not_taken-less text before e (name_of text E) (not_taken text (before ++ e ∷ []) es E rest more)).0
 
 -- the same of an entry and one behind it
@@ -147,16 +142,8 @@ module _ (text : List ℕ) (E : Entry) (own word : Word) (own_is : name_of text 
   found-among before [] is match none among = absurd among
   found-among before (e ∷ es) [] match none among = absurd match
   found-among before (e ∷ es) (i ∷ is) match none among =
-      let rest = (no_faults (only_if (is_taken text before (name_of text e)) e.line NameTwice) (clashes text (before ++ e ∷ []) es) none).1 in
+      let rest = (append-none (only_if (is_taken text before (name_of text e)) e.line NameTwice) (clashes text (before ++ e ∷ []) es) none).1 in
       found-by (is_this_name i.name word) before es e i is refl match.0 rest among (λ more. found-among (before ++ e ∷ []) es is match.1 rest more)
-
-none-first : (a b : Option Fault) → option_or a b ≡ None → a ≡ None
-none-first None b is = refl
-none-first (Some fault) b is = absurd cc
-
-unless-ok : (fault : Option Fault) (value layout : Laid) → unless fault value ≡ Ok layout → (fault ≡ None) × (value ≡ layout)
-unless-ok None value layout is = (refl, cc)
-unless-ok (Some fault) value layout is = absurd cc
 
 -- a layout has the item of an entry with a name, and finds it by the name
 pub item-of_entry : (text : List ℕ) (tokens : List Token) (server : Bool) (layout : Laid) → layout_of text tokens server ≡ Ok layout
@@ -166,8 +153,8 @@ item-of_entry text tokens server layout is entry own word among own_is same =
     let entries : List Entry = entries_in text tokens server in
     let both = unless-ok (first_fault text tokens server) (laid text entries) layout is in
     let none : faults_in text tokens server ≡ [] = least-none (faults_in text tokens server) (none-first (least None (faults_in text tokens server)) (too_large 0 (forest entries)) both.0) in
-    let parts = no_faults (faults_of_parts server text (parts_of text tokens)) (tree_faults true false (forest entries) ++ clashes text [] entries) none in
-    let clear = (no_faults (tree_faults true false (forest entries)) (clashes text [] entries) parts.1).1 in
+    let parts = append-none (faults_of_parts server text (parts_of text tokens)) (tree_faults true false (forest entries) ++ clashes text [] entries) none in
+    let clear = (append-none (tree_faults true false (forest entries)) (clashes text [] entries) parts.1).1 in
     let match : Match text entries (items_in text 0 no_table (forest entries)) =
     subst (λ (es : List Entry). Match text es (items_in text 0 no_table (forest entries))) (flat-forest entries) (items-match text 0 no_table (forest entries)) in
     subst (λ (l : Laid). Finds text l.items word entry) both.1 (found-among text entry own word own_is same [] entries (items_in text 0 no_table (forest entries)) match clear among)

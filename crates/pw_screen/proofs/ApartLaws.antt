@@ -9,6 +9,7 @@ use Rattle.pw_base.specs.declared.fault_code.FaultCode.{FaultCode}
 use Rattle.pw_base.specs.declared.fault_code.FaultCode.TheVariants.{BadPicture, NameTwice, UnknownItem, FieldOutside, FieldsOverlap, BadClause}
 use Rattle.pw_base.specs.First.{least, unless}
 use Rattle.pw_base.proofs.FirstFault.{least-none}
+use Rattle.pw_base.proofs.Plain.{or-first-false, or-second-false}
 use Rattle.pw_text.specs.declared.token.Token.{Token}
 use Rattle.pw_text.specs.Cursor.{Left, behind as cursor-behind}
 use Rattle.pw_data.specs.Entries.{line_of}
@@ -92,14 +93,6 @@ entry-free_by laid before part field false begins is =
           (next-of twice NameTwice last field (next-of (has_bad_picture part) BadPicture (refused_if twice NameTwice last) field found));
     }
 
-or-left : (a b : Bool) → (a || b) ≡ false → a ≡ false
-or-left true b is = absurd cc
-or-left false b is = refl
-
-or-right : (a b : Bool) → (a || b) ≡ false → b ≡ false
-or-right true b is = absurd cc
-or-right false b is = is
-
 among-none : (from place : ℕ) → is_among from 0 place ≡ true → ⊥
 among-none from place is = grind (arith, nat_tests)
 
@@ -116,8 +109,8 @@ none-used : (used : ℕ → Bool) (from count place : ℕ) → list_any used (pl
 none-used used from zero place none is = absurd (among-none from place is)
 none-used used from (suc count) place none is =
     none-used_by used from count place (place == from) refl
-    (none-used used (from + 1) count place (or-right (used from) (list_any used (places_from (from + 1) count)) none))
-    (or-left (used from) (list_any used (places_from (from + 1) count)) none) is
+    (none-used used (from + 1) count place (or-second-false (used from) (list_any used (places_from (from + 1) count)) none))
+    (or-first-false (used from) (list_any used (places_from (from + 1) count)) none) is
 
 -- no cell of the fields is used
 abbrev FreeOf : (ℕ → Bool) → List Field → Type 0
@@ -129,8 +122,8 @@ loosen : (f : Field) (used : ℕ → Bool) (fields : List Field) → FreeOf (λ 
 loosen f used [] free = (tt, tt)
 loosen f used (g ∷ fields) free =
     let rest = loosen f used fields free.1 in (
-      ((λ place has. or-right (has_cell f place) (used place) (free.0 place has)), rest.0),
-      ((λ place mine its. (let none = or-left (has_cell f place) (used place) (free.0 place its) in cc)), rest.1),
+      ((λ place has. or-second-false (has_cell f place) (used place) (free.0 place has)), rest.0),
+      ((λ place mine its. (let none = or-first-false (has_cell f place) (used place) (free.0 place its) in cc)), rest.1),
     )
 
 -- what stands from an entry on lies apart, and in no cell that was used before

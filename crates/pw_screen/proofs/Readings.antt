@@ -1,17 +1,12 @@
 -- The clauses of a field, one after the other.
-use Rattle.std.proofs.Common.{◌≡◌, ℕ, zero, suc, ◌<◌, ◌≤◌, true, false, List, [], ◌∷◌, length, Option, Some, None, refl, sym, ap, ◌∙◌, arith}
-use Rattle.pw_text.specs.declared.token.Token.{Token}
+use Rattle.std.proofs.Common.{◌≡◌, ℕ, zero, suc, ◌<◌, ◌≤◌, true, false, List, length, Option, Some, None, refl, sym, ap, ◌∙◌, arith}
 use Rattle.pw_text.specs.Cursor.{Left}
 use Rattle.pw_data.specs.Clauses.{is_end}
 use Rattle.pw_data.specs.Layouts.{Laid}
+use Rattle.pw_data.proofs.Readings.{some-left}
 use Rattle.pw_screen.specs.declared.clauses.Clause.{Clause}
 use Rattle.pw_screen.specs.declared.clauses.Clauses.{Clauses}
 use Rattle.pw_screen.specs.Clauses.{added, one_clause, clauses_from}
-
--- where a period is left there is a token
-some-left : (tokens : List Token) → is_end tokens ≡ true → length tokens ≤ 0 → ⊥
-some-left [] end none = cc
-some-left (token ∷ rest) end none = omega arith
 
 module _ (text : List ℕ) (laid : Laid) where
   -- one clause is read

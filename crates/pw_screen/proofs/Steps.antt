@@ -6,6 +6,7 @@ use Rattle.pw_base.specs.declared.memory.Memory.{Memory}
 use Rattle.pw_base.specs.declared.fault.Fault.{Fault}
 use Rattle.pw_base.specs.First.{least, unless}
 use Rattle.pw_base.proofs.FirstFault.{least-append}
+use Rattle.pw_base.proofs.Plain.{or-assoc}
 use Rattle.pw_words.specs.Words.{Word, same_word}
 use Rattle.pw_text.specs.declared.token.Token.{Token}
 use Rattle.pw_text.specs.Cursor.{Left, spelling}
@@ -23,10 +24,6 @@ use Rattle.pw_screen.specs.Cells.{used_by}
 use Rattle.pw_screen.specs.Entries.{Before, at_first, begins_screen, entry_of, used_after, after}
 use Rattle.pw_screen.specs.Screens.{Behind, nothing, with_entry, behind, fault_of, faults_of, placed_from, screens_of}
 use Rattle.pw_screen.specs.Built.{is_item, before_of, built, completed, outcome}
-
-or-assoc : (a b c : Bool) → ((a || b) || c) ≡ (a || (b || c))
-or-assoc true b c = refl
-or-assoc false b c = refl
 
 -- one more name beside those of the items
 names-more : (text : List ℕ) (name : Option Token) (taken items : Word → Bool)

@@ -1,14 +1,11 @@
 -- A log is opened.
-use Rattle.std.proofs.Common.{◌≡◌, ◌≢◌, ℕ, ◌+◌, Bool, true, false, cond, List, [], ◌∷◌, refl, sym, ap, ◌∙◌}
+use Rattle.std.proofs.Common.{◌≡◌, ◌≢◌, ℕ, ◌+◌, Bool, true, false, cond, List, [], ◌∷◌, sym, ap, ◌∙◌}
 use Rattle.std.specs.Str.{bytes_eq}
 use Rattle.pw_lines.specs.Lines.{lines}
 use Rattle.pw_lines.specs.Steps.{is_empty, is_blank}
 use Rattle.pw_lines.specs.Words.{words}
+use Rattle.pw_lines.proofs.Folds.{some_word}
 use Rattle.pw_script.specs.Log.{Opened, opened, header}
-
-some_word : (ws : List (List ℕ)) → ws ≢ [] → is_empty ws ≡ false
-some_word [] some = absurd (some refl)
-some_word (w ∷ ws) some = refl
 
 -- by the first line
 first_opened : (number : ℕ) (all rest : List (List ℕ)) (line : List ℕ) → all ≡ line ∷ rest → opened number all

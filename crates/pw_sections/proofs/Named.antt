@@ -1,15 +1,11 @@
 -- One pair more, and its name.
 use Rattle.std.proofs.Common.{◌≡◌, ℕ, Bool, ◌||◌, cond, nat_le, List, [], ◌∷◌, ◌++◌, length, None, Some, refl, sym, ap, ◌∙◌}
 use Rattle.std.specs.Str.{bytes_eq}
-use Rattle.std.proofs.lemmas.Bool.Decides.{same_from_decides}
-use Rattle.std.proofs.lemmas.Slice.Eq.{bytes_eq-Decides}
+use Rattle.pw_base.proofs.Plain.{bytes_eq-swap}
 use Rattle.pw_code.specs.Limits.{most_pairs}
 use Rattle.pw_words.specs.Names.{has_name}
 use Rattle.pw_sections.specs.Entries.{Pair, has_field, with_pair}
 use Rattle.pw_sections.specs.Pairs.{names_of}
-
-bytes_eq-swap : (xs ys : List ℕ) → bytes_eq xs ys ≡ bytes_eq ys xs
-bytes_eq-swap xs ys = same_from_decides (bytes_eq xs ys) (bytes_eq ys xs) (bytes_eq-Decides xs ys) (λ h. sym ((bytes_eq-Decides ys xs).0 h), λ is. (bytes_eq-Decides ys xs).1 (sym is))
 
 -- a name is among the names where a pair has it
 has-named : (pairs : List Pair) (name : List ℕ) → has_name (names_of pairs) name ≡ has_field pairs name

@@ -1,19 +1,18 @@
 -- Arguments of a CALL: how they are put into the called program and copied back.
-use Rattle.std.proofs.Common.{◌≡◌, ℕ, zero, suc, ◌+◌, ◌-◌, ◌*◌, ◌<◌, ◌≤◌, Bool, true, false, List, [], ◌∷◌, ◌++◌, length, map, take, drop, Option, Some, None, IsSome, if◌then◌else◌, refl, sym, ap, ◌∙◌, arith}
-use Rattle.std.specs.Prelude.{nat_le, ◌&&◌, ◌||◌, ◌/◌, ◌%◌, ◌^◌, option_map}
-use Rattle.std.proofs.lemmas.Bool.{and_parts, leb-true}
-use Rattle.std.proofs.lemmas.Bool.Decides.{nat_tests}
-use Rattle.std.proofs.Math.Arith.{mod-mul}
-use Rattle.std.proofs.Math.Nat.{pow-succ', mod-eq_of_lt}
+use Rattle.std.proofs.Common.{◌≡◌, ℕ, ◌+◌, ◌-◌, ◌*◌, ◌<◌, ◌≤◌, Bool, true, false, List, [], ◌∷◌, ◌++◌, length, map, take, drop, Option, Some, None, IsSome, if◌then◌else◌, refl, sym, ap, ◌∙◌, arith}
+use Rattle.std.specs.Prelude.{nat_le, ◌&&◌, ◌^◌, option_map}
+use Rattle.std.proofs.lemmas.Bool.{and_parts, leb-true, or_parts}
+use Rattle.std.proofs.Math.Nat.{mod-eq_of_lt}
 use Rattle.std.proofs.lemmas.List.{append-nil, length-append, length-take, length-drop}
-use Rattle.pw_number.proofs.Scales.{ten-pos}
 use Rattle.pw_base.specs.Limits.{most_occurrences}
-use Rattle.pw_picture.specs.Stored.{value_of, digits_of, digit_of}
+use Rattle.pw_picture.specs.Stored.{value_of, digits_of}
+use Rattle.pw_picture.proofs.Reading.{value_of-digits}
 use Rattle.pw_words.specs.Words.{Word}
 use Rattle.pw_data.specs.Layouts.{FitsPicture, place_at}
 use Rattle.pw_data.specs.Names.{is_this_name}
 use Rattle.pw_data.specs.Store.{joined}
 use Rattle.pw_data.specs.declared.item.Item.{Item}
+use Rattle.pw_data.proofs.Cells.{joined-append}
 use Rattle.pw_operands.specs.Resolved.{Each}
 use Rattle.pw_code.specs.declared.place.Place.{Place}
 use Rattle.pw_code.specs.declared.place.Register.TheVariants as register
@@ -27,41 +26,26 @@ use Rattle.pw_source.specs.Operands.{one_more}
 use Rattle.pw_source.specs.Performs as tree
 use Rattle.pw_source.proofs.Resolved.{each-found}
 use Rattle.pw_source.proofs.storage.Cuts.{Cut}
+use Rattle.pw_source.proofs.storage.Initial.{take-front}
 use Rattle.pw_exec.specs.Calls.{put_linkage, linkage_chars, put_all, kept, kept_in}
 use Rattle.pw_exec.specs.Reading as reading
 use Rattle.pw_exec.specs.Reading.{spots_of}
 use Rattle.pw_compile.specs.Emitted.{keeps, is_by_register, is_register}
 use Rattle.pw_compile.specs.Programs.{linked_by, linkage_of}
 use Rattle.pw_terminal.specs.Shown.{written}
-use Rattle.pw_sound.proofs.Flat.{flat-chars, flat-put, take-front, drop-front, joined-append}
+use Rattle.pw_terminal.proofs.Cells.{length-digits_of}
+use Rattle.pw_sound.proofs.Flat.{flat-chars, flat-put, drop-front}
 use Rattle.pw_sound.proofs.Ground.{Ground, IsCut, ground-kept}
 use Rattle.pw_sound.proofs.Readings.{Sits, sits-kept}
-use Rattle.pw_exec.proofs.Written.{length-digits_of}
 use Rattle.std.specs.Prelude.{IfSome}
+use Rattle.std.proofs.lemmas.Option.{same_Some}
 use Rattle.pw_sound.proofs.Suits.{IsFew, IsKeptIndex, IsKeptTable, IsKeptPlace}
 use Rattle.pw_sound.specs.Premises.{AreItems}
 
 -- ---- the registers that a CALL keeps
 
-digit-again : (digit : ℕ) → digit < 10 → digit_of (48 + digit) ≡ digit
-digit-again digit below = grind (arith, nat_tests)
-
-digit-joined : (value digit power rest whole : ℕ) → whole ≡ digit * power + rest → (10 * value + digit) * power + rest ≡ value * (10 * power) + whole
-digit-joined value digit power rest whole is = omega arith
-
-value-digits : (count value size : ℕ) → value_of value (digits_of count size) ≡ value * 10 ^ count + size % 10 ^ count
-value-digits zero value size = omega arith
-value-digits (suc count) value size =
-    let digit : ℕ = size / 10 ^ count % 10 in
-    let parts : size % 10 ^ suc count ≡ digit * 10 ^ count + size % 10 ^ count =
-    ap (λ p. size % p) (pow-succ' 10 count) ∙ mod-mul size (omega arith) (ten-pos count) in
-    value-digits count (10 * value + digit_of (48 + digit)) size
-    ∙ ap (λ d. (10 * value + d) * 10 ^ count + size % 10 ^ count) (digit-again digit (omega arith))
-    ∙ digit-joined value digit (10 ^ count) (size % 10 ^ count) (size % 10 ^ suc count) parts
-    ∙ ap (λ p. value * p + size % 10 ^ suc count) (sym (pow-succ' 10 count))
-
 value-again : (count size : ℕ) → size < 10 ^ count → value_of 0 (digits_of count size) ≡ size
-value-again count size below = value-digits count 0 size ∙ ap (λ n. 0 * 10 ^ count + n) (mod-eq_of_lt below) ∙ omega arith
+value-again count size below = value_of-digits count 0 size ∙ ap (λ n. 0 * 10 ^ count + n) (mod-eq_of_lt below) ∙ omega arith
 
 -- a register as its digits
 first-same : (a b : List ℕ) (n : ℕ) → length a ≡ n → take n (a ++ b) ≡ a
@@ -91,12 +75,6 @@ index-kept registers storage (subscript.Register register.Restarts) occurs is fe
     ap (λ (r : Registers). r.restarts) (kept-back registers) ∙ value-again 5 registers.restarts (omega (arith, few, within))
 index-kept registers storage (subscript.Register register.FileStatus) occurs is few within = absurd is
 
-no-some : {A : Type 0} (x : A) → None ≡ Some x → ⊥
-no-some x h = cc
-
-Some-same : {A : Type 0} (a b : A) → Some a ≡ Some b → a ≡ b
-Some-same a b h = cc
-
 -- an occurrence that is there is there again
 occurrence-by : (k occurs at step : ℕ) (b : Bool) → (nat_le 1 k && nat_le k occurs) ≡ b → (found : ℕ) → (if b then Some (at + (k - 1) * step) else None) ≡ Some found → k ≤ occurs
 occurrence-by k occurs at step true e found is = leb-true k occurs (and_parts (nat_le 1 k) (nat_le k occurs) e).1
@@ -112,7 +90,7 @@ at-kept registers storage at (Some table) found is few e =
 
 some-of : {A B : Type 0} (f : A → B) (o : Option A) (found : B) → option_map f o ≡ Some found → (x : A) × (o ≡ Some x) × (f x ≡ found)
 some-of f None found e = absurd cc
-some-of f (Some x) found e = (x, refl, Some-same (f x) found e)
+some-of f (Some x) found e = (x, refl, same_Some (f x) found e)
 
 spot-kept : (registers : Registers) (storage : List ℕ) (place : Place) (found : Spot) → IsKeptPlace place → IsFew place
     → reading.spot_of registers storage place ≡ Some found → reading.spot_of (kept_in (kept true registers)) storage place ≡ Some found
@@ -121,12 +99,12 @@ spot-kept registers storage place found is few e =
     ap (option_map (reading.spot_at place)) (at-kept registers storage place.at place.table s.0 is few s.1) ∙ ap Some s.2
 
 -- each of some is there
-one-some : {A : Type 0} (a : Option A) (b : Option (List A)) (x : A) (xs : List A) → one_more a b ≡ Some (x ∷ xs) → (a ≡ Some x) × (b ≡ Some xs)
+pub one-some : {A : Type 0} (a : Option A) (b : Option (List A)) (x : A) (xs : List A) → one_more a b ≡ Some (x ∷ xs) → (a ≡ Some x) × (b ≡ Some xs)
 one-some None b x xs e = absurd cc
 one-some (Some y) None x xs e = absurd cc
 one-some (Some y) (Some ys) x xs e = (cc, cc)
 
-no-one : {A : Type 0} (a : Option A) (b : Option (List A)) → one_more a b ≡ Some [] → ⊥
+pub no-one : {A : Type 0} (a : Option A) (b : Option (List A)) → one_more a b ≡ Some [] → ⊥
 no-one None b e = absurd cc
 no-one (Some y) None e = absurd cc
 no-one (Some y) (Some ys) e = absurd cc
@@ -147,7 +125,7 @@ spots-again old new storage (place ∷ places) (spot ∷ spots) same e =
 -- as many characters as their places have
 pub spots-long : (registers : Registers) (storage : List ℕ) (places : List Place) (spots : List Spot) → spots_of registers storage places ≡ Some spots
     → map (λ (spot : Spot). spot.size) spots ≡ map (λ (place : Place). place.size) places
-spots-long registers storage [] spots e = ap (map (λ (spot : Spot). spot.size)) (sym (Some-same [] spots e))
+spots-long registers storage [] spots e = ap (map (λ (spot : Spot). spot.size)) (sym (same_Some [] spots e))
 spots-long registers storage (place ∷ places) [] e = absurd (no-one (reading.spot_of registers storage place) (spots_of registers storage places) e)
 spots-long registers storage (place ∷ places) (spot ∷ spots) e =
     let parts = one-some (reading.spot_of registers storage place) (spots_of registers storage places) spot spots e in
@@ -178,15 +156,11 @@ free-at : (old new : Registers) (storage : List ℕ) (at : ℕ) (table : Option 
 free-at old new storage at None is = refl
 free-at old new storage at (Some table) is = ap (reading.occurrence_at at table) (free-index old new storage table.subscript is)
 
-neither : (a b : Bool) → (a || b) ≡ false → (a ≡ false) × (b ≡ false)
-neither true b e = absurd cc
-neither false b e = (refl, e)
-
 free-each : (old new : Registers) (storage : List ℕ) (places : List Place) → keeps places ≡ false
     → Each (λ (place : Place). (spot : Spot) → reading.spot_of old storage place ≡ Some spot → reading.spot_of new storage place ≡ Some spot) places
 free-each old new storage [] is = tt
 free-each old new storage (place ∷ places) is =
-    let parts = neither (is_by_register place.table) (keeps places) is in (
+    let parts = or_parts (is_by_register place.table) (keeps places) is in (
       (λ spot e. ap (option_map (reading.spot_at place)) (free-at old new storage place.at place.table parts.0) ∙ e),
       free-each old new storage places parts.1,
     )

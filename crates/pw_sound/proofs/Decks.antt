@@ -1,5 +1,5 @@
 -- The programs of a sound deck, whose codes are those of its system.
-use Rattle.std.proofs.Common.{sym, ◌≡◌, ℕ, zero, suc, ◌+◌, ◌-◌, ◌<◌, Bool, true, false, cond, List, [], ◌∷◌, ◌++◌, length, map, find, Option, Some, None, IsSome, refl, ap, ◌∙◌, subst, arith}
+use Rattle.std.proofs.Common.{sym, ◌≡◌, ℕ, zero, suc, ◌+◌, ◌-◌, ◌<◌, Bool, true, false, cond, List, [], ◌∷◌, ◌++◌, length, map, find, Option, Some, None, IsSome, refl, ap, ◌∙◌, arith}
 use Rattle.std.specs.Prelude.{nat_lt, slice_get, slice_index_or, position, unwrap_or, bytes_eq, if◌then◌else◌}
 use Rattle.std.specs.List.{position_from}
 use Rattle.std.proofs.lemmas.Bool.{le-ltb, lt-ltb}
@@ -28,19 +28,17 @@ use Rattle.pw_source.specs.Sound.{links_of, scope_of, HasForms, RowHasForms, IsS
 use Rattle.pw_sound.specs.Premises.{IsShownOf, CallsFit, RowCallsFit, IsFitting, AreFitting}
 use Rattle.pw_sound.specs.Systems.{code_in, codes_in, screens_of, system_of}
 use Rattle.std.proofs.lemmas.List.{length-map}
-use Rattle.pw_source.proofs.Resolved.{got-below}
+use Rattle.std.proofs.lemmas.Option.{same_Some, slice_get_within}
 use Rattle.pw_sound.proofs.Items.{places-few}
 use Rattle.pw_sound.proofs.Sending.{position-map}
 use Rattle.pw_source.specs.Written.{IsWritten, RowIsWritten}
+use Rattle.pw_source.proofs.Resolved.{each-found}
 use Rattle.pw_sound.proofs.Upper.{kept-places}
 use Rattle.pw_sound.proofs.Grounds.{known-of, ground-of, starts-of}
 use Rattle.pw_sound.proofs.Resolving.{Shaped, RowShaped, suited, receivers-own, named-own}
 use Rattle.pw_sound.proofs.Suits as suits
 use Rattle.pw_sound.proofs.Suits.{Suits}
 use Rattle.pw_sound.proofs.Programs.{IsProgram, IsServer}
-
-Some-same : {A : Type 0} (a b : A) → Some a ≡ Some b → a ≡ b
-Some-same a b h = cc
 
 -- ---- programs by their numbers
 
@@ -71,7 +69,7 @@ server-in links (x ∷ xs) (suc q) lt = server-in links xs q (omega (arith, lt))
 
 got-front : {A : Type 0} (xs ys : List A) (i : ℕ) (d x : A) → slice_get xs i ≡ Some x → slice_index_or (xs ++ ys) i d ≡ x
 got-front [] ys i d x e = absurd cc
-got-front (y ∷ xs) ys zero d x e = Some-same y x e
+got-front (y ∷ xs) ys zero d x e = same_Some y x e
 got-front (y ∷ xs) ys (suc i) d x e = got-front xs ys i d x e
 
 got-back : {A : Type 0} (xs ys : List A) (i : ℕ) (d : A) → slice_index_or (xs ++ ys) (length xs + i) d ≡ slice_index_or ys i d
@@ -117,14 +115,6 @@ some-found {A} test k (y ∷ ys) some = by (test y) some (λ later. some-found t
     by true some' later = (y, refl)
     by false some' later = later some'
 
-pub each-found' : {A : Type 0} (P : A → Type 0) (test : A → Bool) (xs : List A) (x : A) → Each P xs → find test xs ≡ Some x → P x
-each-found' P test [] x each e = absurd cc
-each-found' P test (y ∷ ys) x each e = by (test y) e (λ later. each-found' P test ys x each.1 later)
-  where
-    by : (b : Bool) → cond b (Some y) (find test ys) ≡ Some x → (find test ys ≡ Some x → P x) → P x
-    by true one later = subst P (Some-same y x one) each.0
-    by false one later = later one
-
 -- the number of a program that is named is that of one that is there
 pub program-below : (programs : List Program) (name : Word) → IsSome (position_from (λ (one : Word). bytes_eq one name) 0 (map (λ (program : Program). program.name) programs))
     → unwrap_or (position (λ (program : Program). bytes_eq program.name name) programs) 0 < length programs
@@ -136,7 +126,7 @@ program-below programs name some =
     let same : 0 + r.number ≡ r.number = omega arith in
     let number : unwrap_or (position (λ (program : Program). bytes_eq program.name name) programs) 0 ≡ r.number =
     ap (λ o. unwrap_or o 0) (sym (position-map (λ (program : Program). program.name) test programs) ∙ position_from-zero test names ∙ r.place) ∙ same in
-    omega (arith, number, got-below names r.number s.0 r.got, length-map programs (λ (program : Program). program.name))
+    omega (arith, number, slice_get_within names r.number s.0 r.got, length-map programs (λ (program : Program). program.name))
 
 -- ---- programs of terminals
 
@@ -158,7 +148,7 @@ module _ (rule : LockRule) (deck : Deck) (q : ℕ) (lt : q < length deck.program
       record {
         coded = ap (λ n. slice_index_or (screens_of deck.programs) (first_screen deck.programs q + n) (record { name = []; fields = [] })) number
             ∙ screen-in deck.programs q r.number (record { name = []; fields = [] }) table lt r.got;
-        shown = each-found' (λ (one : ScreenTable). Each (λ (field : Field). IsShownOf setting.program.layout field.shown) one.fields) test setting.program.screens table fitting.screens is;
+        shown = each-found (λ (one : ScreenTable). Each (λ (field : Field). IsShownOf setting.program.layout field.shown) one.fields) test setting.program.screens table fitting.screens is;
       }
 
   shows-screen : (name : Word) → IsSome (screen_of (scope_of false deck setting.program) name) → suits.ShowsScreen system setting name

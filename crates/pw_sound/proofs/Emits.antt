@@ -2,11 +2,12 @@
 use Rattle.std.proofs.Common.{◌≡◌, ℕ, zero, suc, ◌+◌, ◌<◌, ◌≤◌, Bool, true, false, not, List, [], ◌∷◌, ◌++◌, length, map, flat_map, All, Option, Some, None, IsSome, IsTrue, is_some, refl, sym, ap, ◌∙◌, subst, arith}
 use Rattle.std.specs.Prelude.{slice_get, slice_index_or, position, unwrap_or, option_map, bytes_eq, codes, nat_le, if◌then◌else◌}
 use Rattle.std.specs.Option.{option_or}
-use Rattle.std.proofs.lemmas.Bool.{and_parts, eqb-true, leb-true, false≢true}
+use Rattle.std.proofs.lemmas.Bool.{and_parts, eqb-true, leb-true, false≢true, not-true}
 use Rattle.std.proofs.lemmas.Iterator.Adapters.{position_from-zero}
 use Rattle.std.proofs.lemmas.List.{length-append, length-map}
 use Rattle.std.proofs.lemmas.List.Elements.{All-nil, All-cons}
 use Rattle.std.proofs.lemmas.Slice.Eq.{bytes_eq-Decides}
+use Rattle.std.proofs.lemmas.Option.{same_Some, none-some, slice_get_within}
 use Rattle.pw_words.specs.Words.{Word, same_word}
 use Rattle.pw_data.specs.Layouts.{place_at}
 use Rattle.pw_data.specs.declared.item.Item.{Item}
@@ -39,7 +40,7 @@ use Rattle.pw_code.specs.declared.system.ClassInfo.{ClassInfo}
 use Rattle.pw_code.specs.declared.system.System.{System}
 use Rattle.pw_source.specs.Program.{Deck, Program, item_named, program_number}
 use Rattle.pw_source.specs.Sound.{links_of, scope_of, HasForms, RowHasForms, IsLayout}
-use Rattle.pw_source.proofs.Resolved.{class-below, file-got, got-below}
+use Rattle.pw_source.proofs.Resolved.{class-below, file-got}
 use Rattle.pw_compile.specs.Conditions as compiled
 use Rattle.pw_compile.specs.Emitted.{statement_code, row_code, body_code, procedure_code, has_screen, display_by, display_of, reply_code}
 use Rattle.pw_compile.specs.Operands as code
@@ -54,12 +55,6 @@ use Rattle.pw_sound.proofs.Items.{variable-of, place-lies, item-lies, any-lies, 
 use Rattle.pw_compile.proofs.Lengths.{row_length, body_length}
 use Rattle.pw_sound.proofs.Whole.{number-same, class-same}
 
-Some-same : {A : Type 0} (a b : A) → Some a ≡ Some b → a ≡ b
-Some-same a b h = cc
-
-no-some : {A : Type 0} (x : A) → None ≡ Some x → ⊥
-no-some x h = cc
-
 requester-only : (server : Bool) (P : Bool → Type 0) → (P true → ⊥) → P server → IsTrue (not server)
 requester-only true P never p = absurd (never p)
 requester-only false P never p = refl
@@ -68,13 +63,9 @@ server-only : (server : Bool) (P : Bool → Type 0) → (P false → ⊥) → P 
 server-only true P never p = refl
 server-only false P never p = absurd (never p)
 
-not-true : (b : Bool) → not b ≡ true → b ≡ false
-not-true true e = absurd cc
-not-true false e = refl
-
 got-or : {A : Type 0} (xs : List A) (i : ℕ) (d x : A) → slice_get xs i ≡ Some x → slice_index_or xs i d ≡ x
 got-or [] i d x e = absurd cc
-got-or (y ∷ ys) zero d x e = Some-same y x e
+got-or (y ∷ ys) zero d x e = same_Some y x e
 got-or (y ∷ ys) (suc i) d x e = got-or ys i d x e
 
 -- a register of a server has the digits that the code gives it
@@ -93,8 +84,8 @@ register-size true name r is e = by (same_word name (codes "FILE-STATUS")) refl 
         (λ other.
         let is_that : name ≡ codes "RESTART-COUNTER" = (bytes_eq-Decides name (codes "RESTART-COUNTER")).0 other in
         false≢true (subst (λ (word : Word). same_word word (codes "FILE-STATUS") ≡ true) is_that same))
-        ∙ ap digits_of (Some-same registers.TheVariants.FileStatus r found)
-    by false same found = absurd (no-some r found)
+        ∙ ap digits_of (same_Some registers.TheVariants.FileStatus r found)
+    by false same found = absurd (none-some r found)
 
 module _ (rule : LockRule) (deck : Deck) (server : Bool) (program : Program) (first : ℕ) (laid : IsLayout server program.layout) where
   abbrev system : System
@@ -193,8 +184,8 @@ module _ (rule : LockRule) (deck : Deck) (server : Bool) (program : Program) (fi
     named-size here test name subscript is = by (item_named program name) refl
       where
         by-register : (r : Option registers.Register) → register_of server name ≡ r → option_or (option_map of_register r) None ≡ Some is.variable → digits_of_register (code.register_named name) ≡ is.variable.size
-        by-register None e found = absurd (no-some is.variable found)
-        by-register (Some r) e found = register-size server name r here e ∙ ap (λ (v : Variable). v.size) (Some-same (of_register r) is.variable found)
+        by-register None e found = absurd (none-some is.variable found)
+        by-register (Some r) e found = register-size server name r here e ∙ ap (λ (v : Variable). v.size) (same_Some (of_register r) is.variable found)
 
         by : (o : Option Item) → item_named program name ≡ o → size_of_item (code.operand_by program.layout (option_map place_at o) name subscript) ≡ is.variable.size
         by None e =
@@ -218,7 +209,7 @@ module _ (rule : LockRule) (deck : Deck) (server : Bool) (program : Program) (fi
         let s = item-size here (is_key is.file) key is.item in
         let same : s.0.size ≡ is.file.key = eqb-true s.0.size is.file.key s.1 in
         record {
-          known = got-below deck.files (plans.file_of plan file) is.file got;
+          known = slice_get_within deck.files (plans.file_of plan file) is.file got;
           operand = item-operand (is_key is.file) key is.item;
           size = s.2 ∙ same ∙ sym (ap (λ (one : FileInfo). one.key) (got-or deck.files (plans.file_of plan file) _ is.file got));
         }
@@ -232,7 +223,7 @@ module _ (rule : LockRule) (deck : Deck) (server : Bool) (program : Program) (fi
         let most : s.0.size ≤ 4000 = leb-true s.0.size 4000 parts.1 in
         let key : (file_at system (plans.file_of plan file)).key ≡ is.file.key = ap (λ (one : FileInfo). one.key) (got-or deck.files (plans.file_of plan file) _ is.file got) in
         record {
-          known = got-below deck.files (plans.file_of plan file) is.file got;
+          known = slice_get_within deck.files (plans.file_of plan file) is.file got;
           operand = item-operand (is_record is.file) from is.item;
           least = omega (arith, key, least, s.2);
           most = omega (arith, most, s.2);

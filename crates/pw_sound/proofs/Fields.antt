@@ -20,6 +20,7 @@ use Rattle.pw_code.specs.declared.field.FieldKind.{FieldKind}
 use Rattle.pw_code.specs.declared.field.FieldKind.TheVariants as fields
 use Rattle.pw_terminal.specs.Shown as shown
 use Rattle.pw_terminal.specs.Entries.{is_entry_field}
+use Rattle.pw_terminal.proofs.Written.{length-fitted}
 use Rattle.pw_source.specs.Program.{Program}
 use Rattle.pw_source.specs.Store.{Store, Spot}
 use Rattle.pw_source.specs.Screens as screens
@@ -29,7 +30,7 @@ use Rattle.pw_source.proofs.storage.Cuts.{Cut}
 use Rattle.pw_exec.specs.Entries as entry
 use Rattle.pw_sound.proofs.Flat.{flat-chars, flat-put}
 use Rattle.pw_sound.proofs.Ground.{Ground, IsCut, cut-kept, ground-kept}
-use Rattle.pw_exec.proofs.Written.{length-fitted, length-chars_of}
+use Rattle.pw_exec.proofs.Written.{length-chars_of}
 use Rattle.pw_sound.specs.Premises.{IsItemAt, IsShownOf}
 
 -- the item of a field is a run of cells of the store

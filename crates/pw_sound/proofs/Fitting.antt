@@ -5,8 +5,9 @@ use Rattle.std.specs.Option.{option_or}
 use Rattle.std.proofs.lemmas.Bool.{and_parts, eqb-true, false≢true}
 use Rattle.std.proofs.lemmas.Iterator.Adapters.{position_from-zero}
 use Rattle.std.proofs.lemmas.List.{length-map}
-use Rattle.pw_base.specs.declared.fault_code.FaultCode.{FaultCode}
+use Rattle.std.proofs.lemmas.Option.{same_Some, none-some, slice_get_within, slice_get-map}
 use Rattle.pw_base.specs.declared.fault_code.FaultCode.TheVariants.{WrongLength}
+use Rattle.pw_base.proofs.Plain.{append-none}
 use Rattle.pw_words.specs.Words.{Word}
 use Rattle.pw_data.specs.Layouts.{Laid, place_at, place_of}
 use Rattle.pw_data.specs.declared.item.Item.{Item}
@@ -29,11 +30,11 @@ use Rattle.pw_names.specs.Calls as names
 use Rattle.pw_names.specs.Calls.{Lengths, lengths_of, is_long, arguments_fit, found_fit, numbered_fit, call_fits, statement_flaws}
 use Rattle.pw_names.specs.Faults.{own_faults, faults, row_faults, paragraph_faults, program_faults}
 use Rattle.pw_names.specs.Flaws.{passes, unless_holds, variable_at, flaws_of}
-use Rattle.pw_names.specs.Order.{at_line}
+use Rattle.pw_names.proofs.Accepted.{at_line-none}
+use Rattle.pw_names.proofs.Fitting.{holds}
 use Rattle.pw_source.specs.Program.{Deck, Program, item_named, program_number}
 use Rattle.pw_source.specs.Program as tree
 use Rattle.pw_source.specs.Sound.{scope_of, IsLayout, IsSoundProgram}
-use Rattle.pw_source.proofs.Resolved.{got-below}
 use Rattle.pw_compile.specs.Operands as code
 use Rattle.pw_compile.specs.Programs.{linked_by, linkage_of}
 use Rattle.pw_sound.specs.Premises.{arguments_of, CallFits, CallsFit, RowCallsFit}
@@ -42,32 +43,9 @@ use Rattle.pw_sound.proofs.Decks.{found-at, some-found}
 use Rattle.pw_sound.proofs.Items.{variable-of}
 use Rattle.pw_sound.proofs.Sending.{position-map}
 
-no-some : {A : Type 0} (x : A) → None ≡ Some x → ⊥
-no-some x h = cc
-
-Some-same : {A : Type 0} (a b : A) → Some a ≡ Some b → a ≡ b
-Some-same a b h = cc
-
-none-append : {A : Type 0} (xs ys : List A) → xs ++ ys ≡ [] → (xs ≡ []) × (ys ≡ [])
-none-append [] ys e = (refl, e)
-none-append (x ∷ xs) ys e = absurd cc
-
 none-each : {A B : Type 0} (f : A → List B) (xs : List A) → flat_map f xs ≡ [] → Each (λ x. f x ≡ []) xs
 none-each f [] e = tt
-none-each f (x ∷ xs) e = let parts = none-append (f x) (flat_map f xs) e in (parts.0, none-each f xs parts.1)
-
-none-line : (line : ℕ) (codes : List FaultCode) → at_line line codes ≡ [] → codes ≡ []
-none-line line [] e = refl
-none-line line (x ∷ xs) e = absurd cc
-
-none-holds : (b : Bool) (code : FaultCode) → unless_holds b code ≡ [] → b ≡ true
-none-holds true code e = refl
-none-holds false code e = absurd cc
-
-get-map : {A B : Type 0} (f : A → B) (xs : List A) (i : ℕ) → slice_get (map f xs) i ≡ option_map f (slice_get xs i)
-get-map f [] i = refl
-get-map f (x ∷ xs) zero = refl
-get-map f (x ∷ xs) (suc i) = get-map f xs i
+none-each f (x ∷ xs) e = let parts = append-none (f x) (flat_map f xs) e in (parts.0, none-each f xs parts.1)
 
 got-program : (programs : List Program) (q : ℕ) → q < length programs → slice_get programs q ≡ Some (tree.program_at programs q)
 got-program [] q lt = absurd (omega (arith, lt))
@@ -90,8 +68,8 @@ module _ (deck : Deck) (program : Program) (laid : IsLayout false program.layout
   item-long name subscript is = by (item_named program name) refl
     where
       by-register : (r : Option registers.Register) → option_or (option_map of_register r) None ≡ Some is.variable → (code.place_by program.layout None subscript).size ≡ is.variable.size
-      by-register None found = absurd (no-some is.variable found)
-      by-register (Some r) found = absurd (register-is r is.variable (Some-same (of_register r) is.variable found) is.passes)
+      by-register None found = absurd (none-some is.variable found)
+      by-register (Some r) found = absurd (register-is r is.variable (same_Some (of_register r) is.variable found) is.passes)
 
       by : (o : Option Item) → item_named program name ≡ o → (code.place_by program.layout (option_map place_at o) subscript).size ≡ is.variable.size
       by None e =
@@ -135,10 +113,10 @@ module _ (deck : Deck) (program : Program) (laid : IsLayout false program.layout
       let same : 0 + r.number ≡ r.number = omega arith in
       let number : program_number deck name ≡ r.number =
       ap (λ o. unwrap_or o 0) (sym (position-map (λ (one : Program). one.name) test programs) ∙ position_from-zero test words ∙ r.place) ∙ same in
-      let below : r.number < length programs = omega (arith, got-below words r.number s.0 r.got, length-map programs (λ (one : Program). one.name)) in
+      let below : r.number < length programs = omega (arith, slice_get_within words r.number s.0 r.got, length-map programs (λ (one : Program). one.name)) in
       let callee = tree.program_at programs r.number in
       let got : slice_get named.usings r.number ≡ Some (lengths_of callee.layout callee.parameters) =
-      get-map (λ (one : Program). lengths_of one.layout one.parameters) programs r.number ∙ ap (option_map (λ (one : Program). lengths_of one.layout one.parameters)) (got-program programs r.number below) in
+      slice_get-map (λ (one : Program). lengths_of one.layout one.parameters) programs r.number ∙ ap (option_map (λ (one : Program). lengths_of one.layout one.parameters)) (got-program programs r.number below) in
       let all : arguments_fit scope ones (lengths_of callee.layout callee.parameters) ≡ true =
       sym (ap (numbered_fit named ones) r.place ∙ ap (λ n. found_fit scope ones (slice_get named.usings n)) same ∙ ap (found_fit scope ones) got) ∙ fits in
       record {
@@ -149,17 +127,17 @@ module _ (deck : Deck) (program : Program) (laid : IsLayout false program.layout
   mutual
     calls-fit : (one : Statement) → faults named one ≡ [] → Resolves scope one → CallsFit deck program one
     calls-fit (form.OnSizeError' line a n first m second) none is =
-        let rest = none-append (own_faults named (form.OnSizeError' line a n first m second)) (row_faults named first ++ row_faults named second) none in
-        let rows = none-append (row_faults named first) (row_faults named second) rest.1 in
+        let rest = append-none (own_faults named (form.OnSizeError' line a n first m second)) (row_faults named first ++ row_faults named second) none in
+        let rows = append-none (row_faults named first) (row_faults named second) rest.1 in
         (row-fits first rows.0 is.1, row-fits second rows.1 is.2)
     calls-fit (form.If' line cond n first m second) none is =
-        let rest = none-append (own_faults named (form.If' line cond n first m second)) (row_faults named first ++ row_faults named second) none in
-        let rows = none-append (row_faults named first) (row_faults named second) rest.1 in
+        let rest = append-none (own_faults named (form.If' line cond n first m second)) (row_faults named first ++ row_faults named second) none in
+        let rows = append-none (row_faults named first) (row_faults named second) rest.1 in
         (row-fits first rows.0 is.1, row-fits second rows.1 is.2)
     calls-fit (form.Call line name arguments) none is =
-        let flaws = none-line line (statement_flaws named (form.Call line name arguments)) none in
-        let parts = none-append (flaws_of scope (uses (form.Call line name arguments))) (unless_holds (call_fits named name arguments) WrongLength) flaws in
-        call-fits name arguments is.0 is.1 (none-holds (call_fits named name arguments) WrongLength parts.1)
+        let flaws = at_line-none line (statement_flaws named (form.Call line name arguments)) none in
+        let parts = append-none (flaws_of scope (uses (form.Call line name arguments))) (unless_holds (call_fits named name arguments) WrongLength) flaws in
+        call-fits name arguments is.0 is.1 (holds (call_fits named name arguments) WrongLength parts.1)
     calls-fit (form.Move line from to) none is = tt
     calls-fit (form.Arithmetic line a) none is = tt
     calls-fit (form.Perform line name) none is = tt
@@ -188,7 +166,7 @@ module _ (deck : Deck) (program : Program) (laid : IsLayout false program.layout
     row-fits : {n : _} (row : Row_of-Statement n) → row_faults named row ≡ [] → RowResolves scope row → RowCallsFit deck program row
     row-fits end_of-Statement none is = tt
     row-fits (more_of-Statement one rest) none is =
-        let parts = none-append (faults named one) (row_faults named rest) none in (calls-fit one parts.0 is.0, row-fits rest parts.1 is.1)
+        let parts = append-none (faults named one) (row_faults named rest) none in (calls-fit one parts.0 is.0, row-fits rest parts.1 is.1)
 
   body-fits : (ones : List Statement) → Each (λ (one : Statement). faults named one ≡ []) ones → Each (Resolves scope) ones → Each (CallsFit deck program) ones
   body-fits [] none is = tt

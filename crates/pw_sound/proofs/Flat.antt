@@ -1,30 +1,22 @@
 -- A store and its characters, one cell behind the other.
 use Rattle.std.proofs.Common.{◌≡◌, ℕ, zero, suc, ◌+◌, ◌-◌, ◌<◌, ◌≤◌, Bool, true, false, List, [], ◌∷◌, ◌++◌, length, take, drop, replicate, if◌then◌else◌, refl, sym, ap, ◌∙◌, ⊎_elim, append_assoc, arith}
 use Rattle.std.proofs.lemmas.Bool.{and_parts, and_from, leb-true, ltb-true, le-leb, lt-ltb, cases_lt, false≢true}
-use Rattle.std.proofs.lemmas.List.{length-append, length-drop, append-nil}
+use Rattle.std.proofs.lemmas.List.{length-append, length-drop, append-nil, nil_from_length}
 use Rattle.pw_picture.specs.Text.{fitted}
 use Rattle.pw_data.specs.Store.{Cell, joined}
+use Rattle.pw_data.proofs.Cells.{joined-append}
 use Rattle.pw_terminal.specs.Shown.{written}
 use Rattle.pw_source.specs.Store.{Spot, lies_in, chars_from, chars_at, put_from, put_at}
 use Rattle.pw_source.proofs.storage.Cuts.{Cut}
+use Rattle.pw_source.proofs.storage.Initial.{take-front}
 
 -- ---- lists
-
-pub take-front : (xs ys : List ℕ) (n : ℕ) → length xs ≡ n → take n (xs ++ ys) ≡ xs
-take-front [] ys zero is = refl
-take-front [] ys (suc n) is = absurd (omega (arith, is))
-take-front (x ∷ xs) ys zero is = absurd (omega (arith, is))
-take-front (x ∷ xs) ys (suc n) is = ap (λ zs. x ∷ zs) (take-front xs ys n (omega (arith, is)))
 
 pub drop-front : (xs ys : List ℕ) (n : ℕ) → length xs ≡ n → drop n (xs ++ ys) ≡ ys
 drop-front [] ys zero is = refl
 drop-front [] ys (suc n) is = absurd (omega (arith, is))
 drop-front (x ∷ xs) ys zero is = absurd (omega (arith, is))
 drop-front (x ∷ xs) ys (suc n) is = drop-front xs ys n (omega (arith, is))
-
-no-length : (xs : List ℕ) → length xs ≡ 0 → xs ≡ []
-no-length [] is = refl
-no-length (x ∷ xs) is = absurd (omega (arith, is))
 
 take-all : (xs : List ℕ) (n : ℕ) → length xs ≡ n → take n xs ≡ xs
 take-all xs n is = ap (take n) (sym (append-nil xs)) ∙ take-front xs [] n is
@@ -74,7 +66,7 @@ module _ (spot : Spot) where
 
   none-by : (b : Bool) (p : ℕ) (chars rest : List ℕ) → lies_in spot p ≡ b → (spot.at ≤ p → p < spot.at + spot.size → length chars ≡ 0) → rest ≡ []
       → (if b then chars else []) ++ rest ≡ []
-  none-by true p chars rest e short is = let at = lies spot p e in ap (λ xs. xs ++ rest) (no-length chars (short at.0 at.1)) ∙ is
+  none-by true p chars rest e short is = let at = lies spot p e in ap (λ xs. xs ++ rest) (nil_from_length chars (short at.0 at.1)) ∙ is
   none-by false p chars rest e short is = is
 
   chars-before : (p : ℕ) (xs : List Cell) → p + length (joined xs) ≤ spot.at → chars_from spot p xs ≡ []
@@ -90,7 +82,7 @@ module _ (spot : Spot) where
 
   all-by : (b : Bool) (p : ℕ) (chars : List ℕ) → lies_in spot p ≡ b → spot.at ≤ p → p + length chars ≤ spot.at + spot.size → (if b then chars else []) ≡ chars
   all-by true p chars e from le = refl
-  all-by false p chars e from le = sym (no-length chars (omega (arith, lies-not spot p e from, le)))
+  all-by false p chars e from le = sym (nil_from_length chars (omega (arith, lies-not spot p e from, le)))
 
   chars-inside : (p : ℕ) (xs : List Cell) → spot.at ≤ p → p + length (joined xs) ≤ spot.at + spot.size → chars_from spot p xs ≡ joined xs
   chars-inside p [] from le = refl
@@ -110,7 +102,7 @@ module _ (spot : Spot) where
       ap (λ n. fitted n chars ++ joined (put_from spot (drop (length x.chars) chars) (p + length x.chars) more)) none
       ∙ ap (λ n. (take 0 chars ++ replicate (0 - length chars) 32) ++ joined (put_from spot (drop n chars) (p + length x.chars) more)) none
       ∙ empty (length chars)
-      ∙ ap (λ zs. zs ++ rest) (sym (no-length x.chars none))
+      ∙ ap (λ zs. zs ++ rest) (sym (nil_from_length x.chars none))
     where
       empty : (n : ℕ) → (take 0 chars ++ replicate (0 - n) 32) ++ joined (put_from spot (drop 0 chars) (p + length x.chars) more) ≡ rest
       empty n = let e : 0 - n ≡ 0 = omega arith in ap (λ k. (take 0 chars ++ replicate k 32) ++ joined (put_from spot chars (p + length x.chars) more)) e ∙ same chars refl
@@ -145,7 +137,7 @@ module _ (spot : Spot) where
   inside-by true p chars x more e from le enough = ap (λ zs. zs ++ joined (put_from spot (drop (length x.chars) chars) (p + length x.chars) more)) (fitted-front (length x.chars) chars enough)
   inside-by false p chars x more e from le enough =
       let none : length x.chars ≡ 0 = omega (arith, lies-not spot p e from, le) in
-      ap (λ zs. zs ++ joined (put_from spot chars (p + length x.chars) more)) (no-length x.chars none)
+      ap (λ zs. zs ++ joined (put_from spot chars (p + length x.chars) more)) (nil_from_length x.chars none)
       ∙ ap (λ n. take n chars ++ joined (put_from spot (drop n chars) (p + length x.chars) more)) (sym none)
 
   put-inside : (chars : List ℕ) (p : ℕ) (xs more : List Cell) → spot.at ≤ p → p + length (joined xs) ≤ spot.at + spot.size → length (joined xs) ≤ length chars
@@ -164,10 +156,6 @@ module _ (spot : Spot) where
       ∙ ap (λ cs. take (n + m) chars ++ joined (put_from spot cs (p + n + m) more)) (drop-add n m chars)
       ∙ ap (λ k. take (n + m) chars ++ joined (put_from spot (drop (n + m) chars) k more)) e
       ∙ ap (λ k. take k chars ++ joined (put_from spot (drop k chars) (p + length (x.chars ++ joined xs)) more)) (sym long)
-
-pub joined-append : (xs ys : List Cell) → joined (xs ++ ys) ≡ joined xs ++ joined ys
-joined-append [] ys = refl
-joined-append (x ∷ xs) ys = ap (λ cs. x.chars ++ cs) (joined-append xs ys) ∙ sym (append_assoc x.chars (joined xs) (joined ys))
 
 -- a store by its cut
 parts : (cells : List Cell) (a n : ℕ) (tail : List ℕ) → (c : Cut cells a n) → joined cells ++ tail ≡ joined c.front ++ (joined c.run ++ (joined c.back ++ tail))

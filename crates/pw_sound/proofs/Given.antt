@@ -7,11 +7,8 @@ use Rattle.pw_code.specs.Fields.{IsTable}
 use Rattle.pw_operands.specs.Resolved.{Each}
 use Rattle.pw_scobol.specs.Using.{IsParameter}
 use Rattle.pw_source.specs.Program.{Program}
+use Rattle.pw_source.proofs.storage.Initial.{all-each}
 use Rattle.pw_sound.specs.Premises.{AreItems}
-
-all-each : {A : Type 0} (P : A → Type 0) (xs : List A) → All P xs → Each P xs
-all-each P [] all = tt
-all-each P (x ∷ xs) all = (All-head P x xs all, all-each P xs (All-tail P x xs all))
 
 using-in : (program : Program) (names : List Word) → All (IsParameter program.layout) names → AreItems program names
 using-in program [] all = tt

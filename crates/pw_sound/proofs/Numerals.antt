@@ -1,5 +1,5 @@
 -- A number as a token writes it: a sign or none, digits, and behind a point more digits or none.
-use Rattle.std.proofs.Common.{◌≡◌, ℕ, zero, suc, ◌+◌, ◌-◌, ◌*◌, ◌^◌, ◌<◌, ◌≤◌, Bool, true, false, not, ◌&&◌, ◌||◌, List, [], ◌∷◌, ◌++◌, length, drop, filter, Option, Some, None, if◌then◌else◌, unsigned_abs, refl, sym, ap, ◌∙◌, subst, arith}
+use Rattle.std.proofs.Common.{◌≡◌, ℕ, ◌+◌, ◌-◌, ◌*◌, ◌^◌, ◌<◌, ◌≤◌, Bool, true, false, not, ◌&&◌, ◌||◌, List, [], ◌∷◌, ◌++◌, length, drop, filter, Option, Some, None, if◌then◌else◌, unsigned_abs, refl, sym, ap, ◌∙◌, subst, arith}
 use Rattle.std.specs.Prelude.{◌==◌, nat_le, unwrap_or, pos}
 use Rattle.std.specs.Char.{is_ascii_digit}
 use Rattle.std.proofs.lemmas.Bool.{le-leb}
@@ -10,6 +10,7 @@ use Rattle.std.proofs.Math.Nat.{pow-le-pow_right, pow-succ', mul-le-mul_right}
 use Rattle.std.proofs.Math.Seq.{drop-append_seam}
 use Rattle.pw_number.specs.Number.{Number, number}
 use Rattle.pw_number.specs.Sign.{signed}
+use Rattle.pw_number.proofs.Quotients.{abs-signed}
 use Rattle.pw_picture.specs.declared.picture.Picture.TheVariants as picture
 use Rattle.pw_picture.specs.Stored.{digit_of, value_of, read_of}
 use Rattle.pw_picture.specs.Symbols.{begins_with}
@@ -113,11 +114,6 @@ value-below v (char ∷ chars) =
 
 value-short : (chars : List ℕ) → length chars ≤ 18 → value_of 0 chars < 10 ^ 18
 value-short chars few = omega (arith, value-below 0 chars, pow-le-pow_right {n = 10} (omega arith) few)
-
-abs-signed : (negative : Bool) (size : ℕ) → unsigned_abs (signed negative size) ≡ size
-abs-signed false size = refl
-abs-signed true zero = refl
-abs-signed true (suc size) = refl
 
 -- ---- the number
 

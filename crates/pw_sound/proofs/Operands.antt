@@ -6,6 +6,8 @@ use Rattle.std.specs.Char.{is_ascii_digit}
 use Rattle.std.specs.List.{list_all, prefix_len}
 use Rattle.std.proofs.lemmas.List.Folds.{length-prefix_len}
 use Rattle.std.proofs.lemmas.Bool.{and_parts, leb-true, le-ltb, cases_lt, false≢true}
+use Rattle.std.proofs.lemmas.Option.{same_Some, none-some}
+use Rattle.pw_base.proofs.Plain.{and-false}
 use Rattle.pw_number.specs.Number.{number}
 use Rattle.pw_number.specs.Sign.{signed}
 use Rattle.pw_picture.specs.Grammar.{IsPicture, size_of}
@@ -51,12 +53,6 @@ use Rattle.pw_source.proofs.Resolved.{each-found}
 
 -- ---- lists and tests
 
-Some-same : {A : Type 0} (a b : A) → Some a ≡ Some b → a ≡ b
-Some-same a b h = cc
-
-no-some : {A : Type 0} (x : A) → None ≡ Some x → ⊥
-no-some x h = cc
-
 -- ---- pictures and places
 
 picture-by : (k : Option Kind) (size : ℕ) → ForSome k (λ kind. IsPicture (picture_of_kind kind) × (size_of (picture_of_kind kind) ≡ size))
@@ -82,10 +78,6 @@ module _ (layout_of : Program) (subscript : Option Subscript) where
 no-leb : (b : Bool) (x y : ℕ) → nat_le x y ≡ b → y < x → b ≡ false
 no-leb true x y e lt = absurd (omega (arith, leb-true x y e, lt))
 no-leb false x y e lt = refl
-
-and-false : (b : Bool) → (b && false) ≡ false
-and-false true = refl
-and-false false = refl
 
 -- a number above the last occurrence may be any such number
 within-same : (v occurs : ℕ) → (nat_le 1 (min v (occurs + 1)) && nat_le (min v (occurs + 1)) occurs) ≡ (nat_le 1 v && nat_le v occurs)
@@ -196,9 +188,9 @@ module _ (server : Bool) (deck : Deck) (program : Program) (known : Known server
       by : (r : Option registers.Register) → register_of server name ≡ r → of_place (place_at item) ≡ variable
       by (Some r) e =
           let none : item_named program name ≡ None = known.unnamed name (subst (λ (o : Option registers.Register). IsSome o) (sym e) refl) in
-          absurd (no-some item (sym none ∙ is))
+          absurd (none-some item (sym none ∙ is))
       by None e =
-          Some-same (of_place (place_at item)) variable
+          same_Some (of_place (place_at item)) variable
           (sym (ap (λ (o : Option Item). option_map of_place (option_map place_at o)) is)
           ∙ sym (ap (λ (o : Option registers.Register). option_or (option_map of_register o) (option_map of_place (place_of program.layout name))) e) ∙ found)
 

@@ -4,6 +4,7 @@ use Rattle.std.specs.Prelude.{nat_le, ◌&&◌, ◌||◌, ◌%◌, ◌^◌, opti
 use Rattle.std.specs.Option.{ForSome}
 use Rattle.std.specs.declared.cmp.Ordering.{Ordering}
 use Rattle.std.proofs.lemmas.Bool.{and_parts, leb-true}
+use Rattle.std.proofs.lemmas.Option.{same_Some}
 use Rattle.pw_number.specs.Number.{Number}
 use Rattle.pw_number.specs.declared.size_error.SizeError.{SizeError}
 use Rattle.pw_picture.specs.Grammar.{IsPicture, size_of}
@@ -128,13 +129,10 @@ spot-again : (o : Option Spot) → o ≡ option_map spot_in (option_map Stored o
 spot-again None = refl
 spot-again (Some spot) = refl
 
-Some-same : {A : Type 0} (a b : A) → Some a ≡ Some b → a ≡ b
-Some-same a b h = cc
-
 picture-fits : (k : Option Kind) (size : ℕ) → ForSome k (λ kind. IsPicture (picture_of_kind kind) × (size_of (picture_of_kind kind) ≡ size))
     → (p : Picture) → option_map picture_of_kind k ≡ Some p → size_of p ≡ size
 picture-fits None size fits p e = absurd cc
-picture-fits (Some k) size fits p e = ap size_of (sym (Some-same (picture_of_kind k) p e)) ∙ (fits k refl).1
+picture-fits (Some k) size fits p e = ap size_of (sym (same_Some (picture_of_kind k) p e)) ∙ (fits k refl).1
 
 item-sits : (store : Store) (item : Item) (k : ℕ) → FitsPicture item → IsCut store item → 1 ≤ k → k ≤ max item.occurs 1 → Sits store (tree.spot_of item k)
 item-sits store item k fits cut low high = record { cut = cut k low high; fits = picture-fits item.kind item.size fits }
@@ -145,7 +143,7 @@ occurs-by store item k fits cut true e found is =
     let parts = and_parts _ _ e in
     let low : 1 ≤ k = leb-true 1 k parts.0 in
     let high : k ≤ item.occurs = leb-true k item.occurs parts.1 in
-    subst (TakenSits store) (Some-same (Stored (tree.spot_of item k)) found is) (item-sits store item k fits cut low (omega (arith, high)))
+    subst (TakenSits store) (same_Some (Stored (tree.spot_of item k)) found is) (item-sits store item k fits cut low (omega (arith, high)))
 occurs-by store item k fits cut false e found is = absurd cc
 
 module _ (server : Bool) (deck : Deck) (program : Program) where
@@ -156,19 +154,19 @@ module _ (server : Bool) (deck : Deck) (program : Program) where
 
 module _ (server : Bool) (deck : Deck) (program : Program) (known : Known server program) (s : State) (tail : List ℕ) (ground : Ground program s.store) where
   register-sits : (a b : Bool) (x y z : Value) (found : Taken) → Some (if a then Fixed x else if b then Fixed y else Fixed z) ≡ Some found → TakenSits s.store found
-  register-sits true b x y z found is = subst (TakenSits s.store) (Some-same (Fixed x) found is) tt
-  register-sits false true x y z found is = subst (TakenSits s.store) (Some-same (Fixed y) found is) tt
-  register-sits false false x y z found is = subst (TakenSits s.store) (Some-same (Fixed z) found is) tt
+  register-sits true b x y z found is = subst (TakenSits s.store) (same_Some (Fixed x) found is) tt
+  register-sits false true x y z found is = subst (TakenSits s.store) (same_Some (Fixed y) found is) tt
+  register-sits false false x y z found is = subst (TakenSits s.store) (same_Some (Fixed z) found is) tt
 
   named-sits : (o : Option Item) (name : Word) (k : Option ℕ) → ((item : Item) → o ≡ Some item → FitsPicture item) → ((item : Item) → o ≡ Some item → IsCut s.store item)
       → (found : Taken) → source.taken_item o s.registers name k ≡ Some found → TakenSits s.store found
   named-sits None name k fits cut found is = register-sits (bytes_eq name (codes "TERMINATION-STATUS")) (bytes_eq name (codes "RESTART-COUNTER")) _ _ _ found is
   named-sits (Some item) name None fits cut found is =
-      subst (TakenSits s.store) (Some-same (Stored (tree.spot_of item 1)) found is) (item-sits s.store item 1 (fits item refl) (cut item refl) (omega arith) (omega arith))
+      subst (TakenSits s.store) (same_Some (Stored (tree.spot_of item 1)) found is) (item-sits s.store item 1 (fits item refl) (cut item refl) (omega arith) (omega arith))
   named-sits (Some item) name (Some k) fits cut found is = occurs-by s.store item k (fits item refl) (cut item refl) (nat_le 1 k && nat_le k item.occurs) refl found is
 
   fixed-sits : (value : Value) (found : Taken) → Some (Fixed value) ≡ Some found → TakenSits s.store found
-  fixed-sits value found is = subst (TakenSits s.store) (Some-same (Fixed value) found is) tt
+  fixed-sits value found is = subst (TakenSits s.store) (same_Some (Fixed value) found is) tt
 
   -- what is taken is a run of cells
   pub taken-sits : (one : Operand) (found : Taken) → source.taken program s one ≡ Some found → TakenSits s.store found
@@ -181,14 +179,14 @@ module _ (server : Bool) (deck : Deck) (program : Program) (known : Known server
   taken-sits operands.Zeros found is = fixed-sits _ found is
 
   pub all-sit : (ones : List Operand) (found : List Taken) → source.taken_all program s ones ≡ Some found → Each (TakenSits s.store) found
-  all-sit [] found is = subst (Each (TakenSits s.store)) (Some-same [] found is) tt
+  all-sit [] found is = subst (Each (TakenSits s.store)) (same_Some [] found is) tt
   all-sit (one ∷ ones) found is = by (source.taken program s one) (source.taken_all program s ones) (λ x e. taken-sits one x e) (λ xs e. all-sit ones xs e) is
     where
       by : (a : Option Taken) (b : Option (List Taken)) → ((x : Taken) → a ≡ Some x → TakenSits s.store x) → ((xs : List Taken) → b ≡ Some xs → Each (TakenSits s.store) xs)
           → one_more a b ≡ Some found → Each (TakenSits s.store) found
       by None b f g e = absurd cc
       by (Some x) None f g e = absurd cc
-      by (Some x) (Some xs) f g e = subst (Each (TakenSits s.store)) (Some-same (x ∷ xs) found e) (f x refl, g xs refl)
+      by (Some x) (Some xs) f g e = subst (Each (TakenSits s.store)) (same_Some (x ∷ xs) found e) (f x refl, g xs refl)
 
   -- an operand as it is read
   pub read-same : (one : Operand) → Indexed server deck program one
@@ -328,7 +326,7 @@ computed-state program op first second spot s t is ground = by (computing.operat
     kept : (b : Bool) (p : Picture) (n : Number) → (if b then Some (record s { store = tree.put_at spot (moved p n) s.store }) else None) ≡ Some t → Computed program s t
     kept true p n e = record {
       store = tree.put_at spot (moved p n) s.store;
-      is = sym (Some-same (record s { store = tree.put_at spot (moved p n) s.store }) t e);
+      is = sym (same_Some (record s { store = tree.put_at spot (moved p n) s.store }) t e);
       ground = ground-kept program spot (moved p n) s.store ground;
     }
     kept false p n e = absurd cc

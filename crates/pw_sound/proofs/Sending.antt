@@ -1,7 +1,9 @@
 -- The code of SEND, READ and READ NEXT does what they do.
 use Rattle.std.proofs.Common.{◌≡◌, ℕ, zero, suc, ◌+◌, ◌*◌, Bool, true, false, not, List, [], ◌∷◌, ◌++◌, length, map, Option, Some, None, if◌then◌else◌, refl, sym, ap, ◌∙◌, subst, arith}
-use Rattle.std.specs.Prelude.{◌==◌, ◌||◌, cond, slice_get, option_map, option_and_then, position, ltb}
+use Rattle.std.specs.Prelude.{◌==◌, cond, slice_get, option_map, option_and_then, position, ltb}
 use Rattle.std.specs.List.{position_or_len}
+use Rattle.std.proofs.lemmas.Option.{same_Some}
+use Rattle.pw_base.proofs.Plain.{or-true}
 use Rattle.pw_words.specs.Words.{Word}
 use Rattle.pw_data.specs.Store.{joined}
 use Rattle.pw_forms.specs.declared.lists.Code.{Code}
@@ -24,7 +26,7 @@ use Rattle.pw_source.specs.State.{State, Registers, Out, Goes, Leaves, Asks}
 use Rattle.pw_source.specs.State as source
 use Rattle.pw_source.specs.Store.{Spot}
 use Rattle.pw_source.specs.Operands as operands
-use Rattle.pw_source.specs.Operands.{Taken, spot_in, one_more}
+use Rattle.pw_source.specs.Operands.{Taken, spot_in}
 use Rattle.pw_source.specs.Performs.{budget}
 use Rattle.pw_source.specs.Files as files
 use Rattle.pw_source.specs.Moves as moving
@@ -44,15 +46,13 @@ use Rattle.pw_sound.proofs.Ground.{Ground, ground-kept}
 use Rattle.pw_sound.proofs.Operands.{Known, Indexed, taken-same}
 use Rattle.pw_sound.proofs.Readings.{Sits, TakenSits, spot-sits, taken-sits, all-sit, read-same, spot-same, spots-same, move-same}
 use Rattle.pw_sound.proofs.Leading.{Env, Marks, mach, Does, stays, one, after, weaker, fault_ends, taken_does, verb_does}
+use Rattle.pw_sound.proofs.Arguments.{one-some, no-one}
 
 -- ---- lists
 
 same-map : {A : Type 0} (o : Option A) → o ≡ option_map (λ found. found) o
 same-map None = refl
 same-map (Some x) = refl
-
-Some-same : {A : Type 0} (a b : A) → Some a ≡ Some b → a ≡ b
-Some-same a b h = cc
 
 first-map : {A B : Type 0} (f : A → B) (p : B → Bool) (xs : List A) → position_or_len p (map f xs) ≡ position_or_len (λ x. p (f x)) xs
 first-map f p [] = refl
@@ -68,23 +68,9 @@ position-map f p xs =
     ap (λ n. cond (ltb n (length (map f xs))) (Some n) None) (first-map f p xs)
     ∙ ap (λ n. cond (ltb (position_or_len (λ x. p (f x)) xs) n) (Some (position_or_len (λ x. p (f x)) xs)) None) (long-map f xs)
 
-or-true : (b : Bool) → (b || true) ≡ true
-or-true true = refl
-or-true false = refl
-
 -- ---- receivers
 
 -- each spot is that of its place
-some-head : {A : Type 0} (a : Option A) (b : Option (List A)) (x : A) (xs : List A) → one_more a b ≡ Some (x ∷ xs) → (a ≡ Some x) × (b ≡ Some xs)
-some-head None b x xs e = absurd cc
-some-head (Some y) None x xs e = absurd cc
-some-head (Some y) (Some ys) x xs e = (cc, cc)
-
-no-head : {A : Type 0} (a : Option A) (b : Option (List A)) → one_more a b ≡ Some [] → ⊥
-no-head None b e = absurd cc
-no-head (Some y) None e = absurd cc
-no-head (Some y) (Some ys) e = absurd cc
-
 abbrev numbered : ℕ → Spot → ℕ × Spot
 numbered i spot = (i, spot)
 
@@ -99,12 +85,12 @@ spot-at registers storage codes spots i all = by codes spots i all
         ≡ option_map (numbered i) (slice_get found k)
     by [] [] k e = refl
     by [] (y ∷ ys) k e = absurd cc
-    by (x ∷ xs) [] k e = absurd (no-head (spot_of registers storage x.yields) (spots_of registers storage (map (λ (one : ReplyCode). one.yields) xs)) e)
+    by (x ∷ xs) [] k e = absurd (no-one (spot_of registers storage x.yields) (spots_of registers storage (map (λ (one : ReplyCode). one.yields) xs)) e)
     by (x ∷ xs) (y ∷ ys) zero e =
-        let parts = some-head (spot_of registers storage x.yields) (spots_of registers storage (map (λ (one : ReplyCode). one.yields) xs)) y ys e in
+        let parts = one-some (spot_of registers storage x.yields) (spots_of registers storage (map (λ (one : ReplyCode). one.yields) xs)) y ys e in
         ap (option_map (numbered i)) parts.0
     by (x ∷ xs) (y ∷ ys) (suc k) e =
-        let parts = some-head (spot_of registers storage x.yields) (spots_of registers storage (map (λ (one : ReplyCode). one.yields) xs)) y ys e in
+        let parts = one-some (spot_of registers storage x.yields) (spots_of registers storage (map (λ (one : ReplyCode). one.yields) xs)) y ys e in
         by xs ys k parts.1
 
 module _ (system : System) (setting : Setting) (known : Known setting.is_server setting.program) (e : Env) where
@@ -169,7 +155,7 @@ module _ (system : System) (setting : Setting) (known : Known setting.is_server 
         by : (o : Option Spot) → slice_get items i ≡ o → option_map (numbered i) o ≡ Some found → Sits t.store found.1
         by None got is' = absurd cc
         by (Some spot) got is' =
-            subst (λ (pair : ℕ × Spot). Sits t.store pair.1) (Some-same (numbered i spot) found is') (each-got (Sits t.store) items i spot sit got)
+            subst (λ (pair : ℕ × Spot). Sits t.store pair.1) (same_Some (numbered i spot) found is') (each-got (Sits t.store) items i spot sit got)
 
     yielded_does : (reply : List ℕ) (given : List Answer) (o : Option (ℕ × Spot)) → ((found : ℕ × Spot) → o ≡ Some found → Sits t.store found.1)
         → let u : State = record t { count = 0; answers = given } in

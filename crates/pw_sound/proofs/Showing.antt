@@ -130,7 +130,7 @@ module _ (laid : Laid) where
   behind-in [] each = (tt, tt)
   behind-in (placed ∷ entries) each = with-entry-in placed.entry (behind entries) each.0 (behind-in entries each.1)
 
-unless-is : (fault : Option Fault) (value tables : List ScreenTable) → unless fault value ≡ Ok tables → value ≡ tables
+pub unless-is : (fault : Option Fault) (value tables : List ScreenTable) → unless fault value ≡ Ok tables → value ≡ tables
 unless-is None value tables is = cc
 unless-is (Some fault) value tables is = absurd cc
 

@@ -6,6 +6,7 @@ use Rattle.std.specs.Option.{option_or}
 use Rattle.std.specs.Str.{str_to_ascii_uppercase, str_to_ascii_lowercase}
 use Rattle.std.proofs.lemmas.Bool.{ltb-true, ltb-false, le-ltb, lt-ltb}
 use Rattle.std.proofs.lemmas.Slice.Eq.{bytes_eq-Decides}
+use Rattle.std.proofs.lemmas.Option.{none-some}
 use Rattle.pw_words.specs.Words.{Word, same_word}
 use Rattle.pw_data.specs.Entries.{picture_of_kind}
 use Rattle.pw_data.specs.Layouts.{place_at, place_of}
@@ -60,9 +61,6 @@ same-upper a b one two same =
 
 -- ---- registers
 
-no-some : {A : Type 0} (x : A) → None ≡ Some x → ⊥
-no-some x h = cc
-
 kept-register : (name : Word) → IsUpper name → (v : Variable) → option_or (option_map of_register (register_of false name)) None ≡ Some v → IsKept (code.register_named name)
 kept-register name upper v found = by (same_word name (codes "TERMINATION-STATUS")) (same_word name (codes "RESTART-COUNTER")) refl refl found
   where
@@ -71,7 +69,7 @@ kept-register name upper v found = by (same_word name (codes "TERMINATION-STATUS
         → IsKept (code.register_named name)
     by true b one two is = subst (λ (word : Word). IsKept (code.register_named word)) (sym (same-upper name (codes "TERMINATION-STATUS") upper refl one)) tt
     by false true one two is = subst (λ (word : Word). IsKept (code.register_named word)) (sym (same-upper name (codes "RESTART-COUNTER") upper refl two)) tt
-    by false false one two is = absurd (no-some v is)
+    by false false one two is = absurd (none-some v is)
 
 kept-kind : (at : ℕ) (o : Option Kind) → IsKeptIndex (code.index_at at (option_map picture_of_kind o))
 kept-kind at None = tt

@@ -16,12 +16,13 @@ use Rattle.pw_code.specs.Valid.{IsCode, IsLinked, IsDeckFile, IsValid}
 use Rattle.pw_code.specs.declared.code.Code.{Code}
 use Rattle.pw_code.specs.declared.field.ScreenTable.{ScreenTable}
 use Rattle.std.proofs.lemmas.Bool.{false≢true}
+use Rattle.std.proofs.lemmas.Option.{slice_get_within}
 use Rattle.pw_code.specs.declared.links.Links.{Links}
 use Rattle.pw_code.specs.declared.lock.LockRule.{LockRule}
 use Rattle.pw_source.specs.Program.{Deck, Program, first_screen}
 use Rattle.pw_source.specs.Program as tree
 use Rattle.pw_source.specs.Sound.{links_of, scope_of, IsSound, IsSoundProgram}
-use Rattle.pw_source.proofs.Resolved.{got-below}
+use Rattle.pw_source.proofs.Resolved.{each-found}
 use Rattle.pw_compile.specs.Plan as plans
 use Rattle.pw_compile.specs.Plan.{Plan, plan_of, turn_of}
 use Rattle.pw_compile.specs.Programs.{linked_by}
@@ -29,12 +30,12 @@ use Rattle.pw_compile.specs.Sizes.{body_size, turns_from}
 use Rattle.pw_compile.specs.Lengths.{instructions_of}
 use Rattle.pw_sound.specs.Premises.{HasTables, CallsFit, IsFitting, AreFitting, IsReadProgram, AreRead}
 use Rattle.pw_sound.specs.Systems.{code_in, codes_in, screens_of, system_of}
-use Rattle.pw_sound.proofs.Decks.{found-at, some-found, screen-in, each-found', each-program}
+use Rattle.pw_sound.proofs.Decks.{found-at, some-found, screen-in, each-program}
 use Rattle.pw_sound.proofs.Emits.{instrs-are}
 use Rattle.pw_sound.proofs.Items.{storage-few, linked-lies}
 use Rattle.pw_compile.proofs.Lengths.{code_long}
 
-each-all : {A : Type 0} (P : A → Type 0) (xs : List A) → Each P xs → All P xs
+pub each-all : {A : Type 0} (P : A → Type 0) (xs : List A) → Each P xs → All P xs
 each-all P [] each = All-nil P
 each-all P (x ∷ xs) each = All-cons P x xs each.0 (each-all P xs each.1)
 
@@ -135,8 +136,8 @@ requester-valid rule deck q lt sound fitting read =
         screen-in deck.programs q r.number (record { name = []; fields = [] }) s.0 lt r.got in
         subst (λ n. IsScreen (system_of rule deck) (length program.layout.storage) n) (sym at)
         (record {
-          known = screens-long deck.programs q r.number lt (got-below program.screens r.number s.0 r.got);
-          fields = subst (λ (one : ScreenTable). IsTable (length program.layout.storage) one) (sym table) (each-found' (IsTable (length program.layout.storage)) test program.screens s.0 read.screens s.1);
+          known = screens-long deck.programs q r.number lt (slice_get_within program.screens r.number s.0 r.got);
+          fields = subst (λ (one : ScreenTable). IsTable (length program.layout.storage) one) (sym table) (each-found (IsTable (length program.layout.storage)) test program.screens s.0 read.screens s.1);
         })
 
 -- ---- all of a deck

@@ -61,6 +61,7 @@ use Rattle.pw_sound.proofs.Flat.{drop-front}
 use Rattle.pw_sound.proofs.Ground.{Ground, ground-kept}
 use Rattle.pw_sound.proofs.Operands.{Known, Indexed, taken-same}
 use Rattle.std.proofs.lemmas.Bool.{eqb-true}
+use Rattle.std.proofs.lemmas.Option.{slice_get-map}
 use Rattle.pw_sound.proofs.Readings.{read-same, spot-same, spot-sits, taken-sits, move-same, holds-same, Computed}
 use Rattle.pw_sound.proofs.Leading.{Env, Marks, mach, Leads, Does, stays, one, seq, ends_at, fault_ends, begins, taken_does, stop_ends}
 use Rattle.pw_compile.proofs.Lengths.{statement_length, row_length}
@@ -71,11 +72,6 @@ same-map None = refl
 same-map (Some x) = refl
 
 -- ---- positions
-
-get-map : {A B : Type 0} (f : A → B) (xs : List A) (i : ℕ) → slice_get (map f xs) i ≡ option_map f (slice_get xs i)
-get-map f [] i = refl
-get-map f (x ∷ xs) zero = refl
-get-map f (x ∷ xs) (suc i) = get-map f xs i
 
 some-position : (n : ℕ) → (suc n == 0) ≡ false
 some-position n = by (suc n == 0) refl
@@ -88,7 +84,7 @@ position-same : (f : Word → Turn) (names : List Word) (n : ℕ) → turning.at
 position-same f names zero = refl
 position-same f names (suc n) =
     let fewer : suc n - 1 ≡ n = omega arith in
-    ap (λ b. if b then None else slice_get (map f names) (suc n - 1)) (some-position n) ∙ ap (slice_get (map f names)) fewer ∙ get-map f names n
+    ap (λ b. if b then None else slice_get (map f names) (suc n - 1)) (some-position n) ∙ ap (slice_get (map f names)) fewer ∙ slice_get-map f names n
 
 position-each : (P : Word → Type 0) (names : List Word) (n : ℕ) (name : Word) → Each P names → performs.at_position names n ≡ Some name → P name
 position-each P names zero name each e = absurd cc

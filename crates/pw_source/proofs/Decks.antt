@@ -1,12 +1,13 @@
 -- The behaviour of a sound deck is one.
-use Rattle.std.proofs.Common.{◌≡◌, ℕ, zero, suc, ◌<◌, ◌≤◌, Bool, true, false, List, [], ◌∷◌, length, take, IsSome, IsTrue, Option, Some, None, option_map, refl, sym, ap, ◌∙◌, subst, arith}
+use Rattle.std.proofs.Common.{◌≡◌, ℕ, ◌<◌, ◌≤◌, Bool, true, false, List, [], ◌∷◌, length, take, IsSome, IsTrue, Option, Some, None, option_map, refl, sym, ap, ◌∙◌, subst, arith}
 use Rattle.std.specs.Prelude.{bytes_eq, codes, nat_le, ◌&&◌, if◌then◌else◌}
 use Rattle.std.specs.Option.{option_or}
 use Rattle.std.proofs.lemmas.Bool.{eqb-true, leb-true, and_parts}
 use Rattle.std.proofs.lemmas.Slice.Eq.{bytes_eq-Decides}
 use Rattle.std.proofs.lemmas.List.{length-take-le}
+use Rattle.std.proofs.lemmas.Option.{slice_get_within}
+use Rattle.pw_terminal.proofs.Cells.{length-digits_of}
 use Rattle.pw_words.specs.Words.{Word}
-use Rattle.pw_picture.specs.Stored.{digits_of}
 use Rattle.pw_data.specs.declared.item.Item.{Item}
 use Rattle.pw_data.specs.Names.{is_this_name}
 use Rattle.pw_data.specs.Layouts.{place_at}
@@ -40,7 +41,7 @@ use Rattle.pw_source.specs.Sound.{IsSoundProgram, HasForms, RowHasForms, scope_o
 use Rattle.pw_source.proofs.trees.Trees.{Rules}
 use Rattle.pw_source.proofs.trees.Statements.{Suited, SuitedRow, SuitedBody, KeyRight, RecordRight}
 use Rattle.pw_source.proofs.trees.Programs.{SuitedAll}
-use Rattle.pw_source.proofs.Resolved.{each-found, got-below, class-below, file-got}
+use Rattle.pw_source.proofs.Resolved.{each-found, class-below, file-got}
 use Rattle.pw_source.proofs.storage.Named.{no-item}
 use Rattle.pw_source.proofs.Stored.{FitsProgram, fits-kept, IsLong, items-long}
 use Rattle.pw_source.proofs.Servers.{server_rules}
@@ -101,10 +102,6 @@ pub record IsCall (deck : Deck) (call : FileCall) : Type 0 where
   pub key : length (key_of (key_length deck call.file) call.op call) ≡ key_length deck call.file
   pub content : is_written call.op ≡ true → IsContent (key_length deck call.file) call.content
 
-length-digits : (count size : ℕ) → length (digits_of count size) ≡ count
-length-digits zero size = refl
-length-digits (suc count) size = omega (arith, length-digits count size)
-
 -- of what is some, the same holds
 some-same : {A : Type 0} (P : A → Type 0) (a b : A) → Some a ≡ Some b → P a → P b
 some-same P a b e p = let same : a ≡ b = cc in subst P same p
@@ -112,9 +109,9 @@ some-same P a b e p = let same : a ≡ b = cc in subst P same p
 -- the registers of servers have four digits
 named-long : (first second : Bool) (registers : Registers) (store : Store) → second ≡ false
     → length (chars_in (if first then Fixed (Register 4 registers.termination) else if second then Fixed (Register 5 registers.restarts) else Fixed (Register 4 registers.file_status)) store) ≡ 4
-named-long true second registers store e = length-digits 4 registers.termination
+named-long true second registers store e = length-digits_of 4 registers.termination
 named-long false true registers store e = absurd cc
-named-long false false registers store e = length-digits 4 registers.file_status
+named-long false false registers store e = length-digits_of 4 registers.file_status
 
 file_status-by : (b : Bool) (reg : register.Register) → (if b then Some FileStatus else None) ≡ Some reg → FileStatus ≡ reg
 file_status-by true reg e = cc
@@ -199,7 +196,7 @@ module _ (deck : Deck) (program : Program) (sound : IsSoundProgram true deck pro
   file-of : (name : Word) (file : FileInfo) → file_of (scope_of true deck program) name ≡ Some file → FileOf name file
   file-of name file e =
       let got = file-got deck.files name file e in
-      (got-below deck.files (file_number deck name) file got, ap key_length_by got)
+      (slice_get_within deck.files (file_number deck name) file got, ap key_length_by got)
 
   -- the operation is one with a key
   abbrev IsKeyed : FileOp → Type 0

@@ -4,6 +4,7 @@ use Rattle.std.specs.Prelude.{position, unwrap_or, option_and_then, bytes_eq, if
 use Rattle.std.specs.List.{position_from}
 use Rattle.std.proofs.lemmas.Iterator.Adapters.{position_from-zero}
 use Rattle.std.proofs.lemmas.List.Quantifiers.{position-Some}
+use Rattle.std.proofs.lemmas.Option.{same_Some}
 use Rattle.pw_words.specs.Words.{Word}
 use Rattle.pw_code.specs.declared.file.FileInfo.{FileInfo}
 use Rattle.pw_code.specs.declared.system.ClassInfo.{ClassInfo}
@@ -11,11 +12,8 @@ use Rattle.pw_operands.specs.Resolved.{Each}
 
 -- ---- each of a list
 
-Some-same : {A : Type 0} (a b : A) → Some a ≡ Some b → a ≡ b
-Some-same a b h = cc
-
 found-by : {A : Type 0} (P : A → Type 0) (b : Bool) (rest : Option A) (y x : A) → P y → (rest ≡ Some x → P x) → (if b then Some y else rest) ≡ Some x → P x
-found-by P true rest y x one others e = subst P (Some-same y x e) one
+found-by P true rest y x one others e = subst P (same_Some y x e) one
 found-by P false rest y x one others e = others e
 
 pub each-found : {A : Type 0} (P : A → Type 0) (test : A → Bool) (xs : List A) (x : A) → Each P xs → find test xs ≡ Some x → P x
@@ -24,13 +22,8 @@ each-found P test (y ∷ ys) x each e = found-by P (test y) (find test ys) y x e
 
 pub each-got : {A : Type 0} (P : A → Type 0) (xs : List A) (i : ℕ) (x : A) → Each P xs → slice_get xs i ≡ Some x → P x
 each-got P [] i x each e = absurd cc
-each-got P (y ∷ ys) zero x each e = subst P (Some-same y x e) each.0
+each-got P (y ∷ ys) zero x each e = subst P (same_Some y x e) each.0
 each-got P (y ∷ ys) (suc i) x each e = each-got P ys i x each.1 e
-
-pub got-below : {A : Type 0} (xs : List A) (i : ℕ) (x : A) → slice_get xs i ≡ Some x → i < length xs
-got-below [] i x e = absurd cc
-got-below (y ∷ ys) zero x e = omega arith
-got-below (y ∷ ys) (suc i) x e = omega (arith, got-below ys i x e)
 
 pub below-got : {A : Type 0} (xs : List A) (i : ℕ) → i < length xs → (x : A) × (slice_get xs i ≡ Some x)
 below-got [] i lt = absurd (omega (arith, lt))

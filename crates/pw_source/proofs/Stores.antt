@@ -1,12 +1,9 @@
 -- Putting characters into a store.
-use Rattle.std.proofs.Common.{◌≡◌, ℕ, ◌+◌, Bool, true, false, List, [], ◌∷◌, length, map, drop, if◌then◌else◌, refl, ap, arith}
-use Rattle.std.proofs.lemmas.List.{length-append, length-take, length-replicate}
+use Rattle.std.proofs.Common.{◌≡◌, ℕ, ◌+◌, Bool, true, false, List, [], ◌∷◌, length, map, drop, if◌then◌else◌, refl, ap}
+use Rattle.pw_terminal.proofs.Written.{length-fitted}
 use Rattle.pw_picture.specs.Text.{fitted}
 use Rattle.pw_data.specs.Store.{Cell}
 use Rattle.pw_source.specs.Store.{Store, Spot, lies_in, put_from}
-
-length-fitted : (size : ℕ) (text : List ℕ) → length (fitted size text) ≡ size
-length-fitted size text = simp (length-append, length-take, length-replicate) (omega arith)
 
 both : {A : Type 0} {x y : A} {xs ys : List A} → x ≡ y → xs ≡ ys → x ∷ xs ≡ y ∷ ys
 both p q = cc

@@ -15,7 +15,7 @@ use Rattle.pw_source.proofs.trees.Finished.{closed}
 
 -- ---- where a path stands
 
-standing_from-append : (s : Standing) (before : List PathAnswer) (a : PathAnswer)
+pub standing_from-append : (s : Standing) (before : List PathAnswer) (a : PathAnswer)
     → standing_from s (before ++ a ∷ []) ≡ standing_after_answer (standing_from s before) a
 standing_from-append s [] a = refl
 standing_from-append s (b ∷ before) a = standing_from-append (standing_after_answer s b) before a

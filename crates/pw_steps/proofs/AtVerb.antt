@@ -4,6 +4,7 @@ use Rattle.std.proofs.lemmas.Bool.{and_left, and_right}
 use Rattle.std.specs.Borrow.{Bor}
 use Rattle.std.specs.Option.{option_copied, option_map}
 use Rattle.std.specs.Prelude.{IsSome}
+use Rattle.pw_base.proofs.Plain.{cond_passed}
 use Rattle.pw_code.specs.declared.context.Context.{Context}
 use Rattle.pw_code.specs.declared.system.System.{System}
 use Rattle.pw_code.specs.declared.verb.Verb.{Verb}
@@ -20,9 +21,6 @@ use Rattle.pw_steps.specs.Verbs.{HasNoSend, HasNoVerbStep, HasNoneAt}
 
 -- ---- truths
 
-front : (a b : Bool) → a ≡ false → (a && b) ≡ false
-front a b h = and_left a b h
-
 second : (a b c : Bool) → b ≡ false → (a && (b && c)) ≡ false
 second a b c h = and_right a (b && c) (and_left b c h)
 
@@ -31,10 +29,6 @@ second a b c h = and_right a (b && c) (and_left b c h)
 where-split : {A : Type 0} (c : Bool) (test : A → Bool) (ready : Option A) → (c && some_with test ready) ≡ some_with test (cond c ready None)
 where-split true test ready = refl
 where-split false test ready = refl
-
-ready-split : {A : Type 0} (c : Bool) (ready : Option A) (x : A) → cond c ready None ≡ Some x → (c ≡ true) × (ready ≡ Some x)
-ready-split true ready x e = (refl, e)
-ready-split false ready x e = cc e
 
 module _ (system : System) (kept : Kept) (t : ℕ) where
   -- the test of the context at the verb, if the terminal can step
@@ -65,7 +59,7 @@ module _ (system : System) (kept : Kept) (t : ℕ) where
   module _ (context : Context) (e : stepping system kept t ≡ Some context) where
     -- it can step, and its program stands there
     pub can : (can_step system kept t ≡ true) × ((kept.terminals t).ready ≡ Some context)
-    can = ready-split (can_step system kept t) (kept.terminals t).ready context e
+    can = cond_passed (can_step system kept t) (kept.terminals t).ready context e
 
     pub is-ready : IsSome (kept.terminals t).ready
     is-ready = ap is_some can.1
@@ -79,13 +73,13 @@ module _ (system : System) (kept : Kept) (t : ℕ) where
     -- ---- kinds that the verb does not ask for
     module _ (v : Verb) (asked : verb_in system context ≡ v) where
       show-off : asks_show v ≡ false → (phase attempt k : ℕ) → may_show system kept t phase attempt k ≡ false
-      show-off h phase attempt k = off _ (front _ _ (ap asks_show asked ∙ h))
+      show-off h phase attempt k = off _ (and_left _ _ (ap asks_show asked ∙ h))
 
       key-off : asks_accept v ≡ false → (k : ℕ) → may_key system kept t k ≡ false
-      key-off h k = off _ (front _ _ (ap asks_accept asked ∙ h))
+      key-off h k = off _ (and_left _ _ (ap asks_accept asked ∙ h))
 
       entries-off : asks_accept v ≡ false → may_end_entries system kept t ≡ false
-      entries-off h = off _ (front _ _ (ap asks_accept asked ∙ h))
+      entries-off h = off _ (and_left _ _ (ap asks_accept asked ∙ h))
 
       check-start-off : ((outside : Bool) → begins_unit v outside ≡ false) → may_check_start system kept t ≡ false
       check-start-off h = off _ (second _ _ _ (ap (λ w. begins_unit w (not context.in_unit)) asked ∙ h (not context.in_unit)))
@@ -101,13 +95,13 @@ module _ (system : System) (kept : Kept) (t : ℕ) where
       send-off h n c = off _ (second _ _ _ (ap (asks_send_to c) asked ∙ h c))
 
       again-off : asks_send v ≡ false → (n : ℕ) → may_again system kept t n ≡ false
-      again-off h n = off _ (front _ _ (ap asks_send asked ∙ h))
+      again-off h n = off _ (and_left _ _ (ap asks_send asked ∙ h))
 
       commit-off : asks_end v ≡ false → (n : ℕ) → may_commit system kept t n ≡ false
-      commit-off h n = off _ (front _ _ (ap asks_end asked ∙ h))
+      commit-off h n = off _ (and_left _ _ (ap asks_end asked ∙ h))
 
       back-off : asks_drop v ≡ false → (n : ℕ) → may_back system kept t n ≡ false
-      back-off h n = off _ (front _ _ (ap asks_drop asked ∙ h))
+      back-off h n = off _ (and_left _ _ (ap asks_drop asked ∙ h))
 
       stop-off : asks_stop v ≡ false → may_stop system kept t ≡ false
       stop-off h = off _ (ap asks_stop asked ∙ h)

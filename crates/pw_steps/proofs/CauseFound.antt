@@ -1,6 +1,7 @@
 -- Which cause is found for an open unit.
-use Rattle.std.proofs.Common.{◌≡◌, ℕ, Bool, true, false, not, Option, Some, None, refl, ap, sym, subst, ◌∙◌}
-use Rattle.std.proofs.lemmas.Bool.{and_from, and_parts, eq-eqb, eqb-true, lt-ltb, true≢false}
+use Rattle.std.proofs.Common.{◌≡◌, ℕ, true, false, not, Option, Some, None, refl, ap, sym, subst, ◌∙◌}
+use Rattle.std.proofs.lemmas.Bool.{and_from, and_parts, eq-eqb, eqb-true, lt-ltb}
+use Rattle.pw_base.proofs.Plain.{refutes, some_is}
 use Rattle.pw_code.specs.declared.system.System.{System}
 use Rattle.pw_code.specs.declared.unit.Unit as unit
 use Rattle.pw_event.specs.declared.event.Cause.{Cause}
@@ -20,12 +21,6 @@ use Rattle.pw_steps.specs.Known.{IsKnown}
 use Rattle.pw_tmf.specs.Leaving.{unit_told}
 use Rattle.pw_tmf.specs.Told.{ToldUnit}
 use Rattle.pw_tmf.specs.Units.{IsOpen}
-
-some-is : {A : Type 0} {x y : A} → Some x ≡ Some y → x ≡ y
-some-is e = cc e
-
-refutes : {b : Bool} → b ≡ true → b ≡ false → ⊥
-refutes passes fails = true≢false (sym passes ∙ fails)
 
 -- ---- what is pending
 
@@ -72,7 +67,7 @@ module _ (system : System) (kept : Kept) (known : IsKnown system kept) (own : un
       (subst
       (λ one. (told : ToldUnit) → kept.disc.units own.terminal ≡ Some told
       → false ≡ holds system kept own.terminal told one)
-      (some-is (sym at ∙ e)) none)
+      (some_is (sym at ∙ e)) none)
 
   -- ---- an older unit
 

@@ -63,11 +63,6 @@ module _ (context : Context) (others : List Frame) (top : Frame) (e : context.fr
       ≡ head_bytes (ended context) ++ ((length others + 1) ∷ (flat_map frame_bytes others ++ frame_bytes (gone_on top)))
   end-parts = image-parts (behind_end context) ∙ ap₂ (λ n l. head_bytes (ended context) ++ (n ∷ l)) number-is bytes-are
 
--- no program
-pub empty-is : (frames : List Frame) → length frames ≡ 0 → frames ≡ []
-empty-is [] e = refl
-empty-is (frame ∷ frames) e = absurd (omega (arith, e))
-
 module _ (context : Context) (e : context.frames ≡ []) where
   none-is : (behind_end context).frames ≡ gone_on (frame_at 0 []) ∷ []
   none-is = ap (λ (l : List Frame). take (length l - 1) l ++ gone_on (get_or l (length l - 1) (frame_at 0 [])) ∷ []) e

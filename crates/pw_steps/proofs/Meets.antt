@@ -5,6 +5,7 @@ use Rattle.std.specs.List.{list_any}
 use Rattle.std.proofs.lemmas.Bool.{and_from, and_parts, eqb-true, eq-eqb, false_from_ne_true}
 use Rattle.std.proofs.lemmas.List.Elements.{All-contains, All-filter, All-map}
 use Rattle.std.proofs.lemmas.List.Folds.{Any-from_list_any}
+use Rattle.pw_base.proofs.Plain.{or-false, some_is}
 use Rattle.pw_class.specs.Queue.{at_process}
 use Rattle.pw_class.specs.declared.request.Request.{Request}
 use Rattle.pw_code.specs.declared.context.Context.{Context}
@@ -35,10 +36,6 @@ use Rattle.pw_tmf.specs.Units.{IsOpen, IsRunning}
 
 -- ---- truths
 
-or-false : (b : Bool) → (b || false) ≡ b
-or-false true = refl
-or-false false = refl
-
 -- a unit is itself
 self-same : (u : unit.Unit) → is_same_unit u u ≡ true
 self-same u = and_from _ _ (eq-eqb u.terminal u.terminal refl) (eq-eqb u.number u.number refl)
@@ -49,14 +46,11 @@ self-same u = and_from _ _ (eq-eqb u.terminal u.terminal refl) (eq-eqb u.number 
 abbrev named : ℕ → ℕ → ℕ → Option unit.Unit
 named t n b = Some (record { terminal = t; number = n; birth = b })
 
-some-is : {A : Type 0} {x y : A} → Some x ≡ Some y → x ≡ y
-some-is e = cc e
-
 module _ (system : System) (kept : Kept) where
   -- two open units of one terminal are one
   pub same-unit : (a b : unit.Unit) → IsUnit system kept a → IsUnit system kept b → a.terminal ≡ b.terminal → a ≡ b
   same-unit a b ha hb e =
-      some-is (sym ha.open_unit ∙ (ap (λ t. unit_told t (kept.disc.units t)) e ∙ hb.open_unit))
+      some_is (sym ha.open_unit ∙ (ap (λ t. unit_told t (kept.disc.units t)) e ∙ hb.open_unit))
 
   module _ (known : IsKnown system kept) where
     -- an open unit of the disc is one
@@ -72,7 +66,7 @@ module _ (system : System) (kept : Kept) where
     told-of : (u : unit.Unit) (told : Option ToldUnit) → kept.disc.units u.terminal ≡ told → unit_told u.terminal told ≡ Some u → IsOpen kept.disc u
     told-of u None is e = absurd (cc e)
     told-of u (Some own) is e =
-        let same : record { terminal = u.terminal; number = own.number; birth = own.birth } ≡ u = some-is e in
+        let same : record { terminal = u.terminal; number = own.number; birth = own.birth } ≡ u = some_is e in
         record {
           terminal = rw known.sizes (known.started u.terminal own is);
           open_unit = own;

@@ -1,6 +1,6 @@
 -- An actor of whom no kind of entry passes has no step.
 use Rattle.std.proofs.Common.{◌≡◌, ℕ, zero, suc, Bool, true, false, [], Option, refl, ap, sym, subst, ◌∙◌}
-use Rattle.std.proofs.lemmas.Bool.{true≢false}
+use Rattle.pw_base.proofs.Plain.{refutes}
 use Rattle.pw_code.specs.declared.file.FileOp.{FileOp}
 use Rattle.pw_code.specs.declared.lock.LockMode.{LockMode}
 use Rattle.pw_code.specs.declared.system.System.{System}
@@ -19,10 +19,6 @@ use Rattle.pw_roster.specs.declared.actor.Actor.TheVariants.{Terminal, Process, 
 use Rattle.pw_steps.specs.Members.{IsMember}
 use Rattle.pw_steps.specs.Steps.{HasNoCausedStep, IsStepOf}
 use Rattle.pw_steps.specs.Verbs.{HasNoVerbStep}
-
--- a test that fails does not pass
-refutes : {b : Bool} → b ≡ true → b ≡ false → ⊥
-refutes passes fails = true≢false (sym passes ∙ fails)
 
 -- no line of an empty script
 no-tcp-line : (system : System) (p : ℕ) (primary : Bool) (k : ℕ) → is_legal_fail_tcp (behaviour [] system) p primary k ≡ false

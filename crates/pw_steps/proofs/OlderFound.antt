@@ -1,6 +1,7 @@
 -- Whether a process finds an older unit that a unit meets.
 use Rattle.std.proofs.Common.{◌≡◌, ◌≢◌, ℕ, ◌<◌, ◌≤◌, nat_lt, Bool, true, false, Some, None, refl, ap, sym, ◌∙◌, cond, arith}
-use Rattle.std.proofs.lemmas.Bool.{lt-ltb, ltb-true, true≢false}
+use Rattle.std.proofs.lemmas.Bool.{lt-ltb, ltb-true}
+use Rattle.pw_base.proofs.Plain.{refutes}
 use Rattle.pw_class.specs.declared.request.Request.{Request}
 use Rattle.pw_code.specs.declared.file.FileCall.{FileCall}
 use Rattle.pw_code.specs.declared.system.System.{System}
@@ -15,10 +16,6 @@ use Rattle.pw_tmf.specs.Leaving.{unit_told}
 use Rattle.pw_tmf.specs.Operation.{awaits}
 use Rattle.pw_tmf.specs.declared.answer.Foreseen.{Foreseen}
 use Rattle.pw_tmf.specs.declared.answer.Foreseen.TheVariants as foreseen
-
--- no test passes and fails
-refutes : {b : Bool} → b ≡ true → b ≡ false → ⊥
-refutes passes fails = true≢false (sym passes ∙ fails)
 
 none-some : {u : unit.Unit} → None ≡ Some u → ⊥
 none-some e = cc e

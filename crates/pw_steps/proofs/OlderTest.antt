@@ -1,6 +1,7 @@
 -- The test of an older unit that a unit meets.
 use Rattle.std.proofs.Common.{◌≡◌, ℕ, ◌<◌, ◌==◌, ◌&&◌, ◌||◌, nat_lt, Bool, true, false, not, Option, Some, None, refl, ap, ap₂, sym, ◌∙◌}
 use Rattle.std.proofs.lemmas.Bool.{and_parts, ltb-true}
+use Rattle.pw_base.proofs.Plain.{some_is}
 use Rattle.pw_code.specs.declared.system.System.{System}
 use Rattle.pw_code.specs.declared.unit.Unit as unit
 use Rattle.pw_kept.specs.CauseTests.{is_older, meets, unit_named}
@@ -13,9 +14,6 @@ use Rattle.pw_steps.proofs.Opened.{named}
 use Rattle.pw_steps.specs.Causes.{IsUnit, comes_before, units_meet}
 use Rattle.pw_tmf.specs.Leaving.{unit_told}
 use Rattle.pw_tmf.specs.Told.{ToldUnit}
-
-some-is : {A : Type 0} {x y : A} → Some x ≡ Some y → x ≡ y
-some-is e = cc e
 
 regroup : (a b c d : Bool) → (a && (b && (c && d))) ≡ ((a && (b && c)) && d)
 regroup true true c d = refl
@@ -66,7 +64,7 @@ module _ (system : System) (kept : Kept) (own : unit.Unit) where
     by-some None older at e = cc e
     by-some (Some other) older at e =
         ap (some_with (λ (x : ToldUnit). tested m (unit_named own.terminal told) (unit_named o x))) at
-        ∙ ap₂ (tested m) (named system kept own is told here) (some-is e)
+        ∙ ap₂ (tested m) (named system kept own is told here) (some_is e)
 
     -- where no unit is open there, it fails
     pub none-open : unit_told o (kept.disc.units o) ≡ None

@@ -1,6 +1,6 @@
 -- At a verb each kind of entry comes with one number, so that one test tells for all.
 use Rattle.std.proofs.Common.{◌≡◌, ℕ, ◌+◌, ◌==◌, ◌&&◌, Bool, true, false, not, Option, Some, None, refl, ap, sym, ◌∙◌}
-use Rattle.std.proofs.lemmas.Bool.{and_parts, eqb-true, false_from_ne_true, true≢false}
+use Rattle.std.proofs.lemmas.Bool.{eqb-true, false_from_ne_true, true≢false}
 use Rattle.pw_code.specs.declared.context.Context.{Context}
 use Rattle.pw_code.specs.declared.system.System.{System}
 use Rattle.pw_code.specs.declared.verb.Verb.{Verb}
@@ -15,19 +15,13 @@ use Rattle.pw_steps.specs.Known.{stepping}
 use Rattle.pw_steps.proofs.AtVerb.{at}
 use Rattle.pw_code.specs.declared.unit.Unit as unit
 use Rattle.std.specs.Option.{option_map}
+use Rattle.pw_base.proofs.Plain.{and-first, and-second}
 use Rattle.pw_tmf.specs.Leaving.{unit_told}
 use Rattle.pw_tmf.specs.Told.{ToldUnit}
 
--- the second of two
-then : (a b : Bool) → (a && b) ≡ true → b ≡ true
-then a b h = (and_parts a b h).1
-
-first : (a b : Bool) → (a && b) ≡ true → a ≡ true
-first a b h = (and_parts a b h).0
-
 -- the number in a test
 number-of : (b : Bool) (m n : ℕ) → (m == n && b) ≡ true → m ≡ n
-number-of b m n h = eqb-true m n (first (m == n) b h)
+number-of b m n h = eqb-true m n (and-first (m == n) b h)
 
 -- a Send goes to one class
 one-class : (v : Verb) (class c : ℕ) → asks_send_to class v ≡ true → asks_send_to c v ≡ true → class ≡ c
@@ -47,37 +41,37 @@ module _ (system : System) (kept : Kept) (t : ℕ) (context : Context) (e : step
   pub key-once : may_key system kept t (context.entries + 1) ≡ false → (k : ℕ) → may_key system kept t k ≡ false
   key-once h k =
       false_from_ne_true _ (λ yes.
-      let is : k ≡ context.entries + 1 = number-of _ _ _ (then _ _ (sym (at system kept t context e _) ∙ yes)) in
+      let is : k ≡ context.entries + 1 = number-of _ _ _ (and-second _ _ (sym (at system kept t context e _) ∙ yes)) in
       true≢false (sym yes ∙ (ap (λ j. may_key system kept t j) is ∙ h)))
 
   pub commit-once : may_commit system kept t (context.units + 1) ≡ false → (n : ℕ) → may_commit system kept t n ≡ false
   commit-once h n =
       false_from_ne_true _ (λ yes.
-      let is : n ≡ context.units + 1 = number-of _ _ _ (then _ _ (sym (at system kept t context e _) ∙ yes)) in
+      let is : n ≡ context.units + 1 = number-of _ _ _ (and-second _ _ (sym (at system kept t context e _) ∙ yes)) in
       true≢false (sym yes ∙ (ap (λ j. may_commit system kept t j) is ∙ h)))
 
   pub back-once : may_back system kept t (context.units + 1) ≡ false → (n : ℕ) → may_back system kept t n ≡ false
   back-once h n =
       false_from_ne_true _ (λ yes.
-      let is : n ≡ context.units + 1 = number-of _ _ _ (then _ _ (sym (at system kept t context e _) ∙ yes)) in
+      let is : n ≡ context.units + 1 = number-of _ _ _ (and-second _ _ (sym (at system kept t context e _) ∙ yes)) in
       true≢false (sym yes ∙ (ap (λ j. may_back system kept t j) is ∙ h)))
 
   pub again-once : may_again system kept t (context.units + 1) ≡ false → (n : ℕ) → may_again system kept t n ≡ false
   again-once h n =
       false_from_ne_true _ (λ yes.
-      let is : n ≡ context.units + 1 = number-of _ _ _ (then _ _ (then _ _ (sym (at system kept t context e _) ∙ yes))) in
+      let is : n ≡ context.units + 1 = number-of _ _ _ (and-second _ _ (and-second _ _ (sym (at system kept t context e _) ∙ yes))) in
       true≢false (sym yes ∙ (ap (λ j. may_again system kept t j) is ∙ h)))
 
   pub begin-once : may_begin system kept t (context.units + 1) (kept.terminals t).restarts ≡ false
       → (n r : ℕ) → may_begin system kept t n r ≡ false
   begin-once h n r =
       false_from_ne_true _ (λ yes.
-      let rest = then _ _ (then _ _ (sym (at system kept t context e _) ∙ yes)) in
+      let rest = and-second _ _ (and-second _ _ (sym (at system kept t context e _) ∙ yes)) in
       let is : n ≡ context.units + 1 = number-of _ _ _ rest in
       let same : r ≡ (kept.terminals t).restarts = eqb-true r (kept.terminals t).restarts
-      (then (start_held system kept t (unit_in context)) _
-      (then (is_over kept.disc.ended (kept.terminals t).awaits) _
-      (then (not ((kept.disc.ended t).number == n)) _ (then (n == context.units + 1) _ rest)))) in
+      (and-second (start_held system kept t (unit_in context)) _
+      (and-second (is_over kept.disc.ended (kept.terminals t).awaits) _
+      (and-second (not ((kept.disc.ended t).number == n)) _ (and-second (n == context.units + 1) _ rest)))) in
       true≢false
       (sym yes ∙ (ap (λ j. may_begin system kept t j r) is ∙ (ap (λ j. may_begin system kept t (context.units + 1) j) same ∙ h))))
 
@@ -89,15 +83,15 @@ module _ (system : System) (kept : Kept) (t : ℕ) (context : Context) (e : step
     no-unit : kept.disc.units t ≡ None → (n c : ℕ) → may_send system kept t n c ≡ false
     no-unit none n c =
         false_from_ne_true _ (λ yes.
-        true≢false (sym (first _ _ (sym (at system kept t context e _) ∙ yes)) ∙ ap (runs_told n) none))
+        true≢false (sym (and-first _ _ (sym (at system kept t context e _) ∙ yes)) ∙ ap (runs_told n) none))
 
     own-unit : (own : ToldUnit) → kept.disc.units t ≡ Some own → may_send system kept t own.number class ≡ false
         → (n c : ℕ) → may_send system kept t n c ≡ false
     own-unit own is_open h n c =
         false_from_ne_true _ (λ yes.
         let all = sym (at system kept t context e _) ∙ yes in
-        let number : own.number ≡ n = number-of _ _ _ (sym (ap (runs_told n) is_open) ∙ first _ _ all) in
-        let same : class ≡ c = to-class c (first _ _ (then _ _ all)) in
+        let number : own.number ≡ n = number-of _ _ _ (sym (ap (runs_told n) is_open) ∙ and-first _ _ all) in
+        let same : class ≡ c = to-class c (and-first _ _ (and-second _ _ all)) in
         true≢false
         (sym yes ∙ (ap (λ j. may_send system kept t j c) (sym number) ∙ (ap (λ j. may_send system kept t own.number j) (sym same) ∙ h))))
 

@@ -1,5 +1,6 @@
 -- The open unit of a terminal, by what the disc tells.
 use Rattle.std.proofs.Common.{◌≡◌, ℕ, ◌<◌, ◌≤◌, Bool, true, false, length, Option, Some, None, refl, ap, sym, subst, ◌∙◌, cond, arith}
+use Rattle.pw_base.proofs.Plain.{some_is}
 use Rattle.pw_code.specs.declared.system.System.{System}
 use Rattle.pw_code.specs.declared.unit.Unit as unit
 use Rattle.pw_keep.specs.Keeps.{is_run}
@@ -10,22 +11,19 @@ use Rattle.pw_steps.specs.Known.{IsKnown}
 use Rattle.pw_tmf.specs.Leaving.{unit_told}
 use Rattle.pw_tmf.specs.Told.{ToldUnit}
 
-some-is : {A : Type 0} {x y : A} → Some x ≡ Some y → x ≡ y
-some-is e = cc e
-
 -- ---- one that may not run
 
 -- the terminal of a unit is the one that was asked for
 terminal-at : (o : ℕ) (it : Option ToldUnit) (u : unit.Unit) → unit_told o it ≡ Some u → u.terminal ≡ o
 terminal-at o None u e = cc e
-terminal-at o (Some told) u e = ap (λ (x : unit.Unit). x.terminal) (sym (some-is e))
+terminal-at o (Some told) u e = ap (λ (x : unit.Unit). x.terminal) (sym (some_is e))
 
 module _ (system : System) (kept : Kept) where
   -- the unit is named by what the disc tells of it
   pub named : (own : unit.Unit) → IsUnit system kept own → (told : ToldUnit)
       → kept.disc.units own.terminal ≡ Some told
       → unit_named own.terminal told ≡ own
-  named own is told here = some-is (sym (ap (unit_told own.terminal) here) ∙ is.open_unit)
+  named own is told here = some_is (sym (ap (unit_told own.terminal) here) ∙ is.open_unit)
 
   module _ (o : ℕ) (u : unit.Unit) (e : unit_told o (kept.disc.units o) ≡ Some u) where
     pub terminal-of : u.terminal ≡ o
@@ -70,7 +68,7 @@ pub record IsRun (kept : Kept) (t : ℕ) (own : unit.Unit) : Type 0 where
 
 module _ (t : ℕ) where
   cond-some : (b : Bool) (x u : unit.Unit) → cond b (Some x) None ≡ Some u → (b ≡ true) × (x ≡ u)
-  cond-some true x u e = (refl, some-is e)
+  cond-some true x u e = (refl, some_is e)
   cond-some false x u e = cc e
 
   cond-none : (b : Bool) (x : unit.Unit) → cond b (Some x) None ≡ None → b ≡ false

@@ -1,10 +1,12 @@
 -- Lists of things whose names are names, no two the same.
 use Rattle.std.proofs.Common.{◌≡◌, ℕ, suc, ◌≤◌, Bool, true, false, cond, List, [], ◌∷◌, ◌++◌, map, length, refl, sym, ap, subst, ◌∙◌, arith}
-use Rattle.std.specs.Prelude.{◌||◌, All}
+use Rattle.std.specs.Prelude.{◌||◌}
 use Rattle.std.specs.List.{filter, list_any, AllByRecursion, IsDistinct}
 use Rattle.std.specs.Str.{bytes_eq}
 use Rattle.std.proofs.lemmas.List.{map-append}
-use Rattle.std.proofs.lemmas.List.Elements.{All-nil, All-cons}
+use Rattle.std.proofs.lemmas.List.Elements.{All-from_recursion}
+use Rattle.std.proofs.lemmas.Bool.{or_parts}
+use Rattle.pw_base.proofs.Plain.{all-last}
 use Rattle.pw_code.specs.Names.{IsName, AreNames}
 
 -- these are the names of one kind
@@ -12,32 +14,20 @@ pub record Named (names : List (List ℕ)) : Type 0 where
   pub each : AllByRecursion IsName names
   pub distinct : IsDistinct bytes_eq names
 
-to_all : {X : Type 0} (P : X → Type 0) (xs : List X) → AllByRecursion P xs → All P xs
-to_all P [] h = All-nil P
-to_all P (x ∷ xs) h = All-cons P x xs h.0 (to_all P xs h.1)
-
 pub are_names : (names : List (List ℕ)) → Named names → AreNames names
-are_names names h = record { each = to_all IsName names h.each; distinct = h.distinct }
+are_names names h = record { each = All-from_recursion IsName names h.each; distinct = h.distinct }
 
 pub none_named : Named []
 unfolding IsDistinct
 none_named = record { each = tt; distinct = tt }
-
-or_false : (a b : Bool) → (a || b) ≡ false → (a ≡ false) × (b ≡ false)
-or_false true b h = absurd cc
-or_false false b h = (refl, h)
-
-all_more : {X : Type 0} (P : X → Type 0) (xs : List X) (x : X) → AllByRecursion P xs → P x → AllByRecursion P (xs ++ x ∷ [])
-all_more P [] x h p = (p, tt)
-all_more P (y ∷ ys) x h p = (h.0, all_more P ys x h.1 p)
 
 distinct_more : (names : List (List ℕ)) (name : List ℕ) → IsDistinct bytes_eq names → list_any (λ known. bytes_eq known name) names ≡ false
     → IsDistinct bytes_eq (names ++ name ∷ [])
 unfolding IsDistinct
 distinct_more [] name distinct new = (tt, tt)
 distinct_more (x ∷ xs) name distinct new =
-    let apart = or_false (bytes_eq x name) (list_any (λ known. bytes_eq known name) xs) new in
-    (all_more (λ y. bytes_eq x y ≡ false) xs name distinct.0 apart.0, distinct_more xs name distinct.1 apart.1)
+    let apart = or_parts (bytes_eq x name) (list_any (λ known. bytes_eq known name) xs) new in
+    (all-last (λ y. bytes_eq x y ≡ false) xs name distinct.0 apart.0, distinct_more xs name distinct.1 apart.1)
 
 any_map : {X : Type 0} (f : X → List ℕ) (name : List ℕ) (xs : List X) → list_any (λ known. bytes_eq known name) (map f xs) ≡ list_any (λ x. bytes_eq (f x) name) xs
 any_map f name [] = refl
@@ -48,7 +38,7 @@ pub named_more : {X : Type 0} (f : X → List ℕ) (xs : List X) (x : X) → Nam
     → Named (map f (xs ++ x ∷ []))
 named_more f xs x named is new =
     let h : Named (map f xs ++ f x ∷ []) = record {
-      each = all_more IsName (map f xs) (f x) named.each is;
+      each = all-last IsName (map f xs) (f x) named.each is;
       distinct = distinct_more (map f xs) (f x) named.distinct (any_map f (f x) xs ∙ new);
     } in
     subst Named (sym (map-append f xs (x ∷ []))) h

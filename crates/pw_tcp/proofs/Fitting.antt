@@ -1,7 +1,8 @@
 -- The entry that a step names fits its kind.
-use Rattle.std.proofs.Common.{◌≡◌, ◌≢◌, ℕ, ◌<◌, ◌≤◌, ◌==◌, nat_lt, ◌⊎◌, ⊎_elim, inl, inr, Bool, true, false, ◌&&◌, ◌||◌, cond, not, List, Option, Some, None, is_some, is_none, unwrap_or, refl, sym, ap, subst, ◌∙◌, arith}
-use Rattle.std.proofs.lemmas.Bool.{true≢false, false≢true, eqb-true, eq-eqb, ltb-true, lt-ltb}
+use Rattle.std.proofs.Common.{◌≡◌, ◌≢◌, ℕ, ◌<◌, ◌≤◌, ◌==◌, nat_lt, ◌⊎◌, ⊎_elim, inl, inr, Bool, true, false, ◌&&◌, cond, not, List, Option, Some, None, is_some, is_none, unwrap_or, refl, sym, ap, subst, ◌∙◌, arith}
+use Rattle.std.proofs.lemmas.Bool.{true≢false, false≢true, eqb-true, eq-eqb, ltb-true, lt-ltb, or_parts, not-false}
 use Rattle.std.specs.Option.{IfSome}
+use Rattle.pw_base.proofs.Plain.{is_some-None}
 use Rattle.pw_code.specs.declared.verb.Verb.{Verb}
 use Rattle.pw_code.specs.declared.verb.Verb.TheVariants as verb
 use Rattle.pw_event.specs.declared.event.Cause.{Cause}
@@ -32,24 +33,6 @@ pub runs-now : (units : Option OpenUnit) → is_some (attempt_of units) ≡ true
     → (own : OpenUnit) × (start : List PathAnswer) × (units ≡ Some own) × (own.running ≡ Some start)
 runs-now None h = absurd (false≢true h)
 runs-now (Some own) h = let r = (some own.running).0 h in (own, r.0, refl, r.1)
-
--- no attempt runs
-idle-now : (running : Option (List PathAnswer)) → is_some running ≡ false → running ≡ None
-idle-now None h = refl
-idle-now (Some start) h = absurd (true≢false h)
-
-pub or-false : (a b : Bool) → (a || b) ≡ false → (a ≡ false) × (b ≡ false)
-or-false false false e = (refl, refl)
-or-false false true e = absurd (true≢false e)
-or-false true b e = absurd (true≢false e)
-
-pub not-false : (b : Bool) → not b ≡ false → b ≡ true
-not-false true e = refl
-not-false false e = absurd (true≢false e)
-
-pub not-true : (b : Bool) → not b ≡ true → b ≡ false
-not-true false e = refl
-not-true true e = absurd (false≢true e)
 
 -- two numbers that are not one
 differ : (a b : ℕ) → (a == b) ≡ false → a ≢ b
@@ -247,7 +230,7 @@ module _ (sys : Behaviour) (state : State) (t : ℕ) where
           let outside : is_outside (path_of state t) ≡ true = not-false _ w.0 in
           let begins : BeginsUnit (next_verb sys state t) (path_of state t) =
           let B : Verb → Type 0 = λ v. BeginsUnit v (path_of state t) in subst B (sym e) outside in
-          subst P (sym starts) (begin-fits (idle-now _ w.1) begins (differ _ _ w.2) over held refl
+          subst P (sym starts) (begin-fits (is_some-None _ w.1) begins (differ _ _ w.2) over held refl
           (λ lacks. free-where (is_some (state.flight t)) held lacks (subst Q starts free))))
           (⊎_elim
           (λ w.
@@ -298,7 +281,7 @@ module _ (sys : Behaviour) (state : State) (t : ℕ) where
           let Q : Bool → Type 0 = λ b. (is_some (state.flight t) && (b && not held)) ≡ false in
           let begins : BeginsUnit (next_verb sys state t) (path_of state t) =
           let B : Verb → Type 0 = λ v. BeginsUnit v (path_of state t) in subst B (sym e) tt in
-          subst P (sym to_begin) (begin-fits (idle-now _ running) begins new over held refl
+          subst P (sym to_begin) (begin-fits (is_some-None _ running) begins new over held refl
           (λ lacks. free-where (is_some (state.flight t)) held lacks (subst Q to_begin free)))
         where
           not-so : (b : Bool) → ¬ (b ≡ true) → b ≡ false
@@ -327,9 +310,9 @@ module _ (sys : Behaviour) (state : State) (t : ℕ) where
     chosen true waiting r w = restarts (state.terms t).pending refl r
     chosen false true r w = tt
     chosen false false r w =
-        let all = or-false _ _ w in
-        let three = or-false _ _ all.0 in
-        let two = or-false _ _ three.0 in
+        let all = or_parts _ _ w in
+        let three = or_parts _ _ all.0 in
+        let two = or_parts _ _ three.0 in
         let paired = not-false _ two.0 in
         let calm = calm-now (state.terms t).pending refl r paired in
         let over : IsOver state.ended (awaited_of (state.units t)) = (decided.over state.ended (awaited_of (state.units t))).0 (not-false _ three.1) in

@@ -1,8 +1,9 @@
 -- What is known of a terminal behind every run: where its path is behind a takeover, and that a request that is out is one that
 -- its program asks for.
-use Rattle.std.proofs.Common.{◌≡◌, ◌≢◌, ℕ, ◌+◌, ◌<◌, ◌==◌, Bool, true, false, ◌||◌, unwrap_or, List, [], ◌∷◌, Option, Some, None, refl, ap, sym, subst, arith, ◌∙◌}
+use Rattle.std.proofs.Common.{◌≡◌, ◌≢◌, ℕ, ◌+◌, ◌<◌, ◌==◌, true, false, unwrap_or, List, [], ◌∷◌, Option, Some, None, refl, ap, sym, subst, arith, ◌∙◌}
 use Rattle.std.specs.List.{list_any}
-use Rattle.std.proofs.lemmas.Bool.{cond-false, false≢true, true≢false, ne_eqb}
+use Rattle.std.proofs.lemmas.Bool.{cond-false, false≢true, ne_eqb}
+use Rattle.pw_base.proofs.Plain.{drop-false}
 use Rattle.pw_class.specs.Queue.{is_of, works_for}
 use Rattle.pw_class.specs.declared.request.Request.{Request}
 use Rattle.pw_event.specs.declared.event.Cause.{Cause}
@@ -85,10 +86,6 @@ taken-over sys b log run t known =
 
 -- ---- requests
 
-or-right : (a b : Bool) → a ≡ false → (a || b) ≡ true → b ≡ true
-or-right false b none some = some
-or-right true b none some = absurd (true≢false none)
-
 none-waits : (t : ℕ) (waiting : List Request) → NoneOf t waiting → list_any (is_of t) waiting ≡ false
 none-waits t [] none = refl
 none-waits t (request ∷ waiting) none = rw (ne_eqb request.terminal t none.0) (none-waits t waiting none.1)
@@ -100,7 +97,7 @@ none-works t (Some job) none = ne_eqb job.request.terminal t none
 -- a class without requests of the terminal has none
 without-none : (t n : ℕ) (class : Class) → IsWithout t class → has_request t n class ≡ true → ⊥
 without-none t n class without has =
-    let works = or-right (list_any (is_of t) class.waiting) (any_below n (λ i. works_for t (request_in (class.busy (i + 1))))) (none-waits t class.waiting without.line) has in
+    let works = drop-false (list_any (is_of t) class.waiting) (any_below n (λ i. works_for t (request_in (class.busy (i + 1))))) (none-waits t class.waiting without.line) has in
     let one = any_below-some n (λ i. works_for t (request_in (class.busy (i + 1)))) works in
     false≢true (sym (none-works t (class.busy (one.0 + 1)) (without.work (one.0 + 1))) ∙ one.2)
 

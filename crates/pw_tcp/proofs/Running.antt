@@ -1,7 +1,7 @@
 -- In a state of a run the next step of a live terminal whose pair has a working member may be asked for, and what the state has
 -- of it fits together.
 use Rattle.std.proofs.Common.{◌≡◌, ◌≢◌, ℕ, ◌+◌, ◌<◌, ◌≤◌, ⊎_elim, inl, inr, Bool, true, false, not, is_some, List, [], ◌∷◌, ◌++◌, Option, Some, None, refl, ap, sym, subst, arith, ◌∙◌}
-use Rattle.std.proofs.lemmas.Bool.{cases_Bool, false≢true, true≢false}
+use Rattle.std.proofs.lemmas.Bool.{cases_Bool, false≢true, true≢false, not-true}
 use Rattle.pw_code.specs.declared.verb.Verb.{Verb}
 use Rattle.pw_code.specs.declared.verb.Verb.TheVariants as verb
 use Rattle.pw_event.specs.declared.event.Cause.{Cause}
@@ -35,9 +35,9 @@ use Rattle.pw_laws.proofs.frontier.Standing.{Where, closed, running, waiting, wh
 use Rattle.pw_laws.proofs.restarts.Few.{counts-ok}
 use Rattle.pw_tcp.specs.InState.{FitsTogether, HasMember, IsOfPath, MayPend, MayStep, WaitsAtStart, is_within, note_of, pending_of, terminal_of}
 use Rattle.pw_tcp.specs.NextStep.{BeginsAnew, MayAsk, RunsWhere, ends_attempt, is_pending}
-use Rattle.pw_tcp.proofs.Fitting.{not-true}
 use Rattle.pw_tcp.proofs.Known.{IsTaken, out-sent, taken-over}
 use Rattle.pw_laws.proofs.steps.Terminals.{entries-from}
+use Rattle.pw_laws.proofs.PairSteps.{takeover-cause}
 
 -- a member of the pair works
 works-as : (mode : Mode) → HasMember mode → IsWorking mode
@@ -60,14 +60,6 @@ may-ask verb.Drop asked = tt
 may-ask verb.Redo asked = tt
 may-ask verb.Stop asked = tt
 may-ask (verb.Fault x) asked = tt
-
--- a TAKEOVER that is pending
-takeover-is : (pending : Option Cause) → is_takeover pending ≡ true → (p : ℕ) × (pending ≡ Some (cause.Takeover p))
-takeover-is None taken = absurd (false≢true taken)
-takeover-is (Some (cause.Takeover p)) taken = (p, refl)
-takeover-is (Some (cause.Server k)) taken = absurd (false≢true taken)
-takeover-is (Some (cause.Older o m)) taken = absurd (false≢true taken)
-takeover-is (Some cause.Redo) taken = absurd (false≢true taken)
 
 -- a cause is pending
 pends-is : (why : Cause) → is_pending (pending_of (Some why)) ≡ true
@@ -119,7 +111,7 @@ module _ (sys : Behaviour) (b : IsBehaviour sys) (log : List Event) (run : IsRun
 
   stopped : is_takeover (s.terms t).pending ≡ true → Stopped
   stopped takeover =
-      let of = takeover-is (s.terms t).pending takeover in
+      let of = takeover-cause (s.terms t).pending takeover in
       let runs = (pending-ok sys b log run t (cause.Takeover of.0) of.1).0 in
       record { own = runs.unit; is_open = runs.is_open; start = runs.start; runs = runs.runs; taken = taken-over sys b log run t live.known takeover runs.unit runs.is_open }
 

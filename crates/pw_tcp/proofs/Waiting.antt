@@ -1,7 +1,7 @@
 -- Where a terminal waits, no entry of its own fits but one that makes way for an older unit, and the
 -- ending of a terminal whose pair is lost.
 use Rattle.std.proofs.Common.{◌≡◌, ◌≢◌, ℕ, ◌==◌, ◌⊎◌, ⊎_elim, Bool, true, false, ◌&&◌, ◌||◌, cond, not, List, Option, Some, None, is_some, refl, sym, ap, subst, ◌∙◌}
-use Rattle.std.proofs.lemmas.Bool.{true≢false, false≢true, eq-eqb}
+use Rattle.std.proofs.lemmas.Bool.{true≢false, false≢true, eq-eqb, not-true}
 use Rattle.pw_code.specs.declared.verb.Verb.{Verb}
 use Rattle.pw_code.specs.declared.verb.Verb.TheVariants as verb
 use Rattle.pw_event.specs.declared.event.Cause.{Cause}
@@ -23,7 +23,7 @@ use Rattle.pw_paired.specs.State.{OpenUnit, State}
 use Rattle.pw_paired.specs.Step.{Fits}
 use Rattle.pw_paired.specs.Terminal.{CanStep, awaited_of, closed_path, closing_answer, next_verb, path_of, path_with}
 use Rattle.pw_paired.specs.Units.{attempt_of, is_out, restarts_of}
-use Rattle.pw_tcp.proofs.Fitting.{runs-now, not-true}
+use Rattle.pw_tcp.proofs.Fitting.{runs-now}
 use Rattle.pw_tcp.specs.Entries.{makes_way, stepper_of}
 use Rattle.pw_tcp.specs.InState.{FitsTogether, MayStep, WaitsAtStart, is_within, next_step_in, note_of, pending_of, terminal_of}
 use Rattle.pw_tcp.specs.NextStep.{MayAsk, check_of, held_step, is_restarting, is_to_begin, is_waiting, lacks_check, restart_of, send_step, step_of_verb}

@@ -16,7 +16,7 @@ use Rattle.pw_terminal.specs.Shown.{place_of, written, as_shown, chars_at, text_
 use Rattle.pw_terminal.proofs.Written.{length-written, length-fitted}
 
 -- a number has as many characters as its picture says, with a sign or without
-length-digits_of : (count size : ℕ) → length (digits_of count size) ≡ count
+pub length-digits_of : (count size : ℕ) → length (digits_of count size) ≡ count
 length-digits_of zero size = refl
 length-digits_of (suc count) size = ap (λ n. suc n) (length-digits_of count size)
 

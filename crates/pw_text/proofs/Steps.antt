@@ -1,7 +1,6 @@
 -- One item after the other.
-use Rattle.std.proofs.Common.{◌≡◌, ℕ, zero, suc, ◌+◌, ◌-◌, ◌<◌, false, List, [], ◌∷◌, ◌++◌, length, drop, Option, None, Result, refl, sym, ap, ◌∙◌, append_assoc, add-zero, arith}
+use Rattle.std.proofs.Common.{◌≡◌, ℕ, zero, suc, ◌+◌, ◌-◌, ◌<◌, List, [], ◌∷◌, ◌++◌, length, drop, Option, None, Result, refl, sym, ap, ◌∙◌, append_assoc, add-zero, arith}
 use Rattle.std.proofs.lemmas.List.{append-nil}
-use Rattle.std.specs.Prelude.{◌==◌}
 use Rattle.pw_base.specs.declared.fault.Fault.{Fault}
 use Rattle.pw_base.specs.First.{least, unless}
 use Rattle.pw_base.proofs.FirstFault.{least-append}
@@ -77,8 +76,3 @@ pub finish_further : (place : Place) (at line : ℕ) (bytes : List ℕ) (item : 
     → finish next_known next_tokens (items_from 0 item.next (at + item.size) next_line next_bytes) ≡ whole
 finish_further place at line bytes item known tokens whole next_known next_tokens next_line next_bytes known_is tokens_is line_is bytes_is left is some so_far =
     rw (known_is, tokens_is, line_is, bytes_is) (sym (finish_step place at line bytes item known tokens left is some) ∙ so_far)
-
--- some bytes are left
-pub some_left : (bytes : List ℕ) → false ≡ (length bytes == 0) → 0 < length bytes
-some_left [] some = absurd cc
-some_left (b ∷ bs) some = omega arith

@@ -8,7 +8,8 @@ use Rattle.std.specs.Ordering.{is_gt, is_lt, ordering_reverse}
 use Rattle.std.proofs.lemmas.Cmp.{nat_list_cmp_total}
 use Rattle.std.proofs.lemmas.List.{append-nil}
 use Rattle.std.proofs.lemmas.List.Elements.{filter-append}
-use Rattle.pw_files.proofs.RecordLemmas.{gt_is, lt_is}
+use Rattle.pw_base.proofs.Plain.{is_lt-Less}
+use Rattle.pw_files.proofs.RecordLemmas.{gt_is}
 use Rattle.pw_files.specs.Records.{above, below, key_cmp}
 use Rattle.pw_paired.specs.Units.{put_back}
 use Rattle.pw_tmf.specs.Leaving.{HasKey}
@@ -119,11 +120,11 @@ module _ (n : ℕ) (a b : List ℕ) (first second : Option (List ℕ)) (of_a : H
   lower-first less =
       let back : key_cmp b a ≡ Greater = nat_list_cmp_total.antisymm b a ∙ ap ordering_reverse less in
       twice (λ c. is_lt (key_cmp (take n c) a)) (λ c. is_gt (key_cmp (take n c) a)) (λ c. is_lt (key_cmp (take n c) b)) (λ c. is_gt (key_cmp (take n c) b))
-      (λ c is. ap is_lt (nat_list_cmp_total.trans (take n c) a b (lt_is (key_cmp (take n c) a) is) less))
+      (λ c is. ap is_lt (nat_list_cmp_total.trans (take n c) a b (is_lt-Less (key_cmp (take n c) a) is) less))
       (λ c is.
       let turned : key_cmp b (take n c) ≡ Less = nat_list_cmp_total.antisymm b (take n c) ∙ ap ordering_reverse (gt_is (key_cmp (take n c) b) is) in
       ap is_gt (nat_list_cmp_total.antisymm (take n c) a ∙ ap ordering_reverse (nat_list_cmp_total.trans a b (take n c) less turned)))
-      (λ c is. ap is_gt (nat_list_cmp_total.trans (take n c) a b (lt_is (key_cmp (take n c) a) is) less))
+      (λ c is. ap is_gt (nat_list_cmp_total.trans (take n c) a b (is_lt-Less (key_cmp (take n c) a) is) less))
       (λ c is.
       let turned : key_cmp b (take n c) ≡ Less = nat_list_cmp_total.antisymm b (take n c) ∙ ap ordering_reverse (gt_is (key_cmp (take n c) b) is) in
       ap is_lt (nat_list_cmp_total.antisymm (take n c) a ∙ ap ordering_reverse (nat_list_cmp_total.trans a b (take n c) less turned)))

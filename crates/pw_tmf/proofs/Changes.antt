@@ -3,6 +3,7 @@ use Rattle.std.proofs.Common.{◌≡◌, ℕ, ◌<◌, ◌∙◌, length, sym, a
 use Rattle.std.specs.Prelude.{is_some, slice_index_or}
 use Rattle.std.specs.Borrow.{Bor}
 use Rattle.std.specs.Option.{option_copied, option_map}
+use Rattle.std.proofs.lemmas.Bool.{and_right, and_from}
 use Rattle.pw_blocks.specs.Blocks.{BlocksState, records_of}
 use Rattle.pw_code.specs.declared.file.FileCall.{FileCall}
 use Rattle.pw_code.specs.declared.file.FileOp.{FileOp}
@@ -44,14 +45,6 @@ refused-op n records Delete call status h = by (has_key n records call.key) refl
     by false is = let eleven : 11 ≡ status = cc (rw is at h) in record { answer = rw is (ap (λ s. answer_with s None) eleven); fails = rw is refl }
     by true is = absurd (cc (rw is at h))
 
-and-false : (a b : Bool) → b ≡ false → (a && b) ≡ false
-and-false true b h = h
-and-false false b h = refl
-
-and-true : (a b : Bool) → a ≡ true → b ≡ true → (a && b) ≡ true
-and-true true b g h = h
-and-true false b g h = absurd (cc g)
-
 -- a refused operation answers this status, and changes nothing
 pub refused-answer : (n : ℕ) (records : List (List ℕ)) (call : FileCall) (status : ℕ) → refusal call.op (has_key n records (key_of n call.op call)) ≡ Some status
     → answer_of n records call.op call ≡ answer_with status None
@@ -59,7 +52,7 @@ refused-answer n records call status h = (refused-op n records call.op call stat
 
 pub refused-changes : (n : ℕ) (records : List (List ℕ)) (call : FileCall) (status : ℕ) → refusal call.op (has_key n records (key_of n call.op call)) ≡ Some status
     → changes_records n records call ≡ false
-refused-changes n records call status h = and-false (is_change call.op) _ (refused-op n records call.op call status h).fails
+refused-changes n records call status h = and_right (is_change call.op) _ (refused-op n records call.op call status h).fails
 
 -- any other answers status 0
 allowed-op : (n : ℕ) (records : List (List ℕ)) (op : FileOp) (call : FileCall) → is_change op ≡ true → refusal op (has_key n records (key_of n op call)) ≡ None
@@ -90,7 +83,7 @@ allowed-answer n records call = allowed-op n records call.op call
 
 pub allowed-changes : (n : ℕ) (records : List (List ℕ)) (call : FileCall) → is_change call.op ≡ true → refusal call.op (has_key n records (key_of n call.op call)) ≡ None
     → changes_records n records call ≡ true
-allowed-changes n records call c h = and-true (is_change call.op) _ c (ap (λ (a : FileAnswer). a.status == 0) (allowed-op n records call.op call c h))
+allowed-changes n records call c h = and_from (is_change call.op) _ c (ap (λ (a : FileAnswer). a.status == 0) (allowed-op n records call.op call c h))
 
 -- a read changes nothing
 pub read-changes : (n : ℕ) (records : List (List ℕ)) (call : FileCall) → is_change call.op ≡ false → changes_records n records call ≡ false
@@ -121,7 +114,7 @@ again-unit n records t call slot h = by slot.open_unit refl
     by (Some unit) is =
         let there : has_image t call.file (key_of n call.op call) unit.before ≡ true = ap (λ (o : Option ToldUnit). has_image t call.file (key_of n call.op call) (images_of o)) (sym is) ∙ h in
         let same : with_image n records t call unit ≡ unit =
-        ap (λ b. cond b (with_before (image_before n records t call) unit) unit) (and-false (changes_records n records call) _ (ap not there)) in
+        ap (λ b. cond b (with_before (image_before n records t call) unit) unit) (and_right (changes_records n records call) _ (ap not there)) in
         ap (λ (o : Option ToldUnit). record slot { open_unit = o }) is
         ∙ sym (ap (λ (o : Option ToldUnit). record slot { open_unit = option_map (with_image n records t call) o }) is ∙ ap (λ (u : ToldUnit). record slot { open_unit = Some u }) same)
 
@@ -137,7 +130,7 @@ first-unit n records t call slot h ch = by slot.open_unit refl
     by (Some unit) is =
         let new : has_image t call.file (key_of n call.op call) unit.before ≡ false = ap (λ (o : Option ToldUnit). has_image t call.file (key_of n call.op call) (images_of o)) (sym is) ∙ h in
         let same : with_image n records t call unit ≡ with_before (image_before n records t call) unit =
-        ap (λ b. cond b (with_before (image_before n records t call) unit) unit) (and-true (changes_records n records call) _ ch (ap not new)) in
+        ap (λ b. cond b (with_before (image_before n records t call) unit) unit) (and_from (changes_records n records call) _ ch (ap not new)) in
         ap (λ (o : Option ToldUnit). record slot { open_unit = option_map (with_before (image_before n records t call)) o }) is
         ∙ (ap (λ (u : ToldUnit). record slot { open_unit = Some u }) (sym same)
         ∙ sym (ap (λ (o : Option ToldUnit). record slot { open_unit = option_map (with_image n records t call) o }) is))

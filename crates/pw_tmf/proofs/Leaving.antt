@@ -1,10 +1,10 @@
 -- The units of several terminals leave as they do one after the other.
-use Rattle.std.proofs.Common.{◌≡◌, ◌≢◌, ℕ, ◌==◌, ◌&&◌, ◌||◌, Bool, true, false, not, cond, List, [], ◌∷◌, filter, Option, Some, None, refl, sym, ap, subst, ◌∙◌}
+use Rattle.std.proofs.Common.{◌≡◌, ◌≢◌, ℕ, ◌==◌, ◌&&◌, Bool, true, false, not, cond, List, [], ◌∷◌, filter, Option, Some, None, refl, sym, ap, subst, ◌∙◌}
 use Rattle.std.specs.List.{AllByRecursion}
 use Rattle.std.specs.Str.{bytes_eq}
 use Rattle.std.proofs.Math.Path.{fun_ext}
 use Rattle.std.proofs.lemmas.Bool.{and_from, eq-eqb, eqb-true, false_from_ne_true, false≢true, or_left, or_parts, or_right, true≢false}
-use Rattle.std.proofs.lemmas.Slice.Eq.{bytes_eq-Decides}
+use Rattle.pw_base.proofs.Plain.{bytes_eq-same}
 use Rattle.pw_locks.specs.declared.lock.Lock.{Lock}
 use Rattle.pw_onecopy.specs.Behaviour.{Behaviour}
 use Rattle.pw_onecopy.specs.Update.{upd}
@@ -18,11 +18,6 @@ use Rattle.pw_tmf.specs.Told.{Told}
 use Rattle.pw_tmf.proofs.Around.{either-first, more-pass, put-either}
 use Rattle.pw_tmf.proofs.PutBack.{one-restored}
 use Rattle.pw_tmf.proofs.Telling.{only-other, only-same}
-
--- one of two tests passes, and it is not the first
-pub drop-false : (a b : Bool) → a ≡ false → (a || b) ≡ true → b ≡ true
-drop-false true b e is = absurd (true≢false e)
-drop-false false b e is = is
 
 -- ---- before-images of different terminals
 
@@ -60,16 +55,13 @@ two-images key_length a b of_a of_b apart files = fun_ext (λ j.
     ∙ in-each-file key_length j a b of_a of_b apart (a.file == j) (b.file == j) refl refl (files j)
     ∙ sym (one-restored key_length a (put key_length b files) j ∙ ap (put_back_if (key_length j) j a) (one-restored key_length b files j)))
 
-same-bytes : (key : List ℕ) → bytes_eq key key ≡ true
-same-bytes key = (bytes_eq-Decides key key).1 refl
-
 -- one that is not at a terminal's key is apart from those that are there
 not-at : (t : ℕ) (a b : BeforeImage) → (b.terminal == t && (b.file == a.file && bytes_eq b.key a.key)) ≡ false → (b.terminal == t) ≡ true → AreApart a b
 not-at t a b none is file key =
     false≢true
     (sym none
     ∙ and_from (b.terminal == t) (b.file == a.file && bytes_eq b.key a.key) is
-    (and_from (b.file == a.file) (bytes_eq b.key a.key) (eq-eqb b.file a.file (sym file)) (subst (λ k. bytes_eq b.key k ≡ true) (sym key) (same-bytes b.key))))
+    (and_from (b.file == a.file) (bytes_eq b.key a.key) (eq-eqb b.file a.file (sym file)) (subst (λ k. bytes_eq b.key k ≡ true) (sym key) (bytes_eq-same b.key))))
 
 module _ (key_length : ℕ → ℕ) (t : ℕ) where
   -- an image at a key where a terminal has none is put back before those of the terminal, or behind them
@@ -88,7 +80,7 @@ module _ (key_length : ℕ → ℕ) (t : ℕ) where
   own-key image before =
       or_left (image.terminal == image.terminal && (image.file == image.file && bytes_eq image.key image.key)) (has_image image.terminal image.file image.key before)
       (and_from (image.terminal == image.terminal) (image.file == image.file && bytes_eq image.key image.key) (eq-eqb image.terminal image.terminal refl)
-      (and_from (image.file == image.file) (bytes_eq image.key image.key) (eq-eqb image.file image.file refl) (same-bytes image.key)))
+      (and_from (image.file == image.file) (bytes_eq image.key image.key) (eq-eqb image.file image.file refl) (bytes_eq-same image.key)))
 
   -- of the images behind one
   behind-first : (image : BeforeImage) (before : List BeforeImage) → AreSingle (image ∷ before) → AreSingle before

@@ -6,6 +6,7 @@ use Rattle.std.specs.Option.{option_map}
 use Rattle.std.proofs.Math.Path.{fun_ext}
 use Rattle.std.proofs.lemmas.Bool.{cases_Bool, cases_eq, eq-eqb, eqb-false, eqb-true, false≢true, ne_eqb, or_left, or_right}
 use Rattle.std.proofs.lemmas.List.Elements.{All-cons, All-head, All-nil, All-tail, recursion_from_All}
+use Rattle.pw_base.proofs.Plain.{drop-false}
 use Rattle.pw_code.specs.declared.unit.Unit as unit
 use Rattle.pw_locks.specs.declared.lock.Lock.{Lock}
 use Rattle.pw_onecopy.specs.Behaviour.{Behaviour}
@@ -17,7 +18,7 @@ use Rattle.pw_tmf.specs.Leaving.{AreSingle, CanLeave, HaveOpen, IsKeyed, is_amon
 use Rattle.pw_tmf.specs.Tells.{Tells, as_told, images_by}
 use Rattle.pw_tmf.specs.Told.{Told, ToldUnit}
 use Rattle.pw_tmf.specs.Units.{AreApart, CanBackOut, all_backed_out, backed_out}
-use Rattle.pw_tmf.proofs.Leaving.{drop-false, none-of-theirs, none-passes, tells-rest, tells-same}
+use Rattle.pw_tmf.proofs.Leaving.{none-of-theirs, none-passes, tells-rest, tells-same}
 use Rattle.pw_tmf.proofs.Telling.{tells-drop}
 
 -- ---- no unit is left

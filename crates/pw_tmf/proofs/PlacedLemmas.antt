@@ -5,9 +5,11 @@ use Rattle.std.specs.BTreeMap.{BTreeMap, get}
 use Rattle.std.specs.Global.{Vec}
 use Rattle.std.specs.List.{list_any}
 use Rattle.std.specs.Str.{bytes_eq}
-use Rattle.std.proofs.lemmas.Bool.{and_parts}
+use Rattle.std.proofs.lemmas.Bool.{and_parts, false_from_ne_true}
 use Rattle.std.proofs.lemmas.Bool.Decides.{nat_tests}
 use Rattle.std.proofs.lemmas.Slice.Eq.{bytes_eq-Decides}
+use Rattle.std.proofs.lemmas.Map.Keys.{any_passes_from_place}
+use Rattle.pw_base.proofs.Plain.{or-true, same-truth}
 use Rattle.pw_locks.specs.Indexes.{has, found_has, is_filed}
 use Rattle.pw_paired.specs.State.{BeforeImage}
 use Rattle.pw_paired.specs.Units.{has_image}
@@ -31,28 +33,19 @@ passing test (x ∷ xs) h =
       | false ↦ λ is h. later test x xs (passing test xs h)
     ] refl h
 
-or-second : (a : Bool) → (a || true) ≡ true
-or-second true = refl
-or-second false = refl
-
-any-at : (test : BeforeImage → Bool) (images : List BeforeImage) (i : ℕ) (image : BeforeImage) → slice_get images i ≡ Some image → test image ≡ true → list_any test images ≡ true
-any-at test [] i image is passes = absurd (cc is)
-any-at test (x ∷ xs) zero image is passes = let same : x ≡ image = cc is in ap (λ b. b || list_any test xs) (ap test same ∙ passes)
-any-at test (x ∷ xs) (suc i) image is passes = ap (λ b. test x || b) (any-at test xs i image is passes) ∙ or-second (test x)
-
 -- a number among these that passes
 any-has : (test : ℕ → Bool) (numbers : List ℕ) (i : ℕ) → has numbers i ≡ true → test i ≡ true → list_any test numbers ≡ true
 any-has test [] i h passes = absurd (cc h)
 any-has test (n ∷ numbers) i h passes =
     elim (nat_eq i n) as (λ b. nat_eq i n ≡ b → (b || has numbers i) ≡ true → (test n || list_any test numbers) ≡ true) [
       | true ↦ λ is h. let same : i ≡ n = grind (arith, nat_tests, is) in ap (λ b. b || list_any test numbers) (sym (ap test same) ∙ passes)
-      | false ↦ λ is h. ap (λ b. test n || b) (any-has test numbers i h passes) ∙ or-second (test n)
+      | false ↦ λ is h. ap (λ b. test n || b) (any-has test numbers i h passes) ∙ or-true (test n)
     ] refl h
 
 -- what an image found at a number shows
 image-found : (t file : ℕ) (key : List ℕ) (images : List BeforeImage) (n : ℕ) (rest : Bool) (image : BeforeImage) → slice_get images n ≡ Some image → (rest ≡ true → has_image t file key images ≡ true)
     → (b : Bool) → is_image_at t file key image ≡ b → (b || rest) ≡ true → has_image t file key images ≡ true
-image-found t file key images n rest image is later true passes h = any-at (is_image_at t file key) images n image is passes
+image-found t file key images n rest image is later true passes h = any_passes_from_place (is_image_at t file key) images n image is passes
 image-found t file key images n rest image is later false passes h = later h
 
 found-any : (t file : ℕ) (key : List ℕ) (images : List BeforeImage) (numbers : List ℕ) → list_any (λ n. is_found_at t file key (slice_get images n)) numbers ≡ true → has_image t file key images ≡ true
@@ -74,19 +67,10 @@ filed-there t file key images index filed p =
     let key-same : p.image.key ≡ key = (bytes_eq-Decides p.image.key key).0 place.1 in
     subst (λ f. is_filed place_cmp index (f, key) p.at ≡ true) same (subst (λ k. is_filed place_cmp index (p.image.file, k) p.at ≡ true) key-same (filed p.at p.image p.there))
 
-false-from : (b : Bool) → (b ≡ true → ⊥) → b ≡ false
-false-from true never = absurd (never refl)
-false-from false never = refl
-
-same-test : (a b : Bool) → (a ≡ true → b ≡ true) → (b ≡ true → a ≡ true) → a ≡ b
-same-test true b f g = sym (f refl)
-same-test false true f g = g refl
-same-test false false f g = refl
-
 pub none-filed : (t file : ℕ) (key : List ℕ) (images : List BeforeImage) (index : BTreeMap (ℕ × List ℕ) (Vec ℕ)) → AreFiled images index → get place_cmp index (file, key) ≡ None
     → has_image t file key images ≡ false
 none-filed t file key images index filed none =
-    false-from (has_image t file key images)
+    false_from_ne_true (has_image t file key images)
     (λ is.
     let p = passing (is_image_at t file key) images is in
     let there : found_has (get place_cmp index (file, key)) p.at ≡ true = filed-there t file key images index filed p in
@@ -96,7 +80,7 @@ none-filed t file key images index filed none =
 pub some-filed : (t file : ℕ) (key : List ℕ) (images : List BeforeImage) (index : BTreeMap (ℕ × List ℕ) (Vec ℕ)) (numbers : Vec ℕ) → AreFiled images index → get place_cmp index (file, key) ≡ Some numbers
     → list_any (λ n. is_found_at t file key (slice_get images n)) numbers.items ≡ has_image t file key images
 some-filed t file key images index numbers filed some =
-    same-test (list_any (λ n. is_found_at t file key (slice_get images n)) numbers.items) (has_image t file key images)
+    same-truth (list_any (λ n. is_found_at t file key (slice_get images n)) numbers.items) (has_image t file key images)
     (found-any t file key images numbers.items)
     (λ is.
     let p = passing (is_image_at t file key) images is in

@@ -7,6 +7,7 @@ use Rattle.std.proofs.lemmas.Grind.{reverse_onto}
 use Rattle.std.proofs.lemmas.List.{reverse-append, reverse-reverse}
 use Rattle.std.proofs.lemmas.List.Elements.{All-append, All-nil, All-cons, All-head, All-tail, filter-append, Contains-append_cases, Contains-append_left, Contains-append_right}
 use Rattle.std.proofs.lemmas.List.Folds.{list_any-append}
+use Rattle.pw_base.proofs.Plain.{or-false}
 
 -- the first of a list is the last of the reversed one
 pub reverse-cons : {X : Type 0} (x : X) (xs : List X) → reverse (x ∷ xs) ≡ reverse xs ++ x ∷ []
@@ -16,16 +17,12 @@ reverse-cons x xs = reverse_onto xs x []
 pub reverse-push : {X : Type 0} (xs : List X) (x : X) → reverse (xs ++ x ∷ []) ≡ x ∷ reverse xs
 reverse-push xs x = reverse-append xs (x ∷ [])
 
-or-none : (b : Bool) → (b || false) ≡ b
-or-none true = refl
-or-none false = refl
-
 -- a test of some element
 pub list_any-reverse : {X : Type 0} (p : X → Bool) (xs : List X) → list_any p (reverse xs) ≡ list_any p xs
 list_any-reverse p [] = refl
 list_any-reverse p (x ∷ xs) =
     ap (list_any p) (reverse-cons x xs) ∙ (list_any-append p (reverse xs) (x ∷ [])
-    ∙ (ap (λ b. b || (p x || false)) (list_any-reverse p xs) ∙ (ap (λ b. list_any p xs || b) (or-none (p x)) ∙ or_comm (list_any p xs) (p x))))
+    ∙ (ap (λ b. b || (p x || false)) (list_any-reverse p xs) ∙ (ap (λ b. list_any p xs || b) (or-false (p x)) ∙ or_comm (list_any p xs) (p x))))
 
 -- what passes a test
 pub filter-reverse : {X : Type 0} (p : X → Bool) (xs : List X) → filter p (reverse xs) ≡ reverse (filter p xs)

@@ -1,6 +1,7 @@
 -- Files and units at the start.
 use Rattle.std.proofs.Common.{◌≡◌, ℕ, zero, suc, ◌∙◌, refl, sym, ap, List, [], ◌∷◌, ◌++◌, map, replicate, Option, None, Some}
 use Rattle.std.specs.Prelude.{slice_get, slice_index_or}
+use Rattle.std.proofs.lemmas.List.{map_push}
 use Rattle.pw_files.specs.Records.{with_record}
 use Rattle.pw_tmf.specs.Starting.{all_put}
 
@@ -24,10 +25,5 @@ replicated zero x i = refl
 replicated (suc n) x zero = refl
 replicated (suc n) x (suc i) = replicated n x i
 
--- one more of each
-pub map-push : {A B : Type 0} (f : A → B) (xs : List A) (x : A) → map f (xs ++ x ∷ []) ≡ map f xs ++ f x ∷ []
-map-push f [] x = refl
-map-push f (y ∷ xs) x = ap (λ zs. f y ∷ zs) (map-push f xs x)
-
 pub push-both : {A B C : Type 0} (f : A → B) (g : C → B) (xs : List A) (ys : List C) (x : A) (y : C) → map f xs ≡ map g ys → f x ≡ g y → map f (xs ++ x ∷ []) ≡ map g (ys ++ y ∷ [])
-push-both f g xs ys x y e is = map-push f xs x ∙ (ap (λ zs. zs ++ f x ∷ []) e ∙ (ap (λ z. map g ys ++ z ∷ []) is ∙ sym (map-push g ys y)))
+push-both f g xs ys x y e is = map_push f xs x ∙ (ap (λ zs. zs ++ f x ∷ []) e ∙ (ap (λ z. map g ys ++ z ∷ []) is ∙ sym (map_push g ys y)))

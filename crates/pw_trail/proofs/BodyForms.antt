@@ -5,8 +5,9 @@ use Rattle.std.specs.List.{flat_map, AllByRecursion}
 use Rattle.std.proofs.lemmas.Bool.{leb-true}
 use Rattle.std.proofs.lemmas.List.{append-nil}
 use Rattle.std.proofs.lemmas.List.Elements.{All-from_recursion, recursion_from_All}
+use Rattle.pw_base.proofs.Plain.{some_is, cond_passed}
 use Rattle.pw_code.specs.declared.file.FileInfo.{FileInfo}
-use Rattle.pw_image.proofs.Forms.{IsForm, Takes, bind_some, block, both, byte, cond_passed, counted, made, many, number32, some_is}
+use Rattle.pw_image.proofs.Forms.{IsForm, Takes, bind_some, block, both, byte, counted, made, many, number32}
 use Rattle.pw_image.specs.Reading.{Front, ◌>>=◌, all_of, block_at, is_any, is_truth, many_at, number_at}
 use Rattle.pw_image.specs.Values.{AreBytes}
 use Rattle.pw_trail.specs.Body.{any_change_at, body_of, change_at, change_bytes, change_from, changes_at, fits, kind_byte, kind_of, piece_at, such_at, unit_at, unit_from, unit_in}

@@ -8,6 +8,7 @@ use Rattle.std.proofs.lemmas.Bool.{and_from, eq-eqb, eqb-true, false_from_ne_tru
 use Rattle.std.proofs.lemmas.List.Elements.{All-cons, All-contains, All-map, All-nil}
 use Rattle.std.proofs.lemmas.Option.{slice_get-get_or}
 use Rattle.std.proofs.lemmas.Slice.Eq.{bytes_eq-Decides}
+use Rattle.pw_base.proofs.Plain.{and-first, and-second}
 use Rattle.pw_base.specs.Limits.{most_content}
 use Rattle.pw_code.specs.declared.file.FileInfo.{FileInfo}
 use Rattle.pw_code.specs.declared.unit.Unit as unit
@@ -19,7 +20,7 @@ use Rattle.pw_laws.proofs.seeing.SameFiles.{same_files}
 use Rattle.pw_onecopy.specs.Update.{upd}
 use Rattle.pw_paired.specs.State.{BeforeImage}
 use Rattle.pw_paired.specs.Units.{committed_files, only, put_back, restored_files}
-use Rattle.pw_laws.proofs.Tests.{all-filter, and-first, and-second, any-filter}
+use Rattle.pw_laws.proofs.Tests.{all-filter, any-filter}
 use Rattle.pw_tmf.specs.Committed.{committed, images_of}
 use Rattle.pw_tmf.specs.Restored.{changed_in, changes_of}
 use Rattle.pw_tmf.specs.Starting.{key_of_file}

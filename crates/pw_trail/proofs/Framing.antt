@@ -1,6 +1,5 @@
 -- A body behind its length.
 use Rattle.std.proofs.Common.{◌≡◌, ◌≢◌, ℕ, ◌+◌, ◌^◌, ◌<◌, ◌≤◌, Bool, true, false, cond, ltb, List, [], ◌∷◌, ◌++◌, length, get_or, take, drop, Some, None, option_map, refl, sym, ◌∙◌, ap, arith, length-append, length-take, length-drop}
-use Rattle.std.specs.Prelude.{Result, Ok, Err, IfOk}
 use Rattle.std.specs.Int.{w32, to_be_bytes}
 use Rattle.std.proofs.lemmas.Bool.{le-ltb, lt-ltb, ltb-false}
 use Rattle.std.proofs.lemmas.Bool.Decides.{nat_tests}
@@ -42,10 +41,6 @@ module _ (bytes : List ℕ) (at size : ℕ) (head : List ℕ) (is_head : head �
   read_whole body is fits =
       let here : body ≡ take (size_of (drop at bytes)) (drop 4 (drop at bytes)) = is ∙ ap (λ (n : ℕ). take n (drop (at + 4) bytes)) told ∙ ap (take (size_of (drop at bytes))) (sym (drop-drop 4 at bytes)) in
       ap (λ (b : List ℕ). Some (Some b)) here ∙ sym (ap (option_map Some) (whole (drop at bytes) (omega (arith, told))))
-
-pub if_more : {T E : Type 0} (r : Result T E) (P Q : T → Type 0) → ((x : T) → P x → Q x) → IfOk r P → IfOk r Q
-if_more (Ok x) P Q more p = more x p
-if_more (Err e) P Q more p = tt
 
 -- the byte that was read at a place
 gate_at : (bytes : List ℕ) (at : ℕ) (head : List ℕ) → at < length bytes → head ≡ take 1 (drop at bytes) → get_or head 0 0 ≡ get_or bytes at 0

@@ -4,6 +4,7 @@ use Rattle.std.specs.Prelude.{is_some}
 use Rattle.std.specs.List.{AllByRecursion}
 use Rattle.std.specs.Option.{option_map}
 use Rattle.std.proofs.Math.Path.{fun_ext}
+use Rattle.pw_base.proofs.Plain.{is_some-None, all-weaker}
 use Rattle.pw_code.specs.declared.file.FileCall.{FileCall}
 use Rattle.pw_code.specs.declared.file.FileOp.{FileOp}
 use Rattle.pw_code.specs.declared.file.FileOp.TheVariants.{Read, Next, Write, Rewrite, Delete, ReadLock, NextLock}
@@ -35,11 +36,6 @@ use Rattle.pw_tmf.proofs.Telling.{tells-begin, tells-commit, tells-drop, tells-o
 use Rattle.pw_tmf.proofs.Together.{committed-told}
 use Rattle.pw_laws.proofs.Tests.{all-filter}
 use Rattle.pw_trail.specs.Orderly.{IsOrderly, IsPlaced, IsRecord, Stays}
-
--- what holds of each holds in other words
-pub all-weaker : {A : Type 0} (P Q : A → Type 0) → ((x : A) → P x → Q x) → (xs : List A) → AllByRecursion P xs → AllByRecursion Q xs
-all-weaker P Q more [] all = tt
-all-weaker P Q more (x ∷ xs) all = (more x all.0, all-weaker P Q more xs all.1)
 
 abbrev pub records-ok : (sys : Behaviour) (before : List BeforeImage) → AllByRecursion (IsRecord sys.key_length) before → AllByRecursion (ImageOk sys) before
 records-ok sys before all = all-weaker (IsRecord sys.key_length) (ImageOk sys) (λ image is. record { content = is.content; key = is.key }) before all
@@ -93,10 +89,6 @@ own-told (Some unit) before one is = record { unit = unit; is = refl; told = cc 
 runs : (running : Option (List PathAnswer)) → is_some running ≡ true → (start : List PathAnswer) × (running ≡ Some start)
 runs None is = absurd (cc is)
 runs (Some start) is = (start, refl)
-
-rests : (running : Option (List PathAnswer)) → is_some running ≡ false → running ≡ None
-rests None is = refl
-rests (Some start) is = absurd (cc is)
 
 -- ---- an operation
 
@@ -224,7 +216,7 @@ begins told o u can = by (o.state.units u.terminal) refl (told.units u.terminal)
     by (Some own) is (Some one) told_is same free =
         let parts : MayBegin u (Some one) = subst (MayBegin u) told_is free in
         let one_is : one ≡ as_told (images_by u.terminal o.state.before) own = cc (told_is, same, is) in
-        let rests_there : own.running ≡ None = rests own.running (sym (ap (λ (x : ToldUnit). x.running) one_is) ∙ parts.2) in
+        let rests_there : own.running ≡ None = is_some-None own.running (sym (ap (λ (x : ToldUnit). x.running) one_is) ∙ parts.2) in
         begins-in told o o.state u o.tells refl refl refl (ap attempt_of is ∙ rests_there)
         (rw is (sym (ap (λ (x : ToldUnit). x.number) one_is) ∙ parts.0))
         (rw is (sym (ap (λ (x : ToldUnit). x.birth) one_is) ∙ parts.1))

@@ -1,9 +1,10 @@
 -- A watch behind one more entry, and behind one that is refused.
-use Rattle.std.proofs.Common.{◌≡◌, ◌∙◌, ℕ, ◌<◌, ◌≤◌, ◌&&◌, Bool, true, false, List, [], ◌∷◌, ◌++◌, length, not, Option, Some, None, refl, sym, ap, subst, arith}
+use Rattle.std.proofs.Common.{◌≡◌, ◌∙◌, ℕ, ◌<◌, ◌≤◌, Bool, true, false, List, [], ◌∷◌, ◌++◌, length, not, Option, Some, None, refl, sym, ap, subst, arith}
 use Rattle.std.proofs.lemmas.List.{append-nil, length-set}
 use Rattle.std.proofs.lemmas.Option.{slice_get-get_or}
 use Rattle.std.specs.BTreeSet.{BTreeSet}
 use Rattle.std.specs.Option.{IfSome}
+use Rattle.pw_base.proofs.Plain.{and-swap}
 use Rattle.pw_code.specs.Limits.{most_log_lines}
 use Rattle.pw_code.specs.declared.system.System.{System}
 use Rattle.pw_code.specs.declared.system.TermInfo.{TermInfo}
@@ -93,15 +94,9 @@ undone refreshes (Some own) false old mid new low is gone shown =
 
 -- ---- what an entry meets
 
-and-turn : (a b : Bool) → (a && b) ≡ (b && a)
-and-turn true true = refl
-and-turn true false = refl
-and-turn false true = refl
-and-turn false false = refl
-
 ends-are : (sys : Behaviour) (s : State) (entry : Event) → ends_then (effect sys s entry) entry (may_end s entry) ≡ ends_at sys s entry
 ends-are sys s (event.FailTcp p primary k) =
-    and-turn (not (is_gone (s.modes p))) (is_gone ((effect sys s (event.FailTcp p primary k)).modes p))
+    and-swap (not (is_gone (s.modes p))) (is_gone ((effect sys s (event.FailTcp p primary k)).modes p))
 ends-are sys s entry = refl
 
 waits-are : (s : State) (entry : Event) (c : ℕ) → sent_to entry ≡ Some c → waits_then s entry ≡ waiting s c

@@ -4,9 +4,9 @@ use Rattle.std.specs.Prelude.{◌&&◌, ◌||◌, ◌==◌, nat_le, nat_lt, find
 use Rattle.std.specs.Option.{ForSome}
 use Rattle.std.proofs.lemmas.Bool.{and_parts, eqb-true, leb-true, ltb-false}
 use Rattle.std.proofs.lemmas.List.Elements.{All-nil, All-cons}
-use Rattle.pw_base.specs.declared.fault.Fault.{Fault}
+use Rattle.std.proofs.lemmas.Option.{same_Some}
 use Rattle.pw_base.specs.declared.fault_code.FaultCode.{FaultCode}
-use Rattle.pw_base.specs.First.{least, unless}
+use Rattle.pw_base.specs.First.{least}
 use Rattle.pw_picture.specs.Grammar.{IsPicture, picture_of, size_of}
 use Rattle.pw_picture.specs.declared.picture.Picture.{Picture}
 use Rattle.pw_text.specs.Cursor.{Left, spelling}
@@ -45,6 +45,7 @@ use Rattle.pw_source.proofs.Resolved.{each-found}
 use Rattle.pw_sound.proofs.Arguments.{length-joined}
 use Rattle.pw_sound.proofs.Ground.{IsCut}
 use Rattle.pw_sound.proofs.Grounds.{known-of, ground-of}
+use Rattle.pw_sound.proofs.Showing.{unless-is}
 use Rattle.pw_whole.proofs.Pictures.{picture-valid}
 
 -- ---- items of a layout
@@ -59,9 +60,6 @@ fits-by : (o : Option Kind) (size : ℕ) → ForSome o (λ kind. IsPicture (pict
     → IfSome (option_map picture_of_kind o) (λ p. IsPicture p × (size_of p ≡ size))
 fits-by None size fits = tt
 fits-by (Some kind) size fits = fits kind refl
-
-some-same : {A : Type 0} (a b : A) → Some a ≡ Some b → a ≡ b
-some-same a b is = cc
 
 module _ (laid : Laid) (is : IsLayout false laid) where
   abbrev long : ℕ
@@ -85,7 +83,7 @@ module _ (laid : Laid) (is : IsLayout false laid) where
     where
       by : (o : Option Item) → find (λ item. is_this_name item.name name) laid.items ≡ o → option_map place_at o ≡ Some place → Lies place
       by None found at = absurd cc
-      by (Some item) found at = subst Lies (some-same (place_at item) place at) (item-lies name item found)
+      by (Some item) found at = subst Lies (same_Some (place_at item) place at) (item-lies name item found)
 
   -- ---- what fields show
 
@@ -234,10 +232,6 @@ module _ (laid : Laid) (is : IsLayout false laid) where
   behind-in : (entries : List Placed) → Each (λ (placed : Placed). EntryIn placed.entry) entries → BehindIn (behind entries)
   behind-in [] each = (All-nil (IsField long), tt)
   behind-in (placed ∷ entries) each = with-entry-in placed.entry (behind entries) each.0 (behind-in entries each.1)
-
-unless-is : (fault : Option Fault) (value tables : List ScreenTable) → unless fault value ≡ Ok tables → value ≡ tables
-unless-is None value tables is = cc
-unless-is (Some fault) value tables is = absurd cc
 
 -- the screens that were read are tables of a program with the storage of the layout
 pub screens-tables : (text : List ℕ) (tokens : List Token) (laid : Laid) (tables : List ScreenTable) → IsLayout false laid → screens_of text tokens laid ≡ Ok tables

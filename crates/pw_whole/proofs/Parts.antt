@@ -13,6 +13,7 @@ use Rattle.pw_deck.specs.Parts.{no_parts, has_requester, has_server, requester_s
 use Rattle.pw_deck.specs.declared.deck.Deck.{Deck}
 use Rattle.pw_deck.specs.declared.parts.Parts.{Parts}
 use Rattle.pw_deck.proofs.Good.{ArePartsGood, parts_good}
+use Rattle.pw_deck.proofs.Decks.{both_ok}
 use Rattle.pw_event.specs.declared.event.Event.{Event}
 use Rattle.pw_event.specs.declared.script.FailLine.{FailLine}
 use Rattle.pw_lines.specs.Lines.{lines}
@@ -157,13 +158,9 @@ all-sources parts line (section ∷ rest) known =
     go next more all true = more
     go next more all false = all (line + length (lines section))
 
-both-ok : {A : Type 0} (P Q : A → Type 0) (r : Result A Fault) → IfOk r P → IfOk r Q → IfOk r (λ a. P a × Q a)
-both-ok P Q (Ok a) p q = (p, q)
-both-ok P Q (Err fault) p q = tt
-
 parts-sources : (bytes : List ℕ) → IfOk (parts_of bytes) (λ parts. ArePartsGood parts × AreSources parts)
 parts-sources bytes =
-    both-ok ArePartsGood AreSources (parts_of bytes) (parts_good bytes)
+    both_ok ArePartsGood AreSources (parts_of bytes) (parts_good bytes)
     (and_then (front_read (front bytes)) _ Any AreSources (any_of (front_read (front bytes)))
     (λ done h. all-sources no_parts (1 + length (lines (front bytes))) (sections bytes) (record { requesters = tt; servers = tt; counted = (tt, tt) })))
 
@@ -213,7 +210,7 @@ told-is objects first second counted =
     and_then (known objects first second) _ Any (IsTold objects first second) (any_of (known objects first second))
     (λ done h. and_then (startable objects) _ Any (IsTold objects first second) (any_of (startable objects))
     (λ done h. and_then (fails_of objects first second) _ (λ (fails : List FailLine). Each (IsNamed tables) fails × (length fails ≤ most_fail_lines)) (IsTold objects first second)
-    (both-ok (Each (IsNamed tables)) (λ (fails : List FailLine). length fails ≤ most_fail_lines) (fails_of objects first second) (fails-there tables objects.fail) (few-fails tables objects.fail counted.0))
+    (both_ok (Each (IsNamed tables)) (λ (fails : List FailLine). length fails ≤ most_fail_lines) (fails_of objects first second) (fails-there tables objects.fail) (few-fails tables objects.fail counted.0))
     (λ fails both. and_then (log_of objects first second) _ (λ (events : List Event). length events ≤ most_log_lines) (IsTold objects first second)
     (few-entries (tables_of objects first second (rule_of (log_version objects.log))) objects.log counted.1)
     (λ events log. record { fails = fails; events = events; there = both.0; few = both.1; log = log; is = refl }))))

@@ -3,6 +3,7 @@ use Rattle.std.proofs.Common.{◌≡◌, ℕ, ◌+◌, ◌≤◌, Bool, true, fa
 use Rattle.std.specs.Prelude.{◌&&◌, nat_le, take_while, option_and_then, if◌then◌else◌, ◌==◌}
 use Rattle.std.specs.List.{list_all}
 use Rattle.std.proofs.lemmas.Bool.Decides.{nat_tests}
+use Rattle.pw_data.proofs.Held.{held-text}
 use Rattle.pw_picture.specs.declared.picture.Picture.{Picture}
 use Rattle.pw_picture.specs.declared.picture.Picture.TheVariants.{Text, Number, Edited}
 use Rattle.pw_picture.specs.Symbols.{longest, begins_with, bounded, symbols_behind}
@@ -21,14 +22,11 @@ decimals-valid : (signed : Bool) (whole : ℕ) (places : Option ℕ) (p : Pictur
 decimals-valid signed whole None p is = absurd cc
 decimals-valid signed whole (Some n) p is = number-valid signed whole n (nat_le 1 (whole + n) && nat_le (whole + n) 18) p refl is
 
-run-some : (n : ℕ) (all : Bool) → (nat_le 1 n && all) ≡ true → 1 ≤ n
-run-some n all run = grind (arith, nat_tests)
-
 kind-valid : (symbols : List ℕ) (run edited : Bool) (p : Picture) → length symbols ≤ longest → is_run_of 88 symbols ≡ run → is_edited symbols ≡ edited
     → (if run then Some (Text (length symbols)) else if edited then Some (Edited symbols) else number_of symbols) ≡ Some p → IsPicture p
 kind-valid symbols true edited p short run shows is =
     let same : Text (length symbols) ≡ p = cc in
-    subst IsPicture same (run-some (length symbols) (list_all (λ s. s == 88) symbols) run, short)
+    subst IsPicture same (held-text (length symbols) (list_all (λ s. s == 88) symbols) run, short)
 kind-valid symbols false true p short run shows is = let same : Edited symbols ≡ p = cc in subst IsPicture same (short, shows)
 kind-valid symbols false false p short run shows is =
     let body : List ℕ = after 83 symbols in

@@ -1,6 +1,6 @@
 -- The same of a deck that was read and compiled.
-use Rattle.std.proofs.Common.{◌≡◌, ℕ, ◌≤◌, List, length, All, Result, Ok, sym, ap, ◌∙◌, subst}
-use Rattle.pw_base.specs.declared.fault.Fault.{Fault}
+use Rattle.std.proofs.Common.{◌≡◌, ℕ, ◌≤◌, List, length, All, Ok, sym, ap, ◌∙◌, subst}
+use Rattle.pw_base.proofs.Plain.{same-ok}
 use Rattle.pw_code.specs.Limits.{most_fail_lines}
 use Rattle.pw_code.specs.Valid.{IsValid}
 use Rattle.pw_code.specs.declared.lock.LockRule.TheVariants.{ReadersShare}
@@ -15,9 +15,6 @@ use Rattle.pw_whole.specs.Whole.{compiled, trees_of}
 use Rattle.pw_whole.specs.declared.deck.Deck.{Deck}
 use Rattle.pw_whole.proofs.Whole.{system-valid, system-behaves, system-same, lines-few, lines-there}
 
-one-deck : (r : Result trees.Deck Fault) (a b : trees.Deck) → r ≡ Ok a → r ≡ Ok b → a ≡ b
-one-deck r a b left right = cc
-
 module _ (bytes : List ℕ) (deck : trees.Deck) where
   pub read-valid : (whole : Deck) → deck_of bytes ≡ Ok deck → whole ≡ compiled deck → IsSmall whole.system → IsValid whole.system
   read-valid whole is made small =
@@ -31,7 +28,7 @@ module _ (bytes : List ℕ) (deck : trees.Deck) where
       → behaviour whole.script.lines whole.system ≡ tree.behaviour ReadersShare (trees_of other)
   read-same other whole is also made small =
       ap (λ (w : Deck). behaviour w.script.lines w.system) made ∙ system-same bytes deck is (subst (λ (w : Deck). IsSmall w.system) made small)
-      ∙ ap (λ (d : trees.Deck). tree.behaviour ReadersShare (trees_of d)) (one-deck (deck_of bytes) deck other is also)
+      ∙ ap (λ (d : trees.Deck). tree.behaviour ReadersShare (trees_of d)) (same-ok (deck_of bytes) deck other is also)
 
   pub read-few : (whole : Deck) → deck_of bytes ≡ Ok deck → whole ≡ compiled deck → length whole.script.lines ≤ most_fail_lines
   read-few whole is made = subst (λ (w : Deck). length w.script.lines ≤ most_fail_lines) (sym made) (lines-few bytes deck is)

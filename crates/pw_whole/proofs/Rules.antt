@@ -1,7 +1,6 @@
 -- The system of a deck without a fault under either rule of locking.
-use Rattle.std.proofs.Common.{◌≡◌, ◌≤◌, List, ℕ, All, Ok, length}
-use Rattle.std.proofs.lemmas.List.Elements.{All-cons, All-head, All-nil, All-tail}
-use Rattle.std.proofs.Common.{[], ◌∷◌}
+use Rattle.std.proofs.Common.{◌≡◌, ◌≤◌, List, ℕ, Ok, length}
+use Rattle.std.proofs.lemmas.List.Elements.{All-weaker}
 use Rattle.pw_code.specs.Limits.{most_log_lines}
 use Rattle.pw_code.specs.Valid.{IsClass, IsTerminal, IsValid}
 use Rattle.pw_code.specs.declared.lock.LockRule.{LockRule}
@@ -23,10 +22,6 @@ use Rattle.pw_whole.specs.Short.{IsSmall}
 use Rattle.pw_whole.specs.Whole.{compiled, trees_of}
 use Rattle.pw_whole.proofs.Whole.{deck-fits, deck-reads, deck-sound, known, tables}
 
-all-kept : {A : Type 0} (P Q : A → Type 0) → ((x : A) → P x → Q x) → (xs : List A) → All P xs → All Q xs
-all-kept P Q keep [] all = All-nil Q
-all-kept P Q keep (x ∷ xs) all = All-cons Q x xs (keep x (All-head P x xs all)) (all-kept P Q keep xs (All-tail P x xs all))
-
 module _ (rule : LockRule) (bytes : List ℕ) (deck : Deck) (is : deck_of bytes ≡ Ok deck) where
   -- the system under the rule
   abbrev ruled : System
@@ -38,7 +33,7 @@ module _ (rule : LockRule) (bytes : List ℕ) (deck : Deck) (is : deck_of bytes 
       let told = tables bytes deck is ruled.screens small.screens in
       let old : System = decks.with_code deck ruled.programs ruled.servers ruled.screens in
       record {
-        terminals = all-kept (IsTerminal old) (IsTerminal ruled)
+        terminals = All-weaker (IsTerminal old) (IsTerminal ruled)
             (λ (one : TermInfo) there. record {
               pair = there.pair;
               program = there.program;
@@ -46,7 +41,7 @@ module _ (rule : LockRule) (bytes : List ℕ) (deck : Deck) (is : deck_of bytes 
               few = there.few;
               keys = there.keys;
             }) ruled.terminals told.terminals;
-        classes = all-kept (IsClass old) (IsClass ruled)
+        classes = All-weaker (IsClass old) (IsClass ruled)
             (λ (one : ClassInfo) there. record { server = there.server; some = there.some; few = there.few })
             ruled.classes told.classes;
         names = record {

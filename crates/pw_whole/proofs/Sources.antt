@@ -1,5 +1,5 @@
 -- What is known of a requester and of a server that were read.
-use Rattle.std.proofs.Common.{◌≡◌, ℕ, Bool, true, false, List, [], length, map, All, Result, Ok, Err, refl, sym, ap, ◌∙◌, subst}
+use Rattle.std.proofs.Common.{◌≡◌, ℕ, Bool, true, false, List, [], length, map, All, Result, Ok, refl, sym, ap, ◌∙◌, subst}
 use Rattle.pw_base.specs.declared.fault.Fault.{Fault}
 use Rattle.pw_words.specs.Words.{Word}
 use Rattle.pw_text.specs.Tokens.{tokens_of}
@@ -26,7 +26,7 @@ use Rattle.pw_source.proofs.sides.Pieces.{procedure-forms, procedure-written}
 use Rattle.pw_sound.specs.Premises.{IsRead, IsShownOf}
 use Rattle.pw_source.specs.Written.{IsWritten}
 use Rattle.pw_sound.proofs.Showing.{screens-show}
-use Rattle.pw_sound.proofs.numbers.Sources.{requester-read, server-read}
+use Rattle.pw_sound.proofs.numbers.Sources.{requester-read, server-read, pass}
 use Rattle.pw_whole.proofs.Fields.{screens-tables}
 
 -- the statements of paragraphs are those of a side, written as their reader sees to, with literals that are numbers
@@ -45,10 +45,6 @@ pub record IsReadRequester (one : Requester) : Type 0 where
 pub record IsReadServer (one : Server) : Type 0 where
   pub laid : IsLayout true one.layout
   pub statements : AreStatements true one.procedure.paragraphs
-
-pass : {A B : Type 0} (Q : Type 0) (o : Result A Fault) (k : A → Result B Fault) (y : B) → passes.◌>>=◌ o k ≡ Ok y → ((x : A) → o ≡ Ok x → k x ≡ Ok y → Q) → Q
-pass Q (Ok x) k y e h = h x refl e
-pass Q (Err fault) k y e h = absurd cc
 
 ok-same : {A : Type 0} (a b : A) → (r : Result A Fault) → r ≡ Ok a → r ≡ Ok b → a ≡ b
 ok-same a b r left right = cc

@@ -1,7 +1,7 @@
 -- Every deck without a fault is sound and fits, so its system is valid and behaves as its trees do.
 use Rattle.std.proofs.Common.{◌≡◌, ℕ, ◌+◌, ◌<◌, ◌≤◌, ◌^◌, false, true, List, [], ◌∷◌, map, length, All, Result, Ok, IfOk, refl, sym, ap, ◌∙◌, subst, arith}
 use Rattle.std.proofs.lemmas.List.{length-map}
-use Rattle.std.proofs.lemmas.List.Elements.{All-nil, All-cons, All-head, All-tail}
+use Rattle.std.proofs.lemmas.List.Elements.{All-head, All-tail}
 use Rattle.pw_base.specs.declared.fault.Fault.{Fault}
 use Rattle.pw_code.specs.Limits.{most_fail_lines}
 use Rattle.pw_code.specs.Valid.{IsTerminal, IsClass, IsDeckFile, IsValid}
@@ -41,7 +41,7 @@ use Rattle.pw_sound.proofs.Decks.{codes-long}
 use Rattle.pw_sound.proofs.Fitting.{program-fits}
 use Rattle.pw_sound.proofs.Given.{using-items}
 use Rattle.pw_sound.proofs.Serves.{behaves-same}
-use Rattle.pw_sound.proofs.Valid.{valid-is}
+use Rattle.pw_sound.proofs.Valid.{valid-is, each-all}
 use Rattle.pw_source.proofs.Behaviours.{sound-behaviour}
 use Rattle.pw_whole.specs.Named.{IsNamed}
 use Rattle.pw_whole.specs.Short.{IsShort, IsSmall}
@@ -50,16 +50,9 @@ use Rattle.pw_whole.proofs.Lines.{line-like}
 use Rattle.pw_whole.proofs.Parts.{IsReadDeck, deck-known}
 use Rattle.pw_whole.proofs.Sources.{IsReadRequester, IsReadServer}
 use Rattle.pw_source.proofs.storage.Places.{each-map}
+use Rattle.pw_source.proofs.storage.Initial.{all-each}
 
 -- ---- lists
-
-all-each : {A : Type 0} (P : A → Type 0) (xs : List A) → All P xs → Each P xs
-all-each P [] all = tt
-all-each P (x ∷ xs) all = (All-head P x xs all, all-each P xs (All-tail P x xs all))
-
-each-all : {A : Type 0} (P : A → Type 0) (xs : List A) → Each P xs → All P xs
-each-all P [] each = All-nil P
-each-all P (x ∷ xs) each = All-cons P x xs each.0 (each-all P xs each.1)
 
 -- what follows of two facts on each
 each-made : {A B : Type 0} (f : A → B) (P Q : A → Type 0) (R : B → Type 0) → ((x : A) → P x → Q x → R (f x)) → (xs : List A) → Each P xs → Each Q xs → Each R (map f xs)

@@ -3,13 +3,10 @@ use Rattle.std.proofs.Common.{◌≡◌, ℕ, Bool, true, false, not, cond, List
 use Rattle.std.specs.Prelude.{◌||◌, Vec, bytes_eq}
 use Rattle.std.specs.List.{list_any}
 use Rattle.std.specs.Cmp.Lexicographic.{bytes_decides}
-use Rattle.std.proofs.lemmas.Bool.Decides.{same_from_decides}
 use Rattle.std.proofs.lemmas.List.{map-append}
+use Rattle.pw_base.proofs.Plain.{bytes_eq-swap}
 use Rattle.pw_words.specs.Words.{Word}
 use Rattle.pw_words.specs.Names.{has_name, with_name}
-
-bytes_eq-swap : (xs ys : List ℕ) → bytes_eq xs ys ≡ bytes_eq ys xs
-bytes_eq-swap xs ys = same_from_decides (bytes_eq xs ys) (bytes_eq ys xs) (bytes_decides xs ys) (λ h. sym ((bytes_decides ys xs).0 h), λ is. (bytes_decides ys xs).1 (sym is))
 
 pub any-map : {A B : Type 0} (test : B → Bool) (f : A → B) (xs : List A) → list_any test (map f xs) ≡ list_any (λ x. test (f x)) xs
 any-map test f [] = refl

@@ -2,6 +2,7 @@
 use Rattle.std.proofs.Common.{◌≡◌, ◌≢◌, ℕ, suc, ◌+◌, ⊎_elim, Bool, true, false, not, ◌&&◌, ◌==◌, List, [], ◌∷◌, ◌++◌, Option, Some, None, if◌then◌else◌, refl, ap, sym, subst, subst₂, ◌∙◌, arith}
 use Rattle.std.specs.Str.{bytes_eq}
 use Rattle.std.proofs.lemmas.Bool.{cases_eq, cases_Bool, true≢false, eq-eqb, ne_eqb, cond-true, and_from, or_left, or_right}
+use Rattle.pw_base.proofs.Plain.{bytes_eq-same}
 use Rattle.pw_laws.proofs.AttemptOps.{IsLocked, locked-before, locked-cases, locked-last}
 use Rattle.pw_laws.proofs.AttemptFiles.{attempt-fine}
 use Rattle.pw_laws.proofs.alone.Alone.{AloneOk, Mid, alone-moved}
@@ -18,7 +19,7 @@ use Rattle.pw_event.specs.declared.event.Event.TheVariants.{File, Reply}
 use Rattle.pw_files.specs.Records.{record_at}
 use Rattle.pw_laws.proofs.Holding.{LocksOk, operation-locks}
 use Rattle.pw_laws.proofs.records.Entries.{Stays, operation-stays, send-stays}
-use Rattle.pw_laws.proofs.records.Images.{restored-file, same_bytes}
+use Rattle.pw_laws.proofs.records.Images.{restored-file}
 use Rattle.pw_laws.proofs.records.RecordsOk.{RecordsOk}
 use Rattle.pw_laws.proofs.seeing.Plays.{operation_leaves, played_leaves}
 use Rattle.pw_laws.specs.locking.Held.{locks_key}
@@ -99,7 +100,7 @@ module _ (sys : Behaviour) (b : IsBehaviour sys) (s : State) (i : Inv sys s) (ok
         ap (has_image t call.file key_is) (cond-true (changes_records n (s.files call.file) call && not (has_image t call.file key_is s.before)) (image_before (sys.key_length call.file) (s.files call.file) t call ∷ s.before) s.before adds)
         ∙ or_left (t == t && (call.file == call.file && bytes_eq key_is key_is)) (has_image t call.file key_is s.before)
         (and_from (t == t) (call.file == call.file && bytes_eq key_is key_is) (eq-eqb t t refl)
-        (and_from (call.file == call.file) (bytes_eq key_is key_is) (eq-eqb call.file call.file refl) (same_bytes key_is))))
+        (and_from (call.file == call.file) (bytes_eq key_is key_is) (eq-eqb call.file call.file refl) (bytes_eq-same key_is))))
         (cases_Bool (has_image t call.file key_is s.before))
 
     -- what the operation sees in the open files stands in the attempt's

@@ -1,5 +1,5 @@
 -- Each entry keeps that running attempts are alone on the committed records: the entries of terminals.
-use Rattle.std.proofs.Common.{◌≡◌, ℕ, suc, ◌+◌, ◌<◌, inl, inr, ⊎_elim, Bool, List, [], ◌∷◌, ◌++◌, Option, Some, None, refl, ap, sym, subst, subst₂, ◌∙◌, arith}
+use Rattle.std.proofs.Common.{◌≡◌, ℕ, suc, ◌+◌, ◌<◌, inl, inr, ⊎_elim, List, [], ◌∷◌, ◌++◌, Option, Some, None, refl, ap, sym, subst, subst₂, ◌∙◌, arith}
 use Rattle.std.specs.List.{AllByRecursion}
 use Rattle.std.proofs.lemmas.Bool.{cases_eq}
 use Rattle.pw_laws.proofs.AttemptOps.{IsLocked}
@@ -20,10 +20,10 @@ use Rattle.pw_onecopy.specs.Behaviour.{Behaviour}
 use Rattle.pw_onecopy.specs.IsBehaviour.{IsBehaviour, IsPath}
 use Rattle.pw_onecopy.specs.Path.{PathAnswer, Entry, Shown, entries_on, unit_number}
 use Rattle.pw_onecopy.specs.Update.{upd}
-use Rattle.pw_paired.specs.Raising.{lacks_one, settled_mode, settle_mode}
+use Rattle.pw_paired.specs.Raising.{lacks_one, settle_mode}
 use Rattle.pw_paired.specs.Serial.{answers_at_begin, one_more}
 use Rattle.pw_paired.specs.Server.{LegalTake}
-use Rattle.pw_paired.specs.State.{Alone, BeforeImage, Class, Down, Gone, Mode, OpenUnit, Paired, Raising, State, Term}
+use Rattle.pw_paired.specs.State.{BeforeImage, Class, Mode, OpenUnit, State, Term}
 use Rattle.pw_paired.specs.Step.{effect}
 use Rattle.pw_paired.specs.Terminal.{CanStep, IsIdle, LegalBegin, LegalKey, LegalSend, LegalShow, unit_with_attempt, begun_path, message_of, next_verb, path_of}
 use Rattle.pw_paired.specs.Units.{attempt_of, committed_files, restarts_of, restored_files}
@@ -32,6 +32,7 @@ use Rattle.pw_laws.proofs.requests.Classes.{found_free}
 use Rattle.pw_laws.proofs.requests.Requests.{Place, Nowhere, InLine, AtWork, Placed, Sent, sent_of, one_place, placed_sent, placed_sent_other, placed_taken, placed_taken_other, place_in_line, place_inside}
 use Rattle.pw_laws.proofs.terms.KeepsChecks.{can_path, path_ok-is, running}
 use Rattle.pw_laws.proofs.terms.TermOk.{IsWorking}
+use Rattle.pw_laws.proofs.frontier.Standing.{raised-works}
 
 -- a place without a request is nowhere
 no-place : (place : Place) → ((sent : Sent) → sent_of place ≡ Some sent → ⊥) → place ≡ Nowhere
@@ -46,18 +47,11 @@ idle-unlocked units t f key (lock ∷ locks) held idle (inl own) =
     absurd (cc (ap attempt_of (sym (ap units own.0) ∙ held.0.is_open), held.0.runs, idle))
 idle-unlocked units t f key (lock ∷ locks) held idle (inr more) = idle-unlocked units t f key locks held.1 idle more
 
-raised-was : (mode : Mode) (lacks : Bool) → IsWorking (settled_mode mode lacks) → IsWorking mode
-raised-was Alone lacks works = tt
-raised-was Raising lacks works = tt
-raised-was Paired lacks works = tt
-raised-was Down lacks works = works
-raised-was Gone lacks works = works
-
 -- a pair that works behind an entry that settles it worked before
 pub settled-was : (sys : Behaviour) (s : State) (p j : ℕ) → IsWorking ((settle_mode sys p s).modes (sys.pair_of j)) → IsWorking (s.modes (sys.pair_of j))
 settled-was sys s p j =
     upd_elim s.modes p _ (sys.pair_of j) (λ (m : Mode). IsWorking m → IsWorking (s.modes (sys.pair_of j)))
-    (λ same works. subst (λ (q : ℕ). IsWorking (s.modes q)) (sym same) (raised-was (s.modes p) (lacks_one sys p s) works)) (λ _ works. works)
+    (λ same works. subst (λ (q : ℕ). IsWorking (s.modes q)) (sym same) (raised-works (s.modes p) (lacks_one sys p s) works)) (λ _ works. works)
 
 module _ (sys : Behaviour) (b : IsBehaviour sys) (s : State) (i : Inv sys s) (ok : RecordsOk sys s.files s.before s.locks) (lk : LocksOk s.units s.locks) (answers : ℕ → ℕ) (all : AllAlone sys b s answers) where
   -- where a terminal has no request out, its attempt's place is nowhere

@@ -3,6 +3,7 @@ use Rattle.std.proofs.Common.{◌≡◌, ◌≢◌, ℕ, inl, inr, ⊎_elim, Boo
 use Rattle.std.specs.List.{AllByRecursion}
 use Rattle.std.specs.Str.{bytes_eq}
 use Rattle.std.proofs.lemmas.Bool.{cases_Bool, true≢false, false≢true, eqb-true, ne_eqb, and_from, and_left}
+use Rattle.pw_base.proofs.Plain.{and-first, and-second, drop-false}
 use Rattle.pw_laws.proofs.AttemptOps.{IsLocked}
 use Rattle.pw_code.specs.declared.lock.LockMode.{LockMode}
 use Rattle.pw_code.specs.declared.lock.LockMode.TheVariants.{Shared, Exclusive}
@@ -16,7 +17,7 @@ use Rattle.pw_locks.specs.declared.span.Span.{Span}
 use Rattle.pw_locks.specs.declared.span.Span.TheVariants.{Point, After}
 use Rattle.pw_paired.specs.State.{BeforeImage}
 use Rattle.pw_paired.specs.Units.{has_image}
-use Rattle.pw_laws.proofs.Tests.{and-first, and-second, any-filter, any-more, drop-false}
+use Rattle.pw_laws.proofs.Tests.{any-filter, any-more}
 
 -- a lock of the terminal on the key
 record Own (t f : ℕ) (key : List ℕ) (lock : Lock) : Type 0 where

@@ -4,6 +4,7 @@ use Rattle.std.specs.List.{list_any, AllByRecursion}
 use Rattle.std.specs.Str.{bytes_eq}
 use Rattle.std.proofs.lemmas.Slice.Eq.{bytes_eq-Decides}
 use Rattle.std.proofs.lemmas.Bool.{cases_eq, cases_Bool, true≢false, false≢true, eq-eqb, eqb-true, cond-false, and_from, or_parts}
+use Rattle.pw_base.proofs.Plain.{bytes_eq-same}
 use Rattle.pw_files.specs.Records.{IsContent, IsFile, record_at}
 use Rattle.pw_laws.proofs.seeing.Seeing.{put_back-there, put_back-others, put_back_is_file}
 use Rattle.pw_onecopy.proofs.Update.{upd_elim, upd-same, upd-other}
@@ -32,14 +33,10 @@ cases_bytes a b =
     let decides = bytes_eq-Decides a b in
     ⊎_elim (λ is. inl (decides.0 is, is)) (λ is. inr (λ same. true≢false (sym (decides.1 same) ∙ is), is)) (cases_Bool (bytes_eq a b))
 
--- bytes are equal to themselves
-pub same_bytes : (a : List ℕ) → bytes_eq a a ≡ true
-same_bytes a = ⊎_elim (λ same. same.1) (λ differ. absurd (differ.0 refl)) (cases_bytes a a)
-
 -- an image of a key, and one of another
 is_at-own : (file : ℕ) (key : List ℕ) (image : BeforeImage) → image.file ≡ file → image.key ≡ key → is_at file key image ≡ true
 is_at-own file key image same same_key =
-    and_from (image.file == file) (bytes_eq image.key key) (eq-eqb image.file file same) (subst (λ (k : List ℕ). bytes_eq image.key k ≡ true) same_key (same_bytes image.key))
+    and_from (image.file == file) (bytes_eq image.key key) (eq-eqb image.file file same) (subst (λ (k : List ℕ). bytes_eq image.key k ≡ true) same_key (bytes_eq-same image.key))
 
 is_at-parts : (file : ℕ) (key : List ℕ) (image : BeforeImage) → is_at file key image ≡ true → (image.file ≡ file) × (image.key ≡ key)
 is_at-parts file key image is =

@@ -4,6 +4,7 @@ use Rattle.std.specs.List.{list_any, AllByRecursion}
 use Rattle.std.specs.Prelude.{All, Contains}
 use Rattle.std.specs.Str.{bytes_eq}
 use Rattle.std.proofs.lemmas.Bool.{cases_eq, cases_Bool, true≢false, false≢true, eq-eqb, eqb-true, ne_eqb, and_from, and_left, and_right, cond-true, cond-false}
+use Rattle.pw_base.proofs.Plain.{and-first, and-second, bytes_eq-same}
 use Rattle.pw_code.specs.Locks.{mode_of}
 use Rattle.pw_code.specs.declared.file.FileCall.{FileCall}
 use Rattle.pw_code.specs.declared.file.FileOp.{FileOp}
@@ -15,7 +16,7 @@ use Rattle.pw_code.specs.declared.lock.LockRule.TheVariants.{ReadersShare, AllEx
 use Rattle.pw_code.specs.declared.unit.Unit as unit
 use Rattle.pw_files.proofs.Lookups.{record_at-found}
 use Rattle.pw_files.specs.Records.{IsContent, IsFile, record_at}
-use Rattle.pw_laws.proofs.records.Images.{ImageOk, cases_bytes, is_at, restored-at, same_bytes, stands_at, stands_at-there}
+use Rattle.pw_laws.proofs.records.Images.{ImageOk, cases_bytes, is_at, restored-at, stands_at, stands_at-there}
 use Rattle.pw_laws.proofs.records.RecordsOk.{RecordsOk}
 use Rattle.pw_laws.proofs.seeing.Seeing.{effect_leaves, operated_is_file}
 use Rattle.pw_laws.specs.locking.Held.{is_exclusive, is_point, locks_key}
@@ -31,7 +32,7 @@ use Rattle.pw_onecopy.specs.Operation.{answer_of, changes_records, is_change, ke
 use Rattle.pw_onecopy.specs.Update.{upd}
 use Rattle.pw_paired.specs.State.{BeforeImage}
 use Rattle.pw_paired.specs.Units.{has_image, restored_files}
-use Rattle.pw_laws.proofs.Tests.{and-first, and-second, any-before, any-last, any-more}
+use Rattle.pw_laws.proofs.Tests.{any-before, any-last, any-more}
 
 -- a change locks its key exclusively
 change-point : (n : ℕ) (records : List (List ℕ)) (op : FileOp) (call : FileCall) → is_change op ≡ true → span_of n records op call ≡ Point (key_of n op call)
@@ -67,7 +68,7 @@ exclusive-conflict u file key o held differ is =
     (and_from (overlap (Point key) held.span) true (point-overlaps held.span span_is) refl))
   where
     point-overlaps : (span : Span) → is_point key span ≡ true → overlap (Point key) span ≡ true
-    point-overlaps (Point own) is = ⊎_elim (λ same. subst (λ (k : List ℕ). bytes_eq key k ≡ true) (sym same.0) (same_bytes key)) (λ other. absurd (true≢false (sym is ∙ other.1))) (cases_bytes own key)
+    point-overlaps (Point own) is = ⊎_elim (λ same. subst (λ (k : List ℕ). bytes_eq key k ≡ true) (sym same.0) (bytes_eq-same key)) (λ other. absurd (true≢false (sym is ∙ other.1))) (cases_bytes own key)
     point-overlaps (After low high) is = absurd (false≢true is)
 
 -- nobody holds a conflicting lock
@@ -125,7 +126,7 @@ module _ (sys : Behaviour) (files : ℕ → List (List ℕ)) (before : List Befo
   own-kept : is_change call.op ≡ true → locks_key u.terminal call.file own_key lock ≡ true
   own-kept change = subst (λ (l : Lock). locks_key u.terminal call.file own_key l ≡ true) (sym (change-lock change))
       (and_from (u.terminal == u.terminal) (call.file == call.file && (bytes_eq own_key own_key && true)) (eq-eqb u.terminal u.terminal refl)
-      (and_from (call.file == call.file) (bytes_eq own_key own_key && true) (eq-eqb call.file call.file refl) (and_from (bytes_eq own_key own_key) true (same_bytes own_key) refl)))
+      (and_from (call.file == call.file) (bytes_eq own_key own_key && true) (eq-eqb call.file call.file refl) (and_from (bytes_eq own_key own_key) true (bytes_eq-same own_key) refl)))
 
   -- no other terminal has an image of the key that is changed
   alone : is_change call.op ≡ true → (o : ℕ) → has_image o call.file own_key before ≡ true → u.terminal ≡ o
@@ -223,7 +224,7 @@ module _ (sys : Behaviour) (files : ℕ → List (List ℕ)) (before : List Befo
       at-own : (b : Bool) → adds ≡ b → stands_at (images_after b) call.file own_key (record_at n (files_after call.file) own_key) ≡ stands_at before call.file own_key (record_at n (files call.file) own_key)
       at-own true is = ap (λ (x : Option (List ℕ)). stands_at before call.file own_key x)
           (cond-true (is_at call.file own_key image) image.content (record_at n (files_after call.file) own_key)
-          (and_from (call.file == call.file) (bytes_eq own_key own_key) (eq-eqb call.file call.file refl) (same_bytes own_key)))
+          (and_from (call.file == call.file) (bytes_eq own_key own_key) (eq-eqb call.file call.file refl) (bytes_eq-same own_key)))
       at-own false is =
           ⊎_elim
           (λ change. stands_at-there before call.file own_key _ _

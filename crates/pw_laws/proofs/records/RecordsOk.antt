@@ -3,6 +3,7 @@ use Rattle.std.proofs.Common.{◌≡◌, ℕ, Bool, true, false, not, ◌&&◌, 
 use Rattle.std.specs.List.{list_any, AllByRecursion}
 use Rattle.std.specs.Str.{bytes_eq}
 use Rattle.std.proofs.lemmas.Bool.{false≢true, eqb-true, and_from}
+use Rattle.pw_base.proofs.Plain.{and-first, and-second}
 use Rattle.pw_files.specs.Records.{IsFile}
 use Rattle.pw_laws.proofs.records.Images.{ImageOk}
 use Rattle.pw_laws.specs.locking.Held.{has_key_lock, is_exclusive, is_point, locks_key}
@@ -10,7 +11,7 @@ use Rattle.pw_locks.specs.declared.lock.Lock.{Lock}
 use Rattle.pw_onecopy.specs.Behaviour.{Behaviour}
 use Rattle.pw_paired.specs.State.{BeforeImage}
 use Rattle.pw_paired.specs.Units.{has_image}
-use Rattle.pw_laws.proofs.Tests.{and-first, and-second, any-filter, any-more, any-some}
+use Rattle.pw_laws.proofs.Tests.{any-filter, any-more, any-some}
 
 -- files are files; images have contents of their keys, each under an exclusive lock of its unit; and no key has images of two units
 pub record RecordsOk (sys : Behaviour) (files : ℕ → List (List ℕ)) (before : List BeforeImage) (locks : List Lock) : Type 0 where

@@ -2,6 +2,7 @@
 use Rattle.std.proofs.Common.{◌≡◌, ℕ, ⊎_elim, Bool, true, false, not, ◌&&◌, ◌||◌, ◌==◌, List, [], ◌∷◌, filter, Option, refl, ap, sym, ◌∙◌}
 use Rattle.std.specs.List.{list_any}
 use Rattle.std.proofs.lemmas.Bool.{cases_Bool, true≢false, false≢true, eq-eqb, and_from, or_left, or_right}
+use Rattle.pw_base.proofs.Plain.{and-first, and-second}
 use Rattle.pw_files.specs.Records.{IsFile, record_at}
 use Rattle.pw_laws.proofs.records.Images.{ImageOk, is_at, in-two-parts, restored-at, restored-file, stands_at}
 use Rattle.pw_laws.proofs.records.RecordsOk.{RecordsOk, image-kept, lock-kept}
@@ -9,7 +10,7 @@ use Rattle.pw_locks.specs.declared.lock.Lock.{Lock}
 use Rattle.pw_onecopy.specs.Behaviour.{Behaviour}
 use Rattle.pw_paired.specs.State.{BeforeImage}
 use Rattle.pw_paired.specs.Units.{has_image, restored_files}
-use Rattle.pw_laws.proofs.Tests.{all-filter, and-first, and-second}
+use Rattle.pw_laws.proofs.Tests.{all-filter}
 
 -- an image of a key is that of its terminal
 pub any-image : (test : ℕ → Bool) (f : ℕ) (key : List ℕ) (images : List BeforeImage) → list_any (λ image. is_at f key image && test image.terminal) images ≡ true

@@ -422,7 +422,7 @@ filtered_from : (p : Request → Bool) (xs : List Request) (request : Request) (
 filtered_from p [] request others some = absurd (cc some)
 filtered_from p (x ∷ xs) request others some = (x, xs, refl)
 
-freed_from : (whose : ℕ → Bool) (busy : Option Job) (job : Job) → freed_of whose busy ≡ Some job → busy ≡ Some job
+pub freed_from : (whose : ℕ → Bool) (busy : Option Job) (job : Job) → freed_of whose busy ≡ Some job → busy ≡ Some job
 freed_from whose None job = λ works. works
 freed_from whose (Some one) job =
     cond_both (whose one.request.terminal) None (Some one)

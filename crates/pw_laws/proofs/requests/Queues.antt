@@ -7,6 +7,7 @@ use Rattle.std.proofs.lemmas.Bool.Decides.{nat_tests}
 use Rattle.std.proofs.lemmas.List.Folds.{list_any-append}
 use Rattle.std.proofs.lemmas.List.Quantifiers.{position-Some}
 use Rattle.std.proofs.lemmas.List.Sums.{position_or_len_is}
+use Rattle.pw_base.proofs.Plain.{or-false, is_none-None}
 use Rattle.pw_class.specs.Queue as queue
 use Rattle.pw_class.specs.declared.request.Request.{Request}
 use Rattle.pw_class.specs.declared.request.Taken.TheVariants.{Got}
@@ -66,10 +67,6 @@ push-requests busy k (suc n) =
     ap (λ xs. request_in (busy k) ∷ xs)
     (push-requests busy (k + 1) n
     ∙ ap (λ p. requests_from busy (k + 1) n ++ request_in (busy p) ∷ []) (let same : n + (k + 1) ≡ suc n + k = omega arith in same))
-
-or-false : (b : Bool) → (b || false) ≡ b
-or-false true = refl
-or-false false = refl
 
 any-requests : (test : Option Request → Bool) (busy : ℕ → Option Job) (k n : ℕ)
     → any_below n (λ i. test (request_in (busy (i + k)))) ≡ list_any test (requests_from busy k n)
@@ -203,10 +200,6 @@ got-of (first ∷ rest) (Some place) i request is =
     let number : i ≡ place + 1 = cc is in
     ((place, refl, number), (rest, ap (λ r. r ∷ rest) one))
 
-none-of : (work : Option Job) → is_none work ≡ true → work ≡ None
-none-of None is = refl
-none-of (Some job) is = absurd (cc is)
-
 -- what the queue gives is the first request, for the first free process
 pub got-queue : (n i : ℕ) (class : Class) (request : Request) → queue.taken (queue_of n class) ≡ Got i request
     → (first_free class.busy 1 n ≡ Some i) × ((others : List Request) × (class.waiting ≡ request ∷ others))
@@ -220,7 +213,7 @@ got-queue n i class request is =
     let low : place < n = omega (arith, found.0, all) in
     let at : get_or requests place None ≡ request_in (class.busy i) = get-requests class.busy 1 n place i low (omega (arith, number)) in (
       free-is class.busy 1 n i (omega (arith, number)) (omega (arith, low, number))
-          (none-of (class.busy i) (sym (none-request (class.busy i)) ∙ (ap is_none (sym at) ∙ found.1)))
+          (is_none-None (class.busy i) (sym (none-request (class.busy i)) ∙ (ap is_none (sym at) ∙ found.1)))
           (λ j from below.
           sym (none-request (class.busy j))
           ∙ (ap is_none (sym (get-requests class.busy 1 n (j - 1) j (omega (arith, below, number, low)) (omega (arith, from))))

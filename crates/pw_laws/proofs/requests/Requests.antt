@@ -1,5 +1,5 @@
 -- A terminal has at most one request: in line at a class, or at work at one of its processes.
-use Rattle.std.proofs.Common.{◌≡◌, ◌≢◌, ℕ, zero, suc, ◌+◌, ◌-◌, ◌<◌, ◌≤◌, Bool, true, false, List, [], ◌∷◌, ◌++◌, Option, Some, None, inl, inr, refl, sym, ap, subst, ◌∙◌, arith}
+use Rattle.std.proofs.Common.{◌≡◌, ◌≢◌, ℕ, ◌+◌, ◌-◌, ◌<◌, ◌≤◌, Bool, true, false, List, [], ◌∷◌, ◌++◌, Option, Some, None, inl, inr, refl, sym, ap, subst, ◌∙◌, arith}
 use Rattle.std.specs.Prelude.{◌==◌, if◌then◌else◌}
 use Rattle.std.specs.List.{list_any}
 use Rattle.std.proofs.lemmas.Bool.{cases_eq, cases_lt, cond_both, eqb-false, or_parts}
@@ -14,6 +14,7 @@ use Rattle.pw_paired.specs.State.{Class, Job, State}
 use Rattle.pw_paired.specs.Terminal.{with_request}
 use Rattle.pw_paired.specs.Units.{any_below, has_request, is_out, request_in, without_requests}
 use Rattle.pw_laws.proofs.requests.Classes.{NoneOf, IsOneOf, NotFor, IsOneAtWork, IsWithout, HasInLine, HasAtWork, none_not, the_one, not_for, new_job, ClassKept, class_same, has_sent, sent_kept, has_taken, taken_kept, has_job, without_job, process_kept, without_cancelled, cancelled_kept, IsProcess, InBounds, bounds_starting, bounds_sent, found_free, bounds_taken, bounds_at_process, bounds_cancelled}
+use Rattle.pw_laws.proofs.terms.KeepsPairs.{any_below-false}
 
 -- where a terminal's request is
 pub data Place : Type 0 where
@@ -251,15 +252,6 @@ placed_starting t = λ c. record { line = tt; work = λ i. tt }
 
 -- Whether a request is out.
 
-none_below : (n : ℕ) (has : ℕ → Bool) → any_below n has ≡ false → (i : ℕ) → i < n → has i ≡ false
-none_below zero has none i low = absurd (omega arith)
-none_below (suc n) has none i low =
-    let parts : (any_below n has ≡ false) × (has n ≡ false) = or_parts (any_below n has) (has n) none in
-    elim (cases_eq i n) [
-      | inl is ↦ ap has is ∙ parts.1
-      | inr ne ↦ none_below n has parts.0 i (omega (arith, ne))
-    ]
-
 none_in : (t : ℕ) (xs : List Request) → list_any (λ request. request.terminal == t) xs ≡ false → NoneOf t xs
 none_in t [] none = tt
 none_in t (x ∷ xs) none =
@@ -280,7 +272,7 @@ none_at_work {sys = sys} {classes = classes} t c i bounds none = by_work ((class
         let process : IsProcess sys c i = bounds.work c i job is in
         let number : i - 1 + 1 ≡ i = omega (arith, process.from_one) in
         let low : i - 1 < sys.processes c = omega (arith, process.from_one, process.within) in
-        let idle = none_below (sys.processes c) (λ j. works_for t (request_in ((classes c).busy (j + 1)))) none (i - 1) low in
+        let idle = any_below-false (sys.processes c) (λ j. works_for t (request_in ((classes c).busy (j + 1)))) none (i - 1) low in
         not_works t ((classes c).busy i) (subst (λ (k : ℕ). works_for t (request_in ((classes c).busy k)) ≡ false) number idle)
 
 -- a terminal whose request is not out is nowhere
@@ -290,7 +282,7 @@ placed_inside {t = t} sys state bounds inside c = elim (cases_lt c sys.classes) 
   | inl there ↦
       let parts = or_parts (list_any (λ request. request.terminal == t) (state.classes c).waiting)
       (any_below (sys.processes c) (λ i. works_for t (request_in ((state.classes c).busy (i + 1)))))
-      (none_below sys.classes (λ d. has_request t (sys.processes d) (state.classes d)) inside c there) in
+      (any_below-false sys.classes (λ d. has_request t (sys.processes d) (state.classes d)) inside c there) in
       record { line = none_in t (state.classes c).waiting parts.0; work = λ i. none_at_work t c i bounds parts.1 }
   | inr beyond ↦ record {
     line = no_line beyond (state.classes c).waiting refl;

@@ -1,9 +1,11 @@
 -- A run has at most as many failures as the script has lines.
-use Rattle.std.proofs.Common.{◌≡◌, ℕ, zero, suc, ◌+◌, ◌-◌, ◌<◌, ◌≤◌, Bool, true, false, not, ◌||◌, ◌&&◌, cond, List, [], ◌∷◌, ◌++◌, length, filter, Option, Some, None, refl, ap, sym, subst, length-append, arith, ◌∙◌}
-use Rattle.std.specs.List.{list_any, slice_get}
+use Rattle.std.proofs.Common.{◌≡◌, ℕ, ◌+◌, ◌-◌, ◌<◌, ◌≤◌, Bool, true, false, not, ◌||◌, ◌&&◌, cond, List, [], ◌∷◌, ◌++◌, length, filter, Option, Some, None, refl, ap, sym, subst, length-append, arith, ◌∙◌}
+use Rattle.std.specs.List.{list_any}
 use Rattle.std.proofs.lemmas.Bool.{eq-eqb, true≢false}
 use Rattle.std.proofs.lemmas.List.Elements.{filter-append}
 use Rattle.std.proofs.lemmas.List.Folds.{list_any-append}
+use Rattle.std.proofs.lemmas.Option.{slice_get_within}
+use Rattle.pw_base.proofs.Plain.{and-second}
 use Rattle.pw_event.specs.Due.{Numbered, due_line, entries_of, if_due, is_fail_of, is_same_owner, next_failure, owner_of, owner_of_line}
 use Rattle.pw_event.specs.declared.event.Event.{Event}
 use Rattle.pw_event.specs.declared.event.Event.TheVariants as event
@@ -12,7 +14,6 @@ use Rattle.pw_onecopy.specs.Behaviour.{Behaviour}
 use Rattle.pw_paired.specs.State.{State}
 use Rattle.pw_paired.specs.Step.{IsRun, Legal, after, effect, line_due}
 use Rattle.pw_laws.proofs.PairSteps.{found-line}
-use Rattle.pw_laws.proofs.Tests.{and-second}
 use Rattle.pw_laws.proofs.induction.Runs.{holds-behind}
 use Rattle.pw_laws.proofs.restarts.Counting.{count-all, count-less, count-more, count_below, weight}
 use Rattle.pw_laws.specs.serial.Guarded.{is_fail}
@@ -59,12 +60,6 @@ fails-line log entry j is =
     by true = refl
     by false = refl
 
--- a place with an element lies in the list
-get-below : {X : Type 0} (xs : List X) (i : ℕ) (x : X) → slice_get xs i ≡ Some x → i < length xs
-get-below [] i x is = absurd (cc is)
-get-below (first ∷ xs) zero x is = omega arith
-get-below (first ∷ xs) (suc i) x is = let low = get-below xs i x is in omega (arith, low)
-
 -- the line that is due is one of the script, and has no FAIL entry
 due-left : (sys : Behaviour) (log : List Event) (owner : Owner) (k : ℕ) → due_line sys.pair_of sys.script log owner ≡ Some k
     → (1 ≤ k) × (k - 1 < length sys.script) × (is_left log (k - 1) ≡ true)
@@ -78,7 +73,7 @@ due-left sys log owner k due = by (next_failure sys.script log owner) refl due
         let low = found.1 in
         subst (λ (n : ℕ). (1 ≤ n) × (n - 1 < length sys.script) × (is_left log (n - 1) ≡ true)) (number-is _ some) (
           low,
-          get-below sys.script (l.number - 1) l.line found.2,
+          slice_get_within sys.script (l.number - 1) l.line found.2,
           subst (λ (n : ℕ). not (list_any (is_fail_of n) log) ≡ true) (let back : l.number ≡ l.number - 1 + 1 = omega (arith, low) in back)
               (and-second (is_same_owner (owner_of_line l.line) owner) (not (list_any (is_fail_of l.number) log)) found.0),
         )

@@ -253,7 +253,7 @@ module _ (sys : Behaviour) (b : IsBehaviour sys) (t : ℕ) (known : t < sys.term
       })
 
 -- the log of the state behind a log
-log-from : (sys : Behaviour) (s : State) (log : List Event) → (after_from sys s log).log ≡ s.log ++ log
+pub log-from : (sys : Behaviour) (s : State) (log : List Event) → (after_from sys s log).log ≡ s.log ++ log
 log-from sys s [] = sym (append-nil s.log)
 log-from sys s (entry ∷ log) = log-from sys (effect sys s entry) log ∙ append_assoc s.log (entry ∷ []) log
 

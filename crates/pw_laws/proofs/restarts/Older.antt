@@ -2,6 +2,7 @@
 use Rattle.std.proofs.Common.{◌≡◌, ◌≢◌, ℕ, ◌+◌, ◌<◌, ◌≤◌, ⊎_elim, Bool, true, false, not, ◌&&◌, ◌==◌, Option, Some, None, refl, ap, sym, subst, arith, ◌∙◌}
 use Rattle.std.specs.Prelude.{nat_lt}
 use Rattle.std.proofs.lemmas.Bool.{and_from, and_left, and_right, cases_Bool, cases_eq, eq-eqb, eqb-true, le-ltb, lt-ltb, ltb-true, true≢false}
+use Rattle.pw_base.proofs.Plain.{and-first, and-second}
 use Rattle.pw_event.specs.declared.event.Cause.{Cause}
 use Rattle.pw_event.specs.declared.event.Cause.TheVariants as cause
 use Rattle.pw_event.specs.declared.event.Event.TheVariants as event
@@ -11,7 +12,6 @@ use Rattle.pw_paired.specs.Failure.{LegalRestart, awaited_after, with_restart}
 use Rattle.pw_paired.specs.State.{Awaited, OpenUnit, State}
 use Rattle.pw_paired.specs.Step.{effect}
 use Rattle.pw_laws.proofs.Births.{BirthsOk}
-use Rattle.pw_laws.proofs.Tests.{and-first, and-second}
 use Rattle.pw_laws.proofs.kept.Kept.{Inv}
 use Rattle.pw_laws.proofs.restarts.Counting.{count_below, count-less, count-more, count-room}
 use Rattle.pw_laws.proofs.steps.Awaiting.{UnitMoves, ends, opens, runs, stays}

@@ -1,6 +1,7 @@
 -- A failure gives a unit one restart more: by a cause that is pending, or by its lost primary.
 use Rattle.std.proofs.Common.{◌≡◌, ℕ, ◌==◌, Bool, true, false, is_some, is_none, List, Option, Some, None, if◌then◌else◌, refl, ap, sym, subst, ◌∙◌}
 use Rattle.std.proofs.lemmas.Bool.{eqb-true, true≢false}
+use Rattle.pw_base.proofs.Plain.{and-first, and-second}
 use Rattle.pw_event.specs.declared.event.Cause.{Cause}
 use Rattle.pw_event.specs.declared.event.Cause.TheVariants as cause
 use Rattle.pw_event.specs.declared.event.Event.{Event}
@@ -14,7 +15,6 @@ use Rattle.pw_paired.specs.Raising.{settled_mode}
 use Rattle.pw_paired.specs.State.{Alone, BackupCopy, Down, Gone, LastEnded, Mode, OpenUnit, Paired, Raising, State, Term}
 use Rattle.pw_paired.specs.Step.{Fits, change, effect}
 use Rattle.pw_paired.specs.Units.{attempt_of, only}
-use Rattle.pw_laws.proofs.Tests.{and-first, and-second}
 use Rattle.pw_laws.proofs.induction.Failed.{end-cases}
 use Rattle.pw_laws.proofs.induction.Served.{file-is, reply-cases}
 use Rattle.pw_laws.specs.serial.Guarded.{is_fail}

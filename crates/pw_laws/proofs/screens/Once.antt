@@ -2,9 +2,9 @@
 use Rattle.std.proofs.Common.{◌≡◌, ◌⊎◌, inl, inr, ⊎_elim, Bool, true, false, ◌&&◌, ◌||◌, ◌==◌, List, [], ◌∷◌, ◌++◌, if◌then◌else◌, refl, ap, sym, subst, ◌∙◌}
 use Rattle.std.specs.List.{list_any}
 use Rattle.std.proofs.lemmas.Bool.{and_from, cases_Bool, cond-false, cond-true, eq-eqb, eqb-true, false≢true, or_left, or_parts, or_right, true≢false}
+use Rattle.pw_base.proofs.Plain.{and-first, and-second}
 use Rattle.pw_onecopy.specs.declared.refresh.Refresh.{Refresh}
 use Rattle.pw_onecopy.specs.Refreshes.{once, others, same_number}
-use Rattle.pw_laws.proofs.Tests.{and-first, and-second}
 
 -- a refresh of this number is in the list
 abbrev pub has_number : Refresh → List Refresh → Bool

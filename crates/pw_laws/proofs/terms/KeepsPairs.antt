@@ -11,6 +11,7 @@ use Rattle.pw_paired.specs.Failure.{lose_backup, do_fail_tcp, do_takeover, lose_
 use Rattle.pw_paired.specs.Raising.{LegalApplied, LegalRaise, do_applied, do_raise, is_takeover, lacks_one, settled_mode, with_message, settle_mode, with_end}
 use Rattle.pw_paired.specs.State.{Mode, Alone, Raising, Paired, Down, Gone, LastEnded, BackupCopy, Message, Start, End, Copy, OpenUnit, State, Term}
 use Rattle.pw_paired.specs.Units.{any_below}
+use Rattle.pw_paired.proofs.SingleEntries.{resumed-start}
 use Rattle.pw_laws.proofs.induction.Failed.{fail-cases}
 use Rattle.pw_laws.proofs.terms.TermOk.{messages-work, IsRest, MemoryOk, IsWorking, HasMessages, RestingPath, PathOf, PathOk, TermOk, TermsOk, TermOk-same}
 
@@ -234,10 +235,6 @@ end-or-start sys t last m ended is ok = by_test (ended.number == m.unit) refl
     by_test true test = by_end m.end refl (eqb-true ended.number m.unit test)
     by_test false test = start
 
--- memory of a unit that is not ended goes on at its start path
-start-of-open : (m : BackupCopy) (ended : LastEnded) → ended.number ≢ m.unit → resumed_path m ended ≡ m.start
-start-of-open m ended differ = cond-false (ended.number == m.unit) (unwrap_or m.end m.start) m.start (ne_eqb ended.number m.unit differ)
-
 -- a live terminal is taken over
 term-taken : {sys : Behaviour} {t last : ℕ} {unit : Option OpenUnit} {memory : Option BackupCopy} {flight : Option Message} {term : Term}
     (p : ℕ) (ended : LastEnded) → ended.number ≡ last → term.ending ≡ None
@@ -265,7 +262,7 @@ term-taken {sys = sys} {t = t} {last = last} {unit = unit} {memory = memory} {fl
         let same = ok.memory_unit m u is_memory is_open in
         let next = (ok.unit_ok u is_open).number in
         let number = memory_ok.number in
-        subst (λ (path : List PathAnswer). RestingPath sys t (last + 1) (last + 1) path) (sym (start-of-open m ended (λ e. absurd (omega (arith, e, is, same, next)))))
+        subst (λ (path : List PathAnswer). RestingPath sys t (last + 1) (last + 1) path) (sym (resumed-start m ended (λ e. absurd (omega (arith, e, is, same, next)))))
         (record { rest = memory_ok.start; low_is = omega (arith, number, same, next); high_is = omega (arith, number, same, next) })
     by_runs m is_memory u is_open (Some start) runs untaken =
         let test : (m.unit == m.unit && true) ≡ true = and_from (m.unit == m.unit) true (eq-eqb m.unit m.unit refl) refl in

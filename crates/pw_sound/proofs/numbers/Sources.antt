@@ -154,7 +154,7 @@ module _ (P : Token → Type 0) where
 
 -- ---- passes
 
-pass : {A B : Type 0} (Q : Type 0) (o : Result A Fault) (k : A → Result B Fault) (y : B) → passes.◌>>=◌ o k ≡ Ok y → ((x : A) → o ≡ Ok x → k x ≡ Ok y → Q) → Q
+pub pass : {A B : Type 0} (Q : Type 0) (o : Result A Fault) (k : A → Result B Fault) (y : B) → passes.◌>>=◌ o k ≡ Ok y → ((x : A) → o ≡ Ok x → k x ≡ Ok y → Q) → Q
 pass Q (Ok x) k y e h = h x refl e
 pass Q (Err fault) k y e h = absurd cc
 

@@ -10,7 +10,7 @@ use Rattle.pw_data.specs.Entries.{has_occurs, picture_at}
 use Rattle.pw_data.specs.Tree.{Forest, Empty, Node}
 use Rattle.pw_data.specs.Laid.{times, size_in, table_of, item_of, items_in, initial}
 use Rattle.pw_data.specs.Store.{Cell, joined, occurrences, cell_by, cells_in, first_of, entry_count}
-use Rattle.pw_data.proofs.Cells.{Good, AllIn, cells_of, length-initial, length-occurrences, length-cells_of}
+use Rattle.pw_data.proofs.Cells.{Good, AllIn, cells_of, length-initial, length-occurrences, length-cells_of, joined-append}
 use Rattle.pw_operands.specs.Resolved.{Each}
 use Rattle.pw_source.proofs.storage.Shaped.{Shaped, ShapedEntry}
 use Rattle.pw_source.proofs.storage.Places.{inner-alone, counts, each-append, each-map}
@@ -25,10 +25,6 @@ pub record Cut (cells : List Cell) (before long : ℕ) : Type 0 where
   pub is : cells ≡ front ++ (run ++ back)
   pub starts : length (joined front) ≡ before
   pub reaches : length (joined run) ≡ long
-
-joined-append : (xs ys : List Cell) → joined (xs ++ ys) ≡ joined xs ++ joined ys
-joined-append [] ys = refl
-joined-append (x ∷ xs) ys = ap (λ cs. x.chars ++ cs) (joined-append xs ys) ∙ sym (append_assoc x.chars (joined xs) (joined ys))
 
 cut-behind : (cells more : List Cell) (a n : ℕ) → Cut cells a n → Cut (cells ++ more) a n
 cut-behind cells more a n c = record {

@@ -122,7 +122,7 @@ skips items place [] rest = ap (λ p. cells_from items p zero rest) (omega arith
 skips items place (c ∷ cs) rest =
     skips items (place + 1) cs rest ∙ ap (λ p. cells_from items p zero rest) (omega arith)
 
-take-front : (xs ys : List ℕ) (n : ℕ) → length xs ≡ n → take n (xs ++ ys) ≡ xs
+pub take-front : (xs ys : List ℕ) (n : ℕ) → length xs ≡ n → take n (xs ++ ys) ≡ xs
 take-front xs ys n e = ap (λ k. take k (xs ++ ys)) (sym e) ∙ take-append_seam xs ys
 
 one-cell : (items : List Item) (place : ℕ) (cell : Cell) (own rest : List ℕ) (cells : List Cell) → cell.chars ≡ own → 1 ≤ length own

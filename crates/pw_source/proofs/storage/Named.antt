@@ -8,6 +8,7 @@ use Rattle.pw_base.specs.declared.fault_code.FaultCode.TheVariants.{BadDataEntry
 use Rattle.pw_base.specs.declared.fault.Fault.{Fault}
 use Rattle.pw_base.specs.First.{least}
 use Rattle.pw_base.proofs.FirstFault.{least-none}
+use Rattle.pw_base.proofs.Plain.{append-none}
 use Rattle.pw_words.specs.Words.{Word, same_word}
 use Rattle.pw_words.specs.Texts.{server_words, requester_words}
 use Rattle.pw_text.specs.declared.token.Token.{Token}
@@ -24,7 +25,6 @@ use Rattle.pw_data.specs.Laid.{times, size_in, table_of, items_in, too_large}
 use Rattle.pw_data.specs.Layouts.{Laid, laid, no_table, entries_in, faults_in, first_fault, layout_of}
 use Rattle.pw_data.proofs.Cells.{AllIn, All-forest}
 use Rattle.pw_data.proofs.Cells as cells
-use Rattle.pw_data.proofs.Stores.{no_faults}
 use Rattle.pw_operands.specs.Resolved.{Each}
 use Rattle.pw_operands.specs.declared.register.Register.TheVariants.{TerminationStatus, RestartCounter, FileStatus}
 use Rattle.pw_operands.specs.Variables.{register_of}
@@ -50,14 +50,14 @@ plain-part server text part none =
     let pictures : List Fault = only_if (list_any (is_bad_picture text) part.tokens) line BadPicture in
     let wrong : Bool = not (has_form reading) || is_bad_entry text (entry_of server text part) in
     let names : List Fault = only_if (has_table_name server text (option_and_then (proper_name text) reading.name)) line NameTwice in
-    let others = (no_faults pictures (only_if wrong line BadDataEntry ++ names) none).1 in
-    let plain = no_fault-here (has_table_name server text (option_and_then (proper_name text) reading.name)) line NameTwice (no_faults (only_if wrong line BadDataEntry) names others).1 in
+    let others = (append-none pictures (only_if wrong line BadDataEntry ++ names) none).1 in
+    let plain = no_fault-here (has_table_name server text (option_and_then (proper_name text) reading.name)) line NameTwice (append-none (only_if wrong line BadDataEntry) names others).1 in
     plain-by server text part.linked line reading reading.level plain
 
 plain-parts : (server : Bool) (text : List ℕ) (parts : List Part) → faults_of_parts server text parts ≡ [] → cells.Each (PlainEntry server text) (entries_of server text parts)
 plain-parts server text [] none = tt
 plain-parts server text (part ∷ parts) none =
-    let both = no_faults (part_faults server text part) (faults_of_parts server text parts) none in
+    let both = append-none (part_faults server text part) (faults_of_parts server text parts) none in
     Each-append (PlainEntry server text) (option_to_list (entry_of server text part)) (entries_of server text parts) (plain-part server text part both.0) (plain-parts server text parts both.1)
 
 plain-entries : (text : List ℕ) (tokens : List Token) (server : Bool) (layout : Laid) → layout_of text tokens server ≡ Ok layout
@@ -66,7 +66,7 @@ plain-entries text tokens server layout is =
     let entries : List Entry = entries_in text tokens server in
     let both = unless-ok (first_fault text tokens server) (laid text entries) layout is in
     let none : faults_in text tokens server ≡ [] = least-none (faults_in text tokens server) (none-first (least None (faults_in text tokens server)) (too_large 0 (forest entries)) both.0) in
-    plain-parts server text (parts_of text tokens) (no_faults (faults_of_parts server text (parts_of text tokens)) (tree_faults true false (forest entries) ++ clashes text [] entries) none).0
+    plain-parts server text (parts_of text tokens) (append-none (faults_of_parts server text (parts_of text tokens)) (tree_faults true false (forest entries) ++ clashes text [] entries) none).0
 
 -- ---- items
 

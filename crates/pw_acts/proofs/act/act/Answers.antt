@@ -1,11 +1,12 @@
 -- Each arm does what its kind of entry says.
 use Rattle.std.proofs.Common.{refl, rules, subst}
+use Rattle.pw_base.proofs.Plain.{on-ok}
 use Rattle.pw_acts.specs.Can.{Can}
 use Rattle.pw_keep.specs.Calls.{members_in}
 use Rattle.pw_keep.specs.Keeps.{kept_in}
 use Rattle.pw_kept.specs.Changes.{kept_applied, kept_end, kept_fail_server, kept_fail_tcp, kept_raise, kept_restart, kept_takeover}
 use Rattle.pw_kept.specs.Entered.{entered_again, entered_back, entered_begin, entered_check_copy, entered_check_end, entered_check_start, entered_commit, entered_file, entered_key, entered_reply, entered_send, entered_show, entered_take, tcp_of}
-use Rattle.pw_acts.proofs.Changing.{acted, on-ok}
+use Rattle.pw_acts.proofs.Changing.{acted}
 use Rattle.pw_acts.proofs.Seated.{placed-known}
 use Rattle.pw_acts.proofs.act.act.Goals as goal
 

@@ -1,11 +1,11 @@
 use Rattle.std.proofs.Common.{◌≡◌, ◌∙◌, true, sym, ap, subst}
+use Rattle.pw_base.proofs.Plain.{on-ok}
 use Rattle.pw_keep.specs.Keeps.{kept_in}
 use Rattle.pw_kept.specs.Changes.{kept_applied}
 use Rattle.pw_kept.specs.Kept.{Kept}
 use Rattle.pw_pair.specs.Pairs.{SeenPair, passes, seat_of}
 use Rattle.pw_pair.specs.Seats.{is_built, is_waiting}
 use Rattle.pw_acts.proofs.Carrying.{built-already, built-applied, built-then}
-use Rattle.pw_acts.proofs.Changing.{on-ok}
 use Rattle.pw_acts.proofs.checkpoints.build.Goals as goal
 
 pub returns-then-is_waiting-clause-built : goal.returns-then-is_waiting-clause-built

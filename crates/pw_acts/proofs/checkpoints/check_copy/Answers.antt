@@ -1,4 +1,5 @@
 use Rattle.std.proofs.Common.{◌∙◌, ap, rules}
+use Rattle.pw_base.proofs.Plain.{on-ok}
 use Rattle.pw_code.specs.declared.system.System.{System}
 use Rattle.pw_keep.specs.Keeps.{kept_in}
 use Rattle.pw_kept.specs.Changes.{kept_check}
@@ -6,7 +7,7 @@ use Rattle.pw_kept.specs.Entered.{copied, entered_check_copy, tcp_of}
 use Rattle.pw_kept.specs.Kept.{Kept}
 use Rattle.pw_pair.specs.declared.message.CheckKind.TheVariants as kind
 use Rattle.pw_acts.proofs.Carrying.{may-send, sent-is}
-use Rattle.pw_acts.proofs.Changing.{changed-alike, on-ok}
+use Rattle.pw_acts.proofs.Changing.{changed-alike}
 use Rattle.pw_acts.proofs.checkpoints.check_copy.Goals as goal
 
 pub check-requires-clause-kind : goal.check-requires-clause-kind

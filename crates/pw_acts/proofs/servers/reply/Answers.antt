@@ -1,11 +1,12 @@
 use Rattle.std.proofs.Common.{◌≡◌, ◌∙◌, ℕ, Option, Some, None, refl, sym, ap, subst, rules}
+use Rattle.pw_base.proofs.Plain.{on-ok}
 use Rattle.pw_code.specs.declared.verb.Answer.TheVariants as answer
 use Rattle.pw_keep.specs.Keeps.{kept_in}
 use Rattle.pw_kept.specs.Changes.{free_process}
 use Rattle.pw_kept.specs.Entered.{answer_terminal, entered_reply}
 use Rattle.pw_kept.specs.Kept.{Kept}
 use Rattle.pw_acts.specs.Can.{CanReply}
-use Rattle.pw_acts.proofs.Changing.{changed-alike, on-ok}
+use Rattle.pw_acts.proofs.Changing.{changed-alike}
 use Rattle.pw_acts.proofs.servers.reply.Goals as goal
 
 pub reply_with-requires-clause-can : goal.reply_with-requires-clause-can

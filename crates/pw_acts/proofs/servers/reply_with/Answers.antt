@@ -1,4 +1,5 @@
 use Rattle.std.proofs.Common.{◌∙◌, ℕ, Option, Some, None, sym, ap, subst, rules}
+use Rattle.pw_base.proofs.Plain.{on-ok}
 use Rattle.pw_code.specs.declared.context.Context.{Context}
 use Rattle.pw_code.specs.declared.verb.Answer.TheVariants as answer
 use Rattle.pw_keep.specs.Keeps.{kept_in}
@@ -8,7 +9,7 @@ use Rattle.pw_kept.specs.Kept.{Kept}
 use Rattle.pw_tmf.specs.Units.{IsRunning}
 use Rattle.pw_acts.specs.Verbs.{one_send}
 use Rattle.pw_acts.proofs.Answering.{one-send-is, replied-last, replied-on}
-use Rattle.pw_acts.proofs.Changing.{changed-alike, on-ok}
+use Rattle.pw_acts.proofs.Changing.{changed-alike}
 use Rattle.pw_acts.proofs.servers.reply_with.Goals as goal
 
 pub end_send-requires-clause-runs : goal.end_send-requires-clause-runs

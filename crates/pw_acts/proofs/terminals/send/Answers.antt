@@ -1,12 +1,13 @@
 use Rattle.std.proofs.Common.{List, ℕ, Option, ◌∙◌, ap}
 use Rattle.std.specs.Option.{option_map}
+use Rattle.pw_base.proofs.Plain.{on-ok}
 use Rattle.pw_code.specs.declared.context.Context.{Context}
 use Rattle.pw_keep.specs.Keeps.{kept_in}
 use Rattle.pw_kept.specs.Changes.{kept_send}
 use Rattle.pw_kept.specs.Entered.{entered_send}
 use Rattle.pw_kept.specs.Kept.{Kept}
 use Rattle.pw_acts.proofs.Answering.{sent-is}
-use Rattle.pw_acts.proofs.Changing.{changed-alike, on-ok}
+use Rattle.pw_acts.proofs.Changing.{changed-alike}
 use Rattle.pw_acts.proofs.terminals.send.Goals as goal
 
 pub returns-clause-ok : goal.returns-clause-ok

@@ -1,8 +1,9 @@
+use Rattle.pw_base.proofs.Plain.{on-ok}
 use Rattle.pw_keep.specs.Keeps.{kept_in}
 use Rattle.pw_kept.specs.Changes.{kept_commit}
 use Rattle.pw_kept.specs.Entered.{entered_commit}
 use Rattle.pw_acts.proofs.Answering.{commit-is}
-use Rattle.pw_acts.proofs.Changing.{changed-alike, on-ok}
+use Rattle.pw_acts.proofs.Changing.{changed-alike}
 use Rattle.pw_acts.proofs.units.commit.Goals as goal
 
 pub returns-clause-ok : goal.returns-clause-ok

@@ -1,19 +1,14 @@
-use Rattle.std.proofs.Common.{◌≡◌, ◌∙◌, sym, ap, subst, ℕ, List, ◌++◌, ◌∷◌, [], refl, true, false}
+use Rattle.std.proofs.Common.{◌≡◌, ◌∙◌, sym, ap, subst, ℕ, List, ◌++◌, ◌∷◌, [], refl, false}
 use Rattle.std.specs.Ordering.{is_lt, is_eq}
 use Rattle.std.specs.declared.cmp.Ordering.{Ordering}
-use Rattle.std.specs.declared.cmp.Ordering.TheVariants.{Less, Equal, Greater}
+use Rattle.std.specs.declared.cmp.Ordering.TheVariants.{Equal, Greater}
+use Rattle.pw_base.proofs.Plain.{is_eq-Equal}
 use Rattle.pw_files.specs.Records.{compared}
 use Rattle.pw_blocks.specs.Packing.{unpacked, packed_all, from_key}
 use Rattle.pw_blocks.proofs.BlockLemmas.{first_step, first_end}
 use Rattle.pw_blocks.proofs.CutLemmas.{AllGreater, before_key, from_key_first, behind_above, cut_is, before_bytes, below_one, above_one, record_at_one, greater_is}
 use Rattle.pw_blocks.proofs.cut.cut_at.Goals as goal
 use Rattle.pw_blocks.proofs.cut.cut_at.Goals.{in-Some+else-is_eq, in_default}
-
--- what the test for equal says
-eq_is : (o : Ordering) → is_eq o ≡ true → o ≡ Equal
-eq_is Less h = cc
-eq_is Equal h = refl
-eq_is Greater h = cc
 
 -- what is equal is not less
 not_less : (o : Ordering) → o ≡ Equal → is_lt o ≡ false
@@ -29,7 +24,7 @@ returns-then-is_eq c =
     let front = before_key n key contents in
     let step = first_step (c.in-Some.content, c.in-Some.behind) (from_key n contents key) (c.in-Some.ensures.first (from_key n contents key) rest_is) in
     let whole : front.0 ++ content ∷ step.0 ≡ contents = ap (λ xs. front.0 ++ xs) (sym step.1) ∙ front.1 in
-    let equal : compared n key content ≡ Equal = sym c.compared.ensures ∙ eq_is c.compared.result (sym c.if-is_eq.ensures) in
+    let equal : compared n key content ≡ Equal = sym c.compared.ensures ∙ is_eq-Equal c.compared.result (sym c.if-is_eq.ensures) in
     cut_is n key c.args.bytes.now _ front.0 (content ∷ []) step.0 c.requires.block whole front.2
     (behind_above n key contents front.0 step.0 content c.requires.rises whole (not_less (compared n key content) equal))
     (before_bytes c.args.bytes.now c.sought-rest.result.now front.0 (from_key n contents key) (sym c.requires.block.whole ∙ ap packed_all (sym front.1)) rest_is)

@@ -1,9 +1,10 @@
 use Rattle.std.proofs.Common.{◌≡◌, ◌+◌, ◌<◌, length, sym, ap, ◌∙◌, arith}
 use Rattle.std.proofs.lemmas.Bool.{eqb-true}
+use Rattle.pw_base.proofs.Plain.{some_left}
 use Rattle.pw_text.specs.Cursor.{Left}
 use Rattle.pw_divisions.specs.Steps.{size_up_to}
 use Rattle.pw_divisions.specs.Divisions.{ends_text}
-use Rattle.pw_divisions.proofs.Texts.{size-ends, size-none, size-more, some_left, behind-shorter}
+use Rattle.pw_divisions.proofs.Texts.{size-ends, size-none, size-more, behind-shorter}
 use Rattle.pw_divisions.proofs.steps.text_size.Goals as goal
 
 pub returns-then-ends_text-clause-value : goal.returns-then-ends_text-clause-value

@@ -2,10 +2,11 @@ use Rattle.std.proofs.Common.{◌≡◌, ◌<◌, ◌∷◌, length, Result, sym
 use Rattle.std.proofs.lemmas.Bool.{eqb-true}
 use Rattle.pw_base.specs.declared.fault.Fault.{Fault}
 use Rattle.pw_base.specs.First.{Gives}
+use Rattle.pw_base.proofs.Plain.{some_left}
 use Rattle.pw_forms.specs.declared.statement.Procedure.{Procedure}
 use Rattle.pw_forms.specs.Pieces.{pieces_of}
 use Rattle.pw_forms.specs.Built.{outcome}
-use Rattle.pw_forms.proofs.Cuts.{some_left, placed_all-piece, no_pieces}
+use Rattle.pw_forms.proofs.Cuts.{placed_all-piece, no_pieces}
 use Rattle.pw_forms.proofs.read.procedure.Goals as goal
 
 pub loop-rest-preserved : goal.loop-rest-preserved

@@ -1,7 +1,8 @@
 use Rattle.std.proofs.Common.{◌+◌, ◌/◌, ◌%◌, ◌≤◌, length, sym, ap, ◌∙◌, arith}
 use Rattle.std.proofs.lemmas.List.{get_or_past}
+use Rattle.pw_terminal.proofs.Cells.{length-digits_of}
 use Rattle.pw_picture.specs.Stored.{digits_of}
-use Rattle.pw_machine.proofs.TextLemmas.{get_or-digits_of, length-digits_of}
+use Rattle.pw_machine.proofs.TextLemmas.{get_or-digits_of}
 use Rattle.pw_machine.proofs.texts.digit_of_value.Goals as goal
 
 pub returns-then-place-digits : goal.returns-then-place-digits

@@ -1,5 +1,5 @@
 use Rattle.std.proofs.Common.{sym}
-use Rattle.pw_machine.proofs.TextLemmas.{length-digits_of}
+use Rattle.pw_terminal.proofs.Cells.{length-digits_of}
 use Rattle.pw_machine.proofs.texts.text_len.Goals as goal
 
 pub returns-in-Register : goal.returns-in-Register

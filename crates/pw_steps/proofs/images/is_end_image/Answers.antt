@@ -2,11 +2,12 @@
 use Rattle.std.proofs.Common.{ap, sym, ◌∙◌, ◌+◌, ◌++◌, ◌∷◌, [], List, ℕ, Some, length, ◌≡◌}
 use Rattle.std.specs.List.{flat_map}
 use Rattle.std.specs.Option.{option_copied}
+use Rattle.std.proofs.lemmas.List.{nil_from_length}
 use Rattle.pw_code.specs.declared.context.Frame.{Frame}
 use Rattle.pw_exec.specs.Config.{frame_at}
 use Rattle.pw_image.specs.Image.{frame_bytes, image_of}
 use Rattle.pw_steps.specs.Images.{behind_end, head_bytes}
-use Rattle.pw_steps.proofs.Imaged.{all-is, bare-parts, empty-is, end-parts, ended, gone_on}
+use Rattle.pw_steps.proofs.Imaged.{all-is, bare-parts, end-parts, ended, gone_on}
 use Rattle.pw_steps.proofs.Left.{piece, two}
 use Rattle.pw_steps.proofs.images.is_end_image.Goals as goal
 
@@ -41,7 +42,7 @@ pub returns-in-None : goal.returns-in-None
 returns-in-None c =
     let x = c.args.context.now in
     let bytes = c.args.bytes.now in
-    let frames : x.frames ≡ [] = sym c.as_slice.ensures ∙ empty-is c.as_slice.result.now c.in-None.ensures.cases in
+    let frames : x.frames ≡ [] = sym c.as_slice.ensures ∙ nil_from_length c.as_slice.result.now c.in-None.ensures.cases in
     let l1 = option_copied c.behind_head-left.result in
     let l2 = option_copied c.behind_number-in-None.result in
     let last = option_copied c.behind_frame-in-None.result in

@@ -1,8 +1,9 @@
 use Rattle.std.proofs.Common.{◌+◌, length, sym, ap, ◌∙◌, arith}
 use Rattle.std.proofs.lemmas.Bool.{eqb-true}
 use Rattle.pw_base.specs.First.{unless}
+use Rattle.pw_base.proofs.Plain.{some_left}
 use Rattle.pw_text.specs.Tokens.{tokens_of}
-use Rattle.pw_text.proofs.Steps.{finish_first, finish_further, finish_last, some_left}
+use Rattle.pw_text.proofs.Steps.{finish_first, finish_further, finish_last}
 use Rattle.pw_text.proofs.Spans.{LieBetween-piece, lines-piece}
 use Rattle.pw_text.proofs.tokens.tokens.Goals as goal
 

@@ -1,8 +1,7 @@
 use Rattle.std.proofs.Common.{◌≡◌, ◌∙◌, ◌++◌, ◌∷◌, [], List, ap, sym, map}
 use Rattle.std.proofs.lemmas.Iterator.Adapters.{YieldsList-from_vec}
 use Rattle.std.proofs.lemmas.Iterator.Consumers.{YieldsList-end}
-use Rattle.std.proofs.lemmas.List.{map-id}
-use Rattle.pw_tmf.proofs.Starting.{map-push}
+use Rattle.std.proofs.lemmas.List.{map-id, map_push}
 use Rattle.pw_tmf.specs.declared.answer.Changed.{Changed}
 use Rattle.pw_trail.specs.Committing.{change_to}
 use Rattle.pw_trail.specs.declared.changes.Change.{Change}
@@ -17,7 +16,7 @@ loop-one-preserved c =
     c.in_ok-push.ensures.ok
     ∙ ap (λ (cs : List Change). cs ++ c.change_to.result ∷ []) c.loop-one.invariant
     ∙ ap (λ (x : Change). map change_to c.loop-one.yielded ++ x ∷ []) c.change_to.ensures
-    ∙ sym (map-push change_to c.loop-one.yielded one)
+    ∙ sym (map_push change_to c.loop-one.yielded one)
 
 pub returns : goal.returns
 returns c =

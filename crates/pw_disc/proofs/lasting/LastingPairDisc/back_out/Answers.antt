@@ -1,5 +1,6 @@
 use Rattle.std.proofs.Common.{◌∙◌, ap}
-use Rattle.pw_disc.proofs.LastingPairs.{backed-faults, call-keeps, on-ok}
+use Rattle.pw_base.proofs.Plain.{on-ok}
+use Rattle.pw_disc.proofs.LastingPairs.{backed-faults, call-keeps}
 use Rattle.pw_disc.specs.Pair.{state_of}
 use Rattle.pw_tmf.specs.Told.{Told}
 use Rattle.pw_disc.proofs.lasting.LastingPairDisc.back_out.Goals as goal

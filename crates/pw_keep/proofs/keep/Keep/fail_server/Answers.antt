@@ -1,4 +1,5 @@
 use Rattle.std.proofs.Common.{◌≡◌, ◌∙◌, ℕ, Option, Some, None, ap, sym}
+use Rattle.pw_base.proofs.Plain.{some_is}
 use Rattle.pw_class.specs.Queue.{at_process}
 use Rattle.pw_class.specs.declared.request.Request.{Request}
 use Rattle.pw_event.specs.declared.event.Cause.TheVariants.{Server}
@@ -6,14 +7,13 @@ use Rattle.pw_keep.specs.Calls.{pended}
 use Rattle.pw_keep.specs.Keeps.{kept_in, request_terminal}
 use Rattle.pw_kept.specs.Changes.{at_terminal, free_process, process_stops}
 use Rattle.pw_kept.specs.Kept.{Kept}
-use Rattle.pw_keep.proofs.Posts.{some-is}
 use Rattle.pw_keep.proofs.keep.Keep.fail_server.Goals as goal
 
 -- where the request is there, its terminal is the one for which the cause is pending
 stopped : (c i k t : ℕ) (kept : Kept) (o : Option Request) → request_terminal o ≡ Some t
     → at_terminal t (pended (Server k)) (free_process c i kept) ≡ process_stops c i k o kept
 stopped c i k t kept None e = absurd (cc e)
-stopped c i k t kept (Some r) e = ap (λ x. at_terminal x (pended (Server k)) (free_process c i kept)) (sym (some-is e))
+stopped c i k t kept (Some r) e = ap (λ x. at_terminal x (pended (Server k)) (free_process c i kept)) (sym (some_is e))
 
 pub returns-in-Some : goal.returns-in-Some
 returns-in-Some g c =

@@ -1,8 +1,8 @@
 use Rattle.std.proofs.Common.{◌≡◌, ◌∙◌, List, ap, map, subst, sym}
 use Rattle.std.specs.List.{list_any}
+use Rattle.pw_base.proofs.Plain.{on-ok}
 use Rattle.pw_keep.specs.Keeps.{kept_in}
 use Rattle.pw_monitor.proofs.Listing.{lost-grows}
-use Rattle.pw_monitor.proofs.Touching.{on-ok}
 use Rattle.pw_monitor.specs.States.{WorldState}
 use Rattle.pw_monitor.specs.Touched.{Grows, asks_at}
 use Rattle.pw_monitor_world.specs.Touches.{loses}

@@ -5,10 +5,11 @@ use Rattle.std.specs.List.{list_any}
 use Rattle.std.specs.Ordering.{nat_cmp}
 use Rattle.std.specs.Result.{is_ok}
 use Rattle.std.specs.Option.{is_some}
+use Rattle.pw_base.proofs.Plain.{is_some-None}
 use Rattle.pw_pair.specs.Places.{AreSeats}
 use Rattle.pw_pair.specs.Seats.{is_seat_of, new_seat}
 use Rattle.pw_pair.specs.declared.seat.Seat.{Seat}
-use Rattle.pw_pair.proofs.Adding.{added, none-there, same-places}
+use Rattle.pw_pair.proofs.Adding.{added, same-places}
 use Rattle.pw_pair.proofs.At.{has-terminal}
 use Rattle.pw_pair.proofs.seats.Seats.add.Goals as goal
 
@@ -33,7 +34,7 @@ invariant_of-self-in_err-insert c =
 pub invariant_of-self-2 : goal.invariant_of-self-2
 invariant_of-self-2 c =
     let few = c.if-place-ge-MAX_SEATS.false in
-    let absent = none-there (get nat_cmp c.self.inside.places c.args.terminal) (sym c.if-contains_key.ensures) in
+    let absent = is_some-None (get nat_cmp c.self.inside.places c.args.terminal) (sym c.if-contains_key.ensures) in
     added c.self.inside.seats.items c.push.new.self.items c.self.inside.places c.insert.new.self c.self.inside.lacking c.args.terminal c.len-place.result
     c.self.invariant absent (let e = c.len-place.ensures in let n = c.self.inside.seats.ok.0 in omega (arith, e, n)) c.in_ok-insert.ensures.updates.0 (omega (arith, few))
     (c.push.ensures.items ∙ ap (λ r. cond (is_ok r) (c.reserve.new.self.items ++ c.new.result ∷ []) c.reserve.new.self.items) c.unwrap.ensures
