@@ -3,6 +3,7 @@ pub mod AttemptOps
 pub mod BeginsOnce
 pub mod Births
 pub mod Deciding
+pub mod Failures
 pub mod Holding
 pub mod Lacking
 pub mod Losing

@@ -1,5 +1,5 @@
 -- A log in two parts: its runs and the states behind them.
-use Rattle.std.proofs.Common.{◌≡◌, List, [], ◌∷◌, ◌++◌, true, refl, sym, ◌∙◌}
+use Rattle.std.proofs.Common.{◌≡◌, List, [], ◌∷◌, ◌++◌, true, refl, sym, subst, ◌∙◌}
 use Rattle.std.specs.Prelude.{◌↔◌}
 use Rattle.std.proofs.lemmas.Bool.{true≢false}
 use Rattle.pw_event.specs.declared.event.Event.{Event}
@@ -21,6 +21,11 @@ IsRunFrom-append sys s (entry ∷ log) more run rest = (run.0, IsRunFrom-append 
 pub IsRunFrom-split : (sys : Behaviour) (s : State) (log more : List Event) → IsRunFrom sys s (log ++ more) → IsRunFrom sys s log × IsRunFrom sys (after_from sys s log) more
 IsRunFrom-split sys s [] more run = (tt, run)
 IsRunFrom-split sys s (entry ∷ log) more run = let rest = IsRunFrom-split sys (effect sys s entry) log more run.1 in ((run.0, rest.0), rest.1)
+
+-- so is a run that is written in two parts
+pub run-parts : (sys : Behaviour) (log before rest : List Event) → IsRun sys log → log ≡ before ++ rest
+    → IsRun sys before × IsRunFrom sys (after sys before) rest
+run-parts sys log before rest run is = IsRunFrom-split sys (starting sys) before rest (subst (IsRun sys) is run)
 
 -- a run one entry longer is a run and a step behind it
 pub one-more : (sys : Behaviour) (log : List Event) (entry : Event)

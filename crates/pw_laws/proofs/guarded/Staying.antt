@@ -1,5 +1,5 @@
 -- A commit that was entered stays, and guarded pairs are kept.
-use Rattle.std.proofs.Common.{◌≡◌, ◌≢◌, ℕ, false, List, [], ◌∷◌, ◌++◌, refl, ap, sym, subst, append_assoc, ◌∙◌}
+use Rattle.std.proofs.Common.{◌≡◌, ◌≢◌, ℕ, false, List, [], ◌∷◌, ◌++◌, refl, ap, subst, append_assoc, ◌∙◌}
 use Rattle.pw_event.specs.declared.event.Ending.TheVariants as ending
 use Rattle.pw_event.specs.declared.event.Event.{Event}
 use Rattle.pw_event.specs.declared.event.Event.TheVariants as event
@@ -12,11 +12,11 @@ use Rattle.pw_onecopy.specs.IsBehaviour.{IsBehaviour}
 use Rattle.pw_paired.specs.State.{Gone, State, starting}
 use Rattle.pw_paired.specs.Step.{IsRun, IsRunFrom, after, after_from, effect}
 use Rattle.pw_paired.specs.Units.{committed_files}
-use Rattle.pw_laws.proofs.Losing.{lost-by-failure, made-gone}
+use Rattle.pw_laws.proofs.Losing.{made-gone}
 use Rattle.pw_laws.proofs.induction.Runs.{kept}
 use Rattle.pw_laws.proofs.kept.Kept.{Inv}
 use Rattle.pw_laws.proofs.kept.Runs.{keeps}
-use Rattle.pw_laws.proofs.RunSteps.{IsRunFrom-split, after_from-append}
+use Rattle.pw_laws.proofs.RunSteps.{IsRunFrom-split, after_from-append, run-parts}
 use Rattle.pw_laws.proofs.blocks.Known.{committed-stay}
 use Rattle.pw_laws.specs.serial.Guarded.{IsGuarded, NoneCommits}
 
@@ -27,9 +27,7 @@ guarded-kept sys log guarded p gone = let made = made-gone sys log p gone in gua
 -- and no terminal of it is lost
 pub guarded-terminals : (sys : Behaviour) (log : List Event) → IsRun sys log → IsGuarded sys log → (before behind : List Event) (t : ℕ) → ¬ (log ≡ before ++ event.End t ending.Lost ∷ behind)
 guarded-terminals sys log run guarded before behind t is =
-    let whole = subst (IsRun sys) (is ∙ sym (append_assoc before (event.End t ending.Lost ∷ []) behind)) run in
-    let first = (IsRunFrom-split sys (starting sys) (before ++ event.End t ending.Lost ∷ []) behind whole).0 in
-    let made = lost-by-failure sys before t first in
+    let made = made-gone sys before (sys.pair_of t) (run-parts sys log before (event.End t ending.Lost ∷ behind) run is).1.0.fits.lost in
     guarded made.before (made.behind ++ event.End t ending.Lost ∷ behind) (sys.pair_of t) made.primary made.k
     (is ∙ (ap (λ (l : List Event). l ++ event.End t ending.Lost ∷ behind) made.parts ∙ append_assoc made.before (event.FailTcp (sys.pair_of t) made.primary made.k ∷ made.behind) (event.End t ending.Lost ∷ behind))) made.breaks
 

@@ -12,7 +12,7 @@ use Rattle.pw_onecopy.specs.Behaviour.{Behaviour}
 use Rattle.pw_onecopy.specs.IsBehaviour.{IsBehaviour}
 use Rattle.pw_onecopy.specs.Path.{PathAnswer}
 use Rattle.pw_onecopy.specs.Update.{upd}
-use Rattle.pw_paired.specs.End.{LegalStopped}
+use Rattle.pw_paired.specs.End.{LegalStopped, end_terminal}
 use Rattle.pw_paired.specs.Failure.{is_live_of, resume_terminal, with_start_path}
 use Rattle.pw_paired.specs.Raising.{is_takeover}
 use Rattle.pw_paired.specs.State.{BackupCopy, LastEnded, OpenUnit, State, Term}
@@ -20,7 +20,7 @@ use Rattle.pw_paired.specs.Step.{Fits, IsRun, after, change, effect}
 use Rattle.pw_paired.specs.Terminal.{path_of}
 use Rattle.pw_paired.specs.Units.{attempt_of, leave_units, only}
 use Rattle.pw_laws.proofs.ends.EndsOnce.{stopped-idle}
-use Rattle.pw_laws.proofs.induction.Failed.{end-cases, fail-cases, process-cases}
+use Rattle.pw_laws.proofs.induction.Failed.{end-any, end-cases, fail-cases, process-cases}
 use Rattle.pw_laws.proofs.induction.Runs.{holds-behind}
 use Rattle.pw_laws.proofs.induction.Served.{file-is, reply-cases}
 use Rattle.pw_laws.proofs.induction.Views.{view_of}
@@ -48,8 +48,8 @@ module _ (sys : Behaviour) (s : State) (t : ℕ) where
   resumed-ending p None u last x = refl
   resumed-ending p (Some m) u last x = refl
 
-  -- every entry but an END keeps endings
-  ending-stays : (entry : Event) → Fits sys s entry → ((own : ℕ) (e : Ending) → entry ≡ event.End own e → ⊥) → SameEnding (change sys s entry)
+  -- every entry but an END of the terminal keeps its ending
+  pub ending-stays : (entry : Event) → Fits sys s entry → ((e : Ending) → entry ≡ event.End t e → ⊥) → SameEnding (change sys s entry)
   ending-stays (event.Show own phase attempt k) l other = one-term own _ refl
   ending-stays (event.Key own k) l other = one-term own _ refl
   ending-stays (event.CheckStart own) l other = refl
@@ -78,7 +78,13 @@ module _ (sys : Behaviour) (s : State) (t : ℕ) where
       (λ dead. ap (λ (x : Term). x.ending) (cond-false (is_live_of sys p s t) _ (s.terms t) dead))
       (cases_Bool (is_live_of sys p s t))
   ending-stays (event.Raise p) l other = refl
-  ending-stays (event.End own e) l other = absurd (other own e refl)
+  ending-stays (event.End own e) l other =
+      ⊎_elim
+      (λ same. absurd (other e (ap (λ (o : ℕ). event.End o e) (sym same))))
+      (λ differ.
+      let stays : SameEnding (end_terminal own e s) = ap (λ (x : Term). x.ending) (upd-other s.terms own _ t differ) in
+      end-any sys s SameEnding own e stays stays)
+      (cases_eq t own)
 
 -- the terminal of an open unit has no ending
 abbrev pub LiveOk : State → Type 0
@@ -131,10 +137,10 @@ module _ (sys : Behaviour) (b : IsBehaviour sys) (s : State) (f : Fold) (k : Kno
   keeps-live (event.Restart own n kind) l =
       λ t u. upd_elim s.units own _ t (λ (x : Option OpenUnit). x ≡ Some u → ((effect sys s (event.Restart own n kind)).terms t).ending ≡ None)
       (λ same is.
-      ending-stays sys s t (event.Restart own n kind) l (λ o e e_is. absurd (cc e_is)) ∙ ok t l.unit (ap s.units same ∙ l.caused.is_open))
-      (λ differ is. ending-stays sys s t (event.Restart own n kind) l (λ o e e_is. absurd (cc e_is)) ∙ ok t u is)
+      ending-stays sys s t (event.Restart own n kind) l (λ e e_is. absurd (cc e_is)) ∙ ok t l.unit (ap s.units same ∙ l.caused.is_open))
+      (λ differ is. ending-stays sys s t (event.Restart own n kind) l (λ e e_is. absurd (cc e_is)) ∙ ok t u is)
   keeps-live entry l =
-      λ t u is. ending-stays sys s t entry l (λ o e e_is. absurd (cc e_is)) ∙ by-goes (change sys s entry) t u (unit-moves sys b s k.inv t entry l (λ o n kind e_is. absurd (cc e_is))) is
+      λ t u is. ending-stays sys s t entry l (λ e e_is. absurd (cc e_is)) ∙ by-goes (change sys s entry) t u (unit-moves sys b s k.inv t entry l (λ o n kind e_is. absurd (cc e_is))) is
 
 -- it is so behind every run
 pub live-ok : (sys : Behaviour) → IsBehaviour sys → (log : List Event) → IsRun sys log → LiveOk (after sys log)

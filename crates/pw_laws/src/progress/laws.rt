@@ -9,6 +9,7 @@ ghost use Rattle.pw_onecopy.specs.IsBehaviour.{IsBehaviour};
 ghost use Rattle.pw_paired.specs.State.{Gone, OpenUnit, Paired, starting};
 ghost use Rattle.pw_paired.specs.Step.{IsRun, after};
 ghost use Rattle.pw_paired.specs.Terminal.{IsLive};
+ghost use Rattle.pw_laws.specs.progress.Failures.{Losses, Suspensions};
 ghost use Rattle.pw_laws.specs.progress.Running.{HasStep, IsOpen, MadeGone, Runs, restarts_in};
 
 /// In a run of a deck each attempt of a unit begins once, whatever fails: no entry BEGIN t n r
@@ -76,4 +77,14 @@ pub fn older_laws()
         → (before between : List Event) (t n r o m : ℕ)
         → IsRun sys (before ++ Begin t n r ∷ (between ++ Restart t n (Older o m) ∷ []))
         → (after sys before).units t ≡ None → IsOpen (after sys before) o m }
+{}
+
+/// What failures leave in a log. In a run a pair is Gone exactly from a FAIL TCP entry on that made
+/// it so, its terminals end as Lost and no others do, and where the log is finished none of them is
+/// left. In a run of a deck each restart and suspension has a cause that holds there, and a terminal
+/// is suspended after exactly as many restarts of its unit as it may have.
+pub fn runs_tell_their_losses()
+    ensures losses { (sys : Behaviour) (log : List Event) → IsRun sys log → Losses sys log }
+    ensures suspensions { (sys : Behaviour) → IsBehaviour sys → (log : List Event) → IsRun sys log
+        → Suspensions sys log }
 {}
