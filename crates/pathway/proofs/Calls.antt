@@ -7,16 +7,16 @@ use Rattle.pw_call.specs.declared.status.Status.TheVariants as status
 use Rattle.pw_command.specs.declared.words.Command.{Command}
 use Rattle.pw_command.specs.declared.words.Command.TheVariants as command
 use Rattle.pw_command.specs.declared.words.Words.{Words}
-use Rattle.pw_expand.specs.declared.expand.Ending.{Ending}
-use Rattle.pw_expand.specs.declared.expand.Ending.TheVariants as ending
+use Rattle.pw_expand.specs.declared.expand.ScheduleEnding.{ScheduleEnding}
+use Rattle.pw_expand.specs.declared.expand.ScheduleEnding.TheVariants as ending
 use Rattle.pathway.specs.Commands.{said, reads_source, usage_line}
 use Rattle.pathway.specs.Schedules.{status_by}
-use Rattle.pathway.specs.Statuses.{AsksSource, Call, Counts, EndsWith, HasText, IsCutOff, Means, OutputBy}
+use Rattle.pathway.specs.Statuses.{AsksSource, CommandCall, FaultCountsGoOn, EndsWith, HasText, IsCutOff, Means, OutputBy}
 
 -- ---- texts
 
 -- a schedule that is answered has another status than Usage, and so has each output
-no-usage-by : (how : Ending) → status.Usage ≡ status_by how → ⊥
+no-usage-by : (how : ScheduleEnding) → status.Usage ≡ status_by how → ⊥
 no-usage-by ending.Expanded same = absurd (cc same)
 no-usage-by ending.Refused same = absurd (cc same)
 
@@ -33,7 +33,7 @@ no-usage words command.Status left text o = o.defined
 no-usage words command.Expand left text o = no-usage-by o.ending o.is
 
 -- a schedule that is answered has another status than ReadFault, and so has each output
-no-read_fault-by : (how : Ending) → status.ReadFault ≡ status_by how → ⊥
+no-read_fault-by : (how : ScheduleEnding) → status.ReadFault ≡ status_by how → ⊥
 no-read_fault-by ending.Expanded same = absurd (cc same)
 no-read_fault-by ending.Refused same = absurd (cc same)
 
@@ -50,7 +50,7 @@ no-read_fault words command.Status left text o = o.defined
 no-read_fault words command.Expand left text o = no-read_fault-by o.ending o.is
 
 -- a schedule that is answered has another status than WriteFault, and so has each output
-no-write_fault-by : (how : Ending) → status.WriteFault ≡ status_by how → ⊥
+no-write_fault-by : (how : ScheduleEnding) → status.WriteFault ≡ status_by how → ⊥
 no-write_fault-by ending.Expanded same = absurd (cc same)
 no-write_fault-by ending.Refused same = absurd (cc same)
 
@@ -67,7 +67,7 @@ no-write_fault words command.Status left text o = o.defined
 no-write_fault words command.Expand left text o = no-write_fault-by o.ending o.is
 
 -- a schedule that is answered has another status than Memory, and so has each output
-no-memory-by : (how : Ending) → status.Memory ≡ status_by how → ⊥
+no-memory-by : (how : ScheduleEnding) → status.Memory ≡ status_by how → ⊥
 no-memory-by ending.Expanded same = absurd (cc same)
 no-memory-by ending.Refused same = absurd (cc same)
 
@@ -84,7 +84,7 @@ no-memory words command.Status left text o = o.defined
 no-memory words command.Expand left text o = no-memory-by o.ending o.is
 
 -- a schedule that is answered is no fault of the disc
-no-disc_fault-by : (how : Ending) → status.DiscFault ≡ status_by how → ⊥
+no-disc_fault-by : (how : ScheduleEnding) → status.DiscFault ≡ status_by how → ⊥
 no-disc_fault-by ending.Expanded same = absurd (cc same)
 no-disc_fault-by ending.Refused same = absurd (cc same)
 
@@ -119,7 +119,7 @@ no-source does words read say none = by (reads_source read.command) refl
     by false is = refl
 
 -- the text of a status that the words and the source define
-has-output : (call : Call) (given : Status) (text : List ℕ) (words : Words) → said call.does call.words ≡ Some words
+has-output : (call : CommandCall) (given : Status) (text : List ℕ) (words : Words) → said call.does call.words ≡ Some words
     → OutputBy words.command words call.left given text → HasText given call text
 has-output call status.Finished text words say o = record { words = words; say = say; output = o }
 has-output call status.Irregular text words say o = record { words = words; say = say; output = o }
@@ -133,7 +133,7 @@ has-output call status.NotAStep text words say o = record { words = words; say =
 has-output call status.DiscFault text words say o = record { words = words; say = say; output = o }
 
 -- a whole text means its status
-means-told : (call : Call) (given : Status) (text : List ℕ) (words : Words) → said call.does call.words ≡ Some words
+means-told : (call : CommandCall) (given : Status) (text : List ℕ) (words : Words) → said call.does call.words ≡ Some words
     → OutputBy words.command words call.left given text
     → Appends call.written call.written_then text → Means given call
 means-told call status.Finished text words say o appends = (text, record { words = words; say = say; output = o }, appends)
@@ -150,9 +150,9 @@ means-told call status.DiscFault text words say o appends =
     ((text, record { words = words; say = say; output = o }, appends), appends-nothing call.written call.written_then (rw none at appends))
 
 -- where the text is whole no count has risen
-counts-told : (call : Call) (given : Status) (text : List ℕ) (words : Words)
+counts-told : (call : CommandCall) (given : Status) (text : List ℕ) (words : Words)
     → OutputBy words.command words call.left given text
-    → call.read_faults_then ≡ call.read_faults → call.write_faults_then ≡ call.write_faults → Counts given call
+    → call.read_faults_then ≡ call.read_faults → call.write_faults_then ≡ call.write_faults → FaultCountsGoOn given call
 counts-told call status.Finished text words o read write = (read, write)
 counts-told call status.Irregular text words o read write = (read, write)
 counts-told call status.Refused text words o read write = (read, write)
@@ -165,7 +165,7 @@ counts-told call status.NotAStep text words o read write = (read, write)
 counts-told call status.DiscFault text words o read write = (read, write)
 
 -- a call whose output is written
-pub ends-told : (call : Call) (given result : Status) (text : List ℕ) (words : Words)
+pub ends-told : (call : CommandCall) (given result : Status) (text : List ℕ) (words : Words)
     → said call.does call.words ≡ Some words → OutputBy words.command words call.left given text
     → call.read_faults_then ≡ call.read_faults
     → EndsWriting given result text call.written call.written_then call.write_faults call.write_faults_then
@@ -184,7 +184,7 @@ ends-told call given result text words say o read (inr cut) =
     rw cut.0 (means, (read, cut.1.rose))
 
 -- a call whose words say nothing
-pub ends-usage : (call : Call) (result : Status) (text : List ℕ) → said call.does call.words ≡ None → text ≡ usage_line
+pub ends-usage : (call : CommandCall) (result : Status) (text : List ℕ) → said call.does call.words ≡ None → text ≡ usage_line
     → call.read_faults_then ≡ call.read_faults
     → EndsWriting status.Usage result text call.written call.written_then call.write_faults call.write_faults_then
     → EndsWith result call

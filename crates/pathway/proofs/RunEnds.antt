@@ -1,27 +1,27 @@
 -- What is printed of a run that ended so is defined by the status of its end.
 use Rattle.std.proofs.Common.{ℕ, List}
-use Rattle.pathway.specs.Decks.{PairRuns, Runs, Trials}
+use Rattle.pathway.specs.Decks.{PairRuns, RunsDeck, Trials}
 use Rattle.pw_desk.specs.Headline.{Reports}
 use Rattle.pw_desk.specs.Trials.{Tries}
-use Rattle.pw_desk.specs.disc.PairRuns.{Comes}
+use Rattle.pw_desk.specs.disc.PairRuns.{IsPairRun}
 use Rattle.pw_desk.specs.declared.disc.ending.PairRan.TheVariants.{Ended as PairEnded}
 use Rattle.pw_run.specs.Endings.{status_of}
-use Rattle.pw_run.specs.declared.ending.Ended.{Ended}
-use Rattle.pw_run.specs.declared.ending.Ended.TheVariants.{Regular, Irregular, Full}
+use Rattle.pw_run.specs.declared.ending.LogEnding.{LogEnding}
+use Rattle.pw_run.specs.declared.ending.LogEnding.TheVariants.{Regular, Irregular, Full}
 
-pub runs : (ended : Ended) (events : ℕ) (bytes text : List ℕ) → Reports bytes events ended text
-    → Runs events (status_of ended) bytes text
+pub runs : (ended : LogEnding) (events : ℕ) (bytes text : List ℕ) → Reports bytes events ended text
+    → RunsDeck events (status_of ended) bytes text
 runs Regular events bytes text is = is
 runs Irregular events bytes text is = is
 runs Full events bytes text is = is
 
-pub pairs : (ended : Ended) (events : ℕ) (bytes text : List ℕ) → Comes bytes events (PairEnded ended) text
+pub pairs : (ended : LogEnding) (events : ℕ) (bytes text : List ℕ) → IsPairRun bytes events (PairEnded ended) text
     → PairRuns events (status_of ended) bytes text
 pairs Regular events bytes text is = is
 pairs Irregular events bytes text is = is
 pairs Full events bytes text is = is
 
-pub trials : (ended : Ended) (seed terms : ℕ) (text : List ℕ) → Tries seed terms ended text
+pub trials : (ended : LogEnding) (seed terms : ℕ) (text : List ℕ) → Tries seed terms ended text
     → Trials seed terms (status_of ended) text
 trials Regular seed terms text is = is
 trials Irregular seed terms text is = is

@@ -9,27 +9,27 @@ use Rattle.pw_base.specs.declared.fault.Fault.{Fault}
 use Rattle.pw_call.specs.declared.status.Status.{Status}
 use Rattle.pw_call.specs.declared.status.Status.TheVariants as status
 use Rattle.pw_deck.specs.Deck.{deck_of}
-use Rattle.pw_deck.specs.declared.deck.Deck.{Deck}
+use Rattle.pw_deck.specs.declared.deck.ParsedDeck.{ParsedDeck}
 use Rattle.pw_desk.specs.Headline.{Reports}
 use Rattle.pw_desk.specs.Replays.{Verifies}
 use Rattle.pw_desk.specs.Trials.{Tries}
 use Rattle.pw_desk.specs.declared.verify.Verified.{Verified}
 use Rattle.pw_desk.specs.declared.verify.Verified.TheVariants as verified
-use Rattle.pw_desk.specs.disc.PairRuns.{Comes, pair_deck_of}
+use Rattle.pw_desk.specs.disc.PairRuns.{IsPairRun, pair_deck_of}
 use Rattle.pw_desk.specs.declared.disc.ending.PairRan.TheVariants as pair
 use Rattle.pw_desk.specs.recovery.Headline.{Recovers}
 use Rattle.pw_desk.specs.declared.recovery.ending.Recovered.{Recovered}
 use Rattle.pw_desk.specs.declared.recovery.ending.Recovered.TheVariants as recovered
-use Rattle.pw_run.specs.declared.ending.Ended.TheVariants as ran
+use Rattle.pw_run.specs.declared.ending.LogEnding.TheVariants as ran
 use Rattle.pw_watch.specs.Status.{IsStatusOf}
 use Rattle.pw_watch.specs.declared.status.Counted.{Counted}
 use Rattle.pw_watch.specs.declared.status.Counted.TheVariants as counted
 
 -- a run has at most 500,000 entries
-abbrev pub IsInRange : RunCommand → Type 0
-IsInRange (ask.Run events) = events ≤ 500000
-IsInRange (ask.Disc events) = events ≤ 500000
-IsInRange (ask.Trail events at) = events ≤ 500000
+abbrev pub IsRunInRange : RunCommand → Type 0
+IsRunInRange (ask.Run events) = events ≤ 500000
+IsRunInRange (ask.Disc events) = events ≤ 500000
+IsRunInRange (ask.Trail events at) = events ≤ 500000
 
 -- what is read has a first fault, and the text is the line of it
 pub record HasFault {X : Type 0} (read : Result X Fault) (text : List ℕ) : Type 0 where
@@ -43,7 +43,7 @@ HasFirstFault bytes text = HasFault (deck_of bytes) text
 
 -- the deck has no fault, and the text says so
 pub record HasNoFault (bytes text : List ℕ) : Type 0 where
-  pub deck : Deck
+  pub deck : ParsedDeck
   pub says : deck_of bytes ≡ Ok deck
   pub is : text ≡ deck_ok
 
@@ -54,19 +54,19 @@ Checks status.Refused bytes text = HasFirstFault bytes text
 Checks _ bytes text = ⊥
 
 -- a deck that is run for at most so many entries: the headline
-abbrev pub Runs : ℕ → Status → List ℕ → List ℕ → Type 0
-Runs events status.Finished bytes text = Reports bytes events ran.Regular text
-Runs events status.Irregular bytes text = Reports bytes events ran.Irregular text
-Runs events status.Limit bytes text = Reports bytes events ran.Full text
-Runs events status.Refused bytes text = HasFirstFault bytes text
-Runs events _ bytes text = ⊥
+abbrev pub RunsDeck : ℕ → Status → List ℕ → List ℕ → Type 0
+RunsDeck events status.Finished bytes text = Reports bytes events ran.Regular text
+RunsDeck events status.Irregular bytes text = Reports bytes events ran.Irregular text
+RunsDeck events status.Limit bytes text = Reports bytes events ran.Full text
+RunsDeck events status.Refused bytes text = HasFirstFault bytes text
+RunsDeck events _ bytes text = ⊥
 
 -- a deck whose log is replayed
-abbrev pub Replays : Status → List ℕ → List ℕ → Type 0
-Replays status.Finished bytes text = Verifies bytes verified.Run text
-Replays status.NotAStep bytes text = Verifies bytes verified.NotAStep text
-Replays status.Refused bytes text = HasFirstFault bytes text
-Replays _ bytes text = ⊥
+abbrev pub ReplaysDeck : Status → List ℕ → List ℕ → Type 0
+ReplaysDeck status.Finished bytes text = Verifies bytes verified.Run text
+ReplaysDeck status.NotAStep bytes text = Verifies bytes verified.NotAStep text
+ReplaysDeck status.Refused bytes text = HasFirstFault bytes text
+ReplaysDeck _ bytes text = ⊥
 
 -- a deck of whose log so many entries are counted
 abbrev pub StatusCounts : ℕ → Status → List ℕ → List ℕ → Type 0
@@ -77,13 +77,13 @@ StatusCounts at _ bytes text = ⊥
 
 -- the pair is lost, which a disc script without such lines never comes to; the text is empty
 abbrev pub Loses : ℕ → List ℕ → List ℕ → Type 0
-Loses events bytes text = (lost : _) × Comes bytes events (pair.Lost lost) text
+Loses events bytes text = (lost : _) × IsPairRun bytes events (pair.Lost lost) text
 
 -- a deck that is run over a disc pair: as over any disc, whatever member fails, unless the pair is lost
 abbrev pub PairRuns : ℕ → Status → List ℕ → List ℕ → Type 0
-PairRuns events status.Finished bytes text = Comes bytes events (pair.Ended ran.Regular) text
-PairRuns events status.Irregular bytes text = Comes bytes events (pair.Ended ran.Irregular) text
-PairRuns events status.Limit bytes text = Comes bytes events (pair.Ended ran.Full) text
+PairRuns events status.Finished bytes text = IsPairRun bytes events (pair.Ended ran.Regular) text
+PairRuns events status.Irregular bytes text = IsPairRun bytes events (pair.Ended ran.Irregular) text
+PairRuns events status.Limit bytes text = IsPairRun bytes events (pair.Ended ran.Full) text
 PairRuns events status.Refused bytes text = HasFault (pair_deck_of bytes) text
 PairRuns events status.DiscFault bytes text = Loses events bytes text
 PairRuns events _ bytes text = ⊥
@@ -107,12 +107,12 @@ Trials seed terms _ text = ⊥
 -- what a status defines, by what is asked of a deck that is not run
 abbrev pub DefinesBy : DeckCommand → Status → List ℕ → List ℕ → Type 0
 DefinesBy asked.Check status bytes text = Checks status bytes text
-DefinesBy asked.Verify status bytes text = Replays status bytes text
+DefinesBy asked.Verify status bytes text = ReplaysDeck status bytes text
 DefinesBy (asked.Status at) status bytes text = StatusCounts at status bytes text
 
 -- what a status defines, by what is asked of a deck that is run
 abbrev pub RunsBy : RunCommand → Status → List ℕ → List ℕ → Type 0
-RunsBy (ask.Run events) status bytes text = Runs events status bytes text
+RunsBy (ask.Run events) status bytes text = RunsDeck events status bytes text
 RunsBy (ask.Disc events) status bytes text = PairRuns events status bytes text
 RunsBy (ask.Trail events at) status bytes text = TrailRuns events at status bytes text
 

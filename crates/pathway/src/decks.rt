@@ -1,7 +1,7 @@
 //! What is asked of a deck that is not run.
 
 ghost use Rattle.std.specs.Prelude.{◌≡◌, ◌≤◌, IfErr, IfOk, List, OnOk, ℕ};
-ghost use Rattle.pathway.specs.Decks.{Checks, DefinesBy, Replays, StatusCounts, status_after, status_at};
+ghost use Rattle.pathway.specs.Decks.{Checks, DefinesBy, ReplaysDeck, StatusCounts, status_after, status_at};
 ghost use Rattle.pathway.specs.Statuses.{OfBytes};
 ghost use Rattle.pw_base.specs.First.{Refuses};
 ghost use Rattle.pw_call.specs.Inputs.{GivesUp};
@@ -86,7 +86,7 @@ fn checked(alloc: Global, bytes: &[u8]) -> Result<(Status, Bytes), Refusal>
 
 /// The report of a deck's log, or the line of its first entry that is no step.
 fn replayed(alloc: Global, bytes: &[u8]) -> Result<(Status, Bytes), Refusal>
-    ensures ok { IfOk result (λ output. Replays output.0 bytes.now output.1) }
+    ensures ok { IfOk result (λ output. ReplaysDeck output.0 bytes.now output.1) }
     ensures fault { IfErr result (λ refusal. Refuses refusal (deck_of bytes.now)) }
 {
     let (verified, text) = verify(alloc, bytes)?;
@@ -105,7 +105,7 @@ fn counted(alloc: Global, bytes: &[u8], at: u32) -> Result<(Status, Bytes), Refu
 /// The status of a replay that came to this.
 fn status_after(verified: Verified) -> Status
     ensures is { result ≡ status_after verified }
-    ensures defines { (bytes text : List ℕ) → Verifies bytes verified text → Replays result bytes text }
+    ensures defines { (bytes text : List ℕ) → Verifies bytes verified text → ReplaysDeck result bytes text }
 {
     match verified {
         Verified::Run => Status::Finished,

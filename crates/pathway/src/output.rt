@@ -4,7 +4,7 @@ ghost use Rattle.std.specs.Prelude.{◌≡◌, ◌≤◌, false, true, IfErr, If
 ghost use Rattle.pathway.specs.Commands.{is_for_desk, reads_source};
 ghost use Rattle.pathway.specs.Statuses.{OutputBy};
 ghost use Rattle.pw_call.specs.Inputs.{GivesUp};
-ghost use Rattle.pw_command.specs.CommandLine.{IsInRange};
+ghost use Rattle.pw_command.specs.CommandLine.{AreOptionsInRange};
 
 use crate::decks::{DeckCommand, deck_output};
 use crate::runs::{RunCommand, run_output};
@@ -28,7 +28,7 @@ pub fn output_by<S: Source, G: Gate, R: Threads + Wait + Sync>(
     source: &mut S,
     gate: &G,
 ) -> Result<(Status, Bytes), Status>
-    requires range { IsInRange said }
+    requires range { AreOptionsInRange said }
     ensures ok { IfOk result (λ output. OutputBy said.command said (S.left source.old) output.0 output.1) }
     ensures err { IfErr result (λ status. GivesUp status (S.faults source.old) (S.faults source.new)) }
     ensures reads { IfErr result (λ status. status ≡ Status.ReadFault → reads_source said.command ≡ true) }
@@ -70,7 +70,7 @@ pub fn desk_output<S: Source>(
     source: &mut S,
 ) -> Result<(Status, Bytes), Status>
     requires desk { is_for_desk said.command ≡ true }
-    requires range { IsInRange said }
+    requires range { AreOptionsInRange said }
     ensures ok { IfOk result (λ output. OutputBy said.command said (S.left source.old) output.0 output.1) }
     ensures err { IfErr result (λ status. GivesUp status (S.faults source.old) (S.faults source.new)) }
     ensures reads { IfErr result (λ status. status ≡ Status.ReadFault → reads_source said.command ≡ true) }

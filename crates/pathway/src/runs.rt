@@ -1,7 +1,7 @@
 //! The runs of a deck.
 
 ghost use Rattle.std.specs.Prelude.{◌≡◌, ◌≤◌, IfErr, IfOk, List, OnOk, ℕ};
-ghost use Rattle.pathway.specs.Decks.{IsInRange, PairRuns, Runs, RunsBy, TrailRuns, status_behind};
+ghost use Rattle.pathway.specs.Decks.{IsRunInRange, PairRuns, RunsDeck, RunsBy, TrailRuns, status_behind};
 ghost use Rattle.pathway.specs.Statuses.{OfBytes};
 ghost use Rattle.pw_call.specs.Inputs.{GivesUp};
 ghost use Rattle.pw_desk.specs.recovery.Headline.{Recovers};
@@ -46,7 +46,7 @@ pub fn run_output<S: Source, G: Gate, R: Threads + Wait + Sync>(
     source: &mut S,
     gate: &G,
 ) -> Result<(Status, Bytes), Status>
-    requires range { IsInRange command }
+    requires range { IsRunInRange command }
     requires workers { (1 ≤ workers) × (workers ≤ 16) }
     ensures ok { IfOk result (λ output. OfBytes (RunsBy command) (S.left source.old) output.0 output.1) }
     ensures err { IfErr result (λ status. GivesUp status (S.faults source.old) (S.faults source.new)) }
@@ -69,7 +69,7 @@ fn answer<G: Gate, R: Threads + Wait + Sync>(
     bytes: &[u8],
     gate: &G,
 ) -> Result<(Status, Bytes), Memory>
-    requires range { IsInRange command }
+    requires range { IsRunInRange command }
     requires workers { (1 ≤ workers) × (workers ≤ 16) }
     ensures { IfOk result (λ output. RunsBy command output.0 bytes.now output.1) }
 {
@@ -91,7 +91,7 @@ fn reported<G: Gate, R: Threads + Wait + Sync>(
 ) -> Result<(Status, Bytes), Memory>
     requires workers { (1 ≤ workers) × (workers ≤ 16) }
     requires events { events ≤ 500000 }
-    ensures { IfOk result (λ output. Runs events output.0 bytes.now output.1) }
+    ensures { IfOk result (λ output. RunsDeck events output.0 bytes.now output.1) }
 {
     match run(rt, alloc, bytes, workers, events, gate) {
         Ok((ended, text)) => Ok((status_of(ended), text)),

@@ -6,7 +6,7 @@ use pw_base::bytes::Bytes;
 use pw_base::read_all::ReadFault;
 use pw_base::source::Source;
 use pw_call::status::Status;
-use pw_expand::expand::{Ending, answer_source};
+use pw_expand::expand::{ScheduleEnding, answer_source};
 use std::alloc::Global;
 
 /// Reads the schedule of the source: the status and the text that answer it (docs/EXPAND.md), or the
@@ -26,11 +26,11 @@ pub fn schedule_output<S: Source>(alloc: Global, source: &mut S) -> Result<(Stat
 }
 
 /// The status of a schedule that is answered so.
-fn status_by(ending: Ending) -> Status
+fn status_by(ending: ScheduleEnding) -> Status
     ensures { result ≡ status_by ending }
 {
     match ending {
-        Ending::Expanded => Status::Finished,
-        Ending::Refused => Status::Refused,
+        ScheduleEnding::Expanded => Status::Finished,
+        ScheduleEnding::Refused => Status::Refused,
     }
 }

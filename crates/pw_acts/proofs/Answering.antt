@@ -8,7 +8,7 @@ use Rattle.pw_code.specs.declared.system.System.{System}
 use Rattle.pw_code.specs.declared.verb.Answer.{Answer}
 use Rattle.pw_code.specs.declared.verb.Answer.TheVariants as answer
 use Rattle.pw_code.specs.declared.verb.Verb.{Verb}
-use Rattle.pw_exec.specs.Contexts.{Takes}
+use Rattle.pw_exec.specs.Contexts.{PutsAnswer}
 use Rattle.pw_exec.specs.Sound.{IsSoundContext}
 use Rattle.pw_keep.specs.Calls.{kept_commit_reply}
 use Rattle.pw_kept.specs.Asked.{answered_with, unit_in, verb_in}
@@ -22,7 +22,7 @@ use Rattle.pw_tmf.specs.Units.{backed_out, ended}
 
 -- an answer that was put into a sound context
 pub takes-is : (system : System) (a : Answer) (old new : Context) → IsSoundContext system old
-    → Takes system a old new → new ≡ answered_with system a old
+    → PutsAnswer system a old new → new ≡ answered_with system a old
 takes-is system a old new sound takes =
     takes sound.at sound.is ∙ sym (takes-one system a old sound.at sound.is)
 

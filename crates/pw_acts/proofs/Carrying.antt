@@ -27,7 +27,7 @@ use Rattle.pw_pair.specs.declared.message.CheckKind.{CheckKind}
 use Rattle.pw_pair.specs.declared.message.CheckKind.TheVariants as kind
 use Rattle.pw_pair.specs.declared.message.CheckMessage.{CheckMessage}
 use Rattle.pw_pair.specs.declared.seat.Flight.{Flight}
-use Rattle.pw_pair.specs.declared.seat.Seat.{Seat}
+use Rattle.pw_pair.specs.declared.seat.BackupSeat.{BackupSeat}
 use Rattle.pw_onecopy.specs.Update.{upd}
 use Rattle.pw_onecopy.proofs.Update.{upd-same}
 
@@ -91,24 +91,24 @@ taken-built : (t : ℕ) (flight : Option Flight) (memory : Option Held)
 taken-built t None memory = refl
 taken-built t (Some flight) memory = refl
 
-applied-built : (seat : Seat) → applied (built seat) ≡ applied seat
+applied-built : (seat : BackupSeat) → applied (built seat) ≡ applied seat
 applied-built seat =
     ap (λ (memory : Option Held). record seat { memory = memory; flight = None })
     (taken-built seat.terminal seat.flight seat.memory)
 
-one-built : (t : ℕ) (seat : Seat) (mine : Bool) → is_seat_of t seat ≡ mine
-    → (λ (s : Seat). if is_seat_of t s then applied s else s) (if mine then built seat else seat)
+one-built : (t : ℕ) (seat : BackupSeat) (mine : Bool) → is_seat_of t seat ≡ mine
+    → (λ (s : BackupSeat). if is_seat_of t s then applied s else s) (if mine then built seat else seat)
     ≡ (if mine then applied seat else seat)
 one-built t seat true e =
     ap (λ (b : Bool). if b then applied (built seat) else built seat) e ∙ applied-built seat
 one-built t seat false e = ap (λ (b : Bool). if b then applied seat else seat) e
 
-each-built : (t : ℕ) (seats : List Seat) → at_terminal t applied (at_terminal t built seats) ≡ at_terminal t applied seats
+each-built : (t : ℕ) (seats : List BackupSeat) → at_terminal t applied (at_terminal t built seats) ≡ at_terminal t applied seats
 each-built t [] = refl
-each-built t (seat ∷ seats) = ap₂ (λ (s : Seat) (l : List Seat). s ∷ l) (one-built t seat (is_seat_of t seat) refl) (each-built t seats)
+each-built t (seat ∷ seats) = ap₂ (λ (s : BackupSeat) (l : List BackupSeat). s ∷ l) (one-built t seat (is_seat_of t seat) refl) (each-built t seats)
 
 pub pair-built : (t : ℕ) (pair : SeenPair) → after_applied t (changed_at t built pair) ≡ after_applied t pair
-pair-built t pair = ap (λ (seats : List Seat). settled (record pair { seats = seats })) (each-built t pair.seats)
+pair-built t pair = ap (λ (seats : List BackupSeat). settled (record pair { seats = seats })) (each-built t pair.seats)
 
 pub built-applied : (p t : ℕ) (kept : Kept) → kept_applied p t (at_pair p (changed_at t built) kept) ≡ kept_applied p t kept
 built-applied p t kept =
@@ -118,16 +118,16 @@ built-applied p t kept =
     (ap (after_applied t) (upd-same kept.pairs p (changed_at t built (kept.pairs p)) p refl) ∙ pair-built t (kept.pairs p)))
 
 -- the seat of a terminal, where its message is built
-same-test : (t : ℕ) (seat : Seat) (mine : Bool) → is_seat_of t (if mine then built seat else seat) ≡ is_seat_of t seat
+same-test : (t : ℕ) (seat : BackupSeat) (mine : Bool) → is_seat_of t (if mine then built seat else seat) ≡ is_seat_of t seat
 same-test t seat true = refl
 same-test t seat false = refl
 
-found-by : (seat : Seat) (mine : Bool) (rest : Option Seat) (before : Option Seat) → rest ≡ option_map built before
+found-by : (seat : BackupSeat) (mine : Bool) (rest : Option BackupSeat) (before : Option BackupSeat) → rest ≡ option_map built before
     → (if mine then Some (if mine then built seat else seat) else rest) ≡ option_map built (if mine then Some seat else before)
 found-by seat true rest before e = refl
 found-by seat false rest before e = e
 
-found-built : (t : ℕ) (seats : List Seat)
+found-built : (t : ℕ) (seats : List BackupSeat)
     → find (is_seat_of t) (at_terminal t built seats) ≡ option_map built (find (is_seat_of t) seats)
 found-built t [] = refl
 found-built t (seat ∷ seats) =
@@ -143,7 +143,7 @@ flight-built : (start : Option (List ℕ)) (flight : Option Flight) → flies_wa
 flight-built start None h = absurd (cc h)
 flight-built start (Some flight) h = refl
 
-passes-built : (seat : Option Seat) → passes is_waiting seat ≡ true → passes is_built (option_map built seat) ≡ true
+passes-built : (seat : Option BackupSeat) → passes is_waiting seat ≡ true → passes is_built (option_map built seat) ≡ true
 passes-built None h = absurd (cc h)
 passes-built (Some seat) h = flight-built (start_of seat.memory) seat.flight h
 
@@ -160,7 +160,7 @@ flight-whole : (flight : Option Flight) → is_some flight ≡ true → flies_wa
 flight-whole None h w = absurd (cc h)
 flight-whole (Some flight) h w = not-false flight.built w
 
-passes-whole : (seat : Option Seat) → passes is_flying seat ≡ true → passes is_waiting seat ≡ false
+passes-whole : (seat : Option BackupSeat) → passes is_flying seat ≡ true → passes is_waiting seat ≡ false
     → passes is_built seat ≡ true
 passes-whole None h w = absurd (cc h)
 passes-whole (Some seat) h w = flight-whole seat.flight h w

@@ -12,7 +12,7 @@ use Rattle.pw_code.specs.declared.context.Context.{Context}
 use Rattle.pw_code.specs.declared.system.System.{System}
 use Rattle.pw_code.specs.declared.verb.Answer.{Answer}
 use Rattle.pw_code.specs.declared.verb.Answer.TheVariants as answer
-use Rattle.pw_exec.specs.Contexts.{Takes}
+use Rattle.pw_exec.specs.Contexts.{PutsAnswer}
 use Rattle.pw_exec.specs.Sound.{IsSoundContext}
 use Rattle.pw_keep.specs.Calls.{IsOperated}
 use Rattle.pw_keep.specs.Keeps.{IsChanged, JobHasVerb, KeepState, job_of, jobs_at, kept_in}
@@ -46,7 +46,7 @@ module _ {D : Type 0} (told : D → Told) (old : KeepState D) (c i : ℕ) (can :
       subst (λ (k : KeepState D). IsSome (at_process ((kept_in told k).queues c) i)) (sym is.rest)
       (subst (λ (o : Option Request). IsSome o) (sym can.post) refl)
 
-  module _ (after : Context) (takes : Takes system (answer.FileDone status content) before after) where
+  module _ (after : Context) (takes : PutsAnswer system (answer.FileDone status content) before after) where
     made : after ≡ answered_with old.system (answer.FileDone status content) can.context
     made =
         takes-is system (answer.FileDone status content) before after sound-then takes

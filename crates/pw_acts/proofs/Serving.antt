@@ -18,9 +18,9 @@ use Rattle.pw_kept.specs.Changes.{kept_file, unit_at, with_job}
 use Rattle.pw_kept.specs.Entered.{entered_file, file_at, file_by}
 use Rattle.pw_kept.specs.Kept.{Kept}
 use Rattle.pw_locks.specs.Oldest.{IsOldest}
-use Rattle.pw_onecopy.specs.Path.{FileAnswer}
+use Rattle.pw_onecopy.specs.Path.{FileResult}
 use Rattle.pw_seats.specs.Jobs.{context_of}
-use Rattle.pw_seats.specs.declared.job.Job.{Job}
+use Rattle.pw_seats.specs.declared.job.ProcessJob.{ProcessJob}
 use Rattle.pw_tmf.specs.Told.{Told}
 use Rattle.pw_tmf.specs.declared.answer.DiscFault.TheVariants as fault
 use Rattle.pw_tmf.specs.declared.answer.FileAnswer.TheVariants as done
@@ -33,19 +33,19 @@ none-oldest holder holders none is =
     omega (arith, among.1, few)
 
 -- where a job's context stands at a verb, that is beside it
-verb-there : (system : System) (own : Job) (v : Option Verb) → own.verb ≡ v → IsVerbOf system own.context v
+verb-there : (system : System) (own : ProcessJob) (v : Option Verb) → own.verb ≡ v → IsVerbOf system own.context v
     → own.context.at_verb ≡ true → own.verb ≡ Some (verb_in system own.context)
 verb-there system own None is has at = absurd (both_ways own.context.at_verb has at)
 verb-there system own (Some v) is has at = is ∙ ap (λ (w : Verb). Some w) has.1
 
 -- the job of a process whose context stands at a verb
-pub record HasJob (system : System) (jobs : List (Option Job)) (i : ℕ) (context : Context) : Type 0 where
-  pub own : Job
+pub record HasJob (system : System) (jobs : List (Option ProcessJob)) (i : ℕ) (context : Context) : Type 0 where
+  pub own : ProcessJob
   pub there : job_of jobs i ≡ Some own
   pub is : own.context ≡ context
   pub reads : own.verb ≡ Some (verb_in system context)
 
-has-job : (system : System) (jobs : List (Option Job)) (i : ℕ) (context : Context) (job : Option Job)
+has-job : (system : System) (jobs : List (Option ProcessJob)) (i : ℕ) (context : Context) (job : Option ProcessJob)
     → job_of jobs i ≡ job → JobHasVerb system job → context_of job ≡ Some context → context.at_verb ≡ true
     → HasJob system jobs i context
 has-job system jobs i context None there has is at = absurd (cc is)
@@ -100,7 +100,7 @@ module _ {D : Type 0} (told : D → Told) (old : KeepState D) (c i : ℕ) (can :
       ap (λ (k : KeepState D). with_job c i (Some context) (kept_in told k)) is.rest
       ∙ (ap (λ (d : Told). with_job c i (Some context) (record (kept_in told old) { disc = d })) is.operates.2
       ∙ (ap (λ (x : Context). kept_file c i can.request can.call x (kept_in told old))
-      (made ∙ ap (λ (f : FileAnswer). answered_with old.system (file_told f) can.context) is.operates.1)
+      (made ∙ ap (λ (f : FileResult). answered_with old.system (file_told f) can.context) is.operates.1)
       ∙ sym (file-is old.system (kept_in told old) c i can)))
 
   -- no other unit bars it

@@ -18,7 +18,7 @@ use Rattle.pw_kept.specs.Changes.{unit_at}
 use Rattle.pw_kept.specs.ClassTests.{may_take}
 use Rattle.pw_kept.specs.Entered.{copied}
 use Rattle.pw_kept.specs.Kept.{Kept}
-use Rattle.pw_kept.specs.TerminalTests.{closing, flies, pair_of}
+use Rattle.pw_kept.specs.TerminalTests.{closing, flies, seen_pair_of}
 use Rattle.pw_kept.specs.Tested.{IsPlaced}
 use Rattle.pw_locks.specs.Conflicts.{holders}
 use Rattle.pw_machine.specs.Stack.{HasRoom}
@@ -60,7 +60,7 @@ pub record CanCarry (system : System) (kept : Kept) (t : ℕ) (kind : CheckKind)
   pub there : context ≡ Some own
   pub image : HasImage own
   pub room : HasRoom own
-  pub sends : MaySend (pair_of system kept t).mode kind
+  pub sends : MaySend (seen_pair_of system kept t).mode kind
 
 -- the terminal's verb ends a transaction, and what is behind its answer can be sent
 pub record CanClose (system : System) (kept : Kept) (t : ℕ) : Type 0 where

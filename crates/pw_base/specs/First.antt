@@ -15,8 +15,8 @@ better None fault = Some fault
 better (Some known) fault = if is_before fault known then Some fault else Some known
 
 -- the one that is known, and a fault where there is one
-abbrev pub noted : Option Fault → Bool → Fault → Option Fault
-noted known is_fault fault = if is_fault then better known fault else known
+abbrev pub fault_noted : Option Fault → Bool → Fault → Option Fault
+fault_noted known is_fault fault = if is_fault then better known fault else known
 
 -- the first of the faults and of the one that is known, if any
 abbrev pub least : Option Fault → List Fault → Option Fault

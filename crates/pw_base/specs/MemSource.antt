@@ -16,13 +16,13 @@ abbrev pub read_fails : SourceState → Bool
 read_fails source = is_listed source.fail_at source.calls
 
 -- as many of the bytes as there is room for, or that none is left
-abbrev pub given : List ℕ → ℕ → Got
-given [] room = got.End
-given (byte ∷ bytes) room = got.Got (min room (length (byte ∷ bytes)))
+abbrev pub bytes_given : List ℕ → ℕ → Got
+bytes_given [] room = got.End
+bytes_given (byte ∷ bytes) room = got.Got (min room (length (byte ∷ bytes)))
 
 -- what a read into a buffer of this length answers
 abbrev pub answer_of_read : SourceState → ℕ → Got
-answer_of_read source room = if read_fails source then got.Failed else given source.left room
+answer_of_read source room = if read_fails source then got.Failed else bytes_given source.left room
 
 -- what a read into this buffer leaves there
 abbrev pub buffer_after_read : SourceState → List ℕ → List ℕ

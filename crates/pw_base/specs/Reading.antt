@@ -10,15 +10,15 @@ use Rattle.pw_base.specs.declared.read_all.ReadFault.TheVariants.{Fault, TooLong
 
 -- What was taken of the source, by the outcome: at Ok it is all, and at most the longest input;
 -- a failure came before more than that, and an input that is too long is longer.
-abbrev pub Comes : Result (List ℕ) ReadFault → List ℕ → Option (List ℕ) → Type 0
-Comes (Ok bytes) taken now = (bytes ≡ taken) × (length taken ≤ longest_input) × IsAtEnd now
-Comes (Err Fault) taken now = length taken ≤ longest_input
-Comes (Err TooLong) taken now = longest_input < length taken
-Comes (Err Memory) taken now = Unit {0}
+abbrev pub HasRead : Result (List ℕ) ReadFault → List ℕ → Option (List ℕ) → Type 0
+HasRead (Ok bytes) taken now = (bytes ≡ taken) × (length taken ≤ longest_input) × IsAtEnd now
+HasRead (Err Fault) taken now = length taken ≤ longest_input
+HasRead (Err TooLong) taken now = longest_input < length taken
+HasRead (Err Memory) taken now = Unit {0}
 
 -- a reading to the end took bytes of those that were left, where they are told
 abbrev pub ReadsAll : Result (List ℕ) ReadFault → Option (List ℕ) → Option (List ℕ) → Type 0
-ReadsAll result before now = (taken : List ℕ) × Consumes before now taken × Comes result taken now
+ReadsAll result before now = (taken : List ℕ) × Consumes before now taken × HasRead result taken now
 
 -- how the count of faults goes on: it rises at a fault, and else it stays
 abbrev pub CountsReadAll : Result (List ℕ) ReadFault → ℕ → ℕ → Type 0

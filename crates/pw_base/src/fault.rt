@@ -1,5 +1,5 @@
 ghost use Rattle.std.specs.Prelude.{◌≡◌};
-ghost use Rattle.pw_base.specs.First.{is_before, better, noted, least};
+ghost use Rattle.pw_base.specs.First.{is_before, better, fault_noted, least};
 
 use crate::fault_code::FaultCode;
 use crate::memory::Memory;
@@ -35,7 +35,7 @@ pub fn better(known: Option<Fault>, fault: Fault) -> Option<Fault>
 
 /// The one that is known, or where there is a fault the first of the two.
 pub fn noted(known: Option<Fault>, is_fault: bool, fault: Fault) -> Option<Fault>
-    ensures { result ≡ noted known is_fault fault }
+    ensures { result ≡ fault_noted known is_fault fault }
 {
     if is_fault {
         better(known, fault)

@@ -19,24 +19,24 @@ abbrev pub split : List (List ℕ) → List ℕ → List (List ℕ) → List (Li
 split before content behind = split_by (length (packed_all before)) (length content + 2) (length (packed_all behind)) before content behind
 
 -- the block of some records and more records, and none where there are none
-abbrev pub joined : List (List ℕ) → List (List ℕ) → List (List (List ℕ))
-joined [] [] = []
-joined [] (content ∷ behind) = (content ∷ behind) ∷ []
-joined (content ∷ before) behind = (content ∷ (before ++ behind)) ∷ []
+abbrev pub block_joined : List (List ℕ) → List (List ℕ) → List (List (List ℕ))
+block_joined [] [] = []
+block_joined [] (content ∷ behind) = (content ∷ behind) ∷ []
+block_joined (content ∷ before) behind = (content ∷ (before ++ behind)) ∷ []
 
 -- the block of the content's key has become those of its records with the content in its place
-pub record IsWritten (n : ℕ) (blocks : List (List (List ℕ))) (content : List ℕ) (now : List (List (List ℕ))) : Type 0 where
+pub record IsRecordWritten (n : ℕ) (blocks : List (List (List ℕ))) (content : List ℕ) (now : List (List (List ℕ))) : Type 0 where
   pub place : ℕ
   pub home : IsHome n blocks (take n content) place
   pub split_is : let block : List (List ℕ) = slice_index_or blocks place [] in
       now ≡ with_blocks blocks place (split (below n block (take n content)) content (above n block (take n content)))
 
 -- the block of the key has become that of its other records, or has gone with its last one
-pub record IsTaken (n : ℕ) (blocks : List (List (List ℕ))) (key : List ℕ) (now : List (List (List ℕ))) : Type 0 where
+pub record IsRecordRemoved (n : ℕ) (blocks : List (List (List ℕ))) (key : List ℕ) (now : List (List (List ℕ))) : Type 0 where
   pub place : ℕ
   pub home : IsHome n blocks key place
   pub joined_is : let block : List (List ℕ) = slice_index_or blocks place [] in
-      now ≡ with_blocks blocks place (joined (below n block key) (above n block key))
+      now ≡ with_blocks blocks place (block_joined (below n block key) (above n block key))
 
 -- what holds where a change was done, and where it was not
 abbrev pub IfChanged : Result Bool Memory → Type 0 → Type 0 → Type 0

@@ -16,14 +16,14 @@ pub const BLOCK: usize = 4096;
 /// A block of records, each after its length in 2 bytes, at most 4,096 bytes in all. Contracts see
 /// the contents in order.
 #[derive(Debug, Drop)]
-pub struct Block {
+pub struct DataBlock {
     bytes: Bytes,
     /// Where one of the records begins, or the last one ends: a key is sought from there on where it is above that
     /// record's, for records mostly come in the order of their keys.
     finger: usize,
 }
 
-impl Model for Block {
+impl Model for DataBlock {
     ghost use Rattle.std.specs.Prelude.{List, ℕ};
     ghost use Rattle.std.specs.Coded.{coded_list, coded_ℕ};
     ghost use Rattle.pw_blocks.specs.Packing.{IsBlock, IsFinger, unpacked};
@@ -40,12 +40,12 @@ impl Model for Block {
     } };
 }
 
-impl Block {
+impl DataBlock {
     /// An equal block.
-    pub fn copy(&self, alloc: Global) -> Result<Block, Memory>
+    pub fn copy(&self, alloc: Global) -> Result<DataBlock, Memory>
         ensures { IfOk result (λ block. block ≡ self.now) }
     {
-        Ok(Block {
+        Ok(DataBlock {
             bytes: self.bytes.copy(alloc)?,
             finger: self.finger,
         })
@@ -72,7 +72,7 @@ impl Block {
         before: &[u8],
         content: &[u8],
         behind: &[u8],
-    ) -> Result<Block, Memory>
+    ) -> Result<DataBlock, Memory>
         requires before { IsBlock before.now }
         requires behind { IsBlock behind.now }
         requires content { length content.now ≤ most_content }
@@ -87,25 +87,25 @@ impl Block {
         bytes.push((size % 256) as u8)?;
         bytes.extend(content)?;
         bytes.extend(behind)?;
-        Ok(Block {
+        Ok(DataBlock {
             bytes,
             finger: before.len(),
         })
     }
 
     /// A block of the records of some bytes.
-    pub fn from_slice(alloc: Global, bytes: &[u8]) -> Result<Block, Memory>
+    pub fn from_slice(alloc: Global, bytes: &[u8]) -> Result<DataBlock, Memory>
         requires { IsBlock bytes.now }
         ensures { IfOk result (λ block. block ≡ unpacked bytes.now) }
     {
-        Ok(Block {
+        Ok(DataBlock {
             bytes: Bytes::from_slice(alloc, bytes)?,
             finger: 0,
         })
     }
 
     /// A block of the records of some bytes and of more bytes.
-    pub fn beside(alloc: Global, before: &[u8], behind: &[u8]) -> Result<Block, Memory>
+    pub fn beside(alloc: Global, before: &[u8], behind: &[u8]) -> Result<DataBlock, Memory>
         requires before { IsBlock before.now }
         requires behind { IsBlock behind.now }
         requires fits { length before.now + length behind.now ≤ 4096 }
@@ -113,7 +113,7 @@ impl Block {
     {
         let mut bytes = Bytes::from_slice(alloc, before)?;
         bytes.extend(behind)?;
-        Ok(Block {
+        Ok(DataBlock {
             bytes,
             finger: before.len(),
         })

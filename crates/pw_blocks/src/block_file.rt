@@ -6,9 +6,9 @@ ghost use Rattle.pw_blocks.specs.Blocks.{BlocksState, IsHome, records_of, with_b
 ghost use Rattle.pw_blocks.specs.Cuts.{IsCut};
 ghost use Rattle.pw_blocks.specs.Packing.{IsBlock, IsFinger, unpacked};
 ghost use Rattle.pw_blocks.specs.Seats.{IsSeat};
-ghost use Rattle.pw_blocks.specs.Splits.{IfChanged, IsTaken, IsWritten};
+ghost use Rattle.pw_blocks.specs.Splits.{IfChanged, IsRecordRemoved, IsRecordWritten};
 
-use crate::block::Block;
+use crate::block::DataBlock;
 use crate::cut::{Cut, cut_at};
 use crate::packing::first_record;
 use crate::pieces::{copies, first_keys, pieces, rest};
@@ -26,7 +26,7 @@ use std::marker::Model;
 pub struct BlockFile {
     key: u16,
     index: Vec<Bytes>,
-    blocks: Vec<Block>,
+    blocks: Vec<DataBlock>,
 }
 
 impl Model for BlockFile {
@@ -136,7 +136,7 @@ impl BlockFile {
     }
 
     /// Puts blocks in place of one, or into an empty file. An `Err` leaves the file as it was.
-    fn put(&mut self, place: usize, blocks: Vec<Block>) -> Result<(), Memory>
+    fn put(&mut self, place: usize, blocks: Vec<DataBlock>) -> Result<(), Memory>
         requires within { place ≤ length self.old.blocks - 1 }
         requires none_empty { All (λ block. block ≢ []) blocks.items }
         requires file { IsFile self.old.key (records_of (with_blocks self.old.blocks place blocks.items)) }
@@ -169,7 +169,7 @@ impl BlockFile {
             (records_of self.old.blocks) }
         ensures key { self.new.key ≡ self.old.key }
         ensures file { IsFile self.new.key (records_of self.new.blocks) }
-        ensures blocks { IfChanged result (IsWritten self.old.key self.old.blocks content.now self.new.blocks)
+        ensures blocks { IfChanged result (IsRecordWritten self.old.key self.old.blocks content.now self.new.blocks)
             (self.new.blocks ≡ self.old.blocks) }
     {
         let alloc = *self.blocks.allocator();
@@ -213,7 +213,7 @@ impl RecordFile for BlockFile {
             (with_record self.old.key (records_of self.old.blocks) content) (records_of self.old.blocks) }
         ensures key_length { self.new.key ≡ self.old.key }
         ensures file { IsFile self.new.key (records_of self.new.blocks) }
-        ensures blocks { IfChanged result (IsWritten self.old.key self.old.blocks content self.new.blocks)
+        ensures blocks { IfChanged result (IsRecordWritten self.old.key self.old.blocks content self.new.blocks)
             (self.new.blocks ≡ self.old.blocks) }
     {
         self.write(content.as_slice(), false)
@@ -229,7 +229,7 @@ impl RecordFile for BlockFile {
             (with_record self.old.key (records_of self.old.blocks) content) (records_of self.old.blocks) }
         ensures key_length { self.new.key ≡ self.old.key }
         ensures file { IsFile self.new.key (records_of self.new.blocks) }
-        ensures blocks { IfChanged result (IsWritten self.old.key self.old.blocks content self.new.blocks)
+        ensures blocks { IfChanged result (IsRecordWritten self.old.key self.old.blocks content self.new.blocks)
             (self.new.blocks ≡ self.old.blocks) }
     {
         self.write(content.as_slice(), true)
@@ -243,7 +243,7 @@ impl RecordFile for BlockFile {
             (without_key self.old.key (records_of self.old.blocks) key.now) (records_of self.old.blocks) }
         ensures key_length { self.new.key ≡ self.old.key }
         ensures file { IsFile self.new.key (records_of self.new.blocks) }
-        ensures blocks { IfChanged result (IsTaken self.old.key self.old.blocks key.now self.new.blocks)
+        ensures blocks { IfChanged result (IsRecordRemoved self.old.key self.old.blocks key.now self.new.blocks)
             (self.new.blocks ≡ self.old.blocks) }
     {
         let alloc = *self.blocks.allocator();

@@ -2,9 +2,9 @@ ghost use Rattle.std.specs.Prelude.{◌≡◌, ◌≢◌, ◌≤◌, ◌+◌, �
 ghost use Rattle.pw_base.specs.Limits.{most_content};
 ghost use Rattle.pw_blocks.specs.Blocks.{first_key, records_of};
 ghost use Rattle.pw_blocks.specs.Packing.{IsBlock, unpacked};
-ghost use Rattle.pw_blocks.specs.Splits.{joined, split};
+ghost use Rattle.pw_blocks.specs.Splits.{block_joined, split};
 
-use crate::block::{BLOCK, Block};
+use crate::block::{BLOCK, DataBlock};
 use pw_base::bytes::Bytes;
 use pw_base::memory::Memory;
 use std::alloc::Global;
@@ -16,7 +16,7 @@ pub fn pieces(
     before: &[u8],
     content: &[u8],
     behind: &[u8],
-) -> Result<Vec<Block>, Memory>
+) -> Result<Vec<DataBlock>, Memory>
     requires before { IsBlock before.now }
     requires behind { IsBlock behind.now }
     requires content { length content.now ≤ most_content }
@@ -28,43 +28,43 @@ pub fn pieces(
     let size = content.len() + 2;
     let mut blocks = Vec::new(alloc);
     if before.len() + size + behind.len() <= BLOCK {
-        blocks.push(Block::joined(alloc, before, content, behind)?)?;
+        blocks.push(DataBlock::joined(alloc, before, content, behind)?)?;
         return Ok(blocks);
     }
     if before.len() + size <= BLOCK {
-        blocks.push(Block::joined(alloc, before, content, &[])?)?;
-        blocks.push(Block::from_slice(alloc, behind)?)?;
+        blocks.push(DataBlock::joined(alloc, before, content, &[])?)?;
+        blocks.push(DataBlock::from_slice(alloc, behind)?)?;
         return Ok(blocks);
     }
-    blocks.push(Block::from_slice(alloc, before)?)?;
+    blocks.push(DataBlock::from_slice(alloc, before)?)?;
     if size + behind.len() <= BLOCK {
-        blocks.push(Block::joined(alloc, &[], content, behind)?)?;
+        blocks.push(DataBlock::joined(alloc, &[], content, behind)?)?;
         return Ok(blocks);
     }
-    blocks.push(Block::joined(alloc, &[], content, &[])?)?;
-    blocks.push(Block::from_slice(alloc, behind)?)?;
+    blocks.push(DataBlock::joined(alloc, &[], content, &[])?)?;
+    blocks.push(DataBlock::from_slice(alloc, behind)?)?;
     Ok(blocks)
 }
 
 /// The records of some bytes and of more bytes in one block, and no block where there are none.
-pub fn rest(alloc: Global, before: &[u8], behind: &[u8]) -> Result<Vec<Block>, Memory>
+pub fn rest(alloc: Global, before: &[u8], behind: &[u8]) -> Result<Vec<DataBlock>, Memory>
     requires before { IsBlock before.now }
     requires behind { IsBlock behind.now }
     requires fits { length before.now + length behind.now ≤ 4096 }
     ensures records { IfOk result (λ blocks. records_of blocks.items
         ≡ unpacked before.now ++ unpacked behind.now) }
     ensures none_empty { IfOk result (λ blocks. All (λ block. block ≢ []) blocks.items) }
-    ensures joined { IfOk result (λ blocks. blocks.items ≡ joined (unpacked before.now) (unpacked behind.now)) }
+    ensures joined { IfOk result (λ blocks. blocks.items ≡ block_joined (unpacked before.now) (unpacked behind.now)) }
 {
     let mut blocks = Vec::new(alloc);
     if !before.is_empty() || !behind.is_empty() {
-        blocks.push(Block::beside(alloc, before, behind)?)?;
+        blocks.push(DataBlock::beside(alloc, before, behind)?)?;
     }
     Ok(blocks)
 }
 
 /// The first key of each block.
-pub fn first_keys(alloc: Global, blocks: &[Block], key_length: usize) -> Result<Vec<Bytes>, Memory>
+pub fn first_keys(alloc: Global, blocks: &[DataBlock], key_length: usize) -> Result<Vec<Bytes>, Memory>
     ensures { IfOk result (λ keys. keys.items ≡ map (first_key key_length) blocks.now) }
 {
     let mut keys = Vec::new(alloc);
@@ -75,7 +75,7 @@ pub fn first_keys(alloc: Global, blocks: &[Block], key_length: usize) -> Result<
 }
 
 /// Equal blocks.
-pub fn copies(alloc: Global, blocks: &[Block]) -> Result<Vec<Block>, Memory>
+pub fn copies(alloc: Global, blocks: &[DataBlock]) -> Result<Vec<DataBlock>, Memory>
     ensures { IfOk result (λ copies. copies.items ≡ blocks.now) }
 {
     let mut copies = Vec::new(alloc);

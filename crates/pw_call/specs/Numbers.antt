@@ -4,14 +4,14 @@ use Rattle.pw_call.specs.declared.status.Status.{Status}
 use Rattle.pw_call.specs.declared.status.Status.TheVariants.{DiscFault, Finished, Irregular, Limit, Memory, NotAStep, ReadFault, Refused, Usage, WriteFault}
 
 -- the number of each status
-abbrev pub number_of : Status → ℕ
-number_of Finished = 0
-number_of Irregular = 1
-number_of Refused = 2
-number_of Limit = 3
-number_of ReadFault = 4
-number_of WriteFault = 5
-number_of Memory = 6
-number_of Usage = 7
-number_of NotAStep = 8
-number_of DiscFault = 9
+abbrev pub status_number : Status → ℕ
+status_number Finished = 0
+status_number Irregular = 1
+status_number Refused = 2
+status_number Limit = 3
+status_number ReadFault = 4
+status_number WriteFault = 5
+status_number Memory = 6
+status_number Usage = 7
+status_number NotAStep = 8
+status_number DiscFault = 9

@@ -6,12 +6,12 @@ use Rattle.pw_call.specs.declared.status.Status.{Status}
 use Rattle.pw_call.specs.declared.status.Status.TheVariants.{WriteFault}
 
 -- the whole text was written, and the sink's count of faults is as it was
-pub record IsWhole (text : List ℕ) (before now : Option (List ℕ)) (faults faults_then : ℕ) : Type 0 where
+pub record IsWrittenWhole (text : List ℕ) (before now : Option (List ℕ)) (faults faults_then : ℕ) : Type 0 where
   pub all : Appends before now text
   pub count : faults_then ≡ faults
 
 -- the sink failed behind a beginning of the text, which is not all, and has counted that
-pub record IsCut (text : List ℕ) (before now : Option (List ℕ)) (faults faults_then : ℕ) : Type 0 where
+pub record IsOutputCut (text : List ℕ) (before now : Option (List ℕ)) (faults faults_then : ℕ) : Type 0 where
   pub taken : ℕ
   pub some : taken < length text
   pub begun : Appends before now (take taken text)
@@ -20,5 +20,5 @@ pub record IsCut (text : List ℕ) (before now : Option (List ℕ)) (faults faul
 -- a text is written whole, and the status is the one that was given; or it is cut, and the status says so
 abbrev pub EndsWriting : Status → Status → List ℕ → Option (List ℕ) → Option (List ℕ) → ℕ → ℕ → Type 0
 EndsWriting given status text before now faults faults_then =
-    ((status ≡ given) × IsWhole text before now faults faults_then)
-    ⊎ ((status ≡ WriteFault) × IsCut text before now faults faults_then)
+    ((status ≡ given) × IsWrittenWhole text before now faults faults_then)
+    ⊎ ((status ≡ WriteFault) × IsOutputCut text before now faults faults_then)

@@ -1,5 +1,5 @@
 ghost use Rattle.std.specs.Prelude.{◌≡◌};
-ghost use Rattle.pw_call.specs.Numbers.{number_of};
+ghost use Rattle.pw_call.specs.Numbers.{status_number};
 
 /// How a call of the program ends (docs/COMMANDS.md).
 #[derive(Clone, Copy, Debug, PartialEq, Eq)]
@@ -30,7 +30,7 @@ pub enum Status {
 impl Status {
     /// The exit status: 0 to 9, in the order of the variants.
     pub fn number(self) -> u8
-        ensures { result ≡ number_of self }
+        ensures { result ≡ status_number self }
     {
         match self {
             Status::Finished => 0,

@@ -9,10 +9,10 @@ use Rattle.std.proofs.lemmas.List.Sums.{fails_before_first}
 use Rattle.std.proofs.lemmas.List.{get_or_default}
 use Rattle.pw_base.proofs.Plain.{cond_none}
 use Rattle.pw_class.specs.Book.{queue_at}
-use Rattle.pw_class.specs.Places.{IsPlace}
+use Rattle.pw_class.specs.Places.{IsRequestPlace}
 use Rattle.pw_class.specs.Queue.{Queue, is_of, works_for, at_process, has_request, IsIn}
-use Rattle.pw_class.specs.declared.request.Place.{Place}
-use Rattle.pw_class.specs.declared.request.Place.TheVariants.{Busy, Waiting}
+use Rattle.pw_class.specs.declared.request.RequestPlace.{RequestPlace}
+use Rattle.pw_class.specs.declared.request.RequestPlace.TheVariants.{Busy, Waiting}
 
 -- where no place is found, none passes
 pub none-each : {X : Type 0} (p : X → Bool) (xs : List X) → position p xs ≡ None → (k : ℕ) (d : X) → k < length xs → p (get_or xs k d) ≡ false
@@ -52,15 +52,15 @@ pub has-none : (terminal : ℕ) (queue : Queue) → list_any (is_of terminal) qu
 has-none terminal queue waits e = let works = none-any (works_for terminal) queue.busy e in rw (waits, works) refl
 
 -- the place that the first class with a request tells is the terminal's
-pub is-place : (terminal : ℕ) (book : List Queue) (class : ℕ) (queue : Queue) (result : Option Place) → position (has_request terminal) book ≡ Some class
+pub is-place : (terminal : ℕ) (book : List Queue) (class : ℕ) (queue : Queue) (result : Option RequestPlace) → position (has_request terminal) book ≡ Some class
     → queue ≡ get_or book class queue → is_some result ≡ has_request terminal queue → IfSome result (IsIn queue class terminal)
-    → IsPlace book terminal result
+    → IsRequestPlace book terminal result
 is-place terminal book class queue result e is found place =
     let at = position-Some (has_request terminal) book class queue e in
     let here : queue ≡ queue_at book class = is ∙ get_or_default book class queue _ at.0 in
     of result here (found ∙ (ap (has_request terminal) is ∙ at.1)) place
   where
-    of : (result : Option Place) → queue ≡ queue_at book class → is_some result ≡ true → IfSome result (IsIn queue class terminal) → IsPlace book terminal result
+    of : (result : Option RequestPlace) → queue ≡ queue_at book class → is_some result ≡ true → IfSome result (IsIn queue class terminal) → IsRequestPlace book terminal result
     of None here some place = absurd (cc some)
     of (Some (Waiting own)) here some place = (refl, rw (place.0, ← here) place.1)
     of (Some (Busy own process)) here some place = (refl, rw (place.0, ← here) place.1)

@@ -8,10 +8,10 @@ use Rattle.std.proofs.lemmas.List.Folds.{list_any-append}
 use Rattle.std.proofs.lemmas.List.Quantifiers.{position-Some}
 use Rattle.pw_base.proofs.Plain.{or-false}
 use Rattle.pw_class.specs.Book.{is_out, queue_at}
-use Rattle.pw_class.specs.Places.{AreNoted, IsPlace, noted}
+use Rattle.pw_class.specs.Places.{AreNoted, IsRequestPlace, noted_place}
 use Rattle.pw_class.specs.Queue.{Queue, after_take, after_take_of, at_process, busy_without, free_place, has_request, is_of, taken, taken_of, with_free, with_request, without, works_for}
-use Rattle.pw_class.specs.declared.request.Place.{Place}
-use Rattle.pw_class.specs.declared.request.Place.TheVariants.{Busy, Waiting}
+use Rattle.pw_class.specs.declared.request.RequestPlace.{RequestPlace}
+use Rattle.pw_class.specs.declared.request.RequestPlace.TheVariants.{Busy, Waiting}
 use Rattle.pw_class.specs.declared.request.Request.{Request}
 use Rattle.pw_class.specs.declared.request.Taken.TheVariants.{Got, Empty, NoneFree}
 use Rattle.pw_class.proofs.Noting.{SameBook, SameFor, book-map, book-set, out-at, room, same-queue, still-noted}
@@ -209,50 +209,50 @@ is-other : (other : ℕ) (request : Request) → other ≢ request.terminal → 
 is-other other request apart = grind (arith, nat_tests)
 
 -- the places that are noted of the other terminals
-abbrev pub Others : ℕ → List (Option Place) → List (Option Place) → Type 0
-Others terminal places placed = (other : ℕ) → other ≢ terminal → noted placed other ≡ noted places other
+abbrev pub Others : ℕ → List (Option RequestPlace) → List (Option RequestPlace) → Type 0
+Others terminal places placed = (other : ℕ) → other ≢ terminal → noted_place placed other ≡ noted_place places other
 
-pub noted-put : (book : List Queue) (places placed : List (Option Place)) (class : ℕ) (request : Request) (queue : Queue) → class < length book
+pub noted-put : (book : List Queue) (places placed : List (Option RequestPlace)) (class : ℕ) (request : Request) (queue : Queue) → class < length book
     → AreNoted book places → Others request.terminal places placed → queue ≡ with_request (queue_at book class) request
-    → noted placed request.terminal ≡ Some (Waiting class) → AreNoted (set book class queue) placed
+    → noted_place placed request.terminal ≡ Some (Waiting class) → AreNoted (set book class queue) placed
 noted-put book places placed class request queue lt was others is here =
     still-noted book (set book class queue) places placed request.terminal was others
     (λ other apart. subst (λ q. SameBook other book (set book class q)) (sym is)
     (book-set other book class _ (put-same other (queue_at book class) request (is-other other request apart))))
     (rw (here, is) (refl, put-waits request.terminal book class request lt (is-own request)))
 
-pub noted-take : (book : List Queue) (places placed : List (Option Place)) (class process : ℕ) (request : Request)
+pub noted-take : (book : List Queue) (places placed : List (Option RequestPlace)) (class process : ℕ) (request : Request)
     → taken (queue_at book class) ≡ Got process request → AreNoted book places → Others request.terminal places placed
-    → noted placed request.terminal ≡ Some (Busy class process) → AreNoted (set book class (after_take (queue_at book class))) placed
+    → noted_place placed request.terminal ≡ Some (Busy class process) → AreNoted (set book class (after_take (queue_at book class))) placed
 noted-take book places placed class process request got was others here =
     still-noted book _ places placed request.terminal was others
     (λ other apart. book-set other book class _ (take-same other (queue_at book class) process request got (is-other other request apart)))
     (rw here (refl, take-works request.terminal book class process request got (is-own request)))
 
-pub noted-reply : (book : List Queue) (places placed : List (Option Place)) (class process : ℕ) (request : Request)
+pub noted-reply : (book : List Queue) (places placed : List (Option RequestPlace)) (class process : ℕ) (request : Request)
     → at_process (queue_at book class) process ≡ Some request → AreNoted book places → Others request.terminal places placed
-    → IsPlace (set book class (with_free (queue_at book class) process)) request.terminal (noted placed request.terminal)
+    → IsRequestPlace (set book class (with_free (queue_at book class) process)) request.terminal (noted_place placed request.terminal)
     → AreNoted (set book class (with_free (queue_at book class) process)) placed
 noted-reply book places placed class process request at was others here =
     still-noted book _ places placed request.terminal was others
     (λ other apart. book-set other book class _ (free-same other (queue_at book class) process request at (is-other other request apart)))
     here
 
-pub noted-cancel : (book : List Queue) (places placed : List (Option Place)) (terminal : ℕ) → AreNoted book places → Others terminal places placed
-    → noted placed terminal ≡ None → AreNoted (map (without terminal) book) placed
+pub noted-cancel : (book : List Queue) (places placed : List (Option RequestPlace)) (terminal : ℕ) → AreNoted book places → Others terminal places placed
+    → noted_place placed terminal ≡ None → AreNoted (map (without terminal) book) placed
 noted-cancel book places placed terminal was others here =
     still-noted book _ places placed terminal was others
     (λ other apart. book-map other (without terminal) (cancel-same other terminal apart) book)
     (rw here (none-out terminal book))
 
 -- a terminal whose request is taken, or worked on, has room
-pub room-taken : (book : List Queue) (places : List (Option Place)) (class process : ℕ) (request : Request)
+pub room-taken : (book : List Queue) (places : List (Option RequestPlace)) (class process : ℕ) (request : Request)
     → taken (queue_at book class) ≡ Got process request → AreNoted book places → request.terminal < length places
 room-taken book places class process request got was =
     room book places request.terminal was
     (out-at request.terminal book class (taken-has request.terminal (queue_at book class) process request got (is-own request)))
 
-pub room-busy : (book : List Queue) (places : List (Option Place)) (class process : ℕ) (request : Request)
+pub room-busy : (book : List Queue) (places : List (Option RequestPlace)) (class process : ℕ) (request : Request)
     → at_process (queue_at book class) process ≡ Some request → AreNoted book places → request.terminal < length places
 room-busy book places class process request at was =
     room book places request.terminal was

@@ -5,10 +5,10 @@ use Rattle.std.specs.List.{list_any}
 use Rattle.std.proofs.lemmas.Bool.Decides.{nat_tests}
 use Rattle.pw_code.specs.declared.system.ClassInfo.{ClassInfo}
 use Rattle.pw_class.specs.Book.{first_queue, is_out, queue_at}
-use Rattle.pw_class.specs.Places.{noted, AreNoted, IsPlace}
+use Rattle.pw_class.specs.Places.{noted_place, AreNoted, IsRequestPlace}
 use Rattle.pw_class.specs.Queue.{Queue, at_process, has_request, is_of, works_for}
-use Rattle.pw_class.specs.declared.request.Place.{Place}
-use Rattle.pw_class.specs.declared.request.Place.TheVariants.{Waiting, Busy}
+use Rattle.pw_class.specs.declared.request.RequestPlace.{RequestPlace}
+use Rattle.pw_class.specs.declared.request.RequestPlace.TheVariants.{Waiting, Busy}
 
 -- two queues have the same of a terminal
 pub record SameFor (terminal : ℕ) (old new : Queue) : Type 0 where
@@ -51,32 +51,32 @@ book-map terminal change same (first ∷ rest) =
       out = rw (has-same terminal first (change first) (same first), behind.out) refl;
     }
 
-same-place : (terminal : ℕ) (old new : List Queue) (place : Option Place) → SameBook terminal old new → IsPlace old terminal place
-    → IsPlace new terminal place
+same-place : (terminal : ℕ) (old new : List Queue) (place : Option RequestPlace) → SameBook terminal old new → IsRequestPlace old terminal place
+    → IsRequestPlace new terminal place
 same-place terminal old new None same is = sym same.out ∙ is
 same-place terminal old new (Some (Waiting own)) same is = (refl, sym (same.class own).waits ∙ is.1)
 same-place terminal old new (Some (Busy own process)) same is = (refl, sym ((same.class own).each process) ∙ is.1)
 
 -- the places stay noted where the books have the same of all terminals but one, and of that one the new place is noted
-pub still-noted : (old new : List Queue) (places placed : List (Option Place)) (terminal : ℕ) → AreNoted old places
-    → ((other : ℕ) → other ≢ terminal → noted placed other ≡ noted places other)
+pub still-noted : (old new : List Queue) (places placed : List (Option RequestPlace)) (terminal : ℕ) → AreNoted old places
+    → ((other : ℕ) → other ≢ terminal → noted_place placed other ≡ noted_place places other)
     → ((other : ℕ) → other ≢ terminal → SameBook other old new)
-    → IsPlace new terminal (noted placed terminal)
+    → IsRequestPlace new terminal (noted_place placed terminal)
     → AreNoted new placed
 still-noted old new places placed terminal was others same here other = by_test (other == terminal) refl
   where
-    by_test : (b : Bool) → (other == terminal) ≡ b → IsPlace new other (noted placed other)
+    by_test : (b : Bool) → (other == terminal) ≡ b → IsRequestPlace new other (noted_place placed other)
     by_test true e = let one : other ≡ terminal = grind (arith, nat_tests) in rw one here
     by_test false e =
         let apart : other ≢ terminal = grind (arith, nat_tests) in
-        subst (IsPlace new other) (sym (others other apart)) (same-place other old new _ (same other apart) (was other))
+        subst (IsRequestPlace new other) (sym (others other apart)) (same-place other old new _ (same other apart) (was other))
 
 -- a terminal of which a request is out has room
-pub room : (book : List Queue) (places : List (Option Place)) (terminal : ℕ) → AreNoted book places → is_out book terminal ≡ true
+pub room : (book : List Queue) (places : List (Option RequestPlace)) (terminal : ℕ) → AreNoted book places → is_out book terminal ≡ true
     → terminal < length places
 room book places terminal was out = from places terminal (was terminal)
   where
-    from : (places : List (Option Place)) (k : ℕ) → IsPlace book terminal (noted places k) → k < length places
+    from : (places : List (Option RequestPlace)) (k : ℕ) → IsRequestPlace book terminal (noted_place places k) → k < length places
     from [] k none = absurd (cc (none, out))
     from (place ∷ rest) zero is = omega arith
     from (place ∷ rest) (suc k) is = let behind = from rest k is in omega (arith, behind)

@@ -2,9 +2,9 @@
 use Rattle.std.specs.Prelude.{ℕ, List, [], Bool, Option, None, replicate, slice_index_or}
 use Rattle.std.specs.List.{list_any}
 use Rattle.pw_code.specs.declared.system.ClassInfo.{ClassInfo}
-use Rattle.pw_class.specs.Queue.{Queue, at_process, has_request, class_of, IsIn}
+use Rattle.pw_class.specs.Queue.{Queue, at_process, has_request, class_of_place, IsIn}
 use Rattle.pw_class.specs.declared.request.Request.{Request}
-use Rattle.pw_class.specs.declared.request.Place.{Place}
+use Rattle.pw_class.specs.declared.request.RequestPlace.{RequestPlace}
 
 -- no request waits, and each process is free
 abbrev pub first_queue : ClassInfo → Queue
@@ -23,5 +23,5 @@ abbrev pub is_out : List Queue → ℕ → Bool
 is_out book terminal = list_any (has_request terminal) book
 
 -- a request of the terminal is at this place
-abbrev pub IsAt : List Queue → ℕ → Place → Type 0
-IsAt book terminal place = IsIn (queue_at book (class_of place)) (class_of place) terminal place
+abbrev pub IsAt : List Queue → ℕ → RequestPlace → Type 0
+IsAt book terminal place = IsIn (queue_at book (class_of_place place)) (class_of_place place) terminal place

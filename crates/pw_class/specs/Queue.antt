@@ -1,8 +1,8 @@
 -- A class: the requests that wait for it, and what its processes work on. Processes count from 1.
 use Rattle.std.specs.Prelude.{◌≡◌, IsTrue, ◌||◌, ℕ, ◌+◌, ◌-◌, ◌==◌, List, [], ◌∷◌, ◌++◌, Bool, false, not, Option, Some, None, is_none, map, filter, position, slice_index_or, slice_set, if◌then◌else◌}
 use Rattle.std.specs.List.{list_any}
-use Rattle.pw_class.specs.declared.request.Place.{Place}
-use Rattle.pw_class.specs.declared.request.Place.TheVariants.{Waiting, Busy}
+use Rattle.pw_class.specs.declared.request.RequestPlace.{RequestPlace}
+use Rattle.pw_class.specs.declared.request.RequestPlace.TheVariants.{Waiting, Busy}
 use Rattle.pw_class.specs.declared.request.Request.{Request}
 use Rattle.pw_class.specs.declared.request.Taken.{Taken}
 use Rattle.pw_class.specs.declared.request.Taken.TheVariants.{Got, Empty, NoneFree}
@@ -73,11 +73,11 @@ abbrev pub has_request : ℕ → Queue → Bool
 has_request terminal queue = list_any (is_of terminal) queue.waiting || list_any (works_for terminal) queue.busy
 
 -- the class of a place
-abbrev pub class_of : Place → ℕ
-class_of (Waiting class) = class
-class_of (Busy class process) = class
+abbrev pub class_of_place : RequestPlace → ℕ
+class_of_place (Waiting class) = class
+class_of_place (Busy class process) = class
 
 -- the place is of this class, and a request of the terminal is there
-abbrev pub IsIn : Queue → ℕ → ℕ → Place → Type 0
+abbrev pub IsIn : Queue → ℕ → ℕ → RequestPlace → Type 0
 IsIn queue class terminal (Waiting own) = (own ≡ class) × IsTrue (list_any (is_of terminal) queue.waiting)
 IsIn queue class terminal (Busy own process) = (own ≡ class) × IsTrue (works_for terminal (at_process queue process))

@@ -3,9 +3,9 @@ ghost use Rattle.std.specs.Option.{option_copied};
 ghost use Rattle.pw_code.specs.Valid.{IsValid};
 
 use crate::classes::{cancel_all, place_of, take_next};
-use crate::places::Places;
+use crate::places::RequestPlaces;
 use crate::queue::Queue;
-use crate::request::{Place, Request, Taken};
+use crate::request::{RequestPlace, Request, Taken};
 use pw_base::memory::Memory;
 use pw_code::system::System;
 use std::alloc::Global;
@@ -17,7 +17,7 @@ use std::marker::Model;
 pub struct ClassBook {
     classes: Vec<Queue>,
     /// Where the request of each terminal is.
-    places: Places,
+    places: RequestPlaces,
 }
 
 impl Model for ClassBook {
@@ -50,7 +50,7 @@ impl ClassBook {
         }
         Ok(ClassBook {
             classes,
-            places: Places::new(alloc),
+            places: RequestPlaces::new(alloc),
         })
     }
 
@@ -73,7 +73,7 @@ impl ClassBook {
         let terminal = request.terminal;
         self.places.reserve(terminal)?;
         self.classes[class as usize].put(request)?;
-        self.places.set(terminal, Some(Place::Waiting { class }));
+        self.places.set(terminal, Some(RequestPlace::Waiting { class }));
         Ok(())
     }
 
@@ -104,7 +104,7 @@ impl ClassBook {
     }
 
     /// Where a request of the terminal is, None exactly where none waits and none is at a process.
-    pub fn request_of(&self, terminal: u32) -> Option<Place>
+    pub fn request_of(&self, terminal: u32) -> Option<RequestPlace>
         ensures found { is_some result ≡ is_out self.now terminal }
         ensures place { IfSome result (IsAt self.now terminal) }
     {
@@ -121,7 +121,7 @@ impl ClassBook {
         if let Taken::Got { process, request } = &taken {
             let process = *process;
             self.places
-                .set(request.terminal, Some(Place::Busy { class, process }));
+                .set(request.terminal, Some(RequestPlace::Busy { class, process }));
         }
         taken
     }

@@ -1,10 +1,10 @@
 ghost use Rattle.std.specs.Prelude.{◌≡◌, ◌<◌, ◌^◌, length, map, position, slice_set};
-ghost use Rattle.pw_class.specs.Places.{IsPlace};
+ghost use Rattle.pw_class.specs.Places.{IsRequestPlace};
 ghost use Rattle.pw_class.specs.Book.{queue_at};
 ghost use Rattle.pw_class.specs.Queue.{after_take, has_request, taken, without};
 
 use crate::queue::Queue;
-use crate::request::{Place, Taken};
+use crate::request::{RequestPlace, Taken};
 
 /// The first class that has a request of the terminal.
 fn class_with(classes: &[Queue], terminal: u32) -> Option<usize>
@@ -14,9 +14,9 @@ fn class_with(classes: &[Queue], terminal: u32) -> Option<usize>
 }
 
 /// Where the first class that has a request of the terminal has it, None exactly where no class has one.
-pub fn place_of(classes: &[Queue], terminal: u32) -> Option<Place>
+pub fn place_of(classes: &[Queue], terminal: u32) -> Option<RequestPlace>
     requires { length classes.now < 2 ^ 32 }
-    ensures { IsPlace classes.now terminal result }
+    ensures { IsRequestPlace classes.now terminal result }
 {
     match class_with(classes, terminal) {
         Some(class) => classes[class].place_of(class as u32, terminal),

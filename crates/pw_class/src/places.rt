@@ -1,7 +1,7 @@
 ghost use Rattle.std.specs.Prelude.{◌≡◌, ◌≢◌, ◌<◌, ℕ, [], None, length, OnOk};
-ghost use Rattle.pw_class.specs.Places.{noted};
+ghost use Rattle.pw_class.specs.Places.{noted_place};
 
-use crate::request::Place;
+use crate::request::RequestPlace;
 use pw_base::memory::Memory;
 use std::alloc::Global;
 use std::marker::Model;
@@ -9,32 +9,32 @@ use std::marker::Model;
 /// Where the request of each terminal is, so that it is found without a walk over those that wait. Contracts see the
 /// places by the numbers of the terminals.
 #[derive(Debug, Drop)]
-pub struct Places {
-    places: Vec<Option<Place>>,
+pub struct RequestPlaces {
+    places: Vec<Option<RequestPlace>>,
 }
 
-impl Model for Places {
+impl Model for RequestPlaces {
     ghost use Rattle.std.specs.Prelude.{List, Option};
-    ghost use Rattle.pw_class.specs.declared.request.Place.{Place as SeenPlace};
+    ghost use Rattle.pw_class.specs.declared.request.RequestPlace.{RequestPlace as SeenPlace};
 
     ghost Value = { List (Option SeenPlace) };
 
     ghost view = { λ places. places.places.items };
 }
 
-impl Places {
+impl RequestPlaces {
     /// No terminal has a request.
-    pub fn new(alloc: Global) -> Places
+    pub fn new(alloc: Global) -> RequestPlaces
         ensures { result ≡ [] }
     {
-        Places {
+        RequestPlaces {
             places: Vec::new(alloc),
         }
     }
 
     /// What is noted of a terminal, None where that is nothing.
-    pub fn get(&self, terminal: u32) -> Option<Place>
-        ensures { result ≡ noted self.now terminal }
+    pub fn get(&self, terminal: u32) -> Option<RequestPlace>
+        ensures { result ≡ noted_place self.now terminal }
     {
         let place = self.places.get(terminal as usize)?;
         *place
@@ -43,7 +43,7 @@ impl Places {
     /// Makes room for a terminal. What is noted stays, whatever comes of it.
     pub fn reserve(&mut self, terminal: u32) -> Result<(), Memory>
         ensures room { OnOk result (terminal < length self.new) }
-        ensures same { (other : ℕ) → noted self.new other ≡ noted self.old other }
+        ensures same { (other : ℕ) → noted_place self.new other ≡ noted_place self.old other }
     {
         while self.places.len() <= terminal as usize {
             self.places.push(None)?;
@@ -52,18 +52,18 @@ impl Places {
     }
 
     /// Notes where the request of a terminal is, or that it has none. It takes no memory.
-    pub fn set(&mut self, terminal: u32, place: Option<Place>)
+    pub fn set(&mut self, terminal: u32, place: Option<RequestPlace>)
         requires room { terminal < length self.old }
-        ensures here { noted self.new terminal ≡ place }
-        ensures others { (other : ℕ) → other ≢ terminal → noted self.new other ≡ noted self.old other }
+        ensures here { noted_place self.new terminal ≡ place }
+        ensures others { (other : ℕ) → other ≢ terminal → noted_place self.new other ≡ noted_place self.old other }
     {
         self.places[terminal as usize] = place;
     }
 
     /// Notes that a terminal has no request. It takes no memory.
     pub fn clear(&mut self, terminal: u32)
-        ensures here { noted self.new terminal ≡ None }
-        ensures others { (other : ℕ) → other ≢ terminal → noted self.new other ≡ noted self.old other }
+        ensures here { noted_place self.new terminal ≡ None }
+        ensures others { (other : ℕ) → other ≢ terminal → noted_place self.new other ≡ noted_place self.old other }
     {
         if (terminal as usize) < self.places.len() {
             self.set(terminal, None);

@@ -2,7 +2,7 @@ ghost use Rattle.std.specs.Prelude.{◌≡◌, ◌<◌, ◌^◌, ◌++◌, [], l
 ghost use Rattle.std.specs.List.{list_any};
 ghost use Rattle.std.specs.Option.{option_copied};
 
-use crate::request::{Place, Request, Taken};
+use crate::request::{RequestPlace, Request, Taken};
 use crate::twin::Twin;
 use crate::work::{any_for, end_all_for, free_place, place_for, put_at, take_at};
 use pw_base::memory::Memory;
@@ -88,15 +88,15 @@ impl Queue {
     }
 
     /// Where in this class the request of the terminal is.
-    pub fn place_of(&self, class: u32, terminal: u32) -> Option<Place>
+    pub fn place_of(&self, class: u32, terminal: u32) -> Option<RequestPlace>
         ensures found { is_some result ≡ has_request terminal self.now }
         ensures place { IfSome result (IsIn self.now class terminal) }
     {
         if self.waits(terminal) {
-            return Some(Place::Waiting { class });
+            return Some(RequestPlace::Waiting { class });
         }
         match place_for(self.busy.as_slice(), terminal) {
-            Some(place) => Some(Place::Busy {
+            Some(place) => Some(RequestPlace::Busy {
                 class,
                 process: place as u32 + 1,
             }),

@@ -23,7 +23,7 @@ pub enum Taken {
 
 /// Where a request is.
 #[derive(Clone, Copy, Debug, PartialEq, Eq)]
-pub enum Place {
+pub enum RequestPlace {
     /// It waits for a process of the class.
     Waiting { class: u32 },
     /// A process of the class works on it. Processes count from 1.

@@ -3,7 +3,7 @@ use Rattle.std.specs.Prelude.{ℕ, ◌≡◌, ◌+◌, ◌<◌, ◌≤◌, Bool,
 use Rattle.pw_picture.specs.declared.picture.Picture.{Picture}
 use Rattle.pw_picture.specs.declared.picture.Picture.TheVariants.{Text, Number, Edited}
 use Rattle.pw_picture.specs.Grammar.{IsPicture, size_of}
-use Rattle.pw_picture.specs.Stored.{is_number}
+use Rattle.pw_picture.specs.Stored.{is_numeric_picture}
 use Rattle.pw_code.specs.declared.field.Field.{Field}
 use Rattle.pw_code.specs.declared.field.FieldKind.{FieldKind}
 use Rattle.pw_code.specs.declared.field.FieldKind.TheVariants.{Literal, Item}
@@ -23,11 +23,11 @@ is_text (Edited symbols) = false
 -- a Text field is of a Text item, a Number or an Edited field of a Number item
 abbrev pub is_source_of : Picture → Picture → Bool
 is_source_of (Text size) source = is_text source
-is_source_of (Number digits places signed) source = is_number source
-is_source_of (Edited symbols) source = is_number source
+is_source_of (Number digits places signed) source = is_numeric_picture source
+is_source_of (Edited symbols) source = is_numeric_picture source
 
 -- an item that lies in a storage of this size, with the pictures of the field and of the item
-pub record IsItem (storage : ℕ) (picture : Picture) (at : ℕ) (source : Picture) : Type 0 where
+pub record IsFieldItem (storage : ℕ) (picture : Picture) (at : ℕ) (source : Picture) : Type 0 where
   pub field : IsPicture picture
   pub item : IsPicture source
   pub kinds : IsTrue (is_source_of picture source)
@@ -36,7 +36,7 @@ pub record IsItem (storage : ℕ) (picture : Picture) (at : ℕ) (source : Pictu
 -- the clauses of a field: VALUE alone, or PIC and one of FROM, TO and USING
 abbrev pub HasClauses : ℕ → FieldKind → Bool → Type 0
 HasClauses storage (Literal text) takes = takes ≡ false
-HasClauses storage (Item picture at source show) takes = IsItem storage picture at source × IsTrue (show || takes)
+HasClauses storage (Item picture at source show) takes = IsFieldItem storage picture at source × IsTrue (show || takes)
 
 -- so many cells from a row and a column on lie in rows 1 to 23 and columns 1 to 80
 pub record IsInside (row column cells : ℕ) : Type 0 where

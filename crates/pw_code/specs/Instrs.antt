@@ -11,9 +11,9 @@ use Rattle.pw_code.specs.declared.instr.Instr.{Instr}
 use Rattle.pw_code.specs.declared.instr.Instr.TheVariants.{Jump, JumpUnless, ParagraphEnd, Move, Compute, OnSizeError, Perform, PerformTimes, Until, PerformOneOf, Exit, ExitProgram, StopRun, DisplayScreen, Display, Accept, Call, Send, NoCode, Begin, End, Abort, Restart, Receive, Reply, Read, ReadNext, Write, Rewrite, Delete}
 use Rattle.pw_code.specs.declared.instr.ReplyCode.{ReplyCode}
 use Rattle.pw_code.specs.declared.instr.Turn.{Turn}
-use Rattle.pw_code.specs.declared.operand.Operand.{Operand}
-use Rattle.pw_code.specs.declared.operand.Operand.TheVariants as operand
-use Rattle.pw_code.specs.declared.place.Place.{Place}
+use Rattle.pw_code.specs.declared.operand.InstructionOperand.{InstructionOperand}
+use Rattle.pw_code.specs.declared.operand.InstructionOperand.TheVariants as operand
+use Rattle.pw_code.specs.declared.place.StoragePlace.{StoragePlace}
 use Rattle.pw_code.specs.declared.place.Register.{Register}
 use Rattle.pw_code.specs.declared.place.Register.TheVariants as register
 use Rattle.pw_code.specs.declared.system.System.{System}
@@ -41,19 +41,19 @@ digits_of_register register.Restarts = 5
 digits_of_register register.FileStatus = 4
 
 -- how many characters an operand that is an item or a register has, 0 for any other
-abbrev pub size_of_item : Operand → ℕ
+abbrev pub size_of_item : InstructionOperand → ℕ
 size_of_item (operand.Item place) = place.size
 size_of_item (operand.Register register) = digits_of_register register
 size_of_item _ = 0
 
 -- the operand is an item or a register
-abbrev pub is_item : Operand → Bool
+abbrev pub is_item : InstructionOperand → Bool
 is_item (operand.Item place) = true
 is_item (operand.Register register) = true
 is_item _ = false
 
 -- such an operand of a program whose storage has this size
-pub record IsItemOperand (storage : ℕ) (one : Operand) : Type 0 where
+pub record IsItemOperand (storage : ℕ) (one : InstructionOperand) : Type 0 where
   pub operand : IsOperand storage one
   pub item : IsTrue (is_item one)
 
@@ -82,13 +82,13 @@ abbrev pub IsReplyCode : ℕ → ReplyCode → Type 0
 IsReplyCode storage code = (code.number ≤ 9999) × IsPlace storage code.yields
 
 -- a CALL: the program is the system's, and the arguments have the sizes of its linkage
-pub record IsCall (system : System) (storage program : ℕ) (arguments : List Place) : Type 0 where
+pub record IsProgramCall (system : System) (storage program : ℕ) (arguments : List StoragePlace) : Type 0 where
   pub known : program < length system.programs
   pub places : All (IsPlace storage) arguments
   pub sizes : map (λ place. place.size) arguments ≡ map (λ item. item.1) (program_at system program).linkage
 
 -- a SEND: the class is the system's, and a `NoCode` stands behind it
-pub record IsSend (system : System) (storage behind class : ℕ) (message : Operand) (codes : List ReplyCode) : Type 0 where
+pub record IsSend (system : System) (storage behind class : ℕ) (message : InstructionOperand) (codes : List ReplyCode) : Type 0 where
   pub known : class < length system.classes
   pub sent : IsItemOperand storage message
   pub few : length codes ≤ most_keys
@@ -96,13 +96,13 @@ pub record IsSend (system : System) (storage behind class : ℕ) (message : Oper
   pub over : 1 ≤ behind
 
 -- a key of a file of the system
-pub record IsKey (system : System) (storage file : ℕ) (key : Operand) : Type 0 where
+pub record IsKey (system : System) (storage file : ℕ) (key : InstructionOperand) : Type 0 where
   pub known : file < length system.files
   pub operand : IsItemOperand storage key
   pub size : size_of_item key ≡ (file_at system file).key
 
 -- a record of a file of the system
-pub record IsRecord (system : System) (storage file : ℕ) (from : Operand) : Type 0 where
+pub record IsRecord (system : System) (storage file : ℕ) (from : InstructionOperand) : Type 0 where
   pub known : file < length system.files
   pub operand : IsItemOperand storage from
   pub least : (file_at system file).key ≤ size_of_item from
@@ -148,7 +148,7 @@ HasRanges system code behind StopRun = Unit {0}
 HasRanges system code behind (DisplayScreen screen base) = IsScreen system (length code.storage) screen
 HasRanges system code behind (Display shown) = IsOperand (length code.storage) shown
 HasRanges system code behind (Accept screen keys) = IsScreen system (length code.storage) screen × (length keys ≤ most_keys)
-HasRanges system code behind (Call program arguments keeps) = IsCall system (length code.storage) program arguments
+HasRanges system code behind (Call program arguments keeps) = IsProgramCall system (length code.storage) program arguments
 HasRanges system code behind (Send class message codes) = IsSend system (length code.storage) behind class message codes
 HasRanges system code behind NoCode = Unit {0}
 HasRanges system code behind Begin = Unit {0}

@@ -4,7 +4,7 @@ use Rattle.std.specs.List.{IsDistinct}
 use Rattle.std.specs.Str.{bytes_eq}
 use Rattle.pw_base.specs.Lengths.{IsKeyLength, IsContent}
 use Rattle.pw_base.specs.Limits.{most_storage}
-use Rattle.pw_code.specs.Entry.{Entry}
+use Rattle.pw_code.specs.Entry.{EntryLineModel}
 use Rattle.pw_code.specs.Instrs.{AreInstrs}
 use Rattle.pw_code.specs.Limits.{most_programs, most_servers, most_classes, most_processes, most_files, most_tcps, most_terminals, most_restarts, most_entry_lines, last_key}
 use Rattle.pw_code.specs.Names.{AreNames}
@@ -26,8 +26,8 @@ pub record IsCode (server : Bool) (system : System) (code : Code) : Type 0 where
   pub linkage : All (IsLinked (length code.storage)) code.linkage
 
 -- the key of an entry line is F1 to F16 or SF1 to SF16
-abbrev pub HasKey : Entry → Type 0
-HasKey entry = (1 ≤ entry.key) × (entry.key ≤ last_key)
+abbrev pub HasFunctionKey : EntryLineModel → Type 0
+HasFunctionKey entry = (1 ≤ entry.key) × (entry.key ≤ last_key)
 
 -- a terminal's pair and program are the system's, and it keeps its limits
 pub record IsTerminal (system : System) (terminal : TermInfo) : Type 0 where
@@ -35,7 +35,7 @@ pub record IsTerminal (system : System) (terminal : TermInfo) : Type 0 where
   pub program : terminal.program < length system.programs
   pub restarts : terminal.max_restarts ≤ most_restarts
   pub few : length terminal.entries ≤ most_entry_lines
-  pub keys : All HasKey terminal.entries
+  pub keys : All HasFunctionKey terminal.entries
 
 -- a class's server is the system's, and it has a process and not too many
 pub record IsClass (system : System) (class : ClassInfo) : Type 0 where

@@ -1,12 +1,12 @@
 use crate::copies::Duplicate;
-use crate::operand::Operand;
+use crate::operand::InstructionOperand;
 use pw_base::list::List;
 use pw_base::memory::Memory;
 use std::alloc::Global;
 
 /// How a comparison compares.
 #[derive(Clone, Copy, Debug, PartialEq, Eq)]
-pub enum Operator {
+pub enum ComparisonOperator {
     Equal,
     Less,
     Greater,
@@ -18,14 +18,14 @@ pub enum Operator {
 #[derive(Debug, Drop)]
 pub enum Comparison {
     Compare {
-        left: Operand,
+        left: InstructionOperand,
         negated: bool,
-        operator: Operator,
-        right: Operand,
+        operator: ComparisonOperator,
+        right: InstructionOperand,
     },
     /// The operand is NUMERIC.
     Numeric {
-        operand: Operand,
+        operand: InstructionOperand,
         negated: bool,
     },
 }

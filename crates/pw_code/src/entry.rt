@@ -21,9 +21,9 @@ pub struct EntryLine {
 }
 
 impl Model for EntryLine {
-    ghost use Rattle.pw_code.specs.Entry.{Entry, IsEntry};
+    ghost use Rattle.pw_code.specs.Entry.{EntryLineModel, IsEntry};
 
-    ghost Value = { Entry };
+    ghost Value = { EntryLineModel };
 
     ghost view = { λ line. record { key = line.key; fields = line.fields } };
 

@@ -1,7 +1,7 @@
 use crate::cond::Cond;
 use crate::copies::Duplicate;
-use crate::operand::Operand;
-use crate::place::Place;
+use crate::operand::InstructionOperand;
+use crate::place::StoragePlace;
 use pw_base::bytes::Bytes;
 use pw_base::list::List;
 use pw_base::memory::Memory;
@@ -9,7 +9,7 @@ use std::alloc::Global;
 
 /// What an arithmetic statement does with its first and its second operand.
 #[derive(Clone, Copy, Debug, PartialEq, Eq)]
-pub enum Operation {
+pub enum ArithmeticOperation {
     /// Adds the first to the second.
     Add,
     /// Subtracts the first from the second.
@@ -24,10 +24,10 @@ pub enum Operation {
 /// stays as it is.
 #[derive(Debug, Drop)]
 pub struct Arithmetic {
-    pub operation: Operation,
-    pub first: Operand,
-    pub second: Operand,
-    pub receiver: Place,
+    pub operation: ArithmeticOperation,
+    pub first: InstructionOperand,
+    pub second: InstructionOperand,
+    pub receiver: StoragePlace,
 }
 
 /// The instructions of a paragraph: the place of the first, and that of its `ParagraphEnd`.
@@ -41,7 +41,7 @@ pub struct Turn {
 #[derive(Clone, Copy, Debug, PartialEq, Eq)]
 pub struct ReplyCode {
     pub number: u16,
-    pub yields: Place,
+    pub yields: StoragePlace,
 }
 
 /// One instruction of a program. Each but those of control counts one statement. A jump is relative:
@@ -58,8 +58,8 @@ pub enum Instr {
     ParagraphEnd(u32),
     /// Moves to each of the places, from left to right.
     Move {
-        from: Operand,
-        to: List<Place>,
+        from: InstructionOperand,
+        to: List<StoragePlace>,
     },
     /// Arithmetic without ON SIZE ERROR.
     Compute(Arithmetic),
@@ -73,7 +73,7 @@ pub enum Instr {
     /// PERFORM so many TIMES.
     PerformTimes {
         turn: Turn,
-        times: Operand,
+        times: InstructionOperand,
     },
     /// Control, behind the `Exit` that counts PERFORM UNTIL: goes on where the condition holds, and else
     /// makes a turn and comes back.
@@ -84,7 +84,7 @@ pub enum Instr {
     /// PERFORM ONE OF the paragraphs, DEPENDING ON a position from 1.
     PerformOneOf {
         turns: List<Turn>,
-        position: Operand,
+        position: InstructionOperand,
     },
     /// EXIT, and the beginning of PERFORM UNTIL: nothing but that it counts.
     Exit,
@@ -98,7 +98,7 @@ pub enum Instr {
         base: bool,
     },
     /// DISPLAY on row 24.
-    Display(Operand),
+    Display(InstructionOperand),
     /// ACCEPT for a screen, by its number, until one of at most 9,999 keys.
     Accept {
         screen: u32,
@@ -108,13 +108,13 @@ pub enum Instr {
     /// them as they were before the call also when the arguments are copied back.
     Call {
         program: u32,
-        arguments: List<Place>,
+        arguments: List<StoragePlace>,
         keeps: bool,
     },
     /// SEND of a message to a class, with at most 9,999 codes. It goes on behind the `NoCode` that follows it.
     Send {
         class: u32,
-        message: Operand,
+        message: InstructionOperand,
         codes: List<ReplyCode>,
     },
     /// Control, where a reply had none of the codes of the `Send` before it: the run fault 204.
@@ -128,42 +128,42 @@ pub enum Instr {
     /// RESTART-TRANSACTION.
     Restart,
     /// READ $RECEIVE.
-    Receive(Place),
+    Receive(StoragePlace),
     /// WRITE $RECEIVE.
-    Reply(Operand),
+    Reply(InstructionOperand),
     /// READ of a file, WITH LOCK where it is `locking`.
     Read {
         file: u32,
         locking: bool,
-        key: Operand,
-        into: Place,
+        key: InstructionOperand,
+        into: StoragePlace,
     },
     /// READ NEXT of a file, WITH LOCK where it is `locking`.
     ReadNext {
         file: u32,
         locking: bool,
-        after: Operand,
-        into: Place,
+        after: InstructionOperand,
+        into: StoragePlace,
     },
     /// WRITE to a file.
     Write {
         file: u32,
-        from: Operand,
+        from: InstructionOperand,
     },
     /// REWRITE in a file.
     Rewrite {
         file: u32,
-        from: Operand,
+        from: InstructionOperand,
     },
     /// DELETE from a file.
     Delete {
         file: u32,
-        key: Operand,
+        key: InstructionOperand,
     },
 }
 
-impl Duplicate for Place {
-    fn copy(&self, _alloc: Global) -> Result<Place, Memory> {
+impl Duplicate for StoragePlace {
+    fn copy(&self, _alloc: Global) -> Result<StoragePlace, Memory> {
         Ok(*self)
     }
 }

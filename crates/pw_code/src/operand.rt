@@ -1,5 +1,5 @@
 use crate::copies::Duplicate;
-use crate::place::{Place, Register};
+use crate::place::{StoragePlace, Register};
 use pw_base::bytes::Bytes;
 use pw_base::memory::Memory;
 use pw_number::scaled::Scaled;
@@ -7,8 +7,8 @@ use std::alloc::Global;
 
 /// What an instruction reads.
 #[derive(Debug, Drop)]
-pub enum Operand {
-    Item(Place),
+pub enum InstructionOperand {
+    Item(StoragePlace),
     Register(Register),
     /// A number as it is written, of at most 18 digits, and its value.
     Number { spelling: Bytes, value: Scaled },
@@ -18,21 +18,21 @@ pub enum Operand {
     Zeros,
 }
 
-impl Duplicate for Operand {
-    fn copy(&self, alloc: Global) -> Result<Operand, Memory> {
+impl Duplicate for InstructionOperand {
+    fn copy(&self, alloc: Global) -> Result<InstructionOperand, Memory> {
         match self {
-            Operand::Item(place) => Ok(Operand::Item(*place)),
-            Operand::Register(register) => Ok(Operand::Register(*register)),
-            Operand::Number { spelling, value } => {
+            InstructionOperand::Item(place) => Ok(InstructionOperand::Item(*place)),
+            InstructionOperand::Register(register) => Ok(InstructionOperand::Register(*register)),
+            InstructionOperand::Number { spelling, value } => {
                 let spelling = spelling.copy(alloc)?;
-                Ok(Operand::Number {
+                Ok(InstructionOperand::Number {
                     spelling,
                     value: *value,
                 })
             }
-            Operand::Text(chars) => Ok(Operand::Text(chars.copy(alloc)?)),
-            Operand::Spaces => Ok(Operand::Spaces),
-            Operand::Zeros => Ok(Operand::Zeros),
+            InstructionOperand::Text(chars) => Ok(InstructionOperand::Text(chars.copy(alloc)?)),
+            InstructionOperand::Spaces => Ok(InstructionOperand::Spaces),
+            InstructionOperand::Zeros => Ok(InstructionOperand::Zeros),
         }
     }
 }

@@ -24,7 +24,7 @@ pub enum Register {
 
 /// What says which occurrence of an item is meant, counted from 1.
 #[derive(Clone, Copy, Debug, PartialEq, Eq)]
-pub enum Subscript {
+pub enum PlaceSubscript {
     /// A number as it is written, of at most 18 digits.
     Number(u64),
     /// The whole part of an unsigned Number item, which lies `at` and has `digits` digits, of which the last
@@ -37,8 +37,8 @@ pub enum Subscript {
 /// The table in which an item stands: `occurs` occurrences, 1 to 1,000, each `step` characters behind
 /// the one before.
 #[derive(Clone, Copy, Debug, PartialEq, Eq)]
-pub struct Table {
-    pub subscript: Subscript,
+pub struct PlaceTable {
+    pub subscript: PlaceSubscript,
     pub occurs: u16,
     pub step: u32,
 }
@@ -46,9 +46,9 @@ pub struct Table {
 /// Where an item lies in the storage of its program: `size` characters from `at` on, or from where the
 /// subscript of its table says. What holds of the places of a program is `IsPlace`.
 #[derive(Clone, Copy, Debug, PartialEq, Eq)]
-pub struct Place {
+pub struct StoragePlace {
     pub at: u32,
     pub size: u32,
     pub kind: Kind,
-    pub table: Option<Table>,
+    pub table: Option<PlaceTable>,
 }

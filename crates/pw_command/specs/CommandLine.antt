@@ -53,13 +53,13 @@ command_named text =
     else (if bytes_eq text (codes "expand") then Some command.Expand else None))))))))
 
 -- the number that a text writes; clap gives each option a text, its default where the words have none
-abbrev pub number_of : Option Text → ℕ
-number_of None = 0
-number_of (Some text) = digits_value 10 (without_leading_plus text)
+abbrev pub number_of_option : Option Text → ℕ
+number_of_option None = 0
+number_of_option (Some text) = digits_value 10 (without_leading_plus text)
 
 -- the number of an option
 abbrev pub number_at : Text → List Row → ℕ
-number_at name rows = number_of (one_of name rows)
+number_at name rows = number_of_option (one_of name rows)
 
 -- a command with the numbers of the options
 abbrev pub words_with : List Row → Command → Words
@@ -89,13 +89,13 @@ abbrev pub takes : List Text → Bool
 takes words = is_some (command_of words)
 
 -- the result is what the words say, Refused where they are not the command's, or memory ran out
-abbrev pub Reads : List Text → Result Words WordsFault → Type 0
-Reads words result = MatchResult result
+abbrev pub ReadsCommandLine : List Text → Result Words WordsFault → Type 0
+ReadsCommandLine words result = MatchResult result
     (λ said. command_of words ≡ Some said)
     (λ why. why ≡ fault.Refused → command_of words ≡ None)
 
 -- the numbers are in the ranges of the options
-pub record IsInRange (words : Words) : Type 0 where
+pub record AreOptionsInRange (words : Words) : Type 0 where
   pub workers : (1 ≤ words.workers) × (words.workers ≤ 16)
   pub events : (1 ≤ words.events) × (words.events ≤ 500000)
   pub seed : words.seed ≤ 4294967295

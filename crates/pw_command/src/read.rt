@@ -1,6 +1,6 @@
 ghost use Rattle.std.specs.Prelude.{◌≡◌, Err, IfOk, None, false, true, map, string_bytes};
 ghost use Rattle.clap.specs.Words.{app_of, found_of, matches_of, one_of, rows_of, rule_of, takes};
-ghost use Rattle.pw_command.specs.CommandLine.{IsInRange, IsNumberIn, Reads, command_in, command_named, command_rule, number_of, option_rule, pathway_app};
+ghost use Rattle.pw_command.specs.CommandLine.{AreOptionsInRange, IsNumberIn, ReadsCommandLine, command_in, command_named, command_rule, number_of_option, option_rule, pathway_app};
 
 use crate::words::{Command, Words, WordsFault};
 use clap::builder::ValueParser;
@@ -16,8 +16,8 @@ use std::alloc::{AllocError, Global};
 /// The clause `taken` is what `clap` says of words that it takes: they are refused where COMMAND is
 /// no command alone.
 pub fn read_words(alloc: Global, words: &[String]) -> Result<Words, WordsFault>
-    ensures reads { Reads (map string_bytes words.now) result }
-    ensures ranges { IfOk result IsInRange }
+    ensures reads { ReadsCommandLine (map string_bytes words.now) result }
+    ensures ranges { IfOk result AreOptionsInRange }
     ensures taken { takes pathway_app (map string_bytes words.now) ≡ true → result ≡ Err WordsFault.Refused
         → command_in (matches_of pathway_app (map string_bytes words.now)) ≡ None }
 {
@@ -113,7 +113,7 @@ fn command_named(text: &str) -> Option<Command>
 /// The number of an option, whose text `clap` has let through.
 fn number(matches: &ArgMatches, name: &str) -> u32
     requires { IsNumberIn 0 4294967295 (one_of name.now (rows_of (found_of matches.now))) }
-    ensures { result ≡ number_of (one_of name.now (rows_of (found_of matches.now))) }
+    ensures { result ≡ number_of_option (one_of name.now (rows_of (found_of matches.now))) }
 {
     let Some(number) = matches.get_one::<u32>(name) else {
         unreachable!()

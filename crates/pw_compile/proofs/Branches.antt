@@ -3,8 +3,8 @@ use Rattle.std.proofs.Common.{◌≡◌, ℕ, ◌+◌, ◌<◌, List, [], ◌∷
 use Rattle.std.specs.Prelude.{Result, OnOk}
 use Rattle.std.proofs.lemmas.List.{take_more, map-append}
 use mathlib.Core.Former.{Count}
-use Rattle.pw_forms.specs.declared.cond.Cond.{Cond}
-use Rattle.pw_forms.specs.declared.statement.Arithmetic.{Arithmetic}
+use Rattle.pw_forms.specs.declared.cond.ConditionForm.{ConditionForm}
+use Rattle.pw_forms.specs.declared.statement.ArithmeticForm.{ArithmeticForm}
 use Rattle.pw_forms.specs.declared.statement.Statement.{Statement, Row_of-Statement, end_of-Statement, more_of-Statement, items-the_row-Statement, items_hidden-the_row-Statement-0}
 use Rattle.pw_forms.specs.declared.statement.Statement.TheVariants as statements
 use Rattle.pw_code.specs.declared.instr.Instr.{Instr}
@@ -22,7 +22,7 @@ row_size-items n (more_of-Statement one rest) = ap (λ k. size one + k) (row_siz
 pub row-size : (n : Count) (row : Row_of-Statement n) (branch : List Statement) → items-the_row-Statement n row ≡ branch → row_size row ≡ body_size branch
 row-size n row branch is = row_size-items n row ∙ ap body_size is
 
-pub size-If : (line : ℕ) (cond : Cond) (first second : List Statement)
+pub size-If : (line : ℕ) (cond : ConditionForm) (first second : List Statement)
     → size (statements.If line cond first second) ≡ 1 + body_size first + 1 + body_size second
 size-If line cond first second =
     let a = first_of (statements.If line cond first second) in
@@ -30,7 +30,7 @@ size-If line cond first second =
     ap (λ n. 1 + n + 1 + row_size b.1) (row-size a.0 a.1 first (items_hidden-the_row-Statement-0 first))
     ∙ ap (λ n. 1 + body_size first + 1 + n) (row-size b.0 b.1 second (items_hidden-the_row-Statement-0 second))
 
-pub size-OnSizeError : (line : ℕ) (arithmetic : Arithmetic) (first second : List Statement)
+pub size-OnSizeError : (line : ℕ) (arithmetic : ArithmeticForm) (first second : List Statement)
     → size (statements.OnSizeError line arithmetic first second) ≡ 1 + body_size first + 1 + body_size second
 size-OnSizeError line arithmetic first second =
     let a = first_of (statements.OnSizeError line arithmetic first second) in
@@ -60,14 +60,14 @@ module _ (plan : Plan) where
       ∙ ap (λ k. front (body_size first + 1) ∷ (body_code plan first ++ instr.Jump k ∷ row_code plan two)) (row-size n two second js)
       ∙ ap (λ xs. front (body_size first + 1) ∷ (body_code plan first ++ instr.Jump (body_size second) ∷ xs)) (row-code n two second js)
 
-  pub code-If : (line : ℕ) (cond : Cond) (first second : List Statement)
+  pub code-If : (line : ℕ) (cond : ConditionForm) (first second : List Statement)
       → statement_code plan (statements.If line cond first second) ≡ branches (instr.JumpUnless (cond_of plan.layout cond)) first second
   code-If line cond first second =
       let a = first_of (statements.If line cond first second) in
       let b = second_of (statements.If line cond first second) in
       both (instr.JumpUnless (cond_of plan.layout cond)) a.0 b.0 a.1 b.1 first second (items_hidden-the_row-Statement-0 first) (items_hidden-the_row-Statement-0 second)
 
-  pub code-OnSizeError : (line : ℕ) (arithmetic : Arithmetic) (first second : List Statement)
+  pub code-OnSizeError : (line : ℕ) (arithmetic : ArithmeticForm) (first second : List Statement)
       → statement_code plan (statements.OnSizeError line arithmetic first second) ≡ branches (instr.OnSizeError (arithmetic_of plan.layout arithmetic)) first second
   code-OnSizeError line arithmetic first second =
       let a = first_of (statements.OnSizeError line arithmetic first second) in

@@ -2,7 +2,7 @@
 use Rattle.std.specs.Prelude.{ℕ, ◌+◌, Bool, true, false, ◌||◌, List, [], ◌∷◌, ◌++◌, map, bytes_eq, position, is_some, Option, Some, None}
 use Rattle.std.specs.List.{list_any}
 use Rattle.pw_words.specs.Words.{Word}
-use Rattle.pw_forms.specs.declared.lists.Code.{Code}
+use Rattle.pw_forms.specs.declared.lists.SendCode.{SendCode}
 use Rattle.pw_forms.specs.declared.operand.Operand.{Operand}
 use Rattle.pw_forms.specs.declared.operand.Operand.TheVariants as operands
 use Rattle.pw_forms.specs.declared.statement.Paragraph.{Paragraph}
@@ -12,13 +12,13 @@ use Rattle.pw_code.specs.declared.field.ScreenTable.{ScreenTable}
 use Rattle.pw_code.specs.declared.instr.Instr.{Instr}
 use Rattle.pw_code.specs.declared.instr.Instr.TheVariants as instr
 use Rattle.pw_code.specs.declared.instr.ReplyCode.{ReplyCode}
-use Rattle.pw_code.specs.declared.place.Place.{Place}
-use Rattle.pw_code.specs.declared.place.Subscript as index
-use Rattle.pw_code.specs.declared.place.Subscript.TheVariants as subscript
-use Rattle.pw_code.specs.declared.place.Table.{Table}
+use Rattle.pw_code.specs.declared.place.StoragePlace.{StoragePlace}
+use Rattle.pw_code.specs.declared.place.PlaceSubscript as index
+use Rattle.pw_code.specs.declared.place.PlaceSubscript.TheVariants as subscript
+use Rattle.pw_code.specs.declared.place.PlaceTable.{PlaceTable}
 use Rattle.pw_compile.specs.Conditions.{cond_of, arithmetic_of}
 use Rattle.pw_compile.specs.Operands.{operand_of, place_in}
-use Rattle.pw_compile.specs.Plan.{Plan, turn_of, screen_of, program_of, class_of, file_of}
+use Rattle.pw_compile.specs.Plan.{Plan, turn_of, planned_screen, planned_program, planned_class, file_of}
 use Rattle.pw_compile.specs.Sizes.{row_size, body_size}
 
 -- ---- DISPLAY: a screen, where the name is one, and else an operand
@@ -29,7 +29,7 @@ has_screen screens name = is_some (position (λ screen. bytes_eq screen.name nam
 
 -- DISPLAY of a name, by whether a screen has it
 abbrev pub display_by : Plan → Bool → Word → Operand → Instr
-display_by plan true name shown = instr.DisplayScreen (screen_of plan name) false
+display_by plan true name shown = instr.DisplayScreen (planned_screen plan name) false
 display_by plan false name shown = instr.Display (operand_of plan.layout shown)
 
 -- DISPLAY of an operand
@@ -41,32 +41,32 @@ display_of plan shown = instr.Display (operand_of plan.layout shown)
 -- ---- CALL: it keeps the registers where one is a subscript
 
 -- a subscript is a register
-abbrev pub is_register : index.Subscript → Bool
+abbrev pub is_register : index.PlaceSubscript → Bool
 is_register (subscript.Register register) = true
 is_register _ = false
 
 -- a register says which occurrence of a table is meant
-abbrev pub is_by_register : Option Table → Bool
+abbrev pub is_by_register : Option PlaceTable → Bool
 is_by_register None = false
 is_by_register (Some table) = is_register table.subscript
 
 -- a CALL with these arguments keeps the registers
-abbrev pub keeps : List Place → Bool
+abbrev pub keeps : List StoragePlace → Bool
 keeps places = list_any (λ place. is_by_register place.table) places
 
 -- the items of arguments and of receivers
-abbrev pub places_of : Plan → List Operand → List Place
+abbrev pub places_of : Plan → List Operand → List StoragePlace
 places_of plan operands = map (place_in plan.layout) operands
 
 -- CALL of a program with arguments
 abbrev pub call_of : Plan → Word → List Operand → Instr
 call_of plan program arguments =
-    instr.Call (program_of plan program) (places_of plan arguments) (keeps (places_of plan arguments))
+    instr.Call (planned_program plan program) (places_of plan arguments) (keeps (places_of plan arguments))
 
 -- ---- SEND
 
 -- a code of a SEND, and the place of the item that it yields
-abbrev pub reply_code : Plan → Code → ReplyCode
+abbrev pub reply_code : Plan → SendCode → ReplyCode
 reply_code plan code = record { number = code.number; yields = place_in plan.layout code.yields }
 
 -- ---- statements
@@ -94,12 +94,12 @@ module _ (plan : Plan) where
     statement_code (form.ExitProgram line) = instr.ExitProgram ∷ []
     statement_code (form.StopRun line) = instr.StopRun ∷ []
     statement_code (form.DisplayBase line screen) =
-        instr.DisplayScreen (screen_of plan screen) true ∷ []
+        instr.DisplayScreen (planned_screen plan screen) true ∷ []
     statement_code (form.Display line shown) = display_of plan shown ∷ []
-    statement_code (form.Accept line screen keys) = instr.Accept (screen_of plan screen) keys ∷ []
+    statement_code (form.Accept line screen keys) = instr.Accept (planned_screen plan screen) keys ∷ []
     statement_code (form.Call line program arguments) = call_of plan program arguments ∷ []
     statement_code (form.Send line message class codes) =
-        instr.Send (class_of plan class) (operand_of plan.layout message) (map (reply_code plan) codes)
+        instr.Send (planned_class plan class) (operand_of plan.layout message) (map (reply_code plan) codes)
         ∷ instr.NoCode ∷ []
     statement_code (form.Begin line) = instr.Begin ∷ []
     statement_code (form.End line) = instr.End ∷ []

@@ -30,27 +30,27 @@ plan_of layout screens paragraphs first links = record {
 }
 
 -- the number of the first thing that has a name, from 0
-abbrev pub number_of : {A : Type 0} → (A → Word) → List A → Word → ℕ
-number_of name_of things name = unwrap_or (position (λ thing. bytes_eq (name_of thing) name) things) 0
+abbrev pub number_by_name : {A : Type 0} → (A → Word) → List A → Word → ℕ
+number_by_name name_of things name = unwrap_or (position (λ thing. bytes_eq (name_of thing) name) things) 0
 
 -- the paragraph of a name
 abbrev pub turn_of : Plan → Word → Turn
 turn_of plan name =
-    slice_index_or plan.turns (number_of (λ paragraph. paragraph.name) plan.paragraphs name)
+    slice_index_or plan.turns (number_by_name (λ paragraph. paragraph.name) plan.paragraphs name)
     (record { start = 0; end = 0 })
 
 -- the screen of a name, by its number through all programs
-abbrev pub screen_of : Plan → Word → ℕ
-screen_of plan name = plan.first + number_of (λ screen. screen.name) plan.screens name
+abbrev pub planned_screen : Plan → Word → ℕ
+planned_screen plan name = plan.first + number_by_name (λ screen. screen.name) plan.screens name
 
 -- the program, the class and the file of a name, by their numbers
-abbrev pub program_of : Plan → Word → ℕ
-program_of plan name = number_of (λ program. program) plan.links.programs name
+abbrev pub planned_program : Plan → Word → ℕ
+planned_program plan name = number_by_name (λ program. program) plan.links.programs name
 
 -- the number of the class of a name
-abbrev pub class_of : Plan → Word → ℕ
-class_of plan name = number_of (λ class. class) plan.links.classes name
+abbrev pub planned_class : Plan → Word → ℕ
+planned_class plan name = number_by_name (λ class. class) plan.links.classes name
 
 -- the number of the file of a name
 abbrev pub file_of : Plan → Word → ℕ
-file_of plan name = number_of (λ file. file.name) plan.links.files name
+file_of plan name = number_by_name (λ file. file.name) plan.links.files name

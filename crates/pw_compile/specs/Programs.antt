@@ -20,8 +20,8 @@ abbrev pub linkage_of : Laid → List Word → List (ℕ × ℕ)
 linkage_of layout names = map (λ name. linked_by (place_of layout name)) names
 
 -- the code of a program with these parts
-abbrev pub code_of : Word → Laid → List ScreenTable → List Word → List Paragraph → ℕ → Links → Code
-code_of name layout screens using paragraphs first links = record {
+abbrev pub program_code : Word → Laid → List ScreenTable → List Word → List Paragraph → ℕ → Links → Code
+program_code name layout screens using paragraphs first links = record {
   name = name;
   instrs = procedure_code (plan_of layout screens paragraphs first links) 0 paragraphs;
   storage = layout.storage;

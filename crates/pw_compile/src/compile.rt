@@ -1,5 +1,5 @@
 ghost use Rattle.std.specs.Prelude.{◌≡◌, ◌^◌, ◌<◌, [], length, IfOk};
-ghost use Rattle.pw_compile.specs.Programs.{code_of};
+ghost use Rattle.pw_compile.specs.Programs.{program_code};
 
 use crate::program::code_of;
 use pw_base::memory::Memory;
@@ -18,7 +18,7 @@ pub fn compile(
     links: &Links,
     first_screen: u32,
 ) -> Result<Code, Memory>
-    ensures code { IfOk result (λ code. code ≡ code_of program.now.name program.now.layout
+    ensures code { IfOk result (λ code. code ≡ program_code program.now.name program.now.layout
         program.now.screens program.now.using program.now.procedure.paragraphs first_screen
         links.now) }
     ensures short { IfOk result (λ code. length code.instrs < 2 ^ 32) }
@@ -38,7 +38,7 @@ pub fn compile(
 /// The code of a server whose names resolve (docs/CODE.md). It has fewer than 2^32 instructions: more
 /// are `Memory`.
 pub fn compile_server(alloc: Global, program: &Server, links: &Links) -> Result<Code, Memory>
-    ensures code { IfOk result (λ code. code ≡ code_of program.now.name program.now.layout [] []
+    ensures code { IfOk result (λ code. code ≡ program_code program.now.name program.now.layout [] []
         program.now.procedure.paragraphs 0 links.now) }
     ensures short { IfOk result (λ code. length code.instrs < 2 ^ 32) }
 {

@@ -5,12 +5,12 @@ ghost use Rattle.pw_compile.specs.Conditions.{operation_of, receiver_by, arithme
 use crate::operands::{operand_of, place_in};
 use pw_base::list::List;
 use pw_base::memory::Memory;
-use pw_code::cond::{Comparison as Test, Cond as Tests, Operator as Sign};
-use pw_code::instr::{Arithmetic as Computed, Operation as Action};
+use pw_code::cond::{Comparison as Test, Cond as Tests, ComparisonOperator as Sign};
+use pw_code::instr::{Arithmetic as Computed, ArithmeticOperation as Action};
 use pw_data::layout::Layout;
-use pw_forms::cond::{Comparison, Cond, Operator};
+use pw_forms::cond::{ComparisonForm, ConditionForm, Operator};
 use pw_forms::operand::Operand;
-use pw_forms::statement::{Arithmetic, Operation};
+use pw_forms::statement::{ArithmeticForm, Operation};
 use std::alloc::Global;
 
 /// How a comparison compares.
@@ -27,11 +27,11 @@ fn operator_of(operator: Operator) -> Sign
 }
 
 /// A comparison.
-fn comparison_of(alloc: Global, layout: &Layout, comparison: &Comparison) -> Result<Test, Memory>
+fn comparison_of(alloc: Global, layout: &Layout, comparison: &ComparisonForm) -> Result<Test, Memory>
     ensures { IfOk result (λ test. test ≡ comparison_of layout.now comparison.now) }
 {
     match comparison {
-        Comparison::Compare {
+        ComparisonForm::Compare {
             left,
             negated,
             operator,
@@ -46,7 +46,7 @@ fn comparison_of(alloc: Global, layout: &Layout, comparison: &Comparison) -> Res
                 right,
             })
         }
-        Comparison::Numeric { operand, negated } => {
+        ComparisonForm::Numeric { operand, negated } => {
             let operand = operand_of(alloc, layout, operand)?;
             Ok(Test::Numeric {
                 operand,
@@ -57,7 +57,7 @@ fn comparison_of(alloc: Global, layout: &Layout, comparison: &Comparison) -> Res
 }
 
 /// Comparisons of which each must hold.
-fn comparisons_of(alloc: Global, layout: &Layout, all: &[Comparison]) -> Result<List<Test>, Memory>
+fn comparisons_of(alloc: Global, layout: &Layout, all: &[ComparisonForm]) -> Result<List<Test>, Memory>
     ensures { IfOk result (λ tests. tests ≡ map (comparison_of layout.now) all.now) }
 {
     let mut tests = List::new(alloc);
@@ -71,7 +71,7 @@ fn comparisons_of(alloc: Global, layout: &Layout, all: &[Comparison]) -> Result<
 fn alternatives_of(
     alloc: Global,
     layout: &Layout,
-    any: &[List<Comparison>],
+    any: &[List<ComparisonForm>],
 ) -> Result<List<List<Test>>, Memory>
     ensures { IfOk result (λ tests. tests ≡ map (map (comparison_of layout.now)) any.now) }
 {
@@ -83,7 +83,7 @@ fn alternatives_of(
 }
 
 /// A condition.
-pub fn cond_of(alloc: Global, layout: &Layout, cond: &Cond) -> Result<Tests, Memory>
+pub fn cond_of(alloc: Global, layout: &Layout, cond: &ConditionForm) -> Result<Tests, Memory>
     ensures { IfOk result (λ tests. tests ≡ cond_of layout.now cond.now) }
 {
     let any = alternatives_of(alloc, layout, cond.any.as_slice())?;
@@ -116,7 +116,7 @@ fn receiver_of<'a>(giving: &'a Option<Operand>, second: &'a Operand) -> &'a Oper
 pub fn arithmetic_of(
     alloc: Global,
     layout: &Layout,
-    arithmetic: &Arithmetic,
+    arithmetic: &ArithmeticForm,
 ) -> Result<Computed, Memory>
     ensures { IfOk result (λ computed. computed ≡ arithmetic_of layout.now arithmetic.now) }
 {

@@ -12,8 +12,8 @@ use crate::sizes::body_size;
 use pw_base::list::List;
 use pw_base::memory::Memory;
 use pw_code::instr::Instr;
-use pw_forms::cond::Cond;
-use pw_forms::statement::{Arithmetic, Paragraph, Statement};
+use pw_forms::cond::ConditionForm;
+use pw_forms::statement::{ArithmeticForm, Paragraph, Statement};
 use std::alloc::Global;
 
 impl<'a> Plan<'a> {
@@ -22,7 +22,7 @@ impl<'a> Plan<'a> {
         &self,
         alloc: Global,
         code: &mut List<Instr>,
-        cond: &Cond,
+        cond: &ConditionForm,
         first: &[Statement],
     ) -> Result<(), Memory>
         ensures { OnOk result (code.new ≡ code.old ++ instr.JumpUnless
@@ -38,7 +38,7 @@ impl<'a> Plan<'a> {
         &self,
         alloc: Global,
         code: &mut List<Instr>,
-        arithmetic: &Arithmetic,
+        arithmetic: &ArithmeticForm,
         first: &[Statement],
     ) -> Result<(), Memory>
         ensures { OnOk result (code.new ≡ code.old ++ instr.OnSizeError

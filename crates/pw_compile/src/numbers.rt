@@ -3,8 +3,8 @@ ghost use Rattle.std.specs.Prelude.{pos, filter, IfOk, unwrap_or, if◌then◌el
 ghost use Rattle.std.specs.Char.{is_ascii_digit};
 ghost use Rattle.pw_picture.specs.Stored.{value_of, digit_of};
 ghost use Rattle.pw_number.specs.Number.{number};
-ghost use Rattle.pw_compile.specs.Operands.{number_in};
-ghost use Rattle.pw_data.specs.Literals.{number_of};
+ghost use Rattle.pw_compile.specs.Operands.{subscript_number};
+ghost use Rattle.pw_data.specs.Literals.{number_of_literal};
 
 use pw_base::memory::Memory;
 use pw_data::literal::number_of;
@@ -56,7 +56,7 @@ fn digits_in(spelling: &[u8], most: u32) -> u64
 
 /// The value of a number that is a subscript, where every value above `most` is as `most`.
 pub fn number_in(spelling: &[u8], most: u32) -> u64
-    ensures { result ≡ min (number_in spelling.now) most }
+    ensures { result ≡ min (subscript_number spelling.now) most }
 {
     match spelling {
         [b'-', ..] => 0,
@@ -73,7 +73,7 @@ fn zero() -> Scaled
 
 /// The value of a number as it is written, and 0 for what is no number.
 pub fn value_of(spelling: &[u8]) -> Scaled
-    ensures { result ≡ unwrap_or (number_of spelling.now) (number (pos 0) 0) }
+    ensures { result ≡ unwrap_or (number_of_literal spelling.now) (number (pos 0) 0) }
 {
     match number_of(spelling) {
         Some(value) => value,

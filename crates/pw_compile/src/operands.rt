@@ -1,13 +1,13 @@
 ghost use Rattle.std.specs.Prelude.{◌≡◌, map, IfOk};
-ghost use Rattle.pw_compile.specs.Operands.{register_named, kind_of, index_at, subscript_of, table_of};
+ghost use Rattle.pw_compile.specs.Operands.{register_named, code_kind_of, index_at, subscript_of, table_of};
 ghost use Rattle.pw_compile.specs.Operands.{placed, no_place, place_in, operand_by, operand_of};
 ghost use Rattle.pw_data.specs.Layouts.{place_of};
 
 use crate::numbers::{number_in, value_of};
 use pw_base::list::List;
 use pw_base::memory::Memory;
-use pw_code::operand::Operand as Coded;
-use pw_code::place::{Kind, Place, Register, Subscript as Index, Table};
+use pw_code::operand::InstructionOperand as Coded;
+use pw_code::place::{Kind, StoragePlace, Register, PlaceSubscript as Index, PlaceTable};
 use pw_data::item::Place as Item;
 use pw_data::layout::Layout;
 use pw_forms::operand::{Operand, Subscript};
@@ -29,7 +29,7 @@ fn register_named(name: &[u8]) -> Register
 
 /// What the characters of an item of a picture are; a group has none.
 fn kind_of(picture: &Option<Picture>) -> Kind
-    ensures { result ≡ kind_of picture.now }
+    ensures { result ≡ code_kind_of picture.now }
 {
     match picture {
         Some(Picture::Text { .. }) => Kind::Text,
@@ -93,10 +93,10 @@ fn subscript_of(layout: &Layout, occurs: u16, one: &Subscript) -> Index
 }
 
 /// The table in which an item stands.
-fn table_of(layout: &Layout, place: &Item, one: &Subscript) -> Table
+fn table_of(layout: &Layout, place: &Item, one: &Subscript) -> PlaceTable
     ensures { result ≡ table_of layout.now place.now one.now }
 {
-    Table {
+    PlaceTable {
         subscript: subscript_of(layout, place.occurs, one),
         occurs: place.occurs,
         step: place.step,
@@ -104,14 +104,14 @@ fn table_of(layout: &Layout, place: &Item, one: &Subscript) -> Table
 }
 
 /// An item with its subscript, if it has one.
-fn placed(layout: &Layout, place: &Item, one: &Option<Subscript>) -> Place
+fn placed(layout: &Layout, place: &Item, one: &Option<Subscript>) -> StoragePlace
     ensures { result ≡ placed layout.now place.now one.now }
 {
     let table = match one {
         Some(one) => Some(table_of(layout, place, one)),
         None => None,
     };
-    Place {
+    StoragePlace {
         at: place.at,
         size: place.size,
         kind: kind_of(&place.picture),
@@ -120,10 +120,10 @@ fn placed(layout: &Layout, place: &Item, one: &Option<Subscript>) -> Place
 }
 
 /// What is no item lies nowhere.
-fn no_place() -> Place
+fn no_place() -> StoragePlace
     ensures { result ≡ no_place }
 {
-    Place {
+    StoragePlace {
         at: 0,
         size: 0,
         kind: Kind::Group,
@@ -132,7 +132,7 @@ fn no_place() -> Place
 }
 
 /// The item that an operand is. It takes no memory.
-pub fn place_in(layout: &Layout, operand: &Operand) -> Place
+pub fn place_in(layout: &Layout, operand: &Operand) -> StoragePlace
     ensures { result ≡ place_in layout.now operand.now }
 {
     match operand {
@@ -176,7 +176,7 @@ pub fn places_of(
     alloc: Global,
     layout: &Layout,
     operands: &[Operand],
-) -> Result<List<Place>, Memory>
+) -> Result<List<StoragePlace>, Memory>
     ensures { IfOk result (λ places. places ≡ map (place_in layout.now) operands.now) }
 {
     let mut places = List::new(alloc);

@@ -1,5 +1,5 @@
 ghost use Rattle.std.specs.Prelude.{◌≡◌, bytes_eq, position, IfOk};
-ghost use Rattle.pw_compile.specs.Plan.{turn_of, screen_of, program_of, class_of, file_of};
+ghost use Rattle.pw_compile.specs.Plan.{turn_of, planned_screen, planned_program, planned_class, file_of};
 ghost use Rattle.pw_compile.specs.Emitted.{has_screen};
 
 use crate::numbers::{add, as_number};
@@ -148,7 +148,7 @@ impl<'a> Plan<'a> {
 
     /// The number of the screen of a name, through all programs.
     pub fn screen(&self, name: &[u8]) -> Result<u32, Memory>
-        ensures { IfOk result (λ number. number ≡ screen_of self.now name.now) }
+        ensures { IfOk result (λ number. number ≡ planned_screen self.now name.now) }
     {
         let own = self.place_of_screen(name).unwrap_or(0);
         add(self.first, as_number(own)?)
@@ -156,14 +156,14 @@ impl<'a> Plan<'a> {
 
     /// The number of the program of a name.
     pub fn program(&self, name: &[u8]) -> Result<u32, Memory>
-        ensures { IfOk result (λ number. number ≡ program_of self.now name.now) }
+        ensures { IfOk result (λ number. number ≡ planned_program self.now name.now) }
     {
         as_number(place_of_name(self.links.programs.as_slice(), name).unwrap_or(0))
     }
 
     /// The number of the class of a name.
     pub fn class(&self, name: &[u8]) -> Result<u32, Memory>
-        ensures { IfOk result (λ number. number ≡ class_of self.now name.now) }
+        ensures { IfOk result (λ number. number ≡ planned_class self.now name.now) }
     {
         as_number(place_of_name(self.links.classes.as_slice(), name).unwrap_or(0))
     }

@@ -1,5 +1,5 @@
 ghost use Rattle.std.specs.Prelude.{◌≡◌, ◌^◌, ◌<◌, length, IfOk};
-ghost use Rattle.pw_compile.specs.Programs.{linked_by, linkage_of, code_of};
+ghost use Rattle.pw_compile.specs.Programs.{linked_by, linkage_of, program_code};
 ghost use Rattle.pw_data.specs.Layouts.{place_of};
 
 use crate::plan::Plan;
@@ -47,7 +47,7 @@ pub(crate) fn code_of(
     first: u32,
     links: &Links,
 ) -> Result<Code, Memory>
-    ensures code { IfOk result (λ code. code ≡ code_of name.now layout.now screens.now usings.now
+    ensures code { IfOk result (λ code. code ≡ program_code name.now layout.now screens.now usings.now
         paragraphs.now first links.now) }
     ensures short { IfOk result (λ code. length code.instrs < 2 ^ 32) }
 {

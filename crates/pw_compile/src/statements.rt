@@ -3,7 +3,7 @@ ghost use Rattle.pw_compile.specs.Emitted.{has_screen, is_by_register, keeps, di
 ghost use Rattle.pw_compile.specs.Emitted.{display_of, call_of, reply_code, places_of};
 ghost use Rattle.pw_compile.specs.Operands.{operand_of, place_in};
 ghost use Rattle.pw_compile.specs.Conditions.{cond_of};
-ghost use Rattle.pw_compile.specs.Plan.{turn_of, class_of, file_of, screen_of};
+ghost use Rattle.pw_compile.specs.Plan.{turn_of, planned_class, file_of, planned_screen};
 ghost use Rattle.pw_code.specs.declared.instr.Instr.TheVariants as instr;
 
 use crate::conditions::cond_of;
@@ -13,26 +13,26 @@ use pw_base::bytes::Bytes;
 use pw_base::list::List;
 use pw_base::memory::Memory;
 use pw_code::instr::{Instr, ReplyCode, Turn};
-use pw_code::place::{Place, Subscript, Table};
-use pw_forms::cond::Cond;
-use pw_forms::lists::{Code, Keys};
+use pw_code::place::{StoragePlace, PlaceSubscript, PlaceTable};
+use pw_forms::cond::ConditionForm;
+use pw_forms::lists::{SendCode, Keys};
 use pw_forms::operand::Operand;
 use std::alloc::Global;
 
 /// Whether a register says which occurrence is meant.
-fn is_by_register(table: &Option<Table>) -> bool
+fn is_by_register(table: &Option<PlaceTable>) -> bool
     ensures { result ≡ is_by_register table.now }
 {
     match table {
         Some(
-            Table {
-                subscript: Subscript::Register(_),
+            PlaceTable {
+                subscript: PlaceSubscript::Register(_),
                 ..
             },
         ) => true,
         Some(
-            Table {
-                subscript: Subscript::Item { .. } | Subscript::Number(_),
+            PlaceTable {
+                subscript: PlaceSubscript::Item { .. } | PlaceSubscript::Number(_),
                 ..
             },
         ) => false,
@@ -41,7 +41,7 @@ fn is_by_register(table: &Option<Table>) -> bool
 }
 
 /// Whether a CALL with these arguments keeps the registers.
-fn keeps(places: &[Place]) -> bool
+fn keeps(places: &[StoragePlace]) -> bool
     ensures { result ≡ keeps places.now }
 {
     places.iter().any(|place| is_by_register(&place.table))
@@ -69,7 +69,7 @@ impl<'a> Plan<'a> {
     }
 
     /// The test of PERFORM UNTIL.
-    pub fn until(&self, alloc: Global, paragraph: &Bytes, cond: &Cond) -> Result<Instr, Memory>
+    pub fn until(&self, alloc: Global, paragraph: &Bytes, cond: &ConditionForm) -> Result<Instr, Memory>
         ensures { IfOk result (λ one. one ≡ instr.Until (turn_of self.now paragraph.now)
             (cond_of self.now.layout cond.now)) }
     {
@@ -108,7 +108,7 @@ impl<'a> Plan<'a> {
     /// DISPLAY BASE.
     pub fn display_base(&self, screen: &Bytes) -> Result<Instr, Memory>
         ensures { IfOk result (λ one. one
-            ≡ instr.DisplayScreen (screen_of self.now screen.now) true) }
+            ≡ instr.DisplayScreen (planned_screen self.now screen.now) true) }
     {
         let screen = self.screen(screen.as_slice())?;
         Ok(Instr::DisplayScreen { screen, base: true })
@@ -152,7 +152,7 @@ impl<'a> Plan<'a> {
 
     /// ACCEPT.
     pub fn accept(&self, alloc: Global, screen: &Bytes, keys: &Keys) -> Result<Instr, Memory>
-        ensures { IfOk result (λ one. one ≡ instr.Accept (screen_of self.now screen.now) keys.now) }
+        ensures { IfOk result (λ one. one ≡ instr.Accept (planned_screen self.now screen.now) keys.now) }
     {
         let screen = self.screen(screen.as_slice())?;
         let keys = Bytes::from_slice(alloc, keys.as_slice())?;
@@ -179,7 +179,7 @@ impl<'a> Plan<'a> {
     }
 
     /// The codes of a SEND.
-    fn reply_codes(&self, alloc: Global, codes: &[Code]) -> Result<List<ReplyCode>, Memory>
+    fn reply_codes(&self, alloc: Global, codes: &[SendCode]) -> Result<List<ReplyCode>, Memory>
         ensures { IfOk result (λ found. found ≡ map (reply_code self.now) codes.now) }
     {
         let mut found = List::new(alloc);
@@ -198,9 +198,9 @@ impl<'a> Plan<'a> {
         alloc: Global,
         message: &Operand,
         class: &Bytes,
-        codes: &[Code],
+        codes: &[SendCode],
     ) -> Result<Instr, Memory>
-        ensures { IfOk result (λ one. one ≡ instr.Send (class_of self.now class.now)
+        ensures { IfOk result (λ one. one ≡ instr.Send (planned_class self.now class.now)
             (operand_of self.now.layout message.now) (map (reply_code self.now) codes.now)) }
     {
         let class = self.class(class.as_slice())?;

@@ -12,13 +12,13 @@ use Rattle.pw_counts.proofs.Running.{next-seats}
 use Rattle.pw_counts.specs.Attempts.{AreAttemptsOf, AreSeatsOf, AttemptsState, IsStart, attempts_behind, begun_in, commits, drops, first_seat, is_over_by, running_of, stopped_by}
 use Rattle.pw_counts.specs.Counters.{more_if}
 use Rattle.pw_counts.specs.Counts.{is_committed, is_dropped, is_left}
-use Rattle.pw_counts.specs.Over.{begun, ends_at, left_at, over_at}
+use Rattle.pw_counts.specs.Over.{begun_terminal, ends_at, left_at, over_at}
 use Rattle.pw_event.specs.Line.{no_terminal}
 use Rattle.pw_event.specs.declared.event.Event.{Event}
 use Rattle.pw_onecopy.specs.Behaviour.{Behaviour}
 use Rattle.pw_order.proofs.Reading.{order-grows}
 use Rattle.pw_order.specs.Order.{blocks_behind, entry_order}
-use Rattle.pw_order.specs.Shadow.{IsOf, reading_after}
+use Rattle.pw_order.specs.Shadow.{IsOfSystem, reading_after}
 use Rattle.pw_order.specs.declared.block.Block.{Block}
 use Rattle.pw_paired.specs.State.{OpenUnit, State, starting}
 use Rattle.pw_paired.specs.Step.{after}
@@ -62,11 +62,11 @@ next-attempts sys log entry attempts few short known are =
       few_committed = let at_most = number-few (is_over_by commits over) in let before = are.few_committed in omega (arith, one_commit, at_most, before, longer);
       few_dropped = let at_most = number-few (is_over_by drops over) in let before = are.few_dropped in omega (arith, one_drop, at_most, before, longer);
       few_left = omega (arith, fits, few_left, some_left, longer);
-      seats = subst (λ (next : State). AreSeatsOf sys next (begun_in (begun entry) (stopped_by over attempts.seats))) (sym (after-more sys log entry)) (next-seats sys s entry attempts.seats are.seats);
+      seats = subst (λ (next : State). AreSeatsOf sys next (begun_in (begun_terminal entry) (stopped_by over attempts.seats))) (sym (after-more sys log entry)) (next-seats sys s entry attempts.seats are.seats);
     }
 
 -- before the first entry
-pub first-attempts : (system : System) (sys : Behaviour) → IsOf system sys → (attempts : AttemptsState) → IsStart system attempts → AreAttemptsOf sys [] attempts
+pub first-attempts : (system : System) (sys : Behaviour) → IsOfSystem system sys → (attempts : AttemptsState) → IsStart system attempts → AreAttemptsOf sys [] attempts
 first-attempts system sys of attempts start = record {
   committed = start.committed;
   dropped = start.dropped;

@@ -9,7 +9,7 @@ use Rattle.pw_counts.specs.Locks.{is_file}
 use Rattle.pw_counts.specs.Over.{ends_at, is_over, over_at, theirs_by}
 use Rattle.pw_counts.specs.Records.{AreCountsBehind, Balances, images_of, kept_changes}
 use Rattle.pw_counts.specs.declared.over.Over.{Over}
-use Rattle.pw_counts.specs.declared.records.Change.{Change}
+use Rattle.pw_counts.specs.declared.records.CountChange.{CountChange}
 use Rattle.pw_event.specs.declared.event.Ending.{Ending}
 use Rattle.pw_event.specs.declared.event.Ending.TheVariants as ending
 use Rattle.pw_event.specs.declared.event.Event.{Event}
@@ -92,7 +92,7 @@ module _ (sys : Behaviour) (s : State) where
   behind-entry (event.Raise p) other = record { files = refl; before = refl }
   behind-entry (event.End t how) other = ended t how
 
-  module _ (ok : RecordsOk sys s.files s.before s.locks) (count : ℕ → ℕ) (changes : ℕ → List Change) (bal : Balances sys s.files s.before count changes) where
+  module _ (ok : RecordsOk sys s.files s.before s.locks) (count : ℕ → ℕ) (changes : ℕ → List CountChange) (bal : Balances sys s.files s.before count changes) where
     by-over : (over : Option Over) (new : ℕ → ℕ) → AreCountsBehind sys.terminals sys.pair_of over changes count new
         → Balances sys (files_behind over) (before_behind over) new (kept_changes (is_over sys.pair_of over) changes)
     by-over None new are = with-counts sys s.files s.before count new changes (λ f. are.same refl f) bal

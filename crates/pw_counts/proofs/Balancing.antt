@@ -5,7 +5,7 @@ use Rattle.std.specs.Str.{bytes_eq}
 use Rattle.pw_base.proofs.Plain.{and-second}
 use Rattle.pw_counts.proofs.Sums.{sum-parts, sum-same}
 use Rattle.pw_counts.specs.Records.{Balances, grown_in, images_of, kept_changes, shrunk_in, sum_to}
-use Rattle.pw_counts.specs.declared.records.Change.{Change}
+use Rattle.pw_counts.specs.declared.records.CountChange.{CountChange}
 use Rattle.pw_files.specs.Records.{IsFile, record_at}
 use Rattle.pw_laws.proofs.records.Images.{ImageOk, restored-file}
 use Rattle.pw_laws.proofs.records.RecordsOk.{RecordsOk}
@@ -65,7 +65,7 @@ or-without false true = refl
 or-without false false = refl
 
 -- counts that are the same
-pub with-counts : (sys : Behaviour) (files : ℕ → List (List ℕ)) (before : List BeforeImage) (count new : ℕ → ℕ) (changes : ℕ → List Change) → ((f : ℕ) → new f ≡ count f)
+pub with-counts : (sys : Behaviour) (files : ℕ → List (List ℕ)) (before : List BeforeImage) (count new : ℕ → ℕ) (changes : ℕ → List CountChange) → ((f : ℕ) → new f ≡ count f)
     → Balances sys files before count changes → Balances sys files before new changes
 with-counts sys files before count new changes same bal = record {
   all = λ f. same f ∙ bal.all f;
@@ -83,7 +83,7 @@ module _ (sys : Behaviour) (files : ℕ → List (List ℕ)) (before : List Befo
   restored-is-file whose f =
       restored-file sys (images_of whose before) (all-filter (ImageOk sys) (λ image. whose image.terminal) before ok.images) files ok.are_files f
 
-  module _ (whose : ℕ → Bool) (count : ℕ → ℕ) (changes : ℕ → List Change) (bal : Balances sys files before count changes) where
+  module _ (whose : ℕ → Bool) (count : ℕ → ℕ) (changes : ℕ → List CountChange) (bal : Balances sys files before count changes) where
     abbrev others : List BeforeImage
     others = images_of (λ t. not (whose t)) before
 
@@ -111,7 +111,7 @@ module _ (sys : Behaviour) (files : ℕ → List (List ℕ)) (before : List Befo
             ∙ sym (both-parts (λ t. not (whose t)) w (λ t. not (whose t) && w t) (λ t. refl) before)
 
     -- the sum of what is left of each
-    sum-kept : (w : ℕ → Bool) (of : List Change → ℕ) → of [] ≡ 0
+    sum-kept : (w : ℕ → Bool) (of : List CountChange → ℕ) → of [] ≡ 0
         → sum_to sys.terminals w (λ t. of (kept_changes whose changes t)) ≡ sum_to sys.terminals w (λ t. if whose t then 0 else of (changes t))
     sum-kept w of none = sum-same sys.terminals w w (λ t. of (kept_changes whose changes t)) (λ t. if whose t then 0 else of (changes t)) (λ t low. ap (λ (n : ℕ). if w t then n else 0) (by (whose t) t))
       where

@@ -6,7 +6,7 @@ use Rattle.std.proofs.lemmas.List.{get_or-set_other, get_or-set_same, length-set
 use Rattle.std.proofs.lemmas.List.Sums.{count_by-le-length, sum_by-append}
 use Rattle.std.specs.Prelude.{count_by, slice_index_or, if◌then◌else◌}
 use Rattle.pw_counts.specs.Counters.{AreCountersOf, CountersState, counters_behind, more, more_at, more_if}
-use Rattle.pw_counts.specs.Counts.{is_begin, is_older, is_one, is_redo, is_server, is_takeover, restarted, restarts_by, taken_from}
+use Rattle.pw_counts.specs.Counts.{is_begin, is_older, is_one, is_redo, is_server, is_takeover, restarted_terminal, restarts_by, taken_from}
 use Rattle.pw_event.specs.declared.event.Event.{Event}
 
 -- of a test
@@ -57,6 +57,6 @@ next-counters log entry counters few are = record {
   takeover = counted (restarts_by is_takeover) log entry counters.takeover few are.takeover;
   server = counted (restarts_by is_server) log entry counters.server few are.server;
   redo = counted (restarts_by is_redo) log entry counters.redo few are.redo;
-  restarts = counted-each restarted log entry counters.restarts few are.restarts;
+  restarts = counted-each restarted_terminal log entry counters.restarts few are.restarts;
   taken = counted-each taken_from log entry counters.taken few are.taken;
 }

@@ -10,7 +10,7 @@ use Rattle.pw_counts.proofs.Each.{one-item}
 use Rattle.pw_counts.specs.Attempts.{AreSeatsOf, commits, drops, is_over_by, is_running, running_of, runs_at, seat_of}
 use Rattle.pw_counts.specs.Counts.{is_committed, is_dropped, is_left}
 use Rattle.pw_counts.specs.Over.{ends_at, left_at, over_at, over_if}
-use Rattle.pw_counts.specs.declared.attempts.Seat.{Seat}
+use Rattle.pw_counts.specs.declared.attempts.AttemptSeat.{AttemptSeat}
 use Rattle.pw_counts.specs.declared.over.Whose.{Whose}
 use Rattle.pw_counts.specs.declared.over.Whose.TheVariants.{One, Pair}
 use Rattle.pw_event.specs.declared.event.Ending.{Ending}
@@ -40,10 +40,10 @@ number b = if b then 1 else 0
 
 module _ (p : Block → Bool) (kind : order.How → Bool) (no_out : (t : ℕ) → p (block.Out t) ≡ false) (no_done : (t : ℕ) (e : Ending) → p (block.Done t e) ≡ false)
     (by_how : (t n : ℕ) (over : order.How) → p (block.Ended t n over) ≡ kind over) where
-  abbrev counted_in : List one.Block → ℕ
+  abbrev counted_in : List one.SerialBlock → ℕ
   counted_in blocks = count_by p (map told blocks)
 
-  parts : (front back : List one.Block) → counted_in (front ++ back) ≡ counted_in front + counted_in back
+  parts : (front back : List one.SerialBlock) → counted_in (front ++ back) ≡ counted_in front + counted_in back
   parts front back = ap (count_by p) (told-append front back) ∙ sum_by-append (λ (b : Block). if p b then 1 else 0) (map told front) (map told back)
 
   shown-none : (b : Bool) (t : ℕ) → counted_in (if b then one.Out t ∷ [] else []) ≡ 0
@@ -74,7 +74,7 @@ module _ (p : Block → Bool) (kind : order.How → Bool) (no_out : (t : ℕ) �
     nothing true = ap number no_left
     nothing false = refl
 
-    left-step : (s : State) (r : Reading) (t : ℕ) (rest : List one.Block) (b : Bool) → counted_in rest ≡ 0
+    left-step : (s : State) (r : Reading) (t : ℕ) (rest : List one.SerialBlock) (b : Bool) → counted_in rest ≡ 0
         → counted_in (rest ++ (if b then left_block t (r.answers t) (s.units t) else [])) ≡ 0
     left-step s r t rest true before =
         let both = parts rest (left_block t (r.answers t) (s.units t)) in
@@ -161,11 +161,11 @@ left-how t n how.Dropped = refl
 left-how t n how.Restart = refl
 left-how t n how.Left = refl
 
-abbrev left_in : List one.Block → ℕ
+abbrev left_in : List one.SerialBlock → ℕ
 left_in blocks = count_by is_left (map told blocks)
 
-module _ (sys : Behaviour) (s : State) (r : Reading) (seats : List Seat) (are : AreSeatsOf sys s seats) where
-  abbrev runs_in_pair : ℕ → Seat → Bool
+module _ (sys : Behaviour) (s : State) (r : Reading) (seats : List AttemptSeat) (are : AreSeatsOf sys s seats) where
+  abbrev runs_in_pair : ℕ → AttemptSeat → Bool
   runs_in_pair p seat = seat.tcp == p && seat.runs
 
   -- one more terminal
@@ -186,7 +186,7 @@ module _ (sys : Behaviour) (s : State) (r : Reading) (seats : List Seat) (are : 
       by true is = sym (count_by_more_yes (runs_in_pair p) seats t (seat_of sys s t) low (test ∙ is))
       by false is = let more = count_by_more_no (runs_in_pair p) seats t (seat_of sys s t) low (test ∙ is) in omega (arith, more)
 
-  left-pair : (p t : ℕ) (rest : List one.Block) (a : Bool) → t < sys.terminals → is_of_pair sys p t ≡ a → left_in rest ≡ count_by (runs_in_pair p) (take t seats)
+  left-pair : (p t : ℕ) (rest : List one.SerialBlock) (a : Bool) → t < sys.terminals → is_of_pair sys p t ≡ a → left_in rest ≡ count_by (runs_in_pair p) (take t seats)
       → left_in (rest ++ (if a then left_block t (r.answers t) (s.units t) else [])) ≡ count_by (runs_in_pair p) (take (t + 1) seats)
   left-pair p t rest true known own before =
       let both = parts is_left is_left_how (λ t. refl) (λ t e. refl) left-how rest (left_block t (r.answers t) (s.units t)) in
@@ -258,7 +258,7 @@ module _ (sys : Behaviour) (s : State) (r : Reading) (seats : List Seat) (are : 
   lefts-in known (event.End t e) = ended is_left is_left_how (λ t. refl) (λ t e. refl) left-how t (r.answers t) (s.units t) e ∙ end-left known t
 
 -- no more than there are terminals
-pub few-running : (seats : List Seat) (whose : Option Whose) → running_of seats whose ≤ length seats
+pub few-running : (seats : List AttemptSeat) (whose : Option Whose) → running_of seats whose ≤ length seats
 few-running seats None = omega arith
 few-running seats (Some (One t)) = at-most (slice_get seats t) refl
   where
@@ -266,7 +266,7 @@ few-running seats (Some (One t)) = at-most (slice_get seats t) refl
     flag true n some = omega (arith, some)
     flag false n some = omega arith
 
-    at-most : (seat : Option Seat) → slice_get seats t ≡ seat → runs_at seat ≤ length seats
+    at-most : (seat : Option AttemptSeat) → slice_get seats t ≡ seat → runs_at seat ≤ length seats
     at-most None is = omega arith
     at-most (Some seat) is = let low = slice_get_within seats t seat is in flag seat.runs (length seats) (omega (arith, low))
-few-running seats (Some (Pair p)) = count_by-le-length (λ (seat : Seat). seat.tcp == p && seat.runs) seats
+few-running seats (Some (Pair p)) = count_by-le-length (λ (seat : AttemptSeat). seat.tcp == p && seat.runs) seats

@@ -5,7 +5,7 @@ use Rattle.pw_counts.proofs.Waiting.{falls}
 use Rattle.pw_counts.specs.Counts.{waiting}
 use Rattle.pw_event.specs.declared.event.Event.{Event}
 use Rattle.pw_event.specs.declared.event.Event.TheVariants as event
-use Rattle.pw_listing.specs.Listing.{counted}
+use Rattle.pw_listing.specs.Listing.{refreshes_counted_once}
 use Rattle.pw_onecopy.proofs.Update.{upd_elim}
 use Rattle.pw_onecopy.specs.Behaviour.{Behaviour}
 use Rattle.pw_onecopy.specs.Refreshes.{once, others, refreshes_of, same_number}
@@ -69,7 +69,7 @@ few-refreshes sys s (entry ∷ log) =
     let rest = few-refreshes sys (effect sys s entry) log in
     omega (arith, both, here, rest)
 
-pub few-counted : (sys : Behaviour) (s : State) (log : List Event) (t : ℕ) → length (counted (refreshes_from sys s log) t) ≤ length log
+pub few-counted : (sys : Behaviour) (s : State) (log : List Event) (t : ℕ) → length (refreshes_counted_once (refreshes_from sys s log) t) ≤ length log
 few-counted sys s log t =
     let all = few-refreshes sys s log in
     let own = few-of t (refreshes_from sys s log) in

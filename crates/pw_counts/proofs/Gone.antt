@@ -5,18 +5,18 @@ use Rattle.pw_onecopy.proofs.Update.{upd-same}
 use Rattle.pw_onecopy.specs.Behaviour.{Behaviour}
 use Rattle.pw_paired.specs.Failure.{do_fail_tcp, lose_backup, lose_pair, lose_primary}
 use Rattle.pw_paired.specs.Serial.{is_gone, makes_gone}
-use Rattle.pw_paired.specs.State.{Alone, Down, Gone, Mode, Paired, Raising, State}
+use Rattle.pw_paired.specs.State.{Alone, Down, Gone, PairMode, Paired, Raising, State}
 use Rattle.pw_laws.proofs.induction.Failed.{fail-cases}
 use Rattle.pw_laws.specs.runs.Losses.{Breaks}
 
-none-lost : (mode : Mode) → (is_gone mode && not (is_gone mode)) ≡ false
+none-lost : (mode : PairMode) → (is_gone mode && not (is_gone mode)) ≡ false
 none-lost Alone = refl
 none-lost Raising = refl
 none-lost Paired = refl
 none-lost Down = refl
 none-lost Gone = refl
 
-breaks : (primary : Bool) (mode : Mode) → Breaks primary mode → is_gone mode ≡ false
+breaks : (primary : Bool) (mode : PairMode) → Breaks primary mode → is_gone mode ≡ false
 breaks true mode (inl is) = ap is_gone is
 breaks true mode (inr is) = ap is_gone is
 breaks false mode is = ap is_gone is
@@ -29,8 +29,8 @@ module _ (sys : Behaviour) (s : State) (Q : Bool → State → Type 0) (p : ℕ)
   at : (next : State) (b : Bool) → (is_gone (next.modes p) && not (is_gone (s.modes p))) ≡ b → Q b next → At next
   at next b is now = subst (λ (c : Bool). Q c next) (sym is) now
 
-  behind : (next : State) (mode : Mode) → next.modes p ≡ mode → (is_gone (next.modes p) && not (is_gone (s.modes p))) ≡ (is_gone mode && not (is_gone (s.modes p)))
-  behind next mode is = ap (λ (m : Mode). is_gone m && not (is_gone (s.modes p))) is
+  behind : (next : State) (mode : PairMode) → next.modes p ≡ mode → (is_gone (next.modes p) && not (is_gone (s.modes p))) ≡ (is_gone mode && not (is_gone (s.modes p)))
+  behind next mode is = ap (λ (m : PairMode). is_gone m && not (is_gone (s.modes p))) is
 
   -- what holds where the pair is lost, and where it is not
   pub gone-cases : (k : ℕ) → Q false s → Q false (lose_primary sys p s) → Q true (lose_pair sys p s) → Q false (lose_backup sys p s)

@@ -15,7 +15,7 @@ use Rattle.pw_counts.proofs.Each.{one-item}
 use Rattle.pw_counts.proofs.Lengths.{behind-length}
 use Rattle.pw_counts.proofs.Sums.{sum-more}
 use Rattle.pw_counts.specs.Records.{Balances, grown_in, grows, images_of, shrinks, shrunk_in, sum_to}
-use Rattle.pw_counts.specs.declared.records.Change.{Change}
+use Rattle.pw_counts.specs.declared.records.CountChange.{CountChange}
 use Rattle.pw_files.specs.Records.{IsContent, IsFile, record_at}
 use Rattle.pw_laws.proofs.records.Images.{ImageOk, cases_bytes, is_at, restored-at, restored-file, stands_at, stands_at-none}
 use Rattle.pw_laws.proofs.records.OperationKept.{operation-committed, operation-ok}
@@ -35,36 +35,36 @@ use Rattle.pw_paired.specs.Units.{has_image, image_before, is_first_change, rest
 use Rattle.pw_laws.proofs.Tests.{all-filter, any-filter, any-more}
 
 -- what an operation changes in the number of records
-abbrev pub changed_by : Bool → FileCall → List Change
+abbrev pub changed_by : Bool → FileCall → List CountChange
 changed_by done call =
     if done && grows call.op then record { file = call.file; grew = true } ∷ []
     else (if done && shrinks call.op then record { file = call.file; grew = false } ∷ [] else [])
 
 -- a record more, or one less
-abbrev some : ℕ → Bool → Bool → List Change
+abbrev some : ℕ → Bool → Bool → List CountChange
 some file a b = if a then record { file = file; grew = true } ∷ [] else (if b then record { file = file; grew = false } ∷ [] else [])
 
 -- in its own file, and in others
 some-here : (file : ℕ) (a b : Bool) → (a && b) ≡ false → (grown_in file (some file a b) ≡ (if a then 1 else 0)) × (shrunk_in file (some file a b) ≡ (if b then 1 else 0))
 some-here file true true both = absurd (true≢false both)
 some-here file true false both = (
-  one-item (λ (change : Change). change.file == file && change.grew) (record { file = file; grew = true }) true (ap (λ (x : Bool). x && true) (eq-eqb file file refl)),
-  one-item (λ (change : Change). change.file == file && not change.grew) (record { file = file; grew = true }) false (ap (λ (x : Bool). x && false) (eq-eqb file file refl)),
+  one-item (λ (change : CountChange). change.file == file && change.grew) (record { file = file; grew = true }) true (ap (λ (x : Bool). x && true) (eq-eqb file file refl)),
+  one-item (λ (change : CountChange). change.file == file && not change.grew) (record { file = file; grew = true }) false (ap (λ (x : Bool). x && false) (eq-eqb file file refl)),
 )
 some-here file false true both = (
-  one-item (λ (change : Change). change.file == file && change.grew) (record { file = file; grew = false }) false (ap (λ (x : Bool). x && false) (eq-eqb file file refl)),
-  one-item (λ (change : Change). change.file == file && not change.grew) (record { file = file; grew = false }) true (ap (λ (x : Bool). x && true) (eq-eqb file file refl)),
+  one-item (λ (change : CountChange). change.file == file && change.grew) (record { file = file; grew = false }) false (ap (λ (x : Bool). x && false) (eq-eqb file file refl)),
+  one-item (λ (change : CountChange). change.file == file && not change.grew) (record { file = file; grew = false }) true (ap (λ (x : Bool). x && true) (eq-eqb file file refl)),
 )
 some-here file false false both = (refl, refl)
 
 some-elsewhere : (file f : ℕ) (a b : Bool) → (file ≡ f → ⊥) → (grown_in f (some file a b) ≡ 0) × (shrunk_in f (some file a b) ≡ 0)
 some-elsewhere file f true b differ = (
-  one-item (λ (change : Change). change.file == f && change.grew) (record { file = file; grew = true }) false (ap (λ (x : Bool). x && true) (ne_eqb file f differ)),
-  one-item (λ (change : Change). change.file == f && not change.grew) (record { file = file; grew = true }) false (ap (λ (x : Bool). x && false) (ne_eqb file f differ)),
+  one-item (λ (change : CountChange). change.file == f && change.grew) (record { file = file; grew = true }) false (ap (λ (x : Bool). x && true) (ne_eqb file f differ)),
+  one-item (λ (change : CountChange). change.file == f && not change.grew) (record { file = file; grew = true }) false (ap (λ (x : Bool). x && false) (ne_eqb file f differ)),
 )
 some-elsewhere file f false true differ = (
-  one-item (λ (change : Change). change.file == f && change.grew) (record { file = file; grew = false }) false (ap (λ (x : Bool). x && false) (ne_eqb file f differ)),
-  one-item (λ (change : Change). change.file == f && not change.grew) (record { file = file; grew = false }) false (ap (λ (x : Bool). x && true) (ne_eqb file f differ)),
+  one-item (λ (change : CountChange). change.file == f && change.grew) (record { file = file; grew = false }) false (ap (λ (x : Bool). x && false) (ne_eqb file f differ)),
+  one-item (λ (change : CountChange). change.file == f && not change.grew) (record { file = file; grew = false }) false (ap (λ (x : Bool). x && true) (ne_eqb file f differ)),
 )
 some-elsewhere file f false false differ = (refl, refl)
 
@@ -300,17 +300,17 @@ module _ (sys : Behaviour) (files : ℕ → List (List ℕ)) (before : List Befo
               omega (arith, same, own.0, own.1)
 
   -- the changes with those of the operation
-  abbrev pub changes_after : (ℕ → List Change) → ℕ → List Change
+  abbrev pub changes_after : (ℕ → List CountChange) → ℕ → List CountChange
   changes_after changes = upd changes u.terminal (changes u.terminal ++ changed_by done call)
 
-  module _ (count : ℕ → ℕ) (changes : ℕ → List Change) (known : u.terminal < sys.terminals) (bal : Balances sys files before count changes) where
+  module _ (count : ℕ → ℕ) (changes : ℕ → List CountChange) (known : u.terminal < sys.terminals) (bal : Balances sys files before count changes) where
     -- the sums with those
-    sums : (w : ℕ → Bool) (p : Change → Bool)
+    sums : (w : ℕ → Bool) (p : CountChange → Bool)
         → sum_to sys.terminals w (λ t. count_by p (changes_after changes t)) ≡ sum_to sys.terminals w (λ t. count_by p (changes t)) + (if w u.terminal then count_by p (changed_by done call) else 0)
     sums w p =
         sum-more sys.terminals w (λ t. count_by p (changes t)) (λ t. count_by p (changes_after changes t)) u.terminal (count_by p (changed_by done call)) known
         (ap (count_by p) (upd-same changes u.terminal (changes u.terminal ++ changed_by done call) u.terminal refl)
-        ∙ sum_by-append (λ (change : Change). if p change then 1 else 0) (changes u.terminal) (changed_by done call))
+        ∙ sum_by-append (λ (change : CountChange). if p change then 1 else 0) (changes u.terminal) (changed_by done call))
         (λ k differ. ap (count_by p) (upd-other changes u.terminal (changes u.terminal ++ changed_by done call) k differ))
 
     -- the number of records of each file

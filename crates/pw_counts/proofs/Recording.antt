@@ -11,7 +11,7 @@ use Rattle.pw_counts.proofs.Operating.{changed_by, operated-balances, operated-l
 use Rattle.pw_counts.specs.Locks.{is_file}
 use Rattle.pw_counts.specs.Over.{ends_at, is_over, over_at}
 use Rattle.pw_counts.specs.Records.{AreCountsBehind, Balances, changes_of, grown_in, grows, kept_changes, shrinks, shrunk_in}
-use Rattle.pw_counts.specs.declared.records.Change.{Change}
+use Rattle.pw_counts.specs.declared.records.CountChange.{CountChange}
 use Rattle.pw_event.specs.declared.event.Event.{Event}
 use Rattle.pw_event.specs.declared.event.Event.TheVariants.{File}
 use Rattle.pw_files.specs.Records.{IsContent}
@@ -67,7 +67,7 @@ start-balances sys = record { all = λ f. refl; without = λ w f. refl }
 module _ (sys : Behaviour) (b : IsBehaviour sys) (log : List Event) (run : IsRun sys log) where
   -- the numbers of records behind a FILE
   pub file-lengths : (c i : ℕ) (op : FileOp) (mode : LockMode) (f status : ℕ) → (legal : LegalFile sys (after sys log) c i op mode f status)
-      → legal.job.request.terminal < sys.terminals → (changes : ℕ → List Change)
+      → legal.job.request.terminal < sys.terminals → (changes : ℕ → List CountChange)
       → Balances sys (after sys log).files (after sys log).before (λ g. length ((after sys log).files g)) changes
       → (g : ℕ) → length ((effect sys (after sys log) (File c i op mode f status)).files g) + shrunk_in g (changes_of op f status)
       ≡ length ((after sys log).files g) + grown_in g (changes_of op f status)
@@ -88,7 +88,7 @@ module _ (sys : Behaviour) (b : IsBehaviour sys) (log : List Event) (run : IsRun
 
   -- a FILE
   pub file-balances : (c i : ℕ) (op : FileOp) (mode : LockMode) (f status : ℕ) → (legal : LegalFile sys (after sys log) c i op mode f status)
-      → legal.job.request.terminal < sys.terminals → (count new : ℕ → ℕ) (changes : ℕ → List Change)
+      → legal.job.request.terminal < sys.terminals → (count new : ℕ → ℕ) (changes : ℕ → List CountChange)
       → Balances sys (after sys log).files (after sys log).before count changes
       → ((g : ℕ) → new g + shrunk_in g (changes_of op f status) ≡ count g + grown_in g (changes_of op f status))
       → Balances sys (effect sys (after sys log) (File c i op mode f status)).files (effect sys (after sys log) (File c i op mode f status)).before new
@@ -115,12 +115,12 @@ module _ (sys : Behaviour) (b : IsBehaviour sys) (log : List Event) (run : IsRun
       omega (arith, now, own, before, shrunk, grown) in
       subst (λ (t : State). Balances sys t.files t.before new (upd changes legal.job.request.terminal (changes legal.job.request.terminal ++ changes_of op f status)))
       (sym (file-is sys s c i op mode f status legal))
-      (subst (λ (more : List Change). Balances sys next.files next.before new (upd changes legal.job.request.terminal (changes legal.job.request.terminal ++ more))) named
+      (subst (λ (more : List CountChange). Balances sys next.files next.before new (upd changes legal.job.request.terminal (changes legal.job.request.terminal ++ more))) named
       (with-counts sys next.files next.before (λ g. length (next.files g)) new
       (upd changes legal.job.request.terminal (changes legal.job.request.terminal ++ changed_by (changes_records (sys.key_length call.file) (s.files call.file) call) call)) same behind))
 
   -- every other entry
-  pub other-balances : (count : ℕ → ℕ) (changes : ℕ → List Change) → Balances sys (after sys log).files (after sys log).before count changes → (entry : Event) → is_file entry ≡ false
+  pub other-balances : (count : ℕ → ℕ) (changes : ℕ → List CountChange) → Balances sys (after sys log).files (after sys log).before count changes → (entry : Event) → is_file entry ≡ false
       → (new : ℕ → ℕ) → AreCountsBehind sys.terminals sys.pair_of (over_at (ends_at sys (after sys log) entry) entry) changes count new
       → Balances sys (effect sys (after sys log) entry).files (effect sys (after sys log) entry).before new
       (kept_changes (is_over sys.pair_of (over_at (ends_at sys (after sys log) entry) entry)) changes)

@@ -8,8 +8,8 @@ use Rattle.std.specs.Option.{option_map}
 use Rattle.pw_counts.proofs.Gone.{gone-cases}
 use Rattle.pw_counts.specs.Attempts.{AreSeatsOf, begun_in, is_running, stopped, stopped_by, stopped_of, with_runs}
 use Rattle.pw_counts.specs.Counts.{is_one}
-use Rattle.pw_counts.specs.Over.{begun, ends_at, is_over, over_at, theirs_by}
-use Rattle.pw_counts.specs.declared.attempts.Seat.{Seat}
+use Rattle.pw_counts.specs.Over.{begun_terminal, ends_at, is_over, over_at, theirs_by}
+use Rattle.pw_counts.specs.declared.attempts.AttemptSeat.{AttemptSeat}
 use Rattle.pw_counts.specs.declared.over.Over.{Over}
 use Rattle.pw_counts.specs.declared.over.Whose.{Whose}
 use Rattle.pw_counts.specs.declared.over.Whose.TheVariants.{One, Pair}
@@ -35,7 +35,7 @@ use Rattle.pw_laws.proofs.induction.Served.{file-cases}
 
 -- whether one runs behind an entry
 abbrev pub runs_behind : (ℕ → ℕ) → Option ℕ → Option Over → ℕ → Bool → Bool
-runs_behind pair_of begun over t now = if is_one t begun then true else (if is_over pair_of over t then false else now)
+runs_behind pair_of begun_terminal over t now = if is_one t begun_terminal then true else (if is_over pair_of over t then false else now)
 
 -- ---- in the state
 
@@ -92,7 +92,7 @@ module _ (sys : Behaviour) (s : State) where
     end-runs own (ending.Fault x) = left-runs (only own t) (s.units t)
     end-runs own (ending.Suspended cause) = left-runs (only own t) (s.units t)
 
-    pub runs-next : (entry : Event) → is_running (effect sys s entry) t ≡ runs_behind sys.pair_of (begun entry) (over_at (ends_at sys s entry) entry) t (is_running s t)
+    pub runs-next : (entry : Event) → is_running (effect sys s entry) t ≡ runs_behind sys.pair_of (begun_terminal entry) (over_at (ends_at sys s entry) entry) t (is_running s t)
     runs-next (event.Show own phase attempt k) = refl
     runs-next (event.Key own k) = refl
     runs-next (event.CheckStart own) = refl
@@ -121,14 +121,14 @@ module _ (sys : Behaviour) (s : State) where
 -- ---- in the seats
 
 -- a seat with another flag
-with-same : (seat : Seat) (tcp : ℕ) (b c : Bool) → seat ≡ record { tcp = tcp; runs = c } → with_runs b seat ≡ record { tcp = tcp; runs = b }
+with-same : (seat : AttemptSeat) (tcp : ℕ) (b c : Bool) → seat ≡ record { tcp = tcp; runs = c } → with_runs b seat ≡ record { tcp = tcp; runs = b }
 with-same seat tcp b c is = ap (with_runs b) is
 
 module _ (pair_of : ℕ → ℕ) (runs : ℕ → Bool) where
-  abbrev seat_as : ℕ → Bool → Seat
+  abbrev seat_as : ℕ → Bool → AttemptSeat
   seat_as t b = record { tcp = pair_of t; runs = b }
 
-  put-seat : (seats : List Seat) (own t : ℕ) (b now : Bool) → slice_get seats t ≡ Some (seat_as t now)
+  put-seat : (seats : List AttemptSeat) (own t : ℕ) (b now : Bool) → slice_get seats t ≡ Some (seat_as t now)
       → slice_get (changed_at own (with_runs b) seats) t ≡ Some (seat_as t (if own == t then b else now))
   put-seat seats own t b now here =
       ⊎_elim
@@ -147,7 +147,7 @@ module _ (pair_of : ℕ → ℕ) (runs : ℕ → Bool) where
   same-way : (own t : ℕ) → (own == t) ≡ (t == own)
   same-way own t = ⊎_elim (λ same. eq-eqb own t same ∙ sym (eq-eqb t own (sym same))) (λ differ. ne_eqb own t differ ∙ sym (ne_eqb t own (λ e. differ (sym e)))) (cases_eq own t)
 
-  stopped-seat : (seats : List Seat) (over : Option Over) (t : ℕ) (now : Bool) → slice_get seats t ≡ Some (seat_as t now)
+  stopped-seat : (seats : List AttemptSeat) (over : Option Over) (t : ℕ) (now : Bool) → slice_get seats t ≡ Some (seat_as t now)
       → slice_get (stopped_by over seats) t ≡ Some (seat_as t (if is_over pair_of over t then false else now))
   stopped-seat seats None t now here = here
   stopped-seat seats (Some over) t now here = by over.whose
@@ -156,12 +156,12 @@ module _ (pair_of : ℕ → ℕ) (runs : ℕ → Bool) where
       by (One own) = put-seat seats own t false now here ∙ ap (λ (c : Bool). Some (seat_as t (if c then false else now))) (same-way own t)
       by (Pair p) = slice_get-map (stopped_of p) seats t ∙ (ap (option_map (stopped_of p)) here ∙ ap Some (one-stopped p t now (pair_of t == p) refl))
 
-  begun-seat : (seats : List Seat) (begun : Option ℕ) (t : ℕ) (now : Bool) → slice_get seats t ≡ Some (seat_as t now)
-      → slice_get (begun_in begun seats) t ≡ Some (seat_as t (if is_one t begun then true else now))
+  begun-seat : (seats : List AttemptSeat) (begun_terminal : Option ℕ) (t : ℕ) (now : Bool) → slice_get seats t ≡ Some (seat_as t now)
+      → slice_get (begun_in begun_terminal seats) t ≡ Some (seat_as t (if is_one t begun_terminal then true else now))
   begun-seat seats None t now here = here
   begun-seat seats (Some own) t now here = put-seat seats own t true now here
 
-stopped-length : (seats : List Seat) (over : Option Over) → length (stopped_by over seats) ≡ length seats
+stopped-length : (seats : List AttemptSeat) (over : Option Over) → length (stopped_by over seats) ≡ length seats
 stopped-length seats None = refl
 stopped-length seats (Some over) = by over.whose
   where
@@ -169,19 +169,19 @@ stopped-length seats (Some over) = by over.whose
     by (One own) = changed-length seats own (with_runs false)
     by (Pair p) = length-map seats (stopped_of p)
 
-begun-length : (seats : List Seat) (begun : Option ℕ) → length (begun_in begun seats) ≡ length seats
+begun-length : (seats : List AttemptSeat) (begun_terminal : Option ℕ) → length (begun_in begun_terminal seats) ≡ length seats
 begun-length seats None = refl
 begun-length seats (Some own) = changed-length seats own (with_runs true)
 
 -- the seats behind an entry
-pub next-seats : (sys : Behaviour) (s : State) (entry : Event) (seats : List Seat) → AreSeatsOf sys s seats
-    → AreSeatsOf sys (effect sys s entry) (begun_in (begun entry) (stopped_by (over_at (ends_at sys s entry) entry) seats))
+pub next-seats : (sys : Behaviour) (s : State) (entry : Event) (seats : List AttemptSeat) → AreSeatsOf sys s seats
+    → AreSeatsOf sys (effect sys s entry) (begun_in (begun_terminal entry) (stopped_by (over_at (ends_at sys s entry) entry) seats))
 next-seats sys s entry seats are =
     let over = over_at (ends_at sys s entry) entry in
     record {
-      count = begun-length (stopped_by over seats) (begun entry) ∙ (stopped-length seats over ∙ are.count);
+      count = begun-length (stopped_by over seats) (begun_terminal entry) ∙ (stopped-length seats over ∙ are.count);
       seat = λ t known.
-          begun-seat sys.pair_of (is_running s) (stopped_by over seats) (begun entry) t (if is_over sys.pair_of over t then false else is_running s t)
+          begun-seat sys.pair_of (is_running s) (stopped_by over seats) (begun_terminal entry) t (if is_over sys.pair_of over t then false else is_running s t)
           (stopped-seat sys.pair_of (is_running s) seats over t (is_running s t) (are.seat t known))
           ∙ ap (λ (b : Bool). Some (record { tcp = sys.pair_of t; runs = b })) (sym (runs-next sys s t entry));
     }

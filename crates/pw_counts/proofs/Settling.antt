@@ -12,7 +12,7 @@ use Rattle.pw_counts.specs.Kept.{ChangesState, IsBackedOut, RecordsState, change
 use Rattle.pw_counts.specs.Records.{grown_in, shrunk_in, sum_to}
 use Rattle.pw_counts.specs.Locks.{AreLocksOf, IsReleased, LocksState, held_by}
 use Rattle.pw_counts.specs.Settled.{AreReleased, AreTakenBack, has_tcp, is_seated}
-use Rattle.pw_counts.specs.declared.attempts.Seat.{Seat}
+use Rattle.pw_counts.specs.declared.attempts.AttemptSeat.{AttemptSeat}
 use Rattle.pw_locks.specs.declared.lock.Lock.{Lock}
 use Rattle.pw_paired.specs.Units.{only, without_locks}
 
@@ -59,15 +59,15 @@ none-more w i other t =
     (λ above. ap (λ (b : Bool). b && w t) (lt-false t i (omega (arith, above)) ∙ sym (lt-false t (i + 1) (omega (arith, above)))))
 
 -- who is seated is below the number of seats
-pub seated-low : (seats : List Seat) (p t : ℕ) → is_seated seats p t ≡ true → t < length seats
+pub seated-low : (seats : List AttemptSeat) (p t : ℕ) → is_seated seats p t ≡ true → t < length seats
 seated-low seats p t is = by (slice_get seats t) refl is
   where
-    by : (seat : Option Seat) → slice_get seats t ≡ seat → has_tcp p seat ≡ true → t < length seats
+    by : (seat : Option AttemptSeat) → slice_get seats t ≡ seat → has_tcp p seat ≡ true → t < length seats
     by None here none = absurd (false≢true none)
     by (Some seat) here one = slice_get_within seats t seat here
 
 -- so all are the first ones
-pub all-first : (seats : List Seat) (p n : ℕ) → length seats ≤ n → (t : ℕ) → first_of n (is_seated seats p) t ≡ is_seated seats p t
+pub all-first : (seats : List AttemptSeat) (p n : ℕ) → length seats ≤ n → (t : ℕ) → first_of n (is_seated seats p) t ≡ is_seated seats p t
 all-first seats p n all t =
     ⊎_elim
     (λ theirs. ap (λ (b : Bool). b && is_seated seats p t) (lt-true t n (let low = seated-low seats p t theirs in omega (arith, low, all))))
@@ -176,19 +176,19 @@ same-sum w i of other = sym (sum-one i w of false other)
 -- ---- one terminal after the other
 
 -- the locks of the first terminals are gone, where they are of the pair
-pub record ReleasedTo (seats : List Seat) (p n : ℕ) (first now : LocksState) : Type 0 where
+pub record ReleasedTo (seats : List AttemptSeat) (p n : ℕ) (first now : LocksState) : Type 0 where
   pub count : length now.terminals ≡ length first.terminals
   pub files : length now.files ≡ length first.files
   pub locks : (locks : List Lock) → AreLocksOf locks first → AreLocksOf (without_locks (first_of n (is_seated seats p)) locks) now
 
-pub released-start : (seats : List Seat) (p : ℕ) (first : LocksState) → ReleasedTo seats p 0 first first
+pub released-start : (seats : List AttemptSeat) (p : ℕ) (first : LocksState) → ReleasedTo seats p 0 first first
 released-start seats p first = record {
   count = refl;
   files = refl;
   locks = λ locks are. subst (λ (l : List Lock). AreLocksOf l first) (without-none (is_seated seats p) locks) are;
 }
 
-pub released-more : (seats : List Seat) (p i : ℕ) (seat : Seat) (first old new : LocksState) → slice_get seats i ≡ Some seat → i < length first.terminals
+pub released-more : (seats : List AttemptSeat) (p i : ℕ) (seat : AttemptSeat) (first old new : LocksState) → slice_get seats i ≡ Some seat → i < length first.terminals
     → (has_tcp p (Some seat) ≡ true → IsReleased i old new) → (has_tcp p (Some seat) ≡ false → new ≡ old)
     → ReleasedTo seats p i first old → ReleasedTo seats p (i + 1) first new
 released-more seats p i seat first old new here low theirs other before =
@@ -215,7 +215,7 @@ released-more seats p i seat first old new here low theirs other before =
     }))
     (cases_Bool (has_tcp p (Some seat)))
 
-pub released-all : (seats : List Seat) (p n : ℕ) (first now : LocksState) → length seats ≤ n → ReleasedTo seats p n first now → AreReleased (is_seated seats p) first now
+pub released-all : (seats : List AttemptSeat) (p n : ℕ) (first now : LocksState) → length seats ≤ n → ReleasedTo seats p n first now → AreReleased (is_seated seats p) first now
 released-all seats p n first now all to = record {
   count = to.count;
   files = to.files;
@@ -224,7 +224,7 @@ released-all seats p n first now all to = record {
 }
 
 -- the changes of the first terminals are taken back, where they are of the pair
-module _ (seats : List Seat) (p : ℕ) (first : RecordsState) where
+module _ (seats : List AttemptSeat) (p : ℕ) (first : RecordsState) where
   abbrev pub grown_to : ℕ → ℕ → ℕ
   grown_to f n = sum_to n (is_seated seats p) (λ t. grown_in f (changes_by first t).changes)
 
@@ -247,7 +247,7 @@ module _ (seats : List Seat) (p : ℕ) (first : RecordsState) where
     files = λ f low enough room. refl;
   }
 
-  pub taken-more : (i : ℕ) (seat : Seat) (old new : RecordsState) → slice_get seats i ≡ Some seat → i < length seats → i < length first.terminals
+  pub taken-more : (i : ℕ) (seat : AttemptSeat) (old new : RecordsState) → slice_get seats i ≡ Some seat → i < length seats → i < length first.terminals
       → (has_tcp p (Some seat) ≡ true → IsBackedOut i old new) → (has_tcp p (Some seat) ≡ false → new ≡ old)
       → TakenTo i old → TakenTo (i + 1) new
   taken-more i seat old new here within low theirs other before =

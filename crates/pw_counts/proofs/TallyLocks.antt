@@ -12,7 +12,7 @@ use Rattle.pw_counts.specs.Locks.{AreLocksOf, LocksState, held_by, with_lock}
 use Rattle.pw_counts.specs.Over.{is_over, theirs_by}
 use Rattle.pw_counts.specs.Settled.{HasSeat, has_tcp, is_whose}
 use Rattle.pw_counts.specs.Tally.{LocksAdded, LocksSettled}
-use Rattle.pw_counts.specs.declared.attempts.Seat.{Seat}
+use Rattle.pw_counts.specs.declared.attempts.AttemptSeat.{AttemptSeat}
 use Rattle.pw_counts.specs.declared.over.Over.{Over}
 use Rattle.pw_counts.specs.declared.over.Whose.{Whose}
 use Rattle.pw_counts.specs.declared.over.Whose.TheVariants.{One, Pair}
@@ -34,7 +34,7 @@ without-known n one other same (lock ∷ locks) all =
     ap (λ (b : Bool). cond (not b) (lock ∷ without_locks one locks) (without_locks one locks)) (same lock.unit.terminal all.0)
     ∙ ap (λ (rest : List Lock). cond (not (other lock.unit.terminal)) (lock ∷ rest) rest) (without-known n one other same locks all.1)
 
-module _ (sys : Behaviour) (s : State) (seats : List Seat) (are : AreSeatsOf sys s seats) where
+module _ (sys : Behaviour) (s : State) (seats : List AttemptSeat) (are : AreSeatsOf sys s seats) where
   -- the seats tell who is of a pair
   pub whose-is : (whose : Whose) (t : ℕ) → t < sys.terminals → is_whose seats whose t ≡ theirs_by sys.pair_of whose t
   whose-is (One own) t low = refl

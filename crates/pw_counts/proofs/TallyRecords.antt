@@ -16,17 +16,17 @@ use Rattle.pw_counts.proofs.Settling.{first_of, lt-false, lt-true}
 use Rattle.pw_counts.proofs.Sums.{sum-more, sum-parts, sum-same}
 use Rattle.pw_counts.proofs.TallyLocks.{has-seat, whose-is}
 use Rattle.pw_counts.specs.Attempts.{AreSeatsOf, commits}
-use Rattle.pw_counts.specs.Kept.{Changed, ChangesState, RecordsState, changed_at, changed_by, changes_by, none_changed, with_change, without_changes}
+use Rattle.pw_counts.specs.Kept.{MakesCountChange, ChangesState, RecordsState, changed_at, changed_by, changes_by, none_changed, with_change, without_changes}
 use Rattle.pw_counts.specs.Locks.{is_file}
 use Rattle.pw_counts.specs.Over.{ends_at, is_over, over_at, over_if}
 use Rattle.pw_counts.specs.Records.{AreCountsBehind, Balances, change_of, changes_of, grown_in, grows, is_backed_out, kept_changes, shrinks, shrunk_in, sum_to}
 use Rattle.pw_counts.specs.Settled.{AreTakenBack, is_whose}
 use Rattle.pw_counts.specs.Tally.{AreRecordsAt, ChangesSettled, RecordsAdded, RecordsSettled}
-use Rattle.pw_counts.specs.declared.attempts.Seat.{Seat}
+use Rattle.pw_counts.specs.declared.attempts.AttemptSeat.{AttemptSeat}
 use Rattle.pw_counts.specs.declared.over.Over.{Over}
 use Rattle.pw_counts.specs.declared.over.Whose.{Whose}
 use Rattle.pw_counts.specs.declared.over.Whose.TheVariants.{One, Pair}
-use Rattle.pw_counts.specs.declared.records.Change.{Change}
+use Rattle.pw_counts.specs.declared.records.CountChange.{CountChange}
 use Rattle.pw_event.specs.declared.event.Event.{Event}
 use Rattle.pw_event.specs.declared.event.Event.TheVariants as event
 use Rattle.pw_onecopy.proofs.Update.{upd-other, upd-same, upd_elim}
@@ -44,7 +44,7 @@ use Rattle.pw_paired.specs.Units.{only}
 -- ---- words
 
 -- what is kept of the changes of a terminal
-abbrev pub held : RecordsState → ℕ → List Change
+abbrev pub held : RecordsState → ℕ → List CountChange
 held records t = (changes_by records t).changes
 
 -- how many records the attempts of all terminals have taken away
@@ -56,13 +56,13 @@ pub none-past : (records : RecordsState) (t : ℕ) → length records.terminals 
 none-past records t past = ap (λ (c : ChangesState). c.changes) (get_or_past records.terminals t none_changed past)
 
 -- the same changes
-pub same-changes : (sys : Behaviour) (files : ℕ → List (List ℕ)) (before : List BeforeImage) (count : ℕ → ℕ) (changes other : ℕ → List Change)
+pub same-changes : (sys : Behaviour) (files : ℕ → List (List ℕ)) (before : List BeforeImage) (count : ℕ → ℕ) (changes other : ℕ → List CountChange)
     → ((t : ℕ) → other t ≡ changes t) → Balances sys files before count changes → Balances sys files before count other
 same-changes sys files before count changes other same bal = record {
   all = bal.all;
   without = λ w f.
-      let grown = sum-same sys.terminals w w (λ t. grown_in f (other t)) (λ t. grown_in f (changes t)) (λ t low. ap (λ (c : List Change). if w t then grown_in f c else 0) (same t)) in
-      let shrunk = sum-same sys.terminals w w (λ t. shrunk_in f (other t)) (λ t. shrunk_in f (changes t)) (λ t low. ap (λ (c : List Change). if w t then shrunk_in f c else 0) (same t)) in
+      let grown = sum-same sys.terminals w w (λ t. grown_in f (other t)) (λ t. grown_in f (changes t)) (λ t low. ap (λ (c : List CountChange). if w t then grown_in f c else 0) (same t)) in
+      let shrunk = sum-same sys.terminals w w (λ t. shrunk_in f (other t)) (λ t. shrunk_in f (changes t)) (λ t low. ap (λ (c : List CountChange). if w t then shrunk_in f c else 0) (same t)) in
       let so = bal.without w f in
       omega (arith, grown, shrunk, so);
 }
@@ -101,14 +101,14 @@ sum-none (suc n) of none = let rest = sum-none n of (λ t low. none t (omega (ar
 
 -- ---- attempts are over
 
-shrunk-kept : (b : Bool) (f : ℕ) (changes : List Change) → shrunk_in f (if b then [] else changes) ≡ (if b then 0 else shrunk_in f changes)
+shrunk-kept : (b : Bool) (f : ℕ) (changes : List CountChange) → shrunk_in f (if b then [] else changes) ≡ (if b then 0 else shrunk_in f changes)
 shrunk-kept true f changes = refl
 shrunk-kept false f changes = refl
 
-kept-same : (a b : Bool) (changes : List Change) → (a ≡ b) → (if a then [] else changes) ≡ (if b then [] else changes)
+kept-same : (a b : Bool) (changes : List CountChange) → (a ≡ b) → (if a then [] else changes) ≡ (if b then [] else changes)
 kept-same a b changes is = ap (λ (c : Bool). if c then [] else changes) is
 
-kept-none : (a b : Bool) (changes : List Change) → changes ≡ [] → (if a then [] else changes) ≡ (if b then [] else changes)
+kept-none : (a b : Bool) (changes : List CountChange) → changes ≡ [] → (if a then [] else changes) ≡ (if b then [] else changes)
 kept-none true true changes none = refl
 kept-none true false changes none = sym none
 kept-none false true changes none = none
@@ -245,7 +245,7 @@ module _ (sys : Behaviour) (b : IsBehaviour sys) (log : List Event) (run : IsRun
       (cases_eq k t)
 
   -- the attempts of these are over so
-  module _ (seats : List Seat) (seated : AreSeatsOf sys s seats) (short : length log < most_log_lines) (new : RecordsState) where
+  module _ (seats : List AttemptSeat) (seated : AreSeatsOf sys s seats) (short : length log < most_log_lines) (new : RecordsState) where
     abbrev Right : Type 0
     Right = AreRecordsAt sys next (length log + 1) new
 
@@ -293,12 +293,12 @@ module _ (sys : Behaviour) (b : IsBehaviour sys) (log : List Event) (run : IsRun
 
 -- ---- a FILE
 
-abbrev listed : Option Change → List Change
+abbrev listed : Option CountChange → List CountChange
 listed None = []
 listed (Some change) = change ∷ []
 
 -- what an operation changes, as a list
-as-listed : (a b : Bool) (one other : Change) → listed (if a then Some one else (if b then Some other else None)) ≡ (if a then one ∷ [] else (if b then other ∷ [] else []))
+as-listed : (a b : Bool) (one other : CountChange) → listed (if a then Some one else (if b then Some other else None)) ≡ (if a then one ∷ [] else (if b then other ∷ [] else []))
 as-listed true b one other = refl
 as-listed false true one other = refl
 as-listed false false one other = refl
@@ -312,7 +312,7 @@ one-less : (grew : Bool) (n m : ℕ) → m ≡ (if not grew then 1 else 0) → m
 one-less grew n m is few not_grew = let one : m ≡ 1 = is ∙ ap (λ (b : Bool). if not b then 1 else 0) not_grew in omega (arith, one, few)
 
 -- the count of a file behind one change
-value-changed : (change : Change) (counts : List ℕ) (f : ℕ) → f < length counts → slice_index_or counts f 0 < 2 ^ 64 - 1 → shrunk_in f (change ∷ []) ≤ slice_index_or counts f 0
+value-changed : (change : CountChange) (counts : List ℕ) (f : ℕ) → f < length counts → slice_index_or counts f 0 < 2 ^ 64 - 1 → shrunk_in f (change ∷ []) ≤ slice_index_or counts f 0
     → slice_index_or (changed_at change counts) f 0 + shrunk_in f (change ∷ []) ≡ slice_index_or counts f 0 + grown_in f (change ∷ [])
 value-changed change counts f low few enough =
     ⊎_elim
@@ -324,17 +324,17 @@ value-changed change counts f low few enough =
     ∙ (get_or-set_same counts change.file value 0 here ∙ ap (λ (k : ℕ). changed_by change.grew (slice_index_or counts k 0)) same) in
     let on : (change.file == f) ≡ true = eq-eqb change.file f same in
     let grew : grown_in f (change ∷ []) ≡ (if change.grew then 1 else 0) =
-    one-item (λ (c : Change). c.file == f && c.grew) change change.grew (ap (λ (b : Bool). b && change.grew) on) in
+    one-item (λ (c : CountChange). c.file == f && c.grew) change change.grew (ap (λ (b : Bool). b && change.grew) on) in
     let shrank : shrunk_in f (change ∷ []) ≡ (if not change.grew then 1 else 0) =
-    one-item (λ (c : Change). c.file == f && not c.grew) change (not change.grew) (ap (λ (b : Bool). b && not change.grew) on) in
+    one-item (λ (c : CountChange). c.file == f && not c.grew) change (not change.grew) (ap (λ (b : Bool). b && not change.grew) on) in
     let step = step-more change.grew (slice_index_or counts f 0) few (one-less change.grew (slice_index_or counts f 0) (shrunk_in f (change ∷ [])) shrank enough) in
     omega (arith, now, grew, shrank, step))
     (λ differ.
     let now : slice_index_or (changed_at change counts) f 0 ≡ slice_index_or counts f 0 =
     get_or-set_other counts change.file f (changed_by change.grew (slice_index_or counts change.file 0)) 0 (λ e. differ (sym e)) in
     let on : (change.file == f) ≡ false = ne_eqb change.file f differ in
-    let grew : grown_in f (change ∷ []) ≡ 0 = one-item (λ (c : Change). c.file == f && c.grew) change false (ap (λ (b : Bool). b && change.grew) on) in
-    let shrank : shrunk_in f (change ∷ []) ≡ 0 = one-item (λ (c : Change). c.file == f && not c.grew) change false (ap (λ (b : Bool). b && not change.grew) on) in
+    let grew : grown_in f (change ∷ []) ≡ 0 = one-item (λ (c : CountChange). c.file == f && c.grew) change false (ap (λ (b : Bool). b && change.grew) on) in
+    let shrank : shrunk_in f (change ∷ []) ≡ 0 = one-item (λ (c : CountChange). c.file == f && not c.grew) change false (ap (λ (b : Bool). b && not change.grew) on) in
     omega (arith, now, grew, shrank))
     (cases_eq change.file f)
 
@@ -360,17 +360,17 @@ module _ (sys : Behaviour) (b : IsBehaviour sys) (log : List Event) (run : IsRun
   lengths : (g : ℕ) → length (filed.files g) + shrunk_in g (changes_of op f status) ≡ length (before.files g) + grown_in g (changes_of op f status)
   lengths = file-lengths sys b log run c i op mode f status legal known (held old) are.balances
 
-  abbrev with-changes : List Change → ℕ → List Change
+  abbrev with-changes : List CountChange → ℕ → List CountChange
   with-changes changes = upd (held old) own (held old own ++ changes)
 
-  module _ (new : RecordsState) (changes : List Change) (is : changes ≡ changes_of op f status) (few : length changes ≤ 1)
+  module _ (new : RecordsState) (changes : List CountChange) (is : changes ≡ changes_of op f status) (few : length changes ≤ 1)
       (files : length new.files ≡ length old.files) (has : (t : ℕ) → held new t ≡ with-changes changes t)
       (values : (g : ℕ) → g < length old.files → slice_index_or new.files g 0 + shrunk_in g changes ≡ slice_index_or old.files g 0 + grown_in g changes) where
     more-shrunk : (g : ℕ) → all_shrunk sys.terminals new g ≡ all_shrunk sys.terminals old g + shrunk_in g changes
     more-shrunk g =
         sum-more sys.terminals (λ t. true) (λ t. shrunk_in g (held old t)) (λ t. shrunk_in g (held new t)) own (shrunk_in g changes) known
         (ap (shrunk_in g) (has own ∙ upd-same (held old) own (held old own ++ changes) own refl)
-        ∙ sum_by-append (λ (change : Change). if change.file == g && not change.grew then 1 else 0) (held old own) changes)
+        ∙ sum_by-append (λ (change : CountChange). if change.file == g && not change.grew then 1 else 0) (held old own) changes)
         (λ t differ. ap (shrunk_in g) (has t ∙ upd-other (held old) own (held old own ++ changes) t differ))
 
     operated : AreRecordsAt sys filed (length log + 1) new
@@ -384,14 +384,14 @@ module _ (sys : Behaviour) (b : IsBehaviour sys) (log : List Event) (run : IsRun
           let grew = ap (grown_in g) is in
           omega (arith, value, was, so, shrank, grew);
       balances = same-changes sys filed.files filed.before (λ g. length (filed.files g)) (with-changes (changes_of op f status)) (held new)
-          (λ t. has t ∙ ap (λ (l : List Change). with-changes l t) is)
+          (λ t. has t ∙ ap (λ (l : List CountChange). with-changes l t) is)
           (file-balances sys b log run c i op mode f status legal known (λ g. length (before.files g)) (λ g. length (filed.files g)) (held old) are.balances lengths);
       room = λ g low.
           let within : g < length old.files = subst (λ (n : ℕ). g < n) files low in
           let value = values g within in
           let room = are.room g within in
           let more = more-shrunk g in
-          let at_most = count_by-le-length (λ (change : Change). change.file == g && change.grew) changes in
+          let at_most = count_by-le-length (λ (change : CountChange). change.file == g && change.grew) changes in
           omega (arith, value, room, more, at_most, few);
     }
 
@@ -402,23 +402,23 @@ module _ (sys : Behaviour) (b : IsBehaviour sys) (log : List Event) (run : IsRun
         operated new [] none (omega arith) (ap (λ (r : RecordsState). length r.files) is)
         (λ t.
         ap (λ (r : RecordsState). held r t) is
-        ∙ sym (upd_elim (held old) own (held old own ++ []) t (λ (l : List Change). l ≡ held old t)
+        ∙ sym (upd_elim (held old) own (held old own ++ []) t (λ (l : List CountChange). l ≡ held old t)
         (λ same. append-nil (held old own) ∙ ap (held old) (sym same)) (λ _. refl)))
         (λ g low. ap (λ (r : RecordsState). slice_index_or r.files g 0 + 0) is)
 
-    enough-here : (g : ℕ) → g < length old.files → (change : Change) → change ∷ [] ≡ changes_of op f status → shrunk_in g (change ∷ []) ≤ slice_index_or old.files g 0
+    enough-here : (g : ℕ) → g < length old.files → (change : CountChange) → change ∷ [] ≡ changes_of op f status → shrunk_in g (change ∷ []) ≤ slice_index_or old.files g 0
     enough-here g low change one =
         let so = lengths g in
         let was = are.files g low in
         let shrank = ap (shrunk_in g) one in
         let grew = ap (grown_in g) one in
         both (change.file == g) change.grew (slice_index_or old.files g 0) (length (filed.files g)) (shrunk_in g (change ∷ [])) (grown_in g (change ∷ []))
-        (one-item (λ (c : Change). c.file == g && not c.grew) change (change.file == g && not change.grew) refl)
-        (one-item (λ (c : Change). c.file == g && c.grew) change (change.file == g && change.grew) refl)
+        (one-item (λ (c : CountChange). c.file == g && not c.grew) change (change.file == g && not change.grew) refl)
+        (one-item (λ (c : CountChange). c.file == g && c.grew) change (change.file == g && change.grew) refl)
         (omega (arith, so, was, shrank, grew))
 
     -- it does
-    one-change : (change : Change) → change ∷ [] ≡ changes_of op f status → new ≡ with_change own change (changes_by new own).spare old
+    one-change : (change : CountChange) → change ∷ [] ≡ changes_of op f status → new ≡ with_change own change (changes_by new own).spare old
         → AreRecordsAt sys filed (length log + 1) new
     one-change change one is =
         let spare = (changes_by new own).spare in
@@ -441,7 +441,7 @@ module _ (sys : Behaviour) (b : IsBehaviour sys) (log : List Event) (run : IsRun
         ap (λ (r : RecordsState). slice_index_or r.files g 0 + shrunk_in g (change ∷ [])) is
         ∙ value-changed change old.files g low (omega (arith, room, short)) (enough-here g low change one))
 
-    by-change : (o : Option Change) → listed o ≡ changes_of op f status → Changed own o old new → AreRecordsAt sys filed (length log + 1) new
+    by-change : (o : Option CountChange) → listed o ≡ changes_of op f status → MakesCountChange own o old new → AreRecordsAt sys filed (length log + 1) new
     by-change None is changed = no-change is changed
     by-change (Some change) is changed = one-change change is changed
 

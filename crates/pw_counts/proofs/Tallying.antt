@@ -21,22 +21,22 @@ use Rattle.pw_counts.proofs.TallyRecords.{filed-records, held, none-past, same-c
 use Rattle.pw_counts.proofs.Waiting.{next-longest}
 use Rattle.pw_counts.specs.Attempts.{AreAttemptsOf, attempts_behind}
 use Rattle.pw_counts.specs.Counters.{AreCountersOf, CountersState, more, more_at}
-use Rattle.pw_counts.specs.Counts.{restarted, taken_from}
+use Rattle.pw_counts.specs.Counts.{restarted_terminal, taken_from}
 use Rattle.pw_counts.specs.Kept as kept_so
-use Rattle.pw_counts.specs.Kept.{Changed, ChangesState, RecordsState, changed_by, changes_by, none_changed}
+use Rattle.pw_counts.specs.Kept.{MakesCountChange, ChangesState, RecordsState, changed_by, changes_by, none_changed}
 use Rattle.pw_counts.specs.Locks as held_so
 use Rattle.pw_counts.specs.Locks.{AddsLock, AreLocksOf, FilesState, LocksState, held_by, is_file, none_held}
 use Rattle.pw_counts.specs.Longest.{AreLongestOf, longest_with, sent_to}
 use Rattle.pw_counts.specs.Over.{ends_at, over_at}
 use Rattle.pw_counts.specs.Records.{change_of, shrunk_in}
 use Rattle.pw_counts.specs.Settled.{AreTakenBack, is_whose}
-use Rattle.pw_counts.specs.Tally.{AreRecordsAt, AreSized, ChangesSettled, IsFirstTally, IsMet, IsNotedIn, IsSameTally, IsSameTallyBut, IsTallyOf, LocksAdded, LocksBehind, LocksSettled, RecordsAdded, RecordsBehind, RecordsSettled, TallyState, worker}
-use Rattle.pw_counts.specs.declared.attempts.Seat.{Seat}
+use Rattle.pw_counts.specs.Tally.{AreRecordsAt, AreSized, ChangesSettled, IsFirstTally, EntryMeets, IsNotedIn, IsSameTally, IsSameTallyBut, IsTallyOf, LocksAdded, LocksBehind, LocksSettled, RecordsAdded, RecordsBehind, RecordsSettled, TallyState, worker}
+use Rattle.pw_counts.specs.declared.attempts.AttemptSeat.{AttemptSeat}
 use Rattle.pw_counts.specs.declared.over.Over.{Over}
 use Rattle.pw_counts.specs.declared.over.Whose.{Whose}
 use Rattle.pw_counts.specs.declared.over.Whose.TheVariants.{One, Pair}
-use Rattle.pw_counts.specs.declared.records.Change.{Change}
-use Rattle.pw_counts.specs.declared.records.Operation.{Operation}
+use Rattle.pw_counts.specs.declared.records.CountChange.{CountChange}
+use Rattle.pw_counts.specs.declared.records.FileEntryOperation.{FileEntryOperation}
 use Rattle.pw_counts.specs.declared.tally.Met.{Met}
 use Rattle.pw_event.specs.Line.{no_file}
 use Rattle.pw_event.specs.declared.event.Event.{Event}
@@ -44,7 +44,7 @@ use Rattle.pw_event.specs.declared.event.Event.TheVariants as event
 use Rattle.pw_onecopy.specs.Behaviour.{Behaviour}
 use Rattle.pw_onecopy.specs.IsBehaviour.{IsBehaviour}
 use Rattle.pw_locks.specs.declared.lock.Lock.{Lock}
-use Rattle.pw_order.specs.Shadow.{IsOf}
+use Rattle.pw_order.specs.Shadow.{IsOfSystem}
 use Rattle.pw_order.specs.declared.block.How as order
 use Rattle.pw_order.specs.declared.block.How.TheVariants as how
 use Rattle.pw_paired.specs.State.{Job, State}
@@ -68,7 +68,7 @@ SameLengths old new = (length new.files ≡ length old.files) × (length new.ter
 taken-lengths : (n : ℕ) (whose : ℕ → Bool) (old new : RecordsState) → AreTakenBack n whose old new → SameLengths old new
 taken-lengths n whose old new taken = (taken.count, taken.terminals)
 
-changes-lengths : (seats : List Seat) (whose : Whose) (by : order.How) (old new : RecordsState) → ChangesSettled seats whose by old new → SameLengths old new
+changes-lengths : (seats : List AttemptSeat) (whose : Whose) (by : order.How) (old new : RecordsState) → ChangesSettled seats whose by old new → SameLengths old new
 changes-lengths seats (One t) how.Commit old new is = (
   ap (λ (r : RecordsState). length r.files) is,
   ap (λ (r : RecordsState). length r.terminals) is ∙ length-set old.terminals t (record { changes = []; spare = (changes_by new t).spare }),
@@ -81,7 +81,7 @@ changes-lengths seats (Pair p) how.Dropped old new taken = taken-lengths (length
 changes-lengths seats (Pair p) how.Restart old new taken = taken-lengths (length seats) (is_whose seats (Pair p)) old new taken
 changes-lengths seats (Pair p) how.Left old new taken = taken-lengths (length seats) (is_whose seats (Pair p)) old new taken
 
-changed-lengths : (t : ℕ) (o : Option Change) (old new : RecordsState) → Changed t o old new → SameLengths old new
+changed-lengths : (t : ℕ) (o : Option CountChange) (old new : RecordsState) → MakesCountChange t o old new → SameLengths old new
 changed-lengths t None old new is = (ap (λ (r : RecordsState). length r.files) is, ap (λ (r : RecordsState). length r.terminals) is)
 changed-lengths t (Some change) old new is = (
   ap (λ (r : RecordsState). length r.files) is ∙ length-set old.files change.file (changed_by change.grew (slice_index_or old.files change.file 0)),
@@ -142,20 +142,20 @@ module _ (sys : Behaviour) (b : IsBehaviour sys) (few : sys.terminals ≤ 128) (
       }
 
   -- each
-  settles : (entry : Event) → Legal sys s entry → (met : Met) → IsMet sys log entry met → IsNotedIn entry met old new → Settles entry
+  settles : (entry : Event) → Legal sys s entry → (met : Met) → EntryMeets sys log entry met → IsNotedIn entry met old new → Settles entry
   settles =
-      by-file (λ (entry : Event). Legal sys s entry → (met : Met) → IsMet sys log entry met → IsNotedIn entry met old new → Settles entry)
+      by-file (λ (entry : Event). Legal sys s entry → (met : Met) → EntryMeets sys log entry met → IsNotedIn entry met old new → Settles entry)
       (λ entry other none legal met meets noted.
       let ends = meets.ends in
       other-settles entry other legal
       (subst (λ (o : Option Over). LocksSettled old.attempts.seats o old.locks new.locks) (ap (λ (e : Bool). over_at e entry) ends)
-      (subst (λ (o : Option Operation). LocksBehind old.attempts.seats met.terminal o (over_at met.ends entry) old.locks new.locks) none noted.locks))
+      (subst (λ (o : Option FileEntryOperation). LocksBehind old.attempts.seats met.terminal o (over_at met.ends entry) old.locks new.locks) none noted.locks))
       (subst (λ (o : Option Over). RecordsSettled old.attempts.seats o old.records new.records) (ap (λ (e : Bool). over_at e entry) ends)
-      (subst (λ (o : Option Operation). RecordsBehind old.attempts.seats met.terminal o (over_at met.ends entry) old.records new.records) none noted.records)))
+      (subst (λ (o : Option FileEntryOperation). RecordsBehind old.attempts.seats met.terminal o (over_at met.ends entry) old.records new.records) none noted.records)))
       (λ c i op mode f status legal met meets noted. file-settles c i op mode f status legal met.terminal meets.terminal noted.locks noted.records)
 
-pub next-tally : (system : System) (sys : Behaviour) → IsOf system sys → IsBehaviour sys → sys.terminals ≤ 128 → (log : List Event) → IsRun sys log
-    → length log < most_log_lines → (entry : Event) → Legal sys (after sys log) entry → (met : Met) → IsMet sys log entry met → (old new : TallyState)
+pub next-tally : (system : System) (sys : Behaviour) → IsOfSystem system sys → IsBehaviour sys → sys.terminals ≤ 128 → (log : List Event) → IsRun sys log
+    → length log < most_log_lines → (entry : Event) → Legal sys (after sys log) entry → (met : Met) → EntryMeets sys log entry met → (old new : TallyState)
     → IsTallyOf system sys log old → IsNotedIn entry met old new → IsTallyOf system sys (log ++ entry ∷ []) new
 next-tally system sys of b few log run short entry legal met meets old new tally noted =
     let sized : length old.records.terminals ≡ sys.terminals = tally.record_terminals ∙ sym of.terminals in
@@ -163,7 +163,7 @@ next-tally system sys of b few log run short entry legal met meets old new tally
     settles sys b few log run short old new tally.attempts tally.locks tally.records sized entry legal met meets noted in
     let longer : length (log ++ entry ∷ []) ≡ length log + 1 = length-append log (entry ∷ []) in
     record {
-      restarts = ap (λ (c : CountersState). length c.restarts) noted.counters ∙ (more-length (restarted entry) old.counters.restarts ∙ tally.restarts);
+      restarts = ap (λ (c : CountersState). length c.restarts) noted.counters ∙ (more-length (restarted_terminal entry) old.counters.restarts ∙ tally.restarts);
       taken = ap (λ (c : CountersState). length c.taken) noted.counters ∙ (more-length (taken_from entry) old.counters.taken ∙ tally.taken);
       counters = subst (AreCountersOf (log ++ entry ∷ [])) (sym noted.counters) (next-counters log entry old.counters (omega (arith, short)) tally.counters);
       classes = ap length noted.longest ∙ (longest-length (sent_to entry) met.waiting old.longest ∙ tally.classes);
@@ -186,7 +186,7 @@ none-held-first : (system : System) (tally : TallyState) → IsFirstTally system
 none-held-first system tally first t =
     ⊎_elim (λ low. first.unchanged t low) (λ past. none-past tally.records t (let same = first.record_terminals in omega (arith, past, same))) (cases_lt t (length system.terminals))
 
-pub first-tally : (system : System) (sys : Behaviour) → IsOf system sys
+pub first-tally : (system : System) (sys : Behaviour) → IsOfSystem system sys
     → ((f : ℕ) → f < length system.files → length (sys.records f) ≡ length (slice_index_or system.files f no_file).records)
     → (tally : TallyState) → IsFirstTally system tally → IsTallyOf system sys [] tally
 first-tally system sys of same tally first =
@@ -292,7 +292,7 @@ roomy-tally system sys log None old new is tally = subst (IsTallyOf system sys l
 roomy-tally system sys log (Some t) old new is tally = roomy-one system sys log t old new is tally
 
 -- locks and changes are of as many terminals as there are seats
-pub tally-sized : (system : System) (sys : Behaviour) (log : List Event) (tally : TallyState) → IsOf system sys → sys.terminals ≤ 128 → IsTallyOf system sys log tally → AreSized tally
+pub tally-sized : (system : System) (sys : Behaviour) (log : List Event) (tally : TallyState) → IsOfSystem system sys → sys.terminals ≤ 128 → IsTallyOf system sys log tally → AreSized tally
 tally-sized system sys log tally of few is =
     let seats = is.attempts.seats.count in
     record {

@@ -1,6 +1,6 @@
 -- The counters that change by an entry's words alone are those of a log.
 use Rattle.std.specs.Prelude.{◌≡◌, ℕ, ◌+◌, ◌-◌, ◌^◌, ◌<◌, Bool, List, count_by, length, min, Option, Some, None, slice_index_or, slice_set, if◌then◌else◌}
-use Rattle.pw_counts.specs.Counts.{is_begin, is_older, is_redo, is_restart_of, is_server, is_take_of, is_takeover, restarted, restarts_by, taken_from}
+use Rattle.pw_counts.specs.Counts.{is_begin, is_older, is_redo, is_restart_of, is_server, is_take_of, is_takeover, restarted_terminal, restarts_by, taken_from}
 use Rattle.pw_event.specs.declared.event.Cause.{Cause}
 use Rattle.pw_event.specs.declared.event.Event.{Event}
 
@@ -36,7 +36,7 @@ counters_behind entry counters = record {
   takeover = more_if (restarts_by is_takeover entry) counters.takeover;
   server = more_if (restarts_by is_server entry) counters.server;
   redo = more_if (restarts_by is_redo entry) counters.redo;
-  restarts = more_at (restarted entry) counters.restarts;
+  restarts = more_at (restarted_terminal entry) counters.restarts;
   taken = more_at (taken_from entry) counters.taken;
 }
 

@@ -4,7 +4,7 @@ use Rattle.pw_event.specs.declared.event.Cause.{Cause}
 use Rattle.pw_event.specs.declared.event.Cause.TheVariants as cause
 use Rattle.pw_event.specs.declared.event.Event.{Event}
 use Rattle.pw_event.specs.declared.event.Event.TheVariants.{Begin, Restart, Take}
-use Rattle.pw_listing.specs.Listing.{counted}
+use Rattle.pw_listing.specs.Listing.{refreshes_counted_once}
 use Rattle.pw_onecopy.specs.Behaviour.{Behaviour}
 use Rattle.pw_onecopy.specs.Path.{entries_on}
 use Rattle.pw_order.specs.Order.{entry_order}
@@ -28,13 +28,13 @@ is_one n None = false
 is_one n (Some own) = own == n
 
 -- the terminal of a RESTART
-abbrev pub restarted : Event → Option ℕ
-restarted (Restart t n cause) = Some t
-restarted _ = None
+abbrev pub restarted_terminal : Event → Option ℕ
+restarted_terminal (Restart t n cause) = Some t
+restarted_terminal _ = None
 
 -- an entry is a RESTART of this terminal
 abbrev pub is_restart_of : ℕ → Event → Bool
-is_restart_of t entry = is_one t (restarted entry)
+is_restart_of t entry = is_one t (restarted_terminal entry)
 
 -- what is counted of a terminal
 abbrev pub terminal_counts : Behaviour → List Event → ℕ → TerminalCounts
@@ -42,7 +42,7 @@ terminal_counts sys log t = record {
   units = ((after sys log).ended t).number;
   restarts = count_by (is_restart_of t) log;
   entries = entries_on (path_of (after sys log) t);
-  shown = length (counted (refreshes sys log) t);
+  shown = length (refreshes_counted_once (refreshes sys log) t);
 }
 
 -- ---- a class

@@ -1,11 +1,11 @@
 -- The counted records of each file, and the changes of each terminal.
 use Rattle.std.specs.Prelude.{◌≡◌, ℕ, ◌+◌, ◌-◌, ◌^◌, ◌<◌, Bool, false, List, [], ◌∷◌, ◌++◌, length, min, slice_index_or, slice_set, Option, Some, None, if◌then◌else◌}
 use Rattle.pw_counts.specs.Records.{grown_in, shrunk_in}
-use Rattle.pw_counts.specs.declared.records.Change.{Change}
+use Rattle.pw_counts.specs.declared.records.CountChange.{CountChange}
 
 -- the changes of a terminal's attempt, and whether there is room for one more
 pub record ChangesState : Type 0 where
-  pub changes : List Change
+  pub changes : List CountChange
   pub spare : Bool
 
 -- how many records each file has, and the changes of each terminal
@@ -32,12 +32,12 @@ abbrev pub changed_by : Bool → ℕ → ℕ
 changed_by grew n = if grew then min (n + 1) (2 ^ 64 - 1) else n - 1
 
 -- the counts behind a change of one file
-abbrev pub changed_at : Change → List ℕ → List ℕ
+abbrev pub changed_at : CountChange → List ℕ → List ℕ
 changed_at change counts =
     slice_set counts change.file (changed_by change.grew (slice_index_or counts change.file 0))
 
 -- a terminal's attempt makes one change more
-abbrev pub with_change : ℕ → Change → Bool → RecordsState → RecordsState
+abbrev pub with_change : ℕ → CountChange → Bool → RecordsState → RecordsState
 with_change t change spare records = record {
   files = changed_at change records.files;
   terminals = slice_set records.terminals t
@@ -45,9 +45,9 @@ with_change t change spare records = record {
 }
 
 -- it makes this one, if any
-abbrev pub Changed : ℕ → Option Change → RecordsState → RecordsState → Type 0
-Changed t None old new = new ≡ old
-Changed t (Some change) old new = new ≡ with_change t change (changes_by new t).spare old
+abbrev pub MakesCountChange : ℕ → Option CountChange → RecordsState → RecordsState → Type 0
+MakesCountChange t None old new = new ≡ old
+MakesCountChange t (Some change) old new = new ≡ with_change t change (changes_by new t).spare old
 
 -- a terminal's changes are no more its attempt's
 abbrev pub without_changes : ℕ → Bool → RecordsState → RecordsState

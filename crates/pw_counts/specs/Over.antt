@@ -24,9 +24,9 @@ abbrev pub is_theirs : List ℕ → Whose → ℕ → Bool
 is_theirs pairs = theirs_by (λ t. slice_index_or pairs t 0)
 
 -- the terminal of which an entry begins an attempt
-abbrev pub begun : Event → Option ℕ
-begun (Begin t n r) = Some t
-begun _ = None
+abbrev pub begun_terminal : Event → Option ℕ
+begun_terminal (Begin t n r) = Some t
+begun_terminal _ = None
 
 -- a REPLY commits a unit that is one SEND, and a FAIL TCP makes its pair Gone
 abbrev pub ends_at : Behaviour → State → Event → Bool

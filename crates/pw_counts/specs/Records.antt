@@ -5,8 +5,8 @@ use Rattle.pw_code.specs.declared.file.FileOp.TheVariants.{Write, Delete}
 use Rattle.pw_counts.specs.Attempts.{commits}
 use Rattle.pw_counts.specs.Over.{is_over}
 use Rattle.pw_counts.specs.declared.over.Over.{Over}
-use Rattle.pw_counts.specs.declared.records.Change.{Change}
-use Rattle.pw_counts.specs.declared.records.Operation.{Operation}
+use Rattle.pw_counts.specs.declared.records.CountChange.{CountChange}
+use Rattle.pw_counts.specs.declared.records.FileEntryOperation.{FileEntryOperation}
 use Rattle.pw_event.specs.declared.event.Event.{Event}
 use Rattle.pw_event.specs.declared.event.Event.TheVariants.{File}
 use Rattle.pw_onecopy.specs.Behaviour.{Behaviour}
@@ -24,11 +24,11 @@ shrinks Delete = true
 shrinks _ = false
 
 -- how many of these changes put a record more into a file, and take one away
-abbrev pub grown_in : ℕ → List Change → ℕ
+abbrev pub grown_in : ℕ → List CountChange → ℕ
 grown_in f changes = count_by (λ change. change.file == f && change.grew) changes
 
 -- how many of the changes took a record out of this file
-abbrev pub shrunk_in : ℕ → List Change → ℕ
+abbrev pub shrunk_in : ℕ → List CountChange → ℕ
 shrunk_in f changes = count_by (λ change. change.file == f && not change.grew) changes
 
 -- the same of some of the first n terminals
@@ -43,7 +43,7 @@ images_of whose before = filter (λ image. whose image.terminal) before
 -- The count of each file is that of its records; and without the changes of some terminals it is that of the
 -- records that are left when these are backed out, whichever terminals they are.
 pub record Balances (sys : Behaviour) (files : ℕ → List (List ℕ)) (before : List BeforeImage)
-    (count : ℕ → ℕ) (changes : ℕ → List Change) : Type 0 where
+    (count : ℕ → ℕ) (changes : ℕ → List CountChange) : Type 0 where
   pub all : (f : ℕ) → count f ≡ length (files f)
   pub without : (whose : ℕ → Bool) (f : ℕ)
       → length (restored_files sys.key_length (images_of whose before) files f)
@@ -51,22 +51,22 @@ pub record Balances (sys : Behaviour) (files : ℕ → List (List ℕ)) (before 
       ≡ count f + sum_to sys.terminals whose (λ t. shrunk_in f (changes t))
 
 -- the changes that are left without those of some terminals
-abbrev pub kept_changes : (ℕ → Bool) → (ℕ → List Change) → ℕ → List Change
+abbrev pub kept_changes : (ℕ → Bool) → (ℕ → List CountChange) → ℕ → List CountChange
 kept_changes whose changes t = if whose t then [] else changes t
 
 -- what an operation of this name and status changes in the number of records of a file
-abbrev pub changes_of : FileOp → ℕ → ℕ → List Change
+abbrev pub changes_of : FileOp → ℕ → ℕ → List CountChange
 changes_of op f status =
     if grows op && status == 0 then record { file = f; grew = true } ∷ []
     else (if shrinks op && status == 0 then record { file = f; grew = false } ∷ [] else [])
 
 -- the operation of a FILE
-abbrev pub file_in : Event → Option Operation
+abbrev pub file_in : Event → Option FileEntryOperation
 file_in (File c i op mode f status) = Some (record { op = op; file = f; status = status })
 file_in _ = None
 
 -- what an operation changes in the number of records of its file, if anything
-abbrev pub change_of : Operation → Option Change
+abbrev pub change_of : FileEntryOperation → Option CountChange
 change_of operation =
     if grows operation.op && operation.status == 0 then Some (record { file = operation.file; grew = true })
     else (if shrinks operation.op && operation.status == 0
@@ -79,7 +79,7 @@ is_backed_out (Some over) = not (commits over.how)
 
 -- The counts behind an entry that is no FILE: those of attempts that are backed out take their changes back.
 pub record AreCountsBehind (terminals : ℕ) (pair_of : ℕ → ℕ) (over : Option Over)
-    (changes : ℕ → List Change) (old new : ℕ → ℕ) : Type 0 where
+    (changes : ℕ → List CountChange) (old new : ℕ → ℕ) : Type 0 where
   pub same : is_backed_out over ≡ false → (f : ℕ) → new f ≡ old f
   pub back : is_backed_out over ≡ true → (f : ℕ)
       → new f + sum_to terminals (is_over pair_of over) (λ t. grown_in f (changes t))

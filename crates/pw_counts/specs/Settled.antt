@@ -3,28 +3,28 @@ use Rattle.std.specs.Prelude.{◌≡◌, ℕ, ◌+◌, ◌<◌, ◌≤◌, ◌^�
 use Rattle.pw_counts.specs.Kept.{RecordsState, changes_by}
 use Rattle.pw_counts.specs.Locks.{AreLocksOf, LocksState}
 use Rattle.pw_counts.specs.Records.{grown_in, shrunk_in, sum_to}
-use Rattle.pw_counts.specs.declared.attempts.Seat.{Seat}
+use Rattle.pw_counts.specs.declared.attempts.AttemptSeat.{AttemptSeat}
 use Rattle.pw_counts.specs.declared.over.Whose.{Whose}
 use Rattle.pw_counts.specs.declared.over.Whose.TheVariants.{One, Pair}
 use Rattle.pw_locks.specs.declared.lock.Lock.{Lock}
 use Rattle.pw_paired.specs.Units.{only, without_locks}
 
 -- the seat is of the pair, if it is there
-abbrev pub has_tcp : ℕ → Option Seat → Bool
+abbrev pub has_tcp : ℕ → Option AttemptSeat → Bool
 has_tcp p None = false
 has_tcp p (Some seat) = seat.tcp == p
 
 -- the terminal is of the pair, by the seats
-abbrev pub is_seated : List Seat → ℕ → ℕ → Bool
+abbrev pub is_seated : List AttemptSeat → ℕ → ℕ → Bool
 is_seated seats p t = has_tcp p (slice_get seats t)
 
 -- the terminal is one of these, by the seats
-abbrev pub is_whose : List Seat → Whose → ℕ → Bool
+abbrev pub is_whose : List AttemptSeat → Whose → ℕ → Bool
 is_whose seats (One own) = only own
 is_whose seats (Pair p) = is_seated seats p
 
 -- a terminal has a seat; a pair is not asked for one
-abbrev pub HasSeat : List Seat → Whose → Type 0
+abbrev pub HasSeat : List AttemptSeat → Whose → Type 0
 HasSeat seats (One own) = own < length seats
 HasSeat seats (Pair p) = Unit {0}
 

@@ -6,19 +6,19 @@ use Rattle.pw_counts.specs.Attempts.{AreAttemptsOf, AttemptsState, IsStart, atte
 use Rattle.pw_counts.specs.Counters.{AreCountersOf, CountersState, counters_behind}
 use Rattle.pw_counts.specs.Counts.{waiting}
 use Rattle.pw_counts.specs.Kept as kept
-use Rattle.pw_counts.specs.Kept.{Changed, RecordsState, changes_by, without_changes}
+use Rattle.pw_counts.specs.Kept.{MakesCountChange, RecordsState, changes_by, without_changes}
 use Rattle.pw_counts.specs.Locks as held
 use Rattle.pw_counts.specs.Locks.{AreLocksOf, LocksState, held_by, with_lock}
 use Rattle.pw_counts.specs.Longest.{AreLongestOf, longest_with, sent_to}
 use Rattle.pw_counts.specs.Over.{ends_at, over_at}
 use Rattle.pw_counts.specs.Records.{Balances, change_of, file_in, shrunk_in, sum_to}
 use Rattle.pw_counts.specs.Settled.{AreReleased, AreTakenBack, HasSeat, is_whose}
-use Rattle.pw_counts.specs.declared.attempts.Seat.{Seat}
+use Rattle.pw_counts.specs.declared.attempts.AttemptSeat.{AttemptSeat}
 use Rattle.pw_counts.specs.declared.counts.UnitCounts.{UnitCounts}
 use Rattle.pw_counts.specs.declared.over.Over.{Over}
 use Rattle.pw_counts.specs.declared.over.Whose.{Whose}
 use Rattle.pw_counts.specs.declared.over.Whose.TheVariants.{One}
-use Rattle.pw_counts.specs.declared.records.Operation.{Operation}
+use Rattle.pw_counts.specs.declared.records.FileEntryOperation.{FileEntryOperation}
 use Rattle.pw_counts.specs.declared.tally.Met.{Met}
 use Rattle.pw_event.specs.declared.event.Event.{Event}
 use Rattle.pw_event.specs.declared.event.Event.TheVariants.{File}
@@ -85,7 +85,7 @@ worker_for state (File c i op mode f status) = worker state c i
 worker_for state _ = None
 
 -- what an entry meets behind a log
-pub record IsMet (sys : Behaviour) (log : List Event) (entry : Event) (met : Met) : Type 0 where
+pub record EntryMeets (sys : Behaviour) (log : List Event) (entry : Event) (met : Met) : Type 0 where
   pub terminal : met.terminal ≡ worker_for (after sys log) entry
   pub ends : met.ends ≡ ends_at sys (after sys log) entry
   pub waiting : (c : ℕ) → sent_to entry ≡ Some c → met.waiting ≡ waiting (after sys (log ++ entry ∷ [])) c
@@ -96,9 +96,9 @@ pub record HasRoomFor (tally : TallyState) (t : ℕ) : Type 0 where
   pub change : t < length tally.records.terminals → (changes_by tally.records t).spare ≡ true
 
 -- there is room for one more lock and change of the terminal, if there is one
-abbrev pub HasRoom : Option ℕ → TallyState → Type 0
-HasRoom None tally = Unit {0}
-HasRoom (Some t) tally = HasRoomFor tally t
+abbrev pub HasTallyRoom : Option ℕ → TallyState → Type 0
+HasTallyRoom None tally = Unit {0}
+HasTallyRoom (Some t) tally = HasRoomFor tally t
 
 -- the locks behind an operation for a terminal, if there is one
 abbrev pub LocksAdded : Option ℕ → ℕ → LocksState → LocksState → Type 0
@@ -106,34 +106,34 @@ LocksAdded None file old new = new ≡ old
 LocksAdded (Some t) file old new = new ≡ with_lock t file (held_by new t).spare old
 
 -- the locks once attempts are over
-abbrev pub LocksSettled : List Seat → Option Over → LocksState → LocksState → Type 0
+abbrev pub LocksSettled : List AttemptSeat → Option Over → LocksState → LocksState → Type 0
 LocksSettled seats None old new = new ≡ old
 LocksSettled seats (Some over) old new =
     HasSeat seats over.whose → AreReleased (is_whose seats over.whose) old new
 
 -- the locks behind an entry: an operation adds one, and else those of attempts that are over go
-abbrev pub LocksBehind : List Seat → Option ℕ → Option Operation → Option Over → LocksState → LocksState → Type 0
+abbrev pub LocksBehind : List AttemptSeat → Option ℕ → Option FileEntryOperation → Option Over → LocksState → LocksState → Type 0
 LocksBehind seats terminal (Some operation) over old new = LocksAdded terminal operation.file old new
 LocksBehind seats terminal None over old new = LocksSettled seats over old new
 
 -- the records behind an operation for a terminal, if there is one
-abbrev pub RecordsAdded : Option ℕ → Operation → RecordsState → RecordsState → Type 0
+abbrev pub RecordsAdded : Option ℕ → FileEntryOperation → RecordsState → RecordsState → Type 0
 RecordsAdded None operation old new = new ≡ old
-RecordsAdded (Some t) operation old new = Changed t (change_of operation) old new
+RecordsAdded (Some t) operation old new = MakesCountChange t (change_of operation) old new
 
 -- the changes of an attempt that commits stay, and those of others are taken back
-abbrev pub ChangesSettled : List Seat → Whose → order.How → RecordsState → RecordsState → Type 0
+abbrev pub ChangesSettled : List AttemptSeat → Whose → order.How → RecordsState → RecordsState → Type 0
 ChangesSettled seats (One t) how.Commit old new = new ≡ without_changes t (changes_by new t).spare old
 ChangesSettled seats whose how old new = AreTakenBack (length seats) (is_whose seats whose) old new
 
 -- the records once attempts are over, if any are
-abbrev pub RecordsSettled : List Seat → Option Over → RecordsState → RecordsState → Type 0
+abbrev pub RecordsSettled : List AttemptSeat → Option Over → RecordsState → RecordsState → Type 0
 RecordsSettled seats None old new = new ≡ old
 RecordsSettled seats (Some over) old new =
     HasSeat seats over.whose → ChangesSettled seats over.whose over.how old new
 
 -- the records behind an entry: changed by an operation, and else settled where attempts are over
-abbrev pub RecordsBehind : List Seat → Option ℕ → Option Operation → Option Over → RecordsState → RecordsState → Type 0
+abbrev pub RecordsBehind : List AttemptSeat → Option ℕ → Option FileEntryOperation → Option Over → RecordsState → RecordsState → Type 0
 RecordsBehind seats terminal (Some operation) over old new = RecordsAdded terminal operation old new
 RecordsBehind seats terminal None over old new = RecordsSettled seats over old new
 

@@ -13,7 +13,7 @@ use std::marker::Model;
 
 /// Whether an attempt of a terminal runs.
 #[derive(Clone, Copy, Debug, PartialEq, Eq)]
-pub struct Seat {
+pub struct AttemptSeat {
     pub tcp: u32,
     pub runs: bool,
 }
@@ -24,7 +24,7 @@ pub struct Attempts {
     committed: u32,
     dropped: u32,
     left: u64,
-    seats: Vec<Seat>,
+    seats: Vec<AttemptSeat>,
 }
 
 impl Model for Attempts {
@@ -115,7 +115,7 @@ impl Attempts {
     }
 
     /// Of each terminal its pair, and whether an attempt of it runs.
-    pub fn seats(&self) -> &[Seat]
+    pub fn seats(&self) -> &[AttemptSeat]
         ensures { result.now ≡ self.now.seats }
     {
         self.seats.as_slice()
@@ -144,12 +144,12 @@ impl Attempts {
 }
 
 /// The seats of a system's terminals before the first entry.
-fn first_seats(alloc: Global, system: &System) -> Result<Vec<Seat>, Memory>
+fn first_seats(alloc: Global, system: &System) -> Result<Vec<AttemptSeat>, Memory>
     ensures { IfOk result (λ seats. seats.items ≡ map first_seat system.now.terminals) }
 {
     let mut seats = Vec::new(alloc);
     for terminal in system.terminals.as_slice() {
-        seats.push(Seat {
+        seats.push(AttemptSeat {
             tcp: terminal.tcp,
             runs: false,
         })?;
@@ -158,7 +158,7 @@ fn first_seats(alloc: Global, system: &System) -> Result<Vec<Seat>, Memory>
 }
 
 /// How many of these attempts run.
-fn running_of(seats: &[Seat], whose: Option<Whose>) -> u64
+fn running_of(seats: &[AttemptSeat], whose: Option<Whose>) -> u64
     ensures { result ≡ running_of seats.now whose }
 {
     match whose {
@@ -172,7 +172,7 @@ fn running_of(seats: &[Seat], whose: Option<Whose>) -> u64
 }
 
 /// How many attempts of a pair run.
-fn running_of_pair(seats: &[Seat], tcp: u32) -> u64
+fn running_of_pair(seats: &[AttemptSeat], tcp: u32) -> u64
     ensures { result ≡ count_by (λ seat. seat.tcp == tcp && seat.runs) seats.now }
 {
     let mut count = 0;
@@ -185,7 +185,7 @@ fn running_of_pair(seats: &[Seat], tcp: u32) -> u64
 }
 
 /// The attempts of these terminals are over.
-fn stop(seats: &mut Vec<Seat>, whose: Whose)
+fn stop(seats: &mut Vec<AttemptSeat>, whose: Whose)
     ensures { seats.new.items ≡ stopped whose seats.old.items }
 {
     match whose {
@@ -195,7 +195,7 @@ fn stop(seats: &mut Vec<Seat>, whose: Whose)
 }
 
 /// The attempts of a pair are over.
-fn stop_pair(seats: &mut Vec<Seat>, tcp: u32)
+fn stop_pair(seats: &mut Vec<AttemptSeat>, tcp: u32)
     ensures { seats.new.items ≡ map (stopped_of tcp) seats.old.items }
 {
     for seat in seats.iter_mut() {
@@ -204,7 +204,7 @@ fn stop_pair(seats: &mut Vec<Seat>, tcp: u32)
 }
 
 /// The attempt of a terminal is over where the terminal is of the pair.
-fn stop_one(seat: &mut Seat, tcp: u32)
+fn stop_one(seat: &mut AttemptSeat, tcp: u32)
     ensures { seat.new ≡ stopped_of tcp seat.old }
 {
     if seat.tcp == tcp {
@@ -213,10 +213,10 @@ fn stop_one(seat: &mut Seat, tcp: u32)
 }
 
 /// An attempt of a terminal runs, or none does.
-fn put(seats: &mut Vec<Seat>, terminal: u32, runs: bool)
+fn put(seats: &mut Vec<AttemptSeat>, terminal: u32, runs: bool)
     ensures { seats.new.items ≡ changed_at terminal (with_runs runs) seats.old.items }
 {
     if let Some(seat) = seats.get(terminal as usize).copied() {
-        seats[terminal as usize] = Seat { runs, ..seat };
+        seats[terminal as usize] = AttemptSeat { runs, ..seat };
     }
 }

@@ -11,22 +11,22 @@ ghost use Rattle.pw_counts.specs.Locks.{AddsLock, AreLocksOf, IsReleased, LocksS
 ghost use Rattle.pw_counts.specs.Longest.{AreLongestOf, longest_with, sent_to};
 ghost use Rattle.pw_counts.specs.Over.{ends_at, is_over, over_at};
 ghost use Rattle.pw_counts.specs.Records.{AreCountsBehind, Balances, changes_of, grown_in, kept_changes, shrunk_in};
-ghost use Rattle.pw_counts.specs.Shown.{AreShownOf, IsForgotten, IsNoted, IsSameAs};
-ghost use Rattle.pw_counts.specs.Tally.{AreSized, IsFirstTally, IsMet, IsNotedIn, IsSameTally, IsTallyOf, TallyState};
-ghost use Rattle.pw_counts.specs.declared.records.Change.{Change};
+ghost use Rattle.pw_counts.specs.Shown.{AreShownOf, IsForgotten, IsNumberNoted, IsSameAs};
+ghost use Rattle.pw_counts.specs.Tally.{AreSized, IsFirstTally, EntryMeets, IsNotedIn, IsSameTally, IsTallyOf, TallyState};
+ghost use Rattle.pw_counts.specs.declared.records.CountChange.{CountChange};
 ghost use Rattle.pw_counts.specs.declared.tally.Met.{Met};
 ghost use Rattle.pw_event.specs.Line.{no_file};
 ghost use Rattle.pw_event.specs.declared.event.Event.TheVariants.{File};
 ghost use Rattle.pw_event.specs.declared.event.Event.{Event};
-ghost use Rattle.pw_listing.specs.Listing.{counted};
-ghost use Rattle.pw_listing.specs.Numbers.{number_of};
-ghost use Rattle.pw_listing.specs.declared.numbers.Number.{Number};
+ghost use Rattle.pw_listing.specs.Listing.{refreshes_counted_once};
+ghost use Rattle.pw_listing.specs.Numbers.{number_of_refresh};
+ghost use Rattle.pw_listing.specs.declared.numbers.ListedRefreshNumber.{ListedRefreshNumber};
 ghost use Rattle.pw_locks.specs.declared.lock.Lock.{Lock};
 ghost use Rattle.pw_onecopy.specs.Behaviour.{Behaviour};
 ghost use Rattle.pw_onecopy.specs.IsBehaviour.{IsBehaviour};
 ghost use Rattle.pw_onecopy.specs.Update.{upd};
 ghost use Rattle.pw_onecopy.specs.declared.refresh.Refresh.{Refresh};
-ghost use Rattle.pw_order.specs.Shadow.{IsOf};
+ghost use Rattle.pw_order.specs.Shadow.{IsOfSystem};
 ghost use Rattle.pw_paired.specs.Server.{LegalFile};
 ghost use Rattle.pw_paired.specs.Shown.{refreshes};
 ghost use Rattle.pw_paired.specs.State.{OpenUnit, State};
@@ -55,7 +55,7 @@ pub fn longest_laws()
 /// log with one more entry behind that entry, where they are told whether a REPLY commits and whether
 /// a FAIL TCP loses its pair.
 pub fn attempt_laws()
-    ensures start { (system : System) (sys : Behaviour) → IsOf system sys
+    ensures start { (system : System) (sys : Behaviour) → IsOfSystem system sys
         → (attempts : AttemptsState) → IsStart system attempts → AreAttemptsOf sys [] attempts }
     ensures next { (sys : Behaviour) (log : List Event) (entry : Event) (attempts : AttemptsState)
         → sys.terminals ≤ 128 → length log < most_log_lines
@@ -90,7 +90,7 @@ pub fn record_laws()
         → (c i : ℕ) (op : FileOp) (mode : LockMode) (f status : ℕ)
         → (legal : LegalFile sys (after sys log) c i op mode f status)
         → legal.job.request.terminal < sys.terminals
-        → (count new : ℕ → ℕ) (changes : ℕ → List Change)
+        → (count new : ℕ → ℕ) (changes : ℕ → List CountChange)
         → Balances sys (after sys log).files (after sys log).before count changes
         → ((g : ℕ) → new g + shrunk_in g (changes_of op f status)
         ≡ count g + grown_in g (changes_of op f status))
@@ -99,7 +99,7 @@ pub fn record_laws()
         (upd changes legal.job.request.terminal
         (changes legal.job.request.terminal ++ changes_of op f status)) }
     ensures next { (sys : Behaviour) → IsBehaviour sys → (log : List Event) → IsRun sys log
-        → (count : ℕ → ℕ) (changes : ℕ → List Change)
+        → (count : ℕ → ℕ) (changes : ℕ → List CountChange)
         → Balances sys (after sys log).files (after sys log).before count changes
         → (entry : Event) → is_file entry ≡ false → (new : ℕ → ℕ)
         → AreCountsBehind sys.terminals sys.pair_of
@@ -113,19 +113,19 @@ pub fn record_laws()
 /// where one that was new is forgotten again. They are no more than the log has entries.
 pub fn number_laws()
     ensures few { (sys : Behaviour) (log : List Event) (t : ℕ)
-        → length (counted (refreshes sys log) t) ≤ length log }
-    ensures same { (refreshes : List Refresh) (old new : List (BTreeSet Number))
+        → length (refreshes_counted_once (refreshes sys log) t) ≤ length log }
+    ensures same { (refreshes : List Refresh) (old new : List (BTreeSet ListedRefreshNumber))
         → IsSameAs old new → AreShownOf refreshes old → AreShownOf refreshes new }
     ensures noted { (refreshes : List Refresh) (r : Refresh) (t : ℕ) (fresh : Bool)
-        (old new : List (BTreeSet Number)) → t < length old → r.terminal ≡ t
-        → IsNoted t (number_of r) fresh old new
+        (old new : List (BTreeSet ListedRefreshNumber)) → t < length old → r.terminal ≡ t
+        → IsNumberNoted t (number_of_refresh r) fresh old new
         → AreShownOf refreshes old → AreShownOf (refreshes ++ r ∷ []) new }
     ensures seen { (refreshes : List Refresh) (r : Refresh) (t : ℕ)
-        (old new : List (BTreeSet Number)) → t < length old → IsNoted t (number_of r) false old new
+        (old new : List (BTreeSet ListedRefreshNumber)) → t < length old → IsNumberNoted t (number_of_refresh r) false old new
         → AreShownOf refreshes old → AreShownOf refreshes new }
     ensures forgotten { (refreshes : List Refresh) (r : Refresh) (t : ℕ)
-        (old mid new : List (BTreeSet Number)) → t < length old
-        → IsNoted t (number_of r) true old mid → IsForgotten t (number_of r) mid new
+        (old mid new : List (BTreeSet ListedRefreshNumber)) → t < length old
+        → IsNumberNoted t (number_of_refresh r) true old mid → IsForgotten t (number_of_refresh r) mid new
         → AreShownOf refreshes old → AreShownOf refreshes new }
 {}
 
@@ -133,18 +133,18 @@ pub fn number_laws()
 /// that of the log with one more entry, once this is noted with what it meets. Room for more changes
 /// nothing, and there are as many locks and changes as seats.
 pub fn tally_laws()
-    ensures first { (system : System) (sys : Behaviour) → IsOf system sys
+    ensures first { (system : System) (sys : Behaviour) → IsOfSystem system sys
         → ((f : ℕ) → f < length system.files
         → length (sys.records f) ≡ length (slice_index_or system.files f no_file).records)
         → (tally : TallyState) → IsFirstTally system tally → IsTallyOf system sys [] tally }
-    ensures next { (system : System) (sys : Behaviour) → IsOf system sys → IsBehaviour sys
+    ensures next { (system : System) (sys : Behaviour) → IsOfSystem system sys → IsBehaviour sys
         → sys.terminals ≤ 128 → (log : List Event) → IsRun sys log → length log < most_log_lines
         → (entry : Event) → Legal sys (after sys log) entry
-        → (met : Met) → IsMet sys log entry met → (old new : TallyState)
+        → (met : Met) → EntryMeets sys log entry met → (old new : TallyState)
         → IsTallyOf system sys log old → IsNotedIn entry met old new
         → IsTallyOf system sys (log ++ entry ∷ []) new }
     ensures room { (system : System) (sys : Behaviour) (log : List Event) (terminal : Option ℕ)
         (old new : TallyState) → IsSameTally terminal old new → IsTallyOf system sys log old → IsTallyOf system sys log new }
     ensures sized { (system : System) (sys : Behaviour) (log : List Event) (tally : TallyState)
-        → IsOf system sys → sys.terminals ≤ 128 → IsTallyOf system sys log tally → AreSized tally }
+        → IsOfSystem system sys → sys.terminals ≤ 128 → IsTallyOf system sys log tally → AreSized tally }
 {}

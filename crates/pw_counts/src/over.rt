@@ -1,5 +1,5 @@
 ghost use Rattle.std.specs.Prelude.{◌≡◌, ◌<◌, length};
-ghost use Rattle.pw_counts.specs.Over.{begun, is_theirs, left_at, over_at, over_if};
+ghost use Rattle.pw_counts.specs.Over.{begun_terminal, is_theirs, left_at, over_at, over_if};
 
 use pw_event::event::Event;
 use pw_order::block::How;
@@ -34,7 +34,7 @@ pub struct Over {
 
 /// The terminal of which an entry begins an attempt.
 pub fn begun(entry: &Event) -> Option<u32>
-    ensures { result ≡ begun entry.now }
+    ensures { result ≡ begun_terminal entry.now }
 {
     match *entry {
         Event::Begin { terminal, .. } => Some(terminal),

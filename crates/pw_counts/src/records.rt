@@ -1,5 +1,5 @@
 ghost use Rattle.std.specs.Prelude.{◌≡◌, ◌+◌, ◌-◌, ◌<◌, ◌^◌, ◌++◌, ◌∷◌, [], All, IfOk, OnOk, length, map, min, slice_index_or, slice_set, true, vec_capacity, vec_len};
-ghost use Rattle.pw_counts.specs.Kept.{Changed, IsBackedOut, IsSameBut, changed_at, changes_by, none_changed, with_change, without_changes};
+ghost use Rattle.pw_counts.specs.Kept.{MakesCountChange, IsBackedOut, IsSameBut, changed_at, changes_by, none_changed, with_change, without_changes};
 ghost use Rattle.pw_counts.specs.Records.{change_of, file_in, grown_in, grows, shrinks, shrunk_in};
 
 use pw_base::bytes::Bytes;
@@ -12,32 +12,32 @@ use std::marker::Model;
 
 /// An operation that put a record into a file, or took one away.
 #[derive(Clone, Copy, Debug, PartialEq, Eq)]
-pub struct Change {
+pub struct CountChange {
     pub file: u32,
     pub grew: bool,
 }
 
 /// The operation of a FILE entry.
 #[derive(Clone, Copy, Debug, PartialEq, Eq)]
-pub struct Operation {
+pub struct FileEntryOperation {
     pub op: FileOp,
     pub file: u32,
     pub status: u16,
 }
 
-impl Operation {
+impl FileEntryOperation {
     /// What it changes in the number of records of its file: only a WRITE and a DELETE of status 0 do.
-    fn change(self) -> Option<Change>
+    fn change(self) -> Option<CountChange>
         ensures { result ≡ change_of self }
     {
         if grows(self.op) && self.status == 0 {
-            return Some(Change {
+            return Some(CountChange {
                 file: self.file,
                 grew: true,
             });
         }
         if shrinks(self.op) && self.status == 0 {
-            return Some(Change {
+            return Some(CountChange {
                 file: self.file,
                 grew: false,
             });
@@ -61,7 +61,7 @@ fn shrinks(op: FileOp) -> bool
 }
 
 /// The operation of an entry, if it is a FILE.
-pub fn file_in(entry: &Event) -> Option<Operation>
+pub fn file_in(entry: &Event) -> Option<FileEntryOperation>
     ensures { result ≡ file_in entry.now }
 {
     match *entry {
@@ -70,18 +70,18 @@ pub fn file_in(entry: &Event) -> Option<Operation>
             file,
             status,
             ..
-        } => Some(Operation { op, file, status }),
+        } => Some(FileEntryOperation { op, file, status }),
         _ => None,
     }
 }
 
 /// What the running attempt of a terminal has changed in the number of records.
 #[derive(Debug, Drop)]
-pub struct Changes {
-    changes: Vec<Change>,
+pub struct CountChanges {
+    changes: Vec<CountChange>,
 }
 
-impl Model for Changes {
+impl Model for CountChanges {
     ghost use Rattle.std.specs.Prelude.{nat_lt, vec_capacity, vec_len};
     ghost use Rattle.pw_counts.specs.Kept.{ChangesState};
 
@@ -93,12 +93,12 @@ impl Model for Changes {
     } };
 }
 
-impl Changes {
+impl CountChanges {
     /// None.
-    fn new(alloc: Global) -> Changes
+    fn new(alloc: Global) -> CountChanges
         ensures { result.changes ≡ [] }
     {
-        Changes {
+        CountChanges {
             changes: Vec::new(alloc),
         }
     }
@@ -113,7 +113,7 @@ impl Changes {
     }
 
     /// One more.
-    fn push(&mut self, change: Change)
+    fn push(&mut self, change: CountChange)
         requires { self.old.spare ≡ true }
         ensures { self.new.changes ≡ self.old.changes ++ change ∷ [] }
     {
@@ -135,7 +135,7 @@ impl Changes {
 #[derive(Debug, Drop)]
 pub struct Records {
     files: Vec<u64>,
-    terminals: Vec<Changes>,
+    terminals: Vec<CountChanges>,
 }
 
 impl Model for Records {
@@ -176,7 +176,7 @@ impl Records {
     }
 
     /// A terminal's attempt puts a record into a file, or takes one away. It takes no memory.
-    pub fn change(&mut self, terminal: u32, change: Change)
+    pub fn change(&mut self, terminal: u32, change: CountChange)
         requires { terminal < length self.old.terminals → (changes_by self.old terminal).spare ≡ true }
         ensures { self.new ≡ with_change terminal change (changes_by self.new terminal).spare self.old }
     {
@@ -187,9 +187,9 @@ impl Records {
     }
 
     /// A terminal's attempt does an operation. It takes no memory.
-    pub fn operate(&mut self, terminal: u32, operation: Operation)
+    pub fn operate(&mut self, terminal: u32, operation: FileEntryOperation)
         requires { terminal < length self.old.terminals → (changes_by self.old terminal).spare ≡ true }
-        ensures { Changed terminal (change_of operation) self.old self.new }
+        ensures { MakesCountChange terminal (change_of operation) self.old self.new }
     {
         match operation.change() {
             Some(change) => self.change(terminal, change),
@@ -252,20 +252,20 @@ fn count(records: &[Bytes]) -> u64
 }
 
 /// No changes, for so many terminals.
-fn none_changed(alloc: Global, count: usize) -> Result<Vec<Changes>, Memory>
+fn none_changed(alloc: Global, count: usize) -> Result<Vec<CountChanges>, Memory>
     ensures count { IfOk result (λ terminals. length terminals.items ≡ count) }
     ensures none { IfOk result (λ terminals. (t : _) → t < count
         → (slice_index_or terminals.items t none_changed).changes ≡ []) }
 {
     let mut terminals = Vec::new(alloc);
     for _ in 0..count {
-        terminals.push(Changes::new(alloc))?;
+        terminals.push(CountChanges::new(alloc))?;
     }
     Ok(terminals)
 }
 
 /// One record more in a file, or one less.
-fn change_one(counts: &mut Vec<u64>, change: Change)
+fn change_one(counts: &mut Vec<u64>, change: CountChange)
     ensures { counts.new.items ≡ changed_at change counts.old.items }
 {
     let file = change.file as usize;
@@ -280,7 +280,7 @@ fn change_one(counts: &mut Vec<u64>, change: Change)
 }
 
 /// One record more in each file for each time that one was taken away.
-fn put_back(counts: &mut Vec<u64>, changes: &[Change])
+fn put_back(counts: &mut Vec<u64>, changes: &[CountChange])
     ensures count { length counts.new.items ≡ length counts.old.items }
     ensures each { (f : _) → f < length counts.old.items → slice_index_or counts.new.items f 0
         ≡ min (slice_index_or counts.old.items f 0 + shrunk_in f changes.now) (2 ^ 64 - 1) }
@@ -289,7 +289,7 @@ fn put_back(counts: &mut Vec<u64>, changes: &[Change])
         if !change.grew {
             change_one(
                 counts,
-                Change {
+                CountChange {
                     file: change.file,
                     grew: true,
                 },
@@ -299,7 +299,7 @@ fn put_back(counts: &mut Vec<u64>, changes: &[Change])
 }
 
 /// One record less in each file for each time that one was put.
-fn take_back(counts: &mut Vec<u64>, changes: &[Change])
+fn take_back(counts: &mut Vec<u64>, changes: &[CountChange])
     ensures count { length counts.new.items ≡ length counts.old.items }
     ensures each { (f : _) → f < length counts.old.items → slice_index_or counts.new.items f 0
         ≡ slice_index_or counts.old.items f 0 - grown_in f changes.now }
@@ -308,7 +308,7 @@ fn take_back(counts: &mut Vec<u64>, changes: &[Change])
         if change.grew {
             change_one(
                 counts,
-                Change {
+                CountChange {
                     file: change.file,
                     grew: false,
                 },

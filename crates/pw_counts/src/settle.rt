@@ -7,14 +7,14 @@ ghost use Rattle.pw_counts.specs.Settled.{AreReleased, AreTakenBack, HasSeat, ha
 ghost use Rattle.pw_counts.specs.Tally.{ChangesSettled, LocksSettled, RecordsSettled};
 ghost use Rattle.pw_paired.specs.Units.{only};
 
-use crate::attempts::Seat;
+use crate::attempts::AttemptSeat;
 use crate::locks::Locks;
 use crate::over::{Over, Whose};
 use crate::records::Records;
 use pw_order::block::How;
 
 /// The locks of attempts that are over, if any, go. It takes no memory.
-pub fn settle_locks(locks: &mut Locks, seats: &[Seat], over: Option<Over>)
+pub fn settle_locks(locks: &mut Locks, seats: &[AttemptSeat], over: Option<Over>)
     requires few { length seats.now < 2 ^ 32 }
     requires seats { length locks.old.terminals ≡ length seats.now }
     ensures { LocksSettled seats.now over locks.old locks.new }
@@ -27,7 +27,7 @@ pub fn settle_locks(locks: &mut Locks, seats: &[Seat], over: Option<Over>)
 
 /// The changes of attempts that are over, if any, stay where these commit, and else are taken back. It
 /// takes no memory.
-pub fn settle_records(records: &mut Records, seats: &[Seat], over: Option<Over>)
+pub fn settle_records(records: &mut Records, seats: &[AttemptSeat], over: Option<Over>)
     requires few { length seats.now < 2 ^ 32 }
     requires seats { length records.old.terminals ≡ length seats.now }
     ensures { RecordsSettled seats.now over records.old records.new }
@@ -39,7 +39,7 @@ pub fn settle_records(records: &mut Records, seats: &[Seat], over: Option<Over>)
 }
 
 /// The changes of an attempt that commits stay, and those of others are taken back.
-fn settle_changes(records: &mut Records, seats: &[Seat], whose: Whose, how: How)
+fn settle_changes(records: &mut Records, seats: &[AttemptSeat], whose: Whose, how: How)
     requires few { length seats.now < 2 ^ 32 }
     requires seats { length records.old.terminals ≡ length seats.now }
     ensures { HasSeat seats.now whose → ChangesSettled seats.now whose how records.old records.new }
@@ -51,7 +51,7 @@ fn settle_changes(records: &mut Records, seats: &[Seat], whose: Whose, how: How)
 }
 
 /// The changes of one terminal's attempt stay where it commits, and else are taken back.
-fn settle_one(records: &mut Records, seats: &[Seat], terminal: u32, how: How)
+fn settle_one(records: &mut Records, seats: &[AttemptSeat], terminal: u32, how: How)
     requires seats { length records.old.terminals ≡ length seats.now }
     ensures { HasSeat seats.now (Whose.One terminal)
         → ChangesSettled seats.now (Whose.One terminal) how records.old records.new }
@@ -65,7 +65,7 @@ fn settle_one(records: &mut Records, seats: &[Seat], terminal: u32, how: How)
 }
 
 /// What the attempt of a terminal has changed is taken back, if it has a seat.
-fn back_out(records: &mut Records, seats: &[Seat], terminal: u32)
+fn back_out(records: &mut Records, seats: &[AttemptSeat], terminal: u32)
     requires seats { length records.old.terminals ≡ length seats.now }
     ensures { terminal < length seats.now
         → AreTakenBack (length seats.now) (only terminal) records.old records.new }
@@ -76,7 +76,7 @@ fn back_out(records: &mut Records, seats: &[Seat], terminal: u32)
 }
 
 /// The locks of these terminals go.
-fn release(locks: &mut Locks, seats: &[Seat], whose: Whose)
+fn release(locks: &mut Locks, seats: &[AttemptSeat], whose: Whose)
     requires few { length seats.now < 2 ^ 32 }
     requires seats { length locks.old.terminals ≡ length seats.now }
     ensures { HasSeat seats.now whose → AreReleased (is_whose seats.now whose) locks.old locks.new }
@@ -88,7 +88,7 @@ fn release(locks: &mut Locks, seats: &[Seat], whose: Whose)
 }
 
 /// The locks of the terminals of a pair go. It takes no memory.
-pub fn release_pair(locks: &mut Locks, seats: &[Seat], tcp: u32)
+pub fn release_pair(locks: &mut Locks, seats: &[AttemptSeat], tcp: u32)
     requires few { length seats.now < 2 ^ 32 }
     requires seats { length seats.now ≡ length locks.old.terminals }
     ensures { AreReleased (is_seated seats.now tcp) locks.old locks.new }
@@ -100,7 +100,7 @@ pub fn release_pair(locks: &mut Locks, seats: &[Seat], tcp: u32)
 }
 
 /// What the attempts of a pair have changed is taken back. It takes no memory.
-pub fn back_out_pair(records: &mut Records, seats: &[Seat], tcp: u32)
+pub fn back_out_pair(records: &mut Records, seats: &[AttemptSeat], tcp: u32)
     requires few { length seats.now < 2 ^ 32 }
     requires seats { length seats.now ≡ length records.old.terminals }
     ensures { AreTakenBack (length seats.now) (is_seated seats.now tcp) records.old records.new }
@@ -112,7 +112,7 @@ pub fn back_out_pair(records: &mut Records, seats: &[Seat], tcp: u32)
 }
 
 /// The seat at a place.
-fn seat_at(seats: &[Seat], place: usize) -> Seat
+fn seat_at(seats: &[AttemptSeat], place: usize) -> AttemptSeat
     requires { place < length seats.now }
     ensures { slice_get seats.now place ≡ Some result }
 {
@@ -120,7 +120,7 @@ fn seat_at(seats: &[Seat], place: usize) -> Seat
 }
 
 /// The locks of a terminal go where it is of the pair.
-fn release_if(locks: &mut Locks, seat: Seat, tcp: u32, terminal: u32)
+fn release_if(locks: &mut Locks, seat: AttemptSeat, tcp: u32, terminal: u32)
     ensures theirs { has_tcp tcp (Some seat) ≡ true → IsReleased terminal locks.old locks.new }
     ensures other { has_tcp tcp (Some seat) ≡ false → locks.new ≡ locks.old }
 {
@@ -130,7 +130,7 @@ fn release_if(locks: &mut Locks, seat: Seat, tcp: u32, terminal: u32)
 }
 
 /// The changes of a terminal are taken back where it is of the pair.
-fn back_out_if(records: &mut Records, seat: Seat, tcp: u32, terminal: u32)
+fn back_out_if(records: &mut Records, seat: AttemptSeat, tcp: u32, terminal: u32)
     requires { terminal < length records.old.terminals }
     ensures theirs { has_tcp tcp (Some seat) ≡ true → IsBackedOut terminal records.old records.new }
     ensures other { has_tcp tcp (Some seat) ≡ false → records.new ≡ records.old }

@@ -1,9 +1,9 @@
 ghost use Rattle.std.specs.BTreeSet.{btree_set_len};
 ghost use Rattle.std.specs.Prelude.{◌≡◌, ◌<◌, [], IfOk, OnErr, length};
-ghost use Rattle.pw_counts.specs.Shown.{AreShownOf, IsForgotten, IsNoted, IsSameAs, numbers_of};
+ghost use Rattle.pw_counts.specs.Shown.{AreShownOf, IsForgotten, IsNumberNoted, IsSameAs, numbers_of};
 
 use pw_base::memory::Memory;
-use pw_listing::numbers::Number;
+use pw_listing::numbers::ListedRefreshNumber;
 use std::alloc::Global;
 use std::collections::BTreeSet;
 use std::marker::Model;
@@ -11,15 +11,15 @@ use std::marker::Model;
 /// The different refresh numbers of each terminal.
 #[derive(Debug, Drop)]
 pub struct Numbers {
-    terminals: Vec<BTreeSet<Number>>,
+    terminals: Vec<BTreeSet<ListedRefreshNumber>>,
 }
 
 impl Model for Numbers {
     ghost use Rattle.std.specs.BTreeSet.{BTreeSet};
     ghost use Rattle.std.specs.Prelude.{List};
-    ghost use Rattle.pw_listing.specs.declared.numbers.Number.{Number};
+    ghost use Rattle.pw_listing.specs.declared.numbers.ListedRefreshNumber.{ListedRefreshNumber};
 
-    ghost Value = { List (BTreeSet Number) };
+    ghost Value = { List (BTreeSet ListedRefreshNumber) };
 
     ghost view = { λ numbers. numbers.terminals.items };
 }
@@ -36,16 +36,16 @@ impl Numbers {
     }
 
     /// Notes a refresh number of a terminal; whether it is new. An `Err` leaves all as it was.
-    pub fn note(&mut self, terminal: u32, number: Number) -> Result<bool, Memory>
+    pub fn note(&mut self, terminal: u32, number: ListedRefreshNumber) -> Result<bool, Memory>
         requires { terminal < length self.old }
-        ensures ok { IfOk result (λ fresh. IsNoted terminal number fresh self.old self.new) }
+        ensures ok { IfOk result (λ fresh. IsNumberNoted terminal number fresh self.old self.new) }
         ensures err { OnErr result (IsSameAs self.old self.new) }
     {
         Ok(self.terminals[terminal as usize].insert(number)?)
     }
 
     /// Forgets a number that was new.
-    pub fn forget(&mut self, terminal: u32, number: Number)
+    pub fn forget(&mut self, terminal: u32, number: ListedRefreshNumber)
         requires { terminal < length self.old }
         ensures { IsForgotten terminal number self.old self.new }
     {
@@ -62,7 +62,7 @@ impl Numbers {
 }
 
 /// Empty sets, for so many terminals.
-fn empty_sets(alloc: Global, count: usize) -> Result<Vec<BTreeSet<Number>>, Memory>
+fn empty_sets(alloc: Global, count: usize) -> Result<Vec<BTreeSet<ListedRefreshNumber>>, Memory>
     ensures count { IfOk result (λ sets. length sets.items ≡ count) }
     ensures empty { IfOk result (λ sets. (t : _) → t < count → (numbers_of sets.items t).keys ≡ []) }
 {

@@ -4,7 +4,7 @@ ghost use Rattle.pw_counts.specs.Counters.{counters_behind};
 ghost use Rattle.pw_counts.specs.Longest.{longest_with, sent_to};
 ghost use Rattle.pw_counts.specs.Over.{over_at};
 ghost use Rattle.pw_counts.specs.Records.{file_in};
-ghost use Rattle.pw_counts.specs.Tally.{AreSized, HasRoom, HasRoomFor, IsFirstTally, IsNotedIn, IsSameTally, IsSameTallyBut, LocksAdded, LocksBehind, RecordsAdded, RecordsBehind, units_in};
+ghost use Rattle.pw_counts.specs.Tally.{AreSized, HasTallyRoom, HasRoomFor, IsFirstTally, IsNotedIn, IsSameTally, IsSameTallyBut, LocksAdded, LocksBehind, RecordsAdded, RecordsBehind, units_in};
 
 use crate::attempts::Attempts;
 use crate::counters::Counters;
@@ -12,7 +12,7 @@ use crate::counts::UnitCounts;
 use crate::locks::Locks;
 use crate::longest::Longest;
 use crate::over::{Over, over_at};
-use crate::records::{Operation, Records, file_in};
+use crate::records::{FileEntryOperation, Records, file_in};
 use crate::settle::{settle_locks, settle_records};
 use pw_base::memory::Memory;
 use pw_code::system::System;
@@ -74,7 +74,7 @@ impl Tally {
     /// Makes room for one more FILE of a terminal, if there is one. It changes nothing but that.
     pub fn make_room(&mut self, terminal: Option<u32>) -> Result<(), Memory>
         ensures same { IsSameTally terminal self.old self.new }
-        ensures ok { OnOk result (HasRoom terminal self.new) }
+        ensures ok { OnOk result (HasTallyRoom terminal self.new) }
     {
         match terminal {
             Some(terminal) => self.reserve(terminal),
@@ -94,7 +94,7 @@ impl Tally {
     /// Takes one more entry in, for which there is room. It takes no memory.
     pub fn note(&mut self, entry: &Event, met: &Met)
         requires sized { AreSized self.old }
-        requires room { HasRoom met.now.terminal self.old }
+        requires room { HasTallyRoom met.now.terminal self.old }
         ensures { IsNotedIn entry.now met.now self.old self.new }
     {
         let over = over_at(entry, met.ends);
@@ -106,9 +106,9 @@ impl Tally {
 
     /// A FILE adds a lock and may change a number of records; else the locks and the changes of attempts
     /// that are over are settled.
-    fn hold(&mut self, terminal: Option<u32>, operation: Option<Operation>, over: Option<Over>)
+    fn hold(&mut self, terminal: Option<u32>, operation: Option<FileEntryOperation>, over: Option<Over>)
         requires sized { AreSized self.old }
-        requires room { HasRoom terminal self.old }
+        requires room { HasTallyRoom terminal self.old }
         ensures counters { self.new.counters ≡ self.old.counters }
         ensures longest { self.new.longest ≡ self.old.longest }
         ensures attempts { self.new.attempts ≡ self.old.attempts }
@@ -126,8 +126,8 @@ impl Tally {
     }
 
     /// An operation for a terminal adds a lock, and may change a number of records.
-    fn operate(&mut self, terminal: Option<u32>, operation: Operation)
-        requires room { HasRoom terminal self.old }
+    fn operate(&mut self, terminal: Option<u32>, operation: FileEntryOperation)
+        requires room { HasTallyRoom terminal self.old }
         ensures counters { self.new.counters ≡ self.old.counters }
         ensures longest { self.new.longest ≡ self.old.longest }
         ensures attempts { self.new.attempts ≡ self.old.attempts }

@@ -16,7 +16,7 @@ use Rattle.pw_data.specs.Literals.{literal_of}
 use Rattle.pw_data.specs.Entries.{picture_at, kind_of, kind_at, has_no_kind, size_at, count_at}
 use Rattle.pw_data.specs.Tree.{Forest, Empty, Node, stands_in, inside, past, forest}
 use Rattle.pw_data.specs.Laid.{times, size_in, initial_by, initial, chars_in}
-use Rattle.pw_data.specs.Store.{Cell, joined, occurrences, cell_by, cells_in, first_of, entry_count}
+use Rattle.pw_data.specs.Store.{Cell, joined, occurrences, cell_by, cells_in, first_occurrence, entry_count}
 
 -- an entry as it is read from tokens without a fault
 pub record Good (text : List ℕ) (entry : Entry) : Type 0 where
@@ -85,9 +85,9 @@ joined-cells_of text i k e ms is =
 pub joined-cells : (text : List ℕ) (i k : ℕ) (f : Forest) → joined (cells_in text i k f) ≡ chars_in text f
 joined-cells text i k Empty = refl
 joined-cells text i k (Node e ms r) =
-    joined-append (occurrences (cells_of text i e ms) (first_of e.occurs k) (times e)) (cells_in text (i + 1 + entry_count ms) k r)
+    joined-append (occurrences (cells_of text i e ms) (first_occurrence e.occurs k) (times e)) (cells_in text (i + 1 + entry_count ms) k r)
     ∙ ap (λ cs. cs ++ joined (cells_in text (i + 1 + entry_count ms) k r))
-    (joined-occurrences (cells_of text i e ms) (initial text e ++ chars_in text ms) (λ j. joined-cells_of text i j e ms (joined-cells text (i + 1) j ms)) (first_of e.occurs k) (times e))
+    (joined-occurrences (cells_of text i e ms) (initial text e ++ chars_in text ms) (λ j. joined-cells_of text i j e ms (joined-cells text (i + 1) j ms)) (first_occurrence e.occurs k) (times e))
     ∙ ap (λ cs. repeat (times e) (initial text e ++ chars_in text ms) ++ cs) (joined-cells text (i + 1 + entry_count ms) k r)
 
 length-fitted : (size : ℕ) (text : List ℕ) → length (fitted size text) ≡ size
@@ -134,9 +134,9 @@ length-chars text (Node e ms r) all =
 
 -- all occurrences have as many characters as they say
 pub length-occurrences : (text : List ℕ) (i k : ℕ) (e : Entry) (ms : Forest) → Good text e → AllIn (Good text) ms
-    → length (joined (occurrences (cells_of text i e ms) (first_of e.occurs k) (times e))) ≡ times e * (e.size + size_in ms)
+    → length (joined (occurrences (cells_of text i e ms) (first_occurrence e.occurs k) (times e))) ≡ times e * (e.size + size_in ms)
 length-occurrences text i k e ms good all =
-    ap length (joined-occurrences (cells_of text i e ms) (initial text e ++ chars_in text ms) (λ j. joined-cells_of text i j e ms (joined-cells text (i + 1) j ms)) (first_of e.occurs k) (times e))
+    ap length (joined-occurrences (cells_of text i e ms) (initial text e ++ chars_in text ms) (λ j. joined-cells_of text i j e ms (joined-cells text (i + 1) j ms)) (first_occurrence e.occurs k) (times e))
     ∙ length-repeat (times e) (initial text e ++ chars_in text ms) ∙ ap (λ n. times e * n) (length-one text e ms good (length-chars text ms all))
 
 pub length-cells_of : (text : List ℕ) (i k : ℕ) (e : Entry) (ms : Forest) → Good text e → AllIn (Good text) ms → length (joined (cells_of text i e ms k)) ≡ e.size + size_in ms

@@ -10,7 +10,7 @@ use Rattle.pw_base.proofs.Plain.{is_some-None, bytes_eq-swap}
 use Rattle.pw_words.specs.Words.{Word, same_word}
 use Rattle.pw_data.specs.declared.item.Item.{Item}
 use Rattle.pw_data.specs.Names.{is_this_name}
-use Rattle.pw_data.specs.Index.{number_of, number_in, Indexes}
+use Rattle.pw_data.specs.Index.{indexed_item_number, first_item_number, Indexes}
 
 -- an entry that does not pass is passed over
 skipped : {X : Type 0} (b : Bool) (x : X) (o : Option X) → is_some (cond b (Some x) o) ≡ false → (b ≡ false) × (is_some o ≡ false)
@@ -53,28 +53,28 @@ module _ {A S : Type 0} (index next : IndexMap (Vec ℕ A) ℕ S) (key : Vec ℕ
   alike : (word : Word) (x : Vec ℕ A) → bytes_eq key.items x.items ≡ true → bytes_eq (str_to_ascii_lowercase word) key.items ≡ bytes_eq (str_to_ascii_lowercase word) x.items
   alike word x equal = ap (bytes_eq (str_to_ascii_lowercase word)) ((bytes_decides key.items x.items).0 equal)
 
-  none_yet : (word : Word) → bytes_eq (str_to_ascii_lowercase word) key.items ≡ true → is_some (number_of index word) ≡ false
+  none_yet : (word : Word) → bytes_eq (str_to_ascii_lowercase word) key.items ≡ true → is_some (indexed_item_number index word) ≡ false
   none_yet word hits =
       let same : str_to_ascii_lowercase word ≡ key.items = (bytes_decides (str_to_ascii_lowercase word) key.items).0 hits in
       ap (λ bytes. is_some (get_by (λ x. bytes_eq bytes x.items) index)) same ∙ fresh
 
   by : (word : Word) (b : Bool) → bytes_eq (str_to_ascii_lowercase word) key.items ≡ b
-      → number_of next word ≡ option_or (number_of index word) (if b then Some number else None)
+      → indexed_item_number next word ≡ option_or (indexed_item_number index word) (if b then Some number else None)
   by word true hits =
-      let none : number_of index word ≡ None = is_some-None (number_of index word) (none_yet word hits) in
+      let none : indexed_item_number index word ≡ None = is_some-None (indexed_item_number index word) (none_yet word hits) in
       ap (λ es. lookup (λ (x : Vec ℕ A). bytes_eq (str_to_ascii_lowercase word) x.items) es) next_is
       ∙ lookup-new (λ x y. bytes_eq x.items y.items) (λ x. bytes_eq (str_to_ascii_lowercase word) x.items) key number (alike word) index.entries hits (none_yet word hits)
       ∙ ap (λ o. option_or o (Some number)) (sym none)
   by word false misses =
       ap (λ es. lookup (λ (x : Vec ℕ A). bytes_eq (str_to_ascii_lowercase word) x.items) es) next_is
       ∙ lookup-other (λ x y. bytes_eq x.items y.items) (λ x. bytes_eq (str_to_ascii_lowercase word) x.items) key number (alike word) index.entries misses
-      ∙ or-none (number_of index word)
+      ∙ or-none (indexed_item_number index word)
 
   -- an index with one name more
-  pub number_of-insert : (word : Word) → number_of next word ≡ option_or (number_of index word) (if same_word name word then Some number else None)
+  pub number_of-insert : (word : Word) → indexed_item_number next word ≡ option_or (indexed_item_number index word) (if same_word name word then Some number else None)
   number_of-insert word =
       by word (bytes_eq (str_to_ascii_lowercase word) key.items) refl
-      ∙ ap (λ b. option_or (number_of index word) (if b then Some number else None)) (found_by word)
+      ∙ ap (λ b. option_or (indexed_item_number index word) (if b then Some number else None)) (found_by word)
 
 -- a name that is there stays before that of the next item
 or-next : (a : Option ℕ) (c : Bool) (number : ℕ) (rest : Option ℕ) → option_or (option_or a (if c then Some number else None)) rest ≡ option_or a (cond c (Some number) rest)
@@ -85,10 +85,10 @@ or-next (Some n) false number rest = refl
 
 -- one item further
 pub index-further : {A S : Type 0} (before now : IndexMap (Vec ℕ A) ℕ S) (number : ℕ) (item : Item) (items : List Item) (word : Word) → Indexes item.name number before now
-    → option_or (number_of now word) (number_in (number + 1) items word) ≡ option_or (number_of before word) (number_in number (item ∷ items) word)
+    → option_or (indexed_item_number now word) (first_item_number (number + 1) items word) ≡ option_or (indexed_item_number before word) (first_item_number number (item ∷ items) word)
 index-further before now number item items word puts =
-    ap (λ o. option_or o (number_in (number + 1) items word)) (puts word)
-    ∙ or-next (number_of before word) (is_this_name item.name word) number (number_in (number + 1) items word)
+    ap (λ o. option_or o (first_item_number (number + 1) items word)) (puts word)
+    ∙ or-next (indexed_item_number before word) (is_this_name item.name word) number (first_item_number (number + 1) items word)
 
 -- what the first item of a name is, by its number
 record Found (first number : ℕ) (items : List Item) (name : Word) : Type 0 where
@@ -102,28 +102,28 @@ found-next first number item items name other found =
     record { place = suc found.place; number_is = omega (arith, found.number_is); within = omega (arith, found.within); item = rw other found.item }
 
 found-by : (b : Bool) (first number : ℕ) (item : Item) (items : List Item) (name : Word) → is_this_name item.name name ≡ b
-    → cond b (Some first) (number_in (first + 1) items name) ≡ Some number → (number_in (first + 1) items name ≡ Some number → Found (first + 1) number items name) → Found first number (item ∷ items) name
+    → cond b (Some first) (first_item_number (first + 1) items name) ≡ Some number → (first_item_number (first + 1) items name ≡ Some number → Found (first + 1) number items name) → Found first number (item ∷ items) name
 found-by true first number item items name is at rest =
     let same : first ≡ number = cc in
     record { place = 0; number_is = omega (arith, same); within = omega arith; item = rw is refl }
 found-by false first number item items name is at rest = found-next first number item items name is (rest at)
 
-found : (first number : ℕ) (items : List Item) (name : Word) → number_in first items name ≡ Some number → Found first number items name
+found : (first number : ℕ) (items : List Item) (name : Word) → first_item_number first items name ≡ Some number → Found first number items name
 found first number [] name at = absurd cc
 found first number (item ∷ items) name at = found-by (is_this_name item.name name) first number item items name refl at (found (first + 1) number items name)
 
-none-by : (b : Bool) (first : ℕ) (item : Item) (items : List Item) (name : Word) → is_this_name item.name name ≡ b → cond b (Some first) (number_in (first + 1) items name) ≡ None
-    → (number_in (first + 1) items name ≡ None → find (λ item. is_this_name item.name name) items ≡ None) → find (λ item. is_this_name item.name name) (item ∷ items) ≡ None
+none-by : (b : Bool) (first : ℕ) (item : Item) (items : List Item) (name : Word) → is_this_name item.name name ≡ b → cond b (Some first) (first_item_number (first + 1) items name) ≡ None
+    → (first_item_number (first + 1) items name ≡ None → find (λ item. is_this_name item.name name) items ≡ None) → find (λ item. is_this_name item.name name) (item ∷ items) ≡ None
 none-by true first item items name is at rest = absurd cc
 none-by false first item items name is at rest = rw is (rest at)
 
 -- where there is no number there is no item
-pub not_found : (first : ℕ) (items : List Item) (name : Word) → number_in first items name ≡ None → find (λ item. is_this_name item.name name) items ≡ None
+pub not_found : (first : ℕ) (items : List Item) (name : Word) → first_item_number first items name ≡ None → find (λ item. is_this_name item.name name) items ≡ None
 not_found first [] name at = refl
 not_found first (item ∷ items) name at = none-by (is_this_name item.name name) first item items name refl at (not_found (first + 1) items name)
 
 -- the item of a number is the first of the name
-pub item-found : (number : ℕ) (items : List Item) (name : Word) → number_in 0 items name ≡ Some number → slice_get items number ≡ find (λ item. is_this_name item.name name) items
+pub item-found : (number : ℕ) (items : List Item) (name : Word) → first_item_number 0 items name ≡ Some number → slice_get items number ≡ find (λ item. is_this_name item.name name) items
 item-found number items name at =
     let f = found 0 number items name at in
     ap (slice_get items) (omega (arith, f.number_is)) ∙ f.item

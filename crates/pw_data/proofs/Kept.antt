@@ -6,7 +6,7 @@ use Rattle.pw_picture.specs.declared.picture.Picture.{Picture}
 use Rattle.pw_picture.specs.declared.picture.Picture.TheVariants.{Text, Number, Edited}
 use Rattle.pw_data.specs.declared.literal.Literal.{Literal}
 use Rattle.pw_data.specs.declared.entry.Entry.{Entry}
-use Rattle.pw_data.specs.Entries.{picture_of_kind, kind_of, picture_at, IsKept}
+use Rattle.pw_data.specs.Entries.{picture_of_kind, kind_of, picture_at, KeepsPicture}
 use Rattle.pw_data.specs.Laid.{initial_by}
 use Rattle.pw_data.proofs.Cells.{Each}
 use Rattle.pw_data.proofs.Loops.{Cut}
@@ -19,7 +19,7 @@ initial_by-kind value (Some (Number digits places signed)) = refl
 initial_by-kind value (Some (Edited symbols)) = refl
 
 -- an entry's item begins by the kind that it keeps
-pub initial-kept : (text : List ℕ) (e : Entry) (value : Option Literal) → IsKept text e → initial_by value (option_map picture_of_kind e.kind) ≡ initial_by value (picture_at text e.clauses.picture)
+pub initial-kept : (text : List ℕ) (e : Entry) (value : Option Literal) → KeepsPicture text e → initial_by value (option_map picture_of_kind e.kind) ≡ initial_by value (picture_at text e.clauses.picture)
 initial-kept text e value kept = ap (λ kind. initial_by value (option_map picture_of_kind kind)) kept.0 ∙ initial_by-kind value (picture_at text e.clauses.picture)
 
 pub Each-All : (P : Entry → Type 0) (entries : List Entry) → Each P entries → All P entries

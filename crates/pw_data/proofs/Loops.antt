@@ -4,10 +4,10 @@ use Rattle.std.specs.Prelude.{take_while, ◌||◌, ◌==◌}
 use Rattle.std.specs.List.{repeat}
 use Rattle.pw_base.specs.declared.fault_code.FaultCode.TheVariants.{BadDataEntry, StorageTooLarge}
 use Rattle.pw_base.specs.declared.fault.Fault.{Fault}
-use Rattle.pw_base.specs.First.{noted, least}
+use Rattle.pw_base.specs.First.{fault_noted, least}
 use Rattle.pw_base.specs.Limits.{most_storage}
 use Rattle.pw_data.specs.declared.entry.Entry.{Entry}
-use Rattle.pw_data.specs.declared.item.Table.{Table}
+use Rattle.pw_data.specs.declared.item.ItemTable.{ItemTable}
 use Rattle.pw_data.specs.declared.item.Item.{Item}
 use Rattle.pw_data.specs.Entries.{fault, has_occurs}
 use Rattle.pw_data.specs.Tree.{Node, forest, stands_in, is_group, is_misplaced, tree_faults}
@@ -29,13 +29,13 @@ module _ (rest : List Entry) (entry : Entry) (behind members next : List Entry) 
   trees = ap forest cut.rest_is ∙ forest-front entry behind members next count cut.count_is cut.members_is cut.next_is
 
   pub faults-further : (top table misplaced : Bool) (known noted_known next_known whole : Option Fault)
-      → misplaced ≡ is_misplaced top table (not (length members == 0)) entry → noted_known ≡ noted known misplaced (fault entry.line BadDataEntry)
+      → misplaced ≡ is_misplaced top table (not (length members == 0)) entry → noted_known ≡ fault_noted known misplaced (fault entry.line BadDataEntry)
       → next_known ≡ least noted_known (tree_faults false (table || has_occurs entry) (forest members))
       → least known (tree_faults top table (forest rest)) ≡ whole → least next_known (tree_faults top table (forest next)) ≡ whole
   faults-further top table misplaced known noted_known next_known whole misplaced_is noted_is next_known_is so_far =
       let inner : List Fault = tree_faults false (table || has_occurs entry) (forest members) in
       let wrong : misplaced ≡ is_misplaced top table (is_group (forest members)) entry = misplaced_is ∙ ap (λ group. is_misplaced top table group entry) (sym (is_group-forest members)) in
-      ap (λ k. least k (tree_faults top table (forest next))) (next_known_is ∙ ap (λ k. least k inner) (noted_is ∙ ap (λ b. noted known b (fault entry.line BadDataEntry)) wrong))
+      ap (λ k. least k (tree_faults top table (forest next))) (next_known_is ∙ ap (λ k. least k inner) (noted_is ∙ ap (λ b. fault_noted known b (fault entry.line BadDataEntry)) wrong))
       ∙ tree_faults-step top table known entry (forest members) (forest next) ∙ ap (λ f. least known (tree_faults top table f)) (sym trees) ∙ so_far
 
   pub size-further : (size extent inner whole : ℕ) → inner ≡ min (size_in (forest members)) (most_storage + 1) → extent ≡ min (times entry * (entry.size + inner)) (most_storage + 1)
@@ -69,13 +69,13 @@ module _ (rest : List Entry) (entry : Entry) (behind members next : List Entry) 
       let extent_cut : extent ≡ min product (most_storage + 1) = exact extent inner entry (forest members) inner_is extent_is in
       record { inner_is = omega arith; extent_is = omega arith; members_fit = omega arith; next_fit = omega arith }
 
-  pub items-further : (text : List ℕ) (at extent inner size : ℕ) (around table : Table) (item : Item) (before pushed laid whole : List Item) → Fits at extent inner
+  pub items-further : (text : List ℕ) (at extent inner size : ℕ) (around table : ItemTable) (item : Item) (before pushed laid whole : List Item) → Fits at extent inner
       → size ≡ entry.size + inner → table ≡ table_of around entry.occurs size → item ≡ item_of text at size table entry
       → pushed ≡ before ++ item ∷ [] → laid ≡ pushed ++ items_in text at table (forest members)
       → before ++ items_in text at around (forest rest) ≡ whole → laid ++ items_in text (at + extent) around (forest next) ≡ whole
   items-further text at extent inner size around table item before pushed laid whole fit size_is table_is item_is pushed_is laid_is so_far =
       let exact_size : size ≡ entry.size + size_in (forest members) = size_is ∙ ap (λ n. entry.size + n) fit.inner_is in
-      let own : ℕ → Table = λ n. table_of around entry.occurs n in
+      let own : ℕ → ItemTable = λ n. table_of around entry.occurs n in
       let s : ℕ = entry.size + size_in (forest members) in
       let table_exact : table ≡ own s = table_is ∙ ap own exact_size in
       let item_exact : item ≡ item_of text at s (own s) entry = item_is ∙ ap (λ n. item_of text at n table entry) exact_size ∙ ap (λ t. item_of text at s t entry) table_exact in

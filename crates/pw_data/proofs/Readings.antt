@@ -7,12 +7,12 @@ use Rattle.pw_base.proofs.FirstFault.{least-append}
 use Rattle.pw_text.specs.declared.token.Token.{Token}
 use Rattle.pw_text.specs.declared.token.TokenKind.TheVariants as kind
 use Rattle.pw_text.specs.Cursor.{Left, sees, behind}
-use Rattle.pw_data.specs.declared.clauses.Clause.{Clause}
-use Rattle.pw_data.specs.declared.clauses.Clauses.{Clauses}
+use Rattle.pw_data.specs.declared.clauses.DataClause.{DataClause}
+use Rattle.pw_data.specs.declared.clauses.DataClauses.{DataClauses}
 use Rattle.pw_data.specs.declared.entry.Entry.{Entry}
 use Rattle.pw_data.specs.Parts.{Part, part_of, left_of, is_heading, is_linkage, heading_size, ends_entry, entry_size, parts_from}
 use Rattle.pw_data.specs.Clauses.{added, one_clause, is_end, clauses_from}
-use Rattle.pw_data.specs.Entries.{entry_of, part_faults, faults_of_parts, entries_of}
+use Rattle.pw_data.specs.Entries.{data_entry_of, part_faults, faults_of_parts, data_entries_of}
 
 -- where a period is left there is a token
 pub some-left : (tokens : List Token) → is_end tokens ≡ true → length tokens ≤ 0 → ⊥
@@ -20,32 +20,32 @@ some-left [] end none = cc
 some-left (token ∷ rest) end none = omega arith
 
 -- one clause is read
-pub clauses-step : (turns : ℕ) (found next : Clauses) (left rest : Left) (one : Clause) → is_end left.tokens ≡ false → one_clause left ≡ Some (one, rest) → added found one ≡ Some next
+pub clauses-step : (turns : ℕ) (found next : DataClauses) (left rest : Left) (one : DataClause) → is_end left.tokens ≡ false → one_clause left ≡ Some (one, rest) → added found one ≡ Some next
     → clauses_from (suc turns) found left ≡ clauses_from turns next rest
 unfolding clauses_from
 clauses-step turns found next left rest one end is adds = rw (end, is, adds) refl
 
 -- there is no clause
-pub clauses-none : (turns : ℕ) (found : Clauses) (left : Left) → is_end left.tokens ≡ false → one_clause left ≡ None → clauses_from turns found left ≡ None
+pub clauses-none : (turns : ℕ) (found : DataClauses) (left : Left) → is_end left.tokens ≡ false → one_clause left ≡ None → clauses_from turns found left ≡ None
 unfolding clauses_from
 clauses-none zero found left end is = refl
 clauses-none (suc turns) found left end is = rw (end, is) refl
 
 -- the clause is there twice
-pub clauses-twice : (turns : ℕ) (found : Clauses) (left rest : Left) (one : Clause) → is_end left.tokens ≡ false → one_clause left ≡ Some (one, rest) → added found one ≡ None
+pub clauses-twice : (turns : ℕ) (found : DataClauses) (left rest : Left) (one : DataClause) → is_end left.tokens ≡ false → one_clause left ≡ Some (one, rest) → added found one ≡ None
     → clauses_from turns found left ≡ None
 unfolding clauses_from
 clauses-twice zero found left rest one end is adds = refl
 clauses-twice (suc turns) found left rest one end is adds = rw (end, is, adds) refl
 
 -- a period is left
-pub clauses-end : (turns : ℕ) (found : Clauses) (left : Left) → is_end left.tokens ≡ true → length left.tokens ≤ turns → clauses_from turns found left ≡ Some found
+pub clauses-end : (turns : ℕ) (found : DataClauses) (left : Left) → is_end left.tokens ≡ true → length left.tokens ≤ turns → clauses_from turns found left ≡ Some found
 unfolding clauses_from
 clauses-end zero found left end enough = absurd (some-left left.tokens end enough)
 clauses-end (suc turns) found left end enough = rw end refl
 
 -- one clause further
-pub clauses-further : (turns : ℕ) (found next : Clauses) (left rest : Left) (one : Clause) (whole : Option Clauses) → is_end left.tokens ≡ false → one_clause left ≡ Some (one, rest) → added found one ≡ Some next
+pub clauses-further : (turns : ℕ) (found next : DataClauses) (left rest : Left) (one : DataClause) (whole : Option DataClauses) → is_end left.tokens ≡ false → one_clause left ≡ Some (one, rest) → added found one ≡ Some next
     → length rest.tokens < length left.tokens → length left.tokens ≤ turns → clauses_from turns found left ≡ whole
     → (fewer : ℕ) × (length rest.tokens ≤ fewer) × (clauses_from fewer next rest ≡ whole)
 clauses-further zero found next left rest one whole end is adds shorter enough so_far = absurd (omega arith)
@@ -84,8 +84,8 @@ parts-entry text linked (token ∷ behind) size heading left size_is some =
 
 -- the entry of a part comes in front of those behind it
 pub entries_of-step : (server : Bool) (text : List ℕ) (part : Part) (parts : List Part) (before : List Entry)
-    → (before ++ option_to_list (entry_of server text part)) ++ entries_of server text parts ≡ before ++ entries_of server text (part ∷ parts)
-entries_of-step server text part parts before = append_assoc before (option_to_list (entry_of server text part)) (entries_of server text parts)
+    → (before ++ option_to_list (data_entry_of server text part)) ++ data_entries_of server text parts ≡ before ++ data_entries_of server text (part ∷ parts)
+entries_of-step server text part parts before = append_assoc before (option_to_list (data_entry_of server text part)) (data_entries_of server text parts)
 
 -- and so do its faults
 pub faults_of_parts-step : (server : Bool) (text : List ℕ) (part : Part) (parts : List Part) (known : Option Fault)
@@ -136,13 +136,13 @@ after-entry cursor part next linked heading left part_is next_is some =
 module _ (server : Bool) (text : List ℕ) (part : Left) (linked now : Bool) (tokens rest : List Token)
     (parts_is : parts_from text linked 0 tokens ≡ part_of linked part.tokens ∷ parts_from text linked 0 rest) (text_is : part.text ≡ text) (now_is : now ≡ linked) where
   -- the entry of the part comes behind those before it
-  pub entries-further : (before after : List Entry) → after ≡ before ++ option_to_list (entry_of server part.text (part_of linked part.tokens))
-      → after ++ entries_of server text (parts_from text now 0 rest) ≡ before ++ entries_of server text (parts_from text linked 0 tokens)
+  pub entries-further : (before after : List Entry) → after ≡ before ++ option_to_list (data_entry_of server part.text (part_of linked part.tokens))
+      → after ++ data_entries_of server text (parts_from text now 0 rest) ≡ before ++ data_entries_of server text (parts_from text linked 0 tokens)
   entries-further before after after_is =
-      ap (λ l. after ++ entries_of server text (parts_from text l 0 rest)) now_is
-      ∙ ap (λ es. es ++ entries_of server text (parts_from text linked 0 rest)) (after_is ∙ ap (λ t. before ++ option_to_list (entry_of server t (part_of linked part.tokens))) text_is)
+      ap (λ l. after ++ data_entries_of server text (parts_from text l 0 rest)) now_is
+      ∙ ap (λ es. es ++ data_entries_of server text (parts_from text linked 0 rest)) (after_is ∙ ap (λ t. before ++ option_to_list (data_entry_of server t (part_of linked part.tokens))) text_is)
       ∙ entries_of-step server text (part_of linked part.tokens) (parts_from text linked 0 rest) before
-      ∙ ap (λ parts. before ++ entries_of server text parts) (sym parts_is)
+      ∙ ap (λ parts. before ++ data_entries_of server text parts) (sym parts_is)
 
   -- and so do its faults
   pub faults-further : (known first : Option Fault) → first ≡ least known (part_faults server part.text (part_of linked part.tokens))

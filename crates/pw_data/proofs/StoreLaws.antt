@@ -12,10 +12,10 @@ use Rattle.pw_base.specs.First.{least, unless}
 use Rattle.pw_base.proofs.FirstFault.{least-none}
 use Rattle.pw_base.proofs.Plain.{append-none}
 use Rattle.pw_text.specs.declared.token.Token.{Token}
-use Rattle.pw_data.specs.declared.reading.Reading.{Reading}
+use Rattle.pw_data.specs.declared.reading.EntryParts.{EntryParts}
 use Rattle.pw_data.specs.declared.entry.Entry.{Entry}
 use Rattle.pw_data.specs.Parts.{Part, left_of, parts_of}
-use Rattle.pw_data.specs.Entries.{only_if, reading_of, line_of, proper_name, has_form, is_bad_picture, has_table_name, has_no_kind, is_bad_entry, is_bad_occurs, is_bad_value, entry_with, entry_of, part_faults, faults_of_parts, entries_of, IsKept}
+use Rattle.pw_data.specs.Entries.{data_fault_if, reading_of, line_of, proper_name, has_form, is_bad_picture, has_table_name, has_no_kind, is_bad_entry, is_bad_occurs, is_bad_value, entry_with, data_entry_of, part_faults, faults_of_parts, data_entries_of, KeepsPicture}
 use Rattle.pw_data.specs.Tree.{forest, tree_faults}
 use Rattle.pw_data.specs.Names.{clashes}
 use Rattle.pw_data.specs.Laid.{too_large, size_in, items_in, chars_in}
@@ -26,11 +26,11 @@ use Rattle.pw_data.proofs.Held.{items-fit, is_kept}
 use Rattle.pw_data.proofs.Kept.{Each-All}
 use Rattle.pw_data.proofs.Stores.{Lie-cells}
 
-pub no_fault-here : (is_fault : Bool) (line : ℕ) (code : FaultCode) → only_if is_fault line code ≡ [] → is_fault ≡ false
+pub no_fault-here : (is_fault : Bool) (line : ℕ) (code : FaultCode) → data_fault_if is_fault line code ≡ [] → is_fault ≡ false
 no_fault-here true line code none = absurd cc
 no_fault-here false line code none = refl
 
-good-by : (text : List ℕ) (linked : Bool) (line : ℕ) (reading : Reading) (level : Option ℕ) → is_bad_entry text (option_map (entry_with text linked line reading) level) ≡ false
+good-by : (text : List ℕ) (linked : Bool) (line : ℕ) (reading : EntryParts) (level : Option ℕ) → is_bad_entry text (option_map (entry_with text linked line reading) level) ≡ false
     → Each (Good text) (option_to_list (option_map (entry_with text linked line reading) level))
 good-by text linked line reading None none = tt
 good-by text linked line reading (Some level) none =
@@ -41,22 +41,22 @@ pub Each-append : (P : Entry → Type 0) (xs ys : List Entry) → Each P xs → 
 Each-append P [] ys front back = back
 Each-append P (x ∷ xs) ys front back = (front.0, Each-append P xs ys front.1 back)
 
-good-part : (server : Bool) (text : List ℕ) (part : Part) → part_faults server text part ≡ [] → Each (Good text) (option_to_list (entry_of server text part))
+good-part : (server : Bool) (text : List ℕ) (part : Part) → part_faults server text part ≡ [] → Each (Good text) (option_to_list (data_entry_of server text part))
 good-part server text part none =
-    let reading : Reading = reading_of server (left_of text part.tokens) in
+    let reading : EntryParts = reading_of server (left_of text part.tokens) in
     let line : ℕ = line_of part.tokens in
-    let pictures : List Fault = only_if (list_any (is_bad_picture text) part.tokens) line BadPicture in
-    let wrong : Bool = not (has_form reading) || is_bad_entry text (entry_of server text part) in
-    let names : List Fault = only_if (has_table_name server text (option_and_then (proper_name text) reading.name)) line NameTwice in
-    let others = (append-none pictures (only_if wrong line BadDataEntry ++ names) none).1 in
-    let fine : wrong ≡ false = no_fault-here wrong line BadDataEntry (append-none (only_if wrong line BadDataEntry) names others).0 in
-    good-by text part.linked line reading reading.level (or_parts (not (has_form reading)) (is_bad_entry text (entry_of server text part)) fine).1
+    let pictures : List Fault = data_fault_if (list_any (is_bad_picture text) part.tokens) line BadPicture in
+    let wrong : Bool = not (has_form reading) || is_bad_entry text (data_entry_of server text part) in
+    let names : List Fault = data_fault_if (has_table_name server text (option_and_then (proper_name text) reading.name)) line NameTwice in
+    let others = (append-none pictures (data_fault_if wrong line BadDataEntry ++ names) none).1 in
+    let fine : wrong ≡ false = no_fault-here wrong line BadDataEntry (append-none (data_fault_if wrong line BadDataEntry) names others).0 in
+    good-by text part.linked line reading reading.level (or_parts (not (has_form reading)) (is_bad_entry text (data_entry_of server text part)) fine).1
 
-good-parts : (server : Bool) (text : List ℕ) (parts : List Part) → faults_of_parts server text parts ≡ [] → Each (Good text) (entries_of server text parts)
+good-parts : (server : Bool) (text : List ℕ) (parts : List Part) → faults_of_parts server text parts ≡ [] → Each (Good text) (data_entries_of server text parts)
 good-parts server text [] none = tt
 good-parts server text (part ∷ parts) none =
     let both = append-none (part_faults server text part) (faults_of_parts server text parts) none in
-    Each-append (Good text) (option_to_list (entry_of server text part)) (entries_of server text parts) (good-part server text part both.0) (good-parts server text parts both.1)
+    Each-append (Good text) (option_to_list (data_entry_of server text part)) (data_entries_of server text parts) (good-part server text part both.0) (good-parts server text parts both.1)
 
 pub unless-ok : (fault : Option Fault) (value layout : Laid) → unless fault value ≡ Ok layout → (fault ≡ None) × (value ≡ layout)
 unless-ok None value layout is = (refl, cc)
@@ -117,6 +117,6 @@ Each-map P Q [] f each = tt
 Each-map P Q (entry ∷ entries) f each = (f entry each.0, Each-map P Q entries f each.1)
 
 -- its entries keep what their pictures say
-pub kept-of_layout : (text : List ℕ) (tokens : List Token) (server : Bool) (layout : Laid) → layout_of text tokens server ≡ Ok layout → All (IsKept text) (entries_in text tokens server)
+pub kept-of_layout : (text : List ℕ) (tokens : List Token) (server : Bool) (layout : Laid) → layout_of text tokens server ≡ Ok layout → All (KeepsPicture text) (entries_in text tokens server)
 kept-of_layout text tokens server layout is =
-    Each-All (IsKept text) (entries_in text tokens server) (Each-map (Good text) (IsKept text) (entries_in text tokens server) (is_kept text) (fine text tokens server layout is).good)
+    Each-All (KeepsPicture text) (entries_in text tokens server) (Each-map (Good text) (KeepsPicture text) (entries_in text tokens server) (is_kept text) (fine text tokens server layout is).good)

@@ -10,12 +10,12 @@ use Rattle.pw_base.proofs.Plain.{append-none}
 use Rattle.pw_picture.specs.declared.picture.Picture.{Picture}
 use Rattle.pw_text.specs.declared.token.Token.{Token}
 use Rattle.pw_data.specs.declared.entry.Entry.{Entry}
-use Rattle.pw_data.specs.declared.item.Table.{Table}
+use Rattle.pw_data.specs.declared.item.ItemTable.{ItemTable}
 use Rattle.pw_data.specs.declared.item.Item.{Item}
-use Rattle.pw_data.specs.Entries.{only_if, picture_at, kind_at, has_picture, has_value, has_occurs, count_at, begins_item}
+use Rattle.pw_data.specs.Entries.{data_fault_if, picture_at, kind_at, has_picture, has_value, has_occurs, count_at, begins_item}
 use Rattle.pw_data.specs.Tree.{Forest, Empty, Node, is_group, is_misplaced, tree_faults}
 use Rattle.pw_data.specs.Laid.{times, size_in, table_of, item_of, items_in, initial}
-use Rattle.pw_data.specs.Store.{Cell, joined, LiesAt, LieFrom, occurrences, cell_by, cells_in, first_of, entry_count}
+use Rattle.pw_data.specs.Store.{Cell, joined, LiesAt, LieFrom, occurrences, cell_by, cells_in, first_occurrence, entry_count}
 use Rattle.pw_data.proofs.Cells.{Good, AllIn, cells_of, length-initial, length-occurrences, length-cells_of}
 
 Lie-at : (items : List Item) (n m : ℕ) (cells : List Cell) → n ≡ m → LieFrom items n cells → LieFrom items m cells
@@ -48,10 +48,10 @@ Lie-occurrences items cells place size last each long from (suc n) some within =
     (Lie-occurrences items cells place size last each long (from + 1) n (omega arith) (omega arith)))
 
 -- the same of all occurrences of an entry, by its OCCURS
-Lie-all : (items : List Item) (cells : ℕ → List Cell) (at size k : ℕ) (around : Table) (occurs : Option ℕ)
+Lie-all : (items : List Item) (cells : ℕ → List Cell) (at size k : ℕ) (around : ItemTable) (occurs : Option ℕ)
     → ((j : ℕ) → 1 ≤ j → j ≤ max (table_of around occurs size).occurs 1 → LieFrom items (at + (j - 1) * (table_of around occurs size).step) (cells j))
     → ((j : ℕ) → length (joined (cells j)) ≡ size) → 1 ≤ k → k ≤ max around.occurs 1 → (is_some occurs ≡ true → k ≡ 1)
-    → LieFrom items (at + (k - 1) * around.step) (occurrences cells (first_of occurs k) (max (unwrap_or occurs 1) 1))
+    → LieFrom items (at + (k - 1) * around.step) (occurrences cells (first_occurrence occurs k) (max (unwrap_or occurs 1) 1))
 Lie-all items cells at size k around None each long first last alone = subst (LieFrom items (at + (k - 1) * around.step)) (sym (append-nil (cells k))) (each k first last)
 Lie-all items cells at size k around (Some n) each long first last alone =
     let is : k ≡ 1 = alone refl in
@@ -59,7 +59,7 @@ Lie-all items cells at size k around (Some n) each long first last alone =
     Lie-at items (at + (1 - 1) * size) (at + (k - 1) * around.step) (occurrences cells 1 (max n 1)) (omega arith ∙ ap (λ m. at + m * around.step) (sym none))
     (Lie-occurrences items cells at size (max n 1) each long 1 (max n 1) (omega arith) (omega arith))
 
-pub no_fault : (is_fault : Bool) (line : ℕ) (code : FaultCode) (faults : List Fault) → only_if is_fault line code ++ faults ≡ [] → (is_fault ≡ false) × (faults ≡ [])
+pub no_fault : (is_fault : Bool) (line : ℕ) (code : FaultCode) (faults : List Fault) → data_fault_if is_fault line code ++ faults ≡ [] → (is_fault ≡ false) × (faults ≡ [])
 no_fault true line code faults none = absurd cc
 no_fault false line code faults none = (refl, none)
 
@@ -96,7 +96,7 @@ has_occurs-by : (text : List ℕ) (entry : Entry) → Good text entry → is_som
 has_occurs-by text entry good is = has_count text entry.clauses.occurs (ap is_some (sym good.occurs) ∙ is)
 
 -- where the table of an entry is none, there is none around it
-table-alone : (text : List ℕ) (entry : Entry) (table : Bool) (around : Table) (size : ℕ) (occurs : Option ℕ) → occurs ≡ entry.occurs → Good text entry
+table-alone : (text : List ℕ) (entry : Entry) (table : Bool) (around : ItemTable) (size : ℕ) (occurs : Option ℕ) → occurs ≡ entry.occurs → Good text entry
     → (table ≡ false → around.occurs ≡ 0) → (table || has_occurs entry) ≡ false → (table_of around occurs size).occurs ≡ 0
 table-alone text entry table around size None is good alone none = alone (or_parts table (has_occurs entry) none).0
 table-alone text entry table around size (Some n) is good alone none =
@@ -125,15 +125,15 @@ found-at : (pre post : List Item) (item : Item) → slice_get (pre ++ item ∷ p
 found-at [] post item = refl
 found-at (x ∷ pre) post item = found-at pre post item
 
-length-items : (text : List ℕ) (at : ℕ) (around : Table) (f : Forest) → length (items_in text at around f) ≡ entry_count f
+length-items : (text : List ℕ) (at : ℕ) (around : ItemTable) (f : Forest) → length (items_in text at around f) ≡ entry_count f
 length-items text at around Empty = refl
 length-items text at around (Node e ms r) =
     let size : ℕ = e.size + size_in ms in
-    let table : Table = table_of around e.occurs size in
+    let table : ItemTable = table_of around e.occurs size in
     omega (arith, length-append (items_in text at table ms) (items_in text (at + times e * size) around r), length-items text at table ms, length-items text (at + times e * size) around r)
 
 -- one occurrence of an entry, by its picture
-Lie-one : (text : List ℕ) (items pre post : List Item) (at j : ℕ) (table : Table) (entry : Entry) (members : Forest) (inner : List Item) (p : Option Picture)
+Lie-one : (text : List ℕ) (items pre post : List Item) (at j : ℕ) (table : ItemTable) (entry : Entry) (members : Forest) (inner : List Item) (p : Option Picture)
     → Good text entry → (is_group members ≡ true → has_picture entry ≡ false) → p ≡ picture_at text entry.clauses.picture → 1 ≤ j → j ≤ max table.occurs 1
     → items ≡ pre ++ (item_of text at (entry.size + size_in members) table entry ∷ inner)
     → LieFrom items (at + (j - 1) * table.step) (cells_in text (length pre + 1) j members)
@@ -157,13 +157,13 @@ Lie-one text items pre post at j table entry members inner (Some p) good plain i
     (cell, subst (λ ms. LieFrom items (at + (j - 1) * table.step + length (initial text entry)) (cells_in text (length pre + 1) j ms)) (sym none) tt)
 
 -- the cells of trees lie one behind the other
-pub Lie-cells : (text : List ℕ) (items pre post : List Item) (top table : Bool) (at k : ℕ) (around : Table) (f : Forest) → AllIn (Good text) f → tree_faults top table f ≡ []
+pub Lie-cells : (text : List ℕ) (items pre post : List Item) (top table : Bool) (at k : ℕ) (around : ItemTable) (f : Forest) → AllIn (Good text) f → tree_faults top table f ≡ []
     → 1 ≤ k → k ≤ max around.occurs 1 → (table ≡ false → around.occurs ≡ 0) → items ≡ pre ++ (items_in text at around f ++ post)
     → LieFrom items (at + (k - 1) * around.step) (cells_in text (length pre) k f)
 Lie-cells text items pre post top table at k around Empty all none first last alone items_is = tt
 Lie-cells text items pre post top table at k around (Node e ms r) all none first last alone items_is =
     let size : ℕ = e.size + size_in ms in
-    let own : Table = table_of around e.occurs size in
+    let own : ItemTable = table_of around e.occurs size in
     let item : Item = item_of text at size own e in
     let inner : List Item = items_in text at own ms in
     let outer : List Item = items_in text (at + times e * size) around r in
@@ -183,8 +183,8 @@ Lie-cells text items pre post top table at k around (Node e ms r) all none first
     let each : (j : ℕ) → 1 ≤ j → j ≤ max own.occurs 1 → LieFrom items (at + (j - 1) * own.step) (cells_of text (length pre) e ms j) =
     λ j j_first j_last. Lie-one text items pre post at j own e ms (inner ++ (outer ++ post)) (picture_at text e.clauses.picture) good fine.plain refl j_first j_last in_front (members j j_first j_last) in
     let alone_k : is_some e.occurs ≡ true → k ≡ 1 = λ has. let outside : around.occurs ≡ 0 = alone (fine.alone (has_occurs-by text e good has)) in omega arith in
-    let long : length (joined (occurrences (cells_of text (length pre) e ms) (first_of e.occurs k) (times e))) ≡ times e * size = length-occurrences text (length pre) k e ms good all.1 in
-    Lie-append items (at + (k - 1) * around.step) (occurrences (cells_of text (length pre) e ms) (first_of e.occurs k) (times e)) (cells_in text (length pre + 1 + entry_count ms) k r)
+    let long : length (joined (occurrences (cells_of text (length pre) e ms) (first_occurrence e.occurs k) (times e))) ≡ times e * size = length-occurrences text (length pre) k e ms good all.1 in
+    Lie-append items (at + (k - 1) * around.step) (occurrences (cells_of text (length pre) e ms) (first_occurrence e.occurs k) (times e)) (cells_in text (length pre + 1 + entry_count ms) k r)
     (Lie-all items (cells_of text (length pre) e ms) at size k around e.occurs each (λ j. length-cells_of text (length pre) j e ms good all.1) first last alone_k)
     (Lie-at items (at + times e * size + (k - 1) * around.step) _ (cells_in text (length pre + 1 + entry_count ms) k r) (omega (arith, long))
     (subst (λ n. LieFrom items (at + times e * size + (k - 1) * around.step) (cells_in text n k r)) all_more

@@ -13,12 +13,12 @@ use Rattle.pw_text.specs.declared.token.TokenKind.TheVariants as kind_of_token
 use Rattle.pw_text.specs.declared.token.Token.{Token}
 use Rattle.pw_text.specs.Cursor.{Left, has_kind, spelling, is_the_word, behind}
 use Rattle.pw_data.specs.declared.literal.Literal.{Literal}
-use Rattle.pw_data.specs.declared.item.Kind.{Kind}
-use Rattle.pw_data.specs.declared.item.Kind.TheVariants as kind
-use Rattle.pw_data.specs.declared.reading.Reading.{Reading}
+use Rattle.pw_data.specs.declared.item.ItemKind.{ItemKind}
+use Rattle.pw_data.specs.declared.item.ItemKind.TheVariants as kind
+use Rattle.pw_data.specs.declared.reading.EntryParts.{EntryParts}
 use Rattle.pw_data.specs.declared.entry.Entry.{Entry}
 use Rattle.pw_data.specs.Parts.{left_of, is_table_word, Part}
-use Rattle.pw_data.specs.Literals.{whole_number, literal_of, holds}
+use Rattle.pw_data.specs.Literals.{whole_number, literal_of, picture_holds}
 use Rattle.pw_data.specs.Clauses.{no_clauses, clauses_in}
 
 -- the level that a number is: 01 to 49 and 77 are levels
@@ -31,25 +31,25 @@ level_in text token =
     if has_kind kind_of_token.Number token then option_and_then level_of (whole_number (spelling text token)) else None
 
 -- the token may be a name: a word, but in requesters not $RECEIVE
-abbrev pub is_name : Bool → List ℕ → Token → Bool
-is_name server text token =
+abbrev pub is_data_name_token : Bool → List ℕ → Token → Bool
+is_data_name_token server text token =
     has_kind kind_of_token.Word token && (server || not (is_the_word text (codes "$RECEIVE") token))
 
 -- the name that a token is, where it may be one
-abbrev pub name_in : Bool → List ℕ → Token → Option Token
-name_in server text token = if is_name server text token then Some token else None
+abbrev pub data_name_token : Bool → List ℕ → Token → Option Token
+data_name_token server text token = if is_data_name_token server text token then Some token else None
 
 -- the level, the name and the clauses of an entry, each where it has its form
-abbrev pub reading_of : Bool → Left → Reading
+abbrev pub reading_of : Bool → Left → EntryParts
 reading_of server left =
     record {
       level = option_and_then (level_in left.text) (slice_get left.tokens 0);
-      name = option_and_then (name_in server left.text) (slice_get left.tokens 1);
+      name = option_and_then (data_name_token server left.text) (slice_get left.tokens 1);
       clauses = clauses_in (behind 2 left);
     }
 
 -- the entry is a level, a name and clauses up to its period
-abbrev pub has_form : Reading → Bool
+abbrev pub has_form : EntryParts → Bool
 has_form reading = is_some reading.level && (is_some reading.name && is_some reading.clauses)
 
 -- the picture that a token is, where there is one
@@ -83,13 +83,13 @@ size_at None = 0
 size_at (Some p) = size_of p
 
 -- the kind of an item with a picture: only an Edited one has none
-abbrev pub kind_of : Picture → Option Kind
+abbrev pub kind_of : Picture → Option ItemKind
 kind_of (picture.Text size) = Some (kind.Text size)
 kind_of (picture.Number digits places signed) = Some (kind.Number digits places signed)
 kind_of (picture.Edited symbols) = None
 
 -- the entry of a level
-abbrev pub entry_with : List ℕ → Bool → ℕ → Reading → ℕ → Entry
+abbrev pub entry_with : List ℕ → Bool → ℕ → EntryParts → ℕ → Entry
 entry_with text linked line reading level =
     let clauses = unwrap_or reading.clauses no_clauses in
     record {
@@ -109,8 +109,8 @@ line_of [] = 0
 line_of (token ∷ behind) = token.line
 
 -- the entry that the tokens are, where they have a level; where the clauses have another form, it has none
-abbrev pub entry_of : Bool → List ℕ → Part → Option Entry
-entry_of server text part =
+abbrev pub data_entry_of : Bool → List ℕ → Part → Option Entry
+data_entry_of server text part =
     let reading = reading_of server (left_of text part.tokens) in
     option_map (entry_with text part.linked (line_of part.tokens) reading) reading.level
 
@@ -131,21 +131,21 @@ abbrev pub has_occurs : Entry → Bool
 has_occurs entry = is_some entry.clauses.occurs
 
 -- the kind of an entry's item
-abbrev pub kind_at : List ℕ → Entry → Option Kind
+abbrev pub kind_at : List ℕ → Entry → Option ItemKind
 kind_at text entry = option_and_then kind_of (picture_at text entry.clauses.picture)
 
 -- the picture of a kind
-abbrev pub picture_of_kind : Kind → Picture
+abbrev pub picture_of_kind : ItemKind → Picture
 picture_of_kind (kind.Text size) = picture.Text size
 picture_of_kind (kind.Number digits places signed) = picture.Number digits places signed
 
 -- the kind is that of a picture that there is
-abbrev pub IsKind : Kind → Type 0
+abbrev pub IsKind : ItemKind → Type 0
 IsKind k = IsPicture (picture_of_kind k)
 
 -- the entry keeps what its picture says
-abbrev pub IsKept : List ℕ → Entry → Type 0
-IsKept text entry = (entry.kind ≡ kind_at text entry) × ForSome entry.kind IsKind
+abbrev pub KeepsPicture : List ℕ → Entry → Type 0
+KeepsPicture text entry = (entry.kind ≡ kind_at text entry) × ForSome entry.kind IsKind
 
 -- there is a picture, but it is no Text and no Number: it is Edited, or none
 abbrev pub has_no_kind : List ℕ → Entry → Bool
@@ -155,7 +155,7 @@ has_no_kind text entry = has_picture entry && not (is_some (kind_at text entry))
 abbrev pub is_refused : Option Picture → Option Literal → Bool
 is_refused None value = false
 is_refused (Some p) None = true
-is_refused (Some p) (Some value) = not (holds p value)
+is_refused (Some p) (Some value) = not (picture_holds p value)
 
 -- the VALUE may not stand in the entry: it is in LINKAGE, or the picture cannot hold it
 abbrev pub is_bad_value : List ℕ → Entry → Option Token → Bool
@@ -182,8 +182,8 @@ abbrev pub fault : ℕ → FaultCode → Fault
 fault line code = record { line = line; code = code }
 
 -- a fault of a line, where it is one
-abbrev pub only_if : Bool → ℕ → FaultCode → List Fault
-only_if is_fault line code = if is_fault then fault line code ∷ [] else []
+abbrev pub data_fault_if : Bool → ℕ → FaultCode → List Fault
+data_fault_if is_fault line code = if is_fault then fault line code ∷ [] else []
 
 -- BadPicture for a picture that is none
 -- BadDataEntry for an entry of another form, and for a clause that may not stand in it
@@ -192,14 +192,14 @@ abbrev pub part_faults : Bool → List ℕ → Part → List Fault
 part_faults server text part =
     let reading = reading_of server (left_of text part.tokens) in
     let line = line_of part.tokens in
-    only_if (list_any (is_bad_picture text) part.tokens) line BadPicture
-    ++ (only_if (not (has_form reading) || is_bad_entry text (entry_of server text part)) line BadDataEntry
-    ++ only_if (has_table_name server text (option_and_then (proper_name text) reading.name)) line NameTwice)
+    data_fault_if (list_any (is_bad_picture text) part.tokens) line BadPicture
+    ++ (data_fault_if (not (has_form reading) || is_bad_entry text (data_entry_of server text part)) line BadDataEntry
+    ++ data_fault_if (has_table_name server text (option_and_then (proper_name text) reading.name)) line NameTwice)
 
 -- the faults that are read off the entries one by one
 abbrev pub faults_of_parts : Bool → List ℕ → List Part → List Fault
 faults_of_parts server text parts = flat_map (part_faults server text) parts
 
 -- the entries that have a level
-abbrev pub entries_of : Bool → List ℕ → List Part → List Entry
-entries_of server text parts = flat_map (λ part. option_to_list (entry_of server text part)) parts
+abbrev pub data_entries_of : Bool → List ℕ → List Part → List Entry
+data_entries_of server text parts = flat_map (λ part. option_to_list (data_entry_of server text part)) parts

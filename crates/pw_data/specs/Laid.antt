@@ -12,7 +12,7 @@ use Rattle.pw_base.specs.Limits.{most_storage}
 use Rattle.pw_data.specs.declared.literal.Literal.{Literal}
 use Rattle.pw_data.specs.declared.literal.Literal.TheVariants as literal
 use Rattle.pw_data.specs.declared.entry.Entry.{Entry}
-use Rattle.pw_data.specs.declared.item.Table.{Table}
+use Rattle.pw_data.specs.declared.item.ItemTable.{ItemTable}
 use Rattle.pw_data.specs.declared.item.Item.{Item}
 use Rattle.pw_data.specs.Literals.{literal_of}
 use Rattle.pw_data.specs.Entries.{picture_at, kind_at}
@@ -36,12 +36,12 @@ too_large before (Node entry members behind) =
     if nat_lt most_storage size then Some (record { line = entry.line; code = StorageTooLarge }) else too_large size behind
 
 -- the table in which an entry stands, of occurrences of a size: that of its own OCCURS, or the one around it
-abbrev pub table_of : Table → Option ℕ → ℕ → Table
+abbrev pub table_of : ItemTable → Option ℕ → ℕ → ItemTable
 table_of around None size = around
 table_of around (Some occurs) size = record { occurs = occurs; step = size }
 
 -- the item of an entry that lies at a place and has a size
-abbrev pub item_of : List ℕ → ℕ → ℕ → Table → Entry → Item
+abbrev pub item_of : List ℕ → ℕ → ℕ → ItemTable → Entry → Item
 item_of text at size table entry = record {
   name = name_of text entry;
   level = entry.level;
@@ -54,7 +54,7 @@ item_of text at size table entry = record {
 }
 
 -- the items of trees from a place on, one behind the other, in the order of their entries
-abbrev pub items_in : List ℕ → ℕ → Table → Forest → List Item
+abbrev pub items_in : List ℕ → ℕ → ItemTable → Forest → List Item
 items_in text at around Empty = []
 items_in text at around (Node entry members behind) =
     let size = entry.size + size_in members in
@@ -69,17 +69,17 @@ text_in (Some (literal.Text chars)) = chars
 text_in (Some (literal.Number n)) = []
 
 -- the number of a VALUE that is one, and else zero
-abbrev pub number_in : Option Literal → Number
-number_in None = number (pos 0) 0
-number_in (Some (literal.Text chars)) = number (pos 0) 0
-number_in (Some (literal.Number n)) = n
+abbrev pub initial_number : Option Literal → Number
+initial_number None = number (pos 0) 0
+initial_number (Some (literal.Text chars)) = number (pos 0) 0
+initial_number (Some (literal.Number n)) = n
 
 -- the characters with which an item of a picture begins: its VALUE as MOVE puts it, and without one spaces or zero
 abbrev pub initial_by : Option Literal → Option Picture → List ℕ
 initial_by value None = []
 initial_by value (Some (picture.Text size)) = fitted size (text_in value)
 initial_by value (Some (picture.Number digits places signed)) =
-    moved (picture.Number digits places signed) (number_in value)
+    moved (picture.Number digits places signed) (initial_number value)
 initial_by value (Some (picture.Edited symbols)) = []
 
 -- the characters with which an entry's item begins, and none for a group

@@ -8,11 +8,11 @@ use Rattle.pw_text.specs.declared.token.Token.{Token}
 use Rattle.pw_picture.specs.Grammar.{IsPicture, size_of}
 use Rattle.pw_base.specs.Limits.{most_storage}
 use Rattle.pw_data.specs.declared.entry.Entry.{Entry}
-use Rattle.pw_data.specs.declared.item.Table.{Table}
+use Rattle.pw_data.specs.declared.item.ItemTable.{ItemTable}
 use Rattle.pw_data.specs.declared.item.Item.{Item}
 use Rattle.pw_data.specs.declared.item.Place.{Place}
 use Rattle.pw_data.specs.Parts.{parts_of}
-use Rattle.pw_data.specs.Entries.{picture_of_kind, faults_of_parts, entries_of}
+use Rattle.pw_data.specs.Entries.{picture_of_kind, faults_of_parts, data_entries_of}
 use Rattle.pw_data.specs.Tree.{forest, tree_faults}
 use Rattle.pw_data.specs.Names.{is_this_name, clashes}
 use Rattle.pw_data.specs.Laid.{too_large, items_in, chars_in}
@@ -33,8 +33,8 @@ FitsPicture item =
 
 -- Every occurrence of every item lies in the storage, which has at most 32,000 characters, and an item with a picture
 -- is as long as it says.
-abbrev pub IsSound : List Item → List ℕ → Type 0
-IsSound items storage = All (EndsBy (length storage)) items × All FitsPicture items × (length storage ≤ most_storage)
+abbrev pub IsSoundStorage : List Item → List ℕ → Type 0
+IsSoundStorage items storage = All (EndsBy (length storage)) items × All FitsPicture items × (length storage ≤ most_storage)
 
 -- the last occurrence of what lies at a place of the storage ends before another place
 abbrev pub PlaceEndsBy : ℕ → Place → Type 0
@@ -60,7 +60,7 @@ abbrev pub place_of : Laid → Word → Option Place
 place_of laid name = option_map place_at (find (λ item. is_this_name item.name name) laid.items)
 
 -- outside each OCCURS
-abbrev pub no_table : Table
+abbrev pub no_table : ItemTable
 no_table = record { occurs = 0; step = 0 }
 
 -- the layout of entries
@@ -70,7 +70,7 @@ laid text entries =
 
 -- the entries that the tokens are
 abbrev pub entries_in : List ℕ → List Token → Bool → List Entry
-entries_in text tokens server = entries_of server text (parts_of text tokens)
+entries_in text tokens server = data_entries_of server text (parts_of text tokens)
 
 -- the faults of the places and the names of entries
 abbrev pub faults_among : List ℕ → List Entry → List Fault

@@ -47,13 +47,13 @@ number_with signed front places =
     else None
 
 -- the number that a literal is
-abbrev pub number_of : List ℕ → Option Number
-number_of bytes = number_with (has_sign bytes) (before_point bytes) (behind_point bytes)
+abbrev pub number_of_literal : List ℕ → Option Number
+number_of_literal bytes = number_with (has_sign bytes) (before_point bytes) (behind_point bytes)
 
 -- the literal of these bytes
 abbrev pub literal_by : TokenKind → List ℕ → Option Literal
 literal_by kind.Text bytes = Some (literal.Text (unquoted false bytes))
-literal_by kind.Number bytes = option_map literal.Number (number_of bytes)
+literal_by kind.Number bytes = option_map literal.Number (number_of_literal bytes)
 literal_by _ bytes = None
 
 -- the literal that a token is
@@ -65,9 +65,9 @@ abbrev pub holds_number : Picture → Number → Bool
 holds_number p n = is_kept p n && is_eq (order (read_of p (moved p n)) n)
 
 -- an item of the picture holds the literal unchanged, up to padding
-abbrev pub holds : Picture → Literal → Bool
-holds (picture.Text size) (literal.Text chars) = nat_le (length chars) size
-holds (picture.Text size) (literal.Number n) = false
-holds (picture.Number digits places signed) (literal.Text chars) = false
-holds (picture.Number digits places signed) (literal.Number n) = holds_number (picture.Number digits places signed) n
-holds (picture.Edited symbols) value = false
+abbrev pub picture_holds : Picture → Literal → Bool
+picture_holds (picture.Text size) (literal.Text chars) = nat_le (length chars) size
+picture_holds (picture.Text size) (literal.Number n) = false
+picture_holds (picture.Number digits places signed) (literal.Text chars) = false
+picture_holds (picture.Number digits places signed) (literal.Number n) = holds_number (picture.Number digits places signed) n
+picture_holds (picture.Edited symbols) value = false

@@ -8,7 +8,7 @@ use Rattle.pw_words.specs.Words.{Word, same_word}
 use Rattle.pw_words.specs.Names.{has_name as has_name_as_written}
 use Rattle.pw_data.specs.declared.entry.Entry.{Entry}
 use Rattle.pw_text.specs.Cursor.{spelling}
-use Rattle.pw_data.specs.Entries.{only_if}
+use Rattle.pw_data.specs.Entries.{data_fault_if}
 
 -- the name of an entry, where it has one
 abbrev pub name_of : List ℕ → Entry → Option Word
@@ -37,4 +37,4 @@ HasNamesOf text entries names =
 abbrev pub clashes : List ℕ → List Entry → List Entry → List Fault
 clashes text before [] = []
 clashes text before (entry ∷ entries) =
-    only_if (is_taken text before (name_of text entry)) entry.line NameTwice ++ clashes text (before ++ entry ∷ []) entries
+    data_fault_if (is_taken text before (name_of text entry)) entry.line NameTwice ++ clashes text (before ++ entry ∷ []) entries

@@ -1,6 +1,6 @@
 -- The tokens of the data sections, cut into entries.
 use Rattle.std.specs.Prelude.{ℕ, zero, suc, ◌+◌, ◌-◌, List, [], ◌∷◌, Bool, true, false, ◌&&◌, ◌||◌, is_some, codes, take, if◌then◌else◌}
-use Rattle.pw_words.specs.Words.{Word, place_of}
+use Rattle.pw_words.specs.Words.{Word, word_place}
 use Rattle.pw_words.specs.Texts.{requester_words, server_words}
 use Rattle.pw_text.specs.declared.token.TokenKind.TheVariants as kind
 use Rattle.pw_text.specs.declared.token.Token.{Token}
@@ -8,8 +8,8 @@ use Rattle.pw_text.specs.Cursor.{Left, has_kind, sees, sees_word, behind}
 
 -- the word is in the table of servers, or in that of requesters
 unfoldable pub is_table_word : Bool → Word → Bool
-is_table_word true word = is_some (place_of server_words word)
-is_table_word false word = is_some (place_of requester_words word)
+is_table_word true word = is_some (word_place server_words word)
+is_table_word false word = is_some (word_place requester_words word)
 
 -- what is left of a text
 abbrev pub left_of : List ℕ → List Token → Left

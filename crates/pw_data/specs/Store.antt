@@ -71,9 +71,9 @@ cell_by item occurrence chars None = []
 cell_by item occurrence chars (Some p) = (record { item = item; occurrence = occurrence; chars = chars }) ∷ []
 
 -- the first occurrence of an entry: 1 where it has OCCURS, and else that of what it stands in
-abbrev pub first_of : Option ℕ → ℕ → ℕ
-first_of None around = around
-first_of (Some occurs) around = 1
+abbrev pub first_occurrence : Option ℕ → ℕ → ℕ
+first_occurrence None around = around
+first_occurrence (Some occurs) around = 1
 
 -- the cells with which trees begin in one occurrence of what they stand in. item: the place of the first entry.
 abbrev pub cells_in : List ℕ → ℕ → ℕ → Forest → List Cell
@@ -82,7 +82,7 @@ cells_in text item around (Node entry members behind) =
     occurrences
     (λ occurrence. cell_by item occurrence (initial text entry) (picture_at text entry.clauses.picture)
     ++ cells_in text (item + 1) occurrence members)
-    (first_of entry.occurs around) (times entry)
+    (first_occurrence entry.occurs around) (times entry)
     ++ cells_in text (item + 1 + entry_count members) around behind
 
 -- the store with which the data begin

@@ -5,7 +5,7 @@ use Rattle.pw_base.specs.declared.fault.Fault.{Fault}
 use Rattle.pw_data.specs.declared.entry.Entry.{Entry}
 use Rattle.pw_data.specs.declared.tree.Within.{Within}
 use Rattle.pw_data.specs.declared.tree.Within.TheVariants as within
-use Rattle.pw_data.specs.Entries.{begins_item, has_picture, has_value, has_occurs, only_if}
+use Rattle.pw_data.specs.Entries.{begins_item, has_picture, has_value, has_occurs, data_fault_if}
 
 -- the two stand in one section
 abbrev pub same_section : Entry → Entry → Bool
@@ -67,5 +67,5 @@ in_table within.Table = true
 abbrev pub tree_faults : Bool → Bool → Forest → List Fault
 tree_faults top table Empty = []
 tree_faults top table (Node entry members behind) =
-    only_if (is_misplaced top table (is_group members) entry) entry.line BadDataEntry
+    data_fault_if (is_misplaced top table (is_group members) entry) entry.line BadDataEntry
     ++ (tree_faults false (table || has_occurs entry) members ++ tree_faults top table behind)

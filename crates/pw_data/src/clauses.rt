@@ -1,5 +1,5 @@
 ghost use Rattle.std.specs.Prelude.{◌≡◌, ◌<◌, ◌≤◌, ◌||◌, IsSome, length, codes};
-ghost use Rattle.pw_text.specs.Cursor.{Reads, sees_word, after};
+ghost use Rattle.pw_text.specs.Cursor.{ReadsTokens, sees_word, after_token};
 ghost use Rattle.pw_data.specs.Clauses.{no_clauses, added, literal, picture_clause, value_clause, occurs_clause, one_clause, is_end, clauses_in};
 
 use pw_text::cursor::Cursor;
@@ -8,7 +8,7 @@ use pw_text::token::{Token, TokenKind};
 /// The clauses of an entry, each by the token that says what it is: the picture, the literal of its
 /// VALUE, and the number of its OCCURS.
 #[derive(Clone, Copy)]
-pub struct Clauses {
+pub struct DataClauses {
     pub picture: Option<Token>,
     pub value: Option<Token>,
     pub occurs: Option<Token>,
@@ -16,18 +16,18 @@ pub struct Clauses {
 
 /// One clause.
 #[derive(Clone, Copy)]
-pub enum Clause {
+pub enum DataClause {
     Picture(Token),
     Value(Token),
     Occurs(Token),
 }
 
-impl Clauses {
+impl DataClauses {
     /// No clause.
-    pub fn none() -> Clauses
+    pub fn none() -> DataClauses
         ensures { result ≡ no_clauses }
     {
-        Clauses {
+        DataClauses {
             picture: None,
             value: None,
             occurs: None,
@@ -35,27 +35,27 @@ impl Clauses {
     }
 
     /// The clause and those before it. It is None where one of them is of its kind.
-    fn with(self, clause: Clause) -> Option<Clauses>
+    fn with(self, clause: DataClause) -> Option<DataClauses>
         ensures { result ≡ added self clause }
     {
         match clause {
-            Clause::Picture(token) => match self.picture {
+            DataClause::Picture(token) => match self.picture {
                 Some(_) => None,
-                None => Some(Clauses {
+                None => Some(DataClauses {
                     picture: Some(token),
                     ..self
                 }),
             },
-            Clause::Value(token) => match self.value {
+            DataClause::Value(token) => match self.value {
                 Some(_) => None,
-                None => Some(Clauses {
+                None => Some(DataClauses {
                     value: Some(token),
                     ..self
                 }),
             },
-            Clause::Occurs(token) => match self.occurs {
+            DataClause::Occurs(token) => match self.occurs {
                 Some(_) => None,
-                None => Some(Clauses {
+                None => Some(DataClauses {
                     occurs: Some(token),
                     ..self
                 }),
@@ -66,7 +66,7 @@ impl Clauses {
 
 /// Takes the next token, which has to be a literal.
 fn literal(cursor: &mut Cursor<'_>) -> Option<Token>
-    ensures value { Reads (literal cursor.old) result cursor.new }
+    ensures value { ReadsTokens (literal cursor.old) result cursor.new }
     ensures shorter { length cursor.new.tokens ≤ length cursor.old.tokens }
 {
     if cursor.sees(TokenKind::Number) {
@@ -77,38 +77,38 @@ fn literal(cursor: &mut Cursor<'_>) -> Option<Token>
 }
 
 /// Reads what is behind PIC: a picture, and an IS before it or none.
-fn picture_clause(cursor: &mut Cursor<'_>) -> Option<Clause>
-    ensures value { Reads (picture_clause cursor.old) result cursor.new }
+fn picture_clause(cursor: &mut Cursor<'_>) -> Option<DataClause>
+    ensures value { ReadsTokens (picture_clause cursor.old) result cursor.new }
     ensures shorter { length cursor.new.tokens ≤ length cursor.old.tokens }
 {
     let _is = cursor.eat_word(b"IS");
-    Some(Clause::Picture(cursor.expect(TokenKind::Picture)?))
+    Some(DataClause::Picture(cursor.expect(TokenKind::Picture)?))
 }
 
 /// Reads what is behind VALUE: a literal, and an IS before it or none.
-fn value_clause(cursor: &mut Cursor<'_>) -> Option<Clause>
-    ensures value { Reads (value_clause cursor.old) result cursor.new }
+fn value_clause(cursor: &mut Cursor<'_>) -> Option<DataClause>
+    ensures value { ReadsTokens (value_clause cursor.old) result cursor.new }
     ensures shorter { length cursor.new.tokens ≤ length cursor.old.tokens }
 {
     let _is = cursor.eat_word(b"IS");
-    Some(Clause::Value(literal(cursor)?))
+    Some(DataClause::Value(literal(cursor)?))
 }
 
 /// Reads what is behind OCCURS: a number, and a TIMES behind it or none.
-fn occurs_clause(cursor: &mut Cursor<'_>) -> Option<Clause>
-    ensures value { Reads (occurs_clause cursor.old) result cursor.new }
+fn occurs_clause(cursor: &mut Cursor<'_>) -> Option<DataClause>
+    ensures value { ReadsTokens (occurs_clause cursor.old) result cursor.new }
     ensures shorter { length cursor.new.tokens ≤ length cursor.old.tokens }
 {
     let token = cursor.expect(TokenKind::Number)?;
     let _times = cursor.eat_word(b"TIMES");
-    Some(Clause::Occurs(token))
+    Some(DataClause::Occurs(token))
 }
 
 /// Takes the word PIC or PICTURE, if it comes next. It gives whether it does. Else the cursor stays
 /// where it is (docs/DATA.md).
 pub fn eat_pic(cursor: &mut Cursor<'_>) -> bool
     ensures found { result ≡ (sees_word (codes "PIC") cursor.old || sees_word (codes "PICTURE") cursor.old) }
-    ensures left { cursor.new ≡ after (sees_word (codes "PIC") cursor.old || sees_word (codes "PICTURE") cursor.old) cursor.old }
+    ensures left { cursor.new ≡ after_token (sees_word (codes "PIC") cursor.old || sees_word (codes "PICTURE") cursor.old) cursor.old }
 {
     let found = cursor.sees_word(b"PIC") || cursor.sees_word(b"PICTURE");
     if found {
@@ -118,8 +118,8 @@ pub fn eat_pic(cursor: &mut Cursor<'_>) -> bool
 }
 
 /// Reads the clause in front.
-fn one_clause(cursor: &mut Cursor<'_>) -> Option<Clause>
-    ensures value { Reads (one_clause cursor.old) result cursor.new }
+fn one_clause(cursor: &mut Cursor<'_>) -> Option<DataClause>
+    ensures value { ReadsTokens (one_clause cursor.old) result cursor.new }
     ensures shorter { IsSome result → length cursor.new.tokens < length cursor.old.tokens }
 {
     if eat_pic(cursor) {
@@ -145,10 +145,10 @@ pub fn is_end(cursor: &Cursor<'_>) -> bool
 
 /// The clauses up to a period that is the last token. It is None where they have another form, or two
 /// of them are of one kind.
-pub fn clauses_in(cursor: &Cursor<'_>) -> Option<Clauses>
+pub fn clauses_in(cursor: &Cursor<'_>) -> Option<DataClauses>
     ensures { result ≡ clauses_in cursor.now }
 {
-    let mut found = Clauses::none();
+    let mut found = DataClauses::none();
     let mut ahead = cursor.fork();
     while !is_end(&ahead) {
         let one = one_clause(&mut ahead)?;

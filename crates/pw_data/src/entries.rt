@@ -3,12 +3,12 @@ ghost use Rattle.std.specs.List.{list_any};
 ghost use Rattle.pw_base.specs.declared.fault_code.FaultCode.TheVariants.{BadPicture, BadDataEntry, NameTwice};
 ghost use Rattle.pw_base.specs.First.{least};
 ghost use Rattle.pw_data.specs.Parts.{part_of, parts_from, parts_of};
-ghost use Rattle.pw_data.specs.Entries.{picture_at, is_bad_picture, has_table_name, line_of, entry_of, only_if, part_faults, faults_of_parts, entries_of};
+ghost use Rattle.pw_data.specs.Entries.{picture_at, is_bad_picture, has_table_name, line_of, data_entry_of, data_fault_if, part_faults, faults_of_parts, data_entries_of};
 
-use crate::clauses::Clauses;
+use crate::clauses::DataClauses;
 use crate::entry::{Entry, entry_of, picture_at, proper_name};
 use crate::parts::{is_heading, take_entry, take_heading};
-use crate::reading::Reading;
+use crate::reading::EntryParts;
 use crate::words::is_table_word;
 use pw_base::fault::{Fault, noted};
 use pw_base::fault_code::FaultCode;
@@ -91,8 +91,8 @@ struct OwnFaults {
 impl OwnFaults {
     /// The first of the fault that is known and of these on a line.
     fn noted(self, known: Option<Fault>, line: u32) -> Option<Fault>
-        ensures { result ≡ least known (only_if self.picture line BadPicture
-            ++ (only_if self.entry line BadDataEntry ++ only_if self.name line NameTwice)) }
+        ensures { result ≡ least known (data_fault_if self.picture line BadPicture
+            ++ (data_fault_if self.entry line BadDataEntry ++ data_fault_if self.name line NameTwice)) }
     {
         let known = noted(
             known,
@@ -148,16 +148,16 @@ pub struct Found {
 /// that may not stand there, 122 for a table word as a name.
 fn read_part(alloc: Global, part: &Cursor<'_>, found: &mut Found) -> Result<(), Memory>
     ensures entries { OnOk result (found.new.entries.items ≡ found.old.entries.items
-        ++ option_to_list (entry_of found.old.server part.now.text (part_of found.old.linked part.now.tokens))) }
+        ++ option_to_list (data_entry_of found.old.server part.now.text (part_of found.old.linked part.now.tokens))) }
     ensures faults { OnOk result (found.new.known
         ≡ least found.old.known (part_faults found.old.server part.now.text (part_of found.old.linked part.now.tokens))) }
     ensures server { found.new.server ≡ found.old.server }
     ensures linked { found.new.linked ≡ found.old.linked }
 {
     let text = part.text();
-    let reading = Reading::new(found.server, part);
+    let reading = EntryParts::new(found.server, part);
     let line = line_of(part.tokens());
-    let clauses = reading.clauses.unwrap_or(Clauses::none());
+    let clauses = reading.clauses.unwrap_or(DataClauses::none());
     let picture = picture_at(alloc, text, clauses.picture)?;
     let (entry, bad) = entry_of(alloc, text, found.linked, line, reading, &picture)?;
     push_entry(&mut found.entries, entry)?;
@@ -177,9 +177,9 @@ fn read_next(alloc: Global, cursor: &mut Cursor<'_>, found: &mut Found) -> Resul
     ensures shorter { OnOk result (length cursor.new.tokens < length cursor.old.tokens) }
     ensures server { found.new.server ≡ found.old.server }
     ensures entries { OnOk result (found.new.entries.items
-        ++ entries_of found.old.server cursor.old.text (parts_from cursor.old.text found.new.linked 0 cursor.new.tokens)
+        ++ data_entries_of found.old.server cursor.old.text (parts_from cursor.old.text found.new.linked 0 cursor.new.tokens)
         ≡ found.old.entries.items
-        ++ entries_of found.old.server cursor.old.text (parts_from cursor.old.text found.old.linked 0 cursor.old.tokens)) }
+        ++ data_entries_of found.old.server cursor.old.text (parts_from cursor.old.text found.old.linked 0 cursor.old.tokens)) }
     ensures faults { OnOk result (least found.new.known
         (faults_of_parts found.old.server cursor.old.text (parts_from cursor.old.text found.new.linked 0 cursor.new.tokens))
         ≡ least found.old.known
@@ -202,7 +202,7 @@ pub fn read_entries(
     text: &[u8],
     tokens: &[Token],
 ) -> Result<(Vec<Entry>, Option<Fault>), Memory>
-    ensures entries { IfOk result (λ read. read.0.items ≡ entries_of server text.now (parts_of text.now tokens.now)) }
+    ensures entries { IfOk result (λ read. read.0.items ≡ data_entries_of server text.now (parts_of text.now tokens.now)) }
     ensures faults { IfOk result (λ read.
         read.1 ≡ least None (faults_of_parts server text.now (parts_of text.now tokens.now))) }
 {

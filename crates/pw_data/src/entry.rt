@@ -3,10 +3,10 @@ ghost use Rattle.pw_picture.specs.Grammar.{IsPicture};
 ghost use Rattle.pw_data.specs.Clauses.{no_clauses};
 ghost use Rattle.pw_data.specs.Entries.{picture_at, proper_name, count_at, size_at, entry_with, begins_item, has_picture, has_value, has_occurs, has_no_kind, is_refused, is_bad_value, is_bad_occurs, has_bad_clause, is_bad_entry, fault};
 
-use crate::clauses::Clauses;
-use crate::item::{Kind, kind_at};
+use crate::clauses::DataClauses;
+use crate::item::{ItemKind, kind_at};
 use crate::literal::{Literal, holds, literal_of, whole_number};
-use crate::reading::Reading;
+use crate::reading::EntryParts;
 use pw_base::fault::Fault;
 use pw_base::fault_code::FaultCode;
 use pw_base::memory::Memory;
@@ -27,9 +27,9 @@ pub struct Entry {
     /// None for FILLER.
     pub name: Option<Token>,
     /// None where the entry is of another form.
-    pub clauses: Clauses,
+    pub clauses: DataClauses,
     /// What the item holds by its picture, None without one and for one that is Edited.
-    pub kind: Option<Kind>,
+    pub kind: Option<ItemKind>,
     /// The size of the item that its picture says, 0 without one.
     pub size: u16,
     /// The number of its OCCURS, where it is 1 to 1,000.
@@ -202,7 +202,7 @@ pub fn entry_of(
     text: &[u8],
     linked: bool,
     line: u32,
-    reading: Reading,
+    reading: EntryParts,
     picture: &Option<Picture>,
 ) -> Result<(Option<Entry>, bool), Memory>
     requires picture { picture.now ≡ picture_at text.now (unwrap_or reading.clauses no_clauses).picture }
@@ -213,7 +213,7 @@ pub fn entry_of(
     let Some(level) = reading.level else {
         return Ok((None, false));
     };
-    let clauses = reading.clauses.unwrap_or(Clauses::none());
+    let clauses = reading.clauses.unwrap_or(DataClauses::none());
     let entry = Entry {
         line,
         level,

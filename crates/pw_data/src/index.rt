@@ -3,7 +3,7 @@ ghost use Rattle.pw_base.specs.Limits.{longest_word};
 ghost use Rattle.std.specs.Option.{option_or};
 ghost use Rattle.std.specs.Str.{str_to_ascii_lowercase};
 ghost use Rattle.pw_words.specs.Words.{same_word};
-ghost use Rattle.pw_data.specs.Index.{number_of, IsIndexOf, Indexes};
+ghost use Rattle.pw_data.specs.Index.{indexed_item_number, IsItemIndexOf, Indexes};
 
 use crate::item::Item;
 use crate::names::in_lower_case;
@@ -13,12 +13,12 @@ use pw_text::token::MAX_WORD;
 use std::alloc::Global;
 
 /// The number of the first item of each name, from 0, by the name in lower case.
-pub type Index = IndexMap<Vec<u8>, usize>;
+pub type ItemIndex = IndexMap<Vec<u8>, usize>;
 
 /// Puts the number of a name, unless the name is there.
-fn put_number(alloc: Global, name: &[u8], number: usize, index: &mut Index) -> Result<(), Memory>
-    ensures { OnOk result ((word : List ℕ) → number_of index.new word
-        ≡ option_or (number_of index.old word) (if same_word name.now word then Some number else None)) }
+fn put_number(alloc: Global, name: &[u8], number: usize, index: &mut ItemIndex) -> Result<(), Memory>
+    ensures { OnOk result ((word : List ℕ) → indexed_item_number index.new word
+        ≡ option_or (indexed_item_number index.old word) (if same_word name.now word then Some number else None)) }
 {
     let key = in_lower_case(alloc, name)?;
     if !index.contains_key(key.as_slice()) {
@@ -28,7 +28,7 @@ fn put_number(alloc: Global, name: &[u8], number: usize, index: &mut Index) -> R
 }
 
 /// Puts the number of an item under its name, where it has one that is not there.
-fn put_item(alloc: Global, item: &Item, number: usize, index: &mut Index) -> Result<(), Memory>
+fn put_item(alloc: Global, item: &Item, number: usize, index: &mut ItemIndex) -> Result<(), Memory>
     ensures { OnOk result (Indexes item.now.name number index.old index.new) }
 {
     match &item.name {
@@ -38,8 +38,8 @@ fn put_item(alloc: Global, item: &Item, number: usize, index: &mut Index) -> Res
 }
 
 /// The index of items.
-pub fn index_of(alloc: Global, items: &[Item]) -> Result<Index, Memory>
-    ensures { IfOk result (λ index. IsIndexOf index items.now) }
+pub fn index_of(alloc: Global, items: &[Item]) -> Result<ItemIndex, Memory>
+    ensures { IfOk result (λ index. IsItemIndexOf index items.now) }
 {
     let mut index = IndexMap::new(alloc);
     let mut number = 0;
@@ -65,9 +65,9 @@ fn folded(name: &[u8]) -> [u8; MAX_WORD]
 }
 
 /// What the index has for a name of at most 30 characters. It takes no memory.
-pub fn number_of(index: &Index, name: &[u8]) -> Option<usize>
+pub fn number_of(index: &ItemIndex, name: &[u8]) -> Option<usize>
     requires { length name.now ≤ longest_word }
-    ensures { result ≡ number_of index.now name.now }
+    ensures { result ≡ indexed_item_number index.now name.now }
 {
     let folded = folded(name);
     index.get(&folded[..name.len()]).copied()

@@ -8,7 +8,7 @@ use pw_picture::picture::Picture;
 /// last `places` are decimals, behind a sign where it is `signed`. It is the item's picture, which is a
 /// Text or a Number.
 #[derive(Clone, Copy, Debug, PartialEq, Eq)]
-pub enum Kind {
+pub enum ItemKind {
     Text {
         size: u16,
     },
@@ -19,14 +19,14 @@ pub enum Kind {
     },
 }
 
-impl Kind {
+impl ItemKind {
     /// The picture that says this.
     pub fn picture(self) -> Picture
         ensures { result ≡ picture_of_kind self }
     {
         match self {
-            Kind::Text { size } => Picture::Text { size },
-            Kind::Number {
+            ItemKind::Text { size } => Picture::Text { size },
+            ItemKind::Number {
                 digits,
                 places,
                 signed,
@@ -40,16 +40,16 @@ impl Kind {
 }
 
 /// The kind of an item with a picture. It is None for an Edited one.
-fn kind_of(picture: &Picture) -> Option<Kind>
+fn kind_of(picture: &Picture) -> Option<ItemKind>
     ensures { result ≡ kind_of picture.now }
 {
     match picture {
-        Picture::Text { size } => Some(Kind::Text { size: *size }),
+        Picture::Text { size } => Some(ItemKind::Text { size: *size }),
         Picture::Number {
             digits,
             places,
             signed,
-        } => Some(Kind::Number {
+        } => Some(ItemKind::Number {
             digits: *digits,
             places: *places,
             signed: *signed,
@@ -59,7 +59,7 @@ fn kind_of(picture: &Picture) -> Option<Kind>
 }
 
 /// The kind of an item with a picture, and none without one.
-pub fn kind_at(picture: &Option<Picture>) -> Option<Kind>
+pub fn kind_at(picture: &Option<Picture>) -> Option<ItemKind>
     ensures { result ≡ option_and_then kind_of picture.now }
 {
     let picture = picture.as_ref()?;
@@ -69,7 +69,7 @@ pub fn kind_at(picture: &Option<Picture>) -> Option<Kind>
 /// The table in which an item stands: how often it occurs, and how many characters lie from one
 /// occurrence to the next. Both are 0 outside each OCCURS.
 #[derive(Clone, Copy, Debug, PartialEq, Eq)]
-pub struct Table {
+pub struct ItemTable {
     pub occurs: u16,
     pub step: u32,
 }
@@ -84,7 +84,7 @@ pub struct Item {
     /// Whether it stands in LINKAGE.
     pub linked: bool,
     /// None for a group.
-    pub kind: Option<Kind>,
+    pub kind: Option<ItemKind>,
     /// Where its first occurrence begins in the storage.
     pub at: u32,
     /// How many characters one occurrence has. A group is as long as its members with their

@@ -1,12 +1,12 @@
 ghost use Rattle.std.specs.Prelude.{◌≡◌, ◌++◌, ◌+◌, ◌≤◌, All, IfOk, OnOk};
 ghost use Rattle.pw_base.specs.Limits.{most_storage};
-ghost use Rattle.pw_data.specs.Entries.{IsKept};
+ghost use Rattle.pw_data.specs.Entries.{KeepsPicture};
 ghost use Rattle.pw_data.specs.Tree.{forest};
 ghost use Rattle.pw_data.specs.Names.{name_of};
 ghost use Rattle.pw_data.specs.Laid.{size_in, table_of, item_of, items_in};
 
 use crate::entry::Entry;
-use crate::item::{Item, Table};
+use crate::item::{Item, ItemTable};
 use crate::names::name_of;
 use crate::tree::size_of;
 use pw_base::bytes::Bytes;
@@ -14,11 +14,11 @@ use pw_base::memory::Memory;
 use std::alloc::Global;
 
 /// The table in which an entry stands: that of its own OCCURS, or the one around it.
-fn table_of(around: Table, occurs: Option<u16>, size: u32) -> Table
+fn table_of(around: ItemTable, occurs: Option<u16>, size: u32) -> ItemTable
     ensures { result ≡ table_of around occurs size }
 {
     match occurs {
-        Some(occurs) => Table { occurs, step: size },
+        Some(occurs) => ItemTable { occurs, step: size },
         None => around,
     }
 }
@@ -39,10 +39,10 @@ fn item_of(
     text: &[u8],
     at: u32,
     size: u32,
-    table: Table,
+    table: ItemTable,
     entry: Entry,
 ) -> Result<Item, Memory>
-    requires { IsKept text.now entry }
+    requires { KeepsPicture text.now entry }
     ensures { IfOk result (λ item. item ≡ item_of text.now at size table entry) }
 {
     Ok(Item {
@@ -63,12 +63,12 @@ pub fn lay(
     alloc: Global,
     text: &[u8],
     at: u32,
-    around: Table,
+    around: ItemTable,
     entries: &[Entry],
     items: &mut Vec<Item>,
 ) -> Result<(), Memory>
     requires size { at + size_in (forest entries.now) ≤ most_storage }
-    requires kept { All (IsKept text.now) entries.now }
+    requires kept { All (KeepsPicture text.now) entries.now }
     ensures { OnOk result (items.new.items ≡ items.old.items ++ items_in text.now at around (forest entries.now)) }
 {
     let mut at = at;

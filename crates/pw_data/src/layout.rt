@@ -1,9 +1,9 @@
 ghost use Rattle.std.specs.Prelude.{◌≡◌, ◌≤◌, length, find, All, IfOk, IfSome, option_copied};
 ghost use Rattle.pw_base.specs.Limits.{most_storage};
 ghost use Rattle.pw_data.specs.Names.{is_this_name};
-ghost use Rattle.pw_data.specs.Layouts.{IsSound, EndsBy, PlaceEndsBy, FitsPicture, PlaceFitsPicture, place_at, place_of};
+ghost use Rattle.pw_data.specs.Layouts.{IsSoundStorage, EndsBy, PlaceEndsBy, FitsPicture, PlaceFitsPicture, place_at, place_of};
 
-use crate::index::{Index, index_of, number_of};
+use crate::index::{ItemIndex, index_of, number_of};
 use crate::item::{Item, Place};
 use pw_base::bytes::Bytes;
 use pw_base::list::List;
@@ -21,24 +21,24 @@ pub struct Layout {
     items: List<Item>,
     storage: Bytes,
     /// The items by their names.
-    index: Index,
+    index: ItemIndex,
 }
 
 impl Model for Layout {
-    ghost use Rattle.pw_data.specs.Index.{IsIndexOf};
-    ghost use Rattle.pw_data.specs.Layouts.{Laid, IsSound};
+    ghost use Rattle.pw_data.specs.Index.{IsItemIndexOf};
+    ghost use Rattle.pw_data.specs.Layouts.{Laid, IsSoundStorage};
 
     ghost Value = { Laid };
 
     ghost view = { λ layout. record { items = layout.items; storage = layout.storage } };
 
-    ghost invariant = { λ layout. IsSound layout.items layout.storage × IsIndexOf layout.index layout.items };
+    ghost invariant = { λ layout. IsSoundStorage layout.items layout.storage × IsItemIndexOf layout.index layout.items };
 }
 
 impl Layout {
     /// The layout of these items and characters.
     pub(crate) fn new(alloc: Global, items: Vec<Item>, storage: Bytes) -> Result<Layout, Memory>
-        requires { IsSound items.items storage }
+        requires { IsSoundStorage items.items storage }
         ensures items { IfOk result (λ layout. layout.items ≡ items.items) }
         ensures storage { IfOk result (λ layout. layout.storage ≡ storage) }
     {

@@ -2,10 +2,10 @@ ghost use Rattle.std.specs.Prelude.{◌≡◌, ◌++◌, ◌+◌, ◌≤◌, min
 ghost use Rattle.std.specs.List.{list_all};
 ghost use Rattle.std.specs.Char.{is_ascii_digit};
 ghost use Rattle.pw_picture.specs.Grammar.{IsPicture};
-ghost use Rattle.pw_picture.specs.Stored.{is_number, read_of};
+ghost use Rattle.pw_picture.specs.Stored.{is_numeric_picture, read_of};
 ghost use Rattle.pw_picture.specs.declared.picture.Picture.TheVariants.{Number as NumberPicture};
 ghost use Rattle.pw_picture.specs.Symbols.{value_behind, begins_with};
-ghost use Rattle.pw_data.specs.Literals.{whole_number, before_point, behind_point, has_sign, sign_size, number_with, number_of, literal_of, holds_number, holds};
+ghost use Rattle.pw_data.specs.Literals.{whole_number, before_point, behind_point, has_sign, sign_size, number_with, number_of_literal, literal_of, holds_number, picture_holds};
 
 use pw_base::bytes::Bytes;
 use pw_base::memory::Memory;
@@ -126,7 +126,7 @@ fn number_with(signed: bool, front: &[u8], places: &[u8]) -> Option<Scaled>
 /// The number that a literal is: an optional sign, digits, and an optional point with digits behind
 /// it, with 1 to 18 digits in all.
 pub fn number_of(bytes: &[u8]) -> Option<Scaled>
-    ensures { result ≡ number_of bytes.now }
+    ensures { result ≡ number_of_literal bytes.now }
 {
     let (front, places) = at_point(bytes);
     number_with(has_sign(bytes), front, places)
@@ -150,7 +150,7 @@ pub fn literal_of(alloc: Global, text: &[u8], token: Token) -> Result<Option<Lit
 /// Whether a number is kept, and is still the same when it is read.
 fn holds_number(picture: &Picture, number: Scaled) -> bool
     requires picture { IsPicture picture.now }
-    requires number { IsTrue (is_number picture.now) }
+    requires number { IsTrue (is_numeric_picture picture.now) }
     ensures { result ≡ holds_number picture.now number }
 {
     let mut chars = [b'0'; 19];
@@ -164,7 +164,7 @@ fn holds_number(picture: &Picture, number: Scaled) -> bool
 /// Whether an item of a picture holds a literal unchanged, up to padding.
 pub fn holds(picture: &Picture, literal: &Literal) -> bool
     requires { IsPicture picture.now }
-    ensures { result ≡ holds picture.now literal.now }
+    ensures { result ≡ picture_holds picture.now literal.now }
 {
     match (picture, literal) {
         (Picture::Text { size }, Literal::Text(chars)) => chars.len() <= *size as usize,

@@ -1,13 +1,13 @@
 ghost use Rattle.std.specs.Prelude.{◌≡◌, length, All, IfOk, None};
 ghost use Rattle.pw_base.specs.First.{Gives};
-ghost use Rattle.pw_data.specs.Entries.{IsKept};
+ghost use Rattle.pw_data.specs.Entries.{KeepsPicture};
 ghost use Rattle.pw_data.specs.Tree.{forest};
 ghost use Rattle.pw_data.specs.Laid.{too_large, size_in, items_in, chars_in};
 ghost use Rattle.pw_data.specs.Layouts.{FitsPicture, no_table, first_among, laid, layout_of};
 
 use crate::entries::read_entries;
 use crate::entry::Entry;
-use crate::item::Table;
+use crate::item::ItemTable;
 use crate::lay::lay;
 use crate::layout::Layout;
 use crate::names::clashes;
@@ -40,12 +40,12 @@ fn first_fault(
 fn laid(alloc: Global, text: &[u8], entries: &[Entry]) -> Result<Layout, Memory>
     requires small { too_large 0 (forest entries.now) ≡ None }
     requires size { length (chars_in text.now (forest entries.now)) ≡ size_in (forest entries.now) }
-    requires kept { All (IsKept text.now) entries.now }
+    requires kept { All (KeepsPicture text.now) entries.now }
     requires pictures { All FitsPicture (items_in text.now 0 no_table (forest entries.now)) }
     ensures { IfOk result (λ layout. layout ≡ laid text.now entries.now) }
 {
     let mut items = Vec::new(alloc);
-    let outside = Table { occurs: 0, step: 0 };
+    let outside = ItemTable { occurs: 0, step: 0 };
     lay(alloc, text, 0, outside, entries, &mut items)?;
     let storage = chars_of(alloc, text, entries)?;
     Layout::new(alloc, items, storage)

@@ -1,17 +1,17 @@
 ghost use Rattle.std.specs.Prelude.{◌≡◌, option_and_then, slice_get};
-ghost use Rattle.pw_data.specs.Entries.{level_of, level_in, is_name, name_in, reading_of, has_form};
+ghost use Rattle.pw_data.specs.Entries.{level_of, level_in, is_data_name_token, data_name_token, reading_of, has_form};
 
-use crate::clauses::{Clauses, clauses_in};
+use crate::clauses::{DataClauses, clauses_in};
 use crate::literal::whole_number;
 use pw_text::cursor::Cursor;
 use pw_text::token::{Token, TokenKind};
 
 /// The parts of an entry, each where it has its form: the level, the name, and the clauses.
 #[derive(Clone, Copy)]
-pub struct Reading {
+pub struct EntryParts {
     pub level: Option<u8>,
     pub name: Option<Token>,
-    pub clauses: Option<Clauses>,
+    pub clauses: Option<DataClauses>,
 }
 
 /// The level that a number is.
@@ -38,7 +38,7 @@ pub fn level_in(text: &[u8], token: Token) -> Option<u8>
 
 /// Whether a token may be a name.
 fn is_name(server: bool, text: &[u8], token: Token) -> bool
-    ensures { result ≡ is_name server text.now token }
+    ensures { result ≡ is_data_name_token server text.now token }
 {
     token.kind.is(TokenKind::Word) && (server || !token.is_the_word(text, b"$RECEIVE"))
 }
@@ -52,7 +52,7 @@ fn level_at(entry: &Cursor<'_>) -> Option<u8>
 
 /// The second token, where it may be a name.
 fn name_at(server: bool, entry: &Cursor<'_>) -> Option<Token>
-    ensures { result ≡ option_and_then (name_in server entry.now.text) (slice_get entry.now.tokens 1) }
+    ensures { result ≡ option_and_then (data_name_token server entry.now.text) (slice_get entry.now.tokens 1) }
 {
     let token = entry.peek_at(1)?;
     if is_name(server, entry.text(), token) {
@@ -62,15 +62,15 @@ fn name_at(server: bool, entry: &Cursor<'_>) -> Option<Token>
     }
 }
 
-impl Reading {
+impl EntryParts {
     /// The parts of an entry.
-    pub fn new(server: bool, entry: &Cursor<'_>) -> Reading
+    pub fn new(server: bool, entry: &Cursor<'_>) -> EntryParts
         ensures { result ≡ reading_of server entry.now }
     {
         let mut behind_name = entry.fork();
         let _level = behind_name.next();
         let _name = behind_name.next();
-        Reading {
+        EntryParts {
             level: level_at(entry),
             name: name_at(server, entry),
             clauses: clauses_in(&behind_name),

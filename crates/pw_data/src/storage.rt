@@ -2,15 +2,15 @@ ghost use Rattle.std.specs.Prelude.{◌≡◌, ◌++◌, All, IfOk, OnOk, IsTrue
 ghost use Rattle.std.specs.List.{repeat};
 ghost use Rattle.std.specs.Option.{ForSome};
 ghost use Rattle.pw_picture.specs.Grammar.{IsPicture};
-ghost use Rattle.pw_picture.specs.Stored.{is_number, moved};
+ghost use Rattle.pw_picture.specs.Stored.{is_numeric_picture, moved};
 ghost use Rattle.pw_picture.specs.Text.{fitted};
 ghost use Rattle.pw_data.specs.Literals.{literal_of};
 ghost use Rattle.pw_data.specs.Tree.{forest};
-ghost use Rattle.pw_data.specs.Entries.{IsKind, IsKept, picture_of_kind};
-ghost use Rattle.pw_data.specs.Laid.{times, text_in, number_in, initial_by, initial, chars_in};
+ghost use Rattle.pw_data.specs.Entries.{IsKind, KeepsPicture, picture_of_kind};
+ghost use Rattle.pw_data.specs.Laid.{times, text_in, initial_number, initial_by, initial, chars_in};
 
 use crate::entry::Entry;
-use crate::item::Kind;
+use crate::item::ItemKind;
 use crate::literal::{Literal, literal_of};
 use pw_base::bytes::Bytes;
 use pw_base::memory::Memory;
@@ -42,7 +42,7 @@ fn text_in(value: &Option<Literal>) -> &[u8]
 
 /// The number of a VALUE that is one, and else zero.
 fn number_in(value: &Option<Literal>) -> Scaled
-    ensures { result ≡ number_in value.now }
+    ensures { result ≡ initial_number value.now }
 {
     match value {
         Some(Literal::Number(number)) => *number,
@@ -62,7 +62,7 @@ fn text_chars(alloc: Global, size: u16, from: &[u8]) -> Result<Bytes, Memory>
 /// The characters of an item to which a number is moved.
 fn number_chars(alloc: Global, picture: &Picture, number: Scaled) -> Result<Bytes, Memory>
     requires picture { IsPicture picture.now }
-    requires number { IsTrue (is_number picture.now) }
+    requires number { IsTrue (is_numeric_picture picture.now) }
     ensures { IfOk result (λ chars. chars ≡ moved picture.now number) }
 {
     let mut chars = Vec::from_elem(alloc, b'0', picture.size() as usize)?;
@@ -71,12 +71,12 @@ fn number_chars(alloc: Global, picture: &Picture, number: Scaled) -> Result<Byte
 }
 
 /// The characters with which an item of a kind begins.
-fn initial_by(alloc: Global, value: &Option<Literal>, kind: Option<Kind>) -> Result<Bytes, Memory>
+fn initial_by(alloc: Global, value: &Option<Literal>, kind: Option<ItemKind>) -> Result<Bytes, Memory>
     requires { ForSome kind IsKind }
     ensures { IfOk result (λ chars. chars ≡ initial_by value.now (option_map picture_of_kind kind)) }
 {
     match kind {
-        Some(Kind::Text { size }) => text_chars(alloc, size, text_in(value)),
+        Some(ItemKind::Text { size }) => text_chars(alloc, size, text_in(value)),
         Some(kind) => number_chars(alloc, &kind.picture(), number_in(value)),
         None => Ok(Bytes::new(alloc)),
     }
@@ -85,7 +85,7 @@ fn initial_by(alloc: Global, value: &Option<Literal>, kind: Option<Kind>) -> Res
 /// The characters with which an entry's item begins, none for a group: its VALUE as MOVE puts it, and
 /// without one spaces or zero.
 fn initial(alloc: Global, text: &[u8], entry: Entry) -> Result<Bytes, Memory>
-    requires { IsKept text.now entry }
+    requires { KeepsPicture text.now entry }
     ensures { IfOk result (λ chars. chars ≡ initial text.now entry) }
 {
     let value = value_at(alloc, text, entry.clauses.value)?;
@@ -104,7 +104,7 @@ fn repeat(chars: &mut Bytes, piece: &[u8], count: u32) -> Result<(), Memory>
 
 /// The characters with which the items of entries begin, one behind the other.
 pub fn chars_of(alloc: Global, text: &[u8], entries: &[Entry]) -> Result<Bytes, Memory>
-    requires { All (IsKept text.now) entries.now }
+    requires { All (KeepsPicture text.now) entries.now }
     ensures { IfOk result (λ chars. chars ≡ chars_in text.now (forest entries.now)) }
 {
     let mut chars = Bytes::new(alloc);

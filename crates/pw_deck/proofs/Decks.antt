@@ -32,18 +32,18 @@ use Rattle.pw_server.specs.Servers.{server_of}
 use Rattle.pw_server.specs.declared.server.Server.{Server}
 use Rattle.pw_tables.proofs.Commands.{and_then, Any, any_of}
 use Rattle.pw_tables.proofs.Good.{good_names, good_few}
-use Rattle.pw_tables.specs.Objects.{one_more}
+use Rattle.pw_tables.specs.Objects.{section_admitted}
 use Rattle.pw_tables.specs.Pieces.{section_line, section_text}
 use Rattle.pw_tables.specs.Tables.{with_entries}
 use Rattle.pw_tables.specs.Unknown.{tables_of, all_unknown, known, startable, fails_of, log_of, told_of}
 use Rattle.pw_tables.specs.declared.objects.Objects.{Objects}
 use Rattle.pw_tables.specs.declared.objects.TermEntries.{TermEntries}
-use Rattle.pw_tables.specs.declared.told.Told.{Told}
+use Rattle.pw_tables.specs.declared.told.DeckTables.{DeckTables}
 use Rattle.pw_words.specs.Words.{Word}
 use Rattle.pw_deck.specs.Deck.{sized, end_found, links_of, deck_in, deck_of}
 use Rattle.pw_deck.specs.Parts.{no_parts, has_requester, has_server, requester_section, server_section, with_objects, section_of, section_read, sections_read, front_read, parts_of, program_names, server_names}
-use Rattle.pw_deck.specs.Sound.{AreTables, HasTables}
-use Rattle.pw_deck.specs.declared.deck.Deck.{Deck}
+use Rattle.pw_deck.specs.Sound.{AreTables, HasValidTables}
+use Rattle.pw_deck.specs.declared.deck.ParsedDeck.{ParsedDeck}
 use Rattle.pw_deck.specs.declared.parts.Parts.{Parts}
 use Rattle.pw_deck.proofs.Good.{ArePartsGood, HasFile, heading_says, or_refused_says, parts_good}
 use Rattle.pw_deck.proofs.Sound.{IsSound, nothing_sound, pathcom_sound, file_sound, entries_sound, fail_sound, log_sound}
@@ -55,12 +55,12 @@ HasSound parts = IsSound parts.objects
 
 requester_sound : (parts : Parts) (line : ℕ) (text : List ℕ) (name : Word) → HasSound parts → IfOk (requester_section parts line text name) HasSound
 requester_sound parts line text name sound =
-    and_then (one_more line (has_requester parts name) (nat_le most_programs (length parts.requesters))) _ Any HasSound (any_of (one_more line (has_requester parts name) (nat_le most_programs (length parts.requesters))))
+    and_then (section_admitted line (has_requester parts name) (nat_le most_programs (length parts.requesters))) _ Any HasSound (any_of (section_admitted line (has_requester parts name) (nat_le most_programs (length parts.requesters))))
     (λ done h. and_then (requester_of name text (line + 1)) _ Any HasSound (any_of (requester_of name text (line + 1))) (λ requester h. sound))
 
 server_sound : (parts : Parts) (line : ℕ) (text : List ℕ) (name : Word) → HasSound parts → IfOk (server_section parts line text name) HasSound
 server_sound parts line text name sound =
-    and_then (one_more line (has_server parts name) (nat_le most_servers (length parts.servers))) _ Any HasSound (any_of (one_more line (has_server parts name) (nat_le most_servers (length parts.servers))))
+    and_then (section_admitted line (has_server parts name) (nat_le most_servers (length parts.servers))) _ Any HasSound (any_of (section_admitted line (has_server parts name) (nat_le most_servers (length parts.servers))))
     (λ done h. and_then (server_of name text (line + 1)) _ Any HasSound (any_of (server_of name text (line + 1))) (λ server h. sound))
 
 with_sound : (parts : Parts) (read : Result Objects Fault) → IfOk read IsSound → IfOk (with_objects parts read) HasSound
@@ -114,7 +114,7 @@ none_unknown faults = go (least None faults) refl
     go (Some fault) is = tt
 
 -- the tables of what is told
-abbrev IsTold : Objects → List Word → List Word → Told → Type 0
+abbrev IsTold : Objects → List Word → List Word → DeckTables → Type 0
 IsTold objects programs servers told = (unknown objects.commands programs servers ≡ []) × (told.system ≡ record (tables_of objects programs servers ReadersShare) { terminals = map (with_entries objects.entries) (tables_of objects programs servers ReadersShare).terminals })
 
 told_is : (objects : Objects) (programs servers : List Word) → IfOk (told_of objects programs servers) (IsTold objects programs servers)
@@ -129,8 +129,8 @@ terminal_names : (sections : List TermEntries) (ts : List TermInfo) → map (λ 
 terminal_names sections [] = refl
 terminal_names sections (t ∷ ts) = ap (λ ns. t.name ∷ ns) (terminal_names sections ts)
 
-has_tables : (parts : Parts) (told : Told) → ArePartsGood parts → HasSound parts → IsTold parts.objects (program_names parts) (server_names parts) told
-    → HasTables (record { told = told; requesters = parts.requesters; servers = parts.servers })
+has_tables : (parts : Parts) (told : DeckTables) → ArePartsGood parts → HasSound parts → IsTold parts.objects (program_names parts) (server_names parts) told
+    → HasValidTables (record { told = told; requesters = parts.requesters; servers = parts.servers })
 has_tables parts told good sound is programs servers screens sources serving shown =
     let objects = parts.objects in
     let first = program_names parts in
@@ -165,22 +165,22 @@ has_tables parts told good sound is programs servers screens sources serving sho
       };
     })
 
-in_tables : (bytes : List ℕ) (parts : Parts) → ArePartsGood parts → HasSound parts → IfOk (deck_in bytes parts) HasTables
+in_tables : (bytes : List ℕ) (parts : Parts) → ArePartsGood parts → HasSound parts → IfOk (deck_in bytes parts) HasValidTables
 in_tables bytes parts good sound =
-    and_then (end_found bytes parts.has_end) _ Any HasTables (any_of (end_found bytes parts.has_end))
-    (λ done h. and_then (names_of parts.requesters parts.servers (links_of parts)) _ Any HasTables (any_of (names_of parts.requesters parts.servers (links_of parts)))
-    (λ done h. and_then (told_of parts.objects (program_names parts) (server_names parts)) _ (IsTold parts.objects (program_names parts) (server_names parts)) HasTables
+    and_then (end_found bytes parts.has_end) _ Any HasValidTables (any_of (end_found bytes parts.has_end))
+    (λ done h. and_then (names_of parts.requesters parts.servers (links_of parts)) _ Any HasValidTables (any_of (names_of parts.requesters parts.servers (links_of parts)))
+    (λ done h. and_then (told_of parts.objects (program_names parts) (server_names parts)) _ (IsTold parts.objects (program_names parts) (server_names parts)) HasValidTables
     (told_is parts.objects (program_names parts) (server_names parts)) (λ told is. has_tables parts told good sound is)))
 
 -- a deck without a fault has the tables of a valid system
-pub deck_tables : (bytes : List ℕ) → IfOk (deck_of bytes) HasTables
+pub deck_tables : (bytes : List ℕ) → IfOk (deck_of bytes) HasValidTables
 deck_tables bytes =
-    and_then (sized bytes) _ Any HasTables (any_of (sized bytes))
-    (λ done h. and_then (parts_of bytes) _ (λ parts. ArePartsGood parts × HasSound parts) HasTables (parts_sound bytes) (λ parts fine. in_tables bytes parts fine.0 fine.1))
+    and_then (sized bytes) _ Any HasValidTables (any_of (sized bytes))
+    (λ done h. and_then (parts_of bytes) _ (λ parts. ArePartsGood parts × HasSound parts) HasValidTables (parts_sound bytes) (λ parts fine. in_tables bytes parts fine.0 fine.1))
 
 -- the same of a deck that was read
-pub read_tables : (bytes : List ℕ) (read : Result Deck Refusal) → Gives (λ (deck : Deck). deck) read (deck_of bytes) → IfOk read HasTables
-read_tables bytes (Ok deck) is = subst (λ (r : Result Deck Fault). IfOk r HasTables) is (deck_tables bytes)
+pub read_tables : (bytes : List ℕ) (read : Result ParsedDeck Refusal) → Gives (λ (deck : ParsedDeck). deck) read (deck_of bytes) → IfOk read HasValidTables
+read_tables bytes (Ok deck) is = subst (λ (r : Result ParsedDeck Fault). IfOk r HasValidTables) is (deck_tables bytes)
 read_tables bytes (Err refusal) is = tt
 
 -- what is left to be looked at once the sections are read

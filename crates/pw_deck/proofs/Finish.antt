@@ -12,22 +12,22 @@ use Rattle.pw_scobol.specs.declared.requester.Requester.{Requester}
 use Rattle.pw_server.specs.declared.server.Server.{Server}
 use Rattle.pw_tables.specs.Tables.{class_names}
 use Rattle.pw_tables.specs.Unknown.{told_of}
-use Rattle.pw_tables.specs.declared.told.Told.{Told}
+use Rattle.pw_tables.specs.declared.told.DeckTables.{DeckTables}
 use Rattle.pw_words.specs.Words.{Word}
 use Rattle.pw_deck.specs.Deck.{end_found, links_of, deck_in}
 use Rattle.pw_deck.specs.Parts.{program_names, server_names, parts_of}
-use Rattle.pw_deck.specs.declared.deck.Deck.{Deck}
+use Rattle.pw_deck.specs.declared.deck.ParsedDeck.{ParsedDeck}
 use Rattle.pw_deck.specs.declared.parts.Parts.{Parts}
 use Rattle.pw_deck.proofs.Good.{parts_are}
 
 -- the deck of what is told
-abbrev deck_with : Parts → Told → Result Deck Fault
+abbrev deck_with : Parts → DeckTables → Result ParsedDeck Fault
 deck_with parts told = Ok (record { told = told; requesters = parts.requesters; servers = parts.servers })
 
-abbrev telling : Parts → Result Deck Fault
+abbrev telling : Parts → Result ParsedDeck Fault
 telling parts = told_of parts.objects (program_names parts) (server_names parts) >>= deck_with parts
 
-abbrev naming : Parts → Links → Result Deck Fault
+abbrev naming : Parts → Links → Result ParsedDeck Fault
 naming parts links = names_of parts.requesters parts.servers links >>= (λ (done : Unit {0}). telling parts)
 
 abbrev links_with : Parts → List Word → List Word → Links
@@ -64,7 +64,7 @@ named_is bytes parts rs ss links l =
 pub names_refused : (refusal : Refusal) (bytes : List ℕ) (parts : Parts) (rs : List Requester) (ss : List Server) (links : Links) → Looked bytes parts rs ss links
     → Refuses refusal (names_of rs ss links) → Refuses refusal (deck_in bytes parts)
 names_refused refusal bytes parts rs ss links l refuses =
-    let P : Result Deck Fault → Type 0 = λ r. Refuses refusal r in
+    let P : Result ParsedDeck Fault → Type 0 = λ r. Refuses refusal r in
     let N : Result (Unit {0}) Fault → Type 0 = λ r. Refuses refusal r in
     subst P (sym (looked bytes parts l.done links.programs links.classes l.ended l.programs l.classes))
     (refuses_on refusal (names_of parts.requesters parts.servers (links_with parts links.programs links.classes)) (λ (done : Unit {0}). telling parts)
@@ -84,11 +84,11 @@ pub told_refused : (refusal : Refusal) (bytes : List ℕ) (parts : Parts) (rs : 
     → Looked bytes parts rs ss links → names_of rs ss links ≡ Ok more → programs ≡ program_names parts → servers ≡ server_names parts
     → Refuses refusal (told_of parts.objects programs servers) → Refuses refusal (deck_in bytes parts)
 told_refused refusal bytes parts rs ss links more programs servers l named first third refuses =
-    let P : Result Deck Fault → Type 0 = λ r. Refuses refusal r in
+    let P : Result ParsedDeck Fault → Type 0 = λ r. Refuses refusal r in
     subst P (sym (told_then bytes parts rs ss links more programs servers l named first third))
     (refuses_on refusal (told_of parts.objects programs servers) (deck_with parts) refuses)
 
-pub deck_told : (bytes : List ℕ) (parts : Parts) (rs : List Requester) (ss : List Server) (links : Links) (more : Unit {0}) (programs servers : List Word) (told : Told)
+pub deck_told : (bytes : List ℕ) (parts : Parts) (rs : List Requester) (ss : List Server) (links : Links) (more : Unit {0}) (programs servers : List Word) (told : DeckTables)
     → Looked bytes parts rs ss links → names_of rs ss links ≡ Ok more → programs ≡ program_names parts → servers ≡ server_names parts
     → told_of parts.objects programs servers ≡ Ok told → deck_in bytes parts ≡ Ok (record { told = told; requesters = parts.requesters; servers = parts.servers })
 deck_told bytes parts rs ss links more programs servers told l named first third is =

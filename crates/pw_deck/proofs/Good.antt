@@ -10,7 +10,7 @@ use Rattle.pw_code.specs.Limits.{most_programs, most_servers}
 use Rattle.pw_code.specs.Names.{IsName, may_name}
 use Rattle.pw_lines.specs.Lines.{lines}
 use Rattle.pw_lines.specs.Steps.{or_refused}
-use Rattle.pw_lines.specs.Words.{words, name_in, number_in}
+use Rattle.pw_lines.specs.Words.{words, name_in, word_number}
 use Rattle.pw_scobol.specs.Requesters.{requester_of}
 use Rattle.pw_sections.specs.Headings.{plain_heading, named_heading, keyed_heading, file_heading, heading_by, heading_of}
 use Rattle.pw_sections.specs.Parts.{front, sections}
@@ -19,7 +19,7 @@ use Rattle.pw_sections.specs.declared.heading.Heading.TheVariants as heading
 use Rattle.pw_server.specs.Servers.{server_of}
 use Rattle.pw_tables.proofs.Commands.{and_then, Any, any_of, more_few}
 use Rattle.pw_tables.proofs.Good.{IsGood, no_objects_good, IsOneMore, one_more_is, pathcom_good, file_good, entries_good, fail_good, log_good}
-use Rattle.pw_tables.specs.Objects.{one_more}
+use Rattle.pw_tables.specs.Objects.{section_admitted}
 use Rattle.pw_tables.specs.Pieces.{section_line, section_text}
 use Rattle.pw_tables.specs.declared.objects.Objects.{Objects}
 use Rattle.pw_words.specs.Words.{Word, same_word}
@@ -83,7 +83,7 @@ heading_says [] = tt
 heading_says (word ∷ []) = plain_says word
 heading_says (word ∷ name ∷ []) = named_says word (name_in name)
 heading_says (word ∷ name ∷ key ∷ []) = tt
-heading_says (word ∷ name ∷ key ∷ number ∷ []) = file_says (same_word word (codes "?FILE") && same_word key (codes "KEY")) name (number_in number)
+heading_says (word ∷ name ∷ key ∷ number ∷ []) = file_says (same_word word (codes "?FILE") && same_word key (codes "KEY")) name (word_number number)
 heading_says (word ∷ name ∷ key ∷ number ∷ more ∷ rest) = tt
 
 pub or_refused_says : (line : ℕ) (heading : Option Heading) → Says heading → IfOk (or_refused line BadSection heading) HasFile
@@ -98,14 +98,14 @@ pub record ArePartsGood (parts : Parts) : Type 0 where
 
 requester_good : (parts : Parts) (line : ℕ) (text : List ℕ) (name : Word) → ArePartsGood parts → IfOk (requester_section parts line text name) ArePartsGood
 requester_good parts line text name good =
-    and_then (one_more line (has_requester parts name) (nat_le most_programs (length parts.requesters))) _ (IsOneMore (has_requester parts name) (nat_le most_programs (length parts.requesters))) ArePartsGood
+    and_then (section_admitted line (has_requester parts name) (nat_le most_programs (length parts.requesters))) _ (IsOneMore (has_requester parts name) (nat_le most_programs (length parts.requesters))) ArePartsGood
     (one_more_is line (has_requester parts name) (nat_le most_programs (length parts.requesters)))
     (λ done more. and_then (requester_of name text (line + 1)) _ Any ArePartsGood (any_of (requester_of name text (line + 1)))
     (λ requester h. record { objects = good.objects; requesters = more_few parts.requesters requester most_programs more.room; servers = good.servers }))
 
 server_good : (parts : Parts) (line : ℕ) (text : List ℕ) (name : Word) → ArePartsGood parts → IfOk (server_section parts line text name) ArePartsGood
 server_good parts line text name good =
-    and_then (one_more line (has_server parts name) (nat_le most_servers (length parts.servers))) _ (IsOneMore (has_server parts name) (nat_le most_servers (length parts.servers))) ArePartsGood
+    and_then (section_admitted line (has_server parts name) (nat_le most_servers (length parts.servers))) _ (IsOneMore (has_server parts name) (nat_le most_servers (length parts.servers))) ArePartsGood
     (one_more_is line (has_server parts name) (nat_le most_servers (length parts.servers)))
     (λ done more. and_then (server_of name text (line + 1)) _ Any ArePartsGood (any_of (server_of name text (line + 1)))
     (λ server h. record { objects = good.objects; requesters = good.requesters; servers = more_few parts.servers server most_servers more.room }))

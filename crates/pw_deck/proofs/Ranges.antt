@@ -13,25 +13,25 @@ use Rattle.pw_base.specs.Limits.{most_content}
 use Rattle.pw_base.specs.declared.fault.Fault.{Fault}
 use Rattle.pw_base.specs.declared.fault_code.FaultCode.TheVariants.{BadCommand, OutOfRange, BadRecord, BadEntry, TooMany}
 use Rattle.pw_base.proofs.Plain.{all-last}
-use Rattle.pw_code.specs.Entry.{Entry}
+use Rattle.pw_code.specs.Entry.{EntryLineModel}
 use Rattle.pw_code.specs.Limits.{most_tcps, most_classes, most_terminals, most_restarts, most_processes, most_entry_lines, last_key}
-use Rattle.pw_code.specs.Valid.{HasKey}
+use Rattle.pw_code.specs.Valid.{HasFunctionKey}
 use Rattle.pw_lines.specs.Lines.{lines}
 use Rattle.pw_lines.specs.Steps.{◌>>=◌, refused, or_refused, is_blank, line_taken, each_line}
-use Rattle.pw_lines.specs.Words.{words, number_in}
-use Rattle.pw_pathcom.specs.Reading.{starting, named, checked, ranged, admitted, has_tcp, has_class, has_terminal, added, first_start, start_tcp, start_class, start_terminal, started, taken, taken_if, is_comment, is_none, line_read, lines_read, commands_of}
+use Rattle.pw_lines.specs.Words.{words, word_number}
+use Rattle.pw_pathcom.specs.Reading.{starting, named, checked, ranged, admitted, has_tcp, has_class, has_terminal, added, first_start, start_tcp, start_class, start_terminal, started, command_taken, taken_if, is_comment, is_none, line_read, lines_read, commands_of}
 use Rattle.pw_pathcom.specs.Verbs.{command_of}
 use Rattle.pw_pathcom.specs.declared.commands.ClassCommand.{ClassCommand}
 use Rattle.pw_pathcom.specs.declared.commands.Commands.{Commands}
 use Rattle.pw_pathcom.specs.declared.commands.TermCommand.{TermCommand}
-use Rattle.pw_pathcom.specs.declared.reading.Reading.{Reading}
+use Rattle.pw_pathcom.specs.declared.reading.CommandReading.{CommandReading}
 use Rattle.pw_pathcom.specs.declared.verb.Object.{Object}
 use Rattle.pw_pathcom.specs.declared.verb.Object.TheVariants as object
-use Rattle.pw_pathcom.specs.declared.verb.Verb.{Verb}
-use Rattle.pw_pathcom.specs.declared.verb.Verb.TheVariants as verb
-use Rattle.pw_sections.specs.Entries.{keys, key_of, pairs_of, Pair, entry_with, entry_by, entry_of, parts, with_entry, entry_read, entries_of}
+use Rattle.pw_pathcom.specs.declared.verb.CommandVerb.{CommandVerb}
+use Rattle.pw_pathcom.specs.declared.verb.CommandVerb.TheVariants as verb
+use Rattle.pw_sections.specs.Entries.{keys, key_of, pairs_of, NameValue, entry_with, entry_by, entry_of, parts, with_entry, entry_read, entries_of}
 use Rattle.pw_sections.specs.Keys.{is_seen}
-use Rattle.pw_sections.specs.Records.{is_bad_record, record_read, records_of}
+use Rattle.pw_sections.specs.Records.{is_bad_record, record_read, records_of_text}
 use Rattle.pw_words.specs.Words.{Word}
 use Rattle.pw_tables.proofs.Commands.{and_then, Any, any_of}
 
@@ -46,7 +46,7 @@ pub record InRange (commands : Commands) : Type 0 where
   pub terminals : AllByRecursion FewRestarts commands.terminals
   pub classes : AllByRecursion FewProcesses commands.classes
 
-record Kept (reading : Reading) : Type 0 where
+record Kept (reading : CommandReading) : Type 0 where
   restarts : reading.values.max_restarts ≤ most_restarts
   some : 1 ≤ reading.values.processes
   few : reading.values.processes ≤ most_processes
@@ -57,7 +57,7 @@ starting_kept : Kept starting
 starting_kept = record { restarts = omega arith; some = omega arith; few = omega arith; terminals = tt; classes = tt }
 
 ranged_is : (line low high : ℕ) (operand : Word) → IfOk (ranged line low high operand) (λ n. (low ≤ n) × (n ≤ high))
-ranged_is line low high operand = go (number_in operand)
+ranged_is line low high operand = go (word_number operand)
   where
     in_range : (n : ℕ) (b : Bool) → (nat_le low n && nat_le n high) ≡ b → IfOk (cond b (Ok n) (refused line OutOfRange)) (λ n. (low ≤ n) × (n ≤ high))
     in_range n true is = let both = and_parts (nat_le low n) (nat_le n high) is in (leb-true low n both.0, leb-true n high both.1)
@@ -67,7 +67,7 @@ ranged_is line low high operand = go (number_in operand)
     go None = tt
     go (Some n) = in_range n (nat_le low n && nat_le n high) refl
 
-added_kept : (line : ℕ) (reading : Reading) (object : Object) (name : Word) → Kept reading → IfOk (added line reading object name) Kept
+added_kept : (line : ℕ) (reading : CommandReading) (object : Object) (name : Word) → Kept reading → IfOk (added line reading object name) Kept
 added_kept line reading object.Tcp name kept =
     and_then (admitted line (has_tcp reading.commands name) (nat_le most_tcps (length reading.commands.tcps))) _ Any Kept (any_of (admitted line (has_tcp reading.commands name) (nat_le most_tcps (length reading.commands.tcps))))
     (λ done h. record { restarts = kept.restarts; some = kept.some; few = kept.few; terminals = kept.terminals; classes = kept.classes })
@@ -94,14 +94,14 @@ classes_stay line name (c ∷ cs) h = (go (bytes_eq c.name name), classes_stay l
     go true = h.0
     go false = h.0
 
-started_kept : (line : ℕ) (reading : Reading) (object : Object) (name : Word) → Kept reading → Kept (record reading { commands = started line reading.commands object name })
+started_kept : (line : ℕ) (reading : CommandReading) (object : Object) (name : Word) → Kept reading → Kept (record reading { commands = started line reading.commands object name })
 started_kept line reading object.Tcp name kept = record { restarts = kept.restarts; some = kept.some; few = kept.few; terminals = kept.terminals; classes = kept.classes }
 started_kept line reading object.Server name kept =
     record { restarts = kept.restarts; some = kept.some; few = kept.few; terminals = kept.terminals; classes = classes_stay line name reading.commands.classes kept.classes }
 started_kept line reading object.Term name kept =
     record { restarts = kept.restarts; some = kept.some; few = kept.few; terminals = terminals_stay line name reading.commands.terminals kept.terminals; classes = kept.classes }
 
-taken_kept : (line : ℕ) (reading : Reading) (verb : Verb) (operand : Word) → Kept reading → IfOk (taken line reading verb operand) Kept
+taken_kept : (line : ℕ) (reading : CommandReading) (verb : CommandVerb) (operand : Word) → Kept reading → IfOk (command_taken line reading verb operand) Kept
 taken_kept line reading verb.SetTcp operand kept =
     and_then (named line operand) _ Any Kept (any_of (named line operand)) (λ name h. record { restarts = kept.restarts; some = kept.some; few = kept.few; terminals = kept.terminals; classes = kept.classes })
 taken_kept line reading verb.SetInitial operand kept =
@@ -119,18 +119,18 @@ taken_kept line reading (verb.Add object) operand kept =
 taken_kept line reading (verb.Start object) operand kept =
     and_then (named line operand) _ Any Kept (any_of (named line operand)) (λ name h. started_kept line reading object name kept)
 
-if_kept : (line : ℕ) (reading : Reading) (command : Option (Verb × Word)) → Kept reading → IfOk (taken_if line reading command) Kept
+if_kept : (line : ℕ) (reading : CommandReading) (command : Option (CommandVerb × Word)) → Kept reading → IfOk (taken_if line reading command) Kept
 if_kept line reading None kept = tt
 if_kept line reading (Some command) kept = taken_kept line reading command.0 command.1 kept
 
-line_kept : (number : ℕ) (reading : Reading) (line : List ℕ) → Kept reading → IfOk (line_read number reading line) Kept
+line_kept : (number : ℕ) (reading : CommandReading) (line : List ℕ) → Kept reading → IfOk (line_read number reading line) Kept
 line_kept number reading line kept = go (is_comment line || is_none (words line))
   where
     go : (b : Bool) → IfOk (cond b (Ok reading) (taken_if number reading (command_of (words line)))) Kept
     go true = kept
     go false = if_kept number reading (command_of (words line)) kept
 
-lines_kept : (number : ℕ) (reading : Reading) (all : List (List ℕ)) → Kept reading → IfOk (lines_read number reading all) Kept
+lines_kept : (number : ℕ) (reading : CommandReading) (all : List (List ℕ)) → Kept reading → IfOk (lines_read number reading all) Kept
 unfolding lines_read
 lines_kept number reading [] kept = kept
 lines_kept number reading (line ∷ rest) kept =
@@ -195,12 +195,12 @@ unfolding IsDistinct
 no_records key = record { contents = tt; distinct = tt }
 
 -- the records of a text
-pub records_kept : (key : ℕ) (text : List ℕ) (first_line : ℕ) → IfOk (records_of key text first_line) (AreRecords key)
+pub records_kept : (key : ℕ) (text : List ℕ) (first_line : ℕ) → IfOk (records_of_text key text first_line) (AreRecords key)
 records_kept key text first_line = each_kept (record_read key) (AreRecords key) (record_kept key) first_line [] (lines text) (no_records key)
 
 -- entries have keys, and there are not too many of them
-pub record AreEntries (entries : List Entry) : Type 0 where
-  pub keys : AllByRecursion HasKey entries
+pub record AreEntries (entries : List EntryLineModel) : Type 0 where
+  pub keys : AllByRecursion HasFunctionKey entries
   pub few : length entries ≤ most_entry_lines
 
 key_small : (word : List ℕ) → IfSome (key_of word) (λ k. (1 ≤ k) × (k ≤ last_key))
@@ -210,15 +210,15 @@ key_small word = go (position (λ key. bytes_eq key word) keys) refl
     go None is = tt
     go (Some p) is = let at = position-Some (λ key. bytes_eq key word) keys p [] is in (omega arith, omega (arith, at.0))
 
-with_key : (key : Option ℕ) (fields : Option (List Pair)) → IfSome key (λ k. (1 ≤ k) × (k ≤ last_key)) → IfSome (entry_with key fields) HasKey
+with_key : (key : Option ℕ) (fields : Option (List NameValue)) → IfSome key (λ k. (1 ≤ k) × (k ≤ last_key)) → IfSome (entry_with key fields) HasFunctionKey
 with_key None fields is = tt
 with_key (Some k) None is = tt
 with_key (Some k) (Some fs) is = is
 
-entry_has_key : (line : List ℕ) → IfSome (entry_of line) HasKey
+entry_has_key : (line : List ℕ) → IfSome (entry_of line) HasFunctionKey
 entry_has_key line = go (parts false line)
   where
-    go : (ps : List (List ℕ)) → IfSome (entry_by ps) HasKey
+    go : (ps : List (List ℕ)) → IfSome (entry_by ps) HasFunctionKey
     go [] = tt
     go (word ∷ rest) = with_key (key_of word) (pairs_of [] rest) (key_small word)
 
@@ -226,15 +226,15 @@ or_kept : {A : Type 0} (P : A → Type 0) (number : ℕ) (o : Option A) → IfSo
 or_kept P number None is = tt
 or_kept P number (Some a) is = is
 
-entry_kept : (number : ℕ) (entries : List Entry) (line : List ℕ) → AreEntries entries → IfOk (entry_read number entries line) AreEntries
+entry_kept : (number : ℕ) (entries : List EntryLineModel) (line : List ℕ) → AreEntries entries → IfOk (entry_read number entries line) AreEntries
 entry_kept number entries line kept =
-    and_then (or_refused number BadEntry (entry_of line)) _ HasKey AreEntries (or_kept HasKey number (entry_of line) (entry_has_key line))
+    and_then (or_refused number BadEntry (entry_of line)) _ HasFunctionKey AreEntries (or_kept HasFunctionKey number (entry_of line) (entry_has_key line))
     (λ entry has. go entry has (nat_le most_entry_lines (length entries)) refl)
   where
-    go : (entry : Entry) → HasKey entry → (b : Bool) → nat_le most_entry_lines (length entries) ≡ b → IfOk (cond b (refused number TooMany) (Ok (entries ++ entry ∷ []))) AreEntries
+    go : (entry : EntryLineModel) → HasFunctionKey entry → (b : Bool) → nat_le most_entry_lines (length entries) ≡ b → IfOk (cond b (refused number TooMany) (Ok (entries ++ entry ∷ []))) AreEntries
     go entry has true is = tt
     go entry has false is = record {
-      keys = all-last HasKey entries entry kept.keys has;
+      keys = all-last HasFunctionKey entries entry kept.keys has;
       few = omega (arith, leb-false most_entry_lines (length entries) is, length-append entries (entry ∷ []));
     }
 

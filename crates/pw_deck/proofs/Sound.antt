@@ -14,11 +14,11 @@ use Rattle.pw_pathcom.specs.Reading.{no_commands, commands_of}
 use Rattle.pw_script.specs.Fail.{failures_counted}
 use Rattle.pw_script.specs.Log.{entries_counted}
 use Rattle.pw_sections.specs.Entries.{entries_of}
-use Rattle.pw_sections.specs.Records.{printable, records_of}
+use Rattle.pw_sections.specs.Records.{printable, records_of_text}
 use Rattle.pw_words.specs.Names.{has_name}
 use Rattle.pw_words.specs.Words.{Word}
 use Rattle.pw_tables.proofs.Commands.{and_then, Any, any_of}
-use Rattle.pw_tables.specs.Objects.{no_objects, has_file, once, one_more, pathcom_section, file_section, entries_section, fail_section, log_section}
+use Rattle.pw_tables.specs.Objects.{no_objects, has_file, once, section_admitted, pathcom_section, file_section, entries_section, fail_section, log_section}
 use Rattle.pw_tables.specs.declared.objects.Objects.{Objects}
 use Rattle.pw_tables.specs.declared.objects.TermEntries.{TermEntries}
 use Rattle.pw_deck.proofs.Ranges.{InRange, commands_in_range, AreRecords, records_kept, AreEntries, entries_kept}
@@ -48,10 +48,10 @@ pathcom_sound objects line text sound =
 
 pub file_sound : (objects : Objects) (line : ℕ) (text : List ℕ) (name : Word) (key : ℕ) → IsKeyLength key → IsSound objects → IfOk (file_section objects line text name key) IsSound
 file_sound objects line text name key is sound =
-    and_then (one_more line (has_file objects name) (nat_le most_files (length objects.files))) _ Any IsSound
-    (any_of (one_more line (has_file objects name) (nat_le most_files (length objects.files))))
+    and_then (section_admitted line (has_file objects name) (nat_le most_files (length objects.files))) _ Any IsSound
+    (any_of (section_admitted line (has_file objects name) (nat_le most_files (length objects.files))))
     (λ done h. and_then (printable text (line + 1)) _ Any IsSound (any_of (printable text (line + 1)))
-    (λ done h. and_then (records_of key text (line + 1)) _ (AreRecords key) IsSound (records_kept key text (line + 1))
+    (λ done h. and_then (records_of_text key text (line + 1)) _ (AreRecords key) IsSound (records_kept key text (line + 1))
     (λ records are. record {
       commands = sound.commands;
       files = all-last IsGoodFile objects.files _ sound.files (record { key = is; records = are });

@@ -11,9 +11,9 @@ use Rattle.pw_base.specs.First.{is_before, least, better, unless}
 use Rattle.pw_base.specs.declared.fault.Fault.{Fault}
 use Rattle.pw_base.specs.declared.fault_code.FaultCode.TheVariants.{BadSection}
 use Rattle.pw_base.proofs.Plain.{append-none}
-use Rattle.pw_code.specs.Entry.{Entry}
+use Rattle.pw_code.specs.Entry.{EntryLineModel}
 use Rattle.pw_code.specs.Limits.{most_programs, most_servers, most_entry_lines}
-use Rattle.pw_code.specs.Valid.{HasKey, IsTerminal, IsClass, IsDeckFile, HasNames, HasFew}
+use Rattle.pw_code.specs.Valid.{HasFunctionKey, IsTerminal, IsClass, IsDeckFile, HasNames, HasFew}
 use Rattle.pw_code.specs.declared.code.Code.{Code}
 use Rattle.pw_code.specs.declared.field.ScreenTable.{ScreenTable}
 use Rattle.pw_code.specs.declared.file.FileInfo.{FileInfo}
@@ -28,7 +28,7 @@ use Rattle.pw_pathcom.specs.declared.commands.Commands.{Commands}
 use Rattle.pw_pathcom.specs.declared.commands.Started.{Started}
 use Rattle.pw_pathcom.specs.declared.commands.TermCommand.{TermCommand}
 use Rattle.pw_words.specs.Words.{Word}
-use Rattle.pw_tables.specs.Tables.{tcp_names, is_started, or_first, number_of, class_of, terminal_of, entries_for, with_entries}
+use Rattle.pw_tables.specs.Tables.{tcp_names, is_started, or_first, number_among_names, class_from_command, terminal_of, entries_for, with_entries}
 use Rattle.pw_tables.specs.declared.objects.TermEntries.{TermEntries}
 use Rattle.pw_deck.proofs.Ranges.{InRange, FewRestarts, FewProcesses, AreEntries}
 use Rattle.pw_deck.proofs.Sound.{HasEntries, IsGoodFile}
@@ -64,7 +64,7 @@ number_small n m less = go (ltb n m)
     go true = less
     go false = omega (arith, less)
 
-pub number_named : (names : List Word) (word : Word) → list_any (λ name. bytes_eq name word) names ≡ true → number_of names word < length names
+pub number_named : (names : List Word) (word : Word) → list_any (λ name. bytes_eq name word) names ≡ true → number_among_names names word < length names
 number_named names word is = number_small _ (length names) (found_place names word is)
 
 -- a TCP that was added before is one of the TCPs
@@ -85,8 +85,8 @@ unless_unknown false fault is = absurd cc
 
 -- what a terminal's ADD names is there
 pub record Known (commands : Commands) (programs : List Word) (terminal : TermCommand) : Type 0 where
-  pub pair : number_of (tcp_names commands) terminal.tcp < length commands.tcps
-  pub program : number_of programs terminal.program < length programs
+  pub pair : number_among_names (tcp_names commands) terminal.tcp < length commands.tcps
+  pub program : number_among_names programs terminal.program < length programs
 
 known_one : (commands : Commands) (programs : List Word) (t : TermCommand) → unknown_terminal commands programs t ≡ [] → Known commands programs t
 known_one commands programs t is =
@@ -103,7 +103,7 @@ all_known commands programs (t ∷ ts) is =
     let parts = append-none (unknown_terminal commands programs t) (flat_map (unknown_terminal commands programs) ts) is in
     (known_one commands programs t parts.0, all_known commands programs ts parts.1)
 
-pub all_served : (servers : List Word) (cs : List ClassCommand) → flat_map (unknown_class servers) cs ≡ [] → AllByRecursion (λ c. number_of servers c.program < length servers) cs
+pub all_served : (servers : List Word) (cs : List ClassCommand) → flat_map (unknown_class servers) cs ≡ [] → AllByRecursion (λ c. number_among_names servers c.program < length servers) cs
 all_served servers [] is = tt
 all_served servers (c ∷ cs) is =
     let parts = append-none (unknown_class servers c) (flat_map (unknown_class servers) cs) is in
@@ -139,14 +139,14 @@ terminals_are system commands programs sections (t ∷ ts) pairs sources known f
             program = omega (arith, known.0.program, sources);
             restarts = few.0;
             few = own.few;
-            keys = All-from_recursion HasKey (entries_for sections t.name) own.keys;
+            keys = All-from_recursion HasFunctionKey (entries_for sections t.name) own.keys;
           },
           rest,
         )
     go false rest = rest
 
 pub classes_are : (system : System) (servers : List Word) (cs : List ClassCommand) → length system.servers ≡ length servers
-    → AllByRecursion (λ c. number_of servers c.program < length servers) cs → AllByRecursion FewProcesses cs → AllByRecursion (IsClass system) (map (class_of servers) cs)
+    → AllByRecursion (λ c. number_among_names servers c.program < length servers) cs → AllByRecursion FewProcesses cs → AllByRecursion (IsClass system) (map (class_from_command servers) cs)
 classes_are system servers [] sources known few = tt
 classes_are system servers (c ∷ cs) sources known few =
     (record { server = omega (arith, known.0, sources); some = few.0.0; few = few.0.1 }, classes_are system servers cs sources known.1 few.1)

@@ -10,7 +10,7 @@ use Rattle.pw_names.specs.Names.{names_of}
 use Rattle.pw_tables.specs.Tables.{class_names}
 use Rattle.pw_tables.specs.Unknown.{told_of}
 use Rattle.pw_deck.specs.Parts.{parts_of, program_names, server_names}
-use Rattle.pw_deck.specs.declared.deck.Deck.{Deck}
+use Rattle.pw_deck.specs.declared.deck.ParsedDeck.{ParsedDeck}
 use Rattle.pw_deck.specs.declared.parts.Parts.{Parts}
 
 -- the input is not too long
@@ -30,7 +30,7 @@ links_of parts = record {
 }
 
 -- what a deck says, by what its sections say, or the first fault of what is looked at once all of them are read
-abbrev pub deck_in : List ℕ → Parts → Result Deck Fault
+abbrev pub deck_in : List ℕ → Parts → Result ParsedDeck Fault
 deck_in bytes parts = do
   done ← end_found bytes parts.has_end
   done ← names_of parts.requesters parts.servers (links_of parts)
@@ -38,7 +38,7 @@ deck_in bytes parts = do
   Ok (record { told = told; requesters = parts.requesters; servers = parts.servers })
 
 -- what a deck says, or its first fault
-abbrev pub deck_of : List ℕ → Result Deck Fault
+abbrev pub deck_of : List ℕ → Result ParsedDeck Fault
 deck_of bytes = do
   done ← sized bytes
   parts ← parts_of bytes

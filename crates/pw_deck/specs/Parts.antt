@@ -13,7 +13,7 @@ use Rattle.pw_sections.specs.Parts.{front, sections}
 use Rattle.pw_sections.specs.declared.heading.Heading.{Heading}
 use Rattle.pw_sections.specs.declared.heading.Heading.TheVariants as heading
 use Rattle.pw_server.specs.Servers.{server_of}
-use Rattle.pw_tables.specs.Objects.{no_objects, one_more, pathcom_section, file_section, entries_section, fail_section, log_section}
+use Rattle.pw_tables.specs.Objects.{no_objects, section_admitted, pathcom_section, file_section, entries_section, fail_section, log_section}
 use Rattle.pw_tables.specs.Pieces.{section_line, section_text}
 use Rattle.pw_tables.specs.declared.objects.Objects.{Objects}
 use Rattle.pw_words.specs.Words.{Word}
@@ -34,14 +34,14 @@ has_server parts name = list_any (λ server. bytes_eq server.name name) parts.se
 -- a requester
 abbrev pub requester_section : Parts → ℕ → List ℕ → Word → Result Parts Fault
 requester_section parts line text name = do
-  done ← one_more line (has_requester parts name) (nat_le most_programs (length parts.requesters))
+  done ← section_admitted line (has_requester parts name) (nat_le most_programs (length parts.requesters))
   requester ← requester_of name text (line + 1)
   Ok (record parts { requesters = parts.requesters ++ requester ∷ [] })
 
 -- a server
 abbrev pub server_section : Parts → ℕ → List ℕ → Word → Result Parts Fault
 server_section parts line text name = do
-  done ← one_more line (has_server parts name) (nat_le most_servers (length parts.servers))
+  done ← section_admitted line (has_server parts name) (nat_le most_servers (length parts.servers))
   server ← server_of name text (line + 1)
   Ok (record parts { servers = parts.servers ++ server ∷ [] })
 

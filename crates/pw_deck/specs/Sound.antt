@@ -4,7 +4,7 @@ use Rattle.pw_code.specs.Valid.{IsTerminal, IsClass, IsDeckFile, HasNames, HasFe
 use Rattle.pw_code.specs.declared.code.Code.{Code}
 use Rattle.pw_code.specs.declared.field.ScreenTable.{ScreenTable}
 use Rattle.pw_code.specs.declared.system.System.{System}
-use Rattle.pw_deck.specs.declared.deck.Deck.{Deck}
+use Rattle.pw_deck.specs.declared.deck.ParsedDeck.{ParsedDeck}
 
 -- what a valid system has besides the code of its programs
 pub record AreTables (system : System) : Type 0 where
@@ -15,11 +15,11 @@ pub record AreTables (system : System) : Type 0 where
   pub few : HasFew system
 
 -- the system of a deck, with the code of its programs and their screens
-abbrev pub with_code : Deck → List Code → List Code → List ScreenTable → System
+abbrev pub with_code : ParsedDeck → List Code → List Code → List ScreenTable → System
 with_code deck programs servers screens = record deck.told.system { programs = programs; servers = servers; screens = screens }
 
 -- whatever the programs of a deck are compiled to, its tables are those of a valid system
-abbrev pub HasTables : Deck → Type 0
-HasTables deck =
+abbrev pub HasValidTables : ParsedDeck → Type 0
+HasValidTables deck =
     (programs servers : List Code) (screens : List ScreenTable) → length programs ≡ length deck.requesters → length servers ≡ length deck.servers
     → length screens < 2 ^ 32 → AreTables (with_code deck programs servers screens)

@@ -3,8 +3,8 @@ ghost use Rattle.pw_base.specs.First.{Gives, Refuses};
 ghost use Rattle.pw_base.specs.Limits.{longest_input};
 ghost use Rattle.pw_deck.specs.Deck.{end_found, deck_in, deck_of};
 ghost use Rattle.pw_deck.specs.Parts.{parts_of};
-ghost use Rattle.pw_deck.specs.Sound.{HasTables};
-ghost use Rattle.pw_deck.specs.declared.deck.Deck.{Deck as SeenDeck};
+ghost use Rattle.pw_deck.specs.Sound.{HasValidTables};
+ghost use Rattle.pw_deck.specs.declared.deck.ParsedDeck.{ParsedDeck as SeenDeck};
 
 use crate::named::{requester_names, server_names};
 use crate::parts::Parts;
@@ -19,14 +19,14 @@ use pw_scobol::requester::Requester;
 use pw_server::server::Server;
 use pw_tables::piece::line_count;
 use pw_tables::tables::class_names;
-use pw_tables::told::{Told, tell};
+use pw_tables::told::{DeckTables, tell};
 use std::alloc::Global;
 
 /// What a deck says. Its programs are trees yet, and stand beside the tables of the system.
 #[derive(Drop)]
-pub struct Deck {
+pub struct ParsedDeck {
     /// The tables, the failure lines and the log.
-    pub told: Told,
+    pub told: DeckTables,
     /// The programs of terminals.
     pub requesters: List<Requester>,
     /// The programs of servers.
@@ -50,7 +50,7 @@ fn end_found(bytes: &[u8], has_end: bool) -> Result<(), Refusal>
 
 /// The deck of what its sections say. It refuses exactly with the first of the faults that are looked
 /// for once all sections are read.
-fn finish(alloc: Global, bytes: &[u8], parts: Parts) -> Result<Deck, Refusal>
+fn finish(alloc: Global, bytes: &[u8], parts: Parts) -> Result<ParsedDeck, Refusal>
     requires size { length bytes.now ≤ longest_input }
     requires parts { parts_of bytes.now ≡ Ok parts }
     ensures { Gives (λ deck. deck) result (deck_in bytes.now parts.entry) }
@@ -81,7 +81,7 @@ fn finish(alloc: Global, bytes: &[u8], parts: Parts) -> Result<Deck, Refusal>
         programs.as_slice(),
         server_programs.as_slice(),
     )?;
-    Ok(Deck {
+    Ok(ParsedDeck {
         told,
         requesters,
         servers,
@@ -96,9 +96,9 @@ fn finish(alloc: Global, bytes: &[u8], parts: Parts) -> Result<Deck, Refusal>
 /// 161, 162, 123 in procedures, 163, 164, 183 and 185 in this order, each by line.
 ///
 /// The tables of a deck are those of a valid system, whatever its programs are compiled to.
-pub fn read_deck(alloc: Global, bytes: &[u8]) -> Result<Deck, Refusal>
+pub fn read_deck(alloc: Global, bytes: &[u8]) -> Result<ParsedDeck, Refusal>
     ensures gives { Gives (λ deck. deck) result (deck_of bytes.now) }
-    ensures tables { IfOk result (λ deck. HasTables deck) }
+    ensures tables { IfOk result (λ deck. HasValidTables deck) }
 {
     if bytes.len() > MAX_INPUT {
         return Err(Refusal::At {

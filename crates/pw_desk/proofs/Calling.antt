@@ -8,11 +8,11 @@ use Rattle.pw_tmf.specs.Answers.{Leaves}
 use Rattle.pw_tmf.specs.Told.{Told}
 use Rattle.pw_tmf.specs.declared.answer.DiscFault.{DiscFault}
 use Rattle.pw_tmf.specs.declared.answer.DiscFault.TheVariants as fault
-use Rattle.pw_trail.specs.Calls.{Commits, Moment, Stands, moment}
+use Rattle.pw_trail.specs.Calls.{Commits, Moment, DiskHoldsUnits, moment}
 use Rattle.pw_trail.specs.Format.{units_in}
 use Rattle.pw_trail.specs.Stored.{those}
 use Rattle.pw_trail.specs.declared.changes.UnitChanges.{UnitChanges}
-use Rattle.pw_volume.specs.Life.{Calls, Endless, Fails, Life, Passes, Untold}
+use Rattle.pw_volume.specs.Life.{Calls, Endless, OneCallFails, Life, Passes, Untold}
 use Rattle.pw_volume.specs.MemDisk.{MayLeave, MemDiskState, life_by}
 
 -- ---- lives
@@ -31,11 +31,11 @@ pass-more m n (Calls left) mid last before behind =
     (omega (arith, before.0, then.0), then.1 ∙ ap Calls (omega arith))
 
 -- a life that fails within four calls behind those of so many records
-ends-behind : (n : ℕ) (life mid last : Life) → Passes (4 * n) life mid → Fails 4 mid last → EndsBehind n life
+ends-behind : (n : ℕ) (life mid last : Life) → Passes (4 * n) life mid → OneCallFails 4 mid last → EndsBehind n life
 ends-behind n Untold mid last passes fails = tt
-ends-behind n Endless mid last passes fails = subst (λ (l : Life). Fails 4 l last) passes fails
+ends-behind n Endless mid last passes fails = subst (λ (l : Life). OneCallFails 4 l last) passes fails
 ends-behind n (Calls left) mid last passes fails =
-    let then : Fails 4 (Calls (left - 4 * n)) last = subst (λ (l : Life). Fails 4 l last) passes.1 fails in
+    let then : OneCallFails 4 (Calls (left - 4 * n)) last = subst (λ (l : Life). OneCallFails 4 l last) passes.1 fails in
     (passes.0, omega (arith, passes.0, then.0))
 
 -- ---- a trail whose disk works, and one whose disk has failed
@@ -61,7 +61,7 @@ module _ (files : List FileInfo) (life : Life) (trail : TrailState) (units : Lis
       }
 
 -- at the start
-pub starts : (trail : TrailState) → Stands held MayLeave (moment trail.files trail.disk trail.is_broken) (Ok [])
+pub starts : (trail : TrailState) → DiskHoldsUnits held MayLeave (moment trail.files trail.disk trail.is_broken) (Ok [])
     → trail.faults ≡ 0 → IsKept trail.files (life_by trail.disk.left) trail
 starts trail stands none =
     going trail.files (life_by trail.disk.left) trail [] refl
@@ -81,9 +81,9 @@ module _ (files : List FileInfo) (life : Life) (old new : TrailState) (k : IsKep
           going files life new (units_of old) (same_files ∙ k.files_are)
           (record {
             stands =
-                subst (λ (fs : List FileInfo). Stands held MayLeave (moment fs new.disk new.is_broken) (Ok (units_of old))) (sym same_files)
-                (subst (λ (d : MemDiskState). Stands held MayLeave (moment old.files d new.is_broken) (Ok (units_of old))) (sym same_disk)
-                (subst (λ (b : Bool). Stands held MayLeave (moment old.files old.disk b) (Ok (units_of old))) (sym same_broken) goes.stands));
+                subst (λ (fs : List FileInfo). DiskHoldsUnits held MayLeave (moment fs new.disk new.is_broken) (Ok (units_of old))) (sym same_files)
+                (subst (λ (d : MemDiskState). DiskHoldsUnits held MayLeave (moment old.files d new.is_broken) (Ok (units_of old))) (sym same_disk)
+                (subst (λ (b : Bool). DiskHoldsUnits held MayLeave (moment old.files old.disk b) (Ok (units_of old))) (sym same_broken) goes.stands));
             passed =
                 subst (λ (d : MemDiskState). Passes (4 * length (units_of old)) life (life_by d.left)) (sym same_disk) goes.passed;
             faults = steady is ∙ goes.faults;
@@ -119,7 +119,7 @@ module _ (files : List FileInfo) (life : Life) (old new : TrailState) (k : IsKep
         → (IsErrOf answer fault.Failed → (new.is_broken ≡ true)
         × (units_in old.files new.disk.synced ≡ units_in old.files old.disk.bytes))
         → OnOk answer (Passes 4 (life_by old.disk.left) (life_by new.disk.left))
-        → (IsErrOf answer fault.Failed → Fails 4 (life_by old.disk.left) (life_by new.disk.left))
+        → (IsErrOf answer fault.Failed → OneCallFails 4 (life_by old.disk.left) (life_by new.disk.left))
         → (IsErrOf answer fault.Memory → life_by new.disk.left ≡ life_by old.disk.left)
         → old.is_broken ≡ false → IsKept files life new
     goes-on (Ok done) commits ok err unsettled passes fails uncounted is =
@@ -162,7 +162,7 @@ module _ (files : List FileInfo) (life : Life) (old new : TrailState) (k : IsKep
         × (units_in old.files new.disk.synced ≡ units_in old.files old.disk.bytes))
         → OnOk answer (Passes 4 (life_by old.disk.left) (life_by new.disk.left))
         → (old.is_broken ≡ false → IsErrOf answer fault.Failed
-        → Fails 4 (life_by old.disk.left) (life_by new.disk.left))
+        → OneCallFails 4 (life_by old.disk.left) (life_by new.disk.left))
         → (IsErrOf answer fault.Memory → life_by new.disk.left ≡ life_by old.disk.left)
         → IsKept files life new
     keeps-commit answer commits ok err unsettled passes fails uncounted = by old.is_broken refl

@@ -6,7 +6,7 @@ use Rattle.pw_base.specs.declared.fault.Refusal.TheVariants.{At, Memory}
 use Rattle.pw_code.specs.Limits.{most_log_lines}
 use Rattle.pw_code.specs.declared.lock.LockRule.TheVariants.{ReadersShare}
 use Rattle.pw_deck.specs.Deck.{deck_of}
-use Rattle.pw_deck.specs.declared.deck.Deck as trees
+use Rattle.pw_deck.specs.declared.deck.ParsedDeck as trees
 use Rattle.pw_whole.proofs.Decks.{IsOf}
 use Rattle.pw_desk.proofs.Lifts.{AreOnce, AreRead, AreSerial, reports}
 use Rattle.pw_code.specs.declared.system.System.{System}
@@ -14,7 +14,7 @@ use Rattle.pw_desk.specs.Meaning.{meaning, named}
 use Rattle.pw_disc.specs.Pair.{PairKept}
 use Rattle.pw_disc_call.specs.Script.{script_of}
 use Rattle.pw_disc_call.specs.declared.script.DiscLine.{DiscLine}
-use Rattle.pw_desk.specs.disc.PairRuns.{Comes, pair_deck_of}
+use Rattle.pw_desk.specs.disc.PairRuns.{IsPairRun, pair_deck_of}
 use Rattle.pw_desk.specs.disc.Pairs.{HasLost, RunsOver}
 use Rattle.pw_desk.specs.declared.disc.ending.PairRan.{PairRan}
 use Rattle.pw_desk.specs.declared.disc.ending.PairRan.TheVariants.{Ended, Lost}
@@ -30,7 +30,7 @@ deck-refuses bytes Memory is = tt
 deck-refuses bytes (At line code) is = rw is refl
 
 -- neither has one
-both-say : (bytes : List ℕ) (deck : trees.Deck) (lines : List DiscLine) → deck_of bytes ≡ Ok deck
+both-say : (bytes : List ℕ) (deck : trees.ParsedDeck) (lines : List DiscLine) → deck_of bytes ≡ Ok deck
     → script_of bytes ≡ Ok lines → pair_deck_of bytes ≡ Ok lines
 both-say bytes deck lines says is = rw says is
 
@@ -47,7 +47,7 @@ module _ (serial : AreSerial) (once : AreOnce) (read : AreRead) (bytes : List �
       (subst (λ (b : Behaviour). HasLost b whole.system events lines pair) same lost)
 
   pub comes : (ran : PairRan) (text : List ℕ) → RunsOver whole.system whole.script.lines events lines ran text
-      → Comes bytes events ran text
+      → IsPairRun bytes events ran text
   comes (Ended ended) text runs = record {
     lines = lines;
     says = both-say bytes of.deck lines of.says is;

@@ -5,7 +5,7 @@ use Rattle.pw_code.specs.declared.system.System.{System}
 use Rattle.pw_desk.specs.disc.Pairs.{HasLost}
 use Rattle.pw_disc.specs.Lines.{may_lose}
 use Rattle.pw_disc.specs.Pair.{PairKept, PairState, state_of}
-use Rattle.pw_disc.specs.declared.standing.Standing.TheVariants.{Two}
+use Rattle.pw_disc.specs.declared.standing.DiscPairState.TheVariants.{Two}
 use Rattle.pw_disc_call.specs.declared.script.DiscLine.{DiscLine}
 use Rattle.pw_event.specs.declared.script.FailLine.{FailLine}
 use Rattle.pw_exec.specs.OfSystem.{behaviour}
@@ -13,9 +13,9 @@ use Rattle.pw_monitor.specs.States.{WorldState, seen}
 use Rattle.pw_monitor_world.specs.Worlds.{Books, IsDiscOf, IsWorld}
 use Rattle.pw_run.proofs.Left.{failed, left-is}
 use Rattle.pw_run.proofs.Starts.{starts}
-use Rattle.pw_run.specs.Over.{Leaves}
+use Rattle.pw_run.specs.Over.{LeavesWorld}
 use Rattle.pw_run.specs.Runs.{IsLeft, Writing}
-use Rattle.pw_run.specs.declared.over.Over.TheVariants as come
+use Rattle.pw_run.specs.declared.over.RunEnding.TheVariants as come
 use Rattle.pw_tmf.specs.Starting.{told_at_start}
 use Rattle.pw_tmf.specs.Told.{Told}
 
@@ -39,7 +39,7 @@ no-writing = record { before = None; now = None; faults = 0; faults_then = 0 }
 -- a run over a new pair that stops at a fault of its disc has lost the pair
 pub pair-lost : (system : System) (script : List FailLine) (lines : List DiscLine) (events : ℕ) (disc : PairKept)
     → state_of disc ≡ new-pair system lines → may_lose lines ≡ true → (world : WorldState PairKept) (books : Books)
-    → IsWorld (seen told-by world) books → Leaves told-by system script events disc (come.Failed world)
+    → IsWorld (seen told-by world) books → LeavesWorld told-by system script events disc (come.Failed world)
     → (left : PairKept) → left ≡ world.keep.disc → HasLost (behaviour script system) system events lines left
 pair-lost system script lines events disc made may world books is leaves left left_is =
     let told : told-by disc ≡ told_at_start system = ap (λ (pair : PairState). pair.told) made in

@@ -6,7 +6,7 @@ use Rattle.pw_code.specs.declared.lock.LockRule.{LockRule}
 use Rattle.pw_code.specs.declared.lock.LockRule.TheVariants.{ReadersShare}
 use Rattle.pw_code.specs.declared.system.System.{System}
 use Rattle.pw_deck.specs.Deck.{deck_of}
-use Rattle.pw_deck.specs.declared.deck.Deck as trees
+use Rattle.pw_deck.specs.declared.deck.ParsedDeck as trees
 use Rattle.pw_whole.proofs.Decks.{IsOf}
 use Rattle.pw_desk.specs.Headline.{Prints, Reports}
 use Rattle.pw_desk.specs.Meaning.{meaning, named}
@@ -20,8 +20,8 @@ use Rattle.pw_onecopy.specs.IsBehaviour.{IsBehaviour}
 use Rattle.pw_paired.specs.Headline.{EndsOnce, IsSerializable}
 use Rattle.pw_paired.specs.Step.{IsRun}
 use Rattle.pw_listing.specs.Meaning.{report_text}
-use Rattle.pw_run.specs.Endings.{RunsTo}
-use Rattle.pw_run.specs.declared.ending.Ended.{Ended}
+use Rattle.pw_run.specs.Endings.{IsReportOfRun}
+use Rattle.pw_run.specs.declared.ending.LogEnding.{LogEnding}
 use Rattle.pw_script.specs.Log.{rule_of}
 use Rattle.pw_told.specs.ReadFrom.{IsReadFrom}
 use Rattle.pw_whole.specs.Short.{IsSmall}
@@ -38,7 +38,7 @@ AreOnce = (sys : Behaviour) → IsBehaviour sys → (log : List Event) → IsRun
 
 -- the report of a run of so many entries is read back as it
 abbrev pub AreRead : Type 0
-AreRead = (rule : LockRule) (bytes : List ℕ) (deck : trees.Deck) → deck_of bytes ≡ Ok deck
+AreRead = (rule : LockRule) (bytes : List ℕ) (deck : trees.ParsedDeck) → deck_of bytes ≡ Ok deck
     → IsSmall (compiled deck).system → (log : List Event) → IsRun (meaning rule deck) log → length log ≤ most_log_lines
     → IsReadFrom (named rule deck) (report_text (named rule deck) (meaning rule deck) log) log
 
@@ -48,7 +48,7 @@ small-tree : (bytes : List ℕ) (whole : Deck) (of : IsOf bytes whole) → IsSma
 small-tree bytes whole of small = subst (λ (w : Deck). IsSmall w.system) of.is small
 
 -- a run is printed
-prints : AreSerial → AreOnce → AreRead → (rule : LockRule) (bytes : List ℕ) (deck : trees.Deck) → deck_of bytes ≡ Ok deck
+prints : AreSerial → AreOnce → AreRead → (rule : LockRule) (bytes : List ℕ) (deck : trees.ParsedDeck) → deck_of bytes ≡ Ok deck
     → IsSmall (compiled deck).system → IsBehaviour (meaning rule deck) → (log : List Event) → IsRun (meaning rule deck) log
     → length log ≤ most_log_lines → (text : List ℕ) → text ≡ report_text (named rule deck) (meaning rule deck) log
     → Prints rule deck log text
@@ -63,13 +63,13 @@ prints serial once read rule bytes deck says small behaves log run few text is =
 -- a run of a system
 pub reports : AreSerial → AreOnce → AreRead → (bytes : List ℕ) (whole : Deck) (of : IsOf bytes whole)
     → IsSmall whole.system → (sys : Behaviour) → IsBehaviour sys → sys ≡ meaning ReadersShare of.deck
-    → (events : ℕ) → events ≤ most_log_lines → (ran : Ended) (text : List ℕ)
-    → RunsTo sys whole.system events ran text → Reports bytes events ran text
+    → (events : ℕ) → events ≤ most_log_lines → (ran : LogEnding) (text : List ℕ)
+    → IsReportOfRun sys whole.system events ran text → Reports bytes events ran text
 reports serial once read bytes whole of small sys behaves same events few ran text runs =
     let system : whole.system ≡ named ReadersShare of.deck = ap (λ (w : Deck). w.system) of.is in
-    let to : RunsTo (meaning ReadersShare of.deck) (named ReadersShare of.deck) events ran text =
-    subst (λ (s : System). RunsTo (meaning ReadersShare of.deck) s events ran text) system
-    (subst (λ (b : Behaviour). RunsTo b whole.system events ran text) same runs) in
+    let to : IsReportOfRun (meaning ReadersShare of.deck) (named ReadersShare of.deck) events ran text =
+    subst (λ (s : System). IsReportOfRun (meaning ReadersShare of.deck) s events ran text) system
+    (subst (λ (b : Behaviour). IsReportOfRun b whole.system events ran text) same runs) in
     record {
       deck = of.deck;
       says = of.says;
@@ -80,7 +80,7 @@ reports serial once read bytes whole of small sys behaves same events few ran te
     }
 
 -- the replay of a log
-answers : AreSerial → AreOnce → AreRead → (rule : LockRule) (bytes : List ℕ) (deck : trees.Deck) → deck_of bytes ≡ Ok deck
+answers : AreSerial → AreOnce → AreRead → (rule : LockRule) (bytes : List ℕ) (deck : trees.ParsedDeck) → deck_of bytes ≡ Ok deck
     → IsSmall (compiled deck).system → IsBehaviour (meaning rule deck) → length deck.told.log ≤ most_log_lines
     → (verified : Verified) (text : List ℕ) → Replays (meaning rule deck) (named rule deck) deck.told.log verified text
     → Answers rule deck verified text
@@ -97,7 +97,7 @@ pub verifies : AreSerial → AreOnce → AreRead → (bytes : List ℕ) (whole :
     → sys ≡ meaning (rule_of of.deck.told.version) of.deck → (verified : Verified) (text : List ℕ)
     → Replays sys (ruled whole) whole.log verified text → Verifies bytes verified text
 verifies serial once read bytes whole of small sys behaves same verified text replays =
-    let deck : trees.Deck = of.deck in
+    let deck : trees.ParsedDeck = of.deck in
     let rule : LockRule = rule_of deck.told.version in
     let meant : Replays (meaning rule deck) (ruled whole) whole.log verified text =
     subst (λ (b : Behaviour). Replays b (ruled whole) whole.log verified text) same replays in

@@ -15,22 +15,22 @@ use Rattle.pw_paired.specs.Step.{IsRun, after, is_finished}
 use Rattle.pw_paired.specs.Units.{committed_files}
 use Rattle.pw_desk.specs.recovery.Commits.{commits}
 use Rattle.pw_desk.specs.recovery.Kept.{EndsBehind, HasStopped, IsKept, TrailState, life_to, told_in, units_of}
-use Rattle.pw_desk.specs.recovery.Ran.{EndsOver, Ran}
-use Rattle.pw_desk.specs.recovery.Runs.{AreAfter, EndsSo, RecoversTo, as_recovered}
+use Rattle.pw_desk.specs.recovery.Ran.{EndsOver, RanOverTrail}
+use Rattle.pw_desk.specs.recovery.Runs.{AreAfter, EndsRecoveredRun, RecoversTo, as_recovered}
 use Rattle.pw_desk.specs.declared.recovery.ending.Recovered.{Recovered}
 use Rattle.pw_desk.specs.declared.recovery.ending.Recovered.TheVariants.{Full, Irregular, Regular, Stopped}
 use Rattle.pw_run.specs.Endings.{EndsAs}
-use Rattle.pw_run.specs.declared.ending.Ended.{Ended}
-use Rattle.pw_run.specs.declared.ending.Ended.TheVariants as ended
+use Rattle.pw_run.specs.declared.ending.LogEnding.{LogEnding}
+use Rattle.pw_run.specs.declared.ending.LogEnding.TheVariants as ended
 use Rattle.pw_tmf.specs.Committed.{committed}
 use Rattle.pw_tmf.specs.Told.{Told}
 use Rattle.pw_trail.specs.Committing.{LeadsTo}
 use Rattle.pw_trail.specs.Files.{files_after, files_read}
 use Rattle.pw_trail.specs.declared.changes.UnitChanges.{UnitChanges}
 use Rattle.pw_volume.specs.Life.{Life}
-use Rattle.pw_run.specs.Ends.{GoesOn, IsFor}
+use Rattle.pw_run.specs.Ends.{RunGoesOn, IsFor}
 
-over : (files : List FileInfo) (life : Life) (fit events : ℕ) (sys : Behaviour) (log : List Event) (ended : Ended)
+over : (files : List FileInfo) (life : Life) (fit events : ℕ) (sys : Behaviour) (log : List Event) (ended : LogEnding)
     → EndsAs ended events sys log → EndsOver (as_recovered ended) life fit files events sys log
 over files life fit events sys log ended.Regular h = h
 over files life fit events sys log ended.Irregular h = h
@@ -55,8 +55,8 @@ module _ (files : List FileInfo) (life : Life) (fit : ℕ) (system : System) (li
   are-committed = are ∙ ap (λ (b : Behaviour). committed_files b (after b world.log)) of-system
 
   -- as its log says
-  pub ran-ended : (ended : Ended) → EndsAs ended events sys world.log
-      → Ran files life fit sys events (as_recovered ended) records
+  pub ran-ended : (ended : LogEnding) → EndsAs ended events sys world.log
+      → RanOverTrail files life fit sys events (as_recovered ended) records
   ran-ended ended ends = record {
     log = world.log;
     run = is-run;
@@ -87,8 +87,8 @@ module _ (files : List FileInfo) (life : Life) (fit : ℕ) (system : System) (li
           are = sym are-committed ∙ (is ∙ (own ∙ ap (λ (fs : List FileInfo). files_after fs units) kept.files_are));
         }
 
-    pub ran-stopped : faults ≡ 0 → HasFailed world → GoesOn world → length world.log ≤ world.limit
-        → commits (sys_of world) world.log ≡ fit → Ran files life fit sys events Stopped records
+    pub ran-stopped : faults ≡ 0 → HasFailed world → RunGoesOn world → length world.log ≤ world.limit
+        → commits (sys_of world) world.log ≡ fit → RanOverTrail files life fit sys events Stopped records
     ran-stopped none failed on room counts =
         let stop : HasStopped life (units_of trail) trail = kept.stopped (has-failed none failed) in
         let open_end : length world.log ≢ world.limit = λ full. on.room (full, on.unfinished) in
@@ -113,7 +113,7 @@ ends-so n zero ends = absurd ends
 ends-so n (suc calls) ends = (omega arith, omega (arith, ends.0, ends.1))
 
 pub so : (recovered : Recovered) (at : ℕ) (files : List FileInfo) (events : ℕ) (deck : Behaviour) (log : List Event)
-    → EndsOver recovered (life_to at) ((at - 1) / 4) files events deck log → EndsSo recovered at files events deck log
+    → EndsOver recovered (life_to at) ((at - 1) / 4) files events deck log → EndsRecoveredRun recovered at files events deck log
 so Regular at files events deck log h = h
 so Irregular at files events deck log h = h
 so Full at files events deck log h = h
@@ -131,7 +131,7 @@ so Stopped at files events deck log h =
 pub recovers-to : (system : System) (sys : Behaviour) (events at fit : ℕ) (life : Life) (files : List FileInfo)
     (recovered : Recovered) (records : ℕ → List (List ℕ)) (text : List ℕ)
     → ((log : List Event) → IsRun sys log → files_part system (committed_files sys (after sys log)) ≡ files_text system sys log)
-    → life ≡ life_to at → fit ≡ (at - 1) / 4 → files ≡ system.files → Ran files life fit sys events recovered records
+    → life ≡ life_to at → fit ≡ (at - 1) / 4 → files ≡ system.files → RanOverTrail files life fit sys events recovered records
     → text ≡ files_part system records → RecoversTo sys system events at recovered text
 recovers-to system sys events at fit life files recovered records text printed lives fits own ran is = record {
   log = ran.log;

@@ -20,16 +20,16 @@ use Rattle.pw_generated.specs.Faultless.{IsFaultless}
 use Rattle.pw_listing.specs.Meaning.{files_text, report_text}
 use Rattle.pw_onecopy.specs.Behaviour.{Behaviour}
 use Rattle.pw_paired.specs.Step.{IsRun}
-use Rattle.pw_run.specs.Endings.{EndsAs, RunsTo}
-use Rattle.pw_run.specs.declared.ending.Ended.{Ended}
+use Rattle.pw_run.specs.Endings.{EndsAs, IsReportOfRun}
+use Rattle.pw_run.specs.declared.ending.LogEnding.{LogEnding}
 use Rattle.pw_whole.specs.Whole.{whole_of}
 use Rattle.pw_whole.specs.declared.deck.Deck.{Deck}
 
 -- its report is one of this system and script
-pub runs-to : (system own : System) (script lines : List FailLine) (events : ℕ) (log : List Event) (ended : Ended)
+pub runs-to : (system own : System) (script lines : List FailLine) (events : ℕ) (log : List Event) (ended : LogEnding)
     (text : List ℕ) → own ≡ system → lines ≡ script → IsRun (behaviour lines own) log
     → EndsAs ended events (behaviour script system) log → text ≡ report_text own (behaviour lines own) log
-    → RunsTo (behaviour script system) system events ended text
+    → IsReportOfRun (behaviour script system) system events ended text
 runs-to system own script lines events log ended text same written run ends is = record {
   log = log;
   run = subst (λ ls. IsRun (behaviour ls system) log) written
@@ -40,7 +40,7 @@ runs-to system own script lines events log ended text same written run ends is =
 }
 
 -- and so are its files
-pub tries-to : (system own : System) (script lines : List FailLine) (log : List Event) (ended : Ended)
+pub tries-to : (system own : System) (script lines : List FailLine) (log : List Event) (ended : LogEnding)
     (text : List ℕ) → own ≡ system → lines ≡ script → IsRun (behaviour lines own) log
     → EndsAs ended most_log_lines (behaviour script system) log → text ≡ files_text own (behaviour lines own) log
     → TriesSystem (behaviour script system) system ended text
@@ -55,7 +55,7 @@ tries-to system own script lines log ended text same written run ends is = recor
 
 -- what is said of the system of a generated deck is said of the deck
 pub tries : (seed terminals : ℕ) (bytes : List ℕ) → bytes ≡ generated seed terminals → (whole : Deck)
-    (of : IsOf bytes whole) (sys : Behaviour) → sys ≡ meaning ReadersShare of.deck → (ended : Ended) (text : List ℕ)
+    (of : IsOf bytes whole) (sys : Behaviour) → sys ≡ meaning ReadersShare of.deck → (ended : LogEnding) (text : List ℕ)
     → TriesSystem sys whole.system ended text → Tries seed terminals ended text
 tries seed terminals bytes are whole of sys same ended text to =
     let system : whole.system ≡ named ReadersShare of.deck = ap (λ (w : Deck). w.system) of.is in
@@ -68,7 +68,7 @@ tries seed terminals bytes are whole of sys same ended text to =
 
 pub tried : {E : Type 0} (seed terminals : ℕ) (bytes : List ℕ) → bytes ≡ generated seed terminals → (whole : Deck)
     (of : IsOf bytes whole) (sys : Behaviour) → sys ≡ meaning ReadersShare of.deck
-    → (result : Result (Ended × List ℕ) E) → IfOk result (λ output. TriesSystem sys whole.system output.0 output.1)
+    → (result : Result (LogEnding × List ℕ) E) → IfOk result (λ output. TriesSystem sys whole.system output.0 output.1)
     → IfOk result (λ output. Tries seed terminals output.0 output.1)
 tried seed terminals bytes are whole of sys same (Ok output) to =
     tries seed terminals bytes are whole of sys same output.0 output.1 to

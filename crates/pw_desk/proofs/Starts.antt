@@ -8,7 +8,7 @@ use Rattle.pw_desk.specs.recovery.Kept.{IsKept, TrailState, held, life_to}
 use Rattle.pw_tmf.specs.Faulty.{with_faults}
 use Rattle.pw_tmf.specs.Starting.{told_at_start}
 use Rattle.pw_tmf.specs.Told.{Told}
-use Rattle.pw_trail.specs.Calls.{Stands, moment}
+use Rattle.pw_trail.specs.Calls.{DiskHoldsUnits, moment}
 use Rattle.pw_trail.specs.Files.{files_after, told_with}
 use Rattle.pw_trail.specs.Format.{units_in}
 use Rattle.pw_trail.specs.Restoring.{IsReadBack}
@@ -45,20 +45,20 @@ told-counted system told faults is none = ap (λ (n : ℕ). with_faults n told) 
 -- a stop leaves what stands on its disk
 pub stands-stopping : (files other : List FileInfo) (disk now : MemDiskState) (broken next : Bool) (calls : ℕ)
     (read : Result (List UnitChanges) ℕ) → other ≡ files → now ≡ record disk { left = Some calls } → next ≡ broken
-    → Stands held MayLeave (moment files disk broken) read → Stands held MayLeave (moment other now next) read
+    → DiskHoldsUnits held MayLeave (moment files disk broken) read → DiskHoldsUnits held MayLeave (moment other now next) read
 stands-stopping files other disk now broken next calls read same_files same_disk same_broken stands =
-    subst (λ (fs : List FileInfo). Stands held MayLeave (moment fs now next) read) (sym same_files)
-    (subst (λ (d : MemDiskState). Stands held MayLeave (moment files d next) read) (sym same_disk)
-    (subst (λ (b : Bool). Stands held MayLeave (moment files (record disk { left = Some calls }) b) read) (sym same_broken)
+    subst (λ (fs : List FileInfo). DiskHoldsUnits held MayLeave (moment fs now next) read) (sym same_files)
+    (subst (λ (d : MemDiskState). DiskHoldsUnits held MayLeave (moment files d next) read) (sym same_disk)
+    (subst (λ (b : Bool). DiskHoldsUnits held MayLeave (moment files (record disk { left = Some calls }) b) read) (sym same_broken)
     (record { goes = stands.goes; holds = stands.holds; leaves = stands.leaves })))
 
 -- what it keeps
 pub first-kept : (trail : TrailState) (files : List FileInfo) (bytes : List ℕ) → bytes ≡ 0 ∷ []
-    → Stands held MayLeave (moment trail.files trail.disk trail.is_broken) (units_in files bytes)
+    → DiskHoldsUnits held MayLeave (moment trail.files trail.disk trail.is_broken) (units_in files bytes)
     → trail.faults ≡ 0 → IsKept trail.files (life_by trail.disk.left) trail
 first-kept trail files bytes is stands none =
     starts trail
-    (subst (λ (r : Result (List UnitChanges) ℕ). Stands held MayLeave (moment trail.files trail.disk trail.is_broken) r)
+    (subst (λ (r : Result (List UnitChanges) ℕ). DiskHoldsUnits held MayLeave (moment trail.files trail.disk trail.is_broken) r)
     (no-unit files bytes is) stands) none
 
 -- ---- the life of its disk

@@ -12,9 +12,9 @@ use pw_base::memory::Memory;
 use pw_code::system::System;
 use pw_event::script::Script;
 use pw_monitor::world::World;
-use pw_run::ending::Ended;
+use pw_run::ending::LogEnding;
 use pw_run::gate::Gate;
-use pw_run::over::{Over, run_over};
+use pw_run::over::{RunEnding, run_over};
 use pw_run::taken::let_go;
 use pw_tmf::tmf::Tmf;
 use std::alloc::Global;
@@ -31,7 +31,7 @@ pub fn run_over_tmf<G: Gate, R: Threads + Wait + Sync>(
     workers: u8,
     events: u32,
     gate: &G,
-) -> Result<(Ended, World<Tmf>), Memory>
+) -> Result<(LogEnding, World<Tmf>), Memory>
     requires valid { IsValid system }
     requires deck { IsBehaviour (behaviour script.lines system) }
     requires lines { All (IsLineThere system) script.lines }
@@ -47,8 +47,8 @@ pub fn run_over_tmf<G: Gate, R: Threads + Wait + Sync>(
         return Err(Memory);
     };
     match run_over(rt, alloc, system, script, disc, workers, events, gate)? {
-        Over::Ended(ended, world) => Ok((ended, world)),
-        Over::Failed(world) => {
+        RunEnding::Ended(ended, world) => Ok((ended, world)),
+        RunEnding::Failed(world) => {
             world.into_disc();
             unreachable!()
         }

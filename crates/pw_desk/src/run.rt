@@ -7,7 +7,7 @@ ghost use Rattle.pw_desk.specs.Headline.{Reports};
 ghost use Rattle.pw_exec.specs.OfSystem.{behaviour};
 ghost use Rattle.pw_kept.specs.May.{IsLineThere};
 ghost use Rattle.pw_onecopy.specs.IsBehaviour.{IsBehaviour};
-ghost use Rattle.pw_run.specs.Endings.{RunsTo};
+ghost use Rattle.pw_run.specs.Endings.{IsReportOfRun};
 
 use crate::over_tmf::run_over_tmf;
 use pw_base::bytes::Bytes;
@@ -17,7 +17,7 @@ use pw_code::system::System;
 use pw_event::script::Script;
 use pw_laws::runs::laws::ending_laws;
 use pw_laws::serial::laws::runs_are_serializable;
-use pw_run::ending::Ended;
+use pw_run::ending::LogEnding;
 use pw_run::gate::Gate;
 use pw_run::taken::report_of;
 use pw_told::laws::decks_are_read_back;
@@ -40,7 +40,7 @@ pub fn run<G: Gate, R: Threads + Wait + Sync>(
     workers: u8,
     events: u32,
     gate: &G,
-) -> Result<(Ended, Bytes), Refusal>
+) -> Result<(LogEnding, Bytes), Refusal>
     requires workers { (1 ≤ workers) × (workers ≤ 16) }
     requires events { events ≤ most_log_lines }
     ensures ok { IfOk result (λ output. Reports bytes.now events output.0 output.1) }
@@ -66,14 +66,14 @@ fn run_system<G: Gate, R: Threads + Wait + Sync>(
     workers: u8,
     events: u32,
     gate: &G,
-) -> Result<(Ended, Bytes), Memory>
+) -> Result<(LogEnding, Bytes), Memory>
     requires valid { IsValid system }
     requires deck { IsBehaviour (behaviour script.lines system) }
     requires lines { All (IsLineThere system) script.lines }
     requires few { length script.lines < 2 ^ 32 - 1 }
     requires workers { (1 ≤ workers) × (workers ≤ 16) }
     requires events { events ≤ most_log_lines }
-    ensures { IfOk result (λ output. RunsTo (behaviour script.lines system) system events output.0
+    ensures { IfOk result (λ output. IsReportOfRun (behaviour script.lines system) system events output.0
         output.1) }
 {
     let (ended, world) = run_over_tmf(rt, alloc, system, script, workers, events, gate)?;

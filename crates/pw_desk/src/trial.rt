@@ -14,7 +14,7 @@ use pw_event::script::Script;
 use pw_gen::generate::generate;
 use pw_generated::laws::generated_laws;
 use pw_monitor::replay::MAX_ENTRIES;
-use pw_run::ending::Ended;
+use pw_run::ending::LogEnding;
 use pw_run::gate::Gate;
 use pw_run::taken::files_of;
 use pw_whole::deck::{Deck, read};
@@ -32,7 +32,7 @@ pub fn trial<G: Gate, R: Threads + Wait + Sync>(
     terminals: u32,
     workers: u8,
     gate: &G,
-) -> Result<(Ended, Bytes), Memory>
+) -> Result<(LogEnding, Bytes), Memory>
     requires terminals { (1 ≤ terminals) × (terminals ≤ 64) }
     requires workers { (1 ≤ workers) × (workers ≤ 16) }
     ensures { IfOk result (λ output. Tries seed terminals output.0 output.1) }
@@ -56,7 +56,7 @@ fn try_system<G: Gate, R: Threads + Wait + Sync>(
     script: Script,
     workers: u8,
     gate: &G,
-) -> Result<(Ended, Bytes), Memory>
+) -> Result<(LogEnding, Bytes), Memory>
     requires valid { IsValid system }
     requires deck { IsBehaviour (behaviour script.lines system) }
     requires lines { All (IsLineThere system) script.lines }

@@ -4,10 +4,10 @@ use Rattle.std.specs.Prelude.{OnOk, if◌then◌else◌}
 use Rattle.pw_code.specs.declared.file.FileCall.{FileCall}
 use Rattle.pw_code.specs.declared.unit.Unit.{Unit as DiscUnit}
 use Rattle.pw_disc.specs.Lasting.{IsLasting}
-use Rattle.pw_disc.specs.Lines.{acting, behind, holds, may_lose}
-use Rattle.pw_disc.specs.Pair.{AfterCall, AfterOperation, IsShort, PairState, done_with, prepared}
-use Rattle.pw_disc.specs.declared.standing.Standing.{Standing}
-use Rattle.pw_disc.specs.declared.standing.Standing.TheVariants.{Two, One, Lost}
+use Rattle.pw_disc.specs.Lines.{acting, disc_lines_behind, is_held_at_front, may_lose}
+use Rattle.pw_disc.specs.Pair.{AfterCall, AfterOperation, RanOutOfMemory, PairState, done_with, prepared}
+use Rattle.pw_disc.specs.declared.standing.DiscPairState.{DiscPairState}
+use Rattle.pw_disc.specs.declared.standing.DiscPairState.TheVariants.{Two, One, Lost}
 use Rattle.pw_disc.proofs.LineLemmas.{not_lost, some_less}
 use Rattle.pw_disc_call.specs.declared.script.DiscLine.{DiscLine}
 use Rattle.pw_tmf.specs.Answers.{Operates}
@@ -42,19 +42,19 @@ held-lines true lines never = some_less 1 lines never
 held-lines false lines never = never
 
 module _ (old : PairState) (is : IsLasting old) where
-  left : may_lose (behind old.done old.lines) ≡ false
+  left : may_lose (disc_lines_behind old.done old.lines) ≡ false
   left = some_less (length (acting old.done old.lines)) old.lines is.lines
 
   done-keeps : (new : PairState) → new ≡ done_with old new.told → new.told.faults ≡ old.told.faults → IsLasting new
   done-keeps new same faults =
-      let held = holds old.done (behind old.done old.lines) in
+      let held = is_held_at_front old.done (disc_lines_behind old.done old.lines) in
       record {
         stands = λ lost. held-stands held (sym (ap (λ (p : PairState). p.standing) same) ∙ lost);
-        lines = ap (λ (p : PairState). may_lose p.lines) same ∙ held-lines held (behind old.done old.lines) left;
+        lines = ap (λ (p : PairState). may_lose p.lines) same ∙ held-lines held (disc_lines_behind old.done old.lines) left;
         sound = faults ∙ is.sound;
       }
 
-  short-keeps : (new : PairState) → IsShort old new → IsLasting new
+  short-keeps : (new : PairState) → RanOutOfMemory old new → IsLasting new
   short-keeps new (inl same) = subst IsLasting (sym same.1) is
   short-keeps new (inr made) = record {
     stands = made.1;

@@ -4,7 +4,7 @@ use Rattle.std.specs.List.{list_any, prefix_len}
 use Rattle.pw_disc_call.specs.declared.script.DiscLine.{DiscLine}
 use Rattle.pw_disc.specs.Lines.{acting, acts_first, begins_with_primary, is_due, is_held, is_primary, lose_pair, may_lose}
 use Rattle.pw_disc.specs.Pair.{IsLost, PairState}
-use Rattle.pw_disc.specs.declared.standing.Standing.TheVariants.{Lost}
+use Rattle.pw_disc.specs.declared.standing.DiscPairState.TheVariants.{Lost}
 
 -- neither is
 neither : (b r : Bool) → cond b true r ≡ false → (b ≡ false) × (r ≡ false)

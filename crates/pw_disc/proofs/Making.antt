@@ -15,8 +15,8 @@ use Rattle.pw_tmf.specs.declared.answer.FileAnswer.{FileAnswer}
 use Rattle.pw_tmf.proofs.WithFaults.{all-inside, faults-backed_out, running-inside}
 use Rattle.pw_disc.specs.Calls.{CanMake, IsAnswer, Makes, is_done, is_operation}
 use Rattle.pw_disc.specs.Pair.{PairState, after_outcome}
-use Rattle.pw_disc.specs.declared.outcome.Outcome.{Outcome}
-use Rattle.pw_disc.specs.declared.outcome.Outcome.TheVariants.{Done, Operated, Conflict}
+use Rattle.pw_disc.specs.declared.outcome.DiscOutcome.{DiscOutcome}
+use Rattle.pw_disc.specs.declared.outcome.DiscOutcome.TheVariants.{Done, Operated, Conflict}
 
 -- where nobody holds a lock, there is no oldest holder
 none_oldest : (holder : unit.Unit) (units : List unit.Unit) → units ≡ [] → IsOldest holder units → ⊥
@@ -26,7 +26,7 @@ none_oldest holder units none oldest =
     omega arith
 
 -- two members that tell the same come to outcomes of one kind
-pub same_kind : (a b : Outcome) (told new_a new_b : Told) (call : DiscCall) → Makes a told call new_a → Makes b told call new_b → is_done a ≡ is_done b
+pub same_kind : (a b : DiscOutcome) (told new_a new_b : Told) (call : DiscCall) → Makes a told call new_a → Makes b told call new_b → is_done a ≡ is_done b
 same_kind Done Done told new_a new_b call one two = refl
 same_kind Done (Operated status content) told new_a new_b call one two = refl
 same_kind Done (Conflict holder) told new_a new_b (Begin u) one two = absurd two
@@ -58,7 +58,7 @@ told_behind done told (Operate u call) = cond done (after_operation told u call)
 told_behind done told (Commit u reply) = ended told u reply
 told_behind done told (BackOut units ends) = all_backed_out ends told units
 
-made_is : (a : Outcome) (told new : Told) (call : DiscCall) → Makes a told call new → new ≡ told_behind (is_done a) told call
+made_is : (a : DiscOutcome) (told new : Told) (call : DiscCall) → Makes a told call new → new ≡ told_behind (is_done a) told call
 made_is Done told new (Begin u) made = made
 made_is Done told new (Operate u call) made = absurd made
 made_is Done told new (Commit u reply) made = made
@@ -73,7 +73,7 @@ made_is (Conflict holder) told new (Commit u reply) made = absurd made
 made_is (Conflict holder) told new (BackOut units ends) made = absurd made
 
 -- they tell the same behind it
-pub same_told : (a b : Outcome) (told new_a new_b : Told) (call : DiscCall) → Makes a told call new_a → Makes b told call new_b → new_a ≡ new_b
+pub same_told : (a b : DiscOutcome) (told new_a new_b : Told) (call : DiscCall) → Makes a told call new_a → Makes b told call new_b → new_a ≡ new_b
 same_told a b told new_a new_b call one two =
     made_is a told new_a call one
     ∙ ap (λ (done : Bool). told_behind done told call) (same_kind a b told new_a new_b call one two)
@@ -93,7 +93,7 @@ can_inside n told (Commit u reply) can = running-inside n told u can
 can_inside n told (BackOut units ends) can = (can.0, can.1, all-inside ends n told units can.2)
 
 -- nor does what it makes
-pub makes_outside : (n : ℕ) (a : Outcome) (told new : Told) (call : DiscCall) → Makes a told call new → Makes a (with_faults n told) call (with_faults n new)
+pub makes_outside : (n : ℕ) (a : DiscOutcome) (told new : Told) (call : DiscCall) → Makes a told call new → Makes a (with_faults n told) call (with_faults n new)
 makes_outside n Done told new (Begin u) made = ap (with_faults n) made
 makes_outside n Done told new (Operate u call) made = absurd made
 makes_outside n Done told new (Commit u reply) made = ap (with_faults n) made
@@ -108,13 +108,13 @@ makes_outside n (Conflict holder) told new (Commit u reply) made = absurd made
 makes_outside n (Conflict holder) told new (BackOut units ends) made = absurd made
 
 -- what one of two members came to is told by the pair
-pub answered : (a b result : Outcome) (call : DiscCall) (n : ℕ) (told told_new old new : Told) → with_faults n told ≡ old → new ≡ with_faults n told_new
+pub answered : (a b result : DiscOutcome) (call : DiscCall) (n : ℕ) (told told_new old new : Told) → with_faults n told ≡ old → new ≡ with_faults n told_new
     → Makes a told call told_new → Makes b told call told_new → (result ≡ a) ⊎ (result ≡ b) → Makes result old call new
 answered a b result call n told told_new old new is is_new by_a by_b (inl e) =
-    subst (λ (o : Outcome). Makes o old call new) (sym e)
+    subst (λ (o : DiscOutcome). Makes o old call new) (sym e)
     (subst (λ (t : Told). Makes a t call new) is (subst (λ (t : Told). Makes a (with_faults n told) call t) (sym is_new) (makes_outside n a told told_new call by_a)))
 answered a b result call n told told_new old new is is_new by_a by_b (inr e) =
-    subst (λ (o : Outcome). Makes o old call new) (sym e)
+    subst (λ (o : DiscOutcome). Makes o old call new) (sym e)
     (subst (λ (t : Told). Makes b t call new) is (subst (λ (t : Told). Makes b (with_faults n told) call t) (sym is_new) (makes_outside n b told told_new call by_b)))
 
 -- what is told stays where a call counts
@@ -123,13 +123,13 @@ told_stays true pair = refl
 told_stays false pair = refl
 
 -- an operation answers what it came to
-answers : (a : Outcome) (result : FileAnswer) (old new : Told) (u : unit.Unit) (call : FileCall)
+answers : (a : DiscOutcome) (result : FileAnswer) (old new : Told) (u : unit.Unit) (call : FileCall)
     → Makes a old (Operate u call) new → IsAnswer a result → Operates result old u call new
 answers Done result old new u call made is = absurd made
 answers (Operated status content) result old new u call made is = subst (λ (r : FileAnswer). Operates r old u call new) (sym is) made
 answers (Conflict holder) result old new u call made is = subst (λ (r : FileAnswer). Operates r old u call new) (sym is) made
 
-pub operated : (a : Outcome) (result : FileAnswer) (between old new : Told) (u : unit.Unit) (copy call : FileCall) → between ≡ old → copy ≡ call
+pub operated : (a : DiscOutcome) (result : FileAnswer) (between old new : Told) (u : unit.Unit) (copy call : FileCall) → between ≡ old → copy ≡ call
     → Makes a between (Operate u copy) new → IsAnswer a result → Operates result old u call new
 operated a result between old new u copy call is is_copy made answer =
     answers a result old new u call

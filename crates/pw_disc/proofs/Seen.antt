@@ -6,12 +6,12 @@ use Rattle.pw_disc_call.specs.declared.script.DiscLine.{DiscLine}
 use Rattle.pw_tmf.specs.Faulty.{with_faults}
 use Rattle.pw_tmf.specs.Tmf.{TmfState, told_of}
 use Rattle.pw_tmf.specs.Told.{Told}
-use Rattle.pw_disc.specs.declared.standing.Standing.{Standing}
-use Rattle.pw_disc.specs.declared.standing.Standing.TheVariants.{Two, One}
-use Rattle.pw_disc.specs.Lines.{holds}
+use Rattle.pw_disc.specs.declared.standing.DiscPairState.{DiscPairState}
+use Rattle.pw_disc.specs.declared.standing.DiscPairState.TheVariants.{Two, One}
+use Rattle.pw_disc.specs.Lines.{is_held_at_front}
 use Rattle.pw_disc.specs.Pair.{PairState, finished, lines_left, seen, standing_of}
 
-abbrev pair_of : Standing → Told → List DiscLine → ℕ → PairState
+abbrev pair_of : DiscPairState → Told → List DiscLine → ℕ → PairState
 pair_of standing told lines done = record { standing = standing; told = told; lines = lines; done = done }
 
 two_left : (gone : Bool) (backup : Option TmfState) → standing_of gone backup ≡ Two → gone ≡ false
@@ -27,12 +27,12 @@ module _ (old : PairState) (gone : Bool) (backup : Option TmfState) (primary : T
   left e = sym (ap (λ (b : Bool). lines_left b used lines) e) ∙ ap (λ (p : PairState). p.lines) is
 
   -- a call was done, and a HELD line was due
-  pub counts_held : old.standing ≡ Two → (survivor : TmfState) → told_of survivor ≡ told_of primary → holds done (drop used lines) ≡ true
+  pub counts_held : old.standing ≡ Two → (survivor : TmfState) → told_of survivor ≡ told_of primary → is_held_at_front done (drop used lines) ≡ true
       → seen gone None survivor (used + 1) lines (counted done) faults ≡ finished old
   counts_held both survivor same held =
       let e : gone ≡ false = stays both in
-      let acts : holds old.done old.lines ≡ true =
-      sym (ap (λ (p : PairState). holds p.done p.lines) is) ∙ (ap (λ (b : Bool). holds done (lines_left b used lines)) e ∙ held) in
+      let acts : is_held_at_front old.done old.lines ≡ true =
+      sym (ap (λ (p : PairState). is_held_at_front p.done p.lines) is) ∙ (ap (λ (b : Bool). is_held_at_front done (lines_left b used lines)) e ∙ held) in
       let less : drop (used + 1) lines ≡ drop 1 old.lines = sym (drop-drop 1 used lines) ∙ ap (drop 1) (left e) in
       ap (λ (b : Bool). seen b None survivor (used + 1) lines (counted done) faults) e
       ∙ ap (λ (t : Told). pair_of One (with_faults faults t) (drop (used + 1) lines) (counted done)) same

@@ -10,16 +10,16 @@ use Rattle.pw_tmf.specs.declared.answer.FileAnswer.{FileAnswer}
 use Rattle.pw_tmf.specs.declared.answer.FileAnswer.TheVariants as answer
 use Rattle.pw_tmf.specs.Operation.{IsCall}
 use Rattle.pw_tmf.specs.Told.{Told}
-use Rattle.pw_tmf.specs.Units.{AreApart, CanBackOut, CanBegin, IsRunning, all_backed_out, begun, ended}
-use Rattle.pw_disc.specs.declared.outcome.Outcome.{Outcome}
-use Rattle.pw_disc.specs.declared.outcome.Outcome.TheVariants as outcome
+use Rattle.pw_tmf.specs.Units.{HaveDistinctTerminals, CanBackOut, CanBegin, IsRunning, all_backed_out, begun, ended}
+use Rattle.pw_disc.specs.declared.outcome.DiscOutcome.{DiscOutcome}
+use Rattle.pw_disc.specs.declared.outcome.DiscOutcome.TheVariants as outcome
 
 -- the conditions of a call
 abbrev pub CanMake : Told → DiscCall → Type 0
 CanMake told (Begin unit) = CanBegin told unit
 CanMake told (Operate unit call) = IsRunning told unit × IsCall told call
 CanMake told (Commit unit reply) = IsRunning told unit
-CanMake told (BackOut units ends) = (units ≢ []) × AreApart units × All (CanBackOut ends told) units
+CanMake told (BackOut units ends) = (units ≢ []) × HaveDistinctTerminals units × All (CanBackOut ends told) units
 
 -- the bytes are the message of a call that meets them
 pub record IsMessageFor (told : Told) (message : List ℕ) : Type 0 where
@@ -28,7 +28,7 @@ pub record IsMessageFor (told : Told) (message : List ℕ) : Type 0 where
   pub can : CanMake told call
 
 -- what a call makes of what is told, and what it comes to
-abbrev pub Makes : Outcome → Told → DiscCall → Told → Type 0
+abbrev pub Makes : DiscOutcome → Told → DiscCall → Told → Type 0
 Makes outcome.Done old (Begin unit) new = new ≡ begun old unit
 Makes outcome.Done old (Operate unit call) new = ⊥
 Makes outcome.Done old (Commit unit reply) new = new ≡ ended old unit reply
@@ -39,28 +39,28 @@ Makes (outcome.Conflict holder) old (Operate unit call) new = Operates (answer.C
 Makes (outcome.Conflict holder) old _ new = ⊥
 
 -- the call was done
-abbrev pub is_done : Outcome → Bool
+abbrev pub is_done : DiscOutcome → Bool
 is_done (outcome.Conflict holder) = false
 is_done _ = true
 
 -- it comes to what an operation does
-abbrev pub IsAnswer : Outcome → FileAnswer → Type 0
+abbrev pub IsAnswer : DiscOutcome → FileAnswer → Type 0
 IsAnswer outcome.Done result = ⊥
 IsAnswer (outcome.Operated status content) result = result ≡ answer.Done status content
 IsAnswer (outcome.Conflict holder) result = result ≡ answer.Conflict holder
 
 -- it is of an operation
-abbrev pub is_operation : Outcome → Bool
+abbrev pub is_operation : DiscOutcome → Bool
 is_operation outcome.Done = false
 is_operation _ = true
 
 -- what a member's answer comes to, which does not fail
-abbrev pub came_of : Result (Unit {0}) DiscFault → Result Outcome Memory
+abbrev pub came_of : Result (Unit {0}) DiscFault → Result DiscOutcome Memory
 came_of (Ok done) = Ok outcome.Done
 came_of (Err fault) = Err (record {})
 
 -- what came of an operation of a member: a disc in memory answers no fault but want of memory
-abbrev pub came_of_operation : FileAnswer → Result Outcome Memory
+abbrev pub came_of_operation : FileAnswer → Result DiscOutcome Memory
 came_of_operation (answer.Done status content) = Ok (outcome.Operated status content)
 came_of_operation (answer.Conflict holder) = Ok (outcome.Conflict holder)
 came_of_operation _ = Err (record {})

@@ -2,7 +2,7 @@
 use Rattle.std.specs.Prelude.{◌≡◌, ◌≢◌, false}
 use Rattle.pw_disc.specs.Lines.{may_lose}
 use Rattle.pw_disc.specs.Pair.{PairState}
-use Rattle.pw_disc.specs.declared.standing.Standing.TheVariants.{Lost}
+use Rattle.pw_disc.specs.declared.standing.DiscPairState.TheVariants.{Lost}
 
 -- a member is there, the lines that are left lose no pair, and no call has failed
 pub record IsLasting (pair : PairState) : Type 0 where

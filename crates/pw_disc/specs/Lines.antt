@@ -29,8 +29,8 @@ abbrev pub acting : ℕ → List DiscLine → List DiscLine
 acting done lines = take_while (acts_first done) lines
 
 -- the lines behind them
-abbrev pub behind : ℕ → List DiscLine → List DiscLine
-behind done lines = drop (length (acting done lines)) lines
+abbrev pub disc_lines_behind : ℕ → List DiscLine → List DiscLine
+disc_lines_behind done lines = drop (length (acting done lines)) lines
 
 -- The first of them leaves a single member, and a PRIMARY AFTER line behind it loses the pair.
 abbrev pub lose_pair : List DiscLine → Bool
@@ -38,9 +38,9 @@ lose_pair [] = false
 lose_pair (line ∷ lines) = list_any is_primary lines
 
 -- the first line is a HELD line, and acts at the end of the call
-abbrev pub holds : ℕ → List DiscLine → Bool
-holds done [] = false
-holds done (line ∷ lines) = is_held line && is_due done line
+abbrev pub is_held_at_front : ℕ → List DiscLine → Bool
+is_held_at_front done [] = false
+is_held_at_front done (line ∷ lines) = is_held line && is_due done line
 
 -- a PRIMARY AFTER line stands behind a line other than HELD
 abbrev pub begins_with_primary : List DiscLine → Bool

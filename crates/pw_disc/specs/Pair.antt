@@ -10,14 +10,14 @@ use Rattle.pw_tmf.specs.declared.answer.FileAnswer.TheVariants as answer
 use Rattle.pw_tmf.specs.Faulty.{with_faults}
 use Rattle.pw_tmf.specs.Tmf.{TmfState, told_of}
 use Rattle.pw_tmf.specs.Told.{Told}
-use Rattle.pw_disc.specs.declared.standing.Standing.{Standing}
-use Rattle.pw_disc.specs.declared.standing.Standing.TheVariants.{Two, One, Lost}
-use Rattle.pw_disc.specs.Lines.{acting, behind, holds, is_primary, lose_pair}
+use Rattle.pw_disc.specs.declared.standing.DiscPairState.{DiscPairState}
+use Rattle.pw_disc.specs.declared.standing.DiscPairState.TheVariants.{Two, One, Lost}
+use Rattle.pw_disc.specs.Lines.{acting, disc_lines_behind, is_held_at_front, is_primary, lose_pair}
 
 -- How many members there are; what a member keeps; how many calls failed; the lines of the script that were not used, none
 -- once the pair is lost; and how many calls were done.
 pub record PairKept : Type 0 where
-  pub standing : Standing
+  pub standing : DiscPairState
   pub member : TmfState
   pub faults : ℕ
   pub lines : List DiscLine
@@ -26,13 +26,13 @@ pub record PairKept : Type 0 where
 -- How many members there are; what each of them tells, beside the faults of the pair; the lines of the script that were
 -- not used, none once the pair is lost; and how many calls were done.
 pub record PairState : Type 0 where
-  pub standing : Standing
+  pub standing : DiscPairState
   pub told : Told
   pub lines : List DiscLine
   pub done : ℕ
 
 -- how a pair stands that is lost or not, and has a backup or not
-abbrev pub standing_of : Bool → Option TmfState → Standing
+abbrev pub standing_of : Bool → Option TmfState → DiscPairState
 standing_of true backup = Lost
 standing_of false None = One
 standing_of false (Some backup) = Two
@@ -103,28 +103,28 @@ lost pair = record {
 }
 
 -- how many members such lines leave of two
-abbrev pub left_by : List DiscLine → Standing
+abbrev pub left_by : List DiscLine → DiscPairState
 left_by [] = Two
 left_by (line ∷ lines) = if list_any is_primary lines then Lost else One
 
 -- lines were used
-abbrev pub after_lines : Standing → List DiscLine → PairState → PairState
+abbrev pub after_lines : DiscPairState → List DiscLine → PairState → PairState
 after_lines standing lines pair = record pair { standing = standing; lines = lines }
 
 -- behind the lines that act at the start of a call, where there are two members
 abbrev pub acted : PairState → PairState
-acted pair = after_lines (left_by (acting pair.done pair.lines)) (if lost_next pair then [] else behind pair.done pair.lines) pair
+acted pair = after_lines (left_by (acting pair.done pair.lines)) (if lost_next pair then [] else disc_lines_behind pair.done pair.lines) pair
 
 -- two members, behind the lines that act at the start of the call
 abbrev pub prepared : PairState → PairState
-prepared pair = after_lines Two (behind pair.done pair.lines) pair
+prepared pair = after_lines Two (disc_lines_behind pair.done pair.lines) pair
 
 -- the call was done; a HELD line that is due leaves a single member
 abbrev pub finished : PairState → PairState
 finished pair = record {
-  standing = if holds pair.done pair.lines then One else pair.standing;
+  standing = if is_held_at_front pair.done pair.lines then One else pair.standing;
   told = pair.told;
-  lines = if holds pair.done pair.lines then drop 1 pair.lines else pair.lines;
+  lines = if is_held_at_front pair.done pair.lines then drop 1 pair.lines else pair.lines;
   done = counted pair.done;
 }
 
@@ -144,8 +144,8 @@ done_with pair told = finished (record (prepared pair) { told = told })
 
 -- Memory ran out: either a single member raised no backup before any line acted, or the lines of the call acted, and at
 -- least one member is there. All that is told stays.
-abbrev pub IsShort : PairState → PairState → Type 0
-IsShort old new =
+abbrev pub RanOutOfMemory : PairState → PairState → Type 0
+RanOutOfMemory old new =
     ((old.standing ≡ One) × (new ≡ old))
     ⊎ (Lasts old × (new.standing ≢ Lost) × (new ≡ record (prepared old) { standing = new.standing }))
 
@@ -153,11 +153,11 @@ IsShort old new =
 abbrev pub AfterCall : Result (Unit {0}) DiscFault → PairState → PairState → Type 0
 AfterCall (Ok done) old new = Lasts old × (new ≡ done_with old new.told)
 AfterCall (Err fault.Failed) old new = IsLost old × (new ≡ lost old)
-AfterCall (Err fault.Memory) old new = IsShort old new
+AfterCall (Err fault.Memory) old new = RanOutOfMemory old new
 
 -- how an operation leaves it
 abbrev pub AfterOperation : FileAnswer → PairState → PairState → Type 0
 AfterOperation (answer.Done status content) old new = Lasts old × (new ≡ done_with old new.told)
 AfterOperation (answer.Conflict holder) old new = Lasts old × (new ≡ prepared old)
 AfterOperation answer.Failed old new = IsLost old × (new ≡ lost old)
-AfterOperation answer.Memory old new = IsShort old new
+AfterOperation answer.Memory old new = RanOutOfMemory old new

@@ -1,6 +1,6 @@
 ghost use Rattle.std.specs.Prelude.{◌≡◌, ◌≤◌, length};
 ghost use Rattle.std.specs.List.{list_any};
-ghost use Rattle.pw_disc.specs.Lines.{acting, acts_first, holds, is_due, is_held, begins_with_primary, is_primary, lose_pair, may_lose};
+ghost use Rattle.pw_disc.specs.Lines.{acting, acts_first, is_held_at_front, is_due, is_held, begins_with_primary, is_primary, lose_pair, may_lose};
 
 use pw_disc_call::script::DiscLine;
 
@@ -63,7 +63,7 @@ pub fn lose_pair(lines: &[DiscLine]) -> bool
 
 /// Whether the first line acts at the end of a call behind so many.
 pub fn holds(done: u64, lines: &[DiscLine]) -> bool
-    ensures { result ≡ holds done lines.now }
+    ensures { result ≡ is_held_at_front done lines.now }
 {
     match lines {
         [first, ..] => is_held(*first) && is_due(done, *first),

@@ -4,7 +4,7 @@ ghost use Rattle.pw_tmf.specs.Tmf.{told_of};
 ghost use Rattle.pw_disc_call.specs.Format.{IsMessageOf};
 ghost use Rattle.pw_disc_call.specs.declared.call.DiscCall.{DiscCall};
 
-use crate::outcome::{Outcome, make};
+use crate::outcome::{DiscOutcome, make};
 use pw_base::memory::Memory;
 use pw_disc_call::decode::decode_call;
 use pw_disc_call::fault::CallFault;
@@ -37,7 +37,7 @@ impl DiscBackup {
     }
 
     /// Makes the call of a message. An `Err` leaves all that is told.
-    pub fn receive(&mut self, alloc: Global, message: &[u8]) -> Result<Outcome, Memory>
+    pub fn receive(&mut self, alloc: Global, message: &[u8]) -> Result<DiscOutcome, Memory>
         requires { IsMessageFor (told_of self.old) message.now }
         ensures ok { IfOk result (λ outcome. (call : DiscCall) → IsMessageOf message.now call
             → Makes outcome (told_of self.old) call (told_of self.new)) }

@@ -4,7 +4,7 @@ ghost use Rattle.pw_disc.specs.Calls.{CanMake, Makes, is_done};
 ghost use Rattle.pw_disc.specs.Pair.{AreEqual};
 
 use crate::backup::DiscBackup;
-use crate::outcome::{Outcome, make};
+use crate::outcome::{DiscOutcome, make};
 use pw_base::memory::Memory;
 use pw_disc_call::call::DiscCall;
 use pw_disc_call::encode::encode_call;
@@ -15,8 +15,8 @@ use std::alloc::Global;
 #[derive(Debug, Drop)]
 pub struct Made {
     pub backup: DiscBackup,
-    pub of_backup: Outcome,
-    pub of_primary: Outcome,
+    pub of_backup: DiscOutcome,
+    pub of_primary: DiscOutcome,
 }
 
 /// The backup makes a call, by its message, and then the primary does. Where memory runs out, the backup is given back if

@@ -5,7 +5,7 @@ ghost use Rattle.pw_code.specs.Valid.{IsValid};
 ghost use Rattle.pw_disc.specs.Lasting.{IsLasting};
 ghost use Rattle.pw_disc.specs.Lines.{may_lose};
 ghost use Rattle.pw_disc.specs.Pair.{state_of};
-ghost use Rattle.pw_disc.specs.declared.standing.Standing.TheVariants.{Two};
+ghost use Rattle.pw_disc.specs.declared.standing.DiscPairState.TheVariants.{Two};
 ghost use Rattle.pw_tmf.specs.Starting.{told_at_start};
 
 use crate::pair::DiscPair;

@@ -12,7 +12,7 @@ use pw_tmf::tmf::Tmf;
 
 /// What a call comes to where memory does not run out.
 #[derive(Debug, Drop)]
-pub enum Outcome {
+pub enum DiscOutcome {
     /// It was done, and answers nothing.
     Done,
     /// The operation was done, with this file status, and read this record, if any.
@@ -21,12 +21,12 @@ pub enum Outcome {
     Conflict(Unit),
 }
 
-impl Outcome {
+impl DiscOutcome {
     /// Whether the call was done.
     pub fn is_done(&self) -> bool
         ensures { result ≡ is_done self.now }
     {
-        !matches!(self, Outcome::Conflict(_))
+        !matches!(self, DiscOutcome::Conflict(_))
     }
 
     /// The answer of an operation.
@@ -35,36 +35,36 @@ impl Outcome {
         ensures { IsAnswer self result }
     {
         match self {
-            Outcome::Done => unreachable!(),
-            Outcome::Operated { status, content } => FileAnswer::Done { status, content },
-            Outcome::Conflict(holder) => FileAnswer::Conflict(holder),
+            DiscOutcome::Done => unreachable!(),
+            DiscOutcome::Operated { status, content } => FileAnswer::Done { status, content },
+            DiscOutcome::Conflict(holder) => FileAnswer::Conflict(holder),
         }
     }
 }
 
 /// What a call came to that answers nothing. A `Tmf` does not fail.
-fn plain(answer: Result<(), DiscFault>) -> Result<Outcome, Memory>
+fn plain(answer: Result<(), DiscFault>) -> Result<DiscOutcome, Memory>
     ensures { result ≡ came_of answer }
 {
     match answer {
-        Ok(()) => Ok(Outcome::Done),
+        Ok(()) => Ok(DiscOutcome::Done),
         Err(_fault) => Err(Memory),
     }
 }
 
 /// What an operation came to. A `Tmf` does not fail.
-fn operated(answer: FileAnswer) -> Result<Outcome, Memory>
+fn operated(answer: FileAnswer) -> Result<DiscOutcome, Memory>
     ensures { result ≡ came_of_operation answer }
 {
     match answer {
-        FileAnswer::Done { status, content } => Ok(Outcome::Operated { status, content }),
-        FileAnswer::Conflict(holder) => Ok(Outcome::Conflict(holder)),
+        FileAnswer::Done { status, content } => Ok(DiscOutcome::Operated { status, content }),
+        FileAnswer::Conflict(holder) => Ok(DiscOutcome::Conflict(holder)),
         FileAnswer::Failed | FileAnswer::Memory => Err(Memory),
     }
 }
 
 /// Makes a call of a member. An `Err` leaves all that is told.
-pub fn make(tmf: &mut Tmf, call: DiscCall) -> Result<Outcome, Memory>
+pub fn make(tmf: &mut Tmf, call: DiscCall) -> Result<DiscOutcome, Memory>
     requires { CanMake (told_of tmf.old) call }
     ensures ok { IfOk result (λ outcome. Makes outcome (told_of tmf.old) call (told_of tmf.new)) }
     ensures err { OnErr result (told_of tmf.new ≡ told_of tmf.old) }

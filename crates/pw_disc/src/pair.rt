@@ -3,19 +3,19 @@ ghost use Rattle.pw_code.specs.Valid.{IsValid};
 ghost use Rattle.pw_tmf.specs.Answers.{Leaves, Operates};
 ghost use Rattle.pw_tmf.specs.Operation.{IsCall};
 ghost use Rattle.pw_tmf.specs.Starting.{told_at_start};
-ghost use Rattle.pw_tmf.specs.Units.{AreApart, CanBackOut, CanBegin, IsRunning, all_backed_out, begun, ended};
+ghost use Rattle.pw_tmf.specs.Units.{HaveDistinctTerminals, CanBackOut, CanBegin, IsRunning, all_backed_out, begun, ended};
 ghost use Rattle.pw_disc.specs.Calls.{CanMake, Makes, is_done};
-ghost use Rattle.pw_disc.specs.Lines.{holds};
-ghost use Rattle.pw_disc.specs.Pair.{AfterCall, AfterOperation, IsLost, IsShort, IsUnmade, Lasts, acted, after_lines, after_outcome, finished, lost, prepared, state_of};
-ghost use Rattle.pw_disc.specs.declared.standing.Standing.TheVariants.{Two, One, Lost};
+ghost use Rattle.pw_disc.specs.Lines.{is_held_at_front};
+ghost use Rattle.pw_disc.specs.Pair.{AfterCall, AfterOperation, IsLost, RanOutOfMemory, IsUnmade, Lasts, acted, after_lines, after_outcome, finished, lost, prepared, state_of};
+ghost use Rattle.pw_disc.specs.declared.standing.DiscPairState.TheVariants.{Two, One, Lost};
 
 use crate::acting::{count_acting, holds, lose_pair};
 use crate::backup::DiscBackup;
 use crate::both::{Made, make_on_both};
 use crate::copies::copy_file_call;
 use crate::members::{fail_member, take_over};
-use crate::outcome::Outcome;
-use crate::standing::Standing;
+use crate::outcome::DiscOutcome;
+use crate::standing::DiscPairState;
 use pw_base::bytes::Bytes;
 use pw_base::memory::Memory;
 use pw_code::file::FileCall;
@@ -82,13 +82,13 @@ impl DiscPair {
     }
 
     /// How many members there are.
-    pub fn standing(&self) -> Standing
+    pub fn standing(&self) -> DiscPairState
         ensures { result ≡ self.now.standing }
     {
         match (self.is_lost, &self.backup) {
-            (true, _) => Standing::Lost,
-            (false, None) => Standing::One,
-            (false, Some(_)) => Standing::Two,
+            (true, _) => DiscPairState::Lost,
+            (false, None) => DiscPairState::One,
+            (false, Some(_)) => DiscPairState::Two,
         }
     }
 
@@ -167,7 +167,7 @@ impl DiscPair {
     fn prepare(&mut self) -> Result<(), DiscFault>
         ensures ok { OnOk result (Lasts (state_of self.old) × (state_of self.new ≡ prepared (state_of self.old))) }
         ensures failed { IsErrOf result DiscFault.Failed → IsLost (state_of self.old) × (state_of self.new ≡ lost (state_of self.old)) }
-        ensures memory { IsErrOf result DiscFault.Memory → IsShort (state_of self.old) (state_of self.new) }
+        ensures memory { IsErrOf result DiscFault.Memory → RanOutOfMemory (state_of self.old) (state_of self.new) }
     {
         if self.is_gone() {
             return Err(self.fail());
@@ -184,7 +184,7 @@ impl DiscPair {
     /// A call was done, and counts; where a HELD line is due, the primary fails behind it. Tells whether it did.
     fn finish(&mut self) -> bool
         requires { self.old.standing ≡ Two }
-        ensures held { result ≡ holds self.old.done self.old.lines }
+        ensures held { result ≡ is_held_at_front self.old.done self.old.lines }
         ensures pair { state_of self.new ≡ finished (state_of self.old) }
     {
         let held = holds(self.done, &self.lines[self.used..]);
@@ -200,7 +200,7 @@ impl DiscPair {
 
     /// What comes behind a call that both members made: where it was done, it counts, and a due HELD line acts. It gives
     /// the outcome of the member that answers.
-    fn answer(&mut self, of_primary: Outcome, of_backup: Outcome) -> Outcome
+    fn answer(&mut self, of_primary: DiscOutcome, of_backup: DiscOutcome) -> DiscOutcome
         requires { self.old.standing ≡ Two }
         ensures one { (result ≡ of_primary) ⊎ (result ≡ of_backup) }
         ensures pair { state_of self.new ≡ after_outcome (is_done of_primary) (state_of self.old) }
@@ -212,7 +212,7 @@ impl DiscPair {
     }
 
     /// A call of both members, and what comes behind it.
-    fn make(&mut self, call: DiscCall) -> Result<Outcome, Memory>
+    fn make(&mut self, call: DiscCall) -> Result<DiscOutcome, Memory>
         requires two { self.old.standing ≡ Two }
         requires can { CanMake (state_of self.old).told call }
         ensures makes { IfOk result (λ outcome. Makes outcome (state_of self.old).told call (state_of self.new).told) }
@@ -249,7 +249,7 @@ impl DiscPair {
         ensures answer { IfOk result (λ answer. Operates answer (state_of self.old).told unit.now call.now (state_of self.new).told) }
         ensures ok { IfOk result (λ answer. AfterOperation answer (state_of self.old) (state_of self.new)) }
         ensures failed { IsErrOf result DiscFault.Failed → IsLost (state_of self.old) × (state_of self.new ≡ lost (state_of self.old)) }
-        ensures memory { IsErrOf result DiscFault.Memory → IsShort (state_of self.old) (state_of self.new) }
+        ensures memory { IsErrOf result DiscFault.Memory → RanOutOfMemory (state_of self.old) (state_of self.new) }
     {
         self.prepare()?;
         let call = copy_file_call(*self.lines.allocator(), call)?;
@@ -298,7 +298,7 @@ impl Disc for DiscPair {
 
     fn back_out(&mut self, units: &[Unit], ends: bool) -> Result<(), DiscFault>
         requires some { units.now ≢ [] }
-        requires apart { AreApart units.now }
+        requires apart { HaveDistinctTerminals units.now }
         requires units { All (CanBackOut ends (state_of self.old).told) units.now }
         ensures ok { OnOk result ((state_of self.new).told ≡ all_backed_out ends (state_of self.old).told units.now) }
         ensures err { IfErr result (λ fault. Leaves fault (state_of self.old).told (state_of self.new).told) }

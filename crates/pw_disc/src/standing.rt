@@ -1,6 +1,6 @@
 /// How many members of a disc pair there are.
 #[derive(Clone, Copy, Debug, PartialEq, Eq)]
-pub enum Standing {
+pub enum DiscPairState {
     /// A primary and its backup.
     Two,
     /// A single member.

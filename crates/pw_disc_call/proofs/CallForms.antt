@@ -20,7 +20,7 @@ use Rattle.pw_disc_call.specs.declared.call.DiscCall.TheVariants.{Begin, Operate
 use Rattle.pw_disc_call.specs.Format.{IsMessageOf}
 use Rattle.pw_disc_call.specs.Message.{file_call_bytes, kind_byte, message_of, op_byte, piece_bytes, reply_bytes, rest_bytes, unit_bytes, units_bytes}
 use Rattle.pw_disc_call.specs.Reading.{back_out_at, back_out_from, begin_at, call_at, call_behind, call_in, commit_at, commit_from, file_call_at, file_call_from, is_op, op_of, operate_at, operate_from, others_at, piece_at, reply_at, reply_behind, unit_at, unit_from}
-use Rattle.pw_disc_call.specs.Values.{FileCallHasValues, HasValues, PieceHasValues, ReplyHasValues, UnitHasValues, UnitsHaveValues}
+use Rattle.pw_disc_call.specs.Values.{FileCallHasValues, DiscCallHasValues, PieceHasValues, ReplyHasValues, UnitHasValues, UnitsHaveValues}
 
 -- a form, said in other words
 module _ {A : Type 0} (read : List ℕ → Front A) (spell spelled : A → List ℕ) (Fits Fitting : A → Type 0)
@@ -213,7 +213,7 @@ abbrev no_file_call : FileCall
 no_file_call = record { file = 0; op = Read; key = []; content = [] }
 
 abbrev CallIs : ℕ → DiscCall → Type 0
-CallIs kind call = (kind_byte call ≡ kind) × HasValues call
+CallIs kind call = (kind_byte call ≡ kind) × DiscCallHasValues call
 
 abbrev begin_parts : DiscCall → unit.Unit
 begin_parts (Begin u) = u
@@ -352,7 +352,7 @@ kind-form (suc (suc (suc (suc (suc n))))) = nothing rest_bytes (CallIs (suc (suc
 -- Messages.
 
 abbrev CountedCall : DiscCall → Type 0
-CountedCall call = ((is_any (kind_byte call) ≡ true) × (kind_byte call < 256)) × ((is_any (kind_byte call) ≡ true) × HasValues call)
+CountedCall call = ((is_any (kind_byte call) ≡ true) × (kind_byte call < 256)) × ((is_any (kind_byte call) ≡ true) × DiscCallHasValues call)
 
 kind_small : (call : DiscCall) → kind_byte call < 256
 kind_small (Begin u) = omega arith
@@ -360,11 +360,11 @@ kind_small (Operate u call) = omega arith
 kind_small (Commit u reply) = omega arith
 kind_small (BackOut units ends) = omega arith
 
-call-form : IsForm call_at message_of HasValues
+call-form : IsForm call_at message_of DiscCallHasValues
 unfolding call_at
 call-form =
-    form_as _ message_of message_of CountedCall HasValues (λ x is. refl) (λ x is. is.1.1) (λ x values. ((refl, kind_small x), (refl, values)))
-    (counted (byte_at is_any) is_any call_behind (λ b. b ∷ []) rest_bytes (λ b. (is_any b ≡ true) × (b < 256)) kind_byte HasValues (byte is_any) kind-form)
+    form_as _ message_of message_of CountedCall DiscCallHasValues (λ x is. refl) (λ x is. is.1.1) (λ x values. ((refl, kind_small x), (refl, values)))
+    (counted (byte_at is_any) is_any call_behind (λ b. b ∷ []) rest_bytes (λ b. (is_any b ≡ true) × (b < 256)) kind_byte DiscCallHasValues (byte is_any) kind-form)
 
 -- what is read as a call is its message
 pub is_message : (bytes : List ℕ) (call : DiscCall) → AreBytes bytes → call_in bytes ≡ Some call → IsMessageOf bytes call

@@ -1,6 +1,6 @@
 -- The lines behind the one that ends a deck, as a loop finds them.
 use Rattle.std.proofs.Common.{◌≡◌, ℕ, ◌+◌, Bool, true, false, cond, List, [], ◌∷◌, refl, sym, ap, ◌∙◌}
-use Rattle.pw_disc_call.specs.Script.{Behind, behind_end, ends_deck}
+use Rattle.pw_disc_call.specs.Script.{LinesBehindDeck, behind_end, ends_deck}
 
 -- by the first line
 first_line : (number : ℕ) (all rest : List (List ℕ)) (line : List ℕ) → all ≡ line ∷ rest
@@ -16,16 +16,16 @@ by_test number next all rest line ends is more test =
     ∙ ap (λ (n : ℕ). cond ends (record { first_line = n; lines = rest }) (behind_end n rest)) (sym more)
 
 -- it ends the deck
-pub end_found : (number next : ℕ) (all rest : List (List ℕ)) (line : List ℕ) (whole : Behind) → all ≡ line ∷ rest → next ≡ number + 1 → true ≡ ends_deck line
+pub end_found : (number next : ℕ) (all rest : List (List ℕ)) (line : List ℕ) (whole : LinesBehindDeck) → all ≡ line ∷ rest → next ≡ number + 1 → true ≡ ends_deck line
     → behind_end number all ≡ whole → whole ≡ record { first_line = next; lines = rest }
 end_found number next all rest line whole is more test so_far = sym so_far ∙ by_test number next all rest line true is more test
 
 -- it does not
-pub goes_on : (number next : ℕ) (all rest : List (List ℕ)) (line : List ℕ) (whole : Behind) → all ≡ line ∷ rest → next ≡ number + 1 → false ≡ ends_deck line
+pub goes_on : (number next : ℕ) (all rest : List (List ℕ)) (line : List ℕ) (whole : LinesBehindDeck) → all ≡ line ∷ rest → next ≡ number + 1 → false ≡ ends_deck line
     → behind_end number all ≡ whole → behind_end next rest ≡ whole
 goes_on number next all rest line whole is more test so_far = sym (by_test number next all rest line false is more test) ∙ so_far
 
 -- no line is left
-pub none_left : (number : ℕ) (all : List (List ℕ)) (whole : Behind) → all ≡ [] → behind_end number all ≡ whole → whole ≡ record { first_line = number; lines = all }
+pub none_left : (number : ℕ) (all : List (List ℕ)) (whole : LinesBehindDeck) → all ≡ [] → behind_end number all ≡ whole → whole ≡ record { first_line = number; lines = all }
 unfolding behind_end
 none_left number all whole none so_far = sym so_far ∙ ap (behind_end number) none ∙ ap (λ (ls : List (List ℕ)). record { first_line = number; lines = ls }) (sym none)

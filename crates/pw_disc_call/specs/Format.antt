@@ -2,9 +2,9 @@
 use Rattle.std.specs.Prelude.{◌≡◌, ℕ, List}
 use Rattle.pw_disc_call.specs.declared.call.DiscCall.{DiscCall}
 use Rattle.pw_disc_call.specs.Message.{message_of}
-use Rattle.pw_disc_call.specs.Values.{HasValues}
+use Rattle.pw_disc_call.specs.Values.{DiscCallHasValues}
 
 -- the bytes are the message of the call
 pub record IsMessageOf (bytes : List ℕ) (call : DiscCall) : Type 0 where
-  pub has_values : HasValues call
+  pub has_values : DiscCallHasValues call
   pub is : bytes ≡ message_of call

@@ -106,11 +106,11 @@ unfoldable pub call_in : List ℕ → Option DiscCall
 call_in bytes = all_of (call_at bytes)
 
 -- nothing was read, unless memory ran out
-abbrev pub Fails : {Y : Type 0} → CallFault → Option Y → Type 0
-Fails Bad read = read ≡ None
-Fails Memory read = Unit {0}
+abbrev pub FailsCallReading : {Y : Type 0} → CallFault → Option Y → Type 0
+FailsCallReading Bad read = read ≡ None
+FailsCallReading Memory read = Unit {0}
 
 -- what a call answered, seen by view, is what was read, unless memory ran out
-abbrev pub Gives : {X Y : Type 0} → (X → Y) → Result X CallFault → Option Y → Type 0
-Gives view (Ok x) read = read ≡ Some (view x)
-Gives view (Err fault) read = Fails fault read
+abbrev pub GivesCallPart : {X Y : Type 0} → (X → Y) → Result X CallFault → Option Y → Type 0
+GivesCallPart view (Ok x) read = read ≡ Some (view x)
+GivesCallPart view (Err fault) read = FailsCallReading fault read

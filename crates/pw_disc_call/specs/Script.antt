@@ -8,7 +8,7 @@ use Rattle.pw_disc_call.specs.declared.script.DiscLine.{DiscLine}
 use Rattle.pw_disc_call.specs.declared.script.DiscLine.TheVariants.{Primary, Held, Backup}
 use Rattle.pw_lines.specs.Lines.{lines}
 use Rattle.pw_lines.specs.Steps.{◌>>=◌, refused, or_refused, each_line}
-use Rattle.pw_lines.specs.Words.{number_in}
+use Rattle.pw_lines.specs.Words.{word_number}
 use Rattle.pw_sections.specs.Headings.{heading_of}
 use Rattle.pw_sections.specs.declared.heading.Heading.{Heading}
 use Rattle.pw_sections.specs.declared.heading.Heading.TheVariants.{End}
@@ -25,20 +25,20 @@ within (Some n) = if nat_le n most_after then Some n else None
 
 -- the number that a word is, which has no leading zeros
 abbrev pub after_in : List ℕ → Option ℕ
-after_in word = if has_leading_zero word then None else within (number_in word)
+after_in word = if has_leading_zero word then None else within (word_number word)
 
 -- what stands behind a text, where the line begins with it
-abbrev pub behind : List ℕ → List ℕ → Option (List ℕ)
-behind text line = if bytes_eq (take (length text) line) text then Some (drop (length text) line) else None
+abbrev pub behind_prefix : List ℕ → List ℕ → Option (List ℕ)
+behind_prefix text line = if bytes_eq (take (length text) line) text then Some (drop (length text) line) else None
 
 -- the number that a word is, if there is one
-abbrev pub number_of : Option (List ℕ) → Option ℕ
-number_of None = None
-number_of (Some word) = after_in word
+abbrev pub script_word_number : Option (List ℕ) → Option ℕ
+script_word_number None = None
+script_word_number (Some word) = after_in word
 
 -- the number behind a text, where the line begins with it
 unfoldable pub number_behind : List ℕ → List ℕ → Option ℕ
-number_behind text line = number_of (behind text line)
+number_behind text line = script_word_number (behind_prefix text line)
 
 -- the first of two, where it is there
 abbrev pub or_else : Option DiscLine → Option DiscLine → Option DiscLine
@@ -59,9 +59,9 @@ disc_line_read number own line =
     else or_refused number BadFailureLine (disc_line_in line) >>= (λ next. Ok (own ++ next ∷ []))
 
 -- it ends a deck
-abbrev pub is_end : Option Heading → Bool
-is_end (Some End) = true
-is_end _ = false
+abbrev pub is_deck_end : Option Heading → Bool
+is_deck_end (Some End) = true
+is_deck_end _ = false
 
 -- a section line begins with `?`
 abbrev pub begins_section : List ℕ → Bool
@@ -70,20 +70,20 @@ begins_section (b ∷ rest) = b == 63
 
 -- the line ends a deck
 unfoldable pub ends_deck : List ℕ → Bool
-ends_deck line = begins_section line && is_end (heading_of line)
+ends_deck line = begins_section line && is_deck_end (heading_of line)
 
 -- the lines behind the first that ends the deck, with the number of the first of them
-pub record Behind : Type 0 where
+pub record LinesBehindDeck : Type 0 where
   pub first_line : ℕ
   pub lines : List (List ℕ)
 
-unfoldable pub behind_end : ℕ → List (List ℕ) → Behind
+unfoldable pub behind_end : ℕ → List (List ℕ) → LinesBehindDeck
 behind_end number [] = record { first_line = number; lines = [] }
 behind_end number (line ∷ rest) =
     if ends_deck line then record { first_line = number + 1; lines = rest } else behind_end (number + 1) rest
 
 -- the lines of a script
-abbrev pub script_in : Behind → Result (List DiscLine) Fault
+abbrev pub script_in : LinesBehindDeck → Result (List DiscLine) Fault
 script_in own = each_line disc_line_read own.first_line [] own.lines
 
 -- the lines of the disc script of a deck's text

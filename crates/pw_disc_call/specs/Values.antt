@@ -35,8 +35,8 @@ UnitsHaveValues (first ∷ others) =
     UnitHasValues first × (length others < 2 ^ 32) × All UnitHasValues others
 
 -- the numbers and bytes of a call
-abbrev pub HasValues : DiscCall → Type 0
-HasValues (Begin unit) = UnitHasValues unit
-HasValues (Operate unit call) = UnitHasValues unit × FileCallHasValues call
-HasValues (Commit unit reply) = UnitHasValues unit × ReplyHasValues reply
-HasValues (BackOut units ends) = UnitsHaveValues units
+abbrev pub DiscCallHasValues : DiscCall → Type 0
+DiscCallHasValues (Begin unit) = UnitHasValues unit
+DiscCallHasValues (Operate unit call) = UnitHasValues unit × FileCallHasValues call
+DiscCallHasValues (Commit unit reply) = UnitHasValues unit × ReplyHasValues reply
+DiscCallHasValues (BackOut units ends) = UnitsHaveValues units

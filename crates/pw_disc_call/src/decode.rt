@@ -1,6 +1,6 @@
 ghost use Rattle.std.specs.Prelude.{◌≡◌, None, Some, Err, IfOk};
 ghost use Rattle.pw_disc_call.specs.Format.{IsMessageOf};
-ghost use Rattle.pw_disc_call.specs.Reading.{Gives, back_out_at, begin_at, call_at, call_behind, call_in, commit_at, operate_at};
+ghost use Rattle.pw_disc_call.specs.Reading.{GivesCallPart, back_out_at, begin_at, call_at, call_behind, call_in, commit_at, operate_at};
 ghost use Rattle.pw_disc_call.specs.declared.call.DiscCall.{DiscCall};
 
 use crate::call::DiscCall;
@@ -12,7 +12,7 @@ use std::alloc::Global;
 /// The beginning of a unit's attempt, and the rest.
 #[tactic(auto, unfolding(crate::specs::Reading::begin_at))]
 fn read_begin(bytes: &[u8]) -> Result<(DiscCall, &[u8]), CallFault>
-    ensures { Gives (λ x. (x.0, x.1.now)) result (begin_at bytes.now) }
+    ensures { GivesCallPart (λ x. (x.0, x.1.now)) result (begin_at bytes.now) }
 {
     let (unit, rest) = read_unit(bytes)?;
     Ok((DiscCall::Begin(unit), rest))
@@ -21,7 +21,7 @@ fn read_begin(bytes: &[u8]) -> Result<(DiscCall, &[u8]), CallFault>
 /// An operation of a unit, and the rest.
 #[tactic(auto, unfolding(crate::specs::Reading::operate_at))]
 fn read_operate(alloc: Global, bytes: &[u8]) -> Result<(DiscCall, &[u8]), CallFault>
-    ensures { Gives (λ x. (x.0, x.1.now)) result (operate_at bytes.now) }
+    ensures { GivesCallPart (λ x. (x.0, x.1.now)) result (operate_at bytes.now) }
 {
     let (unit, rest) = read_unit(bytes)?;
     let (call, rest) = read_file_call(alloc, rest)?;
@@ -31,7 +31,7 @@ fn read_operate(alloc: Global, bytes: &[u8]) -> Result<(DiscCall, &[u8]), CallFa
 /// The commit of a unit, and the rest.
 #[tactic(auto, unfolding(crate::specs::Reading::commit_at))]
 fn read_commit(alloc: Global, bytes: &[u8]) -> Result<(DiscCall, &[u8]), CallFault>
-    ensures { Gives (λ x. (x.0, x.1.now)) result (commit_at bytes.now) }
+    ensures { GivesCallPart (λ x. (x.0, x.1.now)) result (commit_at bytes.now) }
 {
     let (unit, rest) = read_unit(bytes)?;
     let (reply, rest) = read_reply(alloc, rest)?;
@@ -41,7 +41,7 @@ fn read_commit(alloc: Global, bytes: &[u8]) -> Result<(DiscCall, &[u8]), CallFau
 /// The units that are backed out, and the rest.
 #[tactic(auto, unfolding(crate::specs::Reading::back_out_at))]
 fn read_back_out(alloc: Global, bytes: &[u8]) -> Result<(DiscCall, &[u8]), CallFault>
-    ensures { Gives (λ x. (x.0, x.1.now)) result (back_out_at bytes.now) }
+    ensures { GivesCallPart (λ x. (x.0, x.1.now)) result (back_out_at bytes.now) }
 {
     let (first, rest) = read_unit(bytes)?;
     let (ends, rest) = read_truth(rest)?;
@@ -52,7 +52,7 @@ fn read_back_out(alloc: Global, bytes: &[u8]) -> Result<(DiscCall, &[u8]), CallF
 
 /// A call of a kind, and the rest.
 fn read_kind(alloc: Global, kind: u8, bytes: &[u8]) -> Result<(DiscCall, &[u8]), CallFault>
-    ensures { Gives (λ x. (x.0, x.1.now)) result (call_behind kind bytes.now) }
+    ensures { GivesCallPart (λ x. (x.0, x.1.now)) result (call_behind kind bytes.now) }
 {
     match kind {
         1 => read_begin(bytes),
@@ -66,7 +66,7 @@ fn read_kind(alloc: Global, kind: u8, bytes: &[u8]) -> Result<(DiscCall, &[u8]),
 /// A call, and the rest.
 #[tactic(auto, unfolding(crate::specs::Reading::call_at))]
 fn read_call(alloc: Global, bytes: &[u8]) -> Result<(DiscCall, &[u8]), CallFault>
-    ensures { Gives (λ x. (x.0, x.1.now)) result (call_at bytes.now) }
+    ensures { GivesCallPart (λ x. (x.0, x.1.now)) result (call_at bytes.now) }
 {
     let (kind, rest) = read_byte(bytes)?;
     read_kind(alloc, kind, rest)
@@ -75,7 +75,7 @@ fn read_call(alloc: Global, bytes: &[u8]) -> Result<(DiscCall, &[u8]), CallFault
 /// The call that the bytes are read as.
 #[tactic(auto, unfolding(crate::specs::Reading::call_in))]
 fn read_message(alloc: Global, bytes: &[u8]) -> Result<DiscCall, CallFault>
-    ensures { Gives (λ call. call) result (call_in bytes.now) }
+    ensures { GivesCallPart (λ call. call) result (call_in bytes.now) }
 {
     let (call, rest) = read_call(alloc, bytes)?;
     if !rest.is_empty() {

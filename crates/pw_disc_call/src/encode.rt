@@ -3,7 +3,7 @@ ghost use Rattle.std.specs.Int.{to_be_bytes, w32};
 ghost use Rattle.std.specs.List.{flat_map};
 ghost use Rattle.pw_disc_call.specs.Format.{IsMessageOf};
 ghost use Rattle.pw_disc_call.specs.Message.{file_call_bytes, kind_byte, message_of, op_byte, piece_bytes, reply_bytes, rest_bytes, unit_bytes, units_bytes};
-ghost use Rattle.pw_disc_call.specs.Values.{FileCallHasValues, HasValues, PieceHasValues, ReplyHasValues, UnitHasValues, UnitsHaveValues};
+ghost use Rattle.pw_disc_call.specs.Values.{FileCallHasValues, DiscCallHasValues, PieceHasValues, ReplyHasValues, UnitHasValues, UnitsHaveValues};
 
 use crate::call::DiscCall;
 use crate::units::Units;
@@ -40,7 +40,7 @@ fn kind_byte(call: &DiscCall) -> u8
 /// Puts what stands behind the kind behind a message's other bytes.
 fn put_rest(message: &mut Bytes, call: &DiscCall) -> Result<(), Memory>
     ensures bytes { OnOk result (message.new ≡ message.old ++ rest_bytes call.now) }
-    ensures values { OnOk result (HasValues call.now) }
+    ensures values { OnOk result (DiscCallHasValues call.now) }
 {
     match call {
         DiscCall::Begin(unit) => put_unit(message, unit),

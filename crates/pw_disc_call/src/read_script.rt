@@ -3,7 +3,7 @@ ghost use Rattle.std.specs.Option.{option_copied};
 ghost use Rattle.pw_base.specs.First.{Gives};
 ghost use Rattle.pw_lines.specs.Lines.{lines};
 ghost use Rattle.pw_lines.specs.Steps.{each_line, line_taken};
-ghost use Rattle.pw_disc_call.specs.Script.{after_in, begins_section, behind, behind_end, disc_line_in, disc_line_read, ends_deck, has_leading_zero, number_behind, script_of};
+ghost use Rattle.pw_disc_call.specs.Script.{after_in, begins_section, behind_prefix, behind_end, disc_line_in, disc_line_read, ends_deck, has_leading_zero, number_behind, script_of};
 
 use crate::script::{DiscLine, DiscScript, MAX_AFTER, MAX_DISC_LINES};
 use pw_base::fault::Refusal;
@@ -37,7 +37,7 @@ fn after_in(word: &[u8]) -> Option<u32>
 
 /// What stands behind a text, where the line begins with it.
 fn behind<'a>(text: &[u8], line: &'a [u8]) -> Option<&'a [u8]>
-    ensures { option_copied result ≡ behind text.now line.now }
+    ensures { option_copied result ≡ behind_prefix text.now line.now }
 {
     line.strip_prefix(text)
 }

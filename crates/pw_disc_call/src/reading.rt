@@ -1,7 +1,7 @@
 ghost use Rattle.std.specs.Prelude.{◌≡◌, Some, None, if◌then◌else◌};
 ghost use Rattle.std.specs.Int.{w32, w64};
 ghost use Rattle.pw_image.specs.Reading.{byte_at, is_any, is_truth, made_at, many_at, number_at};
-ghost use Rattle.pw_disc_call.specs.Reading.{Gives, file_call_at, is_op, op_of, others_at, piece_at, reply_at, unit_at};
+ghost use Rattle.pw_disc_call.specs.Reading.{GivesCallPart, file_call_at, is_op, op_of, others_at, piece_at, reply_at, unit_at};
 
 use crate::fault::CallFault;
 use pw_base::bytes::Bytes;
@@ -11,7 +11,7 @@ use std::alloc::Global;
 
 /// The number of four bytes at the front, and the rest.
 fn read_u32(bytes: &[u8]) -> Result<(u32, &[u8]), CallFault>
-    ensures { Gives (λ x. (x.0, x.1.now)) result (number_at w32 bytes.now) }
+    ensures { GivesCallPart (λ x. (x.0, x.1.now)) result (number_at w32 bytes.now) }
 {
     if bytes.len() < 4 {
         return Err(CallFault::Bad);
@@ -23,7 +23,7 @@ fn read_u32(bytes: &[u8]) -> Result<(u32, &[u8]), CallFault>
 
 /// The number of eight bytes at the front, and the rest.
 fn read_u64(bytes: &[u8]) -> Result<(u64, &[u8]), CallFault>
-    ensures { Gives (λ x. (x.0, x.1.now)) result (number_at w64 bytes.now) }
+    ensures { GivesCallPart (λ x. (x.0, x.1.now)) result (number_at w64 bytes.now) }
 {
     if bytes.len() < 8 {
         return Err(CallFault::Bad);
@@ -37,7 +37,7 @@ fn read_u64(bytes: &[u8]) -> Result<(u64, &[u8]), CallFault>
 
 /// The byte at the front, and the rest.
 pub fn read_byte(bytes: &[u8]) -> Result<(u8, &[u8]), CallFault>
-    ensures { Gives (λ x. (x.0, x.1.now)) result (byte_at is_any bytes.now) }
+    ensures { GivesCallPart (λ x. (x.0, x.1.now)) result (byte_at is_any bytes.now) }
 {
     match bytes {
         [] => Err(CallFault::Bad),
@@ -47,7 +47,7 @@ pub fn read_byte(bytes: &[u8]) -> Result<(u8, &[u8]), CallFault>
 
 /// The 0 or 1 at the front, and the rest.
 pub fn read_truth(bytes: &[u8]) -> Result<(u8, &[u8]), CallFault>
-    ensures { Gives (λ x. (x.0, x.1.now)) result (byte_at is_truth bytes.now) }
+    ensures { GivesCallPart (λ x. (x.0, x.1.now)) result (byte_at is_truth bytes.now) }
 {
     match bytes {
         [byte, rest @ ..] if *byte <= 1 => Ok((*byte, rest)),
@@ -58,7 +58,7 @@ pub fn read_truth(bytes: &[u8]) -> Result<(u8, &[u8]), CallFault>
 /// A unit, and the rest.
 #[tactic(auto, unfolding(crate::specs::Reading::unit_at))]
 pub fn read_unit(bytes: &[u8]) -> Result<(Unit, &[u8]), CallFault>
-    ensures { Gives (λ x. (x.0, x.1.now)) result (unit_at bytes.now) }
+    ensures { GivesCallPart (λ x. (x.0, x.1.now)) result (unit_at bytes.now) }
 {
     let (terminal, rest) = read_u32(bytes)?;
     let (number, rest) = read_u32(rest)?;
@@ -76,7 +76,7 @@ pub fn read_unit(bytes: &[u8]) -> Result<(Unit, &[u8]), CallFault>
 /// The bytes behind the length at the front, and the rest.
 #[tactic(auto, unfolding(crate::specs::Reading::piece_at))]
 fn read_piece(alloc: Global, bytes: &[u8]) -> Result<(Bytes, &[u8]), CallFault>
-    ensures { Gives (λ x. (x.0, x.1.now)) result (piece_at bytes.now) }
+    ensures { GivesCallPart (λ x. (x.0, x.1.now)) result (piece_at bytes.now) }
 {
     let (size, rest) = read_u32(bytes)?;
     let size = size as usize;
@@ -106,7 +106,7 @@ fn op_of(byte: u8) -> Option<FileOp>
 
 /// The operation at the front, and the rest.
 fn read_op(bytes: &[u8]) -> Result<(FileOp, &[u8]), CallFault>
-    ensures { Gives (λ x. (x.0, x.1.now)) result (made_at op_of (byte_at is_op) bytes.now) }
+    ensures { GivesCallPart (λ x. (x.0, x.1.now)) result (made_at op_of (byte_at is_op) bytes.now) }
 {
     let (byte, rest) = read_byte(bytes)?;
     match op_of(byte) {
@@ -118,7 +118,7 @@ fn read_op(bytes: &[u8]) -> Result<(FileOp, &[u8]), CallFault>
 /// An operation on a file, and the rest.
 #[tactic(auto, unfolding(crate::specs::Reading::file_call_at))]
 pub fn read_file_call(alloc: Global, bytes: &[u8]) -> Result<(FileCall, &[u8]), CallFault>
-    ensures { Gives (λ x. (x.0, x.1.now)) result (file_call_at bytes.now) }
+    ensures { GivesCallPart (λ x. (x.0, x.1.now)) result (file_call_at bytes.now) }
 {
     let (file, rest) = read_u32(bytes)?;
     let (op, rest) = read_op(rest)?;
@@ -138,7 +138,7 @@ pub fn read_file_call(alloc: Global, bytes: &[u8]) -> Result<(FileCall, &[u8]), 
 /// A reply, if there is one, and the rest.
 #[tactic(auto, unfolding(crate::specs::Reading::reply_at))]
 pub fn read_reply(alloc: Global, bytes: &[u8]) -> Result<(Option<Bytes>, &[u8]), CallFault>
-    ensures { Gives (λ x. (x.0, x.1.now)) result (reply_at bytes.now) }
+    ensures { GivesCallPart (λ x. (x.0, x.1.now)) result (reply_at bytes.now) }
 {
     let (there, rest) = read_truth(bytes)?;
     if there == 0 {
@@ -150,7 +150,7 @@ pub fn read_reply(alloc: Global, bytes: &[u8]) -> Result<(Option<Bytes>, &[u8]),
 
 /// So many units, and the rest.
 fn read_many_units(alloc: Global, count: u32, bytes: &[u8]) -> Result<(Vec<Unit>, &[u8]), CallFault>
-    ensures { Gives (λ x. (x.0.items, x.1.now)) result (many_at unit_at count bytes.now) }
+    ensures { GivesCallPart (λ x. (x.0.items, x.1.now)) result (many_at unit_at count bytes.now) }
 {
     let mut units = Vec::new(alloc);
     let mut rest = bytes;
@@ -165,7 +165,7 @@ fn read_many_units(alloc: Global, count: u32, bytes: &[u8]) -> Result<(Vec<Unit>
 /// The units behind their number, and the rest.
 #[tactic(auto, unfolding(crate::specs::Reading::others_at))]
 pub fn read_others(alloc: Global, bytes: &[u8]) -> Result<(Vec<Unit>, &[u8]), CallFault>
-    ensures { Gives (λ x. (x.0.items, x.1.now)) result (others_at bytes.now) }
+    ensures { GivesCallPart (λ x. (x.0.items, x.1.now)) result (others_at bytes.now) }
 {
     let (count, rest) = read_u32(bytes)?;
     read_many_units(alloc, count, rest)

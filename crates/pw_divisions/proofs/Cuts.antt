@@ -4,7 +4,7 @@ use Rattle.std.proofs.lemmas.List.Sums.{take_while-cons}
 use Rattle.pw_text.specs.declared.token.TokenKind.TheVariants as kind
 use Rattle.pw_text.specs.declared.token.Token.{Token}
 use Rattle.pw_text.specs.Cursor.{has_kind}
-use Rattle.pw_divisions.specs.Entries.{joined, entries_of}
+use Rattle.pw_divisions.specs.Entries.{token_joined, division_entries_of}
 
 -- how many tokens stand in front of the first period
 abbrev pub front : List Token → ℕ
@@ -19,29 +19,29 @@ goes_on token tokens is =
     ∙ ap (λ b. length (cond (not b) (token ∷ take_while (λ t. not (has_kind kind.Period t)) tokens) [])) is
     ∙ omega arith
 
-one-entry : (token : Token) (tokens : List Token) → has_kind kind.Period token ≡ true → entries_of (token ∷ tokens) ≡ (token ∷ []) ∷ entries_of tokens
-unfolding entries_of
+one-entry : (token : Token) (tokens : List Token) → has_kind kind.Period token ≡ true → division_entries_of (token ∷ tokens) ≡ (token ∷ []) ∷ division_entries_of tokens
+unfolding division_entries_of
 one-entry token tokens is = rw is refl
 
-joins : (token : Token) (tokens : List Token) → has_kind kind.Period token ≡ false → entries_of (token ∷ tokens) ≡ joined token (entries_of tokens)
-unfolding entries_of
+joins : (token : Token) (tokens : List Token) → has_kind kind.Period token ≡ false → division_entries_of (token ∷ tokens) ≡ token_joined token (division_entries_of tokens)
+unfolding division_entries_of
 joins token tokens is = rw is refl
 
 -- no token is left
-pub no-entries : (tokens : List Token) → length tokens ≡ 0 → entries_of tokens ≡ []
-unfolding entries_of
+pub no-entries : (tokens : List Token) → length tokens ≡ 0 → division_entries_of tokens ≡ []
+unfolding division_entries_of
 no-entries [] none = refl
 no-entries (token ∷ tokens) none = absurd (omega arith)
 
 -- the entries are the first one, of a size, and those behind it
 abbrev pub Cut : List Token → ℕ → Type 0
-Cut tokens size = entries_of tokens ≡ take size tokens ∷ entries_of (drop size tokens)
+Cut tokens size = division_entries_of tokens ≡ take size tokens ∷ division_entries_of (drop size tokens)
 
 same-size : (tokens : List Token) (a b : ℕ) → a ≡ b → Cut tokens a → Cut tokens b
 same-size tokens a b is cut = let P : ℕ → Type 0 = λ n. Cut tokens n in subst P is cut
 
 more : (token : Token) (tokens : List Token) (size : ℕ) → has_kind kind.Period token ≡ false → Cut tokens size → Cut (token ∷ tokens) (suc size)
-more token tokens size is cut = joins token tokens is ∙ ap (joined token) cut
+more token tokens size is cut = joins token tokens is ∙ ap (token_joined token) cut
 
 cut-period_by : (token : Token) (tokens : List Token) (b : Bool) → has_kind kind.Period token ≡ b
     → (front tokens < length tokens → Cut tokens (front tokens + 1)) → front (token ∷ tokens) < length (token ∷ tokens) → Cut (token ∷ tokens) (front (token ∷ tokens) + 1)
@@ -57,7 +57,7 @@ cut-period [] some = absurd (omega arith)
 cut-period (token ∷ tokens) some = cut-period_by token tokens (has_kind kind.Period token) refl (cut-period tokens) some
 
 cut-alone : (token : Token) → has_kind kind.Period token ≡ false → Cut (token ∷ []) 1
-unfolding entries_of
+unfolding division_entries_of
 cut-alone token is = rw is refl
 
 cut-whole_by : (token next : Token) (tokens : List Token) (b : Bool) → has_kind kind.Period token ≡ b

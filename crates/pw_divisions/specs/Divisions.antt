@@ -8,9 +8,9 @@ use Rattle.pw_text.specs.declared.token.Token.{Token}
 use Rattle.pw_text.specs.Cursor.{Left, has_kind, spelling, sees, sees_word, behind}
 use Rattle.pw_data.specs.Parts.{left_of}
 use Rattle.pw_divisions.specs.Divided.{DataDivision, Divided}
-use Rattle.pw_divisions.specs.Entries.{entries_of}
+use Rattle.pw_divisions.specs.Entries.{division_entries_of}
 use Rattle.pw_divisions.specs.Names.{level_of, own_name_of, with_name}
-use Rattle.pw_divisions.specs.Steps.{Step, ◌>>=◌, pure, word, period, up_to, some_tokens, between}
+use Rattle.pw_divisions.specs.Steps.{TokenStep, ◌>>=◌, pure, word, period, up_to, some_tokens, between}
 
 -- a division begins here: a word and DIVISION
 abbrev pub begins_division : Left → Bool
@@ -28,7 +28,7 @@ abbrev pub ends_text : Bool → Left → Bool
 ends_text in_data left = (in_data && begins_section left) || begins_division left
 
 -- the identification division of a program of this name
-abbrev pub identification : Word → Step (Unit {0})
+abbrev pub identification : Word → TokenStep (Unit {0})
 identification name = do
   first ← word (codes "IDENTIFICATION")
   division ← word (codes "DIVISION")
@@ -39,7 +39,7 @@ identification name = do
   period
 
 -- behind ENVIRONMENT: its division, whose text goes up to the next division
-abbrev pub environment_text : Step (Unit {0})
+abbrev pub environment_text : TokenStep (Unit {0})
 environment_text = do
   division ← word (codes "DIVISION")
   end ← period
@@ -47,19 +47,19 @@ environment_text = do
   pure tt
 
 -- the environment division, where it is there
-abbrev pub environment : Step (Unit {0})
+abbrev pub environment : TokenStep (Unit {0})
 environment = λ left.
     if sees_word (codes "ENVIRONMENT") left then environment_text (behind 1 left) else Ok (tt, left)
 
 -- behind the name of a section: its entries, up to the end of the section
-abbrev pub section_text : Step (List Token)
+abbrev pub section_text : TokenStep (List Token)
 section_text = do
   section ← word (codes "SECTION")
   end ← period
   up_to (ends_text true)
 
 -- the entries of a section, where it may be there and is there
-abbrev pub section : Bool → Word → Step (List Token)
+abbrev pub section : Bool → Word → TokenStep (List Token)
 section may_be name = λ left.
     if may_be && sees_word name left then section_text (behind 1 left) else Ok ([], left)
 
@@ -68,13 +68,13 @@ abbrev pub no_data : DataDivision
 no_data = record { stored = []; linkage = []; screens = [] }
 
 -- working storage and linkage: the entries of the second
-abbrev pub stored_sections : Bool → Step (List Token)
+abbrev pub stored_sections : Bool → TokenStep (List Token)
 stored_sections server = do
   working ← section true (codes "WORKING-STORAGE")
   section (not server) (codes "LINKAGE")
 
 -- these two with all their tokens, and the screens
-abbrev pub sections : Bool → Step DataDivision
+abbrev pub sections : Bool → TokenStep DataDivision
 sections server = λ left. (do
   linkage ← stored_sections server
   (λ rest. (do
@@ -82,14 +82,14 @@ sections server = λ left. (do
     pure (record { stored = between left rest; linkage = linkage; screens = screens })) rest)) left
 
 -- behind DATA: its division
-abbrev pub data_sections : Bool → Step DataDivision
+abbrev pub data_sections : Bool → TokenStep DataDivision
 data_sections server = do
   division ← word (codes "DIVISION")
   end ← period
   sections server
 
 -- the data division, where it is there
-abbrev pub data_division : Bool → Step DataDivision
+abbrev pub data_division : Bool → TokenStep DataDivision
 data_division server = λ left.
     if sees_word (codes "DATA") left then data_sections server (behind 1 left) else Ok (no_data, left)
 
@@ -111,57 +111,57 @@ with_parameters text names (entry ∷ entries) =
 
 -- the words that are names of level-01 items of LINKAGE SECTION, as they stand in its entries
 abbrev pub parameters : List ℕ → List Token → Word → Bool
-parameters text linkage = with_parameters text (λ word. false) (entries_of linkage)
+parameters text linkage = with_parameters text (λ word. false) (division_entries_of linkage)
 
 -- the token is a name of this kind
 abbrev pub is_parameter : List ℕ → (Word → Bool) → Token → Bool
 is_parameter text names token = has_kind kind.Word token && names (spelling text token)
 
 -- so many tokens, at least one
-abbrev pub one_or_more : ℕ → Step (List Token)
+abbrev pub one_or_more : ℕ → TokenStep (List Token)
 one_or_more count = λ left. if count == 0 then Err left else some_tokens count left
 
 -- behind USING: one or more names of level-01 items of LINKAGE SECTION
-abbrev pub used_names : List Token → Step (List Token)
+abbrev pub used_names : List Token → TokenStep (List Token)
 used_names linkage = λ left.
     let names = parameters left.text linkage in
     one_or_more (length (take_while (is_parameter left.text names) left.tokens)) left
 
 -- USING and its names, where they may be there and are there
-abbrev pub using_names : Bool → List Token → Step (List Token)
+abbrev pub using_names : Bool → List Token → TokenStep (List Token)
 using_names server linkage = λ left.
     if not server && sees_word (codes "USING") left
     then used_names linkage (behind 1 left)
     else Ok ([], left)
 
 -- the words that begin the procedure division
-abbrev pub begins_procedure : Step (Unit {0})
+abbrev pub begins_procedure : TokenStep (Unit {0})
 begins_procedure = do
   first ← word (codes "PROCEDURE")
   word (codes "DIVISION")
 
 -- the period behind the names of USING, which are given
-abbrev pub period_behind : List Token → Step (List Token)
+abbrev pub period_behind : List Token → TokenStep (List Token)
 period_behind names = do
   end ← period
   pure names
 
 -- the heading of the procedure division: the names of its USING
-abbrev pub procedure_heading : Bool → List Token → Step (List Token)
+abbrev pub procedure_heading : Bool → List Token → TokenStep (List Token)
 procedure_heading server linkage = do
   division ← begins_procedure
   names ← using_names server linkage
   period_behind names
 
 -- the divisions in front of the procedure division
-abbrev pub front : Bool → Word → Step DataDivision
+abbrev pub front : Bool → Word → TokenStep DataDivision
 front server name = do
   id ← identification name
   text ← environment
   data_division server
 
 -- the divisions of a source of this name; all that is left behind the heading of the procedure division is its text
-abbrev pub source : Bool → Word → Step Divided
+abbrev pub source : Bool → Word → TokenStep Divided
 source server name = do
   «data» ← front server name
   names ← procedure_heading server «data».linkage

@@ -4,7 +4,7 @@ use Rattle.std.specs.Str.{str_to_ascii_uppercase}
 use Rattle.pw_words.specs.Words.{Word, same_word}
 use Rattle.pw_text.specs.declared.token.Token.{Token}
 use Rattle.pw_text.specs.Cursor.{Left, spelling}
-use Rattle.pw_data.specs.Entries.{level_in, name_in, proper_name}
+use Rattle.pw_data.specs.Entries.{level_in, data_name_token, proper_name}
 
 -- the level of an entry: its first token, where that is one
 abbrev pub level_of : Left → Option ℕ
@@ -14,7 +14,7 @@ level_of entry = option_and_then (level_in entry.text) (slice_get entry.tokens 0
 abbrev pub name_of : Left → Option Token
 name_of entry =
     option_and_then
-    (λ level. option_and_then (name_in false entry.text) (slice_get entry.tokens 1))
+    (λ level. option_and_then (data_name_token false entry.text) (slice_get entry.tokens 1))
     (level_of entry)
 
 -- the name of an entry, and none for FILLER

@@ -1,5 +1,5 @@
 ghost use Rattle.std.specs.Prelude.{◌≡◌, option_copied};
-ghost use Rattle.pw_divisions.specs.Steps.{Steps, between};
+ghost use Rattle.pw_divisions.specs.Steps.{FollowsTokenStep, between};
 ghost use Rattle.pw_divisions.specs.Divisions.{stored_sections, sections, data_sections, data_division};
 
 use crate::steps::{period, section, word};
@@ -32,7 +32,7 @@ impl<'a> Model for Data<'a> {
 
 /// Takes working storage and linkage, each where it is there. It gives the entries of linkage.
 fn stored_sections<'a>(server: bool, cursor: &mut Cursor<'a>) -> Option<&'a [Token]>
-    ensures { Steps (stored_sections server cursor.old) (option_copied result) cursor.new }
+    ensures { FollowsTokenStep (stored_sections server cursor.old) (option_copied result) cursor.new }
 {
     let _working = section(true, b"WORKING-STORAGE", cursor)?;
     section(!server, b"LINKAGE", cursor)
@@ -50,7 +50,7 @@ fn between<'a>(from: &Cursor<'a>, cursor: &Cursor<'a>) -> &'a [Token]
 
 /// Takes the sections, each where it is there.
 fn sections<'a>(server: bool, cursor: &mut Cursor<'a>) -> Option<Data<'a>>
-    ensures { Steps (sections server cursor.old) result cursor.new }
+    ensures { FollowsTokenStep (sections server cursor.old) result cursor.new }
 {
     let from = cursor.fork();
     let linkage = stored_sections(server, cursor)?;
@@ -65,7 +65,7 @@ fn sections<'a>(server: bool, cursor: &mut Cursor<'a>) -> Option<Data<'a>>
 
 /// Takes what stands behind DATA: its division.
 fn data_sections<'a>(server: bool, cursor: &mut Cursor<'a>) -> Option<Data<'a>>
-    ensures { Steps (data_sections server cursor.old) result cursor.new }
+    ensures { FollowsTokenStep (data_sections server cursor.old) result cursor.new }
 {
     word(cursor, b"DIVISION")?;
     period(cursor)?;
@@ -74,7 +74,7 @@ fn data_sections<'a>(server: bool, cursor: &mut Cursor<'a>) -> Option<Data<'a>>
 
 /// Takes the data division, where it is there. A server has no LINKAGE SECTION and no SCREEN SECTION.
 pub fn data_division<'a>(server: bool, cursor: &mut Cursor<'a>) -> Option<Data<'a>>
-    ensures { Steps (data_division server cursor.old) result cursor.new }
+    ensures { FollowsTokenStep (data_division server cursor.old) result cursor.new }
 {
     if cursor.eat_word(b"DATA") {
         data_sections(server, cursor)

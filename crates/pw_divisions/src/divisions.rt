@@ -1,6 +1,6 @@
 ghost use Rattle.std.specs.Prelude.{◌≡◌, IfOk};
 ghost use Rattle.pw_base.specs.First.{Gives};
-ghost use Rattle.pw_divisions.specs.Steps.{Steps};
+ghost use Rattle.pw_divisions.specs.Steps.{FollowsTokenStep};
 ghost use Rattle.pw_divisions.specs.Divisions.{identification, front, source, line_at, divisions_of};
 
 use crate::data::{Data, data_division};
@@ -42,7 +42,7 @@ impl<'a> Model for Divisions<'a> {
 
 /// Takes the identification division of a program of this name.
 fn identification(name: &[u8], cursor: &mut Cursor<'_>) -> Option<()>
-    ensures { Steps (identification name.now cursor.old) result cursor.new }
+    ensures { FollowsTokenStep (identification name.now cursor.old) result cursor.new }
 {
     word(cursor, b"IDENTIFICATION")?;
     word(cursor, b"DIVISION")?;
@@ -55,7 +55,7 @@ fn identification(name: &[u8], cursor: &mut Cursor<'_>) -> Option<()>
 
 /// Takes the divisions in front of the procedure division.
 fn front<'a>(server: bool, name: &[u8], cursor: &mut Cursor<'a>) -> Option<Data<'a>>
-    ensures { Steps (front server name.now cursor.old) result cursor.new }
+    ensures { FollowsTokenStep (front server name.now cursor.old) result cursor.new }
 {
     identification(name, cursor)?;
     environment(cursor)?;
@@ -70,7 +70,7 @@ fn source<'a>(
     name: &[u8],
     cursor: &mut Cursor<'a>,
 ) -> Result<Option<Divisions<'a>>, Memory>
-    ensures { IfOk result (λ found. Steps (source server name.now cursor.old) found cursor.new) }
+    ensures { IfOk result (λ found. FollowsTokenStep (source server name.now cursor.old) found cursor.new) }
 {
     let Some(
         Data {

@@ -1,6 +1,6 @@
 ghost use Rattle.std.specs.Prelude.{◌≡◌, ◌||◌, false, IfOk, OnOk};
 ghost use Rattle.pw_words.specs.Words.{Word, same_word};
-ghost use Rattle.pw_data.specs.Entries.{name_in, proper_name};
+ghost use Rattle.pw_data.specs.Entries.{data_name_token, proper_name};
 ghost use Rattle.pw_data.specs.Names.{has_name};
 ghost use Rattle.pw_divisions.specs.Names.{level_of, name_of, own_name_of, upper_name, is_taken, with_name};
 
@@ -22,7 +22,7 @@ pub fn level_of(entry: &Cursor<'_>) -> Option<u8>
 
 /// The name that a token is, where it may be one: a word, but not `$RECEIVE`.
 fn name_in(text: &[u8], token: Token) -> Option<Token>
-    ensures { result ≡ name_in false text.now token }
+    ensures { result ≡ data_name_token false text.now token }
 {
     if token.kind.is(TokenKind::Word) && !token.is_the_word(text, b"$RECEIVE") {
         Some(token)

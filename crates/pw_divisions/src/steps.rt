@@ -1,5 +1,5 @@
 ghost use Rattle.std.specs.Prelude.{◌≡◌, ◌&&◌, ◌≤◌, Some, length, option_copied};
-ghost use Rattle.pw_divisions.specs.Steps.{Steps, word, period, size_up_to, up_to};
+ghost use Rattle.pw_divisions.specs.Steps.{FollowsTokenStep, word, period, size_up_to, up_to};
 ghost use Rattle.pw_divisions.specs.Divisions.{begins_division, begins_section, ends_text, environment_text, environment, section_text, section};
 
 use pw_text::cursor::Cursor;
@@ -7,7 +7,7 @@ use pw_text::token::{Token, TokenKind};
 
 /// Takes this word, in either case. None leaves the cursor where it was.
 pub fn word(cursor: &mut Cursor<'_>, name: &[u8]) -> Option<()>
-    ensures { Steps (word name.now cursor.old) result cursor.new }
+    ensures { FollowsTokenStep (word name.now cursor.old) result cursor.new }
 {
     if cursor.eat_word(name) {
         Some(())
@@ -18,7 +18,7 @@ pub fn word(cursor: &mut Cursor<'_>, name: &[u8]) -> Option<()>
 
 /// Takes a period. None leaves the cursor where it was.
 pub fn period(cursor: &mut Cursor<'_>) -> Option<()>
-    ensures { Steps (period cursor.old) result cursor.new }
+    ensures { FollowsTokenStep (period cursor.old) result cursor.new }
 {
     if cursor.eat(TokenKind::Period) {
         Some(())
@@ -74,7 +74,7 @@ fn text_size(in_data: bool, cursor: &Cursor<'_>) -> usize
 
 /// Takes the tokens up to the end of a text.
 fn take_text<'a>(in_data: bool, cursor: &mut Cursor<'a>) -> &'a [Token]
-    ensures { Steps (up_to (ends_text in_data) cursor.old) (Some result.now) cursor.new }
+    ensures { FollowsTokenStep (up_to (ends_text in_data) cursor.old) (Some result.now) cursor.new }
 {
     let size = text_size(in_data, cursor);
     cursor.take(size).tokens()
@@ -82,7 +82,7 @@ fn take_text<'a>(in_data: bool, cursor: &mut Cursor<'a>) -> &'a [Token]
 
 /// Takes the environment division, where it is there: its heading, and its text up to the next division.
 pub fn environment(cursor: &mut Cursor<'_>) -> Option<()>
-    ensures { Steps (environment cursor.old) result cursor.new }
+    ensures { FollowsTokenStep (environment cursor.old) result cursor.new }
 {
     if cursor.eat_word(b"ENVIRONMENT") {
         word(cursor, b"DIVISION")?;
@@ -94,7 +94,7 @@ pub fn environment(cursor: &mut Cursor<'_>) -> Option<()>
 
 /// Takes what stands behind the name of a section: its entries, up to the end of the section.
 fn section_text<'a>(cursor: &mut Cursor<'a>) -> Option<&'a [Token]>
-    ensures { Steps (section_text cursor.old) (option_copied result) cursor.new }
+    ensures { FollowsTokenStep (section_text cursor.old) (option_copied result) cursor.new }
 {
     word(cursor, b"SECTION")?;
     period(cursor)?;
@@ -103,7 +103,7 @@ fn section_text<'a>(cursor: &mut Cursor<'a>) -> Option<&'a [Token]>
 
 /// Takes a section of the data division, where it may be there and is there. It gives its entries.
 pub fn section<'a>(may_be: bool, name: &[u8], cursor: &mut Cursor<'a>) -> Option<&'a [Token]>
-    ensures { Steps (section may_be name.now cursor.old) (option_copied result) cursor.new }
+    ensures { FollowsTokenStep (section may_be name.now cursor.old) (option_copied result) cursor.new }
 {
     if may_be && cursor.eat_word(name) {
         section_text(cursor)

@@ -1,7 +1,7 @@
 ghost use Rattle.std.specs.Prelude.{◌≡◌, ◌≤◌, IfOk, length, take_while, option_and_then, option_copied};
 ghost use Rattle.pw_data.specs.Names.{has_name};
 ghost use Rattle.pw_data.specs.Parts.{left_of};
-ghost use Rattle.pw_divisions.specs.Steps.{Steps};
+ghost use Rattle.pw_divisions.specs.Steps.{FollowsTokenStep};
 ghost use Rattle.pw_divisions.specs.Divisions.{parameter_by, parameter_of, parameters, is_parameter, one_or_more, used_names, using_names, begins_procedure, period_behind, procedure_heading};
 
 use crate::entries::take_entry;
@@ -70,7 +70,7 @@ fn parameter_count(alloc: Global, names: &Names, cursor: &Cursor<'_>) -> Result<
 /// Takes so many tokens, where they are one or more.
 fn one_or_more<'a>(count: usize, cursor: &mut Cursor<'a>) -> Option<&'a [Token]>
     requires { count ≤ length cursor.old.tokens }
-    ensures { Steps (one_or_more count cursor.old) (option_copied result) cursor.new }
+    ensures { FollowsTokenStep (one_or_more count cursor.old) (option_copied result) cursor.new }
 {
     if count == 0 {
         None
@@ -86,7 +86,7 @@ fn used_names<'a>(
     cursor: &mut Cursor<'a>,
 ) -> Result<Option<&'a [Token]>, Memory>
     ensures { IfOk result (λ names.
-        Steps (used_names linkage.now cursor.old) (option_copied names) cursor.new) }
+        FollowsTokenStep (used_names linkage.now cursor.old) (option_copied names) cursor.new) }
 {
     let names = parameters(alloc, cursor.text(), linkage)?;
     let count = parameter_count(alloc, &names, cursor)?;
@@ -101,7 +101,7 @@ fn using_names<'a>(
     cursor: &mut Cursor<'a>,
 ) -> Result<Option<&'a [Token]>, Memory>
     ensures { IfOk result (λ names.
-        Steps (using_names server linkage.now cursor.old) (option_copied names) cursor.new) }
+        FollowsTokenStep (using_names server linkage.now cursor.old) (option_copied names) cursor.new) }
 {
     if !server && cursor.eat_word(b"USING") {
         used_names(alloc, linkage, cursor)
@@ -112,7 +112,7 @@ fn using_names<'a>(
 
 /// Takes the words that begin the procedure division.
 fn begins_procedure(cursor: &mut Cursor<'_>) -> Option<()>
-    ensures { Steps (begins_procedure cursor.old) result cursor.new }
+    ensures { FollowsTokenStep (begins_procedure cursor.old) result cursor.new }
 {
     word(cursor, b"PROCEDURE")?;
     word(cursor, b"DIVISION")
@@ -120,7 +120,7 @@ fn begins_procedure(cursor: &mut Cursor<'_>) -> Option<()>
 
 /// Takes the period behind the names of USING, and gives these.
 fn period_behind<'a>(names: &'a [Token], cursor: &mut Cursor<'_>) -> Option<&'a [Token]>
-    ensures { Steps (period_behind names.entry.now cursor.old) (option_copied result) cursor.new }
+    ensures { FollowsTokenStep (period_behind names.entry.now cursor.old) (option_copied result) cursor.new }
 {
     period(cursor)?;
     Some(names)
@@ -134,7 +134,7 @@ pub fn procedure_heading<'a>(
     cursor: &mut Cursor<'a>,
 ) -> Result<Option<&'a [Token]>, Memory>
     ensures { IfOk result (λ names.
-        Steps (procedure_heading server linkage.now cursor.old) (option_copied names) cursor.new) }
+        FollowsTokenStep (procedure_heading server linkage.now cursor.old) (option_copied names) cursor.new) }
 {
     if begins_procedure(cursor).is_none() {
         return Ok(None);

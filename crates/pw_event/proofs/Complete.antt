@@ -12,8 +12,8 @@ use Rattle.pw_event.specs.declared.event.Ending.TheVariants as ending
 use Rattle.pw_event.specs.declared.event.Event.{Event}
 use Rattle.pw_event.specs.declared.event.Event.TheVariants.{Show, Key, CheckStart, CheckEnd, CheckCopy, Applied, Begin, Send, Take, File, Reply, Again, Commit, Back, Restart, FailTcp, FailServer, Takeover, Raise, End}
 use Rattle.pw_event.specs.Keywords.{keyword}
-use Rattle.pw_event.specs.Line.{spelling, names_of, event_words, HasLine, IsInRange, IsThere}
-use Rattle.pw_event.specs.Parsing.{fault_of, cause_of, cause_in, ending_of, show, terminal_and_number, check, applied, begin, send, taken, file_at, file_line, reply, restart, fail_tcp, fail_server, failure_of, fail, takeover, raise, end, line_of, event_of, member}
+use Rattle.pw_event.specs.Line.{spelling, names_of, event_words, HasLine, IsInRange, IsWordOfSystem}
+use Rattle.pw_event.specs.Parsing.{fault_of, cause_of, cause_in, ending_of, show, terminal_and_number, check, applied, begin, send, take_line_event, file_at, file_line, reply, restart, fail_tcp, fail_server, failure_of, fail, takeover, raise, end, line_of, event_of, member}
 use Rattle.pw_event.proofs.Numbers.{counted-decimal}
 use Rattle.pw_event.proofs.Leaves.{number_of, code_of, refresh_of, named_terminal, named_class, named_file, terminal_of, pair_of, class_of, file_of, process_of, op_of, mode_of}
 
@@ -28,7 +28,7 @@ behind_first (word ∷ words) = words
 
 -- FILE c i op m f s
 file_complete : (system : System) → HasNames system → (rule : LockRule) (c i : ℕ) (o : FileOp) (m : LockMode) (f s : ℕ) → HasLine rule (File c i o m f s)
-    → AllByRecursion IsInRange (event_words rule (File c i o m f s)) → AllByRecursion (IsThere system) (event_words rule (File c i o m f s))
+    → AllByRecursion IsInRange (event_words rule (File c i o m f s)) → AllByRecursion (IsWordOfSystem system) (event_words rule (File c i o m f s))
     → file_line system rule (behind_first (words_of system rule (File c i o m f s))) ≡ Ok (File c i o m f s)
 unfolding file_line file_at
 file_complete system names ReadersShare c i o m f s line range there =
@@ -36,9 +36,9 @@ file_complete system names ReadersShare c i o m f s line range there =
 file_complete system names AllExclusive c i o m f s line range there =
     rw (line.1, op_of o line.0, named_file system names f there.1.1.1.1.0, code_of s range.1.1.1.1.1.0, process_of system names c i there.1.0 range.1.1.0 there.1.1.0, file_of system names f there.1.1.1.1.0) refl
 
-pub complete : (system : System) → HasNames system → (event : Event) → HasLine system.rule event → AllByRecursion IsInRange (event_words system.rule event) → AllByRecursion (IsThere system) (event_words system.rule event)
+pub complete : (system : System) → HasNames system → (event : Event) → HasLine system.rule event → AllByRecursion IsInRange (event_words system.rule event) → AllByRecursion (IsWordOfSystem system) (event_words system.rule event)
     → event_of system (words_of system system.rule event) ≡ Ok event
-unfolding event_of line_of keyword show terminal_and_number check applied begin send taken reply fault_of restart cause_in cause_of fail failure_of fail_tcp fail_server takeover raise end ending_of member
+unfolding event_of line_of keyword show terminal_and_number check applied begin send take_line_event reply fault_of restart cause_in cause_of fail failure_of fail_tcp fail_server takeover raise end ending_of member
 complete system names (Show t p a k) line range there = rw (refresh_of p a k range.1.1.0, terminal_of system names t there.1.0) refl
 complete system names (Key t k) line range there = rw (number_of k range.1.1.0, terminal_of system names t there.1.0) refl
 complete system names (CheckStart t) line range there = rw (terminal_of system names t there.1.0) refl

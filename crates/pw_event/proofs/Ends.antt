@@ -10,18 +10,18 @@ use Rattle.pw_event.specs.declared.event.Ending.TheVariants as ending
 use Rattle.pw_event.specs.declared.event.Event.TheVariants.{Restart, End}
 use Rattle.pw_event.specs.declared.keyword.Keyword.{Keyword}
 use Rattle.pw_event.specs.declared.keyword.Keyword.TheVariants as plain
-use Rattle.pw_event.specs.Keywords.{text_of, keyword}
-use Rattle.pw_event.specs.Line.{Names as NamesBy, Word, names_of, spelling, cause_words, ending_words, IsInRange, IsThere}
+use Rattle.pw_event.specs.Keywords.{keyword_text, keyword}
+use Rattle.pw_event.specs.Line.{NamesByNumber as NamesBy, LineWord, names_of, spelling, cause_words, ending_words, IsInRange, IsWordOfSystem}
 use Rattle.pw_event.specs.Reading.{AreFormed}
 use Rattle.pw_code.specs.Names.{may_name}
-use Rattle.pw_event.specs.Parsing.{named, number, counted, terminal, pair, cause_of, cause_in, ending_of, restart, end}
+use Rattle.pw_event.specs.Parsing.{named, number, positive_count_read, terminal, pair, cause_of, cause_in, ending_of, restart, end}
 use Rattle.pw_event.proofs.Numbers.{counted_out}
 use Rattle.pw_event.proofs.Sound.{keyword_out, named_out, small_out, code_out, terminal_out, pair_out}
 use Rattle.pw_event.proofs.Spelled.{InWords, Spells, single, some, single_formed, in_words, of_words}
 use Rattle.pw_event.proofs.Steps.{Outcome, and_then}
 
 -- the words are those of some value under some names, of which the first names a terminal
-pub record InTail (A : Type 0) (tail : A → List Word) (t : List ℕ) (words : List (List ℕ)) : Type 0 where
+pub record InTail (A : Type 0) (tail : A → List LineWord) (t : List ℕ) (words : List (List ℕ)) : Type 0 where
   pub names : NamesBy
   pub formed : AreFormed names
   pub first : names.terminal 0 ≡ t
@@ -30,8 +30,8 @@ pub record InTail (A : Type 0) (tail : A → List Word) (t : List ℕ) (words : 
   pub spelled : words ≡ map (spelling names) (tail value)
 
 -- the words are those of this value in the system
-pub record OfTail (A : Type 0) (tail : A → List Word) (system : System) (t : List ℕ) (words : List (List ℕ)) (value : A) : Type 0 where
-  pub there : AllByRecursion (IsThere system) (tail value)
+pub record OfTail (A : Type 0) (tail : A → List LineWord) (system : System) (t : List ℕ) (words : List (List ℕ)) (value : A) : Type 0 where
+  pub there : AllByRecursion (IsWordOfSystem system) (tail value)
   pub numbers : AllByRecursion IsInRange (tail value)
   pub spelled : words ≡ map (spelling (names_of system)) (tail value)
   pub grammar : InTail A tail t words
@@ -67,7 +67,7 @@ first_formed : (first other : List ℕ) → may_name first ≡ true → may_name
 first_formed first other first_is other_is zero = first_is
 first_formed first other first_is other_is (suc n) = other_is
 
-cause_by : (system : System) (t word : List ℕ) (U : Type 0) → may_name t ≡ true → (k : Keyword) → word ≡ text_of k → (words : List (List ℕ)) → (InCause t (word ∷ words) → U)
+cause_by : (system : System) (t word : List ℕ) (U : Type 0) → may_name t ≡ true → (k : Keyword) → word ≡ keyword_text k → (words : List (List ℕ)) → (InCause t (word ∷ words) → U)
     → Outcome (OfCause system t (word ∷ words)) U (cause_of system k words)
 unfolding cause_of
 cause_by system t word U formed plain.Older is (other ∷ n ∷ []) unknown =
@@ -85,7 +85,7 @@ cause_by system t word U formed plain.Takeover is (x ∷ []) unknown =
     record { there = (tt, (name.1, tt)); numbers = (tt, (tt, tt)); spelled = cc; grammar = taken_over name.0 })
 cause_by system t word U formed plain.Server is (x ∷ []) unknown =
     let words = word ∷ x ∷ [] in
-    and_then _ _ U (counted x) _ (counted_out x U) (λ k line.
+    and_then _ _ U (positive_count_read x) _ (counted_out x U) (λ k line.
     record { there = (tt, (tt, tt)); numbers = (tt, (line.1, tt)); spelled = cc; grammar = in_cause t words (single t some some some) (cause.Server k) (single_formed t some some some formed refl refl refl) refl (tt, (line.1, tt)) cc })
 cause_by system t word U formed plain.Redo is [] unknown = record {
   there = (tt, tt);
@@ -116,7 +116,7 @@ restart_spells system (t ∷ n ∷ rest) =
 restart_spells system _ = tt
 
 -- an ending alone
-ending_alone : (system : System) (t word : List ℕ) (e : Ending) (words : List (List ℕ)) → may_name t ≡ true → AllByRecursion (IsThere system) (ending_words e) → AllByRecursion IsInRange (ending_words e)
+ending_alone : (system : System) (t word : List ℕ) (e : Ending) (words : List (List ℕ)) → may_name t ≡ true → AllByRecursion (IsWordOfSystem system) (ending_words e) → AllByRecursion IsInRange (ending_words e)
     → ((names : NamesBy) → words ≡ map (spelling names) (ending_words e)) → OfEnding system t words e
 ending_alone system t word e words formed there numbers spelled = record {
   there = there;
@@ -125,7 +125,7 @@ ending_alone system t word e words formed there numbers spelled = record {
   grammar = in_ending t words (single t some some some) e (single_formed t some some some formed refl refl refl) refl numbers (spelled (single t some some some));
 }
 
-ending_by : (system : System) (t word : List ℕ) (U : Type 0) → may_name t ≡ true → (k : Keyword) → word ≡ text_of k → (words : List (List ℕ)) → (InEnding t (word ∷ words) → U)
+ending_by : (system : System) (t word : List ℕ) (U : Type 0) → may_name t ≡ true → (k : Keyword) → word ≡ keyword_text k → (words : List (List ℕ)) → (InEnding t (word ∷ words) → U)
     → Outcome (OfEnding system t (word ∷ words)) U (ending_of system k words)
 unfolding ending_of
 ending_by system t word U formed plain.Stopped is [] unknown = ending_alone system t word ending.Stopped (word ∷ []) formed (tt, tt) (tt, tt) (λ names. cc)

@@ -19,10 +19,10 @@ use Rattle.pw_event.specs.declared.script.FailLine.TheVariants.{Tcp, Server}
 use Rattle.pw_event.specs.Fails.{fail_words, IsFailInRange, IsFailLine, IsFailThere, IsNameOf, IsFailLineOf, ReadsFail}
 use Rattle.pw_event.specs.declared.keyword.Keyword.{Keyword}
 use Rattle.pw_event.specs.declared.keyword.Keyword.TheVariants as plain
-use Rattle.pw_event.specs.Keywords.{text_of, keyword}
-use Rattle.pw_event.specs.Line.{Names as NamesBy, no_class, spelling, sentence, pair_name, class_name, IsInRange}
+use Rattle.pw_event.specs.Keywords.{keyword_text, keyword}
+use Rattle.pw_event.specs.Line.{NamesByNumber as NamesBy, no_class, spelling, sentence, pair_name, class_name, IsInRange}
 use Rattle.pw_event.specs.Reading.{AreFormed}
-use Rattle.pw_event.specs.Parsing.{named, number, among, class_names, member, after_of, after, fail_process, tcp_line, fail_class, class_line, fail_line_of, fail_of, GivesUnlessMemory}
+use Rattle.pw_event.specs.Parsing.{named, number, among, class_names, member, after_of, after_keyword_read, fail_process, tcp_line, fail_class, class_line, fail_line_of, fail_of, GivesUnlessMemory}
 use Rattle.pw_event.proofs.Grammar.{cond_in, among_in}
 use Rattle.pw_event.proofs.Leaves.{named_formed, thing_name, pair_among_of, class_among_of}
 use Rattle.pw_event.proofs.Numbers.{number-decimal, number_out}
@@ -37,8 +37,8 @@ process-decimal : (i : ℕ) → (1 ≤ i) × (i ≤ 16) → fail_process (decima
 unfolding fail_process
 process-decimal i fits = rw (number-decimal 16 i fits.1 (omega (arith, fits.1)), ne_eqb i 0 (λ zero. omega (arith, fits.0))) refl
 
-after_is : after (codes "AFTER") ≡ Ok tt
-unfolding after keyword
+after_is : after_keyword_read (codes "AFTER") ≡ Ok tt
+unfolding after_keyword_read keyword
 after_is = refl
 
 -- a word that is a name in upper case may be a name
@@ -95,12 +95,12 @@ record OfFail (system : System) (words : List (List ℕ)) (fail : FailLine) : Ty
   pub same : IsNameOf system names fail
   pub spelled : words ≡ map (spelling names) (fail_words fail)
 
-after_by : (word : List ℕ) (U : Type 0) (k : Keyword) → word ≡ text_of k → Outcome (λ done. word ≡ codes "AFTER") U (after_of k)
+after_by : (word : List ℕ) (U : Type 0) (k : Keyword) → word ≡ keyword_text k → Outcome (λ done. word ≡ codes "AFTER") U (after_of k)
 after_by word U plain.After is = is
 after_by word U _ is = tt
 
-after_out : (word : List ℕ) (U : Type 0) → Outcome (λ done. word ≡ codes "AFTER") U (after word)
-unfolding after
+after_out : (word : List ℕ) (U : Type 0) → Outcome (λ done. word ≡ codes "AFTER") U (after_keyword_read word)
+unfolding after_keyword_read
 after_out word U = and_then _ _ U (keyword word) _ (keyword_out word U) (after_by word U)
 
 process_by : (i : ℕ) (word : List ℕ) (U : Type 0) (b : Bool) → (i == 0) ≡ b → (word ≡ decimal i) × (i ≤ 16) → Outcome (λ i. (word ≡ decimal i) × ((1 ≤ i) × (i ≤ 16))) U (cond {A = Result ℕ EventFault} b (Err Bad) (Ok i))
@@ -118,7 +118,7 @@ tcp_spells system (p ∷ m ∷ a ∷ n ∷ []) =
     let U : Type 0 = InFail words in
     and_then _ _ U (named p) _ (named_out p U) (λ done formed.
     and_then _ _ U (member m) _ (member_out m U) (λ (b : Bool) told.
-    and_then _ _ U (after a) _ (after_out a U) (λ done behind.
+    and_then _ _ U (after_keyword_read a) _ (after_out a U) (λ done behind.
     and_then _ _ U (number most_after n) _ (number_out most_after n U) (λ k number.
     let spelled : words ≡ map (spelling (single some p some some)) (fail_words (Tcp 0 b k)) = cc in
     let unknown : U = record { names = single some p some some; fail = Tcp 0 b k; formed = single_formed some p some some refl formed refl refl; numbers = number.1; spelled = spelled } in
@@ -133,7 +133,7 @@ class_spells system (c ∷ i ∷ a ∷ n ∷ []) =
     let U : Type 0 = InFail words in
     and_then _ _ U (named c) _ (named_out c U) (λ done formed.
     and_then _ _ U (fail_process i) _ (fail_process_out i U) (λ q process.
-    and_then _ _ U (after a) _ (after_out a U) (λ done behind.
+    and_then _ _ U (after_keyword_read a) _ (after_out a U) (λ done behind.
     and_then _ _ U (number most_after n) _ (number_out most_after n U) (λ k number.
     let spelled : words ≡ map (spelling (single some some c some)) (fail_words (Server 0 q k)) = cc in
     let numbers : IsFailInRange (Server 0 q k) = (process.1.0, process.1.1, number.1) in
@@ -144,7 +144,7 @@ class_spells system (c ∷ i ∷ a ∷ n ∷ []) =
     (λ many. unknown))))))
 class_spells system _ = tt
 
-fail_line_by : (system : System) (word : List ℕ) (words : List (List ℕ)) (k : Keyword) → word ≡ text_of k → Outcome (OfFail system (word ∷ words)) (InFail (word ∷ words)) (fail_line_of system k words)
+fail_line_by : (system : System) (word : List ℕ) (words : List (List ℕ)) (k : Keyword) → word ≡ keyword_text k → Outcome (OfFail system (word ∷ words)) (InFail (word ∷ words)) (fail_line_of system k words)
 unfolding fail_line_of
 fail_line_by system word words plain.Tcp is = rw is (tcp_spells system words)
 fail_line_by system word words plain.Server is = rw is (class_spells system words)

@@ -13,10 +13,10 @@ use Rattle.pw_event.specs.declared.event.Event.{Event}
 use Rattle.pw_event.specs.declared.event.Event.TheVariants.{Show, Key, CheckStart, CheckEnd, CheckCopy, Applied, Begin, Send, Take, File, Reply, Again, Commit, Back, Restart, FailTcp, FailServer, Takeover, Raise, End}
 use Rattle.pw_event.specs.declared.fault.EventFault.TheVariants.{Unknown}
 use Rattle.pw_event.specs.Keywords.{keyword}
-use Rattle.pw_event.specs.Line.{Names, spelling, event_words, HasLine, IsInRange}
+use Rattle.pw_event.specs.Line.{NamesByNumber, spelling, event_words, HasLine, IsInRange}
 use Rattle.pw_event.specs.Reading.{AreFormed}
 use Rattle.pw_code.specs.Names.{may_name}
-use Rattle.pw_event.specs.Parsing.{or_unknown, among, terminal, pair, class, file, process, fault_of, cause_of, cause_in, ending_of, show, terminal_and_number, check, applied, begin, send, taken, file_at, file_line, reply, restart, fail_tcp, fail_server, failure_of, fail, takeover, raise, end, line_of, event_of, member}
+use Rattle.pw_event.specs.Parsing.{or_unknown, among, terminal, pair, class, file, process, fault_of, cause_of, cause_in, ending_of, show, terminal_and_number, check, applied, begin, send, take_line_event, file_at, file_line, reply, restart, fail_tcp, fail_server, failure_of, fail, takeover, raise, end, line_of, event_of, member}
 use Rattle.pw_event.proofs.Numbers.{counted-decimal}
 use Rattle.pw_event.proofs.Leaves.{number_of, code_of, refresh_of, named_formed, op_of, mode_of}
 use Rattle.pw_event.proofs.Steps.{InGrammar, in_grammar}
@@ -54,7 +54,7 @@ unfolding process
 process_in system c i formed fits = rw (named_formed c formed, counted-decimal i fits) (in_grammar _ _ (class_in system c formed) (λ c. cond_in _ _))
 
 -- the words of an entry under some names
-abbrev pub spelled : Names → LockRule → Event → List (List ℕ)
+abbrev pub spelled : NamesByNumber → LockRule → Event → List (List ℕ)
 spelled names rule event = map (spelling names) (event_words rule event)
 
 -- the words behind the first
@@ -62,7 +62,7 @@ abbrev behind_first : List (List ℕ) → List (List ℕ)
 behind_first [] = []
 behind_first (word ∷ words) = words
 
-file_grammar : (system : System) (names : Names) → AreFormed names → (rule : LockRule) (c i : ℕ) (o : FileOp) (m : LockMode) (f s : ℕ) → HasLine rule (File c i o m f s)
+file_grammar : (system : System) (names : NamesByNumber) → AreFormed names → (rule : LockRule) (c i : ℕ) (o : FileOp) (m : LockMode) (f s : ℕ) → HasLine rule (File c i o m f s)
     → AllByRecursion IsInRange (event_words rule (File c i o m f s)) → InGrammar (file_line system rule (behind_first (spelled names rule (File c i o m f s))))
 unfolding file_line file_at
 file_grammar system names formed ReadersShare c i o m f s line range =
@@ -70,9 +70,9 @@ file_grammar system names formed ReadersShare c i o m f s line range =
 file_grammar system names formed AllExclusive c i o m f s line range =
     rw (op_of o line.0, named_formed (names.file f) (formed.file f), code_of s range.1.1.1.1.1.0) (in_grammar _ _ (process_in system (names.class c) i (formed.class c) range.1.1.0) (λ p. in_grammar _ _ (file_in system (names.file f) (formed.file f)) (λ f. tt)))
 
-pub grammar : (system : System) (names : Names) → AreFormed names → (event : Event) → HasLine system.rule event → AllByRecursion IsInRange (event_words system.rule event)
+pub grammar : (system : System) (names : NamesByNumber) → AreFormed names → (event : Event) → HasLine system.rule event → AllByRecursion IsInRange (event_words system.rule event)
     → InGrammar (event_of system (spelled names system.rule event))
-unfolding event_of line_of keyword show terminal_and_number check applied begin send taken reply fault_of restart cause_in cause_of fail failure_of fail_tcp fail_server takeover raise end ending_of member
+unfolding event_of line_of keyword show terminal_and_number check applied begin send take_line_event reply fault_of restart cause_in cause_of fail failure_of fail_tcp fail_server takeover raise end ending_of member
 grammar system names formed (Show t p a k) line range = rw (refresh_of p a k range.1.1.0) (in_grammar _ _ (terminal_in system (names.terminal t) (formed.terminal t)) (λ t. tt))
 grammar system names formed (Key t k) line range = rw (number_of k range.1.1.0) (in_grammar _ _ (in_grammar _ _ (terminal_in system (names.terminal t) (formed.terminal t)) (λ t. tt)) (λ r. tt))
 grammar system names formed (CheckStart t) line range = in_grammar _ _ (terminal_in system (names.terminal t) (formed.terminal t)) (λ t. tt)

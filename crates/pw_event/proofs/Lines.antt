@@ -12,10 +12,10 @@ use Rattle.pw_event.specs.declared.fault.EventFault.{EventFault}
 use Rattle.pw_event.specs.declared.fault.EventFault.TheVariants.{Bad, Unknown, Memory}
 use Rattle.pw_event.specs.declared.keyword.Keyword.{Keyword}
 use Rattle.pw_event.specs.declared.keyword.Keyword.TheVariants as plain
-use Rattle.pw_event.specs.Keywords.{text_of, keyword}
-use Rattle.pw_event.specs.Line.{Names, Word, Plain, TerminalName, PairName, ClassName, FileName, Process, FailNumber, Number, Code, Refresh, terminal_name, pair_name, class_name, file_name, IsThere, names_of, spelling, sentence, event_words}
+use Rattle.pw_event.specs.Keywords.{keyword_text, keyword}
+use Rattle.pw_event.specs.Line.{NamesByNumber, LineWord, Plain, TerminalName, PairName, ClassName, FileName, Process, FailNumber, Number, Code, Refresh, terminal_name, pair_name, class_name, file_name, IsWordOfSystem, names_of, spelling, sentence, event_words}
 use Rattle.pw_event.specs.Parsing.{line_of, event_of}
-use Rattle.pw_event.specs.Reading.{AreFormed, IsLine, IsLineOf, Reads}
+use Rattle.pw_event.specs.Reading.{AreFormed, IsLine, IsLineOf, ReadsEventLine}
 use Rattle.pw_code.specs.Names.{may_name}
 use Rattle.pw_event.proofs.Complete.{words_of, complete}
 use Rattle.pw_event.proofs.Ends.{restart_spells, end_spells}
@@ -25,7 +25,7 @@ use Rattle.pw_event.proofs.Sound.{keyword_out}
 use Rattle.pw_event.proofs.Spelled.{InWords, OfWords, Spells, show_spells, key_spells, again_spells, commit_spells, back_spells, check_spells, applied_spells, begin_spells, send_spells, take_spells, file_spells, reply_spells, fail_spells, takeover_spells, raise_spells}
 use Rattle.pw_event.proofs.Steps.{InGrammar, and_then}
 
-line_spells : (system : System) (word : List ℕ) (words : List (List ℕ)) (k : Keyword) → word ≡ text_of k → Spells system (word ∷ words) (line_of system k words)
+line_spells : (system : System) (word : List ℕ) (words : List (List ℕ)) (k : Keyword) → word ≡ keyword_text k → Spells system (word ∷ words) (line_of system k words)
 unfolding line_of
 line_spells system word words plain.Show is = rw is (show_spells system words)
 line_spells system word words plain.Key is = rw is (key_spells system words)
@@ -93,7 +93,7 @@ in_line system line in_words = record {
 
 -- what the words of a line give is what reading it answers
 pub line_reads : (system : System) → HasNames system → (line : List ℕ) (words : List (List ℕ)) (result : Result Event EventFault) → words ≡ slice_split (λ b. b == 32) line
-    → result ≡ event_of system words → Reads system line result
+    → result ≡ event_of system words → ReadsEventLine system line result
 line_reads system names line words (Ok event) cut gives =
     let P : Result Event EventFault → Type 0 = λ r. Spells system (slice_split (λ b. b == 32) line) r in
     of_line system line event (subst P (sym (gives ∙ ap (event_of system) cut)) (event_spells system (slice_split (λ b. b == 32) line)))
@@ -120,7 +120,7 @@ name_or_formed true word formed = formed refl
 name_or_formed false word formed = refl
 
 -- the names of a system, and another one for what is not there
-abbrev all_names : System → Names
+abbrev all_names : System → NamesByNumber
 all_names system = record {
   terminal = λ t. name_or (nat_lt t (length system.terminals)) (terminal_name system t);
   pair = λ p. name_or (nat_lt p (length system.tcps)) (pair_name system p);
@@ -136,7 +136,7 @@ all_formed system names = record {
   file = λ f. name_or_formed (nat_lt f (length system.files)) (file_name system f) (λ there. system_word system names (FileName f) (ltb-true f (length system.files) there));
 }
 
-same_spelling : (system : System) (word : Word) → IsThere system word → spelling (names_of system) word ≡ spelling (all_names system) word
+same_spelling : (system : System) (word : LineWord) → IsWordOfSystem system word → spelling (names_of system) word ≡ spelling (all_names system) word
 same_spelling system (TerminalName t) there = rw (lt-ltb t (length system.terminals) there) refl
 same_spelling system (PairName p) there = rw (lt-ltb p (length system.tcps) there) refl
 same_spelling system (ClassName c) there = rw (lt-ltb c (length system.classes) there) refl
@@ -148,7 +148,7 @@ same_spelling system (Number n) there = refl
 same_spelling system (Code x) there = refl
 same_spelling system (Refresh p a k) there = refl
 
-same_spellings : (system : System) (words : List Word) → AllByRecursion (IsThere system) words → map (spelling (names_of system)) words ≡ map (spelling (all_names system)) words
+same_spellings : (system : System) (words : List LineWord) → AllByRecursion (IsWordOfSystem system) words → map (spelling (names_of system)) words ≡ map (spelling (all_names system)) words
 same_spellings system [] there = refl
 same_spellings system (word ∷ words) there =
     ap (λ w. w ∷ map (spelling (names_of system)) words) (same_spelling system word there.0) ∙ ap (λ ws. spelling (all_names system) word ∷ ws) (same_spellings system words there.1)
@@ -165,7 +165,7 @@ line_is system names line event is = record {
 }
 
 -- the line of an entry of a system is read as that entry
-pub line_answer : (system : System) → HasNames system → (line : List ℕ) (event : Event) (result : Result Event EventFault) → IsLineOf system line event → Reads system line result
+pub line_answer : (system : System) → HasNames system → (line : List ℕ) (event : Event) (result : Result Event EventFault) → IsLineOf system line event → ReadsEventLine system line result
     → (result ≡ Ok event) ⊎ (result ≡ Err Memory)
 line_answer system names line event (Ok other) is reads = inl (ap Ok (one_entry system names line other event reads is))
 line_answer system names line event (Err Bad) is reads = absurd (reads (line_is system names line event is))

@@ -10,7 +10,7 @@ use Rattle.std.proofs.lemmas.Slice.Eq.{bytes_eq-Decides}
 use Rattle.pw_base.proofs.Plain.{bytes_eq-same}
 use Rattle.pw_event.specs.declared.fault.EventFault.{EventFault}
 use Rattle.pw_event.specs.declared.fault.EventFault.TheVariants.{Bad}
-use Rattle.pw_event.specs.Parsing.{number, counted}
+use Rattle.pw_event.specs.Parsing.{number, positive_count_read}
 use Rattle.pw_event.proofs.Steps.{Outcome, and_then}
 
 -- a number is read from its digits
@@ -32,8 +32,8 @@ pub number_out : (limit : ℕ) (word : List ℕ) (U : Type 0) → Outcome (λ n.
 unfolding number
 number_out limit word U = number_by limit (digits_value 10 word) word U _ refl
 
-pub counted-decimal : (n : ℕ) → (1 ≤ n) × (n < 2 ^ 32) → counted (decimal n) ≡ Ok n
-unfolding counted
+pub counted-decimal : (n : ℕ) → (1 ≤ n) × (n < 2 ^ 32) → positive_count_read (decimal n) ≡ Ok n
+unfolding positive_count_read
 counted-decimal n within =
     rw (number-decimal 4294967295 n (omega (arith, within.1)) (omega (arith, within.1)), ne_eqb n 0 (λ e. omega (arith, within.0))) refl
 
@@ -42,8 +42,8 @@ counted_by : (n : ℕ) (word : List ℕ) (U : Type 0) (b : Bool) → (n == 0) �
 counted_by n word U true zero is = tt
 counted_by n word U false some is = (is.0, (omega (arith, eqb-false n 0 some), omega arith))
 
-pub counted_out : (word : List ℕ) (U : Type 0) → Outcome (λ n. (word ≡ decimal n) × ((1 ≤ n) × (n < 2 ^ 32))) U (counted word)
-unfolding counted
+pub counted_out : (word : List ℕ) (U : Type 0) → Outcome (λ n. (word ≡ decimal n) × ((1 ≤ n) × (n < 2 ^ 32))) U (positive_count_read word)
+unfolding positive_count_read
 counted_out word U = and_then (λ n. (word ≡ decimal n) × (n ≤ 4294967295)) _ U (number 4294967295 word) _ (number_out 4294967295 word U) (λ n is. counted_by n word U _ refl is)
 
 -- a number above the limit is none

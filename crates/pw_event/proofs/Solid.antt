@@ -25,7 +25,7 @@ use Rattle.pw_event.specs.declared.event.Cause.TheVariants as cause
 use Rattle.pw_event.specs.declared.event.Ending.TheVariants as ending
 use Rattle.pw_event.specs.declared.event.Event.{Event}
 use Rattle.pw_event.specs.declared.event.Event.TheVariants.{File, Reply, Restart, FailTcp, End}
-use Rattle.pw_event.specs.Line.{Names, terminal_name, pair_name, class_name, file_name, Word, Plain, TerminalName, PairName, ClassName, FileName, Process, FailNumber, Number, Code, Refresh, no_terminal, no_class, no_file, names_of, spelling, sentence, event_words, cause_words, IsInRange, IsThere}
+use Rattle.pw_event.specs.Line.{NamesByNumber, terminal_name, pair_name, class_name, file_name, LineWord, Plain, TerminalName, PairName, ClassName, FileName, Process, FailNumber, Number, Code, Refresh, no_terminal, no_class, no_file, names_of, spelling, sentence, event_words, cause_words, IsInRange, IsWordOfSystem}
 use Rattle.pw_event.specs.Reading.{AreFormed}
 use Rattle.pw_event.proofs.Leaves.{thing_name}
 use Rattle.pw_event.proofs.Points.{decimal_lacks}
@@ -34,16 +34,16 @@ use Rattle.pw_event.proofs.Uppers.{may_name-name}
 use Rattle.pw_code.proofs.Uppers.{list_all-map}
 
 -- a word of the format has no space
-abbrev pub solid : Word → Bool
+abbrev pub solid : LineWord → Bool
 solid (Plain text) = list_all (λ b. not (b == 32)) text
 solid _ = true
 
 -- there are words, and those of the format have no spaces
-abbrev pub are_solid : List Word → Bool
+abbrev pub are_solid : List LineWord → Bool
 are_solid [] = false
 are_solid (word ∷ words) = list_all solid (word ∷ words)
 
-solid_cause : (word next : Word) (c : Cause) → solid word ≡ true → solid next ≡ true → list_all solid (word ∷ next ∷ cause_words c) ≡ true
+solid_cause : (word next : LineWord) (c : Cause) → solid word ≡ true → solid next ≡ true → list_all solid (word ∷ next ∷ cause_words c) ≡ true
 solid_cause word next (cause.Older t n) one other = rw (one, other) refl
 solid_cause word next (cause.Takeover p) one other = rw (one, other) refl
 solid_cause word next (cause.Server k) one other = rw (one, other) refl
@@ -93,14 +93,14 @@ solid_words rule (End t ending.Lost) = refl
 solid_words rule _ = refl
 
 -- the name of a word is one
-abbrev pub HasName : Names → Word → Type 0
+abbrev pub HasName : NamesByNumber → LineWord → Type 0
 HasName names (TerminalName t) = may_name (names.terminal t) ≡ true
 HasName names (PairName p) = may_name (names.pair p) ≡ true
 HasName names (ClassName c) = may_name (names.class c) ≡ true
 HasName names (FileName f) = may_name (names.file f) ≡ true
 HasName names _ = Unit {0}
 
-formed_word : (names : Names) → AreFormed names → (word : Word) → HasName names word
+formed_word : (names : NamesByNumber) → AreFormed names → (word : LineWord) → HasName names word
 formed_word names formed (TerminalName t) = formed.terminal t
 formed_word names formed (PairName p) = formed.pair p
 formed_word names formed (ClassName c) = formed.class c
@@ -108,11 +108,11 @@ formed_word names formed (FileName f) = formed.file f
 formed_word names formed _ = tt
 
 -- all words that name something have names
-pub formed_words : (names : Names) → AreFormed names → (words : List Word) → AllByRecursion (HasName names) words
+pub formed_words : (names : NamesByNumber) → AreFormed names → (words : List LineWord) → AllByRecursion (HasName names) words
 formed_words names formed [] = tt
 formed_words names formed (word ∷ words) = (formed_word names formed word, formed_words names formed words)
 
-pub system_word : (system : System) → HasNames system → (word : Word) → IsThere system word → HasName (names_of system) word
+pub system_word : (system : System) → HasNames system → (word : LineWord) → IsWordOfSystem system word → HasName (names_of system) word
 system_word system names (TerminalName t) there = may_name-name (terminal_name system t) (thing_name (λ (row : TermInfo). row.name) system.terminals names.terminals t no_terminal there)
 system_word system names (PairName p) there = may_name-name (pair_name system p) (names.tcps.each p [] there)
 system_word system names (ClassName c) there = may_name-name (class_name system c) (thing_name (λ (row : ClassInfo). row.name) system.classes names.classes c no_class there)
@@ -125,7 +125,7 @@ system_word system names (Code x) there = tt
 system_word system names (Refresh p a k) there = tt
 
 -- the words of a system's entry that name something have names
-pub system_words : (system : System) → HasNames system → (words : List Word) → AllByRecursion (IsThere system) words → AllByRecursion (HasName (names_of system)) words
+pub system_words : (system : System) → HasNames system → (words : List LineWord) → AllByRecursion (IsWordOfSystem system) words → AllByRecursion (HasName (names_of system)) words
 system_words system names [] there = tt
 system_words system names (word ∷ words) there = (system_word system names word there.0, system_words system names words there.1)
 
@@ -140,7 +140,7 @@ name_lacks word formed k d within =
 plain_lacks : (text : List ℕ) → list_all (λ b. not (b == 32)) text ≡ true → Lacks 32 text
 plain_lacks text plain k d within = not-true _ (and_at (list_all (λ b. not (b == 32))) (λ b. not (b == 32)) refl (λ x xs. refl) text k d within plain)
 
-word_lacks : (names : Names) (word : Word) → solid word ≡ true → HasName names word → IsInRange word → Lacks 32 (spelling names word)
+word_lacks : (names : NamesByNumber) (word : LineWord) → solid word ≡ true → HasName names word → IsInRange word → Lacks 32 (spelling names word)
 word_lacks names (Plain text) is_solid named range = plain_lacks text is_solid
 word_lacks names (TerminalName t) is_solid named range = name_lacks (names.terminal t) named
 word_lacks names (PairName p) is_solid named range = name_lacks (names.pair p) named
@@ -157,14 +157,14 @@ word_lacks names (Refresh p a k) is_solid named range =
     (All-append test (decimal a) (46 ∷ decimal k) (decimal_lacks 32 a (omega arith) (omega (arith, range.1)))
     (All-cons test 46 (decimal k) refl (decimal_lacks 32 k (omega arith) (omega (arith, range.2))))))
 
-words_lack : (names : Names) (words : List Word) → list_all solid words ≡ true → AllByRecursion (HasName names) words → AllByRecursion IsInRange words → AllByRecursion (Lacks 32) (map (spelling names) words)
+words_lack : (names : NamesByNumber) (words : List LineWord) → list_all solid words ≡ true → AllByRecursion (HasName names) words → AllByRecursion IsInRange words → AllByRecursion (Lacks 32) (map (spelling names) words)
 words_lack names [] are named range = tt
 words_lack names (word ∷ words) are named range =
     let both = and_parts (solid word) (list_all solid words) are in
     (word_lacks names word both.0 named.0 range.0, words_lack names words both.1 named.1 range.1)
 
 -- a line is cut into the words of its entry
-pub cut_words : (names : Names) (words : List Word) → are_solid words ≡ true → AllByRecursion (HasName names) words → AllByRecursion IsInRange words
+pub cut_words : (names : NamesByNumber) (words : List LineWord) → are_solid words ≡ true → AllByRecursion (HasName names) words → AllByRecursion IsInRange words
     → slice_split (λ b. b == 32) (sentence (map (spelling names) words)) ≡ map (spelling names) words
 cut_words names [] are named range = absurd (false≢true are)
 cut_words names (word ∷ words) are named range = split_joined 32 (spelling names word) (map (spelling names) words) (words_lack names (word ∷ words) are named range)

@@ -13,10 +13,10 @@ use Rattle.pw_event.specs.declared.fault.EventFault.{EventFault}
 use Rattle.pw_event.specs.declared.fault.EventFault.TheVariants.{Bad, Unknown}
 use Rattle.pw_event.specs.declared.keyword.Keyword.{Keyword}
 use Rattle.pw_event.specs.declared.keyword.Keyword.TheVariants as plain
-use Rattle.pw_event.specs.Keywords.{text_of, keywords, or_bad, keyword}
+use Rattle.pw_event.specs.Keywords.{keyword_text, keywords, or_bad, keyword}
 use Rattle.pw_event.specs.Line.{no_terminal, no_class, no_file, pair_name, class_name, refresh_number, op_text, mode_text, member_text, IsPlain}
 use Rattle.pw_code.specs.Names.{may_name}
-use Rattle.pw_event.specs.Parsing.{◌>>=◌, named, number, counted, or_unknown, cut, refresh, among, class_names, terminal, pair, class, file, process, op_of, op, mode_of, mode, member_of, member}
+use Rattle.pw_event.specs.Parsing.{◌>>=◌, named, number, positive_count_read, or_unknown, cut, refresh, among, class_names, terminal, pair, class, file, process, op_of, op, mode_of, mode, member_of, member}
 use Rattle.pw_event.proofs.Looked.{found_is, thing_is}
 use Rattle.pw_event.proofs.Numbers.{number_out, counted_out}
 use Rattle.pw_event.proofs.Points.{cut_out}
@@ -113,27 +113,27 @@ pub process_out : (system : System) (c i : List ℕ) (U : Type 0) → (may_name 
 unfolding process
 process_out system c i U unknown =
     and_then _ _ U (named c) _ (named_out c U) (λ done formed.
-    and_then (λ n. (i ≡ decimal n) × ((1 ≤ n) × (n < 2 ^ 32))) _ U (counted i) _ (counted_out i U) (λ n number.
+    and_then (λ n. (i ≡ decimal n) × ((1 ≤ n) × (n < 2 ^ 32))) _ U (positive_count_read i) _ (counted_out i U) (λ n number.
     and_then _ _ U (class system c) _ (class_out system c U (λ formed. unknown formed n number.0 number.1)) (λ k class.
     either (IsProcess system c i) U (nat_le n (slice_index_or system.classes k no_class).processes) (Ok (k, n)) (Err Unknown)
     (λ few. record { class = class; number = number.0; fits = number.1; there = leb-true n (slice_index_or system.classes k no_class).processes few })
     (λ many. unknown formed n number.0 number.1))))
 
-keyword_by : (word : List ℕ) (U : Type 0) (k : Keyword) (ks : List Keyword) (b : Bool) → bytes_eq (text_of k) word ≡ b
-    → Outcome (λ k. word ≡ text_of k) U (or_bad (find (λ k. bytes_eq (text_of k) word) ks)) → Outcome (λ k. word ≡ text_of k) U (or_bad (cond b (Some k) (find (λ k. bytes_eq (text_of k) word) ks)))
-keyword_by word U k ks true same rest = sym ((bytes_eq-Decides (text_of k) word).0 same)
+keyword_by : (word : List ℕ) (U : Type 0) (k : Keyword) (ks : List Keyword) (b : Bool) → bytes_eq (keyword_text k) word ≡ b
+    → Outcome (λ k. word ≡ keyword_text k) U (or_bad (find (λ k. bytes_eq (keyword_text k) word) ks)) → Outcome (λ k. word ≡ keyword_text k) U (or_bad (cond b (Some k) (find (λ k. bytes_eq (keyword_text k) word) ks)))
+keyword_by word U k ks true same rest = sym ((bytes_eq-Decides (keyword_text k) word).0 same)
 keyword_by word U k ks false other rest = rest
 
-keyword_among : (word : List ℕ) (U : Type 0) (ks : List Keyword) → Outcome (λ k. word ≡ text_of k) U (or_bad (find (λ k. bytes_eq (text_of k) word) ks))
+keyword_among : (word : List ℕ) (U : Type 0) (ks : List Keyword) → Outcome (λ k. word ≡ keyword_text k) U (or_bad (find (λ k. bytes_eq (keyword_text k) word) ks))
 keyword_among word U [] = tt
 keyword_among word U (k ∷ ks) = keyword_by word U k ks _ refl (keyword_among word U ks)
 
 -- a keyword has its text
-pub keyword_out : (word : List ℕ) (U : Type 0) → Outcome (λ k. word ≡ text_of k) U (keyword word)
+pub keyword_out : (word : List ℕ) (U : Type 0) → Outcome (λ k. word ≡ keyword_text k) U (keyword word)
 unfolding keyword
 keyword_out word U = keyword_among word U keywords
 
-op_by : (word : List ℕ) (U : Type 0) (k : Keyword) → word ≡ text_of k → Outcome (λ o. IsPlain o × (word ≡ op_text o)) U (op_of k)
+op_by : (word : List ℕ) (U : Type 0) (k : Keyword) → word ≡ keyword_text k → Outcome (λ o. IsPlain o × (word ≡ op_text o)) U (op_of k)
 op_by word U plain.Read is = (tt, is)
 op_by word U plain.Next is = (tt, is)
 op_by word U plain.Write is = (tt, is)
@@ -145,7 +145,7 @@ pub op_out : (word : List ℕ) (U : Type 0) → Outcome (λ o. IsPlain o × (wor
 unfolding op
 op_out word U = and_then _ _ U (keyword word) _ (keyword_out word U) (op_by word U)
 
-mode_by : (word : List ℕ) (U : Type 0) (k : Keyword) → word ≡ text_of k → Outcome (λ m. word ≡ mode_text m) U (mode_of k)
+mode_by : (word : List ℕ) (U : Type 0) (k : Keyword) → word ≡ keyword_text k → Outcome (λ m. word ≡ mode_text m) U (mode_of k)
 mode_by word U plain.Shared is = is
 mode_by word U plain.Exclusive is = is
 mode_by word U _ is = tt
@@ -154,7 +154,7 @@ pub mode_out : (word : List ℕ) (U : Type 0) → Outcome (λ m. word ≡ mode_t
 unfolding mode
 mode_out word U = and_then _ _ U (keyword word) _ (keyword_out word U) (mode_by word U)
 
-member_by : (word : List ℕ) (U : Type 0) (k : Keyword) → word ≡ text_of k → Outcome (λ m. word ≡ member_text m) U (member_of k)
+member_by : (word : List ℕ) (U : Type 0) (k : Keyword) → word ≡ keyword_text k → Outcome (λ m. word ≡ member_text m) U (member_of k)
 member_by word U plain.Primary is = is
 member_by word U plain.Backup is = is
 member_by word U _ is = tt

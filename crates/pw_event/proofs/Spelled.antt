@@ -15,11 +15,11 @@ use Rattle.pw_event.specs.declared.event.Event.TheVariants.{Show, Key, CheckStar
 use Rattle.pw_event.specs.declared.fault.EventFault.{EventFault}
 use Rattle.pw_event.specs.declared.keyword.Keyword.{Keyword}
 use Rattle.pw_event.specs.declared.keyword.Keyword.TheVariants as plain
-use Rattle.pw_event.specs.Keywords.{text_of, keyword}
-use Rattle.pw_event.specs.Line.{Names as NamesBy, no_terminal, names_of, spelling, event_words, reply_words, HasLine, IsInRange, IsThere}
+use Rattle.pw_event.specs.Keywords.{keyword_text, keyword}
+use Rattle.pw_event.specs.Line.{NamesByNumber as NamesBy, no_terminal, names_of, spelling, event_words, reply_words, HasLine, IsInRange, IsWordOfSystem}
 use Rattle.pw_event.specs.Reading.{AreFormed}
 use Rattle.pw_code.specs.Names.{may_name}
-use Rattle.pw_event.specs.Parsing.{◌>>=◌, named, number, counted, refresh, terminal, pair, class, file, process, op, mode, member, fault_of, show, terminal_and_number, check_of, check, applied, begin, send, taken, file_at, file_line, reply, fail_tcp, fail_server, failure_of, fail, takeover, raise}
+use Rattle.pw_event.specs.Parsing.{◌>>=◌, named, number, positive_count_read, refresh, terminal, pair, class, file, process, op, mode, member, fault_of, show, terminal_and_number, check_of, check, applied, begin, send, take_line_event, file_at, file_line, reply, fail_tcp, fail_server, failure_of, fail, takeover, raise}
 use Rattle.pw_event.proofs.Numbers.{counted_out}
 use Rattle.pw_event.proofs.Sound.{Names, IsProcess, keyword_out, named_out, small_out, code_out, refresh_out, terminal_out, pair_out, class_out, file_out, process_out, op_out, mode_out, member_out}
 use Rattle.pw_event.proofs.Steps.{Outcome, and_then, weaker}
@@ -36,7 +36,7 @@ pub record InWords (rule : LockRule) (words : List (List ℕ)) : Type 0 where
 -- the words are those of this entry of the system
 pub record OfWords (system : System) (words : List (List ℕ)) (event : Event) : Type 0 where
   pub told : HasLine system.rule event
-  pub there : AllByRecursion (IsThere system) (event_words system.rule event)
+  pub there : AllByRecursion (IsWordOfSystem system) (event_words system.rule event)
   pub numbers : AllByRecursion IsInRange (event_words system.rule event)
   pub spelled : words ≡ map (spelling (names_of system)) (event_words system.rule event)
 
@@ -59,7 +59,7 @@ pub in_words : (rule : LockRule) (words : List (List ℕ)) (names : NamesBy) (ev
     → words ≡ map (spelling names) (event_words rule event) → InWords rule words
 in_words rule words names event formed told numbers spelled = record { names = names; event = event; formed = formed; told = told; numbers = numbers; spelled = spelled }
 
-pub of_words : (system : System) (words : List (List ℕ)) (event : Event) → HasLine system.rule event → AllByRecursion (IsThere system) (event_words system.rule event)
+pub of_words : (system : System) (words : List (List ℕ)) (event : Event) → HasLine system.rule event → AllByRecursion (IsWordOfSystem system) (event_words system.rule event)
     → AllByRecursion IsInRange (event_words system.rule event) → words ≡ map (spelling (names_of system)) (event_words system.rule event) → OfWords system words event
 of_words system words event told there numbers spelled = record { told = told; there = there; numbers = numbers; spelled = spelled }
 
@@ -121,7 +121,7 @@ back_spells system (t ∷ n ∷ []) =
     of_words system words (Back r.0 r.1) tt (tt, (is.0.1, (tt, tt))) (tt, (tt, (is.2, tt))) cc)
 back_spells system _ = tt
 
-check_by : (system : System) (t word : List ℕ) (k : Keyword) → word ≡ text_of k → Spells system (codes "CHECK" ∷ t ∷ word ∷ []) (check_of system t k)
+check_by : (system : System) (t word : List ℕ) (k : Keyword) → word ≡ keyword_text k → Spells system (codes "CHECK" ∷ t ∷ word ∷ []) (check_of system t k)
 check_by system t word plain.Start is =
     let words = codes "CHECK" ∷ t ∷ word ∷ [] in
     let U : Type 0 = InWords system.rule words in
@@ -180,8 +180,8 @@ send_spells system (t ∷ n ∷ c ∷ []) =
 send_spells system _ = tt
 
 -- TAKE c i t
-pub take_spells : (system : System) (words : List (List ℕ)) → Spells system (codes "TAKE" ∷ words) (taken system words)
-unfolding taken
+pub take_spells : (system : System) (words : List (List ℕ)) → Spells system (codes "TAKE" ∷ words) (take_line_event system words)
+unfolding take_line_event
 take_spells system (c ∷ i ∷ t ∷ []) =
     let words = codes "TAKE" ∷ c ∷ i ∷ t ∷ [] in
     let U : Type 0 = InWords system.rule words in
@@ -194,7 +194,7 @@ take_spells system _ = tt
 -- the words are those of this entry of the system under a rule
 abbrev pub OfRule : System → LockRule → List (List ℕ) → Event → Type 0
 OfRule system rule words event =
-    HasLine rule event × AllByRecursion (IsThere system) (event_words rule event) × AllByRecursion IsInRange (event_words rule event) × (words ≡ map (spelling (names_of system)) (event_words rule event))
+    HasLine rule event × AllByRecursion (IsWordOfSystem system) (event_words rule event) × AllByRecursion IsInRange (event_words rule event) × (words ≡ map (spelling (names_of system)) (event_words rule event))
 
 -- FILE c i op m f s
 file_of_rule : (system : System) (rule : LockRule) (words : List (List ℕ)) → Outcome (OfRule system rule (codes "FILE" ∷ words)) (InWords rule (codes "FILE" ∷ words)) (file_line system rule words)
@@ -229,10 +229,10 @@ file_spells system words =
 -- how a process answered
 pub record IsReply (words : List (List ℕ)) (fault : Option ℕ) : Type 0 where
   pub numbers : AllByRecursion IsInRange (reply_words fault)
-  pub there : (system : System) → AllByRecursion (IsThere system) (reply_words fault)
+  pub there : (system : System) → AllByRecursion (IsWordOfSystem system) (reply_words fault)
   pub spelled : (names : NamesBy) → words ≡ map (spelling names) (reply_words fault)
 
-fault_out : (word : List ℕ) (U : Type 0) (k : Keyword) → word ≡ text_of k → (words : List (List ℕ)) → Outcome (IsReply (word ∷ words)) U (fault_of k words)
+fault_out : (word : List ℕ) (U : Type 0) (k : Keyword) → word ≡ keyword_text k → (words : List (List ℕ)) → Outcome (IsReply (word ∷ words)) U (fault_of k words)
 unfolding fault_of
 fault_out word U plain.Okay is [] = record { numbers = (tt, tt); there = λ system. (tt, tt); spelled = λ names. cc }
 fault_out word U plain.Fault is (x ∷ []) =
@@ -260,7 +260,7 @@ fail_tcp_spells system (p ∷ m ∷ k ∷ []) =
     let words = codes "FAIL" ∷ codes "TCP" ∷ p ∷ m ∷ k ∷ [] in
     let U : Type 0 = InWords system.rule words in
     and_then _ _ U (member m) _ (member_out m U) (λ (b : Bool) told.
-    and_then _ _ U (counted k) _ (counted_out k U) (λ n line.
+    and_then _ _ U (positive_count_read k) _ (counted_out k U) (λ n line.
     and_then _ _ U (pair system p) _ (pair_out system p U (λ formed. in_words system.rule words (single some p some some) (FailTcp 0 b n) (single_formed some p some some refl formed refl refl) tt (tt, (tt, (tt, (tt, (line.1, tt))))) cc)) (λ i name.
     of_words system words (FailTcp i b n) tt (tt, (tt, (name.1, (tt, (tt, tt))))) (tt, (tt, (tt, (tt, (line.1, tt))))) cc)))
 fail_tcp_spells system _ = tt
@@ -271,12 +271,12 @@ unfolding fail_server
 fail_server_spells system (c ∷ i ∷ k ∷ []) =
     let words = codes "FAIL" ∷ codes "SERVER" ∷ c ∷ i ∷ k ∷ [] in
     let U : Type 0 = InWords system.rule words in
-    and_then _ _ U (counted k) _ (counted_out k U) (λ n line.
+    and_then _ _ U (positive_count_read k) _ (counted_out k U) (λ n line.
     and_then _ _ U (process system c i) _ (process_out system c i U (λ formed q at fits. in_words system.rule words (single some some c some) (FailServer 0 q n) (single_formed some some c some refl refl formed refl) tt (tt, (tt, (tt, (fits, (line.1, tt))))) cc)) (λ (p : ℕ × ℕ) (by : IsProcess system c i p).
     of_words system words (FailServer p.0 p.1 n) tt (tt, (tt, (by.class.1, (by.there, (tt, tt))))) (tt, (tt, (tt, (by.fits, (line.1, tt))))) cc))
 fail_server_spells system _ = tt
 
-failure_by : (system : System) (word : List ℕ) (rest : List (List ℕ)) (k : Keyword) → word ≡ text_of k → Spells system (codes "FAIL" ∷ word ∷ rest) (failure_of system k rest)
+failure_by : (system : System) (word : List ℕ) (rest : List (List ℕ)) (k : Keyword) → word ≡ keyword_text k → Spells system (codes "FAIL" ∷ word ∷ rest) (failure_of system k rest)
 unfolding failure_of
 failure_by system word rest plain.Tcp is = rw is (fail_tcp_spells system rest)
 failure_by system word rest plain.Server is = rw is (fail_server_spells system rest)

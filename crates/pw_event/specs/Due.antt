@@ -56,8 +56,8 @@ is_same_owner (Class c) (Tcp q) = false
 is_same_owner (Class c) (Class d) = c == d
 
 -- how many entries of the log belong to an owner
-abbrev pub entries_of : (ℕ → ℕ) → Owner → List Event → ℕ
-entries_of pair_of owner log = length (filter (λ entry. is_same_owner (owner_of pair_of entry) owner) log)
+abbrev pub owner_entry_count : (ℕ → ℕ) → Owner → List Event → ℕ
+owner_entry_count pair_of owner log = length (filter (λ entry. is_same_owner (owner_of pair_of entry) owner) log)
 
 -- the entry is the FAIL entry of this line
 abbrev pub is_fail_of : ℕ → Event → Bool
@@ -90,4 +90,4 @@ if_due entries (Some l) = if nat_le (after_of l.line) entries then Some l.number
 
 -- the failure line of an owner that is due
 abbrev pub due_line : (ℕ → ℕ) → List FailLine → List Event → Owner → Option ℕ
-due_line pair_of lines log owner = if_due (entries_of pair_of owner log) (next_failure lines log owner)
+due_line pair_of lines log owner = if_due (owner_entry_count pair_of owner log) (next_failure lines log owner)

@@ -7,11 +7,11 @@ use Rattle.pw_event.specs.declared.script.FailLine.{FailLine}
 use Rattle.pw_event.specs.declared.script.FailLine.TheVariants.{Tcp, Server}
 use Rattle.pw_event.specs.declared.fault.EventFault.{EventFault}
 use Rattle.pw_event.specs.declared.fault.EventFault.TheVariants.{Bad, Unknown, Memory}
-use Rattle.pw_event.specs.Line.{Names, Word, Plain, PairName, ClassName, Process, Number, spelling, sentence, member_text, pair_name, class_name, no_class}
+use Rattle.pw_event.specs.Line.{NamesByNumber, LineWord, Plain, PairName, ClassName, Process, Number, spelling, sentence, member_text, pair_name, class_name, no_class}
 use Rattle.pw_event.specs.Reading.{AreFormed}
 
 -- the words of a failure line
-abbrev pub fail_words : FailLine → List Word
+abbrev pub fail_words : FailLine → List LineWord
 fail_words (Tcp p primary after) = Plain (codes "TCP") ∷ PairName p ∷ Plain (member_text primary) ∷ Plain (codes "AFTER") ∷ Number after ∷ []
 fail_words (Server c i after) = Plain (codes "SERVER") ∷ ClassName c ∷ Process c i ∷ Plain (codes "AFTER") ∷ Number after ∷ []
 
@@ -22,7 +22,7 @@ IsFailInRange (Server c i after) = (1 ≤ i) × (i ≤ most_processes) × (after
 
 -- A line of the grammar: under some names it is the spelling of some failure line.
 pub record IsFailLine (line : List ℕ) : Type 0 where
-  pub names : Names
+  pub names : NamesByNumber
   pub fail : FailLine
   pub formed : AreFormed names
   pub numbers : IsFailInRange fail
@@ -34,7 +34,7 @@ IsFailThere system (Tcp p primary after) = p < length system.tcps
 IsFailThere system (Server c i after) = (c < length system.classes) × (i ≤ (slice_index_or system.classes c no_class).processes)
 
 -- the name that a failure line has is the system's, in either case
-abbrev pub IsNameOf : System → Names → FailLine → Type 0
+abbrev pub IsNameOf : System → NamesByNumber → FailLine → Type 0
 IsNameOf system names (Tcp p primary after) = str_to_ascii_uppercase (names.pair p) ≡ pair_name system p
 IsNameOf system names (Server c i after) = str_to_ascii_uppercase (names.class c) ≡ class_name system c
 
@@ -42,7 +42,7 @@ IsNameOf system names (Server c i after) = str_to_ascii_uppercase (names.class c
 pub record IsFailLineOf (system : System) (line : List ℕ) (fail : FailLine) : Type 0 where
   pub there : IsFailThere system fail
   pub numbers : IsFailInRange fail
-  pub names : Names
+  pub names : NamesByNumber
   pub same : IsNameOf system names fail
   pub spelled : line ≡ sentence (map (spelling names) (fail_words fail))
 

@@ -20,24 +20,24 @@ use Rattle.pw_event.specs.declared.event.Event.{Event}
 use Rattle.pw_event.specs.declared.event.Event.TheVariants.{Show, Key, CheckStart, CheckEnd, CheckCopy, Applied, Begin, Send, Take, File, Reply, Again, Commit, Back, Restart, FailTcp, FailServer, Takeover, Raise, End}
 
 -- A word of a line.
-pub data Word : Type 0 where
+pub data LineWord : Type 0 where
   -- it stands in every line of its kind
-  Plain : List ℕ → Word
+  Plain : List ℕ → LineWord
   -- the name of a terminal, of a pair, of a class, of a file
-  TerminalName : ℕ → Word
-  PairName : ℕ → Word
-  ClassName : ℕ → Word
-  FileName : ℕ → Word
+  TerminalName : ℕ → LineWord
+  PairName : ℕ → LineWord
+  ClassName : ℕ → LineWord
+  FileName : ℕ → LineWord
   -- the number of a process of a class
-  Process : (c i : ℕ) → Word
+  Process : (c i : ℕ) → LineWord
   -- the number of a failure line
-  FailNumber : ℕ → Word
+  FailNumber : ℕ → LineWord
   -- a number
-  Number : ℕ → Word
+  Number : ℕ → LineWord
   -- a file status or a run fault
-  Code : ℕ → Word
+  Code : ℕ → LineWord
   -- a refresh number
-  Refresh : (phase attempt k : ℕ) → Word
+  Refresh : (phase attempt k : ℕ) → LineWord
 
 -- the word of an operation
 abbrev pub op_text : FileOp → List ℕ
@@ -60,14 +60,14 @@ with_mode ReadersShare mode words = mode ∷ words
 with_mode AllExclusive mode words = words
 
 -- the words of a cause
-abbrev pub cause_words : Cause → List Word
+abbrev pub cause_words : Cause → List LineWord
 cause_words (cause.Older t n) = Plain (codes "OLDER") ∷ TerminalName t ∷ Number n ∷ []
 cause_words (cause.Takeover p) = Plain (codes "TAKEOVER") ∷ PairName p ∷ []
 cause_words (cause.Server k) = Plain (codes "SERVER") ∷ FailNumber k ∷ []
 cause_words cause.Redo = Plain (codes "REDO") ∷ []
 
 -- the words of an ending
-abbrev pub ending_words : Ending → List Word
+abbrev pub ending_words : Ending → List LineWord
 ending_words ending.Stopped = Plain (codes "STOPPED") ∷ []
 ending_words ending.NoEntries = Plain (codes "NOENTRIES") ∷ []
 ending_words (ending.Fault x) = Plain (codes "FAULT") ∷ Code x ∷ []
@@ -75,7 +75,7 @@ ending_words (ending.Suspended cause) = Plain (codes "SUSPENDED") ∷ cause_word
 ending_words ending.Lost = Plain (codes "LOST") ∷ []
 
 -- how a process answered
-abbrev pub reply_words : Option ℕ → List Word
+abbrev pub reply_words : Option ℕ → List LineWord
 reply_words None = Plain (codes "OK") ∷ []
 reply_words (Some x) = Plain (codes "FAULT") ∷ Code x ∷ []
 
@@ -85,7 +85,7 @@ member_text true = codes "PRIMARY"
 member_text false = codes "BACKUP"
 
 -- the words of an entry, without its number in the log
-abbrev pub event_words : LockRule → Event → List Word
+abbrev pub event_words : LockRule → Event → List LineWord
 event_words rule (Show t phase attempt k) = Plain (codes "SHOW") ∷ TerminalName t ∷ Refresh phase attempt k ∷ []
 event_words rule (Key t k) = Plain (codes "KEY") ∷ TerminalName t ∷ Number k ∷ []
 event_words rule (CheckStart t) = Plain (codes "CHECK") ∷ TerminalName t ∷ Plain (codes "START") ∷ []
@@ -109,7 +109,7 @@ event_words rule (Raise p) = Plain (codes "RAISE") ∷ PairName p ∷ []
 event_words rule (End t ending) = Plain (codes "END") ∷ TerminalName t ∷ ending_words ending
 
 -- The names of terminals, pairs, classes and files, by their numbers.
-pub record Names : Type 0 where
+pub record NamesByNumber : Type 0 where
   pub terminal : ℕ → List ℕ
   pub pair : ℕ → List ℕ
   pub class : ℕ → List ℕ
@@ -144,7 +144,7 @@ abbrev pub file_name : System → ℕ → List ℕ
 file_name system f = (slice_index_or system.files f no_file).name
 
 -- the names of a system
-abbrev pub names_of : System → Names
+abbrev pub names_of : System → NamesByNumber
 names_of system = record { terminal = terminal_name system; pair = pair_name system; class = class_name system; file = file_name system }
 
 -- a refresh number, as phase.attempt.k
@@ -152,7 +152,7 @@ abbrev pub refresh_number : ℕ → ℕ → ℕ → List ℕ
 refresh_number phase attempt k = decimal phase ++ 46 ∷ (decimal attempt ++ 46 ∷ decimal k)
 
 -- the spelling of a word
-abbrev pub spelling : Names → Word → List ℕ
+abbrev pub spelling : NamesByNumber → LineWord → List ℕ
 spelling names (Plain text) = text
 spelling names (TerminalName t) = names.terminal t
 spelling names (PairName p) = names.pair p
@@ -198,7 +198,7 @@ HasLine rule _ = Unit {0}
 
 -- the number of a word is one of the line grammar: at most 4,294,967,295, or 65,535 for a status and a fault;
 -- processes and failure lines count from 1
-abbrev pub IsInRange : Word → Type 0
+abbrev pub IsInRange : LineWord → Type 0
 IsInRange (Process c i) = (1 ≤ i) × (i < 2 ^ 32)
 IsInRange (FailNumber k) = (1 ≤ k) × (k < 2 ^ 32)
 IsInRange (Number n) = n < 2 ^ 32
@@ -207,15 +207,15 @@ IsInRange (Refresh phase attempt k) = (phase < 2 ^ 32) × (attempt < 2 ^ 32) × 
 IsInRange _ = Unit {0}
 
 -- what a word names is the system's
-abbrev pub IsThere : System → Word → Type 0
-IsThere system (TerminalName t) = t < length system.terminals
-IsThere system (PairName p) = p < length system.tcps
-IsThere system (ClassName c) = c < length system.classes
-IsThere system (FileName f) = f < length system.files
-IsThere system (Process c i) = i ≤ (slice_index_or system.classes c no_class).processes
-IsThere system _ = Unit {0}
+abbrev pub IsWordOfSystem : System → LineWord → Type 0
+IsWordOfSystem system (TerminalName t) = t < length system.terminals
+IsWordOfSystem system (PairName p) = p < length system.tcps
+IsWordOfSystem system (ClassName c) = c < length system.classes
+IsWordOfSystem system (FileName f) = f < length system.files
+IsWordOfSystem system (Process c i) = i ≤ (slice_index_or system.classes c no_class).processes
+IsWordOfSystem system _ = Unit {0}
 
 -- an entry with a line whose terminals, pairs, classes, files and processes are the system's
 pub record IsNamed (system : System) (event : Event) : Type 0 where
   pub line : HasLine system.rule event
-  pub there : AllByRecursion (IsThere system) (event_words system.rule event)
+  pub there : AllByRecursion (IsWordOfSystem system) (event_words system.rule event)

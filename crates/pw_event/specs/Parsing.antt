@@ -50,8 +50,8 @@ is_odd (b ∷ []) = b == 43
 is_odd (b ∷ c ∷ bs) = b == 43 || b == 48
 
 -- a number from 1
-unfoldable pub counted : List ℕ → Result ℕ EventFault
-counted word = do
+unfoldable pub positive_count_read : List ℕ → Result ℕ EventFault
+positive_count_read word = do
   n ← number 4294967295 word
   if n == 0 then Err Bad else Ok n
 
@@ -118,7 +118,7 @@ file system word = do
 unfoldable pub process : System → List ℕ → List ℕ → Result (ℕ × ℕ) EventFault
 process system c i = do
   done ← named c
-  i ← counted i
+  i ← positive_count_read i
   c ← class system c
   if nat_le i (slice_index_or system.classes c no_class).processes then Ok (c, i) else Err Unknown
 
@@ -166,7 +166,7 @@ cause_of system plain.Older (t ∷ n ∷ []) = do
   t ← terminal system t
   Ok (cause.Older t n)
 cause_of system plain.Takeover (p ∷ []) = pair system p >>= λ p. Ok (cause.Takeover p)
-cause_of system plain.Server (k ∷ []) = counted k >>= λ k. Ok (cause.Server k)
+cause_of system plain.Server (k ∷ []) = positive_count_read k >>= λ k. Ok (cause.Server k)
 cause_of system plain.Redo [] = Ok cause.Redo
 cause_of system _ _ = Err Bad
 
@@ -236,13 +236,13 @@ send system (t ∷ n ∷ c ∷ []) = do
 send system _ = Err Bad
 
 -- TAKE c i t
-unfoldable pub taken : System → List (List ℕ) → Result Event EventFault
-taken system (c ∷ i ∷ t ∷ []) = do
+unfoldable pub take_line_event : System → List (List ℕ) → Result Event EventFault
+take_line_event system (c ∷ i ∷ t ∷ []) = do
   done ← named t
   p ← process system c i
   t ← terminal system t
   Ok (Take p.0 p.1 t)
-taken system _ = Err Bad
+take_line_event system _ = Err Bad
 
 -- FILE c i op m f s, with its mode read
 unfoldable pub file_at : System → List ℕ → List ℕ → List ℕ → LockMode → List ℕ → List ℕ → Result Event EventFault
@@ -285,7 +285,7 @@ restart system _ = Err Bad
 unfoldable pub fail_tcp : System → List (List ℕ) → Result Event EventFault
 fail_tcp system (p ∷ m ∷ k ∷ []) = do
   m ← member m
-  k ← counted k
+  k ← positive_count_read k
   p ← pair system p
   Ok (FailTcp p m k)
 fail_tcp system _ = Err Bad
@@ -293,7 +293,7 @@ fail_tcp system _ = Err Bad
 -- SERVER c i k
 unfoldable pub fail_server : System → List (List ℕ) → Result Event EventFault
 fail_server system (c ∷ i ∷ k ∷ []) = do
-  k ← counted k
+  k ← positive_count_read k
   p ← process system c i
   Ok (FailServer p.0 p.1 k)
 fail_server system _ = Err Bad
@@ -336,7 +336,7 @@ line_of system plain.Check words = check system words
 line_of system plain.Applied words = applied system words
 line_of system plain.Begin words = begin system words
 line_of system plain.Send words = send system words
-line_of system plain.Take words = taken system words
+line_of system plain.Take words = take_line_event system words
 line_of system plain.File words = file_line system system.rule words
 line_of system plain.Reply words = reply system words
 line_of system plain.Again words = terminal_and_number system words >>= λ r. Ok (Again r.0 r.1)
@@ -359,8 +359,8 @@ abbrev pub after_of : Keyword → Result (Unit {0}) EventFault
 after_of plain.After = Ok tt
 after_of _ = Err Bad
 
-unfoldable pub after : List ℕ → Result (Unit {0}) EventFault
-after word = keyword word >>= after_of
+unfoldable pub after_keyword_read : List ℕ → Result (Unit {0}) EventFault
+after_keyword_read word = keyword word >>= after_of
 
 -- a process of a failure line: 1 to 16
 unfoldable pub fail_process : List ℕ → Result ℕ EventFault
@@ -373,7 +373,7 @@ unfoldable pub tcp_line : System → List (List ℕ) → Result FailLine EventFa
 tcp_line system (p ∷ m ∷ a ∷ n ∷ []) = do
   done ← named p
   m ← member m
-  done ← after a
+  done ← after_keyword_read a
   n ← number most_after n
   p ← among system.tcps (str_to_ascii_uppercase p)
   Ok (line.Tcp p m n)
@@ -390,7 +390,7 @@ unfoldable pub class_line : System → List (List ℕ) → Result FailLine Event
 class_line system (c ∷ i ∷ a ∷ n ∷ []) = do
   done ← named c
   i ← fail_process i
-  done ← after a
+  done ← after_keyword_read a
   n ← number most_after n
   fail_class system (str_to_ascii_uppercase c) i n
 class_line system _ = Err Bad

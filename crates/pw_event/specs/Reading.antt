@@ -8,10 +8,10 @@ use Rattle.pw_event.specs.declared.event.Event.{Event}
 use Rattle.pw_event.specs.declared.fault.EventFault.{EventFault}
 use Rattle.pw_event.specs.declared.fault.EventFault.TheVariants.{Bad, Unknown, Memory}
 use Rattle.pw_code.specs.Names.{may_name}
-use Rattle.pw_event.specs.Line.{Names, spelling, sentence, event_words, event_text, HasLine, IsInRange, IsNamed}
+use Rattle.pw_event.specs.Line.{NamesByNumber, spelling, sentence, event_words, event_text, HasLine, IsInRange, IsNamed}
 
 -- the names may stand in a line
-pub record AreFormed (names : Names) : Type 0 where
+pub record AreFormed (names : NamesByNumber) : Type 0 where
   pub terminal : (t : ℕ) → may_name (names.terminal t) ≡ true
   pub pair : (p : ℕ) → may_name (names.pair p) ≡ true
   pub class : (c : ℕ) → may_name (names.class c) ≡ true
@@ -19,7 +19,7 @@ pub record AreFormed (names : Names) : Type 0 where
 
 -- A line of the grammar: under some names it is the spelling of some entry.
 pub record IsLine (rule : LockRule) (line : List ℕ) : Type 0 where
-  pub names : Names
+  pub names : NamesByNumber
   pub event : Event
   pub formed : AreFormed names
   pub told : HasLine rule event
@@ -34,11 +34,11 @@ pub record IsLineOf (system : System) (line : List ℕ) (event : Event) : Type 0
 
 -- What reading a line answers: the entry of the system that it spells; Bad where it is no line of the grammar; Unknown
 -- where it is one that spells no entry of the system.
-abbrev pub Reads : System → List ℕ → Result Event EventFault → Type 0
-Reads system line (Ok event) = IsLineOf system line event
-Reads system line (Err Bad) = ¬ (IsLine system.rule line)
-Reads system line (Err Unknown) = IsLine system.rule line × ((event : Event) → ¬ (IsLineOf system line event))
-Reads system line (Err Memory) = Unit {0}
+abbrev pub ReadsEventLine : System → List ℕ → Result Event EventFault → Type 0
+ReadsEventLine system line (Ok event) = IsLineOf system line event
+ReadsEventLine system line (Err Bad) = ¬ (IsLine system.rule line)
+ReadsEventLine system line (Err Unknown) = IsLine system.rule line × ((event : Event) → ¬ (IsLineOf system line event))
+ReadsEventLine system line (Err Memory) = Unit {0}
 
 -- These are the names of the terminals, pairs, classes and files of the system, in their orders; and names are names.
 pub record AreNamesOf (system : System) (terminals pairs classes files : List (List ℕ)) : Type 0 where

@@ -1,7 +1,7 @@
 ghost use Rattle.std.specs.Prelude.{◌≡◌, ◌<◌, ◌≤◌, ◌^◌, length, filter};
 ghost use Rattle.std.specs.List.{list_any};
 ghost use Rattle.pw_code.specs.Limits.{most_fail_lines};
-ghost use Rattle.pw_event.specs.Due.{pair_of, owner_of, owner_of_line, after_of, is_same_owner, entries_of, is_fail_of, is_open, if_due, due_line};
+ghost use Rattle.pw_event.specs.Due.{pair_of, owner_of, owner_of_line, after_of, is_same_owner, owner_entry_count, is_fail_of, is_open, if_due, due_line};
 
 use crate::event::Event;
 use crate::script::{FailLine, Owner, Script};
@@ -79,7 +79,7 @@ fn is_same_owner(a: Owner, b: Owner) -> bool
 
 /// How many entries of the log belong to an owner.
 fn entries_of(system: &System, owner: Owner, log: &[Event]) -> usize
-    ensures { result ≡ entries_of (pair_of system.now) owner log.now }
+    ensures { result ≡ owner_entry_count (pair_of system.now) owner log.now }
 {
     log.iter()
         .filter(|entry| is_same_owner(owner_of(system, entry), owner))

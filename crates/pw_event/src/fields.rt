@@ -1,7 +1,7 @@
 ghost use Rattle.std.specs.Prelude.{◌≡◌, ◌≢◌, ◌==◌, ◌<◌, ◌≤◌, ◌^◌, ℕ, length, position, IfSome, IfOk, MatchOption};
 ghost use Rattle.std.specs.Fmt.{decimal};
 ghost use Rattle.std.specs.Option.{option_map};
-ghost use Rattle.pw_event.specs.Parsing.{named, is_odd, number, counted, cut, refresh, op, mode, member, after};
+ghost use Rattle.pw_event.specs.Parsing.{named, is_odd, number, positive_count_read, cut, refresh, op, mode, member, after_keyword_read};
 
 use crate::fault::EventFault;
 use crate::keyword::Keyword;
@@ -69,7 +69,7 @@ pub fn number(word: &[u8], limit: u32) -> Result<u32, EventFault>
 /// A number from 1.
 #[tactic(auto, unfolding(crate::specs::Parsing::counted))]
 pub fn counted(word: &[u8]) -> Result<u32, EventFault>
-    ensures { result ≡ counted word.now }
+    ensures { result ≡ positive_count_read word.now }
 {
     let number = number(word, u32::MAX)?;
     if number == 0 {
@@ -163,7 +163,7 @@ pub fn member(word: &[u8]) -> Result<bool, EventFault>
 /// Refuses a word other than AFTER.
 #[tactic(auto, unfolding(crate::specs::Parsing::after))]
 pub fn after(word: &[u8]) -> Result<(), EventFault>
-    ensures { result ≡ after word.now }
+    ensures { result ≡ after_keyword_read word.now }
 {
     match Keyword::of(word)? {
         Keyword::After => Ok(()),

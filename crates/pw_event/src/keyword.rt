@@ -1,6 +1,6 @@
 ghost use Rattle.std.specs.Prelude.{◌≡◌, find};
 ghost use Rattle.std.specs.Str.{bytes_eq};
-ghost use Rattle.pw_event.specs.Keywords.{text_of, keywords, keyword};
+ghost use Rattle.pw_event.specs.Keywords.{keyword_text, keywords, keyword};
 
 use crate::fault::EventFault;
 
@@ -93,7 +93,7 @@ const KEYWORDS: [Keyword; 39] = [
 
 /// The keyword that a word is, if any.
 fn keyword_of(word: &[u8]) -> Option<Keyword>
-    ensures { result ≡ find (λ keyword. bytes_eq (text_of keyword) word.now) keywords }
+    ensures { result ≡ find (λ keyword. bytes_eq (keyword_text keyword) word.now) keywords }
 {
     KEYWORDS
         .iter()
@@ -115,7 +115,7 @@ impl Keyword {
 
     /// How it is spelled.
     pub fn text(self) -> &'static [u8]
-        ensures { result.now ≡ text_of self }
+        ensures { result.now ≡ keyword_text self }
     {
         match self {
             Keyword::Show => b"SHOW",

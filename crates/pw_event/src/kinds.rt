@@ -1,5 +1,5 @@
 ghost use Rattle.std.specs.Prelude.{◌≡◌, map};
-ghost use Rattle.pw_event.specs.Parsing.{show, terminal_and_number, check, applied, begin, send, taken, file_at, file_line, fault_of, reply, fail_tcp, fail_server, failure_of, fail, takeover, raise};
+ghost use Rattle.pw_event.specs.Parsing.{show, terminal_and_number, check, applied, begin, send, take_line_event, file_at, file_line, fault_of, reply, fail_tcp, fail_server, failure_of, fail, takeover, raise};
 
 use crate::event::Event;
 use crate::fault::EventFault;
@@ -116,7 +116,7 @@ pub fn send(names: &SystemNames, words: &[&[u8]]) -> Result<Event, EventFault>
 /// TAKE c i t.
 #[tactic(auto, unfolding(crate::specs::Parsing::taken))]
 pub fn taken(names: &SystemNames, words: &[&[u8]]) -> Result<Event, EventFault>
-    ensures { result ≡ taken names.now (map (λ word. word.now) words.now) }
+    ensures { result ≡ take_line_event names.now (map (λ word. word.now) words.now) }
 {
     let [class, process_number, name] = words else {
         return Err(EventFault::Bad);

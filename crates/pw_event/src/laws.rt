@@ -2,7 +2,7 @@ ghost use Rattle.std.specs.Prelude.{◌≡◌, ◌⊎◌, List, ℕ, Result, Ok,
 ghost use Rattle.pw_code.specs.Limits.{most_fail_lines, most_after};
 ghost use Rattle.pw_code.specs.Valid.{HasNames};
 ghost use Rattle.pw_code.specs.declared.system.System.{System};
-ghost use Rattle.pw_event.specs.Reading.{IsLine, IsLineOf, Reads};
+ghost use Rattle.pw_event.specs.Reading.{IsLine, IsLineOf, ReadsEventLine};
 ghost use Rattle.pw_event.specs.Fails.{IsFailLine, IsFailLineOf, ReadsFail};
 ghost use Rattle.pw_event.specs.declared.event.Event.{Event};
 ghost use Rattle.pw_event.specs.declared.script.FailLine.{FailLine};
@@ -25,7 +25,7 @@ pub fn line_laws()
     ensures one { (system : System) (line : List ℕ) (a b : Event) → HasNames system
         → IsLineOf system line a → IsLineOf system line b → a ≡ b }
     ensures read { (system : System) (line : List ℕ) (event : Event) (result : Result Event EventFault)
-        → HasNames system → IsLineOf system line event → Reads system line result
+        → HasNames system → IsLineOf system line event → ReadsEventLine system line result
         → (result ≡ Ok event) ⊎ (result ≡ Err Memory) }
 {}
 

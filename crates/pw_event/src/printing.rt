@@ -2,7 +2,7 @@ ghost use Rattle.std.specs.Prelude.{◌≡◌, ◌∷◌, [], ◌++◌, map, IfO
 ghost use Rattle.std.specs.Fmt.{decimal};
 ghost use Rattle.std.specs.List.{AllByRecursion};
 ghost use Rattle.pw_event.specs.declared.event.Event.TheVariants.{File, Reply, Restart};
-ghost use Rattle.pw_event.specs.Line.{IsNamed, IsThere, spelling, names_of, op_text, mode_text, member_text, cause_words, ending_words, ending_text, event_text, refresh_number, sentence};
+ghost use Rattle.pw_event.specs.Line.{IsNamed, IsWordOfSystem, spelling, names_of, op_text, mode_text, member_text, cause_words, ending_words, ending_text, event_text, refresh_number, sentence};
 ghost use Rattle.pw_event.specs.Printing.{is_of_terminal, is_of_unit};
 
 use crate::event::{Cause, Ending, Event};
@@ -194,7 +194,7 @@ pub fn print_number(alloc: Global, phase: u32, attempt: u32, k: u32) -> Result<S
 
 /// The words of an ending. The terminals and pairs of its cause are the system's.
 pub fn print_ending(alloc: Global, system: &System, ending: Ending) -> Result<Bytes, Memory>
-    requires { AllByRecursion (IsThere system.now) (ending_words ending) }
+    requires { AllByRecursion (IsWordOfSystem system.now) (ending_words ending) }
     ensures { IfOk result (λ text. text ≡ ending_text system.now ending) }
 {
     match ending {
@@ -214,7 +214,7 @@ pub fn print_ending(alloc: Global, system: &System, ending: Ending) -> Result<By
 
 /// The words of a cause.
 fn print_cause(alloc: Global, system: &System, cause: Cause) -> Result<Bytes, Memory>
-    requires { AllByRecursion (IsThere system.now) (cause_words cause) }
+    requires { AllByRecursion (IsWordOfSystem system.now) (cause_words cause) }
     ensures { IfOk result (λ text. text ≡ sentence (map (spelling (names_of system.now)) (cause_words cause))) }
 {
     match cause {

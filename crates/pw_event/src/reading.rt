@@ -1,16 +1,13 @@
 ghost use Rattle.std.specs.Prelude.{◌≡◌, map};
 ghost use Rattle.pw_code.specs.Valid.{HasNames, HasFew};
 ghost use Rattle.pw_event.specs.Parsing.{line_of, event_of, entry_in, GivesUnlessMemory};
-ghost use Rattle.pw_event.specs.Reading.{Reads};
+ghost use Rattle.pw_event.specs.Reading.{ReadsEventLine};
 
 use crate::causes::{end, restart};
 use crate::event::Event;
 use crate::fault::EventFault;
 use crate::keyword::Keyword;
-use crate::kinds::{
-    applied, begin, check, fail, file_line, raise, reply, send, show, taken, takeover,
-    terminal_and_number,
-};
+use crate::kinds::{applied, begin, check, fail, file_line, raise, reply, send, show, taken, takeover, terminal_and_number};
 use crate::system_names::SystemNames;
 use crate::words::words;
 use pw_code::system::System;
@@ -74,7 +71,7 @@ impl SystemNames<'_> {
     /// are taken as they stand. It answers `Bad` exactly where the line is outside the grammar, and `Unknown` exactly
     /// where it is in the grammar and a name or the number of a process is not the system's.
     pub fn read_event(&self, alloc: Global, line: &[u8]) -> Result<Event, EventFault>
-        ensures reads { Reads self.now line.now result }
+        ensures reads { ReadsEventLine self.now line.now result }
         ensures gives { GivesUnlessMemory result (entry_in self.now line.now) }
     {
         let _ = &self.system;
@@ -88,7 +85,7 @@ impl SystemNames<'_> {
 pub fn read_event(alloc: Global, system: &System, line: &[u8]) -> Result<Event, EventFault>
     requires names { HasNames system.now }
     requires few { HasFew system.now }
-    ensures reads { Reads system.now line.now result }
+    ensures reads { ReadsEventLine system.now line.now result }
     ensures gives { GivesUnlessMemory result (entry_in system.now line.now) }
 {
     SystemNames::new(alloc, system)?.read_event(alloc, line)

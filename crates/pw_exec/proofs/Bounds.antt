@@ -9,7 +9,7 @@ use Rattle.std.proofs.lemmas.Nat.{mul-le}
 use Rattle.pw_terminal.specs.Entries.{check}
 use Rattle.pw_terminal.specs.declared.entries.EntryAnswer.{EntryAnswer}
 use Rattle.pw_terminal.specs.declared.entries.EntryAnswer.TheVariants.{Valid, BadKey, BadField}
-use Rattle.pw_code.specs.Entry.{Entry}
+use Rattle.pw_code.specs.Entry.{EntryLineModel}
 use Rattle.pw_code.specs.Instrs.{no_code, program_at, screen_at}
 use Rattle.pw_code.specs.Valid.{IsCode, IsValid}
 use Rattle.pw_code.specs.declared.code.Code.{Code}
@@ -20,15 +20,15 @@ use Rattle.pw_code.specs.declared.field.ScreenTable.{ScreenTable}
 use Rattle.pw_code.specs.declared.instr.Instr.{Instr}
 use Rattle.pw_code.specs.declared.instr.Instr.TheVariants.{Jump, JumpUnless, ParagraphEnd, Move, Compute, OnSizeError, Perform, PerformTimes, Until, PerformOneOf, Exit, ExitProgram, StopRun, DisplayScreen, Display, Accept, Call, Send, NoCode, Begin, End, Abort, Restart, Receive, Reply, Read, ReadNext, Write, Rewrite, Delete}
 use Rattle.pw_code.specs.declared.instr.ReplyCode.{ReplyCode}
-use Rattle.pw_code.specs.declared.place.Place.{Place}
+use Rattle.pw_code.specs.declared.place.StoragePlace.{StoragePlace}
 use Rattle.pw_code.specs.declared.system.System.{System}
 use Rattle.pw_code.specs.declared.verb.Answer.{Answer}
 use Rattle.pw_code.specs.declared.verb.Answer.TheVariants as answer
-use Rattle.pw_exec.specs.Answers.{answered, answered_by, begin_put, entry_checked, entry_put, file_put, put, read_put, replied, reply_put, reply_taken, shown, unit_ended, yielded}
+use Rattle.pw_exec.specs.Answers.{answered, answered_by, begin_put, entry_checked, entry_put, file_put, put, read_put, code_after_reply, reply_put, reply_taken, shown, unit_ended, yielded}
 use Rattle.pw_exec.specs.Calls.{most_calls}
 use Rattle.pw_exec.specs.Config.{Config, code_at, code_of, has_fault, most_counted, starting, starting_server}
 use Rattle.pw_exec.specs.Reading.{Spot}
-use Rattle.pw_exec.specs.Runs.{Comes, Run, after, at_verb, most_steps, run, runs}
+use Rattle.pw_exec.specs.Runs.{Comes, Run, config_after_answers, at_verb, most_steps, run, runs}
 use Rattle.pw_exec.specs.Steps.{step}
 use Rattle.pw_exec.specs.Turns.{most_performs}
 use Rattle.pw_exec.proofs.Progress.{Progress, Shallow, back, hops, hops_in, hops_of, step_progress}
@@ -47,7 +47,7 @@ by_test c d e false g h = h
 same : (c d : Config) → d.top.returns ≡ c.top.returns → d.rest.frames ≡ c.rest.frames → Kept c d
 same c d returns frames = record { returns = returns; frames = frames }
 
-checked : (table : ScreenTable) (line : Entry) (found : EntryAnswer) (c : Config) → Kept c (entry_checked table line found c)
+checked : (table : ScreenTable) (line : EntryLineModel) (found : EntryAnswer) (c : Config) → Kept c (entry_checked table line found c)
 checked table line (Valid place) c = same c _ refl refl
 checked table line BadKey c = same c _ refl refl
 checked table line (BadField place) c = same c _ refl refl
@@ -90,7 +90,7 @@ begin_kept answer.Ended c = same c _ refl refl
 begin_kept answer.Dropped c = same c _ refl refl
 begin_kept (answer.FileDone status content) c = same c _ refl refl
 
-read_kept : (into : Place) (a : Answer) (c : Config) → Kept c (read_put into a c)
+read_kept : (into : StoragePlace) (a : Answer) (c : Config) → Kept c (read_put into a c)
 read_kept into (answer.FileDone status content) c = same c _ refl refl
 read_kept into answer.Shown c = same c _ refl refl
 read_kept into (answer.Entry line) c = same c _ refl refl
@@ -120,7 +120,7 @@ answered_kept system (Some Begin) a c = begin_kept a c
 answered_kept system (Some End) a c = same c _ refl refl
 answered_kept system (Some Abort) a c = same c _ refl refl
 answered_kept system (Some (Read file locking key into)) a c = read_kept into a c
-answered_kept system (Some (ReadNext file locking after into)) a c = read_kept into a c
+answered_kept system (Some (ReadNext file locking config_after_answers into)) a c = read_kept into a c
 answered_kept system (Some (Write file from)) a c = file_kept a c
 answered_kept system (Some (Rewrite file from)) a c = file_kept a c
 answered_kept system (Some (Delete file key)) a c = file_kept a c
@@ -306,7 +306,7 @@ ends system is (suc n) c answers s le =
         let e = more q (omega (arith, h, less)) in
         record { at = e.at; runs = ap (turn system n c q) v ∙ e.runs; verb = e.verb }
 
-pub after_is : (system : System) (c d : Config) (answers : List Answer) → IsValid system → Shallow c → Comes system c answers d → at_verb d ≡ true → after system c answers ≡ d
+pub after_is : (system : System) (c d : Config) (answers : List Answer) → IsValid system → Shallow c → Comes system c answers d → at_verb d ≡ true → config_after_answers system c answers ≡ d
 after_is system c d answers valid s comes v =
     let n : ℕ = most_steps * (length answers + 1) in
     let few : to_go system c ≤ most = to_go_bound system c (short system valid) s in
@@ -325,10 +325,10 @@ pub server_shallow : (system : System) (server : ℕ) (message : List ℕ) → S
 server_shallow system server message = record { top = omega arith; waiting = All-nil (λ (frame : Frame). length frame.returns ≤ most_performs); few = omega arith }
 
 pub after_terminal : (system : System) (program : ℕ) (answers : List Answer) (d : Config) → IsValid system → Comes system (starting system program) answers d → at_verb d ≡ true
-    → after system (starting system program) answers ≡ d
+    → config_after_answers system (starting system program) answers ≡ d
 after_terminal system program answers d valid comes v = after_is system (starting system program) d answers valid (start_shallow system program) comes v
 
 pub after_server : (system : System) (server : ℕ) (message : List ℕ) (answers : List Answer) (d : Config) → IsValid system
-    → Comes system (starting_server system server message) answers d → at_verb d ≡ true → after system (starting_server system server message) answers ≡ d
+    → Comes system (starting_server system server message) answers d → at_verb d ≡ true → config_after_answers system (starting_server system server message) answers ≡ d
 after_server system server message answers d valid comes v =
     after_is system (starting_server system server message) d answers valid (server_shallow system server message) comes v

@@ -11,7 +11,7 @@ use Rattle.pw_code.specs.declared.system.System.{System}
 use Rattle.pw_code.specs.Instrs.{program_at}
 use Rattle.pw_source.specs.Values.{number_of, whole_part}
 use Rattle.pw_exec.specs.Calls.{active, called_frame, calls, leaves_by, most_active, most_calls, stops}
-use Rattle.pw_exec.specs.Config.{Config, faults, counted, is_server, most_counted, on, over, with_taken}
+use Rattle.pw_exec.specs.Config.{Config, faults, code_statement_counted, is_server, most_counted, on, over, with_taken}
 use Rattle.pw_exec.specs.Moves.{operands_of, result_of}
 use Rattle.pw_exec.specs.Reading.{Spot, registers_of}
 use Rattle.pw_exec.specs.Steps.{act, branch, does, holds_here, instr_of, or_else, read_here, spot_here, spots_here, step, taken_here}
@@ -57,7 +57,7 @@ by_taken (Some a) next c h = h a
 abbrev more : Config → Config
 more c = record c { rest = record c.rest { count = c.rest.count + 1 } }
 
-by_count : (f : Config → Config) (c : Config) → Same (more c) (f (more c)) → Same c (counted f c)
+by_count : (f : Config → Config) (c : Config) → Same (more c) (f (more c)) → Same c (code_statement_counted f c)
 by_count f c g = by_test c (f (more c)) (faults 201 c) (nat_lt c.rest.count most_counted) g refl
 
 -- ---- turns
@@ -154,7 +154,7 @@ does_same system (ParagraphEnd start) c = refl
 does_same system (Until paragraph cond) c = refl
 does_same system NoCode c = refl
 
-ticked : (system : System) (i : Instr) (c : Config) → Same c (counted (does system i) c)
+ticked : (system : System) (i : Instr) (c : Config) → Same c (code_statement_counted (does system i) c)
 ticked system i c = by_count (does system i) c (does_same system i (more c))
 
 act_same : (system : System) (o : Option Instr) (c : Config) → Same c (act system o c)

@@ -6,7 +6,7 @@ use Rattle.pw_source.proofs.Terminals.{standing_from-append}
 use Rattle.pw_terminal.specs.Entries.{check}
 use Rattle.pw_terminal.specs.declared.entries.EntryAnswer.{EntryAnswer}
 use Rattle.pw_terminal.specs.declared.entries.EntryAnswer.TheVariants.{Valid, BadKey, BadField}
-use Rattle.pw_code.specs.Entry.{Entry}
+use Rattle.pw_code.specs.Entry.{EntryLineModel}
 use Rattle.pw_code.specs.Instrs.{screen_at}
 use Rattle.pw_code.specs.Valid.{IsValid}
 use Rattle.pw_code.specs.declared.context.Context.{Context}
@@ -20,7 +20,7 @@ use Rattle.pw_code.specs.declared.verb.Answer.{Answer}
 use Rattle.pw_code.specs.declared.verb.Verb.{Verb}
 use Rattle.pw_code.specs.declared.verb.Verb.TheVariants as verb
 use Rattle.pw_event.specs.declared.script.FailLine.{FailLine}
-use Rattle.pw_exec.specs.Answers.{answered, answered_by, entry_checked, put, reply_taken, replied, shown, unit_begun, unit_ended, yielded, place_among, spot_among}
+use Rattle.pw_exec.specs.Answers.{answered, answered_by, entry_checked, put, reply_taken, code_after_reply, shown, unit_begun, unit_ended, yielded, place_among, spot_among}
 use Rattle.pw_exec.specs.Config.{Config, closed, has_fault, starting}
 use Rattle.pw_exec.specs.Counts.{CountsOf}
 use Rattle.pw_exec.specs.OfSystem.{asked_of, behaviour, entry_at, told}
@@ -160,7 +160,7 @@ module _ (at : Standing) (entries restarts : ℕ) where
     calm = λ _. (fault, mode);
   }
 
-  checks : (k : ℕ) (table : ScreenTable) (line : Entry) (found : EntryAnswer) (c : Config) → Old c.rest → c.rest.fault ≡ 0 → c.rest.mode ≤ 1
+  checks : (k : ℕ) (table : ScreenTable) (line : EntryLineModel) (found : EntryAnswer) (c : Config) → Old c.rest → c.rest.fault ≡ 0 → c.rest.mode ≤ 1
       → IsBehind at entries restarts (path.Entry k) (entry_checked table line found c).rest
   checks k table line (Valid place) c h calm mode = entered k c.rest _ h refl refl refl calm mode
   checks k table line BadKey c h calm mode = entered k c.rest _ h refl refl refl calm (omega arith)
@@ -251,7 +251,7 @@ calm-of true false e = (refl, refl)
 calm-of true true e = absurd (cc e)
 calm-of false y e = absurd (cc e)
 
-module _ (system : System) (script : List FailLine) (t : ℕ) (lines : List Entry) (before : List PathAnswer) (c : Config)
+module _ (system : System) (script : List FailLine) (t : ℕ) (lines : List EntryLineModel) (before : List PathAnswer) (c : Config)
     (h : HasCountsOf before c.rest) where
   abbrev Behind : PathAnswer → Config → Type 0
   Behind a d = IsBehind (standing before) (entries_on before) (begun_from 0 before) a d.rest

@@ -12,7 +12,7 @@ use Rattle.pw_code.specs.declared.instr.Turn.{Turn}
 use Rattle.pw_code.specs.declared.system.System.{System}
 use Rattle.pw_source.specs.Values.{Value, number_of, whole_part}
 use Rattle.pw_exec.specs.Calls.{stops}
-use Rattle.pw_exec.specs.Config.{Config, counted, faults, is_server, most_counted, on, over, with_storage, with_taken}
+use Rattle.pw_exec.specs.Config.{Config, code_statement_counted, faults, is_server, most_counted, on, over, with_storage, with_taken}
 use Rattle.pw_exec.specs.Moves.{Operands, operands_of, operands_with, result_of}
 use Rattle.pw_exec.specs.Reading.{Spot, read, registers_of, spot_of}
 use Rattle.pw_exec.specs.Steps.{branch, does, holds_here, or_else, read_here, spots_here, taken_here}
@@ -38,7 +38,7 @@ by_taken (Some a) next c h = h a refl
 abbrev pub more : Config → Config
 more c = record c { rest = record c.rest { count = c.rest.count + 1 } }
 
-by_count : (f : Config → Config) (c : Config) → Plain (more c) (f (more c)) → Plain c (counted f c)
+by_count : (f : Config → Config) (c : Config) → Plain (more c) (f (more c)) → Plain c (code_statement_counted f c)
 by_count f c g = by_test c (f (more c)) (faults 201 c) (nat_lt c.rest.count most_counted) (record { program = g.program; size = g.size; frames = g.frames }) (same c _ refl refl refl)
 
 abbrev one_turn : ℕ → Turn → ℕ → Config → Config

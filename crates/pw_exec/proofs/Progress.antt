@@ -17,7 +17,7 @@ use Rattle.pw_code.specs.declared.system.System.{System}
 use Rattle.pw_code.specs.Instrs.{program_at}
 use Rattle.pw_source.specs.Values.{number_of, whole_part}
 use Rattle.pw_exec.specs.Calls.{active, called_frame, calls, leaves_by, most_active, most_calls, returned, stops}
-use Rattle.pw_exec.specs.Config.{Config, code_at, code_of, is_server, asks, faults, counted, most_counted, on, over, with_taken}
+use Rattle.pw_exec.specs.Config.{Config, code_at, code_of, is_server, asks, faults, code_statement_counted, most_counted, on, over, with_taken}
 use Rattle.pw_exec.specs.Moves.{operands_of, result_of}
 use Rattle.pw_exec.specs.Reading.{Spot, registers_of}
 use Rattle.pw_exec.specs.Steps.{act, branch, does, holds_here, instr_of, or_else, read_here, spot_here, spots_here, step, taken_here}
@@ -119,7 +119,7 @@ by_taken (Some a) next c h = h a
 abbrev more : Config → Config
 more c = record c { rest = record c.rest { count = c.rest.count + 1 } }
 
-by_count : (f : Config → Config) (c : Config) → Grows (more c) (f (more c)) → Grows c (counted f c)
+by_count : (f : Config → Config) (c : Config) → Grows (more c) (f (more c)) → Grows c (code_statement_counted f c)
 by_count f c g = pick (nat_lt c.rest.count most_counted)
   where
     pick : (b : Bool) → Grows c (if b then f (more c) else faults 201 c)
@@ -267,7 +267,7 @@ asking system c d count returns frames v = at_its_verb system c d (plain c d cou
 nearer : (system : System) (c d : Config) → Grows c d → d.rest.count ≡ c.rest.count → hops system d < hops system c → Progress system c d
 nearer system c d g e less = record { grows = g; bound = λ above. absurd (omega arith); on = inr (inr less) }
 
-ticked : (system : System) (f : Config → Config) (c : Config) → Grows (more c) (f (more c)) → Progress system c (counted f c)
+ticked : (system : System) (f : Config → Config) (c : Config) → Grows (more c) (f (more c)) → Progress system c (code_statement_counted f c)
 ticked system f c g = pick (nat_lt c.rest.count most_counted) refl
   where
     pick : (b : Bool) → nat_lt c.rest.count most_counted ≡ b → Progress system c (if b then f (more c) else faults 201 c)
@@ -309,7 +309,7 @@ comes system start before last c is lt = pick (last.turns == 0)
     same : Grows (more c) (again start before last (more c))
     same = record { up = omega arith; shallow = λ s. record { top = simp length-append (omega (arith, s.top, shorter)); waiting = s.waiting; few = s.few } }
 
-    pick : (b : Bool) → Progress system c (if b then placed last.resume before c else counted (again start before last) c)
+    pick : (b : Bool) → Progress system c (if b then placed last.resume before c else code_statement_counted (again start before last) c)
     pick true =
         let less = back_last (length (code_of system c).instrs) c.top.returns before last is in
         nearer system c (placed last.resume before c) fewer refl (omega arith)

@@ -11,9 +11,9 @@ use Rattle.pw_terminal.specs.Entries.{check}
 use Rattle.pw_terminal.specs.declared.entries.EntryAnswer.{EntryAnswer}
 use Rattle.pw_terminal.specs.declared.entries.EntryAnswer.TheVariants.{Valid, BadKey, BadField}
 use Rattle.pw_terminal.proofs.Cells.{length-digits_of}
-use Rattle.pw_code.specs.Entry.{Entry}
+use Rattle.pw_code.specs.Entry.{EntryLineModel}
 use Rattle.pw_code.specs.Fields.{IsField}
-use Rattle.pw_code.specs.Instrs.{AreInstrs, IsCall, IsInstr, IsReplyCode, no_code, program_at, screen_at}
+use Rattle.pw_code.specs.Instrs.{AreInstrs, IsProgramCall, IsInstr, IsReplyCode, no_code, program_at, screen_at}
 use Rattle.pw_code.specs.Places.{IsPlace}
 use Rattle.pw_code.specs.Valid.{IsCode, IsValid}
 use Rattle.pw_code.specs.declared.code.Code.{Code}
@@ -23,14 +23,14 @@ use Rattle.pw_code.specs.declared.field.ScreenTable.{ScreenTable}
 use Rattle.pw_code.specs.declared.instr.Instr.{Instr}
 use Rattle.pw_code.specs.declared.instr.Instr.TheVariants.{Jump, JumpUnless, ParagraphEnd, Move, Compute, OnSizeError, Perform, PerformTimes, Until, PerformOneOf, Exit, ExitProgram, StopRun, DisplayScreen, Display, Accept, Call, Send, NoCode, Begin, End, Abort, Restart, Receive, Reply, Read, ReadNext, Write, Rewrite, Delete}
 use Rattle.pw_code.specs.declared.instr.ReplyCode.{ReplyCode}
-use Rattle.pw_code.specs.declared.place.Place.{Place}
+use Rattle.pw_code.specs.declared.place.StoragePlace.{StoragePlace}
 use Rattle.pw_code.specs.declared.system.System.{System}
 use Rattle.pw_code.specs.declared.verb.Answer.{Answer}
 use Rattle.pw_code.specs.declared.verb.Answer.TheVariants as answer
 use Rattle.pw_source.specs.Values.{Text'}
 use Rattle.pw_exec.specs.Answers.{answered, answered_by, begin_put, entry_checked, entry_put, place_among, put, reply_put, shown, spot_among, unit_ended, yielded}
 use Rattle.pw_exec.specs.Calls.{active, called_frame, calls, copied_back, kept, leaves_by, linkage_chars, most_active, most_calls, registers_at_call, returned, stops, storage_behind}
-use Rattle.pw_exec.specs.Config.{Config, closed, code_at, code_of, counted, faults, has_fault, most_counted, on, starting, with_taken}
+use Rattle.pw_exec.specs.Config.{Config, closed, code_at, code_of, code_statement_counted, faults, has_fault, most_counted, on, starting, with_taken}
 use Rattle.pw_exec.specs.Reading.{Registers, Spot, registers_of, spot_of, spots_of}
 use Rattle.pw_exec.specs.Runs.{Run, StandsFor, at_verb, runs}
 use Rattle.pw_exec.specs.Sound.{AreWaiting, IsSound, IsSoundContext, Waits, kept_size}
@@ -132,8 +132,8 @@ kept-long true registers =
 kept-long false registers = refl
 
 module _ (system : System) (valid : IsValid system) where
-  called-sized : (c : Config) (program : ℕ) (arguments : List Place) (keeps : Bool) (places : List Spot) → Sized system c → instr_of system c ≡ Some (Call program arguments keeps)
-      → IsCall system (length (code_of system c).storage) program arguments → spots_here c arguments ≡ Some places → length c.rest.frames < most_calls
+  called-sized : (c : Config) (program : ℕ) (arguments : List StoragePlace) (keeps : Bool) (places : List Spot) → Sized system c → instr_of system c ≡ Some (Call program arguments keeps)
+      → IsProgramCall system (length (code_of system c).storage) program arguments → spots_here c arguments ≡ Some places → length c.rest.frames < most_calls
       → Sized system (record { top = called_frame system program places keeps c; rest = record c.rest { frames = c.rest.frames ++ c.top ∷ [] } })
   called-sized c program arguments keeps places s at is found low =
       let n : ℕ = length (code_of system c).storage in
@@ -160,8 +160,8 @@ module _ (system : System) (valid : IsValid system) where
         base = subst (IsWhole system) (sym (bottom-push c.rest.frames c.top (called_frame system program places keeps c))) s.base;
       }
 
-  calls-sized : (c : Config) (program : ℕ) (arguments : List Place) (keeps : Bool) (places : List Spot) → Sized system c → instr_of system c ≡ Some (Call program arguments keeps)
-      → IsCall system (length (code_of system c).storage) program arguments → spots_here c arguments ≡ Some places → Sized system (calls system program keeps places c)
+  calls-sized : (c : Config) (program : ℕ) (arguments : List StoragePlace) (keeps : Bool) (places : List Spot) → Sized system c → instr_of system c ≡ Some (Call program arguments keeps)
+      → IsProgramCall system (length (code_of system c).storage) program arguments → spots_here c arguments ≡ Some places → Sized system (calls system program keeps places c)
   calls-sized c program arguments keeps places s at is found =
       by (nat_lt (length c.rest.frames) most_calls) (nat_lt most_active (active system c + length (program_at system program).storage)) refl
     where
@@ -173,7 +173,7 @@ module _ (system : System) (valid : IsValid system) where
 
   -- ---- where a program is left
 
-  back-size : (o : Option (List Spot)) (arguments : List Place) (n : ℕ) (items : List (ℕ × ℕ)) (from storage : List ℕ) → ((spots : List Spot) → o ≡ Some spots → AreSpots n arguments spots)
+  back-size : (o : Option (List Spot)) (arguments : List StoragePlace) (n : ℕ) (items : List (ℕ × ℕ)) (from storage : List ℕ) → ((spots : List Spot) → o ≡ Some spots → AreSpots n arguments spots)
       → map (λ place. place.size) arguments ≡ map (λ (item : ℕ × ℕ). item.1) items → n ≤ length storage → length (copied_back o (linkage_chars items from) storage) ≡ length storage
   back-size None arguments n items from storage are sizes le = refl
   back-size (Some spots) arguments n items from storage are sizes le = copied-back-size n arguments spots items from storage (are spots refl) sizes le
@@ -183,7 +183,7 @@ module _ (system : System) (valid : IsValid system) where
   returned-size caller callee context known other w =
       let n : ℕ = length (code_at system caller.program).storage in
       let instr = instr-at system (code_at system caller.program) (code_at system caller.program).instrs (valid-code system valid caller.program known).instrs caller.at (Call callee.program w.arguments w.keeps) w.call in
-      let is : IsCall system n callee.program w.arguments = instr.1.ranges in
+      let is : IsProgramCall system n callee.program w.arguments = instr.1.ranges in
       let registers : Registers = registers_at_call w.keeps (length (code_at system callee.program).storage) callee context in
       ap (λ o. length (storage_behind system o caller callee context)) w.call
       ∙ back-size (spots_of registers caller.storage w.arguments) w.arguments n (code_at system callee.program).linkage callee.storage caller.storage
@@ -212,20 +212,20 @@ module _ (system : System) (valid : IsValid system) where
   more-sized : (c : Config) → Sized system c → Sized system (more c)
   more-sized c s = plain-sized system c (more c) (same c (more c) refl refl refl) s
 
-  counted-sized : (f : Config → Config) (c : Config) → Sized system c → Sized system (f (more c)) → Sized system (counted f c)
+  counted-sized : (f : Config → Config) (c : Config) → Sized system c → Sized system (f (more c)) → Sized system (code_statement_counted f c)
   counted-sized f c s t = by (nat_lt c.rest.count most_counted)
     where
       by : (b : Bool) → Sized system (if b then f (more c) else faults 201 c)
       by true = t
       by false = plain-sized system c (faults 201 c) (same c _ refl refl refl) s
 
-  inner-sized : (i : Instr) (behind : ℕ) (c : Config) → IsInstr false system (code_of system c) behind i → is_inner i ≡ true → Sized system c → Sized system (counted (does system i) c)
+  inner-sized : (i : Instr) (behind : ℕ) (c : Config) → IsInstr false system (code_of system c) behind i → is_inner i ≡ true → Sized system c → Sized system (code_statement_counted (does system i) c)
   inner-sized i behind c is inner s =
       counted-sized (does system i) c s
       (plain-sized system (more c) (does system i (more c)) (does_plain system (code_of system c) behind (more c) s.frame i is.ranges is.kind inner) (more-sized c s))
 
-  taken-call : (c : Config) (program : ℕ) (arguments : List Place) (keeps : Bool) → Sized system c → instr_of system c ≡ Some (Call program arguments keeps)
-      → IsCall system (length (code_of system c).storage) program arguments → Sized system (does system (Call program arguments keeps) c)
+  taken-call : (c : Config) (program : ℕ) (arguments : List StoragePlace) (keeps : Bool) → Sized system c → instr_of system c ≡ Some (Call program arguments keeps)
+      → IsProgramCall system (length (code_of system c).storage) program arguments → Sized system (does system (Call program arguments keeps) c)
   taken-call c program arguments keeps s at is = by (spots_here c arguments) refl
     where
       by : (o : Option (List Spot)) → spots_here c arguments ≡ o → Sized system (with_taken o (calls system program keeps) c)
@@ -284,7 +284,7 @@ module _ (system : System) (valid : IsValid system) where
   reply-frames true rest = refl
   reply-frames false rest = refl
 
-  checked-plain : (c : Config) (table : ScreenTable) (line : Entry) (found : EntryAnswer) → All (IsField (length (code_of system c).storage)) table.fields → length (code_of system c).storage ≤ length c.top.storage
+  checked-plain : (c : Config) (table : ScreenTable) (line : EntryLineModel) (found : EntryAnswer) → All (IsField (length (code_of system c).storage)) table.fields → length (code_of system c).storage ≤ length c.top.storage
       → Plain c (entry_checked table line found c)
   checked-plain c table line (Valid place) fields le = record { program = refl; size = entered-size (length (code_of system c).storage) table.fields line.fields c.top.storage fields le; frames = refl }
   checked-plain c table line BadKey fields le = same c _ refl refl refl

@@ -16,20 +16,20 @@ use Rattle.pw_code.specs.declared.context.Context.{Context}
 use Rattle.pw_code.specs.declared.context.Frame.{Frame}
 use Rattle.pw_code.specs.declared.context.Return.{Return}
 use Rattle.pw_code.specs.declared.instr.Arithmetic.{Arithmetic}
-use Rattle.pw_code.specs.declared.instr.Operation.{Operation}
+use Rattle.pw_code.specs.declared.instr.ArithmeticOperation.{ArithmeticOperation}
 use Rattle.pw_code.specs.declared.instr.Instr.{Instr}
 use Rattle.pw_code.specs.declared.instr.Instr.TheVariants.{Jump, JumpUnless, ParagraphEnd, Move, Compute, OnSizeError, Perform, PerformTimes, Until, PerformOneOf, Exit, ExitProgram, StopRun, DisplayScreen, Display, Accept, Call, Send, NoCode, Begin, End, Abort, Restart, Receive, Reply, Read, ReadNext, Write, Rewrite, Delete}
 use Rattle.pw_code.specs.declared.instr.Turn.{Turn}
-use Rattle.pw_code.specs.declared.place.Place.{Place}
+use Rattle.pw_code.specs.declared.place.StoragePlace.{StoragePlace}
 use Rattle.pw_code.specs.declared.system.System.{System}
 use Rattle.pw_code.specs.declared.verb.Answer.{Answer}
 use Rattle.pw_code.specs.declared.verb.Answer.TheVariants as answer
 use Rattle.pw_source.specs.Values.{Text', Value, number_of, whole_part}
 use Rattle.pw_exec.specs.Answers.{answered_by, file_done, file_put, moved_into, put, read_put, shown}
 use Rattle.pw_exec.specs.Calls.{leaves_by, stops}
-use Rattle.pw_exec.specs.Config.{Config, closed, code_at, code_of, counted, faults, has_fault, is_server, most_counted, on, over, starting_server, with_storage, with_taken}
-use Rattle.pw_exec.specs.Moves.{computed, move_value, moved_chars, moves, operands_of, operated, places_of, result_of, stored_by, stored_in}
-use Rattle.pw_exec.specs.Reading.{Spot, Taken, put_at, registers_of, spot_of, value_in}
+use Rattle.pw_exec.specs.Config.{Config, closed, code_at, code_of, code_statement_counted, faults, has_fault, is_server, most_counted, on, over, starting_server, with_storage, with_taken}
+use Rattle.pw_exec.specs.Moves.{computed, move_value, moved_chars, moves, operands_of, operated, receiver_decimals, result_of, stored_by, stored_in}
+use Rattle.pw_exec.specs.Reading.{Spot, ResolvedOperand, put_at, registers_of, spot_of, value_in}
 use Rattle.pw_exec.specs.Runs.{Comes, Run, StandsForFiles, at_verb, runs}
 use Rattle.pw_exec.specs.Sound.{AreWaiting, IsFrame, IsSound, IsSoundContext}
 use Rattle.pw_exec.specs.Steps.{act, branch, does, holds_here, instr_of, or_else, read_here, spot_here, spots_here, step, taken_here}
@@ -43,7 +43,7 @@ written-long place text cells = simp (length-append, length-take, length-drop) (
 move-long : (value : Value) (spot : Spot) (storage : List ℕ) → length storage ≤ length (move_value value spot storage)
 move-long value spot storage = written-long spot.at (moved_chars spot.picture spot.size value) storage
 
-moves-long : (source : Taken) (spots : List Spot) (storage : List ℕ) → length storage ≤ length (moves source spots storage)
+moves-long : (source : ResolvedOperand) (spots : List Spot) (storage : List ℕ) → length storage ≤ length (moves source spots storage)
 moves-long source [] storage = omega arith
 moves-long source (spot ∷ spots) storage =
     let first = move-long (value_in storage source) spot storage in
@@ -65,8 +65,8 @@ computed-in-long : (r : Result Number SizeError) (spot : Spot) (storage out : Li
 computed-in-long (Ok m) spot storage out e = stored-long spot.picture spot m storage out e
 computed-in-long (Err error) spot storage out e = absurd (cc e)
 
-computed-long : (op : Operation) (first second : Value) (spot : Spot) (storage out : List ℕ) → computed op first second spot storage ≡ Some out → length storage ≤ length out
-computed-long op first second spot storage out e = computed-in-long (operated op (places_of spot.picture) (number_of first) (number_of second)) spot storage out e
+computed-long : (op : ArithmeticOperation) (first second : Value) (spot : Spot) (storage out : List ℕ) → computed op first second spot storage ≡ Some out → length storage ≤ length out
+computed-long op first second spot storage out e = computed-in-long (operated op (receiver_decimals spot.picture) (number_of first) (number_of second)) spot storage out e
 
 -- ---- what leaves the program at work
 
@@ -92,7 +92,7 @@ by_taken (Some a) next c h = h a refl
 abbrev more : Config → Config
 more c = record c { rest = record c.rest { count = c.rest.count + 1 } }
 
-by_count : (f : Config → Config) (c : Config) → Grows (more c) (f (more c)) → Grows c (counted f c)
+by_count : (f : Config → Config) (c : Config) → Grows (more c) (f (more c)) → Grows c (code_statement_counted f c)
 by_count f c g = by_test c (f (more c)) (faults 201 c) (nat_lt c.rest.count most_counted) (record { program = g.program; size = g.size; frames = g.frames }) (same c _ refl refl refl)
 
 abbrev one_turn : ℕ → Turn → ℕ → Config → Config
@@ -196,7 +196,7 @@ into-long None status content storage = omega arith
 done_grows : (into : Option Spot) (status : ℕ) (content : Option (List ℕ)) (c : Config) → Grows c (file_done into status content c)
 done_grows into status content c = longer c _ refl (into-long into status content c.top.storage) refl
 
-read_grows : (into : Place) (a : Answer) (c : Config) → Grows c (read_put into a c)
+read_grows : (into : StoragePlace) (a : Answer) (c : Config) → Grows c (read_put into a c)
 read_grows into (answer.FileDone status content) c = done_grows (spot_of (registers_of c.rest) c.top.storage into) status content c
 read_grows into answer.Shown c = same c _ refl refl refl
 read_grows into (answer.Entry line) c = same c _ refl refl refl
@@ -284,7 +284,7 @@ module _ (system : System) (valid : IsValid system) (server : ℕ) (known : serv
   instr-is : (c : Config) (i : Instr) → Serves c → instr_of system c ≡ Some i → IsTrue (is_for true i)
   instr-is c i s at = instr-at system (code_of system c) (code_of system c).instrs (valid-of c s).instrs c.top.at i at
 
-  ticked : (i : Instr) (c : Config) → Serves c → IsTrue (is_for true i) → Grows c (counted (does system i) c)
+  ticked : (i : Instr) (c : Config) → Serves c → IsTrue (is_for true i) → Grows c (code_statement_counted (does system i) c)
   ticked i c s for = by_count (does system i) c (does_grows system (more c) s.alone i for)
 
   act-grows : (i : Instr) (c : Config) → Serves c → IsTrue (is_for true i) → Grows c (act system (Some i) c)

@@ -6,7 +6,7 @@ use Rattle.pw_code.specs.declared.verb.Answer.{Answer}
 use Rattle.pw_code.specs.declared.verb.Verb.{Verb}
 use Rattle.pw_exec.specs.Answers.{put}
 use Rattle.pw_exec.specs.Config.{Config, closed}
-use Rattle.pw_exec.specs.Contexts.{Ran, RunsOn, Takes}
+use Rattle.pw_exec.specs.Contexts.{RanToVerb, RunsOn, PutsAnswer}
 use Rattle.pw_exec.specs.Runs.{Comes, StandsFrom, at_verb}
 use Rattle.pw_exec.specs.Steps.{step}
 use Rattle.pw_exec.proofs.RunLemmas as lemmas
@@ -14,7 +14,7 @@ use Rattle.pw_exec.proofs.RunLemmas as lemmas
 pub runs_on : (system : System) (start : Config) (answers : List Answer) (old new : Context) (verb : Verb)
     → StandsFrom system start answers old → RunsOn system old new verb → StandsFrom system start answers new
 runs_on system start answers old new verb stands ran =
-    let r : Ran system stands.at new verb = ran stands.at stands.is in
+    let r : RanToVerb system stands.at new verb = ran stands.at stands.is in
     record {
       at = r.at;
       comes = lemmas.runs_on at_verb (step system) (put system) start stands.at r.at answers stands.comes r.reaches.0;
@@ -26,7 +26,7 @@ verb_in : (c : Config) (context : Context) → context ≡ closed c → context.
 verb_in c context is stands = ap (λ (x : Context). x.at_verb) (sym is) ∙ stands
 
 pub takes : (system : System) (start : Config) (answers : List Answer) (a : Answer) (old new : Context)
-    → StandsFrom system start answers old → old.at_verb ≡ true → Takes system a old new → StandsFrom system start (answers ++ a ∷ []) new
+    → StandsFrom system start answers old → old.at_verb ≡ true → PutsAnswer system a old new → StandsFrom system start (answers ++ a ∷ []) new
 takes system start answers a old new stands at_its_verb took = record {
   at = put system a stands.at;
   comes = lemmas.answers_on at_verb (step system) (put system) start stands.at answers a stands.comes (verb_in stands.at old stands.is at_its_verb);

@@ -22,22 +22,22 @@ use Rattle.pw_code.specs.Places.{IsPlace, IsTableAt, LiesIn, picture_of}
 use Rattle.pw_code.specs.declared.field.Field.{Field}
 use Rattle.pw_code.specs.declared.field.FieldKind.{FieldKind}
 use Rattle.pw_code.specs.declared.field.FieldKind.TheVariants as field
-use Rattle.pw_code.specs.declared.instr.Operation.{Operation}
-use Rattle.pw_code.specs.declared.place.Place.{Place}
-use Rattle.pw_code.specs.declared.place.Table.{Table}
-use Rattle.pw_source.specs.Values.{Value, Chars, Register, Number', Text', Spaces', Zeros', text_in, text_of, number_in, number_of}
+use Rattle.pw_code.specs.declared.instr.ArithmeticOperation.{ArithmeticOperation}
+use Rattle.pw_code.specs.declared.place.StoragePlace.{StoragePlace}
+use Rattle.pw_code.specs.declared.place.PlaceTable.{PlaceTable}
+use Rattle.pw_source.specs.Values.{Value, Chars, Register, Number', Text', Spaces', Zeros', text_in, operand_text, number_in, number_of}
 use Rattle.pw_exec.specs.Calls.{linkage_chars, put_all, put_linkage}
-use Rattle.pw_exec.specs.Entries.{entered, entered_by, entered_chars, entered_in}
-use Rattle.pw_exec.specs.Moves.{computed, move_value, moved_chars, moves, operated, places_of, stored_by, stored_in}
-use Rattle.pw_exec.specs.Reading.{Registers, Spot, Taken, at_this_moment, chars_at, occurrence_at, one_more, put_at, spot_at, spot_of, spots_of, subscript_of, value_in}
+use Rattle.pw_exec.specs.Entries.{storage_entered, entered_by, entered_chars, entered_in}
+use Rattle.pw_exec.specs.Moves.{computed, move_value, moved_chars, moves, operated, receiver_decimals, stored_by, stored_in}
+use Rattle.pw_exec.specs.Reading.{Registers, Spot, ResolvedOperand, at_this_moment, chars_at, occurrence_at, one_more, put_at, spot_at, spot_of, spots_of, subscript_of, value_in}
 
 -- ---- lists of characters
 
 pub length-text_in : (size : ℕ) (value : Value) → length (text_in size value) ≡ size
-length-text_in size (Chars p chars) = length-fitted size (text_of (Chars p chars))
-length-text_in size (Register digits v) = length-fitted size (text_of (Register digits v))
-length-text_in size (Number' spelling) = length-fitted size (text_of (Number' spelling))
-length-text_in size (Text' chars) = length-fitted size (text_of (Text' chars))
+length-text_in size (Chars p chars) = length-fitted size (operand_text (Chars p chars))
+length-text_in size (Register digits v) = length-fitted size (operand_text (Register digits v))
+length-text_in size (Number' spelling) = length-fitted size (operand_text (Number' spelling))
+length-text_in size (Text' chars) = length-fitted size (operand_text (Text' chars))
 length-text_in size Spaces' = length-replicate size 32
 length-text_in size Zeros' = length-replicate size 48
 
@@ -79,22 +79,22 @@ fits-of (Some q) size is p e = let same : q ≡ p = cc e in ap size_of (sym same
 fits-of None size is p e = absurd (cc e)
 
 -- what is known of a place's spot
-pub record IsSpotOf (n : ℕ) (place : Place) (spot : Spot) : Type 0 where
+pub record IsSpotOf (n : ℕ) (place : StoragePlace) (spot : Spot) : Type 0 where
   pub sits : Sits n spot
   pub size : spot.size ≡ place.size
 
 -- the spots of places, one for each
-abbrev pub AreSpots : ℕ → List Place → List Spot → Type 0
+abbrev pub AreSpots : ℕ → List StoragePlace → List Spot → Type 0
 AreSpots n [] [] = Unit {0}
 AreSpots n (place ∷ places) (spot ∷ spots) = IsSpotOf n place spot × AreSpots n places spots
 AreSpots n _ _ = ⊥
 
 module _ (registers : Registers) (storage : List ℕ) (n : ℕ) where
-  module _ (place : Place) (is : IsPlace n place) where
+  module _ (place : StoragePlace) (is : IsPlace n place) where
     at-place : (at : ℕ) → at + place.size ≤ n → IsSpotOf n place (spot_at place at)
     at-place at inside = record { sits = record { inside = inside; fits = fits-of (picture_of place.kind place.size) place.size is.picture }; size = refl }
 
-    by-test : (table : Table) (k : ℕ) (spot : Spot) → IsTableAt n place.at place.size table → (b : Bool) → (nat_le 1 k && nat_le k table.occurs) ≡ b
+    by-test : (table : PlaceTable) (k : ℕ) (spot : Spot) → IsTableAt n place.at place.size table → (b : Bool) → (nat_le 1 k && nat_le k table.occurs) ≡ b
         → option_map (spot_at place) (if b then Some (place.at + (k - 1) * table.step) else None) ≡ Some spot → IsSpotOf n place spot
     by-test table k spot inside true test e =
         let parts = and_parts (nat_le 1 k) (nat_le k table.occurs) test in
@@ -104,7 +104,7 @@ module _ (registers : Registers) (storage : List ℕ) (n : ℕ) where
         subst (IsSpotOf n place) (some_is e) (at-place (place.at + (k - 1) * table.step) (omega (arith, product, all)))
     by-test table k spot inside false test e = absurd (cc e)
 
-    by-table : (table : Option Table) (spot : Spot) → LiesIn n place.at place.size table → option_map (spot_at place) (at_this_moment registers storage place.at table) ≡ Some spot → IsSpotOf n place spot
+    by-table : (table : Option PlaceTable) (spot : Spot) → LiesIn n place.at place.size table → option_map (spot_at place) (at_this_moment registers storage place.at table) ≡ Some spot → IsSpotOf n place spot
     by-table None spot inside e = subst (IsSpotOf n place) (some_is e) (at-place place.at inside)
     by-table (Some table) spot inside e =
         let k : ℕ = subscript_of registers storage table.subscript in
@@ -113,13 +113,13 @@ module _ (registers : Registers) (storage : List ℕ) (n : ℕ) where
     pub spot-is : (spot : Spot) → spot_of registers storage place ≡ Some spot → IsSpotOf n place spot
     spot-is spot e = by-table place.table spot is.inside e
 
-  one-more : (place : Place) (places : List Place) (o : Option Spot) (rest : Option (List Spot)) (spots : List Spot) → ((spot : Spot) → o ≡ Some spot → IsSpotOf n place spot)
+  one-more : (place : StoragePlace) (places : List StoragePlace) (o : Option Spot) (rest : Option (List Spot)) (spots : List Spot) → ((spot : Spot) → o ≡ Some spot → IsSpotOf n place spot)
       → ((others : List Spot) → rest ≡ Some others → AreSpots n places others) → one_more o rest ≡ Some spots → AreSpots n (place ∷ places) spots
   one-more place places (Some spot) (Some others) spots first more e = subst (AreSpots n (place ∷ places)) (some_is e) (first spot refl, more others refl)
   one-more place places (Some spot) None spots first more e = absurd (cc e)
   one-more place places None rest spots first more e = absurd (cc e)
 
-  pub spots-are : (places : List Place) (spots : List Spot) → All (IsPlace n) places → spots_of registers storage places ≡ Some spots → AreSpots n places spots
+  pub spots-are : (places : List StoragePlace) (spots : List Spot) → All (IsPlace n) places → spots_of registers storage places ≡ Some spots → AreSpots n places spots
   spots-are [] spots all e = subst (AreSpots n []) (some_is e) tt
   spots-are (place ∷ places) spots all e =
       one-more place places (spot_of registers storage place) (spots_of registers storage places) spots (spot-is place (All-head (IsPlace n) place places all))
@@ -134,7 +134,7 @@ module _ (n : ℕ) where
       let inside = sits.inside in
       length-written spot.at (moved_chars spot.picture spot.size value) storage (omega (arith, short, inside, le))
 
-  pub moves-size : (places : List Place) (spots : List Spot) (source : Taken) (storage : List ℕ) → AreSpots n places spots → n ≤ length storage
+  pub moves-size : (places : List StoragePlace) (spots : List Spot) (source : ResolvedOperand) (storage : List ℕ) → AreSpots n places spots → n ≤ length storage
       → length (moves source spots storage) ≡ length storage
   moves-size [] [] source storage are le = refl
   moves-size (place ∷ places) (spot ∷ spots) source storage are le =
@@ -160,8 +160,8 @@ module _ (n : ℕ) where
   computed-in (Ok m) spot storage out sits le e = stored-size spot.picture spot m storage out sits.fits sits.inside le e
   computed-in (Err error) spot storage out sits le e = absurd (cc e)
 
-  pub computed-size : (op : Operation) (first second : Value) (spot : Spot) (storage out : List ℕ) → Sits n spot → n ≤ length storage → computed op first second spot storage ≡ Some out → length out ≡ length storage
-  computed-size op first second spot storage out sits le e = computed-in (operated op (places_of spot.picture) (number_of first) (number_of second)) spot storage out sits le e
+  pub computed-size : (op : ArithmeticOperation) (first second : Value) (spot : Spot) (storage out : List ℕ) → Sits n spot → n ≤ length storage → computed op first second spot storage ≡ Some out → length out ≡ length storage
+  computed-size op first second spot storage out sits le e = computed-in (operated op (receiver_decimals spot.picture) (number_of first) (number_of second)) spot storage out sits le e
 
   -- ---- what is entered
 
@@ -184,7 +184,7 @@ module _ (n : ℕ) where
       by true e more = subst (IsField n) (some_is e) (All-head (IsField n) first fields all)
       by false e more = more e
 
-  pub entered-size : (fields : List Field) (pairs : List (List ℕ × List ℕ)) (storage : List ℕ) → All (IsField n) fields → n ≤ length storage → length (entered fields pairs storage) ≡ length storage
+  pub entered-size : (fields : List Field) (pairs : List (List ℕ × List ℕ)) (storage : List ℕ) → All (IsField n) fields → n ≤ length storage → length (storage_entered fields pairs storage) ≡ length storage
   entered-size fields [] storage all le = refl
   entered-size fields (pair ∷ pairs) storage all le =
       let first = entered-by (find (is_entry_field pair.0) fields) pair.1 storage (found-is (is_entry_field pair.0) fields all) le in
@@ -205,7 +205,7 @@ linked-size n (item ∷ items) (chars ∷ given) storage are le =
     let first = length-written item.0 chars storage (omega (arith, are.0, le)) in
     linked-size n items given (written item.0 chars storage) are.1 (omega (arith, first, le)) ∙ first
 
-given-linked : (n m : ℕ) (places : List Place) (spots : List Spot) (items : List (ℕ × ℕ)) (storage : List ℕ) → AreSpots n places spots → map (λ place. place.size) places ≡ map (λ (item : ℕ × ℕ). item.1) items
+given-linked : (n m : ℕ) (places : List StoragePlace) (spots : List Spot) (items : List (ℕ × ℕ)) (storage : List ℕ) → AreSpots n places spots → map (λ place. place.size) places ≡ map (λ (item : ℕ × ℕ). item.1) items
     → All (IsLinked m) items → Linked m items (map (λ spot. chars_at spot storage) spots)
 given-linked n m places spots [] storage are sizes all = tt
 given-linked n m [] spots (item ∷ items) storage are sizes all = absurd (cc sizes)
@@ -219,7 +219,7 @@ given-linked n m (place ∷ places) (spot ∷ spots) (item ∷ items) storage ar
     (omega (arith, size, own, inside, few), given-linked n m places spots items storage are.1 rest (All-tail (IsLinked m) item items all))
 
 -- a called program's storage is as long as that of its code
-pub called-size : (n : ℕ) (places : List Place) (spots : List Spot) (items : List (ℕ × ℕ)) (storage code : List ℕ) → AreSpots n places spots → map (λ place. place.size) places ≡ map (λ (item : ℕ × ℕ). item.1) items
+pub called-size : (n : ℕ) (places : List StoragePlace) (spots : List Spot) (items : List (ℕ × ℕ)) (storage code : List ℕ) → AreSpots n places spots → map (λ place. place.size) places ≡ map (λ (item : ℕ × ℕ). item.1) items
     → All (IsLinked (length code)) items → length (put_linkage items (map (λ spot. chars_at spot storage) spots) code) ≡ length code
 called-size n places spots items storage code are sizes all =
     linked-size (length code) items (map (λ spot. chars_at spot storage) spots) code (given-linked n (length code) places spots items storage are sizes all) (omega arith)
@@ -237,7 +237,7 @@ copied-size n (spot ∷ spots) (chars ∷ given) storage are le =
     let first = length-written spot.at chars storage (omega (arith, are.0, le)) in
     copied-size n spots given (put_at spot chars storage) are.1 (omega (arith, first, le)) ∙ first
 
-taken-copied : (n : ℕ) (places : List Place) (spots : List Spot) (items : List (ℕ × ℕ)) (storage : List ℕ) → AreSpots n places spots → map (λ place. place.size) places ≡ map (λ (item : ℕ × ℕ). item.1) items
+taken-copied : (n : ℕ) (places : List StoragePlace) (spots : List Spot) (items : List (ℕ × ℕ)) (storage : List ℕ) → AreSpots n places spots → map (λ place. place.size) places ≡ map (λ (item : ℕ × ℕ). item.1) items
     → Copied n spots (linkage_chars items storage)
 taken-copied n places [] items storage are sizes = tt
 taken-copied n [] (spot ∷ spots) items storage are sizes = absurd are
@@ -251,6 +251,6 @@ taken-copied n (place ∷ places) (spot ∷ spots) (item ∷ items) storage are 
     (omega (arith, size, own, inside, few), taken-copied n places spots items storage are.1 rest)
 
 -- a caller's storage keeps its size
-pub copied-back-size : (n : ℕ) (places : List Place) (spots : List Spot) (items : List (ℕ × ℕ)) (from storage : List ℕ) → AreSpots n places spots → map (λ place. place.size) places ≡ map (λ (item : ℕ × ℕ). item.1) items
+pub copied-back-size : (n : ℕ) (places : List StoragePlace) (spots : List Spot) (items : List (ℕ × ℕ)) (from storage : List ℕ) → AreSpots n places spots → map (λ place. place.size) places ≡ map (λ (item : ℕ × ℕ). item.1) items
     → n ≤ length storage → length (put_all spots (linkage_chars items from) storage) ≡ length storage
 copied-back-size n places spots items from storage are sizes le = copied-size n spots (linkage_chars items from) storage (taken-copied n places spots items from are sizes) le

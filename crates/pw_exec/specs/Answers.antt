@@ -4,19 +4,19 @@ use Rattle.std.specs.Prelude.{ℕ, ◌+◌, ◌*◌, ◌==◌, true, false, List
 use Rattle.pw_terminal.specs.Entries.{check, with_advice}
 use Rattle.pw_terminal.specs.declared.entries.EntryAnswer.{EntryAnswer}
 use Rattle.pw_terminal.specs.declared.entries.EntryAnswer.TheVariants.{Valid}
-use Rattle.pw_code.specs.Entry.{Entry}
+use Rattle.pw_code.specs.Entry.{EntryLineModel}
 use Rattle.pw_code.specs.Instrs.{screen_at}
 use Rattle.pw_code.specs.declared.context.Context.{Context}
 use Rattle.pw_code.specs.declared.field.ScreenTable.{ScreenTable}
 use Rattle.pw_code.specs.declared.instr.Instr.{Instr}
 use Rattle.pw_code.specs.declared.instr.Instr.TheVariants.{DisplayScreen, Display, Accept, Send, Begin, End, Abort, Read, ReadNext, Write, Rewrite, Delete}
 use Rattle.pw_code.specs.declared.instr.ReplyCode.{ReplyCode}
-use Rattle.pw_code.specs.declared.place.Place.{Place}
+use Rattle.pw_code.specs.declared.place.StoragePlace.{StoragePlace}
 use Rattle.pw_code.specs.declared.system.System.{System}
 use Rattle.pw_code.specs.declared.verb.Answer.{Answer}
 use Rattle.pw_code.specs.declared.verb.Answer.TheVariants as answer
 use Rattle.pw_exec.specs.Config.{Config, on, over, with_storage, code_of, has_fault}
-use Rattle.pw_exec.specs.Entries.{entered}
+use Rattle.pw_exec.specs.Entries.{storage_entered}
 use Rattle.pw_exec.specs.Moves.{move_text}
 use Rattle.pw_exec.specs.Reading.{Spot, registers_of, spot_of}
 
@@ -33,9 +33,9 @@ shown c = record c { rest = record (answered c.rest) { shown = c.rest.shown + 1;
 -- A right entry is moved, and TERMINATION-STATUS is the position of its key. For a wrong one row
 -- 24 says so, which is
 -- shown before the same entry is awaited again.
-abbrev pub entry_checked : ScreenTable → Entry → EntryAnswer → Config → Config
+abbrev pub entry_checked : ScreenTable → EntryLineModel → EntryAnswer → Config → Config
 entry_checked table line (Valid place) c =
-    on (record (with_storage (entered table.fields line.fields c.top.storage) c) {
+    on (record (with_storage (storage_entered table.fields line.fields c.top.storage) c) {
       rest = record (answered c.rest) { entries = c.rest.entries + 1; termination = place };
     })
 entry_checked table line found c =
@@ -80,7 +80,7 @@ reply_taken rest = if rest.in_unit then answered rest else unit_ended rest
 -- the place, from 0, of the first CODE equal to the reply's code
 abbrev pub place_among : List ReplyCode → List ℕ → Option ℕ
 place_among codes reply =
-    option_and_then (λ code. position (λ one. one.number == code) codes) (sends.code_of reply)
+    option_and_then (λ code. position (λ one. one.number == code) codes) (sends.code_in_reply reply)
 
 -- that place, with the spot to which the reply goes
 abbrev pub spot_among : Config → List ReplyCode → ℕ → Option (ℕ × Spot)
@@ -100,8 +100,8 @@ yielded (Some found) reply c =
     })
 
 -- behind a reply: it goes to the item of the first code equal to its own
-abbrev pub replied : List ReplyCode → List ℕ → Config → Config
-replied codes reply c =
+abbrev pub code_after_reply : List ReplyCode → List ℕ → Config → Config
+code_after_reply codes reply c =
     yielded (option_and_then (spot_among c codes) (place_among codes reply)) reply c
 
 -- a server's run fault is to be told
@@ -125,7 +125,7 @@ file_done into status content c =
     })
 
 -- the item of a READ, whose subscript is taken before FILE-STATUS changes
-abbrev pub read_done : Place → ℕ → Option (List ℕ) → Config → Config
+abbrev pub read_done : StoragePlace → ℕ → Option (List ℕ) → Config → Config
 read_done into status content c =
     file_done (spot_of (registers_of c.rest) c.top.storage into) status content c
 
@@ -142,7 +142,7 @@ entry_put table keys _ c = passed c
 
 -- behind the answer to a SEND
 abbrev pub reply_put : List ReplyCode → Answer → Config → Config
-reply_put codes (answer.Replied reply) c = replied codes reply c
+reply_put codes (answer.Replied reply) c = code_after_reply codes reply c
 reply_put codes (answer.Failed code) c = failed code c
 reply_put codes _ c = over 1 (record c { rest = answered c.rest })
 
@@ -160,7 +160,7 @@ abbrev pub file_passed : Config → Config
 file_passed c = on (record c { rest = record c.rest { at_verb = false } })
 
 -- behind the answer to READ and READ NEXT
-abbrev pub read_put : Place → Answer → Config → Config
+abbrev pub read_put : StoragePlace → Answer → Config → Config
 read_put into (answer.FileDone status content) c = read_done into status content c
 read_put into _ c = file_passed c
 

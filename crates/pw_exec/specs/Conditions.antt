@@ -1,5 +1,5 @@
 -- Conditions: all their operands are read, whatever an earlier comparison gave.
-pub use Rattle.pw_source.specs.Conditions.{text_order, length_of, beside, is_zeros, are_numbers, compared, is_sign, are_signed_digits, is_numeric_item, is_numeric, turned, of_both}
+pub use Rattle.pw_source.specs.Conditions.{text_order, length_of, beside, is_zeros, are_numbers, compared, is_sign, are_signed_digits, is_numeric_item, is_numeric, condition_turned, of_both}
 use Rattle.std.specs.Prelude.{ℕ, Bool, true, false, ◌&&◌, ◌||◌, List, [], ◌∷◌, Option, Some, None}
 use Rattle.std.specs.Ordering.{is_eq, is_lt, is_gt, is_le, is_ge}
 use Rattle.std.specs.declared.cmp.Ordering.{Ordering}
@@ -7,12 +7,12 @@ use Rattle.pw_source.specs.Values.{Value}
 use Rattle.pw_code.specs.declared.cond.Comparison.{Comparison}
 use Rattle.pw_code.specs.declared.cond.Comparison.TheVariants as comparison
 use Rattle.pw_code.specs.declared.cond.Cond.{Cond}
-use Rattle.pw_code.specs.declared.cond.Operator.{Operator}
-use Rattle.pw_code.specs.declared.cond.Operator.TheVariants as operator
+use Rattle.pw_code.specs.declared.cond.ComparisonOperator.{ComparisonOperator}
+use Rattle.pw_code.specs.declared.cond.ComparisonOperator.TheVariants as operator
 use Rattle.pw_exec.specs.Reading.{Registers, read}
 
 -- the comparison holds by this operator
-abbrev pub holds_by : Operator → Ordering → Bool
+abbrev pub holds_by : ComparisonOperator → Ordering → Bool
 holds_by operator.Equal found = is_eq found
 holds_by operator.Less found = is_lt found
 holds_by operator.Greater found = is_gt found
@@ -34,10 +34,10 @@ of_two test (Some a) b = of_one (test a) b
 -- a comparison at this moment
 abbrev pub comparison_holds : Registers → List ℕ → Comparison → Option Bool
 comparison_holds registers storage (comparison.Compare left negated op right) =
-    of_two (λ a b. turned negated (holds_by op (compared a b)))
+    of_two (λ a b. condition_turned negated (holds_by op (compared a b)))
     (read registers storage left) (read registers storage right)
 comparison_holds registers storage (comparison.Numeric one negated) =
-    of_one (λ a. turned negated (is_numeric a)) (read registers storage one)
+    of_one (λ a. condition_turned negated (is_numeric a)) (read registers storage one)
 
 -- each of the comparisons holds
 abbrev pub all_hold : Registers → List ℕ → List Comparison → Option Bool
@@ -52,5 +52,5 @@ any_holds registers storage (cs ∷ css) =
     of_both (λ a b. a || b) (all_hold registers storage cs) (any_holds registers storage css)
 
 -- a condition at this moment
-abbrev pub holds : Registers → List ℕ → Cond → Option Bool
-holds registers storage cond = any_holds registers storage cond.any
+abbrev pub code_condition_holds : Registers → List ℕ → Cond → Option Bool
+code_condition_holds registers storage cond = any_holds registers storage cond.any

@@ -86,8 +86,8 @@ abbrev pub has_fault : Context → Bool
 has_fault context = not (context.fault == 0) || context.mode == 2
 
 -- a statement or a turn begins: it counts one, and where it would be number 100,001 it is LOOP
-abbrev pub counted : (Config → Config) → Config → Config
-counted next c =
+abbrev pub code_statement_counted : (Config → Config) → Config → Config
+code_statement_counted next c =
     if nat_lt c.rest.count most_counted
     then next (record c { rest = record c.rest { count = c.rest.count + 1 } })
     else faults 201 c

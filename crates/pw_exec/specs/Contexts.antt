@@ -10,7 +10,7 @@ use Rattle.pw_exec.specs.Runs.{Reaches}
 use Rattle.pw_exec.specs.Steps.{verb_of}
 
 -- a configuration has run on to its next verb
-pub record Ran (system : System) (c : Config) (new : Context) (verb : Verb) : Type 0 where
+pub record RanToVerb (system : System) (c : Config) (new : Context) (verb : Verb) : Type 0 where
   pub at : Config
   pub reaches : Reaches system c at
   pub is : new ≡ closed at
@@ -18,8 +18,8 @@ pub record Ran (system : System) (c : Config) (new : Context) (verb : Verb) : Ty
 
 -- the context has run on to its next verb
 abbrev pub RunsOn : System → Context → Context → Verb → Type 0
-RunsOn system old new verb = (c : Config) → old ≡ closed c → Ran system c new verb
+RunsOn system old new verb = (c : Config) → old ≡ closed c → RanToVerb system c new verb
 
 -- an answer was put into the context
-abbrev pub Takes : System → Answer → Context → Context → Type 0
-Takes system a old new = (c : Config) → old ≡ closed c → new ≡ closed (put system a c)
+abbrev pub PutsAnswer : System → Answer → Context → Context → Type 0
+PutsAnswer system a old new = (c : Config) → old ≡ closed c → new ≡ closed (put system a c)

@@ -19,7 +19,7 @@ entered_by None value storage = storage
 entered_by (Some found) value storage = entered_in found.shown value storage
 
 -- the values of an entry line are moved in the order of its pairs; other fields stay
-abbrev pub entered : List Field → List (List ℕ × List ℕ) → List ℕ → List ℕ
-entered fields [] storage = storage
-entered fields (pair ∷ pairs) storage =
-    entered fields pairs (entered_by (find (is_entry_field pair.0) fields) pair.1 storage)
+abbrev pub storage_entered : List Field → List (List ℕ × List ℕ) → List ℕ → List ℕ
+storage_entered fields [] storage = storage
+storage_entered fields (pair ∷ pairs) storage =
+    storage_entered fields pairs (entered_by (find (is_entry_field pair.0) fields) pair.1 storage)

@@ -1,5 +1,5 @@
 -- MOVE and arithmetic.
-pub use Rattle.pw_source.specs.Arithmetic.{places_of}
+pub use Rattle.pw_source.specs.Arithmetic.{receiver_decimals}
 pub use Rattle.pw_source.specs.Moves.{moved_chars}
 use Rattle.std.specs.Prelude.{ℕ, List, [], ◌∷◌, Option, Some, None, Result, Ok, Err, if◌then◌else◌}
 use Rattle.pw_number.specs.Number.{Number}
@@ -8,10 +8,10 @@ use Rattle.pw_number.specs.declared.size_error.SizeError.{SizeError}
 use Rattle.pw_picture.specs.declared.picture.Picture.{Picture}
 use Rattle.pw_picture.specs.Stored.{is_kept, moved}
 use Rattle.pw_code.specs.declared.instr.Arithmetic.{Arithmetic}
-use Rattle.pw_code.specs.declared.instr.Operation.{Operation}
-use Rattle.pw_code.specs.declared.instr.Operation.TheVariants as operation
+use Rattle.pw_code.specs.declared.instr.ArithmeticOperation.{ArithmeticOperation}
+use Rattle.pw_code.specs.declared.instr.ArithmeticOperation.TheVariants as operation
 use Rattle.pw_source.specs.Values.{Value, Text', number_of}
-use Rattle.pw_exec.specs.Reading.{Registers, Spot, put_at, Taken, value_in, read, spot_of}
+use Rattle.pw_exec.specs.Reading.{Registers, Spot, put_at, ResolvedOperand, value_in, read, spot_of}
 
 -- ---- MOVE
 
@@ -25,7 +25,7 @@ abbrev pub move_text : List ℕ → Spot → List ℕ → List ℕ
 move_text chars target storage = move_value (Text' chars) target storage
 
 -- one move to each spot, from left to right: each reads its source anew
-abbrev pub moves : Taken → List Spot → List ℕ → List ℕ
+abbrev pub moves : ResolvedOperand → List Spot → List ℕ → List ℕ
 moves source [] storage = storage
 moves source (target ∷ targets) storage =
     moves source targets (move_value (value_in storage source) target storage)
@@ -34,7 +34,7 @@ moves source (target ∷ targets) storage =
 
 -- the result of an operation of the first operand on the second; a quotient has the places of the
 -- receiver
-abbrev pub operated : Operation → ℕ → Number → Number → Result Number SizeError
+abbrev pub operated : ArithmeticOperation → ℕ → Number → Number → Result Number SizeError
 operated operation.Add places first second = sized (sum second first)
 operated operation.Subtract places first second = sized (difference second first)
 operated operation.Multiply places first second = sized (cut 18 (product second first))
@@ -52,10 +52,10 @@ stored_in spot (Ok n) storage = stored_by spot.picture spot n storage
 stored_in spot (Err error) storage = None
 
 -- the operation is done on both operands as they are read, and the receiver gets the result
-abbrev pub computed : Operation → Value → Value → Spot → List ℕ → Option (List ℕ)
+abbrev pub computed : ArithmeticOperation → Value → Value → Spot → List ℕ → Option (List ℕ)
 computed op first second receiver storage =
     stored_in receiver
-    (operated op (places_of receiver.picture) (number_of first) (number_of second)) storage
+    (operated op (receiver_decimals receiver.picture) (number_of first) (number_of second)) storage
 
 -- the operands of arithmetic as they are read, and the spot of the receiver
 pub record Operands : Type 0 where
@@ -78,5 +78,5 @@ operands_of registers storage a =
     (spot_of registers storage a.receiver)
 
 -- the storage behind arithmetic, and none on a size error
-abbrev pub result_of : Operation → Operands → List ℕ → Option (List ℕ)
+abbrev pub result_of : ArithmeticOperation → Operands → List ℕ → Option (List ℕ)
 result_of op found storage = computed op found.first found.second found.receiver storage

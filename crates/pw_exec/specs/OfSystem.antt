@@ -7,7 +7,7 @@ use Rattle.pw_event.specs.declared.script.FailLine.{FailLine}
 use Rattle.pw_onecopy.specs.Behaviour.{Behaviour, Served}
 use Rattle.pw_onecopy.specs.Behaviour as served
 use Rattle.pw_onecopy.specs.Operation.{answer_of, records_behind}
-use Rattle.pw_onecopy.specs.Path.{PathAnswer, FileAnswer}
+use Rattle.pw_onecopy.specs.Path.{PathAnswer, FileResult}
 use Rattle.pw_onecopy.specs.Update.{upd}
 use Rattle.pw_code.specs.declared.system.ClassInfo.{ClassInfo}
 use Rattle.pw_code.specs.declared.system.System.{System}
@@ -16,7 +16,7 @@ use Rattle.pw_code.specs.declared.verb.Verb.{Verb}
 use Rattle.pw_code.specs.declared.verb.Verb.TheVariants as verb
 use Rattle.pw_exec.specs.Answers.{put}
 use Rattle.pw_exec.specs.Config.{Config, starting, starting_server, most_counted}
-use Rattle.pw_exec.specs.Runs.{after}
+use Rattle.pw_exec.specs.Runs.{config_after_answers}
 use Rattle.pw_exec.specs.Steps.{verb_of}
 
 -- ---- terminals
@@ -24,7 +24,7 @@ use Rattle.pw_exec.specs.Steps.{verb_of}
 -- where a terminal's program stands after a path
 abbrev pub terminal_after : System → TermInfo → List PathAnswer → Config
 terminal_after system terminal path =
-    after system (starting system terminal.program) (map (told terminal.entries) path)
+    config_after_answers system (starting system terminal.program) (map (told terminal.entries) path)
 
 -- its next verb
 abbrev pub asked_of : System → Option TermInfo → List PathAnswer → Verb
@@ -39,12 +39,12 @@ image_of system (Some terminal) path = (terminal_after system terminal path).res
 -- ---- servers
 
 -- where a server stands on a message, behind a list of file answers
-abbrev pub server_after : System → ClassInfo → List ℕ → List FileAnswer → Config
+abbrev pub server_after : System → ClassInfo → List ℕ → List FileResult → Config
 server_after system class message done =
-    after system (starting_server system class.server message) (map file_told done)
+    config_after_answers system (starting_server system class.server message) (map file_told done)
 
 -- its next file operation, reply or fault
-abbrev pub operation_of : System → Option ClassInfo → List ℕ → List FileAnswer → Verb
+abbrev pub operation_of : System → Option ClassInfo → List ℕ → List FileResult → Verb
 operation_of system None message done = verb.Fault 0
 operation_of system (Some class) message done =
     verb_of system (server_after system class message done)
@@ -61,8 +61,8 @@ served_by system (verb.Reply reply) c files next = served.Reply reply files
 served_by system (verb.Fault code) c files next = served.Fault code
 served_by system (verb.File call) c files next =
     let size = key_length system call.file in
-    let found : FileAnswer = answer_of size (files call.file) call.op call in
-    next (after system (put system (file_told found) c) [])
+    let found : FileResult = answer_of size (files call.file) call.op call in
+    next (config_after_answers system (put system (file_told found) c) [])
     (upd files call.file (records_behind size (files call.file) call))
 served_by system _ c files next = served.Fault 0
 

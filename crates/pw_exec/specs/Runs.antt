@@ -70,5 +70,5 @@ abbrev pub most_steps : ℕ
 most_steps = 2 ^ 64
 
 -- where the code stands at the verb that follows answers
-abbrev pub after : System → Config → List Answer → Config
-after system c answers = (run system (most_steps * (length answers + 1)) c answers).at
+abbrev pub config_after_answers : System → Config → List Answer → Config
+config_after_answers system c answers = (run system (most_steps * (length answers + 1)) c answers).at

@@ -6,37 +6,37 @@ use Rattle.pw_code.specs.declared.code.Code.{Code}
 use Rattle.pw_code.specs.declared.cond.Comparison.{Comparison}
 use Rattle.pw_code.specs.declared.cond.Comparison.TheVariants.{Compare}
 use Rattle.pw_code.specs.declared.cond.Cond.{Cond}
-use Rattle.pw_code.specs.declared.cond.Operator.{Operator}
-use Rattle.pw_code.specs.declared.cond.Operator.TheVariants.{Equal, Greater}
+use Rattle.pw_code.specs.declared.cond.ComparisonOperator.{ComparisonOperator}
+use Rattle.pw_code.specs.declared.cond.ComparisonOperator.TheVariants.{Equal, Greater}
 use Rattle.pw_code.specs.declared.field.FieldKind.TheVariants as field
 use Rattle.pw_code.specs.declared.field.ScreenTable.{ScreenTable}
 use Rattle.pw_code.specs.declared.instr.Instr.{Instr}
 use Rattle.pw_code.specs.declared.instr.Instr.TheVariants.{JumpUnless, ParagraphEnd, Move, Compute, OnSizeError, PerformTimes, Until, PerformOneOf, Exit, StopRun, Display, Accept, Call, Send, NoCode, Begin, End, Receive, Reply, Read}
-use Rattle.pw_code.specs.declared.instr.Operation.{Operation}
-use Rattle.pw_code.specs.declared.instr.Operation.TheVariants.{Add, Divide}
+use Rattle.pw_code.specs.declared.instr.ArithmeticOperation.{ArithmeticOperation}
+use Rattle.pw_code.specs.declared.instr.ArithmeticOperation.TheVariants.{Add, Divide}
 use Rattle.pw_code.specs.declared.instr.Arithmetic.{Arithmetic}
 use Rattle.pw_code.specs.declared.instr.Turn.{Turn}
 use Rattle.pw_code.specs.declared.lock.LockRule.TheVariants.{ReadersShare}
-use Rattle.pw_code.specs.declared.operand.Operand.{Operand}
-use Rattle.pw_code.specs.declared.operand.Operand.TheVariants as operand
+use Rattle.pw_code.specs.declared.operand.InstructionOperand.{InstructionOperand}
+use Rattle.pw_code.specs.declared.operand.InstructionOperand.TheVariants as operand
 use Rattle.pw_code.specs.declared.place.Kind.{Kind}
 use Rattle.pw_code.specs.declared.place.Kind.TheVariants.{Group, Text, Number}
-use Rattle.pw_code.specs.declared.place.Place.{Place}
-use Rattle.pw_code.specs.declared.place.Subscript.TheVariants as subscript
+use Rattle.pw_code.specs.declared.place.StoragePlace.{StoragePlace}
+use Rattle.pw_code.specs.declared.place.PlaceSubscript.TheVariants as subscript
 use Rattle.pw_code.specs.declared.system.System.{System}
 
 -- ---- operands
 
 -- an item of a kind at a place
-abbrev pub item : Kind → ℕ → ℕ → Place
+abbrev pub item : Kind → ℕ → ℕ → StoragePlace
 item kind at size = record { at = at; size = size; kind = kind; table = None }
 
 -- an unsigned number of some digits
-abbrev pub digits : ℕ → ℕ → Place
+abbrev pub digits : ℕ → ℕ → StoragePlace
 digits at count = item (Number count 0 false) at count
 
 -- a digit of three from a place on, by the digit at another place
-abbrev pub digit_by : ℕ → ℕ → Place
+abbrev pub digit_by : ℕ → ℕ → StoragePlace
 digit_by at index = record {
   at = at;
   size = 1;
@@ -45,11 +45,11 @@ digit_by at index = record {
 }
 
 -- a number as it is written
-abbrev pub literal : List ℕ → Operand
+abbrev pub literal : List ℕ → InstructionOperand
 literal spelling = operand.Number spelling (number_in spelling)
 
 -- a comparison of an item with a number
-abbrev pub compares : Place → Operator → List ℕ → Comparison
+abbrev pub compares : StoragePlace → ComparisonOperator → List ℕ → Comparison
 compares place operator spelling = Compare (operand.Item place) false operator (literal spelling)
 
 -- both hold
@@ -61,7 +61,7 @@ abbrev pub alone : Comparison → Cond
 alone a = record { any = (a ∷ []) ∷ [] }
 
 -- an operation with a number on the first digit
-abbrev pub on_digit : Operation → List ℕ → Arithmetic
+abbrev pub on_digit : ArithmeticOperation → List ℕ → Arithmetic
 on_digit operation spelling = record {
   operation = operation;
   first = literal spelling;

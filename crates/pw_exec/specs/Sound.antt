@@ -4,7 +4,7 @@ use Rattle.std.specs.Prelude.{◌≡◌, ℕ, ◌+◌, ◌<◌, ◌≤◌, Bool,
 use Rattle.pw_code.specs.declared.context.Context.{Context}
 use Rattle.pw_code.specs.declared.context.Frame.{Frame}
 use Rattle.pw_code.specs.declared.instr.Instr.TheVariants.{Call}
-use Rattle.pw_code.specs.declared.place.Place.{Place}
+use Rattle.pw_code.specs.declared.place.StoragePlace.{StoragePlace}
 use Rattle.pw_code.specs.declared.system.System.{System}
 use Rattle.pw_exec.specs.Calls.{most_calls}
 use Rattle.pw_exec.specs.Config.{Config, closed, code_at}
@@ -20,7 +20,7 @@ kept_size keeps = if keeps then 9 else 0
 
 -- a program waits at its CALL of another
 pub record Waits (system : System) (caller callee : Frame) : Type 0 where
-  pub arguments : List Place
+  pub arguments : List StoragePlace
   pub keeps : Bool
   pub frame : IsFrame system caller
   pub call : slice_get (code_at system caller.program).instrs caller.at ≡ Some (Call callee.program arguments keeps)

@@ -10,45 +10,45 @@ use Rattle.pw_code.specs.declared.instr.Arithmetic.{Arithmetic}
 use Rattle.pw_code.specs.declared.instr.Instr.{Instr}
 use Rattle.pw_code.specs.declared.instr.Instr.TheVariants.{Jump, JumpUnless, ParagraphEnd, Move, Compute, OnSizeError, Perform, PerformTimes, Until, PerformOneOf, Exit, ExitProgram, StopRun, DisplayScreen, Display, Accept, Call, Send, NoCode, Begin, End, Abort, Restart, Receive, Reply, Read, ReadNext, Write, Rewrite, Delete}
 use Rattle.pw_code.specs.declared.instr.ReplyCode.{ReplyCode}
-use Rattle.pw_code.specs.declared.operand.Operand.{Operand}
-use Rattle.pw_code.specs.declared.place.Place.{Place}
+use Rattle.pw_code.specs.declared.operand.InstructionOperand.{InstructionOperand}
+use Rattle.pw_code.specs.declared.place.StoragePlace.{StoragePlace}
 use Rattle.pw_code.specs.declared.system.System.{System}
 use Rattle.pw_code.specs.declared.verb.Verb.{Verb}
 use Rattle.pw_code.specs.declared.verb.Verb.TheVariants as verb
 use Rattle.pw_exec.specs.Calls.{calls, leaves, stops}
-use Rattle.pw_exec.specs.Conditions.{holds}
-use Rattle.pw_exec.specs.Config.{Config, code_of, has_fault, asks, faults, counted, on, over, with_storage, with_taken}
+use Rattle.pw_exec.specs.Conditions.{code_condition_holds}
+use Rattle.pw_exec.specs.Config.{Config, code_of, has_fault, asks, faults, code_statement_counted, on, over, with_storage, with_taken}
 use Rattle.pw_exec.specs.Moves.{operands_of, result_of, moves, move_text}
-use Rattle.pw_exec.specs.Reading.{Spot, Taken, registers_of, spot_of, spots_of, taken, read}
+use Rattle.pw_exec.specs.Reading.{Spot, ResolvedOperand, registers_of, spot_of, spots_of, code_operand_taken, read}
 use Rattle.pw_exec.specs.Turns.{turn, turns, tested, chosen, at_position, ends}
 use Rattle.pw_source.specs.Values.{Value, as_it_stands, number_of, whole_part}
 
 -- ---- operands of the program at work
 
 -- where an item of the program at work lies
-abbrev pub spot_here : Config → Place → Option Spot
+abbrev pub spot_here : Config → StoragePlace → Option Spot
 spot_here c place = spot_of (registers_of c.rest) c.top.storage place
 
 -- where items of the program at work lie, nothing where a subscript is outside
-abbrev pub spots_here : Config → List Place → Option (List Spot)
+abbrev pub spots_here : Config → List StoragePlace → Option (List Spot)
 spots_here c places = spots_of (registers_of c.rest) c.top.storage places
 
 -- an operand of the program at work, as it was taken
-abbrev pub taken_here : Config → Operand → Option Taken
-taken_here c one = taken (registers_of c.rest) c.top.storage one
+abbrev pub taken_here : Config → InstructionOperand → Option ResolvedOperand
+taken_here c one = code_operand_taken (registers_of c.rest) c.top.storage one
 
 -- the value of an operand of the program at work
-abbrev pub read_here : Config → Operand → Option Value
+abbrev pub read_here : Config → InstructionOperand → Option Value
 read_here c one = read (registers_of c.rest) c.top.storage one
 
 -- whether a condition of the program at work holds
 abbrev pub holds_here : Config → Cond → Option Bool
-holds_here c cond = holds (registers_of c.rest) c.top.storage cond
+holds_here c cond = code_condition_holds (registers_of c.rest) c.top.storage cond
 
 -- ---- instructions
 
 -- MOVE
-abbrev pub move_all : Operand → List Place → Config → Config
+abbrev pub move_all : InstructionOperand → List StoragePlace → Config → Config
 move_all from to c =
     with_taken (taken_here c from) (λ source.
     with_taken (spots_here c to) (λ targets d.
@@ -75,22 +75,22 @@ abbrev pub shows : List ℕ → Config → Config
 shows cells c = asks (record c { rest = record c.rest { screen = cells } })
 
 -- SEND: the message and the items of YIELDS have their subscripts taken
-abbrev pub sends : Operand → List ReplyCode → Config → Config
+abbrev pub sends : InstructionOperand → List ReplyCode → Config → Config
 sends message codes c =
     with_taken (taken_here c message) (λ found.
     with_taken (spots_here c (map (λ code. code.yields) codes)) (λ items. asks)) c
 
 -- an operation on a file with a key, and with the item INTO which a record goes
-abbrev pub reads : Operand → Place → Config → Config
+abbrev pub reads : InstructionOperand → StoragePlace → Config → Config
 reads key into c =
     with_taken (taken_here c key) (λ found. with_taken (spot_here c into) (λ item. asks)) c
 
 -- an operation on a file with one operand: its subscript is taken, and it is asked
-abbrev pub operates : Operand → Config → Config
+abbrev pub operates : InstructionOperand → Config → Config
 operates one c = with_taken (taken_here c one) (λ found. asks) c
 
 -- READ $RECEIVE: the message, which lies behind the items, is moved as a text
-abbrev pub receives : System → Place → Config → Config
+abbrev pub receives : System → StoragePlace → Config → Config
 receives system into c =
     with_taken (spot_here c into) (λ item d.
     on
@@ -148,7 +148,7 @@ act system (Some (Jump n)) = over n
 act system (Some (ParagraphEnd start)) = ends start
 act system (Some (Until paragraph cond)) = λ c. tested paragraph (holds_here c cond) c
 act system (Some NoCode) = faults 204
-act system (Some statement) = counted (does system statement)
+act system (Some statement) = code_statement_counted (does system statement)
 
 -- the instruction at which the program at work stands
 abbrev pub instr_of : System → Config → Option Instr
@@ -166,7 +166,7 @@ chars_by None = []
 chars_by (Some value) = as_it_stands value
 
 -- the characters of an operand of the program at work
-abbrev pub chars_here : Config → Operand → List ℕ
+abbrev pub chars_here : Config → InstructionOperand → List ℕ
 chars_here c one = chars_by (read_here c one)
 
 -- an operation with a key, and with a record

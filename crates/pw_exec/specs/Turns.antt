@@ -3,7 +3,7 @@ pub use Rattle.pw_source.specs.Runs.{most_performs}
 use Rattle.std.specs.Prelude.{ℕ, ◌+◌, ◌-◌, ◌==◌, nat_lt, Bool, true, false, List, [], ◌∷◌, ◌++◌, length, Option, Some, None, slice_get, if◌then◌else◌}
 use Rattle.pw_code.specs.declared.context.Return.{Return}
 use Rattle.pw_code.specs.declared.instr.Turn.{Turn}
-use Rattle.pw_exec.specs.Config.{Config, on, faults, counted}
+use Rattle.pw_exec.specs.Config.{Config, on, faults, code_statement_counted}
 
 -- a list without its last item, and that item
 abbrev pub last_behind : {A : Type 0} → A → Option (List A × A) → Option (List A × A)
@@ -22,7 +22,7 @@ placed at returns c = record c { top = record c.top { at = at; returns = returns
 -- one turn of a paragraph, which comes back to a place. left: how many turns follow.
 abbrev pub turn : ℕ → Turn → ℕ → Config → Config
 turn resume paragraph left =
-    counted (λ c.
+    code_statement_counted (λ c.
     if nat_lt (length c.top.returns) most_performs
     then placed paragraph.start
     (c.top.returns ++ (record { resume = resume; until = paragraph.end; turns = left }) ∷ []) c
@@ -52,7 +52,7 @@ at_position paragraphs position =
 abbrev pub comes_back : ℕ → List Return → Return → Config → Config
 comes_back start before last c =
     if last.turns == 0 then placed last.resume before c
-    else counted (placed start (before ++ (record last { turns = last.turns - 1 }) ∷ [])) c
+    else code_statement_counted (placed start (before ++ (record last { turns = last.turns - 1 }) ∷ [])) c
 
 -- the end of a paragraph that begins at a place: where the last active PERFORM is of it, its turn
 -- has ended

@@ -9,10 +9,10 @@ ghost use Rattle.pw_code.specs.declared.verb.Answer.{Answer};
 ghost use Rattle.pw_code.specs.declared.verb.Verb.{Verb};
 ghost use Rattle.pw_event.specs.declared.script.FailLine.{FailLine};
 ghost use Rattle.pw_exec.specs.Config.{Config, starting, starting_server};
-ghost use Rattle.pw_exec.specs.Contexts.{RunsOn, Takes};
+ghost use Rattle.pw_exec.specs.Contexts.{RunsOn, PutsAnswer};
 ghost use Rattle.pw_exec.specs.Counts.{CountsOf};
 ghost use Rattle.pw_exec.specs.OfSystem.{behaviour, told};
-ghost use Rattle.pw_exec.specs.Runs.{Comes, StandsFor, StandsForFiles, StandsFrom, after, at_verb};
+ghost use Rattle.pw_exec.specs.Runs.{Comes, StandsFor, StandsForFiles, StandsFrom, config_after_answers, at_verb};
 ghost use Rattle.pw_exec.specs.Sound.{IsSoundContext};
 ghost use Rattle.pw_onecopy.specs.IsBehaviour.{IsPath};
 ghost use Rattle.pw_onecopy.specs.Path.{PathAnswer};
@@ -23,7 +23,7 @@ pub fn context_laws()
     ensures runs { (system : System) (start : Config) (answers : List Answer) (old new : Context) (verb : Verb)
         → StandsFrom system start answers old → RunsOn system old new verb → StandsFrom system start answers new }
     ensures answers { (system : System) (start : Config) (answers : List Answer) (a : Answer) (old new : Context)
-        → StandsFrom system start answers old → old.at_verb ≡ true → Takes system a old new
+        → StandsFrom system start answers old → old.at_verb ≡ true → PutsAnswer system a old new
         → StandsFrom system start (answers ++ a ∷ []) new }
     ensures one { (system : System) (start : Config) (answers : List Answer) (a b : Context)
         → StandsFrom system start answers a → StandsFrom system start answers b
@@ -35,10 +35,10 @@ pub fn context_laws()
 pub fn verb_laws()
     ensures terminals { (system : System) (program : ℕ) (answers : List Answer) (at : Config)
         → IsValid system → Comes system (starting system program) answers at → at_verb at ≡ true
-        → after system (starting system program) answers ≡ at }
+        → config_after_answers system (starting system program) answers ≡ at }
     ensures servers { (system : System) (server : ℕ) (message : List ℕ) (answers : List Answer) (at : Config)
         → IsValid system → Comes system (starting_server system server message) answers at → at_verb at ≡ true
-        → after system (starting_server system server message) answers ≡ at }
+        → config_after_answers system (starting_server system server message) answers ≡ at }
 {}
 
 /// The counts of a context are those of the path for which it stands: its units, its next refresh number, its entry

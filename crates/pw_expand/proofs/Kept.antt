@@ -2,8 +2,8 @@
 use Rattle.std.proofs.Common.{◌≡◌, ◌≢◌, ◌⊎◌, inl, inr, ℕ, cond, List, ◌++◌, refl, sym, ap, ap₂, ◌∙◌, subst}
 use Rattle.std.proofs.Math.Path.{fun_ext}
 use Rattle.std.proofs.lemmas.Bool.{cases_eq, eq-eqb, ne_eqb}
-use Rattle.pw_net.specs.Member.{Member, Outcome}
-use Rattle.pw_net.specs.World.{World, with_member, done}
+use Rattle.pw_net.specs.Member.{Member, MemberOutcome}
+use Rattle.pw_net.specs.World.{NetWorld, with_member, done}
 use Rattle.pw_net.specs.declared.message.Net.{Net}
 use Rattle.pw_expand.specs.Systems.{KeepsOthers, member_in, world_of}
 
@@ -16,13 +16,13 @@ unfolding with_member
 with-other members s m t ne = ap (λ b. cond b m (members t)) (ne_eqb t s ne)
 
 -- a member was taken out and another one was put in, and messages were sent
-pub done-same : (old mid new : List (ℕ × Member)) (s : ℕ) (taken after : Member) (sent made messages : List Net) (outcome : Member → Outcome)
+pub done-same : (old mid new : List (ℕ × Member)) (s : ℕ) (taken after : Member) (sent made messages : List Net) (outcome : Member → MemberOutcome)
     → taken ≡ member_in old s → KeepsOthers s old mid → after ≡ (outcome taken).member → messages ≡ (outcome taken).messages
     → member_in new s ≡ after → KeepsOthers s mid new → made ≡ sent ++ messages
     → world_of new made ≡ done (world_of old sent) s (outcome (member_in old s))
 done-same old mid new s taken after sent made messages outcome is_taken others is_after are is_new kept is_made = ap₂ world_from (fun_ext member) all
   where
-    world_from : (ℕ → Member) → List Net → World
+    world_from : (ℕ → Member) → List Net → NetWorld
     world_from members messages = record { members = members; sent = messages }
 
     result : Member

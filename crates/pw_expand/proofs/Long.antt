@@ -5,10 +5,10 @@ use Rattle.std.specs.Io.KnownBytes.{Consumes}
 use Rattle.std.proofs.lemmas.Bool.Decides.{nat_tests}
 use Rattle.pw_base.specs.Limits.{longest_input}
 use Rattle.pw_expand.specs.Answers.{IsAnswered}
-use Rattle.pw_expand.specs.Printed.{answered, expanded, fault_line}
-use Rattle.pw_expand.specs.declared.expand.Ending.TheVariants.{Refused}
+use Rattle.pw_expand.specs.Printed.{schedule_answered, expanded, fault_line}
+use Rattle.pw_expand.specs.declared.expand.ScheduleEnding.TheVariants.{Refused}
 
-long-answer : (bytes : List ℕ) → longest_input < length bytes → answered (expanded bytes) ≡ (Refused, fault_line 0)
+long-answer : (bytes : List ℕ) → longest_input < length bytes → schedule_answered (expanded bytes) ≡ (Refused, fault_line 0)
 long-answer bytes long =
     let test : nat_lt longest_input (length bytes) ≡ true = grind (arith, nat_tests) in
     rw test refl

@@ -3,7 +3,7 @@ use Rattle.std.specs.Prelude.{ℕ, zero, suc, ◌+◌, List, [], ◌∷◌, ◌+
 use Rattle.std.specs.Fmt.{decimal}
 use Rattle.std.specs.List.{join_with_byte}
 use Rattle.pw_net.specs.Member.{Member, mark_in}
-use Rattle.pw_net.specs.World.{World, after}
+use Rattle.pw_net.specs.World.{NetWorld, net_world_after}
 use Rattle.pw_net.specs.declared.message.Mark.{Mark}
 use Rattle.pw_net.specs.declared.message.Mark.TheVariants as mark
 use Rattle.pw_net.specs.declared.message.Net.{Net}
@@ -11,8 +11,8 @@ use Rattle.pw_net.specs.declared.message.NetId.{NetId}
 use Rattle.pw_net.specs.declared.message.NetWord.{NetWord}
 use Rattle.pw_net.specs.declared.message.NetWord.TheVariants.{Prepare, Yes, No, Commit, Abort, Ask}
 use Rattle.pw_expand.specs.Schedule.{Schedule, schedule_of}
-use Rattle.pw_expand.specs.declared.expand.Ending.{Ending}
-use Rattle.pw_expand.specs.declared.expand.Ending.TheVariants.{Expanded, Refused}
+use Rattle.pw_expand.specs.declared.expand.ScheduleEnding.{ScheduleEnding}
+use Rattle.pw_expand.specs.declared.expand.ScheduleEnding.TheVariants.{Expanded, Refused}
 
 -- how a message's word is spelled
 abbrev pub word_text : NetWord → List ℕ
@@ -67,23 +67,23 @@ marks_to members (suc n) =
     marks_to members n ++ mark_lines (n + 1) (marks_of (members (n + 1)))
 
 -- the messages of a net of so many systems in order, and then its marks
-abbrev pub world_text : ℕ → World → List ℕ
+abbrev pub world_text : ℕ → NetWorld → List ℕ
 world_text systems world = sent_lines 1 world.sent ++ marks_to world.members systems
 
 -- the output for a schedule: the text of the net world after its events
-abbrev pub text_of : Result Schedule ℕ → Result (List ℕ) ℕ
-text_of (Err fault) = Err fault
-text_of (Ok schedule) = Ok (world_text schedule.systems (after schedule.events))
+abbrev pub schedule_text : Result Schedule ℕ → Result (List ℕ) ℕ
+schedule_text (Err fault) = Err fault
+schedule_text (Ok schedule) = Ok (world_text schedule.systems (net_world_after schedule.events))
 
 -- what an input expands to, or the line of its fault
 abbrev pub expanded : List ℕ → Result (List ℕ) ℕ
-expanded bytes = text_of (schedule_of bytes)
+expanded bytes = schedule_text (schedule_of bytes)
 
 -- what is written for a schedule whose fault stands at a line
 abbrev pub fault_line : ℕ → List ℕ
 fault_line number = line (codes "SCHEDULE" ∷ codes "FAULT" ∷ codes "LINE" ∷ decimal number ∷ [])
 
 -- how a schedule is answered, and what is written then
-abbrev pub answered : Result (List ℕ) ℕ → Ending × List ℕ
-answered (Ok text) = (Expanded, text)
-answered (Err number) = (Refused, fault_line number)
+abbrev pub schedule_answered : Result (List ℕ) ℕ → ScheduleEnding × List ℕ
+schedule_answered (Ok text) = (Expanded, text)
+schedule_answered (Err number) = (Refused, fault_line number)

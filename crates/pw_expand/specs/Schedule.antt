@@ -58,9 +58,9 @@ with_systems systems (Err fault) = Err fault
 with_systems systems (Ok events) = Ok (record { systems = systems; events = events })
 
 -- the schedule whose first line names the systems; without them the fault stands at this line
-abbrev pub begun : ℕ → Option ℕ → List (List ℕ) → Result Schedule ℕ
-begun number None rest = Err number
-begun number (Some systems) rest =
+abbrev pub schedule_begun : ℕ → Option ℕ → List (List ℕ) → Result Schedule ℕ
+schedule_begun number None rest = Err number
+schedule_begun number (Some systems) rest =
     with_systems systems (events_from systems (number + 1) most_events rest)
 
 -- the schedule of lines, of which the first has a number; where each is blank, the fault stands
@@ -68,7 +68,7 @@ begun number (Some systems) rest =
 unfoldable pub schedule_from : ℕ → List (List ℕ) → Result Schedule ℕ
 schedule_from number [] = Err number
 schedule_from number (line ∷ rest) =
-    if is_blank line then schedule_from (number + 1) rest else begun number (systems_in line) rest
+    if is_blank line then schedule_from (number + 1) rest else schedule_begun number (systems_in line) rest
 
 -- the schedule of an input, or the line of its first fault, which is 0 for an input over the limit
 abbrev pub schedule_of : List ℕ → Result Schedule ℕ

@@ -4,11 +4,11 @@ use Rattle.std.specs.BTreeMap.{is_at}
 use Rattle.std.specs.Map.{lookup}
 use Rattle.std.specs.Option.{unwrap_or}
 use Rattle.std.specs.Ordering.{nat_cmp}
-use Rattle.pw_net.specs.Member.{Member, Outcome, first_member, start, refuse, ask, give_up, restart}
-use Rattle.pw_net.specs.World.{World, NetEvent, effect, after_from}
+use Rattle.pw_net.specs.Member.{Member, MemberOutcome, first_member, start, refuse, ask, give_up, restart}
+use Rattle.pw_net.specs.World.{NetWorld, NetEvent, effect, after_from}
 use Rattle.pw_net.specs.declared.message.Net.{Net}
-use Rattle.pw_expand.specs.declared.event.Call.{Call}
-use Rattle.pw_expand.specs.declared.event.Call.TheVariants as call
+use Rattle.pw_expand.specs.declared.event.ScheduleCall.{ScheduleCall}
+use Rattle.pw_expand.specs.declared.event.ScheduleCall.TheVariants as call
 use Rattle.pw_expand.specs.declared.fault.ScheduleFault.{ScheduleFault}
 use Rattle.pw_expand.specs.declared.fault.ScheduleFault.TheVariants.{At, Memory}
 use Rattle.pw_expand.specs.Schedule.{Schedule, events_from}
@@ -19,7 +19,7 @@ member_in members system =
     unwrap_or (lookup (is_at (nat_cmp system)) members) (first_member system)
 
 -- the world of these members and messages
-abbrev pub world_of : List (ℕ × Member) → List Net → World
+abbrev pub world_of : List (ℕ × Member) → List Net → NetWorld
 world_of members sent = record { members = member_in members; sent = sent }
 
 -- the members of the other systems stay
@@ -27,7 +27,7 @@ abbrev pub KeepsOthers : ℕ → List (ℕ × Member) → List (ℕ × Member) �
 KeepsOthers system old new = (other : ℕ) → other ≢ system → member_in new other ≡ member_in old other
 
 -- what a call leaves of a member, and the messages to send
-abbrev pub outcome_of : Call → Member → Outcome
+abbrev pub outcome_of : ScheduleCall → Member → MemberOutcome
 outcome_of (call.Start others) member = start member others
 outcome_of (call.Refuse id) member = refuse member id
 outcome_of (call.Ask id) member = ask member id
@@ -35,46 +35,46 @@ outcome_of (call.GiveUp number) member = give_up member number
 outcome_of call.Restart member = record { member = restart member; messages = [] }
 
 -- no member has begun more transactions than this
-abbrev pub HasBegun : ℕ → World → Type 0
+abbrev pub HasBegun : ℕ → NetWorld → Type 0
 HasBegun most world = (system : ℕ) → (world.members system).last ≤ most
 
 -- what happens on a line: the world after the event that it names, or the fault at its number;
 -- of want of memory nothing is said
-abbrev pub StepsTo : Result (Unit {0}) ScheduleFault → World → World → ℕ → Option NetEvent → Type 0
-StepsTo (Ok done) old now number None = ⊥
-StepsTo (Ok done) old now number (Some event) = now ≡ effect old event
-StepsTo (Err (At line)) old now number None = line ≡ number
-StepsTo (Err (At line)) old now number (Some event) = ⊥
-StepsTo (Err Memory) old now number event = Unit {0}
+abbrev pub NetStepsTo : Result (Unit {0}) ScheduleFault → NetWorld → NetWorld → ℕ → Option NetEvent → Type 0
+NetStepsTo (Ok done) old now number None = ⊥
+NetStepsTo (Ok done) old now number (Some event) = now ≡ effect old event
+NetStepsTo (Err (At line)) old now number None = line ≡ number
+NetStepsTo (Err (At line)) old now number (Some event) = ⊥
+NetStepsTo (Err Memory) old now number event = Unit {0}
 
 -- the world after events, or the line of the fault
-abbrev pub played : World → Result (List NetEvent) ℕ → Result World ℕ
+abbrev pub played : NetWorld → Result (List NetEvent) ℕ → Result NetWorld ℕ
 played world (Err fault) = Err fault
 played world (Ok events) = Ok (after_from world events)
 
 -- a world has come out, or the fault of this line, unless memory ran out
-abbrev pub ComesTo : Result (Unit {0}) ScheduleFault → World → Result World ℕ → Type 0
-ComesTo (Ok done) now defined = defined ≡ Ok now
-ComesTo (Err (At line)) now defined = defined ≡ Err line
-ComesTo (Err Memory) now defined = Unit {0}
+abbrev pub SchedulePlaysTo : Result (Unit {0}) ScheduleFault → NetWorld → Result NetWorld ℕ → Type 0
+SchedulePlaysTo (Ok done) now defined = defined ≡ Ok now
+SchedulePlaysTo (Err (At line)) now defined = defined ≡ Err line
+SchedulePlaysTo (Err Memory) now defined = Unit {0}
 
 -- One line is behind: what lines are left comes to the same from here on, with so many lines of
 -- events that may still come; or the fault is this line's, whatever is left.
-abbrev pub GoesOn : Result ℕ ScheduleFault → World → (systems number : ℕ)
-    → (List (List ℕ) → Result World ℕ) → Type 0
-GoesOn (Ok left) now systems number defined = (rest : List (List ℕ))
+abbrev pub ScheduleGoesOn : Result ℕ ScheduleFault → NetWorld → (systems number : ℕ)
+    → (List (List ℕ) → Result NetWorld ℕ) → Type 0
+ScheduleGoesOn (Ok left) now systems number defined = (rest : List (List ℕ))
     → defined rest ≡ played now (events_from systems (number + 1) left rest)
-GoesOn (Err (At line)) now systems number defined =
+ScheduleGoesOn (Err (At line)) now systems number defined =
     (rest : List (List ℕ)) → defined rest ≡ Err line
-GoesOn (Err Memory) now systems number defined = Unit {0}
+ScheduleGoesOn (Err Memory) now systems number defined = Unit {0}
 
 -- the systems of a schedule, and the world after its events, or the line of its fault
-abbrev pub schedule_played : World → Result Schedule ℕ → Result (ℕ × World) ℕ
+abbrev pub schedule_played : NetWorld → Result Schedule ℕ → Result (ℕ × NetWorld) ℕ
 schedule_played world (Err fault) = Err fault
 schedule_played world (Ok schedule) = Ok (schedule.systems, after_from world schedule.events)
 
 -- so many systems and a world have come out, or the fault of this line, unless memory ran out
-abbrev pub PlaysTo : Result ℕ ScheduleFault → World → Result (ℕ × World) ℕ → Type 0
+abbrev pub PlaysTo : Result ℕ ScheduleFault → NetWorld → Result (ℕ × NetWorld) ℕ → Type 0
 PlaysTo (Ok systems) now defined = defined ≡ Ok (systems, now)
 PlaysTo (Err (At line)) now defined = defined ≡ Err line
 PlaysTo (Err Memory) now defined = Unit {0}

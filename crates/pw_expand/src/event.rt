@@ -3,7 +3,7 @@ use pw_net::message::NetId;
 
 /// The word that a line of an event begins with.
 #[derive(Clone, Copy, Debug, PartialEq, Eq)]
-pub enum Keyword {
+pub enum ScheduleKeyword {
     Start,
     Deliver,
     Refuse,
@@ -14,7 +14,7 @@ pub enum Keyword {
 
 /// What happens at one system. Systems and numbers count from 1.
 #[derive(Debug, Drop)]
-pub enum Call {
+pub enum ScheduleCall {
     /// It begins a transaction with the others.
     Start { others: List<u32> },
     /// It will give no vote.
@@ -28,9 +28,9 @@ pub enum Call {
 
 /// An event of a schedule.
 #[derive(Debug, Drop)]
-pub enum Event {
+pub enum ScheduleEvent {
     /// The k-th message sent, from 1, comes to its receiver.
     Deliver { k: u32 },
     /// Something happens at a system.
-    Call { system: u32, call: Call },
+    Call { system: u32, call: ScheduleCall },
 }

@@ -1,6 +1,6 @@
 ghost use Rattle.std.specs.Prelude.{◌≡◌, ◌≤◌, IfErr, IfOk, Ok, OnOk};
-ghost use Rattle.pw_expand.specs.Answers.{GivesUp, IsAnswered};
-ghost use Rattle.pw_expand.specs.Printed.{answered, expanded};
+ghost use Rattle.pw_expand.specs.Answers.{GivesUpSchedule, IsAnswered};
+ghost use Rattle.pw_expand.specs.Printed.{schedule_answered, expanded};
 ghost use Rattle.pw_expand.specs.Systems.{IsFaultOf};
 
 use crate::fault::ScheduleFault;
@@ -14,7 +14,7 @@ use std::alloc::Global;
 
 /// How a schedule is answered.
 #[derive(Clone, Copy, Debug, PartialEq, Eq)]
-pub enum Ending {
+pub enum ScheduleEnding {
     /// It has no fault: its messages and marks are written.
     Expanded,
     /// It has a fault, whose line is written.
@@ -34,12 +34,12 @@ pub fn expand(alloc: Global, bytes: &[u8]) -> Result<Bytes, ScheduleFault>
 }
 
 /// How a schedule is answered, and what is written then (docs/EXPAND.md).
-pub fn answer(alloc: Global, bytes: &[u8]) -> Result<(Ending, Bytes), Memory>
-    ensures { IfOk result (λ answer. (answer.0, answer.1) ≡ answered (expanded bytes.now)) }
+pub fn answer(alloc: Global, bytes: &[u8]) -> Result<(ScheduleEnding, Bytes), Memory>
+    ensures { IfOk result (λ answer. (answer.0, answer.1) ≡ schedule_answered (expanded bytes.now)) }
 {
     match expand(alloc, bytes) {
-        Ok(text) => Ok((Ending::Expanded, text)),
-        Err(ScheduleFault::At { line }) => Ok((Ending::Refused, fault_line(alloc, line)?)),
+        Ok(text) => Ok((ScheduleEnding::Expanded, text)),
+        Err(ScheduleFault::At { line }) => Ok((ScheduleEnding::Refused, fault_line(alloc, line)?)),
         Err(ScheduleFault::Memory) => Err(Memory),
     }
 }
@@ -47,15 +47,15 @@ pub fn answer(alloc: Global, bytes: &[u8]) -> Result<(Ending, Bytes), Memory>
 /// How the schedule that a source has left is answered, and what is written then. An input over the
 /// limit is refused as any schedule with a fault. Nothing is answered only where the source failed,
 /// which its count tells, or memory ran out.
-pub fn answer_source<S: Source>(alloc: Global, source: &mut S) -> Result<(Ending, Bytes), ReadFault>
+pub fn answer_source<S: Source>(alloc: Global, source: &mut S) -> Result<(ScheduleEnding, Bytes), ReadFault>
     ensures ok { IfOk result (λ answer. IsAnswered (S.left source.old) answer.0 answer.1) }
-    ensures err { IfErr result (λ fault. GivesUp fault (S.faults source.old) (S.faults source.new)) }
+    ensures err { IfErr result (λ fault. GivesUpSchedule fault (S.faults source.old) (S.faults source.new)) }
     ensures kept { OnOk result (S.faults source.new ≡ S.faults source.old) }
     ensures count { S.faults source.old ≤ S.faults source.new }
 {
     match read_all(alloc, source) {
         Ok(bytes) => Ok(answer(alloc, bytes.as_slice())?),
-        Err(ReadFault::TooLong) => Ok((Ending::Refused, fault_line(alloc, 0)?)),
+        Err(ReadFault::TooLong) => Ok((ScheduleEnding::Refused, fault_line(alloc, 0)?)),
         Err(ReadFault::Fault) => Err(ReadFault::Fault),
         Err(ReadFault::Memory) => Err(ReadFault::Memory),
     }

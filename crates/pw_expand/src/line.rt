@@ -3,12 +3,12 @@ ghost use Rattle.std.specs.Str.{bytes_eq};
 ghost use Rattle.std.specs.List.{list_all};
 ghost use Rattle.std.specs.Option.{option_map};
 ghost use Rattle.pw_net.specs.World as net;
-ghost use Rattle.pw_expand.specs.Events.{net_event, words_of, keyword_in, is_system, all_differ, may_start, start_of, about, event_of, called, event_by, event_in};
+ghost use Rattle.pw_expand.specs.Events.{net_event, words_of, keyword_in, is_system, all_differ, may_start, start_of, about, event_of, keyword_event, event_by, event_in};
 ghost use Rattle.pw_expand.specs.Numbers.{counts_in};
-ghost use Rattle.pw_expand.specs.declared.event.Keyword.TheVariants.{Deliver, GiveUp, Restart};
+ghost use Rattle.pw_expand.specs.declared.event.ScheduleKeyword.TheVariants.{Deliver, GiveUp, Restart};
 ghost use Rattle.pw_expand.specs.Schedule.{net_size, systems_by, systems_in};
 
-use crate::event::{Call, Event, Keyword};
+use crate::event::{ScheduleCall, ScheduleEvent, ScheduleKeyword};
 use crate::number::counts_in;
 use pw_base::list::List;
 use pw_base::memory::Memory;
@@ -24,21 +24,21 @@ fn words_of(alloc: Global, line: &[u8]) -> Result<Vec<&[u8]>, AllocError>
 
 /// The keyword that a word is, None exactly where it is none.
 #[tactic(auto, unfolding(crate::specs::Events::keyword_in))]
-fn keyword_in(word: &[u8]) -> Option<Keyword>
+fn keyword_in(word: &[u8]) -> Option<ScheduleKeyword>
     ensures { result ≡ keyword_in word.now }
 {
     if word == b"START".as_slice() {
-        Some(Keyword::Start)
+        Some(ScheduleKeyword::Start)
     } else if word == b"DELIVER".as_slice() {
-        Some(Keyword::Deliver)
+        Some(ScheduleKeyword::Deliver)
     } else if word == b"REFUSE".as_slice() {
-        Some(Keyword::Refuse)
+        Some(ScheduleKeyword::Refuse)
     } else if word == b"ASK".as_slice() {
-        Some(Keyword::Ask)
+        Some(ScheduleKeyword::Ask)
     } else if word == b"GIVEUP".as_slice() {
-        Some(Keyword::GiveUp)
+        Some(ScheduleKeyword::GiveUp)
     } else if word == b"RESTART".as_slice() {
-        Some(Keyword::Restart)
+        Some(ScheduleKeyword::Restart)
     } else {
         None
     }
@@ -70,14 +70,14 @@ fn may_start(systems: u32, numbers: &[u32]) -> bool
 }
 
 /// The start by the first of these systems, None exactly where it may not start.
-fn start_of(alloc: Global, systems: u32, numbers: &[u32]) -> Result<Option<Event>, Memory>
+fn start_of(alloc: Global, systems: u32, numbers: &[u32]) -> Result<Option<ScheduleEvent>, Memory>
     ensures { IfOk result (λ event. option_map net_event event ≡ start_of systems numbers.now) }
 {
     if may_start(systems, numbers) {
         if let [system, others @ ..] = numbers {
-            return Ok(Some(Event::Call {
+            return Ok(Some(ScheduleEvent::Call {
                 system: *system,
-                call: Call::Start {
+                call: ScheduleCall::Start {
                     others: List::from_vec(others.to_vec(alloc)?),
                 },
             }));
@@ -94,13 +94,13 @@ fn are_both(systems: u32, one: u32, other: u32) -> bool
 }
 
 /// The refusal of a system about a transaction whose home is there.
-fn refuse_of(systems: u32, numbers: &[u32]) -> Option<Event>
+fn refuse_of(systems: u32, numbers: &[u32]) -> Option<ScheduleEvent>
     ensures { option_map net_event result ≡ about systems net.Refuse numbers.now }
 {
     match numbers {
-        [system, home, number] if are_both(systems, *system, *home) => Some(Event::Call {
+        [system, home, number] if are_both(systems, *system, *home) => Some(ScheduleEvent::Call {
             system: *system,
-            call: Call::Refuse {
+            call: ScheduleCall::Refuse {
                 id: NetId {
                     home: *home,
                     number: *number,
@@ -112,13 +112,13 @@ fn refuse_of(systems: u32, numbers: &[u32]) -> Option<Event>
 }
 
 /// The question of a system about a transaction whose home is there.
-fn ask_of(systems: u32, numbers: &[u32]) -> Option<Event>
+fn ask_of(systems: u32, numbers: &[u32]) -> Option<ScheduleEvent>
     ensures { option_map net_event result ≡ about systems net.Ask numbers.now }
 {
     match numbers {
-        [system, home, number] if are_both(systems, *system, *home) => Some(Event::Call {
+        [system, home, number] if are_both(systems, *system, *home) => Some(ScheduleEvent::Call {
             system: *system,
-            call: Call::Ask {
+            call: ScheduleCall::Ask {
                 id: NetId {
                     home: *home,
                     number: *number,
@@ -130,36 +130,36 @@ fn ask_of(systems: u32, numbers: &[u32]) -> Option<Event>
 }
 
 /// The delivery of one message.
-fn deliver_of(systems: u32, numbers: &[u32]) -> Option<Event>
+fn deliver_of(systems: u32, numbers: &[u32]) -> Option<ScheduleEvent>
     ensures { option_map net_event result ≡ event_of systems Deliver numbers.now }
 {
     match numbers {
-        [k] => Some(Event::Deliver { k: *k }),
+        [k] => Some(ScheduleEvent::Deliver { k: *k }),
         _ => None,
     }
 }
 
 /// The end of a home's waiting for votes.
-fn give_up_of(systems: u32, numbers: &[u32]) -> Option<Event>
+fn give_up_of(systems: u32, numbers: &[u32]) -> Option<ScheduleEvent>
     ensures { option_map net_event result ≡ event_of systems GiveUp numbers.now }
 {
     match numbers {
-        [system, number] if *system <= systems => Some(Event::Call {
+        [system, number] if *system <= systems => Some(ScheduleEvent::Call {
             system: *system,
-            call: Call::GiveUp { number: *number },
+            call: ScheduleCall::GiveUp { number: *number },
         }),
         _ => None,
     }
 }
 
 /// The restart of a system that is there.
-fn restart_of(systems: u32, numbers: &[u32]) -> Option<Event>
+fn restart_of(systems: u32, numbers: &[u32]) -> Option<ScheduleEvent>
     ensures { option_map net_event result ≡ event_of systems Restart numbers.now }
 {
     match numbers {
-        [system] if *system <= systems => Some(Event::Call {
+        [system] if *system <= systems => Some(ScheduleEvent::Call {
             system: *system,
-            call: Call::Restart,
+            call: ScheduleCall::Restart,
         }),
         _ => None,
     }
@@ -169,18 +169,18 @@ fn restart_of(systems: u32, numbers: &[u32]) -> Option<Event>
 fn event_of(
     alloc: Global,
     systems: u32,
-    keyword: Keyword,
+    keyword: ScheduleKeyword,
     numbers: &[u32],
-) -> Result<Option<Event>, Memory>
+) -> Result<Option<ScheduleEvent>, Memory>
     ensures { IfOk result (λ event. option_map net_event event ≡ event_of systems keyword numbers.now) }
 {
     match keyword {
-        Keyword::Start => start_of(alloc, systems, numbers),
-        Keyword::Deliver => Ok(deliver_of(systems, numbers)),
-        Keyword::Refuse => Ok(refuse_of(systems, numbers)),
-        Keyword::Ask => Ok(ask_of(systems, numbers)),
-        Keyword::GiveUp => Ok(give_up_of(systems, numbers)),
-        Keyword::Restart => Ok(restart_of(systems, numbers)),
+        ScheduleKeyword::Start => start_of(alloc, systems, numbers),
+        ScheduleKeyword::Deliver => Ok(deliver_of(systems, numbers)),
+        ScheduleKeyword::Refuse => Ok(refuse_of(systems, numbers)),
+        ScheduleKeyword::Ask => Ok(ask_of(systems, numbers)),
+        ScheduleKeyword::GiveUp => Ok(give_up_of(systems, numbers)),
+        ScheduleKeyword::Restart => Ok(restart_of(systems, numbers)),
     }
 }
 
@@ -188,11 +188,11 @@ fn event_of(
 fn called(
     alloc: Global,
     systems: u32,
-    keyword: Option<Keyword>,
+    keyword: Option<ScheduleKeyword>,
     fields: &[&[u8]],
-) -> Result<Option<Event>, Memory>
+) -> Result<Option<ScheduleEvent>, Memory>
     ensures { IfOk result (λ event. option_map net_event event
-        ≡ called systems keyword (counts_in (map (λ word. word.now) fields.now))) }
+        ≡ keyword_event systems keyword (counts_in (map (λ word. word.now) fields.now))) }
 {
     let Some(keyword) = keyword else {
         return Ok(None);
@@ -204,7 +204,7 @@ fn called(
 }
 
 /// The event of a line's words.
-fn event_by(alloc: Global, systems: u32, words: &[&[u8]]) -> Result<Option<Event>, Memory>
+fn event_by(alloc: Global, systems: u32, words: &[&[u8]]) -> Result<Option<ScheduleEvent>, Memory>
     ensures { IfOk result (λ event. option_map net_event event
         ≡ event_by systems (map (λ word. word.now) words.now)) }
 {
@@ -217,7 +217,7 @@ fn event_by(alloc: Global, systems: u32, words: &[&[u8]]) -> Result<Option<Event
 /// The event that a line names among this many systems, None exactly where it names none
 /// (docs/EXPAND.md).
 #[tactic(auto, unfolding(crate::specs::Events::event_in))]
-pub fn event_in(alloc: Global, systems: u32, line: &[u8]) -> Result<Option<Event>, Memory>
+pub fn event_in(alloc: Global, systems: u32, line: &[u8]) -> Result<Option<ScheduleEvent>, Memory>
     ensures { IfOk result (λ event. option_map net_event event ≡ event_in systems line.now) }
 {
     let words = words_of(alloc, line)?;

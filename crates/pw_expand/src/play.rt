@@ -3,8 +3,8 @@ ghost use Rattle.pw_base.specs.Limits.{longest_input};
 ghost use Rattle.pw_net.specs.World.{first_world};
 ghost use Rattle.pw_lines.specs.Lines.{lines};
 ghost use Rattle.pw_expand.specs.Events.{event_in};
-ghost use Rattle.pw_expand.specs.Schedule.{begun, events_from, most_events, schedule_from, schedule_of, systems_in};
-ghost use Rattle.pw_expand.specs.Systems.{ComesTo, GoesOn, HasBegun, IsFaultOf, PlaysTo, StepsTo, played, schedule_played, world_of};
+ghost use Rattle.pw_expand.specs.Schedule.{schedule_begun, events_from, most_events, schedule_from, schedule_of, systems_in};
+ghost use Rattle.pw_expand.specs.Systems.{SchedulePlaysTo, ScheduleGoesOn, HasBegun, IsFaultOf, PlaysTo, NetStepsTo, played, schedule_played, world_of};
 
 use crate::fault::ScheduleFault;
 use crate::line::{event_in, systems_in};
@@ -26,7 +26,7 @@ fn play_event(
     line: &[u8],
 ) -> Result<(), ScheduleFault>
     requires { HasBegun 4294967294 (world_of world.old.members.entries world.old.sent.items) }
-    ensures { StepsTo result (world_of world.old.members.entries world.old.sent.items)
+    ensures { NetStepsTo result (world_of world.old.members.entries world.old.sent.items)
         (world_of world.new.members.entries world.new.sent.items) number (event_in systems line.now) }
 {
     let Some(event) = event_in(alloc, systems, line)? else {
@@ -48,7 +48,7 @@ fn play_line(
 ) -> Result<u32, ScheduleFault>
     requires few { left ≤ most_events }
     requires begun { HasBegun (most_events - left) (world_of world.old.members.entries world.old.sent.items) }
-    ensures goes_on { GoesOn result (world_of world.new.members.entries world.new.sent.items) systems number
+    ensures goes_on { ScheduleGoesOn result (world_of world.new.members.entries world.new.sent.items) systems number
         (λ rest. played (world_of world.old.members.entries world.old.sent.items)
         (events_from systems number left (line.now ∷ rest))) }
     ensures few { IfOk result (λ left. left ≤ most_events) }
@@ -75,7 +75,7 @@ fn play_events(
 ) -> Result<(), ScheduleFault>
     requires numbers { first_line + length text.now < 2 ^ 32 }
     requires begun { HasBegun 0 (world_of world.old.members.entries world.old.sent.items) }
-    ensures { ComesTo result (world_of world.new.members.entries world.new.sent.items)
+    ensures { SchedulePlaysTo result (world_of world.new.members.entries world.new.sent.items)
         (played (world_of world.old.members.entries world.old.sent.items)
         (events_from systems first_line most_events (lines text.now))) }
 {
@@ -103,7 +103,7 @@ fn play_from(
     requires begun { HasBegun 0 (world_of world.old.members.entries world.old.sent.items) }
     ensures { PlaysTo result (world_of world.new.members.entries world.new.sent.items)
         (schedule_played (world_of world.old.members.entries world.old.sent.items)
-        (begun number (systems_in line.now) (lines behind.now))) }
+        (schedule_begun number (systems_in line.now) (lines behind.now))) }
 {
     let Some(systems) = systems_in(alloc, line)? else {
         return Err(ScheduleFault::At { line: number });

@@ -4,7 +4,7 @@ ghost use Rattle.pw_net.specs.Member as net;
 ghost use Rattle.pw_expand.specs.Events.{net_event};
 ghost use Rattle.pw_expand.specs.Systems.{KeepsOthers, HasBegun, member_in, world_of, outcome_of};
 
-use crate::event::{Call, Event};
+use crate::event::{ScheduleCall, ScheduleEvent};
 use pw_base::memory::Memory;
 use pw_net::member::Member;
 use pw_net::message::Net;
@@ -45,17 +45,17 @@ fn put_in(members: &mut BTreeMap<u32, Member>, system: u32, member: Member) -> R
 }
 
 /// Calls a member. It gives the messages to send, in order.
-fn respond(alloc: Global, member: &mut Member, call: &Call) -> Result<Vec<Net>, Memory>
+fn respond(alloc: Global, member: &mut Member, call: &ScheduleCall) -> Result<Vec<Net>, Memory>
     requires { member.old.last < 4294967295 }
     ensures after { OnOk result (member.new ≡ (outcome_of call.now member.old).member) }
     ensures sent { IfOk result (λ messages. messages.items ≡ (outcome_of call.now member.old).messages) }
 {
     match call {
-        Call::Start { others } => member.start(others.as_slice()),
-        Call::Refuse { id } => member.refuse(*id),
-        Call::Ask { id } => member.ask(*id),
-        Call::GiveUp { number } => member.give_up(*number),
-        Call::Restart => {
+        ScheduleCall::Start { others } => member.start(others.as_slice()),
+        ScheduleCall::Refuse { id } => member.refuse(*id),
+        ScheduleCall::Ask { id } => member.ask(*id),
+        ScheduleCall::GiveUp { number } => member.give_up(*number),
+        ScheduleCall::Restart => {
             member.restart();
             Ok(Vec::new(alloc))
         }
@@ -76,7 +76,7 @@ impl Systems {
     }
 
     /// Calls the member of a system, and sends its messages.
-    fn call(&mut self, system: u32, call: &Call) -> Result<(), Memory>
+    fn call(&mut self, system: u32, call: &ScheduleCall) -> Result<(), Memory>
         requires { (member_in self.old.members.entries system).last < 4294967295 }
         ensures { OnOk result (world_of self.new.members.entries self.new.sent.items
             ≡ done (world_of self.old.members.entries self.old.sent.items) system
@@ -126,14 +126,14 @@ impl Systems {
     }
 
     /// Does an event. No system is to have begun as many transactions as there are numbers.
-    pub fn take(&mut self, event: &Event) -> Result<(), Memory>
+    pub fn take(&mut self, event: &ScheduleEvent) -> Result<(), Memory>
         requires { HasBegun 4294967294 (world_of self.old.members.entries self.old.sent.items) }
         ensures { OnOk result (world_of self.new.members.entries self.new.sent.items
             ≡ effect (world_of self.old.members.entries self.old.sent.items) (net_event event.now)) }
     {
         match event {
-            Event::Deliver { k } => self.deliver(*k),
-            Event::Call { system, call } => self.call(*system, call),
+            ScheduleEvent::Deliver { k } => self.deliver(*k),
+            ScheduleEvent::Call { system, call } => self.call(*system, call),
         }
     }
 }

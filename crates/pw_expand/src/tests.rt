@@ -1,4 +1,4 @@
-use crate::expand::{Ending, answer, answer_source, expand};
+use crate::expand::{ScheduleEnding, answer, answer_source, expand};
 use crate::fault::ScheduleFault;
 use crate::line::event_in;
 use pw_base::bytes::Bytes;
@@ -121,7 +121,7 @@ fn first_fault_is_told(rt: HostRuntime) -> Result<(), Fail> {
     for &(schedule, line) in FAULTS {
         assert_eq!(rt; fault_of(rt.alloc(), schedule), Some(line));
         let (ending, text) = answer(rt.alloc(), schedule)?;
-        assert_eq!(rt; ending, Ending::Refused);
+        assert_eq!(rt; ending, ScheduleEnding::Refused);
         let wanted = format!(in rt.alloc(); "SCHEDULE FAULT LINE {line}\n")?;
         assert_eq!(rt; text.as_slice(), wanted.as_bytes());
     }
@@ -145,7 +145,7 @@ fn ten_thousand_lines_and_no_more(rt: HostRuntime) -> Result<(), Fail> {
 fn sources_are_answered(rt: HostRuntime) -> Result<(), Fail> {
     let mut source = MemSource::new(rt.alloc(), b"SYSTEMS 2\nREFUSE 1 2 3\n", &[])?;
     let (ending, text) = answer_source(rt.alloc(), &mut source)?;
-    assert_eq!(rt; ending, Ending::Expanded);
+    assert_eq!(rt; ending, ScheduleEnding::Expanded);
     assert_eq!(rt; text.as_slice(), b"MARK 1 2 3 ABORTED\n".as_slice());
     let mut failing = MemSource::new(rt.alloc(), b"SYSTEMS 2\n", &[1])?;
     let fault = answer_source(rt.alloc(), &mut failing).err();

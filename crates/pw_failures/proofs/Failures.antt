@@ -10,7 +10,7 @@ use Rattle.pw_event.specs.declared.script.FailLine.TheVariants as line
 use Rattle.pw_exec.specs.OfSystem.{processes_by}
 use Rattle.pw_kept.specs.May.{IsLineThere}
 use Rattle.pw_whole.proofs.Lines.{line-like}
-use Rattle.pw_whole.specs.Named.{IsNamed}
+use Rattle.pw_whole.specs.Named.{IsFailNamed}
 
 processes-same : (classes : List ClassInfo) (c : ℕ) → c < length classes
     → (slice_index_or classes c no_class).processes ≡ processes_by (slice_get classes c)
@@ -18,7 +18,7 @@ processes-same [] c less = absurd (omega (arith, less))
 processes-same (x ∷ xs) zero less = refl
 processes-same (x ∷ xs) (suc c) less = processes-same xs c (omega (arith, less))
 
-line-there : (system : System) (one : FailLine) → IsNamed system one → IsLineThere system one
+line-there : (system : System) (one : FailLine) → IsFailNamed system one → IsLineThere system one
 line-there system (line.Tcp p primary after) named = named.0
 line-there system (line.Server c i after) named =
     record {
@@ -29,13 +29,13 @@ line-there system (line.Server c i after) named =
 
 -- those of a system are there in one with the same pairs and classes too
 pub lines-like : (system other : System) → system.tcps ≡ other.tcps → system.classes ≡ other.classes
-    → (lines : List FailLine) → All (IsNamed system) lines → All (IsLineThere other) lines
+    → (lines : List FailLine) → All (IsFailNamed system) lines → All (IsLineThere other) lines
 lines-like system other pairs classes [] all = All-nil (IsLineThere other)
 lines-like system other pairs classes (one ∷ lines) all =
     All-cons (IsLineThere other) one lines
-    (line-there other one (line-like system other pairs classes one (All-head (IsNamed system) one lines all)))
-    (lines-like system other pairs classes lines (All-tail (IsNamed system) one lines all))
+    (line-there other one (line-like system other pairs classes one (All-head (IsFailNamed system) one lines all)))
+    (lines-like system other pairs classes lines (All-tail (IsFailNamed system) one lines all))
 
-pub lines-there : (system : System) (lines : List FailLine) → All (IsNamed system) lines
+pub lines-there : (system : System) (lines : List FailLine) → All (IsFailNamed system) lines
     → All (IsLineThere system) lines
 lines-there system lines all = lines-like system system refl refl lines all

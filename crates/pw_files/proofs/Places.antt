@@ -13,7 +13,7 @@ use Rattle.std.proofs.lemmas.Map.Keys.{Less-from_sorted}
 use Rattle.std.proofs.lemmas.Map.Lookups.{exact_bytes}
 use Rattle.std.proofs.lemmas.Option.{slice_get-get_or}
 use Rattle.pw_files.specs.Records.{key_cmp, compared, below, above, record_at, IsFile}
-use Rattle.pw_files.specs.Places.{IsFound, IsMissing, IsPlace}
+use Rattle.pw_files.specs.Places.{IsRecordAt, IsMissing, IsRecordPlace}
 use Rattle.pw_files.proofs.Lists.{filter_all, filter_none, find_none, find-append}
 
 -- a test that all of the first part passes and none of the second keeps the first
@@ -47,7 +47,7 @@ module _ (n : ℕ) (key : List ℕ) where
       }
 
   -- the record with the key stands between the first part, which is below it, and the second, which is above it
-  pub found_between : (xs ys : List (List ℕ)) (content : List ℕ) → AllAre Less xs → compared n key content ≡ Equal → AllAre Greater ys → (records : List (List ℕ)) (place : ℕ) → place < length records → take place records ≡ xs → drop place records ≡ content ∷ ys → slice_get records place ≡ Some content → drop (suc place) records ≡ ys → IsFound n records key place
+  pub found_between : (xs ys : List (List ℕ)) (content : List ℕ) → AllAre Less xs → compared n key content ≡ Equal → AllAre Greater ys → (records : List (List ℕ)) (place : ℕ) → place < length records → take place records ≡ xs → drop place records ≡ content ∷ ys → slice_get records place ≡ Some content → drop (suc place) records ≡ ys → IsRecordAt n records key place
   found_between xs ys content low same high records place fits front back here after =
       let whole : records ≡ xs ++ content ∷ ys = sym (take-append-drop place records) ∙ ap (λ zs. zs ++ drop place records) front ∙ ap (λ zs. xs ++ zs) back in
       let found : record_at n records key ≡ Some content =
@@ -76,7 +76,7 @@ module _ (n : ℕ) (records : List (List ℕ)) (file : IsFile n records) where
 
   module _ (key : List ℕ) where
     -- the place of a content with the key
-    pub found_at : (place : ℕ) → place < length records → HoldsAt (λ content. compared n key content ≡ Equal) records place → IsFound n records key place
+    pub found_at : (place : ℕ) → place < length records → HoldsAt (λ content. compared n key content ≡ Equal) records place → IsRecordAt n records key place
     found_at place fits same =
         let content : List ℕ = get_or records place [] in
         let later : place + 1 ≡ suc place = omega arith in
@@ -109,6 +109,6 @@ module _ (n : ℕ) (records : List (List ℕ)) (file : IsFile n records) where
         records place fits refl refl
 
     -- what the search answers
-    pub place_from : (answer : Result ℕ ℕ) → IsSearchInRange answer (length records) → IsBinarySearchResult (λ content. compared n key content) records answer → IsPlace n records key answer
+    pub place_from : (answer : Result ℕ ℕ) → IsSearchInRange answer (length records) → IsBinarySearchResult (λ content. compared n key content) records answer → IsRecordPlace n records key answer
     place_from (Ok place) fits said = found_at place fits said
     place_from (Err place) fits said = missing_at place fits said

@@ -3,7 +3,7 @@ use Rattle.std.specs.Prelude.{◌≡◌, ℕ, suc, ◌≤◌, ◌<◌, true, Lis
 use Rattle.pw_files.specs.Records.{below, above, record_at, has_key}
 
 -- the record with this key is at this place, behind the ones below it and before the ones above it
-pub record IsFound (n : ℕ) (records : List (List ℕ)) (key : List ℕ) (place : ℕ) : Type 0 where
+pub record IsRecordAt (n : ℕ) (records : List (List ℕ)) (key : List ℕ) (place : ℕ) : Type 0 where
   pub within : place < length records
   pub before : take place records ≡ below n records key
   pub here : slice_get records place ≡ record_at n records key
@@ -18,6 +18,6 @@ pub record IsMissing (n : ℕ) (records : List (List ℕ)) (key : List ℕ) (pla
   pub after : drop place records ≡ above n records key
 
 -- the place of the record with this key, or where it would stand
-abbrev pub IsPlace : ℕ → List (List ℕ) → List ℕ → Result ℕ ℕ → Type 0
-IsPlace n records key (Ok place) = IsFound n records key place
-IsPlace n records key (Err place) = IsMissing n records key place
+abbrev pub IsRecordPlace : ℕ → List (List ℕ) → List ℕ → Result ℕ ℕ → Type 0
+IsRecordPlace n records key (Ok place) = IsRecordAt n records key place
+IsRecordPlace n records key (Err place) = IsMissing n records key place

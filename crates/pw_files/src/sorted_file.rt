@@ -1,7 +1,7 @@
 ghost use Rattle.std.specs.Prelude.{◌≡◌, ◌↔◌, ◌≤◌, List as ListOf, ℕ, [], ◌∷◌, IfOk, IsTrue, take, not, length};
 ghost use Rattle.std.specs.Option.{option_copied};
 ghost use Rattle.pw_files.specs.Files.{FileState, if_done};
-ghost use Rattle.pw_files.specs.Places.{IsPlace};
+ghost use Rattle.pw_files.specs.Places.{IsRecordPlace};
 ghost use Rattle.pw_files.specs.Records.{IsContent, IsFile, IsKeyLength, compared, has_key, record_after, record_at, with_record, without_key};
 
 use crate::record_file::RecordFile;
@@ -74,7 +74,7 @@ impl SortedFile {
 
     /// The place of the record with this key, or at `Err` where it would stand.
     fn search(&self, key: &[u8]) -> Result<usize, usize>
-        ensures place { IsPlace self.now.key self.now.records key.now result }
+        ensures place { IsRecordPlace self.now.key self.now.records key.now result }
         ensures file { IsFile self.now.key self.now.records }
     {
         let key_length = usize::from(self.key);
@@ -86,7 +86,7 @@ impl SortedFile {
     fn place_of(&self, content: &Bytes) -> Result<usize, usize>
         requires { IsContent self.now.key content.now }
         ensures place { let n = self.now.key in
-            IsPlace n self.now.records (take n content.now) result }
+            IsRecordPlace n self.now.records (take n content.now) result }
         ensures file { IsFile self.now.key self.now.records }
     {
         self.search(&content.as_slice()[..usize::from(self.key)])

@@ -3,13 +3,13 @@ use Rattle.std.proofs.Common.{◌≡◌, ℕ, suc, ◌+◌, ◌<◌, Bool, true,
 use Rattle.std.proofs.lemmas.List.Sums.{take_while-cons}
 use Rattle.std.specs.Prelude.{if◌then◌else◌}
 use Rattle.pw_text.specs.declared.token.Token.{Token}
-use Rattle.pw_forms.specs.declared.mark.Mark.{Mark}
-use Rattle.pw_forms.specs.declared.mark.Mark.TheVariants.{Verb, Else, EndIf, Period, Other}
+use Rattle.pw_forms.specs.declared.mark.TokenMark.{TokenMark}
+use Rattle.pw_forms.specs.declared.mark.TokenMark.TheVariants.{Verb, Else, EndIf, Period, Other}
 use Rattle.pw_forms.specs.Words.{mark_of, begins_piece}
-use Rattle.pw_forms.specs.Pieces.{is_period, first_mark, first_piece, before, cut, joined, run_size, piece_size, placed, placed_all}
+use Rattle.pw_forms.specs.Pieces.{is_period, first_mark, first_piece, before, cut, pieces_joined, run_size, piece_size, placed, placed_all}
 
 -- what begins no piece is no period
-no_period : (mark : Mark) → begins_piece mark ≡ false → is_period mark ≡ false
+no_period : (mark : TokenMark) → begins_piece mark ≡ false → is_period mark ≡ false
 no_period (Verb verb) is = absurd cc
 no_period Else is = absurd cc
 no_period EndIf is = absurd cc
@@ -115,18 +115,18 @@ module _ (server : Bool) (text : List ℕ) where
   placed_all-piece tokens front behind size followed some size_is front_is behind_is followed_is =
       rw (cut-piece tokens size some size_is, front_is, followed_is, behind_is, cut-first (drop size tokens)) refl
 
-  before-joined : (token : Token) (pieces : List (List Token)) → joined (before server text token pieces) ≡ token ∷ joined pieces
+  before-joined : (token : Token) (pieces : List (List Token)) → pieces_joined (before server text token pieces) ≡ token ∷ pieces_joined pieces
   before-joined token [] = refl
   before-joined token (piece ∷ pieces) = before-joined_by token piece pieces (is_period (mark_of server text token)) (begins_piece (first_mark server text piece)) refl refl
     where
       before-joined_by : (token : Token) (piece : List Token) (pieces : List (List Token)) (a b : Bool) → is_period (mark_of server text token) ≡ a
-          → begins_piece (first_mark server text piece) ≡ b → joined (before server text token (piece ∷ pieces)) ≡ token ∷ (piece ++ joined pieces)
+          → begins_piece (first_mark server text piece) ≡ b → pieces_joined (before server text token (piece ∷ pieces)) ≡ token ∷ (piece ++ pieces_joined pieces)
       before-joined_by token piece pieces true b is starts = rw is refl
       before-joined_by token piece pieces false true is starts = rw (is, starts) refl
       before-joined_by token piece pieces false false is starts = rw (is, starts) refl
 
   -- the pieces joined are the tokens
-  pub cut-joined : (tokens : List Token) → joined (cut server text tokens) ≡ tokens
+  pub cut-joined : (tokens : List Token) → pieces_joined (cut server text tokens) ≡ tokens
   unfolding cut
   cut-joined [] = refl
   cut-joined (token ∷ tokens) = before-joined token (cut server text tokens) ∙ ap (λ rest. token ∷ rest) (cut-joined tokens)

@@ -7,8 +7,8 @@ use Rattle.pw_base.proofs.Plain.{or-false}
 use Rattle.pw_forms.specs.declared.form.Head.{Head}
 use Rattle.pw_forms.specs.declared.statement.Statement.{Statement}
 use Rattle.pw_forms.specs.declared.branch.Open.{Open}
-use Rattle.pw_forms.specs.Faults.{can_turn, turned}
-use Rattle.pw_forms.specs.Tree.{Behind, Levels, Closed, AtElse, AtEndIf, prepend, with_else, closed}
+use Rattle.pw_forms.specs.Faults.{can_turn, else_turned}
+use Rattle.pw_forms.specs.Tree.{ParagraphsBehind, Levels, Closed, AtElse, AtEndIf, prepend, with_else, closed}
 use Rattle.pw_forms.specs.Blocks.{finished_head, branches_onto, branches, inside, around, nested}
 
 -- ---- whether the branches have their ELSE
@@ -48,14 +48,14 @@ any-branches all = any-branches_onto [] all ∙ or-false (list_any (λ (next : O
 
 -- the innermost branch gets its ELSE
 pub turned-branches : (fewer all more : List Open) (top next : Open) → all ≡ fewer ++ top ∷ [] → more ≡ fewer ++ next ∷ [] → is_some top.first ≡ false → is_some next.first ≡ true
-    → branches more ≡ turned (branches all)
+    → branches more ≡ else_turned (branches all)
 turned-branches fewer all more top next all_is more_is none some =
-    branches-push fewer more next more_is ∙ ap (λ b. b ∷ branches fewer) some ∙ ap (λ b. turned (b ∷ branches fewer)) (sym none)
-    ∙ ap turned (sym (branches-push fewer all top all_is))
+    branches-push fewer more next more_is ∙ ap (λ b. b ∷ branches fewer) some ∙ ap (λ b. else_turned (b ∷ branches fewer)) (sym none)
+    ∙ ap else_turned (sym (branches-push fewer all top all_is))
 
 -- the innermost branch has its ELSE, and is passed over
-pub passed-turned : (fewer all : List Open) (top : Open) → all ≡ fewer ++ top ∷ [] → is_some top.first ≡ true → turned (branches fewer) ≡ turned (branches all)
-passed-turned fewer all top all_is some = ap (λ b. turned (b ∷ branches fewer)) (sym some) ∙ ap turned (sym (branches-push fewer all top all_is))
+pub passed-turned : (fewer all : List Open) (top : Open) → all ≡ fewer ++ top ∷ [] → is_some top.first ≡ true → else_turned (branches fewer) ≡ else_turned (branches all)
+passed-turned fewer all top all_is some = ap (λ b. else_turned (b ∷ branches fewer)) (sym some) ∙ ap else_turned (sym (branches-push fewer all top all_is))
 
 pub passed-can_turn : (fewer all : List Open) (top : Open) → all ≡ fewer ++ top ∷ [] → is_some top.first ≡ true → can_turn (branches fewer) ≡ can_turn (branches all)
 passed-can_turn fewer all top all_is some = ap (λ b. can_turn (b ∷ branches fewer)) (sym some) ∙ ap can_turn (sym (branches-push fewer all top all_is))
@@ -89,7 +89,7 @@ unfolding nested
 nested-nil all x is = ap (λ fs. nested fs x) is
 
 -- a head that closes, by what stands behind its last statement
-pub closes-closed : (head : Head) (first : Option (List Statement)) (last : List Statement) (behind : Behind)
+pub closes-closed : (head : Head) (first : Option (List Statement)) (last : List Statement) (behind : ParagraphsBehind)
     → inside head first (prepend last (Closed [] behind)) ≡ prepend (finished_head head first last ∷ []) (Closed [] behind)
 closes-closed head None last behind = ap (λ c. Closed (closed head c [] ∷ []) behind) (append-nil last)
 closes-closed head (Some first) last behind = ap (λ c. Closed (closed head first c ∷ []) behind) (append-nil last)

@@ -14,12 +14,12 @@ use Rattle.pw_forms.specs.declared.statement.Procedure.{Procedure}
 use Rattle.pw_forms.specs.declared.piece.Piece.{Piece}
 use Rattle.pw_forms.specs.declared.piece.Piece.TheVariants as pieces
 use Rattle.pw_forms.specs.declared.piece.Placed.{Placed}
-use Rattle.pw_forms.specs.declared.branch.Block.{Block}
+use Rattle.pw_forms.specs.declared.branch.OpenParagraph.{OpenParagraph}
 use Rattle.pw_forms.specs.declared.build.Begun.{Begun}
-use Rattle.pw_forms.specs.declared.build.Build.{Build}
-use Rattle.pw_forms.specs.declared.reading.Reading.{Reading}
-use Rattle.pw_forms.specs.Faults.{Before, nothing, is_name, fits, code_unless, code_of, branches_after, taken_after, after, early, fault_at, faults_from}
-use Rattle.pw_forms.specs.Tree.{Behind, nothing_behind, Levels, Closed, AtElse, AtEndIf, prepend, behind_period, level_of, levels}
+use Rattle.pw_forms.specs.declared.build.ParagraphBuilder.{ParagraphBuilder}
+use Rattle.pw_forms.specs.declared.reading.ProcedureReading.{ProcedureReading}
+use Rattle.pw_forms.specs.Faults.{PiecesBefore, nothing, is_paragraph_name, fits, code_unless, piece_fault_code, branches_after, taken_after, after_piece, early, fault_at, faults_from}
+use Rattle.pw_forms.specs.Tree.{ParagraphsBehind, nothing_behind, Levels, Closed, AtElse, AtEndIf, prepend, behind_period, level_of, levels}
 use Rattle.pw_forms.specs.Blocks.{branches, stands}
 use Rattle.pw_forms.proofs.Nested.{nested-nil, prepend-nil}
 use Rattle.pw_words.specs.Names.{has_name}
@@ -29,19 +29,19 @@ use Rattle.pw_forms.specs.Built.{completed, built, before_of, outcome}
 -- ---- what is built
 
 -- statements in front of what stands behind a period
-abbrev pub with_front : List Statement → Behind → Behind
+abbrev pub with_front : List Statement → ParagraphsBehind → ParagraphsBehind
 with_front front behind = record behind { statements = front ++ behind.statements }
 
 pub behind_period-prepend : (front : List Statement) (x : Levels) → behind_period (prepend front x) ≡ with_front front (behind_period x)
 behind_period-prepend front (Closed block behind) = ap (λ s. with_statements s behind) (append_assoc front block behind.statements)
   where
-    with_statements : List Statement → Behind → Behind
+    with_statements : List Statement → ParagraphsBehind → ParagraphsBehind
     with_statements s behind = record behind { statements = s }
 behind_period-prepend front (AtElse block rest) = refl
 behind_period-prepend front (AtEndIf block rest) = refl
 
 -- a name completes the paragraph before it and begins its own
-pub named : (new old : Build) (line : ℕ) (name : Word) (x : Levels) → new.begun ≡ Some (record { name = name; line = line }) → new.block.open.items ≡ []
+pub named : (new old : ParagraphBuilder) (line : ℕ) (name : Word) (x : Levels) → new.begun ≡ Some (record { name = name; line = line }) → new.block.open.items ≡ []
     → new.block.current ≡ [] → ((behind : List Paragraph) → new.paragraphs ++ behind ≡ built old (Closed [] (record { statements = []; paragraphs = behind })))
     → built new x ≡ built old (level_of line (pieces.Name name) x)
 named new old line name x begun none empty paragraphs =
@@ -51,8 +51,8 @@ named new old line name x begun none empty paragraphs =
     ∙ paragraphs (completed (Some (record { name = name; line = line })) (behind_period x))
 
 -- a period closes all branches
-pub ended : (paragraphs : List Paragraph) (begun : Option Begun) (new old : Block) (x : Levels) → new.open.items ≡ []
-    → ((behind : Behind) → Closed new.current behind ≡ stands old (Closed [] behind))
+pub ended : (paragraphs : List Paragraph) (begun : Option Begun) (new old : OpenParagraph) (x : Levels) → new.open.items ≡ []
+    → ((behind : ParagraphsBehind) → Closed new.current behind ≡ stands old (Closed [] behind))
     → paragraphs ++ completed begun (behind_period (stands new x)) ≡ paragraphs ++ completed begun (behind_period (stands old (Closed [] (behind_period x))))
 ended paragraphs begun new old x none closes =
     ap (λ y. paragraphs ++ completed begun (behind_period y)) (nested-nil new.open.items (prepend new.current x) none)
@@ -60,7 +60,7 @@ ended paragraphs begun new old x none closes =
     ∙ ap (λ y. paragraphs ++ completed begun (behind_period y)) (closes (behind_period x))
 
 -- the same of calls that may run out of memory
-pub named-ok : (result : Result (Unit {0}) Memory) (new old : Build) (line : ℕ) (name : Word) (piece : Piece) → piece ≡ pieces.Name name
+pub named-ok : (result : Result (Unit {0}) Memory) (new old : ParagraphBuilder) (line : ℕ) (name : Word) (piece : Piece) → piece ≡ pieces.Name name
     → OnOk result (new.begun ≡ Some (record { name = name; line = line })) → OnOk result (new.block.open.items ≡ []) → OnOk result (new.block.current ≡ [])
     → OnOk result ((behind : List Paragraph) → new.paragraphs ++ behind ≡ built old (Closed [] (record { statements = []; paragraphs = behind })))
     → OnOk result (fits (branches old.block.open.items) piece ≡ true → (x : Levels) → built new x ≡ built old (level_of line piece x))
@@ -68,8 +68,8 @@ named-ok (Ok done) new old line name piece is begun none empty paragraphs =
     λ fit x. named new old line name x begun none empty paragraphs ∙ ap (λ p. built old (level_of line p x)) (sym is)
 named-ok (Err memory) new old line name piece is begun none empty paragraphs = tt
 
-pub ended-ok : (result : Result (Unit {0}) Memory) (paragraphs : List Paragraph) (begun : Option Begun) (new old : Block) (line : ℕ) (piece : Piece) → piece ≡ pieces.Period
-    → OnOk result (new.open.items ≡ []) → OnOk result ((behind : Behind) → Closed new.current behind ≡ stands old (Closed [] behind))
+pub ended-ok : (result : Result (Unit {0}) Memory) (paragraphs : List Paragraph) (begun : Option Begun) (new old : OpenParagraph) (line : ℕ) (piece : Piece) → piece ≡ pieces.Period
+    → OnOk result (new.open.items ≡ []) → OnOk result ((behind : ParagraphsBehind) → Closed new.current behind ≡ stands old (Closed [] behind))
     → OnOk result (fits (branches old.open.items) piece ≡ true → (x : Levels)
     → paragraphs ++ completed begun (behind_period (stands new x)) ≡ paragraphs ++ completed begun (behind_period (stands old (level_of line piece x))))
 ended-ok (Ok done) paragraphs begun new old line piece is none closes =
@@ -98,7 +98,7 @@ some-better (Some known) fault = some-better_by (is_before fault known)
     some-better_by false = (known, refl)
 
 -- a piece that does not fit has a fault
-pub misfit : (taken : Word → Bool) (branches : List Bool) (piece : Piece) → fits branches piece ≡ false → (code : FaultCode) × (code_of taken branches piece ≡ Some code)
+pub misfit : (taken : Word → Bool) (branches : List Bool) (piece : Piece) → fits branches piece ≡ false → (code : FaultCode) × (piece_fault_code taken branches piece ≡ Some code)
 misfit taken branches (pieces.Name name) is = absurd cc
 misfit taken branches pieces.Period is = absurd cc
 misfit taken branches (pieces.Whole statement) is = absurd cc
@@ -135,16 +135,16 @@ same_outcome known new line first second faults false a b new_is put has_fault =
     ∙ ap (λ k. unless k b) (sym (noted known new line first second faults new_is))
 
 -- what comes out behind a piece
-pub outcome-put : (new old : Reading) (next : Placed) (pieces : List Placed) (first second : Option FaultCode)
-    → first ≡ early (before_of old).begun next.piece → second ≡ code_of (before_of old).taken (before_of old).branches next.piece
+pub outcome-put : (new old : ProcedureReading) (next : Placed) (pieces : List Placed) (first second : Option FaultCode)
+    → first ≡ early (before_of old).begun next.piece → second ≡ piece_fault_code (before_of old).taken (before_of old).branches next.piece
     → new.known ≡ least (least old.known (fault_at next.line first)) (fault_at next.line second)
-    → before_of new ≡ after (before_of old) next.piece
+    → before_of new ≡ after_piece (before_of old) next.piece
     → (fits (before_of old).branches next.piece ≡ true → (x : Levels) → built new.build x ≡ built old.build (level_of next.line next.piece x))
     → outcome new pieces ≡ outcome old (next ∷ pieces)
 unfolding faults_from levels
 outcome-put new old next pieces first second first_is second_is known_is before_is put =
     ap (λ b. unless (least new.known (faults_from b pieces)) (record { paragraphs = built new.build (levels pieces) })) before_is
-    ∙ same_outcome old.known new.known next.line first second (faults_from (after (before_of old) next.piece) pieces) (fits (before_of old).branches next.piece)
+    ∙ same_outcome old.known new.known next.line first second (faults_from (after_piece (before_of old) next.piece) pieces) (fits (before_of old).branches next.piece)
     (record { paragraphs = built new.build (levels pieces) }) (record { paragraphs = built old.build (level_of next.line next.piece (levels pieces)) })
     known_is (λ fit. ap with_paragraphs (put fit (levels pieces)))
     (λ unfit. let fault = misfit (before_of old).taken (before_of old).branches next.piece unfit in (fault.0, second_is ∙ fault.1))
@@ -154,26 +154,26 @@ outcome-put new old next pieces first second first_is second_is known_is before_
     with_paragraphs paragraphs = record { paragraphs = paragraphs }
 
 -- what a piece leaves, part by part
-pub before-after : (new old : Before) (piece : Piece) → new.begun ≡ (old.begun || is_name piece) → new.taken ≡ taken_after old.taken piece
-    → new.branches ≡ branches_after old.branches piece → new ≡ after old piece
+pub before-after : (new old : PiecesBefore) (piece : Piece) → new.begun ≡ (old.begun || is_paragraph_name piece) → new.taken ≡ taken_after old.taken piece
+    → new.branches ≡ branches_after old.branches piece → new ≡ after_piece old piece
 before-after new old piece begun taken branches_are = ap (λ b. with_parts b new.taken new.branches) begun
-    ∙ ap (λ t. with_parts (old.begun || is_name piece) t new.branches) taken ∙ ap (λ bs. with_parts (old.begun || is_name piece) (taken_after old.taken piece) bs) branches_are
+    ∙ ap (λ t. with_parts (old.begun || is_paragraph_name piece) t new.branches) taken ∙ ap (λ bs. with_parts (old.begun || is_paragraph_name piece) (taken_after old.taken piece) bs) branches_are
   where
-    with_parts : Bool → (Word → Bool) → List Bool → Before
+    with_parts : Bool → (Word → Bool) → List Bool → PiecesBefore
     with_parts b t bs = record { begun = b; taken = t; branches = bs }
 
 -- before the first piece nothing is left
-before-start : (reading : Reading) → reading.names ≡ [] → reading.build.begun ≡ None → reading.build.block.open.items ≡ [] → before_of reading ≡ nothing
+before-start : (reading : ProcedureReading) → reading.names ≡ [] → reading.build.begun ≡ None → reading.build.block.open.items ≡ [] → before_of reading ≡ nothing
 before-start reading keys begun none =
     ap (λ b. with_parts (is_some b) (has_name reading.names) (branches reading.build.block.open.items)) begun
     ∙ ap (λ names. with_parts false (has_name names) (branches reading.build.block.open.items)) keys
     ∙ ap (λ all. with_parts false (λ word. false) (branches all)) none
   where
-    with_parts : Bool → (Word → Bool) → List Bool → Before
+    with_parts : Bool → (Word → Bool) → List Bool → PiecesBefore
     with_parts b t bs = record { begun = b; taken = t; branches = bs }
 
 -- before the first piece
-pub outcome-start : (reading : Reading) (pieces : List Placed) → reading.known ≡ None → reading.names ≡ []
+pub outcome-start : (reading : ProcedureReading) (pieces : List Placed) → reading.known ≡ None → reading.names ≡ []
     → reading.build.paragraphs ≡ [] → reading.build.begun ≡ None → reading.build.block.open.items ≡ [] → reading.build.block.current ≡ []
     → outcome reading pieces ≡ outcome_of pieces
 outcome-start reading pieces known keys paragraphs begun none empty =
@@ -186,11 +186,11 @@ outcome-start reading pieces known keys paragraphs begun none empty =
     (nested-nil reading.build.block.open.items (prepend reading.build.block.current (levels pieces)) none ∙ ap (λ c. prepend c (levels pieces)) empty ∙ prepend-nil (levels pieces)))
 
 -- behind the last piece
-pub outcome-faulty : (reading : Reading) (fault : Fault) → reading.known ≡ Some fault → outcome reading [] ≡ Err fault
+pub outcome-faulty : (reading : ProcedureReading) (fault : Fault) → reading.known ≡ Some fault → outcome reading [] ≡ Err fault
 unfolding faults_from
 outcome-faulty reading fault is = ap (λ k. unless k (record { paragraphs = built reading.build (levels []) })) is
 
-pub outcome-good : (reading : Reading) (paragraphs : List Paragraph) → reading.known ≡ None → paragraphs ≡ built reading.build (Closed [] nothing_behind)
+pub outcome-good : (reading : ProcedureReading) (paragraphs : List Paragraph) → reading.known ≡ None → paragraphs ≡ built reading.build (Closed [] nothing_behind)
     → outcome reading [] ≡ Ok (record { paragraphs = paragraphs })
 unfolding faults_from levels
 outcome-good reading paragraphs is paragraphs_are =

@@ -3,7 +3,7 @@ use Rattle.std.specs.Prelude.{List, [], ◌∷◌, Bool, is_some, Option, Some, 
 use Rattle.pw_forms.specs.declared.form.Head.{Head}
 use Rattle.pw_forms.specs.declared.statement.Statement.{Statement}
 use Rattle.pw_forms.specs.declared.branch.Open.{Open}
-use Rattle.pw_forms.specs.declared.branch.Block.{Block}
+use Rattle.pw_forms.specs.declared.branch.OpenParagraph.{OpenParagraph}
 use Rattle.pw_forms.specs.Tree.{Levels, prepend, with_else, opened, closed}
 
 -- the statement of a head that closes, whose first branch is known where it has its ELSE
@@ -36,5 +36,5 @@ nested [] rest = rest
 nested (open_branch ∷ inner) rest = around open_branch (nested inner rest)
 
 -- a block, before what stands from the next piece on
-abbrev pub stands : Block → Levels → Levels
+abbrev pub stands : OpenParagraph → Levels → Levels
 stands block rest = nested block.open.items (prepend block.current rest)

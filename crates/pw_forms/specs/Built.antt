@@ -7,25 +7,25 @@ use Rattle.pw_forms.specs.declared.statement.Paragraph.{Paragraph}
 use Rattle.pw_forms.specs.declared.statement.Procedure.{Procedure}
 use Rattle.pw_forms.specs.declared.piece.Placed.{Placed}
 use Rattle.pw_forms.specs.declared.build.Begun.{Begun}
-use Rattle.pw_forms.specs.declared.build.Build.{Build}
-use Rattle.pw_forms.specs.declared.reading.Reading.{Reading}
-use Rattle.pw_forms.specs.Faults.{Before, faults_from}
-use Rattle.pw_forms.specs.Tree.{Behind, Levels, behind_period, levels}
+use Rattle.pw_forms.specs.declared.build.ParagraphBuilder.{ParagraphBuilder}
+use Rattle.pw_forms.specs.declared.reading.ProcedureReading.{ProcedureReading}
+use Rattle.pw_forms.specs.Faults.{PiecesBefore, faults_from}
+use Rattle.pw_forms.specs.Tree.{ParagraphsBehind, Levels, behind_period, levels}
 use Rattle.pw_forms.specs.Blocks.{branches, stands}
 
 -- a paragraph that has begun, if any, with what stands behind its name
-abbrev pub completed : Option Begun → Behind → List Paragraph
+abbrev pub completed : Option Begun → ParagraphsBehind → List Paragraph
 completed None behind = behind.paragraphs
 completed (Some begun) behind =
     (record { name = begun.name; line = begun.line; body = behind.statements }) ∷ behind.paragraphs
 
 -- the paragraphs so far, before what stands from the next piece on
-abbrev pub built : Build → Levels → List Paragraph
+abbrev pub built : ParagraphBuilder → Levels → List Paragraph
 built build rest =
     build.paragraphs ++ completed build.begun (behind_period (stands build.block rest))
 
 -- what the pieces so far leave
-abbrev pub before_of : Reading → Before
+abbrev pub before_of : ProcedureReading → PiecesBefore
 before_of reading =
     record {
       begun = is_some reading.build.begun;
@@ -34,7 +34,7 @@ before_of reading =
     }
 
 -- what comes out where these pieces follow
-abbrev pub outcome : Reading → List Placed → Result Procedure Fault
+abbrev pub outcome : ProcedureReading → List Placed → Result Procedure Fault
 outcome reading pieces =
     unless (least reading.known (faults_from (before_of reading) pieces))
     (record { paragraphs = built reading.build (levels pieces) })

@@ -6,9 +6,9 @@ use Rattle.pw_text.specs.declared.token.Token.{Token}
 use Rattle.pw_forms.specs.declared.operand.Operand.{Operand}
 use Rattle.pw_forms.specs.declared.cond.Operator.{Operator}
 use Rattle.pw_forms.specs.declared.cond.Operator.TheVariants as operators
-use Rattle.pw_forms.specs.declared.cond.Comparison.{Comparison}
-use Rattle.pw_forms.specs.declared.cond.Comparison.TheVariants as comparisons
-use Rattle.pw_forms.specs.declared.cond.Cond.{Cond}
+use Rattle.pw_forms.specs.declared.cond.ComparisonForm.{ComparisonForm}
+use Rattle.pw_forms.specs.declared.cond.ComparisonForm.TheVariants as comparisons
+use Rattle.pw_forms.specs.declared.cond.ConditionForm.{ConditionForm}
 use Rattle.pw_forms.specs.Words.{is_the_word}
 use Rattle.pw_forms.specs.Readers.{Reader, ◌>>=◌, ◌>>◌, pure, token, eats, separated}
 use Rattle.pw_forms.specs.Operands.{operand}
@@ -40,14 +40,14 @@ operator = do
   operator_by first.kind first
 
 -- op b
-unfoldable pub compared : Operand → Bool → Reader Comparison
+unfoldable pub compared : Operand → Bool → Reader ComparisonForm
 compared left negated = do
   op ← operator
   right ← operand
   pure (comparisons.Compare left negated op right)
 
 -- `a [IS] [NOT] NUMERIC`, or `a [IS] [NOT] op b`
-unfoldable pub comparison : Reader Comparison
+unfoldable pub comparison : Reader ComparisonForm
 comparison = do
   left ← operand
   eats (codes "IS")
@@ -56,11 +56,11 @@ comparison = do
   if numeric then pure (comparisons.Numeric left negated) else compared left negated
 
 -- comparisons of which each must hold
-unfoldable pub all : Reader (List Comparison)
+unfoldable pub all : Reader (List ComparisonForm)
 all = separated (codes "AND") comparison
 
 -- comparisons joined by AND and OR, AND first
-unfoldable pub condition : Reader Cond
+unfoldable pub condition : Reader ConditionForm
 condition = do
   any ← separated (codes "OR") all
   pure (record { any = any })

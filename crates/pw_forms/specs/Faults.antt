@@ -11,13 +11,13 @@ use Rattle.pw_forms.specs.declared.piece.Placed.{Placed}
 
 -- What the pieces so far leave: whether a paragraph has begun, which names are taken, and of each
 -- open branch, from the innermost on, whether it has its ELSE.
-pub record Before : Type 0 where
+pub record PiecesBefore : Type 0 where
   pub begun : Bool
   pub taken : Word → Bool
   pub branches : List Bool
 
 -- before the first piece
-abbrev pub nothing : Before
+abbrev pub nothing : PiecesBefore
 nothing = record { begun = false; taken = λ name. false; branches = [] }
 
 -- so many branches may be open
@@ -33,10 +33,10 @@ abbrev pub can_turn : List Bool → Bool
 can_turn branches = list_any not branches
 
 -- the innermost branch without ELSE gets it, and those inside it are closed
-abbrev pub turned : List Bool → List Bool
-turned [] = []
-turned (true ∷ branches) = turned branches
-turned (false ∷ branches) = true ∷ branches
+abbrev pub else_turned : List Bool → List Bool
+else_turned [] = []
+else_turned (true ∷ branches) = else_turned branches
+else_turned (false ∷ branches) = true ∷ branches
 
 -- a piece that opens a branch finds room for it, and ELSE and END-IF find a branch
 abbrev pub fits : List Bool → Piece → Bool
@@ -53,15 +53,15 @@ abbrev pub code_unless : Bool → FaultCode → Option FaultCode
 code_unless test code = if test then None else Some code
 
 -- the code of a piece's fault, if it has one, where these names are taken and these branches open
-abbrev pub code_of : (Word → Bool) → List Bool → Piece → Option FaultCode
-code_of taken branches (pieces.Name name) = code_unless (not (taken name)) ParagraphTwice
-code_of taken branches (pieces.Opens head) =
+abbrev pub piece_fault_code : (Word → Bool) → List Bool → Piece → Option FaultCode
+piece_fault_code taken branches (pieces.Name name) = code_unless (not (taken name)) ParagraphTwice
+piece_fault_code taken branches (pieces.Opens head) =
     code_unless (fits branches (pieces.Opens head)) NoSuchForm
-code_of taken branches pieces.Else = code_unless (fits branches pieces.Else) NoIf
-code_of taken branches pieces.EndIf = code_unless (fits branches pieces.EndIf) NoIf
-code_of taken branches pieces.Period = None
-code_of taken branches (pieces.Whole statement) = None
-code_of taken branches (pieces.Fault code) = Some code
+piece_fault_code taken branches pieces.Else = code_unless (fits branches pieces.Else) NoIf
+piece_fault_code taken branches pieces.EndIf = code_unless (fits branches pieces.EndIf) NoIf
+piece_fault_code taken branches pieces.Period = None
+piece_fault_code taken branches (pieces.Whole statement) = None
+piece_fault_code taken branches (pieces.Fault code) = Some code
 
 -- The branches behind a piece: a name and a period close all, and END-IF the innermost. A piece that
 -- does not fit leaves them.
@@ -70,7 +70,7 @@ branches_after branches (pieces.Name name) = []
 branches_after branches pieces.Period = []
 branches_after branches (pieces.Opens head) =
     if is_full branches then branches else false ∷ branches
-branches_after branches pieces.Else = if can_turn branches then turned branches else branches
+branches_after branches pieces.Else = if can_turn branches then else_turned branches else branches
 branches_after branches pieces.EndIf = drop 1 branches
 branches_after branches (pieces.Whole statement) = branches
 branches_after branches (pieces.Fault code) = branches
@@ -86,20 +86,20 @@ taken_after taken pieces.EndIf = taken
 taken_after taken (pieces.Fault code) = taken
 
 -- the piece is the name of a paragraph
-abbrev pub is_name : Piece → Bool
-is_name (pieces.Name name) = true
-is_name pieces.Period = false
-is_name (pieces.Whole statement) = false
-is_name (pieces.Opens head) = false
-is_name pieces.Else = false
-is_name pieces.EndIf = false
-is_name (pieces.Fault code) = false
+abbrev pub is_paragraph_name : Piece → Bool
+is_paragraph_name (pieces.Name name) = true
+is_paragraph_name pieces.Period = false
+is_paragraph_name (pieces.Whole statement) = false
+is_paragraph_name (pieces.Opens head) = false
+is_paragraph_name pieces.Else = false
+is_paragraph_name pieces.EndIf = false
+is_paragraph_name (pieces.Fault code) = false
 
 -- what a piece leaves
-abbrev pub after : Before → Piece → Before
-after before piece =
+abbrev pub after_piece : PiecesBefore → Piece → PiecesBefore
+after_piece before piece =
     record {
-      begun = before.begun || is_name piece;
+      begun = before.begun || is_paragraph_name piece;
       taken = taken_after before.taken piece;
       branches = branches_after before.branches piece;
     }
@@ -111,16 +111,16 @@ fault_at line (Some code) = (record { line = line; code = code }) ∷ []
 
 -- 131 for a piece in front of the first paragraph
 abbrev pub early : Bool → Piece → Option FaultCode
-early begun piece = code_unless (begun || is_name piece) NoSuchForm
+early begun piece = code_unless (begun || is_paragraph_name piece) NoSuchForm
 
 -- the faults of a piece
-abbrev pub faults_of : Before → Placed → List Fault
+abbrev pub faults_of : PiecesBefore → Placed → List Fault
 faults_of before next =
     fault_at next.line (early before.begun next.piece)
-    ++ fault_at next.line (code_of before.taken before.branches next.piece)
+    ++ fault_at next.line (piece_fault_code before.taken before.branches next.piece)
 
 -- the faults of pieces
-unfoldable pub faults_from : Before → List Placed → List Fault
+unfoldable pub faults_from : PiecesBefore → List Placed → List Fault
 faults_from before [] = []
 faults_from before (next ∷ pieces) =
-    faults_of before next ++ faults_from (after before next.piece) pieces
+    faults_of before next ++ faults_from (after_piece before next.piece) pieces

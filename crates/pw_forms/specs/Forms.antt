@@ -5,13 +5,13 @@ use Rattle.pw_forms.specs.declared.mark.TransactionVerb.{TransactionVerb}
 use Rattle.pw_forms.specs.declared.mark.TransactionVerb.TheVariants as transactions
 use Rattle.pw_forms.specs.declared.mark.TerminalVerb.{TerminalVerb}
 use Rattle.pw_forms.specs.declared.mark.TerminalVerb.TheVariants as terminals
-use Rattle.pw_forms.specs.declared.mark.Verb.{Verb}
-use Rattle.pw_forms.specs.declared.mark.Verb.TheVariants as verb
+use Rattle.pw_forms.specs.declared.mark.StatementVerb.{StatementVerb}
+use Rattle.pw_forms.specs.declared.mark.StatementVerb.TheVariants as verb
 use Rattle.pw_forms.specs.declared.operand.Operand.{Operand}
-use Rattle.pw_forms.specs.declared.lists.Code.{Code}
+use Rattle.pw_forms.specs.declared.lists.SendCode.{SendCode}
 use Rattle.pw_forms.specs.declared.statement.Operation.{Operation}
 use Rattle.pw_forms.specs.declared.statement.Operation.TheVariants as operation
-use Rattle.pw_forms.specs.declared.statement.Arithmetic.{Arithmetic}
+use Rattle.pw_forms.specs.declared.statement.ArithmeticForm.{ArithmeticForm}
 use Rattle.pw_forms.specs.declared.statement.Statement.{Statement}
 use Rattle.pw_forms.specs.declared.statement.Statement.TheVariants as statement
 use Rattle.pw_forms.specs.declared.form.Head.TheVariants as head
@@ -51,7 +51,7 @@ on_size_error = do
   if found then (do expects (codes "SIZE"); expects (codes "ERROR"); pure true) else pure false
 
 -- arithmetic, which ON SIZE ERROR makes one that opens a branch
-abbrev pub arithmetic_by : ℕ → Bool → Arithmetic → Form
+abbrev pub arithmetic_by : ℕ → Bool → ArithmeticForm → Form
 arithmetic_by line true found = Opens (head.OnSizeError line found)
 arithmetic_by line false found = Whole (statement.Arithmetic line found)
 
@@ -174,7 +174,7 @@ call line = do
   pure (Whole (statement.Call line program arguments))
 
 -- CODE n YIELDS item
-unfoldable pub code_clause : Reader Code
+unfoldable pub code_clause : Reader SendCode
 code_clause = do
   expects (codes "CODE")
   number ← code
@@ -222,7 +222,7 @@ terminal_form terminals.Send line = send line
 terminal_form (terminals.Transaction found) line = transaction_form found line
 
 -- the form of a verb, which reads the piece behind it to its end
-unfoldable pub form : Verb → ℕ → Reader Form
+unfoldable pub form : StatementVerb → ℕ → Reader Form
 form verb.Exit line = exit line
 form verb.If line = if_form line
 form verb.Move line = move_form line

@@ -3,7 +3,7 @@ pub use Rattle.pw_text.specs.Literals.{kept, is_first_quote, unquoted}
 use Rattle.std.specs.Prelude.{ℕ, ◌+◌, ◌-◌, ◌*◌, min, nat_le, List, [], ◌∷◌, Bool, true, false, not, ◌&&◌, ◌||◌, codes, Option, Some, None, option_map, if◌then◌else◌}
 use Rattle.std.specs.List.{list_all}
 use Rattle.std.specs.Char.{is_ascii_digit}
-use Rattle.pw_words.specs.Words.{Word, place_of}
+use Rattle.pw_words.specs.Words.{Word, word_place}
 use Rattle.pw_text.specs.declared.token.TokenKind.{TokenKind}
 use Rattle.pw_text.specs.declared.token.TokenKind.TheVariants as kind
 use Rattle.pw_text.specs.declared.token.Token.{Token}
@@ -12,7 +12,7 @@ use Rattle.pw_forms.specs.declared.operand.Subscript.{Subscript}
 use Rattle.pw_forms.specs.declared.operand.Subscript.TheVariants as subscripts
 use Rattle.pw_forms.specs.declared.operand.Operand.{Operand}
 use Rattle.pw_forms.specs.declared.operand.Operand.TheVariants as operands
-use Rattle.pw_forms.specs.Words.{is_word, is_the_word, is_receive, is_name, is_item_name, name_in}
+use Rattle.pw_forms.specs.Words.{is_word, is_the_word, is_receive, is_name_token, is_item_name, token_name}
 use Rattle.pw_forms.specs.Readers.{Reader, ◌>>=◌, pure, fails, takes, token}
 
 -- ---- literals
@@ -33,7 +33,7 @@ abbrev pub subscript_by : TokenKind → Token → Reader Subscript
 subscript_by kind.Number value = λ rest. Some (subscripts.Number (spelling rest.text value), rest)
 subscript_by _ value = λ rest.
     if is_item_name rest.server rest.text value
-    then Some (subscripts.Item (name_in rest.text value), rest)
+    then Some (subscripts.Item (token_name rest.text value), rest)
     else None
 
 -- `(s)`, where a parenthesis opens
@@ -50,7 +50,7 @@ subscript_behind = do
 unfoldable pub item : Token → Reader Operand
 item name = do
   s ← subscript_behind
-  (λ rest. Some (operands.Item (name_in rest.text name) s, rest))
+  (λ rest. Some (operands.Item (token_name rest.text name) s, rest))
 
 -- SPACES or ZEROS, in each of their spellings
 unfoldable pub figurative : List ℕ → Token → Option Operand
@@ -83,7 +83,7 @@ operand = do
 unfoldable pub name : Reader Word
 name = do
   word ← token
-  (λ rest. if is_name rest.server rest.text word then Some (name_in rest.text word, rest) else None)
+  (λ rest. if is_name_token rest.server rest.text word then Some (token_name rest.text word, rest) else None)
 
 -- the name of a file, which may be a table word
 unfoldable pub file_name : Reader Word
@@ -91,7 +91,7 @@ file_name = do
   word ← token
   (λ rest.
       if is_word word.kind && not (is_receive rest.text word)
-      then Some (name_in rest.text word, rest)
+      then Some (token_name rest.text word, rest)
       else None)
 
 -- the name of a program or a class: a word, or a text with exactly its characters
@@ -99,7 +99,7 @@ abbrev pub program_by : TokenKind → Token → Reader Word
 program_by kind.Text first = λ rest. Some (unquoted false (spelling rest.text first), rest)
 program_by _ first = λ rest.
     if is_word first.kind && not (is_receive rest.text first)
-    then Some (name_in rest.text first, rest)
+    then Some (token_name rest.text first, rest)
     else None
 
 unfoldable pub program_name : Reader Word
@@ -119,7 +119,7 @@ key_words =
 
 -- the number of the key that a word names
 unfoldable pub key_of : Word → Option ℕ
-key_of word = option_map (λ place. place + 1) (place_of key_words word)
+key_of word = option_map (λ place. place + 1) (word_place key_words word)
 
 -- a key, by its number
 unfoldable pub key : Reader ℕ

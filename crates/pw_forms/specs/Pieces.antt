@@ -3,26 +3,26 @@ use Rattle.std.specs.Prelude.{ℕ, ◌+◌, List, [], ◌∷◌, ◌++◌, lengt
 use Rattle.pw_base.specs.declared.fault_code.FaultCode.TheVariants.{NameTwice, NoSuchForm, NotForServers}
 use Rattle.pw_text.specs.declared.token.Token.{Token}
 use Rattle.pw_text.specs.Cursor.{spelling}
-use Rattle.pw_forms.specs.declared.mark.Verb.{Verb}
-use Rattle.pw_forms.specs.declared.mark.Verb.TheVariants as verb
-use Rattle.pw_forms.specs.declared.mark.Mark.{Mark}
-use Rattle.pw_forms.specs.declared.mark.Mark.TheVariants as mark
+use Rattle.pw_forms.specs.declared.mark.StatementVerb.{StatementVerb}
+use Rattle.pw_forms.specs.declared.mark.StatementVerb.TheVariants as verb
+use Rattle.pw_forms.specs.declared.mark.TokenMark.{TokenMark}
+use Rattle.pw_forms.specs.declared.mark.TokenMark.TheVariants as mark
 use Rattle.pw_forms.specs.declared.form.Form.{Form}
 use Rattle.pw_forms.specs.declared.form.Form.TheVariants as forms
 use Rattle.pw_forms.specs.declared.piece.Piece.{Piece}
 use Rattle.pw_forms.specs.declared.piece.Piece.TheVariants as pieces
 use Rattle.pw_forms.specs.declared.piece.Placed.{Placed}
-use Rattle.pw_forms.specs.Words.{is_word, is_table_word, mark_of, begins_piece, is_receive, name_in}
+use Rattle.pw_forms.specs.Words.{is_word, is_table_word, mark_of, begins_piece, is_receive, token_name}
 use Rattle.pw_forms.specs.Readers.{Rest}
 use Rattle.pw_forms.specs.Forms.{form}
 
 -- a period
-abbrev pub is_period : Mark → Bool
+abbrev pub is_period : TokenMark → Bool
 is_period mark.Period = true
 is_period _ = false
 
 -- what the first token of a piece begins
-abbrev pub first_mark : Bool → List ℕ → List Token → Mark
+abbrev pub first_mark : Bool → List ℕ → List Token → TokenMark
 first_mark server text [] = mark.Other
 first_mark server text (token ∷ tokens) = mark_of server text token
 
@@ -61,12 +61,12 @@ abbrev pub period_follows : Bool → List ℕ → List (List Token) → Bool
 period_follows server text pieces = is_period (first_mark server text (first_piece pieces))
 
 -- the tokens of pieces, one piece behind the other
-abbrev pub joined : List (List Token) → List Token
-joined [] = []
-joined (piece ∷ pieces) = piece ++ joined pieces
+abbrev pub pieces_joined : List (List Token) → List Token
+pieces_joined [] = []
+pieces_joined (piece ∷ pieces) = piece ++ pieces_joined pieces
 
 -- ACCEPT, DISPLAY, CALL, SEND and the verbs of transactions are not for servers
-abbrev pub is_barred : Verb → Bool
+abbrev pub is_barred : StatementVerb → Bool
 is_barred (verb.Terminal found) = true
 is_barred _ = false
 
@@ -77,7 +77,7 @@ form_piece (Some (forms.Whole statement, rest)) = pieces.Whole statement
 form_piece (Some (forms.Opens head, rest)) = pieces.Opens head
 
 -- a verb and the tokens behind it
-abbrev pub verb_piece : Bool → List ℕ → ℕ → Verb → List Token → Piece
+abbrev pub verb_piece : Bool → List ℕ → ℕ → StatementVerb → List Token → Piece
 verb_piece server text line verb tokens =
     if server && is_barred verb then pieces.Fault NotForServers
     else form_piece (form verb line (record { server = server; text = text; tokens = tokens }))
@@ -92,7 +92,7 @@ abbrev pub name_piece : Bool → List ℕ → Token → Piece
 name_piece server text word =
     if is_table_word server (spelling text word) then pieces.Fault NameTwice
     else if is_receive text word then pieces.Fault NoSuchForm
-    else pieces.Name (name_in text word)
+    else pieces.Name (token_name text word)
 
 -- a run of other tokens: one word before a period is the name of a paragraph
 abbrev pub run_piece : Bool → List ℕ → Bool → Token → List Token → Piece
@@ -101,7 +101,7 @@ run_piece server text followed word [] =
 run_piece server text followed word (token ∷ tokens) = pieces.Fault NoSuchForm
 
 -- what a piece is that begins with a token; followed: a period follows it
-abbrev pub piece_by : Mark → Bool → List ℕ → Bool → Token → List Token → Piece
+abbrev pub piece_by : TokenMark → Bool → List ℕ → Bool → Token → List Token → Piece
 piece_by (mark.Verb verb) server text followed first tokens =
     verb_piece server text first.line verb tokens
 piece_by mark.Else server text followed first tokens = alone pieces.Else tokens

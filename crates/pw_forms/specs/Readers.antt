@@ -54,8 +54,8 @@ unfoldable pub sees_third : Word → Rest → Bool
 sees_third word rest = is_first_word rest.text (drop 2 rest.tokens) word
 
 -- what is left behind the next token
-unfoldable pub behind : Rest → Rest
-behind rest = record rest { tokens = drop 1 rest.tokens }
+unfoldable pub form_rest_behind : Rest → Rest
+form_rest_behind rest = record rest { tokens = drop 1 rest.tokens }
 
 -- takes the next token
 unfoldable pub token : Reader Token
@@ -63,11 +63,11 @@ token = λ rest. token_of rest.tokens rest
   where
     token_of : List Token → Rest → Option (Token × Rest)
     token_of [] rest = None
-    token_of (next ∷ tokens) rest = Some (next, behind rest)
+    token_of (next ∷ tokens) rest = Some (next, form_rest_behind rest)
 
 -- what is left behind the next token, where it is this word
 unfoldable pub past : Word → Rest → Rest
-past word rest = if sees word rest then behind rest else rest
+past word rest = if sees word rest then form_rest_behind rest else rest
 
 -- takes the next token where it is this word, and tells it
 abbrev pub eats : Word → Reader Bool
@@ -75,7 +75,7 @@ eats word = λ rest. Some (sees word rest, past word rest)
 
 -- takes this word
 unfoldable pub expects : Word → Reader (Unit {0})
-expects word = λ rest. if sees word rest then Some (tt, behind rest) else None
+expects word = λ rest. if sees word rest then Some (tt, form_rest_behind rest) else None
 
 -- the next token is of this kind
 abbrev pub is_first_kind : List Token → TokenKind → Bool
@@ -87,7 +87,7 @@ sees_kind kind rest = is_first_kind rest.tokens kind
 
 -- what is left behind the next token, where it is of this kind
 unfoldable pub past_kind : TokenKind → Rest → Rest
-past_kind kind rest = if sees_kind kind rest then behind rest else rest
+past_kind kind rest = if sees_kind kind rest then form_rest_behind rest else rest
 
 -- takes the next token where it is of this kind, and tells it
 abbrev pub takes : TokenKind → Reader Bool
@@ -144,7 +144,7 @@ abbrev pub separated : {A : Type 0} → Word → Reader A → Reader (List A)
 separated word one = λ rest. separated_from word one (left rest) [] rest
 
 -- what a call that reads gives is what its reader gives, unless memory ran out
-abbrev pub Reads : {A : Type 0} → Option (A × Rest) → Result A Lack → Rest → Type 0
-Reads defined (Ok value) rest = defined ≡ Some (value, rest)
-Reads defined (Err NoForm) rest = defined ≡ None
-Reads defined (Err Memory) rest = Unit {0}
+abbrev pub ReadsForm : {A : Type 0} → Option (A × Rest) → Result A Lack → Rest → Type 0
+ReadsForm defined (Ok value) rest = defined ≡ Some (value, rest)
+ReadsForm defined (Err NoForm) rest = defined ≡ None
+ReadsForm defined (Err Memory) rest = Unit {0}

@@ -12,18 +12,18 @@ use Rattle.pw_forms.specs.declared.piece.Piece.TheVariants as pieces
 use Rattle.pw_forms.specs.declared.piece.Placed.{Placed}
 
 -- the statements of the paragraph up to the next name, and the paragraphs from there on
-pub record Behind : Type 0 where
+pub record ParagraphsBehind : Type 0 where
   pub statements : List Statement
   pub paragraphs : List Paragraph
 
 -- nothing stands there
-abbrev pub nothing_behind : Behind
+abbrev pub nothing_behind : ParagraphsBehind
 nothing_behind = record { statements = []; paragraphs = [] }
 
 -- What stands from a piece on: a block of statements, and why it ends. It ends at a period or at the
 -- end of the text, or at an ELSE or END-IF of a branch that was opened before the piece.
 pub data Levels : Type 0 where
-  Closed : (block : List Statement) → (behind : Behind) → Levels
+  Closed : (block : List Statement) → (behind : ParagraphsBehind) → Levels
   AtElse : (block : List Statement) → (inside : Levels) → Levels
   AtEndIf : (block : List Statement) → (inside : Levels) → Levels
 
@@ -52,13 +52,13 @@ opened head (AtElse first inside) = with_else head first inside
 opened head (AtEndIf first inside) = prepend (closed head first [] ∷ []) inside
 
 -- what stands from a piece on, behind a period
-abbrev pub behind_period : Levels → Behind
+abbrev pub behind_period : Levels → ParagraphsBehind
 behind_period (Closed block behind) = record behind { statements = block ++ behind.statements }
 behind_period (AtElse block inside) = record { statements = block; paragraphs = [] }
 behind_period (AtEndIf block inside) = record { statements = block; paragraphs = [] }
 
 -- a paragraph, and what stands behind its name
-abbrev pub paragraph : ℕ → Word → Behind → Behind
+abbrev pub paragraph : ℕ → Word → ParagraphsBehind → ParagraphsBehind
 paragraph line name behind =
     record {
       statements = [];

@@ -1,14 +1,14 @@
 ghost use Rattle.std.specs.Prelude.{◌≡◌, ◌==◌, ◌++◌, ◌∷◌, [], true, not, is_some, length, OnOk, IfOk};
 ghost use Rattle.std.specs.List.{list_any};
 ghost use Rattle.pw_forms.specs.Faults.{is_full, can_turn, fits, branches_after};
-ghost use Rattle.pw_forms.specs.Tree.{Behind, Levels, Closed, AtElse, AtEndIf, prepend, opened, closed};
+ghost use Rattle.pw_forms.specs.Tree.{ParagraphsBehind, Levels, Closed, AtElse, AtEndIf, prepend, opened, closed};
 ghost use Rattle.pw_forms.specs.Blocks.{finished_head, branches, stands};
 ghost use Rattle.pw_forms.specs.declared.form.Head.TheVariants as heads;
 ghost use Rattle.pw_forms.specs.declared.piece.Piece.TheVariants as pieces;
 
-use crate::branch::{Block, Open};
+use crate::branch::{OpenParagraph, Open};
 use crate::form::Head;
-use crate::statement::{Arithmetic, Statement};
+use crate::statement::{ArithmeticForm, Statement};
 use pw_base::list::List;
 use pw_base::memory::Memory;
 use std::alloc::Global;
@@ -17,10 +17,10 @@ use std::mem;
 /// The most branches that may be open at once.
 const MAX_OPEN: usize = 64;
 
-/// Arithmetic with ON SIZE ERROR and its two branches.
+/// ArithmeticForm with ON SIZE ERROR and its two branches.
 fn on_size_error(
     line: u32,
-    arithmetic: Arithmetic,
+    arithmetic: ArithmeticForm,
     first: List<Statement>,
     second: List<Statement>,
 ) -> Statement
@@ -93,13 +93,13 @@ fn any_lacks_else(branches: &[Open]) -> bool
     branches.iter().any(|branch| lacks_else(branch))
 }
 
-impl Block {
+impl OpenParagraph {
     /// No statement, and no open branch. It takes no memory.
-    pub fn new(alloc: Global) -> Block
+    pub fn new(alloc: Global) -> OpenParagraph
         ensures open { result.open.items ≡ [] }
         ensures current { result.current ≡ [] }
     {
-        Block {
+        OpenParagraph {
             open: Vec::new(alloc),
             current: List::new(alloc),
         }
@@ -199,7 +199,7 @@ impl Block {
     /// A period closes all branches.
     pub fn close_all(&mut self, alloc: Global) -> Result<(), Memory>
         ensures open { OnOk result (self.new.open.items ≡ []) }
-        ensures stands { OnOk result ((behind : Behind)
+        ensures stands { OnOk result ((behind : ParagraphsBehind)
             → Closed self.new.current behind ≡ stands self.old (Closed [] behind)) }
     {
         while let Some(top) = self.open.pop() {

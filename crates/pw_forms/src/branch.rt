@@ -14,7 +14,7 @@ pub struct Open {
 /// The statements since the last name of a paragraph: the open branches from the outermost on, and
 /// the statements of the innermost so far.
 #[derive(Drop)]
-pub struct Block {
+pub struct OpenParagraph {
     pub open: Vec<Open>,
     pub current: List<Statement>,
 }

@@ -1,4 +1,4 @@
-use crate::branch::Block;
+use crate::branch::OpenParagraph;
 use crate::statement::Paragraph;
 use pw_base::bytes::Bytes;
 use pw_base::list::List;
@@ -12,8 +12,8 @@ pub struct Begun {
 
 /// The paragraphs so far, the one that has begun, if any, and its statements so far.
 #[derive(Drop)]
-pub struct Build {
+pub struct ParagraphBuilder {
     pub paragraphs: List<Paragraph>,
     pub begun: Option<Begun>,
-    pub block: Block,
+    pub block: OpenParagraph,
 }

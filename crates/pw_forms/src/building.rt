@@ -1,12 +1,12 @@
 ghost use Rattle.std.specs.Prelude.{◌≡◌, ◌++◌, ◌||◌, [], None, true, is_some, List, IfOk, OnOk};
-ghost use Rattle.pw_forms.specs.Faults.{is_name, fits, branches_after};
+ghost use Rattle.pw_forms.specs.Faults.{is_paragraph_name, fits, branches_after};
 ghost use Rattle.pw_forms.specs.Tree.{Levels, Closed, nothing_behind, level_of};
 ghost use Rattle.pw_forms.specs.Blocks.{branches};
 ghost use Rattle.pw_forms.specs.Built.{completed, built};
 ghost use Rattle.pw_forms.specs.declared.statement.Paragraph.{Paragraph as ParagraphOf};
 
-use crate::branch::Block;
-use crate::build::{Begun, Build};
+use crate::branch::OpenParagraph;
+use crate::build::{Begun, ParagraphBuilder};
 use crate::piece::{Piece, Placed};
 use crate::statement::{Paragraph, Statement};
 use pw_base::bytes::Bytes;
@@ -30,18 +30,18 @@ fn complete(
     }
 }
 
-impl Build {
+impl ParagraphBuilder {
     /// No paragraph, and none that has begun. It takes no memory.
-    pub fn new(alloc: Global) -> Build
+    pub fn new(alloc: Global) -> ParagraphBuilder
         ensures paragraphs { result.paragraphs ≡ [] }
         ensures begun { result.begun ≡ None }
         ensures open { result.block.open.items ≡ [] }
         ensures current { result.block.current ≡ [] }
     {
-        Build {
+        ParagraphBuilder {
             paragraphs: List::new(alloc),
             begun: None,
-            block: Block::new(alloc),
+            block: OpenParagraph::new(alloc),
         }
     }
 
@@ -62,7 +62,7 @@ impl Build {
     /// Puts the next piece behind those so far.
     pub fn put(&mut self, alloc: Global, next: Placed) -> Result<(), Memory>
         ensures begun { OnOk result (is_some self.new.begun
-            ≡ (is_some self.old.begun || is_name next.piece)) }
+            ≡ (is_some self.old.begun || is_paragraph_name next.piece)) }
         ensures branches { OnOk result (branches self.new.block.open.items
             ≡ branches_after (branches self.old.block.open.items) next.piece) }
         ensures built { OnOk result (fits (branches self.old.block.open.items) next.piece ≡ true

@@ -13,7 +13,7 @@ pub enum Operator {
 
 /// What is tested of one operand or of two.
 #[derive(Debug, Drop)]
-pub enum Comparison {
+pub enum ComparisonForm {
     /// `negated`: it holds where the comparison by the operator does not.
     Compare {
         left: Operand,
@@ -29,6 +29,6 @@ pub enum Comparison {
 
 /// A condition as it is written: it holds where in one of its lists each comparison does.
 #[derive(Debug, Drop)]
-pub struct Cond {
-    pub any: List<List<Comparison>>,
+pub struct ConditionForm {
+    pub any: List<List<ComparisonForm>>,
 }

@@ -1,9 +1,9 @@
 ghost use Rattle.std.specs.Prelude.{◌≡◌, codes};
-ghost use Rattle.pw_forms.specs.Readers.{Reads, separated};
+ghost use Rattle.pw_forms.specs.Readers.{ReadsForm, separated};
 ghost use Rattle.pw_forms.specs.Conditions as spec;
 
-use crate::cond::{Comparison, Cond, Operator};
-use crate::cursor::Cursor;
+use crate::cond::{ComparisonForm, ConditionForm, Operator};
+use crate::cursor::FormCursor;
 use crate::lack::Lack;
 use crate::operand::Operand;
 use crate::operands::operand;
@@ -13,8 +13,8 @@ use std::alloc::Global;
 
 /// The operator that a word is.
 #[tactic(auto, unfolding(crate::specs::Conditions::word_operator))]
-fn word_operator(rest: &mut Cursor<'_>, word: Token) -> Result<Operator, Lack>
-    ensures { Reads (spec.word_operator word rest.old) result rest.new }
+fn word_operator(rest: &mut FormCursor<'_>, word: Token) -> Result<Operator, Lack>
+    ensures { ReadsForm (spec.word_operator word rest.old) result rest.new }
 {
     if word.is_the_word(rest.text(), b"EQUAL") {
         rest.eats(b"TO");
@@ -31,8 +31,8 @@ fn word_operator(rest: &mut Cursor<'_>, word: Token) -> Result<Operator, Lack>
 }
 
 /// The operator that begins with a token.
-fn operator_by(rest: &mut Cursor<'_>, first: Token) -> Result<Operator, Lack>
-    ensures { Reads (spec.operator_by first.kind first rest.old) result rest.new }
+fn operator_by(rest: &mut FormCursor<'_>, first: Token) -> Result<Operator, Lack>
+    ensures { ReadsForm (spec.operator_by first.kind first rest.old) result rest.new }
 {
     match first.kind {
         TokenKind::Equal => Ok(Operator::Equal),
@@ -46,8 +46,8 @@ fn operator_by(rest: &mut Cursor<'_>, first: Token) -> Result<Operator, Lack>
 
 /// Reads an operator: a mark, or a word with the TO or THAN behind it.
 #[tactic(auto, unfolding(crate::specs::Conditions::operator))]
-fn operator(rest: &mut Cursor<'_>) -> Result<Operator, Lack>
-    ensures { Reads (spec.operator rest.old) result rest.new }
+fn operator(rest: &mut FormCursor<'_>) -> Result<Operator, Lack>
+    ensures { ReadsForm (spec.operator rest.old) result rest.new }
 {
     let first = rest.next()?;
     operator_by(rest, first)
@@ -57,15 +57,15 @@ fn operator(rest: &mut Cursor<'_>) -> Result<Operator, Lack>
 #[tactic(auto, unfolding(crate::specs::Conditions::compared))]
 fn compared(
     alloc: Global,
-    rest: &mut Cursor<'_>,
+    rest: &mut FormCursor<'_>,
     left: Operand,
     negated: bool,
-) -> Result<Comparison, Lack>
-    ensures { Reads (spec.compared left negated rest.old) result rest.new }
+) -> Result<ComparisonForm, Lack>
+    ensures { ReadsForm (spec.compared left negated rest.old) result rest.new }
 {
     let operator = operator(rest)?;
     let right = operand(alloc, rest)?;
-    Ok(Comparison::Compare {
+    Ok(ComparisonForm::Compare {
         left,
         negated,
         operator,
@@ -75,14 +75,14 @@ fn compared(
 
 /// Reads a comparison: an operand that is NUMERIC, or one that is compared with another.
 #[tactic(auto, unfolding(crate::specs::Conditions::comparison))]
-fn comparison(alloc: Global, rest: &mut Cursor<'_>) -> Result<Comparison, Lack>
-    ensures { Reads (spec.comparison rest.old) result rest.new }
+fn comparison(alloc: Global, rest: &mut FormCursor<'_>) -> Result<ComparisonForm, Lack>
+    ensures { ReadsForm (spec.comparison rest.old) result rest.new }
 {
     let left = operand(alloc, rest)?;
     rest.eats(b"IS");
     let negated = rest.eats(b"NOT");
     if rest.eats(b"NUMERIC") {
-        Ok(Comparison::Numeric {
+        Ok(ComparisonForm::Numeric {
             operand: left,
             negated,
         })
@@ -92,8 +92,8 @@ fn comparison(alloc: Global, rest: &mut Cursor<'_>) -> Result<Comparison, Lack>
 }
 
 /// Comparisons with AND between two of them.
-fn all(alloc: Global, rest: &mut Cursor<'_>) -> Result<List<Comparison>, Lack>
-    ensures { Reads (spec.all rest.old) result rest.new }
+fn all(alloc: Global, rest: &mut FormCursor<'_>) -> Result<List<ComparisonForm>, Lack>
+    ensures { ReadsForm (spec.all rest.old) result rest.new }
 {
     let mut found = List::new(alloc);
     for _turn in 0..rest.left() {
@@ -106,8 +106,8 @@ fn all(alloc: Global, rest: &mut Cursor<'_>) -> Result<List<Comparison>, Lack>
 }
 
 /// Lists of comparisons with OR between two of them.
-fn any(alloc: Global, rest: &mut Cursor<'_>) -> Result<List<List<Comparison>>, Lack>
-    ensures { Reads (separated (codes "OR") spec.all rest.old) result rest.new }
+fn any(alloc: Global, rest: &mut FormCursor<'_>) -> Result<List<List<ComparisonForm>>, Lack>
+    ensures { ReadsForm (separated (codes "OR") spec.all rest.old) result rest.new }
 {
     let mut found = List::new(alloc);
     for _turn in 0..rest.left() {
@@ -121,10 +121,10 @@ fn any(alloc: Global, rest: &mut Cursor<'_>) -> Result<List<List<Comparison>>, L
 
 /// A condition: comparisons joined by AND and OR, AND first.
 #[tactic(auto, unfolding(crate::specs::Conditions::condition))]
-pub fn condition(alloc: Global, rest: &mut Cursor<'_>) -> Result<Cond, Lack>
-    ensures { Reads (spec.condition rest.old) result rest.new }
+pub fn condition(alloc: Global, rest: &mut FormCursor<'_>) -> Result<ConditionForm, Lack>
+    ensures { ReadsForm (spec.condition rest.old) result rest.new }
 {
-    Ok(Cond {
+    Ok(ConditionForm {
         any: any(alloc, rest)?,
     })
 }

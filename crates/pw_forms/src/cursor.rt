@@ -1,5 +1,5 @@
 ghost use Rattle.std.specs.Prelude.{◌≡◌};
-ghost use Rattle.pw_forms.specs.Readers.{Reads, sees, sees_third, past, behind, token, sees_kind, past_kind, expects, is_done, ends, left};
+ghost use Rattle.pw_forms.specs.Readers.{ReadsForm, sees, sees_third, past, form_rest_behind, token, sees_kind, past_kind, expects, is_done, ends, left};
 
 use crate::lack::Lack;
 use pw_text::cursor::Cursor as TokenCursor;
@@ -9,12 +9,12 @@ use std::marker::Model;
 /// What is left of a piece, in the text of a server or of a requester: a cursor over its tokens, whose
 /// steps give that no form has what stands there where they find none.
 #[derive(Drop)]
-pub struct Cursor<'a> {
+pub struct FormCursor<'a> {
     server: bool,
     left: TokenCursor<'a>,
 }
 
-impl<'a> Model for Cursor<'a> {
+impl<'a> Model for FormCursor<'a> {
     ghost use Rattle.pw_forms.specs.Readers.{Rest};
 
     ghost Value = { Rest };
@@ -26,12 +26,12 @@ impl<'a> Model for Cursor<'a> {
     } };
 }
 
-impl<'a> Cursor<'a> {
+impl<'a> FormCursor<'a> {
     /// A cursor in front of tokens of a text, of a server's or a requester's.
-    pub fn new(server: bool, text: &'a [u8], tokens: &'a [Token]) -> Cursor<'a>
+    pub fn new(server: bool, text: &'a [u8], tokens: &'a [Token]) -> FormCursor<'a>
         ensures { result ≡ record { server = server; text = text.now; tokens = tokens.now } }
     {
-        Cursor {
+        FormCursor {
             server,
             left: TokenCursor::new(text, tokens),
         }
@@ -69,7 +69,7 @@ impl<'a> Cursor<'a> {
 
     /// Takes the next token.
     pub fn next(&mut self) -> Result<Token, Lack>
-        ensures { Reads (token self.old) result self.new }
+        ensures { ReadsForm (token self.old) result self.new }
     {
         match self.left.next() {
             Some(token) => Ok(token),
@@ -80,7 +80,7 @@ impl<'a> Cursor<'a> {
     /// Passes over the next token.
     #[tactic(auto, unfolding(crate::specs::Readers::behind))]
     fn skip(&mut self)
-        ensures { self.new ≡ behind self.old }
+        ensures { self.new ≡ form_rest_behind self.old }
     {
         let _token = self.left.next();
     }
@@ -120,7 +120,7 @@ impl<'a> Cursor<'a> {
     /// Takes this word.
     #[tactic(auto, unfolding(crate::specs::Readers::expects))]
     pub fn expects(&mut self, word: &[u8]) -> Result<(), Lack>
-        ensures { Reads (expects word.now self.old) result self.new }
+        ensures { ReadsForm (expects word.now self.old) result self.new }
     {
         if self.sees(word) {
             self.skip();
@@ -154,7 +154,7 @@ impl<'a> Cursor<'a> {
     /// Whether the piece ends here.
     #[tactic(auto, unfolding(crate::specs::Readers::ends))]
     pub fn ends(&self) -> Result<(), Lack>
-        ensures { Reads (ends self.now) result self.now }
+        ensures { ReadsForm (ends self.now) result self.now }
     {
         if self.is_done() {
             Ok(())

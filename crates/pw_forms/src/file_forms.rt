@@ -1,8 +1,8 @@
 ghost use Rattle.std.specs.Prelude.{◌≡◌};
-ghost use Rattle.pw_forms.specs.Readers.{Reads};
+ghost use Rattle.pw_forms.specs.Readers.{ReadsForm};
 ghost use Rattle.pw_forms.specs.FileForms as spec;
 
-use crate::cursor::Cursor;
+use crate::cursor::FormCursor;
 use crate::form::Form;
 use crate::lack::Lack;
 use crate::mark::FileVerb;
@@ -12,8 +12,8 @@ use std::alloc::Global;
 
 /// `WITH LOCK`, if it comes next.
 #[tactic(auto, unfolding(crate::specs::FileForms::with_lock))]
-fn with_lock(rest: &mut Cursor<'_>) -> Result<bool, Lack>
-    ensures { Reads (spec.with_lock rest.old) result rest.new }
+fn with_lock(rest: &mut FormCursor<'_>) -> Result<bool, Lack>
+    ensures { ReadsForm (spec.with_lock rest.old) result rest.new }
 {
     if rest.eats(b"WITH") {
         rest.expects(b"LOCK")?;
@@ -25,8 +25,8 @@ fn with_lock(rest: &mut Cursor<'_>) -> Result<bool, Lack>
 
 /// `READ $RECEIVE INTO item`, behind `$RECEIVE`.
 #[tactic(auto, unfolding(crate::specs::FileForms::receive))]
-fn receive(alloc: Global, line: u32, rest: &mut Cursor<'_>) -> Result<Form, Lack>
-    ensures { Reads (spec.receive line rest.old) result rest.new }
+fn receive(alloc: Global, line: u32, rest: &mut FormCursor<'_>) -> Result<Form, Lack>
+    ensures { ReadsForm (spec.receive line rest.old) result rest.new }
 {
     rest.expects(b"INTO")?;
     let into = operand(alloc, rest)?;
@@ -36,8 +36,8 @@ fn receive(alloc: Global, line: u32, rest: &mut Cursor<'_>) -> Result<Form, Lack
 
 /// `READ file [WITH LOCK] KEY item INTO item`
 #[tactic(auto, unfolding(crate::specs::FileForms::read_file))]
-fn read_file(alloc: Global, line: u32, rest: &mut Cursor<'_>) -> Result<Form, Lack>
-    ensures { Reads (spec.read_file line rest.old) result rest.new }
+fn read_file(alloc: Global, line: u32, rest: &mut FormCursor<'_>) -> Result<Form, Lack>
+    ensures { ReadsForm (spec.read_file line rest.old) result rest.new }
 {
     let file = file_name(alloc, rest)?;
     let locking = with_lock(rest)?;
@@ -57,8 +57,8 @@ fn read_file(alloc: Global, line: u32, rest: &mut Cursor<'_>) -> Result<Form, La
 
 /// `READ NEXT file [WITH LOCK] AFTER item INTO item`, behind NEXT.
 #[tactic(auto, unfolding(crate::specs::FileForms::read_next))]
-fn read_next(alloc: Global, line: u32, rest: &mut Cursor<'_>) -> Result<Form, Lack>
-    ensures { Reads (spec.read_next line rest.old) result rest.new }
+fn read_next(alloc: Global, line: u32, rest: &mut FormCursor<'_>) -> Result<Form, Lack>
+    ensures { ReadsForm (spec.read_next line rest.old) result rest.new }
 {
     let file = file_name(alloc, rest)?;
     let locking = with_lock(rest)?;
@@ -78,7 +78,7 @@ fn read_next(alloc: Global, line: u32, rest: &mut Cursor<'_>) -> Result<Form, La
 
 /// Whether NEXT, a file and AFTER or WITH come next: else NEXT is itself the name of the file.
 #[tactic(auto, unfolding(crate::specs::FileForms::sees_next))]
-fn sees_next(rest: &Cursor<'_>) -> bool
+fn sees_next(rest: &FormCursor<'_>) -> bool
     ensures { result ≡ spec.sees_next rest.now }
 {
     rest.sees(b"NEXT") && (rest.sees_third(b"AFTER") || rest.sees_third(b"WITH"))
@@ -86,8 +86,8 @@ fn sees_next(rest: &Cursor<'_>) -> bool
 
 /// The forms of READ.
 #[tactic(auto, unfolding(crate::specs::FileForms::read))]
-fn read(alloc: Global, line: u32, rest: &mut Cursor<'_>) -> Result<Form, Lack>
-    ensures { Reads (spec.read line rest.old) result rest.new }
+fn read(alloc: Global, line: u32, rest: &mut FormCursor<'_>) -> Result<Form, Lack>
+    ensures { ReadsForm (spec.read line rest.old) result rest.new }
 {
     if sees_next(rest) {
         rest.expects(b"NEXT")?;
@@ -101,8 +101,8 @@ fn read(alloc: Global, line: u32, rest: &mut Cursor<'_>) -> Result<Form, Lack>
 
 /// `WRITE $RECEIVE FROM item`, behind `$RECEIVE`.
 #[tactic(auto, unfolding(crate::specs::FileForms::reply))]
-fn reply(alloc: Global, line: u32, rest: &mut Cursor<'_>) -> Result<Form, Lack>
-    ensures { Reads (spec.reply line rest.old) result rest.new }
+fn reply(alloc: Global, line: u32, rest: &mut FormCursor<'_>) -> Result<Form, Lack>
+    ensures { ReadsForm (spec.reply line rest.old) result rest.new }
 {
     rest.expects(b"FROM")?;
     let from = operand(alloc, rest)?;
@@ -112,8 +112,8 @@ fn reply(alloc: Global, line: u32, rest: &mut Cursor<'_>) -> Result<Form, Lack>
 
 /// `WRITE file FROM item`
 #[tactic(auto, unfolding(crate::specs::FileForms::write_file))]
-fn write_file(alloc: Global, line: u32, rest: &mut Cursor<'_>) -> Result<Form, Lack>
-    ensures { Reads (spec.write_file line rest.old) result rest.new }
+fn write_file(alloc: Global, line: u32, rest: &mut FormCursor<'_>) -> Result<Form, Lack>
+    ensures { ReadsForm (spec.write_file line rest.old) result rest.new }
 {
     let file = file_name(alloc, rest)?;
     rest.expects(b"FROM")?;
@@ -124,8 +124,8 @@ fn write_file(alloc: Global, line: u32, rest: &mut Cursor<'_>) -> Result<Form, L
 
 /// The forms of WRITE.
 #[tactic(auto, unfolding(crate::specs::FileForms::write))]
-fn write(alloc: Global, line: u32, rest: &mut Cursor<'_>) -> Result<Form, Lack>
-    ensures { Reads (spec.write line rest.old) result rest.new }
+fn write(alloc: Global, line: u32, rest: &mut FormCursor<'_>) -> Result<Form, Lack>
+    ensures { ReadsForm (spec.write line rest.old) result rest.new }
 {
     if rest.eats(b"$RECEIVE") {
         reply(alloc, line, rest)
@@ -136,8 +136,8 @@ fn write(alloc: Global, line: u32, rest: &mut Cursor<'_>) -> Result<Form, Lack>
 
 /// `REWRITE file FROM item`
 #[tactic(auto, unfolding(crate::specs::FileForms::rewrite))]
-fn rewrite(alloc: Global, line: u32, rest: &mut Cursor<'_>) -> Result<Form, Lack>
-    ensures { Reads (spec.rewrite line rest.old) result rest.new }
+fn rewrite(alloc: Global, line: u32, rest: &mut FormCursor<'_>) -> Result<Form, Lack>
+    ensures { ReadsForm (spec.rewrite line rest.old) result rest.new }
 {
     let file = file_name(alloc, rest)?;
     rest.expects(b"FROM")?;
@@ -148,8 +148,8 @@ fn rewrite(alloc: Global, line: u32, rest: &mut Cursor<'_>) -> Result<Form, Lack
 
 /// `DELETE file KEY item`
 #[tactic(auto, unfolding(crate::specs::FileForms::delete))]
-fn delete(alloc: Global, line: u32, rest: &mut Cursor<'_>) -> Result<Form, Lack>
-    ensures { Reads (spec.delete line rest.old) result rest.new }
+fn delete(alloc: Global, line: u32, rest: &mut FormCursor<'_>) -> Result<Form, Lack>
+    ensures { ReadsForm (spec.delete line rest.old) result rest.new }
 {
     let file = file_name(alloc, rest)?;
     rest.expects(b"KEY")?;
@@ -164,9 +164,9 @@ pub fn file_form(
     alloc: Global,
     verb: FileVerb,
     line: u32,
-    rest: &mut Cursor<'_>,
+    rest: &mut FormCursor<'_>,
 ) -> Result<Form, Lack>
-    ensures { Reads (spec.file_form verb line rest.old) result rest.new }
+    ensures { ReadsForm (spec.file_form verb line rest.old) result rest.new }
 {
     if !rest.is_server() {
         return Err(Lack::NoForm);

@@ -1,25 +1,25 @@
 ghost use Rattle.std.specs.Prelude.{◌≡◌, codes};
-ghost use Rattle.pw_forms.specs.Readers.{Reads, some, up_to};
+ghost use Rattle.pw_forms.specs.Readers.{ReadsForm, some, up_to};
 ghost use Rattle.pw_forms.specs.Operands.{operand, name, key};
 ghost use Rattle.pw_forms.specs.Forms as spec;
 
 use crate::conditions::condition;
-use crate::cursor::Cursor;
+use crate::cursor::FormCursor;
 use crate::file_forms::file_form;
 use crate::form::{Form, Head};
 use crate::lack::Lack;
-use crate::lists::{Code, Codes, Keys, MAX_LISTED};
-use crate::mark::{TerminalVerb, TransactionVerb, Verb};
+use crate::lists::{SendCode, Codes, Keys, MAX_LISTED};
+use crate::mark::{TerminalVerb, TransactionVerb, StatementVerb};
 use crate::operand::Operand;
 use crate::operands::{code, key, name, operand, program_name};
-use crate::statement::{Arithmetic, Operation, Statement};
+use crate::statement::{ArithmeticForm, Operation, Statement};
 use pw_base::bytes::Bytes;
 use pw_base::list::List;
 use std::alloc::Global;
 
 /// One operand or more, to the end.
-fn operands(alloc: Global, rest: &mut Cursor<'_>) -> Result<List<Operand>, Lack>
-    ensures { Reads (some operand rest.old) result rest.new }
+fn operands(alloc: Global, rest: &mut FormCursor<'_>) -> Result<List<Operand>, Lack>
+    ensures { ReadsForm (some operand rest.old) result rest.new }
 {
     let mut found = List::new(alloc);
     for _turn in 0..rest.left() {
@@ -33,8 +33,8 @@ fn operands(alloc: Global, rest: &mut Cursor<'_>) -> Result<List<Operand>, Lack>
 
 /// `MOVE any TO item ..`
 #[tactic(auto, unfolding(crate::specs::Forms::move_form))]
-fn move_form(alloc: Global, line: u32, rest: &mut Cursor<'_>) -> Result<Form, Lack>
-    ensures { Reads (spec.move_form line rest.old) result rest.new }
+fn move_form(alloc: Global, line: u32, rest: &mut FormCursor<'_>) -> Result<Form, Lack>
+    ensures { ReadsForm (spec.move_form line rest.old) result rest.new }
 {
     let from = operand(alloc, rest)?;
     rest.expects(b"TO")?;
@@ -44,8 +44,8 @@ fn move_form(alloc: Global, line: u32, rest: &mut Cursor<'_>) -> Result<Form, La
 
 /// `GIVING item`, if it comes next.
 #[tactic(auto, unfolding(crate::specs::Forms::giving))]
-fn giving(alloc: Global, rest: &mut Cursor<'_>) -> Result<Option<Operand>, Lack>
-    ensures { Reads (spec.giving rest.old) result rest.new }
+fn giving(alloc: Global, rest: &mut FormCursor<'_>) -> Result<Option<Operand>, Lack>
+    ensures { ReadsForm (spec.giving rest.old) result rest.new }
 {
     if rest.eats(b"GIVING") {
         Ok(Some(operand(alloc, rest)?))
@@ -56,8 +56,8 @@ fn giving(alloc: Global, rest: &mut Cursor<'_>) -> Result<Option<Operand>, Lack>
 
 /// `ON SIZE ERROR`, if it comes next.
 #[tactic(auto, unfolding(crate::specs::Forms::on_size_error))]
-fn on_size_error(rest: &mut Cursor<'_>) -> Result<bool, Lack>
-    ensures { Reads (spec.on_size_error rest.old) result rest.new }
+fn on_size_error(rest: &mut FormCursor<'_>) -> Result<bool, Lack>
+    ensures { ReadsForm (spec.on_size_error rest.old) result rest.new }
 {
     if rest.eats(b"ON") {
         rest.expects(b"SIZE")?;
@@ -68,8 +68,8 @@ fn on_size_error(rest: &mut Cursor<'_>) -> Result<bool, Lack>
     }
 }
 
-/// Arithmetic, which `ON SIZE ERROR` makes one that opens a branch.
-fn arithmetic_by(line: u32, opens: bool, arithmetic: Arithmetic) -> Form
+/// ArithmeticForm, which `ON SIZE ERROR` makes one that opens a branch.
+fn arithmetic_by(line: u32, opens: bool, arithmetic: ArithmeticForm) -> Form
     ensures { result ≡ spec.arithmetic_by line opens arithmetic }
 {
     if opens {
@@ -86,9 +86,9 @@ fn arithmetic(
     line: u32,
     operation: Operation,
     word: &[u8],
-    rest: &mut Cursor<'_>,
+    rest: &mut FormCursor<'_>,
 ) -> Result<Form, Lack>
-    ensures { Reads (spec.arithmetic line operation word.now rest.old) result rest.new }
+    ensures { ReadsForm (spec.arithmetic line operation word.now rest.old) result rest.new }
 {
     let first = operand(alloc, rest)?;
     rest.expects(word)?;
@@ -96,7 +96,7 @@ fn arithmetic(
     let giving = giving(alloc, rest)?;
     let opens = on_size_error(rest)?;
     rest.ends()?;
-    let arithmetic = Arithmetic {
+    let arithmetic = ArithmeticForm {
         operation,
         first,
         second,
@@ -107,8 +107,8 @@ fn arithmetic(
 
 /// `IF cond [THEN]`
 #[tactic(auto, unfolding(crate::specs::Forms::if_form))]
-fn if_form(alloc: Global, line: u32, rest: &mut Cursor<'_>) -> Result<Form, Lack>
-    ensures { Reads (spec.if_form line rest.old) result rest.new }
+fn if_form(alloc: Global, line: u32, rest: &mut FormCursor<'_>) -> Result<Form, Lack>
+    ensures { ReadsForm (spec.if_form line rest.old) result rest.new }
 {
     let cond = condition(alloc, rest)?;
     rest.eats(b"THEN");
@@ -122,9 +122,9 @@ fn perform_until(
     alloc: Global,
     line: u32,
     paragraph: Bytes,
-    rest: &mut Cursor<'_>,
+    rest: &mut FormCursor<'_>,
 ) -> Result<Form, Lack>
-    ensures { Reads (spec.perform_until line paragraph rest.old) result rest.new }
+    ensures { ReadsForm (spec.perform_until line paragraph rest.old) result rest.new }
 {
     let cond = condition(alloc, rest)?;
     rest.ends()?;
@@ -141,9 +141,9 @@ fn perform_times(
     alloc: Global,
     line: u32,
     paragraph: Bytes,
-    rest: &mut Cursor<'_>,
+    rest: &mut FormCursor<'_>,
 ) -> Result<Form, Lack>
-    ensures { Reads (spec.perform_times line paragraph rest.old) result rest.new }
+    ensures { ReadsForm (spec.perform_times line paragraph rest.old) result rest.new }
 {
     let times = operand(alloc, rest)?;
     rest.expects(b"TIMES")?;
@@ -157,8 +157,8 @@ fn perform_times(
 
 /// `PERFORM p`, `PERFORM p UNTIL cond` or `PERFORM p num TIMES`
 #[tactic(auto, unfolding(crate::specs::Forms::perform_one))]
-fn perform_one(alloc: Global, line: u32, rest: &mut Cursor<'_>) -> Result<Form, Lack>
-    ensures { Reads (spec.perform_one line rest.old) result rest.new }
+fn perform_one(alloc: Global, line: u32, rest: &mut FormCursor<'_>) -> Result<Form, Lack>
+    ensures { ReadsForm (spec.perform_one line rest.old) result rest.new }
 {
     let paragraph = name(alloc, rest)?;
     if rest.eats(b"UNTIL") {
@@ -171,8 +171,8 @@ fn perform_one(alloc: Global, line: u32, rest: &mut Cursor<'_>) -> Result<Form, 
 }
 
 /// One name or more, up to DEPENDING.
-fn names(alloc: Global, rest: &mut Cursor<'_>) -> Result<List<Bytes>, Lack>
-    ensures { Reads (up_to (codes "DEPENDING") name rest.old) result rest.new }
+fn names(alloc: Global, rest: &mut FormCursor<'_>) -> Result<List<Bytes>, Lack>
+    ensures { ReadsForm (up_to (codes "DEPENDING") name rest.old) result rest.new }
 {
     let mut found = List::new(alloc);
     for _turn in 0..rest.left() {
@@ -186,8 +186,8 @@ fn names(alloc: Global, rest: &mut Cursor<'_>) -> Result<List<Bytes>, Lack>
 
 /// `PERFORM ONE OF p .. DEPENDING ON item`, behind ONE.
 #[tactic(auto, unfolding(crate::specs::Forms::perform_one_of))]
-fn perform_one_of(alloc: Global, line: u32, rest: &mut Cursor<'_>) -> Result<Form, Lack>
-    ensures { Reads (spec.perform_one_of line rest.old) result rest.new }
+fn perform_one_of(alloc: Global, line: u32, rest: &mut FormCursor<'_>) -> Result<Form, Lack>
+    ensures { ReadsForm (spec.perform_one_of line rest.old) result rest.new }
 {
     rest.expects(b"OF")?;
     let paragraphs = names(alloc, rest)?;
@@ -203,8 +203,8 @@ fn perform_one_of(alloc: Global, line: u32, rest: &mut Cursor<'_>) -> Result<For
 
 /// The forms of PERFORM.
 #[tactic(auto, unfolding(crate::specs::Forms::perform))]
-fn perform(alloc: Global, line: u32, rest: &mut Cursor<'_>) -> Result<Form, Lack>
-    ensures { Reads (spec.perform line rest.old) result rest.new }
+fn perform(alloc: Global, line: u32, rest: &mut FormCursor<'_>) -> Result<Form, Lack>
+    ensures { ReadsForm (spec.perform line rest.old) result rest.new }
 {
     if rest.eats(b"ONE") {
         perform_one_of(alloc, line, rest)
@@ -215,8 +215,8 @@ fn perform(alloc: Global, line: u32, rest: &mut Cursor<'_>) -> Result<Form, Lack
 
 /// `EXIT` or `EXIT PROGRAM`
 #[tactic(auto, unfolding(crate::specs::Forms::exit))]
-fn exit(line: u32, rest: &mut Cursor<'_>) -> Result<Form, Lack>
-    ensures { Reads (spec.exit line rest.old) result rest.new }
+fn exit(line: u32, rest: &mut FormCursor<'_>) -> Result<Form, Lack>
+    ensures { ReadsForm (spec.exit line rest.old) result rest.new }
 {
     let program = rest.eats(b"PROGRAM");
     rest.ends()?;
@@ -229,8 +229,8 @@ fn exit(line: u32, rest: &mut Cursor<'_>) -> Result<Form, Lack>
 
 /// `STOP RUN`
 #[tactic(auto, unfolding(crate::specs::Forms::stop))]
-fn stop(line: u32, rest: &mut Cursor<'_>) -> Result<Form, Lack>
-    ensures { Reads (spec.stop line rest.old) result rest.new }
+fn stop(line: u32, rest: &mut FormCursor<'_>) -> Result<Form, Lack>
+    ensures { ReadsForm (spec.stop line rest.old) result rest.new }
 {
     rest.expects(b"RUN")?;
     rest.ends()?;
@@ -239,8 +239,8 @@ fn stop(line: u32, rest: &mut Cursor<'_>) -> Result<Form, Lack>
 
 /// `DISPLAY BASE screen`, behind BASE.
 #[tactic(auto, unfolding(crate::specs::Forms::display_base))]
-fn display_base(alloc: Global, line: u32, rest: &mut Cursor<'_>) -> Result<Form, Lack>
-    ensures { Reads (spec.display_base line rest.old) result rest.new }
+fn display_base(alloc: Global, line: u32, rest: &mut FormCursor<'_>) -> Result<Form, Lack>
+    ensures { ReadsForm (spec.display_base line rest.old) result rest.new }
 {
     let screen = name(alloc, rest)?;
     rest.ends()?;
@@ -249,8 +249,8 @@ fn display_base(alloc: Global, line: u32, rest: &mut Cursor<'_>) -> Result<Form,
 
 /// `DISPLAY screen` or `DISPLAY any`
 #[tactic(auto, unfolding(crate::specs::Forms::display_any))]
-fn display_any(alloc: Global, line: u32, rest: &mut Cursor<'_>) -> Result<Form, Lack>
-    ensures { Reads (spec.display_any line rest.old) result rest.new }
+fn display_any(alloc: Global, line: u32, rest: &mut FormCursor<'_>) -> Result<Form, Lack>
+    ensures { ReadsForm (spec.display_any line rest.old) result rest.new }
 {
     let shown = operand(alloc, rest)?;
     rest.ends()?;
@@ -259,8 +259,8 @@ fn display_any(alloc: Global, line: u32, rest: &mut Cursor<'_>) -> Result<Form, 
 
 /// The forms of DISPLAY.
 #[tactic(auto, unfolding(crate::specs::Forms::display))]
-fn display(alloc: Global, line: u32, rest: &mut Cursor<'_>) -> Result<Form, Lack>
-    ensures { Reads (spec.display line rest.old) result rest.new }
+fn display(alloc: Global, line: u32, rest: &mut FormCursor<'_>) -> Result<Form, Lack>
+    ensures { ReadsForm (spec.display line rest.old) result rest.new }
 {
     if rest.eats(b"BASE") {
         display_base(alloc, line, rest)
@@ -270,8 +270,8 @@ fn display(alloc: Global, line: u32, rest: &mut Cursor<'_>) -> Result<Form, Lack
 }
 
 /// One key or more, to the end.
-fn keys(alloc: Global, rest: &mut Cursor<'_>) -> Result<List<u8>, Lack>
-    ensures { Reads (some key rest.old) result rest.new }
+fn keys(alloc: Global, rest: &mut FormCursor<'_>) -> Result<List<u8>, Lack>
+    ensures { ReadsForm (some key rest.old) result rest.new }
 {
     let mut found = List::new(alloc);
     for _turn in 0..rest.left() {
@@ -285,8 +285,8 @@ fn keys(alloc: Global, rest: &mut Cursor<'_>) -> Result<List<u8>, Lack>
 
 /// `ACCEPT screen UNTIL key ..`
 #[tactic(auto, unfolding(crate::specs::Forms::accept, crate::specs::Forms::at_most))]
-fn accept(alloc: Global, line: u32, rest: &mut Cursor<'_>) -> Result<Form, Lack>
-    ensures { Reads (spec.accept line rest.old) result rest.new }
+fn accept(alloc: Global, line: u32, rest: &mut FormCursor<'_>) -> Result<Form, Lack>
+    ensures { ReadsForm (spec.accept line rest.old) result rest.new }
 {
     let screen = name(alloc, rest)?;
     rest.expects(b"UNTIL")?;
@@ -300,8 +300,8 @@ fn accept(alloc: Global, line: u32, rest: &mut Cursor<'_>) -> Result<Form, Lack>
 
 /// `USING item ..`, or nothing.
 #[tactic(auto, unfolding(crate::specs::Forms::using))]
-fn using(alloc: Global, rest: &mut Cursor<'_>) -> Result<List<Operand>, Lack>
-    ensures { Reads (spec.using rest.old) result rest.new }
+fn using(alloc: Global, rest: &mut FormCursor<'_>) -> Result<List<Operand>, Lack>
+    ensures { ReadsForm (spec.using rest.old) result rest.new }
 {
     if rest.eats(b"USING") {
         operands(alloc, rest)
@@ -313,8 +313,8 @@ fn using(alloc: Global, rest: &mut Cursor<'_>) -> Result<List<Operand>, Lack>
 
 /// `CALL program [USING item ..]`
 #[tactic(auto, unfolding(crate::specs::Forms::call))]
-fn call(alloc: Global, line: u32, rest: &mut Cursor<'_>) -> Result<Form, Lack>
-    ensures { Reads (spec.call line rest.old) result rest.new }
+fn call(alloc: Global, line: u32, rest: &mut FormCursor<'_>) -> Result<Form, Lack>
+    ensures { ReadsForm (spec.call line rest.old) result rest.new }
 {
     let program = program_name(alloc, rest)?;
     let arguments = using(alloc, rest)?;
@@ -327,19 +327,19 @@ fn call(alloc: Global, line: u32, rest: &mut Cursor<'_>) -> Result<Form, Lack>
 
 /// `CODE n YIELDS item`
 #[tactic(auto, unfolding(crate::specs::Forms::code_clause))]
-fn code_clause(alloc: Global, rest: &mut Cursor<'_>) -> Result<Code, Lack>
-    ensures { Reads (spec.code_clause rest.old) result rest.new }
+fn code_clause(alloc: Global, rest: &mut FormCursor<'_>) -> Result<SendCode, Lack>
+    ensures { ReadsForm (spec.code_clause rest.old) result rest.new }
 {
     rest.expects(b"CODE")?;
     let number = code(rest)?;
     rest.expects(b"YIELDS")?;
     let yields = operand(alloc, rest)?;
-    Ok(Code { number, yields })
+    Ok(SendCode { number, yields })
 }
 
 /// One code or more, to the end.
-fn code_clauses(alloc: Global, rest: &mut Cursor<'_>) -> Result<List<Code>, Lack>
-    ensures { Reads (some spec.code_clause rest.old) result rest.new }
+fn code_clauses(alloc: Global, rest: &mut FormCursor<'_>) -> Result<List<SendCode>, Lack>
+    ensures { ReadsForm (some spec.code_clause rest.old) result rest.new }
 {
     let mut found = List::new(alloc);
     for _turn in 0..rest.left() {
@@ -353,8 +353,8 @@ fn code_clauses(alloc: Global, rest: &mut Cursor<'_>) -> Result<List<Code>, Lack
 
 /// `SEND item TO class REPLY CODE n YIELDS item [CODE n YIELDS item] ..`
 #[tactic(auto, unfolding(crate::specs::Forms::send, crate::specs::Forms::at_most))]
-fn send(alloc: Global, line: u32, rest: &mut Cursor<'_>) -> Result<Form, Lack>
-    ensures { Reads (spec.send line rest.old) result rest.new }
+fn send(alloc: Global, line: u32, rest: &mut FormCursor<'_>) -> Result<Form, Lack>
+    ensures { ReadsForm (spec.send line rest.old) result rest.new }
 {
     let message = operand(alloc, rest)?;
     rest.expects(b"TO")?;
@@ -399,8 +399,8 @@ fn transaction(verb: TransactionVerb, line: u32) -> Statement
 
 /// The form of a verb of transactions, which has nothing behind it.
 #[tactic(auto, unfolding(crate::specs::Forms::transaction_form))]
-fn transaction_form(verb: TransactionVerb, line: u32, rest: &mut Cursor<'_>) -> Result<Form, Lack>
-    ensures { Reads (spec.transaction_form verb line rest.old) result rest.new }
+fn transaction_form(verb: TransactionVerb, line: u32, rest: &mut FormCursor<'_>) -> Result<Form, Lack>
+    ensures { ReadsForm (spec.transaction_form verb line rest.old) result rest.new }
 {
     rest.ends()?;
     Ok(Form::Whole(transaction(verb, line)))
@@ -411,9 +411,9 @@ fn terminal_form(
     alloc: Global,
     verb: TerminalVerb,
     line: u32,
-    rest: &mut Cursor<'_>,
+    rest: &mut FormCursor<'_>,
 ) -> Result<Form, Lack>
-    ensures { Reads (spec.terminal_form verb line rest.old) result rest.new }
+    ensures { ReadsForm (spec.terminal_form verb line rest.old) result rest.new }
 {
     match verb {
         TerminalVerb::Accept => accept(alloc, line, rest),
@@ -426,19 +426,19 @@ fn terminal_form(
 
 /// The form of a verb, which reads the piece behind it to its end.
 #[tactic(auto, unfolding(crate::specs::Forms::form))]
-pub fn form(alloc: Global, verb: Verb, line: u32, rest: &mut Cursor<'_>) -> Result<Form, Lack>
-    ensures { Reads (spec.form verb line rest.old) result rest.new }
+pub fn form(alloc: Global, verb: StatementVerb, line: u32, rest: &mut FormCursor<'_>) -> Result<Form, Lack>
+    ensures { ReadsForm (spec.form verb line rest.old) result rest.new }
 {
     match verb {
-        Verb::Exit => exit(line, rest),
-        Verb::If => if_form(alloc, line, rest),
-        Verb::Move => move_form(alloc, line, rest),
-        Verb::Perform => perform(alloc, line, rest),
-        Verb::Stop => stop(line, rest),
-        Verb::Arithmetic(operation) => {
+        StatementVerb::Exit => exit(line, rest),
+        StatementVerb::If => if_form(alloc, line, rest),
+        StatementVerb::Move => move_form(alloc, line, rest),
+        StatementVerb::Perform => perform(alloc, line, rest),
+        StatementVerb::Stop => stop(line, rest),
+        StatementVerb::Arithmetic(operation) => {
             arithmetic(alloc, line, operation, between(operation), rest)
         }
-        Verb::File(verb) => file_form(alloc, verb, line, rest),
-        Verb::Terminal(verb) => terminal_form(alloc, verb, line, rest),
+        StatementVerb::File(verb) => file_form(alloc, verb, line, rest),
+        StatementVerb::Terminal(verb) => terminal_form(alloc, verb, line, rest),
     }
 }

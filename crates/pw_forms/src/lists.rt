@@ -47,7 +47,7 @@ impl Keys {
 
 /// One code of a SEND, 0 to 9999, and the item to which a reply of this code goes.
 #[derive(Debug, Drop)]
-pub struct Code {
+pub struct SendCode {
     pub number: u16,
     pub yields: Operand,
 }
@@ -55,14 +55,14 @@ pub struct Code {
 /// The codes of a SEND, at most 9,999, in their order.
 #[derive(Debug, Drop)]
 pub struct Codes {
-    codes: List<Code>,
+    codes: List<SendCode>,
 }
 
 impl Model for Codes {
     ghost use Rattle.std.specs.Prelude.{◌≤◌, List as ListOf, length};
-    ghost use Rattle.pw_forms.specs.declared.lists.Code.{Code};
+    ghost use Rattle.pw_forms.specs.declared.lists.SendCode.{SendCode};
 
-    ghost Value = { ListOf Code };
+    ghost Value = { ListOf SendCode };
 
     ghost view = { λ codes. codes.codes };
 
@@ -71,7 +71,7 @@ impl Model for Codes {
 
 impl Codes {
     /// The codes of a SEND, at most `MAX_LISTED` of them. It takes no memory.
-    pub fn new(codes: List<Code>) -> Codes
+    pub fn new(codes: List<SendCode>) -> Codes
         requires { length codes ≤ 9999 }
         ensures { result ≡ codes }
     {
@@ -79,7 +79,7 @@ impl Codes {
     }
 
     /// The codes in their order. It takes no memory.
-    pub fn as_slice(&self) -> &[Code]
+    pub fn as_slice(&self) -> &[SendCode]
         ensures codes { result.now ≡ self.now }
         ensures bound { length result.now ≤ 9999 }
     {

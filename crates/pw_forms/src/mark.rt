@@ -30,7 +30,7 @@ pub enum TerminalVerb {
 
 /// The words that begin a statement.
 #[derive(Clone, Copy, Debug, PartialEq, Eq)]
-pub enum Verb {
+pub enum StatementVerb {
     Exit,
     If,
     Move,
@@ -43,8 +43,8 @@ pub enum Verb {
 
 /// What begins with a token.
 #[derive(Clone, Copy, Debug, PartialEq, Eq)]
-pub enum Mark {
-    Verb(Verb),
+pub enum TokenMark {
+    Verb(StatementVerb),
     Else,
     EndIf,
     Period,

@@ -1,9 +1,9 @@
 ghost use Rattle.std.specs.Prelude.{◌≡◌, ◌<◌, ◌≤◌, IfSome, length, position};
-ghost use Rattle.pw_words.specs.Words.{place_of, same_word};
-ghost use Rattle.pw_forms.specs.Readers.{Reads, Rest};
+ghost use Rattle.pw_words.specs.Words.{word_place, same_word};
+ghost use Rattle.pw_forms.specs.Readers.{ReadsForm, Rest};
 ghost use Rattle.pw_forms.specs.Operands as spec;
 
-use crate::cursor::Cursor;
+use crate::cursor::FormCursor;
 use crate::lack::Lack;
 use crate::literal::{is_code, value_of};
 use crate::operand::{Operand, Subscript};
@@ -22,8 +22,8 @@ const KEY_WORDS: &[&[u8]] = &[
 ];
 
 /// The value of a subscript that a token is: a number, or the name of an item.
-fn subscript_by(alloc: Global, rest: &Cursor<'_>, value: Token) -> Result<Subscript, Lack>
-    ensures { Reads (spec.subscript_by value.kind value rest.now) result rest.now }
+fn subscript_by(alloc: Global, rest: &FormCursor<'_>, value: Token) -> Result<Subscript, Lack>
+    ensures { ReadsForm (spec.subscript_by value.kind value rest.now) result rest.now }
 {
     match value.kind {
         TokenKind::Number => {
@@ -41,8 +41,8 @@ fn subscript_by(alloc: Global, rest: &Cursor<'_>, value: Token) -> Result<Subscr
 
 /// A subscript in parentheses, where one opens.
 #[tactic(auto, unfolding(crate::specs::Operands::subscript_behind))]
-fn subscript_behind(alloc: Global, rest: &mut Cursor<'_>) -> Result<Option<Subscript>, Lack>
-    ensures { Reads (spec.subscript_behind rest.old) result rest.new }
+fn subscript_behind(alloc: Global, rest: &mut FormCursor<'_>) -> Result<Option<Subscript>, Lack>
+    ensures { ReadsForm (spec.subscript_behind rest.old) result rest.new }
 {
     if !rest.takes(TokenKind::LeftParen) {
         return Ok(None);
@@ -58,8 +58,8 @@ fn subscript_behind(alloc: Global, rest: &mut Cursor<'_>) -> Result<Option<Subsc
 
 /// The item of a name.
 #[tactic(auto, unfolding(crate::specs::Operands::item))]
-fn item(alloc: Global, rest: &mut Cursor<'_>, name: Token) -> Result<Operand, Lack>
-    ensures { Reads (spec.item name rest.old) result rest.new }
+fn item(alloc: Global, rest: &mut FormCursor<'_>, name: Token) -> Result<Operand, Lack>
+    ensures { ReadsForm (spec.item name rest.old) result rest.new }
 {
     let subscript = subscript_behind(alloc, rest)?;
     let name = name_in(alloc, rest.text(), name)?;
@@ -83,8 +83,8 @@ fn figurative(text: &[u8], word: Token) -> Option<Operand>
 }
 
 /// The operand that begins with a token.
-fn operand_by(alloc: Global, rest: &mut Cursor<'_>, first: Token) -> Result<Operand, Lack>
-    ensures { Reads (spec.operand_by first.kind first rest.old) result rest.new }
+fn operand_by(alloc: Global, rest: &mut FormCursor<'_>, first: Token) -> Result<Operand, Lack>
+    ensures { ReadsForm (spec.operand_by first.kind first rest.old) result rest.new }
 {
     match first.kind {
         TokenKind::Number => {
@@ -109,8 +109,8 @@ fn operand_by(alloc: Global, rest: &mut Cursor<'_>, first: Token) -> Result<Oper
 
 /// An item, a literal, SPACES or ZEROS.
 #[tactic(auto, unfolding(crate::specs::Operands::operand))]
-pub fn operand(alloc: Global, rest: &mut Cursor<'_>) -> Result<Operand, Lack>
-    ensures { Reads (spec.operand rest.old) result rest.new }
+pub fn operand(alloc: Global, rest: &mut FormCursor<'_>) -> Result<Operand, Lack>
+    ensures { ReadsForm (spec.operand rest.old) result rest.new }
 {
     let first = rest.next()?;
     operand_by(alloc, rest, first)
@@ -118,8 +118,8 @@ pub fn operand(alloc: Global, rest: &mut Cursor<'_>) -> Result<Operand, Lack>
 
 /// The name of a paragraph or of a screen, in upper case.
 #[tactic(auto, unfolding(crate::specs::Operands::name))]
-pub fn name(alloc: Global, rest: &mut Cursor<'_>) -> Result<Bytes, Lack>
-    ensures { Reads (spec.name rest.old) result rest.new }
+pub fn name(alloc: Global, rest: &mut FormCursor<'_>) -> Result<Bytes, Lack>
+    ensures { ReadsForm (spec.name rest.old) result rest.new }
 {
     let word = rest.next()?;
     if is_name(rest.is_server(), rest.text(), word) {
@@ -131,8 +131,8 @@ pub fn name(alloc: Global, rest: &mut Cursor<'_>) -> Result<Bytes, Lack>
 
 /// The name of a file, in upper case. It may be a table word.
 #[tactic(auto, unfolding(crate::specs::Operands::file_name))]
-pub fn file_name(alloc: Global, rest: &mut Cursor<'_>) -> Result<Bytes, Lack>
-    ensures { Reads (spec.file_name rest.old) result rest.new }
+pub fn file_name(alloc: Global, rest: &mut FormCursor<'_>) -> Result<Bytes, Lack>
+    ensures { ReadsForm (spec.file_name rest.old) result rest.new }
 {
     let word = rest.next()?;
     if word.kind.is(TokenKind::Word) && !is_receive(rest.text(), word) {
@@ -143,8 +143,8 @@ pub fn file_name(alloc: Global, rest: &mut Cursor<'_>) -> Result<Bytes, Lack>
 }
 
 /// The name of a program or a class that a token is.
-fn program_by(alloc: Global, rest: &Cursor<'_>, first: Token) -> Result<Bytes, Lack>
-    ensures { Reads (spec.program_by first.kind first rest.now) result rest.now }
+fn program_by(alloc: Global, rest: &FormCursor<'_>, first: Token) -> Result<Bytes, Lack>
+    ensures { ReadsForm (spec.program_by first.kind first rest.now) result rest.now }
 {
     match first.kind {
         TokenKind::Text => Ok(unquoted(alloc, first.spelling(rest.text()))?),
@@ -161,8 +161,8 @@ fn program_by(alloc: Global, rest: &Cursor<'_>, first: Token) -> Result<Bytes, L
 /// The name of a program or a class: a word, which may be a table word, in upper case, or a text
 /// with exactly its characters.
 #[tactic(auto, unfolding(crate::specs::Operands::program_name))]
-pub fn program_name(alloc: Global, rest: &mut Cursor<'_>) -> Result<Bytes, Lack>
-    ensures { Reads (spec.program_name rest.old) result rest.new }
+pub fn program_name(alloc: Global, rest: &mut FormCursor<'_>) -> Result<Bytes, Lack>
+    ensures { ReadsForm (spec.program_name rest.old) result rest.new }
 {
     let first = rest.next()?;
     program_by(alloc, rest, first)
@@ -178,7 +178,7 @@ fn place_in(rows: &[&[u8]], word: &[u8]) -> Option<usize>
 
 /// The place of a word among the names of the keys.
 fn key_place(word: &[u8]) -> Option<usize>
-    ensures place { result ≡ place_of spec.key_words word.now }
+    ensures place { result ≡ word_place spec.key_words word.now }
     ensures bound { IfSome result (λ place. place ≤ 31) }
 {
     place_in(KEY_WORDS, word)
@@ -195,8 +195,8 @@ fn key_of(word: &[u8]) -> Option<u8>
 
 /// A key, by its number.
 #[tactic(auto, unfolding(crate::specs::Operands::key))]
-pub fn key(rest: &mut Cursor<'_>) -> Result<u8, Lack>
-    ensures { Reads (spec.key rest.old) result rest.new }
+pub fn key(rest: &mut FormCursor<'_>) -> Result<u8, Lack>
+    ensures { ReadsForm (spec.key rest.old) result rest.new }
 {
     let word = rest.next()?;
     if !word.kind.is(TokenKind::Word) {
@@ -210,8 +210,8 @@ pub fn key(rest: &mut Cursor<'_>) -> Result<u8, Lack>
 
 /// The number of a code, 0 to 9999.
 #[tactic(auto, unfolding(crate::specs::Operands::code))]
-pub fn code(rest: &mut Cursor<'_>) -> Result<u16, Lack>
-    ensures { Reads (spec.code rest.old) result rest.new }
+pub fn code(rest: &mut FormCursor<'_>) -> Result<u16, Lack>
+    ensures { ReadsForm (spec.code rest.old) result rest.new }
 {
     let number = rest.next()?;
     let digits = number.spelling(rest.text());

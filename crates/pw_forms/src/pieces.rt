@@ -2,11 +2,11 @@ ghost use Rattle.std.specs.Prelude.{◌≡◌, ◌<◌, ◌≤◌, IfOk, length}
 ghost use Rattle.pw_forms.specs.Words.{mark_of};
 ghost use Rattle.pw_forms.specs.Pieces as spec;
 
-use crate::cursor::Cursor;
+use crate::cursor::FormCursor;
 use crate::form::Form;
 use crate::forms::form;
 use crate::lack::Lack;
-use crate::mark::{Mark, Verb};
+use crate::mark::{TokenMark, StatementVerb};
 use crate::piece::{Piece, Placed};
 use crate::words::{begins_piece, is_receive, is_table_word, mark_of, name_in};
 use pw_base::fault_code::FaultCode;
@@ -15,19 +15,19 @@ use pw_text::token::{Token, TokenKind};
 use std::alloc::Global;
 
 /// Whether a mark is a period.
-fn is_period(mark: Mark) -> bool
+fn is_period(mark: TokenMark) -> bool
     ensures { result ≡ spec.is_period mark }
 {
-    matches!(mark, Mark::Period)
+    matches!(mark, TokenMark::Period)
 }
 
 /// What the first of some tokens begins.
-fn first_mark(server: bool, text: &[u8], tokens: &[Token]) -> Mark
+fn first_mark(server: bool, text: &[u8], tokens: &[Token]) -> TokenMark
     ensures { result ≡ spec.first_mark server text.now tokens.now }
 {
     match tokens {
         [token, ..] => mark_of(server, text, *token),
-        [] => Mark::Other,
+        [] => TokenMark::Other,
     }
 }
 
@@ -70,10 +70,10 @@ pub fn piece_size(server: bool, text: &[u8], tokens: &[Token]) -> usize
 }
 
 /// Whether a verb is not for servers.
-fn is_barred(verb: Verb) -> bool
+fn is_barred(verb: StatementVerb) -> bool
     ensures { result ≡ spec.is_barred verb }
 {
-    matches!(verb, Verb::Terminal(_))
+    matches!(verb, StatementVerb::Terminal(_))
 }
 
 /// The piece of a verb and the tokens behind it.
@@ -82,7 +82,7 @@ fn verb_piece(
     server: bool,
     text: &[u8],
     line: u32,
-    verb: Verb,
+    verb: StatementVerb,
     tokens: &[Token],
 ) -> Result<Piece, Memory>
     ensures { IfOk result (λ piece. piece ≡ spec.verb_piece server text.now line verb tokens.now) }
@@ -90,7 +90,7 @@ fn verb_piece(
     if server && is_barred(verb) {
         return Ok(Piece::Fault(FaultCode::NotForServers));
     }
-    let mut rest = Cursor::new(server, text, tokens);
+    let mut rest = FormCursor::new(server, text, tokens);
     match form(alloc, verb, line, &mut rest) {
         Ok(Form::Whole(statement)) => Ok(Piece::Whole(statement)),
         Ok(Form::Opens(head)) => Ok(Piece::Opens(head)),
@@ -145,12 +145,12 @@ fn piece_by(
         server text.now followed first tokens.now) }
 {
     match mark_of(server, text, first) {
-        Mark::Verb(verb) => verb_piece(alloc, server, text, first.line, verb, tokens),
-        Mark::Else if tokens.is_empty() => Ok(Piece::Else),
-        Mark::EndIf if tokens.is_empty() => Ok(Piece::EndIf),
-        Mark::Else | Mark::EndIf => Ok(Piece::Fault(FaultCode::NoSuchForm)),
-        Mark::Period => Ok(Piece::Period),
-        Mark::Other => run_piece(alloc, server, text, followed, first, tokens),
+        TokenMark::Verb(verb) => verb_piece(alloc, server, text, first.line, verb, tokens),
+        TokenMark::Else if tokens.is_empty() => Ok(Piece::Else),
+        TokenMark::EndIf if tokens.is_empty() => Ok(Piece::EndIf),
+        TokenMark::Else | TokenMark::EndIf => Ok(Piece::Fault(FaultCode::NoSuchForm)),
+        TokenMark::Period => Ok(Piece::Period),
+        TokenMark::Other => run_piece(alloc, server, text, followed, first, tokens),
     }
 }
 

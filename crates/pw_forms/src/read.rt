@@ -1,18 +1,18 @@
 ghost use Rattle.std.specs.Prelude.{◌≡◌, ◌∷◌, [], List, IfOk, OnOk};
 ghost use Rattle.pw_base.specs.First.{least, Gives};
 ghost use Rattle.pw_words.specs.Names.{has_name};
-ghost use Rattle.pw_forms.specs.Faults.{is_name, early, code_unless, code_of, taken_after, fault_at};
+ghost use Rattle.pw_forms.specs.Faults.{is_paragraph_name, early, code_unless, piece_fault_code, taken_after, fault_at};
 ghost use Rattle.pw_forms.specs.Built.{outcome};
 ghost use Rattle.pw_forms.specs.Blocks.{branches};
 ghost use Rattle.pw_forms.specs.Procedures.{outcome_of, procedure_of};
 ghost use Rattle.pw_forms.specs.declared.piece.Placed.{Placed as PlacedPiece};
 
-use crate::branch::Block;
-use crate::build::Build;
+use crate::branch::OpenParagraph;
+use crate::build::ParagraphBuilder;
 use crate::names::put_name;
 use crate::piece::{Piece, Placed};
 use crate::pieces::{begins_with_period, piece_size, placed};
-use crate::reading::Reading;
+use crate::reading::ProcedureReading;
 use crate::statement::Procedure;
 use pw_base::fault::{Fault, Refusal, better};
 use pw_base::fault_code::FaultCode;
@@ -23,7 +23,7 @@ use std::alloc::Global;
 
 /// Whether a piece is the name of a paragraph.
 fn is_name(piece: &Piece) -> bool
-    ensures { result ≡ is_name piece.now }
+    ensures { result ≡ is_paragraph_name piece.now }
 {
     matches!(piece, Piece::Name(_))
 }
@@ -46,11 +46,11 @@ fn early(begun: bool, piece: &Piece) -> Option<FaultCode>
 fn code_of(
     alloc: Global,
     names: &mut Names,
-    block: &Block,
+    block: &OpenParagraph,
     piece: &Piece,
 ) -> Result<Option<FaultCode>, Memory>
     ensures code { IfOk result (λ code.
-        code ≡ code_of (has_name names.old) (branches block.now.open.items) piece.now) }
+        code ≡ piece_fault_code (has_name names.old) (branches block.now.open.items) piece.now) }
     ensures names { OnOk result (has_name names.new ≡ taken_after (has_name names.old) piece.now) }
 {
     match piece {
@@ -76,15 +76,15 @@ fn noted_code(known: Option<Fault>, line: u32, code: Option<FaultCode>) -> Optio
     }
 }
 
-impl Reading {
+impl ProcedureReading {
     /// No piece was read. It takes no memory.
-    fn new(alloc: Global) -> Reading
+    fn new(alloc: Global) -> ProcedureReading
         ensures { (pieces : List PlacedPiece) → outcome result pieces ≡ outcome_of pieces }
     {
-        Reading {
+        ProcedureReading {
             known: None,
             names: Names::new(alloc),
-            build: Build::new(alloc),
+            build: ParagraphBuilder::new(alloc),
         }
     }
 
@@ -131,7 +131,7 @@ pub fn procedure(
 ) -> Result<Procedure, Refusal>
     ensures { Gives (λ procedure. procedure) result (procedure_of server text.now tokens.now) }
 {
-    let mut reading = Reading::new(alloc);
+    let mut reading = ProcedureReading::new(alloc);
     let mut rest = tokens;
     while !rest.is_empty() {
         let (piece, behind) = rest.split_at(piece_size(server, text, rest));

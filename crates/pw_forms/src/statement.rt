@@ -1,4 +1,4 @@
-use crate::cond::Cond;
+use crate::cond::ConditionForm;
 use crate::lists::{Codes, Keys};
 use crate::operand::Operand;
 use pw_base::bytes::Bytes;
@@ -19,7 +19,7 @@ pub enum Operation {
 
 /// ADD, SUBTRACT, MULTIPLY or DIVIDE. The item of GIVING receives, else the second operand.
 #[derive(Debug, Drop)]
-pub struct Arithmetic {
+pub struct ArithmeticForm {
     pub operation: Operation,
     pub first: Operand,
     pub second: Operand,
@@ -35,22 +35,22 @@ pub enum Statement {
         from: Operand,
         to: List<Operand>,
     },
-    /// Arithmetic without ON SIZE ERROR.
+    /// ArithmeticForm without ON SIZE ERROR.
     Arithmetic {
         line: u32,
-        arithmetic: Arithmetic,
+        arithmetic: ArithmeticForm,
     },
-    /// Arithmetic with ON SIZE ERROR: `first` is done on a size error, else `second`.
+    /// ArithmeticForm with ON SIZE ERROR: `first` is done on a size error, else `second`.
     OnSizeError {
         line: u32,
-        arithmetic: Arithmetic,
+        arithmetic: ArithmeticForm,
         first: List<Statement>,
         second: List<Statement>,
     },
     /// `IF cond [THEN]`: `first` is done where it holds, else `second`.
     If {
         line: u32,
-        cond: Cond,
+        cond: ConditionForm,
         first: List<Statement>,
         second: List<Statement>,
     },
@@ -69,7 +69,7 @@ pub enum Statement {
     PerformUntil {
         line: u32,
         paragraph: Bytes,
-        cond: Cond,
+        cond: ConditionForm,
     },
     /// `PERFORM ONE OF paragraph .. DEPENDING ON position`
     PerformOneOf {

@@ -1,7 +1,7 @@
 ghost use Rattle.std.specs.Prelude.{◌≡◌, IfOk};
-ghost use Rattle.pw_forms.specs.Words.{table_place, is_table_word, mark_in, mark_at, mark_of, begins_piece, is_receive, is_name, is_register, is_item_name, name_in};
+ghost use Rattle.pw_forms.specs.Words.{table_place, is_table_word, mark_in, mark_at, mark_of, begins_piece, is_receive, is_name_token, is_register, is_item_name, token_name};
 
-use crate::mark::{FileVerb, Mark, TerminalVerb, TransactionVerb, Verb};
+use crate::mark::{FileVerb, TokenMark, TerminalVerb, TransactionVerb, StatementVerb};
 use crate::statement::Operation;
 use pw_base::bytes::Bytes;
 use pw_base::memory::Memory;
@@ -10,30 +10,30 @@ use pw_words::texts::{requester_words, server_words};
 use std::alloc::Global;
 
 /// The words that begin a piece, in the order in which both tables begin with them.
-const MARKS: &[Mark] = &[
-    Mark::Verb(Verb::Terminal(TerminalVerb::Accept)),
-    Mark::Verb(Verb::Terminal(TerminalVerb::Transaction(TransactionVerb::Abort))),
-    Mark::Verb(Verb::Arithmetic(Operation::Add)),
-    Mark::Verb(Verb::Terminal(TerminalVerb::Transaction(TransactionVerb::Begin))),
-    Mark::Verb(Verb::Terminal(TerminalVerb::Call)),
-    Mark::Verb(Verb::File(FileVerb::Delete)),
-    Mark::Verb(Verb::Terminal(TerminalVerb::Display)),
-    Mark::Verb(Verb::Arithmetic(Operation::Divide)),
-    Mark::Verb(Verb::Terminal(TerminalVerb::Transaction(TransactionVerb::End))),
-    Mark::Verb(Verb::Exit),
-    Mark::Verb(Verb::If),
-    Mark::Verb(Verb::Move),
-    Mark::Verb(Verb::Arithmetic(Operation::Multiply)),
-    Mark::Verb(Verb::Perform),
-    Mark::Verb(Verb::File(FileVerb::Read)),
-    Mark::Verb(Verb::Terminal(TerminalVerb::Transaction(TransactionVerb::Restart))),
-    Mark::Verb(Verb::File(FileVerb::Rewrite)),
-    Mark::Verb(Verb::Terminal(TerminalVerb::Send)),
-    Mark::Verb(Verb::Stop),
-    Mark::Verb(Verb::Arithmetic(Operation::Subtract)),
-    Mark::Verb(Verb::File(FileVerb::Write)),
-    Mark::Else,
-    Mark::EndIf,
+const MARKS: &[TokenMark] = &[
+    TokenMark::Verb(StatementVerb::Terminal(TerminalVerb::Accept)),
+    TokenMark::Verb(StatementVerb::Terminal(TerminalVerb::Transaction(TransactionVerb::Abort))),
+    TokenMark::Verb(StatementVerb::Arithmetic(Operation::Add)),
+    TokenMark::Verb(StatementVerb::Terminal(TerminalVerb::Transaction(TransactionVerb::Begin))),
+    TokenMark::Verb(StatementVerb::Terminal(TerminalVerb::Call)),
+    TokenMark::Verb(StatementVerb::File(FileVerb::Delete)),
+    TokenMark::Verb(StatementVerb::Terminal(TerminalVerb::Display)),
+    TokenMark::Verb(StatementVerb::Arithmetic(Operation::Divide)),
+    TokenMark::Verb(StatementVerb::Terminal(TerminalVerb::Transaction(TransactionVerb::End))),
+    TokenMark::Verb(StatementVerb::Exit),
+    TokenMark::Verb(StatementVerb::If),
+    TokenMark::Verb(StatementVerb::Move),
+    TokenMark::Verb(StatementVerb::Arithmetic(Operation::Multiply)),
+    TokenMark::Verb(StatementVerb::Perform),
+    TokenMark::Verb(StatementVerb::File(FileVerb::Read)),
+    TokenMark::Verb(StatementVerb::Terminal(TerminalVerb::Transaction(TransactionVerb::Restart))),
+    TokenMark::Verb(StatementVerb::File(FileVerb::Rewrite)),
+    TokenMark::Verb(StatementVerb::Terminal(TerminalVerb::Send)),
+    TokenMark::Verb(StatementVerb::Stop),
+    TokenMark::Verb(StatementVerb::Arithmetic(Operation::Subtract)),
+    TokenMark::Verb(StatementVerb::File(FileVerb::Write)),
+    TokenMark::Else,
+    TokenMark::EndIf,
 ];
 
 /// The place of a word in the table of servers, or in that of requesters.
@@ -56,38 +56,38 @@ pub fn is_table_word(server: bool, word: &[u8]) -> bool
 }
 
 /// The mark at a place.
-fn mark_in(marks: &[Mark], place: usize) -> Mark
+fn mark_in(marks: &[TokenMark], place: usize) -> TokenMark
     ensures { result ≡ mark_in marks.now place }
 {
-    marks.get(place).copied().unwrap_or(Mark::Other)
+    marks.get(place).copied().unwrap_or(TokenMark::Other)
 }
 
 /// What a word begins, by its place in the table.
-fn mark_at(place: Option<usize>) -> Mark
+fn mark_at(place: Option<usize>) -> TokenMark
     ensures { result ≡ mark_at place }
 {
     match place {
         Some(place) => mark_in(MARKS, place),
-        None => Mark::Other,
+        None => TokenMark::Other,
     }
 }
 
 /// What a token begins.
-pub fn mark_of(server: bool, text: &[u8], token: Token) -> Mark
+pub fn mark_of(server: bool, text: &[u8], token: Token) -> TokenMark
     ensures { result ≡ mark_of server text.now token }
 {
     match token.kind {
-        TokenKind::Period => Mark::Period,
+        TokenKind::Period => TokenMark::Period,
         TokenKind::Word => mark_at(table_place(server, token.spelling(text))),
-        _ => Mark::Other,
+        _ => TokenMark::Other,
     }
 }
 
 /// Whether a piece begins with a mark.
-pub fn begins_piece(mark: Mark) -> bool
+pub fn begins_piece(mark: TokenMark) -> bool
     ensures { result ≡ begins_piece mark }
 {
-    !matches!(mark, Mark::Other)
+    !matches!(mark, TokenMark::Other)
 }
 
 /// Whether a token is `$RECEIVE`.
@@ -99,7 +99,7 @@ pub fn is_receive(text: &[u8], token: Token) -> bool
 
 /// Whether a token may be a name: a word that is neither a table word nor `$RECEIVE`.
 pub fn is_name(server: bool, text: &[u8], token: Token) -> bool
-    ensures { result ≡ is_name server text.now token }
+    ensures { result ≡ is_name_token server text.now token }
 {
     token.kind.is(TokenKind::Word)
         && (!is_table_word(server, token.spelling(text)) && !is_receive(text, token))
@@ -126,7 +126,7 @@ pub fn is_item_name(server: bool, text: &[u8], token: Token) -> bool
 
 /// The name that a token is, in upper case.
 pub fn name_in(alloc: Global, text: &[u8], token: Token) -> Result<Bytes, Memory>
-    ensures { IfOk result (λ name. name ≡ name_in text.now token) }
+    ensures { IfOk result (λ name. name ≡ token_name text.now token) }
 {
     let name = token
         .spelling(text)

@@ -17,7 +17,7 @@ use Rattle.pw_pathcom.specs.Objects.{unknown, bad_starts}
 use Rattle.pw_pathcom.specs.Reading.{starting, lines_read}
 use Rattle.pw_pathcom.specs.declared.commands.ClassCommand.{ClassCommand}
 use Rattle.pw_pathcom.specs.declared.commands.Commands.{Commands}
-use Rattle.pw_pathcom.specs.declared.reading.Reading.{Reading}
+use Rattle.pw_pathcom.specs.declared.reading.CommandReading.{CommandReading}
 use Rattle.pw_script.specs.Fail.{failures_of}
 use Rattle.pw_sections.specs.Records.{printable_line}
 use Rattle.pw_tables.specs.Tables.{class_names, tables}
@@ -27,7 +27,7 @@ use Rattle.pw_generated.proofs.Texts.{Section, is_section, lines_in}
 use Rattle.pw_generated.proofs.Tests.{holds_to, holds, name_of, is_short}
 use Rattle.pw_generated.proofs.Programs.{stock_file}
 use Rattle.pw_event.specs.Keywords.{keyword as event_keyword}
-use Rattle.pw_event.specs.Parsing.{named as event_named, number as event_number, counted as event_counted, cut as event_cut, refresh as event_refresh, among as event_among, terminal as event_terminal, pair as event_pair, class as event_class, file as event_file, process as event_process, op as event_op, mode as event_mode, member as event_member, fault_of as event_fault_of, cause_of as event_cause_of, cause_in as event_cause_in, ending_of as event_ending_of, show as event_show, terminal_and_number as event_terminal_and_number, check as event_check, applied as event_applied, begin as event_begin, send as event_send, taken as event_taken, file_at as event_file_at, file_line as event_file_line, reply as event_reply, restart as event_restart, fail_tcp as event_fail_tcp, fail_server as event_fail_server, failure_of as event_failure_of, fail as event_fail, takeover as event_takeover, raise as event_raise, end as event_end, line_of as event_line_of, event_of as event_event_of, after as event_after, fail_process as event_fail_process, tcp_line as event_tcp_line, fail_class as event_fail_class, class_line as event_class_line, fail_line_of as event_fail_line_of, fail_of as event_fail_of}
+use Rattle.pw_event.specs.Parsing.{named as event_named, number as event_number, positive_count_read as event_counted, cut as event_cut, refresh as event_refresh, among as event_among, terminal as event_terminal, pair as event_pair, class as event_class, file as event_file, process as event_process, op as event_op, mode as event_mode, member as event_member, fault_of as event_fault_of, cause_of as event_cause_of, cause_in as event_cause_in, ending_of as event_ending_of, show as event_show, terminal_and_number as event_terminal_and_number, check as event_check, applied as event_applied, begin as event_begin, send as event_send, take_line_event as event_taken, file_at as event_file_at, file_line as event_file_line, reply as event_reply, restart as event_restart, fail_tcp as event_fail_tcp, fail_server as event_fail_server, failure_of as event_failure_of, fail as event_fail, takeover as event_takeover, raise as event_raise, end as event_end, line_of as event_line_of, event_of as event_event_of, after_keyword_read as event_after, fail_process as event_fail_process, tcp_line as event_tcp_line, fail_class as event_fail_class, class_line as event_class_line, fail_line_of as event_fail_line_of, fail_of as event_fail_of}
 
 -- the section of the commands of so many terminals
 abbrev pub pathcom : ℕ → Section
@@ -71,7 +71,7 @@ adds_well n line added =
     && (holds_to (λ k. has_terminal (tables added programs servers (stock_file ∷ []) ReadersShare) (name_of k)) n
     && is_ok (failures_of (tables added programs servers (stock_file ∷ []) ReadersShare) (text_of fail_lines) line))))
 
-abbrev reads_well : ℕ → ℕ → Result Reading Fault → Bool
+abbrev reads_well : ℕ → ℕ → Result CommandReading Fault → Bool
 reads_well n line (Ok reading) = adds_well n line reading.commands
 reads_well n line (Err fault) = false
 
@@ -88,7 +88,7 @@ all_well line = refl
 
 -- what is known of the commands of n terminals
 pub record Added (n line : ℕ) : Type 0 where
-  pub reading : Reading
+  pub reading : CommandReading
   pub read : lines_read 2 starting (pathcom n).below ≡ Ok reading
   pub known : unknown reading.commands programs servers ≡ []
   pub startable : bad_starts reading.commands 2 (pathcom n).below ≡ []
@@ -100,7 +100,7 @@ pub record Added (n line : ℕ) : Type 0 where
   pub short : list_all is_short (lines_in (pathcom n)) ≡ true
   pub few : nat_le (length (lines_in (pathcom n))) 300 ≡ true
 
-added_by : (n line : ℕ) (read : Result Reading Fault) → lines_read 2 starting (pathcom n).below ≡ read → reads_well n line read ≡ true
+added_by : (n line : ℕ) (read : Result CommandReading Fault) → lines_read 2 starting (pathcom n).below ≡ read → reads_well n line read ≡ true
     → (is_ok (each_line printable_line 2 (tt {0}) (pathcom n).below)
     && (is_section (pathcom n)
     && (list_all is_short (lines_in (pathcom n)) && nat_le (length (lines_in (pathcom n))) 300))) ≡ true

@@ -6,7 +6,7 @@ use Rattle.std.proofs.lemmas.Bool.{lt-leb}
 use Rattle.pw_base.specs.declared.fault.Fault.{Fault}
 use Rattle.pw_base.specs.declared.fault_code.FaultCode.TheVariants.{BadCharacter, BadEntry, TooMany}
 use Rattle.pw_base.proofs.Plain.{is_some-Some}
-use Rattle.pw_code.specs.Entry.{Entry}
+use Rattle.pw_code.specs.Entry.{EntryLineModel}
 use Rattle.pw_code.specs.Limits.{most_entry_lines}
 use Rattle.pw_gen.specs.Generated.{next_number, digit_of, entry_line, entry_lines, text_of}
 use Rattle.pw_lines.specs.Lines.{lines}
@@ -55,14 +55,14 @@ pub text_printed : (ls : List (List ℕ)) (number : ℕ) → AllByRecursion Good
 text_printed ls number good = ap (each_line printable_line number (tt {0})) (lines_of ls (are_all ls good)) ∙ all_printed ls number good
 
 -- they are entries, of which there are not too many
-all_entered : (ls : List (List ℕ)) (number : ℕ) (before : List Entry) → AllByRecursion GoodEntry ls → length before + length ls ≤ most_entry_lines
-    → (es : List Entry) × (each_line entry_read number before ls ≡ Ok es)
+all_entered : (ls : List (List ℕ)) (number : ℕ) (before : List EntryLineModel) → AllByRecursion GoodEntry ls → length before + length ls ≤ most_entry_lines
+    → (es : List EntryLineModel) × (each_line entry_read number before ls ≡ Ok es)
 unfolding each_line
 all_entered [] number before good few = (before, refl)
 all_entered (l ∷ ls) number before good few =
     let e = is_some-Some (entry_of l) good.0.entry in
     let next = before ++ e.0 ∷ [] in
-    let after : List Entry → Result (List Entry) Fault = λ s. each_line entry_read (number + 1) s ls in
+    let after : List EntryLineModel → Result (List EntryLineModel) Fault = λ s. each_line entry_read (number + 1) s ls in
     let room : nat_le most_entry_lines (length before) ≡ false = lt-leb most_entry_lines (length before) (omega (arith, few)) in
     let taken : line_taken entry_read number before l ≡ Ok next =
     ap (λ b. cond b (Ok before) (entry_read number before l)) good.0.some
@@ -72,8 +72,8 @@ all_entered (l ∷ ls) number before good few =
     (rest.0, ap (λ s. s >>= after) taken ∙ rest.1)
 
 pub text_entered : (ls : List (List ℕ)) (number : ℕ) → AllByRecursion GoodEntry ls → length ls ≤ most_entry_lines
-    → (es : List Entry) × (entries_of (text_of ls) number ≡ Ok es)
+    → (es : List EntryLineModel) × (entries_of (text_of ls) number ≡ Ok es)
 text_entered ls number good few =
-    let room : length {A = Entry} [] + length ls ≤ most_entry_lines = omega (arith, few) in
+    let room : length {A = EntryLineModel} [] + length ls ≤ most_entry_lines = omega (arith, few) in
     let all = all_entered ls number [] good room in
     (all.0, ap (each_line entry_read number []) (lines_of ls (are_all ls good)) ∙ all.1)

@@ -9,7 +9,7 @@ use Rattle.pw_lines.specs.Lines.{lines}
 use Rattle.pw_lines.specs.Steps.{◌>>=◌, or_refused}
 use Rattle.pw_sections.specs.Headings.{heading_of}
 use Rattle.pw_sections.specs.declared.heading.Heading.{Heading}
-use Rattle.pw_tables.specs.Pieces.{first_of, behind_place, section_line, section_text}
+use Rattle.pw_tables.specs.Pieces.{first_line_of, behind_place, section_line, section_text}
 use Rattle.pw_deck.specs.Parts.{section_of, section_read, sections_read}
 use Rattle.pw_deck.specs.declared.parts.Parts.{Parts}
 use Rattle.pw_generated.proofs.Texts.{inside, is_line, are_lines, are_others, Section, lines_in, is_section, lines_of}
@@ -40,7 +40,7 @@ below_are section is =
     (and_parts (are_lines section.below) (are_others section.below) parts.1).0
 
 line_is : (section : Section) → is_section section ≡ true → section_line (text_of (lines_in section)) ≡ 63 ∷ section.head
-line_is section is = ap first_of (lines_of (lines_in section) (all_are section is))
+line_is section is = ap first_line_of (lines_of (lines_in section) (all_are section is))
 
 text_is : (section : Section) → is_section section ≡ true → section_text (text_of (lines_in section)) ≡ text_of section.below
 text_is section is =

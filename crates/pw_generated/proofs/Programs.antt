@@ -30,10 +30,10 @@ use Rattle.pw_forms.specs.FileForms.{with_lock as forms_fileforms_with_lock, rec
 use Rattle.pw_forms.specs.Forms.{at_most as forms_forms_at_most, move_form as forms_forms_move_form, giving as forms_forms_giving, on_size_error as forms_forms_on_size_error, arithmetic as forms_forms_arithmetic, if_form as forms_forms_if_form, perform_until as forms_forms_perform_until, perform_times as forms_forms_perform_times, perform_one as forms_forms_perform_one, perform_one_of as forms_forms_perform_one_of, perform as forms_forms_perform, exit as forms_forms_exit, stop as forms_forms_stop, display_base as forms_forms_display_base, display_any as forms_forms_display_any, display as forms_forms_display, accept as forms_forms_accept, using as forms_forms_using, call as forms_forms_call, code_clause as forms_forms_code_clause, send as forms_forms_send, transaction_form as forms_forms_transaction_form, form as forms_forms_form}
 use Rattle.pw_forms.specs.Operands.{subscript_behind as forms_operands_subscript_behind, item as forms_operands_item, figurative as forms_operands_figurative, operand as forms_operands_operand, name as forms_operands_name, file_name as forms_operands_file_name, program_name as forms_operands_program_name, key_of as forms_operands_key_of, key as forms_operands_key, code as forms_operands_code}
 use Rattle.pw_forms.specs.Pieces.{cut as forms_pieces_cut, placed as forms_pieces_placed, placed_all as forms_pieces_placed_all}
-use Rattle.pw_forms.specs.Readers.{sees as forms_readers_sees, sees_third as forms_readers_sees_third, behind as forms_readers_behind, token as forms_readers_token, past as forms_readers_past, expects as forms_readers_expects, sees_kind as forms_readers_sees_kind, past_kind as forms_readers_past_kind, is_done as forms_readers_is_done, ends as forms_readers_ends, left as forms_readers_left, some_from as forms_readers_some_from, up_to_from as forms_readers_up_to_from, separated_from as forms_readers_separated_from}
+use Rattle.pw_forms.specs.Readers.{sees as forms_readers_sees, sees_third as forms_readers_sees_third, form_rest_behind as forms_readers_behind, token as forms_readers_token, past as forms_readers_past, expects as forms_readers_expects, sees_kind as forms_readers_sees_kind, past_kind as forms_readers_past_kind, is_done as forms_readers_is_done, ends as forms_readers_ends, left as forms_readers_left, some_from as forms_readers_some_from, up_to_from as forms_readers_up_to_from, separated_from as forms_readers_separated_from}
 use Rattle.pw_forms.specs.Tree.{levels as forms_tree_levels}
 use Rattle.pw_forms.specs.Words.{table_place as forms_words_table_place}
-use Rattle.pw_divisions.specs.Entries.{entries_of as divisions_entries_entries_of}
+use Rattle.pw_divisions.specs.Entries.{division_entries_of as divisions_entries_entries_of}
 use Rattle.pw_divisions.specs.Steps.{size_up_to as divisions_steps_size_up_to}
 use Rattle.pw_screen.specs.Clauses.{clauses_from as screen_clauses_clauses_from}
 use Rattle.pw_screen.specs.Screens.{placed_from as screen_screens_placed_from}

@@ -3,7 +3,7 @@ use Rattle.std.proofs.Common.{◌≡◌, ℕ, zero, suc, ◌+◌, ◌<◌, ◌�
 use Rattle.std.specs.Prelude.{codes, is_ok}
 use Rattle.std.specs.List.{AllByRecursion}
 use Rattle.pw_base.specs.declared.fault.Fault.{Fault}
-use Rattle.pw_code.specs.Entry.{Entry}
+use Rattle.pw_code.specs.Entry.{EntryLineModel}
 use Rattle.pw_gen.specs.Generated.{number_after, entry_lines, text_of}
 use Rattle.pw_lines.specs.Steps.{◌>>=◌}
 use Rattle.pw_pathcom.specs.declared.commands.Commands.{Commands}
@@ -11,7 +11,7 @@ use Rattle.pw_scobol.specs.declared.requester.Requester.{Requester}
 use Rattle.pw_sections.specs.declared.heading.Heading.TheVariants as heading
 use Rattle.pw_server.specs.declared.server.Server.{Server}
 use Rattle.pw_tables.specs.Objects.{once, entries_section}
-use Rattle.pw_tables.specs.Pieces.{Piece}
+use Rattle.pw_tables.specs.Pieces.{DeckPieceModel}
 use Rattle.pw_tables.specs.declared.objects.Objects.{Objects}
 use Rattle.pw_tables.specs.declared.objects.TermEntries.{TermEntries}
 use Rattle.pw_words.specs.Names.{has_name}
@@ -29,7 +29,7 @@ use Rattle.pw_generated.proofs.Programs.{stock_file}
 use Rattle.pw_generated.proofs.Whole.{entry_section, entry_sections, section_good}
 
 -- what was read behind the sources and the file
-abbrev pub parts_at : Requester → Server → Commands → Piece → Option Piece → List Word → List TermEntries → Parts
+abbrev pub parts_at : Requester → Server → Commands → DeckPieceModel → Option DeckPieceModel → List Word → List TermEntries → Parts
 parts_at q s c p fail names entries = record {
   requesters = q ∷ [];
   servers = s ∷ [];
@@ -46,8 +46,8 @@ parts_at q s c p fail names entries = record {
 }
 
 -- one section of entries is read
-one_read : (q : Requester) (s : Server) (c : Commands) (p : Piece) (names : List Word) (entries : List TermEntries) (line t x : ℕ) → has_name names (name_of t) ≡ false
-    → (es : List Entry) × (section_of (parts_at q s c p None names entries) line (text_of (entry_lines 8 x)) (heading.Entries (name_of t))
+one_read : (q : Requester) (s : Server) (c : Commands) (p : DeckPieceModel) (names : List Word) (entries : List TermEntries) (line t x : ℕ) → has_name names (name_of t) ≡ false
+    → (es : List EntryLineModel) × (section_of (parts_at q s c p None names entries) line (text_of (entry_lines 8 x)) (heading.Entries (name_of t))
     ≡ Ok (parts_at q s c p None (names ++ name_of t ∷ []) (entries ++ record { name = name_of t; line = line; entries = es } ∷ [])))
 one_read q s c p names entries line t x new =
     let good = lines_good 8 x in
@@ -56,7 +56,7 @@ one_read q s c p names entries line t x new =
     let parts = parts_at q s c p None names entries in
     let name = name_of t in
     let text = text_of (entry_lines 8 x) in
-    let with : Bool → List Entry → Result Objects Fault = λ known es. Ok (record (parts.objects) { entered = cond known names (names ++ name ∷ []); entries = entries ++ record { name = name; line = line; entries = es } ∷ [] }) in
+    let with : Bool → List EntryLineModel → Result Objects Fault = λ known es. Ok (record (parts.objects) { entered = cond known names (names ++ name ∷ []); entries = entries ++ record { name = name; line = line; entries = es } ∷ [] }) in
     let entered : Bool → Result Objects Fault = λ known. entries_of text (line + 1) >>= with known in
     let checked : Bool → Result Objects Fault = λ known. printable text (line + 1) >>= (λ done. entered known) in
     let opened : Bool → Result Objects Fault = λ known. once line known >>= (λ done. checked known) in (
@@ -73,7 +73,7 @@ pub record IsNamed (n : ℕ) (entries : TermEntries) : Type 0 where
   pub name : entries.name ≡ name_of (suc before)
 
 -- what is read behind all sections of entries
-pub record Entered (q : Requester) (s : Server) (c : Commands) (p : Piece) (n : ℕ) (rest : List (List ℕ)) (all : Result Parts Fault) : Type 0 where
+pub record Entered (q : Requester) (s : Server) (c : Commands) (p : DeckPieceModel) (n : ℕ) (rest : List (List ℕ)) (all : Result Parts Fault) : Type 0 where
   pub entries : List TermEntries
   pub named : AllByRecursion (IsNamed n) entries
   pub line : ℕ
@@ -87,7 +87,7 @@ one_named : (n : ℕ) (entries : List TermEntries) (e : TermEntries) → AllByRe
 one_named n [] e named is = (is, tt)
 one_named n (f ∷ es) e named is = (named.0, one_named n es e named.1 is)
 
-pub all_entered : (q : Requester) (s : Server) (c : Commands) (p : Piece) (count m t x line : ℕ) (entries : List TermEntries) (rest : List (List ℕ)) → t ≡ suc m → m + count ≤ 64
+pub all_entered : (q : Requester) (s : Server) (c : Commands) (p : DeckPieceModel) (count m t x line : ℕ) (entries : List TermEntries) (rest : List (List ℕ)) → t ≡ suc m → m + count ≤ 64
     → AllByRecursion (IsNamed m) entries
     → Entered q s c p (m + count) rest (sections_read (parts_at q s c p None (names_to m) entries) line (texts_of (entry_sections count t x) ++ rest))
 all_entered q s c p zero m t x line entries rest at few named =

@@ -4,7 +4,7 @@ use Rattle.std.specs.List.{list_all}
 use Rattle.std.proofs.lemmas.Bool.{and_parts, not-true}
 use Rattle.pw_gen.specs.Generated.{text_of}
 use Rattle.pw_lines.specs.Lines.{begins_with_lf, in_front, lines}
-use Rattle.pw_sections.specs.Parts.{Cut, with_byte, cut, sections, front}
+use Rattle.pw_sections.specs.Parts.{DeckSections, with_byte, cut, sections, front}
 
 -- the byte ends no line and belongs to no end of one
 abbrev pub is_inside : ℕ → Bool
@@ -47,7 +47,7 @@ lines_of (line ∷ rest) is =
     first_line line (text_of rest) parts.0 ∙ ap (λ ls. line ∷ ls) (lines_of rest parts.1)
 
 -- a cut with some bytes in front of it
-abbrev behind : List ℕ → Cut → Cut
+abbrev behind : List ℕ → DeckSections → DeckSections
 behind text c = record { front = text ++ c.front; sections = c.sections }
 
 -- a text that is not at the start of a line is cut behind this line
@@ -131,5 +131,5 @@ cut_of (section ∷ rest) is =
     let parts = and_parts (is_section section) (list_all is_section rest) is in
     ap (cut true) (text_more (lines_in section) (all_lines rest))
     ∙ one_section section (text_of (all_lines rest)) parts.0
-    ∙ ap (λ (c : Cut). record { front = []; sections = (text_of (lines_in section) ++ c.front) ∷ c.sections }) (cut_of rest parts.1)
+    ∙ ap (λ (c : DeckSections). record { front = []; sections = (text_of (lines_in section) ++ c.front) ∷ c.sections }) (cut_of rest parts.1)
     ∙ ap (λ t. record { front = []; sections = t ∷ texts_of rest }) (append-nil (text_of (lines_in section)))

@@ -5,7 +5,7 @@ use Rattle.std.specs.List.{list_all, AllByRecursion}
 use Rattle.std.proofs.lemmas.Bool.{le-ltb, leb-true, and_parts}
 use Rattle.pw_base.specs.Limits.{longest_input}
 use Rattle.pw_base.specs.declared.fault.Fault.{Fault}
-use Rattle.pw_code.specs.Entry.{Entry}
+use Rattle.pw_code.specs.Entry.{EntryLineModel}
 use Rattle.pw_gen.specs.Generated.{number_after, entry_lines, section_line, sections_from, terminals_from, text_of, deck_lines, generated}
 use Rattle.pw_gen.specs.Parts.{commands, requester, server, stock, ending}
 use Rattle.pw_lines.specs.Lines.{lines}
@@ -15,7 +15,7 @@ use Rattle.pw_scobol.specs.declared.requester.Requester.{Requester}
 use Rattle.pw_sections.specs.declared.heading.Heading.TheVariants as heading
 use Rattle.pw_server.specs.declared.server.Server.{Server}
 use Rattle.pw_tables.specs.Objects.{once, entries_section}
-use Rattle.pw_tables.specs.Pieces.{Piece}
+use Rattle.pw_tables.specs.Pieces.{DeckPieceModel}
 use Rattle.pw_tables.specs.declared.objects.Objects.{Objects}
 use Rattle.pw_tables.specs.declared.objects.TermEntries.{TermEntries}
 use Rattle.pw_words.specs.Names.{has_name}

@@ -8,7 +8,7 @@ use Rattle.std.proofs.lemmas.Slice.Eq.{bytes_eq-Decides}
 use Rattle.std.specs.Int.{div_ceil}
 use Rattle.std.specs.List.{filter, list_all, range_with_len}
 use Rattle.std.specs.Str.{bytes_eq}
-use Rattle.pw_image.specs.Records.{changed_records, differs, is_rising, lies_in, numbered, patched, record_at, record_count, records, rises_above, with_record}
+use Rattle.pw_image.specs.Records.{changed_records, differs, is_rising, lies_in, numbered_record, patched, record_at, record_count, records, rises_above, with_record}
 use Rattle.pw_image.specs.declared.changed.Changed.{Changed}
 
 Decides-both : (a b : Bool) → Decides (a && b) ((a ≡ true) × (b ≡ true))
@@ -31,10 +31,10 @@ rising-cond false k c rest h own all = all
 
 -- numbers from a on rise above each number below a
 rises-range : (p : Changed → Bool) (image : List ℕ) (n k a : ℕ) → k < a
-    → rises_above k (filter p (map (numbered image) (range_with_len a n))) ≡ true
+    → rises_above k (filter p (map (numbered_record image) (range_with_len a n))) ≡ true
 rises-range p image zero k a h = refl
 rises-range p image (suc n) k a h =
-    rising-cond (p (numbered image a)) k (numbered image a) (filter p (map (numbered image) (range_with_len (a + 1) n))) h
+    rising-cond (p (numbered_record image a)) k (numbered_record image a) (filter p (map (numbered_record image) (range_with_len (a + 1) n))) h
     (rises-range p image n a (a + 1) (omega arith)) (rises-range p image n k (a + 1) (omega arith))
 
 rising-first : (b : Bool) (c : Changed) (rest : List Changed) → rises_above c.number rest ≡ true → is_rising rest ≡ true
@@ -43,10 +43,10 @@ rising-first true c rest own all = own
 rising-first false c rest own all = all
 
 pub rising-range : (p : Changed → Bool) (image : List ℕ) (n a : ℕ)
-    → is_rising (filter p (map (numbered image) (range_with_len a n))) ≡ true
+    → is_rising (filter p (map (numbered_record image) (range_with_len a n))) ≡ true
 rising-range p image zero a = refl
 rising-range p image (suc n) a =
-    rising-first (p (numbered image a)) (numbered image a) (filter p (map (numbered image) (range_with_len (a + 1) n)))
+    rising-first (p (numbered_record image a)) (numbered_record image a) (filter p (map (numbered_record image) (range_with_len (a + 1) n)))
     (rises-range p image n a (a + 1) (omega arith)) (rising-range p image n (a + 1))
 
 -- the numbers of changed records rise
@@ -76,14 +76,14 @@ same-length image other k e =
     record-length image k ∙ ap (λ n. min 64 (n - 64 * k)) e ∙ sym (record-length other k)
 
 -- a record of the new image lies in an old one of the same length
-lies-numbered : (old new : List ℕ) → length old ≡ length new → (k : ℕ) → 64 * k < length new → lies_in old (numbered new k) ≡ true
+lies-numbered : (old new : List ℕ) → length old ≡ length new → (k : ℕ) → 64 * k < length new → lies_in old (numbered_record new k) ≡ true
 lies-numbered old new e k h =
     rw (lt-ltb (64 * k) (length old) (omega arith)) (eq-eqb _ _ (same-length new old k (sym e)))
 
 -- changed records lie in the old image
 pub within : (old new : List ℕ) → length old ≡ length new → list_all (lies_in old) (changed_records old new) ≡ true
 within old new e =
-    all-range (lies_in old) (differs old) (numbered new) (record_count (length new)) 0
+    all-range (lies_in old) (differs old) (numbered_record new) (record_count (length new)) 0
     (λ k h. lies-numbered old new e k (counted (length new) k (omega arith)))
 
 none-range : (p : Changed → Bool) (f : ℕ → Changed) (n a : ℕ) → ((k : ℕ) → p (f k) ≡ false) → filter p (map f (range_with_len a n)) ≡ []
@@ -93,7 +93,7 @@ none-range p f (suc n) a h = rw (h a) (none-range p f n (a + 1) h)
 -- between equal images there are none
 pub none : (image : List ℕ) → changed_records image image ≡ []
 none image =
-    none-range (differs image) (numbered image) (record_count (length image)) 0
+    none-range (differs image) (numbered_record image) (record_count (length image)) 0
     (λ k. ap not ((bytes_eq-Decides (record_at image k) (record_at image k)).1 refl))
 
 -- one record more
@@ -144,7 +144,7 @@ put-at front rest bytes left k e h =
 
 -- a record that differs
 put-step : (old new : List ℕ) (k : ℕ) → length old ≡ length new → 64 * k < length new
-    → with_record (joined old new (64 * k)) (numbered new k) ≡ joined old new (64 * k + 64)
+    → with_record (joined old new (64 * k)) (numbered_record new k) ≡ joined old new (64 * k + 64)
 put-step old new k e h =
     put-at (take (64 * k) new) (drop (64 * k) old) (record_at new k) (drop (64 * k + 64) old) k
     (length-take-le (64 * k) new (omega arith))
@@ -153,24 +153,24 @@ put-step old new k e h =
 
 -- a record that is put where it differs
 one-step : (old new : List ℕ) (k : ℕ) (b : Bool) → length old ≡ length new → 64 * k < length new
-    → differs old (numbered new k) ≡ b
-    → patched (joined old new (64 * k)) (cond b (numbered new k ∷ []) []) ≡ joined old new (64 * k + 64)
+    → differs old (numbered_record new k) ≡ b
+    → patched (joined old new (64 * k)) (cond b (numbered_record new k ∷ []) []) ≡ joined old new (64 * k + 64)
 one-step old new k true e h d = put-step old new k e h
 one-step old new k false e h d =
     same-step old new k ((bytes_eq-Decides (record_at old k) (record_at new k)).0 (not-false _ d))
 
 -- with the changed records of the first k numbers
 patched-range : (old new : List ℕ) → length old ≡ length new → (k : ℕ) → k ≤ record_count (length new)
-    → patched old (filter (differs old) (map (numbered new) (range_with_len 0 k))) ≡ joined old new (64 * k)
+    → patched old (filter (differs old) (map (numbered_record new) (range_with_len 0 k))) ≡ joined old new (64 * k)
 patched-range old new e zero h = refl
 patched-range old new e (suc k) h =
-    let changed : List Changed = filter (differs old) (map (numbered new) (range_with_len 0 k)) in
-    let last : List Changed = cond (differs old (numbered new k)) (numbered new k ∷ []) [] in
-    ap (λ n. patched old (filter (differs old) (map (numbered new) (range_with_len 0 n)))) (let P : suc k ≡ k + 1 = omega arith in P)
-    ∙ ap (λ l. patched old l) (filter_of_map_range_with_len_more (differs old) (numbered new) 0 k k (omega arith))
+    let changed : List Changed = filter (differs old) (map (numbered_record new) (range_with_len 0 k)) in
+    let last : List Changed = cond (differs old (numbered_record new k)) (numbered_record new k ∷ []) [] in
+    ap (λ n. patched old (filter (differs old) (map (numbered_record new) (range_with_len 0 n)))) (let P : suc k ≡ k + 1 = omega arith in P)
+    ∙ ap (λ l. patched old l) (filter_of_map_range_with_len_more (differs old) (numbered_record new) 0 k k (omega arith))
     ∙ patched-more old changed last
     ∙ ap (λ i. patched i last) (patched-range old new e k (omega arith))
-    ∙ one-step old new k (differs old (numbered new k)) e (counted (length new) k (omega arith)) refl
+    ∙ one-step old new k (differs old (numbered_record new k)) e (counted (length new) k (omega arith)) refl
     ∙ ap (λ n. joined old new n) (let P : 64 * k + 64 ≡ 64 * suc k = omega arith in P)
 
 -- changed records, put into the old image, give the new one

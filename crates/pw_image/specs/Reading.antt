@@ -22,14 +22,14 @@ abbrev pub ◌>>=◌ : {A B : Type 0} → Option A → (A → Option B) → Opti
 None >>= step = None
 
 -- nothing was read, unless memory ran out
-abbrev pub Fails : {Y : Type 0} → ImageFault → Option Y → Type 0
-Fails Bad read = read ≡ None
-Fails Memory read = Unit {0}
+abbrev pub FailsImageReading : {Y : Type 0} → ImageFault → Option Y → Type 0
+FailsImageReading Bad read = read ≡ None
+FailsImageReading Memory read = Unit {0}
 
 -- what a call answered, seen by view, is what was read, unless memory ran out
-abbrev pub Gives : {X Y : Type 0} → (X → Y) → Result X ImageFault → Option Y → Type 0
-Gives view (Ok x) read = read ≡ Some (view x)
-Gives view (Err fault) read = Fails fault read
+abbrev pub GivesImagePart : {X Y : Type 0} → (X → Y) → Result X ImageFault → Option Y → Type 0
+GivesImagePart view (Ok x) read = read ≡ Some (view x)
+GivesImagePart view (Err fault) read = FailsImageReading fault read
 
 -- a number
 abbrev pub number_at : Width → List ℕ → Front ℕ

@@ -13,12 +13,12 @@ abbrev pub record_count : ℕ → ℕ
 record_count bytes = div_ceil bytes 64
 
 -- a record with its number
-abbrev pub numbered : List ℕ → ℕ → Changed
-numbered image number = record { number = number; bytes = record_at image number }
+abbrev pub numbered_record : List ℕ → ℕ → Changed
+numbered_record image number = record { number = number; bytes = record_at image number }
 
 -- the records of an image, in order
 abbrev pub records : List ℕ → List Changed
-records image = map (numbered image) (range_with_len 0 (record_count (length image)))
+records image = map (numbered_record image) (range_with_len 0 (record_count (length image)))
 
 -- the old image has another record of this number
 abbrev pub differs : List ℕ → Changed → Bool

@@ -1,7 +1,7 @@
 ghost use Rattle.std.specs.Prelude.{◌≡◌, ◌+◌, ◌<◌, ◌*◌, ◌++◌, ◌∷◌, [], length, true, IfOk, IsTrue, OnOk, OnErr, ◌↔◌};
 ghost use Rattle.std.specs.Prelude.{if◌then◌else◌};
 ghost use Rattle.std.specs.List.{list_all};
-ghost use Rattle.pw_image.specs.Records.{numbered, differs, record_at, changed_records, lies_in, with_record, patched};
+ghost use Rattle.pw_image.specs.Records.{numbered_record, differs, record_at, changed_records, lies_in, with_record, patched};
 
 use crate::changed::{Changed, Changes};
 use crate::records::{RECORD, record_at, record_count};
@@ -37,7 +37,7 @@ fn add_changed(
     requires length { length old.now ≡ length new.now }
     requires within { 64 * number < length new.now }
     ensures ok { OnOk result (changed.new.items ≡ changed.old.items
-        ++ (if differs old.now (numbered new.now number) then numbered new.now number ∷ [] else [])) }
+        ++ (if differs old.now (numbered_record new.now number) then numbered_record new.now number ∷ [] else [])) }
     ensures err { OnErr result (changed.new.items ≡ changed.old.items) }
 {
     let record = record_at(new, number as usize);

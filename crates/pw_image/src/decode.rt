@@ -4,7 +4,7 @@ ghost use Rattle.pw_code.specs.declared.context.Context.{Context};
 ghost use Rattle.pw_image.specs.Format.{IsImageOf};
 ghost use Rattle.pw_image.specs.Image.{mark};
 ghost use Rattle.pw_image.specs.Counts.{seen_counts};
-ghost use Rattle.pw_image.specs.Reading.{Gives, context_at, context_in, counts_at};
+ghost use Rattle.pw_image.specs.Reading.{GivesImagePart, context_at, context_in, counts_at};
 
 use crate::counts::Counts;
 use crate::fault::ImageFault;
@@ -15,7 +15,7 @@ use std::alloc::Global;
 /// The numbers that begin an image, and the rest.
 #[tactic(auto, unfolding(crate::specs::Reading::counts_at))]
 fn read_counts(bytes: &[u8]) -> Result<(Counts, &[u8]), ImageFault>
-    ensures { Gives (λ x. (seen_counts x.0, x.1.now)) result (counts_at bytes.now) }
+    ensures { GivesImagePart (λ x. (seen_counts x.0, x.1.now)) result (counts_at bytes.now) }
 {
     let (termination, rest) = read_u16(bytes)?;
     let (restarts, rest) = read_u32(rest)?;
@@ -39,7 +39,7 @@ fn read_counts(bytes: &[u8]) -> Result<(Counts, &[u8]), ImageFault>
 /// A context at an answer, and the rest.
 #[tactic(auto, unfolding(crate::specs::Reading::context_at))]
 fn read_context(alloc: Global, bytes: &[u8]) -> Result<(Context, &[u8]), ImageFault>
-    ensures { Gives (λ x. (x.0, x.1.now)) result (context_at bytes.now) }
+    ensures { GivesImagePart (λ x. (x.0, x.1.now)) result (context_at bytes.now) }
 {
     let (counts, rest) = read_counts(bytes)?;
     let (in_unit, rest) = read_truth(rest)?;

@@ -12,7 +12,7 @@ use Rattle.std.specs.declared.cmp.Ordering.TheVariants.{Less, Equal, Greater}
 use Rattle.std.proofs.Math.Seq.{drop-cons}
 use Rattle.std.proofs.lemmas.List.{drop_all}
 use Rattle.pw_base.proofs.Plain.{is_eq-Equal, is_some-None, bytes_eq-swap}
-use Rattle.pw_index.specs.Index.{number_of, IsIndexOf}
+use Rattle.pw_index.specs.Index.{indexed_number, IsIndexOf}
 
 -- bytes that compare as equal are equal
 equal_bytes : (xs ys : List ℕ) → slice_cmp nat_cmp xs ys ≡ Equal → xs ≡ ys
@@ -61,28 +61,28 @@ module _ {A : Type 0} (index next : BTreeMap (Vec ℕ A) ℕ) (key : Vec ℕ A) 
   alike : (word : List ℕ) (x : Vec ℕ A) → slice_cmp nat_cmp key.items x.items ≡ Equal → is_eq (slice_cmp nat_cmp word key.items) ≡ is_eq (slice_cmp nat_cmp word x.items)
   alike word x equal = ap (λ bytes. is_eq (slice_cmp nat_cmp word bytes)) (equal_bytes key.items x.items equal)
 
-  none_yet : (word : List ℕ) → is_eq (slice_cmp nat_cmp word key.items) ≡ true → is_some (number_of index word) ≡ false
+  none_yet : (word : List ℕ) → is_eq (slice_cmp nat_cmp word key.items) ≡ true → is_some (indexed_number index word) ≡ false
   none_yet word hits =
       let same : word ≡ key.items = equal_bytes word key.items (is_eq-Equal (slice_cmp nat_cmp word key.items) hits) in
       ap (λ bytes. is_some (get_by (λ x. slice_cmp nat_cmp bytes x.items) index)) same ∙ fresh
 
   by : (word : List ℕ) (b : Bool) → is_eq (slice_cmp nat_cmp word key.items) ≡ b
-      → number_of next word ≡ option_or (number_of index word) (if b then Some number else None)
+      → indexed_number next word ≡ option_or (indexed_number index word) (if b then Some number else None)
   by word true hits =
-      let none : number_of index word ≡ None = is_some-None (number_of index word) (none_yet word hits) in
+      let none : indexed_number index word ≡ None = is_some-None (indexed_number index word) (none_yet word hits) in
       ap (λ es. lookup (λ (x : Vec ℕ A). is_eq (slice_cmp nat_cmp word x.items)) es) next_is
       ∙ lookup-new (λ x y. slice_cmp nat_cmp x.items y.items) (λ x. is_eq (slice_cmp nat_cmp word x.items)) key number (alike word) index.entries hits (none_yet word hits)
       ∙ ap (λ o. option_or o (Some number)) (sym none)
   by word false misses =
       ap (λ es. lookup (λ (x : Vec ℕ A). is_eq (slice_cmp nat_cmp word x.items)) es) next_is
       ∙ lookup-other (λ x y. slice_cmp nat_cmp x.items y.items) (λ x. is_eq (slice_cmp nat_cmp word x.items)) key number (alike word) index.entries misses
-      ∙ or-none (number_of index word)
+      ∙ or-none (indexed_number index word)
 
   -- an index with one name more
-  pub number_of-insert : (word : List ℕ) → number_of next word ≡ option_or (number_of index word) (if bytes_eq name word then Some number else None)
+  pub number_of-insert : (word : List ℕ) → indexed_number next word ≡ option_or (indexed_number index word) (if bytes_eq name word then Some number else None)
   number_of-insert word =
       by word (is_eq (slice_cmp nat_cmp word key.items)) refl
-      ∙ ap (λ b. option_or (number_of index word) (if b then Some number else None)) (found_by word)
+      ∙ ap (λ b. option_or (indexed_number index word) (if b then Some number else None)) (found_by word)
 
 -- the number of the first thing of a name among things that are numbered from one on
 abbrev pub number_from : {T : Type 0} → (T → List ℕ) → ℕ → List T → List ℕ → Option ℕ
@@ -98,17 +98,17 @@ or-next (Some n) false number rest = refl
 module _ {A T : Type 0} (name_of : T → List ℕ) (things : List T) where
   -- the index of the things so far, with those that are left
   abbrev pub Leads : ℕ → BTreeMap (Vec ℕ A) ℕ → Type 0
-  Leads i index = (word : List ℕ) → option_or (number_of index word) (number_from name_of i (drop i things) word) ≡ number_from name_of 0 things word
+  Leads i index = (word : List ℕ) → option_or (indexed_number index word) (number_from name_of i (drop i things) word) ≡ number_from name_of 0 things word
 
   pub index-further : (before now : BTreeMap (Vec ℕ A) ℕ) (i : ℕ) (thing : T) (name : List ℕ) → i < length things → thing ≡ get_or things i thing → name ≡ name_of thing
-      → ((word : List ℕ) → number_of now word ≡ option_or (number_of before word) (if bytes_eq name word then Some i else None)) → Leads i before → Leads (i + 1) now
+      → ((word : List ℕ) → indexed_number now word ≡ option_or (indexed_number before word) (if bytes_eq name word then Some i else None)) → Leads i before → Leads (i + 1) now
   index-further before now i thing name within is name_is puts leads word =
       let front : drop i things ≡ thing ∷ drop (i + 1) things = rw (add-one, drop-cons things i thing) (ap (λ x. x ∷ drop (suc i) things) (sym is)) in
       let rest : Option ℕ = number_from name_of (i + 1) (drop (i + 1) things) word in
-      ap (λ o. option_or o rest) (puts word ∙ ap (λ n. option_or (number_of before word) (if bytes_eq n word then Some i else None)) name_is)
-      ∙ or-next (number_of before word) (bytes_eq (name_of thing) word) i rest
-      ∙ ap (λ xs. option_or (number_of before word) (number_from name_of i xs word)) (sym front) ∙ leads word
+      ap (λ o. option_or o rest) (puts word ∙ ap (λ n. option_or (indexed_number before word) (if bytes_eq n word then Some i else None)) name_is)
+      ∙ or-next (indexed_number before word) (bytes_eq (name_of thing) word) i rest
+      ∙ ap (λ xs. option_or (indexed_number before word) (number_from name_of i xs word)) (sym front) ∙ leads word
 
   pub index-done : (index : BTreeMap (Vec ℕ A) ℕ) (i : ℕ) → length things ≤ i → Leads i index → IsIndexOf index name_of things
   index-done index i done leads word =
-      or-none (number_of index word) ∙ ap (λ xs. option_or (number_of index word) (number_from name_of i xs word)) (sym (drop_all i things done)) ∙ leads word
+      or-none (indexed_number index word) ∙ ap (λ xs. option_or (indexed_number index word) (number_from name_of i xs word)) (sym (drop_all i things done)) ∙ leads word

@@ -1,6 +1,6 @@
 ghost use Rattle.std.specs.Prelude.{◌≡◌, ◌∷◌, ℕ, List, Some, None, IfOk, OnOk, if◌then◌else◌, bytes_eq};
 ghost use Rattle.std.specs.Option.{option_or};
-ghost use Rattle.pw_index.specs.Index.{number_of, IsIndexOf};
+ghost use Rattle.pw_index.specs.Index.{indexed_number, IsIndexOf};
 
 use pw_base::bytes::Bytes;
 use pw_base::memory::Memory;
@@ -14,7 +14,7 @@ use std::collections::BTreeMap;
 pub type Index = BTreeMap<Vec<u8>, usize>;
 
 /// What has a name.
-pub trait Named {
+pub trait IndexedByName {
     ghost use Rattle.std.specs.Prelude.{List, ℕ};
 
     ghost name_of: { Self → List ℕ };
@@ -25,7 +25,7 @@ pub trait Named {
 }
 
 /// A program or a class is its name.
-impl Named for Bytes {
+impl IndexedByName for Bytes {
     ghost name_of = { λ name. name };
 
     fn name(&self) -> &[u8] {
@@ -33,7 +33,7 @@ impl Named for Bytes {
     }
 }
 
-impl Named for FileInfo {
+impl IndexedByName for FileInfo {
     ghost name_of = { λ file. file.name };
 
     fn name(&self) -> &[u8] {
@@ -41,7 +41,7 @@ impl Named for FileInfo {
     }
 }
 
-impl Named for ScreenTable {
+impl IndexedByName for ScreenTable {
     ghost name_of = { λ screen. screen.name };
 
     fn name(&self) -> &[u8] {
@@ -49,7 +49,7 @@ impl Named for ScreenTable {
     }
 }
 
-impl Named for Paragraph {
+impl IndexedByName for Paragraph {
     ghost name_of = { λ paragraph. paragraph.name };
 
     fn name(&self) -> &[u8] {
@@ -59,8 +59,8 @@ impl Named for Paragraph {
 
 /// Puts the number of a name, unless the name is there.
 fn put_number(alloc: Global, name: &[u8], number: usize, index: &mut Index) -> Result<(), Memory>
-    ensures { OnOk result ((word : List ℕ) → number_of index.new word ≡ option_or
-        (number_of index.old word) (if bytes_eq name.now word then Some number else None)) }
+    ensures { OnOk result ((word : List ℕ) → indexed_number index.new word ≡ option_or
+        (indexed_number index.old word) (if bytes_eq name.now word then Some number else None)) }
 {
     let key = Vec::from_slice(alloc, name)?;
     if !index.contains_key(key.as_slice()) {
@@ -70,7 +70,7 @@ fn put_number(alloc: Global, name: &[u8], number: usize, index: &mut Index) -> R
 }
 
 /// The index of things by their names.
-pub fn index_of<T: Named>(alloc: Global, things: &[T]) -> Result<Index, Memory>
+pub fn index_of<T: IndexedByName>(alloc: Global, things: &[T]) -> Result<Index, Memory>
     ensures { IfOk result (λ index. IsIndexOf index T.name_of things.now) }
 {
     let mut index = BTreeMap::new(alloc);
@@ -84,7 +84,7 @@ pub fn index_of<T: Named>(alloc: Global, things: &[T]) -> Result<Index, Memory>
 
 /// What the index has for a name. It takes no memory.
 pub fn number_of(index: &Index, name: &[u8]) -> Option<usize>
-    ensures { result ≡ number_of index.now name.now }
+    ensures { result ≡ indexed_number index.now name.now }
 {
     index.get(name).copied()
 }

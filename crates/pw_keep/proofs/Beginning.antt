@@ -27,7 +27,7 @@ use Rattle.pw_kept.specs.Changes.{first_pair, first_terminal}
 use Rattle.pw_kept.specs.Kept.{KeptTerminal}
 use Rattle.pw_pair.specs.Pairs.{SeenPair}
 use Rattle.pw_seats.specs.Jobs.{context_of}
-use Rattle.pw_seats.specs.declared.job.Job.{Job}
+use Rattle.pw_seats.specs.declared.job.ProcessJob.{ProcessJob}
 use Rattle.pw_seats.specs.declared.seat.Seat.{Seat}
 use Rattle.pw_tmf.specs.Leaving.{unit_told}
 use Rattle.pw_tmf.specs.Told.{Told}
@@ -77,11 +77,11 @@ no-job classes c i =
     ∙ of-none (i == 0))
     (cases_lt c (length classes))
   where
-    of-one : (n : ℕ) (b : Bool) → cond b None (slice_index_or (replicate {A = Option Job} n None) (i - 1) None) ≡ None
+    of-one : (n : ℕ) (b : Bool) → cond b None (slice_index_or (replicate {A = Option ProcessJob} n None) (i - 1) None) ≡ None
     of-one n true = refl
     of-one n false = no-place n (i - 1)
 
-    of-none : (b : Bool) → cond b None (slice_index_or {A = Option Job} [] (i - 1) None) ≡ None
+    of-none : (b : Bool) → cond b None (slice_index_or {A = Option ProcessJob} [] (i - 1) None) ≡ None
     of-none true = refl
     of-none false = get_or_past [] (i - 1) None (omega arith)
 
@@ -97,7 +97,7 @@ class-is f e classes c info at =
     (λ past. absurd (cc (at, slice_get_past classes c past)))
     (cases_lt c (length classes))
 
-free-post : (n i : ℕ) (b : Bool) → job_terminal (cond b None (slice_index_or (replicate {A = Option Job} n None) i None))
+free-post : (n i : ℕ) (b : Bool) → job_terminal (cond b None (slice_index_or (replicate {A = Option ProcessJob} n None) i None))
     ≡ request_terminal (cond b None (slice_index_or (replicate {A = Option Request} n None) i None))
 free-post n i true = refl
 free-post n i false = ap job_terminal (no-place n i) ∙ sym (ap request_terminal (no-place n i))
@@ -197,21 +197,21 @@ members-other p i infos info so_far all lt is other known =
     ∙ (sym (ap (λ l. so_far ++ members_from p i l) (left-is infos i info lt is)) ∙ known)
 
 -- the whole, by what its parts are
-pub first-keep-by : (system : System) (seats : List Seat) (disc : Told) (book : List Queue) (jobs : List (List (Option Job))) (pairs : List SeenPair)
+pub first-keep-by : (system : System) (seats : List Seat) (disc : Told) (book : List Queue) (jobs : List (List (Option ProcessJob))) (pairs : List SeenPair)
     → IsValid system → IsIdleDisc system disc → seats ≡ map (seat_for system) system.terminals → book ≡ map first_queue system.classes
     → jobs ≡ map no_jobs_for system.classes → AreFirstPairs system (length system.tcps) pairs
     → IsKeep system seats disc book jobs pairs
 first-keep-by system seats disc book jobs pairs valid idle is_seats is_book is_jobs first =
     subst (λ (s : List Seat). IsKeep system s disc book jobs pairs) (sym is_seats)
     (subst (λ (b : List Queue). IsKeep system (map (seat_for system) system.terminals) disc b jobs pairs) (sym is_book)
-    (subst (λ (j : List (List (Option Job))). IsKeep system (map (seat_for system) system.terminals) disc (map first_queue system.classes) j pairs) (sym is_jobs)
+    (subst (λ (j : List (List (Option ProcessJob))). IsKeep system (map (seat_for system) system.terminals) disc (map first_queue system.classes) j pairs) (sym is_jobs)
     (first-keep system disc pairs valid idle first)))
 
-pub first-kept-by : (system : System) (seats : List Seat) (disc : Told) (book : List Queue) (jobs : List (List (Option Job))) (pairs : List SeenPair)
+pub first-kept-by : (system : System) (seats : List Seat) (disc : Told) (book : List Queue) (jobs : List (List (Option ProcessJob))) (pairs : List SeenPair)
     → IsValid system → seats ≡ map (seat_for system) system.terminals → book ≡ map first_queue system.classes
     → jobs ≡ map no_jobs_for system.classes → AreFirstPairs system (length system.tcps) pairs
     → kept_by seats disc book jobs pairs 0 ≡ first_kept system disc
 first-kept-by system seats disc book jobs pairs valid is_seats is_book is_jobs first =
     ap (λ (s : List Seat). kept_by s disc book jobs pairs 0) is_seats
-    ∙ (ap₂ (λ (b : List Queue) (j : List (List (Option Job))). kept_by (map (seat_for system) system.terminals) disc b j pairs 0) is_book is_jobs
+    ∙ (ap₂ (λ (b : List Queue) (j : List (List (Option ProcessJob))). kept_by (map (seat_for system) system.terminals) disc b j pairs 0) is_book is_jobs
     ∙ first-kept-is system disc pairs valid first)

@@ -19,7 +19,7 @@ use Rattle.pw_kept.specs.Changes.{cancel}
 use Rattle.pw_kept.specs.Kept.{Kept}
 use Rattle.pw_pair.specs.Pairs.{SeenPair}
 use Rattle.pw_seats.specs.Jobs.{context_of, dropped_for, is_for}
-use Rattle.pw_seats.specs.declared.job.Job.{Job}
+use Rattle.pw_seats.specs.declared.job.ProcessJob.{ProcessJob}
 use Rattle.pw_seats.specs.declared.seat.Seat.{Seat}
 use Rattle.pw_tmf.specs.Told.{Told}
 
@@ -46,26 +46,26 @@ from-one-map {X} f none xs i = by (i == 0)
 -- ---- a post
 
 -- a job is for the terminal where its request is of it
-for-same : (t : ℕ) (job : Option Job) (request : Option Request) → job_terminal job ≡ request_terminal request → is_for t job ≡ works_for t request
+for-same : (t : ℕ) (job : Option ProcessJob) (request : Option Request) → job_terminal job ≡ request_terminal request → is_for t job ≡ works_for t request
 for-same t None None e = refl
 for-same t None (Some r) e = absurd (cc e)
 for-same t (Some own) None e = absurd (cc e)
 for-same t (Some own) (Some r) e = ap (λ k. k == t) (some_is e)
 
-both-gone : (b : Bool) (job : Option Job) (request : Option Request) → job_terminal job ≡ request_terminal request → job_terminal (cond b None job) ≡ request_terminal (cond b None request)
+both-gone : (b : Bool) (job : Option ProcessJob) (request : Option Request) → job_terminal job ≡ request_terminal request → job_terminal (cond b None job) ≡ request_terminal (cond b None request)
 both-gone true job request e = refl
 both-gone false job request e = e
 
-still-post : (t : ℕ) (job : Option Job) (request : Option Request) → job_terminal job ≡ request_terminal request
+still-post : (t : ℕ) (job : Option ProcessJob) (request : Option Request) → job_terminal job ≡ request_terminal request
     → job_terminal (dropped_for t job) ≡ request_terminal (busy_without t request)
 still-post t job request e = ap (λ b. job_terminal (cond b None job)) (for-same t job request e) ∙ both-gone (works_for t request) job request e
 
-verb-if : (system : System) (b : Bool) (job : Option Job) → JobHasVerb system job → JobHasVerb system (cond b None job)
+verb-if : (system : System) (b : Bool) (job : Option ProcessJob) → JobHasVerb system job → JobHasVerb system (cond b None job)
 verb-if system true job h = tt
 verb-if system false job h = h
 
 -- what is left of its context
-context-left : (t : ℕ) (job : Option Job) (request : Option Request) → job_terminal job ≡ request_terminal request
+context-left : (t : ℕ) (job : Option ProcessJob) (request : Option Request) → job_terminal job ≡ request_terminal request
     → context_of (dropped_for t job) ≡ cond (works_for t request || false) None (context_of job)
 context-left t job request e = ap (λ b. context_of (cond b None job)) (for-same t job request e) ∙ by (works_for t request)
   where
@@ -74,7 +74,7 @@ context-left t job request e = ap (λ b. context_of (cond b None job)) (for-same
     by false = refl
 
 -- what the jobs and the book have of a process, in each class
-posts-all : (system : System) (seats : List Seat) (disc : Told) (book : List Queue) (jobs : List (List (Option Job))) (pairs : List SeenPair) (c i : ℕ)
+posts-all : (system : System) (seats : List Seat) (disc : Told) (book : List Queue) (jobs : List (List (Option ProcessJob))) (pairs : List SeenPair) (c i : ℕ)
     → IsKeep system seats disc book jobs pairs
     → job_terminal (job_of (jobs_at jobs c) i) ≡ request_terminal (at_process (queue_at book c) i)
 posts-all system seats disc book jobs pairs c i old =
@@ -98,13 +98,13 @@ posts-all system seats disc book jobs pairs c i old =
 queue-map : (t : ℕ) (book : List Queue) (c : ℕ) → queue_at (map (without t) book) c ≡ without t (queue_at book c)
 queue-map t book c = map-or (without t) book c no_queue no_queue refl
 
-jobs-map : (t : ℕ) (jobs : List (List (Option Job))) (c : ℕ) → jobs_at (map (map (dropped_for t)) jobs) c ≡ map (dropped_for t) (jobs_at jobs c)
+jobs-map : (t : ℕ) (jobs : List (List (Option ProcessJob))) (c : ℕ) → jobs_at (map (map (dropped_for t)) jobs) c ≡ map (dropped_for t) (jobs_at jobs c)
 jobs-map t jobs c = map-or (map (dropped_for t)) jobs c [] [] refl
 
-job-map : (t : ℕ) (jobs : List (List (Option Job))) (c i : ℕ) → job_of (jobs_at (map (map (dropped_for t)) jobs) c) i ≡ dropped_for t (job_of (jobs_at jobs c) i)
+job-map : (t : ℕ) (jobs : List (List (Option ProcessJob))) (c i : ℕ) → job_of (jobs_at (map (map (dropped_for t)) jobs) c) i ≡ dropped_for t (job_of (jobs_at jobs c) i)
 job-map t jobs c i = ap (λ js. job_of js i) (jobs-map t jobs c) ∙ from-one-map (dropped_for t) refl (jobs_at jobs c) i
 
-pub keep-cancelled : (system : System) (seats : List Seat) (disc : Told) (book : List Queue) (jobs : List (List (Option Job))) (pairs : List SeenPair) (t : ℕ)
+pub keep-cancelled : (system : System) (seats : List Seat) (disc : Told) (book : List Queue) (jobs : List (List (Option ProcessJob))) (pairs : List SeenPair) (t : ℕ)
     → IsKeep system seats disc book jobs pairs
     → IsKeep system seats disc (map (without t) book) (map (map (dropped_for t)) jobs) pairs
 keep-cancelled system seats disc book jobs pairs t old = record {
@@ -135,7 +135,7 @@ keep-cancelled system seats disc book jobs pairs t old = record {
       (verb-if system (is_for t (job_of (jobs_at jobs c) i)) (job_of (jobs_at jobs c) i) (old.job_verbs c i));
 }
 
-pub kept-cancelled : (system : System) (seats : List Seat) (disc : Told) (book : List Queue) (jobs : List (List (Option Job))) (pairs : List SeenPair) (births t : ℕ)
+pub kept-cancelled : (system : System) (seats : List Seat) (disc : Told) (book : List Queue) (jobs : List (List (Option ProcessJob))) (pairs : List SeenPair) (births t : ℕ)
     → IsKeep system seats disc book jobs pairs
     → kept_by seats disc (map (without t) book) (map (map (dropped_for t)) jobs) pairs births ≡ cancel_of t (kept_by seats disc book jobs pairs births)
 kept-cancelled system seats disc book jobs pairs births t old =

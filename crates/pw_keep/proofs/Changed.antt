@@ -18,8 +18,8 @@ use Rattle.pw_kept.specs.Kept.{KeptTerminal}
 use Rattle.pw_onecopy.proofs.Update.{upd_elim}
 use Rattle.pw_pair.specs.Pairs.{SeenPair}
 use Rattle.pw_seats.specs.Jobs.{context_of}
-use Rattle.pw_seats.specs.Seats.{over}
-use Rattle.pw_seats.specs.declared.job.Job.{Job}
+use Rattle.pw_seats.specs.Seats.{seat_unit_over}
+use Rattle.pw_seats.specs.declared.job.ProcessJob.{ProcessJob}
 use Rattle.pw_seats.specs.declared.seat.Seat.{Seat}
 use Rattle.pw_tmf.specs.Leaving.{is_among, open_units, unit_told}
 use Rattle.pw_tmf.specs.Told.{Told, ToldUnit}
@@ -95,7 +95,7 @@ kept-if : (b : Bool) (new s : Seat) (kept : KeptTerminal) → (b ≡ true → ke
 kept-if true new s kept alike = alike refl
 kept-if false new s kept alike = refl
 
-pub kept-each : (change : ℕ → Seat → Seat) (kept_change : ℕ → KeptTerminal → KeptTerminal) (terminals : List ℕ) (seats new : List Seat) (disc : Told) (book : List Queue) (jobs : List (List (Option Job))) (pairs : List SeenPair) (births : ℕ)
+pub kept-each : (change : ℕ → Seat → Seat) (kept_change : ℕ → KeptTerminal → KeptTerminal) (terminals : List ℕ) (seats new : List Seat) (disc : Told) (book : List Queue) (jobs : List (List (Option ProcessJob))) (pairs : List SeenPair) (births : ℕ)
     → ((u : ℕ) → u < length seats → kept_of (change u (seat_at seats u)) ≡ kept_change u (kept_of (seat_at seats u)))
     → All (λ t. t < length seats) terminals → AreChanged change terminals seats new
     → kept_by new disc book jobs pairs births ≡ at_each terminals kept_change (kept_by seats disc book jobs pairs births)
@@ -115,7 +115,7 @@ verb-if system change right false s h = h
 
 -- each part is right where the seats of some terminals are changed, and the disc has the units that they say
 pub keep-each : (system : System) (change : ℕ → Seat → Seat) → ((t : ℕ) (s : Seat) → HasVerb system s → HasVerb system (change t s))
-    → (terminals : List ℕ) (seats new : List Seat) (disc new_disc : Told) (book : List Queue) (jobs : List (List (Option Job))) (pairs : List SeenPair)
+    → (terminals : List ℕ) (seats new : List Seat) (disc new_disc : Told) (book : List Queue) (jobs : List (List (Option ProcessJob))) (pairs : List SeenPair)
     → IsKeep system seats disc book jobs pairs → AreChanged change terminals seats new
     → new_disc.terminals ≡ disc.terminals → new_disc.file_count ≡ disc.file_count
     → ((u : ℕ) → u < length seats → (cond (is_among terminals u) (change u (seat_at seats u)) (seat_at seats u)).unit ≡ unit_told u (new_disc.units u))
@@ -147,7 +147,7 @@ still-if read change same false s = refl
 -- units and starts stay
 pub keep-alike : (system : System) (change : ℕ → Seat → Seat) → ((t : ℕ) (s : Seat) → HasVerb system s → HasVerb system (change t s))
     → ((t : ℕ) (s : Seat) → (change t s).unit ≡ s.unit) → ((t : ℕ) (s : Seat) → (change t s).start ≡ s.start)
-    → (terminals : List ℕ) (seats new : List Seat) (disc : Told) (book : List Queue) (jobs : List (List (Option Job))) (pairs : List SeenPair)
+    → (terminals : List ℕ) (seats new : List Seat) (disc : Told) (book : List Queue) (jobs : List (List (Option ProcessJob))) (pairs : List SeenPair)
     → IsKeep system seats disc book jobs pairs → AreChanged change terminals seats new
     → IsKeep system new disc book jobs pairs
 keep-alike system change right unit start terminals seats new disc book jobs pairs old are =
@@ -221,23 +221,23 @@ left-units told terminals u =
     by false own = refl
 
 -- the units of some terminals have ended, in their seats and in the disc
-pub keep-over : (system : System) (terminals : List ℕ) (seats : List Seat) (disc new : Told) (book : List Queue) (jobs : List (List (Option Job))) (pairs : List SeenPair)
+pub keep-over : (system : System) (terminals : List ℕ) (seats : List Seat) (disc new : Told) (book : List Queue) (jobs : List (List (Option ProcessJob))) (pairs : List SeenPair)
     → IsKeep system seats disc book jobs pairs → All (λ t. t < length seats) terminals → new ≡ all_backed_out true disc (open_units disc terminals)
-    → IsKeep system (changed_each (λ t. over) terminals seats) new book jobs pairs
+    → IsKeep system (changed_each (λ t. seat_unit_over) terminals seats) new book jobs pairs
 keep-over system terminals seats disc new book jobs pairs old all is =
     let now : (u : ℕ) → new.units u ≡ cond (is_among terminals u) None (disc.units u) =
     λ u. ap (λ (d : Told). d.units u) is ∙ left-units disc terminals u in
-    keep-each system (λ t. over) (λ t s h. h) terminals seats (changed_each (λ t. over) terminals seats) disc new book jobs pairs old
-    (changed-are (λ t. over) (λ t s. refl) terminals seats all)
+    keep-each system (λ t. seat_unit_over) (λ t s h. h) terminals seats (changed_each (λ t. seat_unit_over) terminals seats) disc new book jobs pairs old
+    (changed-are (λ t. seat_unit_over) (λ t s. refl) terminals seats all)
     (ap (λ (d : Told). d.terminals) is ∙ backed-terminals disc (open_units disc terminals))
     (ap (λ (d : Told). d.file_count) is ∙ backed-files disc (open_units disc terminals))
     (λ u low. unit-if (is_among terminals u) u (seat_at seats u) (disc.units u) (old.units u low) ∙ ap (unit_told u) (sym (now u)))
     (λ u low. run-if (is_among terminals u) (seat_at seats u) (disc.units u) (old.runs u low) ∙ ap is_run (sym (now u)))
   where
-    unit-if : (b : Bool) (u : ℕ) (s : Seat) (own : Option ToldUnit) → s.unit ≡ unit_told u own → (cond b (over s) s).unit ≡ unit_told u (cond b None own)
+    unit-if : (b : Bool) (u : ℕ) (s : Seat) (own : Option ToldUnit) → s.unit ≡ unit_told u own → (cond b (seat_unit_over s) s).unit ≡ unit_told u (cond b None own)
     unit-if true u s own e = refl
     unit-if false u s own e = e
 
-    run-if : (b : Bool) (s : Seat) (own : Option ToldUnit) → is_some s.start ≡ is_run own → is_some (cond b (over s) s).start ≡ is_run (cond b None own)
+    run-if : (b : Bool) (s : Seat) (own : Option ToldUnit) → is_some s.start ≡ is_run own → is_some (cond b (seat_unit_over s) s).start ≡ is_run (cond b None own)
     run-if true s own e = refl
     run-if false s own e = e

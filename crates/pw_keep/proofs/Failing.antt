@@ -15,8 +15,8 @@ use Rattle.pw_event.specs.declared.event.Ending.TheVariants.{Fault, Lost, NoEntr
 use Rattle.pw_keep.specs.Each.{gone_each, gone_on, goings_of, is_left, loss_of, lost}
 use Rattle.pw_keep.specs.Keeps.{HasVerb, is_run, kept_of, no_seat, seat_at}
 use Rattle.pw_keep.specs.declared.pieces.Going.{Going}
-use Rattle.pw_keep.specs.declared.pieces.Loss.{Loss}
-use Rattle.pw_keep.specs.declared.pieces.Loss.TheVariants as loss
+use Rattle.pw_keep.specs.declared.pieces.TerminalLoss.{TerminalLoss}
+use Rattle.pw_keep.specs.declared.pieces.TerminalLoss.TheVariants as loss
 use Rattle.pw_kept.specs.Changes.{at_pair, backup_lost, kept_fail_tcp, leave, leave_at, memory_in, primary_lost, resumed_live, runs_told}
 use Rattle.pw_kept.specs.Kept.{Kept}
 use Rattle.pw_kept.specs.Members.{AreOf, IsOf}
@@ -27,7 +27,7 @@ use Rattle.pw_pair.specs.Takeover.{Resumption, resumed_image, resumption_at as h
 use Rattle.pw_pair.specs.declared.backup.Held.{Held}
 use Rattle.pw_pair.specs.declared.mode.Mode.{Mode}
 use Rattle.pw_pair.specs.declared.mode.Mode.TheVariants.{Alone, Down, Gone, Paired, Raising}
-use Rattle.pw_pair.specs.declared.seat.Seat.{Seat as PairSeat}
+use Rattle.pw_pair.specs.declared.seat.BackupSeat.{BackupSeat as PairSeat}
 use Rattle.pw_seats.specs.Seats.{runs_numbered, runs_unit}
 use Rattle.pw_seats.specs.declared.seat.Seat.{Seat}
 use Rattle.pw_keep.proofs.Changed.{AreChanged}
@@ -51,7 +51,7 @@ backup-loses Down terminals kept = refl
 backup-loses Gone terminals kept = refl
 
 -- what is lost leaves the pairs
-pub lost-pairs : (l : Loss) (terminals : List ℕ) (kept : Kept) → (lost l terminals kept).pairs ≡ kept.pairs
+pub lost-pairs : (l : TerminalLoss) (terminals : List ℕ) (kept : Kept) → (lost l terminals kept).pairs ≡ kept.pairs
 lost-pairs loss.Nothing terminals kept = refl
 lost-pairs loss.Paths terminals kept = refl
 lost-pairs loss.Units terminals kept = refl

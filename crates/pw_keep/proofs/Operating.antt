@@ -10,7 +10,7 @@ use Rattle.pw_onecopy.proofs.Update.{upd-other, upd-same}
 use Rattle.pw_pair.specs.Pairs.{SeenPair}
 use Rattle.pw_paired.specs.State.{BeforeImage}
 use Rattle.pw_paired.specs.Units.{image_before, is_first_change}
-use Rattle.pw_seats.specs.declared.job.Job.{Job}
+use Rattle.pw_seats.specs.declared.job.ProcessJob.{ProcessJob}
 use Rattle.pw_seats.specs.declared.seat.Seat.{Seat}
 use Rattle.std.specs.Option.{option_map}
 use Rattle.pw_tmf.specs.Answers.{Operates}
@@ -93,7 +93,7 @@ alike answer.Memory old own call new did = record {
 }
 
 -- each part is as before but the disc, whose units are named as before
-pub keep-disc : (system : System) (seats : List Seat) (disc new : Told) (book : List Queue) (jobs : List (List (Option Job))) (pairs : List SeenPair)
+pub keep-disc : (system : System) (seats : List Seat) (disc new : Told) (book : List Queue) (jobs : List (List (Option ProcessJob))) (pairs : List SeenPair)
     → IsKeep system seats disc book jobs pairs → IsAlike disc new → IsKeep system seats new book jobs pairs
 keep-disc system seats disc new book jobs pairs old like = record {
   valid = old.valid;

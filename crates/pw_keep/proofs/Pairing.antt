@@ -16,15 +16,15 @@ use Rattle.pw_pair.specs.Pairs.{SeenPair, backup_fails, changed_at, in_mode, pri
 use Rattle.pw_pair.specs.Seats.{built, is_seat_of, without_backup, without_flight}
 use Rattle.pw_pair.specs.declared.mode.Mode.{Mode}
 use Rattle.pw_pair.specs.declared.mode.Mode.TheVariants.{Alone, Down, Gone, Paired, Raising}
-use Rattle.pw_pair.specs.declared.seat.Seat.{Seat}
+use Rattle.pw_pair.specs.declared.seat.BackupSeat.{BackupSeat}
 use Rattle.pw_seats.specs.Jobs.{context_of}
-use Rattle.pw_seats.specs.declared.job.Job.{Job}
+use Rattle.pw_seats.specs.declared.job.ProcessJob.{ProcessJob}
 use Rattle.pw_seats.specs.declared.seat.Seat.{Seat as SeatKept}
 use Rattle.pw_tmf.specs.Told.{Told}
 use Rattle.pw_tmf.proofs.Stored.{get-set}
 
 -- there is a pair for each of the system
-pub pair-there : {system : System} {seats : List SeatKept} {disc : Told} {book : List Queue} {jobs : List (List (Option Job))} {pairs : List SeenPair} (p : ℕ)
+pub pair-there : {system : System} {seats : List SeatKept} {disc : Told} {book : List Queue} {jobs : List (List (Option ProcessJob))} {pairs : List SeenPair} (p : ℕ)
     → IsKeep system seats disc book jobs pairs → p < length system.tcps → p < length pairs
 pair-there p keep low = subst (λ n. p < n) (sym keep.pairs_are) low
 
@@ -34,21 +34,21 @@ pair-is pairs p pair lt is = get_or_default pairs p no_pair pair lt ∙ sym is
 
 -- ---- the terminals of a pair
 
-same-terminals : (change : Seat → Seat) → ((s : Seat) → (change s).terminal ≡ s.terminal) → (seats : List Seat)
-    → map (λ (s : Seat). s.terminal) (map change seats) ≡ map (λ (s : Seat). s.terminal) seats
+same-terminals : (change : BackupSeat → BackupSeat) → ((s : BackupSeat) → (change s).terminal ≡ s.terminal) → (seats : List BackupSeat)
+    → map (λ (s : BackupSeat). s.terminal) (map change seats) ≡ map (λ (s : BackupSeat). s.terminal) seats
 same-terminals change same [] = refl
 same-terminals change same (seat ∷ seats) = ap₂ (λ t ts. t ∷ ts) (same seat) (same-terminals change same seats)
 
-at-test : (change : Seat → Seat) → ((s : Seat) → (change s).terminal ≡ s.terminal) → (b : Bool) (s : Seat) → (cond b (change s) s).terminal ≡ s.terminal
+at-test : (change : BackupSeat → BackupSeat) → ((s : BackupSeat) → (change s).terminal ≡ s.terminal) → (b : Bool) (s : BackupSeat) → (cond b (change s) s).terminal ≡ s.terminal
 at-test change same true s = same s
 at-test change same false s = refl
 
-pub terminals-at : (t : ℕ) (change : Seat → Seat) → ((s : Seat) → (change s).terminal ≡ s.terminal) → (pair : SeenPair)
+pub terminals-at : (t : ℕ) (change : BackupSeat → BackupSeat) → ((s : BackupSeat) → (change s).terminal ≡ s.terminal) → (pair : SeenPair)
     → terminals_in (changed_at t change pair) ≡ terminals_in pair
 terminals-at t change same pair =
     same-terminals (λ s. cond (is_seat_of t s) (change s) s) (λ s. at-test change same (is_seat_of t s) s) pair.seats
 
-pub terminals-each : (mode : Mode) (change : Seat → Seat) → ((s : Seat) → (change s).terminal ≡ s.terminal) → (pair : SeenPair)
+pub terminals-each : (mode : Mode) (change : BackupSeat → BackupSeat) → ((s : BackupSeat) → (change s).terminal ≡ s.terminal) → (pair : SeenPair)
     → terminals_in (in_mode mode change pair) ≡ terminals_in pair
 terminals-each mode change same pair = same-terminals change same pair.seats
 
@@ -76,7 +76,7 @@ filed-terminals true t pair new filed late = ap terminals_in (filed refl) ∙ te
 filed-terminals false t pair new filed late = ap terminals_in (late refl)
 
 -- each part is as before but one pair, which has the same terminals
-pub keep-pair : (system : System) (seats : List SeatKept) (disc : Told) (book : List Queue) (jobs : List (List (Option Job))) (pairs : List SeenPair) (p : ℕ) (pair new : SeenPair)
+pub keep-pair : (system : System) (seats : List SeatKept) (disc : Told) (book : List Queue) (jobs : List (List (Option ProcessJob))) (pairs : List SeenPair) (p : ℕ) (pair new : SeenPair)
     → IsKeep system seats disc book jobs pairs → p < length pairs → pair ≡ slice_index_or pairs p pair → terminals_in new ≡ terminals_in pair
     → IsKeep system seats disc book jobs (slice_set pairs p new)
 keep-pair system seats disc book jobs pairs p pair new old lt is same = record {

@@ -11,8 +11,8 @@ use Rattle.pw_code.specs.declared.system.System.{System}
 use Rattle.pw_code.specs.declared.unit.Unit.{Unit}
 use Rattle.pw_keep.specs.Keeps.{HasVerb, IsChanged, IsKeep, KeepState, is_run, job_of, jobs_at, kept_by, kept_in, kept_of, no_seat, pair_at, seat_at}
 use Rattle.pw_seats.specs.Jobs.{context_of}
-use Rattle.pw_seats.specs.Seats.{answered, over, started}
-use Rattle.pw_seats.specs.declared.job.Job.{Job}
+use Rattle.pw_seats.specs.Seats.{seat_answered, seat_unit_over, started}
+use Rattle.pw_seats.specs.declared.job.ProcessJob.{ProcessJob}
 use Rattle.pw_seats.specs.declared.seat.Seat.{Seat}
 use Rattle.pw_kept.specs.Changes.{at_terminal, attempted, kept_begin, kept_begin_send, kept_show, with_context}
 use Rattle.pw_kept.specs.Kept.{Kept, KeptTerminal}
@@ -35,7 +35,7 @@ of-parts terminals disc queues jobs pairs births =
 
 -- one seat is put, and what is kept of its terminal is changed so
 pub seat-put : (kept_change : KeptTerminal → KeptTerminal)
-    → (seats : List Seat) (disc : Told) (book : List Queue) (jobs : List (List (Option Job))) (pairs : List SeenPair) (births t : ℕ) (new : Seat)
+    → (seats : List Seat) (disc : Told) (book : List Queue) (jobs : List (List (Option ProcessJob))) (pairs : List SeenPair) (births t : ℕ) (new : Seat)
     → t < length seats → kept_of new ≡ kept_change (kept_of (seat_at seats t))
     → kept_by (slice_set seats t new) disc book jobs pairs births ≡ at_terminal t kept_change (kept_by seats disc book jobs pairs births)
 seat-put kept_change seats disc book jobs pairs births t new lt here =
@@ -84,7 +84,7 @@ at-seat P seats t new lt others own u =
     (cases_eq u t)
 
 -- each part is as before but one seat, which has the open unit that the disc tells and its right verb
-pub keep-seat : (system : System) (seats : List Seat) (disc new_disc : Told) (book : List Queue) (jobs : List (List (Option Job))) (pairs : List SeenPair)
+pub keep-seat : (system : System) (seats : List Seat) (disc new_disc : Told) (book : List Queue) (jobs : List (List (Option ProcessJob))) (pairs : List SeenPair)
     (t : ℕ) (new : Seat)
     → IsKeep system seats disc book jobs pairs → t < length seats → HasVerb system new
     → new_disc.terminals ≡ disc.terminals → new_disc.file_count ≡ disc.file_count
@@ -112,12 +112,12 @@ keep-seat system seats disc new_disc book jobs pairs t new old lt verb terminals
 }
 
 -- there is a seat for each terminal of the system
-pub seat-there : {system : System} {seats : List Seat} {disc : Told} {book : List Queue} {jobs : List (List (Option Job))} {pairs : List SeenPair} (t : ℕ)
+pub seat-there : {system : System} {seats : List Seat} {disc : Told} {book : List Queue} {jobs : List (List (Option ProcessJob))} {pairs : List SeenPair} (t : ℕ)
     → IsKeep system seats disc book jobs pairs → t < length system.terminals → t < length seats
 seat-there t keep low = subst (λ n. t < n) (sym keep.terminals) low
 
 -- a seat is changed, but not its unit and its start
-pub keep-own : (system : System) (seats : List Seat) (disc : Told) (book : List Queue) (jobs : List (List (Option Job))) (pairs : List SeenPair)
+pub keep-own : (system : System) (seats : List Seat) (disc : Told) (book : List Queue) (jobs : List (List (Option ProcessJob))) (pairs : List SeenPair)
     (t : ℕ) (seat new : Seat)
     → IsKeep system seats disc book jobs pairs → t < length seats → seat ≡ slice_index_or seats t seat → HasVerb system new
     → new.unit ≡ seat.unit → new.start ≡ seat.start
@@ -139,9 +139,9 @@ ended-own : (disc : Told) (unit : Unit) (reply : Option (List ℕ)) (t : ℕ) �
 ended-own disc unit reply t is = upd-same disc.units unit.terminal None t (sym is)
 
 -- each part is right where the unit of a terminal has ended
-pub keep-ended : (system : System) (seats : List Seat) (disc undone new_disc : Told) (book : List Queue) (jobs : List (List (Option Job))) (pairs : List SeenPair)
+pub keep-ended : (system : System) (seats : List Seat) (disc undone new_disc : Told) (book : List Queue) (jobs : List (List (Option ProcessJob))) (pairs : List SeenPair)
     (t : ℕ) (unit : Unit) (reply : Option (List ℕ)) (next : Context) (seat new : Seat)
-    → IsKeep system seats disc book jobs pairs → t < length seats → unit.terminal ≡ t → new ≡ over (answered next seat)
+    → IsKeep system seats disc book jobs pairs → t < length seats → unit.terminal ≡ t → new ≡ seat_unit_over (seat_answered next seat)
     → undone.terminals ≡ disc.terminals → undone.file_count ≡ disc.file_count → undone.units ≡ disc.units
     → new_disc ≡ ended undone unit reply
     → IsKeep system (slice_set seats t new) new_disc book jobs pairs
@@ -159,7 +159,7 @@ abbrev named : ℕ → Unit → Unit
 named k unit = record { terminal = k; number = unit.number; birth = unit.birth }
 
 -- and where one begins
-pub keep-begun : (system : System) (seats : List Seat) (disc new_disc : Told) (book : List Queue) (jobs : List (List (Option Job))) (pairs : List SeenPair)
+pub keep-begun : (system : System) (seats : List Seat) (disc new_disc : Told) (book : List Queue) (jobs : List (List (Option ProcessJob))) (pairs : List SeenPair)
     (t : ℕ) (unit : Unit) (start : Context) (seat new : Seat)
     → IsKeep system seats disc book jobs pairs → t < length seats → unit.terminal ≡ t → seat ≡ slice_index_or seats t seat
     → new ≡ started unit start seat → new_disc ≡ begun disc unit

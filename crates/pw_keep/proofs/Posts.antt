@@ -26,7 +26,7 @@ use Rattle.pw_onecopy.specs.Update.{upd}
 use Rattle.pw_onecopy.proofs.Update.{upd_elim}
 use Rattle.pw_pair.specs.Pairs.{SeenPair}
 use Rattle.pw_seats.specs.Jobs.{context_of, gone_on, job_in}
-use Rattle.pw_seats.specs.declared.job.Job.{Job}
+use Rattle.pw_seats.specs.declared.job.ProcessJob.{ProcessJob}
 use Rattle.pw_seats.specs.declared.seat.Seat.{Seat}
 use Rattle.pw_tmf.specs.Told.{Told}
 use Rattle.pw_tmf.proofs.Stored.{get-set}
@@ -61,11 +61,11 @@ from-one-other xs i j x low ne =
     (cases_eq j 0)
 
 -- the contexts of a class's jobs
-abbrev pub contexts : List (Option Job) → ℕ → Option Context
+abbrev pub contexts : List (Option ProcessJob) → ℕ → Option Context
 contexts jobs i = context_of (job_of jobs i)
 
 -- one job is changed
-pub contexts-set : (jobs : List (Option Job)) (i : ℕ) (job : Option Job) → 1 ≤ i → i - 1 < length jobs
+pub contexts-set : (jobs : List (Option ProcessJob)) (i : ℕ) (job : Option ProcessJob) → 1 ≤ i → i - 1 < length jobs
     → contexts (slice_set jobs (i - 1) job) ≡ upd (contexts jobs) i (context_of job)
 contexts-set jobs i job low lt = fun_ext (λ j.
     upd_elim (contexts jobs) i (context_of job) j (λ y. contexts (slice_set jobs (i - 1) job) j ≡ y)
@@ -73,7 +73,7 @@ contexts-set jobs i job low lt = fun_ext (λ j.
     (λ ne. ap context_of (from-one-other jobs i j job low ne)))
 
 -- the jobs of one class are changed at one process
-pub jobs-set : (jobs : List (List (Option Job))) (c i : ℕ) (job : Option Job) → c < length jobs → 1 ≤ i → i - 1 < length (jobs_at jobs c)
+pub jobs-set : (jobs : List (List (Option ProcessJob))) (c i : ℕ) (job : Option ProcessJob) → c < length jobs → 1 ≤ i → i - 1 < length (jobs_at jobs c)
     → (λ (d : ℕ). contexts (jobs_at (slice_set jobs c (slice_set (jobs_at jobs c) (i - 1) job)) d))
     ≡ upd (λ d. contexts (jobs_at jobs d)) c (upd (contexts (jobs_at jobs c)) i (context_of job))
 jobs-set jobs c i job there low lt =
@@ -81,7 +81,7 @@ jobs-set jobs c i job there low lt =
     ∙ ap (upd (λ d. contexts (jobs_at jobs d)) c) (contexts-set (jobs_at jobs c) i job low lt)
 
 -- each part is as before but one class, which is staffed
-pub keep-class : (system : System) (seats : List Seat) (disc : Told) (book new_book : List Queue) (jobs new_jobs : List (List (Option Job))) (pairs : List SeenPair) (c : ℕ)
+pub keep-class : (system : System) (seats : List Seat) (disc : Told) (book new_book : List Queue) (jobs new_jobs : List (List (Option ProcessJob))) (pairs : List SeenPair) (c : ℕ)
     → IsKeep system seats disc book jobs pairs
     → length new_book ≡ length book → length new_jobs ≡ length jobs
     → ((d : ℕ) → d ≢ c → queue_at new_book d ≡ queue_at book d)
@@ -139,7 +139,7 @@ class-there : (system : System) (c : ℕ) → c < length system.classes → (inf
 class-there system c low = (get_or system.classes c no_class, slice_get-get_or system.classes c no_class low)
 
 -- where a process works there is a place for its job
-pub post-there : (system : System) (seats : List Seat) (disc : Told) (book : List Queue) (jobs : List (List (Option Job))) (pairs : List SeenPair) (c i : ℕ)
+pub post-there : (system : System) (seats : List Seat) (disc : Told) (book : List Queue) (jobs : List (List (Option ProcessJob))) (pairs : List SeenPair) (c i : ℕ)
     → IsKeep system seats disc book jobs pairs → c < length system.classes → IsSome (at_process (queue_at book c) i)
     → (1 ≤ i) × (i - 1 < length (jobs_at jobs c))
 post-there system seats disc book jobs pairs c i old low some =
@@ -149,34 +149,34 @@ post-there system seats disc book jobs pairs c i old low some =
     (found.0, subst (λ n. i - 1 < n) (staff.book ∙ sym staff.jobs_are) found.1)
 
 -- and there is a job there
-some-job : (job : Option Job) (request : Option Request) → job_terminal job ≡ request_terminal request → IsSome request → (own : Job) × (job ≡ Some own)
+some-job : (job : Option ProcessJob) (request : Option Request) → job_terminal job ≡ request_terminal request → IsSome request → (own : ProcessJob) × (job ≡ Some own)
 some-job None None e some = absurd (false≢true some)
 some-job None (Some r) e some = absurd (cc e)
 some-job (Some own) request e some = (own, refl)
 
-pub post-job : (system : System) (seats : List Seat) (disc : Told) (book : List Queue) (jobs : List (List (Option Job))) (pairs : List SeenPair) (c i : ℕ)
+pub post-job : (system : System) (seats : List Seat) (disc : Told) (book : List Queue) (jobs : List (List (Option ProcessJob))) (pairs : List SeenPair) (c i : ℕ)
     → IsKeep system seats disc book jobs pairs → c < length system.classes → IsSome (at_process (queue_at book c) i)
-    → (own : Job) × (job_of (jobs_at jobs c) i ≡ Some own)
+    → (own : ProcessJob) × (job_of (jobs_at jobs c) i ≡ Some own)
 post-job system seats disc book jobs pairs c i old low some =
     let class = class-there system c low in
     some-job (job_of (jobs_at jobs c) i) (at_process (queue_at book c) i) ((old.staffed c class.0 class.1).posts i) some
 
 -- what the book has of a process
-pub post-terminal : (system : System) (seats : List Seat) (disc : Told) (book : List Queue) (jobs : List (List (Option Job))) (pairs : List SeenPair) (c i : ℕ)
+pub post-terminal : (system : System) (seats : List Seat) (disc : Told) (book : List Queue) (jobs : List (List (Option ProcessJob))) (pairs : List SeenPair) (c i : ℕ)
     → IsKeep system seats disc book jobs pairs → c < length system.classes
     → job_terminal (job_of (jobs_at jobs c) i) ≡ request_terminal (at_process (queue_at book c) i)
 post-terminal system seats disc book jobs pairs c i old low =
     let class = class-there system c low in (old.staffed c class.0 class.1).posts i
 
 -- the post of one process is changed, in the book and in its job
-pub keep-post : (system : System) (seats : List Seat) (disc : Told) (book new_book : List Queue) (jobs : List (List (Option Job))) (pairs : List SeenPair) (c i : ℕ) (q : Queue) (x : Option Job)
+pub keep-post : (system : System) (seats : List Seat) (disc : Told) (book new_book : List Queue) (jobs : List (List (Option ProcessJob))) (pairs : List SeenPair) (c i : ℕ) (q : Queue) (x : Option ProcessJob)
     → IsKeep system seats disc book jobs pairs → c < length system.classes → 1 ≤ i → i - 1 < length (jobs_at jobs c)
     → length new_book ≡ length book → ((d : ℕ) → d ≢ c → queue_at new_book d ≡ queue_at book d) → queue_at new_book c ≡ q
     → length q.busy ≡ length (queue_at book c).busy → ((j : ℕ) → j ≢ i → at_process q j ≡ at_process (queue_at book c) j)
     → job_terminal x ≡ request_terminal (at_process q i) → JobHasVerb system x
     → IsKeep system seats disc new_book (slice_set jobs c (slice_set (jobs_at jobs c) (i - 1) x)) pairs
 keep-post system seats disc book new_book jobs pairs c i q x old low up lt size others here busy same own verb =
-    let js : List (Option Job) = slice_set (jobs_at jobs c) (i - 1) x in
+    let js : List (Option ProcessJob) = slice_set (jobs_at jobs c) (i - 1) x in
     let there : c < length jobs = subst (λ n. c < n) (sym old.job_lists) low in
     let mine : jobs_at (slice_set jobs c js) c ≡ js = get_or-set_same jobs c js [] there in
     keep-class system seats disc book new_book jobs (slice_set jobs c js) pairs c old size (length-set jobs c js) others
@@ -201,14 +201,14 @@ keep-post system seats disc book new_book jobs pairs c i q x old low up lt size 
 
 -- ---- what is kept of them
 
-pub job-step : (seats : List Seat) (disc : Told) (book : List Queue) (jobs : List (List (Option Job))) (pairs : List SeenPair) (births c i : ℕ) (x : Option Job)
+pub job-step : (seats : List Seat) (disc : Told) (book : List Queue) (jobs : List (List (Option ProcessJob))) (pairs : List SeenPair) (births c i : ℕ) (x : Option ProcessJob)
     → c < length jobs → 1 ≤ i → i - 1 < length (jobs_at jobs c)
     → kept_by seats disc book (slice_set jobs c (slice_set (jobs_at jobs c) (i - 1) x)) pairs births
     ≡ with_job c i (context_of x) (kept_by seats disc book jobs pairs births)
 job-step seats disc book jobs pairs births c i x there up lt =
     ap (λ (all : ℕ → ℕ → Option Context). of-parts (λ t. kept_of (seat_at seats t)) disc (queue_at book) all (pair_at pairs) births) (jobs-set jobs c i x there up lt)
 
-pub queue-step : (change : Queue → Queue) (seats : List Seat) (disc : Told) (book : List Queue) (jobs : List (List (Option Job))) (pairs : List SeenPair) (births c : ℕ) (q : Queue)
+pub queue-step : (change : Queue → Queue) (seats : List Seat) (disc : Told) (book : List Queue) (jobs : List (List (Option ProcessJob))) (pairs : List SeenPair) (births c : ℕ) (q : Queue)
     → c < length book → q ≡ change (queue_at book c)
     → kept_by seats disc (slice_set book c q) jobs pairs births ≡ at_class c change (kept_by seats disc book jobs pairs births)
 queue-step change seats disc book jobs pairs births c q low is =
@@ -223,7 +223,7 @@ none-out book t none =
     list_any_none (has_request t) book (λ k d lt. ap (has_request t) (get_or_default book k d no_queue lt) ∙ none k)
 
 -- a request that waits is one more behind the others
-pub keep-sent : (system : System) (seats : List Seat) (disc : Told) (book : List Queue) (jobs : List (List (Option Job))) (pairs : List SeenPair) (c : ℕ) (q : Queue)
+pub keep-sent : (system : System) (seats : List Seat) (disc : Told) (book : List Queue) (jobs : List (List (Option ProcessJob))) (pairs : List SeenPair) (c : ℕ) (q : Queue)
     → IsKeep system seats disc book jobs pairs → c < length system.classes → q.busy ≡ (queue_at book c).busy
     → IsKeep system seats disc (slice_set book c q) jobs pairs
 keep-sent system seats disc book jobs pairs c q old low busy =
@@ -274,68 +274,68 @@ took q p r e = took-of q q.waiting (free_place q) p r refl e
 -- ---- a job that goes on
 
 -- the jobs of a class that is there
-pub jobs-is : (system : System) (seats : List Seat) (disc : Told) (book : List Queue) (jobs : List (List (Option Job))) (pairs : List SeenPair) (c : ℕ) (js : List (Option Job))
+pub jobs-is : (system : System) (seats : List Seat) (disc : Told) (book : List Queue) (jobs : List (List (Option ProcessJob))) (pairs : List SeenPair) (c : ℕ) (js : List (Option ProcessJob))
     → IsKeep system seats disc book jobs pairs → c < length system.classes → js ≡ slice_index_or jobs c js → jobs_at jobs c ≡ js
 jobs-is system seats disc book jobs pairs c js old low at =
     get_or_default jobs c [] js (subst (λ n. c < n) (sym old.job_lists) low) ∙ sym at
 
-has-verb : (system : System) (verb : Option Verb) (context : Context) (job : Option Job) → IsVerbOf system context verb → JobHasVerb system (gone_on verb context job)
+has-verb : (system : System) (verb : Option Verb) (context : Context) (job : Option ProcessJob) → IsVerbOf system context verb → JobHasVerb system (gone_on verb context job)
 has-verb system verb context None is = tt
 has-verb system verb context (Some own) is = is
 
-same-terminal : (verb : Option Verb) (context : Context) (job : Option Job) → job_terminal (gone_on verb context job) ≡ job_terminal job
+same-terminal : (verb : Option Verb) (context : Context) (job : Option ProcessJob) → job_terminal (gone_on verb context job) ≡ job_terminal job
 same-terminal verb context None = refl
 same-terminal verb context (Some own) = refl
 
 -- the jobs of a class with one that goes on
-gone-at : (jobs : List (List (Option Job))) (c i : ℕ) (js new : List (Option Job)) (verb : Option Verb) (context : Context) → 1 ≤ i → jobs_at jobs c ≡ js
+gone-at : (jobs : List (List (Option ProcessJob))) (c i : ℕ) (js new : List (Option ProcessJob)) (verb : Option Verb) (context : Context) → 1 ≤ i → jobs_at jobs c ≡ js
     → new ≡ slice_set js (i - 1) (gone_on verb context (job_in js (i - 1)))
     → new ≡ slice_set (jobs_at jobs c) (i - 1) (gone_on verb context (job_of (jobs_at jobs c) i))
 gone-at jobs c i js new verb context up at made =
     made
-    ∙ (ap (λ (l : List (Option Job)). slice_set l (i - 1) (gone_on verb context (job_in l (i - 1)))) (sym at)
+    ∙ (ap (λ (l : List (Option ProcessJob)). slice_set l (i - 1) (gone_on verb context (job_in l (i - 1)))) (sym at)
     ∙ ap (λ x. slice_set (jobs_at jobs c) (i - 1) (gone_on verb context x)) (sym (from-one-at (jobs_at jobs c) i up)))
 
-pub go-on : (system : System) (seats : List Seat) (disc : Told) (book : List Queue) (jobs : List (List (Option Job))) (pairs : List SeenPair) (c i : ℕ)
-    (js new : List (Option Job)) (verb : Option Verb) (context : Context)
+pub go-on : (system : System) (seats : List Seat) (disc : Told) (book : List Queue) (jobs : List (List (Option ProcessJob))) (pairs : List SeenPair) (c i : ℕ)
+    (js new : List (Option ProcessJob)) (verb : Option Verb) (context : Context)
     → IsKeep system seats disc book jobs pairs → c < length system.classes → IsSome (at_process (queue_at book c) i) → js ≡ slice_index_or jobs c js
     → new ≡ slice_set js (i - 1) (gone_on verb context (job_in js (i - 1))) → IsVerbOf system context verb
     → IsKeep system seats disc book (slice_set jobs c new) pairs
 go-on system seats disc book jobs pairs c i js new verb context old low some at made right =
     let there = post-there system seats disc book jobs pairs c i old low some in
-    let x : Option Job = gone_on verb context (job_of (jobs_at jobs c) i) in
+    let x : Option ProcessJob = gone_on verb context (job_of (jobs_at jobs c) i) in
     let is = gone-at jobs c i js new verb context there.0 (jobs-is system seats disc book jobs pairs c js old low at) made in
-    subst (λ (l : List (Option Job)). IsKeep system seats disc book (slice_set jobs c l) pairs) (sym is)
+    subst (λ (l : List (Option ProcessJob)). IsKeep system seats disc book (slice_set jobs c l) pairs) (sym is)
     (keep-post system seats disc book book jobs pairs c i (queue_at book c) x old low there.0 there.1 refl (λ d ne. refl) refl refl (λ j ne. refl)
     (same-terminal verb context (job_of (jobs_at jobs c) i) ∙ post-terminal system seats disc book jobs pairs c i old low)
     (has-verb system verb context (job_of (jobs_at jobs c) i) right))
 
-pub go-on-kept : (system : System) (seats : List Seat) (disc : Told) (book : List Queue) (jobs : List (List (Option Job))) (pairs : List SeenPair) (births c i : ℕ)
-    (js new : List (Option Job)) (verb : Option Verb) (context : Context)
+pub go-on-kept : (system : System) (seats : List Seat) (disc : Told) (book : List Queue) (jobs : List (List (Option ProcessJob))) (pairs : List SeenPair) (births c i : ℕ)
+    (js new : List (Option ProcessJob)) (verb : Option Verb) (context : Context)
     → IsKeep system seats disc book jobs pairs → c < length system.classes → IsSome (at_process (queue_at book c) i) → js ≡ slice_index_or jobs c js
     → new ≡ slice_set js (i - 1) (gone_on verb context (job_in js (i - 1)))
     → kept_by seats disc book (slice_set jobs c new) pairs births ≡ with_job c i (Some context) (kept_by seats disc book jobs pairs births)
 go-on-kept system seats disc book jobs pairs births c i js new verb context old low some at made =
     let there = post-there system seats disc book jobs pairs c i old low some in
     let own = post-job system seats disc book jobs pairs c i old low some in
-    let x : Option Job = gone_on verb context (job_of (jobs_at jobs c) i) in
+    let x : Option ProcessJob = gone_on verb context (job_of (jobs_at jobs c) i) in
     let is = gone-at jobs c i js new verb context there.0 (jobs-is system seats disc book jobs pairs c js old low at) made in
     let goes : context_of x ≡ Some context = ap (λ job. context_of (gone_on verb context job)) own.1 in
-    ap (λ (l : List (Option Job)). kept_by seats disc book (slice_set jobs c l) pairs births) is
+    ap (λ (l : List (Option ProcessJob)). kept_by seats disc book (slice_set jobs c l) pairs births) is
     ∙ (job-step seats disc book jobs pairs births c i x (subst (λ n. c < n) (sym old.job_lists) low) there.0 there.1
     ∙ ap (λ o. with_job c i o (kept_by seats disc book jobs pairs births)) goes)
 
 -- ---- a process that is free
 
-pub free-there : (system : System) (seats : List Seat) (disc : Told) (book : List Queue) (jobs : List (List (Option Job))) (pairs : List SeenPair) (c i : ℕ) (js : List (Option Job))
+pub free-there : (system : System) (seats : List Seat) (disc : Told) (book : List Queue) (jobs : List (List (Option ProcessJob))) (pairs : List SeenPair) (c i : ℕ) (js : List (Option ProcessJob))
     → IsKeep system seats disc book jobs pairs → c < length system.classes → IsSome (at_process (queue_at book c) i) → js ≡ slice_index_or jobs c js
     → i - 1 < length js
 free-there system seats disc book jobs pairs c i js old low some at =
-    subst (λ (l : List (Option Job)). i - 1 < length l) (jobs-is system seats disc book jobs pairs c js old low at)
+    subst (λ (l : List (Option ProcessJob)). i - 1 < length l) (jobs-is system seats disc book jobs pairs c js old low at)
     (post-there system seats disc book jobs pairs c i old low some).1
 
-pub free-post : (system : System) (seats : List Seat) (disc : Told) (book new_book : List Queue) (jobs : List (List (Option Job))) (pairs : List SeenPair) (c i : ℕ)
-    (js new : List (Option Job))
+pub free-post : (system : System) (seats : List Seat) (disc : Told) (book new_book : List Queue) (jobs : List (List (Option ProcessJob))) (pairs : List SeenPair) (c i : ℕ)
+    (js new : List (Option ProcessJob))
     → IsKeep system seats disc book jobs pairs → c < length system.classes → IsSome (at_process (queue_at book c) i) → js ≡ slice_index_or jobs c js
     → new_book ≡ slice_set book c (with_free (queue_at book c) i) → new ≡ slice_set js (i - 1) None
     → IsKeep system seats disc new_book (slice_set jobs c new) pairs
@@ -346,33 +346,33 @@ free-post system seats disc book new_book jobs pairs c i js new old low some at 
     let q : Queue = with_free (queue_at book c) i in
     let in_book : c < length book = subst (λ n. c < n) (sym old.classes) low in
     let mine = jobs-is system seats disc book jobs pairs c js old low at in
-    subst (λ (l : List (Option Job)). IsKeep system seats disc new_book (slice_set jobs c l) pairs)
-    (ap (λ (l : List (Option Job)). slice_set l (i - 1) None) mine ∙ sym made)
+    subst (λ (l : List (Option ProcessJob)). IsKeep system seats disc new_book (slice_set jobs c l) pairs)
+    (ap (λ (l : List (Option ProcessJob)). slice_set l (i - 1) None) mine ∙ sym made)
     (subst (λ (b : List Queue). IsKeep system seats disc b (slice_set jobs c (slice_set (jobs_at jobs c) (i - 1) None)) pairs) (sym freed)
     (keep-post system seats disc book (slice_set book c q) jobs pairs c i q None old low there.0 there.1
     (length-set book c q) (λ d ne. get_or-set_other book c d q no_queue ne) (get_or-set_same book c q no_queue in_book)
     (length-set busy (i - 1) None) (λ j ne. from-one-other busy i j None there.0 ne)
     (sym (ap request_terminal (from-one-same busy i None there.0 found.1))) tt))
 
-pub free-kept : (system : System) (seats : List Seat) (disc : Told) (book new_book : List Queue) (jobs : List (List (Option Job))) (pairs : List SeenPair) (births c i : ℕ)
-    (js new : List (Option Job))
+pub free-kept : (system : System) (seats : List Seat) (disc : Told) (book new_book : List Queue) (jobs : List (List (Option ProcessJob))) (pairs : List SeenPair) (births c i : ℕ)
+    (js new : List (Option ProcessJob))
     → IsKeep system seats disc book jobs pairs → c < length system.classes → IsSome (at_process (queue_at book c) i) → js ≡ slice_index_or jobs c js
     → new_book ≡ slice_set book c (with_free (queue_at book c) i) → new ≡ slice_set js (i - 1) None
     → kept_by seats disc new_book (slice_set jobs c new) pairs births ≡ free_process c i (kept_by seats disc book jobs pairs births)
 free-kept system seats disc book new_book jobs pairs births c i js new old low some at freed made =
     let there = post-there system seats disc book jobs pairs c i old low some in
     let mine = jobs-is system seats disc book jobs pairs c js old low at in
-    let put : List (List (Option Job)) = slice_set jobs c (slice_set (jobs_at jobs c) (i - 1) None) in
+    let put : List (List (Option ProcessJob)) = slice_set jobs c (slice_set (jobs_at jobs c) (i - 1) None) in
     ap (λ (b : List Queue). kept_by seats disc b (slice_set jobs c new) pairs births) freed
-    ∙ (ap (λ (l : List (Option Job)). kept_by seats disc (slice_set book c (with_free (queue_at book c) i)) (slice_set jobs c l) pairs births)
-    (made ∙ sym (ap (λ (l : List (Option Job)). slice_set l (i - 1) None) mine))
+    ∙ (ap (λ (l : List (Option ProcessJob)). kept_by seats disc (slice_set book c (with_free (queue_at book c) i)) (slice_set jobs c l) pairs births)
+    (made ∙ sym (ap (λ (l : List (Option ProcessJob)). slice_set l (i - 1) None) mine))
     ∙ (queue-step (λ queue. with_free queue i) seats disc book put pairs births c (with_free (queue_at book c) i) (subst (λ n. c < n) (sym old.classes) low) refl
     ∙ ap (at_class c (λ queue. with_free queue i)) (job-step seats disc book jobs pairs births c i None (subst (λ n. c < n) (sym old.job_lists) low) there.0 there.1)))
 
 -- ---- a process that takes a request
 
 -- its place among the jobs
-pub take-place : (system : System) (seats : List Seat) (disc : Told) (book : List Queue) (jobs : List (List (Option Job))) (pairs : List SeenPair) (c p : ℕ) (r : Request)
+pub take-place : (system : System) (seats : List Seat) (disc : Told) (book : List Queue) (jobs : List (List (Option ProcessJob))) (pairs : List SeenPair) (c p : ℕ) (r : Request)
     → IsKeep system seats disc book jobs pairs → c < length system.classes → taken (queue_at book c) ≡ Got p r
     → p - 1 < length (jobs_at jobs c)
 take-place system seats disc book jobs pairs c p r old low e =
@@ -380,19 +380,19 @@ take-place system seats disc book jobs pairs c p r old low e =
     let staff = old.staffed c class.0 class.1 in
     subst (λ n. p - 1 < n) (staff.book ∙ sym staff.jobs_are) (took (queue_at book c) p r e).there
 
-pub take-there : (system : System) (seats : List Seat) (disc : Told) (book : List Queue) (jobs : List (List (Option Job))) (pairs : List SeenPair) (c p : ℕ) (r : Request) (js : List (Option Job))
+pub take-there : (system : System) (seats : List Seat) (disc : Told) (book : List Queue) (jobs : List (List (Option ProcessJob))) (pairs : List SeenPair) (c p : ℕ) (r : Request) (js : List (Option ProcessJob))
     → IsKeep system seats disc book jobs pairs → c < length system.classes → taken (queue_at book c) ≡ Got p r → js ≡ slice_index_or jobs c js
     → p - 1 < length js
 take-there system seats disc book jobs pairs c p r js old low e at =
-    subst (λ (l : List (Option Job)). p - 1 < length l) (jobs-is system seats disc book jobs pairs c js old low at)
+    subst (λ (l : List (Option ProcessJob)). p - 1 < length l) (jobs-is system seats disc book jobs pairs c js old low at)
     (take-place system seats disc book jobs pairs c p r old low e)
 
 -- the job of a request that is taken
-abbrev pub job-for : Request → Context → Option Job
+abbrev pub job-for : Request → Context → Option ProcessJob
 job-for r context = Some (record { terminal = r.terminal; context = context; verb = None })
 
-pub take-post : (system : System) (seats : List Seat) (disc : Told) (book new_book : List Queue) (jobs : List (List (Option Job))) (pairs : List SeenPair) (c p : ℕ) (r : Request) (context : Context)
-    (js new : List (Option Job))
+pub take-post : (system : System) (seats : List Seat) (disc : Told) (book new_book : List Queue) (jobs : List (List (Option ProcessJob))) (pairs : List SeenPair) (c p : ℕ) (r : Request) (context : Context)
+    (js new : List (Option ProcessJob))
     → IsKeep system seats disc book jobs pairs → c < length system.classes → taken (queue_at book c) ≡ Got p r → js ≡ slice_index_or jobs c js
     → new_book ≡ slice_set book c (after_take (queue_at book c)) → new ≡ slice_set js (p - 1) (job-for r context)
     → context.at_verb ≡ false
@@ -403,8 +403,8 @@ take-post system seats disc book new_book jobs pairs c p r context js new old lo
     let found = took (queue_at book c) p r e in
     let in_book : c < length book = subst (λ n. c < n) (sym old.classes) low in
     let mine = jobs-is system seats disc book jobs pairs c js old low at in
-    subst (λ (l : List (Option Job)). IsKeep system seats disc new_book (slice_set jobs c l) pairs)
-    (ap (λ (l : List (Option Job)). slice_set l (p - 1) (job-for r context)) mine ∙ sym made)
+    subst (λ (l : List (Option ProcessJob)). IsKeep system seats disc new_book (slice_set jobs c l) pairs)
+    (ap (λ (l : List (Option ProcessJob)). slice_set l (p - 1) (job-for r context)) mine ∙ sym made)
     (subst (λ (b : List Queue). IsKeep system seats disc b (slice_set jobs c (slice_set (jobs_at jobs c) (p - 1) (job-for r context))) pairs) (sym taking)
     (keep-post system seats disc book (slice_set book c q) jobs pairs c p q (job-for r context) old low found.up
     (take-place system seats disc book jobs pairs c p r old low e)
@@ -413,8 +413,8 @@ take-post system seats disc book new_book jobs pairs c p r context js new old lo
     (λ j ne. ap (λ xs. from-one xs j) found.busy ∙ from-one-other busy p j (Some r) found.up ne)
     (sym (ap request_terminal (ap (λ xs. from-one xs p) found.busy ∙ from-one-same busy p (Some r) found.up found.there))) fresh))
 
-pub take-kept : (system : System) (seats : List Seat) (disc : Told) (book new_book : List Queue) (jobs : List (List (Option Job))) (pairs : List SeenPair) (births c p : ℕ) (r : Request) (context : Context)
-    (js new : List (Option Job))
+pub take-kept : (system : System) (seats : List Seat) (disc : Told) (book new_book : List Queue) (jobs : List (List (Option ProcessJob))) (pairs : List SeenPair) (births c p : ℕ) (r : Request) (context : Context)
+    (js new : List (Option ProcessJob))
     → IsKeep system seats disc book jobs pairs → c < length system.classes → taken (queue_at book c) ≡ Got p r → js ≡ slice_index_or jobs c js
     → new_book ≡ slice_set book c (after_take (queue_at book c)) → new ≡ slice_set js (p - 1) (job-for r context)
     → kept_by seats disc new_book (slice_set jobs c new) pairs births
@@ -422,10 +422,10 @@ pub take-kept : (system : System) (seats : List Seat) (disc : Told) (book new_bo
 take-kept system seats disc book new_book jobs pairs births c p r context js new old low e at taking made =
     let found = took (queue_at book c) p r e in
     let mine = jobs-is system seats disc book jobs pairs c js old low at in
-    let put : List (List (Option Job)) = slice_set jobs c (slice_set (jobs_at jobs c) (p - 1) (job-for r context)) in
+    let put : List (List (Option ProcessJob)) = slice_set jobs c (slice_set (jobs_at jobs c) (p - 1) (job-for r context)) in
     ap (λ (b : List Queue). kept_by seats disc b (slice_set jobs c new) pairs births) taking
-    ∙ (ap (λ (l : List (Option Job)). kept_by seats disc (slice_set book c (after_take (queue_at book c))) (slice_set jobs c l) pairs births)
-    (made ∙ sym (ap (λ (l : List (Option Job)). slice_set l (p - 1) (job-for r context)) mine))
+    ∙ (ap (λ (l : List (Option ProcessJob)). kept_by seats disc (slice_set book c (after_take (queue_at book c))) (slice_set jobs c l) pairs births)
+    (made ∙ sym (ap (λ (l : List (Option ProcessJob)). slice_set l (p - 1) (job-for r context)) mine))
     ∙ (queue-step after_take seats disc book put pairs births c (after_take (queue_at book c)) (subst (λ n. c < n) (sym old.classes) low) refl
     ∙ (ap (at_class c after_take) (job-step seats disc book jobs pairs births c p (job-for r context) (subst (λ n. c < n) (sym old.job_lists) low) found.up
     (take-place system seats disc book jobs pairs c p r old low e))

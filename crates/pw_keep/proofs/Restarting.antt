@@ -11,15 +11,15 @@ use Rattle.pw_keep.proofs.Parts.{keep-seat, seat-is}
 use Rattle.pw_kept.specs.Changes as kept
 use Rattle.pw_onecopy.proofs.Update.{upd-other, upd-same}
 use Rattle.pw_pair.specs.Pairs.{SeenPair}
-use Rattle.pw_seats.specs.Seats.{restarted}
-use Rattle.pw_seats.specs.declared.job.Job.{Job}
+use Rattle.pw_seats.specs.Seats.{seat_restarted}
+use Rattle.pw_seats.specs.declared.job.ProcessJob.{ProcessJob}
 use Rattle.pw_seats.specs.declared.seat.Seat.{Seat}
 use Rattle.pw_tmf.specs.Leaving.{unit_told}
 use Rattle.pw_tmf.specs.Told.{Told, ToldUnit}
 use Rattle.pw_tmf.specs.Units.{backed_out, stopped}
 
 -- what is kept of the terminal
-pub restarted-kept : (cause : Cause) (s : Seat) → kept_of (restarted cause s) ≡ kept.restarted cause (kept_of s)
+pub restarted-kept : (cause : Cause) (s : Seat) → kept_of (seat_restarted cause s) ≡ kept.restarted cause (kept_of s)
 restarted-kept (Older o m) s = refl
 restarted-kept (Takeover p) s = refl
 restarted-kept (Server k) s = refl
@@ -34,10 +34,10 @@ stopped-rests : (own : Option ToldUnit) → is_run (option_map stopped own) ≡ 
 stopped-rests None = refl
 stopped-rests (Some x) = refl
 
-pub keep-restarted : (system : System) (seats : List Seat) (disc new_disc : Told) (book : List Queue) (jobs : List (List (Option Job))) (pairs : List SeenPair)
+pub keep-restarted : (system : System) (seats : List Seat) (disc new_disc : Told) (book : List Queue) (jobs : List (List (Option ProcessJob))) (pairs : List SeenPair)
     (t : ℕ) (own : unit.Unit) (cause : Cause) (seat new : Seat)
     → IsKeep system seats disc book jobs pairs → t < length seats → own.terminal ≡ t → seat ≡ slice_index_or seats t seat
-    → new ≡ restarted cause seat → new_disc ≡ backed_out false disc own
+    → new ≡ seat_restarted cause seat → new_disc ≡ backed_out false disc own
     → IsKeep system (slice_set seats t new) new_disc book jobs pairs
 keep-restarted system seats disc new_disc book jobs pairs t own cause seat new old lt is at made done =
     let here : new_disc.units t ≡ option_map stopped (disc.units t) =

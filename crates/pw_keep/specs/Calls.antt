@@ -13,7 +13,7 @@ use Rattle.pw_keep.specs.Keeps.{KeepState, job_of, jobs_at, kept_in, terminals_i
 use Rattle.pw_kept.specs.Changes.{at_terminal, cancel, unit_at, with_context, without_unit}
 use Rattle.pw_event.specs.declared.event.Cause.{Cause}
 use Rattle.pw_kept.specs.Kept.{Kept, KeptTerminal}
-use Rattle.pw_seats.specs.declared.job.Job.{Job}
+use Rattle.pw_seats.specs.declared.job.ProcessJob.{ProcessJob}
 use Rattle.pw_tmf.specs.Answers.{Operates}
 use Rattle.pw_tmf.specs.Operation.{IsCall}
 use Rattle.pw_tmf.specs.Told.{Told}
@@ -39,9 +39,9 @@ abbrev pub taker : Queue → ℕ
 taker queue = process_of (taken queue)
 
 -- the process and the terminal of the request that it gets
-abbrev pub given : Taken → Option (ℕ × ℕ)
-given (Got process request) = Some (process, request.terminal)
-given _ = None
+abbrev pub request_given : Taken → Option (ℕ × ℕ)
+request_given (Got process request) = Some (process, request.terminal)
+request_given _ = None
 
 -- the same, where the process and the request are these
 abbrev pub given_to : Option ℕ → Option Request → Option (ℕ × ℕ)
@@ -61,7 +61,7 @@ kept_commit_reply t n reply new kept =
 -- a busy process stands at this call, and an attempt of its unit runs that may make it
 pub record MayOperate {D : Type 0} (told : D → Told) (keep : KeepState D) (c i : ℕ) : Type 0 where
   pub there : c < length keep.system.classes
-  pub own : Job
+  pub own : ProcessJob
   pub job : job_of (jobs_at keep.jobs c) i ≡ Some own
   pub call : FileCall
   pub asks : own.verb ≡ Some (verb.File call)
@@ -83,7 +83,7 @@ call_in (Some (verb.File call)) = Some call
 call_in _ = None
 
 -- the operation on a file at which a job stands
-abbrev pub call_of : Option Job → Option FileCall
+abbrev pub call_of : Option ProcessJob → Option FileCall
 call_of None = None
 call_of (Some job) = call_in job.verb
 

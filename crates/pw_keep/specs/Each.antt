@@ -5,8 +5,8 @@ use Rattle.pw_event.specs.declared.event.Ending.{Ending}
 use Rattle.pw_event.specs.declared.event.Ending.TheVariants.{Stopped, NoEntries, Fault, Suspended, Lost}
 use Rattle.pw_keep.specs.Keeps.{seat_at}
 use Rattle.pw_keep.specs.declared.pieces.Going.{Going}
-use Rattle.pw_keep.specs.declared.pieces.Loss.{Loss}
-use Rattle.pw_keep.specs.declared.pieces.Loss.TheVariants.{Nothing, Paths, Units}
+use Rattle.pw_keep.specs.declared.pieces.TerminalLoss.{TerminalLoss}
+use Rattle.pw_keep.specs.declared.pieces.TerminalLoss.TheVariants.{Nothing, Paths, Units}
 use Rattle.pw_kept.specs.Changes.{at_each, cancel, leave, without_path, without_unit}
 use Rattle.pw_kept.specs.Kept.{Kept, KeptTerminal}
 use Rattle.pw_pair.specs.Pairs.{SeenPair, seat_of}
@@ -50,7 +50,7 @@ without_units terminals kept = record (at_each terminals (λ t. without_unit) ke
 -- ---- a member of a pair fails
 
 -- what terminals lose where a member of their pair fails in a mode
-abbrev pub loss_of : Bool → Mode → Loss
+abbrev pub loss_of : Bool → Mode → TerminalLoss
 loss_of true Paired = Paths
 loss_of true Raising = Units
 loss_of true Alone = Units
@@ -63,7 +63,7 @@ loss_of false Down = Units
 loss_of false Gone = Nothing
 
 -- terminals lose this
-abbrev pub lost : Loss → List ℕ → Kept → Kept
+abbrev pub lost : TerminalLoss → List ℕ → Kept → Kept
 lost Nothing terminals kept = kept
 lost Paths terminals kept = at_each terminals (λ t. without_path) (cancel terminals kept)
 lost Units terminals kept = at_each terminals (λ t. without_path) (leave terminals kept)

@@ -17,7 +17,7 @@ use Rattle.pw_pair.specs.Pairs.{SeenPair}
 use Rattle.pw_pair.specs.declared.mode.Mode.TheVariants.{Alone}
 use Rattle.pw_paired.specs.State.{Awaited}
 use Rattle.pw_seats.specs.Jobs.{context_of, job_in}
-use Rattle.pw_seats.specs.declared.job.Job.{Job}
+use Rattle.pw_seats.specs.declared.job.ProcessJob.{ProcessJob}
 use Rattle.pw_seats.specs.declared.seat.AwaitedUnit.{AwaitedUnit}
 use Rattle.pw_seats.specs.declared.seat.Ready.{Ready}
 use Rattle.pw_seats.specs.declared.seat.Seat.{Seat}
@@ -68,11 +68,11 @@ abbrev pub seat_at : List Seat → ℕ → Seat
 seat_at seats t = slice_index_or seats t no_seat
 
 -- the jobs of the processes of a class
-abbrev pub jobs_at : List (List (Option Job)) → ℕ → List (Option Job)
+abbrev pub jobs_at : List (List (Option ProcessJob)) → ℕ → List (Option ProcessJob)
 jobs_at jobs c = slice_index_or jobs c []
 
 -- processes count from 1
-abbrev pub job_of : List (Option Job) → ℕ → Option Job
+abbrev pub job_of : List (Option ProcessJob) → ℕ → Option ProcessJob
 job_of jobs i = if i == 0 then None else job_in jobs (i - 1)
 
 -- what is kept of a pair
@@ -80,7 +80,7 @@ abbrev pub pair_at : List SeenPair → ℕ → SeenPair
 pair_at pairs p = slice_index_or pairs p no_pair
 
 -- what is kept
-abbrev pub kept_by : List Seat → Told → List Queue → List (List (Option Job)) → List SeenPair → ℕ → Kept
+abbrev pub kept_by : List Seat → Told → List Queue → List (List (Option ProcessJob)) → List SeenPair → ℕ → Kept
 kept_by seats disc book jobs pairs births = record {
   terminals = λ t. kept_of (seat_at seats t);
   disc = disc;
@@ -98,7 +98,7 @@ pub record KeepState (D : Type 0) : Type 0 where
   pub seats : List Seat
   pub disc : D
   pub book : List Queue
-  pub jobs : List (List (Option Job))
+  pub jobs : List (List (Option ProcessJob))
   pub pairs : List SeenPair
   pub births : ℕ
 
@@ -130,12 +130,12 @@ IsVerbOf system context None = context.at_verb ≡ false
 IsVerbOf system context (Some verb) = (context.at_verb ≡ true) × (verb ≡ verb_in system context)
 
 -- a job's verb, where it is known, is that of its context
-abbrev pub JobHasVerb : System → Option Job → Type 0
-JobHasVerb system job = IfSome job (λ (own : Job). IsVerbOf system own.context own.verb)
+abbrev pub JobHasVerb : System → Option ProcessJob → Type 0
+JobHasVerb system job = IfSome job (λ (own : ProcessJob). IsVerbOf system own.context own.verb)
 
 -- the terminals whose jobs and requests are at a process
-abbrev pub job_terminal : Option Job → Option ℕ
-job_terminal job = option_map (λ (own : Job). own.terminal) job
+abbrev pub job_terminal : Option ProcessJob → Option ℕ
+job_terminal job = option_map (λ (own : ProcessJob). own.terminal) job
 
 -- the terminal of a request, if there is one
 abbrev pub request_terminal : Option Request → Option ℕ
@@ -143,7 +143,7 @@ request_terminal request = option_map (λ (own : Request). own.terminal) request
 
 -- a class has as many processes in its book and its jobs as in the system, and each busy one has a job for the terminal
 -- of its request
-pub record IsStaffed (info : ClassInfo) (queue : Queue) (jobs : List (Option Job)) : Type 0 where
+pub record IsStaffed (info : ClassInfo) (queue : Queue) (jobs : List (Option ProcessJob)) : Type 0 where
   pub book : length queue.busy ≡ info.processes
   pub jobs_are : length jobs ≡ info.processes
   pub posts : (i : ℕ) → job_terminal (job_of jobs i) ≡ request_terminal (at_process queue i)
@@ -160,7 +160,7 @@ terminals_in pair = map (λ seat. seat.terminal) pair.seats
 -- Each part has the size that the system says, and a pair has its terminals. A seat has the open unit that the disc
 -- tells, and a start exactly where an attempt of that runs. Verbs are right.
 pub record IsKeep (system : System) (seats : List Seat) (disc : Told) (book : List Queue)
-    (jobs : List (List (Option Job))) (pairs : List SeenPair) : Type 0 where
+    (jobs : List (List (Option ProcessJob))) (pairs : List SeenPair) : Type 0 where
   pub valid : IsValid system
   pub terminals : length seats ≡ length system.terminals
   pub classes : length book ≡ length system.classes

@@ -11,7 +11,7 @@ use Rattle.pw_kept.specs.Kept.{Kept}
 use Rattle.pw_kept.specs.Members.{members_of}
 use Rattle.pw_pair.specs.Pairs.{SeenPair}
 use Rattle.pw_seats.specs.Seats.{first_seat}
-use Rattle.pw_seats.specs.declared.job.Job.{Job}
+use Rattle.pw_seats.specs.declared.job.ProcessJob.{ProcessJob}
 use Rattle.pw_seats.specs.declared.seat.Seat.{Seat}
 use Rattle.pw_tmf.specs.Told.{Told}
 
@@ -29,7 +29,7 @@ abbrev pub seat_for : System → TermInfo → Seat
 seat_for system info = first_seat (closed (starting system info.program))
 
 -- no job at any process of a class
-abbrev pub no_jobs_for : ClassInfo → List (Option Job)
+abbrev pub no_jobs_for : ClassInfo → List (Option ProcessJob)
 no_jobs_for class = replicate class.processes None
 
 -- the pairs before the first entry: so many, each with its terminals

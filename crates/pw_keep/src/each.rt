@@ -3,7 +3,7 @@
 ghost use Rattle.std.specs.Prelude.{◌≡◌, ◌<◌, All, length, option_map};
 ghost use Rattle.pw_keep.specs.Each.{changed_each, gone_each, gone_on};
 ghost use Rattle.pw_pair.specs.Takeover.{resumption_of};
-ghost use Rattle.pw_seats.specs.Seats.{over, without_path};
+ghost use Rattle.pw_seats.specs.Seats.{seat_unit_over, without_path};
 
 use crate::pieces::Going;
 use pw_event::event::Cause;
@@ -13,7 +13,7 @@ use pw_seats::seat::Seat;
 /// No unit of these terminals is open.
 pub fn end_units(seats: &mut Vec<Seat>, terminals: &[u32])
     requires { All (λ t. t < length seats.old.items) terminals.now }
-    ensures { seats.new.items ≡ changed_each (λ t. over) terminals.now seats.old.items }
+    ensures { seats.new.items ≡ changed_each (λ t. seat_unit_over) terminals.now seats.old.items }
 {
     for terminal in terminals {
         seats[*terminal as usize].end_unit();

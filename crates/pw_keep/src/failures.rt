@@ -4,14 +4,14 @@ ghost use Rattle.std.specs.Prelude.{◌≡◌, ◌<◌, All, IfErr, IfOk, OnErr,
 ghost use Rattle.pw_keep.specs.Calls.{members_in};
 ghost use Rattle.pw_keep.specs.Each.{goings_of, lost, resumption_at};
 ghost use Rattle.pw_keep.specs.Keeps.{IsChanged, IsRefused, kept_in};
-ghost use Rattle.pw_keep.specs.declared.pieces.Loss.TheVariants as Loss;
+ghost use Rattle.pw_keep.specs.declared.pieces.TerminalLoss.TheVariants as Loss;
 ghost use Rattle.pw_kept.specs.Changes.{kept_end, kept_fail_tcp, kept_takeover, leave_at};
 ghost use Rattle.pw_kept.specs.Entered.{tcp_of};
 ghost use Rattle.pw_pair.specs.declared.mode.Mode.TheVariants as Mode;
 
 use crate::each::go_on_each;
 use crate::keep::Keep;
-use crate::pieces::{Going, Loss, is_left, loss_in};
+use crate::pieces::{Going, TerminalLoss, is_left, loss_in};
 use pw_base::memory::Memory;
 use pw_event::event::Ending;
 use pw_tmf::answer::DiscFault;
@@ -21,7 +21,7 @@ impl<D: Disc> Keep<D> {
     /// The terminals of a pair lose their requests and their paths.
     fn lose_programs(&mut self, tcp: u32) -> Result<(), DiscFault>
         requires known { tcp < length self.old.system.tcps }
-        ensures ok { OnOk result (IsChanged D.told (lost Loss.Paths (members_in (kept_in D.told self.old) tcp)) self.old self.new) }
+        ensures ok { OnOk result (IsChanged D.told (lost TerminalLoss.Paths (members_in (kept_in D.told self.old) tcp)) self.old self.new) }
         ensures err { IfErr result (λ fault. IsRefused D.told fault self.old self.new) }
     {
         let terminals = self.members(tcp)?;
@@ -33,7 +33,7 @@ impl<D: Disc> Keep<D> {
     /// The terminals of a pair lose these and their open units.
     fn lose_units(&mut self, tcp: u32) -> Result<(), DiscFault>
         requires known { tcp < length self.old.system.tcps }
-        ensures ok { OnOk result (IsChanged D.told (lost Loss.Units (members_in (kept_in D.told self.old) tcp)) self.old self.new) }
+        ensures ok { OnOk result (IsChanged D.told (lost TerminalLoss.Units (members_in (kept_in D.told self.old) tcp)) self.old self.new) }
         ensures err { IfErr result (λ fault. IsRefused D.told fault self.old self.new) }
     {
         let terminals = self.members(tcp)?;
@@ -43,15 +43,15 @@ impl<D: Disc> Keep<D> {
     }
 
     /// The terminals of a pair lose this.
-    fn lose(&mut self, tcp: u32, loss: Loss) -> Result<(), DiscFault>
+    fn lose(&mut self, tcp: u32, loss: TerminalLoss) -> Result<(), DiscFault>
         requires known { tcp < length self.old.system.tcps }
         ensures ok { OnOk result (IsChanged D.told (lost loss (members_in (kept_in D.told self.old) tcp)) self.old self.new) }
         ensures err { IfErr result (λ fault. IsRefused D.told fault self.old self.new) }
     {
         match loss {
-            Loss::Nothing => Ok(()),
-            Loss::Paths => self.lose_programs(tcp),
-            Loss::Units => self.lose_units(tcp),
+            TerminalLoss::Nothing => Ok(()),
+            TerminalLoss::Paths => self.lose_programs(tcp),
+            TerminalLoss::Units => self.lose_units(tcp),
         }
     }
 

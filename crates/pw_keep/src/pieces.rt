@@ -8,7 +8,7 @@ ghost use Rattle.pw_keep.specs.Keeps.{terminals_in};
 ghost use Rattle.pw_pair.specs.Called.{member_fails};
 ghost use Rattle.pw_seats.specs.Jobs.{dropped_for};
 ghost use Rattle.pw_tmf.specs.Answers.{Leaves};
-ghost use Rattle.pw_tmf.specs.Units.{AreApart, CanBackOut, all_backed_out};
+ghost use Rattle.pw_tmf.specs.Units.{HaveDistinctTerminals, CanBackOut, all_backed_out};
 
 use pw_base::memory::Memory;
 use pw_class::request::Request;
@@ -19,7 +19,7 @@ use pw_event::event::Ending;
 use pw_pair::mode::Mode;
 use pw_pair::pair::Pair;
 use pw_pair::resumed::Resumed;
-use pw_seats::job::{Job, Jobs};
+use pw_seats::job::{ProcessJob, Jobs};
 use pw_tmf::answer::DiscFault;
 use pw_tmf::disc::Disc;
 use std::alloc::Global;
@@ -36,7 +36,7 @@ pub fn fail(pair: &mut Pair, primary: bool)
 }
 
 /// The call at which a job stands, if it does.
-pub fn call_of(job: Option<&Job>) -> Option<&FileCall>
+pub fn call_of(job: Option<&ProcessJob>) -> Option<&FileCall>
     ensures { option_copied result ≡ call_of (option_copied job.entry) }
 {
     match job {
@@ -81,7 +81,7 @@ pub fn drop_jobs(jobs: &mut Vec<Jobs>, terminal: u32)
 
 /// What terminals lose where a member of their pair fails.
 #[derive(Clone, Copy, Debug, PartialEq, Eq)]
-pub enum Loss {
+pub enum TerminalLoss {
     Nothing,
     /// Their requests and their paths.
     Paths,
@@ -98,7 +98,7 @@ pub struct Going {
 
 /// Units are backed out and end, if there are any.
 pub fn back_out<D: Disc>(disc: &mut D, units: &[Unit]) -> Result<(), DiscFault>
-    requires apart { AreApart units.now }
+    requires apart { HaveDistinctTerminals units.now }
     requires may { All (CanBackOut true (D.told disc.old)) units.now }
     ensures ok { OnOk result (D.told disc.new ≡ all_backed_out true (D.told disc.old) units.now) }
     ensures err { IfErr result (λ fault. Leaves fault (D.told disc.old) (D.told disc.new)) }
@@ -110,13 +110,13 @@ pub fn back_out<D: Disc>(disc: &mut D, units: &[Unit]) -> Result<(), DiscFault>
 }
 
 /// What is lost where a member of a pair fails in a mode.
-pub fn loss_in(mode: Mode, primary: bool) -> Loss
+pub fn loss_in(mode: Mode, primary: bool) -> TerminalLoss
     ensures { result ≡ loss_of primary mode }
 {
     match (mode, primary) {
-        (Mode::Paired, true) => Loss::Paths,
-        (Mode::Raising | Mode::Alone, true) | (Mode::Down, false) => Loss::Units,
-        _ => Loss::Nothing,
+        (Mode::Paired, true) => TerminalLoss::Paths,
+        (Mode::Raising | Mode::Alone, true) | (Mode::Down, false) => TerminalLoss::Units,
+        _ => TerminalLoss::Nothing,
     }
 }
 

@@ -4,7 +4,7 @@ ghost use Rattle.std.specs.Prelude.{◌≡◌, ◌≢◌, ◌<◌, ◌≤◌, le
 ghost use Rattle.std.specs.Option.{option_copied};
 ghost use Rattle.pw_class.specs.Book.{IsAt};
 ghost use Rattle.pw_class.specs.Queue.{at_process, free_place, taken};
-ghost use Rattle.pw_keep.specs.Calls.{given};
+ghost use Rattle.pw_keep.specs.Calls.{request_given};
 ghost use Rattle.pw_keep.specs.Keeps.{HasVerb, JobHasVerb, is_run, job_of, jobs_at, kept_in, kept_of, terminals_in};
 ghost use Rattle.pw_kept.specs.Members.{AreOf};
 ghost use Rattle.pw_kept.specs.TerminalTests.{is_out};
@@ -19,11 +19,11 @@ use crate::keep::Keep;
 use crate::pieces::given;
 use pw_base::bytes::Bytes;
 use pw_base::memory::Memory;
-use pw_class::request::{Place, Request};
+use pw_class::request::{RequestPlace, Request};
 use pw_code::file::FileCall;
 use pw_code::unit::Unit;
 use pw_pair::pair::Pair;
-use pw_seats::job::Job;
+use pw_seats::job::ProcessJob;
 use pw_seats::seat::Seat;
 use pw_tmf::answer::{Ended, Foreseen};
 use pw_tmf::disc::Disc;
@@ -72,7 +72,7 @@ impl<D: Disc> Keep<D> {
     }
 
     /// Where a request of the terminal is, None exactly where none waits and none is at a process.
-    pub fn request_of(&self, terminal: u32) -> Option<Place>
+    pub fn request_of(&self, terminal: u32) -> Option<RequestPlace>
         ensures found { is_some result ≡ is_out self.now.system (kept_in D.told self.now) terminal }
         ensures place { IfSome result (IsAt self.now.book terminal) }
     {
@@ -83,7 +83,7 @@ impl<D: Disc> Keep<D> {
     /// request waits, or no process is free.
     pub fn taken(&self, class: u32) -> Option<(u32, u32)>
         requires class { class < length self.now.system.classes }
-        ensures { result ≡ given (taken ((kept_in D.told self.now).queues class)) }
+        ensures { result ≡ request_given (taken ((kept_in D.told self.now).queues class)) }
     {
         given(self.first(class), self.free_process(class))
     }
@@ -121,7 +121,7 @@ impl<D: Disc> Keep<D> {
     }
 
     /// What a process works with.
-    pub fn job(&self, class: u32, process: u32) -> Option<&Job>
+    pub fn job(&self, class: u32, process: u32) -> Option<&ProcessJob>
         requires class { class < length self.now.system.classes }
         requires process { 1 ≤ process }
         ensures exact { option_copied result ≡ job_of (jobs_at self.now.jobs class) process }

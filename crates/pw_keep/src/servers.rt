@@ -18,7 +18,7 @@ use pw_code::context::Context;
 use pw_code::unit::Unit;
 use pw_code::verb::Verb;
 use pw_event::event::Cause;
-use pw_seats::job::Job;
+use pw_seats::job::ProcessJob;
 use pw_tmf::answer::FileAnswer;
 use pw_tmf::disc::Disc;
 
@@ -54,7 +54,7 @@ impl<D: Disc> Keep<D> {
         ensures { IsChanged D.told (kept_take class (taker ((kept_in D.told self.old).queues class)) context) self.old self.new }
     {
         if let Taken::Got { process, request } = self.classes.take(class) {
-            let job = Job {
+            let job = ProcessJob {
                 terminal: request.terminal,
                 context,
                 verb: None,

@@ -23,7 +23,7 @@ use Rattle.pw_pair.specs.declared.message.CheckKind.{CheckKind}
 use Rattle.pw_pair.specs.declared.message.CheckKind.TheVariants as kind
 use Rattle.pw_pair.specs.declared.seat.Flight.{Flight}
 use Rattle.pw_paired.specs.Raising.{do_applied, lacks_one, settle_mode, settled_mode, with_message}
-use Rattle.pw_paired.specs.State.{BackupCopy, Message, Start, End, Copy, Mode, State, Term}
+use Rattle.pw_paired.specs.State.{BackupCopy, Message, Start, End, Copy, PairMode, State, Term}
 
 -- what is held then stands for what the paired system has then
 taken : (system : System) (info : TermInfo) (t : ℕ) (flight : Option Message) (memory : Option BackupCopy) (own : Option Flight) (held : Option Held)
@@ -60,7 +60,7 @@ taken-names t None memory old held e = old held e
 taken-names t (Some own) memory old held e = kind-names t own.message.unit _ own.message.kind memory old held e
 
 -- the pair, before it settles
-took : (system : System) (p : ℕ) (at : Mode) (terms : ℕ → Term) (memory : ℕ → Option BackupCopy) (flight : ℕ → Option Message) (pair : SeenPair) (t : ℕ)
+took : (system : System) (p : ℕ) (at : PairMode) (terms : ℕ → Term) (memory : ℕ → Option BackupCopy) (flight : ℕ → Option Message) (pair : SeenPair) (t : ℕ)
     → StandsForPair system p at terms memory flight pair
     → StandsForPair system p at terms (upd memory t (with_message (flight t) (memory t))) (upd flight t None) (changed_at t applied pair)
 took system p at terms memory flight pair t old = record {
@@ -122,5 +122,5 @@ applied-stands system script state kept t info stands there =
     lacks : Bool
     lacks = lacks_one (behaviour script system) info.tcp behind
 
-    at : Mode
+    at : PairMode
     at = settled_mode (state.modes info.tcp) lacks

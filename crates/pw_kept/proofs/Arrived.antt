@@ -8,7 +8,7 @@ use Rattle.pw_code.specs.declared.verb.Answer.{Answer}
 use Rattle.pw_code.specs.declared.verb.Verb.{Verb}
 use Rattle.pw_exec.specs.Answers.{put}
 use Rattle.pw_exec.specs.Config.{Config, closed, starting}
-use Rattle.pw_exec.specs.Contexts.{Ran, RunsOn, Takes}
+use Rattle.pw_exec.specs.Contexts.{RanToVerb, RunsOn, PutsAnswer}
 use Rattle.pw_exec.specs.OfSystem.{told}
 use Rattle.pw_exec.specs.Runs.{Comes, ComesBy, Reaches, Run, StandsFor, at_verb, runs}
 use Rattle.pw_exec.specs.Steps.{step}
@@ -68,10 +68,10 @@ arrives-comes system (answer ∷ answers) c d first =
 
 pub runs-on : (system : System) (terminal : TermInfo) (path : List PathAnswer) (old new : Context) (verb : Verb) → StandsForPath system terminal path old → RunsOn system old new verb → IsReady system terminal path new
 runs-on system terminal path old new verb stands ran =
-    let r : Ran system stands.at new verb = ran stands.at stands.is in
+    let r : RanToVerb system stands.at new verb = ran stands.at stands.is in
     record { from = stands.at; arrives = stands.arrives; at = r.at; reaches = r.reaches; is = r.is }
 
-pub answered-one : (system : System) (terminal : TermInfo) (path : List PathAnswer) (answer : PathAnswer) (old new : Context) → IsReady system terminal path old → Takes system (told terminal.entries answer) old new
+pub answered-one : (system : System) (terminal : TermInfo) (path : List PathAnswer) (answer : PathAnswer) (old new : Context) → IsReady system terminal path old → PutsAnswer system (told terminal.entries answer) old new
     → StandsForPath system terminal (path ++ answer ∷ []) new
 answered-one system terminal path answer old new ready took = record {
   at = put system (told terminal.entries answer) ready.at;

@@ -11,7 +11,7 @@ use Rattle.pw_code.specs.declared.verb.Answer.TheVariants as answer
 use Rattle.pw_event.specs.declared.script.FailLine.{FailLine}
 use Rattle.pw_exec.specs.Answers.{put}
 use Rattle.pw_exec.specs.Config.{Config, closed, frame_at}
-use Rattle.pw_exec.specs.Contexts.{Takes}
+use Rattle.pw_exec.specs.Contexts.{PutsAnswer}
 use Rattle.pw_exec.specs.OfSystem.{behaviour, entry_at, told}
 use Rattle.pw_kept.specs.Arrivals.{IsReady, StandsForPath}
 use Rattle.pw_kept.specs.Asked.{answered_with, opened, verb_in}
@@ -38,7 +38,7 @@ open-closed c =
     ap₂ (λ t fs. record { top = t; rest = record c.rest { frames = fs } }) top others
 
 -- the answer is put in
-pub takes-one : (system : System) (a : Answer) (context : Context) → Takes system a context (answered_with system a context)
+pub takes-one : (system : System) (a : Answer) (context : Context) → PutsAnswer system a context (answered_with system a context)
 takes-one system a context c is = ap (λ x. closed (put system a x)) (ap opened is ∙ open-closed c)
 
 module _ (system : System) (script : List FailLine) (state : State) (kept : Kept) (t : ℕ) (stands : Stands system script state kept) (asking : IsAsking system script state kept t) where

@@ -11,7 +11,7 @@ use Rattle.pw_onecopy.proofs.Update.{upd_elim}
 use Rattle.pw_pair.specs.Pairs.{SeenPair, changed_at}
 use Rattle.pw_pair.specs.Seats.{built, start_of, with_whole}
 use Rattle.pw_pair.specs.declared.seat.Flight.{Flight}
-use Rattle.pw_paired.specs.State.{BackupCopy, Message, Mode, State, Term}
+use Rattle.pw_paired.specs.State.{BackupCopy, Message, PairMode, State, Term}
 
 whole : (system : System) (info : TermInfo) (held : Option (List ℕ)) (message : Option Message) (flight : Option Flight)
     → StandsIfAny (StandsForMessage system info held) message flight → StandsIfAny (StandsForMessage system info held) message (with_whole held flight)
@@ -20,7 +20,7 @@ whole system info held None (Some flight) h = h
 whole system info held (Some message) None h = h
 whole system info held (Some message) (Some flight) h = record { kind_is = h.kind_is; unit = h.unit; image = h.image }
 
-built-pair : (system : System) (p : ℕ) (at : Mode) (terms : ℕ → Term) (memory : ℕ → Option BackupCopy) (flight : ℕ → Option Message) (pair : SeenPair) (t : ℕ)
+built-pair : (system : System) (p : ℕ) (at : PairMode) (terms : ℕ → Term) (memory : ℕ → Option BackupCopy) (flight : ℕ → Option Message) (pair : SeenPair) (t : ℕ)
     → StandsForPair system p at terms memory flight pair → StandsForPair system p at terms memory flight (changed_at t built pair)
 built-pair system p at terms memory flight pair t old = record {
   mode_is = old.mode_is;

@@ -136,7 +136,7 @@ module _ (system : System) (script : List FailLine) (state : State) (own : Kept)
         (ap₂ (λ a b. a || b) (meets-same (unit_named t unit) (unit_named o older) (λ c i job works mine. all c i job works (inl mine)))
         (meets-same (unit_named o older) (unit_named t unit) (λ c i job works mine. all c i job works (inr mine))))))
 
-    holds-same : (cause : Cause) → CauseTested system script state own t cause → kept.holds system own t (as_told (images_by t state.before) unit) cause ≡ legal.holds (behaviour script system) state t unit cause
+    holds-same : (cause : Cause) → CauseTested system script state own t cause → kept.kept_cause_holds system own t (as_told (images_by t state.before) unit) cause ≡ legal.cause_holds (behaviour script system) state t unit cause
     holds-same (Older o m) tested = older-same o m tested
     holds-same (Takeover p) tested =
         ap₂ (λ c m. some_with (is_takeover_by p) c && m) (stands.terminals t placed.info placed.here).pending

@@ -9,7 +9,7 @@ use Rattle.pw_exec.specs.OfSystem.{behaviour}
 use Rattle.pw_kept.specs.Changes.{kept_check}
 use Rattle.pw_kept.specs.Kept.{Kept}
 use Rattle.pw_kept.specs.Stands.{IsPathImage, Stands, StandsForPair, StandsForSeat}
-use Rattle.pw_pair.specs.Follows.{IsUnitIn, has_flights, kind_of, path_in}
+use Rattle.pw_pair.specs.Follows.{IsUnitIn, has_flights, check_kind_of, path_in}
 use Rattle.pw_kept.proofs.Components.{apart, pair-same, seat-same}
 use Rattle.pw_tmf.proofs.Leaving.{tells-same}
 use Rattle.pw_pair.proofs.Seating.{all-at, keeps-terminal, still-there}
@@ -18,16 +18,16 @@ use Rattle.pw_onecopy.proofs.Update.{upd-other, upd-same, upd_elim}
 use Rattle.pw_pair.specs.Pairs.{SeenPair, after_send}
 use Rattle.pw_pair.specs.Seats.{start_of, with_message}
 use Rattle.pw_pair.proofs.Sound.{body-of-image}
-use Rattle.pw_paired.specs.State.{BackupCopy, Message, Mode, State, Term}
+use Rattle.pw_paired.specs.State.{BackupCopy, Message, PairMode, State, Term}
 
 -- the pair behind a message of one of its terminals
-sent : (system : System) (p : ℕ) (at : Mode) (terms : ℕ → Term) (memory : ℕ → Option BackupCopy) (flight : ℕ → Option Message) (pair : SeenPair) (t : ℕ) (info : TermInfo) (message : Message) (unit : ℕ) (image : List ℕ)
+sent : (system : System) (p : ℕ) (at : PairMode) (terms : ℕ → Term) (memory : ℕ → Option BackupCopy) (flight : ℕ → Option Message) (pair : SeenPair) (t : ℕ) (info : TermInfo) (message : Message) (unit : ℕ) (image : List ℕ)
     → slice_get system.terminals t ≡ Some info → has_flights at ≡ true → IsUnitIn message unit → IsPathImage system info (path_in message) image
     → StandsForPair system p at terms memory flight pair
-    → StandsForPair system p at terms memory (upd flight t (Some message)) (after_send (record { terminal = t; kind = kind_of message; unit = unit; image = image }) pair)
+    → StandsForPair system p at terms memory (upd flight t (Some message)) (after_send (record { terminal = t; kind = check_kind_of message; unit = unit; image = image }) pair)
 sent system p at terms memory flight pair t info message unit image there flies number is_image old = record {
   mode_is = old.mode_is;
-  seats = all-at (StandsForSeat system p at terms memory flight) (StandsForSeat system p at terms memory new) t (with_message (kind_of message) unit image)
+  seats = all-at (StandsForSeat system p at terms memory flight) (StandsForSeat system p at terms memory new) t (with_message (check_kind_of message) unit image)
       (λ seat is s.
       let lands : new seat.terminal ≡ Some message = upd-same flight t (Some message) seat.terminal is in
       record {
@@ -47,7 +47,7 @@ sent system p at terms memory flight pair t info message unit image there flies 
       (λ seat ne s. seat-same system p at terms terms memory memory flight new seat
       (record { ending = refl; memory_is = refl; flight_is = upd-other flight t (Some message) seat.terminal ne }) s)
       pair.seats old.seats;
-  every = λ s other here of. still-there _ (keeps-terminal t (with_message (kind_of message) unit image) (λ seat. refl)) s pair.seats ∙ old.every s other here of;
+  every = λ s other here of. still-there _ (keeps-terminal t (with_message (check_kind_of message) unit image) (λ seat. refl)) s pair.seats ∙ old.every s other here of;
 }
   where
     new : ℕ → Option Message
@@ -58,7 +58,7 @@ pub checked : (system : System) (script : List FailLine) (state : State) (kept :
     → Stands system script state kept → slice_get system.terminals t ≡ Some info → has_flights (state.modes info.tcp) ≡ true
     → IsUnitIn message unit → IsPathImage system info (path_in message) image
     → Stands system script (record state { flight = upd state.flight t (Some message) })
-    (kept_check info.tcp (record { terminal = t; kind = kind_of message; unit = unit; image = image }) kept)
+    (kept_check info.tcp (record { terminal = t; kind = check_kind_of message; unit = unit; image = image }) kept)
 checked system script state kept t info message unit image stands there flies number is_image = record {
   terminals = stands.terminals;
   disc = tells-same (behaviour script system) state (record state { flight = new }) kept.disc refl refl refl refl refl stands.disc;
@@ -76,4 +76,4 @@ checked system script state kept t info message unit image stands there flies nu
     new = upd state.flight t (Some message)
 
     next : SeenPair
-    next = after_send (record { terminal = t; kind = kind_of message; unit = unit; image = image }) (kept.pairs info.tcp)
+    next = after_send (record { terminal = t; kind = check_kind_of message; unit = unit; image = image }) (kept.pairs info.tcp)

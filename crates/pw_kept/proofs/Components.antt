@@ -12,8 +12,8 @@ use Rattle.pw_kept.specs.Stands.{StandsForPair, StandsForSeat, StandsForTerminal
 use Rattle.pw_onecopy.specs.Update.{upd}
 use Rattle.pw_onecopy.proofs.Update.{upd-other, upd-same, upd_both}
 use Rattle.pw_pair.specs.Pairs.{SeenPair}
-use Rattle.pw_pair.specs.declared.seat.Seat.{Seat}
-use Rattle.pw_paired.specs.State.{BackupCopy, Message, Mode, OpenUnit, Term}
+use Rattle.pw_pair.specs.declared.seat.BackupSeat.{BackupSeat}
+use Rattle.pw_paired.specs.State.{BackupCopy, Message, PairMode, OpenUnit, Term}
 
 -- ---- small things
 
@@ -31,12 +31,12 @@ apart system s t a b here there ne is =
 -- ---- terminals
 
 -- what is kept of the terminals stands
-abbrev pub TerminalsStand : System → (ℕ → Mode) → (ℕ → Term) → (ℕ → Option OpenUnit) → (ℕ → KeptTerminal) → Type 0
+abbrev pub TerminalsStand : System → (ℕ → PairMode) → (ℕ → Term) → (ℕ → Option OpenUnit) → (ℕ → KeptTerminal) → Type 0
 TerminalsStand system modes terms units kept =
     (t : ℕ) (info : TermInfo) → slice_get system.terminals t ≡ Some info → StandsForTerminal system info (modes info.tcp) (terms t) (units t) (kept t)
 
 -- one terminal is changed
-pub terminal-changed : (system : System) (modes : ℕ → Mode) (terms : ℕ → Term) (units : ℕ → Option OpenUnit) (kept : ℕ → KeptTerminal) (t : ℕ) (term : Term) (own : KeptTerminal)
+pub terminal-changed : (system : System) (modes : ℕ → PairMode) (terms : ℕ → Term) (units : ℕ → Option OpenUnit) (kept : ℕ → KeptTerminal) (t : ℕ) (term : Term) (own : KeptTerminal)
     → TerminalsStand system modes terms units kept
     → ((info : TermInfo) → slice_get system.terminals t ≡ Some info → StandsForTerminal system info (modes info.tcp) term (units t) own)
     → TerminalsStand system modes (upd terms t term) units (upd kept t own)
@@ -46,7 +46,7 @@ terminal-changed system modes terms units kept t term own old new j info here =
     (λ ne. old j info here)
 
 -- one terminal and its unit are changed
-pub terminal-and-unit : (system : System) (modes : ℕ → Mode) (terms : ℕ → Term) (units : ℕ → Option OpenUnit) (kept : ℕ → KeptTerminal) (t : ℕ) (term : Term) (unit : Option OpenUnit) (own : KeptTerminal)
+pub terminal-and-unit : (system : System) (modes : ℕ → PairMode) (terms : ℕ → Term) (units : ℕ → Option OpenUnit) (kept : ℕ → KeptTerminal) (t : ℕ) (term : Term) (unit : Option OpenUnit) (own : KeptTerminal)
     → TerminalsStand system modes terms units kept
     → ((info : TermInfo) → slice_get system.terminals t ≡ Some info → StandsForTerminal system info (modes info.tcp) term unit own)
     → TerminalsStand system modes (upd terms t term) (upd units t unit) (upd kept t own)
@@ -58,7 +58,7 @@ terminal-and-unit system modes terms units kept t term unit own old new j info h
 -- ---- pairs
 
 -- what is kept of the pairs stands
-abbrev pub PairsStand : System → (ℕ → Mode) → (ℕ → Term) → (ℕ → Option BackupCopy) → (ℕ → Option Message) → (ℕ → SeenPair) → Type 0
+abbrev pub PairsStand : System → (ℕ → PairMode) → (ℕ → Term) → (ℕ → Option BackupCopy) → (ℕ → Option Message) → (ℕ → SeenPair) → Type 0
 PairsStand system modes terms memory flight pairs = (p : ℕ) → p < length system.tcps → StandsForPair system p (modes p) terms memory flight (pairs p)
 
 -- of a terminal the pair is told the same
@@ -68,7 +68,7 @@ pub record IsSameOf (terms new_terms : ℕ → Term) (memory new_memory : ℕ �
   pub flight_is : new_flight t ≡ flight t
 
 -- a seat stands on where its terminal is the same
-pub seat-same : (system : System) (p : ℕ) (at : Mode) (terms new_terms : ℕ → Term) (memory new_memory : ℕ → Option BackupCopy) (flight new_flight : ℕ → Option Message) (seat : Seat)
+pub seat-same : (system : System) (p : ℕ) (at : PairMode) (terms new_terms : ℕ → Term) (memory new_memory : ℕ → Option BackupCopy) (flight new_flight : ℕ → Option Message) (seat : BackupSeat)
     → IsSameOf terms new_terms memory new_memory flight new_flight seat.terminal
     → StandsForSeat system p at terms memory flight seat → StandsForSeat system p at new_terms new_memory new_flight seat
 seat-same system p at terms new_terms memory new_memory flight new_flight seat same old = record {
@@ -83,7 +83,7 @@ seat-same system p at terms new_terms memory new_memory flight new_flight seat s
 }
 
 -- the terminals of the pair are the same
-pub pair-same : (system : System) (p : ℕ) (at : Mode) (terms new_terms : ℕ → Term) (memory new_memory : ℕ → Option BackupCopy) (flight new_flight : ℕ → Option Message) (pair : SeenPair)
+pub pair-same : (system : System) (p : ℕ) (at : PairMode) (terms new_terms : ℕ → Term) (memory new_memory : ℕ → Option BackupCopy) (flight new_flight : ℕ → Option Message) (pair : SeenPair)
     → ((t : ℕ) (info : TermInfo) → slice_get system.terminals t ≡ Some info → info.tcp ≡ p → IsSameOf terms new_terms memory new_memory flight new_flight t)
     → StandsForPair system p at terms memory flight pair → StandsForPair system p at new_terms new_memory new_flight pair
 pair-same system p at terms new_terms memory new_memory flight new_flight pair same old = record {
@@ -95,7 +95,7 @@ pair-same system p at terms new_terms memory new_memory flight new_flight pair s
 }
 
 -- the endings of the terminals are the same, and nothing else was changed
-pub pairs-same : (system : System) (modes : ℕ → Mode) (terms new_terms : ℕ → Term) (memory : ℕ → Option BackupCopy) (flight : ℕ → Option Message) (pairs : ℕ → SeenPair)
+pub pairs-same : (system : System) (modes : ℕ → PairMode) (terms new_terms : ℕ → Term) (memory : ℕ → Option BackupCopy) (flight : ℕ → Option Message) (pairs : ℕ → SeenPair)
     → ((t : ℕ) → (new_terms t).ending ≡ (terms t).ending)
     → PairsStand system modes terms memory flight pairs → PairsStand system modes new_terms memory flight pairs
 pairs-same system modes terms new_terms memory flight pairs same old p few =
@@ -103,7 +103,7 @@ pairs-same system modes terms new_terms memory flight pairs same old p few =
     (λ t info here of. record { ending = same t; memory_is = refl; flight_is = refl }) (old p few)
 
 -- one pair is changed, with what it is told of its terminals
-pub pair-changed : (system : System) (modes : ℕ → Mode) (terms new_terms : ℕ → Term) (memory new_memory : ℕ → Option BackupCopy) (flight new_flight : ℕ → Option Message) (pairs : ℕ → SeenPair) (p : ℕ) (at : Mode) (pair : SeenPair)
+pub pair-changed : (system : System) (modes : ℕ → PairMode) (terms new_terms : ℕ → Term) (memory new_memory : ℕ → Option BackupCopy) (flight new_flight : ℕ → Option Message) (pairs : ℕ → SeenPair) (p : ℕ) (at : PairMode) (pair : SeenPair)
     → ((t : ℕ) (info : TermInfo) → slice_get system.terminals t ≡ Some info → info.tcp ≢ p → IsSameOf terms new_terms memory new_memory flight new_flight t)
     → PairsStand system modes terms memory flight pairs
     → (p < length system.tcps → StandsForPair system p at new_terms new_memory new_flight pair)

@@ -13,9 +13,9 @@ use Rattle.pw_kept.proofs.Components.{pair-of}
 use Rattle.pw_pair.proofs.Seating.{still-there}
 use Rattle.pw_pair.specs.Pairs.{SeenPair, in_mode}
 use Rattle.pw_pair.specs.Seats.{without_backup, without_flight}
-use Rattle.pw_pair.specs.declared.seat.Seat.{Seat}
+use Rattle.pw_pair.specs.declared.seat.BackupSeat.{BackupSeat}
 use Rattle.pw_paired.specs.Failure.{is_of_pair}
-use Rattle.pw_paired.specs.State.{BackupCopy, Message, Mode, Term}
+use Rattle.pw_paired.specs.State.{BackupCopy, Message, PairMode, Term}
 
 -- ---- what is chosen by the pair of a terminal
 
@@ -36,8 +36,8 @@ pub record IsEmptied (terms new_terms : ℕ → Term) (new_memory : ℕ → Opti
   pub memory_is : new_memory t ≡ None
   pub flight_is : new_flight t ≡ None
 
-pub emptied : (system : System) (p : ℕ) (at new_at : Mode) (terms new_terms : ℕ → Term) (memory new_memory : ℕ → Option BackupCopy) (flight new_flight : ℕ → Option Message) (pair : SeenPair)
-    → ((seat : Seat) → StandsForSeat system p at terms memory flight seat → IsEmptied terms new_terms new_memory new_flight seat.terminal)
+pub emptied : (system : System) (p : ℕ) (at new_at : PairMode) (terms new_terms : ℕ → Term) (memory new_memory : ℕ → Option BackupCopy) (flight new_flight : ℕ → Option Message) (pair : SeenPair)
+    → ((seat : BackupSeat) → StandsForSeat system p at terms memory flight seat → IsEmptied terms new_terms new_memory new_flight seat.terminal)
     → StandsForPair system p at terms memory flight pair → StandsForPair system p new_at new_terms new_memory new_flight (in_mode (mode_as new_at) without_backup pair)
 emptied system p at new_at terms new_terms memory new_memory flight new_flight pair gone old = record {
   mode_is = refl;
@@ -64,8 +64,8 @@ pub record IsGrounded (terms new_terms : ℕ → Term) (memory new_memory : ℕ 
   pub memory_is : new_memory t ≡ memory t
   pub flight_is : new_flight t ≡ None
 
-pub grounded : (system : System) (p : ℕ) (at new_at : Mode) (terms new_terms : ℕ → Term) (memory new_memory : ℕ → Option BackupCopy) (flight new_flight : ℕ → Option Message) (pair : SeenPair)
-    → ((seat : Seat) → StandsForSeat system p at terms memory flight seat → IsGrounded terms new_terms memory new_memory new_flight seat.terminal)
+pub grounded : (system : System) (p : ℕ) (at new_at : PairMode) (terms new_terms : ℕ → Term) (memory new_memory : ℕ → Option BackupCopy) (flight new_flight : ℕ → Option Message) (pair : SeenPair)
+    → ((seat : BackupSeat) → StandsForSeat system p at terms memory flight seat → IsGrounded terms new_terms memory new_memory new_flight seat.terminal)
     → StandsForPair system p at terms memory flight pair → StandsForPair system p new_at new_terms new_memory new_flight (in_mode (mode_as new_at) without_flight pair)
 grounded system p at new_at terms new_terms memory new_memory flight new_flight pair gone old = record {
   mode_is = refl;

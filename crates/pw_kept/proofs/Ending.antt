@@ -22,12 +22,12 @@ use Rattle.pw_pair.specs.Pairs.{SeenPair, after_drop, changed_at, settled}
 use Rattle.pw_pair.specs.Seats.{dropped}
 use Rattle.pw_paired.specs.End.{end_terminal, leave_unit_at}
 use Rattle.pw_paired.specs.Raising.{lacks_one, settle_mode, settled_mode}
-use Rattle.pw_paired.specs.State.{Mode, State, Term}
+use Rattle.pw_paired.specs.State.{PairMode, State, Term}
 use Rattle.pw_paired.specs.Units.{leave_units, only}
 use Rattle.pw_tmf.specs.Leaving.{CanLeave}
 
 -- the pair, before it settles
-left : (system : System) (p : ℕ) (at : Mode) (state : State) (pair : SeenPair) (t : ℕ) (ending : Ending)
+left : (system : System) (p : ℕ) (at : PairMode) (state : State) (pair : SeenPair) (t : ℕ) (ending : Ending)
     → StandsForPair system p at state.terms state.memory state.flight pair
     → StandsForPair system p at (end_terminal t ending state).terms (end_terminal t ending state).memory (end_terminal t ending state).flight (changed_at t dropped pair)
 left system p at state pair t ending old = record {
@@ -95,7 +95,7 @@ end-stands system script state kept t info ending stands there =
     lacks : Bool
     lacks = lacks_one (behaviour script system) info.tcp behind
 
-    at : Mode
+    at : PairMode
     at = settled_mode (state.modes info.tcp) lacks
 
 -- behind the leaving of the terminal's unit

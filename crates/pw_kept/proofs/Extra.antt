@@ -12,7 +12,7 @@ use Rattle.pw_onecopy.specs.IsBehaviour.{IsBehaviour}
 use Rattle.pw_onecopy.specs.Path.{PathAnswer, Begun, Dropped, Ended, Entry, Failed, Replied, Shown, is_outside, unit_number}
 use Rattle.pw_paired.specs.Failure.{resumed_path, with_restart}
 use Rattle.pw_paired.specs.Raising.{is_takeover, with_message}
-use Rattle.pw_paired.specs.State.{Mode, Alone, Raising, Paired, Down, Gone, BackupCopy, Copy, End, LastEnded, Message, OpenUnit, Start, starting}
+use Rattle.pw_paired.specs.State.{PairMode, Alone, Raising, Paired, Down, Gone, BackupCopy, Copy, End, LastEnded, Message, OpenUnit, Start, starting}
 use Rattle.pw_paired.specs.Step.{IsRun, after}
 use Rattle.pw_paired.specs.Terminal.{begun_path, kept_reply, unit_with_attempt}
 use Rattle.pw_paired.specs.Units.{attempt_of, restarts_of}
@@ -135,7 +135,7 @@ module _ (sys : Behaviour) (b : IsBehaviour sys) (t : ℕ) (v w : View) (frontie
       by-end : HasMessages v.mode → ⊥
       by-end has = let one : EndsOne sys t waits.unit frontier (path_in v) end = f.ends has waits.unit memory end waits.is_open held ends in sends-there one.asks
 
-      by-mode : (mode : Mode) → v.mode ≡ mode → IsWorking mode → ⊥
+      by-mode : (mode : PairMode) → v.mode ≡ mode → IsWorking mode → ⊥
       by-mode Alone is works = absurd (let none = f.alone is in cc (held, none))
       by-mode Raising is works = by-end (subst HasMessages (sym is) tt)
       by-mode Paired is works = by-end (subst HasMessages (sym is) tt)

@@ -21,7 +21,7 @@ use Rattle.pw_pair.specs.Pairs.{in_mode}
 use Rattle.pw_pair.specs.Seats.{without_backup, without_flight}
 use Rattle.pw_paired.specs.Failure as paired
 use Rattle.pw_paired.specs.Failure.{backup_fails, do_fail_tcp, is_of_pair, lose_backup, lose_pair, lose_primary, primary_fails}
-use Rattle.pw_paired.specs.State.{Mode, Alone, Raising, Paired, Down, Gone, OpenUnit, State, Term}
+use Rattle.pw_paired.specs.State.{PairMode, Alone, Raising, Paired, Down, Gone, OpenUnit, State, Term}
 use Rattle.pw_paired.specs.Units.{cancel_requests, leave_units}
 use Rattle.pw_tmf.specs.Leaving.{is_among}
 
@@ -35,7 +35,7 @@ module _ (system : System) (script : List FailLine) (p : ℕ) (terminals : List 
   own = is_of_pair (behaviour script system) p
 
   -- paths of the pair's terminals are gone
-  paths-gone : (modes : ℕ → Mode) (at : Mode) (terms : ℕ → Term) (units : ℕ → Option OpenUnit) (kept : ℕ → KeptTerminal) → works at ≡ false → TerminalsStand system modes terms units kept
+  paths-gone : (modes : ℕ → PairMode) (at : PairMode) (terms : ℕ → Term) (units : ℕ → Option OpenUnit) (kept : ℕ → KeptTerminal) → works at ≡ false → TerminalsStand system modes terms units kept
       → TerminalsStand system (upd modes p at) (λ t. cond (own t) (paired.without_path (terms t)) (terms t)) units (λ t. cond (is_among terminals t) (without_path (kept t)) (kept t))
   paths-gone modes at terms units kept idle old t info here =
       ⊎_elim
@@ -151,14 +151,14 @@ module _ (system : System) (script : List FailLine) (p : ℕ) (terminals : List 
   }
 
   module _ (state : State) (kept : Kept) (stands : Stands system script state kept) (cancelled : Stands system script (cancel_requests own state) (cancel terminals kept)) (left : Stands system script (leave_units (behaviour script system) own state) (leave terminals kept)) where
-    primary : (m : Mode) → state.modes p ≡ m → Stands system script (primary_fails (behaviour script system) p m state) (at_pair p (pair.primary_fails (mode_as m)) (primary_lost (mode_as m) terminals kept))
+    primary : (m : PairMode) → state.modes p ≡ m → Stands system script (primary_fails (behaviour script system) p m state) (at_pair p (pair.primary_fails (mode_as m)) (primary_lost (mode_as m) terminals kept))
     primary Paired is = primary-lost state kept stands cancelled
     primary Raising is = pair-lost state kept stands left
     primary Alone is = pair-lost state kept stands left
     primary Down is = same-pair state kept stands
     primary Gone is = same-pair state kept stands
 
-    backup : (m : Mode) → state.modes p ≡ m → Stands system script (backup_fails (behaviour script system) p m state) (at_pair p (pair.backup_fails (mode_as m)) (backup_lost (mode_as m) terminals kept))
+    backup : (m : PairMode) → state.modes p ≡ m → Stands system script (backup_fails (behaviour script system) p m state) (at_pair p (pair.backup_fails (mode_as m)) (backup_lost (mode_as m) terminals kept))
     backup Paired is = backup-lost state kept (ap works is) stands
     backup Raising is = backup-lost state kept (ap works is) stands
     backup Alone is = same-pair state kept stands

@@ -119,7 +119,7 @@ module _ (system : System) (state : State) (t : ℕ) (info : TermInfo) where
       (λ same. tells.apart copy is (eqb-true copy.unit n number) (subst (IsPathImage system info copy.start) same h.start)))
 
   end-is : (path : List PathAnswer) (context : Context) (copy : BackupCopy) (end : Option (List PathAnswer)) (image : Option (List ℕ)) → state.memory t ≡ Some copy → copy.end ≡ end → TellsEnd system state t info path context
-      → StandsIfAny (IsPathImage system info) end image → seats.is_end (image_of context) image ≡ some_with (λ own. is_same_path own path) end
+      → StandsIfAny (IsPathImage system info) end image → seats.is_memory_end_image (image_of context) image ≡ some_with (λ own. is_same_path own path) end
   end-is path context copy None None is ends tells h = refl
   end-is path context copy None (Some image) is ends tells h = absurd h
   end-is path context copy (Some end) None is ends tells h = absurd h

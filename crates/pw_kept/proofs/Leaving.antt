@@ -11,7 +11,7 @@ use Rattle.pw_kept.specs.Kept.{Kept, KeptTerminal}
 use Rattle.pw_kept.specs.Stands.{Stands, StandsForTerminal}
 use Rattle.pw_kept.proofs.Cancelled.{AgreesOn, cancelled-stands}
 use Rattle.pw_tmf.proofs.Leaving.{tells-same}
-use Rattle.pw_paired.specs.State.{Mode, OpenUnit, State, Term}
+use Rattle.pw_paired.specs.State.{PairMode, OpenUnit, State, Term}
 use Rattle.pw_paired.specs.Units.{cancel_requests, leave_units}
 use Rattle.pw_tmf.specs.Tells.{Tells}
 use Rattle.pw_tmf.specs.Leaving.{is_among}
@@ -33,7 +33,7 @@ cancel-stands system script state kept whose terminals stands agrees = record {
 }
 
 -- a terminal, of which the unit is left or not
-left-terminal : (system : System) (info : TermInfo) (at : Mode) (term : Term) (unit : Option OpenUnit) (own : KeptTerminal) (b : Bool) → StandsForTerminal system info at term unit own
+left-terminal : (system : System) (info : TermInfo) (at : PairMode) (term : Term) (unit : Option OpenUnit) (own : KeptTerminal) (b : Bool) → StandsForTerminal system info at term unit own
     → StandsForTerminal system info at term (cond b None unit) (cond b (without_unit own) own)
 left-terminal system info at term unit own false old = old
 left-terminal system info at term unit own true old = record {

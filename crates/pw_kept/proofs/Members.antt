@@ -10,7 +10,7 @@ use Rattle.pw_code.specs.declared.system.System.{System}
 use Rattle.pw_code.specs.declared.system.TermInfo.{TermInfo}
 use Rattle.pw_kept.specs.Members.{AreOf, IsOf, members_from, members_of}
 use Rattle.pw_pair.specs.Seats.{is_seat_of, new_seat, seats_with, with_terminal}
-use Rattle.pw_pair.specs.declared.seat.Seat.{Seat}
+use Rattle.pw_pair.specs.declared.seat.BackupSeat.{BackupSeat}
 use Rattle.pw_tmf.specs.Leaving.{is_among}
 
 -- ---- the terminals of a pair
@@ -67,37 +67,37 @@ members-are system p = record {
 
 -- ---- the seats of a new pair
 
-abbrev Lacks : List Seat → ℕ → Type 0
+abbrev Lacks : List BackupSeat → ℕ → Type 0
 Lacks seats t = list_any (is_seat_of t) seats ≡ false
 
-still-lacks : (seats : List Seat) (t : ℕ) (ts : List ℕ) → AllByRecursion (λ y. (t == y) ≡ false) ts → AllByRecursion (Lacks seats) ts → AllByRecursion (Lacks (seats ++ new_seat t ∷ [])) ts
+still-lacks : (seats : List BackupSeat) (t : ℕ) (ts : List ℕ) → AllByRecursion (λ y. (t == y) ≡ false) ts → AllByRecursion (Lacks seats) ts → AllByRecursion (Lacks (seats ++ new_seat t ∷ [])) ts
 still-lacks seats t [] apart lacks = tt
 still-lacks seats t (s ∷ ts) apart lacks =
     let old = lacks.0 in
     let new = apart.0 in
     (list_any-append (is_seat_of s) seats (new_seat t ∷ []) ∙ rw (old, new) refl, still-lacks seats t ts apart.1 lacks.1)
 
-map-more : (seats : List Seat) (t : ℕ) → map (λ (seat : Seat). seat.terminal) (seats ++ new_seat t ∷ []) ≡ map (λ (seat : Seat). seat.terminal) seats ++ t ∷ []
+map-more : (seats : List BackupSeat) (t : ℕ) → map (λ (seat : BackupSeat). seat.terminal) (seats ++ new_seat t ∷ []) ≡ map (λ (seat : BackupSeat). seat.terminal) seats ++ t ∷ []
 map-more [] t = refl
 map-more (seat ∷ seats) t = ap (λ ts. seat.terminal ∷ ts) (map-more seats t)
 
-seated : (seats : List Seat) (ts : List ℕ) → IsDistinct (λ a b. a == b) ts → AllByRecursion (Lacks seats) ts
-    → map (λ (seat : Seat). seat.terminal) (seats_with seats ts) ≡ map (λ (seat : Seat). seat.terminal) seats ++ ts
+seated : (seats : List BackupSeat) (ts : List ℕ) → IsDistinct (λ a b. a == b) ts → AllByRecursion (Lacks seats) ts
+    → map (λ (seat : BackupSeat). seat.terminal) (seats_with seats ts) ≡ map (λ (seat : BackupSeat). seat.terminal) seats ++ ts
 unfolding IsDistinct
-seated seats [] distinct lacks = sym (nothing-more (map (λ (seat : Seat). seat.terminal) seats))
+seated seats [] distinct lacks = sym (nothing-more (map (λ (seat : BackupSeat). seat.terminal) seats))
   where
     nothing-more : (xs : List ℕ) → xs ++ [] ≡ xs
     nothing-more [] = refl
     nothing-more (x ∷ xs) = ap (λ ys. x ∷ ys) (nothing-more xs)
 seated seats (t ∷ ts) distinct lacks =
     let added : with_terminal seats t ≡ seats ++ new_seat t ∷ [] = ap (λ b. if b then seats else seats ++ new_seat t ∷ []) lacks.0 in
-    ap (λ s. map (λ (seat : Seat). seat.terminal) (seats_with s ts)) added
+    ap (λ s. map (λ (seat : BackupSeat). seat.terminal) (seats_with s ts)) added
     ∙ (seated (seats ++ new_seat t ∷ []) ts distinct.1 (still-lacks seats t ts distinct.0 lacks.1)
-    ∙ (ap (λ xs. xs ++ ts) (map-more seats t) ∙ append_assoc (map (λ (seat : Seat). seat.terminal) seats) (t ∷ []) ts))
+    ∙ (ap (λ xs. xs ++ ts) (map-more seats t) ∙ append_assoc (map (λ (seat : BackupSeat). seat.terminal) seats) (t ∷ []) ts))
 
 none-lack : (ts : List ℕ) → AllByRecursion (Lacks []) ts
 none-lack [] = tt
 none-lack (t ∷ ts) = (refl, none-lack ts)
 
-pub seats-are : (system : System) (p : ℕ) → map (λ (seat : Seat). seat.terminal) (seats_with [] (members_of system p)) ≡ members_of system p
+pub seats-are : (system : System) (p : ℕ) → map (λ (seat : BackupSeat). seat.terminal) (seats_with [] (members_of system p)) ≡ members_of system p
 seats-are system p = seated [] (members_of system p) (distinct-from p 0 system.terminals) (none-lack (members_of system p))

@@ -20,11 +20,11 @@ use Rattle.pw_kept.specs.Arrivals.{StandsForPath}
 use Rattle.pw_kept.specs.Entered.{copied}
 use Rattle.pw_kept.specs.Kept.{Kept}
 use Rattle.pw_kept.specs.May.{IsProcessOf, IsThere}
-use Rattle.pw_kept.specs.Needs.{ClosingFits, IsClass, IsProcess, MayBeginAt, Needs, SomeCarries}
+use Rattle.pw_kept.specs.Needs.{ClosingFits, IsClassThere, IsProcess, MayBeginAt, Needs, SomeCarries}
 use Rattle.pw_kept.specs.Read.{AreValued, ClosedValues, IsEntryRead, IsRead, IsReplyRead, OwnValues}
 use Rattle.pw_kept.specs.Stands.{Stands, StandsForKnown, StandsForTerminal, StandsIfAny, works}
 use Rattle.pw_kept.specs.TerminalTests.{closing}
-use Rattle.pw_kept.specs.Tested.{Carries, IsAsking, IsPlaced}
+use Rattle.pw_kept.specs.Tested.{CarriesPath, IsAsking, IsPlaced}
 use Rattle.pw_kept.proofs.Agreeing.{there-is}
 use Rattle.pw_kept.proofs.Components.{pair-of}
 use Rattle.pw_kept.proofs.Extra.{Extra, ends_failed, extras}
@@ -41,7 +41,7 @@ use Rattle.pw_onecopy.specs.IsBehaviour.{IsBehaviour, IsPath}
 use Rattle.pw_onecopy.specs.Path.{PathAnswer}
 use Rattle.pw_paired.specs.Raising.{LegalCheckCopy, copied_path, is_takeover}
 use Rattle.pw_paired.specs.Server.{LegalReply}
-use Rattle.pw_paired.specs.State.{Mode, Raising, LastEnded, OpenUnit, State}
+use Rattle.pw_paired.specs.State.{PairMode, Raising, LastEnded, OpenUnit, State}
 use Rattle.pw_paired.specs.Step as step
 use Rattle.pw_paired.specs.Step.{IsRun, after}
 use Rattle.pw_paired.specs.Terminal.{CanStep, LegalCheckStart, next_verb, path_of}
@@ -73,7 +73,7 @@ module _ (system : System) (script : List FailLine) (valid : IsValid system) (b 
 
   -- a context behind a path goes to a backup
   carries : (t : ℕ) (info : TermInfo) → slice_get system.terminals t ≡ Some info → (path : List PathAnswer) → IsPath sys t path → ends_failed path ≡ false → (context : Context) → StandsForPath system info path context
-      → HasValues context → Carries path context
+      → HasValues context → CarriesPath path context
   carries t info here path is_path sound context arrived fit = record {
     has_image = has-image system script t info valid here path context is_path sound arrived;
     has_values = fit;

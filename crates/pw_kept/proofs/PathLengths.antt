@@ -7,7 +7,7 @@ use Rattle.pw_event.specs.declared.event.Event.{Event}
 use Rattle.pw_event.specs.declared.event.Event.TheVariants as event
 use Rattle.pw_onecopy.specs.Behaviour.{Behaviour}
 use Rattle.pw_onecopy.specs.IsBehaviour.{IsBehaviour}
-use Rattle.pw_onecopy.specs.Path.{FileAnswer, PathAnswer, Begun}
+use Rattle.pw_onecopy.specs.Path.{FileResult, PathAnswer, Begun}
 use Rattle.pw_onecopy.specs.Update.{upd}
 use Rattle.pw_onecopy.proofs.Update.{upd_elim}
 use Rattle.pw_paired.specs.Failure.{is_of_pair}
@@ -221,7 +221,7 @@ Comes n old new = (c i : ℕ) (job : Job) → (new c).busy i ≡ Some job → ((
 few-more : (n : ℕ) (old new : ℕ → Class) → AreFew old n → Comes n old new → AreFew new (n + 1)
 few-more n old new few comes = record { each = λ c i job works. ⊎_elim (λ before. let le = few.each c i job before in omega (arith, le)) (λ less. less) (comes c i job works) }
 
-abbrev done_of : Option Job → List FileAnswer
+abbrev done_of : Option Job → List FileResult
 done_of None = []
 done_of (Some job) = job.done
 
@@ -249,7 +249,7 @@ module _ (n : ℕ) (old : ℕ → Class) where
   taken c p [] = changed c (old c) (λ i job works. inl works)
   taken c p (request ∷ others) =
       placed c p (Some (record { request = request; done = [] })) (with_first_taken p (request ∷ others) (old c)) refl
-      (λ job is. let none : [] ≡ job.done = ap done_of is in let long = ap (length {A = FileAnswer}) none in omega (arith, long))
+      (λ job is. let none : [] ≡ job.done = ap done_of is in let long = ap (length {A = FileResult}) none in omega (arith, long))
 
 module _ (sys : Behaviour) (n : ℕ) (s : State) (few : AreFew s.classes n) where
   quiet : AreFew s.classes (n + 1)
@@ -261,13 +261,13 @@ module _ (sys : Behaviour) (n : ℕ) (s : State) (few : AreFew s.classes n) wher
   frees : (c p : ℕ) → AreFew (upd s.classes c (with_job_at p None (s.classes c))) (n + 1)
   frees c p = few-more n s.classes _ few (placed n s.classes c p None (with_job_at p None (s.classes c)) refl (λ job none. absurd (cc none)))
 
-  operated : (c p : ℕ) (job : Job) (a : FileAnswer) → (s.classes c).busy p ≡ Some job → AreFew (upd s.classes c (with_job_at p (Some (with_answer a job)) (s.classes c))) (n + 1)
+  operated : (c p : ℕ) (job : Job) (a : FileResult) → (s.classes c).busy p ≡ Some job → AreFew (upd s.classes c (with_job_at p (Some (with_answer a job)) (s.classes c))) (n + 1)
   operated c p job a works =
       few-more n s.classes _ few
       (placed n s.classes c p (Some (with_answer a job)) (with_job_at p (Some (with_answer a job)) (s.classes c)) refl
       (λ other same.
       let done : job.done ++ a ∷ [] ≡ other.done = ap done_of same in
-      let long = ap (length {A = FileAnswer}) done in
+      let long = ap (length {A = FileResult}) done in
       let sum = length-append job.done (a ∷ []) in
       let le = few.each c p job works in
       omega (arith, long, sum, le)))

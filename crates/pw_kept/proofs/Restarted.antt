@@ -18,7 +18,7 @@ use Rattle.pw_kept.proofs.Components.{pairs-same, terminal-and-unit}
 use Rattle.pw_kept.proofs.Cancelled.{no-job}
 use Rattle.pw_onecopy.specs.Path.{PathAnswer}
 use Rattle.pw_paired.specs.Failure.{awaited_after, do_restart, with_restart, with_start_path}
-use Rattle.pw_paired.specs.State.{Class, Job, Mode, OpenUnit, State, Term}
+use Rattle.pw_paired.specs.State.{Class, Job, PairMode, OpenUnit, State, Term}
 use Rattle.pw_paired.specs.Units.{attempt_of, freed_of, only, request_in, without_requests}
 use Rattle.pw_laws.proofs.requests.Queues.{cancelled-queue, works-queue}
 use Rattle.pw_tmf.proofs.Telling.{tells-restart}
@@ -29,7 +29,7 @@ known : (system : System) (info : TermInfo) (start : List PathAnswer) (o : Optio
 known system info start None h = absurd h
 known system info start (Some context) h = (h, refl)
 
-at-start : (system : System) (info : TermInfo) (at : Mode) (term : Term) (own : Option OpenUnit) (unit : OpenUnit) (start : List PathAnswer) (cause : Cause) (kept : KeptTerminal)
+at-start : (system : System) (info : TermInfo) (at : PairMode) (term : Term) (own : Option OpenUnit) (unit : OpenUnit) (start : List PathAnswer) (cause : Cause) (kept : KeptTerminal)
     → own ≡ Some unit → unit.running ≡ Some start → StandsForTerminal system info at term own kept
     → StandsForTerminal system info at (with_start_path (attempt_of own) term) (with_restart cause own) (restarted cause kept)
 at-start system info at term own unit start cause kept is_open runs old =

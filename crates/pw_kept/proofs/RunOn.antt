@@ -9,7 +9,7 @@ use Rattle.pw_code.specs.declared.verb.Verb.{Verb}
 use Rattle.pw_event.specs.declared.script.FailLine.{FailLine}
 use Rattle.pw_exec.specs.Answers.{put}
 use Rattle.pw_exec.specs.Config.{Config, closed, starting_server}
-use Rattle.pw_exec.specs.Contexts.{Ran, RunsOn}
+use Rattle.pw_exec.specs.Contexts.{RanToVerb, RunsOn}
 use Rattle.pw_exec.specs.OfSystem.{file_told}
 use Rattle.pw_exec.specs.Runs.{at_verb}
 use Rattle.pw_exec.specs.Steps.{step, verb_of}
@@ -27,7 +27,7 @@ use Rattle.pw_paired.specs.State.{Job, State}
 use Rattle.pw_paired.specs.Terminal.{path_of}
 
 -- the verb of a context that has run on
-asks : (system : System) (c : Config) (new : Context) (verb : Verb) → Ran system c new verb → verb_in system new ≡ verb
+asks : (system : System) (c : Config) (new : Context) (verb : Verb) → RanToVerb system c new verb → verb_in system new ≡ verb
 asks system c new verb r = ap (verb_in system) r.is ∙ (ap (verb_of system) (open-closed r.at) ∙ sym r.asks)
 
 module _ (system : System) (script : List FailLine) (state : State) (kept : Kept) (stands : Stands system script state kept) where
@@ -44,7 +44,7 @@ module _ (system : System) (script : List FailLine) (state : State) (kept : Kept
   module _ (c i : ℕ) (info : ClassInfo) (old new : Context) (verb : Verb) (here : slice_get system.classes c ≡ Some info) (is : kept.jobs c i ≡ Some old) (on : RunsOn system old new verb) where
     job-on : (job : Job) → StandsForJob system info job old → StandsForJob system info job new
     job-on job one =
-        let r : Ran system one.at new verb = on one.at one.is in
+        let r : RanToVerb system one.at new verb = on one.at one.is in
         record {
           at = r.at;
           comes = lemmas.runs_on at_verb (step system) (put system) (starting_server system info.server job.request.message) one.at r.at (map file_told job.done) one.comes r.reaches.0;

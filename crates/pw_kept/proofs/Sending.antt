@@ -18,7 +18,7 @@ use Rattle.pw_kept.specs.Entered.{answering, begin_at, closing_context, copied, 
 use Rattle.pw_kept.specs.Kept.{Kept, KeptTerminal}
 use Rattle.pw_kept.specs.Stands.{IsPathImage, Stands, StandsForKnown, StandsIfAny}
 use Rattle.pw_pair.specs.Follows.{has_flights}
-use Rattle.pw_kept.specs.Tested.{Carries, IsAsking, IsPlaced}
+use Rattle.pw_kept.specs.Tested.{CarriesPath, IsAsking, IsPlaced}
 use Rattle.pw_kept.proofs.Checked.{checked}
 use Rattle.pw_kept.proofs.Components.{pair-of}
 use Rattle.pw_kept.proofs.Behind.{answering-is, behind, verb-is}
@@ -55,7 +55,7 @@ module _ (system : System) (script : List FailLine) (state : State) (kept : Kept
     flies : has_flights (state.modes ((behaviour script system).pair_of t)) ≡ true → has_flights (state.modes placed.info.tcp) ≡ true
     flies is = ap (λ p. has_flights (state.modes p)) (sym (pair-of system script t placed.info placed.here)) ∙ is
 
-    pub check-copy-enters : (b : Context) → copied (kept.terminals t).start (kept.terminals t).context ≡ Some b → Carries (copied_path state t) b → LegalCheckCopy (behaviour script system) state t
+    pub check-copy-enters : (b : Context) → copied (kept.terminals t).start (kept.terminals t).context ≡ Some b → CarriesPath (copied_path state t) b → LegalCheckCopy (behaviour script system) state t
         → Stands system script (do_check_copy t state) (entered_check_copy system t kept)
     check-copy-enters b is carries legal =
         let old = stands.terminals t placed.info placed.here in
@@ -70,7 +70,7 @@ module _ (system : System) (script : List FailLine) (state : State) (kept : Kept
     abbrev pub info : TermInfo
     info = asking.placed.info
 
-    pub check-start-enters : (b : Context) → (kept.terminals t).context ≡ Some b → Carries (path_of state t) b → LegalCheckStart (behaviour script system) state t
+    pub check-start-enters : (b : Context) → (kept.terminals t).context ≡ Some b → CarriesPath (path_of state t) b → LegalCheckStart (behaviour script system) state t
         → Stands system script (do_check_start t state) (entered_check_start system t kept)
     check-start-enters b is carries legal =
         subst (λ o. Stands system script (do_check_start t state) (send_image system t kind.Start o kept)) (sym is)

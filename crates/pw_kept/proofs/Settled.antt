@@ -18,16 +18,16 @@ use Rattle.pw_pair.specs.Pairs as pair
 use Rattle.pw_pair.specs.Pairs.{SeenPair, settled}
 use Rattle.pw_pair.specs.Seats.{is_lacking, is_seat_of}
 use Rattle.pw_pair.specs.declared.backup.Held.{Held}
-use Rattle.pw_pair.specs.declared.seat.Seat.{Seat}
+use Rattle.pw_pair.specs.declared.seat.BackupSeat.{BackupSeat}
 use Rattle.pw_paired.specs.Failure.{is_live_of}
 use Rattle.pw_paired.specs.Raising.{lacks_one, settled_mode}
-use Rattle.pw_paired.specs.State.{Mode, Alone, Raising, Paired, Down, Gone, BackupCopy, OpenUnit, State, Term}
+use Rattle.pw_paired.specs.State.{PairMode, Alone, Raising, Paired, Down, Gone, BackupCopy, OpenUnit, State, Term}
 use Rattle.pw_kept.specs.Kept.{KeptTerminal}
 use Rattle.pw_laws.proofs.Lacking.{any_below-some, any_below-true}
 
 -- ---- modes
 
-pub works-settle : (at : Mode) (lacks : Bool) → works (settled_mode at lacks) ≡ works at
+pub works-settle : (at : PairMode) (lacks : Bool) → works (settled_mode at lacks) ≡ works at
 works-settle Alone lacks = refl
 works-settle Raising true = refl
 works-settle Raising false = refl
@@ -36,7 +36,7 @@ works-settle Down lacks = refl
 works-settle Gone lacks = refl
 
 -- terminals stand on where a member works only if one did
-pub terminals-work : (system : System) (modes new : ℕ → Mode) (terms : ℕ → Term) (units : ℕ → Option OpenUnit) (kept : ℕ → KeptTerminal)
+pub terminals-work : (system : System) (modes new : ℕ → PairMode) (terms : ℕ → Term) (units : ℕ → Option OpenUnit) (kept : ℕ → KeptTerminal)
     → ((p : ℕ) → works (new p) ≡ true → works (modes p) ≡ true) → TerminalsStand system modes terms units kept → TerminalsStand system new terms units kept
 terminals-work system modes new terms units kept only old t info here =
     let o = old t info here in
@@ -62,7 +62,7 @@ lacking-same R None None (Some held) h = absurd h
 lacking-same R None (Some copy) None h = absurd h
 lacking-same R (Some ending) copy held h = refl
 
-lacks-same : (system : System) (script : List FailLine) (p : ℕ) (at : Mode) (state : State) (seen : SeenPair)
+lacks-same : (system : System) (script : List FailLine) (p : ℕ) (at : PairMode) (state : State) (seen : SeenPair)
     → StandsForPair system p at state.terms state.memory state.flight seen
     → list_any is_lacking seen.seats ≡ lacks_one (behaviour script system) p state
 lacks-same system script p at state seen stands = same-truth (list_any is_lacking seen.seats) (lacks_one (behaviour script system) p state)
@@ -79,7 +79,7 @@ lacks-same system script p at state seen stands = same-truth (list_any is_lackin
     (λ seat s is. seat-lacks seat s ∙ ap (λ t. is_none (state.terms t).ending && not (is_some (state.memory t))) (eqb-true seat.terminal one.0 is) ∙ parts.1)
     (stands.every one.0 info.0 info.1 (sym (pair-of system script one.0 info.0 info.1) ∙ eqb-true _ _ parts.0)))
   where
-    Stood : Seat → Type 0
+    Stood : BackupSeat → Type 0
     Stood = StandsForSeat system p at state.terms state.memory state.flight
 
     own : ℕ → Bool
@@ -88,13 +88,13 @@ lacks-same system script p at state seen stands = same-truth (list_any is_lackin
     lacking : ℕ → Bool
     lacking t = is_live_of (behaviour script system) p state t && not (is_some (state.memory t))
 
-    seat-lacks : (seat : Seat) → StandsForSeat system p at state.terms state.memory state.flight seat → is_lacking seat ≡ (is_none (state.terms seat.terminal).ending && not (is_some (state.memory seat.terminal)))
+    seat-lacks : (seat : BackupSeat) → StandsForSeat system p at state.terms state.memory state.flight seat → is_lacking seat ≡ (is_none (state.terms seat.terminal).ending && not (is_some (state.memory seat.terminal)))
     seat-lacks seat s =
         ap (λ b. not b && not (is_some seat.memory)) s.dropped
         ∙ lacking-same (StandsForHeld system s.info) (state.terms seat.terminal).ending (state.memory seat.terminal) seat.memory s.memory_is
 
 -- the pair settles with the paired system
-pub settles : (system : System) (script : List FailLine) (p : ℕ) (at : Mode) (state : State) (seen : SeenPair)
+pub settles : (system : System) (script : List FailLine) (p : ℕ) (at : PairMode) (state : State) (seen : SeenPair)
     → StandsForPair system p at state.terms state.memory state.flight seen
     → StandsForPair system p (settled_mode at (lacks_one (behaviour script system) p state)) state.terms state.memory state.flight (settled seen)
 settles system script p at state seen old = record {

@@ -14,7 +14,7 @@ use Rattle.pw_kept.specs.Members.{AreOf, IsOf}
 use Rattle.pw_kept.specs.Stands.{Stands, StandsForSeat}
 use Rattle.pw_pair.proofs.Beginning.{all-seats, has-seat}
 use Rattle.pw_pair.specs.Seats.{new_seat}
-use Rattle.pw_pair.specs.declared.seat.Seat.{Seat}
+use Rattle.pw_pair.specs.declared.seat.BackupSeat.{BackupSeat}
 use Rattle.pw_paired.specs.Queues.{requests_from}
 use Rattle.pw_paired.specs.State.{Alone, State, starting}
 use Rattle.pw_tmf.specs.Tells.{Tells}
@@ -71,5 +71,5 @@ start-stands system script members contexts disc paths are tells = record {
     first : State
     first = starting (behaviour script system)
 
-    Stood : ℕ → Seat → Type 0
+    Stood : ℕ → BackupSeat → Type 0
     Stood p = StandsForSeat system p Alone first.terms first.memory first.flight

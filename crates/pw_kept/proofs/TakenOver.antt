@@ -27,11 +27,11 @@ use Rattle.pw_onecopy.proofs.Update.{upd-other, upd-same}
 use Rattle.pw_pair.specs.Pairs.{SeenPair, after_take, seat_of}
 use Rattle.pw_pair.specs.Takeover.{resumed_image}
 use Rattle.pw_pair.specs.declared.backup.Held.{Held}
-use Rattle.pw_pair.specs.declared.seat.Seat.{Seat}
+use Rattle.pw_pair.specs.declared.seat.BackupSeat.{BackupSeat}
 use Rattle.pw_pair.proofs.Beginning.{found-seat}
 use Rattle.pw_paired.specs.Failure.{do_takeover, is_live_of, is_of_pair, resume_terminal, resumed_path, runs_unit}
 use Rattle.pw_paired.specs.Raising.{lacks_one}
-use Rattle.pw_paired.specs.State.{Alone, Down, BackupCopy, BeforeImage, LastEnded, Message, Mode, OpenUnit, State, Term}
+use Rattle.pw_paired.specs.State.{Alone, Down, BackupCopy, BeforeImage, LastEnded, Message, PairMode, OpenUnit, State, Term}
 use Rattle.pw_laws.proofs.terms.KeepsPairs.{any_below-false}
 use Rattle.pw_tmf.specs.Tells.{as_told}
 use Rattle.pw_tmf.specs.Told.{ToldUnit}
@@ -68,7 +68,7 @@ pub runs-same : (number : ℕ) (before : List BeforeImage) (unit : Option OpenUn
 runs-same number before None = refl
 runs-same number before (Some own) = refl
 
-resumes : (system : System) (info : TermInfo) (at : Mode) (p : ℕ) (copy : Option BackupCopy) (held : Option Held) (unit : Option OpenUnit) (told : Option ToldUnit) (before : List BeforeImage) (last : LastEnded) (term : Term) (own : KeptTerminal)
+resumes : (system : System) (info : TermInfo) (at : PairMode) (p : ℕ) (copy : Option BackupCopy) (held : Option Held) (unit : Option OpenUnit) (told : Option ToldUnit) (before : List BeforeImage) (last : LastEnded) (term : Term) (own : KeptTerminal)
     → StandsIfAny (StandsForHeld system info) copy held → IsSome copy → told ≡ option_map (as_told before) unit → StandsForTerminal system info at term unit own
     → StandsForTerminal system info Alone (resume_terminal p copy unit last term) unit (resumed p held told last.number own)
 resumes system info at p None held unit told before last term own h some is old = absurd (cc some)
@@ -88,7 +88,7 @@ resumes system info at p (Some copy) (Some held) unit told before last term own 
       ending = old.ending;
     }
 
-resumes-live : (system : System) (info : TermInfo) (at : Mode) (p : ℕ) (copy : Option BackupCopy) (held : Option Held) (unit : Option OpenUnit) (told : Option ToldUnit) (before : List BeforeImage) (last : LastEnded) (term : Term) (own : KeptTerminal)
+resumes-live : (system : System) (info : TermInfo) (at : PairMode) (p : ℕ) (copy : Option BackupCopy) (held : Option Held) (unit : Option OpenUnit) (told : Option ToldUnit) (before : List BeforeImage) (last : LastEnded) (term : Term) (own : KeptTerminal)
     → StandsIfAny (StandsForHeld system info) copy held → (term.ending ≡ None → IsSome copy) → told ≡ option_map (as_told before) unit → StandsForTerminal system info at term unit own
     → StandsForTerminal system info Alone (cond (is_none term.ending) (resume_terminal p copy unit last term) term) unit (resumed_live p held told last.number own)
 resumes-live system info at p copy held unit told before last term own h some is old =
@@ -110,7 +110,7 @@ resumes-live system info at p copy held unit told before last term own h some is
 
 -- ---- its seat
 
-held-seat : (system : System) (p : ℕ) (at : Mode) (terms : ℕ → Term) (memory : ℕ → Option BackupCopy) (flight : ℕ → Option Message) (seen : SeenPair) (t : ℕ) (info : TermInfo)
+held-seat : (system : System) (p : ℕ) (at : PairMode) (terms : ℕ → Term) (memory : ℕ → Option BackupCopy) (flight : ℕ → Option Message) (seen : SeenPair) (t : ℕ) (info : TermInfo)
     → StandsForPair system p at terms memory flight seen → slice_get system.terminals t ≡ Some info → info.tcp ≡ p
     → StandsIfAny (StandsForHeld system info) (memory t) (memory_in (seat_of t seen))
 held-seat system p at terms memory flight seen t info stands here of =
@@ -119,7 +119,7 @@ held-seat system p at terms memory flight seen t info stands here of =
     (subst (λ x. StandsIfAny (StandsForHeld system info) (memory x) one.0.memory) one.3
     (subst (λ x. StandsIfAny (StandsForHeld system x) (memory one.0.terminal) one.0.memory) (same one.0 one.2 one.3) one.2.memory_is))
   where
-    same : (seat : Seat) (s : StandsForSeat system p at terms memory flight seat) → seat.terminal ≡ t → s.info ≡ info
+    same : (seat : BackupSeat) (s : StandsForSeat system p at terms memory flight seat) → seat.terminal ≡ t → s.info ≡ info
     same seat s is = some_is (sym s.here ∙ ap (slice_get system.terminals) is ∙ here)
 
 -- a live terminal of the pair is in the memory, which lacks none

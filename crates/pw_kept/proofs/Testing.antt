@@ -15,7 +15,7 @@ use Rattle.pw_kept.specs.PairTests.{is_alone, is_down, is_gone, is_in, is_raisin
 use Rattle.pw_kept.specs.Stands.{Stands, StandsForClass, StandsForHeld, StandsForPair, StandsForSeat, StandsIfAny}
 use Rattle.pw_pair.specs.Follows.{mode_as}
 use Rattle.pw_kept.specs.TerminalTests as kept
-use Rattle.pw_kept.specs.TerminalTests.{can_where, entries_of, flies, is_live, may_again, may_end_entries, may_fault, may_key, may_send, may_show, may_stop, pair_of, seat_at}
+use Rattle.pw_kept.specs.TerminalTests.{can_where, entry_line_count, flies, is_live, may_again, may_end_entries, may_fault, may_key, may_send, may_show, may_stop, seen_pair_of, seat_at}
 use Rattle.pw_kept.specs.Tested.{IsAsking, IsPlaced}
 use Rattle.pw_kept.proofs.Agreeing.{there-is}
 use Rattle.pw_kept.proofs.TakenOver.{runs-same}
@@ -27,54 +27,54 @@ use Rattle.pw_laws.specs.legal.Values.{is_same_refresh, some_with}
 use Rattle.pw_laws.specs.legal.Verbs.{asks_accept, asks_fault, asks_send, asks_send_to, asks_show, asks_stop}
 use Rattle.pw_pair.specs.Pairs.{passes, seat_of}
 use Rattle.pw_pair.specs.Seats.{has_memory, is_flying}
-use Rattle.pw_pair.specs.declared.seat.Seat.{Seat}
+use Rattle.pw_pair.specs.declared.seat.BackupSeat.{BackupSeat}
 use Rattle.pw_pair.proofs.Beginning.{found-seat}
 use Rattle.pw_paired.specs.Failure.{is_live_of, is_of_pair}
 use Rattle.pw_paired.specs.Raising.{is_takeover}
 use Rattle.pw_paired.specs.Serial as serial
-use Rattle.pw_paired.specs.State.{Mode, Alone, Raising, Paired, Down, Gone, LastEnded, State}
+use Rattle.pw_paired.specs.State.{PairMode, Alone, Raising, Paired, Down, Gone, LastEnded, State}
 use Rattle.pw_paired.specs.Units as units
 use Rattle.pw_paired.specs.Units.{any_below}
 use Rattle.pw_laws.proofs.requests.Queues.{has-queue}
 
 -- ---- modes
 
-pub paired-as : (m : Mode) → kept.is_paired (mode_as m) ≡ values.is_paired m
+pub paired-as : (m : PairMode) → kept.is_paired (mode_as m) ≡ values.is_paired m
 paired-as Alone = refl
 paired-as Raising = refl
 paired-as Paired = refl
 paired-as Down = refl
 paired-as Gone = refl
 
-pub alone-as : (m : Mode) → is_alone (mode_as m) ≡ values.is_alone m
+pub alone-as : (m : PairMode) → is_alone (mode_as m) ≡ values.is_alone m
 alone-as Alone = refl
 alone-as Raising = refl
 alone-as Paired = refl
 alone-as Down = refl
 alone-as Gone = refl
 
-raising-as : (m : Mode) → is_raising (mode_as m) ≡ values.is_raising m
+raising-as : (m : PairMode) → is_raising (mode_as m) ≡ values.is_raising m
 raising-as Alone = refl
 raising-as Raising = refl
 raising-as Paired = refl
 raising-as Down = refl
 raising-as Gone = refl
 
-down-as : (m : Mode) → is_down (mode_as m) ≡ values.is_down m
+down-as : (m : PairMode) → is_down (mode_as m) ≡ values.is_down m
 down-as Alone = refl
 down-as Raising = refl
 down-as Paired = refl
 down-as Down = refl
 down-as Gone = refl
 
-pub gone-as : (m : Mode) → is_gone (mode_as m) ≡ serial.is_gone m
+pub gone-as : (m : PairMode) → is_gone (mode_as m) ≡ serial.is_gone m
 gone-as Alone = refl
 gone-as Raising = refl
 gone-as Paired = refl
 gone-as Down = refl
 gone-as Gone = refl
 
-sending-as : (m : Mode) → is_sending (mode_as m) ≡ (values.is_raising m || values.is_paired m)
+sending-as : (m : PairMode) → is_sending (mode_as m) ≡ (values.is_raising m || values.is_paired m)
 sending-as Alone = refl
 sending-as Raising = refl
 sending-as Paired = refl
@@ -115,7 +115,7 @@ module _ (system : System) (script : List FailLine) (state : State) (own : Kept)
     tcp : number_by (λ (info : TermInfo). info.tcp) (slice_get system.terminals t) ≡ placed.info.tcp
     tcp = ap (number_by (λ (info : TermInfo). info.tcp)) placed.here
 
-    pub own-mode : (pair_of system own t).mode ≡ mode_as (state.modes ((behaviour script system).pair_of t))
+    pub own-mode : (seen_pair_of system own t).mode ≡ mode_as (state.modes ((behaviour script system).pair_of t))
     own-mode = ap (λ p. (own.pairs p).mode) tcp ∙ (mode-is placed.info.tcp placed.pair ∙ ap (λ p. mode_as (state.modes p)) (sym tcp))
 
     live-same : is_live system own t ≡ legal.is_live (behaviour script system) state t
@@ -128,7 +128,7 @@ module _ (system : System) (script : List FailLine) (state : State) (own : Kept)
         (ap is_none (stands.terminals t placed.info placed.here).pending))
 
     -- its seat stands for what the backup has of it
-    seat-same : (seat : Seat) × (seat_at system own t ≡ Some seat) × (is_some seat.memory ≡ is_some (state.memory t)) × (is_some seat.flight ≡ is_some (state.flight t))
+    seat-same : (seat : BackupSeat) × (seat_at system own t ≡ Some seat) × (is_some seat.memory ≡ is_some (state.memory t)) × (is_some seat.flight ≡ is_some (state.flight t))
     seat-same =
         let pair : StandsForPair system placed.info.tcp (state.modes placed.info.tcp) state.terms state.memory state.flight (own.pairs placed.info.tcp) = stands.pairs placed.info.tcp placed.pair in
         let one = found-seat (StandsForSeat system placed.info.tcp (state.modes placed.info.tcp) state.terms state.memory state.flight) t (own.pairs placed.info.tcp).seats pair.seats (pair.every t placed.info placed.here refl) in (
@@ -139,7 +139,7 @@ module _ (system : System) (script : List FailLine) (state : State) (own : Kept)
         )
 
     -- the same with what is held
-    pub seat-held : (seat : Seat) × (seat_at system own t ≡ Some seat) × StandsIfAny (StandsForHeld system placed.info) (state.memory t) seat.memory
+    pub seat-held : (seat : BackupSeat) × (seat_at system own t ≡ Some seat) × StandsIfAny (StandsForHeld system placed.info) (state.memory t) seat.memory
     seat-held =
         let pair : StandsForPair system placed.info.tcp (state.modes placed.info.tcp) state.terms state.memory state.flight (own.pairs placed.info.tcp) = stands.pairs placed.info.tcp placed.pair in
         let one = found-seat (StandsForSeat system placed.info.tcp (state.modes placed.info.tcp) state.terms state.memory state.flight) t (own.pairs placed.info.tcp).seats pair.seats (pair.every t placed.info placed.here refl) in
@@ -217,7 +217,7 @@ module _ (system : System) (script : List FailLine) (state : State) (own : Kept)
         (ap₂ (λ v n. asks_show v && is_same_refresh n (record { phase = phase; attempt = attempt; k = k })) asking.says.verb asking.says.counts.number)
 
     pub key-same : (k : ℕ) → may_key system own t k ≡ is_legal_key (behaviour script system) state t k
-    key-same k = where-is _ _ (ap₂ (λ v e. asks_accept v && (k == e + 1 && nat_le k (entries_of system t))) asking.says.verb asking.says.counts.entries)
+    key-same k = where-is _ _ (ap₂ (λ v e. asks_accept v && (k == e + 1 && nat_le k (entry_line_count system t))) asking.says.verb asking.says.counts.entries)
 
     pub send-same : (n c : ℕ) → may_send system own t n c ≡ is_legal_send (behaviour script system) state t n c
     send-same n c =
@@ -235,7 +235,7 @@ module _ (system : System) (script : List FailLine) (state : State) (own : Kept)
     stop-same = where-is _ _ (ap asks_stop asking.says.verb)
 
     pub entries-same : may_end_entries system own t ≡ is_legal_end (behaviour script system) state t NoEntries
-    entries-same = where-is _ _ (ap₂ (λ v e. asks_accept v && e == entries_of system t) asking.says.verb asking.says.counts.entries)
+    entries-same = where-is _ _ (ap₂ (λ v e. asks_accept v && e == entry_line_count system t) asking.says.verb asking.says.counts.entries)
 
     pub fault-same : (x : ℕ) → may_fault system own t x ≡ is_legal_end (behaviour script system) state t (Fault x)
     fault-same x = where-is _ _ (ap (asks_fault x) asking.says.verb)

@@ -23,7 +23,7 @@ use Rattle.pw_paired.specs.End.{LegalEnd, end_terminal}
 use Rattle.pw_paired.specs.Failure.{fail_line, is_live_of, is_of_pair, lose_backup, lose_pair, lose_primary, process_fails}
 use Rattle.pw_paired.specs.Raising.{LegalRaise, settle_mode, settled_mode}
 use Rattle.pw_paired.specs.Server.{LegalTake}
-use Rattle.pw_paired.specs.State.{Mode, Alone, Raising, Paired, Down, Gone, Job, Message, State}
+use Rattle.pw_paired.specs.State.{PairMode, Alone, Raising, Paired, Down, Gone, Job, Message, State}
 use Rattle.pw_paired.specs.Step.{IsRun, Legal, after, change, effect}
 use Rattle.pw_paired.specs.Step as step
 use Rattle.pw_paired.specs.Units.{any_below, leave_units, only}
@@ -36,7 +36,7 @@ use Rattle.pw_paired.specs.Raising as raising
 -- ---- messages and modes
 
 -- the pair has or had a backup
-abbrev pub HasBackup : Mode → Type 0
+abbrev pub HasBackup : PairMode → Type 0
 HasBackup Alone = ⊥
 HasBackup Raising = Unit {0}
 HasBackup Paired = Unit {0}
@@ -74,7 +74,7 @@ module _ (sys : Behaviour) (s : State) (k : Known sys s) where
     modes = λ p has. k.modes p (subst (λ f. HasBackup (f p)) modes has);
   }
 
-  settled : (mode : Mode) (lacks : Bool) → HasBackup (settled_mode mode lacks) → HasBackup mode
+  settled : (mode : PairMode) (lacks : Bool) → HasBackup (settled_mode mode lacks) → HasBackup mode
   settled Alone lacks has = has
   settled Raising lacks has = tt
   settled Paired lacks has = tt
@@ -82,7 +82,7 @@ module _ (sys : Behaviour) (s : State) (k : Known sys s) where
   settled Gone lacks has = has
 
   -- a pair gets a mode
-  moved : (w : State) (p : ℕ) (mode : Mode) → (HasBackup mode → p < sys.pairs) → ((t : ℕ) (message : Message) → w.flight t ≡ Some message → s.flight t ≡ Some message) → w.modes ≡ upd s.modes p mode → Known sys w
+  moved : (w : State) (p : ℕ) (mode : PairMode) → (HasBackup mode → p < sys.pairs) → ((t : ℕ) (message : Message) → w.flight t ≡ Some message → s.flight t ≡ Some message) → w.modes ≡ upd s.modes p mode → Known sys w
   moved w p mode there flight modes = record {
     flights = λ t message is. k.flights t message (flight t message is);
     modes = λ q has.

@@ -22,7 +22,7 @@ use Rattle.pw_code.specs.declared.verb.Verb.TheVariants as verb
 use Rattle.pw_onecopy.specs.Path.{Begun, Dropped, PathAnswer}
 use Rattle.pw_onecopy.specs.Update.{upd}
 use Rattle.pw_onecopy.proofs.Update.{upd-other, upd-same}
-use Rattle.pw_paired.specs.State.{BeforeImage, Mode, OpenUnit, State, Term}
+use Rattle.pw_paired.specs.State.{BeforeImage, PairMode, OpenUnit, State, Term}
 use Rattle.pw_paired.specs.Terminal.{CanStep, IsIdle, awaited_of, begun_path, births_after, do_back, do_begin, do_send, message_of, next_verb, path_of, unit_with_attempt, with_request}
 use Rattle.pw_paired.specs.Units.{give_answer, commit_unit, drop_unit, restarts_of}
 use Rattle.pw_tmf.specs.Tells.{Tells, as_told, images_by, unit_begun}
@@ -30,7 +30,7 @@ use Rattle.pw_tmf.specs.Units.{begun, ended}
 use Rattle.pw_tmf.proofs.Telling.{tells-begin, tells-commit, tells-drop}
 
 -- a terminal goes on with an answer, and its unit has ended
-pub unit-over : (system : System) (modes : ℕ → Mode) (terms : ℕ → Term) (units : ℕ → Option OpenUnit) (kept : ℕ → KeptTerminal) (t : ℕ) (terminal : TermInfo) (answer : PathAnswer) (new : Context)
+pub unit-over : (system : System) (modes : ℕ → PairMode) (terms : ℕ → Term) (units : ℕ → Option OpenUnit) (kept : ℕ → KeptTerminal) (t : ℕ) (terminal : TermInfo) (answer : PathAnswer) (new : Context)
     → TerminalsStand system modes terms units kept → slice_get system.terminals t ≡ Some terminal → StandsForPath system terminal ((terms t).path ++ answer ∷ []) new
     → TerminalsStand system modes (upd terms t (record (terms t) { path = (terms t).path ++ answer ∷ [] })) (upd units t None) (upd kept t (without_unit (with_context new (kept t))))
 unit-over system modes terms units kept t terminal answer new stands there path =

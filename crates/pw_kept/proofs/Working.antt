@@ -31,7 +31,7 @@ use Rattle.pw_kept.proofs.Replying.{failed-reply, replied, replied-last}
 use Rattle.pw_kept.proofs.Served.{file-stands, take-stands}
 use Rattle.pw_kept.proofs.Serving.{at-work}
 use Rattle.pw_onecopy.specs.Operation.{answer_of}
-use Rattle.pw_onecopy.specs.Path.{Failed, FileAnswer, Replied, is_outside, unit_number}
+use Rattle.pw_onecopy.specs.Path.{Failed, FileResult, Replied, is_outside, unit_number}
 use Rattle.pw_onecopy.specs.Update.{upd}
 use Rattle.pw_paired.specs.Server as paired
 use Rattle.pw_paired.specs.Server.{LegalFile, LegalTake, do_file, do_reply, do_take, reply_at, reply_of, server_verb, with_answer}
@@ -40,7 +40,7 @@ use Rattle.pw_paired.specs.Terminal.{path_of}
 use Rattle.pw_tmf.specs.Units.{ended}
 
 -- a server goes on with an answer
-goes-on : (system : System) (info : ClassInfo) (job : Job) (context : Context) (found : FileAnswer) → StandsForJob system info job context → context.at_verb ≡ true
+goes-on : (system : System) (info : ClassInfo) (job : Job) (context : Context) (found : FileResult) → StandsForJob system info job context → context.at_verb ≡ true
     → StandsForJob system info (with_answer found job) (answered_with system (file_told found) context)
 goes-on system info job context found stands asks =
     subst (λ answers. StandsForFiles system info.server job.request.message answers (answered_with system (file_told found) context)) (sym (map-append file_told job.done (found ∷ [])))

@@ -1,5 +1,5 @@
 -- What a context says of its path: the verb that it asks, and its counts.
-pub use Rattle.pw_exec.specs.Counts.{CountsOf, number_in, unit_in}
+pub use Rattle.pw_exec.specs.Counts.{CountsOf, next_refresh_number, unit_in}
 use Rattle.std.specs.Prelude.{◌≡◌, ℕ, List, [], length, take, slice_index_or, ◌-◌}
 use Rattle.pw_code.specs.declared.context.Context.{Context}
 use Rattle.pw_code.specs.declared.system.System.{System}

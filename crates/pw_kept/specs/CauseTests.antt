@@ -15,7 +15,7 @@ use Rattle.pw_kept.specs.Changes.{unit_at}
 use Rattle.pw_kept.specs.ClassTests.{works_where}
 use Rattle.pw_kept.specs.Kept.{Kept}
 use Rattle.pw_kept.specs.PairTests.{is_alone, is_gone}
-use Rattle.pw_kept.specs.TerminalTests.{can_where, is_paired, pair_of}
+use Rattle.pw_kept.specs.TerminalTests.{can_where, is_paired, seen_pair_of}
 use Rattle.pw_laws.specs.legal.Values.{is_server_by, is_takeover_by, some_with}
 use Rattle.pw_laws.specs.legal.Verbs.{asks_file, asks_redo}
 use Rattle.pw_locks.specs.Conflicts.{conflict, is_same_unit}
@@ -54,21 +54,21 @@ meets system kept one other =
 abbrev pub is_older : System → Kept → ℕ → ToldUnit → ℕ → ℕ → Bool
 is_older system kept t own o m =
     some_with (λ older. older.number == m && (nat_lt older.birth own.birth
-    && (not (is_gone (pair_of system kept t).mode)
+    && (not (is_gone (seen_pair_of system kept t).mode)
     && (meets system kept (unit_named t own) (unit_named o older)
     || meets system kept (unit_named o older) (unit_named t own)))))
     (kept.disc.units o)
 
 -- the cause holds for the unit of a terminal
-abbrev pub holds : System → Kept → ℕ → ToldUnit → Cause → Bool
-holds system kept t own (Older o m) = is_older system kept t own o m
-holds system kept t own (Takeover p) =
+abbrev pub kept_cause_holds : System → Kept → ℕ → ToldUnit → Cause → Bool
+kept_cause_holds system kept t own (Older o m) = is_older system kept t own o m
+kept_cause_holds system kept t own (Takeover p) =
     some_with (is_takeover_by p) (kept.terminals t).pending
-    && is_alone (pair_of system kept t).mode
-holds system kept t own (Server k) =
+    && is_alone (seen_pair_of system kept t).mode
+kept_cause_holds system kept t own (Server k) =
     some_with (is_server_by k) (kept.terminals t).pending
-    && is_paired (pair_of system kept t).mode
-holds system kept t own Redo =
+    && is_paired (seen_pair_of system kept t).mode
+kept_cause_holds system kept t own Redo =
     can_where system kept t (λ context. asks_redo (verb_in system context))
 
 -- the most restarts of a terminal's units
@@ -79,13 +79,13 @@ most_restarts system t =
 -- RESTART t n cause
 abbrev pub may_restart : System → Kept → ℕ → ℕ → Cause → Bool
 may_restart system kept t n cause =
-    some_with (λ own. own.number == n && ((own.running && holds system kept t own cause)
+    some_with (λ own. own.number == n && ((own.running && kept_cause_holds system kept t own cause)
     && nat_lt (kept.terminals t).restarts (most_restarts system t)))
     (kept.disc.units t)
 
 -- END t SUSPENDED cause
 abbrev pub may_suspend : System → Kept → ℕ → Cause → Bool
 may_suspend system kept t cause =
-    some_with (λ own. (own.running && holds system kept t own cause)
+    some_with (λ own. (own.running && kept_cause_holds system kept t own cause)
     && (kept.terminals t).restarts == most_restarts system t)
     (kept.disc.units t)

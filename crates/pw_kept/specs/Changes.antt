@@ -23,7 +23,7 @@ use Rattle.pw_pair.specs.declared.backup.Held.{Held}
 use Rattle.pw_pair.specs.declared.message.CheckMessage.{CheckMessage}
 use Rattle.pw_pair.specs.declared.mode.Mode.{Mode}
 use Rattle.pw_pair.specs.declared.mode.Mode.TheVariants.{Alone, Raising, Paired, Down, Gone}
-use Rattle.pw_pair.specs.declared.seat.Seat.{Seat}
+use Rattle.pw_pair.specs.declared.seat.BackupSeat.{BackupSeat}
 use Rattle.pw_paired.specs.Failure.{awaited_after}
 use Rattle.pw_tmf.specs.Leaving.{is_among, open_units}
 use Rattle.pw_tmf.specs.Operation.{after_operation}
@@ -296,7 +296,7 @@ abbrev pub kept_fail_server : ℕ → ℕ → ℕ → Kept → Kept
 kept_fail_server c i k kept = process_stops c i k (at_process (kept.queues c) i) kept
 
 -- what is held of the terminal of a seat
-abbrev pub memory_in : Option Seat → Option Held
+abbrev pub memory_in : Option BackupSeat → Option Held
 memory_in None = None
 memory_in (Some seat) = seat.memory
 

@@ -2,7 +2,7 @@
 use Rattle.std.specs.Prelude.{ℕ, Bool, true, false, not, List, [], ◌∷◌, slice_get, Option, Some, None, option_map, if◌then◌else◌}
 use Rattle.pw_class.specs.Queue.{at_process}
 use Rattle.pw_class.specs.declared.request.Request.{Request}
-use Rattle.pw_code.specs.Entry.{Entry}
+use Rattle.pw_code.specs.Entry.{EntryLineModel}
 use Rattle.pw_code.specs.declared.context.Context.{Context}
 use Rattle.pw_code.specs.declared.file.FileCall.{FileCall}
 use Rattle.pw_code.specs.declared.system.ClassInfo.{ClassInfo}
@@ -21,7 +21,7 @@ use Rattle.pw_kept.specs.Asked.{answered_with, unit_in, verb_in}
 use Rattle.pw_kept.specs.Changes.{at_terminal, attempted, free_process, kept_applied, kept_begin_send, kept_check, kept_end, kept_fail_server, kept_fail_tcp, kept_file, kept_raise, kept_restart, kept_send, kept_take, kept_takeover, unit_at, with_attempt, without_unit}
 use Rattle.pw_kept.specs.Kept.{Kept, KeptTerminal}
 use Rattle.pw_onecopy.specs.Operation.{answer_of}
-use Rattle.pw_onecopy.specs.Path.{FileAnswer}
+use Rattle.pw_onecopy.specs.Path.{FileResult}
 use Rattle.pw_pair.specs.declared.message.CheckKind.{CheckKind}
 use Rattle.pw_pair.specs.declared.message.CheckKind.TheVariants as kind
 use Rattle.pw_pair.specs.declared.message.CheckMessage.{CheckMessage}
@@ -36,7 +36,7 @@ abbrev pub tcp_of : System → ℕ → ℕ
 tcp_of system t = number_by (λ info. info.tcp) (slice_get system.terminals t)
 
 -- its entry lines
-abbrev pub lines_of : Option TermInfo → List Entry
+abbrev pub lines_of : Option TermInfo → List EntryLineModel
 lines_of None = []
 lines_of (Some info) = info.entries
 
@@ -158,7 +158,7 @@ entered_take system c i kept =
     kept_take c i (started_on system (slice_get system.classes c) (kept.queues c).waiting) kept
 
 -- FILE: the call of the server in the process is done, and its answer put in
-abbrev pub answer_on : Kept → FileCall → FileAnswer
+abbrev pub answer_on : Kept → FileCall → FileResult
 answer_on kept call =
     answer_of (kept.disc.key_length call.file) (kept.disc.files call.file) call.op call
 

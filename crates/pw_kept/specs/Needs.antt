@@ -14,7 +14,7 @@ use Rattle.pw_image.specs.Values.{HasValues}
 use Rattle.pw_kept.specs.Asked.{answered_with}
 use Rattle.pw_kept.specs.Entered.{copied}
 use Rattle.pw_kept.specs.Kept.{Kept}
-use Rattle.pw_kept.specs.Tested.{Carries, IsAsking, IsPlaced, IsServing}
+use Rattle.pw_kept.specs.Tested.{CarriesPath, IsAsking, IsPlaced, IsServing}
 use Rattle.pw_onecopy.specs.Path.{PathAnswer}
 use Rattle.pw_paired.specs.Raising.{copied_path}
 use Rattle.pw_paired.specs.State.{OpenUnit, State}
@@ -24,16 +24,16 @@ use Rattle.pw_paired.specs.Terminal.{next_verb, path_of}
 pub record SomeCarries (path : List PathAnswer) (context : Option Context) : Type 0 where
   pub own : Context
   pub there : context ≡ Some own
-  pub carries : Carries path own
+  pub carries : CarriesPath path own
 
 -- a class is there
-pub record IsClass (system : System) (c : ℕ) : Type 0 where
+pub record IsClassThere (system : System) (c : ℕ) : Type 0 where
   pub info : ClassInfo
   pub here : slice_get system.classes c ≡ Some info
 
 -- a process is one of a class
 pub record IsProcess (system : System) (c i : ℕ) : Type 0 where
-  pub class : IsClass system c
+  pub class : IsClassThere system c
   pub low : 1 ≤ i
   pub high : i ≤ class.info.processes
 
@@ -70,7 +70,7 @@ Needs system script state kept (CheckCopy t) =
 Needs system script state kept (Applied t) = IsPlaced system t
 Needs system script state kept (Begin t n r) = MayBeginAt system script state kept t n
 Needs system script state kept (Send t n c) = IsAsking system script state kept t
-Needs system script state kept (Take c i t) = IsClass system c
+Needs system script state kept (Take c i t) = IsClassThere system c
 Needs system script state kept (File c i op mode f status) =
     IsServing system script state kept c i
 Needs system script state kept (Reply c i t fault) =

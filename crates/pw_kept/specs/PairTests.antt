@@ -3,7 +3,7 @@ use Rattle.std.specs.Prelude.{ℕ, ◌==◌, ◌&&◌, Bool, true, false, not, l
 use Rattle.pw_code.specs.declared.system.System.{System}
 use Rattle.pw_exec.specs.OfSystem.{number_by}
 use Rattle.pw_kept.specs.Kept.{Kept}
-use Rattle.pw_kept.specs.TerminalTests.{flies, is_live, pair_of, seat_at}
+use Rattle.pw_kept.specs.TerminalTests.{flies, is_live, seen_pair_of, seat_at}
 use Rattle.pw_pair.specs.Pairs.{passes}
 use Rattle.pw_pair.specs.Seats.{has_memory}
 use Rattle.pw_pair.specs.declared.mode.Mode.{Mode}
@@ -48,12 +48,12 @@ is_in system p t = number_by (λ info. info.tcp) (slice_get system.terminals t) 
 -- CHECK t COPY
 abbrev pub may_copy : System → Kept → ℕ → Bool
 may_copy system kept t =
-    is_live system kept t && (is_raising (pair_of system kept t).mode
+    is_live system kept t && (is_raising (seen_pair_of system kept t).mode
     && (not (passes has_memory (seat_at system kept t)) && not (flies system kept t)))
 
 -- APPLIED t
 abbrev pub may_apply : System → Kept → ℕ → Bool
-may_apply system kept t = flies system kept t && is_sending (pair_of system kept t).mode
+may_apply system kept t = flies system kept t && is_sending (seen_pair_of system kept t).mode
 
 -- RAISE p
 abbrev pub may_raise : System → Kept → ℕ → Bool
@@ -70,4 +70,4 @@ may_take_over kept p = is_down (kept.pairs p).mode
 
 -- END t LOST
 abbrev pub may_lose : System → Kept → ℕ → Bool
-may_lose system kept t = is_live system kept t && is_gone (pair_of system kept t).mode
+may_lose system kept t = is_live system kept t && is_gone (seen_pair_of system kept t).mode

@@ -14,14 +14,14 @@ use Rattle.pw_kept.specs.Arrivals.{IsReady, StandsForPath}
 use Rattle.pw_kept.specs.Kept.{Kept, KeptTerminal}
 use Rattle.pw_onecopy.specs.Path.{PathAnswer}
 use Rattle.pw_pair.specs.Bodies.{image_in}
-use Rattle.pw_pair.specs.Follows.{IsUnitIn, has_flights, kind_of, mode_as, path_in}
+use Rattle.pw_pair.specs.Follows.{IsUnitIn, has_flights, check_kind_of, mode_as, path_in}
 use Rattle.pw_pair.specs.Pairs.{SeenPair}
 use Rattle.pw_pair.specs.Seats.{is_seat_of, start_of}
 use Rattle.pw_pair.specs.declared.backup.Held.{Held}
 use Rattle.pw_pair.specs.declared.seat.Flight.{Flight}
-use Rattle.pw_pair.specs.declared.seat.Seat.{Seat}
+use Rattle.pw_pair.specs.declared.seat.BackupSeat.{BackupSeat}
 use Rattle.pw_paired.specs.Queues.{queue_of}
-use Rattle.pw_paired.specs.State.{Mode, Alone, Raising, Paired, Down, Gone, BackupCopy, Class, Job, Message, OpenUnit, State, Term}
+use Rattle.pw_paired.specs.State.{PairMode, Alone, Raising, Paired, Down, Gone, BackupCopy, Class, Job, Message, OpenUnit, State, Term}
 use Rattle.pw_paired.specs.Terminal.{awaited_of}
 use Rattle.pw_paired.specs.Units.{attempt_of, restarts_of}
 use Rattle.pw_tmf.specs.Tells.{Tells}
@@ -35,7 +35,7 @@ StandsIfAny Fits (Some a) (Some b) = Fits a b
 StandsIfAny Fits _ _ = ⊥
 
 -- a member of a pair works
-abbrev pub works : Mode → Bool
+abbrev pub works : PairMode → Bool
 works Alone = true
 works Raising = true
 works Paired = true
@@ -66,7 +66,7 @@ IsReadyIfAny system terminal path (Some context) = IsReady system terminal path 
 -- What is kept of a terminal stands for its path, its open unit, its cause and its ending. While a
 -- member of its pair works, a terminal that goes on has a context; and the attempt that runs always
 -- has that of its start path.
-pub record StandsForTerminal (system : System) (terminal : TermInfo) (at : Mode) (term : Term)
+pub record StandsForTerminal (system : System) (terminal : TermInfo) (at : PairMode) (term : Term)
     (unit : Option OpenUnit) (kept : KeptTerminal) : Type 0 where
   pub path : StandsForKnown system terminal term.path kept.context
   pub ready : IsReadyIfAny system terminal term.path kept.ready
@@ -104,14 +104,14 @@ pub record StandsForHeld (system : System) (terminal : TermInfo) (copy : BackupC
 -- that is held is an image for its path
 pub record StandsForMessage (system : System) (terminal : TermInfo) (held : Option (List ℕ))
     (message : Message) (flight : Flight) : Type 0 where
-  pub kind_is : flight.message.kind ≡ kind_of message
+  pub kind_is : flight.message.kind ≡ check_kind_of message
   pub unit : IsUnitIn message flight.message.unit
   pub image : IsPathImage system terminal (path_in message) (image_in held flight.message.body)
 
 -- A seat is of a terminal of the pair, and stands for what the backup holds of it and is sent of it;
 -- a message flies only where the mode has flights.
-pub record StandsForSeat (system : System) (p : ℕ) (at : Mode) (terms : ℕ → Term)
-    (memory : ℕ → Option BackupCopy) (flight : ℕ → Option Message) (seat : Seat) : Type 0 where
+pub record StandsForSeat (system : System) (p : ℕ) (at : PairMode) (terms : ℕ → Term)
+    (memory : ℕ → Option BackupCopy) (flight : ℕ → Option Message) (seat : BackupSeat) : Type 0 where
   pub info : TermInfo
   pub here : slice_get system.terminals seat.terminal ≡ Some info
   pub of_pair : info.tcp ≡ p
@@ -123,7 +123,7 @@ pub record StandsForSeat (system : System) (p : ℕ) (at : Mode) (terms : ℕ �
   pub at_rest : has_flights at ≡ false → flight seat.terminal ≡ None
 
 -- the pair has the mode, and a seat for each of its terminals and for no other
-pub record StandsForPair (system : System) (p : ℕ) (at : Mode) (terms : ℕ → Term)
+pub record StandsForPair (system : System) (p : ℕ) (at : PairMode) (terms : ℕ → Term)
     (memory : ℕ → Option BackupCopy) (flight : ℕ → Option Message) (pair : SeenPair) : Type 0 where
   pub mode_is : pair.mode ≡ mode_as at
   pub seats : All (StandsForSeat system p at terms memory flight) pair.seats

@@ -10,7 +10,7 @@ use Rattle.pw_code.specs.declared.verb.Verb.TheVariants as verb
 use Rattle.pw_class.specs.Queue.{has_request}
 use Rattle.pw_exec.specs.OfSystem.{number_by}
 use Rattle.pw_image.specs.Image.{image_of}
-use Rattle.pw_kept.specs.Asked.{answered_with, number_in, unit_in, verb_in}
+use Rattle.pw_kept.specs.Asked.{answered_with, next_refresh_number, unit_in, verb_in}
 use Rattle.pw_kept.specs.Changes.{runs_told}
 use Rattle.pw_kept.specs.Kept.{Kept, KeptTerminal}
 use Rattle.pw_laws.specs.legal.Terminals.{is_over}
@@ -20,22 +20,22 @@ use Rattle.pw_pair.specs.Pairs.{SeenPair, passes, seat_of}
 use Rattle.pw_pair.specs.Seats.{holds_end, holds_start, is_flying}
 use Rattle.pw_pair.specs.declared.mode.Mode.{Mode}
 use Rattle.pw_pair.specs.declared.mode.Mode.TheVariants.{Paired}
-use Rattle.pw_pair.specs.declared.seat.Seat.{Seat}
+use Rattle.pw_pair.specs.declared.seat.BackupSeat.{BackupSeat}
 use Rattle.pw_paired.specs.Units.{any_below}
 
 -- ---- a terminal
 
 -- its pair
-abbrev pub pair_of : System → Kept → ℕ → SeenPair
-pair_of system kept t = kept.pairs (number_by (λ info. info.tcp) (slice_get system.terminals t))
+abbrev pub seen_pair_of : System → Kept → ℕ → SeenPair
+seen_pair_of system kept t = kept.pairs (number_by (λ info. info.tcp) (slice_get system.terminals t))
 
 -- its seat in the pair
-abbrev pub seat_at : System → Kept → ℕ → Option Seat
-seat_at system kept t = seat_of t (pair_of system kept t)
+abbrev pub seat_at : System → Kept → ℕ → Option BackupSeat
+seat_at system kept t = seat_of t (seen_pair_of system kept t)
 
 -- how many entry lines it has
-abbrev pub entries_of : System → ℕ → ℕ
-entries_of system t =
+abbrev pub entry_line_count : System → ℕ → ℕ
+entry_line_count system t =
     number_by (λ (info : TermInfo). length info.entries) (slice_get system.terminals t)
 
 -- the mode is Paired
@@ -52,7 +52,7 @@ is_live system kept t =
 abbrev pub can_step : System → Kept → ℕ → Bool
 can_step system kept t =
     is_live system kept t
-    && (is_paired (pair_of system kept t).mode && is_none (kept.terminals t).pending)
+    && (is_paired (seen_pair_of system kept t).mode && is_none (kept.terminals t).pending)
 
 -- it can step, and its program stands at a verb and passes the test there
 abbrev pub can_where : System → Kept → ℕ → (Context → Bool) → Bool
@@ -104,14 +104,14 @@ abbrev pub may_show : System → Kept → ℕ → ℕ → ℕ → ℕ → Bool
 may_show system kept t phase attempt k =
     can_where system kept t (λ context.
     asks_show (verb_in system context)
-    && is_same_refresh (number_in context) (record { phase = phase; attempt = attempt; k = k }))
+    && is_same_refresh (next_refresh_number context) (record { phase = phase; attempt = attempt; k = k }))
 
 -- KEY t k
 abbrev pub may_key : System → Kept → ℕ → ℕ → Bool
 may_key system kept t k =
     can_where system kept t (λ context.
     asks_accept (verb_in system context)
-    && (k == context.entries + 1 && nat_le k (entries_of system t)))
+    && (k == context.entries + 1 && nat_le k (entry_line_count system t)))
 
 -- CHECK t START
 abbrev pub may_check_start : System → Kept → ℕ → Bool
@@ -177,7 +177,7 @@ may_stop system kept t =
 abbrev pub may_end_entries : System → Kept → ℕ → Bool
 may_end_entries system kept t =
     can_where system kept t (λ context.
-    asks_accept (verb_in system context) && context.entries == entries_of system t)
+    asks_accept (verb_in system context) && context.entries == entry_line_count system t)
 
 -- END t FAULT x
 abbrev pub may_fault : System → Kept → ℕ → ℕ → Bool

@@ -71,7 +71,7 @@ pub record IsAskingEnd (system : System) (script : List FailLine) (state : State
       (answered_with system answer.Dropped asking.context)
 
 -- A context can go to a backup as the image of a path.
-pub record Carries (path : List PathAnswer) (context : Context) : Type 0 where
+pub record CarriesPath (path : List PathAnswer) (context : Context) : Type 0 where
   pub has_image : HasImage context
   pub has_values : HasValues context
   pub counts : CountsOf path context

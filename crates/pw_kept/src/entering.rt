@@ -17,7 +17,7 @@ ghost use Rattle.pw_kept.specs.Kept.{Kept};
 ghost use Rattle.pw_kept.specs.Members.{AreOf, KnowsAll};
 ghost use Rattle.pw_kept.specs.Needs.{Needs};
 ghost use Rattle.pw_kept.specs.Stands.{Stands};
-ghost use Rattle.pw_kept.specs.Tested.{Carries, IsAsking, IsPlaced, IsServing};
+ghost use Rattle.pw_kept.specs.Tested.{CarriesPath, IsAsking, IsPlaced, IsServing};
 ghost use Rattle.pw_paired.specs.Raising.{LegalCheckCopy, copied_path, do_check_copy, lacks_one};
 ghost use Rattle.pw_paired.specs.Server.{LegalFile, LegalReply, LegalTake, do_file, do_reply, do_take};
 ghost use Rattle.pw_paired.specs.State.{Down, OpenUnit, State};
@@ -84,14 +84,14 @@ pub fn check_laws()
     ensures start { (system : System) (script : List FailLine) (state : State) (kept : Kept)
         (t : ℕ) (context : Context)
         → Stands system script state kept → IsAsking system script state kept t
-        → (kept.terminals t).context ≡ Some context → Carries (path_of state t) context
+        → (kept.terminals t).context ≡ Some context → CarriesPath (path_of state t) context
         → LegalCheckStart (behaviour script system) state t
         → Stands system script (do_check_start t state) (entered_check_start system t kept) }
     ensures copy { (system : System) (script : List FailLine) (state : State) (kept : Kept) (t : ℕ)
         (context : Context)
         → Stands system script state kept → IsPlaced system t
         → copied (kept.terminals t).start (kept.terminals t).context ≡ Some context
-        → Carries (copied_path state t) context → LegalCheckCopy (behaviour script system) state t
+        → CarriesPath (copied_path state t) context → LegalCheckCopy (behaviour script system) state t
         → Stands system script (do_check_copy t state) (entered_check_copy system t kept) }
     ensures end { (system : System) (script : List FailLine) (state : State) (kept : Kept) (t : ℕ)
         → Stands system script state kept → (asking : IsAsking system script state kept t)

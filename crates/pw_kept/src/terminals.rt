@@ -6,7 +6,7 @@ ghost use Rattle.pw_code.specs.declared.system.TermInfo.{TermInfo};
 ghost use Rattle.pw_code.specs.declared.verb.Verb.{Verb};
 ghost use Rattle.pw_event.specs.declared.script.FailLine.{FailLine};
 ghost use Rattle.pw_exec.specs.Config.{closed, starting};
-ghost use Rattle.pw_exec.specs.Contexts.{RunsOn, Takes};
+ghost use Rattle.pw_exec.specs.Contexts.{RunsOn, PutsAnswer};
 ghost use Rattle.pw_exec.specs.OfSystem.{behaviour, told};
 ghost use Rattle.pw_exec.specs.Runs.{StandsFor};
 ghost use Rattle.pw_kept.specs.Arrivals.{IsReady, StandsForPath};
@@ -28,7 +28,7 @@ pub fn path_laws()
         → IsReady system terminal path new }
     ensures answered { (system : System) (terminal : TermInfo) (path : List PathAnswer)
         (answer : PathAnswer)
-        (old new : Context) → IsReady system terminal path old → Takes system
+        (old new : Context) → IsReady system terminal path old → PutsAnswer system
         (told terminal.entries answer) old new
         → StandsForPath system terminal (path ++ answer ∷ []) new }
     ensures one { (system : System) (terminal : TermInfo) (path : List PathAnswer) (a b : Context)

@@ -7,7 +7,7 @@ use Rattle.pw_code.specs.declared.file.FileCall.{FileCall}
 use Rattle.pw_event.specs.declared.event.Event.{Event}
 use Rattle.pw_event.specs.declared.event.Event.TheVariants.{Show, Key, CheckStart, CheckEnd, CheckCopy, Applied, Begin, Send, Take, File, Reply, Again, Commit, Back, Restart, FailTcp, FailServer, Takeover, Raise, End}
 use Rattle.pw_laws.proofs.records.OperationKept.{none-holds}
-use Rattle.pw_laws.specs.locking.Held.{AreApart, IsHeld}
+use Rattle.pw_laws.specs.locking.Held.{AreCompatibleLocks, IsHeld}
 use Rattle.pw_locks.proofs.Overlaps.{conflict-comm}
 use Rattle.pw_locks.specs.Conflicts.{conflict, holders}
 use Rattle.pw_locks.specs.declared.lock.Lock.{Lock}
@@ -31,7 +31,7 @@ use Rattle.pw_laws.proofs.kept.Kept.{Inv}
 -- both at once
 pub record LocksOk (units : ℕ → Option OpenUnit) (locks : List Lock) : Type 0 where
   pub held : AllByRecursion (IsHeld units) locks
-  pub apart : AreApart locks
+  pub apart : AreCompatibleLocks locks
 
 -- lists of locks
 all-passing : {X : Type 0} (P Q : X → Type 0) (q : X → Bool) → ((x : X) → q x ≡ true → P x → Q x) → (xs : List X) → AllByRecursion P xs → AllByRecursion Q (filter q xs)
@@ -42,11 +42,11 @@ all-passing P Q q more (x ∷ xs) all = by_test (q x) refl (all-passing P Q q mo
     by_test true is rest = (more x is all.0, rest)
     by_test false is rest = rest
 
-apart-filter : (q : Lock → Bool) (locks : List Lock) → AreApart locks → AreApart (filter q locks)
+apart-filter : (q : Lock → Bool) (locks : List Lock) → AreCompatibleLocks locks → AreCompatibleLocks (filter q locks)
 apart-filter q [] apart = apart
 apart-filter q (lock ∷ locks) apart = by_test (q lock) (apart-filter q locks apart.1)
   where
-    by_test : (b : Bool) → AreApart (filter q locks) → AreApart (cond b (lock ∷ filter q locks) (filter q locks))
+    by_test : (b : Bool) → AreCompatibleLocks (filter q locks) → AreCompatibleLocks (cond b (lock ∷ filter q locks) (filter q locks))
     by_test true rest = (all-passing (λ held. conflict lock held ≡ false) (λ held. conflict lock held ≡ false) q (λ x _ p. p) locks apart.0, rest)
     by_test false rest = rest
 
@@ -54,7 +54,7 @@ none-all : (lock : Lock) (locks : List Lock) → list_any (conflict lock) locks 
 none-all lock [] none = tt
 none-all lock (held ∷ locks) none = let parts = or_parts (conflict lock held) (list_any (conflict lock) locks) none in (parts.0, none-all lock locks parts.1)
 
-apart-last : (lock : Lock) (locks : List Lock) → AreApart locks → AllByRecursion (λ held. conflict lock held ≡ false) locks → AreApart (locks ++ lock ∷ [])
+apart-last : (lock : Lock) (locks : List Lock) → AreCompatibleLocks locks → AllByRecursion (λ held. conflict lock held ≡ false) locks → AreCompatibleLocks (locks ++ lock ∷ [])
 apart-last lock [] apart none = (tt, tt)
 apart-last lock (held ∷ locks) apart none =
     (all-last (λ later. conflict held later ≡ false) locks lock apart.0 (conflict-comm held lock ∙ none.0), apart-last lock locks apart.1 none.1)
@@ -147,5 +147,5 @@ pub held : (sys : Behaviour) → IsBehaviour sys → (log : List Event) → IsRu
 held sys b log run = (locks-ok sys b log run).held
 
 -- and no two conflict
-pub apart : (sys : Behaviour) → IsBehaviour sys → (log : List Event) → IsRun sys log → AreApart (after sys log).locks
+pub apart : (sys : Behaviour) → IsBehaviour sys → (log : List Event) → IsRun sys log → AreCompatibleLocks (after sys log).locks
 apart sys b log run = (locks-ok sys b log run).apart

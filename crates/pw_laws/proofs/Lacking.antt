@@ -13,7 +13,7 @@ use Rattle.pw_paired.specs.End.{end_terminal}
 use Rattle.pw_paired.specs.Failure.{lose_backup, with_start_path, lose_primary, lose_pair, is_live_of, is_of_pair, process_fails, resume_terminal}
 use Rattle.pw_paired.specs.Raising.{lacks_one, settled_mode, with_message, settle_mode}
 use Rattle.pw_paired.specs.Server.{free_process}
-use Rattle.pw_paired.specs.State.{Alone, Down, Gone, LastEnded, BackupCopy, Mode, OpenUnit, Paired, Raising, State, Term}
+use Rattle.pw_paired.specs.State.{Alone, Down, Gone, LastEnded, BackupCopy, PairMode, OpenUnit, Paired, Raising, State, Term}
 use Rattle.pw_paired.specs.Step.{Fits, IsRun, after, effect}
 use Rattle.pw_paired.specs.Terminal.{path_of}
 use Rattle.pw_paired.specs.Units.{give_answer, any_below, attempt_of, commit_unit, leave_units, only}
@@ -59,7 +59,7 @@ module _ (sys : Behaviour) (p : ℕ) where
   settled-lacks : (s : State) → (settle_mode sys p s).modes p ≡ Raising → lacks_one sys p s ≡ true
   settled-lacks s is = by (s.modes p) (lacks_one sys p s) (sym (upd-same s.modes p (settled_mode (s.modes p) (lacks_one sys p s)) p refl) ∙ is)
     where
-      by : (mode : Mode) (lacks : Bool) → settled_mode mode lacks ≡ Raising → lacks ≡ true
+      by : (mode : PairMode) (lacks : Bool) → settled_mode mode lacks ≡ Raising → lacks ≡ true
       by Raising true is = refl
       by Raising false is = absurd (cc is)
       by Alone lacks is = absurd (cc is)
@@ -79,11 +79,11 @@ module _ (sys : Behaviour) (p : ℕ) where
     own-term : (own : ℕ) (term : Term) (after : State) → term.ending ≡ (s.terms own).ending → after.terms ≡ upd s.terms own term → after.memory ≡ s.memory → after.modes ≡ s.modes → LackingOk after
     own-term own term after same terms memory modes =
         kept after (λ j. ap (λ (f : ℕ → Term). (f j).ending) terms ∙ own-ending own term same j) (λ j of none. ap (λ (m : ℕ → Option BackupCopy). m j) memory ∙ none)
-        (λ is. ap (λ (m : ℕ → Mode). m p) (sym modes) ∙ is)
+        (λ is. ap (λ (m : ℕ → PairMode). m p) (sym modes) ∙ is)
 
     -- another mode of a pair
-    other-mode : (q : ℕ) (mode : Mode) → mode ≢ Raising → upd s.modes q mode p ≡ Raising → s.modes p ≡ Raising
-    other-mode q mode differs = upd_elim s.modes q mode p (λ (m : Mode). m ≡ Raising → s.modes p ≡ Raising) (λ _ is. absurd (differs is)) (λ _ is. is)
+    other-mode : (q : ℕ) (mode : PairMode) → mode ≢ Raising → upd s.modes q mode p ≡ Raising → s.modes p ≡ Raising
+    other-mode q mode differs = upd_elim s.modes q mode p (λ (m : PairMode). m ≡ Raising → s.modes p ≡ Raising) (λ _ is. absurd (differs is)) (λ _ is. is)
 
     emptied : (q j : ℕ) (x : Option BackupCopy) → x ≡ None → (if is_of_pair sys q j then None else x) ≡ None
     emptied q j x none = ⊎_elim (λ of. cond-true (is_of_pair sys q j) None x of) (λ other. cond-false (is_of_pair sys q j) None x other ∙ none) (cases_Bool (is_of_pair sys q j))
@@ -107,7 +107,7 @@ module _ (sys : Behaviour) (p : ℕ) where
         ⊎_elim
         (λ same. subst (λ (q : ℕ). (settle_mode sys q x).modes p ≡ Raising → lacks_one sys p (settle_mode sys q x) ≡ true) same (settled-lacks x))
         (λ differ is.
-        others differ (ok (ap (λ (m : ℕ → Mode). m p) (sym modes) ∙ (sym (upd-other x.modes (sys.pair_of own) _ p differ) ∙ is))))
+        others differ (ok (ap (λ (m : ℕ → PairMode). m p) (sym modes) ∙ (sym (upd-other x.modes (sys.pair_of own) _ p differ) ∙ is))))
         (cases_eq p (sys.pair_of own))
       where
         others : p ≢ sys.pair_of own → lacks_one sys p s ≡ true → lacks_one sys p x ≡ true

@@ -11,7 +11,7 @@ use Rattle.pw_paired.specs.End.{end_terminal}
 use Rattle.pw_paired.specs.Failure.{backup_fails, do_fail_server, primary_fails}
 use Rattle.pw_paired.specs.Raising.{lacks_one, settled_mode, with_message, settle_mode}
 use Rattle.pw_paired.specs.Server.{do_file, do_reply}
-use Rattle.pw_paired.specs.State.{Alone, Down, Gone, Mode, Paired, Raising, State, starting}
+use Rattle.pw_paired.specs.State.{Alone, Down, Gone, PairMode, Paired, Raising, State, starting}
 use Rattle.pw_paired.specs.Step.{Fits, IsRun, IsRunFrom, after, after_from, effect}
 use Rattle.pw_paired.specs.Units.{leave_units, only}
 use Rattle.pw_laws.specs.progress.Running.{MadeGone}
@@ -31,7 +31,7 @@ module _ (sys : Behaviour) (s : State) (p : ℕ) where
 
   -- What an entry does to the mode of the pair: it is Gone just where it was, or by the entry, or it is another one, and then a legal entry has found
   -- it so.
-  data Turns (entry : Event) (mode : Mode) : Type 0 where
+  data Turns (entry : Event) (mode : PairMode) : Type 0 where
     keeps : (mode ≡ Gone) ↔ (s.modes p ≡ Gone) → Turns entry mode
     breaks : Breaking entry → mode ≡ Gone → Turns entry mode
     turns : mode ≢ Gone → (Fits sys s entry → s.modes p ≢ Gone) → Turns entry mode
@@ -44,12 +44,12 @@ module _ (sys : Behaviour) (s : State) (p : ℕ) where
       upd_elim x.modes q (settled_mode (x.modes q) (lacks_one sys q x)) p (Turns entry)
       (λ is.
       keeps
-      (subst (λ (m : Mode). (settled_mode (x.modes q) (lacks_one sys q x) ≡ Gone) ↔ (m ≡ Gone))
-      (ap x.modes (sym is) ∙ ap (λ (m : ℕ → Mode). m p) modes)
+      (subst (λ (m : PairMode). (settled_mode (x.modes q) (lacks_one sys q x) ≡ Gone) ↔ (m ≡ Gone))
+      (ap x.modes (sym is) ∙ ap (λ (m : ℕ → PairMode). m p) modes)
       (by (x.modes q) (lacks_one sys q x))))
-      (λ _. same x (ap (λ (m : ℕ → Mode). m p) modes))
+      (λ _. same x (ap (λ (m : ℕ → PairMode). m p) modes))
     where
-      by : (mode : Mode) (lacks : Bool) → (settled_mode mode lacks ≡ Gone) ↔ (mode ≡ Gone)
+      by : (mode : PairMode) (lacks : Bool) → (settled_mode mode lacks ≡ Gone) ↔ (mode ≡ Gone)
       by Gone lacks = (λ is. is, λ is. is)
       by Raising true = (λ is. is, λ is. is)
       by Raising false = (λ is. absurd (cc is), λ is. absurd (cc is))
@@ -58,7 +58,7 @@ module _ (sys : Behaviour) (s : State) (p : ℕ) where
       by Down lacks = (λ is. is, λ is. is)
 
   -- another mode than Gone for a pair that is not Gone
-  other-mode : {entry : Event} (q : ℕ) (mode : Mode) → mode ≢ Gone → (Fits sys s entry → s.modes q ≢ Gone) → Turns entry (upd s.modes q mode p)
+  other-mode : {entry : Event} (q : ℕ) (mode : PairMode) → mode ≢ Gone → (Fits sys s entry → s.modes q ≢ Gone) → Turns entry (upd s.modes q mode p)
   other-mode {entry = entry} q mode differs there =
       upd_elim s.modes q mode p (Turns entry) (λ is. turns differs (λ fits gone. there fits (ap s.modes (sym is) ∙ gone))) (λ _. same s refl)
 
@@ -91,9 +91,9 @@ module _ (sys : Behaviour) (s : State) (p : ℕ) where
   turns-of (Send own n c) = same s refl
   turns-of (Take c i own) = same s refl
   turns-of (File c i op mode f status) =
-      same (do_file sys c i s) (ap (λ (m : ℕ → Mode). m p) (file-cases sys s c i Kept refl (λ job call works asks. refl)))
+      same (do_file sys c i s) (ap (λ (m : ℕ → PairMode). m p) (file-cases sys s c i Kept refl (λ job call works asks. refl)))
   turns-of (Reply c i own fault) =
-      same (do_reply sys c i own fault s) (ap (λ (m : ℕ → Mode). m p) (reply-any sys s c i own Kept fault (λ reply outside. refl) (λ reply inside. refl) (λ x. refl)))
+      same (do_reply sys c i own fault s) (ap (λ (m : ℕ → PairMode). m p) (reply-any sys s c i own Kept fault (λ reply outside. refl) (λ reply inside. refl) (λ x. refl)))
   turns-of (Again own n) = same s refl
   turns-of (Commit own n) = same s refl
   turns-of (Back own n) = same s refl
@@ -102,7 +102,7 @@ module _ (sys : Behaviour) (s : State) (p : ℕ) where
       fail-by sys s (λ x. Turns (FailTcp q primary k) (x.modes p)) q primary (same s refl)
       (λ paired. other-mode q Down (λ e. cc e) (λ _ gone. cc (paired, gone))) (lost-by q primary k)
       (λ has. other-mode q Alone (λ e. cc e) (λ _ gone. subst HasMessages gone has))
-  turns-of (FailServer c i k) = same (do_fail_server c i k s) (ap (λ (m : ℕ → Mode). m p) (process-cases sys s Kept c i k refl (λ job works. refl)))
+  turns-of (FailServer c i k) = same (do_fail_server c i k s) (ap (λ (m : ℕ → PairMode). m p) (process-cases sys s Kept c i k refl (λ job works. refl)))
   turns-of (Takeover q) = other-mode q Alone (λ e. cc e) (λ fits gone. let down = fits.down in cc (down, gone))
   turns-of (Raise q) = other-mode q Raising (λ e. cc e) (λ fits gone. let alone = fits.alone in cc (alone, gone))
   turns-of (End own ending.Stopped) = settled-modes (sys.pair_of own) (end_terminal own ending.Stopped s) refl
@@ -112,24 +112,24 @@ module _ (sys : Behaviour) (s : State) (p : ℕ) where
   turns-of (End own (ending.Suspended cause)) = settled-modes (sys.pair_of own) (end_terminal own (ending.Suspended cause) (leave_units sys (only own) s)) refl
 
   -- a pair that an entry finds in another mode and leaves Gone was broken by it
-  breaking : {entry : Event} {mode : Mode} → Turns entry mode → s.modes p ≢ Gone → mode ≡ Gone → Breaking entry
+  breaking : {entry : Event} {mode : PairMode} → Turns entry mode → s.modes p ≢ Gone → mode ≡ Gone → Breaking entry
   breaking (keeps both) there lost = absurd (there (both.0 lost))
   breaking (breaks broken is) there lost = broken
   breaking (turns differs found) there lost = absurd (differs lost)
 
   -- a pair that is Gone stays so
-  staying : {entry : Event} {mode : Mode} → Turns entry mode → Fits sys s entry → s.modes p ≡ Gone → mode ≡ Gone
+  staying : {entry : Event} {mode : PairMode} → Turns entry mode → Fits sys s entry → s.modes p ≡ Gone → mode ≡ Gone
   staying (keeps both) fits gone = both.1 gone
   staying (breaks broken is) fits gone = is
   staying (turns differs found) fits gone = absurd (found fits gone)
 
   -- the failure of a member that breaks the pair leaves it Gone
   failing : (primary : Bool) (k : ℕ) → Breaks primary (s.modes p) → (effect sys s (FailTcp p primary k)).modes p ≡ Gone
-  failing true k (inl raising) = ap (λ (m : Mode). (primary_fails sys p m s).modes p) raising ∙ upd-same s.modes p Gone p refl
-  failing true k (inr alone) = ap (λ (m : Mode). (primary_fails sys p m s).modes p) alone ∙ upd-same s.modes p Gone p refl
-  failing false k down = ap (λ (m : Mode). (backup_fails sys p m s).modes p) down ∙ upd-same s.modes p Gone p refl
+  failing true k (inl raising) = ap (λ (m : PairMode). (primary_fails sys p m s).modes p) raising ∙ upd-same s.modes p Gone p refl
+  failing true k (inr alone) = ap (λ (m : PairMode). (primary_fails sys p m s).modes p) alone ∙ upd-same s.modes p Gone p refl
+  failing false k down = ap (λ (m : PairMode). (backup_fails sys p m s).modes p) down ∙ upd-same s.modes p Gone p refl
 
-is-gone : (mode : Mode) → (mode ≡ Gone) ⊎ (mode ≢ Gone)
+is-gone : (mode : PairMode) → (mode ≡ Gone) ⊎ (mode ≢ Gone)
 is-gone Gone = inl refl
 is-gone Alone = inr (λ e. cc e)
 is-gone Raising = inr (λ e. cc e)

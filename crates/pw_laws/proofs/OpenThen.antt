@@ -11,7 +11,7 @@ use Rattle.pw_paired.specs.State.{OpenUnit, State, starting}
 use Rattle.pw_paired.specs.Step.{IsRun, IsRunFrom, after, after_from, effect}
 use Rattle.pw_paired.specs.Terminal.{unit_with_attempt, path_of}
 use Rattle.pw_laws.proofs.BeginsOnce.{Goes, Kin, begins, begins-next, ends, last_of, moves, plainly, restarting, rises, stays}
-use Rattle.pw_laws.specs.progress.Running.{IsOpen}
+use Rattle.pw_laws.specs.progress.Running.{IsUnitOpen}
 use Rattle.pw_laws.proofs.Births.{births-ok}
 use Rattle.pw_laws.proofs.RunSteps.{IsRunFrom-split, after_from-append}
 use Rattle.pw_laws.proofs.kept.Kept.{Inv}
@@ -21,7 +21,7 @@ use Rattle.pw_laws.proofs.kept.Runs.{keeps, kept-at-start, kept-from}
 data Since (t n : ℕ) (then s : State) : Type 0 where
   since_ended : n ≤ last_of s t → Since t n then s
   since_begun : (unit : OpenUnit) → n ≡ last_of s t + 1 → s.units t ≡ Some unit → unit.birth ≡ then.births
-      → ((o : ℕ) (v : OpenUnit) → s.units o ≡ Some v → v.birth < then.births → IsOpen then o v.number) → Since t n then s
+      → ((o : ℕ) (v : OpenUnit) → s.units o ≡ Some v → v.birth < then.births → IsUnitOpen then o v.number) → Since t n then s
 
 -- where an open unit comes from
 kin-of : {limit o : ℕ} {s after : State} {entry : Event} → Goes limit o s after entry → (v : OpenUnit) → after.units o ≡ Some v → Kin s o v
@@ -54,7 +54,7 @@ still-since sys t n then s after entry goes below (since_begun unit next is birt
     ⊎_elim
     (λ was.
     let same = was.2 in
-    subst (IsOpen then o) was.3 (were o was.0 was.1 (omega (arith, same, low))))
+    subst (IsUnitOpen then o) was.3 (were o was.0 was.1 (omega (arith, same, low))))
     (λ new. absurd (let born = new.1 in let above = below unit is in omega (arith, born, above, birth, low)))
     (kin-of (goes o) v v_is)))
     (λ more. since_ended (omega (arith, next, more)))
@@ -72,7 +72,7 @@ since-from sys b t n then s before is i (entry ∷ log) run since =
 
 -- the unit that a RESTART names was open before the first BEGIN of the one that restarts
 pub open-then : (sys : Behaviour) → IsBehaviour sys → (before between : List Event) (t n r o m : ℕ)
-    → IsRun sys (before ++ Begin t n r ∷ (between ++ Restart t n (cause.Older o m) ∷ [])) → (after sys before).units t ≡ None → IsOpen (after sys before) o m
+    → IsRun sys (before ++ Begin t n r ∷ (between ++ Restart t n (cause.Older o m) ∷ [])) → (after sys before).units t ≡ None → IsUnitOpen (after sys before) o m
 open-then sys b before between t n r o m run closed =
     let restart : Event = Restart t n (cause.Older o m) in
     let first = IsRunFrom-split sys (starting sys) before (Begin t n r ∷ (between ++ restart ∷ [])) run in
@@ -85,12 +85,12 @@ open-then sys b before between t n r o m run closed =
     (since-from sys b t n then next (before ++ Begin t n r ∷ []) (sym (after_from-append sys (starting sys) before (Begin t n r ∷ []))) j between second.0
     (since_begun (unit_with_attempt n then.births (path_of then t) (then.units t)) (begins-next sys b then i t n r first.1.0.fits) (upd-same then.units t _ t refl)
     (ap (λ (u : Option OpenUnit). (unit_with_attempt n then.births (path_of then t) u).birth) closed)
-    (λ other v. upd_elim then.units t (Some (unit_with_attempt n then.births (path_of then t) (then.units t))) other (λ (u : Option OpenUnit). u ≡ Some v → v.birth < then.births → IsOpen then other v.number)
+    (λ other v. upd_elim then.units t (Some (unit_with_attempt n then.births (path_of then t) (then.units t))) other (λ (u : Option OpenUnit). u ≡ Some v → v.birth < then.births → IsUnitOpen then other v.number)
     (λ same is low. absurd (let new : unit_with_attempt n then.births (path_of then t) (then.units t) ≡ v = cc is in let born = ap (λ (u : OpenUnit). u.birth) new in
     let first_birth = ap (λ (u : Option OpenUnit). (unit_with_attempt n then.births (path_of then t) u).birth) closed in omega (arith, born, first_birth, low)))
     (λ differ is low. record { unit = v; is_open = is; number = refl }))))
   where
-    named : (x : State) → Inv sys x → LegalRestart sys x t n (cause.Older o m) → Since t n (after sys before) x → IsOpen (after sys before) o m
+    named : (x : State) → Inv sys x → LegalRestart sys x t n (cause.Older o m) → Since t n (after sys before) x → IsUnitOpen (after sys before) o m
     named x i l (since_ended low) =
         absurd (let own = ((i.terms t (i.known t l.unit l.caused.is_open)).unit_ok l.unit l.caused.is_open).number in let number = l.caused.number in omega (arith, low, own, number))
     named x i l (since_begun unit next is birth were) =
@@ -99,4 +99,4 @@ open-then sys b before between t n r o m run closed =
         let same : l.unit ≡ unit = cc (is_open, is) in
         let births = ap (λ (u : OpenUnit). u.birth) same in
         let low = older.is_older in
-        subst (IsOpen (after sys before) o) older.number (were o older.older older.is_open (omega (arith, low, births, birth)))
+        subst (IsUnitOpen (after sys before) o) older.number (were o older.older older.is_open (omega (arith, low, births, birth)))

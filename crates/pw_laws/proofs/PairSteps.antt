@@ -3,7 +3,7 @@ use Rattle.std.proofs.Common.{◌≡◌, ◌≢◌, ℕ, zero, suc, ◌+◌, ◌
 use Rattle.std.specs.List.{list_any, slice_get}
 use Rattle.std.proofs.lemmas.Bool.{cases_lt, cases_Bool, eq-eqb, eqb-true, true≢false, and_from}
 use Rattle.pw_base.proofs.Plain.{and-first, and-second}
-use Rattle.pw_event.specs.Due.{Numbered, due_line, entries_of, if_due, is_fail_of, is_same_owner, next_failure, numbered, owner_of, owner_of_line}
+use Rattle.pw_event.specs.Due.{Numbered, due_line, owner_entry_count, if_due, is_fail_of, is_same_owner, next_failure, numbered, owner_of, owner_of_line}
 use Rattle.pw_event.specs.declared.event.Cause.{Cause}
 use Rattle.pw_event.specs.declared.event.Cause.TheVariants as cause
 use Rattle.pw_event.specs.declared.event.Ending.{Ending}
@@ -18,7 +18,7 @@ use Rattle.pw_onecopy.specs.Behaviour.{Behaviour}
 use Rattle.pw_onecopy.specs.IsBehaviour.{IsBehaviour}
 use Rattle.pw_paired.specs.Failure.{IsCaused, fail_line, is_live_of, is_of_pair}
 use Rattle.pw_paired.specs.Raising.{is_takeover}
-use Rattle.pw_paired.specs.State.{Alone, Down, Gone, BackupCopy, Message, Mode, Paired, Raising, State, starting}
+use Rattle.pw_paired.specs.State.{Alone, Down, Gone, BackupCopy, Message, PairMode, Paired, Raising, State, starting}
 use Rattle.pw_paired.specs.Step.{Fits, IsRun, after, is_finished, is_going_on, line_due, line_wanted}
 use Rattle.pw_paired.specs.Terminal.{IsLive}
 use Rattle.pw_paired.specs.Units.{any_below}
@@ -88,7 +88,7 @@ module _ (sys : Behaviour) (s : State) (unfinished : is_finished sys s ≡ false
             };
           }
 
-      by : (found : Option Numbered) → next_failure sys.script s.log owner ≡ found → if_due (entries_of sys.pair_of owner s.log) found ≡ Some k → HasStep sys s
+      by : (found : Option Numbered) → next_failure sys.script s.log owner ≡ found → if_due (owner_entry_count sys.pair_of owner s.log) found ≡ Some k → HasStep sys s
       by None is due = absurd (cc due)
       by (Some l) is due =
           let found = found-line (λ x. is_same_owner (owner_of_line x.line) owner && not (list_any (is_fail_of x.number) s.log)) sys.script 1 l is in
@@ -165,7 +165,7 @@ pair-steps sys b log run t live other = by (s.modes p) refl
         by-flight o mode is_live none None free = step-of sys s unfinished (CheckCopy o) refl (record { live = is_live; raising = mode; lacking = none; free = free })
         by-flight o mode is_live none (Some message) flies = step-of sys s unfinished (Applied o) refl (record { message = message; flies = flies; mode = inl mode })
 
-    by : (mode : Mode) → s.modes p ≡ mode → HasStep sys s
+    by : (mode : PairMode) → s.modes p ≡ mode → HasStep sys s
     by Paired is = absurd (other is)
     by Gone is = step-of sys s unfinished (End t ending.Lost) refl (record { live = live; lost = is })
     by Down is = step-of sys s unfinished (Takeover p) refl (record { down = is })
@@ -189,7 +189,7 @@ message-steps sys b log run t live flies = by ((after sys log).modes (sys.pair_o
         step-of sys (after sys log) (ap not (any_below-true sys.terminals (is_going_on (after sys log)) t live.known (ap is_none live.going_on)))
         (Applied t) refl (record { message = message; flies = is; mode = inr mode })
 
-    by : (mode : Mode) → (after sys log).modes (sys.pair_of t) ≡ mode → HasStep sys (after sys log)
+    by : (mode : PairMode) → (after sys log).modes (sys.pair_of t) ≡ mode → HasStep sys (after sys log)
     by Paired is = applies ((after sys log).flight t) refl is
     by Gone is = pair-steps sys b log run t live (λ paired. absurd (cc (is, paired)))
     by Down is = pair-steps sys b log run t live (λ paired. absurd (cc (is, paired)))
@@ -230,7 +230,7 @@ pending-steps sys b log run t live pends = by ((after sys log).modes (sys.pair_o
     of (Some (cause.Older o m)) is mode = absurd (pending-ok sys b log run t (cause.Older o m) is).1
     of (Some cause.Redo) is mode = absurd (pending-ok sys b log run t cause.Redo is).1
 
-    by : (mode : Mode) → s.modes (sys.pair_of t) ≡ mode → HasStep sys s
+    by : (mode : PairMode) → s.modes (sys.pair_of t) ≡ mode → HasStep sys s
     by Paired is = of (s.terms t).pending refl is
     by Gone is = pair-steps sys b log run t live (λ paired. absurd (cc (is, paired)))
     by Down is = pair-steps sys b log run t live (λ paired. absurd (cc (is, paired)))

@@ -29,5 +29,5 @@ abbrev pub is_number : List ℕ → Bool
 is_number word = nat_le 1 (length word) && (nat_le (length word) 9 && list_all is_ascii_digit word)
 
 -- the number that a word is
-abbrev pub number_in : List ℕ → Option ℕ
-number_in word = if is_number word then Some (digits_value 10 word) else None
+abbrev pub word_number : List ℕ → Option ℕ
+word_number word = if is_number word then Some (digits_value 10 word) else None

@@ -5,7 +5,7 @@ ghost use Rattle.std.specs.Str.{str_to_ascii_uppercase};
 ghost use Rattle.std.specs.Str.Parse.{digits_value};
 ghost use Rattle.pw_base.specs.First.{Gives};
 ghost use Rattle.pw_lines.specs.Steps.{or_refused};
-ghost use Rattle.pw_lines.specs.Words.{words, name_in, is_number, number_in};
+ghost use Rattle.pw_lines.specs.Words.{words, name_in, is_number, word_number};
 
 use pw_base::bytes::Bytes;
 use pw_base::fault::Refusal;
@@ -105,7 +105,7 @@ pub fn value_of(word: &[u8]) -> u64
 
 /// The number that a word is: 1 to 9 digits, leading zeros among them. None exactly where it is none.
 pub fn number_in(word: &[u8]) -> Option<u32>
-    ensures { result ≡ number_in word.now }
+    ensures { result ≡ word_number word.now }
 {
     if is_number(word) {
         Some(value_of(word) as u32)

@@ -12,14 +12,14 @@ use Rattle.std.specs.Result.{ForOk}
 use Rattle.crossbeam_channel.specs.Claims.{Pass, view, IsSeatAt}
 use Rattle.crossbeam_channel.specs.Ends.{sends_on}
 use Rattle.pw_link.specs.declared.rule.InOrder.{InOrder}
-use Rattle.pw_link.specs.declared.rule.Note.{Note}
+use Rattle.pw_link.specs.declared.rule.PassNote.{PassNote}
 use Rattle.pw_link.specs.declared.types.BackupEnd.{BackupEnd}
 use Rattle.pw_link.specs.declared.types.PrimaryEnd.{PrimaryEnd}
 use Rattle.pw_link.specs.declared.types.Receipt.{Receipt}
 
 -- which lane it is
 abbrev pub Lane : Type 0 → Type 0
-Lane M = Rows (Badge (Key M)) (Doing M (Note M)) (Rounds InOrder) (Option M) (Key M) (Lockers Whole) Global
+Lane M = Rows (Badge (Key M)) (Doing M (PassNote M)) (Rounds InOrder) (Option M) (Key M) (Lockers Whole) Global
 
 module _ {M : Type 0} where
   -- the lane of an end
@@ -45,7 +45,7 @@ module _ {M : Type 0} where
   message_number r = r.number
 
   -- the message that a pass knows, or that was handed back
-  abbrev pub placed : Result (Pass M (Note M)) M → Option M
+  abbrev pub placed : Result (Pass M (PassNote M)) M → Option M
   placed (Ok pass) = (view pass).due
   placed (Err x) = Some x
 

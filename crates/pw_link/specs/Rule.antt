@@ -2,11 +2,11 @@
 use Rattle.std.specs.Prelude.{◌≡◌, ℕ, List, [], ◌∷◌, ◌++◌, Option, Some, None}
 use mathlib.Core.Option.{some}
 use lib.ListN.{get_elem?}
-use Rattle.pw_link.specs.declared.rule.Note.{Note}
+use Rattle.pw_link.specs.declared.rule.PassNote.{PassNote}
 
 module _ {M : Type 0} where
   -- what a pass knows
-  abbrev pub note : Option (List M) → Option (List M) → Option M → Note M
+  abbrev pub note : Option (List M) → Option (List M) → Option M → PassNote M
   note took got due = record { took = took; got = got; due = due }
 
   -- a list that is known grows at its end
@@ -15,13 +15,13 @@ module _ {M : Type 0} where
   longer (Some l) x = Some (l ++ x ∷ [])
 
 -- one pass at most has the part, and P holds of it
-pub record Sole {M X : Type 0} (part : Note M → Option X) (P : X → Type 0) (views : List (Note M)) : Type 0 where
+pub record Sole {M X : Type 0} (part : PassNote M → Option X) (P : X → Type 0) (views : List (PassNote M)) : Type 0 where
   pub at : ℕ
-  pub only : (pass : ℕ) (v : Note M) (x : X) → get_elem? views pass ≡ some v → part v ≡ Some x → (pass ≡ at) × P x
+  pub only : (pass : ℕ) (v : PassNote M) (x : X) → get_elem? views pass ≡ some v → part v ≡ Some x → (pass ≡ at) × P x
 
 -- What was taken from the channel is a prefix of what it took, and it holds the rest. The primary's pass knows what it
 -- took, the backup's what was taken, and one pass at most a message that the channel holds, which is then all that it holds.
-pub record Kept {M : Type 0} (items : List M) (views : List (Note M)) : Type 0 where
+pub record IsChannelInOrder {M : Type 0} (items : List M) (views : List (PassNote M)) : Type 0 where
   pub took : List M
   pub got : List M
   pub rest : took ≡ got ++ items

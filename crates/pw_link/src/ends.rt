@@ -1,7 +1,7 @@
 ghost use Rattle.std.specs.Prelude.{◌≡◌, ◌+◌, Some, IfOk};
 ghost use Rattle.pw_link.specs.Lanes.{primary_lane, backup_lane, IsOn, sent_count, taken_count, message_number, message_of};
 
-use crate::rule::{InOrder, Parts, Sends, Takes};
+use crate::rule::{InOrder, PassSplit, Sends, Takes};
 use crate::types::{BackupEnd, PrimaryEnd, Receipt, Sender};
 use crossbeam_channel::bounded_with;
 use pw_base::memory::Memory;
@@ -15,7 +15,7 @@ pub fn lane<M: Send + Drop>(alloc: Global) -> Result<(PrimaryEnd<M>, BackupEnd<M
 {
     let (sender, receiver, mut pass) = bounded_with(alloc, 1)?;
     let other = sender.try_clone()?;
-    let theirs = other.another::<Parts>(&mut pass);
+    let theirs = other.another::<PassSplit>(&mut pass);
     let primary = PrimaryEnd {
         sender,
         pass,
@@ -48,7 +48,7 @@ impl<M: Send + Drop> PrimaryEnd<M> {
             .sender
             .try_send_as::<Sends, R>(rt, &mut self.pass, message)
         {
-            Ok(()) => Ok(self.sender.another::<Parts>(&mut self.pass)),
+            Ok(()) => Ok(self.sender.another::<PassSplit>(&mut self.pass)),
             Err(refused) => Err(refused.into_inner()),
         };
         Receipt { number, place }
@@ -70,7 +70,7 @@ impl<M: Send + Drop> BackupEnd<M> {
             Ok(pass) => pass,
             Err(message) => return message,
         };
-        self.sender.absorb::<Parts>(&mut self.pass, pass);
+        self.sender.absorb::<PassSplit>(&mut self.pass, pass);
         match self.receiver.try_recv_as::<Takes, R>(rt, &mut self.pass) {
             Ok(message) => message,
             Err(_) => unreachable!(),

@@ -4,17 +4,17 @@ ghost use Rattle.crossbeam_channel.specs.Ends.{sends_on, receives_on, ruled_capa
 ghost use Rattle.std.specs.Option.{is_some};
 ghost use Rattle.std.specs.Result.{ForOk};
 
-use crate::rule::{InOrder, Note};
+use crate::rule::{InOrder, PassNote};
 use crossbeam_channel::{Pass, RuledReceiver, RuledSender};
 use std::alloc::Global;
 
-pub(crate) type Sender<M> = RuledSender<M, Note<M>, InOrder, Global>;
+pub(crate) type Sender<M> = RuledSender<M, PassNote<M>, InOrder, Global>;
 
 /// The end of a lane that sends, and counts what it has sent.
 #[derive(Drop)]
 pub struct PrimaryEnd<M: Drop> {
     pub(crate) sender: Sender<M>,
-    pub(crate) pass: Pass<M, Note<M>>,
+    pub(crate) pass: Pass<M, PassNote<M>>,
     pub(crate) sent: u64,
     ghost seated: { IsSeatAt (sends_on sender) pass },
     ghost narrow: { ruled_capacity (sends_on sender) ≡ 1 },
@@ -26,8 +26,8 @@ pub struct PrimaryEnd<M: Drop> {
 #[derive(Drop)]
 pub struct BackupEnd<M: Drop> {
     pub(crate) sender: Sender<M>,
-    pub(crate) receiver: RuledReceiver<M, Note<M>, InOrder, Global>,
-    pub(crate) pass: Pass<M, Note<M>>,
+    pub(crate) receiver: RuledReceiver<M, PassNote<M>, InOrder, Global>,
+    pub(crate) pass: Pass<M, PassNote<M>>,
     pub(crate) taken: u64,
     ghost joined: { receives_on receiver ≡ sends_on sender },
     ghost seated: { IsSeatAt (sends_on sender) pass },
@@ -39,7 +39,7 @@ pub struct BackupEnd<M: Drop> {
 #[derive(Drop)]
 pub struct Receipt<M: Drop> {
     pub(crate) number: u64,
-    pub(crate) place: Result<Pass<M, Note<M>>, M>,
+    pub(crate) place: Result<Pass<M, PassNote<M>>, M>,
     ghost counted: { number < 2 ^ 64 - 1 },
     ghost waits: { ForOk place (λ pass. is_some (view pass).due ≡ true) },
 }

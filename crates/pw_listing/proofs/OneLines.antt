@@ -16,7 +16,7 @@ use Rattle.pw_code.specs.declared.lock.LockRule.TheVariants.{ReadersShare, AllEx
 use Rattle.pw_code.specs.declared.system.ClassInfo.{ClassInfo}
 use Rattle.pw_code.specs.declared.system.System.{System}
 use Rattle.pw_code.specs.declared.system.TermInfo.{TermInfo}
-use Rattle.pw_event.specs.Line.{IsInRange, IsNamed, IsThere, Word, Plain, TerminalName, PairName, ClassName, FileName, Process, FailNumber, Number, Code, Refresh, event_text, event_words, names_of, no_class, no_file, no_terminal, sentence, spelling}
+use Rattle.pw_event.specs.Line.{IsInRange, IsNamed, IsWordOfSystem, LineWord, Plain, TerminalName, PairName, ClassName, FileName, Process, FailNumber, Number, Code, Refresh, event_text, event_words, names_of, no_class, no_file, no_terminal, sentence, spelling}
 use Rattle.pw_event.specs.declared.event.Cause.TheVariants as cause
 use Rattle.pw_event.specs.declared.event.Ending.TheVariants as ending
 use Rattle.pw_event.specs.declared.event.Event.{Event}
@@ -28,7 +28,7 @@ use Rattle.pw_listing.specs.ReadBack.{IsOneLine}
 abbrev no_end : List ℕ → Bool
 no_end text = list_all (λ b. not (b == 10)) text
 
-abbrev solid : Word → Bool
+abbrev solid : LineWord → Bool
 solid (Plain text) = no_end text
 solid _ = true
 
@@ -93,7 +93,7 @@ thing-one name things names i default within =
     subst IsOneLine (get_or-map name things i default [] within) (name-one _ (names.each i [] (omega (arith, length-map things name))))
 
 -- each word
-word-one : (system : System) → HasNames system → (word : Word) → solid word ≡ true → IsThere system word → IsInRange word → IsOneLine (spelling (names_of system) word)
+word-one : (system : System) → HasNames system → (word : LineWord) → solid word ≡ true → IsWordOfSystem system word → IsInRange word → IsOneLine (spelling (names_of system) word)
 word-one system names (Plain text) is there range = tested (λ b. not (b == 10)) refl text is
 word-one system names (TerminalName t) is there range = thing-one (λ (row : TermInfo). row.name) system.terminals names.terminals t no_terminal there
 word-one system names (PairName p) is there range = name-one _ (names.tcps.each p [] there)
@@ -111,7 +111,7 @@ word-one system names (Refresh phase attempt k) is there range =
     (refl, both-one (decimal attempt) (46 ∷ decimal k) (decimal-one attempt (omega (arith, two))) (refl, decimal-one k (omega (arith, three))))
 
 -- all words, with single spaces between them
-words-one : (system : System) → HasNames system → (words : List Word) → list_all solid words ≡ true → AllByRecursion (IsThere system) words → AllByRecursion IsInRange words
+words-one : (system : System) → HasNames system → (words : List LineWord) → list_all solid words ≡ true → AllByRecursion (IsWordOfSystem system) words → AllByRecursion IsInRange words
     → IsOneLine (sentence (map (spelling (names_of system)) words))
 words-one system names [] is there range = tt
 words-one system names (word ∷ []) is there range = word-one system names word (and_parts (solid word) true is).0 there.0 range.0

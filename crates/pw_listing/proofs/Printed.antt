@@ -4,7 +4,7 @@ use Rattle.pw_code.specs.declared.system.System.{System}
 use Rattle.pw_event.specs.declared.event.Event.{Event}
 use Rattle.std.specs.Prelude.{codes}
 use Rattle.pw_listing.specs.Lines.{file_part, last_line, line, refresh_parts}
-use Rattle.pw_listing.specs.Listing.{counted, files_part, files_to, log_part, report_of, screens_part, screens_to, serial_part}
+use Rattle.pw_listing.specs.Listing.{refreshes_counted_once, files_part, files_to, log_part, report_of, screens_part, screens_to, serial_part}
 use Rattle.pw_listing.specs.Meaning.{files_text, machine_of, printed, report_text}
 use Rattle.pw_onecopy.specs.Behaviour.{Behaviour}
 use Rattle.pw_onecopy.specs.declared.refresh.Refresh.{Refresh}
@@ -50,5 +50,5 @@ text-same system order screens shown records files log finished same equal =
 -- the whole text of a run
 pub text-printed : (system : System) (sys : Behaviour) (log : List Event) → IsSerializable sys log → printed system sys log ≡ report_text system sys log
 text-printed system sys log serial =
-    text-same system (map told (blocks sys log)) (counted (refreshes sys log)) (λ t. ((machine_of sys log).terms t).refreshes) (committed_files sys (after sys log)) (machine_of sys log).files log
+    text-same system (map told (blocks sys log)) (refreshes_counted_once (refreshes sys log)) (λ t. ((machine_of sys log).terms t).refreshes) (committed_files sys (after sys log)) (machine_of sys log).files log
     (is_finished sys (after sys log)) serial.screens serial.records

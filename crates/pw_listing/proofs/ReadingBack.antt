@@ -15,7 +15,7 @@ use Rattle.pw_event.specs.Line.{event_text, file_name, sentence}
 use Rattle.pw_event.specs.declared.event.Event.{Event}
 use Rattle.pw_listing.specs.Lines.{entry_lines, file_part, header, last_line, line, record_line, record_lines}
 use Rattle.pw_listing.specs.Listing.{files_part, files_to, log_part, report_of, screens_part, serial_part}
-use Rattle.pw_listing.specs.ReadBack.{AreLines, IsOneLine, behind_log, header_lines, is_log, last_words, lines_from, lines_of, numbered}
+use Rattle.pw_listing.specs.ReadBack.{AreLines, IsOneLine, behind_log, header_lines, is_log, last_words, lines_from, lines_of, numbered_entry_lines}
 use Rattle.pw_onecopy.specs.declared.refresh.Refresh.{Refresh}
 use Rattle.pw_order.specs.declared.block.Block.{Block}
 
@@ -85,7 +85,7 @@ grouped words more rest = append_assoc (words ++ 10 ∷ []) more rest ∙ append
 
 -- the lines of the entries
 entries-cut : (system : System) (n : ℕ) (log : List Event) (rest : List ℕ) → AllByRecursion (λ entry. IsOneLine (event_text system entry)) log → n + length log < 2 ^ 64
-    → lines_of (entry_lines system n log ++ rest) ≡ numbered system n log ++ lines_of rest
+    → lines_of (entry_lines system n log ++ rest) ≡ numbered_entry_lines system n log ++ lines_of rest
 entries-cut system n [] rest each few = refl
 entries-cut system n (entry ∷ log) rest each few =
     ap lines_of (grouped (decimal n ++ 32 ∷ event_text system entry) (entry_lines system (n + 1) log) rest)
@@ -101,11 +101,11 @@ last-cut true = refl
 last-cut false = refl
 
 -- none of these lines heads the log
-none-logs : (system : System) (n : ℕ) (log : List Event) (finished : Bool) → list_any is_log (numbered system n log ++ last_words finished ∷ []) ≡ false
+none-logs : (system : System) (n : ℕ) (log : List Event) (finished : Bool) → list_any is_log (numbered_entry_lines system n log ++ last_words finished ∷ []) ≡ false
 none-logs system n [] true = refl
 none-logs system n [] false = refl
 none-logs system n (entry ∷ log) finished =
-    ap (λ (b : Bool). b || list_any is_log (numbered system (n + 1) log ++ last_words finished ∷ [])) (spaced (decimal n) (event_text system entry)) ∙ none-logs system (n + 1) log finished
+    ap (λ (b : Bool). b || list_any is_log (numbered_entry_lines system (n + 1) log ++ last_words finished ∷ [])) (spaced (decimal n) (event_text system entry)) ∙ none-logs system (n + 1) log finished
 
 none-heads : (rule : LockRule) (rest : List (List ℕ)) → list_any is_log rest ≡ false → list_any is_log (header_lines rule ++ rest) ≡ false
 none-heads ReadersShare rest none = none
@@ -133,24 +133,24 @@ ends-files system records first (suc f) ends =
 
 -- the lines behind the last line LOG of a text
 text-cut : (system : System) (front : List ℕ) (log : List Event) (finished : Bool) → EndsLine front → AreLines system log
-    → behind_log (lines_of (front ++ (log_part system log ++ last_line finished))) ≡ header_lines system.rule ++ (numbered system 1 log ++ last_words finished ∷ [])
+    → behind_log (lines_of (front ++ (log_part system log ++ last_line finished))) ≡ header_lines system.rule ++ (numbered_entry_lines system 1 log ++ last_words finished ∷ [])
 text-cut system front log finished ends are =
     ap (λ (text : List ℕ). behind_log (lines_of text)) (ap (λ (text : List ℕ). text ++ (log_part system log ++ last_line finished)) ends.1 ∙ append_assoc ends.0 (10 ∷ []) (log_part system log ++ last_line finished))
     ∙ (ap behind_log (front-cut [] ends.0 (log_part system log ++ last_line finished))
     ∙ (ap (λ (l : List (List ℕ)). behind_log (lines_of (ends.0 ++ 10 ∷ []) ++ codes "LOG" ∷ l)) rest
-    ∙ behind-last (lines_of (ends.0 ++ 10 ∷ [])) (header_lines system.rule ++ (numbered system 1 log ++ last_words finished ∷ [])) (codes "LOG") refl
-    (none-heads system.rule (numbered system 1 log ++ last_words finished ∷ []) (none-logs system 1 log finished))))
+    ∙ behind-last (lines_of (ends.0 ++ 10 ∷ [])) (header_lines system.rule ++ (numbered_entry_lines system 1 log ++ last_words finished ∷ [])) (codes "LOG") refl
+    (none-heads system.rule (numbered_entry_lines system 1 log ++ last_words finished ∷ []) (none-logs system 1 log finished))))
   where
-    rest : lines_of ((header system.rule ++ entry_lines system 1 log) ++ last_line finished) ≡ header_lines system.rule ++ (numbered system 1 log ++ last_words finished ∷ [])
+    rest : lines_of ((header system.rule ++ entry_lines system 1 log) ++ last_line finished) ≡ header_lines system.rule ++ (numbered_entry_lines system 1 log ++ last_words finished ∷ [])
     rest =
         ap lines_of (append_assoc (header system.rule) (entry_lines system 1 log) (last_line finished))
         ∙ (header-cut system.rule (entry_lines system 1 log ++ last_line finished)
         ∙ ap (λ (l : List (List ℕ)). header_lines system.rule ++ l)
-        (entries-cut system 1 log (last_line finished) are.each (let few = are.few in omega (arith, few)) ∙ ap (λ (l : List (List ℕ)). numbered system 1 log ++ l) (last-cut finished)))
+        (entries-cut system 1 log (last_line finished) are.each (let few = are.few in omega (arith, few)) ∙ ap (λ (l : List (List ℕ)). numbered_entry_lines system 1 log ++ l) (last-cut finished)))
 
 -- the same of a report
 pub report-cut : (system : System) (order : List Block) (screens : ℕ → List Refresh) (records : ℕ → List (List ℕ)) (log : List Event) (finished : Bool) → AreLines system log
-    → behind_log (lines_of (report_of system order screens records log finished)) ≡ header_lines system.rule ++ (numbered system 1 log ++ last_words finished ∷ [])
+    → behind_log (lines_of (report_of system order screens records log finished)) ≡ header_lines system.rule ++ (numbered_entry_lines system 1 log ++ last_words finished ∷ [])
 report-cut system order screens records log finished are =
     ap (λ (text : List ℕ). behind_log (lines_of text))
     (ap (λ (text : List ℕ). serial_part system order ++ text) (sym (append_assoc (screens_part system screens) (files_part system records) (log_part system log ++ last_line finished)))

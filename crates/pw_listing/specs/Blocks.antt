@@ -2,7 +2,7 @@
 use Rattle.std.specs.Prelude.{◌<◌, length}
 use Rattle.std.specs.List.{AllByRecursion}
 use Rattle.pw_code.specs.declared.system.System.{System}
-use Rattle.pw_event.specs.Line.{IsThere, ending_words}
+use Rattle.pw_event.specs.Line.{IsWordOfSystem, ending_words}
 use Rattle.pw_order.specs.declared.block.Block.{Block}
 use Rattle.pw_order.specs.declared.block.Block.TheVariants.{Out, Ended, Done}
 
@@ -11,4 +11,4 @@ abbrev pub IsBlockOf : System → Block → Type 0
 IsBlockOf system (Out t) = t < length system.terminals
 IsBlockOf system (Ended t n how) = t < length system.terminals
 IsBlockOf system (Done t ending) =
-    (t < length system.terminals) × AllByRecursion (IsThere system) (ending_words ending)
+    (t < length system.terminals) × AllByRecursion (IsWordOfSystem system) (ending_words ending)

@@ -23,8 +23,8 @@ screens_part system screens =
     line (codes "SCREENS") ++ screens_to system screens (length system.terminals)
 
 -- a terminal's screens are its refreshes, each number counted once
-abbrev pub counted : List Refresh → ℕ → List Refresh
-counted refreshes t = once (refreshes_of t refreshes)
+abbrev pub refreshes_counted_once : List Refresh → ℕ → List Refresh
+refreshes_counted_once refreshes t = once (refreshes_of t refreshes)
 
 -- the first n files, one after the other
 abbrev pub files_to : System → (ℕ → List (List ℕ)) → ℕ → List ℕ

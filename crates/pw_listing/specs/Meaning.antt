@@ -2,7 +2,7 @@
 use Rattle.std.specs.Prelude.{ℕ, List, map}
 use Rattle.pw_code.specs.declared.system.System.{System}
 use Rattle.pw_event.specs.declared.event.Event.{Event}
-use Rattle.pw_listing.specs.Listing.{counted, files_part, report_of}
+use Rattle.pw_listing.specs.Listing.{refreshes_counted_once, files_part, report_of}
 use Rattle.pw_onecopy.specs.Behaviour.{Behaviour}
 use Rattle.pw_onecopy.specs.OneCopy.{Machine, one_copy}
 use Rattle.pw_order.specs.Order.{told}
@@ -14,7 +14,7 @@ use Rattle.pw_paired.specs.Units.{committed_files}
 -- what is printed of a log: its serial order, its refreshes, the committed records, and itself
 abbrev pub printed : System → Behaviour → List Event → List ℕ
 printed system sys log =
-    report_of system (map told (blocks sys log)) (counted (refreshes sys log))
+    report_of system (map told (blocks sys log)) (refreshes_counted_once (refreshes sys log))
     (committed_files sys (after sys log)) log (is_finished sys (after sys log))
 
 -- the one-copy machine behind the serial order of a log

@@ -39,10 +39,10 @@ header_lines ReadersShare = codes "PATHWAY LOG 2" ∷ []
 header_lines AllExclusive = []
 
 -- the lines of the entries, which are numbered from n
-abbrev pub numbered : System → ℕ → List Event → List (List ℕ)
-numbered system n [] = []
-numbered system n (entry ∷ log) =
-    (decimal n ++ 32 ∷ event_text system entry) ∷ numbered system (n + 1) log
+abbrev pub numbered_entry_lines : System → ℕ → List Event → List (List ℕ)
+numbered_entry_lines system n [] = []
+numbered_entry_lines system n (entry ∷ log) =
+    (decimal n ++ 32 ∷ event_text system entry) ∷ numbered_entry_lines system (n + 1) log
 
 -- the last line
 abbrev pub last_words : Bool → List ℕ

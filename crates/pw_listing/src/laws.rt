@@ -6,7 +6,7 @@ ghost use Rattle.pw_listing.specs.Meaning.{files_text, printed, report_text};
 ghost use Rattle.std.specs.List.{AllByRecursion};
 ghost use Rattle.pw_code.specs.Valid.{HasNames};
 ghost use Rattle.pw_event.specs.Line.{IsInRange, IsNamed, event_text, event_words};
-ghost use Rattle.pw_listing.specs.ReadBack.{AreLines, IsOneLine, behind_log, header_lines, last_words, lines_of, numbered};
+ghost use Rattle.pw_listing.specs.ReadBack.{AreLines, IsOneLine, behind_log, header_lines, last_words, lines_of, numbered_entry_lines};
 ghost use Rattle.pw_onecopy.specs.declared.refresh.Refresh.{Refresh};
 ghost use Rattle.pw_order.specs.declared.block.Block.{Block};
 ghost use Rattle.pw_onecopy.specs.Behaviour.{Behaviour};
@@ -32,7 +32,7 @@ pub fn logs_are_read_back()
     ensures { (system : System) (order : List Block) (screens : ℕ → List Refresh)
         (records : ℕ → List (List ℕ)) (log : List Event) (finished : Bool) → AreLines system log
         → behind_log (lines_of (report_of system order screens records log finished))
-        ≡ header_lines system.rule ++ (numbered system 1 log ++ last_words finished ∷ []) }
+        ≡ header_lines system.rule ++ (numbered_entry_lines system 1 log ++ last_words finished ∷ []) }
 {}
 
 /// The text of an entry of a system whose names are names is one line, where its numbers are those of

@@ -2,7 +2,7 @@ ghost use Rattle.std.specs.Prelude.{◌≡◌, length, IfOk};
 ghost use Rattle.std.specs.List.{AllByRecursion};
 ghost use Rattle.pw_event.specs.Line.{IsNamed};
 ghost use Rattle.pw_listing.specs.Blocks.{IsBlockOf};
-ghost use Rattle.pw_listing.specs.Listing.{counted, files_part, records_in, report_of};
+ghost use Rattle.pw_listing.specs.Listing.{refreshes_counted_once, files_part, records_in, report_of};
 
 use crate::lines::{header, last_line};
 use crate::parts::{print_blocks, print_files, print_log, print_screens};
@@ -29,7 +29,7 @@ pub fn report(
     requires blocks { AllByRecursion (IsBlockOf system.now) order.now }
     requires files { length files.now ≡ length system.now.files }
     requires named { AllByRecursion (IsNamed system.now) log.now }
-    ensures { IfOk result (λ text. text ≡ report_of system.now order.now (counted refreshes.now)
+    ensures { IfOk result (λ text. text ≡ report_of system.now order.now (refreshes_counted_once refreshes.now)
         (records_in files.now) log.now finished) }
 {
     let mut text = Bytes::new(alloc);

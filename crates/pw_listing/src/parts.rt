@@ -4,12 +4,12 @@ ghost use Rattle.pw_event.specs.Line.{IsNamed, file_name};
 ghost use Rattle.pw_listing.specs.Blocks.{IsBlockOf};
 ghost use Rattle.pw_listing.specs.Lines.{block_lines, entry_lines, file_part, record_lines, refresh_parts};
 ghost use Rattle.std.specs.BTreeSet.{contains};
-ghost use Rattle.pw_listing.specs.Numbers.{first_part, is_seen, number_cmp, number_of};
+ghost use Rattle.pw_listing.specs.Numbers.{first_part, is_seen, number_cmp, number_of_refresh};
 ghost use Rattle.pw_onecopy.specs.declared.refresh.Refresh.{Refresh as SeenRefresh};
-ghost use Rattle.pw_listing.specs.Listing.{counted, files_to, records_in, screens_to};
+ghost use Rattle.pw_listing.specs.Listing.{refreshes_counted_once, files_to, records_in, screens_to};
 
 use crate::lines::{print_block, print_entry, print_file_name, print_record, print_refresh};
-use crate::numbers::{Number, number_of};
+use crate::numbers::{ListedRefreshNumber, number_of};
 use pw_base::bytes::Bytes;
 use pw_base::list::List;
 use pw_base::memory::Memory;
@@ -35,7 +35,7 @@ pub fn print_blocks(text: &mut Bytes, system: &System, order: &[Block]) -> Resul
 /// Puts the screens of every terminal behind the text, terminal after terminal.
 pub fn print_screens(text: &mut Bytes, system: &System, refreshes: &[Refresh]) -> Result<(), Memory>
     ensures { OnOk result (text.new ≡ text.old
-        ++ screens_to system.now (counted refreshes.now) (length system.now.terminals)) }
+        ++ screens_to system.now (refreshes_counted_once refreshes.now) (length system.now.terminals)) }
 {
     let count = u32::try_from(system.terminals.len()).map_err(|_| Memory)?;
     for terminal in 0..count {
@@ -54,9 +54,9 @@ fn print_screens_of(
 ) -> Result<(), Memory>
     requires { terminal < length system.now.terminals }
     ensures { OnOk result (text.new ≡ text.old
-        ++ refresh_parts system.now (counted refreshes.now terminal)) }
+        ++ refresh_parts system.now (refreshes_counted_once refreshes.now terminal)) }
 {
-    let mut seen: BTreeSet<Number> = BTreeSet::new(text.allocator());
+    let mut seen: BTreeSet<ListedRefreshNumber> = BTreeSet::new(text.allocator());
     for refresh in refreshes {
         print_screen(text, system, refresh, terminal, &mut seen)?;
     }
@@ -69,12 +69,12 @@ fn print_screen(
     system: &System,
     refresh: &Refresh,
     terminal: u32,
-    seen: &mut BTreeSet<Number>,
+    seen: &mut BTreeSet<ListedRefreshNumber>,
 ) -> Result<(), Memory>
     requires { terminal < length system.now.terminals }
     ensures text { OnOk result (text.new
         ≡ text.old ++ first_part system.now terminal seen.old refresh.now) }
-    ensures seen { OnOk result ((r : SeenRefresh) → contains number_cmp seen.new (number_of r)
+    ensures seen { OnOk result ((r : SeenRefresh) → contains number_cmp seen.new (number_of_refresh r)
         ≡ is_seen terminal refresh.now seen.old r) }
 {
     if refresh.terminal != terminal {

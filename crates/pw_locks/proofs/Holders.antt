@@ -12,10 +12,10 @@ use Rattle.pw_locks.specs.Conflicts.{are_both_shared, exclude}
 use Rattle.pw_locks.specs.Oldest.{IsOldest}
 use Rattle.pw_locks.specs.Places.{is_in_file}
 use Rattle.pw_locks.specs.Register.{IsRegistered}
-use Rattle.pw_locks.specs.Searches.{Searched, IsAsOld, is_among, is_sought, units_of}
+use Rattle.pw_locks.specs.Searches.{Searched, IsAsOld, is_sought_holder, is_sought, units_of}
 use Rattle.pw_locks.specs.Spans.{overlap}
 use Rattle.pw_locks.specs.declared.lock.Lock.{Lock}
-use Rattle.pw_locks.specs.declared.register.Register.{Register}
+use Rattle.pw_locks.specs.declared.register.LockRegister.{LockRegister}
 use Rattle.pw_locks.specs.declared.search.Sought.{Sought}
 use Rattle.pw_locks.specs.declared.span.Span.{Span}
 use Rattle.pw_locks.proofs.Registers.{All-locks}
@@ -55,10 +55,10 @@ oldest_from None units among old = none_as_old units old
 oldest_from (Some own) units among old = record { among = among; none_older = old }
 
 -- where a lock that overlaps is filed
-abbrev pub OverlapsThere : Register → Sought → ℕ → Type 0
+abbrev pub OverlapsThere : LockRegister → Sought → ℕ → Type 0
 OverlapsThere register sought n = (s : Span) × (overlap sought.span.now s ≡ true) × (is_in_file register.places.files sought.file s n ≡ true)
 
-pub found_oldest : (locks : BTreeMap ℕ Lock) (register : Register) (sought : Sought) (found : Option unit.Unit) → IsRegistered locks register
+pub found_oldest : (locks : BTreeMap ℕ Lock) (register : LockRegister) (sought : Sought) (found : Option unit.Unit) → IsRegistered locks register
     → Searched (is_sought sought) locks None found (OverlapsThere register sought) → IsOldestOf found (units_of (is_sought sought) (values locks))
 found_oldest locks register sought found registered searched =
     oldest_from found (units_of (is_sought sought) (values locks)) (searched.among tt)
@@ -67,7 +67,7 @@ found_oldest locks register sought found registered searched =
   where
     each : (n : ℕ) (held : Lock) → get nat_cmp locks n ≡ Some held → is_sought sought held ≡ true → IsAsOld found held.unit.birth
     each n held is passes =
-        let out = and_parts (is_among sought.holders held.unit) (exclude sought.file sought.span.now sought.mode held) passes in
+        let out = and_parts (is_sought_holder sought.holders held.unit) (exclude sought.file sought.span.now sought.mode held) passes in
         let files = and_parts (nat_eq sought.file held.file) (overlap sought.span.now held.span && not (are_both_shared sought.mode held.mode)) out.1 in
         let spans = and_parts (overlap sought.span.now held.span) (not (are_both_shared sought.mode held.mode)) files.1 in
         let same : held.file ≡ sought.file = grind (arith, nat_tests, files.0) in

@@ -19,7 +19,7 @@ use Rattle.pw_locks.specs.Conflicts.{is_same_unit}
 use Rattle.pw_locks.specs.Indexes.{has}
 use Rattle.pw_locks.specs.Register.{IsEntered}
 use Rattle.pw_locks.specs.declared.lock.Lock.{Lock}
-use Rattle.pw_locks.specs.declared.register.Register.{Register}
+use Rattle.pw_locks.specs.declared.register.LockRegister.{LockRegister}
 
 abbrev Entry : Type 0
 Entry = ℕ × Lock
@@ -80,7 +80,7 @@ values-last [] n lock = refl
 values-last (e ∷ es) n lock = ap (λ rest. e.1 ∷ rest) (values-last es n lock)
 
 -- What holds while the locks of a unit are taken away: those of it that are there have numbers that are left.
-pub record Releasing (unit : unit.Unit) (old locks : BTreeMap ℕ Lock) (register : Register) (left : List ℕ) : Type 0 where
+pub record Releasing (unit : unit.Unit) (old locks : BTreeMap ℕ Lock) (register : LockRegister) (left : List ℕ) : Type 0 where
   pub ordered : IsOrdered nat_cmp locks
   pub own : (n : ℕ) (held : Lock) → get nat_cmp locks n ≡ Some held → is_same_unit held.unit unit ≡ true → has left n ≡ true
   pub entered : (n : ℕ) (held : Lock) → get nat_cmp locks n ≡ Some held → is_same_unit held.unit unit ≡ false → IsEntered register n held
@@ -98,11 +98,11 @@ left_less numbers i n lt ne h =
     or_second (nat_eq n (get_or numbers i 0)) (has (drop (i + 1) numbers) n) (λ is. ne (grind (arith, nat_tests, is))) both
 
 -- where no number is left, none of the unit's locks is there
-pub none_own : (unit : unit.Unit) (old locks : BTreeMap ℕ Lock) (register : Register) → Releasing unit old locks register []
+pub none_own : (unit : unit.Unit) (old locks : BTreeMap ℕ Lock) (register : LockRegister) → Releasing unit old locks register []
     → (n : ℕ) (held : Lock) → get nat_cmp locks n ≡ Some held → is_same_unit held.unit unit ≡ false
 none_own unit old locks register r n held is = false_from_ne_true (is_same_unit held.unit unit) (λ same. let none = r.own n held is same in absurd (cc none))
 
-pub released : (unit : unit.Unit) (old locks : BTreeMap ℕ Lock) (register : Register) → Releasing unit old locks register []
+pub released : (unit : unit.Unit) (old locks : BTreeMap ℕ Lock) (register : LockRegister) → Releasing unit old locks register []
     → values locks ≡ filter (λ (held : Lock). not (is_same_unit held.unit unit)) (values old)
 released unit old locks register r =
     sym (filter-kept (λ held. not (is_same_unit held.unit unit)) locks r.ordered (λ n held is. ap not (none_own unit old locks register r n held is))) ∙ r.others

@@ -14,7 +14,7 @@ use Rattle.std.proofs.lemmas.Bool.{or_cases}
 use Rattle.pw_code.specs.declared.unit.Unit as unit
 use Rattle.pw_locks.specs.declared.lock.Lock.{Lock}
 use Rattle.pw_locks.specs.Indexes.{has}
-use Rattle.pw_locks.specs.Oldest.{older, noted}
+use Rattle.pw_locks.specs.Oldest.{older, oldest_unit_noted}
 use Rattle.pw_locks.specs.Searches.{Searched, IsAsOld, units_of}
 
 either : {A B C : Type 0} → A ⊎ B → (A → C) → (B → C) → C
@@ -64,26 +64,26 @@ older-holds : (P : unit.Unit → Type 0) (known : Option unit.Unit) (own : unit.
 older-holds P None own h p = p
 older-holds P (Some old) own h p = elim (nat_le old.birth own.birth) as (λ b. P (cond b old own)) [ true ↦ h | false ↦ p ]
 
-noted-holds : (P : unit.Unit → Type 0) (known : Option unit.Unit) (b : Bool) (own : unit.Unit) → (b ≡ true → P own) → IfSome known P → IfSome (noted known b own) P
+noted-holds : (P : unit.Unit → Type 0) (known : Option unit.Unit) (b : Bool) (own : unit.Unit) → (b ≡ true → P own) → IfSome known P → IfSome (oldest_unit_noted known b own) P
 noted-holds P known true own p h = older-holds P known own h (p refl)
 noted-holds P known false own p h = h
 
-noted-stays : (known : Option unit.Unit) (b : Bool) (own : unit.Unit) (birth : ℕ) → IsAsOld known birth → IsAsOld (noted known b own) birth
+noted-stays : (known : Option unit.Unit) (b : Bool) (own : unit.Unit) (birth : ℕ) → IsAsOld known birth → IsAsOld (oldest_unit_noted known b own) birth
 noted-stays known true own birth h = older-as_old known own birth h
 noted-stays known false own birth h = h
 
-noted-own : (known : Option unit.Unit) (b : Bool) (own : unit.Unit) → b ≡ true → IsAsOld (noted known b own) own.birth
+noted-own : (known : Option unit.Unit) (b : Bool) (own : unit.Unit) → b ≡ true → IsAsOld (oldest_unit_noted known b own) own.birth
 noted-own known true own is = older-own known own
 noted-own known false own is = absurd (cc is)
 
 pub Searched-noted : (test : Lock → Bool) (locks : BTreeMap ℕ Lock) (known : Option unit.Unit) (number : ℕ) (held : Lock) → get nat_cmp locks number ≡ Some held
-    → Searched test locks known (noted known (test held) held.unit) (λ n. n ≡ number)
+    → Searched test locks known (oldest_unit_noted known (test held) held.unit) (λ n. n ≡ number)
 Searched-noted test locks known number held is = record {
   among = λ h. noted-holds (Contains (units_of test (values locks))) known (test held) held.unit (found_among test locks number held is) h;
   stays = noted-stays known (test held) held.unit;
   sees = λ n other same there passes.
       let one : other ≡ held = found_one n other same there in
-      let P : Lock → Type 0 = λ lock. test lock ≡ true → IsAsOld (noted known (test held) held.unit) lock.unit.birth in
+      let P : Lock → Type 0 = λ lock. test lock ≡ true → IsAsOld (oldest_unit_noted known (test held) held.unit) lock.unit.birth in
       subst P (sym one) (noted-own known (test held) held.unit) passes;
 }
   where

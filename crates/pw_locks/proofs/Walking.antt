@@ -25,7 +25,7 @@ use Rattle.pw_locks.specs.Runs.{IsRising}
 use Rattle.pw_locks.specs.Searches.{Searched}
 use Rattle.pw_locks.specs.Spans.{Precedes}
 use Rattle.pw_locks.specs.declared.lock.Lock.{Lock}
-use Rattle.pw_locks.specs.declared.run.Run.{Run}
+use Rattle.pw_locks.specs.declared.run.SpanLocks.{SpanLocks}
 use Rattle.pw_locks.specs.declared.span.Span.{Span}
 use Rattle.pw_locks.proofs.Chaining.{at_same, one_run, filed, ends_by-itself}
 use Rattle.pw_locks.proofs.Order.{not-itself, not-both-ways, Precedes-below}
@@ -36,7 +36,7 @@ abbrev Key : Type 0
 Key = List ℕ
 
 abbrev Entry : Type 0
-Entry = Key × Run
+Entry = Key × SpanLocks
 
 abbrev key_cmp : Key → Key → Ordering
 key_cmp = slice_cmp nat_cmp
@@ -44,7 +44,7 @@ key_cmp = slice_cmp nat_cmp
 total : IsTotalOrder key_cmp
 total = nat_list_cmp_total
 
-abbrev found_at : Key → List Entry → Option Run
+abbrev found_at : Key → List Entry → Option SpanLocks
 found_at key es = lookup (is_at (key_cmp key)) es
 
 abbrev IsSorted : List Entry → Type 0
@@ -88,11 +88,11 @@ Walked-more test locks known found last all left rest e walked is seen = record 
       (λ n h. swapped (has-append e.1.numbers.items (numbers_in walked.done) n h)) walked.searched seen;
 }
 
-has-found : (es : List Entry) (key : Key) (run : Run) (n : ℕ) → found_at key es ≡ Some run → has run.numbers.items n ≡ true → has (numbers_in es) n ≡ true
+has-found : (es : List Entry) (key : Key) (run : SpanLocks) (n : ℕ) → found_at key es ≡ Some run → has run.numbers.items n ≡ true → has (numbers_in es) n ≡ true
 has-found [] key run n is h = absurd (cc is)
 has-found (e ∷ es) key run n is h =
     elim (is_at (key_cmp key) e.0) as (λ b. cond b (Some e.1) (found_at key es) ≡ Some run → has (e.1.numbers.items ++ numbers_in es) n ≡ true) [
-      | true ↦ λ here. let one : run ≡ e.1 = cc in has-left e.1.numbers.items (numbers_in es) n (subst (λ (r : Run). has r.numbers.items n ≡ true) one h)
+      | true ↦ λ here. let one : run ≡ e.1 = cc in has-left e.1.numbers.items (numbers_in es) n (subst (λ (r : SpanLocks). has r.numbers.items n ≡ true) one h)
       | false ↦ λ there. has-right e.1.numbers.items (numbers_in es) n (has-found es key run n there h)
     ] is
 
@@ -121,7 +121,7 @@ found-middle (x ∷ rest) e done sorted =
     rw other (found-middle rest e done (sorted_tail key_cmp x.0 (keys_of (rest ++ e ∷ done)) sorted))
 
 -- what is found in the list stands behind that entry, or at it or before it
-found-parts : (rest : List Entry) (e : Entry) (done : List Entry) (key : Key) (run : Run) → IsSorted (rest ++ e ∷ done) → found_at key (rest ++ e ∷ done) ≡ Some run
+found-parts : (rest : List Entry) (e : Entry) (done : List Entry) (key : Key) (run : SpanLocks) → IsSorted (rest ++ e ∷ done) → found_at key (rest ++ e ∷ done) ≡ Some run
     → (found_at key done ≡ Some run) ⊎ (¬ Precedes e.0 key)
 found-parts [] e done key run sorted is =
     elim (is_at (key_cmp key) e.0) as (λ b. is_at (key_cmp key) e.0 ≡ b → cond b (Some e.1) (found_at key done) ≡ Some run → (found_at key done ≡ Some run) ⊎ (¬ Precedes e.0 key)) [
@@ -137,7 +137,7 @@ found-parts (x ∷ rest) e done key run sorted is =
     ] refl is
 
 -- what is found between two bounds is found in the whole
-found-whole : (p : Key → Bool) (es : List Entry) (key : Key) (run : Run) → found_at key (filter (λ e. p e.0) es) ≡ Some run → found_at key es ≡ Some run
+found-whole : (p : Key → Bool) (es : List Entry) (key : Key) (run : SpanLocks) → found_at key (filter (λ e. p e.0) es) ≡ Some run → found_at key es ≡ Some run
 found-whole p es key run is =
     elim (p key) as (λ b. p key ≡ b → found_at key es ≡ Some run) [
       | true ↦ λ h. sym (lookup-filter-keys (is_at (key_cmp key)) p true (λ k at. sym (ap p (at_same key k at)) ∙ h) es) ∙ is
@@ -146,24 +146,24 @@ found-whole p es key run is =
           absurd (cc (none, is))
     ] refl
 
-found-between : (p : Key → Bool) (es : List Entry) (key : Key) (run : Run) → p key ≡ true → found_at key es ≡ Some run → found_at key (filter (λ e. p e.0) es) ≡ Some run
+found-between : (p : Key → Bool) (es : List Entry) (key : Key) (run : SpanLocks) → p key ≡ true → found_at key es ≡ Some run → found_at key (filter (λ e. p e.0) es) ≡ Some run
 found-between p es key run passes is = lookup-filter-keys (is_at (key_cmp key)) p true (λ k at. sym (ap p (at_same key k at)) ∙ passes) es ∙ is
 
-abbrev pub earlier : Span → BTreeMap Key Run → List Entry
+abbrev pub earlier : Span → BTreeMap Key SpanLocks → List Entry
 earlier span runs = entries_between key_cmp Unbounded (before span) runs.entries
 
 -- what is met is found among the earlier ones
-abbrev IsFoundMet : Span → BTreeMap Key Run → ℕ → Type 0
-IsFoundMet span runs n = (low : Key) × (run : Run) × (get key_cmp runs low ≡ Some run) × (found_at low (earlier span runs) ≡ Some run) × (is_reached span run.high ≡ true) × (has run.numbers.items n ≡ true)
+abbrev IsFoundMet : Span → BTreeMap Key SpanLocks → ℕ → Type 0
+IsFoundMet span runs n = (low : Key) × (run : SpanLocks) × (get key_cmp runs low ≡ Some run) × (found_at low (earlier span runs) ≡ Some run) × (is_reached span run.high ≡ true) × (has run.numbers.items n ≡ true)
 
-found-met : (span : Span) (runs : BTreeMap Key Run) (n : ℕ) → IsMet span runs n → IsFoundMet span runs n
+found-met : (span : Span) (runs : BTreeMap Key SpanLocks) (n : ℕ) → IsMet span runs n → IsFoundMet span runs n
 found-met span runs n met =
     let run = filed (get key_cmp runs met.0) met.1 n met.3 in
     let reach : is_reached span run.0.high ≡ true = subst (λ end. is_reached span end ≡ true) (sym run.2) (overlap-reached span met.0 met.1 met.2) in
     (met.0, run.0, run.1, found-between (range_contains key_cmp Unbounded (before span)) runs.entries met.0 run.0 (begins_before span met.0 met.1 met.2) run.1, reach, run.3)
 
 -- where none is left, all are seen
-pub Walked-end : (runs : BTreeMap Key Run) (span : Span) (test : Lock → Bool) (locks : BTreeMap ℕ Lock) (known found : Option unit.Unit) (left : List Entry)
+pub Walked-end : (runs : BTreeMap Key SpanLocks) (span : Span) (test : Lock → Bool) (locks : BTreeMap ℕ Lock) (known found : Option unit.Unit) (left : List Entry)
     → Walked test locks known found (earlier span runs) left → left ≡ [] → Searched test locks known found (IsMet span runs)
 Walked-end runs span test locks known found left walked none =
     Searched-fewer test locks known found (λ n. has (numbers_in walked.done) n ≡ true) (IsMet span runs) seen walked.searched
@@ -177,7 +177,7 @@ Walked-end runs span test locks known found left walked none =
         has-found walked.done f.0 f.1 n (subst (λ es. found_at f.0 es ≡ Some f.1) all_done f.3) f.5
 
 -- where one is not reached, none before it is
-pub Walked-stop : (runs : BTreeMap Key Run) → IsRising runs → IsOrdered key_cmp runs → (span : Span) (test : Lock → Bool) (locks : BTreeMap ℕ Lock) (known found : Option unit.Unit) (left rest : List Entry) (e : Entry)
+pub Walked-stop : (runs : BTreeMap Key SpanLocks) → IsRising runs → IsOrdered key_cmp runs → (span : Span) (test : Lock → Bool) (locks : BTreeMap ℕ Lock) (known found : Option unit.Unit) (left rest : List Entry) (e : Entry)
     → Walked test locks known found (earlier span runs) left → left ≡ rest ++ e ∷ [] → is_reached span e.1.high ≡ false → Searched test locks known found (IsMet span runs)
 Walked-stop runs rising ordered span test locks known found left rest e walked is out =
     Searched-fewer test locks known found (λ n. has (numbers_in walked.done) n ≡ true) (IsMet span runs) seen walked.searched
@@ -194,13 +194,13 @@ Walked-stop runs rising ordered span test locks known found left rest e walked i
         (subst (λ es. found_at e.0 es ≡ Some e.1) (sym split) (found-middle rest e walked.done sorted))
 
     -- a run at it or before it does not end later
-    ends : (key : Key) (run : Run) → get key_cmp runs key ≡ Some run → ¬ Precedes e.0 key → ends_by run.high e.1.high ≡ true
+    ends : (key : Key) (run : SpanLocks) → get key_cmp runs key ≡ Some run → ¬ Precedes e.0 key → ends_by run.high e.1.high ≡ true
     ends key run here past =
         elim (key_cmp key e.0) as (λ r. key_cmp key e.0 ≡ r → ends_by run.high e.1.high ≡ true) [
           | Less ↦ λ p. rising e.0 e.1 there key run here (Precedes-below key e.0 p)
           | Equal ↦ λ p.
               let at : is_at (key_cmp key) e.0 ≡ true = ap is_eq p in
-              subst (λ (r : Run). ends_by run.high r.high ≡ true) (one_run runs key e.0 run e.1 (at_same key e.0 at) here there) (ends_by-itself run.high)
+              subst (λ (r : SpanLocks). ends_by run.high r.high ≡ true) (one_run runs key e.0 run e.1 (at_same key e.0 at) here there) (ends_by-itself run.high)
           | Greater ↦ λ p. absurd (past (total.antisymm e.0 key ∙ ap ordering_reverse p))
         ] refl
 

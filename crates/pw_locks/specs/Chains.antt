@@ -5,7 +5,7 @@ use Rattle.std.specs.List.{list_any}
 use Rattle.pw_locks.specs.Runs.{is_in_runs}
 use Rattle.pw_locks.specs.Spans.{overlap}
 use Rattle.pw_locks.specs.declared.chain.Chain.{Chain}
-use Rattle.pw_locks.specs.declared.run.Run.{Run}
+use Rattle.pw_locks.specs.declared.run.SpanLocks.{SpanLocks}
 use Rattle.pw_locks.specs.declared.span.Span.{Span}
 use Rattle.pw_locks.specs.declared.span.Span.TheVariants.{After}
 
@@ -14,7 +14,7 @@ abbrev pub is_in_chains : List Chain → List ℕ → Option (List ℕ) → ℕ 
 is_in_chains chains low high n = list_any (λ chain. is_in_runs chain.runs low high n) chains
 
 -- the number is filed under a span that this one overlaps, in a chain
-abbrev pub IsMet : Span → BTreeMap (List ℕ) Run → ℕ → Type 0
+abbrev pub IsMet : Span → BTreeMap (List ℕ) SpanLocks → ℕ → Type 0
 IsMet span runs n = (low : List ℕ) × (high : Option (List ℕ)) × (overlap span (After low high) ≡ true) × (is_in_runs runs low high n ≡ true)
 
 -- the same of some chains

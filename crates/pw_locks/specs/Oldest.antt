@@ -13,5 +13,5 @@ older None unit = unit
 older (Some known) unit = if nat_le known.birth unit.birth then known else unit
 
 -- the one that is known, or where the unit counts the older of the two
-abbrev pub noted : Option unit.Unit → Bool → unit.Unit → Option unit.Unit
-noted known counts unit = if counts then Some (older known unit) else known
+abbrev pub oldest_unit_noted : Option unit.Unit → Bool → unit.Unit → Option unit.Unit
+oldest_unit_noted known counts unit = if counts then Some (older known unit) else known

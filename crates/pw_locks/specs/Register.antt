@@ -8,7 +8,7 @@ use Rattle.pw_locks.specs.Conflicts.{is_same_unit}
 use Rattle.pw_locks.specs.Indexes.{is_filed}
 use Rattle.pw_locks.specs.Places.{is_in_file}
 use Rattle.pw_locks.specs.declared.lock.Lock.{Lock}
-use Rattle.pw_locks.specs.declared.register.Register.{Register}
+use Rattle.pw_locks.specs.declared.register.LockRegister.{LockRegister}
 
 -- what a unit is known by, and the order of that
 abbrev pub name_of : unit.Unit → ℕ × ℕ
@@ -19,12 +19,12 @@ abbrev pub name_cmp : ℕ × ℕ → ℕ × ℕ → Ordering
 name_cmp a b = ordering_then (nat_cmp a.0 b.0) (nat_cmp a.1 b.1)
 
 -- the number is filed by the lock's place and by its unit
-pub record IsEntered (register : Register) (n : ℕ) (lock : Lock) : Type 0 where
+pub record IsEntered (register : LockRegister) (n : ℕ) (lock : Lock) : Type 0 where
   pub placed : is_in_file register.places.files lock.file lock.span n ≡ true
   pub owned : is_filed name_cmp register.units.numbers (name_of lock.unit) n ≡ true
 
 -- the locks are in the order of their numbers, and each is in the register
-pub record IsRegistered (locks : BTreeMap ℕ Lock) (register : Register) : Type 0 where
+pub record IsRegistered (locks : BTreeMap ℕ Lock) (register : LockRegister) : Type 0 where
   pub ordered : IsOrdered nat_cmp locks
   pub entered : (n : ℕ) (held : Lock) → get nat_cmp locks n ≡ Some held → IsEntered register n held
 

@@ -12,13 +12,13 @@ use Rattle.pw_locks.specs.declared.search.Holders.TheVariants.{AllBut, Only}
 use Rattle.pw_locks.specs.declared.search.Sought.{Sought}
 
 -- the unit is one of those whose locks are sought
-abbrev pub is_among : Holders → unit.Unit → Bool
-is_among (AllBut unit) own = not (is_same_unit unit own)
-is_among (Only unit) own = is_same_unit own unit
+abbrev pub is_sought_holder : Holders → unit.Unit → Bool
+is_sought_holder (AllBut unit) own = not (is_same_unit unit own)
+is_sought_holder (Only unit) own = is_same_unit own unit
 
 -- the lock is of such a unit and excludes the sought one
 abbrev pub is_sought : Sought → Lock → Bool
-is_sought sought held = is_among sought.holders held.unit && exclude sought.file sought.span.now sought.mode held
+is_sought sought held = is_sought_holder sought.holders held.unit && exclude sought.file sought.span.now sought.mode held
 
 -- the units of the locks that pass a test
 abbrev pub units_of : (Lock → Bool) → List Lock → List unit.Unit

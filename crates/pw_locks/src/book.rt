@@ -4,7 +4,7 @@ ghost use Rattle.pw_locks.specs.Oldest.{IsOldest};
 
 use crate::lock::Lock;
 use crate::reach::oldest;
-use crate::register::Register;
+use crate::register::LockRegister;
 use crate::release::release;
 use crate::search::{Holders, Sought};
 use crate::span::Span;
@@ -24,7 +24,7 @@ use std::marker::Model;
 pub struct LockBook {
     alloc: Global,
     locks: BTreeMap<u64, Lock>,
-    register: Register,
+    register: LockRegister,
 }
 
 impl Model for LockBook {
@@ -50,7 +50,7 @@ impl LockBook {
         Ok(LockBook {
             alloc,
             locks: BTreeMap::new(alloc),
-            register: Register::new(alloc),
+            register: LockRegister::new(alloc),
         })
     }
 

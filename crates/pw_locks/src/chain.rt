@@ -2,7 +2,7 @@ ghost use Rattle.pw_locks.specs.Runs.{IsRising};
 
 use crate::index::drop_number;
 use crate::keys::{copy_end, ends_by, is_same_end};
-use crate::run::Run;
+use crate::run::SpanLocks;
 use pw_base::bytes::Bytes;
 use pw_base::memory::Memory;
 use std::alloc::Global;
@@ -12,13 +12,13 @@ use std::ops::Bound;
 /// The locks on spans of a file, by the low ends of these. Of two spans the one that begins later does not end earlier.
 #[derive(Debug, Drop)]
 pub struct Chain {
-    pub runs: BTreeMap<Bytes, Run>,
+    pub runs: BTreeMap<Bytes, SpanLocks>,
     ghost rising: { IsRising runs },
 }
 
 impl Chain {
     ghost use Rattle.std.specs.Prelude.{◌≡◌, ◌≢◌, ℕ, List, Option, true, [], OnOk};
-    ghost use Rattle.pw_locks.specs.Runs.{Fits, EndsLast, EndsFirst, is_in_runs};
+    ghost use Rattle.pw_locks.specs.Runs.{FitsAmongSpans, EndsLast, EndsFirst, is_in_runs};
 
     /// No locks. It takes no memory.
     pub fn new(alloc: Global) -> Chain
@@ -60,7 +60,7 @@ impl Chain {
 
     /// Whether locks on a span may be put into the chain.
     pub fn fits(&self, low: &Bytes, high: &Option<Bytes>) -> bool
-        ensures { result ≡ true → Fits self.now.runs low.now high.now }
+        ensures { result ≡ true → FitsAmongSpans self.now.runs low.now high.now }
     {
         match self.runs.get(low) {
             Some(run) => is_same_end(&run.high, high),
@@ -76,7 +76,7 @@ impl Chain {
         high: &Option<Bytes>,
         number: u64,
     ) -> Result<(), Memory>
-        requires { Fits self.old.runs low.now high.now }
+        requires { FitsAmongSpans self.old.runs low.now high.now }
         ensures ok { OnOk result (is_in_runs self.new.runs low.now high.now number ≡ true) }
         ensures stays { (l : List ℕ) (h : Option (List ℕ)) (n : ℕ) → is_in_runs self.old.runs l h n ≡ true
             → is_in_runs self.new.runs l h n ≡ true }
@@ -87,7 +87,7 @@ impl Chain {
         }
         let mut numbers = Vec::new(alloc);
         numbers.push(number)?;
-        let run = Run {
+        let run = SpanLocks {
             high: copy_end(alloc, high)?,
             numbers,
         };

@@ -1,5 +1,5 @@
 ghost use Rattle.std.specs.Prelude.{◌≡◌, ◌≢◌, ℕ, ◌<◌, List, Option, true, slice_index_or, vec_len, IfSome, OnOk};
-ghost use Rattle.pw_locks.specs.Runs.{Fits};
+ghost use Rattle.pw_locks.specs.Runs.{FitsAmongSpans};
 
 use crate::chain::Chain;
 use pw_base::bytes::Bytes;
@@ -27,7 +27,7 @@ impl Chains {
     fn place_for(&self, low: &Bytes, high: &Option<Bytes>) -> Option<usize>
         ensures bound { IfSome result (λ place. place < vec_len self.now.all) }
         ensures fits { IfSome result (λ place. (d : SeenChain)
-            → Fits (slice_index_or self.now.all.items place d).runs low.now high.now) }
+            → FitsAmongSpans (slice_index_or self.now.all.items place d).runs low.now high.now) }
     {
         self.all.iter().position(|chain| chain.fits(low, high))
     }

@@ -8,7 +8,7 @@ use std::collections::BTreeMap;
 
 /// Numbers, each filed under a key, as the places of things in a list.
 #[derive(Debug, Drop)]
-pub struct Index<K: Ord> {
+pub struct FiledNumbers<K: Ord> {
     pub numbers: BTreeMap<K, Vec<u64>>,
 }
 
@@ -21,12 +21,12 @@ pub fn drop_number(numbers: &mut Vec<u64>, number: u64)
     }
 }
 
-impl<K: Ord + Drop> Index<K> {
+impl<K: Ord + Drop> FiledNumbers<K> {
     /// No numbers. It takes no memory.
-    pub fn new(alloc: Global) -> Index<K>
+    pub fn new(alloc: Global) -> FiledNumbers<K>
         ensures { result.numbers.entries ≡ [] }
     {
-        Index {
+        FiledNumbers {
             numbers: BTreeMap::new(alloc),
         }
     }

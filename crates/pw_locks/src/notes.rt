@@ -6,7 +6,7 @@ ghost use Rattle.std.specs.Range.Bound.{bound_map, IsForward};
 ghost use Rattle.pw_locks.specs.Indexes.{has, is_filed};
 ghost use Rattle.pw_locks.specs.Searches.{Searched, is_sought, numbers_of};
 
-use crate::index::Index;
+use crate::index::FiledNumbers;
 use crate::lock::Lock;
 use crate::oldest::noted;
 use crate::search::Sought;
@@ -48,7 +48,7 @@ pub fn note_all(
 
 /// Notes the units of the locks that are filed under a key.
 pub fn note_at(
-    index: &Index<Bytes>,
+    index: &FiledNumbers<Bytes>,
     key: &Bytes,
     locks: &BTreeMap<u64, Lock>,
     sought: &Sought<'_>,
@@ -65,7 +65,7 @@ pub fn note_at(
 
 /// Notes the units of the locks that are filed under keys between two bounds.
 pub fn note_between(
-    index: &Index<Bytes>,
+    index: &FiledNumbers<Bytes>,
     low: Bound<&Bytes>,
     high: Bound<&Bytes>,
     locks: &BTreeMap<u64, Lock>,

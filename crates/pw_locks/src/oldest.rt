@@ -1,5 +1,5 @@
 ghost use Rattle.std.specs.Prelude.{◌≡◌};
-ghost use Rattle.pw_locks.specs.Oldest.{older, noted};
+ghost use Rattle.pw_locks.specs.Oldest.{older, oldest_unit_noted};
 
 use pw_code::unit::Unit;
 
@@ -15,7 +15,7 @@ fn older(known: Option<Unit>, unit: Unit) -> Unit
 
 /// The one that is known, or where the unit counts the older of the two.
 pub fn noted(known: Option<Unit>, counts: bool, unit: Unit) -> Option<Unit>
-    ensures { result ≡ noted known counts unit }
+    ensures { result ≡ oldest_unit_noted known counts unit }
 {
     if counts {
         Some(older(known, unit))

@@ -1,7 +1,7 @@
 ghost use Rattle.std.specs.Prelude.{◌≡◌, ◌≢◌, ℕ, true, [], OnOk};
 
 use crate::chains::Chains;
-use crate::index::Index;
+use crate::index::FiledNumbers;
 use crate::span::Span;
 use pw_base::bytes::Bytes;
 use pw_base::memory::Memory;
@@ -11,7 +11,7 @@ use std::collections::BTreeMap;
 /// The numbers of the locks on one file: those of points by their key, and those of spans in chains.
 #[derive(Debug, Drop)]
 pub struct FilePlaces {
-    pub points: Index<Bytes>,
+    pub points: FiledNumbers<Bytes>,
     pub spans: Chains,
 }
 
@@ -22,7 +22,7 @@ impl FilePlaces {
     /// No numbers. It takes no memory.
     fn new(alloc: Global) -> FilePlaces {
         FilePlaces {
-            points: Index::new(alloc),
+            points: FiledNumbers::new(alloc),
             spans: Chains::new(alloc),
         }
     }

@@ -1,6 +1,6 @@
 ghost use Rattle.std.specs.Prelude.{◌≡◌, ◌≢◌, ℕ, true, false, OnOk};
 
-use crate::index::Index;
+use crate::index::FiledNumbers;
 use crate::lock::Lock;
 use crate::places::Places;
 use pw_base::memory::Memory;
@@ -9,22 +9,22 @@ use std::alloc::Global;
 
 /// The numbers of locks by what they cover, and by terminal and number of their units.
 #[derive(Debug, Drop)]
-pub struct Register {
+pub struct LockRegister {
     pub places: Places,
-    pub units: Index<(u32, u32)>,
+    pub units: FiledNumbers<(u32, u32)>,
 }
 
-impl Register {
+impl LockRegister {
     ghost use Rattle.pw_locks.specs.Conflicts.{is_same_unit};
     ghost use Rattle.pw_locks.specs.Indexes.{found_has};
     ghost use Rattle.pw_locks.specs.Register.{IsEntered};
     ghost use Rattle.pw_locks.specs.declared.lock.Lock.{Lock as SeenLock};
 
     /// No numbers. It takes no memory.
-    pub fn new(alloc: Global) -> Register {
-        Register {
+    pub fn new(alloc: Global) -> LockRegister {
+        LockRegister {
             places: Places::new(alloc),
-            units: Index::new(alloc),
+            units: FiledNumbers::new(alloc),
         }
     }
 

@@ -6,7 +6,7 @@ ghost use Rattle.pw_locks.specs.Register.{IsEntered, IsRegistered, is_held_by};
 ghost use Rattle.pw_locks.specs.declared.lock.Lock.{Lock as SeenLock};
 
 use crate::lock::{Lock, is_same_unit};
-use crate::register::Register;
+use crate::register::LockRegister;
 use pw_code::unit::Unit;
 use std::collections::BTreeMap;
 
@@ -21,7 +21,7 @@ fn is_lock_of(locks: &BTreeMap<u64, Lock>, unit: &Unit, number: u64) -> bool
 }
 
 /// Takes away the lock of a number where it is the unit's, and strikes the number out.
-fn take_away(locks: &mut BTreeMap<u64, Lock>, register: &mut Register, unit: &Unit, number: u64)
+fn take_away(locks: &mut BTreeMap<u64, Lock>, register: &mut LockRegister, unit: &Unit, number: u64)
     requires { IsOrdered nat_cmp locks.old }
     ensures ordered { IsOrdered nat_cmp locks.new }
     ensures gone { (held : SeenLock) → get nat_cmp locks.new number ≡ Some held → is_same_unit held.unit unit.now ≡ false }
@@ -39,7 +39,7 @@ fn take_away(locks: &mut BTreeMap<u64, Lock>, register: &mut Register, unit: &Un
 }
 
 /// Takes away all locks of a unit, and no others.
-pub fn release(locks: &mut BTreeMap<u64, Lock>, register: &mut Register, unit: &Unit)
+pub fn release(locks: &mut BTreeMap<u64, Lock>, register: &mut LockRegister, unit: &Unit)
     requires { IsRegistered locks.old register.old }
     ensures registered { IsRegistered locks.new register.new }
     ensures others { values locks.new

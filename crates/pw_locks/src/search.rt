@@ -22,11 +22,11 @@ pub struct Sought<'a> {
 }
 
 impl Holders {
-    ghost use Rattle.pw_locks.specs.Searches.{is_among};
+    ghost use Rattle.pw_locks.specs.Searches.{is_sought_holder};
 
     /// Whether the unit is one of those whose locks are sought.
     pub fn has(&self, unit: &Unit) -> bool
-        ensures { result ≡ is_among self.now unit.now }
+        ensures { result ≡ is_sought_holder self.now unit.now }
     {
         match self {
             Holders::AllBut(own) => !is_same_unit(own, unit),

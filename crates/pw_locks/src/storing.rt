@@ -3,7 +3,7 @@ ghost use Rattle.std.specs.BTreeMap.{keys, values};
 ghost use Rattle.pw_locks.specs.Register.{IsRegistered};
 
 use crate::lock::Lock;
-use crate::register::Register;
+use crate::register::LockRegister;
 use pw_base::memory::Memory;
 use std::alloc::Global;
 use std::collections::BTreeMap;
@@ -22,7 +22,7 @@ pub fn number_after(locks: &BTreeMap<u64, Lock>) -> Result<u64, Memory>
 pub fn store(
     alloc: Global,
     locks: &mut BTreeMap<u64, Lock>,
-    register: &mut Register,
+    register: &mut LockRegister,
     number: u64,
     lock: Lock,
 ) -> Result<(), Memory>

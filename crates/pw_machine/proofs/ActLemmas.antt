@@ -8,7 +8,7 @@ use Rattle.pw_code.specs.declared.instr.Instr.{Instr}
 use Rattle.pw_code.specs.declared.instr.Instr.TheVariants.{Jump, JumpUnless, ParagraphEnd, Move, Compute, OnSizeError, Perform, PerformTimes, Until, PerformOneOf, Exit, ExitProgram, StopRun, DisplayScreen, Display, Accept, Call, Send, NoCode, Begin, End, Abort, Restart, Receive, Reply, Read, ReadNext, Write, Rewrite, Delete}
 use Rattle.pw_code.specs.declared.system.System.{System}
 use Rattle.pw_source.specs.Values.{Value, as_it_stands}
-use Rattle.pw_exec.specs.Config.{Config, counted, faults, most_counted, on, over, with_storage, with_taken}
+use Rattle.pw_exec.specs.Config.{Config, code_statement_counted, faults, most_counted, on, over, with_storage, with_taken}
 use Rattle.pw_exec.specs.Moves.{Operands, operands_of, result_of}
 use Rattle.pw_exec.specs.Reading.{registers_of}
 use Rattle.pw_exec.specs.Sound.{IsSound}
@@ -19,7 +19,7 @@ use Rattle.pw_machine.specs.declared.top.Top.{Top}
 use Rattle.pw_machine.proofs.SoundLemmas.{stays_sound}
 
 -- a statement counts
-pub act_counted : (system : System) (i : Instr) (c : Config) → is_control i ≡ false → act system (Some i) c ≡ counted (does system i) c
+pub act_counted : (system : System) (i : Instr) (c : Config) → is_control i ≡ false → act system (Some i) c ≡ code_statement_counted (does system i) c
 act_counted system (Jump n) c e = absurd (cc)
 act_counted system (ParagraphEnd start) c e = absurd (cc)
 act_counted system (Until paragraph cond) c e = absurd (cc)
@@ -59,13 +59,13 @@ too_many context = record context { fault = 201; at_verb = true }
 
 -- a statement that has begun, and one that is one too many
 pub count_on : (f : Config → Config) (top : Top) (old new : Context) (told : Bool) → told ≡ nat_lt old.count most_counted → told ≡ true
-    → new ≡ (if told then one_more old else too_many old) → counted f (config_of top old) ≡ f (config_of top new)
+    → new ≡ (if told then one_more old else too_many old) → code_statement_counted f (config_of top old) ≡ f (config_of top new)
 count_on f top old new told is going made =
     let here : new ≡ one_more old = made ∙ ap (λ b. if b then one_more old else too_many old) going in
     ap (λ b. if b then f (config_of top (one_more old)) else faults 201 (config_of top old)) (sym is ∙ going) ∙ ap (λ (x : Context). f (config_of top x)) (sym here)
 
 pub count_off : (f : Config → Config) (top : Top) (old new : Context) (told : Bool) → told ≡ nat_lt old.count most_counted → told ≡ false
-    → new ≡ (if told then one_more old else too_many old) → counted f (config_of top old) ≡ config_of top new
+    → new ≡ (if told then one_more old else too_many old) → code_statement_counted f (config_of top old) ≡ config_of top new
 count_off f top old new told is stopped made =
     let here : new ≡ too_many old = made ∙ ap (λ b. if b then one_more old else too_many old) stopped in
     ap (λ b. if b then f (config_of top (one_more old)) else faults 201 (config_of top old)) (sym is ∙ stopped) ∙ ap (λ (x : Context). config_of top x) (sym here)

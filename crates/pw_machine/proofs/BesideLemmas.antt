@@ -11,7 +11,7 @@ use Rattle.std.proofs.lemmas.List.{get_or_past, length-replicate}
 use Rattle.pw_picture.specs.Text.{fitted}
 use Rattle.pw_terminal.proofs.Written.{length-fitted, fitted-same}
 use Rattle.pw_exec.specs.Conditions.{text_order, beside, length_of}
-use Rattle.pw_source.specs.Values.{Value, Chars, Register, Number', Text', Spaces', Zeros', text_of}
+use Rattle.pw_source.specs.Values.{Value, Chars, Register, Number', Text', Spaces', Zeros', operand_text}
 use Rattle.pw_machine.specs.Beside.{char_beside, size_beside}
 use Rattle.pw_machine.proofs.TextLemmas.{split}
 
@@ -38,9 +38,9 @@ get_or-fitted (suc size) (char ∷ text) (suc place) d lt =
 length-beside : (own other : Value) → length (beside own other) ≡ length_of own other
 length-beside Spaces' other = length-replicate (length_of Spaces' other) 32
 length-beside Zeros' other = length-replicate (length_of Zeros' other) 48
-length-beside (Chars p chars) other = length-fitted (length_of (Chars p chars) other) (text_of (Chars p chars))
-length-beside (Register digits value) other = length-fitted (length_of (Register digits value) other) (text_of (Register digits value))
-length-beside (Number' spelling) other = length-fitted (length_of (Number' spelling) other) (text_of (Number' spelling))
+length-beside (Chars p chars) other = length-fitted (length_of (Chars p chars) other) (operand_text (Chars p chars))
+length-beside (Register digits value) other = length-fitted (length_of (Register digits value) other) (operand_text (Register digits value))
+length-beside (Number' spelling) other = length-fitted (length_of (Number' spelling) other) (operand_text (Number' spelling))
 length-beside (Text' chars) other = length-fitted (length_of (Text' chars) other) chars
 
 max-same : (n : ℕ) → max n n ≡ n
@@ -51,10 +51,10 @@ sizes Spaces' Spaces' = refl
 sizes Spaces' Zeros' = refl
 sizes Zeros' Spaces' = refl
 sizes Zeros' Zeros' = refl
-sizes Spaces' b = max-same (length (text_of b))
-sizes Zeros' b = max-same (length (text_of b))
-sizes a Spaces' = max-same (length (text_of a))
-sizes a Zeros' = max-same (length (text_of a))
+sizes Spaces' b = max-same (length (operand_text b))
+sizes Zeros' b = max-same (length (operand_text b))
+sizes a Spaces' = max-same (length (operand_text a))
+sizes a Zeros' = max-same (length (operand_text a))
 sizes a b = refl
 
 pub size-beside : (a b : Value) → max (length (beside a b)) (length (beside b a)) ≡ size_beside a b
@@ -73,9 +73,9 @@ zeros_few other place lt = omega (arith, lt)
 char_by : (own other : Value) (place : ℕ) → place < max (length_of own other) (length_of other own) → get_or (beside own other) place 32 ≡ char_beside own place
 char_by Spaces' other place lt = all_one 32 (length_of Spaces' other) place
 char_by Zeros' other place lt = get_or-replicate (length_of Zeros' other) 48 place 32 (zeros_few other place lt)
-char_by (Chars p chars) other place lt = ap (λ t. get_or t place 32) (fitted-same (length (text_of (Chars p chars))) (text_of (Chars p chars)) refl)
-char_by (Register digits value) other place lt = ap (λ t. get_or t place 32) (fitted-same (length (text_of (Register digits value))) (text_of (Register digits value)) refl)
-char_by (Number' spelling) other place lt = ap (λ t. get_or t place 32) (fitted-same (length (text_of (Number' spelling))) (text_of (Number' spelling)) refl)
+char_by (Chars p chars) other place lt = ap (λ t. get_or t place 32) (fitted-same (length (operand_text (Chars p chars))) (operand_text (Chars p chars)) refl)
+char_by (Register digits value) other place lt = ap (λ t. get_or t place 32) (fitted-same (length (operand_text (Register digits value))) (operand_text (Register digits value)) refl)
+char_by (Number' spelling) other place lt = ap (λ t. get_or t place 32) (fitted-same (length (operand_text (Number' spelling))) (operand_text (Number' spelling)) refl)
 char_by (Text' chars) other place lt = ap (λ t. get_or t place 32) (fitted-same (length chars) chars refl)
 
 -- the characters that are compared

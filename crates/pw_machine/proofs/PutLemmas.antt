@@ -1,8 +1,8 @@
 -- Answers that an instruction does not await.
 use Rattle.std.proofs.Common.{◌≡◌, ℕ, List, Option, refl}
-use Rattle.pw_code.specs.Entry.{Entry}
+use Rattle.pw_code.specs.Entry.{EntryLineModel}
 use Rattle.pw_code.specs.declared.field.ScreenTable.{ScreenTable}
-use Rattle.pw_code.specs.declared.place.Place.{Place}
+use Rattle.pw_code.specs.declared.place.StoragePlace.{StoragePlace}
 use Rattle.pw_code.specs.declared.verb.Answer.{Answer}
 use Rattle.pw_code.specs.declared.verb.Answer.TheVariants as answer
 use Rattle.pw_exec.specs.Answers.{begin_put, entry_put, file_passed, file_put, passed, read_put}
@@ -18,7 +18,7 @@ file_else answer.Ended c h = refl
 file_else answer.Dropped c h = refl
 file_else (answer.FileDone status content) c h = absurd (h status content refl)
 
-pub read_else : (into : Place) (a : Answer) (c : Config) → ((x : ℕ) → (y : Option (List ℕ)) → a ≡ answer.FileDone x y → ⊥) → file_passed c ≡ read_put into a c
+pub read_else : (into : StoragePlace) (a : Answer) (c : Config) → ((x : ℕ) → (y : Option (List ℕ)) → a ≡ answer.FileDone x y → ⊥) → file_passed c ≡ read_put into a c
 read_else into answer.Shown c h = refl
 read_else into (answer.Begun r) c h = refl
 read_else into (answer.Entry line) c h = refl
@@ -38,7 +38,7 @@ begin_else answer.Ended c h = refl
 begin_else answer.Dropped c h = refl
 begin_else (answer.FileDone status content) c h = refl
 
-pub entry_else : (table : ScreenTable) (keys : List ℕ) (a : Answer) (c : Config) → ((x : Entry) → a ≡ answer.Entry x → ⊥) → passed c ≡ entry_put table keys a c
+pub entry_else : (table : ScreenTable) (keys : List ℕ) (a : Answer) (c : Config) → ((x : EntryLineModel) → a ≡ answer.Entry x → ⊥) → passed c ≡ entry_put table keys a c
 entry_else table keys answer.Shown c h = refl
 entry_else table keys (answer.Begun r) c h = refl
 entry_else table keys (answer.Entry line) c h = absurd (h line refl)

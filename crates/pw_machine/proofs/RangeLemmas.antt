@@ -6,7 +6,7 @@ use Rattle.std.proofs.lemmas.List.Elements.{All-get_or, All-weaker}
 use Rattle.std.proofs.lemmas.Option.{slice_get_within, same_Some}
 use Rattle.pw_code.specs.Fields.{IsField, HasClauses}
 use Rattle.pw_code.specs.Instrs.{AreInstrs, HasRanges, IsArithmetic, IsInstr, IsItemOperand, IsKey, IsRecord, IsReplyCode, IsScreen, IsTurn, no_code, program_at, screen_at}
-use Rattle.pw_code.specs.Places.{IsComparison, IsOperand, IsPlace, IsSubscript, LiesIn}
+use Rattle.pw_code.specs.Places.{IsComparison, IsOperand, IsPlace, IsSubscriptInStorage, LiesIn}
 use Rattle.pw_code.specs.Valid.{IsCode, IsValid}
 use Rattle.pw_code.specs.declared.code.Code.{Code}
 use Rattle.pw_code.specs.declared.cond.Comparison.{Comparison}
@@ -19,32 +19,32 @@ use Rattle.pw_code.specs.declared.instr.Arithmetic.{Arithmetic}
 use Rattle.pw_code.specs.declared.instr.Instr.{Instr}
 use Rattle.pw_code.specs.declared.instr.Instr.TheVariants.{Jump, JumpUnless, ParagraphEnd, Move, Compute, OnSizeError, Perform, PerformTimes, Until, PerformOneOf, Exit, ExitProgram, StopRun, DisplayScreen, Display, Accept, Call, Send, NoCode, Begin, End, Abort, Restart, Receive, Reply, Read, ReadNext, Write, Rewrite, Delete}
 use Rattle.pw_code.specs.declared.instr.ReplyCode.{ReplyCode}
-use Rattle.pw_code.specs.declared.operand.Operand.{Operand}
-use Rattle.pw_code.specs.declared.operand.Operand.TheVariants as operand
-use Rattle.pw_code.specs.declared.place.Place.{Place}
-use Rattle.pw_code.specs.declared.place.Subscript.{Subscript}
-use Rattle.pw_code.specs.declared.place.Subscript.TheVariants as subscript
-use Rattle.pw_code.specs.declared.place.Table.{Table}
+use Rattle.pw_code.specs.declared.operand.InstructionOperand.{InstructionOperand}
+use Rattle.pw_code.specs.declared.operand.InstructionOperand.TheVariants as operand
+use Rattle.pw_code.specs.declared.place.StoragePlace.{StoragePlace}
+use Rattle.pw_code.specs.declared.place.PlaceSubscript.{PlaceSubscript}
+use Rattle.pw_code.specs.declared.place.PlaceSubscript.TheVariants as subscript
+use Rattle.pw_code.specs.declared.place.PlaceTable.{PlaceTable}
 use Rattle.pw_code.specs.declared.system.System.{System}
 use Rattle.pw_exec.specs.Config.{code_at}
 use Rattle.pw_exec.specs.Sound.{IsFrame}
-use Rattle.pw_machine.specs.Stack.{CanDo}
+use Rattle.pw_machine.specs.Stack.{CanDoInstr}
 
 -- ---- what lies in a storage lies in a larger one
 
-subscript_grows : (m n : ℕ) → m ≤ n → (s : Subscript) → IsSubscript m s → IsSubscript n s
+subscript_grows : (m n : ℕ) → m ≤ n → (s : PlaceSubscript) → IsSubscriptInStorage m s → IsSubscriptInStorage n s
 subscript_grows m n le (subscript.Number k) is = is
 subscript_grows m n le (subscript.Item at digits places) is = (is.0, omega (arith, is.1))
 subscript_grows m n le (subscript.Register r) is = is
 
-lies_grows : (m n : ℕ) → m ≤ n → (at size : ℕ) (o : Option Table) → LiesIn m at size o → LiesIn n at size o
+lies_grows : (m n : ℕ) → m ≤ n → (at size : ℕ) (o : Option PlaceTable) → LiesIn m at size o → LiesIn n at size o
 lies_grows m n le at size None is = omega (arith, is)
 lies_grows m n le at size (Some table) is = record { subscript = subscript_grows m n le table.subscript is.subscript; some = is.some; few = is.few; inside = omega (arith, is.inside) }
 
-pub place_grows : (m n : ℕ) → m ≤ n → (p : Place) → IsPlace m p → IsPlace n p
+pub place_grows : (m n : ℕ) → m ≤ n → (p : StoragePlace) → IsPlace m p → IsPlace n p
 place_grows m n le p is = record { picture = is.picture; inside = lies_grows m n le p.at p.size p.table is.inside }
 
-pub operand_grows : (m n : ℕ) → m ≤ n → (o : Operand) → IsOperand m o → IsOperand n o
+pub operand_grows : (m n : ℕ) → m ≤ n → (o : InstructionOperand) → IsOperand m o → IsOperand n o
 operand_grows m n le (operand.Item p) is = place_grows m n le p is
 operand_grows m n le (operand.Register r) is = is
 operand_grows m n le (operand.Number spelling value) is = is
@@ -70,16 +70,16 @@ field_grows m n le f is = record { clauses = clauses_grow m n le f.shown f.takes
 screen_grows : (m n : ℕ) → m ≤ n → (system : System) (screen : ℕ) → IsScreen system m screen → IsScreen system n screen
 screen_grows m n le system screen is = record { known = is.known; fields = All-weaker (IsField m) (IsField n) (field_grows m n le) (screen_at system screen).fields is.fields }
 
-item_grows : (m n : ℕ) → m ≤ n → (o : Operand) → IsItemOperand m o → IsItemOperand n o
+item_grows : (m n : ℕ) → m ≤ n → (o : InstructionOperand) → IsItemOperand m o → IsItemOperand n o
 item_grows m n le o is = record { operand = operand_grows m n le o is.operand; item = is.item }
 
 code_grows : (m n : ℕ) → m ≤ n → (code : ReplyCode) → IsReplyCode m code → IsReplyCode n code
 code_grows m n le code is = (is.0, place_grows m n le code.yields is.1)
 
-key_grows : (m n : ℕ) → m ≤ n → (system : System) (file : ℕ) (key : Operand) → IsKey system m file key → IsKey system n file key
+key_grows : (m n : ℕ) → m ≤ n → (system : System) (file : ℕ) (key : InstructionOperand) → IsKey system m file key → IsKey system n file key
 key_grows m n le system file key is = record { known = is.known; operand = item_grows m n le key is.operand; size = is.size }
 
-record_grows : (m n : ℕ) → m ≤ n → (system : System) (file : ℕ) (from : Operand) → IsRecord system m file from → IsRecord system n file from
+record_grows : (m n : ℕ) → m ≤ n → (system : System) (file : ℕ) (from : InstructionOperand) → IsRecord system m file from → IsRecord system n file from
 record_grows m n le system file from is = record { known = is.known; operand = item_grows m n le from is.operand; least = is.least; most = is.most }
 
 -- the code with another storage
@@ -150,7 +150,7 @@ coded system n valid known = pick (nat_lt n (length system.programs)) refl
         record { server = true; is = All-get_or (IsCode true system) system.servers (n - length system.programs) no_code (omega arith) valid.servers }
 
 pub can_do : (system : System) (frame : Frame) (i : Instr) → IsValid system → IsFrame system frame
-    → slice_get (code_at system frame.program).instrs frame.at ≡ Some i → CanDo system frame i
+    → slice_get (code_at system frame.program).instrs frame.at ≡ Some i → CanDoInstr system frame i
 can_do system frame i valid is e =
     let code = coded system frame.program valid is.known in
     let one = instr_in code.server system (code_at system frame.program) (code_at system frame.program).instrs frame.at i code.is.instrs e in

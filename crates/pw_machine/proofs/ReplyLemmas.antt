@@ -4,14 +4,14 @@ use Rattle.std.specs.Prelude.{option_and_then, option_map, if◌then◌else◌}
 use Rattle.pw_code.specs.declared.context.Context.{Context}
 use Rattle.pw_code.specs.declared.context.Frame.{Frame}
 use Rattle.pw_code.specs.declared.instr.ReplyCode.{ReplyCode}
-use Rattle.pw_exec.specs.Answers.{answered, place_among, replied, reply_taken, spot_among, unit_ended, yielded}
+use Rattle.pw_exec.specs.Answers.{answered, place_among, code_after_reply, reply_taken, spot_among, unit_ended, yielded}
 use Rattle.pw_exec.specs.Config.{Config, over, with_storage}
 use Rattle.pw_exec.specs.Moves.{move_text}
 use Rattle.pw_exec.specs.Reading.{Spot}
 use Rattle.pw_machine.specs.Config.{config_with}
 use Rattle.pw_machine.specs.Replies.{seen_at, yielded_at}
 use Rattle.pw_machine.specs.Views.{spot_by}
-use Rattle.pw_machine.specs.declared.spot.Spot as own
+use Rattle.pw_machine.specs.declared.spot.MachineSpot as own
 use Rattle.pw_machine.specs.declared.top.Top.{Top}
 
 -- a reply that is taken leaves the programs that wait
@@ -26,9 +26,9 @@ taken_frames context frames = pick context.in_unit
 with_frames : (frames : List Frame) (context taken : Context) → taken ≡ reply_taken context → record taken { frames = frames } ≡ reply_taken (record context { frames = frames })
 with_frames frames context taken is = ap (λ (x : Context). record x { frames = frames }) is ∙ taken_frames context frames
 
-pub replied_some : (frames : List Frame) (top : Top) (context taken : Context) (codes : List ReplyCode) (reply : List ℕ) (found : ℕ × own.Spot) → taken ≡ reply_taken context
+pub replied_some : (frames : List Frame) (top : Top) (context taken : Context) (codes : List ReplyCode) (reply : List ℕ) (found : ℕ × own.MachineSpot) → taken ≡ reply_taken context
     → option_map seen_at (Some found) ≡ option_and_then (spot_among (config_with frames top context) codes) (place_among codes reply)
-    → yielded_at (found.0 + 1) (spot_by found.1) reply (config_with frames top taken) ≡ replied codes reply (config_with frames top context)
+    → yielded_at (found.0 + 1) (spot_by found.1) reply (config_with frames top taken) ≡ code_after_reply codes reply (config_with frames top context)
 replied_some frames top context taken codes reply found is there =
     let c : Config = config_with frames top context in
     ap (λ (x : Context). over 1 (record (with_storage (move_text reply (spot_by found.1) c.top.storage) c) { rest = record x { termination = found.0 + 1 } }))
@@ -37,7 +37,7 @@ replied_some frames top context taken codes reply found is there =
 
 pub replied_none : (frames : List Frame) (top new : Top) (context taken : Context) (codes : List ReplyCode) (reply : List ℕ) → new ≡ record top { at = top.at + 1 + 0 }
     → taken ≡ reply_taken context → None ≡ option_and_then (spot_among (config_with frames top context) codes) (place_among codes reply)
-    → config_with frames new taken ≡ replied codes reply (config_with frames top context)
+    → config_with frames new taken ≡ code_after_reply codes reply (config_with frames top context)
 replied_none frames top new context taken codes reply moved is there =
     let c : Config = config_with frames top context in
     let here : top.at + 1 + 0 ≡ top.at + 1 = omega arith in

@@ -4,14 +4,14 @@ use Rattle.std.specs.Prelude.{slice_get, ◌==◌, if◌then◌else◌}
 use Rattle.pw_terminal.specs.Entries.{check}
 use Rattle.pw_terminal.specs.declared.entries.EntryAnswer.{EntryAnswer}
 use Rattle.pw_terminal.specs.declared.entries.EntryAnswer.TheVariants.{Valid, BadKey, BadField}
-use Rattle.pw_code.specs.Entry.{Entry}
+use Rattle.pw_code.specs.Entry.{EntryLineModel}
 use Rattle.pw_code.specs.Instrs.{screen_at}
 use Rattle.pw_code.specs.declared.context.Context.{Context}
 use Rattle.pw_code.specs.declared.field.ScreenTable.{ScreenTable}
 use Rattle.pw_code.specs.declared.instr.Instr.{Instr}
 use Rattle.pw_code.specs.declared.instr.Instr.TheVariants.{Jump, JumpUnless, ParagraphEnd, Move, Compute, OnSizeError, Perform, PerformTimes, Until, PerformOneOf, Exit, ExitProgram, StopRun, DisplayScreen, Display, Accept, Call, Send, NoCode, Begin, End, Abort, Restart, Receive, Reply, Read, ReadNext, Write, Rewrite, Delete}
 use Rattle.pw_code.specs.declared.instr.ReplyCode.{ReplyCode}
-use Rattle.pw_code.specs.declared.place.Place.{Place}
+use Rattle.pw_code.specs.declared.place.StoragePlace.{StoragePlace}
 use Rattle.pw_code.specs.declared.system.System.{System}
 use Rattle.pw_code.specs.declared.verb.Answer.{Answer}
 use Rattle.pw_code.specs.declared.verb.Answer.TheVariants as answer
@@ -40,7 +40,7 @@ near_test : (c d e : Config) (b : Bool) → Near c.rest d.rest → Near c.rest e
 near_test c d e true g h = g
 near_test c d e false g h = h
 
-checked_near : (table : ScreenTable) (line : Entry) (found : EntryAnswer) (c : Config) → Near c.rest (entry_checked table line found c).rest
+checked_near : (table : ScreenTable) (line : EntryLineModel) (found : EntryAnswer) (c : Config) → Near c.rest (entry_checked table line found c).rest
 checked_near table line (Valid place) c = near _ _ (omega arith) (omega arith) (omega arith)
 checked_near table line BadKey c = near _ _ (omega arith) (omega arith) (omega arith)
 checked_near table line (BadField place) c = near _ _ (omega arith) (omega arith) (omega arith)
@@ -86,7 +86,7 @@ begin_near answer.Ended c = near _ _ (omega arith) (omega arith) (omega arith)
 begin_near answer.Dropped c = near _ _ (omega arith) (omega arith) (omega arith)
 begin_near (answer.FileDone status content) c = near _ _ (omega arith) (omega arith) (omega arith)
 
-read_near : (into : Place) (a : Answer) (c : Config) → Near c.rest (read_put into a c).rest
+read_near : (into : StoragePlace) (a : Answer) (c : Config) → Near c.rest (read_put into a c).rest
 read_near into (answer.FileDone status content) c = near _ _ (omega arith) (omega arith) (omega arith)
 read_near into answer.Shown c = near _ _ (omega arith) (omega arith) (omega arith)
 read_near into (answer.Entry line) c = near _ _ (omega arith) (omega arith) (omega arith)

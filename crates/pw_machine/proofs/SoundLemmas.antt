@@ -10,7 +10,7 @@ use Rattle.pw_code.specs.Valid.{IsValid}
 use Rattle.pw_code.specs.declared.code.Code.{Code}
 use Rattle.pw_code.specs.declared.context.Frame.{Frame}
 use Rattle.pw_code.specs.declared.instr.Instr.TheVariants.{Call}
-use Rattle.pw_code.specs.declared.place.Place.{Place}
+use Rattle.pw_code.specs.declared.place.StoragePlace.{StoragePlace}
 use Rattle.pw_code.specs.declared.system.System.{System}
 use Rattle.pw_exec.specs.Calls.{most_calls}
 use Rattle.pw_exec.specs.Config.{Config, code_at}
@@ -79,7 +79,7 @@ none_case (Some x) P Q m e = absurd (cc)
 
 -- ---- a program is called
 
-pub call_sound : (system : System) (c d : Config) (program : ℕ) (arguments : List Place) (keeps : Bool) → IsSound system c → program < length system.programs
+pub call_sound : (system : System) (c d : Config) (program : ℕ) (arguments : List StoragePlace) (keeps : Bool) → IsSound system c → program < length system.programs
     → slice_get (code_at system c.top.program).instrs c.top.at ≡ Some (Call program arguments keeps) → length c.rest.frames < most_calls
     → d.top.program ≡ program → length d.top.storage ≡ length (program_at system program).storage + kept_size keeps → d.rest.frames ≡ c.rest.frames ++ c.top ∷ []
     → IsSound system d
@@ -101,19 +101,19 @@ call_sound system c d program arguments keeps is known call few same size frames
 
 -- ---- what its caller knows of it
 
-pub record AtCall (system : System) (caller callee : Frame) (program : ℕ) (arguments : List Place) (keeps : Bool) : Type 0 where
+pub record AtCall (system : System) (caller callee : Frame) (program : ℕ) (arguments : List StoragePlace) (keeps : Bool) : Type 0 where
   pub is : program ≡ callee.program
   pub size : length callee.storage ≡ length (code_at system callee.program).storage + kept_size keeps
   pub places : All (IsPlace (length caller.storage)) arguments
-  pub linkage : map (λ (place : Place). place.size) arguments ≡ map (λ (item : ℕ × ℕ). item.1) (code_at system callee.program).linkage
+  pub linkage : map (λ (place : StoragePlace). place.size) arguments ≡ map (λ (item : ℕ × ℕ). item.1) (code_at system callee.program).linkage
 
-same_program : (p q : ℕ) (xs ys : List Place) (k l : Bool) → Call p xs k ≡ Call q ys l → p ≡ q
+same_program : (p q : ℕ) (xs ys : List StoragePlace) (k l : Bool) → Call p xs k ≡ Call q ys l → p ≡ q
 same_program p q xs ys k l e = cc
 
-same_keeps : (p q : ℕ) (xs ys : List Place) (k l : Bool) → Call p xs k ≡ Call q ys l → k ≡ l
+same_keeps : (p q : ℕ) (xs ys : List StoragePlace) (k l : Bool) → Call p xs k ≡ Call q ys l → k ≡ l
 same_keeps p q xs ys k l e = cc
 
-pub at_call : (system : System) (caller callee : Frame) (program : ℕ) (arguments : List Place) (keeps : Bool) → IsValid system → Waits system caller callee
+pub at_call : (system : System) (caller callee : Frame) (program : ℕ) (arguments : List StoragePlace) (keeps : Bool) → IsValid system → Waits system caller callee
     → slice_get (code_at system caller.program).instrs caller.at ≡ Some (Call program arguments keeps) → AtCall system caller callee program arguments keeps
 at_call system caller callee program arguments keeps valid w at =
     let same : Call program arguments keeps ≡ Call callee.program w.arguments w.keeps = same_Some _ _ (sym at ∙ w.call) in

@@ -8,7 +8,7 @@ use Rattle.pw_code.specs.declared.instr.Instr.{Instr}
 use Rattle.pw_code.specs.declared.system.System.{System}
 use Rattle.pw_exec.specs.Config.{code_at}
 use Rattle.pw_exec.specs.Sound.{IsFrame}
-use Rattle.pw_machine.specs.Stack.{CanDo}
+use Rattle.pw_machine.specs.Stack.{CanDoInstr}
 use Rattle.pw_machine.proofs.RangeLemmas.{can_do}
 
 pub found_at : (found : Option (Bor Instr)) (there : Option Instr) → option_copied found ≡ there → IfSome found (λ instr. there ≡ Some instr.now)
@@ -16,6 +16,6 @@ found_at None there e = tt
 found_at (Some instr) there e = sym e
 
 pub found_can : (system : System) (frame : Frame) (found : Option (Bor Instr)) → IsValid system → IsFrame system frame
-    → option_copied found ≡ slice_get (code_at system frame.program).instrs frame.at → IfSome found (λ instr. CanDo system frame instr.now)
+    → option_copied found ≡ slice_get (code_at system frame.program).instrs frame.at → IfSome found (λ instr. CanDoInstr system frame instr.now)
 found_can system frame None valid is e = tt
 found_can system frame (Some instr) valid is e = can_do system frame instr.now valid is (sym e)

@@ -7,7 +7,7 @@ use Rattle.pw_code.specs.declared.system.System.{System}
 use Rattle.pw_code.specs.declared.verb.Answer.{Answer}
 use Rattle.pw_exec.specs.Answers.{put}
 use Rattle.pw_exec.specs.Config.{Config, closed, fresh, frame_at}
-use Rattle.pw_exec.specs.Contexts.{Takes}
+use Rattle.pw_exec.specs.Contexts.{PutsAnswer}
 use Rattle.pw_exec.specs.Sound.{IsFrame, IsSound, IsSoundContext}
 use Rattle.pw_exec.specs.Turns.{split_last}
 use Rattle.pw_machine.specs.Config.{config_with, frame_of}
@@ -61,7 +61,7 @@ taken_out old before top c all is =
 
 pub takes : (system : System) (a : Answer) (old mid made new : Context) (before : List Frame) (top after : Top) → mid ≡ record old { frames = [] }
     → old.frames ≡ before ++ frame_of top ∷ [] → config_with before after made ≡ put system a (config_with before top mid)
-    → new ≡ record made { frames = before ++ frame_of after ∷ [] } → Takes system a old new
+    → new ≡ record made { frames = before ++ frame_of after ∷ [] } → PutsAnswer system a old new
 takes system a old mid made new before top after without all done is c old_is =
     is ∙ ap closed (done ∙ ap (λ (x : Context). put system a (config_with before top x)) without ∙ ap (put system a) (taken_out old before top c all old_is))
 

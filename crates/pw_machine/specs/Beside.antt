@@ -1,6 +1,6 @@
 -- Operands beside another, character by character.
 use Rattle.std.specs.Prelude.{ℕ, max, slice_index_or, length, Option, Some, None}
-use Rattle.pw_source.specs.Values.{Value, Spaces', Zeros', text_of}
+use Rattle.pw_source.specs.Values.{Value, Spaces', Zeros', operand_text}
 
 -- the character that fills, of SPACES and ZEROS
 abbrev pub fill_of : Value → Option ℕ
@@ -12,7 +12,7 @@ fill_of _ = None
 abbrev pub char_beside : Value → ℕ → ℕ
 char_beside Spaces' place = 32
 char_beside Zeros' place = 48
-char_beside other place = slice_index_or (text_of other) place 32
+char_beside other place = slice_index_or (operand_text other) place 32
 
 -- as many characters as two operands have beside each other
 abbrev pub size_beside : Value → Value → ℕ
@@ -20,8 +20,8 @@ size_beside Spaces' Spaces' = 1
 size_beside Spaces' Zeros' = 1
 size_beside Zeros' Spaces' = 1
 size_beside Zeros' Zeros' = 1
-size_beside Spaces' b = length (text_of b)
-size_beside Zeros' b = length (text_of b)
-size_beside a Spaces' = length (text_of a)
-size_beside a Zeros' = length (text_of a)
-size_beside a b = max (length (text_of a)) (length (text_of b))
+size_beside Spaces' b = length (operand_text b)
+size_beside Zeros' b = length (operand_text b)
+size_beside a Spaces' = length (operand_text a)
+size_beside a Zeros' = length (operand_text a)
+size_beside a b = max (length (operand_text a)) (length (operand_text b))

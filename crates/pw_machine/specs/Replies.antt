@@ -4,10 +4,10 @@ use Rattle.pw_exec.specs.Config.{Config, over, with_storage}
 use Rattle.pw_exec.specs.Moves.{move_text}
 use Rattle.pw_exec.specs.Reading.{Spot}
 use Rattle.pw_machine.specs.Views.{spot_by}
-use Rattle.pw_machine.specs.declared.spot.Spot as spots
+use Rattle.pw_machine.specs.declared.spot.MachineSpot as spots
 
 -- a place with the spot to which a reply goes
-abbrev pub seen_at : ℕ × spots.Spot → ℕ × Spot
+abbrev pub seen_at : ℕ × spots.MachineSpot → ℕ × Spot
 seen_at found = (found.0, spot_by found.1)
 
 -- a reply is moved to a spot, TERMINATION-STATUS is a position, and the `NoCode` is passed

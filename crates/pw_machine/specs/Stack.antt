@@ -25,7 +25,7 @@ pub record StaysAt (old new : Config) : Type 0 where
 
 -- The instruction at which a program stands: its numbers, its places and its operands are those of the system and of
 -- the program's storage.
-pub record CanDo (system : System) (frame : Frame) (instr : Instr) : Type 0 where
+pub record CanDoInstr (system : System) (frame : Frame) (instr : Instr) : Type 0 where
   pub within : frame.at < length (code_at system frame.program).instrs
   pub many : length (code_at system frame.program).instrs < 2 ^ 32
   pub ranges :

@@ -6,13 +6,13 @@ ghost use Rattle.pw_exec.specs.Config.{code_at};
 ghost use Rattle.pw_exec.specs.Sound.{IsSound};
 ghost use Rattle.pw_exec.specs.Steps as steps;
 ghost use Rattle.pw_machine.specs.Config.{config_of, frame_of};
-ghost use Rattle.pw_machine.specs.Stack.{CanDo, StaysAt, is_control, stays_at_work};
+ghost use Rattle.pw_machine.specs.Stack.{CanDoInstr, StaysAt, is_control, stays_at_work};
 
 use crate::arms::{branch, calculate, move_to, perform_one_of, perform_times};
 use crate::asks::{display, display_screen, operate, read_record, receive, send};
 use crate::calls::{call, leave};
 use crate::conditions::holds;
-use crate::registers::Registers;
+use crate::registers::MachineRegisters;
 use crate::stack::instr_at;
 use crate::top::Top;
 use crate::turns::{count, end_paragraph, fault, go_over, tested, turn};
@@ -31,7 +31,7 @@ fn does_here(
 ) -> Result<(), Memory>
     requires stays { stays_at_work instr.now ≡ true }
     requires sound { IsSound system.now (config_of top.old context.old) }
-    requires can { CanDo system.now (frame_of top.old) instr.now }
+    requires can { CanDoInstr system.now (frame_of top.old) instr.now }
     ensures config { IfOk result (λ _. config_of top.new context.new ≡ steps.does system.now instr.now (config_of top.old context.old)) }
     ensures stays { IfOk result (λ _. StaysAt (config_of top.old context.old) (config_of top.new context.new)) }
 {
@@ -77,7 +77,7 @@ fn does(system: &System, instr: &Instr, top: &mut Top, context: &mut Context) ->
     requires valid { IsValid system.now }
     requires sound { IsSound system.now (config_of top.old context.old) }
     requires at { slice_get (code_at system.now top.old.program).instrs top.old.at ≡ Some instr.now }
-    requires can { CanDo system.now (frame_of top.old) instr.now }
+    requires can { CanDoInstr system.now (frame_of top.old) instr.now }
     ensures config { IfOk result (λ _. config_of top.new context.new ≡ steps.does system.now instr.now (config_of top.old context.old)) }
     ensures sound { IfOk result (λ _. IsSound system.now (config_of top.new context.new)) }
 {
@@ -102,7 +102,7 @@ fn begin_statement(
     requires valid { IsValid system.now }
     requires sound { IsSound system.now (config_of top.old context.old) }
     requires at { slice_get (code_at system.now top.old.program).instrs top.old.at ≡ Some instr.now }
-    requires can { CanDo system.now (frame_of top.old) instr.now }
+    requires can { CanDoInstr system.now (frame_of top.old) instr.now }
     requires statement { is_control instr.now ≡ false }
     ensures config { IfOk result (λ _. config_of top.new context.new ≡ steps.act system.now (Some instr.now) (config_of top.old context.old)) }
     ensures sound { IfOk result (λ _. IsSound system.now (config_of top.new context.new)) }
@@ -118,7 +118,7 @@ fn act(system: &System, instr: &Instr, top: &mut Top, context: &mut Context) -> 
     requires valid { IsValid system.now }
     requires sound { IsSound system.now (config_of top.old context.old) }
     requires at { slice_get (code_at system.now top.old.program).instrs top.old.at ≡ Some instr.now }
-    requires can { CanDo system.now (frame_of top.old) instr.now }
+    requires can { CanDoInstr system.now (frame_of top.old) instr.now }
     ensures config { IfOk result (λ _. config_of top.new context.new ≡ steps.act system.now (Some instr.now) (config_of top.old context.old)) }
     ensures sound { IfOk result (λ _. IsSound system.now (config_of top.new context.new)) }
 {
@@ -126,7 +126,7 @@ fn act(system: &System, instr: &Instr, top: &mut Top, context: &mut Context) -> 
         Instr::Jump(over) => go_over(top, *over),
         Instr::ParagraphEnd(start) => end_paragraph(top, context, *start),
         Instr::Until { turn, cond } => {
-            let found = holds(Registers::of(context), top.storage.as_slice(), cond);
+            let found = holds(MachineRegisters::of(context), top.storage.as_slice(), cond);
             tested(top, context, *turn, found)?;
         }
         Instr::NoCode => fault(context, 204),

@@ -10,13 +10,13 @@ ghost use Rattle.pw_exec.specs.Config.{on};
 ghost use Rattle.pw_exec.specs.Reading as reading;
 ghost use Rattle.pw_exec.specs.Sound.{IsFrame};
 ghost use Rattle.pw_machine.specs.Config.{config_with, frame_of};
-ghost use Rattle.pw_machine.specs.Stack.{CanDo, HasRoom};
+ghost use Rattle.pw_machine.specs.Stack.{CanDoInstr, HasRoom};
 ghost use Rattle.pw_machine.specs.Views.{registers_by};
 
 use crate::entries::entered;
 use crate::moves::move_text;
 use crate::reading::spot_of;
-use crate::registers::Registers;
+use crate::registers::MachineRegisters;
 use crate::replies::replied;
 use crate::stack::instr_at;
 use crate::top::Top;
@@ -25,7 +25,7 @@ use crate::units::{answered, has_fault, shown, unit_begun, unit_ended};
 use pw_base::bytes::Bytes;
 use pw_code::context::Context;
 use pw_code::instr::{Instr, ReplyCode};
-use pw_code::place::Place;
+use pw_code::place::StoragePlace;
 use pw_code::system::System;
 use pw_code::verb::Answer;
 
@@ -152,8 +152,8 @@ fn put_end(top: &mut Top, context: &mut Context)
 /// The record that was read is moved INTO an item, at status 0 alone.
 fn move_into(
     storage: &mut [u8],
-    registers: Registers,
-    into: Place,
+    registers: MachineRegisters,
+    into: StoragePlace,
     status: u16,
     content: &Option<Bytes>,
 )
@@ -172,8 +172,8 @@ fn move_into(
 /// The record that was read is moved INTO an item of the program at work, at status 0 alone.
 fn move_record(
     top: &mut Top,
-    registers: Registers,
-    into: Place,
+    registers: MachineRegisters,
+    into: StoragePlace,
     status: u16,
     content: &Option<Bytes>,
 )
@@ -200,7 +200,7 @@ fn put_status(top: &mut Top, context: &mut Context, status: u16)
 }
 
 /// The answer to READ and READ NEXT.
-fn put_read(top: &mut Top, context: &mut Context, into: Place, answer: &Answer)
+fn put_read(top: &mut Top, context: &mut Context, into: StoragePlace, answer: &Answer)
     requires into { IsPlace (length top.old.storage.items) into }
     requires place { top.old.at + 1 < 2 ^ 32 }
     ensures config { (frames : List Frame) → config_with frames top.new context.new
@@ -210,7 +210,7 @@ fn put_read(top: &mut Top, context: &mut Context, into: Place, answer: &Answer)
 {
     match answer {
         Answer::FileDone { status, content } => {
-            let registers = Registers::of(context);
+            let registers = MachineRegisters::of(context);
             move_record(top, registers, into, *status, content);
             put_status(top, context, *status);
         }
@@ -234,7 +234,7 @@ fn put_file(top: &mut Top, context: &mut Context, answer: &Answer)
 
 /// The answer to an instruction. One that does not ask stays.
 fn put_by(system: &System, instr: &Instr, top: &mut Top, context: &mut Context, answer: &Answer)
-    requires can { CanDo system.now (frame_of top.old) instr.now }
+    requires can { CanDoInstr system.now (frame_of top.old) instr.now }
     requires room { HasRoom context.old }
     ensures config { (frames : List Frame) → config_with frames top.new context.new
         ≡ answers.answered_by system.now (Some instr.now) answer.now (config_with frames top.old context.old) }

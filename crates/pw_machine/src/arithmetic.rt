@@ -1,11 +1,11 @@
 ghost use Rattle.std.specs.Prelude.{◌≡◌, ℕ, ◌≤◌, ◌<◌, ◌+◌, ◌^◌, Some, None, length, unsigned_abs, if◌then◌else◌};
 ghost use Rattle.std.specs.Bool.{OnFalse};
 ghost use Rattle.pw_code.specs.Places.{picture_of};
-ghost use Rattle.pw_exec.specs.Moves.{operated, places_of, stored_in, stored_by};
+ghost use Rattle.pw_exec.specs.Moves.{operated, receiver_decimals, stored_in, stored_by};
 ghost use Rattle.pw_machine.specs.Views.{spot_by, IsSpot};
 
-use crate::spot::Spot;
-use pw_code::instr::Operation;
+use crate::spot::MachineSpot;
+use pw_code::instr::ArithmeticOperation;
 use pw_code::place::Kind;
 use pw_number::scaled::Scaled;
 use pw_number::size_error::SizeError;
@@ -13,7 +13,7 @@ use pw_picture::picture::Picture;
 
 /// The result of an operation of the first operand on the second. A quotient has these places.
 fn operated(
-    operation: Operation,
+    operation: ArithmeticOperation,
     places: u8,
     first: Scaled,
     second: Scaled,
@@ -24,16 +24,16 @@ fn operated(
     ensures { result ≡ operated operation places first second }
 {
     match operation {
-        Operation::Add => second.add(first),
-        Operation::Subtract => second.subtract(first),
-        Operation::Multiply => second.multiply(first),
-        Operation::Divide => second.divide(first, places),
+        ArithmeticOperation::Add => second.add(first),
+        ArithmeticOperation::Subtract => second.subtract(first),
+        ArithmeticOperation::Multiply => second.multiply(first),
+        ArithmeticOperation::Divide => second.divide(first, places),
     }
 }
 
 /// The places of a receiver.
 fn places_of(kind: Kind) -> u8
-    ensures { (size : ℕ) → result ≡ places_of (picture_of kind size) }
+    ensures { (size : ℕ) → result ≡ receiver_decimals (picture_of kind size) }
 {
     match kind {
         Kind::Number { places, .. } => places,
@@ -42,7 +42,7 @@ fn places_of(kind: Kind) -> u8
 }
 
 /// Stores a number in a spot. It is false exactly on a size error, which leaves all as it is.
-fn stored_by(storage: &mut [u8], spot: Spot, value: Scaled) -> bool
+fn stored_by(storage: &mut [u8], spot: MachineSpot, value: Scaled) -> bool
     requires { IsSpot (length storage.old) spot }
     ensures stored { (if result then Some storage.new else None) ≡ stored_by (picture_of spot.kind spot.size) (spot_by spot) value storage.old }
     ensures same { OnFalse result (storage.new ≡ storage.old) }
@@ -69,16 +69,16 @@ fn stored_by(storage: &mut [u8], spot: Spot, value: Scaled) -> bool
 /// divisor of zero is one (docs/NUMBERS.md).
 pub fn computed(
     storage: &mut [u8],
-    operation: Operation,
+    operation: ArithmeticOperation,
     first: Scaled,
     second: Scaled,
-    receiver: Spot,
+    receiver: MachineSpot,
 ) -> bool
     requires spot { IsSpot (length storage.old) receiver }
     requires first { unsigned_abs first.units < 10 ^ 18 }
     requires second { unsigned_abs second.units < 10 ^ 18 }
     ensures stored { (if result then Some storage.new else None)
-        ≡ stored_in (spot_by receiver) (operated operation (places_of (picture_of receiver.kind receiver.size)) first second) storage.old }
+        ≡ stored_in (spot_by receiver) (operated operation (receiver_decimals (picture_of receiver.kind receiver.size)) first second) storage.old }
     ensures same { OnFalse result (storage.new ≡ storage.old) }
 {
     match operated(operation, places_of(receiver.kind), first, second) {

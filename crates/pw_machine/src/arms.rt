@@ -13,7 +13,7 @@ ghost use Rattle.pw_machine.specs.Stack.{StaysAt};
 use crate::conditions::holds;
 use crate::numbers::whole_part;
 use crate::reading::taken;
-use crate::registers::Registers;
+use crate::registers::MachineRegisters;
 use crate::statements::{compute, move_all};
 use crate::top::Top;
 use crate::turns::{chosen, fault, go_over, turns};
@@ -22,8 +22,8 @@ use pw_base::memory::Memory;
 use pw_code::cond::Cond;
 use pw_code::context::Context;
 use pw_code::instr::{Arithmetic, Turn};
-use pw_code::operand::Operand;
-use pw_code::place::Place;
+use pw_code::operand::InstructionOperand;
+use pw_code::place::StoragePlace;
 
 /// IF: goes on where the condition holds, and else behind so many instructions.
 pub fn branch(top: &mut Top, context: &mut Context, cond: &Cond, over: u32)
@@ -33,7 +33,7 @@ pub fn branch(top: &mut Top, context: &mut Context, cond: &Cond, over: u32)
         ≡ with_taken (steps.holds_here (config_of top.old context.old) cond.now) (steps.branch over) (config_of top.old context.old) }
     ensures stays { StaysAt (config_of top.old context.old) (config_of top.new context.new) }
 {
-    match holds(Registers::of(context), top.storage.as_slice(), cond) {
+    match holds(MachineRegisters::of(context), top.storage.as_slice(), cond) {
         Some(true) => go_over(top, 0),
         Some(false) => go_over(top, over),
         None => fault(context, 203),
@@ -44,8 +44,8 @@ pub fn branch(top: &mut Top, context: &mut Context, cond: &Cond, over: u32)
 pub fn move_to(
     top: &mut Top,
     context: &mut Context,
-    from: &Operand,
-    to: &[Place],
+    from: &InstructionOperand,
+    to: &[StoragePlace],
 ) -> Result<(), Memory>
     requires from { IsOperand (length top.old.storage.items) from.now }
     requires to { All (IsPlace (length top.old.storage.items)) to.now }
@@ -54,7 +54,7 @@ pub fn move_to(
     ensures stays { StaysAt (config_of top.old context.old) (config_of top.new context.new) }
 {
     let alloc = context.screen.cells.allocator();
-    let registers = Registers::of(context);
+    let registers = MachineRegisters::of(context);
     if move_all(alloc, registers, top.storage.as_mut_slice(), from, to)? {
         go_over(top, 0);
     } else {
@@ -71,7 +71,7 @@ pub fn calculate(top: &mut Top, context: &mut Context, arithmetic: &Arithmetic, 
         ≡ steps.computes arithmetic.now (goes_over 0) (goes_over over) (config_of top.old context.old) }
     ensures stays { StaysAt (config_of top.old context.old) (config_of top.new context.new) }
 {
-    let registers = Registers::of(context);
+    let registers = MachineRegisters::of(context);
     match compute(registers, top.storage.as_mut_slice(), arithmetic) {
         Some(true) => go_over(top, over),
         Some(false) => go_over(top, 0),
@@ -81,13 +81,13 @@ pub fn calculate(top: &mut Top, context: &mut Context, arithmetic: &Arithmetic, 
 
 /// The whole part of an operand's number, None exactly where its subscript is outside.
 #[tactic(auto, using(crate::proofs::Shorts::whole_short))]
-fn whole_of(top: &Top, context: &Context, operand: &Operand) -> Option<u128>
+fn whole_of(top: &Top, context: &Context, operand: &InstructionOperand) -> Option<u128>
     requires { IsOperand (length top.now.storage.items) operand.now }
     ensures short { IfSome result (λ whole. whole < 10 ^ 18) }
     ensures whole { result ≡ option_map (λ value. whole_part (number_of value)) (steps.read_here (config_of top.now context.now) operand.now) }
 {
     let storage = top.storage.as_slice();
-    let found = taken(Registers::of(context), storage, operand)?;
+    let found = taken(MachineRegisters::of(context), storage, operand)?;
     Some(whole_part(number_of(storage, operand, found)))
 }
 
@@ -96,7 +96,7 @@ pub fn perform_times(
     top: &mut Top,
     context: &mut Context,
     turn: Turn,
-    times: &Operand,
+    times: &InstructionOperand,
 ) -> Result<(), Memory>
     requires times { IsOperand (length top.old.storage.items) times.now }
     requires place { top.old.at + 1 < 2 ^ 32 }
@@ -119,7 +119,7 @@ pub fn perform_one_of(
     top: &mut Top,
     context: &mut Context,
     all: &[Turn],
-    position: &Operand,
+    position: &InstructionOperand,
 ) -> Result<(), Memory>
     requires position { IsOperand (length top.old.storage.items) position.now }
     requires place { top.old.at + 1 < 2 ^ 32 }

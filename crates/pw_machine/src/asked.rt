@@ -6,10 +6,10 @@ ghost use Rattle.pw_code.specs.Valid.{IsValid};
 ghost use Rattle.pw_exec.specs.Sound.{IsSound};
 ghost use Rattle.pw_exec.specs.Steps as steps;
 ghost use Rattle.pw_machine.specs.Config.{config_of, frame_of};
-ghost use Rattle.pw_machine.specs.Stack.{CanDo};
+ghost use Rattle.pw_machine.specs.Stack.{CanDoInstr};
 
 use crate::chars::read_chars;
-use crate::registers::Registers;
+use crate::registers::MachineRegisters;
 use crate::stack::instr_at;
 use crate::top::Top;
 use crate::units::has_fault;
@@ -18,17 +18,17 @@ use pw_base::memory::Memory;
 use pw_code::context::Context;
 use pw_code::file::{FileCall, FileOp};
 use pw_code::instr::Instr;
-use pw_code::operand::Operand;
+use pw_code::operand::InstructionOperand;
 use pw_code::system::System;
 use pw_code::verb::Verb;
 
 /// The characters of an operand whose subscript was taken before.
-fn chars_here(top: &Top, context: &Context, operand: &Operand) -> Result<Bytes, Memory>
+fn chars_here(top: &Top, context: &Context, operand: &InstructionOperand) -> Result<Bytes, Memory>
     requires { IsOperand (length top.now.storage.items) operand.now }
     ensures { IfOk result (λ chars. chars ≡ steps.chars_here (config_of top.now context.now) operand.now) }
 {
     let alloc = context.screen.cells.allocator();
-    let registers = Registers::of(context);
+    let registers = MachineRegisters::of(context);
     match read_chars(alloc, registers, top.storage.as_slice(), operand)? {
         Some(chars) => Ok(chars),
         None => Ok(Bytes::new(alloc)),
@@ -41,7 +41,7 @@ fn by_key(
     context: &Context,
     file: u32,
     op: FileOp,
-    key: &Operand,
+    key: &InstructionOperand,
 ) -> Result<Verb, Memory>
     requires { IsOperand (length top.now.storage.items) key.now }
     ensures { IfOk result (λ verb. verb ≡ steps.by_key file op (steps.chars_here (config_of top.now context.now) key.now)) }
@@ -62,7 +62,7 @@ fn by_record(
     context: &Context,
     file: u32,
     op: FileOp,
-    from: &Operand,
+    from: &InstructionOperand,
 ) -> Result<Verb, Memory>
     requires { IsOperand (length top.now.storage.items) from.now }
     ensures { IfOk result (λ verb. verb ≡ steps.by_record file op (steps.chars_here (config_of top.now context.now) from.now)) }
@@ -79,7 +79,7 @@ fn by_record(
 
 /// What an instruction asks.
 fn asked_by(system: &System, top: &Top, context: &Context, instr: &Instr) -> Result<Verb, Memory>
-    requires { CanDo system.now (frame_of top.now) instr.now }
+    requires { CanDoInstr system.now (frame_of top.now) instr.now }
     ensures { IfOk result (λ verb. verb ≡ steps.asked_by (Some instr.now) (config_of top.now context.now)) }
 {
     match instr {

@@ -16,8 +16,8 @@ ghost use Rattle.pw_machine.specs.Views.{registers_by};
 use crate::chars::read_chars;
 use crate::moves::move_value;
 use crate::reading::{spot_of, taken};
-use crate::registers::Registers;
-use crate::spot::{Spot, Taken};
+use crate::registers::MachineRegisters;
+use crate::spot::{MachineSpot, MachineOperand};
 use crate::stack::code_at;
 use crate::top::Top;
 use crate::turns::{fault, go_over};
@@ -25,14 +25,14 @@ use crate::verbs::ask;
 use pw_base::memory::Memory;
 use pw_code::context::Context;
 use pw_code::instr::ReplyCode;
-use pw_code::operand::Operand;
-use pw_code::place::{Kind, Place};
+use pw_code::operand::InstructionOperand;
+use pw_code::place::{Kind, StoragePlace};
 use pw_code::system::System;
 use pw_terminal::images::message;
 use pw_terminal::show::show;
 
 /// DISPLAY on row 24.
-pub fn display(top: &Top, context: &mut Context, shown: &Operand) -> Result<(), Memory>
+pub fn display(top: &Top, context: &mut Context, shown: &InstructionOperand) -> Result<(), Memory>
     requires { IsOperand (length top.now.storage.items) shown.now }
     ensures config { IfOk result (λ _. config_of top.now context.new
         ≡ with_taken (steps.read_here (config_of top.now context.old) shown.now)
@@ -40,7 +40,7 @@ pub fn display(top: &Top, context: &mut Context, shown: &Operand) -> Result<(), 
     ensures stays { StaysAt (config_of top.now context.old) (config_of top.now context.new) }
 {
     let alloc = context.screen.cells.allocator();
-    let registers = Registers::of(context);
+    let registers = MachineRegisters::of(context);
     match read_chars(alloc, registers, top.storage.as_slice(), shown)? {
         Some(chars) => {
             message(chars.as_slice(), &mut context.screen);
@@ -64,7 +64,7 @@ pub fn display_screen(system: &System, top: &Top, context: &mut Context, screen:
 }
 
 /// Whether the subscript of no item of YIELDS is outside.
-fn are_inside(registers: Registers, storage: &[u8], codes: &[ReplyCode]) -> bool
+fn are_inside(registers: MachineRegisters, storage: &[u8], codes: &[ReplyCode]) -> bool
     requires { All (IsReplyCode (length storage.now)) codes.now }
     ensures { result ≡ is_some (spots_of (registers_by registers) storage.now (map (λ code. code.yields) codes.now)) }
 {
@@ -77,13 +77,13 @@ fn are_inside(registers: Registers, storage: &[u8], codes: &[ReplyCode]) -> bool
 }
 
 /// SEND: its subscripts are taken, and it is asked.
-pub fn send(top: &Top, context: &mut Context, message: &Operand, codes: &[ReplyCode])
+pub fn send(top: &Top, context: &mut Context, message: &InstructionOperand, codes: &[ReplyCode])
     requires message { IsOperand (length top.now.storage.items) message.now }
     requires codes { All (IsReplyCode (length top.now.storage.items)) codes.now }
     ensures config { config_of top.now context.new ≡ steps.sends message.now codes.now (config_of top.now context.old) }
     ensures stays { StaysAt (config_of top.now context.old) (config_of top.now context.new) }
 {
-    let registers = Registers::of(context);
+    let registers = MachineRegisters::of(context);
     let storage = top.storage.as_slice();
     if taken(registers, storage, message).is_some() && are_inside(registers, storage, codes) {
         ask(context);
@@ -93,13 +93,13 @@ pub fn send(top: &Top, context: &mut Context, message: &Operand, codes: &[ReplyC
 }
 
 /// READ and READ NEXT: their subscripts are taken, and they are asked.
-pub fn read_record(top: &Top, context: &mut Context, key: &Operand, into: Place)
+pub fn read_record(top: &Top, context: &mut Context, key: &InstructionOperand, into: StoragePlace)
     requires key { IsOperand (length top.now.storage.items) key.now }
     requires into { IsPlace (length top.now.storage.items) into }
     ensures config { config_of top.now context.new ≡ steps.reads key.now into (config_of top.now context.old) }
     ensures stays { StaysAt (config_of top.now context.old) (config_of top.now context.new) }
 {
-    let registers = Registers::of(context);
+    let registers = MachineRegisters::of(context);
     let storage = top.storage.as_slice();
     if taken(registers, storage, key).is_some() && spot_of(registers, storage, into).is_some() {
         ask(context);
@@ -109,12 +109,12 @@ pub fn read_record(top: &Top, context: &mut Context, key: &Operand, into: Place)
 }
 
 /// An operation with one operand: its subscript is taken, and it is asked.
-pub fn operate(top: &Top, context: &mut Context, operand: &Operand)
+pub fn operate(top: &Top, context: &mut Context, operand: &InstructionOperand)
     requires { IsOperand (length top.now.storage.items) operand.now }
     ensures config { config_of top.now context.new ≡ steps.operates operand.now (config_of top.now context.old) }
     ensures stays { StaysAt (config_of top.now context.old) (config_of top.now context.new) }
 {
-    if taken(Registers::of(context), top.storage.as_slice(), operand).is_some() {
+    if taken(MachineRegisters::of(context), top.storage.as_slice(), operand).is_some() {
         ask(context);
     } else {
         fault(context, 203);
@@ -122,7 +122,7 @@ pub fn operate(top: &Top, context: &mut Context, operand: &Operand)
 }
 
 /// READ $RECEIVE: the message, which lies behind the items of its server, is moved as a text.
-pub fn receive(system: &System, top: &mut Top, context: &mut Context, into: Place)
+pub fn receive(system: &System, top: &mut Top, context: &mut Context, into: StoragePlace)
     requires known { top.old.program < length system.now.programs + length system.now.servers }
     requires storage { length (code_at system.now top.old.program).storage ≤ length top.old.storage.items }
     requires into { IsPlace (length top.old.storage.items) into }
@@ -131,16 +131,16 @@ pub fn receive(system: &System, top: &mut Top, context: &mut Context, into: Plac
     ensures stays { StaysAt (config_of top.old context.old) (config_of top.new context.new) }
 {
     let storage = top.storage.as_mut_slice();
-    match spot_of(Registers::of(context), storage, into) {
+    match spot_of(MachineRegisters::of(context), storage, into) {
         Some(spot) => {
             let at = code_at(system, top.program).storage.len();
             let size = storage.len() - at;
-            let message = Spot {
+            let message = MachineSpot {
                 at,
                 size,
                 kind: Kind::Group,
             };
-            move_value(storage, &Operand::Spaces, Taken::Stored(message), spot);
+            move_value(storage, &InstructionOperand::Spaces, MachineOperand::Stored(message), spot);
             go_over(top, 0);
         }
         None => fault(context, 203),

@@ -1,7 +1,7 @@
 //! CALL, and how a called program is left.
 
 ghost use Rattle.std.specs.Prelude.{◌≡◌, ◌<◌, ◌+◌, ◌++◌, ◌∷◌, [], true, length, map, slice_get, All, IfOk, Some};
-ghost use Rattle.pw_code.specs.Instrs.{IsCall};
+ghost use Rattle.pw_code.specs.Instrs.{IsProgramCall};
 ghost use Rattle.pw_code.specs.Places.{IsPlace};
 ghost use Rattle.pw_code.specs.Instrs as instrs;
 ghost use Rattle.pw_code.specs.Valid.{IsValid};
@@ -18,8 +18,8 @@ ghost use Rattle.pw_machine.specs.Views.{registers_by, spot_by, IsSpot};
 use crate::chars::digits_text;
 use crate::linkage::{copy_back, copy_in};
 use crate::numbers::{chars_at, digits_in, whole_part};
-use crate::registers::Registers;
-use crate::spot::Spot;
+use crate::registers::MachineRegisters;
+use crate::spot::MachineSpot;
 use crate::stack::{active, close, code_at, instr_at, open, pop};
 use crate::statements::spots_of;
 use crate::top::Top;
@@ -28,7 +28,7 @@ use crate::verbs::stop;
 use pw_base::memory::Memory;
 use pw_code::context::{Context, Frame};
 use pw_code::instr::Instr;
-use pw_code::place::Place;
+use pw_code::place::StoragePlace;
 use pw_code::system::System;
 use std::mem;
 
@@ -39,7 +39,7 @@ const MAX_CALLS: usize = 8;
 const MAX_ACTIVE: u128 = 64_000;
 
 /// Keeps the registers behind the items of a called program, where its CALL asks for it.
-fn keep(storage: &mut Vec<u8>, registers: Registers, keeps: bool) -> Result<(), Memory>
+fn keep(storage: &mut Vec<u8>, registers: MachineRegisters, keeps: bool) -> Result<(), Memory>
     ensures { IfOk result (λ _. storage.new.items ≡ storage.old.items ++ programs.kept keeps (registers_by registers)) }
 {
     if !keeps {
@@ -55,12 +55,12 @@ fn keep(storage: &mut Vec<u8>, registers: Registers, keeps: bool) -> Result<(), 
 
 /// The registers that a CALL kept in so many characters.
 #[tactic(auto, using(crate::proofs::Shorts::whole_five))]
-fn kept_in(chars: &[u8]) -> Registers
+fn kept_in(chars: &[u8]) -> MachineRegisters
     requires { length chars.now ≡ 9 }
     ensures { registers_by result ≡ programs.kept_in chars.now }
 {
     let (termination, restarts) = chars.split_at(4);
-    Registers {
+    MachineRegisters {
         termination: whole_part(digits_in(termination, 0)) as u16,
         restarts: whole_part(digits_in(restarts, 0)) as u32,
         file_status: 0,
@@ -71,9 +71,9 @@ fn kept_in(chars: &[u8]) -> Registers
 fn called(
     system: &System,
     caller: &Top,
-    registers: Registers,
+    registers: MachineRegisters,
     program: u32,
-    places: &[Spot],
+    places: &[MachineSpot],
     keeps: bool,
 ) -> Result<Top, Memory>
     requires valid { IsValid system.now }
@@ -120,19 +120,19 @@ pub fn call(
     top: &mut Top,
     context: &mut Context,
     program: u32,
-    arguments: &[Place],
+    arguments: &[StoragePlace],
     keeps: bool,
 ) -> Result<(), Memory>
     requires valid { IsValid system.now }
     requires sound { IsSound system.now (config_of top.old context.old) }
     requires at { slice_get (config.code_at system.now top.old.program).instrs top.old.at ≡ Some (Call program arguments.now keeps) }
-    requires call { IsCall system.now (length top.old.storage.items) program arguments.now }
+    requires call { IsProgramCall system.now (length top.old.storage.items) program arguments.now }
     ensures config { IfOk result (λ _. config_of top.new context.new
         ≡ with_taken (steps.spots_here (config_of top.old context.old) arguments.now) (programs.calls system.now program keeps) (config_of top.old context.old)) }
     ensures sound { IfOk result (λ _. IsSound system.now (config_of top.new context.new)) }
 {
     let alloc = context.screen.cells.allocator();
-    let registers = Registers::of(context);
+    let registers = MachineRegisters::of(context);
     let Some(places) = spots_of(alloc, registers, top.storage.as_slice(), arguments)? else {
         fault(context, 203);
         return Ok(());
@@ -152,7 +152,7 @@ pub fn call(
 }
 
 /// The registers by which the subscripts of a CALL's arguments go when they are copied back.
-fn registers_at_call(system: &System, callee: &Top, context: &Context, keeps: bool) -> Registers
+fn registers_at_call(system: &System, callee: &Top, context: &Context, keeps: bool) -> MachineRegisters
     requires known { callee.now.program < length system.now.programs + length system.now.servers }
     requires size { length callee.now.storage.items ≡ length (config.code_at system.now callee.now.program).storage + kept_size keeps }
     ensures { registers_by result
@@ -163,7 +163,7 @@ fn registers_at_call(system: &System, callee: &Top, context: &Context, keeps: bo
         let (_, kept) = callee.storage.as_slice().split_at(items);
         kept_in(kept)
     } else {
-        Registers::of(context)
+        MachineRegisters::of(context)
     }
 }
 

@@ -7,12 +7,12 @@ ghost use Rattle.pw_machine.specs.Views.{registers_by, taken_by, IsTaken};
 
 use crate::numbers::chars_at;
 use crate::reading::taken;
-use crate::registers::Registers;
-use crate::spot::Taken;
+use crate::registers::MachineRegisters;
+use crate::spot::MachineOperand;
 use crate::texts::digit_of_value;
 use pw_base::bytes::Bytes;
 use pw_base::memory::Memory;
-use pw_code::operand::Operand;
+use pw_code::operand::InstructionOperand;
 use std::alloc::Global;
 
 /// So many digits of a value.
@@ -29,17 +29,17 @@ pub fn digits_text(alloc: Global, digits: u8, value: u32) -> Result<Bytes, Memor
 }
 
 /// The characters of an operand that was taken, as it is stored or written.
-fn chars_of(alloc: Global, storage: &[u8], operand: &Operand, found: Taken) -> Result<Bytes, Memory>
+fn chars_of(alloc: Global, storage: &[u8], operand: &InstructionOperand, found: MachineOperand) -> Result<Bytes, Memory>
     requires { IsTaken (length storage.now) found }
     ensures { IfOk result (λ chars. chars ≡ as_it_stands (value_in storage.now (taken_by operand.now found))) }
 {
     match found {
-        Taken::Stored(spot) => Bytes::from_slice(alloc, chars_at(storage, spot.at, spot.size)),
-        Taken::Register { digits, value } => digits_text(alloc, digits, value),
-        Taken::Fixed => match operand {
-            Operand::Number { spelling, .. } => spelling.copy(alloc),
-            Operand::Text(chars) => chars.copy(alloc),
-            Operand::Zeros => Bytes::from_slice(alloc, b"0"),
+        MachineOperand::Stored(spot) => Bytes::from_slice(alloc, chars_at(storage, spot.at, spot.size)),
+        MachineOperand::Register { digits, value } => digits_text(alloc, digits, value),
+        MachineOperand::Fixed => match operand {
+            InstructionOperand::Number { spelling, .. } => spelling.copy(alloc),
+            InstructionOperand::Text(chars) => chars.copy(alloc),
+            InstructionOperand::Zeros => Bytes::from_slice(alloc, b"0"),
             _ => Bytes::from_slice(alloc, b" "),
         },
     }
@@ -49,9 +49,9 @@ fn chars_of(alloc: Global, storage: &[u8], operand: &Operand, found: Taken) -> R
 /// outside.
 pub fn read_chars(
     alloc: Global,
-    registers: Registers,
+    registers: MachineRegisters,
     storage: &[u8],
-    operand: &Operand,
+    operand: &InstructionOperand,
 ) -> Result<Option<Bytes>, Memory>
     requires { IsOperand (length storage.now) operand.now }
     ensures { IfOk result (λ chars. chars ≡ option_map as_it_stands (read (registers_by registers) storage.now operand.now)) }

@@ -2,25 +2,25 @@ ghost use Rattle.std.specs.Prelude.{◌≡◌, ◌≤◌, ◌<◌, ◌+◌, ◌&
 ghost use Rattle.pw_code.specs.Places.{IsOperand};
 ghost use Rattle.pw_exec.specs.Conditions.{are_numbers, is_zeros, compared, text_order, beside};
 ghost use Rattle.pw_exec.specs.Reading.{value_in};
-ghost use Rattle.pw_source.specs.Values.{is_number};
+ghost use Rattle.pw_source.specs.Values.{is_number_operand};
 ghost use Rattle.pw_machine.specs.Beside.{fill_of, char_beside, size_beside};
 ghost use Rattle.pw_machine.specs.Views.{taken_by, IsTaken};
 
-use crate::spot::Taken;
+use crate::spot::MachineOperand;
 use crate::texts::{text_char, text_len};
 use crate::value::number_of;
-use pw_code::operand::Operand;
+use pw_code::operand::InstructionOperand;
 use pw_code::place::Kind;
 use std::cmp::Ordering;
 
 /// SPACES and ZEROS fill: the character that fills.
-pub fn fill_of(operand: &Operand, found: Taken) -> Option<u8>
+pub fn fill_of(operand: &InstructionOperand, found: MachineOperand) -> Option<u8>
     ensures { (storage : List ℕ) → result ≡ fill_of (value_in storage (taken_by operand.now found)) }
 {
     match found {
-        Taken::Fixed => match operand {
-            Operand::Number { .. } | Operand::Text(_) => None,
-            Operand::Zeros => Some(b'0'),
+        MachineOperand::Fixed => match operand {
+            InstructionOperand::Number { .. } | InstructionOperand::Text(_) => None,
+            InstructionOperand::Zeros => Some(b'0'),
             _ => Some(b' '),
         },
         _ => None,
@@ -28,7 +28,7 @@ pub fn fill_of(operand: &Operand, found: Taken) -> Option<u8>
 }
 
 /// The character at a place of an operand beside another.
-fn char_beside(storage: &[u8], operand: &Operand, found: Taken, place: usize) -> u8
+fn char_beside(storage: &[u8], operand: &InstructionOperand, found: MachineOperand, place: usize) -> u8
     requires { IsTaken (length storage.now) found }
     ensures { result ≡ char_beside (value_in storage.now (taken_by operand.now found)) place }
 {
@@ -39,7 +39,7 @@ fn char_beside(storage: &[u8], operand: &Operand, found: Taken, place: usize) ->
 }
 
 /// As many characters as two operands have beside each other.
-fn size_beside(storage: &[u8], left: &Operand, a: Taken, right: &Operand, b: Taken) -> usize
+fn size_beside(storage: &[u8], left: &InstructionOperand, a: MachineOperand, right: &InstructionOperand, b: MachineOperand) -> usize
     requires left { IsTaken (length storage.now) a }
     requires right { IsTaken (length storage.now) b }
     ensures { result ≡ size_beside (value_in storage.now (taken_by left.now a)) (value_in storage.now (taken_by right.now b)) }
@@ -53,7 +53,7 @@ fn size_beside(storage: &[u8], left: &Operand, a: Taken, right: &Operand, b: Tak
 }
 
 /// How two operands compare as texts, by their bytes.
-fn text_order(storage: &[u8], left: &Operand, a: Taken, right: &Operand, b: Taken) -> Ordering
+fn text_order(storage: &[u8], left: &InstructionOperand, a: MachineOperand, right: &InstructionOperand, b: MachineOperand) -> Ordering
     requires left { IsTaken (length storage.now) a }
     requires right { IsTaken (length storage.now) b }
     ensures { let one = value_in storage.now (taken_by left.now a) in let two = value_in storage.now (taken_by right.now b) in
@@ -71,25 +71,25 @@ fn text_order(storage: &[u8], left: &Operand, a: Taken, right: &Operand, b: Take
 }
 
 /// Whether an operand is a number.
-fn is_number(operand: &Operand, found: Taken) -> bool
-    ensures { (storage : List ℕ) → result ≡ is_number (value_in storage (taken_by operand.now found)) }
+fn is_number(operand: &InstructionOperand, found: MachineOperand) -> bool
+    ensures { (storage : List ℕ) → result ≡ is_number_operand (value_in storage (taken_by operand.now found)) }
 {
     match found {
-        Taken::Stored(spot) => matches!(spot.kind, Kind::Number { .. }),
-        Taken::Register { .. } => true,
-        Taken::Fixed => matches!(operand, Operand::Number { .. }),
+        MachineOperand::Stored(spot) => matches!(spot.kind, Kind::Number { .. }),
+        MachineOperand::Register { .. } => true,
+        MachineOperand::Fixed => matches!(operand, InstructionOperand::Number { .. }),
     }
 }
 
 /// Whether an operand is ZEROS.
-fn is_zeros(operand: &Operand, found: Taken) -> bool
+fn is_zeros(operand: &InstructionOperand, found: MachineOperand) -> bool
     ensures { (storage : List ℕ) → result ≡ is_zeros (value_in storage (taken_by operand.now found)) }
 {
     fill_of(operand, found) == Some(b'0')
 }
 
 /// How two operands compare: numbers by value, all else as texts.
-pub fn compared(storage: &[u8], left: &Operand, a: Taken, right: &Operand, b: Taken) -> Ordering
+pub fn compared(storage: &[u8], left: &InstructionOperand, a: MachineOperand, right: &InstructionOperand, b: MachineOperand) -> Ordering
     requires left { IsTaken (length storage.now) a }
     requires right { IsTaken (length storage.now) b }
     requires one { IsOperand (length storage.now) left.now }

@@ -2,31 +2,31 @@ ghost use Rattle.std.specs.Prelude.{◌≡◌, ◌≤◌, ◌<◌, Some, length,
 ghost use Rattle.std.specs.Char.{is_ascii_digit};
 ghost use Rattle.std.specs.List.{list_all};
 ghost use Rattle.pw_code.specs.Places.{IsOperand, IsComparison, IsCond, picture_of};
-ghost use Rattle.pw_exec.specs.Conditions.{holds_by, is_numeric, is_numeric_item, are_signed_digits, comparison_holds, all_hold, any_holds, holds};
+ghost use Rattle.pw_exec.specs.Conditions.{holds_by, is_numeric, is_numeric_item, are_signed_digits, comparison_holds, all_hold, any_holds, code_condition_holds};
 ghost use Rattle.pw_exec.specs.Reading.{value_in};
 ghost use Rattle.pw_machine.specs.Views.{registers_by, taken_by, IsTaken};
 
 use crate::compare::compared;
 use crate::numbers::chars_at;
 use crate::reading::taken;
-use crate::registers::Registers;
-use crate::spot::Taken;
+use crate::registers::MachineRegisters;
+use crate::spot::MachineOperand;
 use pw_base::list::List;
-use pw_code::cond::{Comparison, Cond, Operator};
-use pw_code::operand::Operand;
+use pw_code::cond::{Comparison, Cond, ComparisonOperator};
+use pw_code::operand::InstructionOperand;
 use pw_code::place::Kind;
 use std::cmp::Ordering;
 
 /// Whether a comparison holds by this operator.
-fn holds_by(operator: Operator, found: Ordering) -> bool
+fn holds_by(operator: ComparisonOperator, found: Ordering) -> bool
     ensures { result ≡ holds_by operator found }
 {
     match operator {
-        Operator::Equal => found.is_eq(),
-        Operator::Less => found.is_lt(),
-        Operator::Greater => found.is_gt(),
-        Operator::LessEqual => found.is_le(),
-        Operator::GreaterEqual => found.is_ge(),
+        ComparisonOperator::Equal => found.is_eq(),
+        ComparisonOperator::Less => found.is_lt(),
+        ComparisonOperator::Greater => found.is_gt(),
+        ComparisonOperator::LessEqual => found.is_le(),
+        ComparisonOperator::GreaterEqual => found.is_ge(),
     }
 }
 
@@ -58,23 +58,23 @@ fn is_numeric_item(kind: Kind, chars: &[u8]) -> bool
 }
 
 /// Whether an operand is numeric.
-fn is_numeric(storage: &[u8], operand: &Operand, found: Taken) -> bool
+fn is_numeric(storage: &[u8], operand: &InstructionOperand, found: MachineOperand) -> bool
     requires { IsTaken (length storage.now) found }
     ensures { result ≡ is_numeric (value_in storage.now (taken_by operand.now found)) }
 {
     match found {
-        Taken::Stored(spot) => is_numeric_item(spot.kind, chars_at(storage, spot.at, spot.size)),
-        Taken::Register { .. } => true,
-        Taken::Fixed => match operand {
-            Operand::Number { .. } | Operand::Zeros => true,
-            Operand::Text(chars) => are_digits(chars.as_slice()),
+        MachineOperand::Stored(spot) => is_numeric_item(spot.kind, chars_at(storage, spot.at, spot.size)),
+        MachineOperand::Register { .. } => true,
+        MachineOperand::Fixed => match operand {
+            InstructionOperand::Number { .. } | InstructionOperand::Zeros => true,
+            InstructionOperand::Text(chars) => are_digits(chars.as_slice()),
             _ => false,
         },
     }
 }
 
 /// Whether a comparison holds at this moment, None exactly where a subscript is outside.
-fn comparison_holds(registers: Registers, storage: &[u8], one: &Comparison) -> Option<bool>
+fn comparison_holds(registers: MachineRegisters, storage: &[u8], one: &Comparison) -> Option<bool>
     requires { IsComparison (length storage.now) one.now }
     ensures { result ≡ comparison_holds (registers_by registers) storage.now one.now }
 {
@@ -99,7 +99,7 @@ fn comparison_holds(registers: Registers, storage: &[u8], one: &Comparison) -> O
 
 /// Whether each of the comparisons holds, None exactly where a subscript is outside. All of them are read,
 /// whatever one gives.
-fn all_hold(registers: Registers, storage: &[u8], all: &[Comparison]) -> Option<bool>
+fn all_hold(registers: MachineRegisters, storage: &[u8], all: &[Comparison]) -> Option<bool>
     requires { All (IsComparison (length storage.now)) all.now }
     ensures { result ≡ all_hold (registers_by registers) storage.now all.now }
 {
@@ -112,7 +112,7 @@ fn all_hold(registers: Registers, storage: &[u8], all: &[Comparison]) -> Option<
 }
 
 /// Whether in one of the lists each comparison holds, None exactly where a subscript is outside.
-fn any_holds(registers: Registers, storage: &[u8], lists: &[List<Comparison>]) -> Option<bool>
+fn any_holds(registers: MachineRegisters, storage: &[u8], lists: &[List<Comparison>]) -> Option<bool>
     requires { All (All (IsComparison (length storage.now))) lists.now }
     ensures { result ≡ any_holds (registers_by registers) storage.now lists.now }
 {
@@ -125,9 +125,9 @@ fn any_holds(registers: Registers, storage: &[u8], lists: &[List<Comparison>]) -
 }
 
 /// Whether a condition holds at this moment, None exactly where a subscript is outside.
-pub fn holds(registers: Registers, storage: &[u8], cond: &Cond) -> Option<bool>
+pub fn holds(registers: MachineRegisters, storage: &[u8], cond: &Cond) -> Option<bool>
     requires { IsCond (length storage.now) cond.now }
-    ensures { result ≡ holds (registers_by registers) storage.now cond.now }
+    ensures { result ≡ code_condition_holds (registers_by registers) storage.now cond.now }
 {
     any_holds(registers, storage, cond.any.as_slice())
 }

@@ -5,7 +5,7 @@ ghost use Rattle.std.specs.Option.{option_copied};
 ghost use Rattle.std.specs.Char.{is_ascii_digit};
 ghost use Rattle.pw_picture.specs.Stored.{moved, is_negative};
 ghost use Rattle.pw_picture.specs.Grammar.{IsPicture, size_of};
-ghost use Rattle.pw_code.specs.Fields.{IsField, IsTable, HasClauses, IsItem};
+ghost use Rattle.pw_code.specs.Fields.{IsField, IsTable, HasClauses, IsFieldItem};
 ghost use Rattle.pw_code.specs.Spelling.{number_in, decimals_in};
 ghost use Rattle.pw_code.specs.Instrs.{IsScreen, screen_at};
 ghost use Rattle.pw_code.specs.declared.context.Frame.{Frame};
@@ -18,7 +18,7 @@ ghost use Rattle.pw_machine.specs.Stack.{HasRoom};
 
 use crate::keyed::number_keyed;
 use crate::moves::text_to;
-use crate::spot::Spot;
+use crate::spot::MachineSpot;
 use crate::top::Top;
 use crate::turns::go_over;
 use crate::units::answered;
@@ -53,7 +53,7 @@ fn enter_in(storage: &mut [u8], field: &Field, value: &[u8])
     let at = *at as usize;
     match source {
         Picture::Text { size } => {
-            let spot = Spot {
+            let spot = MachineSpot {
                 at,
                 size: *size as usize,
                 kind: Kind::Text,
@@ -72,7 +72,7 @@ fn enter_in(storage: &mut [u8], field: &Field, value: &[u8])
 /// Moves the values of an entry line, in the order of its pairs.
 fn enter_all(storage: &mut [u8], fields: &[Field], pairs: &[(Bytes, Bytes)])
     requires { All (IsField (length storage.old)) fields.now }
-    ensures { storage.new ≡ items.entered fields.now pairs.now storage.old }
+    ensures { storage.new ≡ items.storage_entered fields.now pairs.now storage.old }
 {
     for (name, value) in pairs {
         if let Some(field) = field_named(fields, name.as_slice()) {

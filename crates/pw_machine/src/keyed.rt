@@ -10,7 +10,7 @@ ghost use Rattle.pw_code.specs.Spelling.{number_in, decimals_in};
 ghost use Rattle.pw_terminal.specs.Shown.{written};
 
 use crate::moves::number_to;
-use crate::spot::Spot;
+use crate::spot::MachineSpot;
 use crate::texts::{digit_of_spelling, digits_in};
 use pw_code::place::Kind;
 use pw_picture::read::number_with;
@@ -107,7 +107,7 @@ pub fn number_keyed(
     let size = digits as usize + signed as usize;
     number_to(
         storage,
-        Spot { at, size, kind },
+        MachineSpot { at, size, kind },
         digits,
         places,
         signed,

@@ -6,7 +6,7 @@ ghost use Rattle.pw_terminal.specs.Shown.{written};
 ghost use Rattle.pw_machine.specs.Views.{spot_by, IsSpot};
 
 use crate::numbers::chars_at;
-use crate::spot::Spot;
+use crate::spot::MachineSpot;
 
 /// Writes characters over those from a place on.
 pub fn write_at(storage: &mut [u8], at: usize, chars: &[u8])
@@ -18,7 +18,7 @@ pub fn write_at(storage: &mut [u8], at: usize, chars: &[u8])
 }
 
 /// Copies arguments into the linkage items of a called program, from left to right.
-pub fn copy_in(storage: &mut [u8], linkage: &[(u32, u32)], from: &[u8], places: &[Spot])
+pub fn copy_in(storage: &mut [u8], linkage: &[(u32, u32)], from: &[u8], places: &[MachineSpot])
     requires linkage { All (IsLinked (length storage.old)) linkage.now }
     requires places { All (IsSpot (length from.now)) places.now }
     requires sizes { map (λ spot. spot.size) places.now ≡ map (λ item. item.1) linkage.now }
@@ -32,7 +32,7 @@ pub fn copy_in(storage: &mut [u8], linkage: &[(u32, u32)], from: &[u8], places: 
 }
 
 /// Copies the linkage items of a called program back to the arguments, from left to right.
-pub fn copy_back(storage: &mut [u8], places: &[Spot], linkage: &[(u32, u32)], from: &[u8])
+pub fn copy_back(storage: &mut [u8], places: &[MachineSpot], linkage: &[(u32, u32)], from: &[u8])
     requires places { All (IsSpot (length storage.old)) places.now }
     requires linkage { All (IsLinked (length from.now)) linkage.now }
     requires sizes { map (λ spot. spot.size) places.now ≡ map (λ item. item.1) linkage.now }

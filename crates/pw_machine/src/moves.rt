@@ -5,14 +5,14 @@ ghost use Rattle.pw_code.specs.Places.{IsOperand, picture_of};
 ghost use Rattle.pw_terminal.specs.Shown.{written};
 ghost use Rattle.pw_exec.specs.Moves.{move_value, move_text};
 ghost use Rattle.pw_exec.specs.Reading.{value_in};
-ghost use Rattle.pw_source.specs.Values.{text_in, text_of, without_sign};
+ghost use Rattle.pw_source.specs.Values.{text_in, operand_text, without_sign};
 ghost use Rattle.pw_machine.specs.Views.{spot_by, taken_by, IsSpot, IsTaken};
 
 use crate::compare::fill_of;
-use crate::spot::{Spot, Taken};
+use crate::spot::{MachineSpot, MachineOperand};
 use crate::texts::{sign_of, text_char};
 use crate::value::{number_of, number_of_text};
-use pw_code::operand::Operand;
+use pw_code::operand::InstructionOperand;
 use pw_code::place::Kind;
 use pw_number::scaled::Scaled;
 use pw_picture::picture::Picture;
@@ -21,7 +21,7 @@ use pw_picture::text::move_text as fit_text;
 /// Moves a number into the spot of a Number item.
 pub fn number_to(
     storage: &mut [u8],
-    spot: Spot,
+    spot: MachineSpot,
     digits: u8,
     places: u8,
     signed: bool,
@@ -41,7 +41,7 @@ pub fn number_to(
 }
 
 /// Writes characters as a text into a spot.
-pub fn text_to(storage: &mut [u8], spot: Spot, chars: &[u8])
+pub fn text_to(storage: &mut [u8], spot: MachineSpot, chars: &[u8])
     requires { IsSpot (length storage.old) spot }
     ensures { storage.new ≡ written spot.at (fitted spot.size chars.now) storage.old }
 {
@@ -50,7 +50,7 @@ pub fn text_to(storage: &mut [u8], spot: Spot, chars: &[u8])
 }
 
 /// Moves a message, a record or a reply to a spot as a text.
-pub fn move_text(storage: &mut [u8], to: Spot, chars: &[u8])
+pub fn move_text(storage: &mut [u8], to: MachineSpot, chars: &[u8])
     requires { IsSpot (length storage.old) to }
     ensures { storage.new ≡ move_text chars.now (spot_by to) storage.old }
 {
@@ -83,7 +83,7 @@ fn copy_to(storage: &mut [u8], from: usize, count: usize, to: usize)
 }
 
 /// Moves an item, without its sign, to the spot of a text. The two may overlap.
-fn item_to(storage: &mut [u8], from: Spot, to: Spot)
+fn item_to(storage: &mut [u8], from: MachineSpot, to: MachineSpot)
     requires from { IsSpot (length storage.old) from }
     requires to { IsSpot (length storage.old) to }
     ensures { storage.new ≡ written to.at (fitted to.size (without_sign (picture_of from.kind from.size) (take from.size (drop from.at storage.old)))) storage.old }
@@ -95,10 +95,10 @@ fn item_to(storage: &mut [u8], from: Spot, to: Spot)
 }
 
 /// Writes an operand that is no item as a text, character by character.
-fn spelled_to(storage: &mut [u8], operand: &Operand, found: Taken, to: Spot)
+fn spelled_to(storage: &mut [u8], operand: &InstructionOperand, found: MachineOperand, to: MachineSpot)
     requires found { IsTaken 0 found }
     requires to { IsSpot (length storage.old) to }
-    ensures { storage.new ≡ written to.at (fitted to.size (text_of (value_in [] (taken_by operand.now found)))) storage.old }
+    ensures { storage.new ≡ written to.at (fitted to.size (operand_text (value_in [] (taken_by operand.now found)))) storage.old }
 {
     for place in 0..to.size {
         storage[to.at + place] = text_char(&[], operand, found, place);
@@ -106,13 +106,13 @@ fn spelled_to(storage: &mut [u8], operand: &Operand, found: Taken, to: Spot)
 }
 
 /// Moves an operand to the spot of a text.
-fn text_value_to(storage: &mut [u8], operand: &Operand, found: Taken, to: Spot)
+fn text_value_to(storage: &mut [u8], operand: &InstructionOperand, found: MachineOperand, to: MachineSpot)
     requires found { IsTaken (length storage.old) found }
     requires to { IsSpot (length storage.old) to }
     ensures { storage.new ≡ written to.at (text_in to.size (value_in storage.old (taken_by operand.now found))) storage.old }
 {
     match found {
-        Taken::Stored(from) => item_to(storage, from, to),
+        MachineOperand::Stored(from) => item_to(storage, from, to),
         _ => match fill_of(operand, found) {
             Some(fill) => fill_with(storage, to.at, to.size, fill),
             None => spelled_to(storage, operand, found, to),
@@ -121,7 +121,7 @@ fn text_value_to(storage: &mut [u8], operand: &Operand, found: Taken, to: Spot)
 }
 
 /// Moves an operand to a spot. The two may overlap.
-pub fn move_value(storage: &mut [u8], operand: &Operand, found: Taken, to: Spot)
+pub fn move_value(storage: &mut [u8], operand: &InstructionOperand, found: MachineOperand, to: MachineSpot)
     requires operand { IsOperand (length storage.old) operand.now }
     requires found { IsTaken (length storage.old) found }
     requires to { IsSpot (length storage.old) to }

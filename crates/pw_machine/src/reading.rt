@@ -1,35 +1,35 @@
 ghost use Rattle.std.specs.Prelude.{◌≡◌, ◌≤◌, ◌<◌, ◌+◌, ◌-◌, ◌*◌, ◌^◌, Some, None, length, take, drop, unsigned_abs, IfSome, option_map, if◌then◌else◌};
 ghost use Rattle.pw_picture.specs.Stored.{read_of};
-ghost use Rattle.pw_code.specs.Places.{HasDigits, IsSubscript, IsTableAt, IsPlace, IsOperand};
+ghost use Rattle.pw_code.specs.Places.{HasDigits, IsSubscriptInStorage, IsTableAt, IsPlace, IsOperand};
 ghost use Rattle.pw_code.specs.Instrs.{digits_of_register};
-ghost use Rattle.pw_code.specs.declared.operand.Operand.{Operand};
-ghost use Rattle.pw_exec.specs.Reading.{Fixed, register_value, subscript_of, occurrence_at, at_this_moment, spot_of, taken};
+ghost use Rattle.pw_code.specs.declared.operand.InstructionOperand.{InstructionOperand};
+ghost use Rattle.pw_exec.specs.Reading.{Fixed, register_value, subscript_of, occurrence_at, at_this_moment, spot_of, code_operand_taken};
 ghost use Rattle.pw_source.specs.Values as values;
 ghost use Rattle.pw_machine.specs.Views.{registers_by, spot_by, taken_by, IsSpot, IsTaken};
 
 use crate::numbers::{chars_at, digits_in, whole_part};
-use crate::registers::Registers;
-use crate::spot::{Spot, Taken};
-use pw_code::operand::Operand;
-use pw_code::place::{Place, Register, Subscript, Table};
+use crate::registers::MachineRegisters;
+use crate::spot::{MachineSpot, MachineOperand};
+use pw_code::operand::InstructionOperand;
+use pw_code::place::{StoragePlace, Register, PlaceSubscript, PlaceTable};
 
 /// The value of a subscript.
-fn subscript_of(registers: Registers, storage: &[u8], subscript: Subscript) -> u128
-    requires { IsSubscript (length storage.now) subscript }
+fn subscript_of(registers: MachineRegisters, storage: &[u8], subscript: PlaceSubscript) -> u128
+    requires { IsSubscriptInStorage (length storage.now) subscript }
     ensures { result ≡ subscript_of (registers_by registers) storage.now subscript }
 {
     match subscript {
-        Subscript::Number(number) => number as u128,
-        Subscript::Item { at, digits, places } => {
+        PlaceSubscript::Number(number) => number as u128,
+        PlaceSubscript::Item { at, digits, places } => {
             let chars = chars_at(storage, at as usize, digits as usize);
             whole_part(digits_in(chars, places))
         }
-        Subscript::Register(register) => registers.value(register) as u128,
+        PlaceSubscript::Register(register) => registers.value(register) as u128,
     }
 }
 
 /// Where the k-th occurrence of an item begins, None exactly outside 1 to OCCURS.
-fn occurrence_at(at: usize, table: Table, k: u128) -> Option<usize>
+fn occurrence_at(at: usize, table: PlaceTable, k: u128) -> Option<usize>
     requires { at + (table.occurs - 1) * table.step < 2 ^ 63 }
     ensures { result ≡ occurrence_at at table k }
 {
@@ -41,7 +41,7 @@ fn occurrence_at(at: usize, table: Table, k: u128) -> Option<usize>
 }
 
 /// Where the occurrence begins that is meant at this moment.
-fn at_this_moment(registers: Registers, storage: &[u8], place: Place) -> Option<usize>
+fn at_this_moment(registers: MachineRegisters, storage: &[u8], place: StoragePlace) -> Option<usize>
     requires { IsPlace (length storage.now) place }
     ensures at { result ≡ at_this_moment (registers_by registers) storage.now place.at place.table }
     ensures inside { IfSome result (λ at. at + place.size ≤ length storage.now) }
@@ -56,13 +56,13 @@ fn at_this_moment(registers: Registers, storage: &[u8], place: Place) -> Option<
 }
 
 /// The spot of a place, None exactly where its subscript is outside.
-pub fn spot_of(registers: Registers, storage: &[u8], place: Place) -> Option<Spot>
+pub fn spot_of(registers: MachineRegisters, storage: &[u8], place: StoragePlace) -> Option<MachineSpot>
     requires { IsPlace (length storage.now) place }
     ensures spot { option_map spot_by result ≡ spot_of (registers_by registers) storage.now place }
     ensures inside { IfSome result (IsSpot (length storage.now)) }
 {
     let at = at_this_moment(registers, storage, place)?;
-    Some(Spot {
+    Some(MachineSpot {
         at,
         size: place.size as usize,
         kind: place.kind,
@@ -70,11 +70,11 @@ pub fn spot_of(registers: Registers, storage: &[u8], place: Place) -> Option<Spo
 }
 
 /// A register as it is read.
-fn register_taken(registers: Registers, register: Register) -> Taken
-    ensures taken { (one : Operand) → taken_by one result ≡ Fixed (values.Register (digits_of_register register) (register_value (registers_by registers) register)) }
+fn register_taken(registers: MachineRegisters, register: Register) -> MachineOperand
+    ensures taken { (one : InstructionOperand) → taken_by one result ≡ Fixed (values.Register (digits_of_register register) (register_value (registers_by registers) register)) }
     ensures few { IsTaken 0 result }
 {
-    Taken::Register {
+    MachineOperand::Register {
         digits: match register {
             Register::Restarts => 5,
             _ => 4,
@@ -84,14 +84,14 @@ fn register_taken(registers: Registers, register: Register) -> Taken
 }
 
 /// An operand at this moment, None exactly where its subscript is outside.
-pub fn taken(registers: Registers, storage: &[u8], operand: &Operand) -> Option<Taken>
+pub fn taken(registers: MachineRegisters, storage: &[u8], operand: &InstructionOperand) -> Option<MachineOperand>
     requires { IsOperand (length storage.now) operand.now }
-    ensures taken { option_map (taken_by operand.now) result ≡ taken (registers_by registers) storage.now operand.now }
+    ensures taken { option_map (taken_by operand.now) result ≡ code_operand_taken (registers_by registers) storage.now operand.now }
     ensures inside { IfSome result (IsTaken (length storage.now)) }
 {
     match operand {
-        Operand::Item(place) => Some(Taken::Stored(spot_of(registers, storage, *place)?)),
-        Operand::Register(register) => Some(register_taken(registers, *register)),
-        _ => Some(Taken::Fixed),
+        InstructionOperand::Item(place) => Some(MachineOperand::Stored(spot_of(registers, storage, *place)?)),
+        InstructionOperand::Register(register) => Some(register_taken(registers, *register)),
+        _ => Some(MachineOperand::Fixed),
     }
 }

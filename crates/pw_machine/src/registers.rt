@@ -6,20 +6,20 @@ use pw_code::place::Register;
 
 /// The registers as an instruction reads them.
 #[derive(Clone, Copy, Debug, PartialEq, Eq)]
-pub struct Registers {
+pub struct MachineRegisters {
     pub termination: u16,
     pub restarts: u32,
     pub file_status: u16,
 }
 
-impl Registers {
+impl MachineRegisters {
     ghost use Rattle.pw_machine.specs.Views.{registers_by};
 
     /// Those of a context.
-    pub fn of(context: &Context) -> Registers
+    pub fn of(context: &Context) -> MachineRegisters
         ensures { registers_by result ≡ registers_of context.now }
     {
-        Registers {
+        MachineRegisters {
             termination: context.termination,
             restarts: context.restarts,
             file_status: context.file_status,

@@ -3,7 +3,7 @@
 ghost use Rattle.std.specs.Prelude.{◌≡◌, ◌==◌, ◌<◌, ◌≤◌, ◌+◌, ◌^◌, List, length, position, option_and_then, option_map, All, IfSome};
 ghost use Rattle.pw_code.specs.Instrs.{IsReplyCode};
 ghost use Rattle.pw_code.specs.declared.context.Frame.{Frame};
-ghost use Rattle.pw_source.specs.Sends.{code_of};
+ghost use Rattle.pw_source.specs.Sends.{code_in_reply};
 ghost use Rattle.pw_exec.specs.Answers as answers;
 ghost use Rattle.pw_exec.specs.Config.{Config};
 ghost use Rattle.pw_exec.specs.Reading.{registers_of};
@@ -14,8 +14,8 @@ ghost use Rattle.pw_machine.specs.Stack.{HasRoom};
 
 use crate::moves::move_text;
 use crate::reading::spot_of;
-use crate::registers::Registers;
-use crate::spot::Spot;
+use crate::registers::MachineRegisters;
+use crate::spot::MachineSpot;
 use crate::top::Top;
 use crate::turns::go_over;
 use crate::units::reply_taken;
@@ -24,7 +24,7 @@ use pw_code::instr::ReplyCode;
 
 /// The code of a reply: its first 4 characters, where they are digits.
 fn code_of(reply: &[u8]) -> Option<u16>
-    ensures { result ≡ code_of reply.now }
+    ensures { result ≡ code_in_reply reply.now }
 {
     let [a, b, c, d, ..] = reply else {
         return None;
@@ -57,11 +57,11 @@ fn place_among(codes: &[ReplyCode], reply: &[u8]) -> Option<usize>
 
 /// The place among the CODEs, from 0, and the spot to which the reply goes.
 fn spot_among(
-    registers: Registers,
+    registers: MachineRegisters,
     storage: &[u8],
     codes: &[ReplyCode],
     reply: &[u8],
-) -> Option<(usize, Spot)>
+) -> Option<(usize, MachineSpot)>
     requires codes { All (IsReplyCode (length storage.now)) codes.now }
     ensures found { (c : Config) → registers_of c.rest ≡ registers_by registers → c.top.storage ≡ storage.now
         → option_map seen_at result ≡ option_and_then (answers.spot_among c codes.now) (answers.place_among codes.now reply.now) }
@@ -74,7 +74,7 @@ fn spot_among(
 }
 
 /// A reply goes to an item, and TERMINATION-STATUS is a position.
-fn yield_to(top: &mut Top, context: &mut Context, position: u16, spot: Spot, reply: &[u8])
+fn yield_to(top: &mut Top, context: &mut Context, position: u16, spot: MachineSpot, reply: &[u8])
     requires spot { IsSpot (length top.old.storage.items) spot }
     requires place { top.old.at + 2 < 2 ^ 32 }
     ensures config { (frames : List Frame) → config_with frames top.new context.new
@@ -95,11 +95,11 @@ pub fn replied(top: &mut Top, context: &mut Context, codes: &[ReplyCode], reply:
     requires place { top.old.at + 2 < 2 ^ 32 }
     requires room { HasRoom context.old }
     ensures config { (frames : List Frame) → config_with frames top.new context.new
-        ≡ answers.replied codes.now reply.now (config_with frames top.old context.old) }
+        ≡ answers.code_after_reply codes.now reply.now (config_with frames top.old context.old) }
     ensures size { length top.new.storage.items ≡ length top.old.storage.items }
     ensures program { top.new.program ≡ top.old.program }
 {
-    let registers = Registers::of(context);
+    let registers = MachineRegisters::of(context);
     let found = spot_among(registers, top.storage.as_slice(), codes, reply);
     reply_taken(context);
     match found {

@@ -4,7 +4,7 @@ ghost use Rattle.std.specs.Prelude.{◌≡◌, ◌<◌, length, IfOk, IsOk};
 ghost use Rattle.pw_code.specs.Valid.{IsValid};
 ghost use Rattle.pw_exec.specs.Config.{starting, starting_server, closed};
 ghost use Rattle.pw_exec.specs.Config as config;
-ghost use Rattle.pw_exec.specs.Contexts.{RunsOn, Takes};
+ghost use Rattle.pw_exec.specs.Contexts.{RunsOn, PutsAnswer};
 ghost use Rattle.pw_exec.specs.Runs.{Reaches};
 ghost use Rattle.pw_exec.specs.Sound.{IsSound, IsSoundContext};
 ghost use Rattle.pw_machine.specs.Config.{config_of};
@@ -126,7 +126,7 @@ pub fn answer(system: &System, context: &mut Context, answer: Answer) -> Result<
     requires valid { IsValid system.now }
     requires sound { IsSoundContext system.now context.old }
     requires room { HasRoom context.old }
-    ensures takes { Takes system.now answer context.old context.new }
+    ensures takes { PutsAnswer system.now answer context.old context.new }
     ensures sound { IsSoundContext system.now context.new }
     ensures never { IsOk result }
 {

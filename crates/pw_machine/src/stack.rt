@@ -6,7 +6,7 @@ ghost use Rattle.pw_exec.specs.Config.{code_at};
 ghost use Rattle.pw_exec.specs.Sound.{IsFrame};
 ghost use Rattle.pw_exec.specs.Turns.{split_last};
 ghost use Rattle.pw_machine.specs.Config.{config_of, frame_of};
-ghost use Rattle.pw_machine.specs.Stack.{AreKnown, CanDo, popped};
+ghost use Rattle.pw_machine.specs.Stack.{AreKnown, CanDoInstr, popped};
 
 use crate::top::Top;
 use pw_base::bytes::Bytes;
@@ -38,7 +38,7 @@ pub fn instr_at<'a>(system: &'a System, top: &Top) -> Option<&'a Instr>
     requires frame { IsFrame system.now (frame_of top.now) }
     ensures there { option_copied result ≡ slice_get (code_at system.now top.now.program).instrs top.now.at }
     ensures at { IfSome result (λ instr. slice_get (code_at system.now top.now.program).instrs top.now.at ≡ Some instr.now) }
-    ensures can { IfSome result (λ instr. CanDo system.now (frame_of top.now) instr.now) }
+    ensures can { IfSome result (λ instr. CanDoInstr system.now (frame_of top.now) instr.now) }
 {
     code_at(system, top.program).instrs.get(top.at as usize)
 }

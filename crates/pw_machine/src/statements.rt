@@ -10,22 +10,22 @@ ghost use Rattle.pw_machine.specs.Views.{registers_by, spot_by, taken_by, IsSpot
 use crate::arithmetic::computed;
 use crate::moves::move_value;
 use crate::reading::{spot_of, taken};
-use crate::registers::Registers;
-use crate::spot::{Spot, Taken};
+use crate::registers::MachineRegisters;
+use crate::spot::{MachineSpot, MachineOperand};
 use crate::value::number_of;
 use pw_base::memory::Memory;
 use pw_code::instr::Arithmetic;
-use pw_code::operand::Operand;
-use pw_code::place::Place;
+use pw_code::operand::InstructionOperand;
+use pw_code::place::StoragePlace;
 use std::alloc::Global;
 
 /// The spots of places, None exactly where the subscript of one is outside.
 pub fn spots_of(
     alloc: Global,
-    registers: Registers,
+    registers: MachineRegisters,
     storage: &[u8],
-    places: &[Place],
-) -> Result<Option<Vec<Spot>>, Memory>
+    places: &[StoragePlace],
+) -> Result<Option<Vec<MachineSpot>>, Memory>
     requires { All (IsPlace (length storage.now)) places.now }
     ensures spots { IfOk result (λ found. option_map (λ spots. map spot_by spots.items) found ≡ spots_of (registers_by registers) storage.now places.now) }
     ensures inside { IfOk result (λ found. IfSome found (λ spots. All (IsSpot (length storage.now)) spots.items)) }
@@ -42,7 +42,7 @@ pub fn spots_of(
 }
 
 /// Moves to each of the spots, from left to right.
-fn move_to_each(storage: &mut [u8], from: &Operand, source: Taken, targets: &[Spot])
+fn move_to_each(storage: &mut [u8], from: &InstructionOperand, source: MachineOperand, targets: &[MachineSpot])
     requires operand { IsOperand (length storage.old) from.now }
     requires source { IsTaken (length storage.old) source }
     requires targets { All (IsSpot (length storage.old)) targets.now }
@@ -54,7 +54,7 @@ fn move_to_each(storage: &mut [u8], from: &Operand, source: Taken, targets: &[Sp
 }
 
 /// MOVE to one place. It is false exactly where a subscript is outside, and then nothing is moved. It takes no memory.
-fn move_one(registers: Registers, storage: &mut [u8], from: &Operand, to: Place) -> bool
+fn move_one(registers: MachineRegisters, storage: &mut [u8], from: &InstructionOperand, to: StoragePlace) -> bool
     requires from { IsOperand (length storage.old) from.now }
     requires to { IsPlace (length storage.old) to }
     ensures moved { (if result then Some storage.new else None) ≡ moved_all (registers_by registers) storage.old from.now (to ∷ []) }
@@ -74,10 +74,10 @@ fn move_one(registers: Registers, storage: &mut [u8], from: &Operand, to: Place)
 /// nothing is moved. It takes memory only for more than one target.
 pub fn move_all(
     alloc: Global,
-    registers: Registers,
+    registers: MachineRegisters,
     storage: &mut [u8],
-    from: &Operand,
-    to: &[Place],
+    from: &InstructionOperand,
+    to: &[StoragePlace],
 ) -> Result<bool, Memory>
     requires from { IsOperand (length storage.old) from.now }
     requires to { All (IsPlace (length storage.old)) to.now }
@@ -99,7 +99,7 @@ pub fn move_all(
 
 /// Arithmetic: both operands and the receiver are taken first, None exactly where a subscript is outside. It is
 /// false on a size error. Nothing is stored then.
-pub fn compute(registers: Registers, storage: &mut [u8], arithmetic: &Arithmetic) -> Option<bool>
+pub fn compute(registers: MachineRegisters, storage: &mut [u8], arithmetic: &Arithmetic) -> Option<bool>
     requires { IsArithmetic (length storage.old) arithmetic.now }
     ensures stored { option_map (λ done. (if done then Some storage.new else None)) result ≡ computed_all (registers_by registers) storage.old arithmetic.now }
     ensures same { result ≢ Some true → storage.new ≡ storage.old }

@@ -3,11 +3,11 @@ ghost use Rattle.std.specs.Char.{is_ascii_digit};
 ghost use Rattle.pw_picture.specs.Stored.{digits_of};
 ghost use Rattle.pw_code.specs.Places.{IsOperand, picture_of};
 ghost use Rattle.pw_exec.specs.Reading.{value_in};
-ghost use Rattle.pw_source.specs.Values.{text_of, without_sign};
+ghost use Rattle.pw_source.specs.Values.{operand_text, without_sign};
 ghost use Rattle.pw_machine.specs.Views.{taken_by, IsSpot, IsTaken};
 
-use crate::spot::{Spot, Taken};
-use pw_code::operand::Operand;
+use crate::spot::{MachineSpot, MachineOperand};
+use pw_code::operand::InstructionOperand;
 use pw_code::place::Kind;
 use pw_number::power::power_of_ten;
 
@@ -59,7 +59,7 @@ pub fn digit_of_value(digits: u8, value: u32, place: usize) -> u8
 }
 
 /// The character at a place of an item without its sign, and a space past the last.
-fn char_at(storage: &[u8], spot: Spot, place: usize) -> u8
+fn char_at(storage: &[u8], spot: MachineSpot, place: usize) -> u8
     requires { IsSpot (length storage.now) spot }
     ensures { result ≡ slice_index_or (without_sign (picture_of spot.kind spot.size) (take spot.size (drop spot.at storage.now))) place 32 }
 {
@@ -73,16 +73,16 @@ fn char_at(storage: &[u8], spot: Spot, place: usize) -> u8
 }
 
 /// How many characters an operand has as a text.
-pub fn text_len(storage: &[u8], operand: &Operand, found: Taken) -> usize
+pub fn text_len(storage: &[u8], operand: &InstructionOperand, found: MachineOperand) -> usize
     requires { IsTaken (length storage.now) found }
-    ensures { result ≡ length (text_of (value_in storage.now (taken_by operand.now found))) }
+    ensures { result ≡ length (operand_text (value_in storage.now (taken_by operand.now found))) }
 {
     match found {
-        Taken::Stored(spot) => spot.size.saturating_sub(sign_of(spot.kind)),
-        Taken::Register { digits, .. } => digits as usize,
-        Taken::Fixed => match operand {
-            Operand::Number { spelling, .. } => digits_in(spelling.as_slice()),
-            Operand::Text(chars) => chars.len(),
+        MachineOperand::Stored(spot) => spot.size.saturating_sub(sign_of(spot.kind)),
+        MachineOperand::Register { digits, .. } => digits as usize,
+        MachineOperand::Fixed => match operand {
+            InstructionOperand::Number { spelling, .. } => digits_in(spelling.as_slice()),
+            InstructionOperand::Text(chars) => chars.len(),
             _ => 1,
         },
     }
@@ -100,17 +100,17 @@ fn char_of(text: &[u8], place: usize) -> u8
 }
 
 /// The character at a place of an operand as a text, and a space past the last.
-pub fn text_char(storage: &[u8], operand: &Operand, found: Taken, place: usize) -> u8
+pub fn text_char(storage: &[u8], operand: &InstructionOperand, found: MachineOperand, place: usize) -> u8
     requires { IsTaken (length storage.now) found }
-    ensures { result ≡ slice_index_or (text_of (value_in storage.now (taken_by operand.now found))) place 32 }
+    ensures { result ≡ slice_index_or (operand_text (value_in storage.now (taken_by operand.now found))) place 32 }
 {
     match found {
-        Taken::Stored(spot) => char_at(storage, spot, place),
-        Taken::Register { digits, value } => digit_of_value(digits, value, place),
-        Taken::Fixed => match operand {
-            Operand::Number { spelling, .. } => digit_of_spelling(spelling.as_slice(), place),
-            Operand::Text(chars) => char_of(chars.as_slice(), place),
-            Operand::Zeros => char_of(b"0", place),
+        MachineOperand::Stored(spot) => char_at(storage, spot, place),
+        MachineOperand::Register { digits, value } => digit_of_value(digits, value, place),
+        MachineOperand::Fixed => match operand {
+            InstructionOperand::Number { spelling, .. } => digit_of_spelling(spelling.as_slice(), place),
+            InstructionOperand::Text(chars) => char_of(chars.as_slice(), place),
+            InstructionOperand::Zeros => char_of(b"0", place),
             _ => b' ',
         },
     }

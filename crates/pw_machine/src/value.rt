@@ -2,12 +2,12 @@ ghost use Rattle.std.specs.Prelude.{◌≡◌, ◌≤◌, ◌<◌, ◌+◌, ◌-
 ghost use Rattle.pw_number.specs.Number.{number};
 ghost use Rattle.pw_code.specs.Places.{IsOperand, picture_of};
 ghost use Rattle.pw_exec.specs.Reading.{value_in, chars_at};
-ghost use Rattle.pw_source.specs.Values.{number_of, number_of_text, number_of_item, text_of};
+ghost use Rattle.pw_source.specs.Values.{number_of, number_of_text, number_of_item, operand_text};
 ghost use Rattle.pw_machine.specs.Views.{spot_by, taken_by, IsSpot, IsTaken};
 
 use crate::numbers::{chars_at, digits_in};
-use crate::spot::{Spot, Taken};
-use pw_code::operand::Operand;
+use crate::spot::{MachineSpot, MachineOperand};
+use pw_code::operand::InstructionOperand;
 use pw_code::place::Kind;
 use pw_number::scaled::Scaled;
 use pw_picture::picture::Picture;
@@ -35,7 +35,7 @@ pub fn number_of_text(chars: &[u8]) -> Scaled
 }
 
 /// The number in a spot.
-fn number_at(storage: &[u8], spot: Spot) -> Scaled
+fn number_at(storage: &[u8], spot: MachineSpot) -> Scaled
     requires { IsSpot (length storage.now) spot }
     ensures number { result ≡ number_of_item (picture_of spot.kind spot.size) (take spot.size (drop spot.at storage.now)) }
     ensures short { unsigned_abs result.units < 10 ^ 18 }
@@ -59,18 +59,18 @@ fn number_at(storage: &[u8], spot: Spot) -> Scaled
 }
 
 /// The number of an operand: its value, and of SPACES and ZEROS zero.
-pub fn number_of(storage: &[u8], operand: &Operand, found: Taken) -> Scaled
+pub fn number_of(storage: &[u8], operand: &InstructionOperand, found: MachineOperand) -> Scaled
     requires operand { IsOperand (length storage.now) operand.now }
     requires found { IsTaken (length storage.now) found }
     ensures number { result ≡ number_of (value_in storage.now (taken_by operand.now found)) }
     ensures short { unsigned_abs result.units < 10 ^ 18 }
 {
     match found {
-        Taken::Stored(spot) => number_at(storage, spot),
-        Taken::Register { value, .. } => whole(value as u64),
-        Taken::Fixed => match operand {
-            Operand::Number { value, .. } => *value,
-            Operand::Text(chars) => number_of_text(chars.as_slice()),
+        MachineOperand::Stored(spot) => number_at(storage, spot),
+        MachineOperand::Register { value, .. } => whole(value as u64),
+        MachineOperand::Fixed => match operand {
+            InstructionOperand::Number { value, .. } => *value,
+            InstructionOperand::Text(chars) => number_of_text(chars.as_slice()),
             _ => whole(0),
         },
     }

@@ -14,13 +14,13 @@ use Rattle.pw_monitor.proofs.PutBack.{actor-now, back-is, ran-still, run-disc}
 use Rattle.pw_monitor.proofs.RanFound.{ran-found}
 use Rattle.pw_monitor.specs.Applying.{Advances, StepsTo}
 use Rattle.pw_monitor.specs.Found.{IsFound}
-use Rattle.pw_monitor.specs.Judging.{IsOfWork, Passes}
+use Rattle.pw_monitor.specs.Judging.{IsOfWork, PassesJudging}
 use Rattle.pw_monitor.specs.PutBack.{RanFrom, faulted_as, leaves_work, put_back_for, ran_back}
 use Rattle.pw_monitor.specs.Running.{RunsTo}
 use Rattle.pw_monitor_world.proofs.Steps.{passes-shown}
 use Rattle.pw_monitor_world.specs.Actors.{IsActor}
 use Rattle.pw_kept.specs.Members.{members_of}
-use Rattle.pw_monitor_world.specs.Answers.{Comes, FailsOnly, IsBuilt, IsFull, LeavesApplied, Pushes, ran, ran_from, with_out}
+use Rattle.pw_monitor_world.specs.Answers.{AnswersApply, FailsOnly, IsBuilt, IsFull, LeavesApplied, Pushes, ran, ran_from, with_out}
 use Rattle.pw_monitor_world.specs.Pushed.{CanPush, pushed}
 use Rattle.pw_monitor_world.specs.Seen.{Seen, work_of}
 use Rattle.pw_monitor_world.specs.Tasks.{RanOn}
@@ -116,8 +116,8 @@ module _ (members : ℕ → List ℕ) (world : Seen) (outcome : Outcome) where
   abbrev Advanced : Applied → Seen → Type 0
   Advanced answer new = Advances members world outcome answer new
 
-  comes-so : (answer : Applied) (new : Seen) → Passes world outcome → Steps answer new
-      → Comes world outcome answer
+  comes-so : (answer : Applied) (new : Seen) → PassesJudging world outcome → Steps answer new
+      → AnswersApply world outcome answer
   comes-so applied.Done new passes step = (passes.accepted, step.0)
   comes-so applied.Held new passes step = (passes.accepted, step.0)
   comes-so applied.Unbuilt new passes step = (passes.accepted, step.0)
@@ -214,7 +214,7 @@ module _ (members : ℕ → List ℕ) (world : Seen) (outcome : Outcome) where
     step-ran : Steps answer after
     step-ran = subst (λ (w : Seen). StepsTo members w who answer after) ran_is step
 
-    pub advance-comes : Passes world outcome → Comes world outcome answer
+    pub advance-comes : PassesJudging world outcome → AnswersApply world outcome answer
     advance-comes passes = comes-so answer after passes step-ran
 
     pub after-from : (given : Option Context) → ForSome given (RanFrom world mid who)

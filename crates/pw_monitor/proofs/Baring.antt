@@ -9,7 +9,7 @@ use Rattle.pw_code.specs.declared.system.System.{System}
 use Rattle.pw_keep.specs.Keeps.{IsKeep, awaited_as, job_of, jobs_at, kept_by, no_seat, seat_at}
 use Rattle.pw_pair.specs.Pairs.{SeenPair}
 use Rattle.pw_seats.specs.Jobs.{context_of}
-use Rattle.pw_seats.specs.declared.job.Job.{Job}
+use Rattle.pw_seats.specs.declared.job.ProcessJob.{ProcessJob}
 use Rattle.pw_seats.specs.declared.seat.Seat.{Seat}
 use Rattle.pw_tmf.specs.Told.{Told}
 use Rattle.pw_monitor.specs.Bare.{IsBare}
@@ -18,7 +18,7 @@ same-if : {A : Type 0} (b : Bool) (x : A) → (if b then x else x) ≡ x
 same-if true x = refl
 same-if false x = refl
 
-module _ (system : System) (seats : List Seat) (disc : Told) (book : List Queue) (jobs : List (List (Option Job))) (pairs : List SeenPair) (births : ℕ) (k : IsKeep system seats disc book jobs pairs) where
+module _ (system : System) (seats : List Seat) (disc : Told) (book : List Queue) (jobs : List (List (Option ProcessJob))) (pairs : List SeenPair) (births : ℕ) (k : IsKeep system seats disc book jobs pairs) where
   no-seat-at : (t : ℕ) → length system.terminals ≤ t → seat_at seats t ≡ no_seat
   no-seat-at t past = let size = k.terminals in get_or-eq_default seats no_seat (omega (arith, size, past))
 

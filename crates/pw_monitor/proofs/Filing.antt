@@ -22,7 +22,7 @@ use Rattle.pw_pair.specs.Seats.{built}
 use Rattle.pw_pair.specs.Tasks.{waiting_task}
 use Rattle.pw_roster.specs.Places.{all_marked, notes_in}
 use Rattle.pw_roster.specs.declared.actor.Actor.{Actor}
-use Rattle.pw_roster.specs.declared.roster.Note.{Note}
+use Rattle.pw_roster.specs.declared.roster.ActorNote.{ActorNote}
 use Rattle.pw_tmf.specs.Told.{Told}
 
 -- ---- every actor is marked
@@ -32,7 +32,7 @@ pub marked-monitor : {D : Type 0} (told : D → Told) (w : WorldState D) (l : Le
 marked-monitor told w l m rest notes =
     noted-monitor told w l m rest (ap stamps_of notes ∙ all-stamp (notes_in w.ledger.notes))
     (λ actor known may.
-    ap (λ (n : Actor → Note). (n actor).marked) notes ∙ all-mark (notes_in w.ledger.notes) actor (placed w.keep.system m.valid actor known))
+    ap (λ (n : Actor → ActorNote). (n actor).marked) notes ∙ all-mark (notes_in w.ledger.notes) actor (placed w.keep.system m.valid actor known))
 
 pub marked-seen : {D : Type 0} (told : D → Told) (w : WorldState D) (l : LedgerState) → IsNoted w.ledger l
     → notes_in l.notes ≡ all_marked (notes_in w.ledger.notes) → seen told (record w { ledger = l }) ≡ seen told w

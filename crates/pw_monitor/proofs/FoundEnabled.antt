@@ -7,7 +7,7 @@ use Rattle.pw_kept.specs.TerminalTests.{seat_at}
 use Rattle.pw_monitor_world.specs.Actors.{actor_of}
 use Rattle.pw_monitor_world.specs.Answers as answer
 use Rattle.pw_monitor_world.specs.Answers.{IsBuilt}
-use Rattle.pw_monitor_world.specs.Enabled.{HasStep, IsEnabled}
+use Rattle.pw_monitor_world.specs.Enabled.{HasEnabledStep, IsEnabled}
 use Rattle.pw_monitor_world.specs.Seen.{Seen, finished, sys_of, work_of}
 use Rattle.pw_monitor_world.specs.Worlds.{Books, IsWorld}
 use Rattle.pw_monitor_world.proofs.Steps.{due-same, may-scripted, there}
@@ -15,7 +15,7 @@ use Rattle.pw_monitor_world.proofs.Unread.{read-of}
 use Rattle.pw_pair.specs.Pairs.{passes}
 use Rattle.pw_pair.specs.Seats.{flies_built, flies_waiting, is_built, is_flying, is_waiting}
 use Rattle.pw_pair.specs.declared.seat.Flight.{Flight}
-use Rattle.pw_pair.specs.declared.seat.Seat.{Seat}
+use Rattle.pw_pair.specs.declared.seat.BackupSeat.{BackupSeat}
 use Rattle.pw_paired.specs.Step.{line_wanted}
 use Rattle.pw_roster.specs.declared.actor.Actor.{Actor}
 use Rattle.pw_laws.specs.serial.Guarded.{is_fail}
@@ -76,7 +76,7 @@ module _ (world : Seen) where
   waits-at (Raise p) waits = absurd waits
   waits-at (End t ending) waits = absurd waits
 
-  pub not-unbuilt : (actor : Actor) (entry : Event) → IsEnabled world actor entry → (IsUnbuilt world.system world.kept entry → ⊥) → answer.IsUnbuilt world actor → ⊥
+  pub not-unbuilt : (actor : Actor) (entry : Event) → IsEnabled world actor entry → (IsUnbuilt world.system world.kept entry → ⊥) → answer.HasOnlyUnbuiltSteps world actor → ⊥
   not-unbuilt actor entry e built unbuilt = let own = unbuilt.each entry e in built (subst (IsUnbuilt world.system world.kept) (sym own.1.0) own.1.1)
 
   flight-built : (f : Option Flight) → is_some f ≡ true → (flies_waiting f ≡ true → ⊥) → flies_built f ≡ true
@@ -87,7 +87,7 @@ module _ (world : Seen) where
       by true e = refl
       by false e = absurd (built (rw e refl))
 
-  seat-built : (seat : Option Seat) → passes is_flying seat ≡ true → (passes is_waiting seat ≡ true → ⊥) → passes is_built seat ≡ true
+  seat-built : (seat : Option BackupSeat) → passes is_flying seat ≡ true → (passes is_waiting seat ≡ true → ⊥) → passes is_built seat ≡ true
   seat-built None flies built = absurd (cc flies)
   seat-built (Some seat) flies built = flight-built seat.flight flies built
 
@@ -193,11 +193,11 @@ module _ (world : Seen) (books : Books) (w : IsWorld world books) where
       }
 
   pub none-has : (actor : Actor) → IsUndue world books actor → work_of world actor ≡ None → HasOwnValues world.kept actor
-      → IsStepFound world.system world.kept actor None → HasStep world actor → ⊥
+      → IsStepFound world.system world.kept actor None → HasEnabledStep world actor → ⊥
   none-has actor undue none values found has = found has.0 (step-of actor undue none values has.0 has.1)
 
   pub all-unbuilt : (actor : Actor) (entry : Event) → IsUndue world books actor → work_of world actor ≡ None → HasOwnValues world.kept actor
-      → IsStepFound world.system world.kept actor (Some entry) → IsEnabled world actor entry → IsUnbuilt world.system world.kept entry → answer.IsUnbuilt world actor
+      → IsStepFound world.system world.kept actor (Some entry) → IsEnabled world actor entry → IsUnbuilt world.system world.kept entry → answer.HasOnlyUnbuiltSteps world actor
   all-unbuilt actor entry undue none values found e waits =
       let own = waits-at world entry waits in
       record {

@@ -18,7 +18,7 @@ use Rattle.pw_monitor_world.proofs.Failures.{only-fails, server-fails, tcp-fails
 use Rattle.pw_monitor_world.proofs.Idle.{reply-read}
 use Rattle.pw_monitor_world.specs.Actors.{IsActor, actor_of}
 use Rattle.pw_monitor_world.specs.Dues.{DueBook, IsOwner, due_in, if_due, is_line_of, open_behind, opened_from}
-use Rattle.pw_monitor_world.specs.Enabled.{HasStep}
+use Rattle.pw_monitor_world.specs.Enabled.{HasEnabledStep}
 use Rattle.pw_monitor_world.specs.Failures.{FailsBy}
 use Rattle.pw_monitor_world.specs.Seen.{Seen, finished, sys_of, work_of}
 use Rattle.pw_monitor_world.specs.Worlds.{Books, IsWorld}
@@ -152,7 +152,7 @@ module _ (world : Seen) (books : Books) (w : IsWorld world books) (a : Actor) (k
       let same : (s.class == s.class) ≡ true = eq-eqb s.class s.class refl in
       rw (s.names, s.actor_is, s.entry_is, same) refl
 
-  no-fail : fail_entry k (fail_line world.script k) a ≡ None → ¬ HasStep world a
+  no-fail : fail_entry k (fail_line world.script k) a ≡ None → ¬ HasEnabledStep world a
   no-fail none has =
       let by = only-fails world books w a has.0 k has.1 (due-same world books.due a has.0 has.1.own ∙ due) in
       let clash = fails-entry has.0 by in

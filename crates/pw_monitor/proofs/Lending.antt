@@ -5,22 +5,22 @@ use Rattle.std.specs.List.{AllByRecursion, IsDistinct}
 use Rattle.std.specs.Prelude.{find}
 use Rattle.pw_base.proofs.Plain.{some_is}
 use Rattle.pw_pair.specs.Seats.{is_seat_of, is_waiting}
-use Rattle.pw_pair.specs.declared.seat.Seat.{Seat}
+use Rattle.pw_pair.specs.declared.seat.BackupSeat.{BackupSeat}
 
-abbrev terminals : List Seat → List ℕ
-terminals seats = map (λ (seat : Seat). seat.terminal) seats
+abbrev terminals : List BackupSeat → List ℕ
+terminals seats = map (λ (seat : BackupSeat). seat.terminal) seats
 
 -- what holds of all terminals holds of that of a seat that is found
-found-all : (P : ℕ → Type 0) (test : Seat → Bool) (seats : List Seat) (seat : Seat) → AllByRecursion P (terminals seats)
+found-all : (P : ℕ → Type 0) (test : BackupSeat → Bool) (seats : List BackupSeat) (seat : BackupSeat) → AllByRecursion P (terminals seats)
     → find test seats ≡ Some seat → P seat.terminal
 found-all P test [] seat each found = absurd (cc found)
 found-all P test (x ∷ xs) seat each found =
     elim (cases_Bool (test x)) [
-      | inl passes ↦ let here : Some x ≡ Some seat = rw passes at found in subst (λ (s : Seat). P s.terminal) (some_is here) each.0
+      | inl passes ↦ let here : Some x ≡ Some seat = rw passes at found in subst (λ (s : BackupSeat). P s.terminal) (some_is here) each.0
       | inr fails ↦ let later : find test xs ≡ Some seat = rw fails at found in found-all P test xs seat each.1 later
     ]
 
-found-test : (test : Seat → Bool) (seats : List Seat) (seat : Seat) → find test seats ≡ Some seat → test seat ≡ true
+found-test : (test : BackupSeat → Bool) (seats : List BackupSeat) (seat : BackupSeat) → find test seats ≡ Some seat → test seat ≡ true
 found-test test [] seat found = absurd (cc found)
 found-test test (x ∷ xs) seat found =
     elim (cases_Bool (test x)) [
@@ -28,10 +28,10 @@ found-test test (x ∷ xs) seat found =
       | inr fails ↦ let later : find test xs ≡ Some seat = rw fails at found in found-test test xs seat later
     ]
 
-pub waits : (seats : List Seat) (seat : Seat) → find is_waiting seats ≡ Some seat → is_waiting seat ≡ true
+pub waits : (seats : List BackupSeat) (seat : BackupSeat) → find is_waiting seats ≡ Some seat → is_waiting seat ≡ true
 waits seats seat found = found-test is_waiting seats seat found
 
-pub own-seat : (test : Seat → Bool) (seats : List Seat) (seat : Seat) → IsDistinct (λ a b. a == b) (terminals seats)
+pub own-seat : (test : BackupSeat → Bool) (seats : List BackupSeat) (seat : BackupSeat) → IsDistinct (λ a b. a == b) (terminals seats)
     → find test seats ≡ Some seat → find (is_seat_of seat.terminal) seats ≡ Some seat
 unfolding IsDistinct
 own-seat test [] seat distinct found = absurd (cc found)
@@ -41,7 +41,7 @@ own-seat test (x ∷ xs) seat distinct found =
           let here : Some x ≡ Some seat = rw passes at found in
           let own : (x.terminal == x.terminal) ≡ true = eq-eqb x.terminal x.terminal refl in
           let first : find (is_seat_of x.terminal) (x ∷ xs) ≡ Some x = rw own refl in
-          subst (λ (s : Seat). find (is_seat_of s.terminal) (x ∷ xs) ≡ Some s) (some_is here) first
+          subst (λ (s : BackupSeat). find (is_seat_of s.terminal) (x ∷ xs) ≡ Some s) (some_is here) first
       | inr fails ↦
           let later : find test xs ≡ Some seat = rw fails at found in
           let other : (x.terminal == seat.terminal) ≡ false =

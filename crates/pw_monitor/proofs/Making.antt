@@ -28,7 +28,7 @@ use Rattle.pw_kept.specs.May.{IsThere, may}
 use Rattle.pw_kept.specs.Read.{AreValued, IsEntryRead}
 use Rattle.pw_kept.specs.Needs.{ClosingFits, Needs}
 use Rattle.pw_pair.specs.Follows.{mode_as}
-use Rattle.pw_kept.specs.TerminalTests.{closing, pair_of}
+use Rattle.pw_kept.specs.TerminalTests.{closing, seen_pair_of}
 use Rattle.pw_kept.specs.Tested.{IsAsking, IsPlaced, IsServing}
 use Rattle.pw_kept.proofs.Agreeing.{there-is}
 use Rattle.pw_kept.proofs.Arrived.{stands-behind}
@@ -56,7 +56,7 @@ use Rattle.pw_pair.specs.Rooms.{MaySend}
 use Rattle.pw_pair.specs.declared.message.CheckKind.{CheckKind}
 use Rattle.pw_pair.specs.declared.message.CheckKind.TheVariants as kind
 use Rattle.pw_paired.specs.Server.{LegalReply, lock_of_job, server_verb}
-use Rattle.pw_paired.specs.State.{Mode, Alone, Raising, Paired, Down, Job, LastEnded, OpenUnit, State, starting}
+use Rattle.pw_paired.specs.State.{PairMode, Alone, Raising, Paired, Down, Job, LastEnded, OpenUnit, State, starting}
 use Rattle.pw_paired.specs.Step.{Legal, after_from, effect}
 use Rattle.pw_paired.specs.Terminal.{CanStep, LegalBegin, births_after, closing_answer, next_verb, path_of}
 use Rattle.pw_paired.specs.Units.{attempt_of, birth_of, has_request, is_out, request_in, restarts_of}
@@ -140,10 +140,10 @@ module _ (world : Seen) (books : Books) (w : IsWorld world books) (entry : Event
       let both = rooms.ready world books w t at.placed.info at.context at.placed.here at.ready in
       record { placed = at.placed; context = at.context; ready = at.ready; sound = both.0; room = both.1 }
 
-  mode-of : (t : ℕ) → (at : IsPlaced world.system t) → (pair_of world.system world.kept t).mode ≡ mode_as (state.modes (sys.pair_of t))
+  mode-of : (t : ℕ) → (at : IsPlaced world.system t) → (seen_pair_of world.system world.kept t).mode ≡ mode_as (state.modes (sys.pair_of t))
   mode-of t at = (w.stands.pairs (sys.pair_of t) (w.deck.pairs t (slice_get_within world.system.terminals t at.info at.here))).mode_is
 
-  sends-in : (t : ℕ) (kind : CheckKind) (m : Mode) → (at : IsPlaced world.system t) → state.modes (sys.pair_of t) ≡ m → MaySend (mode_as m) kind → MaySend (pair_of world.system world.kept t).mode kind
+  sends-in : (t : ℕ) (kind : CheckKind) (m : PairMode) → (at : IsPlaced world.system t) → state.modes (sys.pair_of t) ≡ m → MaySend (mode_as m) kind → MaySend (seen_pair_of world.system world.kept t).mode kind
   sends-in t kind m at is may = subst (λ x. MaySend x kind) (sym (mode-of t at ∙ ap mode_as is)) may
 
   -- a context behind an answer has room
@@ -332,7 +332,7 @@ module _ (world : Seen) (books : Books) (w : IsWorld world books) (entry : Event
 
   -- ---- every entry
 
-  mode-is : (p : ℕ) → p < length world.system.tcps → (m : Mode) → state.modes p ≡ m → (world.kept.pairs p).mode ≡ mode_as m
+  mode-is : (p : ℕ) → p < length world.system.tcps → (m : PairMode) → state.modes p ≡ m → (world.kept.pairs p).mode ≡ mode_as m
   mode-is p few m is = (w.stands.pairs p few).mode_is ∙ ap mode_as is
 
   few-restarts : (t : ℕ) → (at : IsPlaced world.system t) → (u : OpenUnit) → state.units t ≡ Some u → u.restarts < sys.max_restarts t → (world.kept.terminals t).restarts < 2 ^ 32 - 1

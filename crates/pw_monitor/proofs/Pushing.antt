@@ -8,7 +8,7 @@ use Rattle.std.proofs.lemmas.List.Filters.{length-filter_both}
 use Rattle.pw_base.specs.Outside.{Rose}
 use Rattle.pw_base.proofs.Plain.{or-false}
 use Rattle.pw_code.specs.declared.system.System.{System}
-use Rattle.pw_event.specs.Due.{entries_of, is_same_owner, owner_of}
+use Rattle.pw_event.specs.Due.{owner_entry_count, is_same_owner, owner_of}
 use Rattle.pw_event.specs.declared.event.Event.{Event}
 use Rattle.pw_event.specs.declared.script.Owner.{Owner}
 use Rattle.pw_event.specs.declared.script.Owner.TheVariants as owner
@@ -18,7 +18,7 @@ use Rattle.pw_kept.specs.Entered.{entered}
 use Rattle.pw_kept.specs.Kept.{Kept}
 use Rattle.pw_monitor.proofs.Noting.{all-mark, all-out, all-stamp, marks_of, outs_of, restamped, stamps_of}
 use Rattle.pw_monitor.proofs.Stamped.{each-out, each-stamp}
-use Rattle.pw_monitor.specs.Bookings.{IsBooked, IsBookingOf, mode_in, stamped_each, turned}
+use Rattle.pw_monitor.specs.Bookings.{IsBooked, IsBookingOf, mode_in, stamped_each, owner_pair_turned}
 use Rattle.pw_monitor.specs.Ledgers.{LedgerState, books_of, listed}
 use Rattle.pw_monitor.specs.States.{IsMonitor, WorldState, seen}
 use Rattle.pw_monitor.specs.declared.booking.Booking.{Booking}
@@ -30,7 +30,7 @@ use Rattle.pw_monitor_world.proofs.Steps.{owner as owned, placed, there}
 use Rattle.pw_monitor_world.proofs.Touched.{stamps}
 use Rattle.pw_monitor_world.specs.Actors.{IsActor, is_same_actor}
 use Rattle.pw_kept.specs.Members.{members_of}
-use Rattle.pw_monitor_world.specs.Dues.{IsOwner, count_of, counted, without_fail}
+use Rattle.pw_monitor_world.specs.Dues.{IsOwner, count_of, due_entry_counted, without_fail}
 use Rattle.pw_monitor_world.specs.OneSends.{begins_one_send}
 use Rattle.pw_monitor_world.specs.Pushed.{AreMarked, CanPush, booked, live_behind, pushed}
 use Rattle.pw_monitor_world.specs.Seen.{Seen, state_of, sys_of}
@@ -40,7 +40,7 @@ use Rattle.pw_monitor_world.specs.Worlds.{IsWorld}
 use Rattle.pw_paired.specs.Shown.{refresh_of}
 use Rattle.pw_roster.specs.Places.{is_placed, notes_in}
 use Rattle.pw_roster.specs.declared.actor.Actor.{Actor}
-use Rattle.pw_roster.specs.declared.roster.Note.{Note}
+use Rattle.pw_roster.specs.declared.roster.ActorNote.{ActorNote}
 use Rattle.pw_tmf.specs.Told.{Told}
 use Rattle.pw_tmf.specs.declared.answer.DiscFault.TheVariants as fault
 
@@ -79,7 +79,7 @@ module _ {D : Type 0} (told : D → Told) (w : WorldState D) (m : IsMonitor told
       by (owner.Tcp p) low = subst (λ n. p < n) (sym m.books.due.tcp_count) low
       by (owner.Class c) low = subst (λ n. c < n) (sym m.books.due.class_count) low
 
-  short : (o : Owner) → entries_of (sys_of world).pair_of o world.log < 2 ^ 64 - 1
+  short : (o : Owner) → owner_entry_count (sys_of world).pair_of o world.log < 2 ^ 64 - 1
   short o =
       let mine = length-filter_both (λ e. is_same_owner (owner_of (sys_of world).pair_of e) o) (λ e. not (is_same_owner (owner_of (sys_of world).pair_of e) o)) (λ e. refl) world.log in
       let room = m.room in
@@ -117,8 +117,8 @@ module _ {D : Type 0} (told : D → Told) (w : WorldState D) (m : IsMonitor told
     outs-are : outs_of (notes_in l.notes) ≡ outs_of (notes_in w.ledger.notes)
     outs-are =
         ap outs_of is.notes
-        ∙ (all-out (stamped_each (turned (kept_in told k) booking.owner booking.mode) (length world.log + 1) (stamped_each booking.touched.items (length world.log + 1) (notes_in w.ledger.notes)))
-        ∙ (each-out (turned (kept_in told k) booking.owner booking.mode) (length world.log + 1) (stamped_each booking.touched.items (length world.log + 1) (notes_in w.ledger.notes))
+        ∙ (all-out (stamped_each (owner_pair_turned (kept_in told k) booking.owner booking.mode) (length world.log + 1) (stamped_each booking.touched.items (length world.log + 1) (notes_in w.ledger.notes)))
+        ∙ (each-out (owner_pair_turned (kept_in told k) booking.owner booking.mode) (length world.log + 1) (stamped_each booking.touched.items (length world.log + 1) (notes_in w.ledger.notes))
         ∙ each-out booking.touched.items (length world.log + 1) (notes_in w.ledger.notes)))
 
     log-is : l.log ≡ world.log ++ entry ∷ []
@@ -136,8 +136,8 @@ module _ {D : Type 0} (told : D → Told) (w : WorldState D) (m : IsMonitor told
 
     are-marked : AreMarked next marks
     are-marked a known may =
-        ap (λ (n : Actor → Note). (n a).marked) is.notes
-        ∙ all-mark (stamped_each (turned (kept_in told k) booking.owner booking.mode) (length world.log + 1) (stamped_each booking.touched.items (length world.log + 1) (notes_in w.ledger.notes))) a
+        ap (λ (n : Actor → ActorNote). (n a).marked) is.notes
+        ∙ all-mark (stamped_each (owner_pair_turned (kept_in told k) booking.owner booking.mode) (length world.log + 1) (stamped_each booking.touched.items (length world.log + 1) (notes_in w.ledger.notes))) a
         (placed w.keep.system m.valid a known)
 
     behind : IsWorld next (booked world entry marks (books_of w.ledger))
@@ -149,31 +149,31 @@ module _ {D : Type 0} (told : D → Told) (w : WorldState D) (m : IsMonitor told
     turned-mode p = turns world.system world.kept entry p
 
     turned-pair : (p : ℕ) → p < length w.keep.system.tcps → booking.owner ≡ owner.Tcp p → (a : Actor)
-        → list_any (is_same_actor a) (turned (kept_in told k) booking.owner booking.mode) ≡ (turned-mode p && list_any (is_same_actor a) (actors_of_pair p (members_of world.system p)))
+        → list_any (is_same_actor a) (owner_pair_turned (kept_in told k) booking.owner booking.mode) ≡ (turned-mode p && list_any (is_same_actor a) (actors_of_pair p (members_of world.system p)))
     turned-pair p low own a =
         let mode : booking.mode ≡ Some (world.kept.pairs p).mode = b.mode ∙ ap (mode_in world.kept) own in
         let same = is_same_mode (world.kept.pairs p).mode (next.kept.pairs p).mode in
-        ap (λ o. list_any (is_same_actor a) (turned (kept_in told k) o booking.mode)) own
-        ∙ (ap (λ o. list_any (is_same_actor a) (turned (kept_in told k) (owner.Tcp p) o)) mode
-        ∙ (ap (λ x. list_any (is_same_actor a) (turned x (owner.Tcp p) (Some (world.kept.pairs p).mode))) kept-is
+        ap (λ o. list_any (is_same_actor a) (owner_pair_turned (kept_in told k) o booking.mode)) own
+        ∙ (ap (λ o. list_any (is_same_actor a) (owner_pair_turned (kept_in told k) (owner.Tcp p) o)) mode
+        ∙ (ap (λ x. list_any (is_same_actor a) (owner_pair_turned x (owner.Tcp p) (Some (world.kept.pairs p).mode))) kept-is
         ∙ (any-unless (is_same_actor a) same (actors_of_pair p (terminals_in (next.kept.pairs p)))
         ∙ ap (λ ts. not same && list_any (is_same_actor a) (actors_of_pair p ts)) (behind.members p low))))
 
-    turned-class : (c : ℕ) → booking.owner ≡ owner.Class c → (a : Actor) → list_any (is_same_actor a) (turned (kept_in told k) booking.owner booking.mode) ≡ false
-    turned-class c own a = ap (λ o. list_any (is_same_actor a) (turned (kept_in told k) o booking.mode)) own
+    turned-class : (c : ℕ) → booking.owner ≡ owner.Class c → (a : Actor) → list_any (is_same_actor a) (owner_pair_turned (kept_in told k) booking.owner booking.mode) ≡ false
+    turned-class c own a = ap (λ o. list_any (is_same_actor a) (owner_pair_turned (kept_in told k) o booking.mode)) own
 
     touches-are : (a : Actor) → IsActor world.system a
-        → (list_any (is_same_actor a) booking.touched.items || list_any (is_same_actor a) (turned (kept_in told k) booking.owner booking.mode)) ≡ touches world.system world.kept entry a
+        → (list_any (is_same_actor a) booking.touched.items || list_any (is_same_actor a) (owner_pair_turned (kept_in told k) booking.owner booking.mode)) ≡ touches world.system world.kept entry a
     touches-are a known = by booking.owner refl owner-low
       where
         by : (o : Owner) → booking.owner ≡ o → IsOwner (length w.keep.system.tcps) (length w.keep.system.classes) o
-            → (list_any (is_same_actor a) booking.touched.items || list_any (is_same_actor a) (turned (kept_in told k) booking.owner booking.mode)) ≡ touches world.system world.kept entry a
+            → (list_any (is_same_actor a) booking.touched.items || list_any (is_same_actor a) (owner_pair_turned (kept_in told k) booking.owner booking.mode)) ≡ touches world.system world.kept entry a
         by (owner.Tcp p) own low =
-            ap (λ x. x || list_any (is_same_actor a) (turned (kept_in told k) booking.owner booking.mode)) (b.touched.exact a known)
+            ap (λ x. x || list_any (is_same_actor a) (owner_pair_turned (kept_in told k) booking.owner booking.mode)) (b.touched.exact a known)
             ∙ (ap (λ x. touches_at world.system world.kept entry a || x) (turned-pair p low own a)
             ∙ sym (by-pair world (books_of w.ledger) m entry can p a known (sym b.owner ∙ own)))
         by (owner.Class c) own low =
-            ap (λ x. x || list_any (is_same_actor a) (turned (kept_in told k) booking.owner booking.mode)) (b.touched.exact a known)
+            ap (λ x. x || list_any (is_same_actor a) (owner_pair_turned (kept_in told k) booking.owner booking.mode)) (b.touched.exact a known)
             ∙ (ap (λ x. touches_at world.system world.kept entry a || x) (turned-class c own a)
             ∙ (or-false (touches_at world.system world.kept entry a)
             ∙ sym (by-class world (books_of w.ledger) m entry can c a known (sym b.owner ∙ own))))
@@ -182,8 +182,8 @@ module _ {D : Type 0} (told : D → Told) (w : WorldState D) (m : IsMonitor told
     stamps-are a known =
         let n = length world.log + 1 in
         let mine = stamped_each booking.touched.items n (notes_in w.ledger.notes) in
-        let pairs = turned (kept_in told k) booking.owner booking.mode in
-        ap (λ (notes : Actor → Note). (notes a).stamp) is.notes
+        let pairs = owner_pair_turned (kept_in told k) booking.owner booking.mode in
+        ap (λ (notes : Actor → ActorNote). (notes a).stamp) is.notes
         ∙ (ap (λ (s : Actor → ℕ). s a) (all-stamp (stamped_each pairs n mine))
         ∙ (each-stamp pairs n mine a
         ∙ (ap (λ old. if list_any (is_same_actor a) pairs then n else old) (each-stamp booking.touched.items n (notes_in w.ledger.notes) a)
@@ -201,7 +201,7 @@ module _ {D : Type 0} (told : D → Told) (w : WorldState D) (m : IsMonitor told
           log = old.log ++ entry ∷ [];
           refreshes = old.refreshes ++ listed booking.refresh;
           one_sends = old.one_sends ++ booking.one_send ∷ [];
-          due = counted booking.owner (record old.due { waiting = without_fail entry old.due.waiting });
+          due = due_entry_counted booking.owner (record old.due { waiting = without_fail entry old.due.waiting });
           live = live_behind entry old.live;
           notes = l.notes;
           spare = l.spare;
@@ -212,7 +212,7 @@ module _ {D : Type 0} (told : D → Told) (w : WorldState D) (m : IsMonitor told
         ∙ ap (λ o. record (books_of own) {
           refreshes = old.refreshes ++ refresh_of sys state entry;
           one_sends = old.one_sends ++ begins_one_send sys state entry ∷ [];
-          due = counted o (record old.due { waiting = without_fail entry old.due.waiting });
+          due = due_entry_counted o (record old.due { waiting = without_fail entry old.due.waiting });
         }) b.owner))
 
     pub pushed-monitor : IsMonitor told (record w { keep = k; ledger = l })

@@ -11,7 +11,7 @@ use Rattle.pw_code.specs.declared.verb.Answer.{Answer}
 use Rattle.pw_code.specs.declared.verb.Verb.{Verb}
 use Rattle.pw_exec.specs.Answers.{put}
 use Rattle.pw_exec.specs.Config.{Config, closed}
-use Rattle.pw_exec.specs.Contexts.{Ran, RunsOn}
+use Rattle.pw_exec.specs.Contexts.{RanToVerb, RunsOn}
 use Rattle.pw_exec.specs.Runs.{Reaches, Run, at_verb, run}
 use Rattle.pw_exec.specs.Steps.{step, verb_of}
 use Rattle.pw_exec.proofs.RunLemmas as lemmas
@@ -99,15 +99,15 @@ module _ (system : System) where
       (is : given ≡ closed c) where
     length-of : (n : ℕ) × IsLeast (stands c) n
     length-of = far c (∥∥₁_map there (λ (runs : RunsOn system given work verb).
-        let ran : Ran system c work verb = runs c is in (ran.at, ran.reaches)))
+        let ran : RanToVerb system c work verb = runs c is in (ran.at, ran.reaches)))
 
     abbrev at : Config
     at = reached length-of.0 c
 
-    place : (ran : Ran system c work verb) → ran.at ≡ at
+    place : (ran : RanToVerb system c work verb) → ran.at ≡ at
     place ran = sym (same-place c ran.at length-of.0 length-of.1.passes ran.reaches)
 
-    ran-again : Ran system c work verb
+    ran-again : RanToVerb system c work verb
     ran-again = record {
       at = at;
       reaches = ((length-of.0, comes length-of.0 c), length-of.1.passes);

@@ -6,7 +6,7 @@ use Rattle.pw_code.specs.declared.context.Context.{Context}
 use Rattle.pw_code.specs.declared.system.ClassInfo.{ClassInfo}
 use Rattle.pw_code.specs.declared.system.System.{System}
 use Rattle.pw_code.specs.declared.verb.Verb.{Verb}
-use Rattle.pw_exec.specs.Contexts.{Ran}
+use Rattle.pw_exec.specs.Contexts.{RanToVerb}
 use Rattle.pw_exec.specs.OfSystem.{processes_by}
 use Rattle.pw_exec.specs.Steps.{verb_of}
 use Rattle.pw_keep.specs.Keeps.{IsChanged, KeepState, kept_in}
@@ -34,7 +34,7 @@ use Rattle.pw_onecopy.proofs.Update.{upd_elim}
 use Rattle.pw_roster.specs.Places.{all_marked, notes_in}
 use Rattle.pw_roster.specs.declared.actor.Actor.{Actor}
 use Rattle.pw_roster.specs.declared.actor.Actor.TheVariants as actor
-use Rattle.pw_roster.specs.declared.roster.Note.{Note}
+use Rattle.pw_roster.specs.declared.roster.ActorNote.{ActorNote}
 use Rattle.pw_tmf.specs.Told.{Told}
 
 -- ---- contexts at answers and at verbs
@@ -171,7 +171,7 @@ module _ (world : Seen) (books : Books) (w : IsWorld world books) where
       → (verb ≡ verb_in world.system work-at) × (work-at.at_verb ≡ true)
   runs-at a verb work-at of runs =
       let sound = (work world books w a runs.given of runs.is).0 in
-      let ran : Ran world.system sound.at work-at verb = runs.runs sound.at sound.is in (
+      let ran : RanToVerb world.system sound.at work-at verb = runs.runs sound.at sound.is in (
         ran.asks ∙ (ap (verb_of world.system) (sym (open-closed ran.at)) ∙ ap (verb_in world.system)
             (sym ran.is)),
         ap (λ (context : Context). context.at_verb) ran.is ∙ ran.reaches.1,
@@ -234,6 +234,6 @@ pub ran-monitor : {D : Type 0} (told : D → Told) (w : WorldState D) (k : KeepS
 ran-monitor told w k l a verb work-at rest notes m of runs changed =
     on-monitor told (record w { ledger = l }) k a verb work-at (marked-monitor told w l m rest notes) of
     (subst (λ (world : Seen). RunsTo world a verb work-at) (sym (marked-seen told w l rest notes)) runs)
-    (λ other known. ap (λ (n : Actor → Note). (n other).marked) notes
+    (λ other known. ap (λ (n : Actor → ActorNote). (n other).marked) notes
     ∙ all-mark (notes_in w.ledger.notes) other (placed w.keep.system m.valid other known))
     changed

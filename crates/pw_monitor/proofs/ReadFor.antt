@@ -3,7 +3,7 @@ use Rattle.std.proofs.Common.{◌≡◌, ◌∙◌, ℕ, ◌<◌, true, false, O
 use Rattle.std.specs.List.{list_any}
 use Rattle.std.proofs.lemmas.Bool.{cases_lt, eq-eqb, or_left}
 use Rattle.pw_class.specs.Queue.{IsIn, Queue, at_process, is_of, works_for}
-use Rattle.pw_class.specs.declared.request.Place.TheVariants as place
+use Rattle.pw_class.specs.declared.request.RequestPlace.TheVariants as place
 use Rattle.pw_class.specs.declared.request.Request.{Request}
 use Rattle.pw_code.specs.declared.system.System.{System}
 use Rattle.pw_event.specs.declared.event.Cause.{Cause}

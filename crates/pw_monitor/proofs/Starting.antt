@@ -25,7 +25,7 @@ use Rattle.pw_monitor_world.specs.Worlds.{Books, IsDiscOf, IsNew, IsWorld}
 use Rattle.pw_onecopy.specs.IsBehaviour.{IsBehaviour}
 use Rattle.pw_roster.specs.Places.{all_marked, blank, notes_in}
 use Rattle.pw_roster.specs.declared.actor.Actor.{Actor}
-use Rattle.pw_roster.specs.declared.roster.Note.{Note}
+use Rattle.pw_roster.specs.declared.roster.ActorNote.{ActorNote}
 use Rattle.pw_tmf.specs.Told.{Told}
 
 -- ---- what is kept
@@ -38,7 +38,7 @@ stands-first system t info is =
 
 -- ---- what is noted
 
-abbrev blank-notes : Actor → Note
+abbrev blank-notes : Actor → ActorNote
 blank-notes actor = blank
 
 abbrev first-marks : Actor → Bool
@@ -64,7 +64,7 @@ world-first system script disc limit valid b few lines few_lines of =
 
 -- ---- a world over a disc
 
-abbrev with-notes : System → List FailLine → (Actor → Note) → Books
+abbrev with-notes : System → List FailLine → (Actor → ActorNote) → Books
 with-notes system script notes = record (first_books system script) {
   stamps = λ actor. (notes actor).stamp;
   marked = λ actor. (notes actor).marked;

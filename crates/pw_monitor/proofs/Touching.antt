@@ -8,9 +8,9 @@ use Rattle.std.proofs.lemmas.List.Elements.{All-append, All-cons, All-nil}
 use Rattle.std.proofs.lemmas.List.Folds.{list_any-append}
 use Rattle.std.proofs.lemmas.Option.{slice_get_within}
 use Rattle.pw_base.proofs.Plain.{or-false, or-assoc}
-use Rattle.pw_class.specs.Queue.{IsIn, Queue, at_process, class_of, is_of, works_for}
-use Rattle.pw_class.specs.declared.request.Place.{Place}
-use Rattle.pw_class.specs.declared.request.Place.TheVariants.{Waiting, Busy}
+use Rattle.pw_class.specs.Queue.{IsIn, Queue, at_process, class_of_place, is_of, works_for}
+use Rattle.pw_class.specs.declared.request.RequestPlace.{RequestPlace}
+use Rattle.pw_class.specs.declared.request.RequestPlace.TheVariants.{Waiting, Busy}
 use Rattle.pw_class.specs.declared.request.Request.{Request}
 use Rattle.pw_code.specs.declared.system.ClassInfo.{ClassInfo}
 use Rattle.pw_code.specs.declared.system.System.{System}
@@ -24,7 +24,7 @@ use Rattle.pw_monitor.specs.Touched.{Grows, asks_at}
 use Rattle.pw_monitor_world.proofs.Cancelled.{of-idle, of-none, of-process, of-request, true-is}
 use Rattle.pw_monitor_world.specs.Actors.{IsActor}
 use Rattle.pw_monitor_world.specs.Touching.{actors_at}
-use Rattle.pw_pair.specs.declared.seat.Seat.{Seat}
+use Rattle.pw_pair.specs.declared.seat.BackupSeat.{BackupSeat}
 use Rattle.pw_roster.specs.Places.{is_same_actor}
 use Rattle.pw_roster.specs.declared.actor.Actor.{Actor}
 use Rattle.pw_roster.specs.declared.actor.Actor.TheVariants as actor
@@ -91,7 +91,7 @@ module _ {D : Type 0} (told : D → Told) (w : WorldState D) (m : IsMonitor told
   none-past : (c : ℕ) → length system.classes ≤ c → queues c ≡ record { waiting = []; busy = [] }
   none-past c past = let size = k.classes in get_or_past w.keep.book c (record { waiting = []; busy = [] }) (omega (arith, size, past))
 
-  place-low : (t : ℕ) (place : Place) → IsIn (queues (class_of place)) (class_of place) t place → class_of place < length system.classes
+  place-low : (t : ℕ) (place : RequestPlace) → IsIn (queues (class_of_place place)) (class_of_place place) t place → class_of_place place < length system.classes
   place-low t (Waiting d) at = ⊎_elim (λ low. low) (λ past.
       let none : list_any (is_of t) (queues d).waiting ≡ false = ap (λ (q : Queue). list_any (is_of t) q.waiting) (none-past d past) in
       let some : list_any (is_of t) (queues d).waiting ≡ true = true-is _ at.1 in
@@ -109,27 +109,27 @@ module _ {D : Type 0} (told : D → Told) (w : WorldState D) (m : IsMonitor told
       let size : length (queues d).busy ≡ processes_by (slice_get system.classes d) = (k.staffed d found.0 found.1).book ∙ ap processes_by (sym found.1) in
       (high.0, subst (λ n. j ≤ n) size high.1)
 
-  place-known : (t : ℕ) (place : Place) → IsIn (queues (class_of place)) (class_of place) t place → class_of place < length system.classes → All (IsActor system) (actors_at place)
+  place-known : (t : ℕ) (place : RequestPlace) → IsIn (queues (class_of_place place)) (class_of_place place) t place → class_of_place place < length system.classes → All (IsActor system) (actors_at place)
   place-known t (Waiting d) at low = All-cons (IsActor system) (actor.Class d) [] low (All-nil (IsActor system))
   place-known t (Busy d j) at low =
       All-cons (IsActor system) (actor.Process d j) (actor.Class d ∷ []) (process-there t d j low (true-is _ at.1)) (All-cons (IsActor system) (actor.Class d) [] low (All-nil (IsActor system)))
 
-  asks-there : (t : ℕ) (place : Place) → IsIn (queues (class_of place)) (class_of place) t place → class_of place < length system.classes → (a : Actor) → IsActor system a
+  asks-there : (t : ℕ) (place : RequestPlace) → IsIn (queues (class_of_place place)) (class_of_place place) t place → class_of_place place < length system.classes → (a : Actor) → IsActor system a
       → list_any (is_same_actor a) (actors_at place) ≡ asks_at (kept_in told w.keep) t a
   asks-there t place at few (actor.Terminal u) low = by place
     where
-      by : (one : Place) → list_any (is_same_actor (actor.Terminal u)) (actors_at one) ≡ false
+      by : (one : RequestPlace) → list_any (is_same_actor (actor.Terminal u)) (actors_at one) ≡ false
       by (Waiting d) = refl
       by (Busy d j) = refl
   asks-there t place at few (actor.Pair p) low = by place
     where
-      by : (one : Place) → list_any (is_same_actor (actor.Pair p)) (actors_at one) ≡ false
+      by : (one : RequestPlace) → list_any (is_same_actor (actor.Pair p)) (actors_at one) ≡ false
       by (Waiting d) = refl
       by (Busy d j) = refl
   asks-there t place at few (actor.Process c i) of = sym (of-process (seen told w) (books_of w.ledger) m t place c i few (process-class system c i of) at)
   asks-there t place at few (actor.Class c) low = sym (of-request (seen told w) (books_of w.ledger) m t place c few low at)
 
-  pub request-grows : (t : ℕ) (place : Place) (old new : List Actor) → IsIn (queues (class_of place)) (class_of place) t place → new ≡ old ++ actors_at place
+  pub request-grows : (t : ℕ) (place : RequestPlace) (old new : List Actor) → IsIn (queues (class_of_place place)) (class_of_place place) t place → new ≡ old ++ actors_at place
       → Grows system (asks_at (kept_in told w.keep) t) old new
   request-grows t place old new at is =
       let few = place-low t place at in
@@ -147,11 +147,11 @@ module _ {D : Type 0} (told : D → Told) (w : WorldState D) (m : IsMonitor told
 
 -- ---- one after the other
 
-abbrev pub terminals_of : List Seat → List ℕ
-terminals_of seats = map (λ (seat : Seat). seat.terminal) seats
+abbrev pub terminals_of : List BackupSeat → List ℕ
+terminals_of seats = map (λ (seat : BackupSeat). seat.terminal) seats
 
 -- the requests of those so far, and of one more
-pub requests-more : (system : System) (asks : ℕ → Actor → Bool) (seats : List Seat) (i : ℕ) (seat : Seat) (old mid new : List Actor)
+pub requests-more : (system : System) (asks : ℕ → Actor → Bool) (seats : List BackupSeat) (i : ℕ) (seat : BackupSeat) (old mid new : List Actor)
     → i < length seats → seat ≡ get_or seats i seat
     → Grows system (λ a. list_any (λ t. asks t a) (terminals_of (take i seats))) old mid → Grows system (asks seat.terminal) mid new
     → Grows system (λ a. list_any (λ t. asks t a) (terminals_of (take (i + 1) seats))) old new
@@ -160,6 +160,6 @@ requests-more system asks seats i seat old mid new lt is so_far one =
     grows-as system (λ a. list_any (λ t. asks t a) (terminals_of (take i seats)) || asks seat.terminal a) (λ a. list_any (λ t. asks t a) (terminals_of (take (i + 1) seats))) old new
     (grows-more system (λ a. list_any (λ t. asks t a) (terminals_of (take i seats))) (asks seat.terminal) old mid new so_far one)
     (λ a of. sym (ap (λ s. list_any (λ t. asks t a) (terminals_of s)) more
-    ∙ (ap (list_any (λ t. asks t a)) (map-append (λ (s : Seat). s.terminal) (take i seats) (seat ∷ []))
+    ∙ (ap (list_any (λ t. asks t a)) (map-append (λ (s : BackupSeat). s.terminal) (take i seats) (seat ∷ []))
     ∙ (list_any-append (λ t. asks t a) (terminals_of (take i seats)) (seat.terminal ∷ [])
     ∙ ap (λ b. list_any (λ t. asks t a) (terminals_of (take i seats)) || b) (or-false (asks seat.terminal a))))))

@@ -1,8 +1,8 @@
 -- What a step of an actor comes to, and what it leaves.
 use Rattle.std.specs.Prelude.{◌≡◌, ℕ, List}
 use Rattle.pw_event.specs.declared.event.Event.{Event}
-use Rattle.pw_monitor_world.specs.Answers.{FailsOnly, IsUnbuilt, Pushes, ran}
-use Rattle.pw_monitor_world.specs.Enabled.{HasStep}
+use Rattle.pw_monitor_world.specs.Answers.{FailsOnly, HasOnlyUnbuiltSteps, Pushes, ran}
+use Rattle.pw_monitor_world.specs.Enabled.{HasEnabledStep}
 use Rattle.pw_monitor_world.specs.Seen.{Seen}
 use Rattle.pw_monitor_world.specs.declared.answers.Applied.{Applied}
 use Rattle.pw_monitor_world.specs.declared.answers.Applied.TheVariants as applied
@@ -19,11 +19,11 @@ IsUnpushed fault.Memory world new = new ≡ world
 -- a step of an actor that has been read
 abbrev pub StepsTo : (ℕ → List ℕ) → Seen → Actor → Applied → Seen → Type 0
 StepsTo members world actor applied.Done new =
-    (HasStep world actor × (¬ IsUnbuilt world actor)) × ((entry : Event) × Pushes members world new actor entry)
-StepsTo members world actor applied.Held new = (¬ HasStep world actor) × (new ≡ world)
-StepsTo members world actor applied.Unbuilt new = IsUnbuilt world actor × (new ≡ world)
+    (HasEnabledStep world actor × (¬ HasOnlyUnbuiltSteps world actor)) × ((entry : Event) × Pushes members world new actor entry)
+StepsTo members world actor applied.Held new = (¬ HasEnabledStep world actor) × (new ≡ world)
+StepsTo members world actor applied.Unbuilt new = HasOnlyUnbuiltSteps world actor × (new ≡ world)
 StepsTo members world actor applied.DiscFault new =
-    (HasStep world actor × (¬ IsUnbuilt world actor)) × FailsOnly world new
+    (HasEnabledStep world actor × (¬ HasOnlyUnbuiltSteps world actor)) × FailsOnly world new
 StepsTo members world actor applied.Memory new = new ≡ world
 StepsTo members world actor _ new = ⊥
 

@@ -10,7 +10,7 @@ use Rattle.pw_kept.specs.Kept.{Kept}
 use Rattle.pw_monitor.specs.Ledgers.{LedgerState, listed}
 use Rattle.pw_monitor.specs.Touched.{AreTouched}
 use Rattle.pw_monitor.specs.declared.booking.Booking.{Booking}
-use Rattle.pw_monitor_world.specs.Dues.{counted, without_fail}
+use Rattle.pw_monitor_world.specs.Dues.{due_entry_counted, without_fail}
 use Rattle.pw_monitor_world.specs.OneSends.{begins_one_send}
 use Rattle.pw_monitor_world.specs.Pushed.{live_behind}
 use Rattle.pw_monitor_world.specs.Seen.{Seen, state_of, sys_of}
@@ -21,7 +21,7 @@ use Rattle.pw_pair.specs.declared.mode.Mode.{Mode}
 use Rattle.pw_paired.specs.Shown.{refresh_of}
 use Rattle.pw_roster.specs.Places.{all_marked, is_same_actor, notes_in, stamped}
 use Rattle.pw_roster.specs.declared.actor.Actor.{Actor}
-use Rattle.pw_roster.specs.declared.roster.Note.{Note}
+use Rattle.pw_roster.specs.declared.roster.ActorNote.{ActorNote}
 
 -- the mode of the pair of an owner, if it is one
 abbrev pub mode_in : Kept → Owner → Option Mode
@@ -34,9 +34,9 @@ turned_pair p mode pair =
     if is_same_mode mode pair.mode then [] else actors_of_pair p (terminals_in pair)
 
 -- the same of the pair of an owner, if it is one
-abbrev pub turned : Kept → Owner → Option Mode → List Actor
-turned kept (owner.Tcp p) (Some mode) = turned_pair p mode (kept.pairs p)
-turned kept _ _ = []
+abbrev pub owner_pair_turned : Kept → Owner → Option Mode → List Actor
+owner_pair_turned kept (owner.Tcp p) (Some mode) = turned_pair p mode (kept.pairs p)
+owner_pair_turned kept _ _ = []
 
 -- the booking is that of an entry
 pub record IsBookingOf (world : Seen) (entry : Event) (booking : Booking) : Type 0 where
@@ -47,7 +47,7 @@ pub record IsBookingOf (world : Seen) (entry : Event) (booking : Booking) : Type
   pub mode : booking.mode ≡ mode_in world.kept booking.owner
 
 -- what is noted of each of these actors is that its state changed behind so many entries
-abbrev pub stamped_each : List Actor → ℕ → (Actor → Note) → Actor → Note
+abbrev pub stamped_each : List Actor → ℕ → (Actor → ActorNote) → Actor → ActorNote
 stamped_each actors n notes actor =
     if list_any (is_same_actor actor) actors then stamped n (notes actor) else notes actor
 
@@ -58,11 +58,11 @@ pub record IsBooked (kept : Kept) (entry : Event) (booking : Booking) (old new :
     log = old.log ++ entry ∷ [];
     refreshes = old.refreshes ++ listed booking.refresh;
     one_sends = old.one_sends ++ booking.one_send ∷ [];
-    due = counted booking.owner (record old.due { waiting = without_fail entry old.due.waiting });
+    due = due_entry_counted booking.owner (record old.due { waiting = without_fail entry old.due.waiting });
     live = live_behind entry old.live;
     notes = new.notes;
     spare = new.spare;
   }
   pub notes : notes_in new.notes
-      ≡ all_marked (stamped_each (turned kept booking.owner booking.mode) (length old.log + 1)
+      ≡ all_marked (stamped_each (owner_pair_turned kept booking.owner booking.mode) (length old.log + 1)
       (stamped_each booking.touched.items (length old.log + 1) (notes_in old.notes)))

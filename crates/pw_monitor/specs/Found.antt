@@ -6,15 +6,15 @@ use Rattle.pw_exec.specs.Sound.{IsSoundContext}
 use Rattle.pw_kept.specs.Meeting.{IsStepRead}
 use Rattle.pw_kept.specs.Read.{IsReplyRead}
 use Rattle.pw_monitor_world.specs.Actors.{IsActor}
-use Rattle.pw_monitor_world.specs.Answers.{IsIdle, IsUnbuilt}
-use Rattle.pw_monitor_world.specs.Enabled.{HasStep, IsEnabled, MayWork}
+use Rattle.pw_monitor_world.specs.Answers.{IsWorldIdle, HasOnlyUnbuiltSteps}
+use Rattle.pw_monitor_world.specs.Enabled.{HasEnabledStep, IsEnabled, MayWork}
 use Rattle.pw_monitor_world.specs.Seen.{Seen, sys_of, work_of}
 use Rattle.pw_monitor_world.specs.Stamps.{IsStamp}
 use Rattle.pw_monitor_world.specs.declared.task.Task.{Task}
 use Rattle.pw_roster.specs.Places as roster
 use Rattle.pw_roster.specs.Places.{is_placed, notes_in}
 use Rattle.pw_roster.specs.declared.actor.Actor.{Actor}
-use Rattle.pw_roster.specs.declared.roster.Note.{Note}
+use Rattle.pw_roster.specs.declared.roster.ActorNote.{ActorNote}
 use Rattle.pw_steps.specs.Steps as steps
 
 -- An enabled step of the actor. What is to be read for it has been read; and it is an APPLIED whose message is not
@@ -23,11 +23,11 @@ pub record IsFound (world : Seen) (actor : Actor) (entry : Event) : Type 0 where
   pub enabled : IsEnabled world actor entry
   pub read : IsStepRead world.system world.kept entry
   pub reply : IsReplyRead world.kept entry
-  pub last : steps.IsUnbuilt world.system world.kept entry → IsUnbuilt world actor
+  pub last : steps.IsUnbuilt world.system world.kept entry → HasOnlyUnbuiltSteps world actor
 
 -- one is found exactly where there is one
 abbrev pub FindsStep : Seen → Actor → Option Event → Type 0
-FindsStep world actor None = ¬ HasStep world actor
+FindsStep world actor None = ¬ HasEnabledStep world actor
 FindsStep world actor (Some entry) = IsFound world actor entry
 
 -- the task of an actor that may work, whose work is sound
@@ -45,7 +45,7 @@ FindsTask world actor None = IsActor world.system actor → ¬ MayWork world act
 FindsTask world actor (Some task) = IsTaskOf world actor task
 
 -- an actor that is looked at for work and not out, or none where each that may work is out
-abbrev pub IsNextOf : Seen → List Note → Option Actor → Type 0
-IsNextOf world notes None = IsIdle world
+abbrev pub IsNextOf : Seen → List ActorNote → Option Actor → Type 0
+IsNextOf world notes None = IsWorldIdle world
 IsNextOf world notes (Some actor) =
     (is_placed actor ≡ true) × (roster.is_waiting (notes_in notes actor) ≡ true)

@@ -8,7 +8,7 @@ use Rattle.pw_monitor_world.specs.Dues.{DueBook, first_book}
 use Rattle.pw_monitor_world.specs.Worlds.{Books}
 use Rattle.pw_onecopy.specs.declared.refresh.Refresh.{Refresh}
 use Rattle.pw_roster.specs.Places.{all_marked, blank, notes_in}
-use Rattle.pw_roster.specs.declared.roster.Note.{Note}
+use Rattle.pw_roster.specs.declared.roster.ActorNote.{ActorNote}
 
 -- the log, and what is kept beside it
 pub record LedgerState : Type 0 where
@@ -20,7 +20,7 @@ pub record LedgerState : Type 0 where
   pub due : DueBook
   pub live : ℕ
   -- what is noted of actors
-  pub notes : List Note
+  pub notes : List ActorNote
   -- there is room for one entry more
   pub spare : Bool
 

@@ -3,12 +3,12 @@
 ghost use Rattle.std.specs.Prelude.{◌≡◌, None, false, true};
 ghost use Rattle.std.specs.Option.{ForSome};
 ghost use Rattle.pw_monitor.specs.Applying.{Advances, StepsTo};
-ghost use Rattle.pw_monitor.specs.Judging.{Passes};
+ghost use Rattle.pw_monitor.specs.Judging.{PassesJudging};
 ghost use Rattle.pw_monitor.specs.PutBack.{RanFrom, leaves_work, put_back_for};
 ghost use Rattle.pw_monitor.specs.States.{seen};
 ghost use Rattle.pw_monitor_world.specs.Actors.{IsActor};
 ghost use Rattle.pw_kept.specs.Members.{members_of};
-ghost use Rattle.pw_monitor_world.specs.Answers.{Comes, IsFull, LeavesApplied, ran, with_out};
+ghost use Rattle.pw_monitor_world.specs.Answers.{AnswersApply, IsFull, LeavesApplied, ran, with_out};
 ghost use Rattle.pw_monitor_world.specs.Seen.{Seen, work_of};
 ghost use Rattle.pw_roster.specs.Places.{is_placed};
 
@@ -28,7 +28,7 @@ impl<D: Disc> World<D> {
     pub fn apply(&mut self, outcome: Outcome) -> Applied
         requires system { outcome.over.value ≡ self.old.keep.system }
         requires actor { IsActor self.old.keep.system outcome.actor }
-        ensures comes { Comes (seen D.told self.old) outcome result }
+        ensures comes { AnswersApply (seen D.told self.old) outcome result }
         ensures leaves { LeavesApplied (members_of self.old.keep.system) (seen D.told self.old) outcome
             result (seen D.told self.new) }
     {
@@ -42,7 +42,7 @@ impl<D: Disc> World<D> {
     fn answer_to(&mut self, outcome: Outcome) -> Applied
         requires system { outcome.over.value ≡ self.old.keep.system }
         requires actor { IsActor self.old.keep.system outcome.actor }
-        ensures comes { Comes (seen D.told self.old) outcome result }
+        ensures comes { AnswersApply (seen D.told self.old) outcome result }
         ensures leaves { LeavesApplied (members_of self.old.keep.system) (seen D.told self.old) outcome
             result (with_out outcome.actor false (seen D.told self.new)) }
         ensures placed { is_placed outcome.actor ≡ true }
@@ -58,8 +58,8 @@ impl<D: Disc> World<D> {
     fn advance(&mut self, outcome: Outcome) -> Applied
         requires system { outcome.over.value ≡ self.old.keep.system }
         requires actor { IsActor self.old.keep.system outcome.actor }
-        requires passes { Passes (seen D.told self.old) outcome }
-        ensures comes { Comes (seen D.told self.old) outcome result }
+        requires passes { PassesJudging (seen D.told self.old) outcome }
+        ensures comes { AnswersApply (seen D.told self.old) outcome result }
         ensures leaves { Advances (members_of self.old.keep.system) (seen D.told self.old) outcome
             result (seen D.told self.new) }
     {
@@ -75,7 +75,7 @@ impl<D: Disc> World<D> {
     fn run_on(&mut self, outcome: Outcome) -> Option<Context>
         requires system { outcome.over.value ≡ self.old.keep.system }
         requires actor { IsActor self.old.keep.system outcome.actor }
-        requires passes { Passes (seen D.told self.old) outcome }
+        requires passes { PassesJudging (seen D.told self.old) outcome }
         ensures given { result ≡ work_of (seen D.told self.old) outcome.actor }
         ensures ran { seen D.told self.new ≡ ran (seen D.told self.old) outcome }
         ensures read { work_of (seen D.told self.new) outcome.actor ≡ None }

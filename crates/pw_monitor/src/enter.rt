@@ -15,7 +15,7 @@ ghost use Rattle.pw_paired.specs.Step.{Legal, line_due, line_wanted};
 use crate::actors::{actor_of, owner_of};
 use crate::world::World;
 use pw_base::memory::Memory;
-use pw_class::request::Place;
+use pw_class::request::RequestPlace;
 use pw_event::event::{Cause, Ending, Event};
 use pw_monitor_world::answers::Entered;
 use pw_roster::actor::Actor;
@@ -128,8 +128,8 @@ impl<D: Disc> World<D> {
     {
         self.keep.known_parts();
         match self.keep.request_of(terminal) {
-            Some(Place::Busy { class, process }) => self.read(Actor::Process { class, process }),
-            Some(Place::Waiting { .. }) => Ok(()),
+            Some(RequestPlace::Busy { class, process }) => self.read(Actor::Process { class, process }),
+            Some(RequestPlace::Waiting { .. }) => Ok(()),
             None => Ok(()),
         }
     }

@@ -11,14 +11,14 @@ ghost use Rattle.pw_kept.specs.Entered.{copied};
 ghost use Rattle.pw_kept.specs.May.{IsThere, may};
 ghost use Rattle.pw_kept.specs.Read.{AreValued};
 ghost use Rattle.pw_monitor_world.specs.Actors.{actor_of};
-ghost use Rattle.pw_monitor_world.specs.Answers.{IsBuilt, IsUnbuilt};
-ghost use Rattle.pw_monitor_world.specs.Enabled.{HasStep, IsEnabled};
+ghost use Rattle.pw_monitor_world.specs.Answers.{IsBuilt, HasOnlyUnbuiltSteps};
+ghost use Rattle.pw_monitor_world.specs.Enabled.{HasEnabledStep, IsEnabled};
 ghost use Rattle.pw_monitor_world.specs.Pushed.{CanPush};
 ghost use Rattle.pw_monitor_world.specs.Seen.{Seen, finished, sys_of, work_of};
 ghost use Rattle.pw_monitor_world.specs.Worlds.{Books, IsWorld};
 ghost use Rattle.pw_pair.specs.Pairs.{SeenPair};
 ghost use Rattle.pw_roster.specs.declared.actor.Actor.{Actor};
-ghost use Rattle.pw_seats.specs.declared.job.Job.{Job};
+ghost use Rattle.pw_seats.specs.declared.job.ProcessJob.{ProcessJob};
 ghost use Rattle.pw_seats.specs.declared.seat.Seat.{Seat};
 ghost use Rattle.pw_steps.specs.Known.{IsKnown};
 ghost use Rattle.pw_steps.specs.Steps as steps;
@@ -54,15 +54,15 @@ pub fn found_laws()
     ensures none { (world : Seen) (books : Books) (actor : Actor)
         → IsWorld world books → IsUndue world books actor → work_of world actor ≡ None
         → HasOwnValues world.kept actor
-        → IsStepFound world.system world.kept actor None → ¬ HasStep world actor }
+        → IsStepFound world.system world.kept actor None → ¬ HasEnabledStep world actor }
     ensures unbuilt { (world : Seen) (books : Books) (actor : Actor) (entry : Event)
         → IsWorld world books → IsUndue world books actor → work_of world actor ≡ None
         → HasOwnValues world.kept actor
         → IsStepFound world.system world.kept actor (Some entry) → IsEnabled world actor entry
-        → steps.IsUnbuilt world.system world.kept entry → IsUnbuilt world actor }
+        → steps.IsUnbuilt world.system world.kept entry → HasOnlyUnbuiltSteps world actor }
     ensures other { (world : Seen) (actor : Actor) (entry : Event)
         → IsEnabled world actor entry → ¬ steps.IsUnbuilt world.system world.kept entry
-        → ¬ IsUnbuilt world actor }
+        → ¬ HasOnlyUnbuiltSteps world actor }
     ensures built { (world : Seen) (entry : Event)
         → ¬ steps.IsUnbuilt world.system world.kept entry
         → may world.system world.script world.kept entry ≡ true → IsBuilt world entry }
@@ -83,7 +83,7 @@ pub fn value_laws()
 /// Beyond the terminals and classes of its system, what is kept is nothing.
 pub fn bare_laws()
     ensures { (system : System) (seats : List Seat) (disc : Told) (book : List Queue)
-        (jobs : List (List (Option Job))) (pairs : List SeenPair) (births : ℕ)
+        (jobs : List (List (Option ProcessJob))) (pairs : List SeenPair) (births : ℕ)
         → IsKeep system seats disc book jobs pairs
         → IsBare system (kept_by seats disc book jobs pairs births) }
 {}

@@ -1,8 +1,8 @@
 ghost use Rattle.std.specs.Prelude.{◌≡◌, ◌<◌, ◌≤◌, ◌^◌, ◌-◌, ◌+◌, ◌++◌, ◌∷◌, [], IfOk, OnErr, OnOk, false, length, true, vec_capacity, vec_len};
 ghost use Rattle.pw_monitor.specs.Ledgers.{IsFirstLedger, IsNoted, ends, listed};
-ghost use Rattle.pw_monitor_world.specs.Dues.{IsOwner, count_of, counted, due_in, without_fail};
+ghost use Rattle.pw_monitor_world.specs.Dues.{IsOwner, count_of, due_entry_counted, due_in, without_fail};
 ghost use Rattle.pw_monitor_world.specs.Pushed.{live_behind};
-ghost use Rattle.pw_roster.specs.Places.{IsNext, all_marked, is_placed, is_waiting, noted, notes_in, stamped, waiting, with_mark, with_out};
+ghost use Rattle.pw_roster.specs.Places.{IsNext, all_marked, is_placed, is_waiting, actor_noted, notes_in, stamped, waiting, with_mark, with_out};
 
 use pw_base::memory::Memory;
 use pw_code::system::System;
@@ -11,7 +11,7 @@ use pw_event::script::{Owner, Script};
 use pw_monitor_world::due::DueLines;
 use pw_onecopy::refresh::Refresh;
 use pw_roster::actor::Actor;
-use pw_roster::roster::{Note, Roster};
+use pw_roster::roster::{ActorNote, Roster};
 use std::alloc::Global;
 use std::marker::Model;
 
@@ -103,7 +103,7 @@ impl Ledger {
     }
 
     /// What is noted of an actor.
-    pub fn note(&self, actor: Actor) -> Note
+    pub fn note(&self, actor: Actor) -> ActorNote
         requires { is_placed actor ≡ true }
         ensures { result ≡ notes_in self.now.notes actor }
     {
@@ -121,7 +121,7 @@ impl Ledger {
     /// The actor is out from now on, or no more.
     pub fn set_out(&mut self, actor: Actor, out: bool)
         requires { is_placed actor ≡ true }
-        ensures notes { notes_in self.new.notes ≡ noted actor (with_out out) (notes_in self.old.notes) }
+        ensures notes { notes_in self.new.notes ≡ actor_noted actor (with_out out) (notes_in self.old.notes) }
         ensures rest { IsNoted self.old self.new }
     {
         self.roster.set_out(actor, out);
@@ -130,7 +130,7 @@ impl Ledger {
     /// The actor is looked at for work no more.
     pub fn unmark(&mut self, actor: Actor)
         requires { is_placed actor ≡ true }
-        ensures notes { notes_in self.new.notes ≡ noted actor (with_mark false) (notes_in self.old.notes) }
+        ensures notes { notes_in self.new.notes ≡ actor_noted actor (with_mark false) (notes_in self.old.notes) }
         ensures fewer { is_waiting (notes_in self.old.notes actor) ≡ true
             → waiting self.new.notes < waiting self.old.notes }
         ensures rest { IsNoted self.old self.new }
@@ -142,7 +142,7 @@ impl Ledger {
     pub fn stamp(&mut self, actor: Actor)
         requires { is_placed actor ≡ true }
         ensures notes { notes_in self.new.notes
-            ≡ noted actor (stamped (length self.old.log)) (notes_in self.old.notes) }
+            ≡ actor_noted actor (stamped (length self.old.log)) (notes_in self.old.notes) }
         ensures rest { IsNoted self.old self.new }
     {
         self.roster.stamp(actor, self.log.len() as u64);
@@ -177,7 +177,7 @@ impl Ledger {
           log = self.old.log ++ entry.now ∷ [];
           refreshes = self.old.refreshes ++ listed refresh;
           one_sends = self.old.one_sends ++ one_send ∷ [];
-          due = counted owner (record self.old.due { waiting = without_fail entry.now self.old.due.waiting });
+          due = due_entry_counted owner (record self.old.due { waiting = without_fail entry.now self.old.due.waiting });
           live = live_behind entry.now self.old.live;
           spare = self.new.spare;
         } }

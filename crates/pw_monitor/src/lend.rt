@@ -13,7 +13,7 @@ use crate::world::World;
 use pw_base::memory::Memory;
 use pw_pair::link::{LinkDone, LinkTask};
 use pw_pair::pair::Pair;
-use pw_pair::seat::Seat;
+use pw_pair::seat::BackupSeat;
 use pw_roster::actor::Actor;
 use pw_tmf::disc::Disc;
 
@@ -56,7 +56,7 @@ fn first_task(pair: &Pair) -> Result<Option<LinkTask>, Memory>
 }
 
 /// The first seat whose message is in flight and not built.
-fn first_waiting(seats: &[Seat]) -> Option<&Seat>
+fn first_waiting(seats: &[BackupSeat]) -> Option<&BackupSeat>
     ensures { option_copied result ≡ find is_waiting seats.now }
 {
     seats.iter().find(|seat| seat.is_waiting())

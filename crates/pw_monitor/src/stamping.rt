@@ -2,7 +2,7 @@
 
 ghost use Rattle.std.specs.Prelude.{◌≡◌, ◌-◌, ◌^◌, ◌<◌, ◌≤◌, All, length, map, true};
 ghost use Rattle.pw_keep.specs.Keeps.{kept_in};
-ghost use Rattle.pw_monitor.specs.Bookings.{IsBooked, stamped_each, turned, turned_pair};
+ghost use Rattle.pw_monitor.specs.Bookings.{IsBooked, stamped_each, owner_pair_turned, turned_pair};
 ghost use Rattle.pw_monitor.specs.Ledgers.{IsNoted, ends};
 ghost use Rattle.pw_monitor_world.specs.Dues.{IsOwner, count_of};
 ghost use Rattle.pw_monitor_world.specs.Touches.{is_same_mode};
@@ -16,7 +16,7 @@ use pw_event::script::Owner;
 use pw_keep::keep::Keep;
 use pw_pair::mode::Mode;
 use pw_pair::pair::Pair;
-use pw_pair::seat::Seat;
+use pw_pair::seat::BackupSeat;
 use pw_roster::actor::Actor;
 use pw_tmf::disc::Disc;
 
@@ -62,7 +62,7 @@ fn stamp_each(ledger: &mut Ledger, actors: &[Actor])
 fn stamp_turned<D: Disc>(ledger: &mut Ledger, keep: &Keep<D>, owner: Owner, mode: Option<Mode>)
     requires { IsOwner (length keep.now.system.tcps) (length keep.now.system.classes) owner }
     ensures notes { notes_in ledger.new.notes
-        ≡ stamped_each (turned (kept_in D.told keep.now) owner mode) (length ledger.old.log)
+        ≡ stamped_each (owner_pair_turned (kept_in D.told keep.now) owner mode) (length ledger.old.log)
         (notes_in ledger.old.notes) }
     ensures rest { IsNoted ledger.old ledger.new }
 {
@@ -95,7 +95,7 @@ fn stamp_pair(ledger: &mut Ledger, tcp: u32, pair: &Pair, mode: Mode)
 }
 
 /// The state of the terminals of a pair changes by the last entry.
-fn stamp_members(ledger: &mut Ledger, seats: &[Seat])
+fn stamp_members(ledger: &mut Ledger, seats: &[BackupSeat])
     requires { All (λ seat. is_placed (actor.Terminal seat.terminal) ≡ true) seats.now }
     ensures notes { notes_in ledger.new.notes
         ≡ stamped_each (map (λ seat. actor.Terminal seat.terminal) seats.now) (length ledger.old.log)

@@ -15,11 +15,11 @@ ghost use Rattle.pw_roster.specs.declared.actor.Actor.TheVariants as actor;
 use crate::actors::tcp_of;
 use crate::world::World;
 use pw_base::memory::Memory;
-use pw_class::request::Place;
+use pw_class::request::RequestPlace;
 use pw_code::system::System;
 use pw_event::event::{Cause, Ending, Event};
 use pw_pair::mode::Mode;
-use pw_pair::seat::Seat;
+use pw_pair::seat::BackupSeat;
 use pw_roster::actor::Actor;
 use pw_tmf::disc::Disc;
 
@@ -139,7 +139,7 @@ impl<D: Disc> World<D> {
     }
 
     /// Where the requests of terminals are.
-    fn push_requests(&self, actors: &mut Vec<Actor>, seats: &[Seat]) -> Result<(), Memory>
+    fn push_requests(&self, actors: &mut Vec<Actor>, seats: &[BackupSeat]) -> Result<(), Memory>
         ensures { OnOk result (Grows self.now.keep.system
             (λ one. list_any (λ t. asks_at (kept_in D.told self.now.keep) t one)
             (map (λ seat. seat.terminal) seats.now))
@@ -158,8 +158,8 @@ impl<D: Disc> World<D> {
     {
         self.keep.known_parts();
         match self.keep.request_of(terminal) {
-            Some(Place::Waiting { class }) => Ok(actors.push(Actor::Class(class))?),
-            Some(Place::Busy { class, process }) => push_process(actors, class, process),
+            Some(RequestPlace::Waiting { class }) => Ok(actors.push(Actor::Class(class))?),
+            Some(RequestPlace::Busy { class, process }) => push_process(actors, class, process),
             None => Ok(()),
         }
     }

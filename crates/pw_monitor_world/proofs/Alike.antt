@@ -20,7 +20,7 @@ use Rattle.pw_onecopy.proofs.Update.{upd-same}
 use Rattle.pw_paired.specs.Failure.{process_fails, with_restart}
 use Rattle.pw_paired.specs.State as paired
 use Rattle.pw_paired.specs.Raising.{copied_path}
-use Rattle.pw_paired.specs.State.{Mode, Alone, Copy, Job, Message, OpenUnit, Start, State, Term}
+use Rattle.pw_paired.specs.State.{PairMode, Alone, Copy, Job, Message, OpenUnit, Start, State, Term}
 use Rattle.pw_paired.specs.Step.{Legal, change}
 use Rattle.pw_paired.specs.Terminal.{closed_path, path_of, unit_with_attempt}
 use Rattle.pw_paired.specs.Server.{free_process}
@@ -51,7 +51,7 @@ abbrev pub flight_in : ActorState → Option Message
 flight_in (OfTerminal term unit last out mode memory flight) = flight
 flight_in _ = None
 
-abbrev pub mode_in : ActorState → Mode
+abbrev pub mode_in : ActorState → PairMode
 mode_in (OfTerminal term unit last out mode memory flight) = mode
 mode_in (OfPair mode members) = mode
 mode_in _ = Alone

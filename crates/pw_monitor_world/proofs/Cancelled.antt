@@ -5,9 +5,9 @@ use Rattle.std.specs.List.{list_any}
 use Rattle.std.proofs.lemmas.Bool.{cases_eq, eq-eqb, ne_eqb, or_left, or_right, false_from_ne_true, and_right}
 use Rattle.pw_base.proofs.Plain.{or-first-false, or-second-false, eqb-swap}
 use Rattle.pw_class.specs.Queue as queue
-use Rattle.pw_class.specs.Queue.{IsIn, Queue, at_process, class_of, is_of, works_for}
-use Rattle.pw_class.specs.declared.request.Place.{Place}
-use Rattle.pw_class.specs.declared.request.Place.TheVariants.{Waiting, Busy}
+use Rattle.pw_class.specs.Queue.{IsIn, Queue, at_process, class_of_place, is_of, works_for}
+use Rattle.pw_class.specs.declared.request.RequestPlace.{RequestPlace}
+use Rattle.pw_class.specs.declared.request.RequestPlace.TheVariants.{Waiting, Busy}
 use Rattle.pw_class.specs.declared.request.Request.{Request}
 use Rattle.pw_event.specs.Due.{owner_of}
 use Rattle.pw_event.specs.declared.event.Event.{Event}
@@ -117,18 +117,18 @@ module _ (world : Seen) (books : Books) (w : IsWorld world books) where
       let at : works_for t (slice_index_or q.busy i None) ≡ true = subst (λ k. works_for t (slice_index_or q.busy k None) ≡ true) same there in
       or_right (list_any (is_of t) q.waiting) (list_any (works_for t) q.busy) (at-busy t q.busy i at)
 
-  is-in-has : (t : ℕ) (place : Place) → IsIn (queues (class_of place)) (class_of place) t place → queue.has_request t (queues (class_of place)) ≡ true
+  is-in-has : (t : ℕ) (place : RequestPlace) → IsIn (queues (class_of_place place)) (class_of_place place) t place → queue.has_request t (queues (class_of_place place)) ≡ true
   is-in-has t (Waiting d) at = or_left (list_any (is_of t) (queues d).waiting) (list_any (works_for t) (queues d).busy) (true-is _ at.1)
   is-in-has t (Busy d j) at = works-has t j (queues d) (true-is _ at.1)
 
-  same-class : (c : ℕ) (place : Place) → (c == class_of place) ≡ list_any (is_same_actor (actor.Class c)) (actors_at place)
+  same-class : (c : ℕ) (place : RequestPlace) → (c == class_of_place place) ≡ list_any (is_same_actor (actor.Class c)) (actors_at place)
   same-class c (Waiting d) = or-none (c == d) false refl
   same-class c (Busy d j) = or-none (c == d) false refl
 
-  pub of-request : (t : ℕ) (place : Place) (c : ℕ) → class_of place < length world.system.classes → c < length world.system.classes
-      → IsIn (queues (class_of place)) (class_of place) t place → queue.has_request t (queues c) ≡ list_any (is_same_actor (actor.Class c)) (actors_at place)
+  pub of-request : (t : ℕ) (place : RequestPlace) (c : ℕ) → class_of_place place < length world.system.classes → c < length world.system.classes
+      → IsIn (queues (class_of_place place)) (class_of_place place) t place → queue.has_request t (queues c) ≡ list_any (is_same_actor (actor.Class c)) (actors_at place)
   of-request t place c few low at =
-      let d : ℕ = class_of place in
+      let d : ℕ = class_of_place place in
       let has : queue.has_request t (queues d) ≡ true = is-in-has t place at in
       let mine : queue.has_request t (queues c) ≡ (c == d) = ⊎_elim
       (λ same. ap (λ x. queue.has_request t (queues x)) same ∙ has ∙ sym (eq-eqb c d same))
@@ -136,8 +136,8 @@ module _ (world : Seen) (books : Books) (w : IsWorld world books) where
       (cases_eq c d) in
       mine ∙ same-class c place
 
-  pub of-process : (t : ℕ) (place : Place) (c i : ℕ) → class_of place < length world.system.classes → c < length world.system.classes
-      → IsIn (queues (class_of place)) (class_of place) t place → works_for t (at_process (queues c) i) ≡ list_any (is_same_actor (actor.Process c i)) (actors_at place)
+  pub of-process : (t : ℕ) (place : RequestPlace) (c i : ℕ) → class_of_place place < length world.system.classes → c < length world.system.classes
+      → IsIn (queues (class_of_place place)) (class_of_place place) t place → works_for t (at_process (queues c) i) ≡ list_any (is_same_actor (actor.Process c i)) (actors_at place)
   of-process t (Waiting d) c i few low at =
       false_from_ne_true (works_for t (at_process (queues c) i))
       (λ e. let none : list_any (is_of t) (queues d).waiting ≡ false = none-in-line world books w t c i d low few e in let some : list_any (is_of t) (queues d).waiting ≡ true = true-is _ at.1 in absurd (cc (none, some)))

@@ -15,7 +15,7 @@ use Rattle.pw_monitor_world.specs.Touches.{leaves}
 use Rattle.pw_monitor_world.proofs.Placed.{loses_in, without-has}
 use Rattle.pw_onecopy.specs.Behaviour.{Behaviour}
 use Rattle.pw_paired.specs.Failure.{backup_fails, is_of_pair, primary_fails}
-use Rattle.pw_paired.specs.State.{Mode, Alone, Raising, Paired, Down, Gone, Job, State}
+use Rattle.pw_paired.specs.State.{PairMode, Alone, Raising, Paired, Down, Gone, Job, State}
 use Rattle.pw_paired.specs.Step.{change}
 use Rattle.pw_paired.specs.Units.{freed_of, has_request, only, request_in, without_requests}
 use Rattle.pw_laws.proofs.requests.Cancelling.{cancelled-none, cancelled-same}
@@ -90,7 +90,7 @@ module _ (sys : Behaviour) (members : ℕ → List ℕ) (among : (p t : ℕ) →
       mine : is_of_pair sys p found.0 ≡ true
       mine = among p found.0 (within p found.0 found.1.0) ∙ found.1.0
 
-      by : (m : Mode) → s.modes p ≡ m → loses_in true m ≡ true → Cancels s (primary_fails sys p m s) has
+      by : (m : PairMode) → s.modes p ≡ m → loses_in true m ≡ true → Cancels s (primary_fails sys p m s) has
       by Paired is l = record { whose = is_of_pair sys p; classes = refl; t = found.0; mine = mine; passes = found.1.1 }
       by Raising is l = record { whose = is_of_pair sys p; classes = refl; t = found.0; mine = mine; passes = found.1.1 }
       by Alone is l = record { whose = is_of_pair sys p; classes = refl; t = found.0; mine = mine; passes = found.1.1 }
@@ -104,7 +104,7 @@ module _ (sys : Behaviour) (members : ℕ → List ℕ) (among : (p t : ℕ) →
       mine : is_of_pair sys p found.0 ≡ true
       mine = among p found.0 (within p found.0 found.1.0) ∙ found.1.0
 
-      by : (m : Mode) → s.modes p ≡ m → loses_in false m ≡ true → Cancels s (backup_fails sys p m s) has
+      by : (m : PairMode) → s.modes p ≡ m → loses_in false m ≡ true → Cancels s (backup_fails sys p m s) has
       by Down is l = record { whose = is_of_pair sys p; classes = refl; t = found.0; mine = mine; passes = found.1.1 }
       by Paired is l = absurd (cc l)
       by Raising is l = absurd (cc l)
@@ -146,7 +146,7 @@ module _ (sys : Behaviour) (members : ℕ → List ℕ) (among : (p t : ℕ) →
   cancel-none (End t Lost) has may e = none-at-all (change sys s (End t Lost)) has refl
   cancel-none (FailTcp p true k) has may e = by (s.modes p) e
     where
-      by : (m : Mode) → (loses_in true m && list_any has (members p)) ≡ false → CancelsNone sys s (primary_fails sys p m s) has
+      by : (m : PairMode) → (loses_in true m && list_any has (members p)) ≡ false → CancelsNone sys s (primary_fails sys p m s) has
       by Paired e = record { whose = is_of_pair sys p; classes = refl; none = of-members p has e }
       by Raising e = record { whose = is_of_pair sys p; classes = refl; none = of-members p has e }
       by Alone e = record { whose = is_of_pair sys p; classes = refl; none = of-members p has e }
@@ -154,7 +154,7 @@ module _ (sys : Behaviour) (members : ℕ → List ℕ) (among : (p t : ℕ) →
       by Gone e = none-at-all s has refl
   cancel-none (FailTcp p false k) has may e = by (s.modes p) e
     where
-      by : (m : Mode) → (loses_in false m && list_any has (members p)) ≡ false → CancelsNone sys s (backup_fails sys p m s) has
+      by : (m : PairMode) → (loses_in false m && list_any has (members p)) ≡ false → CancelsNone sys s (backup_fails sys p m s) has
       by Down e = record { whose = is_of_pair sys p; classes = refl; none = of-members p has e }
       by Paired e = none-at-all _ has refl
       by Raising e = none-at-all _ has refl

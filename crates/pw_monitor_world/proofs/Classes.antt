@@ -8,7 +8,7 @@ use Rattle.pw_event.specs.declared.event.Event.{Event}
 use Rattle.pw_event.specs.declared.event.Event.TheVariants.{Show, Key, CheckStart, CheckEnd, CheckCopy, Applied, Begin, Send, Take, File, Reply, Again, Commit, Back, Restart, FailTcp, FailServer, Takeover, Raise, End}
 use Rattle.pw_monitor_world.proofs.Cancels.{may_cancel}
 use Rattle.pw_onecopy.specs.Behaviour.{Behaviour}
-use Rattle.pw_onecopy.specs.Path.{FileAnswer}
+use Rattle.pw_onecopy.specs.Path.{FileResult}
 use Rattle.pw_onecopy.specs.Update.{upd}
 use Rattle.pw_onecopy.proofs.Update.{upd-other, upd-same}
 use Rattle.pw_paired.specs.Failure.{process_fails}
@@ -47,7 +47,7 @@ longer xs x is =
 shorter : {A : Type 0} (x : A) (xs : List A) → x ∷ xs ≡ xs → ⊥
 shorter x xs is = let long : suc (length xs) ≡ length xs = ap length is in omega (arith, long)
 
-abbrev done_in : Option Job → List FileAnswer
+abbrev done_in : Option Job → List FileResult
 done_in None = []
 done_in (Some job) = job.done
 
@@ -87,7 +87,7 @@ module _ (sys : Behaviour) (s : State) where
       absurd (cc (works, free, same))
 
   -- a process that has done an operation
-  operates : (c i : ℕ) (x : State) (job : Job) (answer : FileAnswer) → (s.classes c).busy i ≡ Some job → x.classes ≡ upd s.classes c (with_job_at i (Some (with_answer answer job)) (s.classes c))
+  operates : (c i : ℕ) (x : State) (job : Job) (answer : FileResult) → (s.classes c).busy i ≡ Some job → x.classes ≡ upd s.classes c (with_job_at i (Some (with_answer answer job)) (s.classes c))
       → (s.classes c).busy i ≡ (x.classes c).busy i → ⊥
   operates c i x job answer works is same =
       let now : (x.classes c).busy i ≡ Some (with_answer answer job) = ap (λ (y : Class). y.busy i) (at-place x c _ is) ∙ upd-same (s.classes c).busy i _ i refl in

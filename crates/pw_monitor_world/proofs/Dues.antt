@@ -4,13 +4,13 @@ use Rattle.std.specs.List.{list_any}
 use Rattle.std.proofs.lemmas.Bool.{cases_eq, eq-eqb, ne_eqb}
 use Rattle.std.proofs.lemmas.List.{get_or-replicate, get_or-set_other, get_or-set_same, length-replicate, length-set}
 use Rattle.std.proofs.lemmas.List.Folds.{list_any-append}
-use Rattle.pw_event.specs.Due.{Numbered, due_line, entries_of, is_fail_of, is_open, is_same_owner, next_failure, numbered, owner_of, owner_of_line}
+use Rattle.pw_event.specs.Due.{Numbered, due_line, owner_entry_count, is_fail_of, is_open, is_same_owner, next_failure, numbered, owner_of, owner_of_line}
 use Rattle.pw_event.specs.Due as event
 use Rattle.pw_event.specs.declared.event.Event.{Event}
 use Rattle.pw_event.specs.declared.script.FailLine.{FailLine}
 use Rattle.pw_event.specs.declared.script.Owner.{Owner}
 use Rattle.pw_event.specs.declared.script.Owner.TheVariants.{Tcp, Class}
-use Rattle.pw_monitor_world.specs.Dues.{DueBook, IsBookOf, IsOwner, after_entry, count_of, counted, due_in, first_book, if_due, is_line_of, open_behind, opened_from, without_fail}
+use Rattle.pw_monitor_world.specs.Dues.{DueBook, IsBookOf, IsOwner, after_entry, count_of, due_entry_counted, due_in, first_book, if_due, is_line_of, open_behind, opened_from, without_fail}
 use Rattle.pw_monitor_world.specs.declared.due.OpenLine.{OpenLine}
 
 -- ---- lists
@@ -77,15 +77,15 @@ same-due n None = refl
 same-due n (Some one) = refl
 
 module _ (tcps classes : ℕ) (pair_of : ℕ → ℕ) (lines : List FailLine) (log : List Event) (book : DueBook) (is : IsBookOf tcps classes pair_of lines log book) where
-  count-is : (owner : Owner) → IsOwner tcps classes owner → count_of book owner ≡ entries_of pair_of owner log
+  count-is : (owner : Owner) → IsOwner tcps classes owner → count_of book owner ≡ owner_entry_count pair_of owner log
   count-is (Tcp p) low = is.tcps_are p low
   count-is (Class c) low = is.classes_are c low
 
   pub due-is : (owner : Owner) → IsOwner tcps classes owner → due_in book owner ≡ due_line pair_of lines log owner
   due-is owner low =
       ap₂ (λ n o. if_due n (find (is_line_of owner) o)) (count-is owner low) is.waiting_is
-      ∙ (same-due (entries_of pair_of owner log) (find (is_line_of owner) (open_behind lines log))
-      ∙ ap (event.if_due (entries_of pair_of owner log)) (found log owner 1 lines))
+      ∙ (same-due (owner_entry_count pair_of owner log) (find (is_line_of owner) (open_behind lines log))
+      ∙ ap (event.if_due (owner_entry_count pair_of owner log)) (found log owner 1 lines))
 
   -- ---- one more entry
 
@@ -93,7 +93,7 @@ module _ (tcps classes : ℕ) (pair_of : ℕ → ℕ) (lines : List FailLine) (l
     own : Owner
     own = owner_of pair_of entry
 
-    more : (owner : Owner) → entries_of pair_of owner (log ++ entry ∷ []) ≡ cond (is_same_owner (owner_of pair_of entry) owner) (entries_of pair_of owner log + 1) (entries_of pair_of owner log)
+    more : (owner : Owner) → owner_entry_count pair_of owner (log ++ entry ∷ []) ≡ cond (is_same_owner (owner_of pair_of entry) owner) (owner_entry_count pair_of owner log + 1) (owner_entry_count pair_of owner log)
     more owner = count-more (λ x. is_same_owner (owner_of pair_of x) owner) log entry
 
     lines-are : without_fail entry book.waiting ≡ open_behind lines (log ++ entry ∷ [])
@@ -110,8 +110,8 @@ module _ (tcps classes : ℕ) (pair_of : ℕ → ℕ) (lines : List FailLine) (l
 
     -- the counts of one kind, where the entry is one of a place
     counts-more : (n : ℕ) (counts : List ℕ) (p : ℕ) (at : ℕ → Owner) → length counts ≡ n → p < n → ((q : ℕ) → is_same_owner (owner_of pair_of entry) (at q) ≡ (p == q))
-        → ((q : ℕ) → q < n → get_or counts q 0 ≡ entries_of pair_of (at q) log)
-        → (q : ℕ) → q < n → get_or (set counts p (get_or counts p 0 + 1)) q 0 ≡ entries_of pair_of (at q) (log ++ entry ∷ [])
+        → ((q : ℕ) → q < n → get_or counts q 0 ≡ owner_entry_count pair_of (at q) log)
+        → (q : ℕ) → q < n → get_or (set counts p (get_or counts p 0 + 1)) q 0 ≡ owner_entry_count pair_of (at q) (log ++ entry ∷ [])
     counts-more n counts p at long low same old q few =
         ⊎_elim
         (λ equal.
@@ -119,19 +119,19 @@ module _ (tcps classes : ℕ) (pair_of : ℕ → ℕ) (lines : List FailLine) (l
         ap (λ j. get_or (set counts p (get_or counts p 0 + 1)) j 0) (sym equal)
         ∙ (get_or-set_same counts p (get_or counts p 0 + 1) 0 (omega (arith, low, long))
         ∙ (ap (λ j. get_or counts j 0 + 1) equal ∙ (ap (λ m. m + 1) (old q few)
-        ∙ sym (more (at q) ∙ ap (λ b. cond b (entries_of pair_of (at q) log + 1) (entries_of pair_of (at q) log)) test)))))
+        ∙ sym (more (at q) ∙ ap (λ b. cond b (owner_entry_count pair_of (at q) log + 1) (owner_entry_count pair_of (at q) log)) test)))))
         (λ differ.
         let test : is_same_owner (owner_of pair_of entry) (at q) ≡ false = same q ∙ ne_eqb p q differ in
         get_or-set_other counts p q (get_or counts p 0 + 1) 0 (λ e. differ (sym e))
-        ∙ (old q few ∙ sym (more (at q) ∙ ap (λ b. cond b (entries_of pair_of (at q) log + 1) (entries_of pair_of (at q) log)) test)))
+        ∙ (old q few ∙ sym (more (at q) ∙ ap (λ b. cond b (owner_entry_count pair_of (at q) log + 1) (owner_entry_count pair_of (at q) log)) test)))
         (cases_eq p q)
 
     -- the counts of the other kind stay
-    counts-stay : (counts : List ℕ) (at : ℕ → Owner) → ((q : ℕ) → is_same_owner (owner_of pair_of entry) (at q) ≡ false) → (q : ℕ) → get_or counts q 0 ≡ entries_of pair_of (at q) log
-        → get_or counts q 0 ≡ entries_of pair_of (at q) (log ++ entry ∷ [])
-    counts-stay counts at other q old = old ∙ sym (more (at q) ∙ ap (λ b. cond b (entries_of pair_of (at q) log + 1) (entries_of pair_of (at q) log)) (other q))
+    counts-stay : (counts : List ℕ) (at : ℕ → Owner) → ((q : ℕ) → is_same_owner (owner_of pair_of entry) (at q) ≡ false) → (q : ℕ) → get_or counts q 0 ≡ owner_entry_count pair_of (at q) log
+        → get_or counts q 0 ≡ owner_entry_count pair_of (at q) (log ++ entry ∷ [])
+    counts-stay counts at other q old = old ∙ sym (more (at q) ∙ ap (λ b. cond b (owner_entry_count pair_of (at q) log + 1) (owner_entry_count pair_of (at q) log)) (other q))
 
-    by-owner : (owner : Owner) → owner_of pair_of entry ≡ owner → IsOwner tcps classes owner → IsBookOf tcps classes pair_of lines (log ++ entry ∷ []) (counted owner (record book { waiting = without_fail entry book.waiting }))
+    by-owner : (owner : Owner) → owner_of pair_of entry ≡ owner → IsOwner tcps classes owner → IsBookOf tcps classes pair_of lines (log ++ entry ∷ []) (due_entry_counted owner (record book { waiting = without_fail entry book.waiting }))
     by-owner (Tcp p) is_own low = record {
       waiting_is = lines-are;
       tcp_count = length-set book.tcps p _ ∙ is.tcp_count;

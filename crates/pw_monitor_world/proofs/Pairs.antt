@@ -8,7 +8,7 @@ use Rattle.pw_class.specs.Queue.{works_for}
 use Rattle.pw_event.specs.declared.event.Ending.{Ending}
 use Rattle.pw_event.specs.declared.event.Event.{Event}
 use Rattle.pw_event.specs.declared.event.Event.TheVariants.{Show, Key, CheckStart, CheckEnd, CheckCopy, Applied, Begin, Send, Take, File, Reply, Again, Commit, Back, Restart, FailTcp, FailServer, Takeover, Raise, End}
-use Rattle.pw_monitor_world.specs.Stamps.{ActorState, Member, OfPair, member_of, state_in}
+use Rattle.pw_monitor_world.specs.Stamps.{ActorState, PairTerminal, OfPair, member_of, state_in}
 use Rattle.pw_monitor_world.proofs.Endings.{ends-there}
 use Rattle.pw_monitor_world.proofs.Unlike.{SameAt, at_terminal, rest}
 use Rattle.pw_onecopy.specs.Behaviour.{Behaviour}
@@ -38,19 +38,19 @@ at_pair sys s p (Restart t n cause) = sys.pair_of t == p && is_takeover (s.terms
 at_pair sys s p (End t ending) = sys.pair_of t == p
 at_pair sys s p _ = false
 
-abbrev member_in : ℕ → ActorState → Option Member
+abbrev member_in : ℕ → ActorState → Option PairTerminal
 member_in t (OfPair mode members) = members t
 member_in t _ = None
 
-abbrev flies_in : Option Member → Option Message
+abbrev flies_in : Option PairTerminal → Option Message
 flies_in None = None
 flies_in (Some m) = m.flight
 
-abbrev taken_in : Option Member → Bool
+abbrev taken_in : Option PairTerminal → Bool
 taken_in None = false
 taken_in (Some m) = m.taken_over
 
-abbrev ended_in : Option Member → Bool
+abbrev ended_in : Option PairTerminal → Bool
 ended_in None = false
 ended_in (Some m) = m.ended
 

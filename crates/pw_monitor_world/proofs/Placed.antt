@@ -18,7 +18,7 @@ use Rattle.pw_onecopy.specs.Update.{upd}
 use Rattle.pw_onecopy.proofs.Update.{upd_elim}
 use Rattle.pw_paired.specs.Failure.{backup_fails, is_of_pair, lose_pair, lose_primary, primary_fails, process_fails}
 use Rattle.pw_paired.specs.Server.{answer_on, do_operation, free_process, with_job_at}
-use Rattle.pw_paired.specs.State.{Mode, Alone, Raising, Paired, Down, Gone, Class, Job, State}
+use Rattle.pw_paired.specs.State.{PairMode, Alone, Raising, Paired, Down, Gone, Class, Job, State}
 use Rattle.pw_paired.specs.Step.{Legal, change}
 use Rattle.pw_paired.specs.Terminal.{path_of}
 use Rattle.pw_paired.specs.Units.{commit_unit, give_answer, has_request, is_out, only, request_in, without_requests}
@@ -79,7 +79,7 @@ out-at sys state places ok t = by (places t) refl
 -- ---- behind an entry
 
 -- the failure of this member cancels the requests of the pair's terminals
-abbrev pub loses_in : Bool → Mode → Bool
+abbrev pub loses_in : Bool → PairMode → Bool
 loses_in true Paired = true
 loses_in true Raising = true
 loses_in true Alone = true
@@ -92,7 +92,7 @@ loses_in false Down = true
 loses_in false Gone = false
 
 -- the member of the pair fails in a mode
-abbrev fails_as : Behaviour → ℕ → Bool → Mode → State → State
+abbrev fails_as : Behaviour → ℕ → Bool → PairMode → State → State
 fails_as sys p true m s = primary_fails sys p m s
 fails_as sys p false m s = backup_fails sys p m s
 
@@ -192,10 +192,10 @@ module _ (sys : Behaviour) (b : IsBehaviour sys) (s : State) (i : Inv sys s) whe
           out-at sys (process_fails c p k (Some job) s) _ (requests_freed i.requests works refl) u ∙ (at-one job.request.terminal u Nowhere ∙ ap (λ e. if e then false else is_out sys s u) (eqb-swap u job.request.terminal))
   outs (FailTcp p primary k) l u = ap (λ x. is_out sys x u) (fails-is sys p k primary s) ∙ by primary (s.modes p) refl
     where
-      lost : (x : State) (q : Bool) (m : Mode) → loses_in q m ≡ true → x.classes ≡ (λ c. without_requests (is_of_pair sys p) (s.classes c)) → is_out sys x u ≡ (if is_of_pair sys p u && loses_in q m then false else is_out sys s u)
+      lost : (x : State) (q : Bool) (m : PairMode) → loses_in q m ≡ true → x.classes ≡ (λ c. without_requests (is_of_pair sys p) (s.classes c)) → is_out sys x u ≡ (if is_of_pair sys p u && loses_in q m then false else is_out sys s u)
       lost x q m e is = cancelled x (is_of_pair sys p) is u ∙ both-cond (is_of_pair sys p u) (loses_in q m) (is_out sys s u) e
 
-      by : (q : Bool) (m : Mode) → s.modes p ≡ m → is_out sys (fails_as sys p q m s) u ≡ (if is_of_pair sys p u && loses_in q m then false else is_out sys s u)
+      by : (q : Bool) (m : PairMode) → s.modes p ≡ m → is_out sys (fails_as sys p q m s) u ≡ (if is_of_pair sys p u && loses_in q m then false else is_out sys s u)
       by true Paired is = lost (lose_primary sys p s) true Paired refl refl
       by true Raising is = lost (lose_pair sys p s) true Raising refl refl
       by true Alone is = lost (lose_pair sys p s) true Alone refl refl

@@ -16,7 +16,7 @@ use Rattle.pw_monitor_world.specs.Pushed.{AreMarked}
 use Rattle.pw_monitor_world.specs.Seen.{Seen, state_of}
 use Rattle.pw_monitor_world.specs.Worlds.{Books, IsWorld}
 use Rattle.pw_onecopy.proofs.Update.{upd_elim}
-use Rattle.pw_pair.specs.declared.seat.Seat.{Seat}
+use Rattle.pw_pair.specs.declared.seat.BackupSeat.{BackupSeat}
 use Rattle.pw_roster.specs.declared.actor.Actor.{Actor}
 use Rattle.pw_tmf.specs.Told.{Told}
 
@@ -32,7 +32,7 @@ module _ (world : Seen) (books : Books) (w : IsWorld world books) where
     room = w.room;
     few = w.few;
     stands = stands;
-    members = λ p few. ap (λ f. map (λ (seat : Seat). seat.terminal) (f p).seats) pairs ∙ w.members p few;
+    members = λ p few. ap (λ f. map (λ (seat : BackupSeat). seat.terminal) (f p).seats) pairs ∙ w.members p few;
     terminals = ap (λ (d : Told). d.terminals) disc ∙ w.terminals;
     files = ap (λ (d : Told). d.file_count) disc ∙ w.files;
     lines = w.lines;

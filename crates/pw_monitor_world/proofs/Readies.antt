@@ -33,7 +33,7 @@ use Rattle.pw_pair.specs.declared.message.CheckKind.TheVariants as kind
 use Rattle.pw_pair.specs.declared.mode.Mode as pair
 use Rattle.pw_pair.specs.declared.mode.Mode.TheVariants as mode
 use Rattle.pw_paired.specs.Failure.{is_of_pair}
-use Rattle.pw_paired.specs.State.{Mode, Alone, Raising, Paired, Down, Gone, State}
+use Rattle.pw_paired.specs.State.{PairMode, Alone, Raising, Paired, Down, Gone, State}
 use Rattle.pw_paired.specs.Step.{Legal, change}
 use Rattle.pw_paired.specs.Terminal.{next_verb}
 use Rattle.pw_paired.specs.Units.{attempt_of, is_out}
@@ -59,7 +59,7 @@ module _ (sys : Behaviour) (s : State) (i : Inv sys s) where
   asks-other t other out = let found = out-ok t out in other found.0.class found.0.request.message found.1.asks
 
   -- nor has one whose pair does not work
-  pub works-not : (t : ℕ) (m : Mode) → s.modes (sys.pair_of t) ≡ m → (IsWorking m → ⊥) → is_out sys s t ≡ true → ⊥
+  pub works-not : (t : ℕ) (m : PairMode) → s.modes (sys.pair_of t) ≡ m → (IsWorking m → ⊥) → is_out sys s t ≡ true → ⊥
   works-not t m is idle out = let found = out-ok t out in idle (subst IsWorking is found.1.working)
 
 -- ---- the contexts at verbs, behind an entry
@@ -80,7 +80,7 @@ abbrev fails_kept : Bool → pair.Mode → List ℕ → Kept → Kept
 fails_kept true m terminals kept = primary_lost m terminals kept
 fails_kept false m terminals kept = backup_lost m terminals kept
 
-pub loses-same : (q : Bool) (m : Mode) → loses q (mode_as m) ≡ loses_in q m
+pub loses-same : (q : Bool) (m : PairMode) → loses q (mode_as m) ≡ loses_in q m
 loses-same true Alone = refl
 loses-same true Raising = refl
 loses-same true Paired = refl

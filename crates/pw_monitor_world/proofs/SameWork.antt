@@ -24,7 +24,7 @@ use Rattle.pw_onecopy.specs.Behaviour.{Behaviour}
 use Rattle.pw_onecopy.proofs.Update.{upd_elim}
 use Rattle.pw_pair.specs.Pairs.{SeenPair, changed_at}
 use Rattle.pw_pair.specs.Seats.{built}
-use Rattle.pw_pair.specs.declared.seat.Seat.{Seat}
+use Rattle.pw_pair.specs.declared.seat.BackupSeat.{BackupSeat}
 use Rattle.pw_paired.specs.Failure.{unit_named}
 use Rattle.pw_paired.specs.State.{State}
 use Rattle.pw_paired.specs.Units.{any_below}
@@ -96,7 +96,7 @@ module _ (world : Seen) (kept : Kept) (failed : Bool) (out : Actor → Bool) (te
       (λ unread. inr (unread.0, ap at_answer (sym (same-context a)) ∙ unread.1))
 
   module _ (books : Books) (w : IsWorld world books) (queues : kept.queues ≡ world.kept.queues) (stands : Stands world.system world.script (state_of world) kept) where
-    pub changed : ((p : ℕ) → map (λ (seat : Seat). seat.terminal) (kept.pairs p).seats ≡ map (λ (seat : Seat). seat.terminal) (world.kept.pairs p).seats)
+    pub changed : ((p : ℕ) → map (λ (seat : BackupSeat). seat.terminal) (kept.pairs p).seats ≡ map (λ (seat : BackupSeat). seat.terminal) (world.kept.pairs p).seats)
         → kept.disc.terminals ≡ world.kept.disc.terminals → kept.disc.file_count ≡ world.kept.disc.file_count → min world.faults (2 ^ 64 - 1) ≤ kept.disc.faults → (failed ≡ true → Rose world.faults kept.disc.faults)
         → (marked : Actor → Bool) → AreMarked world marked → IsWorld beside (record books { marked = marked })
     changed seats sizes files count rose marked are = record {
@@ -165,6 +165,6 @@ module _ (world : Seen) (books : Books) (w : IsWorld world books) where
       changed world (at_pair p (changed_at t built) world.kept) world.failed world.out refl refl books w refl (built-stands world.system world.script (state_of world) world.kept p t w.stands)
       seats refl refl w.count w.failed marked are
     where
-      seats : (q : ℕ) → map (λ (seat : Seat). seat.terminal) ((at_pair p (changed_at t built) world.kept).pairs q).seats ≡ map (λ (seat : Seat). seat.terminal) (world.kept.pairs q).seats
-      seats q = upd_elim world.kept.pairs p (changed_at t built (world.kept.pairs p)) q (λ (pair : SeenPair). map (λ (seat : Seat). seat.terminal) pair.seats ≡ map (λ (seat : Seat). seat.terminal) (world.kept.pairs q).seats)
-          (λ is. map-same _ (at-same t built (λ seat. refl)) (world.kept.pairs p).seats ∙ ap (λ r. map (λ (seat : Seat). seat.terminal) (world.kept.pairs r).seats) (sym is)) (λ differ. refl)
+      seats : (q : ℕ) → map (λ (seat : BackupSeat). seat.terminal) ((at_pair p (changed_at t built) world.kept).pairs q).seats ≡ map (λ (seat : BackupSeat). seat.terminal) (world.kept.pairs q).seats
+      seats q = upd_elim world.kept.pairs p (changed_at t built (world.kept.pairs p)) q (λ (pair : SeenPair). map (λ (seat : BackupSeat). seat.terminal) pair.seats ≡ map (λ (seat : BackupSeat). seat.terminal) (world.kept.pairs q).seats)
+          (λ is. map-same _ (at-same t built (λ seat. refl)) (world.kept.pairs p).seats ∙ ap (λ r. map (λ (seat : BackupSeat). seat.terminal) (world.kept.pairs r).seats) (sym is)) (λ differ. refl)

@@ -24,14 +24,14 @@ use Rattle.pw_pair.specs.declared.message.CheckKind.{CheckKind}
 use Rattle.pw_pair.specs.declared.message.CheckKind.TheVariants as kind
 use Rattle.pw_pair.specs.declared.mode.Mode.{Mode}
 use Rattle.pw_pair.specs.declared.mode.Mode.TheVariants.{Alone, Raising, Paired, Down, Gone}
-use Rattle.pw_pair.specs.declared.seat.Seat.{Seat}
+use Rattle.pw_pair.specs.declared.seat.BackupSeat.{BackupSeat}
 use Rattle.pw_tmf.specs.Told.{Told}
 use Rattle.pw_tmf.specs.Leaving.{open_units}
 use Rattle.pw_tmf.specs.Units.{all_backed_out, backed_out}
 
 -- the terminals of a pair's seats
 abbrev pub terminals_of : SeenPair → List ℕ
-terminals_of pair = map (λ (seat : Seat). seat.terminal) pair.seats
+terminals_of pair = map (λ (seat : BackupSeat). seat.terminal) pair.seats
 
 pub record IsSameShape (old new : Kept) : Type 0 where
   pub seats : (p : ℕ) → terminals_of (new.pairs p) ≡ terminals_of (old.pairs p)
@@ -44,11 +44,11 @@ same-shape kept = record { seats = λ p. refl; terminals = refl; files = refl; f
 
 -- ---- seats
 
-pub map-same : (change : Seat → Seat) → ((seat : Seat) → (change seat).terminal ≡ seat.terminal) → (seats : List Seat) → map (λ (seat : Seat). seat.terminal) (map change seats) ≡ map (λ (seat : Seat). seat.terminal) seats
+pub map-same : (change : BackupSeat → BackupSeat) → ((seat : BackupSeat) → (change seat).terminal ≡ seat.terminal) → (seats : List BackupSeat) → map (λ (seat : BackupSeat). seat.terminal) (map change seats) ≡ map (λ (seat : BackupSeat). seat.terminal) seats
 map-same change keeps [] = refl
 map-same change keeps (seat ∷ seats) = ap₂ (λ t ts. t ∷ ts) (keeps seat) (map-same change keeps seats)
 
-pub at-same : (t : ℕ) (change : Seat → Seat) → ((seat : Seat) → (change seat).terminal ≡ seat.terminal) → (seat : Seat) → (if is_seat_of t seat then change seat else seat).terminal ≡ seat.terminal
+pub at-same : (t : ℕ) (change : BackupSeat → BackupSeat) → ((seat : BackupSeat) → (change seat).terminal ≡ seat.terminal) → (seat : BackupSeat) → (if is_seat_of t seat then change seat else seat).terminal ≡ seat.terminal
 at-same t change keeps seat = by (is_seat_of t seat)
   where
     by : (b : Bool) → (if b then change seat else seat).terminal ≡ seat.terminal

@@ -42,7 +42,7 @@ use Rattle.pw_monitor_world.proofs.Unlike.{at_terminal, stays-same}
 use Rattle.pw_onecopy.specs.Behaviour.{Behaviour}
 use Rattle.pw_paired.specs.Failure.{is_of_pair}
 use Rattle.pw_paired.specs.Raising.{is_takeover}
-use Rattle.pw_paired.specs.State.{Mode, Alone, Raising, Paired, Down, Gone, State}
+use Rattle.pw_paired.specs.State.{PairMode, Alone, Raising, Paired, Down, Gone, State}
 use Rattle.pw_paired.specs.Step.{Legal, after, change}
 use Rattle.pw_paired.specs.Units.{has_request, request_in}
 use Rattle.pw_roster.specs.declared.actor.Actor.{Actor}
@@ -54,14 +54,14 @@ use Rattle.pw_tmf.specs.Leaving.{is_among}
 
 -- ---- modes
 
-same-self : (m : Mode) → is_same_mode (mode_as m) (mode_as m) ≡ true
+same-self : (m : PairMode) → is_same_mode (mode_as m) (mode_as m) ≡ true
 same-self Alone = refl
 same-self Raising = refl
 same-self Paired = refl
 same-self Down = refl
 same-self Gone = refl
 
-mode-eq : (a b : Mode) → is_same_mode (mode_as a) (mode_as b) ≡ true → a ≡ b
+mode-eq : (a b : PairMode) → is_same_mode (mode_as a) (mode_as b) ≡ true → a ≡ b
 mode-eq Alone Alone e = refl
 mode-eq Alone Raising e = absurd (cc e)
 mode-eq Alone Paired e = absurd (cc e)

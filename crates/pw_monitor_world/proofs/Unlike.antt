@@ -16,7 +16,7 @@ use Rattle.pw_onecopy.specs.IsBehaviour.{IsBehaviour}
 use Rattle.pw_onecopy.specs.Update.{upd}
 use Rattle.pw_onecopy.proofs.Update.{upd-other, upd-same}
 use Rattle.pw_paired.specs.Failure.{backup_fails, is_live_of, is_of_pair, lose_backup, lose_pair, lose_primary, primary_fails, process_fails}
-use Rattle.pw_paired.specs.State.{Mode, Alone, Raising, Paired, Down, Gone, Job, State}
+use Rattle.pw_paired.specs.State.{PairMode, Alone, Raising, Paired, Down, Gone, Job, State}
 use Rattle.pw_paired.specs.Step.{Legal, change}
 use Rattle.pw_paired.specs.Units.{is_out, only, request_in}
 use Rattle.pw_roster.specs.declared.actor.Actor.TheVariants.{Terminal}
@@ -67,7 +67,7 @@ pick-no false x y e = refl
 
 module _ (sys : Behaviour) (s : State) (u : ℕ) where
   -- a pair whose mode turns is not that of a terminal whose pair has its mode
-  turned : (p : ℕ) (new : Mode) → s.modes p ≢ new → upd s.modes p new (sys.pair_of u) ≡ s.modes (sys.pair_of u) → is_of_pair sys p u ≡ false
+  turned : (p : ℕ) (new : PairMode) → s.modes p ≢ new → upd s.modes p new (sys.pair_of u) ≡ s.modes (sys.pair_of u) → is_of_pair sys p u ≡ false
   turned p new differ same =
       ⊎_elim (λ is. absurd (differ (ap s.modes (sym is) ∙ (sym same ∙ upd-same s.modes p new (sys.pair_of u) is)))) (λ other. ne_eqb (sys.pair_of u) p other) (cases_eq (sys.pair_of u) p)
 
@@ -92,7 +92,7 @@ module _ (sys : Behaviour) (s : State) (u : ℕ) where
   fails-same : (p k : ℕ) (primary : Bool) → (change sys s (FailTcp p primary k)).modes (sys.pair_of u) ≡ s.modes (sys.pair_of u) → SameAt s (change sys s (FailTcp p primary k)) u
   fails-same p k true same = by (s.modes p) refl same
     where
-      by : (m : Mode) → s.modes p ≡ m → (primary_fails sys p m s).modes (sys.pair_of u) ≡ s.modes (sys.pair_of u) → SameAt s (primary_fails sys p m s) u
+      by : (m : PairMode) → s.modes p ≡ m → (primary_fails sys p m s).modes (sys.pair_of u) ≡ s.modes (sys.pair_of u) → SameAt s (primary_fails sys p m s) u
       by Paired is e = down-same p (turned p Down (λ d. absurd (cc (is, d))) e)
       by Raising is e = gone-same p (turned p Gone (λ d. absurd (cc (is, d))) e)
       by Alone is e = gone-same p (turned p Gone (λ d. absurd (cc (is, d))) e)
@@ -100,7 +100,7 @@ module _ (sys : Behaviour) (s : State) (u : ℕ) where
       by Gone is e = same-at
   fails-same p k false same = by (s.modes p) refl same
     where
-      by : (m : Mode) → s.modes p ≡ m → (backup_fails sys p m s).modes (sys.pair_of u) ≡ s.modes (sys.pair_of u) → SameAt s (backup_fails sys p m s) u
+      by : (m : PairMode) → s.modes p ≡ m → (backup_fails sys p m s).modes (sys.pair_of u) ≡ s.modes (sys.pair_of u) → SameAt s (backup_fails sys p m s) u
       by Paired is e = alone-same p (turned p Alone (λ d. absurd (cc (is, d))) e)
       by Raising is e = alone-same p (turned p Alone (λ d. absurd (cc (is, d))) e)
       by Down is e = gone-same p (turned p Gone (λ d. absurd (cc (is, d))) e)
@@ -167,7 +167,7 @@ module _ (sys : Behaviour) (b : IsBehaviour sys) (s : State) (i : Inv sys s) (u 
   unless-turned : (p k : ℕ) (primary : Bool) → (change sys s (FailTcp p primary k)).modes (sys.pair_of u) ≡ s.modes (sys.pair_of u) → (is_of_pair sys p u && loses_in primary (s.modes p)) ≡ false
   unless-turned p k true same = by (s.modes p) refl same
     where
-      by : (m : Mode) → s.modes p ≡ m → (primary_fails sys p m s).modes (sys.pair_of u) ≡ s.modes (sys.pair_of u) → (is_of_pair sys p u && loses_in true m) ≡ false
+      by : (m : PairMode) → s.modes p ≡ m → (primary_fails sys p m s).modes (sys.pair_of u) ≡ s.modes (sys.pair_of u) → (is_of_pair sys p u && loses_in true m) ≡ false
       by Paired is e = and_left (is_of_pair sys p u) true (turned sys s u p Down (λ d. absurd (cc (is, d))) e)
       by Raising is e = and_left (is_of_pair sys p u) true (turned sys s u p Gone (λ d. absurd (cc (is, d))) e)
       by Alone is e = and_left (is_of_pair sys p u) true (turned sys s u p Gone (λ d. absurd (cc (is, d))) e)
@@ -175,7 +175,7 @@ module _ (sys : Behaviour) (b : IsBehaviour sys) (s : State) (i : Inv sys s) (u 
       by Gone is e = and-false (is_of_pair sys p u)
   unless-turned p k false same = by (s.modes p) refl same
     where
-      by : (m : Mode) → s.modes p ≡ m → (backup_fails sys p m s).modes (sys.pair_of u) ≡ s.modes (sys.pair_of u) → (is_of_pair sys p u && loses_in false m) ≡ false
+      by : (m : PairMode) → s.modes p ≡ m → (backup_fails sys p m s).modes (sys.pair_of u) ≡ s.modes (sys.pair_of u) → (is_of_pair sys p u && loses_in false m) ≡ false
       by Down is e = and_left (is_of_pair sys p u) true (turned sys s u p Gone (λ d. absurd (cc (is, d))) e)
       by Paired is e = and-false (is_of_pair sys p u)
       by Raising is e = and-false (is_of_pair sys p u)

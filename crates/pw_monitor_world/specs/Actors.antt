@@ -17,7 +17,7 @@ IsActor system (Pair p) = p < length system.tcps
 IsActor system (Class c) = c < length system.classes
 
 -- an actor as the world names it
-abbrev pub as_actor : serial.Actor → Actor
+abbrev pub as_actor : serial.StepActor → Actor
 as_actor (serial.Terminal t) = Terminal t
 as_actor (serial.Process c i) = Process c i
 as_actor (serial.Pair p) = Pair p

@@ -10,7 +10,7 @@ use Rattle.pw_kept.specs.Entered.{entered}
 use Rattle.pw_kept.specs.Kept.{Kept}
 use Rattle.pw_kept.specs.TerminalTests.{seat_at}
 use Rattle.pw_monitor_world.specs.Actors.{IsActor, is_same_actor}
-use Rattle.pw_monitor_world.specs.Enabled.{HasStep, IsEnabled, MayWork}
+use Rattle.pw_monitor_world.specs.Enabled.{HasEnabledStep, IsEnabled, MayWork}
 use Rattle.pw_monitor_world.specs.Seen.{Seen, finished, state_of, sys_of, work_of}
 use Rattle.pw_monitor_world.specs.Stamps.{IsStamp}
 use Rattle.pw_monitor_world.specs.declared.answers.Applied.{Applied}
@@ -43,7 +43,7 @@ pub record IsWork (world : Seen) (task : Task) : Type 0 where
   pub work : task.work ≡ work_of world task.actor
 
 -- the log is not finished, and each actor that may work is out; there is one that may
-pub record IsIdle (world : Seen) : Type 0 where
+pub record IsWorldIdle (world : Seen) : Type 0 where
   pub unfinished : finished world ≡ false
   pub each : (actor : Actor) → IsActor world.system actor → MayWork world actor → world.out actor ≡ true
   pub one : (actor : Actor) × (IsActor world.system actor × MayWork world actor)
@@ -52,7 +52,7 @@ pub record IsIdle (world : Seen) : Type 0 where
 abbrev pub Claims : Seen → Result Claim Memory → Seen → Type 0
 Claims world (Ok (claim.Work task)) new =
     (finished world ≡ false) × (IsWork world task × (new ≡ with_out task.actor true world))
-Claims world (Ok claim.Idle) new = IsIdle world × (new ≡ world)
+Claims world (Ok claim.Idle) new = IsWorldIdle world × (new ≡ world)
 Claims world (Ok claim.Finished) new = (finished world ≡ true) × (new ≡ world)
 Claims world (Err memory) new = new ≡ world
 
@@ -63,8 +63,8 @@ abbrev pub IsFull : Seen → Type 0
 IsFull world = (length world.log ≡ world.limit) × (finished world ≡ false)
 
 -- the outcome has its actor's stamp
-abbrev pub IsFresh : Seen → Outcome → Type 0
-IsFresh world outcome = IsStamp (sys_of world) world.log outcome.actor outcome.stamp
+abbrev pub HasFreshStamp : Seen → Outcome → Type 0
+HasFreshStamp world outcome = IsStamp (sys_of world) world.log outcome.actor outcome.stamp
 
 -- the actor's kept context stands at an answer, and the outcome was given none or another one
 pub record IsUnrun (world : Seen) (outcome : Outcome) : Type 0 where
@@ -73,8 +73,8 @@ pub record IsUnrun (world : Seen) (outcome : Outcome) : Type 0 where
   pub other : outcome.given ≢ Some context
 
 -- the actor is a pair with a step, and each of its steps is an APPLIED whose message is not built
-pub record IsUnbuilt (world : Seen) (actor : Actor) : Type 0 where
-  pub step : HasStep world actor
+pub record HasOnlyUnbuiltSteps (world : Seen) (actor : Actor) : Type 0 where
+  pub step : HasEnabledStep world actor
   pub p : ℕ
   pub pair : actor ≡ Pair p
   pub each : (entry : Event) → IsEnabled world actor entry
@@ -102,28 +102,28 @@ ran world outcome =
 pub record IsAccepted (world : Seen) (outcome : Outcome) : Type 0 where
   pub sound : world.failed ≡ false
   pub room : ¬ IsFull world
-  pub fresh : IsFresh world outcome
+  pub fresh : HasFreshStamp world outcome
   pub run : ¬ IsUnrun world outcome
 
 -- why `apply` answers so, each yielding to those before it: Limit, Stale, Unrun, Held, Unbuilt, DiscFault; want of
 -- memory may come at any time, but after a fault of the disc that alone is answered
-abbrev pub Comes : Seen → Outcome → Applied → Type 0
-Comes world outcome applied.Done =
-    IsAccepted world outcome × (HasStep (ran world outcome) outcome.actor × (¬ IsUnbuilt (ran world outcome) outcome.actor))
-Comes world outcome applied.Limit = (world.failed ≡ false) × IsFull world
-Comes world outcome (applied.Stale carried found) =
+abbrev pub AnswersApply : Seen → Outcome → Applied → Type 0
+AnswersApply world outcome applied.Done =
+    IsAccepted world outcome × (HasEnabledStep (ran world outcome) outcome.actor × (¬ HasOnlyUnbuiltSteps (ran world outcome) outcome.actor))
+AnswersApply world outcome applied.Limit = (world.failed ≡ false) × IsFull world
+AnswersApply world outcome (applied.Stale carried found) =
     (world.failed ≡ false) × ((¬ IsFull world) × ((carried ≡ outcome.stamp)
     × (IsStamp (sys_of world) world.log outcome.actor found × (carried ≢ found))))
-Comes world outcome applied.Unrun =
-    (world.failed ≡ false) × ((¬ IsFull world) × (IsFresh world outcome × IsUnrun world outcome))
-Comes world outcome applied.Held =
-    IsAccepted world outcome × (¬ HasStep (ran world outcome) outcome.actor)
-Comes world outcome applied.Unbuilt =
-    IsAccepted world outcome × IsUnbuilt (ran world outcome) outcome.actor
-Comes world outcome applied.DiscFault =
+AnswersApply world outcome applied.Unrun =
+    (world.failed ≡ false) × ((¬ IsFull world) × (HasFreshStamp world outcome × IsUnrun world outcome))
+AnswersApply world outcome applied.Held =
+    IsAccepted world outcome × (¬ HasEnabledStep (ran world outcome) outcome.actor)
+AnswersApply world outcome applied.Unbuilt =
+    IsAccepted world outcome × HasOnlyUnbuiltSteps (ran world outcome) outcome.actor
+AnswersApply world outcome applied.DiscFault =
     (world.failed ≡ true)
-    ⊎ (IsAccepted world outcome × (HasStep (ran world outcome) outcome.actor × (¬ IsUnbuilt (ran world outcome) outcome.actor)))
-Comes world outcome applied.Memory = world.failed ≡ false
+    ⊎ (IsAccepted world outcome × (HasEnabledStep (ran world outcome) outcome.actor × (¬ HasOnlyUnbuiltSteps (ran world outcome) outcome.actor)))
+AnswersApply world outcome applied.Memory = world.failed ≡ false
 
 -- a message that is taken in is built: no image is built here
 abbrev pub IsBuilt : Seen → Event → Type 0

@@ -7,7 +7,7 @@ use Rattle.pw_event.specs.declared.script.FailLine.{FailLine}
 use Rattle.pw_exec.specs.OfSystem.{behaviour}
 use Rattle.pw_kept.specs.Changes.{at_pair}
 use Rattle.pw_kept.specs.Entered.{tcp_of}
-use Rattle.pw_kept.specs.TerminalTests.{pair_of}
+use Rattle.pw_kept.specs.TerminalTests.{seen_pair_of}
 use Rattle.pw_monitor_world.specs.Seen.{Seen}
 use Rattle.pw_roster.specs.declared.actor.Actor.{Actor}
 use Rattle.pw_onecopy.specs.Behaviour.{Behaviour}
@@ -28,7 +28,7 @@ lent pair = task_at (find is_waiting pair.seats)
 -- task and the message is not built; nothing else changes.
 pub record GivesBack (world : Seen) (done : SeenDone) (filed : Bool) (new : Seen) : Type 0 where
   pub files : IsTrue filed
-      ↔ (waiting_task done.task.terminal (pair_of world.system world.kept done.task.terminal) ≡ Some done.task)
+      ↔ (waiting_task done.task.terminal (seen_pair_of world.system world.kept done.task.terminal) ≡ Some done.task)
   pub files_it : filed ≡ true → new ≡ record world {
     kept = at_pair (tcp_of world.system done.task.terminal) (changed_at done.task.terminal built) world.kept;
   }

@@ -1,7 +1,7 @@
 -- Which failure lines have no FAIL entry yet, and how many entries belong to each pair and class.
 use Rattle.std.specs.Prelude.{◌≡◌, ℕ, ◌+◌, ◌<◌, nat_le, not, Bool, List, [], ◌∷◌, length, filter, find, replicate, slice_index_or, slice_set, Option, Some, None, if◌then◌else◌}
 use Rattle.std.specs.List.{list_any}
-use Rattle.pw_event.specs.Due.{after_of, entries_of, is_fail_of, is_same_owner, owner_of, owner_of_line}
+use Rattle.pw_event.specs.Due.{after_of, owner_entry_count, is_fail_of, is_same_owner, owner_of, owner_of_line}
 use Rattle.pw_event.specs.declared.event.Event.{Event}
 use Rattle.pw_event.specs.declared.script.FailLine.{FailLine}
 use Rattle.pw_event.specs.declared.script.Owner.{Owner}
@@ -37,9 +37,9 @@ due_in book owner = if_due (count_of book owner) (find (is_line_of owner) book.w
 -- ---- one more entry
 
 -- one entry more of an owner
-abbrev pub counted : Owner → DueBook → DueBook
-counted (Tcp p) book = record book { tcps = slice_set book.tcps p (slice_index_or book.tcps p 0 + 1) }
-counted (Class c) book =
+abbrev pub due_entry_counted : Owner → DueBook → DueBook
+due_entry_counted (Tcp p) book = record book { tcps = slice_set book.tcps p (slice_index_or book.tcps p 0 + 1) }
+due_entry_counted (Class c) book =
     record book { classes = slice_set book.classes c (slice_index_or book.classes c 0 + 1) }
 
 -- the lines but that whose FAIL entry this is
@@ -49,7 +49,7 @@ without_fail entry lines = filter (λ line. not (is_fail_of line.number entry)) 
 -- the book of failure lines behind one more entry
 abbrev pub after_entry : (ℕ → ℕ) → Event → DueBook → DueBook
 after_entry pair_of entry book =
-    counted (owner_of pair_of entry) (record book { waiting = without_fail entry book.waiting })
+    due_entry_counted (owner_of pair_of entry) (record book { waiting = without_fail entry book.waiting })
 
 -- ---- of a log
 
@@ -73,8 +73,8 @@ pub record IsBookOf (tcps classes : ℕ) (pair_of : ℕ → ℕ) (lines : List F
   pub waiting_is : book.waiting ≡ open_behind lines log
   pub tcp_count : length book.tcps ≡ tcps
   pub class_count : length book.classes ≡ classes
-  pub tcps_are : (p : ℕ) → p < tcps → slice_index_or book.tcps p 0 ≡ entries_of pair_of (Tcp p) log
-  pub classes_are : (c : ℕ) → c < classes → slice_index_or book.classes c 0 ≡ entries_of pair_of (Class c) log
+  pub tcps_are : (p : ℕ) → p < tcps → slice_index_or book.tcps p 0 ≡ owner_entry_count pair_of (Tcp p) log
+  pub classes_are : (c : ℕ) → c < classes → slice_index_or book.classes c 0 ≡ owner_entry_count pair_of (Class c) log
 
 -- the owner is one of so many pairs and classes
 abbrev pub IsOwner : ℕ → ℕ → Owner → Type 0

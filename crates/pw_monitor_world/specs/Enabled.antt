@@ -16,8 +16,8 @@ pub record IsEnabled (world : Seen) (actor : Actor) (entry : Event) : Type 0 whe
   pub own : actor_of (sys_of world) entry ≡ actor
 
 -- the actor has an enabled step
-abbrev pub HasStep : Seen → Actor → Type 0
-HasStep world actor = (entry : Event) × IsEnabled world actor entry
+abbrev pub HasEnabledStep : Seen → Actor → Type 0
+HasEnabledStep world actor = (entry : Event) × IsEnabled world actor entry
 
 -- the actor's kept context stands at an answer, so that its verb is not known yet
 abbrev pub IsUnread : Seen → Actor → Type 0
@@ -25,4 +25,4 @@ IsUnread world actor = (context : Context) × (work_of world actor ≡ Some cont
 
 -- the actor has an enabled step, or its verb is not known yet
 abbrev pub MayWork : Seen → Actor → Type 0
-MayWork world actor = HasStep world actor ⊎ IsUnread world actor
+MayWork world actor = HasEnabledStep world actor ⊎ IsUnread world actor

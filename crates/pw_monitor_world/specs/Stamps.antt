@@ -6,12 +6,12 @@ use Rattle.pw_roster.specs.declared.actor.Actor.TheVariants.{Terminal, Process, 
 use Rattle.pw_onecopy.specs.Behaviour.{Behaviour}
 use Rattle.pw_paired.specs.Raising.{is_takeover}
 use Rattle.pw_paired.specs.State as paired
-use Rattle.pw_paired.specs.State.{BackupCopy, Job, LastEnded, Message, Mode, OpenUnit, State, Term}
+use Rattle.pw_paired.specs.State.{BackupCopy, Job, LastEnded, Message, PairMode, OpenUnit, State, Term}
 use Rattle.pw_paired.specs.Step.{after}
 use Rattle.pw_paired.specs.Units.{is_out}
 
 -- what a pair knows of one of its terminals
-pub record Member : Type 0 where
+pub record PairTerminal : Type 0 where
   pub ended : Bool
   pub taken_over : Bool
   pub memory : Option BackupCopy
@@ -21,17 +21,17 @@ pub record Member : Type 0 where
 pub data ActorState : Type 0 where
   -- a terminal: its path, cause and ending, its open and its last ended unit, whether its request is out, its pair's
   -- mode, and what its backup holds and is sent
-  OfTerminal : (term : Term) (unit : Option OpenUnit) (last : LastEnded) (out : Bool) (mode : Mode)
+  OfTerminal : (term : Term) (unit : Option OpenUnit) (last : LastEnded) (out : Bool) (mode : PairMode)
       (memory : Option BackupCopy) (flight : Option Message) → ActorState
   -- a process: what it works on
   OfProcess : (job : Option Job) → ActorState
   -- a pair: its mode and its terminals
-  OfPair : (mode : Mode) (members : ℕ → Option Member) → ActorState
+  OfPair : (mode : PairMode) (members : ℕ → Option PairTerminal) → ActorState
   -- a class: what waits, and what its processes work on
   OfClass : (class : paired.Class) → ActorState
 
 -- a terminal as its pair knows it
-abbrev pub member_of : State → ℕ → Member
+abbrev pub member_of : State → ℕ → PairTerminal
 member_of state t = record {
   ended = is_some (state.terms t).ending;
   taken_over = is_takeover (state.terms t).pending;

@@ -1,8 +1,8 @@
 -- The actors that an entry touches, one by one.
 use Rattle.std.specs.Prelude.{ℕ, ◌||◌, Bool, List, [], ◌∷◌, map}
 use Rattle.pw_class.specs.Queue.{at_process, has_request, works_for}
-use Rattle.pw_class.specs.declared.request.Place.{Place}
-use Rattle.pw_class.specs.declared.request.Place.TheVariants.{Waiting, Busy}
+use Rattle.pw_class.specs.declared.request.RequestPlace.{RequestPlace}
+use Rattle.pw_class.specs.declared.request.RequestPlace.TheVariants.{Waiting, Busy}
 use Rattle.pw_code.specs.declared.system.System.{System}
 use Rattle.pw_event.specs.declared.event.Event.{Event}
 use Rattle.pw_kept.specs.Kept.{Kept}
@@ -26,6 +26,6 @@ abbrev pub actors_of_pair : ℕ → List ℕ → List Actor
 actors_of_pair p terminals = Pair p ∷ map Terminal terminals
 
 -- the actors whose state changes where a request at this place is cancelled
-abbrev pub actors_at : Place → List Actor
+abbrev pub actors_at : RequestPlace → List Actor
 actors_at (Waiting c) = Class c ∷ []
 actors_at (Busy c i) = Process c i ∷ Class c ∷ []

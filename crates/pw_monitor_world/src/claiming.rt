@@ -1,6 +1,6 @@
 ghost use Rattle.std.specs.Prelude.{◌≡◌, false, true};
 ghost use Rattle.pw_monitor_world.specs.Actors.{IsActor};
-ghost use Rattle.pw_monitor_world.specs.Answers.{IsIdle, IsWork};
+ghost use Rattle.pw_monitor_world.specs.Answers.{IsWorldIdle, IsWork};
 ghost use Rattle.pw_monitor_world.specs.Enabled.{MayWork};
 ghost use Rattle.pw_monitor_world.specs.Seen.{Seen, finished, work_of};
 ghost use Rattle.pw_monitor_world.specs.Worlds.{Books, IsWorld};
@@ -18,5 +18,5 @@ pub fn claim_laws()
         → IsWorld world books → finished world ≡ false
         → ((actor : Actor) → IsActor world.system actor → books.marked actor ≡ true
         → world.out actor ≡ true)
-        → IsIdle world }
+        → IsWorldIdle world }
 {}

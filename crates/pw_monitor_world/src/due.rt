@@ -1,5 +1,5 @@
 ghost use Rattle.std.specs.Prelude.{◌≡◌, ◌<◌, ◌^◌, ◌+◌, ◌-◌, IfOk, find, length, slice_index_or, slice_set};
-ghost use Rattle.pw_monitor_world.specs.Dues.{IsOwner, count_of, counted, due_in, first_book, if_due, is_line_of, without_fail};
+ghost use Rattle.pw_monitor_world.specs.Dues.{IsOwner, count_of, due_entry_counted, due_in, first_book, if_due, is_line_of, without_fail};
 
 use pw_base::memory::Memory;
 use pw_event::due::{after_of, is_fail_of};
@@ -96,7 +96,7 @@ impl DueLines {
     pub fn push(&mut self, owner: Owner, event: &Event)
         requires owner { IsOwner (length self.old.tcps) (length self.old.classes) owner }
         requires room { count_of self.old owner < 2 ^ 64 - 1 }
-        ensures { self.new ≡ counted owner
+        ensures { self.new ≡ due_entry_counted owner
             (record self.old { waiting = without_fail event.now self.old.waiting }) }
     {
         self.drop_line(event);

@@ -3,7 +3,7 @@ ghost use Rattle.pw_event.specs.Due.{due_line, owner_of};
 ghost use Rattle.pw_event.specs.declared.event.Event.{Event};
 ghost use Rattle.pw_event.specs.declared.script.FailLine.{FailLine};
 ghost use Rattle.pw_event.specs.declared.script.Owner.{Owner};
-ghost use Rattle.pw_monitor_world.specs.Answers.{IsFresh, IsWork};
+ghost use Rattle.pw_monitor_world.specs.Answers.{HasFreshStamp, IsWork};
 ghost use Rattle.pw_monitor_world.specs.Dues.{DueBook, IsBookOf, IsOwner, after_entry, due_in, first_book};
 ghost use Rattle.pw_monitor_world.specs.OneSends.{BeginsOneSend, begins_one_send, one_sends};
 ghost use Rattle.pw_monitor_world.specs.Seen.{Seen, sys_of};
@@ -25,7 +25,7 @@ pub fn stamp_laws()
         → IsStamp sys log actor m → n ≡ m }
     ensures fresh { (world new : Seen) (task : Task) (outcome : Outcome) → IsWork world task
         → outcome.actor ≡ task.actor → outcome.stamp ≡ task.stamp
-        → sys_of new ≡ sys_of world → new.log ≡ world.log → IsFresh new outcome }
+        → sys_of new ≡ sys_of world → new.log ≡ world.log → HasFreshStamp new outcome }
 {}
 
 /// A book of failure lines that is one of a log tells which line is due, and is one of the log with

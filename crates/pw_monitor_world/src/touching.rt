@@ -1,7 +1,7 @@
 ghost use Rattle.std.specs.Prelude.{◌≡◌, ◌<◌, ◌&&◌, ◌||◌, ℕ, false, length};
 ghost use Rattle.std.specs.List.{list_any};
-ghost use Rattle.pw_class.specs.Queue.{IsIn, at_process, class_of, has_request, works_for};
-ghost use Rattle.pw_class.specs.declared.request.Place.{Place};
+ghost use Rattle.pw_class.specs.Queue.{IsIn, at_process, class_of_place, has_request, works_for};
+ghost use Rattle.pw_class.specs.declared.request.RequestPlace.{RequestPlace};
 ghost use Rattle.pw_event.specs.Due.{owner_of};
 ghost use Rattle.pw_event.specs.declared.event.Event.{Event};
 ghost use Rattle.pw_event.specs.declared.script.Owner.TheVariants as owner;
@@ -32,16 +32,16 @@ pub fn touching_laws()
         → owner_of (sys_of world).pair_of entry ≡ owner.Class c
         → touches world.system world.kept entry actor
         ≡ touches_at world.system world.kept entry actor }
-    ensures request { (world : Seen) (books : Books) (t : ℕ) (place : Place) (c : ℕ)
-        → IsWorld world books → class_of place < length world.system.classes
+    ensures request { (world : Seen) (books : Books) (t : ℕ) (place : RequestPlace) (c : ℕ)
+        → IsWorld world books → class_of_place place < length world.system.classes
         → c < length world.system.classes
-        → IsIn (world.kept.queues (class_of place)) (class_of place) t place
+        → IsIn (world.kept.queues (class_of_place place)) (class_of_place place) t place
         → has_request t (world.kept.queues c)
         ≡ list_any (is_same_actor (Class c)) (actors_at place) }
-    ensures process { (world : Seen) (books : Books) (t : ℕ) (place : Place) (c i : ℕ)
-        → IsWorld world books → class_of place < length world.system.classes
+    ensures process { (world : Seen) (books : Books) (t : ℕ) (place : RequestPlace) (c i : ℕ)
+        → IsWorld world books → class_of_place place < length world.system.classes
         → c < length world.system.classes
-        → IsIn (world.kept.queues (class_of place)) (class_of place) t place
+        → IsIn (world.kept.queues (class_of_place place)) (class_of_place place) t place
         → works_for t (at_process (world.kept.queues c) i)
         ≡ list_any (is_same_actor (Process c i)) (actors_at place) }
     ensures nowhere { (world : Seen) (books : Books) (t c : ℕ)

@@ -12,7 +12,7 @@ use Rattle.pw_code.specs.declared.lock.LockRule.{LockRule}
 use Rattle.pw_code.specs.declared.lock.LockRule.TheVariants.{ReadersShare, AllExclusive}
 use Rattle.pw_code.specs.declared.system.ClassInfo.{ClassInfo}
 use Rattle.pw_code.specs.declared.system.System.{System}
-use Rattle.pw_event.specs.Line.{HasLine, IsNamed, IsPlain, IsTold, Word, cause_words, ending_words, event_words, no_class, reply_words, with_mode}
+use Rattle.pw_event.specs.Line.{HasLine, IsNamed, IsPlain, IsTold, LineWord, cause_words, ending_words, event_words, no_class, reply_words, with_mode}
 use Rattle.pw_event.specs.Line as line
 use Rattle.pw_event.specs.Line.{FileName, Plain, Code}
 use Rattle.pw_event.specs.declared.event.Cause.{Cause}
@@ -65,8 +65,8 @@ is-told : (rule : LockRule) (one : FileOp) → IsTold rule (mode_of rule one)
 is-told ReadersShare one = tt
 is-told AllExclusive one = refl
 
-mode-there : (system : System) (rule : LockRule) (mode rest : List ℕ) (words : List Word) → AllByRecursion (line.IsThere system) words
-    → AllByRecursion (line.IsThere system) (with_mode rule (Plain mode) words)
+mode-there : (system : System) (rule : LockRule) (mode rest : List ℕ) (words : List LineWord) → AllByRecursion (line.IsWordOfSystem system) words
+    → AllByRecursion (line.IsWordOfSystem system) (with_mode rule (Plain mode) words)
 mode-there system ReadersShare mode rest words there = (tt, there)
 mode-there system AllExclusive mode rest words there = there
 
@@ -97,20 +97,20 @@ module _ (system : System) (script : List FailLine) (b : IsBehaviour (behaviour 
       path_ok-is (state.ended t).number (state.units t)
       ((inv.terms t can.live.known).path_ok can.live.going_on (subst IsWorking (sym can.paired) tt) (ap is_takeover can.calm))
 
-  cause-there : (t n : ℕ) (one : Cause) (unit : OpenUnit) → IsCaused sys state t n one unit → AllByRecursion (line.IsThere system) (cause_words one)
+  cause-there : (t n : ℕ) (one : Cause) (unit : OpenUnit) → IsCaused sys state t n one unit → AllByRecursion (line.IsWordOfSystem system) (cause_words one)
   cause-there t n (cause.Older o m) unit caused = (tt, (knows.units o caused.holds.older caused.holds.is_open, (tt, tt)))
   cause-there t n (cause.Takeover p) unit caused = (tt, (pending-known sys b log run t p caused.holds.pending, tt))
   cause-there t n (cause.Server k) unit caused = (tt, (tt, tt))
   cause-there t n cause.Redo unit caused = (tt, tt)
 
-  pub ending-there : (t : ℕ) (e : Ending) → LegalEnd sys state t e → AllByRecursion (line.IsThere system) (ending_words e)
+  pub ending-there : (t : ℕ) (e : Ending) → LegalEnd sys state t e → AllByRecursion (line.IsWordOfSystem system) (ending_words e)
   ending-there t ending.Stopped l = (tt, tt)
   ending-there t ending.NoEntries l = (tt, tt)
   ending-there t (ending.Fault x) l = (tt, (tt, tt))
   ending-there t (ending.Suspended one) l = (tt, cause-there t l.unit.number one l.unit l.caused)
   ending-there t ending.Lost l = (tt, tt)
 
-  fault-there : (fault : Option ℕ) → AllByRecursion (line.IsThere system) (reply_words fault)
+  fault-there : (fault : Option ℕ) → AllByRecursion (line.IsWordOfSystem system) (reply_words fault)
   fault-there None = (tt, tt)
   fault-there (Some x) = (tt, (tt, tt))
 
@@ -151,7 +151,7 @@ module _ (system : System) (script : List FailLine) (b : IsBehaviour (behaviour 
   has-line (event.Raise p) l = tt
   has-line (event.End t e) l = tt
 
-  words-there : (entry : Event) → IsThere system entry → step.Fits sys state entry → AllByRecursion (line.IsThere system) (event_words system.rule entry)
+  words-there : (entry : Event) → IsThere system entry → step.Fits sys state entry → AllByRecursion (line.IsWordOfSystem system) (event_words system.rule entry)
   words-there (event.Show t phase attempt k) low l = (tt, (low, (tt, tt)))
   words-there (event.Key t k) low l = (tt, (low, (tt, tt)))
   words-there (event.CheckStart t) low l = (tt, (low, (tt, tt)))

@@ -30,17 +30,17 @@ use Rattle.pw_laws.proofs.induction.Runs as runs
 
 module _ (system : System) where
   -- each of these blocks has a line
-  abbrev Are : List one.Block → Type 0
+  abbrev Are : List one.SerialBlock → Type 0
   Are xs = AllByRecursion (IsBlockOf system) (map told xs)
 
   all-both : (xs ys : List Block) → AllByRecursion (IsBlockOf system) xs → AllByRecursion (IsBlockOf system) ys → AllByRecursion (IsBlockOf system) (xs ++ ys)
   all-both [] ys here there = there
   all-both (x ∷ xs) ys here there = (here.0, all-both xs ys here.1 there)
 
-  both : (xs ys : List one.Block) → Are xs → Are ys → Are (xs ++ ys)
+  both : (xs ys : List one.SerialBlock) → Are xs → Are ys → Are (xs ++ ys)
   both xs ys here there = subst (AllByRecursion (IsBlockOf system)) (sym (told-append xs ys)) (all-both (map told xs) (map told ys) here there)
 
-  optional : (test : Bool) (xs : List one.Block) → Are xs → Are (if test then xs else [])
+  optional : (test : Bool) (xs : List one.SerialBlock) → Are xs → Are (if test then xs else [])
   optional true xs are = are
   optional false xs are = tt
 

@@ -10,10 +10,10 @@ use Rattle.pw_forms.specs.declared.statement.Statement as form
 use Rattle.pw_scobol.specs.declared.requester.Requester.{Requester}
 use Rattle.pw_server.specs.declared.server.Server.{Server}
 use Rattle.pw_operands.specs.Uses.{uses}
-use Rattle.pw_operands.specs.Resolved.{Each, Stands, Resolves, RowResolves, AllResolve, ParagraphResolves}
+use Rattle.pw_operands.specs.Resolved.{Each, StatementFits, Resolves, RowResolves, AllResolve, ParagraphResolves}
 use Rattle.pw_names.specs.Order.{comes_before, first, at_line}
 use Rattle.pw_names.specs.Flaws.{flaws_of}
-use Rattle.pw_names.specs.Calls.{Program, Lengths, statement_flaws}
+use Rattle.pw_names.specs.Calls.{CallScope, Lengths, statement_flaws}
 use Rattle.pw_names.specs.Faults.{own_faults, faults, row_faults, paragraph_faults, program_faults}
 use Rattle.pw_names.specs.Names.{usings_of, requester_program, server_program, requester_faults, server_faults, all_faults, AllRequestersResolve, AllServersResolve}
 use Rattle.pw_names.proofs.Noted.{first-append}
@@ -43,12 +43,12 @@ pub each : {A X : Type 0} (f : A → List X) (P : A → Type 0) → ((x : A) →
 each f P good [] none = tt
 each f P good (x ∷ xs) none = (good x (none-front (f x) (flat_map f xs) none), each f P good xs (none-back (f x) (flat_map f xs) none))
 
-module _ (program : Program) where
+module _ (program : CallScope) where
   uses-right : (statement : Statement) → statement_flaws program statement ≡ [] → flaws_of program.scope (uses statement) ≡ []
   uses-right (form.Call line name arguments) none = none-front (flaws_of program.scope (uses (form.Call line name arguments))) _ none
   uses-right statement none = none
 
-  own-stands : (statement : Statement) → own_faults program statement ≡ [] → Stands program.scope statement
+  own-stands : (statement : Statement) → own_faults program statement ≡ [] → StatementFits program.scope statement
   own-stands statement none = all-fit program.scope (uses statement) (uses-right statement (at_line-none _ (statement_flaws program statement) none))
 
   mutual

@@ -12,11 +12,11 @@ use Rattle.pw_forms.specs.declared.operand.Subscript.TheVariants as subscripts
 use Rattle.pw_forms.specs.declared.operand.Operand.{Operand}
 use Rattle.pw_forms.specs.declared.operand.Operand.TheVariants as operands
 use Rattle.pw_operands.specs.declared.variable.Variable.{Variable}
-use Rattle.pw_operands.specs.Variables.{is_any, is_item, is_number, is_index}
+use Rattle.pw_operands.specs.Variables.{is_any, is_item, is_number_variable, is_index}
 use Rattle.pw_operands.specs.Scope.{Scope, variable_in, paragraph_of, screen_of, program_of, class_of, file_of}
 use Rattle.pw_operands.specs.Uses.{Use}
 use Rattle.pw_operands.specs.Uses as place
-use Rattle.pw_operands.specs.Resolved.{IsVariable, IsSubscript, HasSubscript, IsNamed, IsItem, IsAny, IsAmount, IsShownName, IsShown, IsOfFile, is_key, is_record, is_sum, Fits, Each}
+use Rattle.pw_operands.specs.Resolved.{IsVariable, IsSubscript, HasSubscript, NamesVariable, IsItem, IsAny, IsAmount, IsShownName, IsDisplayOperand, IsOfFile, is_key, is_record, is_sum, FitsPlace, Each}
 use Rattle.pw_names.specs.Flaws.{unless_holds, knows_subscript, knows, passes, is_subscript, has_subscript, is_of_kind, named_flaws, item_flaws, any_flaws, amount_flaws, shown_name_flaws, shown_flaws, variable_at, has_length, file_flaws, flaws, flaws_of}
 
 -- of two lists without a member together, neither has one
@@ -50,7 +50,7 @@ module _ (scope : Scope) where
       (grind (arith, nat_tests), subscript-good subscript there (and-second (not (variable.occurs == 0)) _ good))
 
   named-found : (test : Variable → Bool) (name : Word) (subscript : Option Subscript) (found : Option Variable) → variable_in scope name ≡ found → is_some found ≡ true
-      → knows_subscript scope subscript ≡ true → passes (is_of_kind scope test subscript) found ≡ true → IsNamed scope test name subscript
+      → knows_subscript scope subscript ≡ true → passes (is_of_kind scope test subscript) found ≡ true → NamesVariable scope test name subscript
   named-found test name subscript None is there known good = absurd cc
   named-found test name subscript (Some variable) is there known good = record {
     variable = variable;
@@ -59,7 +59,7 @@ module _ (scope : Scope) where
     subscripted = has_subscript-good variable subscript known (and-second (test variable) _ good);
   }
 
-  named-good : (test : Variable → Bool) (name : Word) (subscript : Option Subscript) → named_flaws scope test name subscript ≡ [] → IsNamed scope test name subscript
+  named-good : (test : Variable → Bool) (name : Word) (subscript : Option Subscript) → named_flaws scope test name subscript ≡ [] → NamesVariable scope test name subscript
   named-good test name subscript none =
       let known : knows scope name subscript ≡ true = holds _ UnknownItem (none-front _ _ none) in
       named-found test name subscript (variable_in scope name) refl (and-first _ _ known) (and-second (is_some (variable_in scope name)) _ known)
@@ -80,7 +80,7 @@ module _ (scope : Scope) where
   any-good operands.Zeros none = tt
 
   amount-good : (operand : Operand) → amount_flaws scope operand ≡ [] → IsAmount scope operand
-  amount-good (operands.Item name subscript) none = named-good is_number name subscript none
+  amount-good (operands.Item name subscript) none = named-good is_number_variable name subscript none
   amount-good (operands.Number digits) none = tt
   amount-good (operands.Text chars) none = cc
   amount-good operands.Spaces none = cc
@@ -95,7 +95,7 @@ module _ (scope : Scope) where
       no_subscript subscript (holds _ WrongKind (none-back (unless_holds (knows_subscript scope subscript) UnknownItem) _ none))
   shown_name-good name subscript None none = named-good is_any name subscript none
 
-  shown-good : (operand : Operand) → shown_flaws scope operand ≡ [] → IsShown scope operand
+  shown-good : (operand : Operand) → shown_flaws scope operand ≡ [] → IsDisplayOperand scope operand
   shown-good (operands.Item name subscript) none = shown_name-good name subscript (screen_of scope name) none
   shown-good (operands.Number digits) none = tt
   shown-good (operands.Text chars) none = tt
@@ -103,7 +103,7 @@ module _ (scope : Scope) where
   shown-good operands.Zeros none = tt
 
   -- an item or register with a length that the file takes passes that test too
-  named-long : (test : Variable → Bool) (name : Word) (subscript : Option Subscript) → IsNamed scope is_any name subscript → passes test (variable_in scope name) ≡ true → IsNamed scope test name subscript
+  named-long : (test : Variable → Bool) (name : Word) (subscript : Option Subscript) → NamesVariable scope is_any name subscript → passes test (variable_in scope name) ≡ true → NamesVariable scope test name subscript
   named-long test name subscript named long =
       record { variable = named.variable; found = named.found; passes = sym (ap (passes test) named.found) ∙ long; subscripted = named.subscripted }
 
@@ -129,7 +129,7 @@ module _ (scope : Scope) where
   some-good o code none = holds _ code none
 
   -- nothing is wrong with a name or operand in its place
-  pub fits : (one : Use) → flaws scope one ≡ [] → Fits scope one
+  pub fits : (one : Use) → flaws scope one ≡ [] → FitsPlace scope one
   fits (place.Paragraph name) none = some-good (paragraph_of scope name) UnknownParagraph none
   fits (place.Screen name) none = some-good (screen_of scope name) UnknownName none
   fits (place.Program name) none = some-good (program_of scope name) UnknownName none
@@ -137,13 +137,13 @@ module _ (scope : Scope) where
   fits (place.Any operand) none = any-good operand none
   fits (place.Shown operand) none = shown-good operand none
   fits (place.Amount operand) none = amount-good operand none
-  fits (place.Position operand) none = item-good is_number operand none
+  fits (place.Position operand) none = item-good is_number_variable operand none
   fits (place.Sent operand) none = item-good is_any operand none
   fits (place.Receiver operand) none = item-good is_item operand none
   fits (place.Sum operand) none = item-good is_sum operand none
   fits (place.Key file operand) none = file-good is_key file operand none
   fits (place.Record file operand) none = file-good is_record file operand none
 
-  pub all-fit : (uses : List Use) → flaws_of scope uses ≡ [] → Each (Fits scope) uses
+  pub all-fit : (uses : List Use) → flaws_of scope uses ≡ [] → Each (FitsPlace scope) uses
   all-fit [] none = tt
   all-fit (one ∷ uses) none = (fits one (none-front _ _ none), all-fit uses (none-back (flaws scope one) _ none))

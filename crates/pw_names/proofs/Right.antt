@@ -10,10 +10,10 @@ use Rattle.pw_forms.specs.declared.statement.Statement as form
 use Rattle.pw_scobol.specs.declared.requester.Requester.{Requester}
 use Rattle.pw_server.specs.declared.server.Server.{Server}
 use Rattle.pw_operands.specs.Uses.{uses}
-use Rattle.pw_operands.specs.Resolved.{Each, Stands, Resolves, RowResolves, AllResolve, ParagraphResolves}
+use Rattle.pw_operands.specs.Resolved.{Each, StatementFits, Resolves, RowResolves, AllResolve, ParagraphResolves}
 use Rattle.pw_names.specs.Order.{first, at_line}
 use Rattle.pw_names.specs.Flaws.{flaws_of}
-use Rattle.pw_names.specs.Calls.{Program, call_fits}
+use Rattle.pw_names.specs.Calls.{CallScope, call_fits}
 use Rattle.pw_names.specs.Lines.{line_of}
 use Rattle.pw_names.specs.Faults.{own_faults, faults, row_faults, paragraph_faults, program_faults}
 use Rattle.pw_names.specs.Names.{usings_of, requester_program, server_program, requester_faults, server_faults, all_faults, names_of}
@@ -27,7 +27,7 @@ none-each : {A X : Type 0} (f : A → List X) (P Q : A → Type 0) → ((x : A) 
 none-each f P Q good [] all every = refl
 none-each f P Q good (x ∷ xs) all every = no-parts (f x) (flat_map f xs) (good x all.0 every.0) (none-each f P Q good xs all.1 every.1)
 
-module _ (program : Program) where
+module _ (program : CallScope) where
   -- the CALLs of faultless statements fit
   mutual
     calls : (statement : Statement) → faults program statement ≡ [] → CallsFit program statement
@@ -49,7 +49,7 @@ module _ (program : Program) where
   pub calls-fit : program_faults program ≡ [] → AllCallsFit program
   calls-fit none = each (paragraph_faults program) _ (λ paragraph right. each (faults program) (CallsFit program) calls paragraph.body right) program.scope.paragraphs none
 
-  own-none : (statement : Statement) → Stands program.scope statement → CallsFit program statement → own_faults program statement ≡ []
+  own-none : (statement : Statement) → StatementFits program.scope statement → CallsFit program statement → own_faults program statement ≡ []
   own-none (form.Call line name arguments) stands fits =
       ap (at_line line) (no-parts (flaws_of program.scope (uses (form.Call line name arguments))) _ (none-of program.scope (uses (form.Call line name arguments)) stands) (no-code (call_fits program name arguments) WrongLength fits))
   own-none statement stands fits = ap (at_line (line_of statement)) (none-of program.scope (uses statement) stands)

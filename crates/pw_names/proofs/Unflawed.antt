@@ -12,11 +12,11 @@ use Rattle.pw_forms.specs.declared.operand.Subscript.TheVariants as subscripts
 use Rattle.pw_forms.specs.declared.operand.Operand.{Operand}
 use Rattle.pw_forms.specs.declared.operand.Operand.TheVariants as operands
 use Rattle.pw_operands.specs.declared.variable.Variable.{Variable}
-use Rattle.pw_operands.specs.Variables.{is_any, is_item, is_number, is_index}
+use Rattle.pw_operands.specs.Variables.{is_any, is_item, is_number_variable, is_index}
 use Rattle.pw_operands.specs.Scope.{Scope, variable_in, paragraph_of, screen_of, program_of, class_of, file_of}
 use Rattle.pw_operands.specs.Uses.{Use}
 use Rattle.pw_operands.specs.Uses as place
-use Rattle.pw_operands.specs.Resolved.{IsSubscript, HasSubscript, IsNamed, IsItem, IsAny, IsAmount, IsShownName, IsShown, IsOfFile, is_key, is_record, is_sum, Fits, Each}
+use Rattle.pw_operands.specs.Resolved.{IsSubscript, HasSubscript, NamesVariable, IsItem, IsAny, IsAmount, IsShownName, IsDisplayOperand, IsOfFile, is_key, is_record, is_sum, FitsPlace, Each}
 use Rattle.pw_names.specs.Flaws.{unless_holds, knows_subscript, knows, passes, is_subscript, has_subscript, is_of_kind, named_flaws, item_flaws, any_flaws, amount_flaws, shown_name_flaws, shown_flaws, variable_at, has_length, file_flaws, flaws, flaws_of}
 
 pub no-code : (test : Bool) (code : FaultCode) → test ≡ true → unless_holds test code ≡ []
@@ -44,7 +44,7 @@ module _ (scope : Scope) where
       let within : not (variable.occurs == 0) ≡ true = grind (arith, nat_tests) in
       and_from (not (variable.occurs == 0)) (is_subscript scope subscript) within (subscript-right subscript has.1)
 
-  named-none : (test : Variable → Bool) (name : Word) (subscript : Option Subscript) → IsNamed scope test name subscript → named_flaws scope test name subscript ≡ []
+  named-none : (test : Variable → Bool) (name : Word) (subscript : Option Subscript) → NamesVariable scope test name subscript → named_flaws scope test name subscript ≡ []
   named-none test name subscript named =
       no-parts (unless_holds (knows scope name subscript) UnknownItem) _
       (no-code (knows scope name subscript) UnknownItem (and_from (is_some (variable_in scope name)) _ (ap is_some named.found) (subscript-known named.variable subscript named.subscripted)))
@@ -66,7 +66,7 @@ module _ (scope : Scope) where
   any-none operands.Zeros is = refl
 
   amount-none : (operand : Operand) → IsAmount scope operand → amount_flaws scope operand ≡ []
-  amount-none (operands.Item name subscript) is = named-none is_number name subscript is
+  amount-none (operands.Item name subscript) is = named-none is_number_variable name subscript is
   amount-none (operands.Number digits) is = refl
   amount-none (operands.Text chars) is = absurd is
   amount-none operands.Spaces is = absurd is
@@ -78,14 +78,14 @@ module _ (scope : Scope) where
       (no-code (knows_subscript scope subscript) UnknownItem (ap (knows_subscript scope) is)) (no-code (not (is_some subscript)) WrongKind (ap (λ s. not (is_some s)) is))
   shown_name-none name subscript None is = named-none is_any name subscript is
 
-  shown-none : (operand : Operand) → IsShown scope operand → shown_flaws scope operand ≡ []
+  shown-none : (operand : Operand) → IsDisplayOperand scope operand → shown_flaws scope operand ≡ []
   shown-none (operands.Item name subscript) is = shown_name-none name subscript (screen_of scope name) is
   shown-none (operands.Number digits) is = refl
   shown-none (operands.Text chars) is = refl
   shown-none operands.Spaces is = refl
   shown-none operands.Zeros is = refl
 
-  named-any : (test : Variable → Bool) (name : Word) (subscript : Option Subscript) → IsNamed scope test name subscript → IsNamed scope is_any name subscript
+  named-any : (test : Variable → Bool) (name : Word) (subscript : Option Subscript) → NamesVariable scope test name subscript → NamesVariable scope is_any name subscript
   named-any test name subscript named = record { variable = named.variable; found = named.found; passes = refl; subscripted = named.subscripted }
 
   item-any : (test : Variable → Bool) (operand : Operand) → IsItem scope test operand → IsItem scope is_any operand
@@ -111,7 +111,7 @@ module _ (scope : Scope) where
       (item-none is_any operand (item-any (test is.file) operand is.item)))
 
   -- nothing is wrong with what fits its place
-  none : (one : Use) → Fits scope one → flaws scope one ≡ []
+  none : (one : Use) → FitsPlace scope one → flaws scope one ≡ []
   none (place.Paragraph name) fits = no-code (is_some (paragraph_of scope name)) UnknownParagraph fits
   none (place.Screen name) fits = no-code (is_some (screen_of scope name)) UnknownName fits
   none (place.Program name) fits = no-code (is_some (program_of scope name)) UnknownName fits
@@ -119,13 +119,13 @@ module _ (scope : Scope) where
   none (place.Any operand) fits = any-none operand fits
   none (place.Shown operand) fits = shown-none operand fits
   none (place.Amount operand) fits = amount-none operand fits
-  none (place.Position operand) fits = item-none is_number operand fits
+  none (place.Position operand) fits = item-none is_number_variable operand fits
   none (place.Sent operand) fits = item-none is_any operand fits
   none (place.Receiver operand) fits = item-none is_item operand fits
   none (place.Sum operand) fits = item-none is_sum operand fits
   none (place.Key file operand) fits = file-none is_key file operand fits
   none (place.Record file operand) fits = file-none is_record file operand fits
 
-  pub none-of : (uses : List Use) → Each (Fits scope) uses → flaws_of scope uses ≡ []
+  pub none-of : (uses : List Use) → Each (FitsPlace scope) uses → flaws_of scope uses ≡ []
   none-of [] fit = refl
   none-of (one ∷ uses) fit = no-parts (flaws scope one) (flaws_of scope uses) (none one fit.0) (none-of uses fit.1)

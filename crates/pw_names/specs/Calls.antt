@@ -22,7 +22,7 @@ lengths_of layout names =
     map (λ name. option_map (λ place. place.size) (place_of layout name)) names
 
 -- A program with its names, and how long the USING items of each program are, by its number.
-pub record Program : Type 0 where
+pub record CallScope : Type 0 where
   pub scope : Scope
   pub usings : List Lengths
 
@@ -45,18 +45,18 @@ found_fit scope arguments None = false
 found_fit scope arguments (Some lengths) = arguments_fit scope arguments lengths
 
 -- the arguments fit the USING items of the program of a number, if there is one
-abbrev pub numbered_fit : Program → List Operand → Option ℕ → Bool
+abbrev pub numbered_fit : CallScope → List Operand → Option ℕ → Bool
 numbered_fit program arguments None = true
 numbered_fit program arguments (Some number) =
     found_fit program.scope arguments (slice_get program.usings number)
 
 -- a CALL of a program with arguments fits
-abbrev pub call_fits : Program → Word → List Operand → Bool
+abbrev pub call_fits : CallScope → Word → List Operand → Bool
 call_fits program name arguments = numbered_fit program arguments (program_of program.scope name)
 
 -- What is wrong with a statement, without the statements of its branches. A CALL with another
 -- number of arguments or other lengths is WrongLength besides.
-abbrev pub statement_flaws : Program → Statement → List FaultCode
+abbrev pub statement_flaws : CallScope → Statement → List FaultCode
 statement_flaws program (form.Call line name arguments) =
     flaws_of program.scope (uses (form.Call line name arguments))
     ++ unless_holds (call_fits program name arguments) WrongLength

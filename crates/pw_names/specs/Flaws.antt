@@ -9,7 +9,7 @@ use Rattle.pw_forms.specs.declared.operand.Subscript.TheVariants as subscripts
 use Rattle.pw_forms.specs.declared.operand.Operand.{Operand}
 use Rattle.pw_forms.specs.declared.operand.Operand.TheVariants as operands
 use Rattle.pw_operands.specs.declared.variable.Variable.{Variable}
-use Rattle.pw_operands.specs.Variables.{is_any, is_item, is_number, is_index}
+use Rattle.pw_operands.specs.Variables.{is_any, is_item, is_number_variable, is_index}
 use Rattle.pw_operands.specs.Scope.{Scope, variable_in, paragraph_of, screen_of, program_of, class_of, file_of}
 use Rattle.pw_operands.specs.Uses.{Use, uses}
 use Rattle.pw_operands.specs.Uses as place
@@ -78,7 +78,7 @@ any_flaws scope operands.Zeros = []
 
 -- a Number or a number literal
 abbrev pub amount_flaws : Scope → Operand → List FaultCode
-amount_flaws scope (operands.Item name subscript) = named_flaws scope is_number name subscript
+amount_flaws scope (operands.Item name subscript) = named_flaws scope is_number_variable name subscript
 amount_flaws scope (operands.Number digits) = []
 amount_flaws scope (operands.Text chars) = WrongKind ∷ []
 amount_flaws scope operands.Spaces = WrongKind ∷ []
@@ -138,7 +138,7 @@ flaws scope (place.Class name) = unless_holds (is_some (class_of scope name)) Un
 flaws scope (place.Any operand) = any_flaws scope operand
 flaws scope (place.Shown operand) = shown_flaws scope operand
 flaws scope (place.Amount operand) = amount_flaws scope operand
-flaws scope (place.Position operand) = item_flaws scope is_number operand
+flaws scope (place.Position operand) = item_flaws scope is_number_variable operand
 flaws scope (place.Sent operand) = item_flaws scope is_any operand
 flaws scope (place.Receiver operand) = item_flaws scope is_item operand
 flaws scope (place.Sum operand) = item_flaws scope is_sum operand

@@ -9,7 +9,7 @@ use Rattle.pw_operands.specs.Scope.{requester_scope, server_scope}
 use Rattle.pw_operands.specs.Resolved.{Each}
 use Rattle.pw_scobol.specs.Resolved as of_requester
 use Rattle.pw_server.specs.Resolved as of_server
-use Rattle.pw_names.specs.Calls.{Lengths, lengths_of, Program}
+use Rattle.pw_names.specs.Calls.{Lengths, lengths_of, CallScope}
 use Rattle.pw_names.specs.Order.{first}
 use Rattle.pw_names.specs.Faults.{program_faults}
 
@@ -18,7 +18,7 @@ abbrev pub usings_of : List Requester → List Lengths
 usings_of requesters = map (λ requester. lengths_of requester.layout requester.using) requesters
 
 -- a requester among others
-abbrev pub requester_program : List Lengths → Links → Requester → Program
+abbrev pub requester_program : List Lengths → Links → Requester → CallScope
 requester_program usings links requester =
     record {
       scope = requester_scope requester.layout requester.screens requester.procedure links;
@@ -26,7 +26,7 @@ requester_program usings links requester =
     }
 
 -- a server
-abbrev pub server_program : List Lengths → Links → Server → Program
+abbrev pub server_program : List Lengths → Links → Server → CallScope
 server_program usings links server =
     record { scope = server_scope server.layout server.procedure links; usings = usings }
 
@@ -53,8 +53,8 @@ names_of requesters servers links = unless (first None (all_faults requesters se
 -- every name of each requester resolves, and every operand has its kind and length
 abbrev pub AllRequestersResolve : List Requester → Links → Type 0
 AllRequestersResolve requesters links =
-    Each (λ one. of_requester.IsResolved one links) requesters
+    Each (λ one. of_requester.IsResolvedRequester one links) requesters
 
 -- the same of the servers
 abbrev pub AllServersResolve : List Server → Links → Type 0
-AllServersResolve servers links = Each (λ one. of_server.IsResolved one links) servers
+AllServersResolve servers links = Each (λ one. of_server.IsResolvedServer one links) servers

@@ -2,7 +2,7 @@
 use Rattle.std.specs.Prelude.{Bool}
 use Rattle.pw_code.specs.declared.file.FileInfo.{FileInfo}
 use Rattle.pw_operands.specs.declared.variable.Variable.{Variable}
-use Rattle.pw_operands.specs.Variables.{is_any, is_item, is_number}
+use Rattle.pw_operands.specs.Variables.{is_any, is_item, is_number_variable}
 use Rattle.pw_operands.specs.Resolved.{is_sum, is_key, is_record}
 use Rattle.pw_names.specs.declared.wanted.Wanted.{Wanted}
 use Rattle.pw_names.specs.declared.wanted.Wanted.TheVariants as wanted
@@ -13,7 +13,7 @@ use Rattle.pw_names.specs.declared.wanted.Extent.TheVariants as extent
 abbrev pub test_of : Wanted → Variable → Bool
 test_of wanted.Any = is_any
 test_of wanted.Item = is_item
-test_of wanted.Number = is_number
+test_of wanted.Number = is_number_variable
 test_of wanted.Sum = is_sum
 
 -- the test of a length

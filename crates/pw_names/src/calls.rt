@@ -5,7 +5,7 @@ ghost use Rattle.pw_names.specs.Calls.{is_long, arguments_fit, numbered_fit, cal
 ghost use Rattle.pw_names.specs.Order.{noted};
 
 use crate::known::noted_unless;
-use crate::scope::Scope;
+use crate::scope::NameScope;
 use pw_base::bytes::Bytes;
 use pw_base::fault::Fault;
 use pw_base::fault_code::FaultCode;
@@ -22,7 +22,7 @@ fn is_long(length: Option<u32>, variable: &Option<Variable>) -> bool
     }
 }
 
-impl<'a> Scope<'a> {
+impl<'a> NameScope<'a> {
     /// Whether there are as many arguments as USING items, and each that is an item or register is
     /// as long as its USING item.
     fn arguments_fit(&self, arguments: &[Operand], lengths: &[Option<u32>]) -> bool

@@ -7,17 +7,17 @@ ghost use Rattle.pw_names.specs.Order.{noted};
 ghost use Rattle.pw_names.specs.Wants.{length_test_of};
 
 use crate::known::noted_unless;
-use crate::scope::Scope;
+use crate::scope::NameScope;
 use crate::wanted::{Extent, Wanted};
 use pw_base::bytes::Bytes;
 use pw_base::fault::Fault;
 use pw_base::fault_code::FaultCode;
 use pw_base::list::List;
 use pw_code::file::FileInfo;
-use pw_forms::cond::{Comparison, Cond};
-use pw_forms::lists::Code;
+use pw_forms::cond::{ComparisonForm, ConditionForm};
+use pw_forms::lists::SendCode;
 use pw_forms::operand::Operand;
-use pw_forms::statement::Arithmetic;
+use pw_forms::statement::ArithmeticForm;
 use pw_operands::variable::Variable;
 
 /// Whether an item or register, if there is one, has a length that the file takes.
@@ -30,7 +30,7 @@ fn has_length(extent: Extent, file: &FileInfo, variable: &Option<Variable>) -> b
     }
 }
 
-impl<'a> Scope<'a> {
+impl<'a> NameScope<'a> {
     /// The item or register that an operand names.
     pub fn variable_at(&self, operand: &Operand) -> Option<Variable>
         ensures { result ≡ variable_at self.now.scope operand.now }
@@ -116,7 +116,7 @@ impl<'a> Scope<'a> {
     }
 
     /// The items that receive by the codes of a SEND.
-    pub fn yields(&self, line: u32, codes: &[Code], known: Option<Fault>) -> Option<Fault>
+    pub fn yields(&self, line: u32, codes: &[SendCode], known: Option<Fault>) -> Option<Fault>
         ensures { result ≡ noted known line
             (flaws_of self.now.scope (map (λ code. place.Receiver code.yields) codes.now)) }
     {
@@ -159,11 +159,11 @@ impl<'a> Scope<'a> {
         }
     }
 
-    /// Arithmetic.
+    /// ArithmeticForm.
     pub fn arithmetic(
         &self,
         line: u32,
-        arithmetic: &Arithmetic,
+        arithmetic: &ArithmeticForm,
         known: Option<Fault>,
     ) -> Option<Fault>
         ensures { result ≡ noted known line
@@ -174,21 +174,21 @@ impl<'a> Scope<'a> {
     }
 
     /// A comparison.
-    fn comparison(&self, line: u32, comparison: &Comparison, known: Option<Fault>) -> Option<Fault>
+    fn comparison(&self, line: u32, comparison: &ComparisonForm, known: Option<Fault>) -> Option<Fault>
         ensures { result ≡ noted known line
             (flaws_of self.now.scope (comparison_uses comparison.now)) }
     {
         match comparison {
-            Comparison::Compare { left, right, .. } => {
+            ComparisonForm::Compare { left, right, .. } => {
                 let known = self.any(line, left, known);
                 self.any(line, right, known)
             }
-            Comparison::Numeric { operand, .. } => self.any(line, operand, known),
+            ComparisonForm::Numeric { operand, .. } => self.any(line, operand, known),
         }
     }
 
     /// Comparisons of which each must hold.
-    fn comparisons(&self, line: u32, all: &[Comparison], known: Option<Fault>) -> Option<Fault>
+    fn comparisons(&self, line: u32, all: &[ComparisonForm], known: Option<Fault>) -> Option<Fault>
         ensures { result ≡ noted known line
             (flaws_of self.now.scope (flat_map comparison_uses all.now)) }
     {
@@ -203,7 +203,7 @@ impl<'a> Scope<'a> {
     fn alternatives(
         &self,
         line: u32,
-        any: &[List<Comparison>],
+        any: &[List<ComparisonForm>],
         known: Option<Fault>,
     ) -> Option<Fault>
         ensures { result ≡ noted known line
@@ -217,7 +217,7 @@ impl<'a> Scope<'a> {
     }
 
     /// A condition.
-    pub fn cond(&self, line: u32, cond: &Cond, known: Option<Fault>) -> Option<Fault>
+    pub fn cond(&self, line: u32, cond: &ConditionForm, known: Option<Fault>) -> Option<Fault>
         ensures { result ≡ noted known line (flaws_of self.now.scope (cond_uses cond.now)) }
     {
         self.alternatives(line, cond.any.as_slice(), known)

@@ -7,7 +7,7 @@ ghost use Rattle.pw_names.specs.Order.{first};
 ghost use Rattle.pw_names.specs.Names.{usings_of, requester_program, server_program, requester_faults, server_faults, all_faults, names_of, AllRequestersResolve, AllServersResolve};
 
 use crate::outside::{Lengths, Outside};
-use crate::scope::Scope;
+use crate::scope::NameScope;
 use pw_base::bytes::Bytes;
 use pw_base::fault::{Fault, Refusal};
 use pw_base::list::List;
@@ -60,7 +60,7 @@ fn requester_fault(
 {
     let screens = requester.screens.as_slice();
     let paragraphs = requester.procedure.paragraphs.as_slice();
-    let scope = Scope::new(
+    let scope = NameScope::new(
         alloc,
         false,
         &requester.layout,
@@ -82,7 +82,7 @@ fn server_fault(
         (program_faults (server_program outside.now.usings outside.now.links server.now))) }
 {
     let paragraphs = server.procedure.paragraphs.as_slice();
-    let scope = Scope::new(alloc, true, &server.layout, &[], paragraphs, outside)?;
+    let scope = NameScope::new(alloc, true, &server.layout, &[], paragraphs, outside)?;
     Ok(scope.program_fault(known))
 }
 

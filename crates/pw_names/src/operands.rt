@@ -7,7 +7,7 @@ ghost use Rattle.pw_names.specs.Order.{noted};
 ghost use Rattle.pw_names.specs.Wants.{test_of};
 
 use crate::known::noted_unless;
-use crate::scope::Scope;
+use crate::scope::NameScope;
 use crate::wanted::{Wanted, is_index};
 use pw_base::bytes::Bytes;
 use pw_base::fault::Fault;
@@ -29,7 +29,7 @@ fn wrong_kind(known: Option<Fault>, line: u32) -> Option<Fault>
     noted_unless(known, false, line, FaultCode::WrongKind)
 }
 
-impl<'a> Scope<'a> {
+impl<'a> NameScope<'a> {
     /// Whether the name that a subscript is stands for an item or register.
     fn knows_subscript(&self, subscript: &Option<Subscript>) -> bool
         ensures { result ≡ knows_subscript self.now.scope subscript.now }

@@ -1,6 +1,6 @@
 ghost use Rattle.std.specs.Prelude.{◌≡◌, Option, option_and_then, option_map, slice_get, IfOk};
 ghost use Rattle.std.specs.Option.{option_copied};
-ghost use Rattle.pw_operands.specs.Scope.{number_in};
+ghost use Rattle.pw_operands.specs.Scope.{first_named_number};
 
 use pw_base::list::List;
 use pw_base::memory::Memory;
@@ -59,14 +59,14 @@ impl<'a> Outside<'a> {
 
     /// The number of a program.
     pub fn program(&self, name: &[u8]) -> Option<usize>
-        ensures { result ≡ number_in (λ program. program) self.now.links.programs name.now }
+        ensures { result ≡ first_named_number (λ program. program) self.now.links.programs name.now }
     {
         number_of(&self.programs, name)
     }
 
     /// The number of a class.
     pub fn class(&self, name: &[u8]) -> Option<usize>
-        ensures { result ≡ number_in (λ class. class) self.now.links.classes name.now }
+        ensures { result ≡ first_named_number (λ class. class) self.now.links.classes name.now }
     {
         number_of(&self.classes, name)
     }
@@ -74,7 +74,7 @@ impl<'a> Outside<'a> {
     /// A file.
     pub fn file(&self, name: &[u8]) -> Option<&FileInfo>
         ensures { option_copied result ≡ option_and_then (slice_get self.now.links.files)
-            (number_in (λ file. file.name) self.now.links.files name.now) }
+            (first_named_number (λ file. file.name) self.now.links.files name.now) }
     {
         self.links.files.get(number_of(&self.files, name)?)
     }

@@ -16,7 +16,7 @@ use std::marker::Model;
 /// A program with all that its names may stand for. Contracts see its scope, and how long the USING
 /// items of each program are.
 #[derive(Drop)]
-pub struct Scope<'a> {
+pub struct NameScope<'a> {
     server: bool,
     layout: &'a Layout,
     screens: &'a [ScreenTable],
@@ -26,13 +26,13 @@ pub struct Scope<'a> {
     paragraph_index: Index,
 }
 
-impl<'a> Model for Scope<'a> {
+impl<'a> Model for NameScope<'a> {
     ghost use Rattle.pw_index.specs.Index.{IsIndexOf};
-    ghost use Rattle.pw_names.specs.Calls.{Program};
+    ghost use Rattle.pw_names.specs.Calls.{CallScope};
     ghost use Rattle.pw_forms.specs.contracts.statement.Statement as statement;
     ghost use Rattle.std.specs.Coded.{codes};
 
-    ghost Value = { Program };
+    ghost Value = { CallScope };
 
     ghost coded = { Prim.hlevel (codes, statement.the_row.coded) };
 
@@ -52,7 +52,7 @@ impl<'a> Model for Scope<'a> {
         × IsIndexOf found.paragraph_index (λ paragraph. paragraph.name) found.paragraphs.now };
 }
 
-impl<'a> Scope<'a> {
+impl<'a> NameScope<'a> {
     /// The scope of a program of these parts. A server has no screens.
     pub fn new(
         alloc: Global,
@@ -61,7 +61,7 @@ impl<'a> Scope<'a> {
         screens: &'a [ScreenTable],
         paragraphs: &'a [Paragraph],
         outside: &'a Outside<'a>,
-    ) -> Result<Scope<'a>, Memory>
+    ) -> Result<NameScope<'a>, Memory>
         ensures server { IfOk result (λ found. found.scope.server ≡ server) }
         ensures layout { IfOk result (λ found. found.scope.layout ≡ layout.now) }
         ensures screens { IfOk result (λ found. found.scope.screens ≡ screens.now) }
@@ -69,7 +69,7 @@ impl<'a> Scope<'a> {
         ensures links { IfOk result (λ found. found.scope.links ≡ outside.now.links) }
         ensures usings { IfOk result (λ found. found.usings ≡ outside.now.usings) }
     {
-        Ok(Scope {
+        Ok(NameScope {
             server,
             layout,
             screens,

@@ -2,11 +2,11 @@ ghost use Rattle.std.specs.Prelude.{◌≡◌, flat_map};
 ghost use Rattle.pw_names.specs.Order.{first};
 ghost use Rattle.pw_names.specs.Faults.{own_faults, faults, paragraph_faults, program_faults};
 
-use crate::scope::Scope;
+use crate::scope::NameScope;
 use pw_base::fault::Fault;
 use pw_forms::statement::{Paragraph, Statement};
 
-impl<'a> Scope<'a> {
+impl<'a> NameScope<'a> {
     /// The names and operands of a statement, without those of the statements of its branches.
     fn own(&self, statement: &Statement, known: Option<Fault>) -> Option<Fault>
         ensures { result ≡ first known (own_faults self.now statement.now) }

@@ -4,16 +4,16 @@ ghost use Rattle.pw_operands.specs.Uses as place;
 ghost use Rattle.pw_names.specs.Flaws.{flaws_of};
 ghost use Rattle.pw_names.specs.Order.{noted};
 
-use crate::scope::Scope;
+use crate::scope::NameScope;
 use crate::wanted::{Extent, Wanted};
 use pw_base::bytes::Bytes;
 use pw_base::fault::Fault;
 use pw_base::list::List;
-use pw_forms::cond::Cond;
+use pw_forms::cond::ConditionForm;
 use pw_forms::lists::Codes;
 use pw_forms::operand::Operand;
 
-impl<'a> Scope<'a> {
+impl<'a> NameScope<'a> {
     /// `MOVE from TO to ..`
     pub fn moved(
         &self,
@@ -57,7 +57,7 @@ impl<'a> Scope<'a> {
         &self,
         line: u32,
         paragraph: &Bytes,
-        cond: &Cond,
+        cond: &ConditionForm,
         known: Option<Fault>,
     ) -> Option<Fault>
         ensures { result ≡ noted known line

@@ -1,5 +1,5 @@
 ghost use Rattle.std.specs.Prelude.{◌≡◌};
-ghost use Rattle.pw_operands.specs.Variables.{has_digits, has_no_sign, is_number, is_index};
+ghost use Rattle.pw_operands.specs.Variables.{has_digits, has_no_sign, is_number_variable, is_index};
 ghost use Rattle.pw_names.specs.Wants.{test_of, length_test_of};
 
 use pw_code::file::FileInfo;
@@ -80,7 +80,7 @@ fn has_no_sign(picture: &Option<Picture>) -> bool
 
 /// Whether an item or register is a Number.
 fn is_number(variable: &Variable) -> bool
-    ensures { result ≡ is_number variable.now }
+    ensures { result ≡ is_number_variable variable.now }
 {
     has_digits(&variable.picture)
 }

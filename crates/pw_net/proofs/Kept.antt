@@ -10,11 +10,11 @@ use Rattle.pw_base.proofs.Plain.{le-true, le-false}
 use Rattle.pw_net.specs.Ballot.{Ballot}
 use Rattle.pw_net.specs.Kept.{since, standings_now, is_collecting, AreBegun}
 use Rattle.pw_net.specs.Member.{id_order, mark_in}
-use Rattle.pw_net.specs.Rules.{restarted}
+use Rattle.pw_net.specs.Rules.{standing_after_restart}
 use Rattle.pw_net.specs.declared.message.Mark.{Mark}
 use Rattle.pw_net.specs.declared.message.NetId.{NetId}
-use Rattle.pw_net.specs.declared.standing.Standing.{Standing}
-use Rattle.pw_net.specs.declared.standing.Standing.TheVariants.{Collecting, Prepared, Committed, Aborted}
+use Rattle.pw_net.specs.declared.standing.TransactionState.{TransactionState}
+use Rattle.pw_net.specs.declared.standing.TransactionState.TheVariants.{Collecting, Prepared, Committed, Aborted}
 use Rattle.pw_net.proofs.Standings.{Entries, Found, found-first, found-later, id-exact, same_id}
 
 above : (a b : ℕ) → nat_le a b ≡ false → b < a
@@ -33,12 +33,12 @@ found-now lost id (e ∷ es) = place (found-now lost id es) (same_id id e.0)
         ∙ (there ∙ sym (ap (option_map (since lost id.number)) (found-later id e.0 e.1 es differ)))
 
 -- a standing that loses no votes is put in among what stands now
-pub put-now : (lost : ℕ) (id : NetId) (x : Standing) (es : Entries) → since lost id.number x ≡ x
+pub put-now : (lost : ℕ) (id : NetId) (x : TransactionState) (es : Entries) → since lost id.number x ≡ x
     → standings_now lost (insert_entry id_order es id x) ≡ insert_entry id_order (standings_now lost es) id x
 put-now lost id x [] stays = ap (λ y. (id, y) ∷ []) stays
 put-now lost id x (e ∷ es) stays = place (put-now lost id x es stays) (id_order id e.0) refl
   where
-    now : NetId × Standing
+    now : NetId × TransactionState
     now = (e.0, since lost e.0.number e.1)
 
     place : standings_now lost (insert_entry id_order es id x) ≡ insert_entry id_order (standings_now lost es) id x → (o : Ordering) → id_order id e.0 ≡ o
@@ -49,7 +49,7 @@ put-now lost id x (e ∷ es) stays = place (put-now lost id x es stays) (id_orde
     place there Greater is = ap (λ ys. now ∷ ys) there
 
 -- a standing put in collects votes only for a number that was begun
-pub begun-put : (last : ℕ) (id : NetId) (x : Standing) (es : Entries) → (is_collecting (Some x) ≡ true → id.number ≤ last) → AreBegun last es → AreBegun last (insert_entry id_order es id x)
+pub begun-put : (last : ℕ) (id : NetId) (x : TransactionState) (es : Entries) → (is_collecting (Some x) ≡ true → id.number ≤ last) → AreBegun last es → AreBegun last (insert_entry id_order es id x)
 begun-put last id x [] here begun = (here, tt)
 begun-put last id x (e ∷ es) here begun = place (begun-put last id x es here begun.1) (id_order id e.0) refl
   where
@@ -66,7 +66,7 @@ begun-more last more (e ∷ es) le begun =
     ((λ is. let h = begun.0 is in omega arith), begun-more last more es le begun.1)
 
 -- a standing that collects votes now is for a number that was begun since the last restart
-open-one : (lost number : ℕ) (x : Standing) → is_collecting (Some (since lost number x)) ≡ true → (is_collecting (Some x) ≡ true) × (lost < number)
+open-one : (lost number : ℕ) (x : TransactionState) → is_collecting (Some (since lost number x)) ≡ true → (is_collecting (Some x) ≡ true) × (lost < number)
 open-one lost number (Collecting ballot) h =
     (refl, cond_both (nat_le number lost) Aborted (Collecting ballot) (λ y. is_collecting (Some y) ≡ true → lost < number) (λ _ no. absurd (cc no)) (λ e _. above number lost e) h)
 open-one lost number Prepared h = absurd (cc h)
@@ -88,25 +88,25 @@ open-number lost last id (e ∷ es) begun h = place (open-number lost last id es
     place there (inr differ) = there (sym (ap is_collecting (found-later id e.0 (since lost e.0.number e.1) (standings_now lost es) differ)) ∙ h)
 
 -- a standing whose votes are for a later number stays
-pub stays : (lost number : ℕ) (x : Standing) → (is_collecting (Some x) ≡ true → lost < number) → since lost number x ≡ x
+pub stays : (lost number : ℕ) (x : TransactionState) → (is_collecting (Some x) ≡ true → lost < number) → since lost number x ≡ x
 stays lost number (Collecting ballot) later = ap (λ b. cond b Aborted (Collecting ballot)) (le-false number lost (later refl))
 stays lost number Prepared later = refl
 stays lost number Committed later = refl
 stays lost number Aborted later = refl
 
 -- where all votes so far are lost, what stood before is restarted
-all-lost : (lost last number : ℕ) (x : Standing) → (is_collecting (Some x) ≡ true → number ≤ last) → since last number x ≡ restarted (since lost number x)
+all-lost : (lost last number : ℕ) (x : TransactionState) → (is_collecting (Some x) ≡ true → number ≤ last) → since last number x ≡ standing_after_restart (since lost number x)
 all-lost lost last number (Collecting ballot) begun =
-    ap (λ b. cond b Aborted (Collecting ballot)) (le-true number last (begun refl)) ∙ cond_both (nat_le number lost) Aborted (Collecting ballot) (λ y. Aborted ≡ restarted y) (λ _. refl) (λ _. refl)
+    ap (λ b. cond b Aborted (Collecting ballot)) (le-true number last (begun refl)) ∙ cond_both (nat_le number lost) Aborted (Collecting ballot) (λ y. Aborted ≡ standing_after_restart y) (λ _. refl) (λ _. refl)
 all-lost lost last number Prepared begun = refl
 all-lost lost last number Committed begun = refl
 all-lost lost last number Aborted begun = refl
 
-pub restart-now : (lost last : ℕ) (es : Entries) → AreBegun last es → standings_now last es ≡ map (λ e. (e.0, restarted e.1)) (standings_now lost es)
+pub restart-now : (lost last : ℕ) (es : Entries) → AreBegun last es → standings_now last es ≡ map (λ e. (e.0, standing_after_restart e.1)) (standings_now lost es)
 restart-now lost last [] begun = refl
 restart-now lost last (e ∷ es) begun =
     ap (λ y. (e.0, y) ∷ standings_now last es) (all-lost lost last e.0.number e.1 begun.0)
-    ∙ ap (λ ys. (e.0, restarted (since lost e.0.number e.1)) ∷ ys) (restart-now lost last es begun.1)
+    ∙ ap (λ ys. (e.0, standing_after_restart (since lost e.0.number e.1)) ∷ ys) (restart-now lost last es begun.1)
 
 -- the next number begins to collect votes
 pub put-next : (lost last home : ℕ) (ballot : Ballot) (es : Entries) → lost ≤ last

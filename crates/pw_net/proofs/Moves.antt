@@ -7,8 +7,8 @@ use Rattle.pw_net.specs.declared.message.Net.{Net}
 use Rattle.pw_net.specs.declared.message.NetId.{NetId}
 use Rattle.pw_net.specs.declared.message.NetWord.{NetWord}
 use Rattle.pw_net.specs.declared.message.NetWord.TheVariants.{Prepare, Yes, Commit, Abort}
-use Rattle.pw_net.specs.declared.standing.Standing.{Standing}
-use Rattle.pw_net.specs.declared.standing.Standing.TheVariants.{Collecting, Prepared, Committed, Aborted}
+use Rattle.pw_net.specs.declared.standing.TransactionState.{TransactionState}
+use Rattle.pw_net.specs.declared.standing.TransactionState.TheVariants.{Collecting, Prepared, Committed, Aborted}
 use Rattle.pw_net.proofs.Sent.{In, sent-before, sent-split, sent-as}
 
 -- a message with this word about the transaction
@@ -20,11 +20,11 @@ abbrev pub IsPrepare : NetId → ℕ → Net → Type 0
 IsPrepare id system m = (m.word ≡ Prepare) × (m.id ≡ id) × (m.to ≡ system)
 
 -- a system that has voted yes is prepared or committed, or aborted where its home is
-abbrev pub Voted : Option Standing → Option Standing → Type 0
+abbrev pub Voted : Option TransactionState → Option TransactionState → Type 0
 Voted standing home = (standing ≡ Some Prepared) ⊎ ((standing ≡ Some Committed) ⊎ ((standing ≡ Some Aborted) × (home ≡ Some Aborted)))
 
 -- what holds of a transaction: how each system stands to it, the last number of its home, and the messages sent
-pub record Holds (id : NetId) (at : ℕ → Option Standing) (last : ℕ) (sent : List Net) : Type 0 where
+pub record Holds (id : NetId) (at : ℕ → Option TransactionState) (last : ℕ) (sent : List Net) : Type 0 where
   pub fresh : last < id.number → (at id.home ≡ None) × (WasSent (IsAbout Prepare id) sent → ⊥)
   pub own : (s : ℕ) (b : Ballot) → at s ≡ Some (Collecting b) → s ≡ id.home
   pub voted : (s : ℕ) → s ≢ id.home → WasSent (IsFrom Yes id s) sent → Voted (at s) (at id.home)
@@ -35,7 +35,7 @@ pub record Holds (id : NetId) (at : ℕ → Option Standing) (last : ℕ) (sent 
   pub all : at id.home ≡ Some Committed → (s : ℕ) → WasSent (IsPrepare id s) sent → WasSent (IsFrom Yes id s) sent
 
 -- a change of one system's standing to b, with new messages, that keeps this
-pub record Moves (id : NetId) (at : ℕ → Option Standing) (last : ℕ) (sent : List Net) (s : ℕ) (b : Option Standing) (new : List Net) : Type 0 where
+pub record Moves (id : NetId) (at : ℕ → Option TransactionState) (last : ℕ) (sent : List Net) (s : ℕ) (b : Option TransactionState) (new : List Net) : Type 0 where
   pub about : (other : NetId) → WasSent (λ m. m.id ≡ other) new → other ≡ id
   pub quiet : WasSent (IsAbout Prepare id) new → ⊥
   pub votes : (t : ℕ) → WasSent (IsFrom Yes id t) new → (t ≡ s) × (b ≡ Some Prepared)
@@ -51,7 +51,7 @@ pub record Moves (id : NetId) (at : ℕ → Option Standing) (last : ℕ) (sent 
   pub all : s ≡ id.home → b ≡ Some Committed → (t : ℕ) → WasSent (IsPrepare id t) sent → WasSent (IsFrom Yes id t) sent
 
 -- messages about other transactions, and numbers that rise, change nothing
-pub unmoved : (id : NetId) (at now : ℕ → Option Standing) (last later : ℕ) (sent new : List Net) → Holds id at last sent
+pub unmoved : (id : NetId) (at now : ℕ → Option TransactionState) (last later : ℕ) (sent new : List Net) → Holds id at last sent
     → ((t : ℕ) → now t ≡ at t) → last ≤ later → (WasSent (λ m. m.id ≡ id) new → ⊥) → Holds id now later (sent ++ new)
 unmoved id at now last later sent new ok same rises apart = record {
   fresh = λ lt. let f = ok.fresh (lt_of_le_of_lt rises lt) in (same id.home ∙ f.0, λ w. f.1 (old (IsAbout Prepare id) (λ m p. p.1) w));
@@ -72,7 +72,7 @@ unmoved id at now last later sent new ok same rises apart = record {
     more s b (inr w) = inr (sent-before (IsFrom Yes id s) sent new w)
 
 -- such a change keeps what holds
-pub moved : (id : NetId) (at now : ℕ → Option Standing) (last : ℕ) (sent new : List Net) (s : ℕ) (b : Option Standing) → Holds id at last sent
+pub moved : (id : NetId) (at now : ℕ → Option TransactionState) (last : ℕ) (sent new : List Net) (s : ℕ) (b : Option TransactionState) → Holds id at last sent
     → Moves id at last sent s b new → now s ≡ b → ((t : ℕ) → t ≢ s → now t ≡ at t) → Holds id now last (sent ++ new)
 moved id at now last sent new s b ok move is others = record {
   fresh = λ lt. (at-home (λ here. move.fresh lt here) (λ _. (ok.fresh lt).0), λ w. ⊎_elim (ok.fresh lt).1 move.quiet (sent-split (IsAbout Prepare id) sent new w));
@@ -86,10 +86,10 @@ moved id at now last sent new s b ok move is others = record {
   all = λ e t w. sent-before (IsFrom Yes id t) sent new (home-all t (asked t w) e);
 }
   where
-    at-system : (t : ℕ) (P : Option Standing → Type 0) → (t ≡ s → P b) → (t ≢ s → P (at t)) → P (now t)
+    at-system : (t : ℕ) (P : Option TransactionState → Type 0) → (t ≡ s → P b) → (t ≢ s → P (at t)) → P (now t)
     at-system t P here there = ⊎_elim (λ e. subst P (sym (ap now e ∙ is)) (here e)) (λ ne. subst P (sym (others t ne)) (there ne)) (cases_eq t s)
 
-    at-home : {x : Option Standing} → (s ≡ id.home → b ≡ x) → (id.home ≢ s → at id.home ≡ x) → now id.home ≡ x
+    at-home : {x : Option TransactionState} → (s ≡ id.home → b ≡ x) → (id.home ≢ s → at id.home ≡ x) → now id.home ≡ x
     at-home {x = x} here there = at-system id.home (λ y. y ≡ x) (λ e. here (sym e)) there
 
     stays-committed : at id.home ≡ Some Committed → now id.home ≡ Some Committed
@@ -116,7 +116,7 @@ moved id at now last sent new s b ok move is others = record {
     home-all t w = at-system id.home (λ x. x ≡ Some Committed → WasSent (IsFrom Yes id t) sent)
         (λ here x. move.all (sym here) x t w) (λ _ x. ok.all x t w)
 
-    later : (x : Option Standing) → Voted x (at id.home) → Voted x (now id.home)
+    later : (x : Option TransactionState) → Voted x (at id.home) → Voted x (now id.home)
     later x (inl e) = inl e
     later x (inr (inl e)) = inr (inl e)
     later x (inr (inr (e, a))) = inr (inr (e, stays-aborted a))

@@ -3,20 +3,20 @@ use Rattle.std.proofs.Common.{◌≡◌, ◌≢◌, ◌⊎◌, inl, inr, ⊎_eli
 use Rattle.std.proofs.lemmas.Bool.{cond_both, cases_eq, eqb-true, eqb-false}
 use Rattle.pw_net.specs.Agreement.{WasSent, IsFrom}
 use Rattle.pw_net.specs.Ballot.{Ballot, still_missing}
-use Rattle.pw_net.specs.Rules.{Reply, silence, says, becomes, told, told_each, at_home, on_prepare, on_yes, counted, on_end, on_commit, on_abort, on_ask, on_word, on_refuse, on_wait}
+use Rattle.pw_net.specs.Rules.{Reply, silence, says, becomes, told, told_each, at_home, on_prepare, on_yes, vote_counted, on_end, on_commit, on_abort, on_ask, on_word, on_refuse, on_wait}
 use Rattle.pw_net.specs.declared.message.Net.{Net}
 use Rattle.pw_net.specs.declared.message.NetId.{NetId}
 use Rattle.pw_net.specs.declared.message.NetWord.{NetWord}
 use Rattle.pw_net.specs.declared.message.NetWord.TheVariants.{Prepare, Yes, No, Commit, Abort, Ask}
-use Rattle.pw_net.specs.declared.standing.Standing.{Standing}
-use Rattle.pw_net.specs.declared.standing.Standing.TheVariants.{Collecting, Prepared, Committed, Aborted}
+use Rattle.pw_net.specs.declared.standing.TransactionState.{TransactionState}
+use Rattle.pw_net.specs.declared.standing.TransactionState.TheVariants.{Collecting, Prepared, Committed, Aborted}
 use Rattle.pw_net.proofs.Moves.{Holds, Moves, IsAbout, IsPrepare, Voted}
 use Rattle.pw_net.proofs.Sent.{In, in-filter, sent-as, sent-each}
 use Rattle.pw_net.proofs.Standings.{behind, restarted_mark}
 
-module _ (id : NetId) (at : ℕ → Option Standing) (last : ℕ) (sent : List Net) (s : ℕ) (ok : Holds id at last sent) where
+module _ (id : NetId) (at : ℕ → Option TransactionState) (last : ℕ) (sent : List Net) (s : ℕ) (ok : Holds id at last sent) where
   -- a reply is such a change, where the system stands so
-  abbrev pub Keeps : Option Standing → Reply → Type 0
+  abbrev pub Keeps : Option TransactionState → Reply → Type 0
   Keeps a reply = Moves id at last sent s (behind a reply.turns) reply.messages
 
   -- the standing stays, and the messages are fit for it
@@ -40,12 +40,12 @@ module _ (id : NetId) (at : ℕ → Option Standing) (last : ℕ) (sent : List N
     all = λ is e t w. ok.all (sym (ap at is) ∙ e) t w;
   }
 
-  silent : (a : Option Standing) → at s ≡ a → Keeps a silence
+  silent : (a : Option TransactionState) → at s ≡ a → Keeps a silence
   silent a is = subst (λ x. Moves id at last sent s x []) is
       (still [] (λ _ w. absurd w) (λ w. absurd w) (λ _ w. absurd w) (λ w. absurd w) (λ w. absurd w))
 
   -- one message of a word that is fit for the standing
-  saying : (a : Option Standing) → at s ≡ a → (word : NetWord) (to : ℕ) → word ≢ Prepare → (word ≡ Yes → a ≡ Some Prepared)
+  saying : (a : Option TransactionState) → at s ≡ a → (word : NetWord) (to : ℕ) → word ≢ Prepare → (word ≡ Yes → a ≡ Some Prepared)
       → (word ≡ Commit → (s ≡ id.home) × (a ≡ Some Committed)) → (word ≡ Abort → (s ≡ id.home) × (a ≡ Some Aborted)) → Keeps a (says s id word to)
   saying a is word to quiet voting commit abort = subst (λ x. Moves id at last sent s x (told s id word to ∷ [])) is
       (still (told s id word to ∷ [])
@@ -75,7 +75,7 @@ module _ (id : NetId) (at : ℕ → Option Standing) (last : ℕ) (sent : List N
     all = λ _ e. absurd (cc e);
   }
 
-  keeps-end : (a : Option Standing) → at s ≡ a → s ≡ id.home → Keeps a (on_end s id a)
+  keeps-end : (a : Option TransactionState) → at s ≡ a → s ≡ id.home → Keeps a (on_end s id a)
   keeps-end None is here = silent None is
   keeps-end (Some (Collecting b)) is here = ending b (told_each s id Abort b.others) is here
       (λ other. sent-each (λ m. m.id ≡ other) s id Abort b.others (other ≡ id) (λ to e. sym e))
@@ -86,7 +86,7 @@ module _ (id : NetId) (at : ℕ → Option Standing) (last : ℕ) (sent : List N
   keeps-end (Some Committed) is here = silent (Some Committed) is
   keeps-end (Some Aborted) is here = silent (Some Aborted) is
 
-  keeps-prepare : (a : Option Standing) → at s ≡ a → WasSent (IsAbout Prepare id) sent → Keeps a (on_prepare s id a)
+  keeps-prepare : (a : Option TransactionState) → at s ≡ a → WasSent (IsAbout Prepare id) sent → Keeps a (on_prepare s id a)
   keeps-prepare None is came = record {
     about = λ other w. ⊎_elim (λ e. sym e) (λ v. absurd v) w;
     quiet = λ w. ⊎_elim (λ p. absurd (cc p.0)) (λ v. absurd v) w;
@@ -111,7 +111,7 @@ module _ (id : NetId) (at : ℕ → Option Standing) (last : ℕ) (sent : List N
 
   -- at the home, where these are still missing
   counting : (b : Ballot) → at s ≡ Some (Collecting b) → s ≡ id.home → (left : List ℕ)
-      → ((t : ℕ) → WasSent (IsPrepare id t) sent → In t left ⊎ WasSent (IsFrom Yes id t) sent) → Keeps (Some (Collecting b)) (counted s id b.others left)
+      → ((t : ℕ) → WasSent (IsPrepare id t) sent → In t left ⊎ WasSent (IsFrom Yes id t) sent) → Keeps (Some (Collecting b)) (vote_counted s id b.others left)
   counting b is here [] votes = record {
     about = λ other. sent-each (λ m. m.id ≡ other) s id Commit b.others (other ≡ id) (λ to e. sym e);
     quiet = sent-each (IsAbout Prepare id) s id Commit b.others ⊥ (λ to p. absurd (cc p.0));
@@ -145,7 +145,7 @@ module _ (id : NetId) (at : ℕ → Option Standing) (last : ℕ) (sent : List N
     all = λ _ e. absurd (cc e);
   }
 
-  keeps-yes : (from : ℕ) (a : Option Standing) → at s ≡ a → s ≡ id.home → WasSent (IsFrom Yes id from) sent → Keeps a (on_yes s id from a)
+  keeps-yes : (from : ℕ) (a : Option TransactionState) → at s ≡ a → s ≡ id.home → WasSent (IsFrom Yes id from) sent → Keeps a (on_yes s id from a)
   keeps-yes from None is here came = silent None is
   keeps-yes from (Some (Collecting b)) is here came = counting b is here (still_missing from b)
       (λ t w. missing t (cases_eq t from) (ok.collecting b (sym (ap at here) ∙ is) t w))
@@ -160,7 +160,7 @@ module _ (id : NetId) (at : ℕ → Option Standing) (last : ℕ) (sent : List N
   keeps-yes from (Some Aborted) is here came =
       saying (Some Aborted) is Abort from (λ e. absurd (cc e)) (λ e. absurd (cc e)) (λ e. absurd (cc e)) (λ _. (here, refl))
 
-  keeps-ask : (from : ℕ) (a : Option Standing) → at s ≡ a → s ≡ id.home → Keeps a (on_ask s id from a)
+  keeps-ask : (from : ℕ) (a : Option TransactionState) → at s ≡ a → s ≡ id.home → Keeps a (on_ask s id from a)
   keeps-ask from None is here = silent None is
   keeps-ask from (Some (Collecting b)) is here = silent (Some (Collecting b)) is
   keeps-ask from (Some Prepared) is here = silent (Some Prepared) is
@@ -170,7 +170,7 @@ module _ (id : NetId) (at : ℕ → Option Standing) (last : ℕ) (sent : List N
       saying (Some Aborted) is Abort from (λ e. absurd (cc e)) (λ e. absurd (cc e)) (λ e. absurd (cc e)) (λ _. (here, refl))
 
   -- Commit came, so the home is committed
-  keeps-commit : (a : Option Standing) → at s ≡ a → WasSent (IsAbout Commit id) sent → Keeps a (on_commit a)
+  keeps-commit : (a : Option TransactionState) → at s ≡ a → WasSent (IsAbout Commit id) sent → Keeps a (on_commit a)
   keeps-commit None is came = silent None is
   keeps-commit (Some (Collecting b)) is came = silent (Some (Collecting b)) is
   keeps-commit (Some Prepared) is came = let home = ok.commits came in record {
@@ -192,7 +192,7 @@ module _ (id : NetId) (at : ℕ → Option Standing) (last : ℕ) (sent : List N
   keeps-commit (Some Aborted) is came = silent (Some Aborted) is
 
   -- what is not decided is aborted, away from home or where the home is aborted
-  aborting : (a : Option Standing) → at s ≡ a → a ≢ Some Committed → (s ≢ id.home)
+  aborting : (a : Option TransactionState) → at s ≡ a → a ≢ Some Committed → (s ≢ id.home)
       → (WasSent (IsFrom Yes id s) sent → at id.home ≡ Some Aborted) → Moves id at last sent s (Some Aborted) []
   aborting a is undecided away voted = record {
     about = λ other w. absurd w;
@@ -211,7 +211,7 @@ module _ (id : NetId) (at : ℕ → Option Standing) (last : ℕ) (sent : List N
   }
 
   -- Abort came, so the home is aborted
-  keeps-abort : (a : Option Standing) → at s ≡ a → WasSent (IsAbout Abort id) sent → Keeps a (on_abort a)
+  keeps-abort : (a : Option TransactionState) → at s ≡ a → WasSent (IsAbout Abort id) sent → Keeps a (on_abort a)
   keeps-abort None is came = let home = ok.aborts came in
       aborting None is (λ e. absurd (cc e)) (λ here. absurd (cc (is, ap at here, home))) (λ _. home)
   keeps-abort (Some (Collecting b)) is came = silent (Some (Collecting b)) is
@@ -221,10 +221,10 @@ module _ (id : NetId) (at : ℕ → Option Standing) (last : ℕ) (sent : List N
   keeps-abort (Some Aborted) is came = silent (Some Aborted) is
 
   -- an answer that only the home gives
-  homely : (a : Option Standing) (reply : Reply) → at s ≡ a → (s ≡ id.home → Keeps a reply) → Keeps a (at_home s id reply)
+  homely : (a : Option TransactionState) (reply : Reply) → at s ≡ a → (s ≡ id.home → Keeps a reply) → Keeps a (at_home s id reply)
   homely a reply is keeps = cond_both (s == id.home) reply silence (Keeps a) (λ e. keeps (eqb-true s id.home e)) (λ _. silent a is)
 
-  pub keeps-word : (from : ℕ) (word : NetWord) (a : Option Standing) → at s ≡ a → WasSent (IsFrom word id from) sent → Keeps a (on_word s id from word a)
+  pub keeps-word : (from : ℕ) (word : NetWord) (a : Option TransactionState) → at s ≡ a → WasSent (IsFrom word id from) sent → Keeps a (on_word s id from word a)
   keeps-word from Prepare a is came = keeps-prepare a is (sent-as (IsFrom Prepare id from) (IsAbout Prepare id) (λ m p. (p.0, p.1)) sent came)
   keeps-word from Yes a is came = homely a (on_yes s id from a) is (λ here. keeps-yes from a is here came)
   keeps-word from No a is came = homely a (on_end s id a) is (λ here. keeps-end a is here)
@@ -241,12 +241,12 @@ module _ (id : NetId) (at : ℕ → Option Standing) (last : ℕ) (sent : List N
       none (inr (inl e)) = absurd (cc (is, e))
       none (inr (inr p)) = p.1
 
-  pub keeps-refuse : (a : Option Standing) → at s ≡ a → Keeps a (on_refuse s id a)
+  pub keeps-refuse : (a : Option TransactionState) → at s ≡ a → Keeps a (on_refuse s id a)
   keeps-refuse None is = cond_both (s == id.home) silence (becomes Aborted) (Keeps None) (λ _. silent None is)
       (λ e. aborting None is (λ f. absurd (cc f)) (eqb-false s id.home e) (unvoted is (eqb-false s id.home e)))
   keeps-refuse (Some x) is = silent (Some x) is
 
-  pub keeps-wait : (a : Option Standing) → at s ≡ a → Keeps a (on_wait s id a)
+  pub keeps-wait : (a : Option TransactionState) → at s ≡ a → Keeps a (on_wait s id a)
   keeps-wait None is = silent None is
   keeps-wait (Some (Collecting b)) is = silent (Some (Collecting b)) is
   keeps-wait (Some Prepared) is =
@@ -254,10 +254,10 @@ module _ (id : NetId) (at : ℕ → Option Standing) (last : ℕ) (sent : List N
   keeps-wait (Some Committed) is = silent (Some Committed) is
   keeps-wait (Some Aborted) is = silent (Some Aborted) is
 
-  pub keeps-give-up : (a : Option Standing) → at s ≡ a → s ≡ id.home → Keeps a (on_end s id a)
+  pub keeps-give-up : (a : Option TransactionState) → at s ≡ a → s ≡ id.home → Keeps a (on_end s id a)
   keeps-give-up = keeps-end
 
-  pub keeps-restart : (a : Option Standing) → at s ≡ a → Moves id at last sent s (restarted_mark a) []
+  pub keeps-restart : (a : Option TransactionState) → at s ≡ a → Moves id at last sent s (restarted_mark a) []
   keeps-restart None is = silent None is
   keeps-restart (Some (Collecting b)) is =
       ending b [] is (ok.own s b is) (λ _ w. absurd w) (λ w. absurd w) (λ _ w. absurd w) (λ w. absurd w)

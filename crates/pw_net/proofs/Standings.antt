@@ -8,9 +8,9 @@ use Rattle.std.specs.Map.{lookup}
 use Rattle.std.specs.Ordering.{ordering_then, match_ordering}
 use Rattle.pw_base.proofs.Plain.{is_eq-Equal}
 use Rattle.pw_net.specs.Member.{Member, id_order, standing_of, turned, restart}
-use Rattle.pw_net.specs.Rules.{restarted}
+use Rattle.pw_net.specs.Rules.{standing_after_restart}
 use Rattle.pw_net.specs.declared.message.NetId.{NetId}
-use Rattle.pw_net.specs.declared.standing.Standing.{Standing}
+use Rattle.pw_net.specs.declared.standing.TransactionState.{TransactionState}
 
 abbrev id_of : ℕ → ℕ → NetId
 id_of home number = record { home = home; number = number }
@@ -58,19 +58,19 @@ at-apart a b ne = apart (cases_Bool (is_at (id_order a) b))
     apart (inr differ) = differ
 
 abbrev pub Entries : Type 0
-Entries = List (NetId × Standing)
+Entries = List (NetId × TransactionState)
 
 -- what is found at a transaction behind the change of one
-abbrev pub Found : NetId → Entries → Option Standing → Type 0
+abbrev pub Found : NetId → Entries → Option TransactionState → Type 0
 Found id entries standing = lookup (is_at (id_order id)) entries ≡ standing
 
-pub found-first : (id key : NetId) (x : Standing) (es : Entries) → id ≡ key → Found id ((key, x) ∷ es) (Some x)
+pub found-first : (id key : NetId) (x : TransactionState) (es : Entries) → id ≡ key → Found id ((key, x) ∷ es) (Some x)
 found-first id key x es is = cond-true (is_at (id_order id) key) (Some x) (lookup (is_at (id_order id)) es) (subst (λ k. is_at (id_order id) k ≡ true) is (at-same id))
 
-pub found-later : (id key : NetId) (x : Standing) (es : Entries) → id ≢ key → Found id ((key, x) ∷ es) (lookup (is_at (id_order id)) es)
+pub found-later : (id key : NetId) (x : TransactionState) (es : Entries) → id ≢ key → Found id ((key, x) ∷ es) (lookup (is_at (id_order id)) es)
 found-later id key x es ne = cond-false (is_at (id_order id) key) (Some x) (lookup (is_at (id_order id)) es) (at-apart id key ne)
 
-found-same : (id : NetId) (x : Standing) (es : Entries) → Found id (insert_entry id_order es id x) (Some x)
+found-same : (id : NetId) (x : TransactionState) (es : Entries) → Found id (insert_entry id_order es id x) (Some x)
 found-same id x [] = found-first id id x [] refl
 found-same id x (e ∷ es) = place (found-same id x es) (id_order id e.0) refl
   where
@@ -79,7 +79,7 @@ found-same id x (e ∷ es) = place (found-same id x es) (id_order id e.0) refl
     place there Equal is = found-first id e.0 x es (id-exact id e.0 is)
     place there Greater is = found-later id e.0 e.1 (insert_entry id_order es id x) (λ same. absurd (cc (sym is ∙ (ap (λ k. id_order id k) (sym same) ∙ id-same id)))) ∙ there
 
-found-other : (id key : NetId) (x : Standing) (es : Entries) → id ≢ key → Found id (insert_entry id_order es key x) (lookup (is_at (id_order id)) es)
+found-other : (id key : NetId) (x : TransactionState) (es : Entries) → id ≢ key → Found id (insert_entry id_order es key x) (lookup (is_at (id_order id)) es)
 found-other id key x [] ne = found-later id key x [] ne
 found-other id key x (e ∷ es) ne = place (found-other id key x es ne) (id_order key e.0) refl
   where
@@ -98,39 +98,39 @@ found-other id key x (e ∷ es) ne = place (found-other id key x es ne) (id_orde
     place there Greater is = rest there (same_id id e.0)
 
 -- the standing behind a change: the new one where there is one
-abbrev pub behind : Option Standing → Option Standing → Option Standing
+abbrev pub behind : Option TransactionState → Option TransactionState → Option TransactionState
 behind old None = old
 behind old (Some standing) = Some standing
 
-pub turned-same : (member : Member) (id : NetId) (turns : Option Standing) → standing_of (turned member id turns) id ≡ behind (standing_of member id) turns
+pub turned-same : (member : Member) (id : NetId) (turns : Option TransactionState) → standing_of (turned member id turns) id ≡ behind (standing_of member id) turns
 turned-same member id None = refl
 turned-same member id (Some x) = found-same id x member.standings
 
-pub turned-other : (member : Member) (id key : NetId) (turns : Option Standing) → id ≢ key → standing_of (turned member key turns) id ≡ standing_of member id
+pub turned-other : (member : Member) (id key : NetId) (turns : Option TransactionState) → id ≢ key → standing_of (turned member key turns) id ≡ standing_of member id
 turned-other member id key None ne = refl
 turned-other member id key (Some x) ne = found-other id key x member.standings ne
 
 -- a change keeps the member's system and its last number
-pub turned-system : (member : Member) (id : NetId) (turns : Option Standing) → (turned member id turns).system ≡ member.system
+pub turned-system : (member : Member) (id : NetId) (turns : Option TransactionState) → (turned member id turns).system ≡ member.system
 turned-system member id None = refl
 turned-system member id (Some x) = refl
 
-pub turned-last : (member : Member) (id : NetId) (turns : Option Standing) → (turned member id turns).last ≡ member.last
+pub turned-last : (member : Member) (id : NetId) (turns : Option TransactionState) → (turned member id turns).last ≡ member.last
 turned-last member id None = refl
 turned-last member id (Some x) = refl
 
 -- what a restart leaves of a standing, if there is one
-abbrev pub restarted_mark : Option Standing → Option Standing
+abbrev pub restarted_mark : Option TransactionState → Option TransactionState
 restarted_mark None = None
-restarted_mark (Some standing) = Some (restarted standing)
+restarted_mark (Some standing) = Some (standing_after_restart standing)
 
-found-restarted : (id : NetId) (es : Entries) → Found id (map (λ e. (e.0, restarted e.1)) es) (restarted_mark (lookup (is_at (id_order id)) es))
+found-restarted : (id : NetId) (es : Entries) → Found id (map (λ e. (e.0, standing_after_restart e.1)) es) (restarted_mark (lookup (is_at (id_order id)) es))
 found-restarted id [] = refl
 found-restarted id (e ∷ es) = rest (found-restarted id es) (same_id id e.0)
   where
-    rest : Found id (map (λ e. (e.0, restarted e.1)) es) (restarted_mark (lookup (is_at (id_order id)) es)) → (id ≡ e.0) ⊎ (id ≢ e.0) → Found id (map (λ e. (e.0, restarted e.1)) (e ∷ es)) (restarted_mark (lookup (is_at (id_order id)) (e ∷ es)))
-    rest there (inl is) = found-first id e.0 (restarted e.1) (map (λ e. (e.0, restarted e.1)) es) is ∙ sym (ap restarted_mark (found-first id e.0 e.1 es is))
-    rest there (inr differ) = found-later id e.0 (restarted e.1) (map (λ e. (e.0, restarted e.1)) es) differ ∙ (there ∙ sym (ap restarted_mark (found-later id e.0 e.1 es differ)))
+    rest : Found id (map (λ e. (e.0, standing_after_restart e.1)) es) (restarted_mark (lookup (is_at (id_order id)) es)) → (id ≡ e.0) ⊎ (id ≢ e.0) → Found id (map (λ e. (e.0, standing_after_restart e.1)) (e ∷ es)) (restarted_mark (lookup (is_at (id_order id)) (e ∷ es)))
+    rest there (inl is) = found-first id e.0 (standing_after_restart e.1) (map (λ e. (e.0, standing_after_restart e.1)) es) is ∙ sym (ap restarted_mark (found-first id e.0 e.1 es is))
+    rest there (inr differ) = found-later id e.0 (standing_after_restart e.1) (map (λ e. (e.0, standing_after_restart e.1)) es) differ ∙ (there ∙ sym (ap restarted_mark (found-later id e.0 e.1 es differ)))
 
 pub restart-standing : (member : Member) (id : NetId) → standing_of (restart member) id ≡ restarted_mark (standing_of member id)
 restart-standing member id = found-restarted id member.standings

@@ -5,13 +5,13 @@ use Rattle.pw_net.specs.Agreement.{WasSent, IsFrom}
 use Rattle.pw_net.specs.Ballot.{Ballot}
 use Rattle.pw_net.specs.Member.{Member, standing_of, turned, replied, own_id, start}
 use Rattle.pw_net.specs.Rules.{Reply, told, told_each}
-use Rattle.pw_net.specs.World.{World, with_member, done}
+use Rattle.pw_net.specs.World.{NetWorld, with_member, done}
 use Rattle.pw_net.specs.declared.message.Net.{Net}
 use Rattle.pw_net.specs.declared.message.NetId.{NetId}
 use Rattle.pw_net.specs.declared.message.NetWord.{NetWord}
 use Rattle.pw_net.specs.declared.message.NetWord.TheVariants.{Prepare, Yes, Commit, Abort}
-use Rattle.pw_net.specs.declared.standing.Standing.{Standing}
-use Rattle.pw_net.specs.declared.standing.Standing.TheVariants.{Collecting, Committed}
+use Rattle.pw_net.specs.declared.standing.TransactionState.{TransactionState}
+use Rattle.pw_net.specs.declared.standing.TransactionState.TheVariants.{Collecting, Committed}
 use Rattle.pw_net.proofs.Moves.{Holds, Moves, IsAbout, IsPrepare, Voted, moved, unmoved}
 use Rattle.pw_net.proofs.Sent.{In, sent-as, sent-each, sent-split}
 use Rattle.pw_net.proofs.Standings.{behind, same_id, turned-same, turned-other, turned-system, turned-last}
@@ -33,16 +33,16 @@ with-kept f members s m same t = ⊎_elim
     (λ ne. ap f (with-other members s m t ne)) (cases_eq t s)
 
 -- how each system stands to the transaction
-abbrev pub standings : World → NetId → ℕ → Option Standing
+abbrev pub standings : NetWorld → NetId → ℕ → Option TransactionState
 standings w id t = standing_of (w.members t) id
 
 -- what holds of every transaction, and that each member knows its system
-pub record Sound (w : World) : Type 0 where
+pub record Sound (w : NetWorld) : Type 0 where
   pub systems : (t : ℕ) → (w.members t).system ≡ t
   pub holds : (id : NetId) → Holds id (standings w id) (w.members id.home).last w.sent
 
 -- a reply about a transaction, which keeps what holds
-pub reply-sound : (w : World) (s : ℕ) (id : NetId) (reply : Reply) → Sound w
+pub reply-sound : (w : NetWorld) (s : ℕ) (id : NetId) (reply : Reply) → Sound w
     → Moves id (standings w id) (w.members id.home).last w.sent s (behind (standings w id s) reply.turns) reply.messages
     → Sound (done w s (replied (w.members s) id reply))
 reply-sound w s id reply sound move = record {
@@ -50,7 +50,7 @@ reply-sound w s id reply sound move = record {
   holds = λ other. ⊎_elim (same other) (differs other) (same_id other id);
 }
   where
-    next : World
+    next : NetWorld
     next = done w s (replied (w.members s) id reply)
 
     lasts : (t : ℕ) → (next.members t).last ≡ (w.members t).last
@@ -71,7 +71,7 @@ reply-sound w s id reply sound move = record {
         (le_of_eq (sym (lasts other.home))) (λ v. ne (move.about other v))
 
 -- a start: the transaction is new, and its votes are all missing
-pub start-sound : (w : World) (s : ℕ) (others : List ℕ) → Sound w → Sound (done w s (start (w.members s) others))
+pub start-sound : (w : NetWorld) (s : ℕ) (others : List ℕ) → Sound w → Sound (done w s (start (w.members s) others))
 start-sound w s others sound = record {
   systems = λ t. with-kept (λ m. m.system) w.members s now refl t ∙ sound.systems t;
   holds = λ other. ⊎_elim (same other) (differs other) (same_id other id);
@@ -89,7 +89,7 @@ start-sound w s others sound = record {
     now : Member
     now = (start (w.members s) others).member
 
-    next : World
+    next : NetWorld
     next = done w s (start (w.members s) others)
 
     new : List Net
@@ -127,7 +127,7 @@ start-sound w s others sound = record {
         (λ is. absurd (cc (sym e ∙ (ap (standings next id) (is ∙ sym home) ∙ stands))))
         (λ ne. absurd (cc (fresh.0, was.committed t (sym (elsewhere t ne) ∙ e)))) (cases_eq t s)
 
-    votes : (x : Option Standing) → Voted x (standings w id id.home) → Voted x (standings next id id.home)
+    votes : (x : Option TransactionState) → Voted x (standings w id id.home) → Voted x (standings next id id.home)
     votes x (inl e) = inl e
     votes x (inr (inl e)) = inr (inl e)
     votes x (inr (inr (e, a))) = absurd (cc (fresh.0, a))

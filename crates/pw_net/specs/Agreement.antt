@@ -1,27 +1,27 @@
 -- What it is that the systems of a transaction agree.
 use Rattle.std.specs.Prelude.{◌≡◌, ◌⊎◌, ◌+◌, ℕ, List, [], ◌∷◌, Contains, Some}
 use Rattle.pw_net.specs.Member.{own_id}
-use Rattle.pw_net.specs.World.{World, NetEvent, Start, Refuse, Ask, GiveUp, Restart, Deliver, effect, first_world, mark_at}
+use Rattle.pw_net.specs.World.{NetWorld, NetEvent, Start, Refuse, Ask, GiveUp, Restart, Deliver, effect, first_world, mark_at}
 use Rattle.pw_net.specs.declared.message.Mark.TheVariants.{Prepared, Committed}
 use Rattle.pw_net.specs.declared.message.Net.{Net}
 use Rattle.pw_net.specs.declared.message.NetId.{NetId}
 use Rattle.pw_net.specs.declared.message.NetWord.{NetWord}
 
 -- the event is the start that takes the transaction's number, with these others
-abbrev pub Takes : World → NetEvent → NetId → List ℕ → Type 0
-Takes world (Start system own) id others =
+abbrev pub TakesNumber : NetWorld → NetEvent → NetId → List ℕ → Type 0
+TakesNumber world (Start system own) id others =
     (id ≡ own_id (world.members system) ((world.members system).last + 1)) × (others ≡ own)
-Takes world (Refuse system other) id others = ⊥
-Takes world (Ask system other) id others = ⊥
-Takes world (GiveUp system number) id others = ⊥
-Takes world (Restart system) id others = ⊥
-Takes world (Deliver k) id others = ⊥
+TakesNumber world (Refuse system other) id others = ⊥
+TakesNumber world (Ask system other) id others = ⊥
+TakesNumber world (GiveUp system number) id others = ⊥
+TakesNumber world (Restart system) id others = ⊥
+TakesNumber world (Deliver k) id others = ⊥
 
 -- one of these events, from a world on, is that start
-abbrev pub Begins : World → List NetEvent → NetId → List ℕ → Type 0
+abbrev pub Begins : NetWorld → List NetEvent → NetId → List ℕ → Type 0
 Begins world [] id others = ⊥
 Begins world (event ∷ events) id others =
-    Takes world event id others ⊎ Begins (effect world event) events id others
+    TakesNumber world event id others ⊎ Begins (effect world event) events id others
 
 -- the system is one of the others of the start that took the transaction's number
 abbrev pub IsOther : List NetEvent → NetId → ℕ → Type 0
@@ -42,6 +42,6 @@ abbrev pub IsFrom : NetWord → NetId → ℕ → Net → Type 0
 IsFrom word id system message = (message.word ≡ word) × (message.id ≡ id) × (message.from ≡ system)
 
 -- the system is prepared or committed
-abbrev pub HasPrepared : World → ℕ → NetId → Type 0
+abbrev pub HasPrepared : NetWorld → ℕ → NetId → Type 0
 HasPrepared world system id =
     (mark_at world system id ≡ Some Prepared) ⊎ (mark_at world system id ≡ Some Committed)

@@ -1,6 +1,6 @@
 ghost use Rattle.std.specs.Prelude.{◌≡◌, ◌≢◌, ◌++◌, ℕ, List, Some};
 ghost use Rattle.pw_net.specs.Agreement.{HasPrepared, IsFrom, IsOther, IsSystemOf, WasSent};
-ghost use Rattle.pw_net.specs.World.{NetEvent, after, mark_at};
+ghost use Rattle.pw_net.specs.World.{NetEvent, net_world_after, mark_at};
 ghost use Rattle.pw_net.specs.declared.message.Mark.TheVariants.{Committed, Aborted};
 ghost use Rattle.pw_net.specs.declared.message.NetId.{NetId};
 ghost use Rattle.pw_net.specs.declared.message.NetWord.TheVariants.{Yes};
@@ -11,16 +11,16 @@ ghost use Rattle.pw_net.specs.declared.message.NetWord.TheVariants.{Yes};
 /// rules and the premise stand in docs/NET.md.
 pub fn agreement_laws()
     ensures agree { (events : List NetEvent) (id : NetId) (one other : ℕ)
-        → mark_at (after events) one id ≡ Some Committed → IsSystemOf events id other
-        → mark_at (after events) other id ≢ Some Aborted }
+        → mark_at (net_world_after events) one id ≡ Some Committed → IsSystemOf events id other
+        → mark_at (net_world_after events) other id ≢ Some Aborted }
     ensures voted { (events : List NetEvent) (id : NetId) (one other : ℕ)
-        → mark_at (after events) one id ≡ Some Committed
+        → mark_at (net_world_after events) one id ≡ Some Committed
         → IsOther events id other → other ≢ id.home
-        → WasSent (IsFrom Yes id other) (after events).sent × HasPrepared (after events) other id }
+        → WasSent (IsFrom Yes id other) (net_world_after events).sent × HasPrepared (net_world_after events) other id }
     ensures committed { (events more : List NetEvent) (id : NetId) (system : ℕ)
-        → mark_at (after events) system id ≡ Some Committed
-        → mark_at (after (events ++ more)) system id ≡ Some Committed }
+        → mark_at (net_world_after events) system id ≡ Some Committed
+        → mark_at (net_world_after (events ++ more)) system id ≡ Some Committed }
     ensures aborted { (events more : List NetEvent) (id : NetId) (system : ℕ)
-        → mark_at (after events) system id ≡ Some Aborted
-        → mark_at (after (events ++ more)) system id ≡ Some Aborted }
+        → mark_at (net_world_after events) system id ≡ Some Aborted
+        → mark_at (net_world_after (events ++ more)) system id ≡ Some Aborted }
 {}

@@ -5,7 +5,7 @@ use crate::ballot::Ballot;
 use crate::message::{Mark, Net, NetId, NetWord};
 use crate::reply::{Reply, told_each};
 use crate::rules::{on_end, on_refuse, on_wait, on_word};
-use crate::standing::Standing;
+use crate::standing::TransactionState;
 use pw_base::memory::Memory;
 use std::alloc::Global;
 use std::collections::BTreeMap;
@@ -22,7 +22,7 @@ pub struct Member {
     last: u32,
     /// What was the last number at the last restart: votes that were collected up to it are lost.
     lost: u32,
-    standings: BTreeMap<NetId, Standing>,
+    standings: BTreeMap<NetId, TransactionState>,
 }
 
 impl Model for Member {
@@ -44,7 +44,7 @@ impl Model for Member {
 
 impl Member {
     ghost use Rattle.pw_net.specs.Kept.{OpensNone};
-    ghost use Rattle.pw_net.specs.declared.standing.Standing.TheVariants.{Aborted};
+    ghost use Rattle.pw_net.specs.declared.standing.TransactionState.TheVariants.{Aborted};
     ghost use Rattle.pw_net.specs.Member.{first_member, standing_of, mark_in, mark_of, turned, replied, own_id, start, heard, handle, refuse, ask, give_up, restart};
 
     /// A member for the system of this number, from 1, without marks.
@@ -61,7 +61,7 @@ impl Member {
     }
 
     /// How the member stands to a transaction, None exactly where that has no mark.
-    fn standing<'a>(&'a self, id: NetId, aborted: &'a Standing) -> Option<&'a Standing>
+    fn standing<'a>(&'a self, id: NetId, aborted: &'a TransactionState) -> Option<&'a TransactionState>
         requires { aborted.now ≡ Aborted }
         ensures { option_copied result ≡ standing_of self.now id }
     {
@@ -75,7 +75,7 @@ impl Member {
     pub fn mark(&self, id: NetId) -> Option<Mark>
         ensures { result ≡ mark_of (standing_of self.now id) }
     {
-        match self.standing(id, &Standing::Aborted) {
+        match self.standing(id, &TransactionState::Aborted) {
             Some(standing) => Some(standing.mark()),
             None => None,
         }
@@ -86,7 +86,7 @@ impl Member {
         ensures { IfOk result (λ marks. marks.items
             ≡ map (λ entry. (entry.0, mark_in entry.1)) self.now.standings) }
     {
-        let (aborted, lost) = (Standing::Aborted, self.lost);
+        let (aborted, lost) = (TransactionState::Aborted, self.lost);
         let marks = self
             .standings
             .iter()
@@ -97,7 +97,7 @@ impl Member {
 
     /// Puts the new standing of a transaction, which is to collect votes only where it did. An
     /// `Err` leaves the member as it was.
-    fn turn(&mut self, id: NetId, standing: Standing) -> Result<(), Memory>
+    fn turn(&mut self, id: NetId, standing: TransactionState) -> Result<(), Memory>
         requires { OpensNone (standing_of self.old id) (Some standing) }
         ensures ok { OnOk result (self.new ≡ turned self.old id (Some standing)) }
         ensures err { OnErr result (self.new ≡ self.old) }
@@ -134,7 +134,7 @@ impl Member {
         };
         let messages = told_each(self.alloc, self.system, id, NetWord::Prepare, others)?;
         let ballot = Ballot::new(others.to_vec(self.alloc)?, others.to_vec(self.alloc)?);
-        self.standings.insert(id, Standing::Collecting(ballot))?;
+        self.standings.insert(id, TransactionState::Collecting(ballot))?;
         self.last += 1;
         Ok(messages)
     }
@@ -151,7 +151,7 @@ impl Member {
             id,
             system,
             word,
-            self.standing(id, &Standing::Aborted),
+            self.standing(id, &TransactionState::Aborted),
         )?;
         self.take(id, reply)
     }
@@ -175,7 +175,7 @@ impl Member {
             self.alloc,
             self.system,
             id,
-            self.standing(id, &Standing::Aborted),
+            self.standing(id, &TransactionState::Aborted),
         );
         self.take(id, reply)
     }
@@ -190,7 +190,7 @@ impl Member {
             self.alloc,
             self.system,
             id,
-            self.standing(id, &Standing::Aborted),
+            self.standing(id, &TransactionState::Aborted),
         )?;
         self.take(id, reply)
     }
@@ -209,7 +209,7 @@ impl Member {
             self.alloc,
             self.system,
             id,
-            self.standing(id, &Standing::Aborted),
+            self.standing(id, &TransactionState::Aborted),
         )?;
         self.take(id, reply)
     }

@@ -2,7 +2,7 @@ ghost use Rattle.std.specs.Prelude.{◌≡◌, ◌∷◌, [], IfOk};
 ghost use Rattle.pw_net.specs.Rules.{becomes, says, silence, told, told_each};
 
 use crate::message::{Net, NetId, NetWord};
-use crate::standing::Standing;
+use crate::standing::TransactionState;
 use pw_base::memory::Memory;
 use std::alloc::Global;
 use std::marker::Model;
@@ -11,7 +11,7 @@ use std::marker::Model;
 #[derive(Debug, Drop)]
 pub struct Reply {
     /// The new standing, none where it stays.
-    pub turns: Option<Standing>,
+    pub turns: Option<TransactionState>,
     /// What is sent, in order.
     pub messages: Vec<Net>,
 }
@@ -35,7 +35,7 @@ pub fn silence(alloc: Global) -> Reply
 }
 
 /// The standing changes, and nothing is sent.
-pub fn becomes(alloc: Global, standing: Standing) -> Reply
+pub fn becomes(alloc: Global, standing: TransactionState) -> Reply
     ensures { result ≡ becomes standing }
 {
     Reply {

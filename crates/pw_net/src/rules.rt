@@ -1,13 +1,13 @@
 ghost use Rattle.std.specs.Prelude.{◌≡◌, IfOk, Some};
 ghost use Rattle.std.specs.Option.{option_copied};
 ghost use Rattle.pw_net.specs.Ballot.{still_missing};
-ghost use Rattle.pw_net.specs.Rules.{counted, on_abort, on_ask, on_commit, on_end, on_prepare, on_refuse, on_wait, on_word, on_yes};
-ghost use Rattle.pw_net.specs.declared.standing.Standing.TheVariants.{Collecting};
+ghost use Rattle.pw_net.specs.Rules.{vote_counted, on_abort, on_ask, on_commit, on_end, on_prepare, on_refuse, on_wait, on_word, on_yes};
+ghost use Rattle.pw_net.specs.declared.standing.TransactionState.TheVariants.{Collecting};
 
 use crate::ballot::Ballot;
 use crate::message::{NetId, NetWord};
 use crate::reply::{Reply, becomes, says, silence, told, told_each};
-use crate::standing::Standing;
+use crate::standing::TransactionState;
 use pw_base::memory::Memory;
 use std::alloc::Global;
 
@@ -16,19 +16,19 @@ fn on_prepare(
     alloc: Global,
     own: u32,
     id: NetId,
-    standing: Option<&Standing>,
+    standing: Option<&TransactionState>,
 ) -> Result<Reply, Memory>
     ensures { IfOk result (λ reply. reply ≡ on_prepare own id (option_copied standing.entry)) }
 {
     match standing {
         None => Ok(Reply {
-            turns: Some(Standing::Prepared),
+            turns: Some(TransactionState::Prepared),
             messages: told(alloc, own, id, NetWord::Yes, id.home)?,
         }),
-        Some(Standing::Collecting(_)) => Ok(silence(alloc)),
-        Some(Standing::Prepared) => says(alloc, own, id, NetWord::Yes, id.home),
-        Some(Standing::Committed) => Ok(silence(alloc)),
-        Some(Standing::Aborted) => says(alloc, own, id, NetWord::No, id.home),
+        Some(TransactionState::Collecting(_)) => Ok(silence(alloc)),
+        Some(TransactionState::Prepared) => says(alloc, own, id, NetWord::Yes, id.home),
+        Some(TransactionState::Committed) => Ok(silence(alloc)),
+        Some(TransactionState::Aborted) => says(alloc, own, id, NetWord::No, id.home),
     }
 }
 
@@ -40,17 +40,17 @@ fn counted(
     system: u32,
     ballot: &Ballot,
 ) -> Result<Reply, Memory>
-    ensures { IfOk result (λ reply. reply ≡ counted own id ballot.now.others (still_missing system ballot.now)) }
+    ensures { IfOk result (λ reply. reply ≡ vote_counted own id ballot.now.others (still_missing system ballot.now)) }
 {
     let left = ballot.still_missing(alloc, system)?;
     if left.is_empty() {
         return Ok(Reply {
-            turns: Some(Standing::Committed),
+            turns: Some(TransactionState::Committed),
             messages: told_each(alloc, own, id, NetWord::Commit, ballot.others())?,
         });
     }
     let others = ballot.others().to_vec(alloc)?;
-    Ok(becomes(alloc, Standing::Collecting(Ballot::new(others, left))))
+    Ok(becomes(alloc, TransactionState::Collecting(Ballot::new(others, left))))
 }
 
 /// Counts the vote, or tells how the transaction ended.
@@ -59,15 +59,15 @@ fn on_yes(
     own: u32,
     id: NetId,
     system: u32,
-    standing: Option<&Standing>,
+    standing: Option<&TransactionState>,
 ) -> Result<Reply, Memory>
     ensures { IfOk result (λ reply. reply ≡ on_yes own id system (option_copied standing.entry)) }
 {
     match standing {
-        Some(Standing::Collecting(ballot)) => counted(alloc, own, id, system, ballot),
-        Some(Standing::Committed) => says(alloc, own, id, NetWord::Commit, system),
-        Some(Standing::Aborted) => says(alloc, own, id, NetWord::Abort, system),
-        Some(Standing::Prepared) | None => Ok(silence(alloc)),
+        Some(TransactionState::Collecting(ballot)) => counted(alloc, own, id, system, ballot),
+        Some(TransactionState::Committed) => says(alloc, own, id, NetWord::Commit, system),
+        Some(TransactionState::Aborted) => says(alloc, own, id, NetWord::Abort, system),
+        Some(TransactionState::Prepared) | None => Ok(silence(alloc)),
     }
 }
 
@@ -76,41 +76,41 @@ pub fn on_end(
     alloc: Global,
     own: u32,
     id: NetId,
-    standing: Option<&Standing>,
+    standing: Option<&TransactionState>,
 ) -> Result<Reply, Memory>
     ensures { IfOk result (λ reply. reply ≡ on_end own id (option_copied standing.entry)) }
 {
     match standing {
-        Some(Standing::Collecting(ballot)) => Ok(Reply {
-            turns: Some(Standing::Aborted),
+        Some(TransactionState::Collecting(ballot)) => Ok(Reply {
+            turns: Some(TransactionState::Aborted),
             messages: told_each(alloc, own, id, NetWord::Abort, ballot.others())?,
         }),
-        Some(Standing::Prepared) | Some(Standing::Committed) | Some(Standing::Aborted) | None => {
+        Some(TransactionState::Prepared) | Some(TransactionState::Committed) | Some(TransactionState::Aborted) | None => {
             Ok(silence(alloc))
         }
     }
 }
 
 /// What is prepared is committed.
-fn on_commit(alloc: Global, standing: Option<&Standing>) -> Reply
+fn on_commit(alloc: Global, standing: Option<&TransactionState>) -> Reply
     ensures { result ≡ on_commit (option_copied standing.entry) }
 {
     match standing {
-        Some(Standing::Prepared) => becomes(alloc, Standing::Committed),
-        Some(Standing::Collecting(_))
-        | Some(Standing::Committed)
-        | Some(Standing::Aborted)
+        Some(TransactionState::Prepared) => becomes(alloc, TransactionState::Committed),
+        Some(TransactionState::Collecting(_))
+        | Some(TransactionState::Committed)
+        | Some(TransactionState::Aborted)
         | None => { silence(alloc) }
     }
 }
 
 /// What is prepared or has no mark is aborted.
-fn on_abort(alloc: Global, standing: Option<&Standing>) -> Reply
+fn on_abort(alloc: Global, standing: Option<&TransactionState>) -> Reply
     ensures { result ≡ on_abort (option_copied standing.entry) }
 {
     match standing {
-        Some(Standing::Prepared) | None => becomes(alloc, Standing::Aborted),
-        Some(Standing::Collecting(_)) | Some(Standing::Committed) | Some(Standing::Aborted) =>
+        Some(TransactionState::Prepared) | None => becomes(alloc, TransactionState::Aborted),
+        Some(TransactionState::Collecting(_)) | Some(TransactionState::Committed) | Some(TransactionState::Aborted) =>
             silence(alloc),
     }
 }
@@ -121,14 +121,14 @@ fn on_ask(
     own: u32,
     id: NetId,
     system: u32,
-    standing: Option<&Standing>,
+    standing: Option<&TransactionState>,
 ) -> Result<Reply, Memory>
     ensures { IfOk result (λ reply. reply ≡ on_ask own id system (option_copied standing.entry)) }
 {
     match standing {
-        Some(Standing::Committed) => says(alloc, own, id, NetWord::Commit, system),
-        Some(Standing::Aborted) => says(alloc, own, id, NetWord::Abort, system),
-        Some(Standing::Collecting(_)) | Some(Standing::Prepared) | None => Ok(silence(alloc)),
+        Some(TransactionState::Committed) => says(alloc, own, id, NetWord::Commit, system),
+        Some(TransactionState::Aborted) => says(alloc, own, id, NetWord::Abort, system),
+        Some(TransactionState::Collecting(_)) | Some(TransactionState::Prepared) | None => Ok(silence(alloc)),
     }
 }
 
@@ -140,7 +140,7 @@ pub fn on_word(
     id: NetId,
     system: u32,
     word: NetWord,
-    standing: Option<&Standing>,
+    standing: Option<&TransactionState>,
 ) -> Result<Reply, Memory>
     ensures { IfOk result (λ reply. reply ≡ on_word own id system word (option_copied standing.entry)) }
 {
@@ -173,7 +173,7 @@ pub fn on_word(
 }
 
 /// What has no mark is aborted, but not at its home.
-pub fn on_refuse(alloc: Global, own: u32, id: NetId, standing: Option<&Standing>) -> Reply
+pub fn on_refuse(alloc: Global, own: u32, id: NetId, standing: Option<&TransactionState>) -> Reply
     ensures { result ≡ on_refuse own id (option_copied standing.entry) }
 {
     match standing {
@@ -181,7 +181,7 @@ pub fn on_refuse(alloc: Global, own: u32, id: NetId, standing: Option<&Standing>
             if own == id.home {
                 silence(alloc)
             } else {
-                becomes(alloc, Standing::Aborted)
+                becomes(alloc, TransactionState::Aborted)
             }
         }
         Some(_) => silence(alloc),
@@ -193,15 +193,15 @@ pub fn on_wait(
     alloc: Global,
     own: u32,
     id: NetId,
-    standing: Option<&Standing>,
+    standing: Option<&TransactionState>,
 ) -> Result<Reply, Memory>
     ensures { IfOk result (λ reply. reply ≡ on_wait own id (option_copied standing.entry)) }
 {
     match standing {
-        Some(Standing::Prepared) => says(alloc, own, id, NetWord::Ask, id.home),
-        Some(Standing::Collecting(_))
-        | Some(Standing::Committed)
-        | Some(Standing::Aborted)
+        Some(TransactionState::Prepared) => says(alloc, own, id, NetWord::Ask, id.home),
+        Some(TransactionState::Collecting(_))
+        | Some(TransactionState::Committed)
+        | Some(TransactionState::Aborted)
         | None => { Ok(silence(alloc)) }
     }
 }

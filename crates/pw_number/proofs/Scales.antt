@@ -10,7 +10,7 @@ use Rattle.std.proofs.lemmas.Nat.{pow-add}
 use Rattle.std.proofs.Math.Nat.{one-le-pow, zero-mul, mul_assoc, mul-le-mul_right}
 use Rattle.pw_number.specs.Number.{Number}
 use Rattle.pw_number.specs.Arithmetic.{raised, common}
-use Rattle.pw_number.specs.Order.{over, order, SameValue}
+use Rattle.pw_number.specs.Order.{units_over_places, order, SameValue}
 
 -- a power of ten is not zero
 pub ten-pos : (e : ℕ) → 0 < 10 ^ e
@@ -56,8 +56,8 @@ over-raised units own other common h =
 -- at any common places the values compare as the units do
 pub order-raised : (a b : Number) (places : ℕ) → a.places ≤ places → b.places ≤ places → order a b ≡ int_cmp (raised places a) (raised places b)
 order-raised a b places below_a below_b =
-    cmp-times (over b a) (over a b) (10 ^ places) (ten-pos places)
-    ∙ ap (λ z. int_cmp z (over a b *ℤ pos (10 ^ places))) (over-raised a.units a.places b.places places below_a)
+    cmp-times (units_over_places b a) (units_over_places a b) (10 ^ places) (ten-pos places)
+    ∙ ap (λ z. int_cmp z (units_over_places a b *ℤ pos (10 ^ places))) (over-raised a.units a.places b.places places below_a)
     ∙ ap (λ z. int_cmp (raised places a *ℤ pos (10 ^ (a.places + b.places))) z) (over-raised b.units b.places a.places places below_b ∙ ap (λ e. raised places b *ℤ pos (10 ^ e)) (omega arith))
     ∙ sym (cmp-times (raised places a) (raised places b) (10 ^ (a.places + b.places)) (ten-pos (a.places + b.places)))
 
@@ -82,7 +82,7 @@ order-large_left a b places below_a below_b larger =
 pub order-large_right : (a b : Number) (places : ℕ) → a.places ≤ places → b.places ≤ places → unsigned_abs (raised places a) < unsigned_abs (raised places b)
     → ordering_reverse (int_cmp b.units (pos 0)) ≡ order a b
 order-large_right a b places below_a below_b larger =
-    ap ordering_reverse (order-large_left b a places below_b below_a larger) ∙ sym (int_cmp_total.antisymm (over b a) (over a b))
+    ap ordering_reverse (order-large_left b a places below_b below_a larger) ∙ sym (int_cmp_total.antisymm (units_over_places b a) (units_over_places a b))
 
 -- the places of three numbers, added, are at least those of each
 less : (a b c : ℕ) → (a ≤ a + b + c) × (b ≤ a + b + c) × (c ≤ a + b + c)
@@ -104,7 +104,7 @@ order-congr a b c same =
     ∙ sym (order-raised b c all below.1 below.2)
 
 pub order_total : IsTotalOrder order
-order_total = record { antisymm = λ a b. int_cmp_total.antisymm (over b a) (over a b); trans = order-trans; congr = order-congr }
+order_total = record { antisymm = λ a b. int_cmp_total.antisymm (units_over_places b a) (units_over_places a b); trans = order-trans; congr = order-congr }
 
 equal_only : (x y : ℤ) (r : Ordering) → r ≡ Equal → MatchOrdering r (x <ℤ y) (x ≡ y) (y <ℤ x) → x ≡ y
 equal_only x y Less is h = absurd cc
@@ -114,6 +114,6 @@ equal_only x y Greater is h = absurd cc
 -- numbers are called equal exactly where they have one value
 pub order-equal : (a b : Number) → (order a b ≡ Equal) ↔ SameValue a b
 order-equal a b = (
-  λ is. equal_only (over b a) (over a b) (order a b) is (int_ranks (over b a) (over a b)),
-  λ same. sym (int_cmp_is (over b a) (over a b) Equal same),
+  λ is. equal_only (units_over_places b a) (units_over_places a b) (order a b) is (int_ranks (units_over_places b a) (units_over_places a b)),
+  λ same. sym (int_cmp_is (units_over_places b a) (units_over_places a b) Equal same),
 )

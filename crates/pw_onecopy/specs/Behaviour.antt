@@ -4,7 +4,7 @@ use Rattle.std.specs.Prelude.{ℕ, List}
 use Rattle.pw_code.specs.declared.lock.LockRule.{LockRule}
 use Rattle.pw_code.specs.declared.verb.Verb.{Verb}
 use Rattle.pw_event.specs.declared.script.FailLine.{FailLine}
-use Rattle.pw_onecopy.specs.Path.{PathAnswer, FileAnswer}
+use Rattle.pw_onecopy.specs.Path.{PathAnswer, FileResult}
 
 -- what a server's run comes to by itself: its reply and the files that it leaves, or a run fault
 pub data Served : Type 0 where
@@ -35,7 +35,7 @@ pub record Behaviour : Type 0 where
   -- the number of processes of a class
   pub processes : ℕ → ℕ
   -- the next verb of a class's server on a message, after a list of file answers
-  pub ops : ℕ → List ℕ → List FileAnswer → Verb
+  pub ops : ℕ → List ℕ → List FileResult → Verb
   -- what a class's server comes to on a message and files, run by itself
   pub serve : ℕ → List ℕ → (ℕ → List (List ℕ)) → Served
   -- the number of files

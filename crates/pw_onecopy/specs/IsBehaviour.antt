@@ -8,7 +8,7 @@ use Rattle.pw_code.specs.declared.verb.Verb.TheVariants as verb
 use Rattle.pw_files.specs.Records.{IsContent, IsFile}
 use Rattle.pw_onecopy.specs.Behaviour.{Behaviour, Served, Reply, Fault}
 use Rattle.pw_onecopy.specs.Operation.{key_of}
-use Rattle.pw_onecopy.specs.Path.{PathAnswer, Shown, Entry, Begun, Replied, Failed, Ended, Dropped, FileAnswer, is_outside, entries_on}
+use Rattle.pw_onecopy.specs.Path.{PathAnswer, Shown, Entry, Begun, Replied, Failed, Ended, Dropped, FileResult, is_outside, entries_on}
 use Rattle.pw_onecopy.specs.Play.{Play, play_after}
 
 -- the operation writes a record
@@ -82,13 +82,13 @@ pub record IsBehaviour (sys : Behaviour) : Type 0 where
   pub sends : (t c : ℕ) (message : List ℕ) (path : List PathAnswer) → IsPath sys t path
       → sys.ask t path ≡ verb.Send c message → c < sys.classes
   pub staffed : (c : ℕ) → c < sys.classes → 1 ≤ sys.processes c
-  pub calls : (c : ℕ) (message : List ℕ) (done : List FileAnswer) (call : FileCall)
+  pub calls : (c : ℕ) (message : List ℕ) (done : List FileResult) (call : FileCall)
       → c < sys.classes
       → sys.ops c message done ≡ verb.File call → call.file < sys.files
-  pub keys : (c : ℕ) (message : List ℕ) (done : List FileAnswer) (call : FileCall) → c < sys.classes
+  pub keys : (c : ℕ) (message : List ℕ) (done : List FileResult) (call : FileCall) → c < sys.classes
       → sys.ops c message done ≡ verb.File call
       → length (key_of (sys.key_length call.file) call.op call) ≡ sys.key_length call.file
-  pub writes : (c : ℕ) (message : List ℕ) (done : List FileAnswer) (call : FileCall)
+  pub writes : (c : ℕ) (message : List ℕ) (done : List FileResult) (call : FileCall)
       → c < sys.classes
       → sys.ops c message done ≡ verb.File call → is_written call.op ≡ true
       → IsContent (sys.key_length call.file) call.content

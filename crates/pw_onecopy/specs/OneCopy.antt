@@ -7,7 +7,7 @@ use Rattle.pw_event.specs.declared.event.Ending.{Ending}
 use Rattle.pw_event.specs.declared.event.Ending.TheVariants as ending
 use Rattle.pw_onecopy.specs.Attempt.{Attempt, IsAttempt, attempt}
 use Rattle.pw_onecopy.specs.Behaviour.{Behaviour}
-use Rattle.pw_onecopy.specs.Blocks.{Block, Out, Attempted, Done, How, Committed, Aborted, Restarted, Left}
+use Rattle.pw_onecopy.specs.Blocks.{SerialBlock, Out, Attempted, Done, AttemptEnding, Committed, Aborted, Restarted, Left}
 use Rattle.pw_onecopy.specs.Path.{PathAnswer, Shown, Entry, Replied, unit_number, entries_on, Dropped, Ended}
 use Rattle.pw_onecopy.specs.Refreshes.{next_refresh}
 use Rattle.pw_onecopy.specs.Update.{upd}
@@ -64,14 +64,14 @@ EndsCommitted _ _ = ⊥
 
 -- how an attempt may be over: Committed by its last answer; Aborted where that is Dropped;
 -- Restarted where r is below MAXTMFRESTARTS; Left always
-abbrev pub MayBe : Behaviour → ℕ → Single → Attempt → How → Type 0
+abbrev pub MayBe : Behaviour → ℕ → Single → Attempt → AttemptEnding → Type 0
 MayBe sys t single at Committed = EndsCommitted (sys.ask t single.path) at.last
 MayBe sys t single at Aborted = at.last ≡ Some Dropped
 MayBe sys t single at Restarted = single.restarts < sys.max_restarts t
 MayBe sys t single at Left = Unit {0}
 
 -- Attempted(t, n, how) with j: n is the path's ended units plus 1, and the attempt is defined
-pub record LegalAttempted (sys : Behaviour) (machine : Machine) (t n : ℕ) (how : How)
+pub record LegalAttempted (sys : Behaviour) (machine : Machine) (t n : ℕ) (how : AttemptEnding)
     (j : ℕ) : Type 0 where
   pub live : IsGoingOn sys machine t
   pub not_left : (machine.terms t).is_left ≡ false
@@ -95,7 +95,7 @@ pub record LegalDone (sys : Behaviour) (machine : Machine) (t : ℕ) (ending : E
   pub may_end : MayEnd sys t (machine.terms t) ending (sys.ask t (machine.terms t).path)
 
 -- where a block is legal
-abbrev pub LegalBlock : Behaviour → Machine → Block → Type 0
+abbrev pub LegalBlock : Behaviour → Machine → SerialBlock → Type 0
 LegalBlock sys machine (Out t) = LegalOut sys machine t
 LegalBlock sys machine (Attempted t n how j) = LegalAttempted sys machine t n how j
 LegalBlock sys machine (Done t ending) = LegalDone sys machine t ending
@@ -112,7 +112,7 @@ single_behind_out sys t _ single = single
 
 -- A terminal behind an attempt: its refreshes are added. Committed and Aborted take its path, and r
 -- is 0; Restarted takes nothing, and r grows by 1; Left takes its path, and only Done may follow.
-abbrev pub single_behind : How → Attempt → Single → Single
+abbrev pub single_behind : AttemptEnding → Attempt → Single → Single
 single_behind Committed at single =
     record single { path = at.path; restarts = 0; refreshes = single.refreshes ++ at.refreshes }
 single_behind Aborted at single =
@@ -123,7 +123,7 @@ single_behind Left at single =
     record single { path = at.path; refreshes = single.refreshes ++ at.refreshes; is_left = true }
 
 -- the files behind an attempt: Committed takes the attempt's, and otherwise they stay
-abbrev pub files_behind : How → Attempt → (ℕ → List (List ℕ)) → ℕ → List (List ℕ)
+abbrev pub files_behind : AttemptEnding → Attempt → (ℕ → List (List ℕ)) → ℕ → List (List ℕ)
 files_behind Committed at files = at.files
 files_behind Aborted at files = files
 files_behind Restarted at files = files
@@ -134,7 +134,7 @@ abbrev pub with_term : ℕ → Single → Machine → Machine
 with_term t single machine = record machine { terms = upd machine.terms t single }
 
 -- the machine behind a block
-abbrev pub run_block : Behaviour → Machine → Block → Machine
+abbrev pub run_block : Behaviour → Machine → SerialBlock → Machine
 run_block sys machine (Out t) =
     let single : Single = machine.terms t in
     with_term t (single_behind_out sys t (sys.ask t single.path) single) machine
@@ -147,20 +147,20 @@ run_block sys machine (Done t ending) =
     with_term t (record (machine.terms t) { ending = Some ending }) machine
 
 -- each block is legal in the machine before it
-abbrev pub IsSerialFrom : Behaviour → Machine → List Block → Type 0
+abbrev pub IsSerialFrom : Behaviour → Machine → List SerialBlock → Type 0
 IsSerialFrom sys machine [] = Unit {0}
 IsSerialFrom sys machine (block ∷ rest) =
     LegalBlock sys machine block × IsSerialFrom sys (run_block sys machine block) rest
 
 -- the machine behind a list of blocks
-abbrev pub run_blocks : Behaviour → Machine → List Block → Machine
+abbrev pub run_blocks : Behaviour → Machine → List SerialBlock → Machine
 run_blocks sys machine [] = machine
 run_blocks sys machine (block ∷ rest) = run_blocks sys (run_block sys machine block) rest
 
 -- the one-copy machine is defined on a list of blocks
-abbrev pub IsSerial : Behaviour → List Block → Type 0
+abbrev pub IsSerial : Behaviour → List SerialBlock → Type 0
 IsSerial sys order = IsSerialFrom sys (beginning sys) order
 
 -- the one-copy machine behind a list of blocks
-abbrev pub one_copy : Behaviour → List Block → Machine
+abbrev pub one_copy : Behaviour → List SerialBlock → Machine
 one_copy sys order = run_blocks sys (beginning sys) order

@@ -11,7 +11,7 @@ use Rattle.pw_locks.specs.Conflicts.{lock_of}
 use Rattle.pw_locks.specs.declared.lock.Lock.{Lock}
 use Rattle.pw_locks.specs.declared.span.Span.{Span}
 use Rattle.pw_locks.specs.declared.span.Span.TheVariants.{Point, After}
-use Rattle.pw_onecopy.specs.Path.{FileAnswer}
+use Rattle.pw_onecopy.specs.Path.{FileResult}
 
 -- the operation as its entry names it, without the mark of a locking read
 abbrev pub plain_op : FileOp → FileOp
@@ -31,18 +31,18 @@ key_of n Rewrite call = take n call.content
 key_of n _ call = call.key
 
 -- a read: status 0 with the record found, or this status where there is none
-abbrev pub read_answer : ℕ → Option (List ℕ) → FileAnswer
+abbrev pub read_answer : ℕ → Option (List ℕ) → FileResult
 read_answer missing None = record { status = missing; content = None }
 read_answer missing (Some content) = record { status = 0; content = Some content }
 
 -- a change: status 0 where it can be done, or this status
-abbrev pub change_answer : ℕ → Bool → FileAnswer
+abbrev pub change_answer : ℕ → Bool → FileResult
 change_answer refused true = record { status = 0; content = None }
 change_answer refused false = record { status = refused; content = None }
 
 -- the answer of an operation on these records: 11 where there is no record of the key, 10 where
 -- there is one to WRITE, 1 where no larger key has one
-abbrev pub answer_of : ℕ → List (List ℕ) → FileOp → FileCall → FileAnswer
+abbrev pub answer_of : ℕ → List (List ℕ) → FileOp → FileCall → FileResult
 answer_of n records Read call = read_answer 11 (record_at n records call.key)
 answer_of n records ReadLock call = read_answer 11 (record_at n records call.key)
 answer_of n records Next call = read_answer 1 (record_after n records call.key)

@@ -19,7 +19,7 @@ pub data PathAnswer : Type 0 where
   Dropped : PathAnswer
 
 -- what a server's file operation is answered: the file status, and the record that was read, if any
-pub record FileAnswer : Type 0 where
+pub record FileResult : Type 0 where
   pub status : ℕ
   pub content : Option (List ℕ)
 

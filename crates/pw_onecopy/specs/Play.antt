@@ -4,13 +4,13 @@ use Rattle.pw_code.specs.declared.verb.Verb.{Verb}
 use Rattle.pw_code.specs.declared.verb.Verb.TheVariants as verb
 use Rattle.pw_onecopy.specs.Behaviour.{Behaviour}
 use Rattle.pw_onecopy.specs.Operation.{answer_of, records_behind}
-use Rattle.pw_onecopy.specs.Path.{FileAnswer}
+use Rattle.pw_onecopy.specs.Path.{FileResult}
 use Rattle.pw_onecopy.specs.Update.{upd}
 
 -- a server at work by itself: the files as it leaves them, and what its operations were answered
 pub record Play : Type 0 where
   pub files : ℕ → List (List ℕ)
-  pub done : List FileAnswer
+  pub done : List FileResult
 
 -- one operation by itself
 abbrev pub play_operation : Behaviour → Verb → Play → Play

@@ -15,7 +15,7 @@ use Rattle.pw_forms.specs.declared.statement.Procedure.{Procedure}
 use Rattle.pw_forms.specs.declared.statement.Statement.{Statement, Row_of-Statement, end_of-Statement, more_of-Statement}
 use Rattle.pw_forms.specs.declared.statement.Statement as form
 use Rattle.pw_operands.specs.declared.variable.Variable.{Variable}
-use Rattle.pw_operands.specs.Variables.{is_any, is_item, is_number, is_index}
+use Rattle.pw_operands.specs.Variables.{is_any, is_item, is_number_variable, is_index}
 use Rattle.pw_operands.specs.Scope.{Scope, requester_scope, server_scope, variable_in, paragraph_of, screen_of, program_of, class_of, file_of}
 use Rattle.pw_operands.specs.Uses.{Use, uses}
 use Rattle.pw_operands.specs.Uses as place
@@ -48,7 +48,7 @@ HasSubscript scope variable None = variable.occurs ≡ 0
 HasSubscript scope variable (Some subscript) = (0 < variable.occurs) × IsSubscript scope subscript
 
 -- the name is that of an item or register that passes the test, with the subscript that it wants
-pub record IsNamed (scope : Scope) (test : Variable → Bool) (name : Word)
+pub record NamesVariable (scope : Scope) (test : Variable → Bool) (name : Word)
     (subscript : Option Subscript) : Type 0 where
   pub variable : Variable
   pub found : variable_in scope name ≡ Some variable
@@ -59,7 +59,7 @@ pub record IsNamed (scope : Scope) (test : Variable → Bool) (name : Word)
 
 -- the operand is an item or register that passes the test
 abbrev pub IsItem : Scope → (Variable → Bool) → Operand → Type 0
-IsItem scope test (operands.Item name subscript) = IsNamed scope test name subscript
+IsItem scope test (operands.Item name subscript) = NamesVariable scope test name subscript
 IsItem scope test (operands.Number digits) = ⊥
 IsItem scope test (operands.Text chars) = ⊥
 IsItem scope test operands.Spaces = ⊥
@@ -67,7 +67,7 @@ IsItem scope test operands.Zeros = ⊥
 
 -- an item or register, a literal, SPACES or ZEROS
 abbrev pub IsAny : Scope → Operand → Type 0
-IsAny scope (operands.Item name subscript) = IsNamed scope is_any name subscript
+IsAny scope (operands.Item name subscript) = NamesVariable scope is_any name subscript
 IsAny scope (operands.Number digits) = Unit {0}
 IsAny scope (operands.Text chars) = Unit {0}
 IsAny scope operands.Spaces = Unit {0}
@@ -75,7 +75,7 @@ IsAny scope operands.Zeros = Unit {0}
 
 -- a Number or a number literal
 abbrev pub IsAmount : Scope → Operand → Type 0
-IsAmount scope (operands.Item name subscript) = IsNamed scope is_number name subscript
+IsAmount scope (operands.Item name subscript) = NamesVariable scope is_number_variable name subscript
 IsAmount scope (operands.Number digits) = Unit {0}
 IsAmount scope (operands.Text chars) = ⊥
 IsAmount scope operands.Spaces = ⊥
@@ -84,16 +84,16 @@ IsAmount scope operands.Zeros = ⊥
 -- a screen has no subscript, and what is no screen is an item or register
 abbrev pub IsShownName : Scope → Word → Option Subscript → Option ℕ → Type 0
 IsShownName scope name subscript (Some screen) = subscript ≡ None
-IsShownName scope name subscript None = IsNamed scope is_any name subscript
+IsShownName scope name subscript None = NamesVariable scope is_any name subscript
 
 -- a screen, or any of what MOVE takes
-abbrev pub IsShown : Scope → Operand → Type 0
-IsShown scope (operands.Item name subscript) =
+abbrev pub IsDisplayOperand : Scope → Operand → Type 0
+IsDisplayOperand scope (operands.Item name subscript) =
     IsShownName scope name subscript (screen_of scope name)
-IsShown scope (operands.Number digits) = Unit {0}
-IsShown scope (operands.Text chars) = Unit {0}
-IsShown scope operands.Spaces = Unit {0}
-IsShown scope operands.Zeros = Unit {0}
+IsDisplayOperand scope (operands.Number digits) = Unit {0}
+IsDisplayOperand scope (operands.Text chars) = Unit {0}
+IsDisplayOperand scope operands.Spaces = Unit {0}
+IsDisplayOperand scope operands.Zeros = Unit {0}
 
 -- ---- files
 
@@ -116,38 +116,38 @@ pub record IsOfFile (scope : Scope) (test : FileInfo → Variable → Bool) (nam
 
 -- an item that is a Number
 abbrev pub is_sum : Variable → Bool
-is_sum variable = is_item variable && is_number variable
+is_sum variable = is_item variable && is_number_variable variable
 
 -- a name or operand is one that its place takes
-abbrev pub Fits : Scope → Use → Type 0
-Fits scope (place.Paragraph name) = IsSome (paragraph_of scope name)
-Fits scope (place.Screen name) = IsSome (screen_of scope name)
-Fits scope (place.Program name) = IsSome (program_of scope name)
-Fits scope (place.Class name) = IsSome (class_of scope name)
-Fits scope (place.Any operand) = IsAny scope operand
-Fits scope (place.Shown operand) = IsShown scope operand
-Fits scope (place.Amount operand) = IsAmount scope operand
-Fits scope (place.Position operand) = IsItem scope is_number operand
-Fits scope (place.Sent operand) = IsItem scope is_any operand
-Fits scope (place.Receiver operand) = IsItem scope is_item operand
-Fits scope (place.Sum operand) = IsItem scope is_sum operand
-Fits scope (place.Key file operand) = IsOfFile scope is_key file operand
-Fits scope (place.Record file operand) = IsOfFile scope is_record file operand
+abbrev pub FitsPlace : Scope → Use → Type 0
+FitsPlace scope (place.Paragraph name) = IsSome (paragraph_of scope name)
+FitsPlace scope (place.Screen name) = IsSome (screen_of scope name)
+FitsPlace scope (place.Program name) = IsSome (program_of scope name)
+FitsPlace scope (place.Class name) = IsSome (class_of scope name)
+FitsPlace scope (place.Any operand) = IsAny scope operand
+FitsPlace scope (place.Shown operand) = IsDisplayOperand scope operand
+FitsPlace scope (place.Amount operand) = IsAmount scope operand
+FitsPlace scope (place.Position operand) = IsItem scope is_number_variable operand
+FitsPlace scope (place.Sent operand) = IsItem scope is_any operand
+FitsPlace scope (place.Receiver operand) = IsItem scope is_item operand
+FitsPlace scope (place.Sum operand) = IsItem scope is_sum operand
+FitsPlace scope (place.Key file operand) = IsOfFile scope is_key file operand
+FitsPlace scope (place.Record file operand) = IsOfFile scope is_record file operand
 
 -- the names and operands of a statement fit
-abbrev pub Stands : Scope → Statement → Type 0
-Stands scope statement = Each (Fits scope) (uses statement)
+abbrev pub StatementFits : Scope → Statement → Type 0
+StatementFits scope statement = Each (FitsPlace scope) (uses statement)
 
 abbrev mutual
   -- the statement stands, and those of its branches do
   pub Resolves : Scope → Statement → Type 0
   Resolves scope (form.OnSizeError' line arithmetic n first m second) =
-      Stands scope (form.OnSizeError' line arithmetic n first m second)
+      StatementFits scope (form.OnSizeError' line arithmetic n first m second)
       × RowResolves scope first × RowResolves scope second
   Resolves scope (form.If' line cond n first m second) =
-      Stands scope (form.If' line cond n first m second)
+      StatementFits scope (form.If' line cond n first m second)
       × RowResolves scope first × RowResolves scope second
-  Resolves scope statement = Stands scope statement
+  Resolves scope statement = StatementFits scope statement
 
   -- the same of each statement of a branch
   pub RowResolves : {n : _} → Scope → Row_of-Statement n → Type 0

@@ -46,28 +46,28 @@ abbrev pub variable_in : Scope → Word → Option Variable
 variable_in scope name = variable_of scope.server scope.layout name
 
 -- the number of the first of some things that has a name, from 0
-abbrev pub number_in : {A : Type 0} → (A → Word) → List A → Word → Option ℕ
-number_in name_of things name = position_from (λ thing. bytes_eq (name_of thing) name) 0 things
+abbrev pub first_named_number : {A : Type 0} → (A → Word) → List A → Word → Option ℕ
+first_named_number name_of things name = position_from (λ thing. bytes_eq (name_of thing) name) 0 things
 
 -- the number of the paragraph of a name
 abbrev pub paragraph_of : Scope → Word → Option ℕ
-paragraph_of scope name = number_in (λ paragraph. paragraph.name) scope.paragraphs name
+paragraph_of scope name = first_named_number (λ paragraph. paragraph.name) scope.paragraphs name
 
 -- the number of the screen of a name
 abbrev pub screen_of : Scope → Word → Option ℕ
-screen_of scope name = number_in (λ screen. screen.name) scope.screens name
+screen_of scope name = first_named_number (λ screen. screen.name) scope.screens name
 
 -- the number of the program of a name
 abbrev pub program_of : Scope → Word → Option ℕ
-program_of scope name = number_in (λ program. program) scope.links.programs name
+program_of scope name = first_named_number (λ program. program) scope.links.programs name
 
 -- the number of the class of a name
 abbrev pub class_of : Scope → Word → Option ℕ
-class_of scope name = number_in (λ class. class) scope.links.classes name
+class_of scope name = first_named_number (λ class. class) scope.links.classes name
 
 -- the number of the file of a name
 abbrev pub file_number_of : Scope → Word → Option ℕ
-file_number_of scope name = number_in (λ file. file.name) scope.links.files name
+file_number_of scope name = first_named_number (λ file. file.name) scope.links.files name
 
 -- the file of a name
 abbrev pub file_of : Scope → Word → Option FileInfo

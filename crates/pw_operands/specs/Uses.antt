@@ -2,10 +2,10 @@
 use Rattle.std.specs.Prelude.{List, [], ◌∷◌, ◌++◌, map, flat_map, Option, Some, None}
 use Rattle.pw_words.specs.Words.{Word}
 use Rattle.pw_forms.specs.declared.operand.Operand.{Operand}
-use Rattle.pw_forms.specs.declared.cond.Comparison.{Comparison}
-use Rattle.pw_forms.specs.declared.cond.Comparison.TheVariants as comparisons
-use Rattle.pw_forms.specs.declared.cond.Cond.{Cond}
-use Rattle.pw_forms.specs.declared.statement.Arithmetic.{Arithmetic}
+use Rattle.pw_forms.specs.declared.cond.ComparisonForm.{ComparisonForm}
+use Rattle.pw_forms.specs.declared.cond.ComparisonForm.TheVariants as comparisons
+use Rattle.pw_forms.specs.declared.cond.ConditionForm.{ConditionForm}
+use Rattle.pw_forms.specs.declared.statement.ArithmeticForm.{ArithmeticForm}
 use Rattle.pw_forms.specs.declared.statement.Statement.{Statement}
 use Rattle.pw_forms.specs.declared.statement.Statement as form
 
@@ -39,17 +39,17 @@ result_uses second None = Sum second ∷ []
 result_uses second (Some item) = Amount second ∷ Sum item ∷ []
 
 -- first TO second, FROM second, BY second or INTO second, with GIVING item
-abbrev pub arithmetic_uses : Arithmetic → List Use
+abbrev pub arithmetic_uses : ArithmeticForm → List Use
 arithmetic_uses arithmetic =
     Amount arithmetic.first ∷ result_uses arithmetic.second arithmetic.giving
 
 -- left op right, or operand NUMERIC
-abbrev pub comparison_uses : Comparison → List Use
+abbrev pub comparison_uses : ComparisonForm → List Use
 comparison_uses (comparisons.Compare left negated operator right) = Any left ∷ Any right ∷ []
 comparison_uses (comparisons.Numeric operand negated) = Any operand ∷ []
 
 -- comparisons joined by AND and OR
-abbrev pub cond_uses : Cond → List Use
+abbrev pub cond_uses : ConditionForm → List Use
 cond_uses cond = flat_map (λ all. flat_map comparison_uses all) cond.any
 
 -- what a statement names and works on, form by form; not what the statements of its branches do

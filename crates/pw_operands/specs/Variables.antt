@@ -6,12 +6,12 @@ use Rattle.pw_picture.specs.declared.picture.Picture.{Picture}
 use Rattle.pw_picture.specs.declared.picture.Picture.TheVariants as picture
 use Rattle.pw_data.specs.declared.item.Place.{Place}
 use Rattle.pw_data.specs.Layouts.{Laid, place_of}
-use Rattle.pw_operands.specs.declared.register.Register.{Register}
-use Rattle.pw_operands.specs.declared.register.Register.TheVariants.{TerminationStatus, RestartCounter, FileStatus}
+use Rattle.pw_operands.specs.declared.register.SpecialRegister.{SpecialRegister}
+use Rattle.pw_operands.specs.declared.register.SpecialRegister.TheVariants.{TerminationStatus, RestartCounter, FileStatus}
 use Rattle.pw_operands.specs.declared.variable.Variable.{Variable}
 
 -- the register of a name, in a server or in a requester
-abbrev pub register_of : Bool → Word → Option Register
+abbrev pub register_of : Bool → Word → Option SpecialRegister
 register_of true name = if same_word name (codes "FILE-STATUS") then Some FileStatus else None
 register_of false name =
     if same_word name (codes "TERMINATION-STATUS") then Some TerminationStatus
@@ -19,13 +19,13 @@ register_of false name =
     else None
 
 -- how many digits a register has
-abbrev pub digits_of : Register → ℕ
+abbrev pub digits_of : SpecialRegister → ℕ
 digits_of TerminationStatus = 4
 digits_of RestartCounter = 5
 digits_of FileStatus = 4
 
 -- a register is a whole number without a sign
-abbrev pub of_register : Register → Variable
+abbrev pub of_register : SpecialRegister → Variable
 of_register register =
     record {
       size = digits_of register;
@@ -70,8 +70,8 @@ abbrev pub is_item : Variable → Bool
 is_item variable = not variable.register
 
 -- a Number
-abbrev pub is_number : Variable → Bool
-is_number variable = has_digits variable.picture
+abbrev pub is_number_variable : Variable → Bool
+is_number_variable variable = has_digits variable.picture
 
 -- a Number without a sign, outside each OCCURS
 abbrev pub is_index : Variable → Bool

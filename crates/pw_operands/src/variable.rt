@@ -1,7 +1,7 @@
 ghost use Rattle.std.specs.Prelude.{◌≡◌};
 ghost use Rattle.pw_operands.specs.Variables.{of_place, of_register, variable_of};
 
-use crate::register::{Register, register_of};
+use crate::register::{SpecialRegister, register_of};
 use pw_data::item::Place;
 use pw_data::layout::Layout;
 use pw_picture::picture::Picture;
@@ -20,7 +20,7 @@ pub struct Variable {
 }
 
 /// A register as a statement sees it.
-fn of_register(register: Register) -> Variable
+fn of_register(register: SpecialRegister) -> Variable
     ensures { result ≡ of_register register }
 {
     let digits = register.digits();

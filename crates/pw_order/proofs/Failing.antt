@@ -14,18 +14,18 @@ use Rattle.pw_order.proofs.Losing.{state_behind_loss}
 use Rattle.pw_order.specs.Entries.{Shadow}
 use Rattle.pw_order.specs.Pairs.{is_of, lacks, loss_of, mode_behind}
 use Rattle.pw_order.specs.Seats.{is_lacking}
-use Rattle.pw_order.specs.Shadow.{StandsAt, held_of, mode_of, seat_of}
+use Rattle.pw_order.specs.Shadow.{ShadowStandsAt, held_of, mode_of, seat_of}
 use Rattle.pw_order.specs.declared.pair.Loss.{Loss}
 use Rattle.pw_order.specs.declared.pair.Loss.TheVariants as loss
-use Rattle.pw_order.specs.declared.seat.Seat.{Seat}
+use Rattle.pw_order.specs.declared.seat.OrderSeat.{OrderSeat}
 use Rattle.pw_paired.specs.Failure.{backup_fails, do_fail_tcp, is_live_of, is_of_pair, primary_fails}
 use Rattle.pw_paired.specs.Raising.{lacks_one}
 use Rattle.pw_paired.specs.Serial.{Reading, is_gone, makes_gone}
-use Rattle.pw_paired.specs.State.{Alone, BackupCopy, Down, Gone, Mode, Paired, Raising, State}
+use Rattle.pw_paired.specs.State.{Alone, BackupCopy, Down, Gone, PairMode, Paired, Raising, State}
 use Rattle.pw_laws.proofs.Lacking.{any_below-some}
 
 -- what is lost when a member fails
-abbrev pub state_loss : Mode → Bool → Loss
+abbrev pub state_loss : PairMode → Bool → Loss
 state_loss Paired true = loss.Primary
 state_loss Paired false = loss.Backup
 state_loss Raising true = loss.Pair
@@ -46,7 +46,7 @@ module _ (sys : Behaviour) (s : State) (p : ℕ) where
   pub fails-as : (primary : Bool) → do_fail_tcp sys p primary s ≡ state_behind_loss sys (state_loss (s.modes p) primary) p s
   fails-as true = by (s.modes p)
     where
-      by : (m : Mode) → primary_fails sys p m s ≡ state_behind_loss sys (state_loss m true) p s
+      by : (m : PairMode) → primary_fails sys p m s ≡ state_behind_loss sys (state_loss m true) p s
       by Paired = refl
       by Raising = refl
       by Alone = refl
@@ -54,7 +54,7 @@ module _ (sys : Behaviour) (s : State) (p : ℕ) where
       by Gone = refl
   fails-as false = by (s.modes p)
     where
-      by : (m : Mode) → backup_fails sys p m s ≡ state_behind_loss sys (state_loss m false) p s
+      by : (m : PairMode) → backup_fails sys p m s ≡ state_behind_loss sys (state_loss m false) p s
       by Paired = refl
       by Raising = refl
       by Alone = refl
@@ -69,18 +69,18 @@ module _ (sys : Behaviour) (s : State) (p : ℕ) where
   mode-lost loss.Pair = ap mode_of (upd-same s.modes p Gone p refl)
 
   -- whether the pair is lost by it
-  gone-as : (m : Mode) (primary : Bool) → s.modes p ≡ m
+  gone-as : (m : PairMode) (primary : Bool) → s.modes p ≡ m
       → (is_gone ((state_behind_loss sys (state_loss m primary) p s).modes p) && not (is_gone m)) ≡ is_whole (state_loss m primary)
-  gone-as Paired true is = ap (λ (m : Mode). is_gone m && true) (upd-same s.modes p Down p refl)
-  gone-as Paired false is = ap (λ (m : Mode). is_gone m && true) (upd-same s.modes p Alone p refl)
-  gone-as Raising true is = ap (λ (m : Mode). is_gone m && true) (upd-same s.modes p Gone p refl)
-  gone-as Raising false is = ap (λ (m : Mode). is_gone m && true) (upd-same s.modes p Alone p refl)
-  gone-as Alone true is = ap (λ (m : Mode). is_gone m && true) (upd-same s.modes p Gone p refl)
-  gone-as Alone false is = ap (λ (m : Mode). is_gone m && true) is
-  gone-as Down true is = ap (λ (m : Mode). is_gone m && true) is
-  gone-as Down false is = ap (λ (m : Mode). is_gone m && true) (upd-same s.modes p Gone p refl)
-  gone-as Gone true is = ap (λ (m : Mode). is_gone m && false) is
-  gone-as Gone false is = ap (λ (m : Mode). is_gone m && false) is
+  gone-as Paired true is = ap (λ (m : PairMode). is_gone m && true) (upd-same s.modes p Down p refl)
+  gone-as Paired false is = ap (λ (m : PairMode). is_gone m && true) (upd-same s.modes p Alone p refl)
+  gone-as Raising true is = ap (λ (m : PairMode). is_gone m && true) (upd-same s.modes p Gone p refl)
+  gone-as Raising false is = ap (λ (m : PairMode). is_gone m && true) (upd-same s.modes p Alone p refl)
+  gone-as Alone true is = ap (λ (m : PairMode). is_gone m && true) (upd-same s.modes p Gone p refl)
+  gone-as Alone false is = ap (λ (m : PairMode). is_gone m && true) is
+  gone-as Down true is = ap (λ (m : PairMode). is_gone m && true) is
+  gone-as Down false is = ap (λ (m : PairMode). is_gone m && true) (upd-same s.modes p Gone p refl)
+  gone-as Gone true is = ap (λ (m : PairMode). is_gone m && false) is
+  gone-as Gone false is = ap (λ (m : PairMode). is_gone m && false) is
 
   pub makes-gone : (primary : Bool) (k : ℕ) → makes_gone sys s (event.FailTcp p primary k) p ≡ is_whole (state_loss (s.modes p) primary)
   makes-gone primary k =
@@ -98,7 +98,7 @@ lacking-is : (memory : Option BackupCopy) → is_none (option_map held_of memory
 lacking-is None = refl
 lacking-is (Some held) = refl
 
-module _ (sys : Behaviour) (s : State) (r : Reading) (shadow : Shadow) (stands : StandsAt sys s r shadow) (p : ℕ) where
+module _ (sys : Behaviour) (s : State) (r : Reading) (shadow : Shadow) (stands : ShadowStandsAt sys s r shadow) (p : ℕ) where
   -- a seat that is lacking is that of a lacking terminal
   lacks-as : (t : ℕ) → (is_of p (seat_of sys s r t) && is_lacking (seat_of sys s r t)) ≡ (is_live_of sys p s t && not (is_some (s.memory t)))
   lacks-as t =
@@ -113,7 +113,7 @@ module _ (sys : Behaviour) (s : State) (r : Reading) (shadow : Shadow) (stands :
   lacks-some : lacks_one sys p s ≡ true → lacks p shadow.seats ≡ true
   lacks-some some =
       let one = any_below-some sys.terminals (λ t. is_live_of sys p s t && not (is_some (s.memory t))) some in
-      any_passes_from_place (λ (seat : Seat). is_of p seat && is_lacking seat) shadow.seats one.0 (seat_of sys s r one.0) (stands.seat one.0 one.1) (lacks-as one.0 ∙ one.2)
+      any_passes_from_place (λ (seat : OrderSeat). is_of p seat && is_lacking seat) shadow.seats one.0 (seat_of sys s r one.0) (stands.seat one.0 one.1) (lacks-as one.0 ∙ one.2)
 
   -- and where it holds each, they do too
   lacks-none : ((t : ℕ) → t < sys.terminals → sys.pair_of t ≡ p → (s.terms t).ending ≡ None → (held : BackupCopy) × (s.memory t ≡ Some held)) → lacks p shadow.seats ≡ false
@@ -121,11 +121,11 @@ module _ (sys : Behaviour) (s : State) (r : Reading) (shadow : Shadow) (stands :
     where
       none : lacks p shadow.seats ≡ true → ⊥
       none some =
-          let one = any-place (λ (seat : Seat). is_of p seat && is_lacking seat) shadow.seats some in
+          let one = any-place (λ (seat : OrderSeat). is_of p seat && is_lacking seat) shadow.seats some in
           let t : ℕ = one.0 in
           let known : t < sys.terminals = subst (λ (n : ℕ). t < n) stands.seats (slice_get_within shadow.seats t one.1 one.2) in
           let same : one.1 ≡ seat_of sys s r t = cc (one.2, stands.seat t known) in
-          let lacking : (is_live_of sys p s t && not (is_some (s.memory t))) ≡ true = sym (lacks-as t) ∙ (ap (λ (seat : Seat). is_of p seat && is_lacking seat) (sym same) ∙ one.3) in
+          let lacking : (is_live_of sys p s t && not (is_some (s.memory t))) ≡ true = sym (lacks-as t) ∙ (ap (λ (seat : OrderSeat). is_of p seat && is_lacking seat) (sym same) ∙ one.3) in
           let live = and-first (is_live_of sys p s t) (not (is_some (s.memory t))) lacking in
           let of = eqb-true (sys.pair_of t) p (and-first (is_of_pair sys p t) (is_none (s.terms t).ending) live) in
           let held = holds t known of (no-ending (s.terms t).ending (and-second (is_of_pair sys p t) (is_none (s.terms t).ending) live)) in
@@ -145,7 +145,7 @@ module _ (sys : Behaviour) (s : State) (r : Reading) (shadow : Shadow) (stands :
       → (primary : Bool) → loss_of (mode_of (s.modes p)) primary (lacks p shadow.seats) ≡ state_loss (s.modes p) primary
   loss-told raising paired = by (s.modes p) refl
     where
-      by : (m : Mode) → s.modes p ≡ m → (primary : Bool) → loss_of (mode_of m) primary (lacks p shadow.seats) ≡ state_loss m primary
+      by : (m : PairMode) → s.modes p ≡ m → (primary : Bool) → loss_of (mode_of m) primary (lacks p shadow.seats) ≡ state_loss m primary
       by Paired is true = ap (λ (b : Bool). if b then loss.Pair else loss.Primary) (lacks-none (paired is))
       by Paired is false = refl
       by Raising is true = ap (λ (b : Bool). if b then loss.Pair else loss.Primary) (lacks-some (raising is))

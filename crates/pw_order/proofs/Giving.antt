@@ -12,17 +12,17 @@ use Rattle.pw_order.specs.Shadow.{mark_of, open_of, seat_of}
 use Rattle.pw_order.specs.declared.block.Block.{Block}
 use Rattle.pw_order.specs.declared.block.Block.TheVariants as block
 use Rattle.pw_order.specs.declared.block.How.TheVariants as how
-use Rattle.pw_order.specs.declared.seat.Seat.{Seat}
+use Rattle.pw_order.specs.declared.seat.OrderSeat.{OrderSeat}
 use Rattle.pw_paired.specs.Serial.{Reading, left_block, left_blocks, out_block, reply_commits}
 use Rattle.pw_paired.specs.State.{OpenUnit, State}
 use Rattle.pw_paired.specs.Terminal.{path_of}
 
-told-if : (b : Bool) (x : one.Block) → map told (if b then x ∷ [] else []) ≡ (if b then told x ∷ [] else [])
+told-if : (b : Bool) (x : one.SerialBlock) → map told (if b then x ∷ [] else []) ≡ (if b then told x ∷ [] else [])
 told-if true x = refl
 told-if false x = refl
 
 -- the blocks of two lists
-pub told-append : (xs ys : List one.Block) → map told (xs ++ ys) ≡ map told xs ++ map told ys
+pub told-append : (xs ys : List one.SerialBlock) → map told (xs ++ ys) ≡ map told xs ++ map told ys
 told-append [] ys = refl
 told-append (x ∷ xs) ys = ap (λ (l : List Block). told x ∷ l) (told-append xs ys)
 
@@ -53,7 +53,7 @@ module _ (sys : Behaviour) (s : State) (r : Reading) where
       by (Some path) = refl
 
   -- units that are left, one after the other
-  pub left-told : (whose : ℕ → Bool) (among : Seat → Bool) (seats : List Seat) (n : ℕ)
+  pub left-told : (whose : ℕ → Bool) (among : OrderSeat → Bool) (seats : List OrderSeat) (n : ℕ)
       → ((t : ℕ) → t < n → slice_get seats t ≡ Some (seat_of sys s r t)) → ((t : ℕ) → t < n → among (seat_of sys s r t) ≡ whose t)
       → map told (left_blocks s r whose n) ≡ left_to among seats n
   left-told whose among seats zero seat same = refl
@@ -70,12 +70,12 @@ module _ (sys : Behaviour) (s : State) (r : Reading) where
       by false = refl
 
 -- no seat is among them
-pub none-left : (among : Seat → Bool) (seats : List Seat) (n : ℕ) → ((t : ℕ) (seat : Seat) → t < n → slice_get seats t ≡ Some seat → among seat ≡ false) → left_to among seats n ≡ []
+pub none-left : (among : OrderSeat → Bool) (seats : List OrderSeat) (n : ℕ) → ((t : ℕ) (seat : OrderSeat) → t < n → slice_get seats t ≡ Some seat → among seat ≡ false) → left_to among seats n ≡ []
 none-left among seats zero none = refl
 none-left among seats (suc t) none =
     ap (λ (l : List Block). l ++ left_at among t (slice_get seats t)) (none-left among seats t (λ k seat lt is. none k seat (omega arith) is))
     ∙ by (slice_get seats t) refl
   where
-    by : (at : Option Seat) → slice_get seats t ≡ at → left_at among t at ≡ []
+    by : (at : Option OrderSeat) → slice_get seats t ≡ at → left_at among t at ≡ []
     by None is = refl
     by (Some seat) is = ap (λ (b : Bool). if b then unit_left t seat.unit else []) (none t seat (omega arith) is)

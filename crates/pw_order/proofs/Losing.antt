@@ -10,10 +10,10 @@ use Rattle.pw_order.proofs.Seating.{seat-is, seat_with, the-term}
 use Rattle.pw_order.specs.Pairs.{is_of, seat_behind_loss}
 use Rattle.pw_order.specs.Seats.{at_path, down, lost, path_in, rested, resumed, without_backup, without_memory}
 use Rattle.pw_order.specs.Shadow.{held_of, mark_of, seat_of}
-use Rattle.pw_order.specs.declared.mark.Mark.{Mark}
+use Rattle.pw_order.specs.declared.mark.PathMark.{PathMark}
 use Rattle.pw_order.specs.declared.pair.Loss.{Loss}
 use Rattle.pw_order.specs.declared.pair.Loss.TheVariants as loss
-use Rattle.pw_order.specs.declared.seat.Seat.{Seat}
+use Rattle.pw_order.specs.declared.seat.OrderSeat.{OrderSeat}
 use Rattle.pw_paired.specs.Failure.{is_of_pair, lose_backup, lose_pair, lose_primary, resume_terminal}
 use Rattle.pw_paired.specs.Serial.{Reading}
 use Rattle.pw_paired.specs.State.{BackupCopy, LastEnded, Message, OpenUnit, State, Term}
@@ -41,7 +41,7 @@ end-held last held true = by held.end
     by (Some path) = refl
 
 module _ (sys : Behaviour) (s : State) (r : Reading) (t : ℕ) (rest : rested (seat_of sys s r t) ≡ seat_of sys s r t) (p : ℕ) where
-  abbrev was : Seat
+  abbrev was : OrderSeat
   was = seat_of sys s r t
 
   -- the parts behind a change of the terminals of a pair, where it is of the pair or not
@@ -52,7 +52,7 @@ module _ (sys : Behaviour) (s : State) (r : Reading) (t : ℕ) (rest : rested (s
   picked false last last' unit unit' memory memory' flight flight' term term' = refl
 
   long : (rested was).longest ≡ r.longest t
-  long = ap (λ (seat : Seat). seat.longest) rest
+  long = ap (λ (seat : OrderSeat). seat.longest) rest
 
   -- a loss
   of-loss : (l : Loss) (of : Bool) → is_of_pair sys p t ≡ of → resting sys s r t rest (state_behind_loss sys l p s) ≡ (if of then seat_behind_loss l was else was)
@@ -89,7 +89,7 @@ module _ (sys : Behaviour) (s : State) (r : Reading) (t : ℕ) (rest : rested (s
   resumed-with memory false held is = ap (λ (n : ℕ). record (without_memory was) { longest = n }) long
   resumed-with None true held is = refl
   resumed-with (Some copy) true held is =
-      ap (λ (mark : Mark). without_memory (at_path mark was)) (end-held (s.ended t).number copy ((s.ended t).number == copy.unit))
+      ap (λ (mark : PathMark). without_memory (at_path mark was)) (end-held (s.ended t).number copy ((s.ended t).number == copy.unit))
 
   takes-over : (of : Bool) → is_of_pair sys p t ≡ of → resting sys s r t rest (change sys s (event.Takeover p)) ≡ (if of then resumed was else was)
   takes-over true is =

@@ -4,10 +4,10 @@ use Rattle.std.proofs.lemmas.List.{length_push}
 use Rattle.pw_onecopy.specs.Path.{Begun, PathAnswer, Replied, Standing, is_outside, standing}
 use Rattle.pw_order.specs.Marks.{mark_begun, mark_closed, mark_more}
 use Rattle.pw_order.specs.Shadow.{mark_of}
-use Rattle.pw_order.specs.declared.mark.Mark.{Mark}
+use Rattle.pw_order.specs.declared.mark.PathMark.{PathMark}
 use Rattle.pw_laws.proofs.Paths.{IsClosing, IsPlain, reply-inside, reply-outside, standing-push}
 
-abbrev mark : ℕ → ℕ → Bool → Mark
+abbrev mark : ℕ → ℕ → Bool → PathMark
 mark answers ended within = record { answers = answers; ended = ended; within = within }
 
 -- a mark of equal parts

@@ -14,15 +14,15 @@ use Rattle.pw_onecopy.specs.Blocks as one
 use Rattle.pw_order.proofs.Giving.{left-told, told-append}
 use Rattle.pw_order.proofs.Seating.{rested-twice, seat-behind}
 use Rattle.pw_order.proofs.Standing.{gives, keeps}
-use Rattle.pw_order.specs.Entries.{Shadow, all_left, given, left_to, shadow_behind}
+use Rattle.pw_order.specs.Entries.{Shadow, all_left, blocks_given, left_to, shadow_behind}
 use Rattle.pw_order.specs.Order.{blocks_behind, entry_order, last_order, told}
-use Rattle.pw_order.specs.Pairs.{is_among}
+use Rattle.pw_order.specs.Pairs.{is_seat_of_pair}
 use Rattle.pw_order.specs.Seats.{new_seat, rested}
-use Rattle.pw_order.specs.Shadow.{IsOf, IsTold, Stands, StandsAt, reading_after, reading_from, seat_of}
+use Rattle.pw_order.specs.Shadow.{IsOfSystem, IsOneSendFlag, ShadowStands, ShadowStandsAt, reading_after, reading_from, seat_of}
 use Rattle.pw_order.specs.declared.block.Block.{Block}
-use Rattle.pw_order.specs.declared.pair.Mode as order
-use Rattle.pw_order.specs.declared.pair.Mode.TheVariants as mode
-use Rattle.pw_order.specs.declared.seat.Seat.{Seat}
+use Rattle.pw_order.specs.declared.pair.OrderMode as order
+use Rattle.pw_order.specs.declared.pair.OrderMode.TheVariants as mode
+use Rattle.pw_order.specs.declared.seat.OrderSeat.{OrderSeat}
 use Rattle.pw_paired.specs.Serial.{Reading, blocks, blocks_of, entry_blocks_from, last_blocks_from, left_blocks, read_on, reading_starts}
 use Rattle.pw_paired.specs.State.{State, starting}
 use Rattle.pw_paired.specs.Step.{IsRun, after, after_from, effect}
@@ -58,44 +58,44 @@ module _ (sys : Behaviour) where
 module _ (sys : Behaviour) (b : IsBehaviour sys) where
   -- one entry more of a run
   pub reads : (log : List Event) (entry : Event) (one_send : Bool) (shadow next : Shadow) (before behind : List Block)
-      → IsRun sys (log ++ entry ∷ []) → IsTold sys (after sys log) entry one_send → Stands sys log shadow
-      → next ≡ shadow_behind one_send entry shadow → behind ≡ before ++ given shadow entry
-      → Stands sys (log ++ entry ∷ []) next × (behind ≡ before ++ blocks_behind sys log entry)
+      → IsRun sys (log ++ entry ∷ []) → IsOneSendFlag sys (after sys log) entry one_send → ShadowStands sys log shadow
+      → next ≡ shadow_behind one_send entry shadow → behind ≡ before ++ blocks_given shadow entry
+      → ShadowStands sys (log ++ entry ∷ []) next × (behind ≡ before ++ blocks_behind sys log entry)
   reads log entry one_send shadow next before behind run is_told stands is gave =
       let both = IsRunFrom-split sys (starting sys) log (entry ∷ []) run in
       let i = kept sys b log both.0 in
       let s : State = after sys log in
       let r : Reading = reading_after sys log in (
-        subst₂ (λ (x : State) (y : Reading). StandsAt sys x y next) (sym (after-more sys log entry)) (sym (reading-more sys log entry))
-            (subst (StandsAt sys (effect sys s entry) (read_on sys s entry r)) (sym is)
+        subst₂ (λ (x : State) (y : Reading). ShadowStandsAt sys x y next) (sym (after-more sys log entry)) (sym (reading-more sys log entry))
+            (subst (ShadowStandsAt sys (effect sys s entry) (read_on sys s entry r)) (sym is)
             (keeps sys b s i r (rest sys log) shadow stands (λ p. lacking sys p log both.0) entry one_send both.1.0.fits is_told)),
         gave ∙ ap (λ (l : List Block). before ++ l) (sym (gives sys b s i r (rest sys log) shadow stands (λ p. lacking sys p log both.0) entry both.1.0.fits)),
       )
 
 -- the end of a log
-pub closes : (sys : Behaviour) (log : List Event) (shadow : Shadow) (before behind : List Block) → Stands sys log shadow
-    → behind ≡ before ++ all_left (is_among None) shadow.seats → behind ≡ before ++ last_order sys log
+pub closes : (sys : Behaviour) (log : List Event) (shadow : Shadow) (before behind : List Block) → ShadowStands sys log shadow
+    → behind ≡ before ++ all_left (is_seat_of_pair None) shadow.seats → behind ≡ before ++ last_order sys log
 closes sys log shadow before behind stands is =
     is ∙ ap (λ (l : List Block). before ++ l)
     (sym (ap (map told) (last-from sys (starting sys) reading_starts log)
-    ∙ (left-told sys (after sys log) (reading_after sys log) (λ t. true) (is_among None) shadow.seats sys.terminals stands.seat (λ t known. refl)
-    ∙ ap (left_to (is_among None) shadow.seats) (sym stands.seats))))
+    ∙ (left-told sys (after sys log) (reading_after sys log) (λ t. true) (is_seat_of_pair None) shadow.seats sys.terminals stands.seat (λ t known. refl)
+    ∙ ap (left_to (is_seat_of_pair None) shadow.seats) (sym stands.seats))))
 
 -- the start
-pub begins : (system : System) (sys : Behaviour) (shadow : Shadow) → IsOf system sys
-    → shadow.seats ≡ map (λ terminal. new_seat terminal.tcp) system.terminals → shadow.modes ≡ map (λ name. mode.Alone) system.tcps → Stands sys [] shadow
+pub begins : (system : System) (sys : Behaviour) (shadow : Shadow) → IsOfSystem system sys
+    → shadow.seats ≡ map (λ terminal. new_seat terminal.tcp) system.terminals → shadow.modes ≡ map (λ name. mode.Alone) system.tcps → ShadowStands sys [] shadow
 begins system sys shadow of seats modes = record {
   seats = ap length seats ∙ (length-map system.terminals (λ (terminal : TermInfo). new_seat terminal.tcp) ∙ sym of.terminals);
   seat = λ t known.
       let within : t < length system.terminals = omega (arith, of.terminals, known) in
-      ap (λ (l : List Seat). slice_get l t) seats
+      ap (λ (l : List OrderSeat). slice_get l t) seats
       ∙ (slice_get-map (λ (terminal : TermInfo). new_seat terminal.tcp) system.terminals t
       ∙ (ap (option_map (λ (terminal : TermInfo). new_seat terminal.tcp)) (there system.terminals t within)
       ∙ ap (λ (p : ℕ). Some (new_seat p)) (of.pair_of t within)));
   modes = ap length modes ∙ (length-map system.tcps (λ (name : List ℕ). mode.Alone) ∙ sym of.pairs);
   mode = λ p known.
       let within : p < length system.tcps = omega (arith, of.pairs, known) in
-      ap (λ (l : List order.Mode). slice_get l p) modes
+      ap (λ (l : List order.OrderMode). slice_get l p) modes
       ∙ (slice_get-map (λ (name : List ℕ). mode.Alone) system.tcps p ∙ ap (option_map (λ (name : List ℕ). mode.Alone)) (named system.tcps p within));
 }
   where
@@ -110,7 +110,7 @@ entry-blocks-more : (sys : Behaviour) (s : State) (r : Reading) (log : List Even
     → entry_blocks_from sys s r (log ++ entry ∷ []) ≡ entry_blocks_from sys s r log ++ blocks_of sys (after_from sys s log) (reading_from sys s r log) entry
 entry-blocks-more sys s r [] entry = append-nil (blocks_of sys s r entry)
 entry-blocks-more sys s r (first ∷ log) entry =
-    ap (λ (l : List one.Block). blocks_of sys s r first ++ l) (entry-blocks-more sys (effect sys s first) (read_on sys s first r) log entry)
+    ap (λ (l : List one.SerialBlock). blocks_of sys s r first ++ l) (entry-blocks-more sys (effect sys s first) (read_on sys s first r) log entry)
     ∙ sym (append_assoc (blocks_of sys s r first) (entry_blocks_from sys (effect sys s first) (read_on sys s first r) log)
     (blocks_of sys (after_from sys (effect sys s first) log) (reading_from sys (effect sys s first) (read_on sys s first r) log) entry))
 

@@ -4,13 +4,13 @@ use Rattle.std.specs.Option.{option_map}
 use Rattle.pw_onecopy.specs.Behaviour.{Behaviour}
 use Rattle.pw_order.specs.Seats.{is_idle, rested, running_of}
 use Rattle.pw_order.specs.Shadow.{flight_of, held_of, mark_of, open_of, seat_of}
-use Rattle.pw_order.specs.declared.seat.Seat.{Seat}
+use Rattle.pw_order.specs.declared.seat.OrderSeat.{OrderSeat}
 use Rattle.pw_paired.specs.Serial.{Reading, longest_with}
 use Rattle.pw_paired.specs.State.{BackupCopy, Message, OpenUnit, State, Term}
 use Rattle.pw_paired.specs.Units.{attempt_of}
 
 -- the seat of these parts
-abbrev pub seat_with : ℕ → ℕ → Option OpenUnit → Option BackupCopy → Option Message → Term → ℕ → Seat
+abbrev pub seat_with : ℕ → ℕ → Option OpenUnit → Option BackupCopy → Option Message → Term → ℕ → OrderSeat
 seat_with tcp last unit memory flight term longest = record {
   tcp = tcp;
   live = is_none term.ending;
@@ -59,5 +59,5 @@ twice true a n = omega arith
 twice false a n = refl
 
 -- it counts once
-pub rested-twice : (seat : Seat) → rested (rested seat) ≡ rested seat
+pub rested-twice : (seat : OrderSeat) → rested (rested seat) ≡ rested seat
 rested-twice seat = ap (λ (n : ℕ). record seat { longest = n }) (twice (is_idle seat) seat.longest seat.path.answers)

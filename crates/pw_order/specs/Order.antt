@@ -2,7 +2,7 @@
 use Rattle.std.specs.Prelude.{List, map}
 use Rattle.pw_event.specs.declared.event.Event.{Event}
 use Rattle.pw_onecopy.specs.Behaviour.{Behaviour}
-use Rattle.pw_onecopy.specs.Blocks.{Aborted, Attempted, Block, Committed, Done, How, Left, Out, Restarted}
+use Rattle.pw_onecopy.specs.Blocks.{Aborted, Attempted, SerialBlock, Committed, Done, AttemptEnding, Left, Out, Restarted}
 use Rattle.pw_order.specs.Shadow.{reading_after}
 use Rattle.pw_order.specs.declared.block.Block as order
 use Rattle.pw_order.specs.declared.block.Block.TheVariants as block
@@ -13,14 +13,14 @@ use Rattle.pw_paired.specs.State.{starting}
 use Rattle.pw_paired.specs.Step.{after}
 
 -- how an attempt is over
-abbrev pub how_told : How → order_how.How
+abbrev pub how_told : AttemptEnding → order_how.How
 how_told Committed = how.Commit
 how_told Aborted = how.Dropped
 how_told Restarted = how.Restart
 how_told Left = how.Left
 
 -- a block without its number of answers
-abbrev pub told : Block → order.Block
+abbrev pub told : SerialBlock → order.Block
 told (Out t) = block.Out t
 told (Attempted t n over j) = block.Ended t n (how_told over)
 told (Done t ending) = block.Done t ending

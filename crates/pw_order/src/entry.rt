@@ -2,8 +2,8 @@ ghost use Rattle.std.specs.Prelude.{◌≡◌, ◌++◌, IfOk, OnOk, OnErr, opti
 ghost use Rattle.pw_order.specs.Entries.{attempt_left, leaves, out_given, reply_given, seat_behind, seat_behind_reply, seat_gives, terminal_in, unit_left};
 
 use crate::block::{Block, How};
-use crate::mark::Mark;
-use crate::seat::{OpenUnit, Seat};
+use crate::mark::PathMark;
+use crate::seat::{MarkedUnit, OrderSeat};
 use pw_base::memory::Memory;
 use pw_event::event::{Ending, Event};
 
@@ -39,7 +39,7 @@ pub fn leaves(ending: Ending) -> bool
 
 /// The seat of its terminal behind an entry. `one_send` tells of a BEGIN whether its unit is one SEND.
 /// `Memory` comes only where a number would not fit.
-pub fn seat_behind(seat: Seat, entry: &Event, one_send: bool) -> Result<Seat, Memory>
+pub fn seat_behind(seat: OrderSeat, entry: &Event, one_send: bool) -> Result<OrderSeat, Memory>
     ensures { IfOk result (λ next. next ≡ seat_behind one_send entry.now seat) }
 {
     match *entry {
@@ -59,7 +59,7 @@ pub fn seat_behind(seat: Seat, entry: &Event, one_send: bool) -> Result<Seat, Me
 }
 
 /// The seat behind a REPLY: with a reply, or with the run fault of the server.
-fn seat_behind_reply(seat: Seat, fault: Option<u16>) -> Result<Seat, Memory>
+fn seat_behind_reply(seat: OrderSeat, fault: Option<u16>) -> Result<OrderSeat, Memory>
     ensures { IfOk result (λ next. next ≡ seat_behind_reply fault seat) }
 {
     match fault {
@@ -76,7 +76,7 @@ pub struct Given {
 }
 
 /// The blocks of an entry of the terminal, from its seat before.
-pub(crate) fn seat_gives(seat: Seat, terminal: u32, entry: &Event) -> Result<Given, Memory>
+pub(crate) fn seat_gives(seat: OrderSeat, terminal: u32, entry: &Event) -> Result<Given, Memory>
     ensures { IfOk result (λ given. option_to_list given.unit ++ option_to_list given.own
         ≡ seat_gives entry.now terminal seat) }
 {
@@ -116,14 +116,14 @@ fn over(terminal: u32, unit: u32, how: How) -> Block
 }
 
 /// The block of a SHOW or KEY.
-fn out_given(seat: Seat, terminal: u32) -> Option<Block>
+fn out_given(seat: OrderSeat, terminal: u32) -> Option<Block>
     ensures { option_to_list result ≡ out_given terminal seat }
 {
     seat.is_new().then_some(Block::Out(terminal))
 }
 
 /// The block of a REPLY.
-fn reply_given(seat: Seat, terminal: u32, fault: Option<u16>) -> Result<Option<Block>, Memory>
+fn reply_given(seat: OrderSeat, terminal: u32, fault: Option<u16>) -> Result<Option<Block>, Memory>
     ensures { IfOk result (λ block. option_to_list block ≡ reply_given terminal fault seat) }
 {
     if fault.is_some() || seat.path.within {
@@ -134,12 +134,12 @@ fn reply_given(seat: Seat, terminal: u32, fault: Option<u16>) -> Result<Option<B
 }
 
 /// The block of an open unit that is left while its attempt runs.
-pub fn unit_left(terminal: u32, unit: Option<OpenUnit>) -> Option<Block>
+pub fn unit_left(terminal: u32, unit: Option<MarkedUnit>) -> Option<Block>
     ensures { option_to_list result ≡ unit_left terminal unit }
 {
     match unit {
         Some(
-            OpenUnit {
+            MarkedUnit {
                 number,
                 running: Some(_),
             },

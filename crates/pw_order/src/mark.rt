@@ -5,7 +5,7 @@ use pw_base::memory::Memory;
 
 /// How far a path goes.
 #[derive(Clone, Copy, Debug, PartialEq, Eq)]
-pub struct Mark {
+pub struct PathMark {
     /// How many answers it has.
     pub answers: u32,
     /// How many units have ended on it.
@@ -21,12 +21,12 @@ fn behind(number: u32) -> Result<u32, Memory>
     number.checked_add(1).ok_or(Memory)
 }
 
-impl Mark {
+impl PathMark {
     /// The empty path.
-    pub fn start() -> Mark
+    pub fn start() -> PathMark
         ensures { result ≡ record { answers = 0; ended = 0; within = false } }
     {
-        Mark {
+        PathMark {
             answers: 0,
             ended: 0,
             within: false,
@@ -41,10 +41,10 @@ impl Mark {
     }
 
     /// One more answer, which neither begins nor ends a unit.
-    pub fn more(self) -> Result<Mark, Memory>
+    pub fn more(self) -> Result<PathMark, Memory>
         ensures { IfOk result (λ mark. mark ≡ mark_more self) }
     {
-        Ok(Mark {
+        Ok(PathMark {
             answers: behind(self.answers)?,
             ended: self.ended,
             within: self.within,
@@ -52,10 +52,10 @@ impl Mark {
     }
 
     /// The answer with which a transaction begins.
-    pub fn begun(self) -> Result<Mark, Memory>
+    pub fn begun(self) -> Result<PathMark, Memory>
         ensures { IfOk result (λ mark. mark ≡ mark_begun self) }
     {
-        Ok(Mark {
+        Ok(PathMark {
             answers: behind(self.answers)?,
             ended: self.ended,
             within: true,
@@ -63,10 +63,10 @@ impl Mark {
     }
 
     /// An answer with which a unit ends.
-    pub fn closed(self) -> Result<Mark, Memory>
+    pub fn closed(self) -> Result<PathMark, Memory>
         ensures { IfOk result (λ mark. mark ≡ mark_closed self) }
     {
-        Ok(Mark {
+        Ok(PathMark {
             answers: behind(self.answers)?,
             ended: behind(self.ended)?,
             within: false,
@@ -74,7 +74,7 @@ impl Mark {
     }
 
     /// A reply, with which a unit ends that is one SEND.
-    pub fn replied(self) -> Result<Mark, Memory>
+    pub fn replied(self) -> Result<PathMark, Memory>
         ensures { IfOk result (λ mark. mark ≡ mark_replied self) }
     {
         if self.within {

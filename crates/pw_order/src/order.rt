@@ -5,8 +5,8 @@ ghost use Rattle.pw_onecopy.specs.IsBehaviour.{IsBehaviour};
 ghost use Rattle.pw_paired.specs.Step.{IsRun, after};
 
 use crate::block::Block;
-use crate::pair::{Loss, Mode};
-use crate::seat::Seat;
+use crate::pair::{Loss, OrderMode};
+use crate::seat::OrderSeat;
 use crate::seats::{empty_memory, lacks, lose, modes_of, put_left, read_seat, seats_of, take_over};
 use pw_base::memory::Memory;
 use pw_code::system::System;
@@ -18,8 +18,8 @@ use std::marker::Model;
 /// and where it stands, in place of the path.
 #[derive(Debug, Drop)]
 pub struct SerialOrder {
-    seats: Vec<Seat>,
-    modes: Vec<Mode>,
+    seats: Vec<OrderSeat>,
+    modes: Vec<OrderMode>,
 }
 
 impl Model for SerialOrder {
@@ -31,14 +31,14 @@ impl Model for SerialOrder {
 }
 
 impl SerialOrder {
-    ghost use Rattle.pw_order.specs.Entries.{changed_at, given, loss_at, loss_gives, shadow_behind, shadow_behind_loss};
+    ghost use Rattle.pw_order.specs.Entries.{changed_at, blocks_given, loss_at, loss_gives, shadow_behind, shadow_behind_loss};
     ghost use Rattle.pw_order.specs.Order.{blocks_behind, last_order};
     ghost use Rattle.pw_order.specs.Pairs.{mode_behind};
-    ghost use Rattle.pw_order.specs.Shadow.{IsOf, IsTold, Stands};
+    ghost use Rattle.pw_order.specs.Shadow.{IsOfSystem, IsOneSendFlag, ShadowStands};
 
     /// Before the first entry of a log of the system.
     pub fn new(alloc: Global, system: &System) -> Result<SerialOrder, Memory>
-        ensures { IfOk result (λ order. (sys : Behaviour) → IsOf system.now sys → Stands sys [] order) }
+        ensures { IfOk result (λ order. (sys : Behaviour) → IsOfSystem system.now sys → ShadowStands sys [] order) }
     {
         Ok(SerialOrder {
             seats: seats_of(alloc, system)?,
@@ -57,8 +57,8 @@ impl SerialOrder {
     ) -> Result<(), Memory>
         ensures reads { (sys : Behaviour) → IsBehaviour sys
             → (log : List Entry) → IsRun sys (log ++ entry.now ∷ [])
-            → IsTold sys (after sys log) entry.now one_send → Stands sys log self.old
-            → OnOk result (Stands sys (log ++ entry.now ∷ []) self.new
+            → IsOneSendFlag sys (after sys log) entry.now one_send → ShadowStands sys log self.old
+            → OnOk result (ShadowStands sys (log ++ entry.now ∷ []) self.new
             × (order.new.items ≡ order.old.items ++ blocks_behind sys log entry.now)) }
         ensures err { OnErr result ((self.new ≡ self.old) × (order.new.items ≡ order.old.items)) }
     {
@@ -68,7 +68,7 @@ impl SerialOrder {
     /// Puts the blocks at the end of a log behind others: what still runs is left. An `Err` leaves
     /// these as they were.
     pub fn end(&self, order: &mut Vec<Block>) -> Result<(), Memory>
-        ensures ends { (sys : Behaviour) (log : List Entry) → Stands sys log self.now
+        ensures ends { (sys : Behaviour) (log : List Entry) → ShadowStands sys log self.now
             → OnOk result (order.new.items ≡ order.old.items ++ last_order sys log) }
         ensures err { OnErr result (order.new.items ≡ order.old.items) }
     {
@@ -78,19 +78,19 @@ impl SerialOrder {
     /// Reads an entry by its kind.
     fn read(&mut self, entry: &Event, one_send: bool, order: &mut Vec<Block>) -> Result<(), Memory>
         ensures kept { OnOk result (self.new ≡ shadow_behind one_send entry.now self.old) }
-        ensures order { OnOk result (order.new.items ≡ order.old.items ++ given self.old entry.now) }
+        ensures order { OnOk result (order.new.items ≡ order.old.items ++ blocks_given self.old entry.now) }
         ensures err { OnErr result ((self.new ≡ self.old) × (order.new.items ≡ order.old.items)) }
     {
         match *entry {
             Event::FailTcp { tcp, primary, .. } => self.fail(tcp, primary, order),
             Event::Takeover { tcp } => {
                 take_over(&mut self.seats, tcp);
-                self.put_mode(tcp, Mode::Alone);
+                self.put_mode(tcp, OrderMode::Alone);
                 Ok(())
             }
             Event::Raise { tcp } => {
                 empty_memory(&mut self.seats, tcp);
-                self.put_mode(tcp, Mode::Backed);
+                self.put_mode(tcp, OrderMode::Backed);
                 Ok(())
             }
             _ => read_seat(&mut self.seats, entry, one_send, order),
@@ -134,7 +134,7 @@ impl SerialOrder {
     }
 
     /// Sets the mode of a pair.
-    fn put_mode(&mut self, tcp: u32, mode: Mode)
+    fn put_mode(&mut self, tcp: u32, mode: OrderMode)
         ensures { self.new ≡ record self.old { modes = changed_at tcp (λ _. mode) self.old.modes } }
     {
         if (tcp as usize) < self.modes.len() {

@@ -1,13 +1,13 @@
 ghost use Rattle.std.specs.Prelude.{◌≡◌};
 ghost use Rattle.pw_order.specs.Pairs.{loss_of, mode_behind, seat_behind_loss};
 
-use crate::seat::Seat;
+use crate::seat::OrderSeat;
 use pw_base::bytes::Bytes;
 
 /// What the order keeps of a pair's mode: Raising and Paired are one, since whether the backup holds
 /// every live terminal is seen from the terminals.
 #[derive(Clone, Copy, Debug, PartialEq, Eq)]
-pub enum Mode {
+pub enum OrderMode {
     /// One member works, and there is no backup.
     Alone,
     /// There is a backup.
@@ -30,12 +30,12 @@ pub enum Loss {
     Pair,
 }
 
-impl Mode {
+impl OrderMode {
     /// The mode of a pair of this name before the first entry.
-    pub fn of(_name: &Bytes) -> Mode
-        ensures { result ≡ Mode.Alone }
+    pub fn of(_name: &Bytes) -> OrderMode
+        ensures { result ≡ OrderMode.Alone }
     {
-        Mode::Alone
+        OrderMode::Alone
     }
 
     /// What is lost when a member fails, in a pair whose backup lacks a live terminal or none.
@@ -43,30 +43,30 @@ impl Mode {
         ensures { result ≡ loss_of self primary lacks }
     {
         match (self, primary) {
-            (Mode::Backed, true) if lacks => Loss::Pair,
-            (Mode::Backed, true) => Loss::Primary,
-            (Mode::Backed, false) => Loss::Backup,
-            (Mode::Alone, true) | (Mode::Down, false) => Loss::Pair,
+            (OrderMode::Backed, true) if lacks => Loss::Pair,
+            (OrderMode::Backed, true) => Loss::Primary,
+            (OrderMode::Backed, false) => Loss::Backup,
+            (OrderMode::Alone, true) | (OrderMode::Down, false) => Loss::Pair,
             _ => Loss::Nothing,
         }
     }
 
     /// The mode behind a loss.
-    pub fn behind(self, loss: Loss) -> Mode
+    pub fn behind(self, loss: Loss) -> OrderMode
         ensures { result ≡ mode_behind loss self }
     {
         match loss {
             Loss::Nothing => self,
-            Loss::Primary => Mode::Down,
-            Loss::Backup => Mode::Alone,
-            Loss::Pair => Mode::Gone,
+            Loss::Primary => OrderMode::Down,
+            Loss::Backup => OrderMode::Alone,
+            Loss::Pair => OrderMode::Gone,
         }
     }
 }
 
 impl Loss {
     /// The seat of a terminal of the pair behind the loss.
-    pub fn of_seat(self, seat: Seat) -> Seat
+    pub fn of_seat(self, seat: OrderSeat) -> OrderSeat
         ensures { result ≡ seat_behind_loss self seat }
     {
         match self {

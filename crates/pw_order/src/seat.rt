@@ -1,60 +1,60 @@
 ghost use Rattle.std.specs.Prelude.{◌≡◌, IfOk, if◌then◌else◌};
-ghost use Rattle.pw_order.specs.Seats.{again, answered, applied, begun, check_copy, check_end, check_start, done, down, ended, is_idle, is_lacking, is_new, left, lost, new_seat, replied, rested, restarted, resumed, resumed_path, running_of, without_backup, without_memory};
+ghost use Rattle.pw_order.specs.Seats.{again, path_answered, applied, attempt_begun, check_copy, check_end, check_start, done, down, unit_closed, is_idle, is_lacking, is_new, left, lost, new_seat, send_replied, rested, attempt_restarted, resumed, resumed_path, running_of, without_backup, without_memory};
 
-use crate::mark::Mark;
+use crate::mark::PathMark;
 use pw_base::memory::Memory;
 
 /// A terminal's open unit.
 #[derive(Clone, Copy, Debug, PartialEq, Eq)]
-pub struct OpenUnit {
+pub struct MarkedUnit {
     pub number: u32,
     /// The start path of its attempt, while one runs.
-    pub running: Option<Mark>,
+    pub running: Option<PathMark>,
 }
 
 /// What a backup holds of a terminal.
 #[derive(Clone, Copy, Debug, PartialEq, Eq)]
-pub struct Held {
+pub struct HeldMarks {
     pub unit: u32,
-    pub start: Mark,
-    pub end: Option<Mark>,
+    pub start: PathMark,
+    pub end: Option<PathMark>,
 }
 
 /// A checkpoint message in flight.
 #[derive(Clone, Copy, Debug, PartialEq, Eq)]
-pub enum Flight {
+pub enum CheckpointInFlight {
     /// A unit number and its start path, in place of what is held.
-    Start { unit: u32, path: Mark },
+    Start { unit: u32, path: PathMark },
     /// The end path of the unit that is held.
-    End(Mark),
+    End(PathMark),
 }
 
 /// What the order keeps of a terminal.
 #[derive(Clone, Copy, Debug, PartialEq, Eq)]
-pub struct Seat {
+pub struct OrderSeat {
     /// The number of its pair.
     pub tcp: u32,
     /// Whether it has no ending.
     pub live: bool,
-    pub path: Mark,
+    pub path: PathMark,
     /// The length of the longest path that it had while no attempt of it ran.
     pub longest: u32,
     /// The number of its last ended unit.
     pub last: u32,
-    pub unit: Option<OpenUnit>,
-    pub memory: Option<Held>,
-    pub flight: Option<Flight>,
+    pub unit: Option<MarkedUnit>,
+    pub memory: Option<HeldMarks>,
+    pub flight: Option<CheckpointInFlight>,
 }
 
-impl Seat {
+impl OrderSeat {
     /// The seat of a terminal before the first entry.
-    pub fn new(tcp: u32) -> Seat
+    pub fn new(tcp: u32) -> OrderSeat
         ensures { result ≡ new_seat tcp }
     {
-        Seat {
+        OrderSeat {
             tcp,
             live: true,
-            path: Mark::start(),
+            path: PathMark::start(),
             longest: 0,
             last: 0,
             unit: None,
@@ -64,7 +64,7 @@ impl Seat {
     }
 
     /// The start path of the attempt that runs.
-    pub fn running(self) -> Option<Mark>
+    pub fn running(self) -> Option<PathMark>
         ensures { result ≡ running_of self.unit }
     {
         self.unit?.running
@@ -93,11 +93,11 @@ impl Seat {
     }
 
     /// The path counts among the longest where no attempt runs.
-    fn rested(self) -> Seat
+    fn rested(self) -> OrderSeat
         ensures { result ≡ rested self }
     {
         if self.is_idle() {
-            Seat {
+            OrderSeat {
                 longest: self.longest.max(self.path.answers),
                 ..self
             }
@@ -107,75 +107,75 @@ impl Seat {
     }
 
     /// Its path gets an answer that neither begins nor ends a unit.
-    pub fn answered(self) -> Result<Seat, Memory>
-        ensures { IfOk result (λ seat. seat ≡ answered self) }
+    pub fn answered(self) -> Result<OrderSeat, Memory>
+        ensures { IfOk result (λ seat. seat ≡ path_answered self) }
     {
         let path = self.path.more()?;
-        Ok(Seat { path, ..self }.rested())
+        Ok(OrderSeat { path, ..self }.rested())
     }
 
     /// Its path gets a kept reply again.
-    pub fn again(self) -> Result<Seat, Memory>
+    pub fn again(self) -> Result<OrderSeat, Memory>
         ensures { IfOk result (λ seat. seat ≡ again self) }
     {
         let path = self.path.replied()?;
-        Ok(Seat { path, ..self }.rested())
+        Ok(OrderSeat { path, ..self }.rested())
     }
 
     /// A message with its path is in flight.
-    pub fn check_start(self) -> Result<Seat, Memory>
+    pub fn check_start(self) -> Result<OrderSeat, Memory>
         ensures { IfOk result (λ seat. seat ≡ check_start self) }
     {
         let (unit, path) = (self.path.unit()?, self.path);
-        Ok(Seat {
-            flight: Some(Flight::Start { unit, path }),
+        Ok(OrderSeat {
+            flight: Some(CheckpointInFlight::Start { unit, path }),
             ..self
         })
     }
 
     /// A message with the path behind its unit's end is in flight.
-    pub fn check_end(self) -> Result<Seat, Memory>
+    pub fn check_end(self) -> Result<OrderSeat, Memory>
         ensures { IfOk result (λ seat. seat ≡ check_end self) }
     {
         let path = self.path.closed()?;
-        Ok(Seat {
-            flight: Some(Flight::End(path)),
+        Ok(OrderSeat {
+            flight: Some(CheckpointInFlight::End(path)),
             ..self
         })
     }
 
     /// A message for a new backup is in flight.
-    pub fn check_copy(self) -> Result<Seat, Memory>
+    pub fn check_copy(self) -> Result<OrderSeat, Memory>
         ensures { IfOk result (λ seat. seat ≡ check_copy self) }
     {
         let path = self.running().unwrap_or(self.path);
         let unit = path.unit()?;
-        Ok(Seat {
-            flight: Some(Flight::Start { unit, path }),
+        Ok(OrderSeat {
+            flight: Some(CheckpointInFlight::Start { unit, path }),
             ..self
         })
     }
 
     /// The backup takes the message in.
-    pub fn applied(self) -> Seat
+    pub fn applied(self) -> OrderSeat
         ensures { result ≡ applied self }
     {
         let memory = match self.flight {
             None => self.memory,
-            Some(Flight::Start { unit, path }) => Some(Held {
+            Some(CheckpointInFlight::Start { unit, path }) => Some(HeldMarks {
                 unit,
                 start: path,
                 end: None,
             }),
-            Some(Flight::End(path)) => match self.memory {
+            Some(CheckpointInFlight::End(path)) => match self.memory {
                 None => None,
-                Some(held) => Some(Held {
+                Some(held) => Some(HeldMarks {
                     end: Some(path),
                     ..held
                 }),
             },
         };
-        Seat {
+        OrderSeat {
             memory,
             flight: None,
             ..self
@@ -183,19 +183,19 @@ impl Seat {
     }
 
     /// An attempt of the unit of this number begins. `one_send` tells whether the unit is one SEND.
-    pub fn begun(self, number: u32, one_send: bool) -> Result<Seat, Memory>
-        ensures { IfOk result (λ seat. seat ≡ begun number one_send self) }
+    pub fn begun(self, number: u32, one_send: bool) -> Result<OrderSeat, Memory>
+        ensures { IfOk result (λ seat. seat ≡ attempt_begun number one_send self) }
     {
         let path = if one_send {
             self.path
         } else {
             self.path.begun()?
         };
-        let unit = OpenUnit {
+        let unit = MarkedUnit {
             number: self.unit.map_or(number, |unit| unit.number),
             running: Some(self.path),
         };
-        Ok(Seat {
+        Ok(OrderSeat {
             unit: Some(unit),
             path,
             ..self
@@ -203,11 +203,11 @@ impl Seat {
     }
 
     /// The unit of this number ends, with an answer on the path.
-    pub fn ended(self, number: u32) -> Result<Seat, Memory>
-        ensures { IfOk result (λ seat. seat ≡ ended number self) }
+    pub fn ended(self, number: u32) -> Result<OrderSeat, Memory>
+        ensures { IfOk result (λ seat. seat ≡ unit_closed number self) }
     {
         let path = self.path.closed()?;
-        let seat = Seat {
+        let seat = OrderSeat {
             unit: None,
             last: number,
             path,
@@ -217,8 +217,8 @@ impl Seat {
     }
 
     /// A server replies, and a unit ends that is one SEND.
-    pub fn replied(self) -> Result<Seat, Memory>
-        ensures { IfOk result (λ seat. seat ≡ replied self) }
+    pub fn replied(self) -> Result<OrderSeat, Memory>
+        ensures { IfOk result (λ seat. seat ≡ send_replied self) }
     {
         if self.path.within {
             self.answered()
@@ -228,27 +228,27 @@ impl Seat {
     }
 
     /// The attempt goes back to its start.
-    pub fn restarted(self) -> Seat
-        ensures { result ≡ restarted self }
+    pub fn restarted(self) -> OrderSeat
+        ensures { result ≡ attempt_restarted self }
     {
         let path = self.running().unwrap_or(self.path);
         let unit = match self.unit {
             None => None,
-            Some(unit) => Some(OpenUnit {
+            Some(unit) => Some(MarkedUnit {
                 running: None,
                 ..unit
             }),
         };
-        Seat { unit, path, ..self }.rested()
+        OrderSeat { unit, path, ..self }.rested()
     }
 
     /// The open unit is left.
-    fn left(self) -> Seat
+    fn left(self) -> OrderSeat
         ensures { result ≡ left self }
     {
         match self.unit {
             None => self,
-            Some(unit) => Seat {
+            Some(unit) => OrderSeat {
                 unit: None,
                 last: unit.number,
                 ..self
@@ -257,11 +257,11 @@ impl Seat {
     }
 
     /// The terminal ends. `leaves` tells whether its open unit, if there is one, is left.
-    pub fn done(self, leaves: bool) -> Seat
+    pub fn done(self, leaves: bool) -> OrderSeat
         ensures { result ≡ done leaves self }
     {
         let seat = if leaves { self.left() } else { self };
-        Seat {
+        OrderSeat {
             live: false,
             memory: None,
             flight: None,
@@ -271,12 +271,12 @@ impl Seat {
     }
 
     /// Its pair is lost.
-    pub fn lost(self) -> Seat
+    pub fn lost(self) -> OrderSeat
         ensures { result ≡ lost self }
     {
         let seat = self.left();
-        Seat {
-            path: Mark::start(),
+        OrderSeat {
+            path: PathMark::start(),
             memory: None,
             flight: None,
             ..seat
@@ -284,21 +284,21 @@ impl Seat {
     }
 
     /// Its pair's primary is lost.
-    pub fn down(self) -> Seat
+    pub fn down(self) -> OrderSeat
         ensures { result ≡ down self }
     {
-        Seat {
-            path: Mark::start(),
+        OrderSeat {
+            path: PathMark::start(),
             flight: None,
             ..self
         }
     }
 
     /// Its pair's backup is lost.
-    pub fn without_backup(self) -> Seat
+    pub fn without_backup(self) -> OrderSeat
         ensures { result ≡ without_backup self }
     {
-        Seat {
+        OrderSeat {
             memory: None,
             flight: None,
             ..self
@@ -306,17 +306,17 @@ impl Seat {
     }
 
     /// Its pair has a new backup, or none.
-    pub fn without_memory(self) -> Seat
+    pub fn without_memory(self) -> OrderSeat
         ensures { result ≡ without_memory self }
     {
-        Seat {
+        OrderSeat {
             memory: None,
             ..self
         }
     }
 
     /// The path at which a takeover goes on.
-    fn resumed_path(self) -> Mark
+    fn resumed_path(self) -> PathMark
         ensures { result ≡ resumed_path self }
     {
         match self.memory {
@@ -327,14 +327,14 @@ impl Seat {
     }
 
     /// Its pair's backup takes over.
-    pub fn resumed(self) -> Seat
+    pub fn resumed(self) -> OrderSeat
         ensures { result ≡ resumed self }
     {
         if !self.live {
             return self.without_memory();
         }
         let path = self.resumed_path();
-        Seat {
+        OrderSeat {
             path,
             memory: None,
             ..self

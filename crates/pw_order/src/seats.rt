@@ -1,42 +1,42 @@
 ghost use Rattle.std.specs.Prelude.{◌≡◌, ◌+◌, ◌≤◌, ◌<◌, ◌++◌, ◌^◌, [], length, map, slice_get, slice_set, true, Some, IfOk, OnOk, OnErr, vec_len, vec_capacity, if◌then◌else◌};
 ghost use Rattle.pw_order.specs.Entries.{all_left, left_at, seats_behind, terminal_gives, terminal_in};
-ghost use Rattle.pw_order.specs.Pairs.{is_among, is_of, lacks, of_pair, seat_behind_loss};
+ghost use Rattle.pw_order.specs.Pairs.{is_seat_of_pair, is_of, lacks, of_pair, seat_behind_loss};
 ghost use Rattle.pw_order.specs.Seats.{new_seat, resumed, without_memory};
 
 use crate::block::Block;
 use crate::entry::{seat_behind, seat_gives, terminal_in, unit_left};
-use crate::pair::{Loss, Mode};
-use crate::seat::Seat;
+use crate::pair::{Loss, OrderMode};
+use crate::seat::OrderSeat;
 use pw_base::memory::Memory;
 use pw_code::system::System;
 use pw_event::event::Event;
 use std::alloc::Global;
 
 /// The seats of a system's terminals before the first entry.
-pub fn seats_of(alloc: Global, system: &System) -> Result<Vec<Seat>, Memory>
+pub fn seats_of(alloc: Global, system: &System) -> Result<Vec<OrderSeat>, Memory>
     ensures { IfOk result (λ seats. seats.items
         ≡ map (λ terminal. new_seat terminal.tcp) system.now.terminals) }
 {
     let mut seats = Vec::new(alloc);
     for terminal in system.terminals.as_slice() {
-        seats.push(Seat::new(terminal.tcp))?;
+        seats.push(OrderSeat::new(terminal.tcp))?;
     }
     Ok(seats)
 }
 
 /// The modes of a system's pairs before the first entry.
-pub fn modes_of(alloc: Global, system: &System) -> Result<Vec<Mode>, Memory>
-    ensures { IfOk result (λ modes. modes.items ≡ map (λ name. Mode.Alone) system.now.tcps) }
+pub fn modes_of(alloc: Global, system: &System) -> Result<Vec<OrderMode>, Memory>
+    ensures { IfOk result (λ modes. modes.items ≡ map (λ name. OrderMode.Alone) system.now.tcps) }
 {
     let mut modes = Vec::new(alloc);
     for name in system.tcps.as_slice() {
-        modes.push(Mode::of(name))?;
+        modes.push(OrderMode::of(name))?;
     }
     Ok(modes)
 }
 
 /// Whether the backup of the pair lacks a live terminal.
-pub fn lacks(seats: &[Seat], tcp: u32) -> bool
+pub fn lacks(seats: &[OrderSeat], tcp: u32) -> bool
     ensures { result ≡ lacks tcp seats.now }
 {
     seats
@@ -47,7 +47,7 @@ pub fn lacks(seats: &[Seat], tcp: u32) -> bool
 /// Reads an entry of a terminal, or one that reads as nothing, and puts its blocks behind others. An
 /// `Err` leaves both as they were.
 pub fn read_seat(
-    seats: &mut Vec<Seat>,
+    seats: &mut Vec<OrderSeat>,
     entry: &Event,
     one_send: bool,
     order: &mut Vec<Block>,
@@ -72,14 +72,14 @@ pub fn read_seat(
 }
 
 /// The seat of a terminal, None exactly where none is kept.
-fn seat_at(seats: &[Seat], terminal: u32) -> Option<Seat>
+fn seat_at(seats: &[OrderSeat], terminal: u32) -> Option<OrderSeat>
     ensures { result ≡ slice_get seats.now terminal }
 {
     seats.get(terminal as usize).copied()
 }
 
 /// Puts the seat of a terminal in place of the one that is kept.
-fn put_seat(seats: &mut Vec<Seat>, terminal: u32, seat: Seat)
+fn put_seat(seats: &mut Vec<OrderSeat>, terminal: u32, seat: OrderSeat)
     requires { terminal < length seats.old.items }
     ensures { seats.new.items ≡ slice_set seats.old.items terminal seat }
 {
@@ -87,7 +87,7 @@ fn put_seat(seats: &mut Vec<Seat>, terminal: u32, seat: Seat)
 }
 
 /// Changes the seats of a pair by a loss.
-pub fn lose(seats: &mut Vec<Seat>, tcp: u32, loss: Loss)
+pub fn lose(seats: &mut Vec<OrderSeat>, tcp: u32, loss: Loss)
     ensures { seats.new.items ≡ of_pair tcp (seat_behind_loss loss) seats.old.items }
 {
     for seat in seats.iter_mut() {
@@ -96,7 +96,7 @@ pub fn lose(seats: &mut Vec<Seat>, tcp: u32, loss: Loss)
 }
 
 /// Changes a seat by a loss where it is of the pair.
-fn lose_one(seat: &mut Seat, tcp: u32, loss: Loss)
+fn lose_one(seat: &mut OrderSeat, tcp: u32, loss: Loss)
     ensures { seat.new ≡ (if is_of tcp seat.old then seat_behind_loss loss seat.old else seat.old) }
 {
     if seat.tcp == tcp {
@@ -105,7 +105,7 @@ fn lose_one(seat: &mut Seat, tcp: u32, loss: Loss)
 }
 
 /// Lets the backup of a pair take over.
-pub fn take_over(seats: &mut Vec<Seat>, tcp: u32)
+pub fn take_over(seats: &mut Vec<OrderSeat>, tcp: u32)
     ensures { seats.new.items ≡ of_pair tcp resumed seats.old.items }
 {
     for seat in seats.iter_mut() {
@@ -114,7 +114,7 @@ pub fn take_over(seats: &mut Vec<Seat>, tcp: u32)
 }
 
 /// A seat goes on behind a takeover where it is of the pair.
-fn resume_one(seat: &mut Seat, tcp: u32)
+fn resume_one(seat: &mut OrderSeat, tcp: u32)
     ensures { seat.new ≡ (if is_of tcp seat.old then resumed seat.old else seat.old) }
 {
     if seat.tcp == tcp {
@@ -123,7 +123,7 @@ fn resume_one(seat: &mut Seat, tcp: u32)
 }
 
 /// Empties what the backup of a pair holds.
-pub fn empty_memory(seats: &mut Vec<Seat>, tcp: u32)
+pub fn empty_memory(seats: &mut Vec<OrderSeat>, tcp: u32)
     ensures { seats.new.items ≡ of_pair tcp without_memory seats.old.items }
 {
     for seat in seats.iter_mut() {
@@ -132,7 +132,7 @@ pub fn empty_memory(seats: &mut Vec<Seat>, tcp: u32)
 }
 
 /// Empties what the backup holds of a terminal where it is of the pair.
-fn empty_one(seat: &mut Seat, tcp: u32)
+fn empty_one(seat: &mut OrderSeat, tcp: u32)
     ensures { seat.new ≡ (if is_of tcp seat.old then without_memory seat.old else seat.old) }
 {
     if seat.tcp == tcp {
@@ -141,17 +141,17 @@ fn empty_one(seat: &mut Seat, tcp: u32)
 }
 
 /// Whether the seat is of a terminal of this pair, or of any.
-fn is_among(seat: Seat, tcp: Option<u32>) -> bool
-    ensures { result ≡ is_among tcp seat }
+fn is_among(seat: OrderSeat, tcp: Option<u32>) -> bool
+    ensures { result ≡ is_seat_of_pair tcp seat }
 {
     tcp.is_none_or(|tcp| seat.tcp == tcp)
 }
 
 /// Puts a block behind others for each attempt that runs, of a pair or of all, in the order of
 /// terminals. An `Err` leaves these as they were.
-pub fn put_left(seats: &[Seat], tcp: Option<u32>, order: &mut Vec<Block>) -> Result<(), Memory>
+pub fn put_left(seats: &[OrderSeat], tcp: Option<u32>, order: &mut Vec<Block>) -> Result<(), Memory>
     ensures ok { OnOk result (order.new.items
-        ≡ order.old.items ++ all_left (is_among tcp) seats.now) }
+        ≡ order.old.items ++ all_left (is_seat_of_pair tcp) seats.now) }
     ensures err { OnErr result (order.new.items ≡ order.old.items) }
 {
     let count = u32::try_from(seats.len()).map_err(|_| Memory)?;
@@ -163,9 +163,9 @@ pub fn put_left(seats: &[Seat], tcp: Option<u32>, order: &mut Vec<Block>) -> Res
 }
 
 /// Puts the block of a terminal behind others, for which there is room, where it has one.
-fn put_one(seat: Option<Seat>, terminal: u32, tcp: Option<u32>, order: &mut Vec<Block>)
+fn put_one(seat: Option<OrderSeat>, terminal: u32, tcp: Option<u32>, order: &mut Vec<Block>)
     requires { vec_len order.old + 1 ≤ vec_capacity order.old }
-    ensures block { order.new.items ≡ order.old.items ++ left_at (is_among tcp) terminal seat }
+    ensures block { order.new.items ≡ order.old.items ++ left_at (is_seat_of_pair tcp) terminal seat }
     ensures len { vec_len order.new ≤ vec_len order.old + 1 }
     ensures capacity { vec_capacity order.old ≤ vec_capacity order.new }
 {

@@ -12,7 +12,7 @@ use Rattle.std.specs.List.{count_by, list_all}
 use Rattle.std.specs.Ordering.{nat_cmp}
 use Rattle.pw_pair.specs.Places.{ArePlaces, AreSeats, terminals_of}
 use Rattle.pw_pair.specs.Seats.{is_lacking, is_sound, new_seat}
-use Rattle.pw_pair.specs.declared.seat.Seat.{Seat}
+use Rattle.pw_pair.specs.declared.seat.BackupSeat.{BackupSeat}
 
 -- a key is at another exactly where the two are one
 key-same : (t q : ℕ) → t ≡ q → is_at (nat_cmp t) q ≡ true
@@ -79,7 +79,7 @@ added-places old new terminals t are none updates = record {
         (omega (arith, length-append terminals (t ∷ [])), get_or_append_left terminals (t ∷ []) 0 k lt ∙ h.1)
 
 -- seats with one more
-pub added : (seats new : List Seat) (old map' : BTreeMap ℕ ℕ) (lacking t place : ℕ) → AreSeats seats old lacking → get nat_cmp old t ≡ None → place ≡ length seats
+pub added : (seats new : List BackupSeat) (old map' : BTreeMap ℕ ℕ) (lacking t place : ℕ) → AreSeats seats old lacking → get nat_cmp old t ≡ None → place ≡ length seats
     → ((q : ℕ) → get nat_cmp map' q ≡ cond (is_at (nat_cmp t) q) (Some place) (get nat_cmp old q)) → place < 4294967295 → new ≡ seats ++ new_seat t ∷ []
     → AreSeats new map' (lacking + 1)
 added seats new old map' lacking t place are none at updates few e =
@@ -96,5 +96,5 @@ added seats new old map' lacking t place are none at updates few e =
           omega (arith, sum_by-append (λ seat. cond (is_lacking seat) 1 0) seats (new_seat t ∷ []), sum_by-cons (λ seat. cond (is_lacking seat) 1 0) (new_seat t) []);
       few = omega (arith, length-append seats (new_seat t ∷ []));
     } in
-    let Q : List Seat → Type 0 = λ l. AreSeats l map' (lacking + 1) in
+    let Q : List BackupSeat → Type 0 = λ l. AreSeats l map' (lacking + 1) in
     subst Q (sym e) all

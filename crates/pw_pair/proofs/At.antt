@@ -12,30 +12,30 @@ use Rattle.pw_pair.specs.Pairs.{passes}
 use Rattle.pw_pair.specs.Places.{ArePlaces, AreSeats, terminals_of}
 use Rattle.std.specs.Option.{IfSome}
 use Rattle.pw_pair.specs.Seats.{at_terminal, is_lacking, is_seat_of, is_sound, new_seat}
-use Rattle.pw_pair.specs.declared.seat.Seat.{Seat}
+use Rattle.pw_pair.specs.declared.seat.BackupSeat.{BackupSeat}
 
 -- the terminal of a seat
-pub terminal-at : (seats : List Seat) (k : ℕ) (d : Seat) → k < length seats → get_or (terminals_of seats) k 0 ≡ (get_or seats k d).terminal
+pub terminal-at : (seats : List BackupSeat) (k : ℕ) (d : BackupSeat) → k < length seats → get_or (terminals_of seats) k 0 ≡ (get_or seats k d).terminal
 terminal-at [] k d lt = absurd (omega arith)
 terminal-at (seat ∷ seats) zero d lt = refl
 terminal-at (seat ∷ seats) (suc k) d lt = terminal-at seats k d (omega arith)
 
-pub length-terminals : (seats : List Seat) → length (terminals_of seats) ≡ length seats
+pub length-terminals : (seats : List BackupSeat) → length (terminals_of seats) ≡ length seats
 length-terminals [] = refl
 length-terminals (seat ∷ seats) = ap suc (length-terminals seats)
 
 -- the only seat of the terminal is at this place
-pub record IsOnlyAt (t : ℕ) (seats : List Seat) (k : ℕ) (d : Seat) : Type 0 where
+pub record IsOnlyAt (t : ℕ) (seats : List BackupSeat) (k : ℕ) (d : BackupSeat) : Type 0 where
   pub within : k < length seats
   pub its : (get_or seats k d).terminal ≡ t
   pub only : (j : ℕ) → j < length seats → (get_or seats j d).terminal ≡ t → j ≡ k
 
 -- no seat is the terminal's
-abbrev pub IsNowhere : ℕ → List Seat → Seat → Type 0
+abbrev pub IsNowhere : ℕ → List BackupSeat → BackupSeat → Type 0
 IsNowhere t seats d = (j : ℕ) → j < length seats → (get_or seats j d).terminal ≡ t → ⊥
 
 -- the map tells where the only seat of a terminal is
-pub found : (places : BTreeMap ℕ ℕ) (seats : List Seat) (t k : ℕ) (d : Seat) → ArePlaces places (terminals_of seats) → get nat_cmp places t ≡ Some k
+pub found : (places : BTreeMap ℕ ℕ) (seats : List BackupSeat) (t k : ℕ) (d : BackupSeat) → ArePlaces places (terminals_of seats) → get nat_cmp places t ≡ Some k
     → IsOnlyAt t seats k d
 found places seats t k d are e =
     let h = are.there t k e in
@@ -51,7 +51,7 @@ found places seats t k d are e =
     }
 
 -- and that there is none
-pub missing : (places : BTreeMap ℕ ℕ) (seats : List Seat) (t : ℕ) (d : Seat) → ArePlaces places (terminals_of seats) → get nat_cmp places t ≡ None
+pub missing : (places : BTreeMap ℕ ℕ) (seats : List BackupSeat) (t : ℕ) (d : BackupSeat) → ArePlaces places (terminals_of seats) → get nat_cmp places t ≡ None
     → IsNowhere t seats d
 missing places seats t d are e =
     λ j lt same.
@@ -60,24 +60,24 @@ missing places seats t d are e =
     let both : Some j ≡ None = sym (are.here j below) ∙ ap (λ x. get nat_cmp places x) there ∙ e in
     cc both
 
-not-seat : (t : ℕ) (seat : Seat) → (seat.terminal ≡ t → ⊥) → (b : Bool) → is_seat_of t seat ≡ b → b ≡ false
+not-seat : (t : ℕ) (seat : BackupSeat) → (seat.terminal ≡ t → ⊥) → (b : Bool) → is_seat_of t seat ≡ b → b ≡ false
 not-seat t seat h true e = absurd (h (eqb-true seat.terminal t e))
 not-seat t seat h false e = refl
 
 -- where the terminal has no seat, nothing is changed, and none is found
-pub nowhere-at : (t : ℕ) (change : Seat → Seat) (seats : List Seat) (d : Seat) → IsNowhere t seats d → at_terminal t change seats ≡ seats
+pub nowhere-at : (t : ℕ) (change : BackupSeat → BackupSeat) (seats : List BackupSeat) (d : BackupSeat) → IsNowhere t seats d → at_terminal t change seats ≡ seats
 nowhere-at t change [] d h = refl
 nowhere-at t change (seat ∷ seats) d h =
     let own : is_seat_of t seat ≡ false = not-seat t seat (h zero (omega arith)) (is_seat_of t seat) refl in
     rw own (ap (λ l. seat ∷ l) (nowhere-at t change seats d (λ j lt. h (suc j) (omega arith))))
 
-pub nowhere-find : (t : ℕ) (seats : List Seat) (d : Seat) → IsNowhere t seats d → find (is_seat_of t) seats ≡ None
+pub nowhere-find : (t : ℕ) (seats : List BackupSeat) (d : BackupSeat) → IsNowhere t seats d → find (is_seat_of t) seats ≡ None
 nowhere-find t [] d h = refl
 nowhere-find t (seat ∷ seats) d h =
     let own : is_seat_of t seat ≡ false = not-seat t seat (h zero (omega arith)) (is_seat_of t seat) refl in
     rw own (nowhere-find t seats d (λ j lt. h (suc j) (omega arith)))
 
-behind : (t : ℕ) (seat : Seat) (seats : List Seat) (k : ℕ) (d : Seat) → IsOnlyAt t (seat ∷ seats) (suc k) d → IsOnlyAt t seats k d
+behind : (t : ℕ) (seat : BackupSeat) (seats : List BackupSeat) (k : ℕ) (d : BackupSeat) → IsOnlyAt t (seat ∷ seats) (suc k) d → IsOnlyAt t seats k d
 behind t seat seats k d h = record {
   within = let lt = h.within in omega arith;
   its = h.its;
@@ -85,7 +85,7 @@ behind t seat seats k d h = record {
 }
 
 -- the only seat of the terminal is the one that is changed, and found
-pub only-at : (t : ℕ) (change : Seat → Seat) (seats : List Seat) (k : ℕ) (d : Seat) → IsOnlyAt t seats k d
+pub only-at : (t : ℕ) (change : BackupSeat → BackupSeat) (seats : List BackupSeat) (k : ℕ) (d : BackupSeat) → IsOnlyAt t seats k d
     → set seats k (change (get_or seats k d)) ≡ at_terminal t change seats
 only-at t change [] k d h = absurd (let lt = h.within in omega arith)
 only-at t change (seat ∷ seats) zero d h =
@@ -96,7 +96,7 @@ only-at t change (seat ∷ seats) (suc k) d h =
     let own : is_seat_of t seat ≡ false = not-seat t seat (λ same. let e : 0 ≡ suc k = h.only zero (omega arith) same in omega arith) (is_seat_of t seat) refl in
     rw own (ap (λ l. seat ∷ l) (only-at t change seats k d (behind t seat seats k d h)))
 
-pub only-find : (t : ℕ) (seats : List Seat) (k : ℕ) (d : Seat) → IsOnlyAt t seats k d → find (is_seat_of t) seats ≡ Some (get_or seats k d)
+pub only-find : (t : ℕ) (seats : List BackupSeat) (k : ℕ) (d : BackupSeat) → IsOnlyAt t seats k d → find (is_seat_of t) seats ≡ Some (get_or seats k d)
 only-find t [] k d h = absurd (let lt = h.within in omega arith)
 only-find t (seat ∷ seats) zero d h = let own : is_seat_of t seat ≡ true = eq-eqb seat.terminal t h.its in rw own refl
 only-find t (seat ∷ seats) (suc k) d h =
@@ -104,12 +104,12 @@ only-find t (seat ∷ seats) (suc k) d h =
     rw own (only-find t seats k d (behind t seat seats k d h))
 
 -- each seat of several passes
-pub each-sound : (test : Seat → Bool) (seats : List Seat) (k : ℕ) (d : Seat) → list_all test seats ≡ true → k < length seats → test (get_or seats k d) ≡ true
+pub each-sound : (test : BackupSeat → Bool) (seats : List BackupSeat) (k : ℕ) (d : BackupSeat) → list_all test seats ≡ true → k < length seats → test (get_or seats k d) ≡ true
 each-sound test [] k d h lt = absurd (omega arith)
 each-sound test (seat ∷ seats) zero d h lt = (and_parts (test seat) (list_all test seats) h).0
 each-sound test (seat ∷ seats) (suc k) d h lt = each-sound test seats k d (and_parts (test seat) (list_all test seats) h).1 (omega arith)
 
-all-set : (test : Seat → Bool) (seats : List Seat) (k : ℕ) (new : Seat) → list_all test seats ≡ true → test new ≡ true → list_all test (set seats k new) ≡ true
+all-set : (test : BackupSeat → Bool) (seats : List BackupSeat) (k : ℕ) (new : BackupSeat) → list_all test seats ≡ true → test new ≡ true → list_all test (set seats k new) ≡ true
 all-set test [] k new h own = refl
 all-set test (seat ∷ seats) zero new h own = rw own (and_parts (test seat) (list_all test seats) h).1
 all-set test (seat ∷ seats) (suc k) new h own =
@@ -117,7 +117,7 @@ all-set test (seat ∷ seats) (suc k) new h own =
     rw first (all-set test seats k new (and_parts (test seat) (list_all test seats) h).1 own)
 
 -- seats keep what they keep where one is changed to a sound one of the same terminal
-pub keeps : (seats : List Seat) (places : BTreeMap ℕ ℕ) (lacking count k : ℕ) (d new : Seat) → AreSeats seats places lacking → k < length seats
+pub keeps : (seats : List BackupSeat) (places : BTreeMap ℕ ℕ) (lacking count k : ℕ) (d new : BackupSeat) → AreSeats seats places lacking → k < length seats
     → new.terminal ≡ (get_or seats k d).terminal → is_sound new ≡ true
     → count ≡ lacking + cond (is_lacking new) 1 0 - cond (is_lacking (get_or seats k d)) 1 0
     → AreSeats (set seats k new) places count
@@ -132,11 +132,11 @@ keeps seats places lacking count k d new are lt same sound e =
 
 -- What a call that changes one seat owes, in the words of its places.
 
-module _ (places : BTreeMap ℕ ℕ) (items now : List Seat) (t : ℕ) (view : items ≡ now) (are : ArePlaces places (terminals_of items)) where
+module _ (places : BTreeMap ℕ ℕ) (items now : List BackupSeat) (t : ℕ) (view : items ≡ now) (are : ArePlaces places (terminals_of items)) where
   -- a terminal that is not of the pair
-  pub default-at : (change : Seat → Seat) → get nat_cmp places t ≡ None → now ≡ at_terminal t change now
+  pub default-at : (change : BackupSeat → BackupSeat) → get nat_cmp places t ≡ None → now ≡ at_terminal t change now
   default-at change none =
-      let P : List Seat → Type 0 = λ l. l ≡ at_terminal t change l in
+      let P : List BackupSeat → Type 0 = λ l. l ≡ at_terminal t change l in
       subst P view (sym (nowhere-at t change items (new_seat 0) (missing places items t (new_seat 0) are none)))
 
   pub default-find : get nat_cmp places t ≡ None → find (is_seat_of t) now ≡ None
@@ -147,7 +147,7 @@ module _ (places : BTreeMap ℕ ℕ) (items now : List Seat) (t : ℕ) (view : i
     pub within-at : k < length items
     within-at = (found places items t k (new_seat 0) are place).within
 
-    module _ (seat : Seat) (is : seat ≡ get_or items k seat) where
+    module _ (seat : BackupSeat) (is : seat ≡ get_or items k seat) where
       -- the seat at the place is the terminal's
       pub seat-find : find (is_seat_of t) now ≡ Some seat
       seat-find =
@@ -158,21 +158,21 @@ module _ (places : BTreeMap ℕ ℕ) (items now : List Seat) (t : ℕ) (view : i
       seat-terminal = ap (λ s. s.terminal) is ∙ (found places items t k seat are place).its
 
       -- what is asked of the terminal's seat holds of it
-      pub seat-has : (P : Seat → Type 0) → IfSome (find (is_seat_of t) now) P → P seat
-      seat-has P h = let Q : Option Seat → Type 0 = λ o. IfSome o P in subst Q seat-find h
+      pub seat-has : (P : BackupSeat → Type 0) → IfSome (find (is_seat_of t) now) P → P seat
+      seat-has P h = let Q : Option BackupSeat → Type 0 = λ o. IfSome o P in subst Q seat-find h
 
-      pub seat-passes : (test : Seat → Bool) → passes test (find (is_seat_of t) now) ≡ true → test seat ≡ true
+      pub seat-passes : (test : BackupSeat → Bool) → passes test (find (is_seat_of t) now) ≡ true → test seat ≡ true
       seat-passes test h = sym (ap (passes test) seat-find) ∙ h
 
       pub seat-sound : (lacking : ℕ) → AreSeats items places lacking → is_sound seat ≡ true
       seat-sound lacking seats = ap is_sound is ∙ each-sound is_sound items k seat seats.sound within-at
 
-      pub changed-seat : (change : Seat → Seat) (new : Seat) → new ≡ change seat → set items k new ≡ at_terminal t change now
+      pub changed-seat : (change : BackupSeat → BackupSeat) (new : BackupSeat) → new ≡ change seat → set items k new ≡ at_terminal t change now
       changed-seat change new e =
           ap (λ s. set items k s) (e ∙ ap change is) ∙ only-at t change items k seat (found places items t k seat are place)
           ∙ ap (λ l. at_terminal t change l) view
 
-      pub kept-seat : (lacking count : ℕ) (new : Seat) → AreSeats items places lacking → new.terminal ≡ seat.terminal
+      pub kept-seat : (lacking count : ℕ) (new : BackupSeat) → AreSeats items places lacking → new.terminal ≡ seat.terminal
           → (is_sound seat ≡ true → is_sound new ≡ true) → count ≡ lacking + cond (is_lacking new) 1 0 - cond (is_lacking seat) 1 0
           → AreSeats (set items k new) places count
       kept-seat lacking count new seats same sound e =
@@ -186,49 +186,49 @@ same-count n true = omega arith
 same-count n false = omega arith
 
 -- some seat is counted exactly where the count is above 0
-pub any-count : (test : Seat → Bool) (seats : List Seat) → nat_lt 0 (count_by test seats) ≡ list_any test seats
+pub any-count : (test : BackupSeat → Bool) (seats : List BackupSeat) → nat_lt 0 (count_by test seats) ≡ list_any test seats
 any-count test [] = refl
 any-count test (seat ∷ seats) =
     ap (λ n. nat_lt 0 n) (sum_by-cons (λ s. cond (test s) 1 0) seat seats) ∙ counted (test seat) seats (any-count test seats)
   where
-    counted : (b : Bool) (seats : List Seat) → nat_lt 0 (count_by test seats) ≡ list_any test seats
+    counted : (b : Bool) (seats : List BackupSeat) → nat_lt 0 (count_by test seats) ≡ list_any test seats
         → nat_lt 0 (cond b 1 0 + count_by test seats) ≡ (b || list_any test seats)
     counted true seats h = lt-ltb 0 (1 + count_by test seats) (omega arith)
     counted false seats h = ap (λ n. nat_lt 0 n) (zero-add (count_by test seats)) ∙ h
 
 -- the map has a terminal exactly where it has a seat
-nowhere-any : (t : ℕ) (seats : List Seat) (d : Seat) → IsNowhere t seats d → list_any (is_seat_of t) seats ≡ false
+nowhere-any : (t : ℕ) (seats : List BackupSeat) (d : BackupSeat) → IsNowhere t seats d → list_any (is_seat_of t) seats ≡ false
 nowhere-any t [] d h = refl
 nowhere-any t (seat ∷ seats) d h =
     let own : is_seat_of t seat ≡ false = not-seat t seat (h zero (omega arith)) (is_seat_of t seat) refl in
     rw own (nowhere-any t seats d (λ j lt. h (suc j) (omega arith)))
 
-only-any : (t : ℕ) (seats : List Seat) (k : ℕ) (d : Seat) → IsOnlyAt t seats k d → list_any (is_seat_of t) seats ≡ true
+only-any : (t : ℕ) (seats : List BackupSeat) (k : ℕ) (d : BackupSeat) → IsOnlyAt t seats k d → list_any (is_seat_of t) seats ≡ true
 only-any t [] k d h = absurd (let lt = h.within in omega arith)
 only-any t (seat ∷ seats) zero d h = let own : is_seat_of t seat ≡ true = eq-eqb seat.terminal t h.its in rw own refl
 only-any t (seat ∷ seats) (suc k) d h =
     let own : is_seat_of t seat ≡ false = not-seat t seat (λ same. let e : 0 ≡ suc k = h.only zero (omega arith) same in omega arith) (is_seat_of t seat) refl in
     rw own (only-any t seats k d (behind t seat seats k d h))
 
-pub has-terminal : (places : BTreeMap ℕ ℕ) (seats : List Seat) (t : ℕ) → ArePlaces places (terminals_of seats) → (place : Option ℕ) → get nat_cmp places t ≡ place
+pub has-terminal : (places : BTreeMap ℕ ℕ) (seats : List BackupSeat) (t : ℕ) → ArePlaces places (terminals_of seats) → (place : Option ℕ) → get nat_cmp places t ≡ place
     → list_any (is_seat_of t) seats ≡ is_some place
 has-terminal places seats t are None e = nowhere-any t seats (new_seat 0) (missing places seats t (new_seat 0) are e)
 has-terminal places seats t are (Some k) e = only-any t seats k (new_seat 0) (found places seats t k (new_seat 0) are e)
 
 -- each seat is changed, and stays the terminal's
-terminals-map : (change : Seat → Seat) → ((seat : Seat) → (change seat).terminal ≡ seat.terminal) → (seats : List Seat) → terminals_of (map change seats) ≡ terminals_of seats
+terminals-map : (change : BackupSeat → BackupSeat) → ((seat : BackupSeat) → (change seat).terminal ≡ seat.terminal) → (seats : List BackupSeat) → terminals_of (map change seats) ≡ terminals_of seats
 terminals-map change same [] = refl
 terminals-map change same (seat ∷ seats) = ap (λ t. t ∷ terminals_of (map change seats)) (same seat) ∙ ap (λ l. seat.terminal ∷ l) (terminals-map change same seats)
 
-sound-map : (change : Seat → Seat) → ((seat : Seat) → is_sound seat ≡ true → is_sound (change seat) ≡ true) → (seats : List Seat) → list_all is_sound seats ≡ true → list_all is_sound (map change seats) ≡ true
+sound-map : (change : BackupSeat → BackupSeat) → ((seat : BackupSeat) → is_sound seat ≡ true → is_sound (change seat) ≡ true) → (seats : List BackupSeat) → list_all is_sound seats ≡ true → list_all is_sound (map change seats) ≡ true
 sound-map change keep [] h = refl
 sound-map change keep (seat ∷ seats) h =
     let k = and_parts (is_sound seat) (list_all is_sound seats) h in
     let own : is_sound (change seat) ≡ true = keep seat k.0 in
     rw own (sound-map change keep seats k.1)
 
-pub kept-map : (change : Seat → Seat) (seats new : List Seat) (places : BTreeMap ℕ ℕ) (lacking count : ℕ)
-    → ((seat : Seat) → (change seat).terminal ≡ seat.terminal) → ((seat : Seat) → is_sound seat ≡ true → is_sound (change seat) ≡ true)
+pub kept-map : (change : BackupSeat → BackupSeat) (seats new : List BackupSeat) (places : BTreeMap ℕ ℕ) (lacking count : ℕ)
+    → ((seat : BackupSeat) → (change seat).terminal ≡ seat.terminal) → ((seat : BackupSeat) → is_sound seat ≡ true → is_sound (change seat) ≡ true)
     → AreSeats seats places lacking → new ≡ map change seats → count ≡ count_by is_lacking new → AreSeats new places count
 kept-map change seats new places lacking count same keep are e counted =
     let P : List ℕ → Type 0 = λ ts. ArePlaces places ts in
@@ -240,7 +240,7 @@ kept-map change seats new places lacking count same keep are e counted =
     }
 
 -- as many are counted where each counts as before
-pub count-map : (test : Seat → Bool) (change : Seat → Seat) → ((seat : Seat) → test (change seat) ≡ test seat) → (seats : List Seat)
+pub count-map : (test : BackupSeat → Bool) (change : BackupSeat → BackupSeat) → ((seat : BackupSeat) → test (change seat) ≡ test seat) → (seats : List BackupSeat)
     → count_by test (map change seats) ≡ count_by test seats
 count-map test change same [] = refl
 count-map test change same (seat ∷ seats) =
@@ -250,7 +250,7 @@ count-map test change same (seat ∷ seats) =
     ∙ sym (sum_by-cons (λ s. cond (test s) 1 0) seat seats)
 
 -- no more are counted where none counts that did not
-pub count-least : (test : Seat → Bool) (change : Seat → Seat) → ((seat : Seat) → test (change seat) ≡ true → test seat ≡ true) → (seats : List Seat)
+pub count-least : (test : BackupSeat → Bool) (change : BackupSeat → BackupSeat) → ((seat : BackupSeat) → test (change seat) ≡ true → test seat ≡ true) → (seats : List BackupSeat)
     → count_by test (map change seats) ≤ count_by test seats
 count-least test change least [] = omega arith
 count-least test change least (seat ∷ seats) =
@@ -264,7 +264,7 @@ count-least test change least (seat ∷ seats) =
     one true false h = absurd (false≢true (h refl))
 
 -- a change of one seat counts one more at most
-pub one-more : (test : Seat → Bool) (items now : List Seat) (k : ℕ) (d new : Seat) → items ≡ now → k < length items
+pub one-more : (test : BackupSeat → Bool) (items now : List BackupSeat) (k : ℕ) (d new : BackupSeat) → items ≡ now → k < length items
     → count_by test (set items k new) ≤ count_by test now + 1
 one-more test items now k d new view lt =
     let same : count_by test items ≡ count_by test now = ap (count_by test) view in

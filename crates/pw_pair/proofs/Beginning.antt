@@ -14,7 +14,7 @@ use Rattle.pw_event.specs.declared.script.Owner.TheVariants.{Tcp}
 use Rattle.pw_onecopy.specs.Behaviour.{Behaviour}
 use Rattle.pw_onecopy.specs.Path.{PathAnswer}
 use Rattle.pw_pair.specs.Called.{MayBeCalled}
-use Rattle.pw_pair.specs.Follows.{AreOf, Carries, Follows, FollowsAs, FollowsSeat, held_of, mode_as}
+use Rattle.pw_pair.specs.Follows.{AreTerminalsOfPair, Carries, Follows, FollowsAs, FollowsSeat, held_of, mode_as}
 use Rattle.pw_pair.specs.Pairs.{SeenPair, passes, seat_of}
 use Rattle.pw_pair.specs.Rooms.{MaySend}
 use Rattle.pw_pair.specs.Seats.{is_flying, is_seat_of, new_seat, seats_with, start_of, with_terminal}
@@ -22,45 +22,45 @@ use Rattle.pw_pair.specs.Takeover.{resumed_image}
 use Rattle.pw_pair.specs.declared.message.CheckKind.TheVariants as kind
 use Rattle.pw_pair.specs.declared.mode.Mode.TheVariants as mode
 use Rattle.pw_pair.specs.declared.seat.Flight.{Flight}
-use Rattle.pw_pair.specs.declared.seat.Seat.{Seat}
+use Rattle.pw_pair.specs.declared.seat.BackupSeat.{BackupSeat}
 use Rattle.pw_paired.specs.Failure.{resumed_path}
-use Rattle.pw_paired.specs.State.{Alone, BackupCopy, Down, LastEnded, Message, Mode, Paired, Raising, State, starting}
+use Rattle.pw_paired.specs.State.{Alone, BackupCopy, Down, LastEnded, Message, PairMode, Paired, Raising, State, starting}
 use Rattle.pw_paired.specs.Step.{Fits}
 
 -- ---- the seats of a new pair
 
-one-more : (P : Seat → Type 0) (seats : List Seat) (t : ℕ) → All P seats → P (new_seat t) → All P (with_terminal seats t)
+one-more : (P : BackupSeat → Type 0) (seats : List BackupSeat) (t : ℕ) → All P seats → P (new_seat t) → All P (with_terminal seats t)
 one-more P seats t all new = by (list_any (is_seat_of t) seats)
   where
     by : (b : Bool) → All P (cond b seats (seats ++ new_seat t ∷ []))
     by true = all
     by false = All-push P seats (new_seat t) all new
 
-pub all-seats : (P : Seat → Type 0) (terminals : List ℕ) (seats : List Seat) → All P seats → All (λ t. P (new_seat t)) terminals → All P (seats_with seats terminals)
+pub all-seats : (P : BackupSeat → Type 0) (terminals : List ℕ) (seats : List BackupSeat) → All P seats → All (λ t. P (new_seat t)) terminals → All P (seats_with seats terminals)
 all-seats P [] seats all each = all
 all-seats P (t ∷ terminals) seats all each =
     all-seats P terminals (with_terminal seats t) (one-more P seats t all (All-head (λ x. P (new_seat x)) t terminals each)) (All-tail (λ x. P (new_seat x)) t terminals each)
 
 -- a terminal that has a seat keeps it, and the new one has one
-stays : (s t : ℕ) (seats : List Seat) → list_any (is_seat_of s) seats ≡ true → list_any (is_seat_of s) (with_terminal seats t) ≡ true
+stays : (s t : ℕ) (seats : List BackupSeat) → list_any (is_seat_of s) seats ≡ true → list_any (is_seat_of s) (with_terminal seats t) ≡ true
 stays s t seats there = by (list_any (is_seat_of t) seats)
   where
     by : (b : Bool) → list_any (is_seat_of s) (cond b seats (seats ++ new_seat t ∷ [])) ≡ true
     by true = there
     by false = list_any-append (is_seat_of s) seats (new_seat t ∷ []) ∙ or_left _ _ there
 
-joins : (s t : ℕ) (seats : List Seat) → (t == s) ≡ true → list_any (is_seat_of s) (with_terminal seats t) ≡ true
+joins : (s t : ℕ) (seats : List BackupSeat) → (t == s) ≡ true → list_any (is_seat_of s) (with_terminal seats t) ≡ true
 joins s t seats is = by (list_any (is_seat_of t) seats) refl
   where
     by : (b : Bool) → list_any (is_seat_of t) seats ≡ b → list_any (is_seat_of s) (cond b seats (seats ++ new_seat t ∷ [])) ≡ true
     by true e = subst (λ x. list_any (is_seat_of x) seats ≡ true) (eqb-true t s is) e
     by false e = list_any-append (is_seat_of s) seats (new_seat t ∷ []) ∙ or_right _ _ (or_left (t == s) false is)
 
-keeps : (s : ℕ) (terminals : List ℕ) (seats : List Seat) → list_any (is_seat_of s) seats ≡ true → list_any (is_seat_of s) (seats_with seats terminals) ≡ true
+keeps : (s : ℕ) (terminals : List ℕ) (seats : List BackupSeat) → list_any (is_seat_of s) seats ≡ true → list_any (is_seat_of s) (seats_with seats terminals) ≡ true
 keeps s [] seats there = there
 keeps s (t ∷ terminals) seats there = keeps s terminals (with_terminal seats t) (stays s t seats there)
 
-pub has-seat : (s : ℕ) (terminals : List ℕ) (seats : List Seat) → list_any (λ own. own == s) terminals ≡ true → list_any (is_seat_of s) (seats_with seats terminals) ≡ true
+pub has-seat : (s : ℕ) (terminals : List ℕ) (seats : List BackupSeat) → list_any (λ own. own == s) terminals ≡ true → list_any (is_seat_of s) (seats_with seats terminals) ≡ true
 has-seat s [] seats among = absurd (true≢false (sym among))
 has-seat s (t ∷ terminals) seats among =
     ⊎_elim (λ is. keeps s terminals (with_terminal seats t) (joins s t seats is))
@@ -68,7 +68,7 @@ has-seat s (t ∷ terminals) seats among =
     (cases_Bool (t == s))
 
 -- a new pair of the terminals of a pair
-pub starts : (image : ℕ → List PathAnswer → List ℕ) (sys : Behaviour) (p : ℕ) (terminals : List ℕ) → AreOf sys p terminals
+pub starts : (image : ℕ → List PathAnswer → List ℕ) (sys : Behaviour) (p : ℕ) (terminals : List ℕ) → AreTerminalsOfPair sys p terminals
     → Follows image sys (starting sys) p (record { mode = mode.Alone; seats = seats_with [] terminals })
 starts image sys p terminals are = record {
   mode_is = refl;
@@ -83,7 +83,7 @@ starts image sys p terminals are = record {
   every = λ t known of. has-seat t terminals [] (are.every t known of);
 }
   where
-    Stood : Seat → Type 0
+    Stood : BackupSeat → Type 0
     Stood = FollowsSeat image sys p Alone (starting sys).terms (starting sys).memory (starting sys).flight
 
 -- ---- a takeover
@@ -102,7 +102,7 @@ resumes image t copy last = by (last.number == copy.unit)
 
 -- ---- where a call may be made
 
-pub found-seat : (P : Seat → Type 0) (t : ℕ) (seats : List Seat) → All P seats → list_any (is_seat_of t) seats ≡ true → (seat : Seat) × (find (is_seat_of t) seats ≡ Some seat) × P seat × (seat.terminal ≡ t)
+pub found-seat : (P : BackupSeat → Type 0) (t : ℕ) (seats : List BackupSeat) → All P seats → list_any (is_seat_of t) seats ≡ true → (seat : BackupSeat) × (find (is_seat_of t) seats ≡ Some seat) × P seat × (seat.terminal ≡ t)
 found-seat P t [] all e = absurd (true≢false (sym e))
 found-seat P t (seat ∷ seats) all e =
     ⊎_elim
@@ -118,7 +118,7 @@ flies image held message None h = absurd h
 flies image held message (Some own) h = refl
 
 module _ (image : ℕ → List PathAnswer → List ℕ) (sys : Behaviour) (state : State) (p : ℕ) (seen : SeenPair) (old : Follows image sys state p seen) where
-  seen-mode : (q : ℕ) (at : Mode) → q ≡ p → state.modes q ≡ at → seen.mode ≡ mode_as at
+  seen-mode : (q : ℕ) (at : PairMode) → q ≡ p → state.modes q ≡ at → seen.mode ≡ mode_as at
   seen-mode q at of is = old.mode_is ∙ ap (λ (r : ℕ). mode_as (state.modes r)) (sym of) ∙ ap mode_as is
 
   applied-flies : (t : ℕ) (message : Message) → t < sys.terminals → sys.pair_of t ≡ p → state.flight t ≡ Some message → passes is_flying (seat_of t seen) ≡ true

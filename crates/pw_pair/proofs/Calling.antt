@@ -10,7 +10,7 @@ use Rattle.pw_onecopy.specs.Behaviour.{Behaviour}
 use Rattle.pw_onecopy.specs.Path.{PathAnswer, unit_number}
 use Rattle.pw_onecopy.specs.Update.{upd}
 use Rattle.pw_onecopy.proofs.Update.{upd-other, upd-same, upd_elim}
-use Rattle.pw_pair.specs.Called.{called, if_own, member_fails, message_of}
+use Rattle.pw_pair.specs.Called.{pair_after_call, if_own, member_fails, message_of}
 use Rattle.pw_pair.specs.Follows.{Follows, FollowsAs, has_flights, mode_as}
 use Rattle.pw_pair.specs.Pairs as words
 use Rattle.pw_pair.specs.Pairs.{SeenPair, after_applied, after_drop, after_raise, after_send, after_take, changed_at}
@@ -20,7 +20,7 @@ use Rattle.pw_pair.proofs.Following.{IsSameOf, emptied, grounded, left, pair-sam
 use Rattle.pw_paired.specs.End.{do_end, end_terminal}
 use Rattle.pw_paired.specs.Failure.{backup_fails, do_fail_tcp, do_takeover, is_live_of, is_of_pair, lose_backup, lose_pair, lose_primary, primary_fails, resume_terminal, with_start_path}
 use Rattle.pw_paired.specs.Raising.{copied_path, do_raise, lacks_one, settle_mode, settled_mode, with_message}
-use Rattle.pw_paired.specs.State.{Alone, BackupCopy, Copy, Down, End, Gone, LastEnded, Message, Mode, OpenUnit, Paired, Raising, Start, State, Term}
+use Rattle.pw_paired.specs.State.{Alone, BackupCopy, Copy, Down, End, Gone, LastEnded, Message, PairMode, OpenUnit, Paired, Raising, Start, State, Term}
 use Rattle.pw_paired.specs.Step.{Fits, change, effect}
 use Rattle.pw_paired.specs.Terminal.{closed_path, path_of}
 use Rattle.pw_paired.specs.Units.{attempt_of, leave_units, only}
@@ -89,19 +89,19 @@ module _ (image : ℕ → List PathAnswer → List ℕ) (sys : Behaviour) (state
   flies-here : (t : ℕ) → is_of_pair sys p t ≡ true → has_flights (state.modes (sys.pair_of t)) ≡ true → has_flights (state.modes p) ≡ true
   flies-here t own flies = ap (λ (q : ℕ). has_flights (state.modes q)) (sym (own-pair t own)) ∙ flies
 
-  pub check-start : (t : ℕ) → has_flights (state.modes (sys.pair_of t)) ≡ true → Follows image sys (change sys state (event.CheckStart t)) p (called image sys state (event.CheckStart t) p pair)
+  pub check-start : (t : ℕ) → has_flights (state.modes (sys.pair_of t)) ≡ true → Follows image sys (change sys state (event.CheckStart t)) p (pair_after_call image sys state (event.CheckStart t) p pair)
   check-start t flies =
       by-pair (change sys state (event.CheckStart t)) (after_send (message_of kind.Start t (unit_number (path_of state t)) (image t (path_of state t)))) (is_of_pair sys p t)
       (λ own. sent image sys p (state.modes p) state.terms state.memory state.flight pair t (Start (unit_number (path_of state t)) (path_of state t)) (unit_number (path_of state t)) (flies-here t own flies) refl old)
       (other-flight t (Some (Start (unit_number (path_of state t)) (path_of state t))))
 
-  pub check-end : (t : ℕ) → has_flights (state.modes (sys.pair_of t)) ≡ true → Follows image sys (change sys state (event.CheckEnd t)) p (called image sys state (event.CheckEnd t) p pair)
+  pub check-end : (t : ℕ) → has_flights (state.modes (sys.pair_of t)) ≡ true → Follows image sys (change sys state (event.CheckEnd t)) p (pair_after_call image sys state (event.CheckEnd t) p pair)
   check-end t flies =
       by-pair (change sys state (event.CheckEnd t)) (after_send (message_of kind.End t (unit_number (path_of state t)) (image t (closed_path sys state t)))) (is_of_pair sys p t)
       (λ own. sent image sys p (state.modes p) state.terms state.memory state.flight pair t (End (closed_path sys state t)) (unit_number (path_of state t)) (flies-here t own flies) tt old)
       (other-flight t (Some (End (closed_path sys state t))))
 
-  pub check-copy : (t : ℕ) → has_flights (state.modes (sys.pair_of t)) ≡ true → Follows image sys (change sys state (event.CheckCopy t)) p (called image sys state (event.CheckCopy t) p pair)
+  pub check-copy : (t : ℕ) → has_flights (state.modes (sys.pair_of t)) ≡ true → Follows image sys (change sys state (event.CheckCopy t)) p (pair_after_call image sys state (event.CheckCopy t) p pair)
   check-copy t flies =
       by-pair (change sys state (event.CheckCopy t)) (after_send (message_of kind.Copy t (unit_number (copied_path state t)) (image t (copied_path state t)))) (is_of_pair sys p t)
       (λ own. sent image sys p (state.modes p) state.terms state.memory state.flight pair t (Copy (unit_number (copied_path state t)) (copied_path state t)) (unit_number (copied_path state t)) (flies-here t own flies) refl old)
@@ -116,19 +116,19 @@ module _ (image : ℕ → List PathAnswer → List ℕ) (sys : Behaviour) (state
       let P : ℕ → Type 0 = λ r. Follows image sys (settle_mode sys r x) p (words.settled seen) in
       subst P (sym of)
       (subst (λ m. FollowsAs image sys p m x.terms x.memory x.flight (words.settled seen))
-      (ap (λ (f : ℕ → Mode). settled_mode (f p) (lacks_one sys p x)) (sym modes) ∙ sym (upd-same x.modes p (settled_mode (x.modes p) (lacks_one sys p x)) p refl))
+      (ap (λ (f : ℕ → PairMode). settled_mode (f p) (lacks_one sys p x)) (sym modes) ∙ sym (upd-same x.modes p (settled_mode (x.modes p) (lacks_one sys p x)) p refl))
       (settles image sys p (state.modes p) x seen follows))
 
   -- the pair of another terminal settles
   settles-other : (x : State) (q : ℕ) → p ≢ q → x.modes ≡ state.modes
       → ((t : ℕ) → sys.pair_of t ≡ p → IsSameOf state.terms x.terms state.memory x.memory state.flight x.flight t) → Follows image sys (settle_mode sys q x) p pair
   settles-other x q ne modes same =
-      same-parts (settle_mode sys q x) (upd-other x.modes q (settled_mode (x.modes q) (lacks_one sys q x)) p ne ∙ ap (λ (f : ℕ → Mode). f p) modes) same
+      same-parts (settle_mode sys q x) (upd-other x.modes q (settled_mode (x.modes q) (lacks_one sys q x)) p ne ∙ ap (λ (f : ℕ → PairMode). f p) modes) same
 
   not-own : (t : ℕ) → is_of_pair sys p t ≡ false → p ≢ sys.pair_of t
   not-own t ne same = absurd (true≢false (sym (eq-eqb _ _ (sym same)) ∙ ne))
 
-  pub applies : (t : ℕ) → Follows image sys (change sys state (event.Applied t)) p (called image sys state (event.Applied t) p pair)
+  pub applies : (t : ℕ) → Follows image sys (change sys state (event.Applied t)) p (pair_after_call image sys state (event.Applied t) p pair)
   applies t =
       by-pair (change sys state (event.Applied t)) (after_applied t) (is_of_pair sys p t)
       (λ own. settles-own behind (sys.pair_of t) (changed_at t applied pair) (own-pair t own) refl
@@ -161,7 +161,7 @@ module _ (image : ℕ → List PathAnswer → List ℕ) (sys : Behaviour) (state
 
   -- ---- FAIL TCP
 
-  at-mode : (x : State) (mode : Mode) (seen : SeenPair) → x.modes p ≡ mode → FollowsAs image sys p mode x.terms x.memory x.flight seen → Follows image sys x p seen
+  at-mode : (x : State) (mode : PairMode) (seen : SeenPair) → x.modes p ≡ mode → FollowsAs image sys p mode x.terms x.memory x.flight seen → Follows image sys x p seen
   at-mode x mode seen is follows = subst (λ m. FollowsAs image sys p m x.terms x.memory x.flight seen) (sym is) follows
 
   -- of the terminals of the pair there is this, and of those of another what there was
@@ -171,7 +171,7 @@ module _ (image : ℕ → List PathAnswer → List ℕ) (sys : Behaviour) (state
   own-ending : (t : ℕ) (new : Term) → new.ending ≡ (state.terms t).ending → (b : Bool) → (cond b new (state.terms t)).ending ≡ (state.terms t).ending
   own-ending t new is b = either-ending b new (state.terms t) is
 
-  emptied-by : (x : State) (at : Mode) → x.modes p ≡ at → ((t : ℕ) → (x.terms t).ending ≡ (state.terms t).ending)
+  emptied-by : (x : State) (at : PairMode) → x.modes p ≡ at → ((t : ℕ) → (x.terms t).ending ≡ (state.terms t).ending)
       → ((t : ℕ) → sys.pair_of t ≡ p → x.memory t ≡ None) → ((t : ℕ) → sys.pair_of t ≡ p → (has_flights (state.modes p) ≡ false → state.flight t ≡ None) → x.flight t ≡ None)
       → Follows image sys x p (words.in_mode (mode_as at) without_backup pair)
   emptied-by x at is ending memory flight =
@@ -195,14 +195,14 @@ module _ (image : ℕ → List PathAnswer → List ℕ) (sys : Behaviour) (state
       (grounded image sys p (state.modes p) Down state.terms (lose_primary sys p state).terms state.memory state.memory state.flight (lose_primary sys p state).flight pair
       (λ seat s. record { ending = own-ending seat.terminal _ refl (is_of_pair sys p seat.terminal); memory_is = refl; flight_is = own-is seat.terminal None (state.flight seat.terminal) s.of_pair }) old)
 
-  primary-own : (mode : Mode) → state.modes p ≡ mode → Follows image sys (primary_fails sys p mode state) p (words.primary_fails (mode_as mode) pair)
+  primary-own : (mode : PairMode) → state.modes p ≡ mode → Follows image sys (primary_fails sys p mode state) p (words.primary_fails (mode_as mode) pair)
   primary-own Paired is = loses-primary
   primary-own Raising is = loses-pair
   primary-own Alone is = loses-pair
   primary-own Down is = old
   primary-own Gone is = old
 
-  backup-own : (mode : Mode) → state.modes p ≡ mode → Follows image sys (backup_fails sys p mode state) p (words.backup_fails (mode_as mode) pair)
+  backup-own : (mode : PairMode) → state.modes p ≡ mode → Follows image sys (backup_fails sys p mode state) p (words.backup_fails (mode_as mode) pair)
   backup-own Paired is = loses-backup
   backup-own Raising is = loses-backup
   backup-own Alone is = old
@@ -219,10 +219,10 @@ module _ (image : ℕ → List PathAnswer → List ℕ) (sys : Behaviour) (state
   other-is : {A : Type 0} (q t : ℕ) (new was : A) → p ≢ q → sys.pair_of t ≡ p → cond (is_of_pair sys q t) new was ≡ was
   other-is q t new was ne of = cond-false _ new was (ne_eqb _ _ (λ e. ne (sym of ∙ e)))
 
-  other-parts : (q : ℕ) → p ≢ q → (x : State) (mode : Mode) → x.modes ≡ upd state.modes q mode → ((t : ℕ) → (x.terms t).ending ≡ (state.terms t).ending)
+  other-parts : (q : ℕ) → p ≢ q → (x : State) (mode : PairMode) → x.modes ≡ upd state.modes q mode → ((t : ℕ) → (x.terms t).ending ≡ (state.terms t).ending)
       → ((t : ℕ) → sys.pair_of t ≡ p → x.memory t ≡ state.memory t) → ((t : ℕ) → sys.pair_of t ≡ p → x.flight t ≡ state.flight t) → Follows image sys x p pair
   other-parts q ne x mode modes ending memory flight =
-      same-parts x (ap (λ (f : ℕ → Mode). f p) modes ∙ upd-other state.modes q mode p ne)
+      same-parts x (ap (λ (f : ℕ → PairMode). f p) modes ∙ upd-other state.modes q mode p ne)
       (λ t of. record { ending = ending t; memory_is = memory t of; flight_is = flight t of })
 
   member-other : (q : ℕ) (primary : Bool) → p ≢ q → Follows image sys (do_fail_tcp sys q primary state) p pair
@@ -268,7 +268,7 @@ module _ (image : ℕ → List PathAnswer → List ℕ) (sys : Behaviour) (state
 
   -- ---- each entry
 
-  pub follows : (entry : Event) → Fits sys state entry → Follows image sys (effect sys state entry) p (called image sys state entry p pair)
+  pub follows : (entry : Event) → Fits sys state entry → Follows image sys (effect sys state entry) p (pair_after_call image sys state entry p pair)
   follows (event.Show t phase attempt k) l = answered t _ refl
   follows (event.Key t k) l = answered t _ refl
   follows (event.CheckStart t) l = check-start t (ap has_flights l.can.paired)
@@ -296,5 +296,5 @@ module _ (image : ℕ → List PathAnswer → List ℕ) (sys : Behaviour) (state
   follows (event.Takeover q) l = takes-over q l.down
   follows (event.Raise q) l = raises q l.alone
   follows (event.End t e) l =
-      end-any sys state (λ (x : State). Follows image sys x p (called image sys state (event.End t e) p pair)) t e
+      end-any sys state (λ (x : State). Follows image sys x p (pair_after_call image sys state (event.End t e) p pair)) t e
       (ended t e state refl refl refl refl) (ended t e (leave_units sys (only t) state) refl refl refl refl)

@@ -12,7 +12,7 @@ use Rattle.pw_onecopy.specs.Path.{PathAnswer}
 use Rattle.pw_onecopy.specs.Update.{upd}
 use Rattle.pw_onecopy.proofs.Update.{upd-other, upd-same}
 use Rattle.pw_pair.specs.Bodies.{image_in}
-use Rattle.pw_pair.specs.Follows.{Carries, CarriesMessage, FollowsAs, FollowsSeat, IsUnitIn, has_flights, held_of, kind_of, mode_as, path_in}
+use Rattle.pw_pair.specs.Follows.{Carries, CarriesMessage, FollowsAs, FollowsSeat, IsUnitIn, has_flights, held_of, check_kind_of, mode_as, path_in}
 use Rattle.pw_pair.specs.Pairs as pair
 use Rattle.pw_pair.specs.Pairs.{SeenPair, after_send, changed_at, in_mode, settled}
 use Rattle.pw_pair.specs.Seats.{applied, built, dropped, is_lacking, is_seat_of, start_of, taken_in, with_kind, with_message, with_whole, without_backup, without_flight}
@@ -20,13 +20,13 @@ use Rattle.pw_pair.specs.declared.backup.Held.{Held}
 use Rattle.pw_pair.specs.declared.message.CheckKind.{CheckKind}
 use Rattle.pw_pair.specs.declared.message.CheckKind.TheVariants as kind
 use Rattle.pw_pair.specs.declared.seat.Flight.{Flight}
-use Rattle.pw_pair.specs.declared.seat.Seat.{Seat}
+use Rattle.pw_pair.specs.declared.seat.BackupSeat.{BackupSeat}
 use Rattle.pw_pair.proofs.Seating.{all-at, any-so, any-then, keeps-terminal, still-there}
 use Rattle.pw_pair.proofs.Sound.{body-of-image}
 use Rattle.pw_paired.specs.Failure.{is_live_of, is_of_pair}
 use Rattle.pw_paired.specs.Raising as raising
 use Rattle.pw_paired.specs.Raising.{lacks_one, settled_mode}
-use Rattle.pw_paired.specs.State.{Alone, BackupCopy, Copy, Down, End, Gone, Message, Mode, Paired, Raising, Start, State, Term}
+use Rattle.pw_paired.specs.State.{Alone, BackupCopy, Copy, Down, End, Gone, Message, PairMode, Paired, Raising, Start, State, Term}
 use Rattle.pw_laws.proofs.Lacking.{any_below-some, any_below-true}
 
 -- ---- what is taken in
@@ -68,7 +68,7 @@ whole image held (Some message) (Some flight) h = record { kind_is = h.kind_is; 
 
 -- ---- modes
 
-pub mode-settles : (at : Mode) (lacks : Bool) → pair.settled_mode (mode_as at) lacks ≡ mode_as (settled_mode at lacks)
+pub mode-settles : (at : PairMode) (lacks : Bool) → pair.settled_mode (mode_as at) lacks ≡ mode_as (settled_mode at lacks)
 mode-settles Alone lacks = refl
 mode-settles Raising true = refl
 mode-settles Raising false = refl
@@ -76,7 +76,7 @@ mode-settles Paired lacks = refl
 mode-settles Down lacks = refl
 mode-settles Gone lacks = refl
 
-pub flights-settle : (at : Mode) (lacks : Bool) → has_flights (settled_mode at lacks) ≡ has_flights at
+pub flights-settle : (at : PairMode) (lacks : Bool) → has_flights (settled_mode at lacks) ≡ has_flights at
 flights-settle Alone lacks = refl
 flights-settle Raising true = refl
 flights-settle Raising false = refl
@@ -122,7 +122,7 @@ pub record IsGrounded (terms new_terms : ℕ → Term) (memory new_memory : ℕ 
 module _ (image : ℕ → List PathAnswer → List ℕ) (sys : Behaviour) (p : ℕ) where
   -- ---- where nothing changes
 
-  seat-same : (at : Mode) (terms new_terms : ℕ → Term) (memory new_memory : ℕ → Option BackupCopy) (flight new_flight : ℕ → Option Message) (seat : Seat)
+  seat-same : (at : PairMode) (terms new_terms : ℕ → Term) (memory new_memory : ℕ → Option BackupCopy) (flight new_flight : ℕ → Option Message) (seat : BackupSeat)
       → IsSameOf terms new_terms memory new_memory flight new_flight seat.terminal
       → FollowsSeat image sys p at terms memory flight seat → FollowsSeat image sys p at new_terms new_memory new_flight seat
   seat-same at terms new_terms memory new_memory flight new_flight seat same old = record {
@@ -135,7 +135,7 @@ module _ (image : ℕ → List PathAnswer → List ℕ) (sys : Behaviour) (p : �
   }
 
   -- the terminals of the pair are the same, and its mode
-  pub pair-same : (at new_at : Mode) (terms new_terms : ℕ → Term) (memory new_memory : ℕ → Option BackupCopy) (flight new_flight : ℕ → Option Message) (pair : SeenPair)
+  pub pair-same : (at new_at : PairMode) (terms new_terms : ℕ → Term) (memory new_memory : ℕ → Option BackupCopy) (flight new_flight : ℕ → Option Message) (pair : SeenPair)
       → new_at ≡ at → ((t : ℕ) → sys.pair_of t ≡ p → IsSameOf terms new_terms memory new_memory flight new_flight t)
       → FollowsAs image sys p at terms memory flight pair → FollowsAs image sys p new_at new_terms new_memory new_flight pair
   pair-same at new_at terms new_terms memory new_memory flight new_flight pair same_mode same old =
@@ -149,8 +149,8 @@ module _ (image : ℕ → List PathAnswer → List ℕ) (sys : Behaviour) (p : �
 
   -- ---- all seats change
 
-  pub emptied : (at new_at : Mode) (terms new_terms : ℕ → Term) (memory new_memory : ℕ → Option BackupCopy) (flight new_flight : ℕ → Option Message) (pair : SeenPair)
-      → ((seat : Seat) → FollowsSeat image sys p at terms memory flight seat → IsEmptied terms new_terms new_memory new_flight seat.terminal)
+  pub emptied : (at new_at : PairMode) (terms new_terms : ℕ → Term) (memory new_memory : ℕ → Option BackupCopy) (flight new_flight : ℕ → Option Message) (pair : SeenPair)
+      → ((seat : BackupSeat) → FollowsSeat image sys p at terms memory flight seat → IsEmptied terms new_terms new_memory new_flight seat.terminal)
       → FollowsAs image sys p at terms memory flight pair → FollowsAs image sys p new_at new_terms new_memory new_flight (in_mode (mode_as new_at) without_backup pair)
   emptied at new_at terms new_terms memory new_memory flight new_flight pair gone old = record {
     mode_is = refl;
@@ -169,8 +169,8 @@ module _ (image : ℕ → List PathAnswer → List ℕ) (sys : Behaviour) (p : �
     every = λ s known of. still-there without_backup (λ seat. refl) s pair.seats ∙ old.every s known of;
   }
 
-  pub grounded : (at new_at : Mode) (terms new_terms : ℕ → Term) (memory new_memory : ℕ → Option BackupCopy) (flight new_flight : ℕ → Option Message) (pair : SeenPair)
-      → ((seat : Seat) → FollowsSeat image sys p at terms memory flight seat → IsGrounded terms new_terms memory new_memory new_flight seat.terminal)
+  pub grounded : (at new_at : PairMode) (terms new_terms : ℕ → Term) (memory new_memory : ℕ → Option BackupCopy) (flight new_flight : ℕ → Option Message) (pair : SeenPair)
+      → ((seat : BackupSeat) → FollowsSeat image sys p at terms memory flight seat → IsGrounded terms new_terms memory new_memory new_flight seat.terminal)
       → FollowsAs image sys p at terms memory flight pair → FollowsAs image sys p new_at new_terms new_memory new_flight (in_mode (mode_as new_at) without_flight pair)
   grounded at new_at terms new_terms memory new_memory flight new_flight pair gone old = record {
     mode_is = refl;
@@ -192,13 +192,13 @@ module _ (image : ℕ → List PathAnswer → List ℕ) (sys : Behaviour) (p : �
   -- ---- one seat changes
 
   -- a message goes to the backup
-  pub sent : (at : Mode) (terms : ℕ → Term) (memory : ℕ → Option BackupCopy) (flight : ℕ → Option Message) (pair : SeenPair) (t : ℕ) (message : Message) (unit : ℕ)
+  pub sent : (at : PairMode) (terms : ℕ → Term) (memory : ℕ → Option BackupCopy) (flight : ℕ → Option Message) (pair : SeenPair) (t : ℕ) (message : Message) (unit : ℕ)
       → has_flights at ≡ true → IsUnitIn message unit
       → FollowsAs image sys p at terms memory flight pair
-      → FollowsAs image sys p at terms memory (upd flight t (Some message)) (after_send (record { terminal = t; kind = kind_of message; unit = unit; image = image t (path_in message) }) pair)
+      → FollowsAs image sys p at terms memory (upd flight t (Some message)) (after_send (record { terminal = t; kind = check_kind_of message; unit = unit; image = image t (path_in message) }) pair)
   sent at terms memory flight pair t message unit flies number old = record {
     mode_is = old.mode_is;
-    seats = all-at (FollowsSeat image sys p at terms memory flight) (FollowsSeat image sys p at terms memory new) t (with_message (kind_of message) unit (image t (path_in message)))
+    seats = all-at (FollowsSeat image sys p at terms memory flight) (FollowsSeat image sys p at terms memory new) t (with_message (check_kind_of message) unit (image t (path_in message)))
         (λ seat is s.
         let lands : new seat.terminal ≡ Some message = upd-same flight t (Some message) seat.terminal is in
         record {
@@ -216,14 +216,14 @@ module _ (image : ℕ → List PathAnswer → List ℕ) (sys : Behaviour) (p : �
         (λ seat ne s. seat-same at terms terms memory memory flight new seat
         (record { ending = refl; memory_is = refl; flight_is = upd-other flight t (Some message) seat.terminal ne }) s)
         pair.seats old.seats;
-    every = λ s known of. still-there _ (keeps-terminal t (with_message (kind_of message) unit (image t (path_in message))) (λ seat. refl)) s pair.seats ∙ old.every s known of;
+    every = λ s known of. still-there _ (keeps-terminal t (with_message (check_kind_of message) unit (image t (path_in message))) (λ seat. refl)) s pair.seats ∙ old.every s known of;
   }
     where
       new : ℕ → Option Message
       new = upd flight t (Some message)
 
   -- a message is taken in, before the pair settles
-  pub took : (at : Mode) (terms : ℕ → Term) (memory : ℕ → Option BackupCopy) (flight : ℕ → Option Message) (pair : SeenPair) (t : ℕ)
+  pub took : (at : PairMode) (terms : ℕ → Term) (memory : ℕ → Option BackupCopy) (flight : ℕ → Option Message) (pair : SeenPair) (t : ℕ)
       → FollowsAs image sys p at terms memory flight pair
       → FollowsAs image sys p at terms (upd memory t (raising.with_message (flight t) (memory t))) (upd flight t None) (changed_at t applied pair)
   took at terms memory flight pair t old = record {
@@ -257,7 +257,7 @@ module _ (image : ℕ → List PathAnswer → List ℕ) (sys : Behaviour) (p : �
       none = upd flight t None
 
   -- a terminal ends, before the pair settles
-  pub left : (at : Mode) (terms : ℕ → Term) (memory : ℕ → Option BackupCopy) (flight : ℕ → Option Message) (pair : SeenPair) (t : ℕ) (term : Term)
+  pub left : (at : PairMode) (terms : ℕ → Term) (memory : ℕ → Option BackupCopy) (flight : ℕ → Option Message) (pair : SeenPair) (t : ℕ) (term : Term)
       → is_some term.ending ≡ true
       → FollowsAs image sys p at terms memory flight pair
       → FollowsAs image sys p at (upd terms t term) (upd memory t None) (upd flight t None) (changed_at t dropped pair)
@@ -292,7 +292,7 @@ module _ (image : ℕ → List PathAnswer → List ℕ) (sys : Behaviour) (p : �
       new_flight = upd flight t None
 
   -- the backup builds the image of a message
-  pub built-follows : (at : Mode) (terms : ℕ → Term) (memory : ℕ → Option BackupCopy) (flight : ℕ → Option Message) (pair : SeenPair) (t : ℕ)
+  pub built-follows : (at : PairMode) (terms : ℕ → Term) (memory : ℕ → Option BackupCopy) (flight : ℕ → Option Message) (pair : SeenPair) (t : ℕ)
       → FollowsAs image sys p at terms memory flight pair → FollowsAs image sys p at terms memory flight (changed_at t built pair)
   built-follows at terms memory flight pair t old = record {
     mode_is = old.mode_is;
@@ -311,7 +311,7 @@ module _ (image : ℕ → List PathAnswer → List ℕ) (sys : Behaviour) (p : �
 
   -- ---- the pair settles
 
-  lacks-same : (at : Mode) (state : State) (seen : SeenPair) → FollowsAs image sys p at state.terms state.memory state.flight seen
+  lacks-same : (at : PairMode) (state : State) (seen : SeenPair) → FollowsAs image sys p at state.terms state.memory state.flight seen
       → list_any is_lacking seen.seats ≡ lacks_one sys p state
   lacks-same at state seen old = same-truth (list_any is_lacking seen.seats) (lacks_one sys p state)
       (any-so Stood is_lacking (lacks_one sys p state ≡ true) seen.seats old.seats
@@ -326,19 +326,19 @@ module _ (image : ℕ → List PathAnswer → List ℕ) (sys : Behaviour) (p : �
       (λ seat s is. seat-lacks seat s ∙ ap (λ t. is_none (state.terms t).ending && not (is_some (state.memory t))) (eqb-true seat.terminal one.0 is) ∙ parts.1)
       (old.every one.0 one.1 (eqb-true _ _ parts.0)))
     where
-      Stood : Seat → Type 0
+      Stood : BackupSeat → Type 0
       Stood = FollowsSeat image sys p at state.terms state.memory state.flight
 
       lacking : ℕ → Bool
       lacking t = is_live_of sys p state t && not (is_some (state.memory t))
 
-      seat-lacks : (seat : Seat) → FollowsSeat image sys p at state.terms state.memory state.flight seat → is_lacking seat ≡ (is_none (state.terms seat.terminal).ending && not (is_some (state.memory seat.terminal)))
+      seat-lacks : (seat : BackupSeat) → FollowsSeat image sys p at state.terms state.memory state.flight seat → is_lacking seat ≡ (is_none (state.terms seat.terminal).ending && not (is_some (state.memory seat.terminal)))
       seat-lacks seat s =
           ap (λ b. not b && not (is_some seat.memory)) s.dropped
           ∙ ap (λ m. not (is_some (state.terms seat.terminal).ending) && not (is_some m)) s.memory_is
           ∙ lacking-same (held_of (image seat.terminal) seat.terminal) (state.terms seat.terminal).ending (state.memory seat.terminal)
 
-  pub settles : (at : Mode) (state : State) (seen : SeenPair) → FollowsAs image sys p at state.terms state.memory state.flight seen
+  pub settles : (at : PairMode) (state : State) (seen : SeenPair) → FollowsAs image sys p at state.terms state.memory state.flight seen
       → FollowsAs image sys p (settled_mode at (lacks_one sys p state)) state.terms state.memory state.flight (settled seen)
   settles at state seen old = record {
     mode_is =

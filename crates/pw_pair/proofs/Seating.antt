@@ -5,16 +5,16 @@ use Rattle.std.specs.List.{list_any}
 use Rattle.std.proofs.lemmas.List.Elements.{All-head, All-map, All-tail, All-weaker}
 use Rattle.std.proofs.lemmas.Bool.{eqb-true, eqb-false, or_right}
 use Rattle.pw_pair.specs.Seats.{at_terminal, is_seat_of}
-use Rattle.pw_pair.specs.declared.seat.Seat.{Seat}
+use Rattle.pw_pair.specs.declared.seat.BackupSeat.{BackupSeat}
 
 -- where each seat keeps its terminal, a terminal has a seat as before
-pub still-there : (f : Seat → Seat) → ((seat : Seat) → (f seat).terminal ≡ seat.terminal) → (t : ℕ) (seats : List Seat) → list_any (is_seat_of t) (map f seats) ≡ list_any (is_seat_of t) seats
+pub still-there : (f : BackupSeat → BackupSeat) → ((seat : BackupSeat) → (f seat).terminal ≡ seat.terminal) → (t : ℕ) (seats : List BackupSeat) → list_any (is_seat_of t) (map f seats) ≡ list_any (is_seat_of t) seats
 still-there f same t [] = refl
 still-there f same t (seat ∷ seats) =
     ap (λ n. (n == t) || list_any (is_seat_of t) (map f seats)) (same seat) ∙ ap (λ b. is_seat_of t seat || b) (still-there f same t seats)
 
 -- a change of one seat keeps the terminals
-pub keeps-terminal : (t : ℕ) (change : Seat → Seat) → ((seat : Seat) → (change seat).terminal ≡ seat.terminal) → (seat : Seat) → (cond (is_seat_of t seat) (change seat) seat).terminal ≡ seat.terminal
+pub keeps-terminal : (t : ℕ) (change : BackupSeat → BackupSeat) → ((seat : BackupSeat) → (change seat).terminal ≡ seat.terminal) → (seat : BackupSeat) → (cond (is_seat_of t seat) (change seat) seat).terminal ≡ seat.terminal
 keeps-terminal t change same seat = by (is_seat_of t seat)
   where
     by : (b : Bool) → (cond b (change seat) seat).terminal ≡ seat.terminal
@@ -22,15 +22,15 @@ keeps-terminal t change same seat = by (is_seat_of t seat)
     by false = refl
 
 -- all seats are as they should where that of the terminal is so behind the change, and each other one without it
-pub all-at : (P Q : Seat → Type 0) (t : ℕ) (change : Seat → Seat)
-    → ((seat : Seat) → seat.terminal ≡ t → P seat → Q (change seat)) → ((seat : Seat) → seat.terminal ≢ t → P seat → Q seat)
-    → (seats : List Seat) → All P seats → All Q (at_terminal t change seats)
+pub all-at : (P Q : BackupSeat → Type 0) (t : ℕ) (change : BackupSeat → BackupSeat)
+    → ((seat : BackupSeat) → seat.terminal ≡ t → P seat → Q (change seat)) → ((seat : BackupSeat) → seat.terminal ≢ t → P seat → Q seat)
+    → (seats : List BackupSeat) → All P seats → All Q (at_terminal t change seats)
 all-at P Q t change here elsewhere seats all =
     All-map Q (λ seat. cond (is_seat_of t seat) (change seat) seat) seats
     (All-weaker P (λ seat. Q (cond (is_seat_of t seat) (change seat) seat)) (λ seat p.
     by seat (is_seat_of t seat) (λ e. here seat (eqb-true seat.terminal t e) p) (λ e. elsewhere seat (eqb-false seat.terminal t e) p)) seats all)
   where
-    by : (seat : Seat) (b : Bool) → (b ≡ true → Q (change seat)) → (b ≡ false → Q seat) → Q (cond b (change seat) seat)
+    by : (seat : BackupSeat) (b : Bool) → (b ≡ true → Q (change seat)) → (b ≡ false → Q seat) → Q (cond b (change seat) seat)
     by seat true own other = own refl
     by seat false own other = other refl
 

@@ -11,7 +11,7 @@ use Rattle.pw_pair.specs.declared.backup.Held.{Held}
 use Rattle.pw_pair.specs.declared.message.CheckKind.{CheckKind}
 use Rattle.pw_pair.specs.declared.message.CheckKind.TheVariants.{Start, End, Copy}
 use Rattle.pw_pair.specs.declared.seat.Flight.{Flight}
-use Rattle.pw_pair.specs.declared.seat.Seat.{Seat}
+use Rattle.pw_pair.specs.declared.seat.BackupSeat.{BackupSeat}
 
 new-memory : (terminal unit : ℕ) (image : List ℕ) → is_image image ≡ true
     → memory_is_sound terminal (Some (record { terminal = terminal; unit = unit; start = image; end = None })) ≡ true
@@ -36,13 +36,13 @@ taken-sound terminal (Some flight) memory h f =
     kind-sound flight.message.kind terminal flight.message.unit (image_in (start_of memory) flight.message.body) memory h i.0
 
 -- what is taken in is in the image format
-pub applied-sound : (seat : Seat) → is_sound seat ≡ true → is_sound (applied seat) ≡ true
+pub applied-sound : (seat : BackupSeat) → is_sound seat ≡ true → is_sound (applied seat) ≡ true
 applied-sound seat h =
     let k = and_parts (memory_is_sound seat.terminal seat.memory) (flight_is_sound (start_of seat.memory) seat.flight) h in
     and_from _ true (taken-sound seat.terminal seat.flight seat.memory k.0 k.1) refl
 
 -- a message that fits is in flight
-pub carried-sound : (message : Carried) (seat : Seat) → is_sound seat ≡ true
+pub carried-sound : (message : Carried) (seat : BackupSeat) → is_sound seat ≡ true
     → flight_is_sound (start_of seat.memory) (Some (record { message = message; built = false })) ≡ true → is_sound (with_carried message seat) ≡ true
 carried-sound message seat h own =
     let k = and_parts (memory_is_sound seat.terminal seat.memory) (flight_is_sound (start_of seat.memory) seat.flight) h in
@@ -57,7 +57,7 @@ built-flight start (Some flight) h =
     and_from (is_image (image_in start flight.message.body)) true i.0 refl
 
 -- the message is built
-pub built-sound : (seat : Seat) → is_sound seat ≡ true → is_sound (built seat) ≡ true
+pub built-sound : (seat : BackupSeat) → is_sound seat ≡ true → is_sound (built seat) ≡ true
 built-sound seat h =
     let k = and_parts (memory_is_sound seat.terminal seat.memory) (flight_is_sound (start_of seat.memory) seat.flight) h in
     and_from (memory_is_sound seat.terminal seat.memory) _ k.0 (built-flight (start_of seat.memory) seat.flight k.1)
@@ -74,7 +74,7 @@ body-of-image (Some start) image = chosen (length start == length image) refl
     chosen false e = (refl, refl)
 
 -- a message is sent
-pub message-sound : (kind : CheckKind) (unit : ℕ) (image : List ℕ) (seat : Seat) → is_sound seat ≡ true → is_image image ≡ true
+pub message-sound : (kind : CheckKind) (unit : ℕ) (image : List ℕ) (seat : BackupSeat) → is_sound seat ≡ true → is_image image ≡ true
     → is_sound (with_message kind unit image seat) ≡ true
 message-sound kind unit image seat h own =
     let b = body-of-image (start_of seat.memory) image in
@@ -82,14 +82,14 @@ message-sound kind unit image seat h own =
     (and_from (fits_held (start_of seat.memory) (body_of (start_of seat.memory) image)) _ b.0 (and_from (is_image (image_in (start_of seat.memory) (body_of (start_of seat.memory) image))) true (ap is_image b.1 ∙ own) refl))
 
 -- what is held is put in
-pub held-sound : (held : Held) (seat : Seat) → held.terminal ≡ seat.terminal → held_is_sound held ≡ true → is_sound (with_held held seat) ≡ true
+pub held-sound : (held : Held) (seat : BackupSeat) → held.terminal ≡ seat.terminal → held_is_sound held ≡ true → is_sound (with_held held seat) ≡ true
 held-sound held seat e own =
     and_from _ true (and_from (held.terminal == seat.terminal) (held_is_sound held) (eq-eqb held.terminal seat.terminal e) own) refl
 
-pub without-backup-sound : (seat : Seat) → is_sound seat ≡ true → is_sound (without_backup seat) ≡ true
+pub without-backup-sound : (seat : BackupSeat) → is_sound seat ≡ true → is_sound (without_backup seat) ≡ true
 without-backup-sound seat h = refl
 
-pub without-flight-sound : (seat : Seat) → is_sound seat ≡ true → is_sound (without_flight seat) ≡ true
+pub without-flight-sound : (seat : BackupSeat) → is_sound seat ≡ true → is_sound (without_flight seat) ≡ true
 without-flight-sound seat h =
     let k = and_parts (memory_is_sound seat.terminal seat.memory) (flight_is_sound (start_of seat.memory) seat.flight) h in
     and_from (memory_is_sound seat.terminal seat.memory) true k.0 refl
@@ -102,6 +102,6 @@ whole-of start (Some flight) h b =
     ap (λ x. cond x (is_whole flight.message.body) true) (sym b) ∙ i.1
 
 -- a built message is whole
-pub built-whole : (seat : Seat) → is_sound seat ≡ true → is_built seat ≡ true → flies_whole seat.flight ≡ true
+pub built-whole : (seat : BackupSeat) → is_sound seat ≡ true → is_built seat ≡ true → flies_whole seat.flight ≡ true
 built-whole seat h b =
     whole-of (start_of seat.memory) seat.flight (and_parts (memory_is_sound seat.terminal seat.memory) (flight_is_sound (start_of seat.memory) seat.flight) h).1 b

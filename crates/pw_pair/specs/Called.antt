@@ -30,26 +30,26 @@ abbrev pub if_own : Bool → (SeenPair → SeenPair) → SeenPair → SeenPair
 if_own own call pair = if own then call pair else pair
 
 -- what pair p is behind the call that an entry is for it
-abbrev pub called : (ℕ → List PathAnswer → List ℕ) → Behaviour → State → Event → ℕ → SeenPair
+abbrev pub pair_after_call : (ℕ → List PathAnswer → List ℕ) → Behaviour → State → Event → ℕ → SeenPair
     → SeenPair
-called image sys state (CheckStart t) p pair =
+pair_after_call image sys state (CheckStart t) p pair =
     if_own (is_of_pair sys p t)
     (after_send (message_of kind.Start t (unit_number (path_of state t)) (image t (path_of state t))))
     pair
-called image sys state (CheckEnd t) p pair =
+pair_after_call image sys state (CheckEnd t) p pair =
     if_own (is_of_pair sys p t)
     (after_send (message_of kind.End t (unit_number (path_of state t))
     (image t (closed_path sys state t)))) pair
-called image sys state (CheckCopy t) p pair =
+pair_after_call image sys state (CheckCopy t) p pair =
     if_own (is_of_pair sys p t)
     (after_send (message_of kind.Copy t (unit_number (copied_path state t))
     (image t (copied_path state t)))) pair
-called image sys state (Applied t) p pair = if_own (is_of_pair sys p t) (after_applied t) pair
-called image sys state (End t ending) p pair = if_own (is_of_pair sys p t) (after_drop t) pair
-called image sys state (FailTcp q primary k) p pair = if_own (q == p) (member_fails primary) pair
-called image sys state (Takeover q) p pair = if_own (q == p) after_take pair
-called image sys state (Raise q) p pair = if_own (q == p) after_raise pair
-called image sys state _ p pair = pair
+pair_after_call image sys state (Applied t) p pair = if_own (is_of_pair sys p t) (after_applied t) pair
+pair_after_call image sys state (End t ending) p pair = if_own (is_of_pair sys p t) (after_drop t) pair
+pair_after_call image sys state (FailTcp q primary k) p pair = if_own (q == p) (member_fails primary) pair
+pair_after_call image sys state (Takeover q) p pair = if_own (q == p) after_take pair
+pair_after_call image sys state (Raise q) p pair = if_own (q == p) after_raise pair
+pair_after_call image sys state _ p pair = pair
 
 -- Where the call of an entry may be made; the message that is taken in must be built as well.
 abbrev pub MayBeCalled : Behaviour → Event → SeenPair → Type 0

@@ -14,11 +14,11 @@ use Rattle.pw_pair.specs.declared.message.CheckKind.TheVariants as kind
 use Rattle.pw_pair.specs.declared.mode.Mode as pair
 use Rattle.pw_pair.specs.declared.mode.Mode.TheVariants as mode
 use Rattle.pw_pair.specs.declared.seat.Flight.{Flight}
-use Rattle.pw_pair.specs.declared.seat.Seat.{Seat}
-use Rattle.pw_paired.specs.State.{Mode, Alone, Raising, Paired, Down, Gone, BackupCopy, Message, Start, End, Copy, State, Term}
+use Rattle.pw_pair.specs.declared.seat.BackupSeat.{BackupSeat}
+use Rattle.pw_paired.specs.State.{PairMode, Alone, Raising, Paired, Down, Gone, BackupCopy, Message, Start, End, Copy, State, Term}
 
 -- a mode as a pair has it
-abbrev pub mode_as : Mode → pair.Mode
+abbrev pub mode_as : PairMode → pair.Mode
 mode_as Alone = mode.Alone
 mode_as Raising = mode.Raising
 mode_as Paired = mode.Paired
@@ -26,7 +26,7 @@ mode_as Down = mode.Down
 mode_as Gone = mode.Gone
 
 -- messages fly to a backup
-abbrev pub has_flights : Mode → Bool
+abbrev pub has_flights : PairMode → Bool
 has_flights Alone = false
 has_flights Raising = true
 has_flights Paired = true
@@ -43,10 +43,10 @@ held_of image terminal copy = record {
 }
 
 -- what a message is for
-abbrev pub kind_of : Message → CheckKind
-kind_of (Start unit path) = kind.Start
-kind_of (End path) = kind.End
-kind_of (Copy unit path) = kind.Copy
+abbrev pub check_kind_of : Message → CheckKind
+check_kind_of (Start unit path) = kind.Start
+check_kind_of (End path) = kind.End
+check_kind_of (Copy unit path) = kind.Copy
 
 -- the path of a message
 abbrev pub path_in : Message → List PathAnswer
@@ -64,7 +64,7 @@ IsUnitIn (Copy unit path) number = number ≡ unit
 -- the image of its path.
 pub record CarriesMessage (image : List PathAnswer → List ℕ) (held : Option (List ℕ))
     (message : Message) (flight : Flight) : Type 0 where
-  pub kind_is : flight.message.kind ≡ kind_of message
+  pub kind_is : flight.message.kind ≡ check_kind_of message
   pub unit : IsUnitIn message flight.message.unit
   pub image_is : image_in held flight.message.body ≡ image (path_in message)
 
@@ -77,9 +77,9 @@ Carries image held _ _ = ⊥
 
 -- A seat is of a started terminal of the pair, and has what its backup holds of it and is sent of it;
 -- in a mode without flights nothing flies.
-pub record FollowsSeat (image : ℕ → List PathAnswer → List ℕ) (sys : Behaviour) (p : ℕ) (at : Mode)
+pub record FollowsSeat (image : ℕ → List PathAnswer → List ℕ) (sys : Behaviour) (p : ℕ) (at : PairMode)
     (terms : ℕ → Term) (memory : ℕ → Option BackupCopy) (flight : ℕ → Option Message)
-    (seat : Seat) : Type 0 where
+    (seat : BackupSeat) : Type 0 where
   pub known : seat.terminal < sys.terminals
   pub of_pair : sys.pair_of seat.terminal ≡ p
   pub dropped : seat.dropped ≡ is_some (terms seat.terminal).ending
@@ -90,7 +90,7 @@ pub record FollowsSeat (image : ℕ → List PathAnswer → List ℕ) (sys : Beh
   pub at_rest : has_flights at ≡ false → flight seat.terminal ≡ None
 
 -- the pair has this mode, and a seat for each of its terminals and for no other
-pub record FollowsAs (image : ℕ → List PathAnswer → List ℕ) (sys : Behaviour) (p : ℕ) (at : Mode)
+pub record FollowsAs (image : ℕ → List PathAnswer → List ℕ) (sys : Behaviour) (p : ℕ) (at : PairMode)
     (terms : ℕ → Term) (memory : ℕ → Option BackupCopy) (flight : ℕ → Option Message)
     (pair : SeenPair) : Type 0 where
   pub mode_is : pair.mode ≡ mode_as at
@@ -104,7 +104,7 @@ Follows image sys state p pair =
     FollowsAs image sys p (state.modes p) state.terms state.memory state.flight pair
 
 -- the list has the terminals of the pair, and no others
-pub record AreOf (sys : Behaviour) (p : ℕ) (terminals : List ℕ) : Type 0 where
+pub record AreTerminalsOfPair (sys : Behaviour) (p : ℕ) (terminals : List ℕ) : Type 0 where
   pub each : All (λ t. (t < sys.terminals) × (sys.pair_of t ≡ p)) terminals
   pub every : (t : ℕ) → t < sys.terminals → sys.pair_of t ≡ p
       → list_any (λ own. own == t) terminals ≡ true

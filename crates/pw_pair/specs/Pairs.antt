@@ -7,12 +7,12 @@ use Rattle.pw_pair.specs.declared.message.CheckMessage.{CheckMessage}
 use Rattle.pw_pair.specs.declared.mode.Mode.{Mode}
 use Rattle.pw_pair.specs.declared.mode.Mode.TheVariants.{Alone, Raising, Paired, Down, Gone}
 use Rattle.pw_pair.specs.declared.seat.Flight.{Flight}
-use Rattle.pw_pair.specs.declared.seat.Seat.{Seat}
+use Rattle.pw_pair.specs.declared.seat.BackupSeat.{BackupSeat}
 
 -- what contracts see of a pair
 pub record SeenPair : Type 0 where
   pub mode : Mode
-  pub seats : List Seat
+  pub seats : List BackupSeat
 
 -- Raising becomes Paired where the memory lacks no live terminal
 abbrev pub settled_mode : Mode → Bool → Mode
@@ -24,7 +24,7 @@ abbrev pub settled : SeenPair → SeenPair
 settled pair = record pair { mode = settled_mode pair.mode (list_any is_lacking pair.seats) }
 
 -- the seat of the terminal is changed so
-abbrev pub changed_at : ℕ → (Seat → Seat) → SeenPair → SeenPair
+abbrev pub changed_at : ℕ → (BackupSeat → BackupSeat) → SeenPair → SeenPair
 changed_at terminal change pair = record pair { seats = at_terminal terminal change pair.seats }
 
 -- a message goes to the backup
@@ -41,7 +41,7 @@ abbrev pub after_drop : ℕ → SeenPair → SeenPair
 after_drop terminal pair = settled (changed_at terminal dropped pair)
 
 -- each seat is changed so, in this mode
-abbrev pub in_mode : Mode → (Seat → Seat) → SeenPair → SeenPair
+abbrev pub in_mode : Mode → (BackupSeat → BackupSeat) → SeenPair → SeenPair
 in_mode mode change pair = record { mode = mode; seats = map change pair.seats }
 
 -- a new backup that holds nothing
@@ -69,7 +69,7 @@ abbrev pub after_take : SeenPair → SeenPair
 after_take pair = in_mode Alone without_backup pair
 
 -- the memory of each terminal, in the order of the seats
-abbrev pub memory_of : List Seat → List Held
+abbrev pub memory_of : List BackupSeat → List Held
 memory_of seats = filter_map (λ seat. seat.memory) seats
 
 -- the memory is back
@@ -77,10 +77,10 @@ abbrev pub after_put_back : List Held → SeenPair → SeenPair
 after_put_back images pair = in_mode Down (λ seat. put_each images (without_backup seat)) pair
 
 -- the seat of a terminal, if it is of the pair
-abbrev pub seat_of : ℕ → SeenPair → Option Seat
+abbrev pub seat_of : ℕ → SeenPair → Option BackupSeat
 seat_of terminal pair = find (is_seat_of terminal) pair.seats
 
 -- there is a seat, and it passes the test
-abbrev pub passes : (Seat → Bool) → Option Seat → Bool
+abbrev pub passes : (BackupSeat → Bool) → Option BackupSeat → Bool
 passes test None = false
 passes test (Some seat) = test seat

@@ -4,10 +4,10 @@ use Rattle.std.specs.BTreeMap.{BTreeMap, get}
 use Rattle.std.specs.List.{list_all}
 use Rattle.std.specs.Ordering.{nat_cmp}
 use Rattle.pw_pair.specs.Seats.{is_lacking, is_sound}
-use Rattle.pw_pair.specs.declared.seat.Seat.{Seat}
+use Rattle.pw_pair.specs.declared.seat.BackupSeat.{BackupSeat}
 
 -- the terminals of seats
-abbrev pub terminals_of : List Seat → List ℕ
+abbrev pub terminals_of : List BackupSeat → List ℕ
 terminals_of seats = map (λ seat. seat.terminal) seats
 
 -- The map has the place of each terminal of the list, and no other.
@@ -19,7 +19,7 @@ pub record ArePlaces (places : BTreeMap ℕ ℕ) (terminals : List ℕ) : Type 0
 
 -- What seats keep: each terminal has one, which the map finds; each is sound; and so many are of live
 -- terminals that the memory lacks.
-pub record AreSeats (seats : List Seat) (places : BTreeMap ℕ ℕ) (lacking : ℕ) : Type 0 where
+pub record AreSeats (seats : List BackupSeat) (places : BTreeMap ℕ ℕ) (lacking : ℕ) : Type 0 where
   pub places_are : ArePlaces places (terminals_of seats)
   pub sound : list_all is_sound seats ≡ true
   pub lacks : lacking ≡ count_by is_lacking seats

@@ -6,14 +6,14 @@ use Rattle.pw_pair.specs.declared.message.CheckKind.{CheckKind}
 use Rattle.pw_pair.specs.declared.message.CheckKind.TheVariants.{Start, End, Copy}
 use Rattle.pw_pair.specs.declared.mode.Mode.{Mode}
 use Rattle.pw_pair.specs.declared.mode.Mode.TheVariants.{Alone, Raising, Paired, Down, Gone}
-use Rattle.pw_pair.specs.declared.seat.Seat.{Seat}
+use Rattle.pw_pair.specs.declared.seat.BackupSeat.{BackupSeat}
 
 -- something of the terminal is in memory or in flight
-abbrev pub is_used : Seat → Bool
+abbrev pub is_used : BackupSeat → Bool
 is_used seat = is_some seat.memory || is_some seat.flight
 
 -- Where the memory grows, there is room for each terminal; where it waits to be taken, for what is held.
-abbrev pub FitsIn : Mode → List Seat → ℕ → Type 0
+abbrev pub FitsIn : Mode → List BackupSeat → ℕ → Type 0
 FitsIn Raising seats capacity = length seats ≤ capacity
 FitsIn Paired seats capacity = length seats ≤ capacity
 FitsIn Down seats capacity = count_by is_used seats ≤ capacity
@@ -34,6 +34,6 @@ NeedsNoRoom Gone = Unit {0}
 NeedsNoRoom _ = ⊥
 
 -- there is room, and nothing is in it
-pub record HasRoom (mode : Mode) (seats : List Seat) (room : Vec Held) : Type 0 where
+pub record HasEmptyRoom (mode : Mode) (seats : List BackupSeat) (room : Vec Held) : Type 0 where
   pub empty : room.items ≡ []
   pub fits : FitsIn mode seats (vec_capacity room)

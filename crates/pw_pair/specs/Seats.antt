@@ -11,7 +11,7 @@ use Rattle.pw_pair.specs.declared.message.CheckKind.{CheckKind}
 use Rattle.pw_pair.specs.declared.message.CheckKind.TheVariants.{Start, End, Copy}
 use Rattle.pw_pair.specs.declared.message.CheckMessage.{CheckMessage}
 use Rattle.pw_pair.specs.declared.seat.Flight.{Flight}
-use Rattle.pw_pair.specs.declared.seat.Seat.{Seat}
+use Rattle.pw_pair.specs.declared.seat.BackupSeat.{BackupSeat}
 
 -- the start image that is held
 abbrev pub start_of : Option Held → Option (List ℕ)
@@ -19,35 +19,35 @@ start_of None = None
 start_of (Some held) = Some held.start
 
 -- a terminal of a new pair
-abbrev pub new_seat : ℕ → Seat
+abbrev pub new_seat : ℕ → BackupSeat
 new_seat terminal = record { terminal = terminal; dropped = false; memory = None; flight = None }
 
 -- the seat of a terminal
-abbrev pub is_seat_of : ℕ → Seat → Bool
+abbrev pub is_seat_of : ℕ → BackupSeat → Bool
 is_seat_of terminal seat = seat.terminal == terminal
 
 -- the seats with one for the terminal, where there was none
-abbrev pub with_terminal : List Seat → ℕ → List Seat
+abbrev pub with_terminal : List BackupSeat → ℕ → List BackupSeat
 with_terminal seats terminal =
     if list_any (is_seat_of terminal) seats then seats else seats ++ new_seat terminal ∷ []
 
 -- the seats of some terminals, one for each
-abbrev pub seats_with : List Seat → List ℕ → List Seat
+abbrev pub seats_with : List BackupSeat → List ℕ → List BackupSeat
 seats_with seats [] = seats
 seats_with seats (terminal ∷ terminals) = seats_with (with_terminal seats terminal) terminals
 
 -- the seat of the terminal, changed so; the others stay
-abbrev pub at_terminal : ℕ → (Seat → Seat) → List Seat → List Seat
+abbrev pub at_terminal : ℕ → (BackupSeat → BackupSeat) → List BackupSeat → List BackupSeat
 at_terminal terminal change seats =
     map (λ seat. if is_seat_of terminal seat then change seat else seat) seats
 
 -- a message is in flight, not built
-abbrev pub with_carried : Carried → Seat → Seat
+abbrev pub with_carried : Carried → BackupSeat → BackupSeat
 with_carried message seat =
     record seat { flight = Some (record { message = message; built = false }) }
 
 -- a message in flight, whole or as changes against the start image that is held
-abbrev pub with_message : CheckKind → ℕ → List ℕ → Seat → Seat
+abbrev pub with_message : CheckKind → ℕ → List ℕ → BackupSeat → BackupSeat
 with_message kind unit image seat =
     with_carried (record { kind = kind; unit = unit; body = body_of (start_of seat.memory) image })
     seat
@@ -73,7 +73,7 @@ taken_in terminal (Some flight) memory =
     (image_in (start_of memory) flight.message.body) memory
 
 -- the message in flight is taken in
-abbrev pub applied : Seat → Seat
+abbrev pub applied : BackupSeat → BackupSeat
 applied seat =
     record seat { memory = taken_in seat.terminal seat.flight seat.memory; flight = None }
 
@@ -86,40 +86,40 @@ with_whole start (Some flight) = Some (record flight {
 })
 
 -- the message in flight is built
-abbrev pub built : Seat → Seat
+abbrev pub built : BackupSeat → BackupSeat
 built seat = record seat { flight = with_whole (start_of seat.memory) seat.flight }
 
 -- nothing is in flight and in memory
-abbrev pub without_backup : Seat → Seat
+abbrev pub without_backup : BackupSeat → BackupSeat
 without_backup seat = record seat { memory = None; flight = None }
 
 -- nothing is in flight
-abbrev pub without_flight : Seat → Seat
+abbrev pub without_flight : BackupSeat → BackupSeat
 without_flight seat = record seat { flight = None }
 
 -- the terminal has ended
-abbrev pub dropped : Seat → Seat
+abbrev pub dropped : BackupSeat → BackupSeat
 dropped seat = record seat { dropped = true; memory = None; flight = None }
 
 -- the terminal is live, and the memory lacks it
-abbrev pub is_lacking : Seat → Bool
+abbrev pub is_lacking : BackupSeat → Bool
 is_lacking seat = not seat.dropped && not (is_some seat.memory)
 
 -- the memory has the terminal
-abbrev pub has_memory : Seat → Bool
+abbrev pub has_memory : BackupSeat → Bool
 has_memory seat = is_some seat.memory
 
 -- what is held of the terminal is in memory, and nothing in flight
-abbrev pub with_held : Held → Seat → Seat
+abbrev pub with_held : Held → BackupSeat → BackupSeat
 with_held held seat = record seat { memory = Some held; flight = None }
 
 -- what is held of a terminal is put into its seat
-abbrev pub put_held : Held → Seat → Seat
+abbrev pub put_held : Held → BackupSeat → BackupSeat
 put_held held seat =
     if is_seat_of held.terminal seat then with_held held seat else seat
 
 -- each is put into its seat
-abbrev pub put_each : List Held → Seat → Seat
+abbrev pub put_each : List Held → BackupSeat → BackupSeat
 put_each [] seat = seat
 put_each (held ∷ images) seat = put_held held (put_each images seat)
 
@@ -131,7 +131,7 @@ flies_whole None = false
 flies_whole (Some flight) = is_whole flight.message.body
 
 -- a message is in flight
-abbrev pub is_flying : Seat → Bool
+abbrev pub is_flying : BackupSeat → Bool
 is_flying seat = is_some seat.flight
 
 -- a message is in flight, and it is built
@@ -140,7 +140,7 @@ flies_built None = false
 flies_built (Some flight) = flight.built
 
 -- the terminal's message is in flight and built
-abbrev pub is_built : Seat → Bool
+abbrev pub is_built : BackupSeat → Bool
 is_built seat = flies_built seat.flight
 
 -- a message is in flight, and it is not built
@@ -149,7 +149,7 @@ flies_waiting None = false
 flies_waiting (Some flight) = not flight.built
 
 -- the terminal's message is in flight and not built
-abbrev pub is_waiting : Seat → Bool
+abbrev pub is_waiting : BackupSeat → Bool
 is_waiting seat = flies_waiting seat.flight
 
 -- the memory has this unit and start image
@@ -158,21 +158,21 @@ has_start unit image None = false
 has_start unit image (Some held) = held.unit == unit && bytes_eq held.start image
 
 -- the memory has this unit and start image of the terminal
-abbrev pub holds_start : ℕ → List ℕ → Seat → Bool
+abbrev pub holds_start : ℕ → List ℕ → BackupSeat → Bool
 holds_start unit image seat = has_start unit image seat.memory
 
 -- the memory has this end image
-abbrev pub is_end : List ℕ → Option (List ℕ) → Bool
-is_end image None = false
-is_end image (Some end) = bytes_eq end image
+abbrev pub is_memory_end_image : List ℕ → Option (List ℕ) → Bool
+is_memory_end_image image None = false
+is_memory_end_image image (Some end) = bytes_eq end image
 
 -- what is held, if anything is, has this end image
 abbrev pub has_end : List ℕ → Option Held → Bool
 has_end image None = false
-has_end image (Some held) = is_end image held.end
+has_end image (Some held) = is_memory_end_image image held.end
 
 -- the memory has this end image of the terminal
-abbrev pub holds_end : List ℕ → Seat → Bool
+abbrev pub holds_end : List ℕ → BackupSeat → Bool
 holds_end image seat = has_end image seat.memory
 
 -- the message in flight stands for this image
@@ -181,7 +181,7 @@ flies_as start image None = Unit {0}
 flies_as start image (Some flight) = image_in start flight.message.body ≡ image
 
 -- the terminal's message in flight stands for this image
-abbrev pub stands_for : List ℕ → Seat → Type 0
+abbrev pub stands_for : List ℕ → BackupSeat → Type 0
 stands_for image seat = flies_as (start_of seat.memory) image seat.flight
 
 -- What a seat keeps.
@@ -210,6 +210,6 @@ flight_is_sound start (Some flight) =
     && (if flight.built then is_whole flight.message.body else true))
 
 -- what a seat keeps: its memory and its message in flight are sound
-abbrev pub is_sound : Seat → Bool
+abbrev pub is_sound : BackupSeat → Bool
 is_sound seat =
     memory_is_sound seat.terminal seat.memory && flight_is_sound (start_of seat.memory) seat.flight

@@ -4,7 +4,7 @@ use Rattle.pw_code.specs.declared.context.Context.{Context}
 use Rattle.pw_image.specs.Reading.{context_in}
 use Rattle.pw_pair.specs.declared.backup.Held.{Held}
 use Rattle.pw_pair.specs.declared.resumed.Resumed.{Resumed}
-use Rattle.pw_pair.specs.declared.seat.Seat.{Seat}
+use Rattle.pw_pair.specs.declared.seat.BackupSeat.{BackupSeat}
 
 -- the number of TMF's last ended unit of a terminal, 0 where it is not named
 abbrev pub last_ended : List (ℕ × ℕ) → ℕ → ℕ
@@ -37,6 +37,6 @@ AreResumed images ended resumed =
     ≡ map (λ held. resumption_at held (last_ended ended held.terminal)) images
 
 -- the same of the terminal of a seat: none where nothing is held of it
-abbrev pub resumption_in : Option Seat → ℕ → Option Resumption
+abbrev pub resumption_in : Option BackupSeat → ℕ → Option Resumption
 resumption_in None last = None
 resumption_in (Some seat) last = option_map (λ held. resumption_at held last) seat.memory

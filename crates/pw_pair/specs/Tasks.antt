@@ -5,7 +5,7 @@ use Rattle.pw_pair.specs.Pairs.{SeenPair, seat_of}
 use Rattle.pw_pair.specs.SeenTask.{SeenTask}
 use Rattle.pw_pair.specs.Seats.{start_of}
 use Rattle.pw_pair.specs.declared.seat.Flight.{Flight}
-use Rattle.pw_pair.specs.declared.seat.Seat.{Seat}
+use Rattle.pw_pair.specs.declared.seat.BackupSeat.{BackupSeat}
 
 -- the image that the message of a task stands for
 abbrev pub image_for : SeenTask → List ℕ
@@ -19,11 +19,11 @@ task_in terminal held (Some flight) =
     else Some (record { terminal = terminal; message = flight.message; held = held })
 
 -- the task of the terminal's message in flight
-abbrev pub task_of : Seat → Option SeenTask
+abbrev pub task_of : BackupSeat → Option SeenTask
 task_of seat = task_in seat.terminal (start_of seat.memory) seat.flight
 
 -- the task of a seat, if there is one
-abbrev pub task_at : Option Seat → Option SeenTask
+abbrev pub task_at : Option BackupSeat → Option SeenTask
 task_at None = None
 task_at (Some seat) = task_of seat
 

@@ -4,8 +4,8 @@ ghost use Rattle.pw_event.specs.declared.event.Event.{Event};
 ghost use Rattle.pw_event.specs.declared.script.Owner.TheVariants.{Tcp};
 ghost use Rattle.pw_onecopy.specs.Behaviour.{Behaviour};
 ghost use Rattle.pw_onecopy.specs.Path.{PathAnswer};
-ghost use Rattle.pw_pair.specs.Called.{MayBeCalled, called};
-ghost use Rattle.pw_pair.specs.Follows.{AreOf, Follows, held_of};
+ghost use Rattle.pw_pair.specs.Called.{MayBeCalled, pair_after_call};
+ghost use Rattle.pw_pair.specs.Follows.{AreTerminalsOfPair, Follows, held_of};
 ghost use Rattle.pw_pair.specs.Pairs.{SeenPair, changed_at};
 ghost use Rattle.pw_pair.specs.Seats.{built, seats_with};
 ghost use Rattle.pw_pair.specs.Takeover.{resumed_image};
@@ -21,13 +21,13 @@ ghost use Rattle.pw_paired.specs.Step.{Legal, effect};
 /// takeover goes on with the image of the path that the takeover rule names.
 pub fn call_laws()
     ensures starts { (image : ℕ → List PathAnswer → List ℕ) (sys : Behaviour) (p : ℕ)
-        (terminals : List ℕ) → AreOf sys p terminals
+        (terminals : List ℕ) → AreTerminalsOfPair sys p terminals
         → Follows image sys (starting sys) p
         (record { mode = Alone; seats = seats_with [] terminals }) }
     ensures follows { (image : ℕ → List PathAnswer → List ℕ) (sys : Behaviour) (state : State)
         (p : ℕ) (pair : SeenPair) (entry : Event) → Follows image sys state p pair
         → Legal sys state entry
-        → Follows image sys (effect sys state entry) p (called image sys state entry p pair) }
+        → Follows image sys (effect sys state entry) p (pair_after_call image sys state entry p pair) }
     ensures may { (image : ℕ → List PathAnswer → List ℕ) (sys : Behaviour) (state : State)
         (p : ℕ) (pair : SeenPair) (entry : Event) → Follows image sys state p pair
         → Legal sys state entry → owner_of sys.pair_of entry ≡ Tcp p

@@ -8,7 +8,7 @@ use crate::link::{LinkDone, LinkTask};
 use crate::message::CheckMessage;
 use crate::mode::Mode;
 use crate::resumed::Resumed;
-use crate::seat::Seat;
+use crate::seat::BackupSeat;
 use crate::seats::Seats;
 use pw_base::memory::Memory;
 use std::alloc::Global;
@@ -27,13 +27,13 @@ pub struct Pair {
 
 impl Model for Pair {
     ghost use Rattle.pw_pair.specs.Pairs.{SeenPair};
-    ghost use Rattle.pw_pair.specs.Rooms.{HasRoom};
+    ghost use Rattle.pw_pair.specs.Rooms.{HasEmptyRoom};
 
     ghost Value = { SeenPair };
 
     ghost view = { λ pair. record { mode = pair.mode; seats = pair.seats } };
 
-    ghost invariant = { λ pair. HasRoom pair.mode pair.seats pair.room };
+    ghost invariant = { λ pair. HasEmptyRoom pair.mode pair.seats pair.room };
 }
 
 impl Pair {
@@ -69,14 +69,14 @@ impl Pair {
     }
 
     /// The seats of its terminals, one for each, in order.
-    pub fn seats(&self) -> &[Seat]
+    pub fn seats(&self) -> &[BackupSeat]
         ensures { result.now ≡ self.now.seats }
     {
         self.seats.as_slice()
     }
 
     /// The seat of a terminal, None exactly where it is not of the pair.
-    pub fn seat(&self, terminal: u32) -> Option<&Seat>
+    pub fn seat(&self, terminal: u32) -> Option<&BackupSeat>
         ensures { option_copied result ≡ seat_of terminal self.now }
     {
         self.seats.get(terminal)

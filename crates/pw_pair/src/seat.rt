@@ -24,7 +24,7 @@ pub struct Flight {
 
 /// A terminal's place in its pair.
 #[derive(Debug, Drop)]
-pub struct Seat {
+pub struct BackupSeat {
     pub terminal: u32,
     /// Whether the terminal has ended.
     pub dropped: bool,
@@ -33,12 +33,12 @@ pub struct Seat {
     pub flight: Option<Flight>,
 }
 
-impl Seat {
+impl BackupSeat {
     /// The seat of a terminal in a new pair.
-    pub fn new(terminal: u32) -> Seat
+    pub fn new(terminal: u32) -> BackupSeat
         ensures { result ≡ new_seat terminal }
     {
-        Seat {
+        BackupSeat {
             terminal,
             dropped: false,
             memory: None,

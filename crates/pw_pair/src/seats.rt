@@ -4,13 +4,13 @@ ghost use Rattle.std.specs.Option.{option_copied};
 ghost use Rattle.pw_pair.specs.Bodies.{body_of};
 ghost use Rattle.pw_pair.specs.Pairs.{memory_of};
 ghost use Rattle.pw_pair.specs.Rooms.{is_used};
-ghost use Rattle.pw_pair.specs.declared.seat.Seat.{Seat as SeenSeat};
+ghost use Rattle.pw_pair.specs.declared.seat.BackupSeat.{BackupSeat as SeenSeat};
 ghost use Rattle.pw_pair.specs.Seats.{is_lacking, start_of, without_backup, without_flight};
 
 use crate::backup::Held;
 use crate::link::{LinkTask, whole};
 use crate::message::{Body, Carried, CheckKind};
-use crate::seat::Seat;
+use crate::seat::BackupSeat;
 use pw_base::bytes::Bytes;
 use pw_base::memory::Memory;
 use pw_image::changes::changes;
@@ -21,7 +21,7 @@ use std::marker::Model;
 /// The seats of a pair's terminals, one for each. Contracts see them in order.
 #[derive(Debug, Drop)]
 pub struct Seats {
-    seats: Vec<Seat>,
+    seats: Vec<BackupSeat>,
     /// The place of each terminal's seat.
     places: BTreeMap<u32, usize>,
     /// How many seats are of live terminals that the memory lacks.
@@ -31,7 +31,7 @@ pub struct Seats {
 impl Model for Seats {
     ghost use Rattle.std.specs.Prelude.{List};
     ghost use Rattle.pw_pair.specs.Places.{AreSeats};
-    ghost use Rattle.pw_pair.specs.declared.seat.Seat.{Seat as SeenSeat};
+    ghost use Rattle.pw_pair.specs.declared.seat.BackupSeat.{BackupSeat as SeenSeat};
 
     ghost Value = { List SeenSeat };
 
@@ -86,7 +86,7 @@ impl Seats {
         }
         self.seats.reserve(1)?;
         self.places.insert(terminal, place)?;
-        self.seats.push(Seat::new(terminal)).unwrap();
+        self.seats.push(BackupSeat::new(terminal)).unwrap();
         self.lacking += 1;
         Ok(())
     }
@@ -99,7 +99,7 @@ impl Seats {
     }
 
     /// The seats, in order.
-    pub fn as_slice(&self) -> &[Seat]
+    pub fn as_slice(&self) -> &[BackupSeat]
         ensures { result.now ≡ self.now }
     {
         self.seats.as_slice()
@@ -113,7 +113,7 @@ impl Seats {
     }
 
     /// The seat of a terminal, None exactly where there is none.
-    pub fn get(&self, terminal: u32) -> Option<&Seat>
+    pub fn get(&self, terminal: u32) -> Option<&BackupSeat>
         ensures seat { option_copied result ≡ find (is_seat_of terminal) self.now }
         ensures sound { IfSome result (λ seat. is_sound seat.now ≡ true) }
     {
@@ -280,7 +280,7 @@ impl Seats {
 }
 
 /// Moves the memory of each seat behind the images, and drops what is in flight.
-fn move_memory(seats: &mut Vec<Seat>, images: &mut Vec<Held>)
+fn move_memory(seats: &mut Vec<BackupSeat>, images: &mut Vec<Held>)
     requires room { vec_len images.old + count_by is_used seats.old.items ≤ vec_capacity images.old }
     ensures after { seats.new.items ≡ map without_backup seats.old.items }
     ensures images { images.new.items ≡ images.old.items ++ memory_of seats.old.items }
@@ -291,7 +291,7 @@ fn move_memory(seats: &mut Vec<Seat>, images: &mut Vec<Held>)
 }
 
 /// Moves the memory of a seat behind the images, and drops what is in flight.
-fn move_one(seat: &mut Seat, images: &mut Vec<Held>)
+fn move_one(seat: &mut BackupSeat, images: &mut Vec<Held>)
     requires room { vec_len images.old + (if is_used seat.old then 1 else 0) ≤ vec_capacity images.old }
     ensures after { seat.new ≡ without_backup seat.old }
     ensures images { images.new.items ≡ images.old.items ++ option_to_list seat.old.memory }
@@ -305,14 +305,14 @@ fn move_one(seat: &mut Seat, images: &mut Vec<Held>)
 }
 
 /// How many seats are of live terminals that the memory lacks.
-fn lacking_in(seats: &[Seat]) -> usize
+fn lacking_in(seats: &[BackupSeat]) -> usize
     ensures { result ≡ count_by is_lacking seats.now }
 {
     seats.iter().filter(|seat| seat.is_lacking()).count()
 }
 
 /// Drops what is in memory and in flight.
-fn drop_backups(seats: &mut Vec<Seat>)
+fn drop_backups(seats: &mut Vec<BackupSeat>)
     ensures { seats.new.items ≡ map without_backup seats.old.items }
 {
     for seat in seats.iter_mut() {
@@ -321,7 +321,7 @@ fn drop_backups(seats: &mut Vec<Seat>)
 }
 
 /// Drops what is in flight.
-fn drop_flights(seats: &mut Vec<Seat>)
+fn drop_flights(seats: &mut Vec<BackupSeat>)
     ensures { seats.new.items ≡ map without_flight seats.old.items }
 {
     for seat in seats.iter_mut() {
@@ -330,7 +330,7 @@ fn drop_flights(seats: &mut Vec<Seat>)
 }
 
 /// What a message to the backup of the seat at a place carries of an image.
-fn body_at(alloc: Global, seats: &[Seat], place: usize, image: Bytes) -> Result<Body, Memory>
+fn body_at(alloc: Global, seats: &[BackupSeat], place: usize, image: Bytes) -> Result<Body, Memory>
     requires { place < length seats.now }
     ensures { (d : SeenSeat) → IfOk result
         (λ body. body ≡ body_of (start_of (slice_index_or seats.now place d).memory) image) }

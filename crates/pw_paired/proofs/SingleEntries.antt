@@ -13,7 +13,7 @@ use Rattle.pw_onecopy.specs.Path.{PathAnswer}
 use Rattle.pw_paired.specs.Failure.{LegalFailServer, LegalFailTcp, backup_fails, do_fail_tcp, is_of_pair, lose_pair, lose_primary, resume_terminal, resumed_path}
 use Rattle.pw_paired.specs.Raising.{copied_path}
 use Rattle.pw_paired.specs.Serial.{Reading, is_idle, out_block}
-use Rattle.pw_paired.specs.State.{Awaited, BackupCopy, Down, Gone, Job, LastEnded, Mode, OpenUnit, State, Term}
+use Rattle.pw_paired.specs.State.{Awaited, BackupCopy, Down, Gone, Job, LastEnded, PairMode, OpenUnit, State, Term}
 use Rattle.pw_paired.specs.Terminal.{IsOver, LegalBegin, awaited_of, path_of}
 use Rattle.pw_paired.specs.Units.{any_below, attempt_of, freed_of, has_request, last_after_leaving, leave_units, request_in}
 
@@ -87,7 +87,7 @@ requests-gone sys state p c t of =
 -- a backup that fails in Down leaves the pair Gone
 pub down-gone : (sys : Behaviour) (state : State) (p : ℕ) → state.modes p ≡ Down → (do_fail_tcp sys p false state).modes p ≡ Gone
 down-gone sys state p down =
-    ap (λ (m : Mode). (backup_fails sys p m state).modes p) down ∙ upd-same state.modes p Gone p refl
+    ap (λ (m : PairMode). (backup_fails sys p m state).modes p) down ∙ upd-same state.modes p Gone p refl
 
 -- a terminal of a lost pair
 pub lost-term : (sys : Behaviour) (state : State) (p t : ℕ) → sys.pair_of t ≡ p

@@ -13,7 +13,7 @@ use Rattle.pw_onecopy.specs.Behaviour.{Behaviour}
 use Rattle.pw_onecopy.specs.Path.{PathAnswer}
 use Rattle.pw_onecopy.specs.Update.{upd}
 use Rattle.pw_paired.specs.Server.{with_job_at, lock_of_job, server_verb}
-use Rattle.pw_paired.specs.State.{Mode, Alone, Raising, Paired, Down, Gone, Awaited, Job, LastEnded, BackupCopy, OpenUnit, State, Term}
+use Rattle.pw_paired.specs.State.{PairMode, Alone, Raising, Paired, Down, Gone, Awaited, Job, LastEnded, BackupCopy, OpenUnit, State, Term}
 use Rattle.pw_paired.specs.Terminal.{CanStep, next_verb}
 use Rattle.pw_paired.specs.Units.{attempt_of, leave_units, only, withdraw_attempts, cancel_requests}
 
@@ -150,7 +150,7 @@ abbrev pub lose_backup : Behaviour → ℕ → State → State
 lose_backup sys p state = record (without_backup sys p state) { modes = upd state.modes p Alone }
 
 -- the primary fails in a mode
-abbrev pub primary_fails : Behaviour → ℕ → Mode → State → State
+abbrev pub primary_fails : Behaviour → ℕ → PairMode → State → State
 primary_fails sys p Paired state = lose_primary sys p state
 primary_fails sys p Raising state = lose_pair sys p state
 primary_fails sys p Alone state = lose_pair sys p state
@@ -158,7 +158,7 @@ primary_fails sys p Down state = state
 primary_fails sys p Gone state = state
 
 -- the backup fails in a mode
-abbrev pub backup_fails : Behaviour → ℕ → Mode → State → State
+abbrev pub backup_fails : Behaviour → ℕ → PairMode → State → State
 backup_fails sys p Paired state = lose_backup sys p state
 backup_fails sys p Raising state = lose_backup sys p state
 backup_fails sys p Alone state = state

@@ -2,7 +2,7 @@
 use Rattle.std.specs.Prelude.{◌≡◌, ℕ, ◌≤◌, ◌==◌, ◌&&◌, Bool, true, false, List, length, filter}
 use Rattle.pw_event.specs.declared.event.Event.{Event}
 use Rattle.pw_onecopy.specs.Behaviour.{Behaviour}
-use Rattle.pw_onecopy.specs.Blocks.{Block, Out, Attempted, Done, How, Committed, Aborted, Restarted, Left}
+use Rattle.pw_onecopy.specs.Blocks.{SerialBlock, Out, Attempted, Done, AttemptEnding, Committed, Aborted, Restarted, Left}
 use Rattle.pw_onecopy.specs.OneCopy.{IsSerial, one_copy}
 use Rattle.pw_onecopy.specs.Refreshes.{once, refreshes_of}
 use Rattle.pw_paired.specs.Serial.{blocks}
@@ -24,14 +24,14 @@ pub record IsSerializable (sys : Behaviour) (log : List Event) : Type 0 where
       → ((after sys log).terms t).ending ≡ ((one_copy sys (blocks sys log)).terms t).ending
 
 -- an attempt that is over so was its unit's last
-abbrev pub ends_unit : How → Bool
+abbrev pub ends_unit : AttemptEnding → Bool
 ends_unit Committed = true
 ends_unit Aborted = true
 ends_unit Restarted = false
 ends_unit Left = true
 
 -- the block ends unit n of t
-abbrev pub is_end_of : ℕ → ℕ → Block → Bool
+abbrev pub is_end_of : ℕ → ℕ → SerialBlock → Bool
 is_end_of t n (Out own) = false
 is_end_of t n (Attempted own number how j) = own == t && (number == n && ends_unit how)
 is_end_of t n (Done own ending) = false

@@ -6,7 +6,7 @@ use Rattle.pw_onecopy.specs.Behaviour.{Behaviour}
 use Rattle.pw_onecopy.specs.Path.{PathAnswer, unit_number}
 use Rattle.pw_onecopy.specs.Update.{upd}
 use Rattle.pw_paired.specs.Failure.{is_live_of, is_of_pair}
-use Rattle.pw_paired.specs.State.{Mode, Alone, Raising, Paired, Down, Gone, BackupCopy, Message, Start, End, Copy, State}
+use Rattle.pw_paired.specs.State.{PairMode, Alone, Raising, Paired, Down, Gone, BackupCopy, Message, Start, End, Copy, State}
 use Rattle.pw_paired.specs.Terminal.{IsLive, path_of}
 use Rattle.pw_paired.specs.Units.{any_below, attempt_of}
 
@@ -73,7 +73,7 @@ lacks_one sys p state =
     any_below sys.terminals (λ t. is_live_of sys p state t && not (is_some (state.memory t)))
 
 -- Raising becomes Paired where memory has every live terminal of the pair
-abbrev pub settled_mode : Mode → Bool → Mode
+abbrev pub settled_mode : PairMode → Bool → PairMode
 settled_mode Raising false = Paired
 settled_mode Raising true = Raising
 settled_mode Alone lacks = Alone

@@ -11,7 +11,7 @@ use Rattle.pw_locks.specs.Conflicts.{holders}
 use Rattle.pw_locks.specs.declared.lock.Lock.{Lock}
 use Rattle.pw_onecopy.specs.Behaviour.{Behaviour}
 use Rattle.pw_onecopy.specs.Operation.{answer_of, lock_for, records_behind, plain_op}
-use Rattle.pw_onecopy.specs.Path.{Replied, Failed, FileAnswer, is_outside, unit_number}
+use Rattle.pw_onecopy.specs.Path.{Replied, Failed, FileResult, is_outside, unit_number}
 use Rattle.pw_onecopy.specs.Update.{upd}
 use Rattle.pw_paired.specs.State.{Class, Job, State}
 use Rattle.pw_paired.specs.Terminal.{path_of}
@@ -57,7 +57,7 @@ lock_of_job sys state job call =
     (unit_of state job.request) call
 
 -- the answer of an operation on the files
-abbrev pub answer_on : Behaviour → State → FileCall → FileAnswer
+abbrev pub answer_on : Behaviour → State → FileCall → FileResult
 answer_on sys state call = answer_of (sys.key_length call.file) (state.files call.file) call.op call
 
 -- FILE c i op m f s: the server in process i next does op on f; m is the mode of its lock; no lock
@@ -75,7 +75,7 @@ pub record LegalFile (sys : Behaviour) (state : State) (c i : ℕ) (op : FileOp)
   pub free : holders (lock_of_job sys state job call) state.locks ≡ []
 
 -- a job with one more file answer
-abbrev pub with_answer : FileAnswer → Job → Job
+abbrev pub with_answer : FileResult → Job → Job
 with_answer answer job = record job { done = job.done ++ answer ∷ [] }
 
 -- a class with this at a process

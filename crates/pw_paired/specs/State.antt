@@ -6,20 +6,20 @@ use Rattle.pw_event.specs.declared.event.Ending.{Ending}
 use Rattle.pw_event.specs.declared.event.Event.{Event}
 use Rattle.pw_locks.specs.declared.lock.Lock.{Lock}
 use Rattle.pw_onecopy.specs.Behaviour.{Behaviour}
-use Rattle.pw_onecopy.specs.Path.{PathAnswer, FileAnswer}
+use Rattle.pw_onecopy.specs.Path.{PathAnswer, FileResult}
 
 -- the mode of a pair
-pub data Mode : Type 0 where
+pub data PairMode : Type 0 where
   -- one member works, and there is no backup
-  Alone : Mode
+  Alone : PairMode
   -- a backup exists and does not hold every live terminal
-  Raising : Mode
+  Raising : PairMode
   -- the backup holds every live terminal
-  Paired : Mode
+  Paired : PairMode
   -- the primary has failed, and the backup has not taken over
-  Down : Mode
+  Down : PairMode
   -- no member is left
-  Gone : Mode
+  Gone : PairMode
 
 -- a terminal: its path, the cause that is pending for it, and its ending
 pub record Term : Type 0 where
@@ -57,7 +57,7 @@ pub record BeforeImage : Type 0 where
 -- a request at a process, and what the server's file operations were answered so far
 pub record Job : Type 0 where
   pub request : Request
-  pub done : List FileAnswer
+  pub done : List FileResult
 
 -- a class: the requests that wait, in order, and what each process works on; processes count from 1
 pub record Class : Type 0 where
@@ -92,7 +92,7 @@ pub record State : Type 0 where
   pub classes : ℕ → Class
   pub terms : ℕ → Term
   -- the mode of each pair, and of each terminal what its backup holds and the message in flight
-  pub modes : ℕ → Mode
+  pub modes : ℕ → PairMode
   pub memory : ℕ → Option BackupCopy
   pub flight : ℕ → Option Message
 

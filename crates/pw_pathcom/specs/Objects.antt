@@ -14,8 +14,8 @@ use Rattle.pw_pathcom.specs.declared.commands.Commands.{Commands}
 use Rattle.pw_pathcom.specs.declared.commands.TermCommand.{TermCommand}
 use Rattle.pw_pathcom.specs.declared.verb.Object.{Object}
 use Rattle.pw_pathcom.specs.declared.verb.Object.TheVariants as object
-use Rattle.pw_pathcom.specs.declared.verb.Verb.{Verb}
-use Rattle.pw_pathcom.specs.declared.verb.Verb.TheVariants as verb
+use Rattle.pw_pathcom.specs.declared.verb.CommandVerb.{CommandVerb}
+use Rattle.pw_pathcom.specs.declared.verb.CommandVerb.TheVariants as verb
 use Rattle.pw_pathcom.specs.Verbs.{command_of}
 
 -- the name is one of some names
@@ -63,12 +63,12 @@ may_start commands line object.Term name =
     list_any (λ terminal. bytes_eq terminal.name name && (waits line terminal.line terminal.started && runs_before commands line terminal.tcp)) commands.terminals
 
 -- a START that may not be
-abbrev pub bad_start : Commands → ℕ → Verb → Option Word → List Fault
+abbrev pub bad_start : Commands → ℕ → CommandVerb → Option Word → List Fault
 bad_start commands line (verb.Start object) (Some name) = only_if (not (may_start commands line object name)) (fault_at line BadStart)
 bad_start commands line _ _ = []
 
 -- the same, of the command of a line
-abbrev pub bad_start_in : Commands → ℕ → Option (Verb × Word) → List Fault
+abbrev pub bad_start_in : Commands → ℕ → Option (CommandVerb × Word) → List Fault
 bad_start_in commands line None = []
 bad_start_in commands line (Some command) = bad_start commands line command.0 (name_in command.1)
 

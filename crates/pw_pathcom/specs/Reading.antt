@@ -7,18 +7,18 @@ use Rattle.pw_base.specs.declared.fault_code.FaultCode.TheVariants.{BadCommand, 
 use Rattle.pw_code.specs.Limits.{most_tcps, most_classes, most_terminals, most_processes, most_restarts}
 use Rattle.pw_lines.specs.Lines.{lines}
 use Rattle.pw_lines.specs.Steps.{◌>>=◌, refused, or_refused}
-use Rattle.pw_lines.specs.Words.{words, name_in, number_in}
+use Rattle.pw_lines.specs.Words.{words, name_in, word_number}
 use Rattle.pw_words.specs.Words.{Word}
 use Rattle.pw_pathcom.specs.declared.commands.ClassCommand.{ClassCommand}
 use Rattle.pw_pathcom.specs.declared.commands.Commands.{Commands}
 use Rattle.pw_pathcom.specs.declared.commands.Started.{Started}
 use Rattle.pw_pathcom.specs.declared.commands.TermCommand.{TermCommand}
-use Rattle.pw_pathcom.specs.declared.reading.Reading.{Reading}
+use Rattle.pw_pathcom.specs.declared.reading.CommandReading.{CommandReading}
 use Rattle.pw_pathcom.specs.declared.reading.Values.{Values}
 use Rattle.pw_pathcom.specs.declared.verb.Object.{Object}
 use Rattle.pw_pathcom.specs.declared.verb.Object.TheVariants as object
-use Rattle.pw_pathcom.specs.declared.verb.Verb.{Verb}
-use Rattle.pw_pathcom.specs.declared.verb.Verb.TheVariants as verb
+use Rattle.pw_pathcom.specs.declared.verb.CommandVerb.{CommandVerb}
+use Rattle.pw_pathcom.specs.declared.verb.CommandVerb.TheVariants as verb
 use Rattle.pw_pathcom.specs.Verbs.{command_of}
 
 -- what is set before the first command: no name, 5 restarts and 1 process
@@ -30,15 +30,15 @@ abbrev pub no_commands : Commands
 no_commands = record { tcps = []; classes = []; terminals = [] }
 
 -- where a reading starts
-abbrev pub starting : Reading
+abbrev pub starting : CommandReading
 starting = record { commands = no_commands; values = default_values }
 
 -- a reading with other values
-abbrev pub with_values : Reading → Values → Reading
+abbrev pub with_values : CommandReading → Values → CommandReading
 with_values reading values = record reading { values = values }
 
 -- a reading with other commands
-abbrev pub with_commands : Reading → Commands → Reading
+abbrev pub with_commands : CommandReading → Commands → CommandReading
 with_commands reading commands = record reading { commands = commands }
 
 -- the name that an operand is
@@ -51,7 +51,7 @@ checked line low high n = if nat_le low n && nat_le n high then Ok n else refuse
 
 -- the number that an operand is, in its range
 abbrev pub ranged : ℕ → ℕ → ℕ → Word → Result ℕ Fault
-ranged line low high operand = or_refused line BadCommand (number_in operand) >>= (λ n. checked line low high n)
+ranged line low high operand = or_refused line BadCommand (word_number operand) >>= (λ n. checked line low high n)
 
 -- an ADD is refused where the name is there, and where there are as many as may be
 abbrev pub admitted : ℕ → Bool → Bool → Result (Unit {0}) Fault
@@ -83,7 +83,7 @@ abbrev pub new_terminal : Values → ℕ → Word → TermCommand
 new_terminal values line name = record { name = name; tcp = values.tcp; program = values.initial; max_restarts = values.max_restarts; line = line; started = None }
 
 -- ADD of an object of a name
-abbrev pub added : ℕ → Reading → Object → Word → Result Reading Fault
+abbrev pub added : ℕ → CommandReading → Object → Word → Result CommandReading Fault
 added line reading object.Tcp name =
     admitted line (has_tcp reading.commands name) (nat_le most_tcps (length reading.commands.tcps))
     >>= (λ done. Ok (with_commands reading (record reading.commands { tcps = reading.commands.tcps ++ new_tcp line name ∷ [] })))
@@ -119,25 +119,25 @@ started line commands object.Server name = record commands { classes = map (star
 started line commands object.Term name = record commands { terminals = map (start_terminal line name) commands.terminals }
 
 -- a command is taken
-abbrev pub taken : ℕ → Reading → Verb → Word → Result Reading Fault
-taken line reading verb.SetTcp operand =
+abbrev pub command_taken : ℕ → CommandReading → CommandVerb → Word → Result CommandReading Fault
+command_taken line reading verb.SetTcp operand =
     named line operand >>= (λ name. Ok (with_values reading (record reading.values { tcp = name })))
-taken line reading verb.SetInitial operand =
+command_taken line reading verb.SetInitial operand =
     named line operand >>= (λ name. Ok (with_values reading (record reading.values { initial = name })))
-taken line reading verb.SetRestarts operand =
+command_taken line reading verb.SetRestarts operand =
     ranged line 0 most_restarts operand >>= (λ n. Ok (with_values reading (record reading.values { max_restarts = n })))
-taken line reading verb.SetProgram operand =
+command_taken line reading verb.SetProgram operand =
     named line operand >>= (λ name. Ok (with_values reading (record reading.values { program = name })))
-taken line reading verb.SetProcesses operand =
+command_taken line reading verb.SetProcesses operand =
     ranged line 1 most_processes operand >>= (λ n. Ok (with_values reading (record reading.values { processes = n })))
-taken line reading (verb.Add object) operand = named line operand >>= (λ name. added line reading object name)
-taken line reading (verb.Start object) operand =
+command_taken line reading (verb.Add object) operand = named line operand >>= (λ name. added line reading object name)
+command_taken line reading (verb.Start object) operand =
     named line operand >>= (λ name. Ok (with_commands reading (started line reading.commands object name)))
 
 -- the command of a line is taken, if it is one
-abbrev pub taken_if : ℕ → Reading → Option (Verb × Word) → Result Reading Fault
+abbrev pub taken_if : ℕ → CommandReading → Option (CommandVerb × Word) → Result CommandReading Fault
 taken_if line reading None = refused line BadCommand
-taken_if line reading (Some command) = taken line reading command.0 command.1
+taken_if line reading (Some command) = command_taken line reading command.0 command.1
 
 -- the line is a comment
 abbrev pub is_comment : List ℕ → Bool
@@ -150,12 +150,12 @@ is_none [] = true
 is_none (word ∷ rest) = false
 
 -- a line is read: an empty line and a comment say nothing
-abbrev pub line_read : ℕ → Reading → List ℕ → Result Reading Fault
+abbrev pub line_read : ℕ → CommandReading → List ℕ → Result CommandReading Fault
 line_read number reading line =
     if is_comment line || is_none (words line) then Ok reading else taken_if number reading (command_of (words line))
 
 -- lines are read one after the other, the first of them with a number
-unfoldable pub lines_read : ℕ → Reading → List (List ℕ) → Result Reading Fault
+unfoldable pub lines_read : ℕ → CommandReading → List (List ℕ) → Result CommandReading Fault
 lines_read number reading [] = Ok reading
 lines_read number reading (line ∷ rest) = line_read number reading line >>= (λ next. lines_read (number + 1) next rest)
 

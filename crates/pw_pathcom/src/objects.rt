@@ -7,7 +7,7 @@ ghost use Rattle.pw_pathcom.specs.Verbs.{command_of};
 ghost use Rattle.pw_pathcom.specs.Objects.{is_known, is_added_before, unknown_terminal, unknown_class, unknown, is_before, waits, runs_before, may_start, bad_start, bad_start_in, bad_starts, objects_of};
 
 use crate::commands::{ClassCommand, Commands, TermCommand};
-use crate::verb::{Object, Verb, command_of};
+use crate::verb::{Object, CommandVerb, command_of};
 use pw_base::bytes::Bytes;
 use pw_base::fault::{Fault, Refusal, noted};
 use pw_base::fault_code::FaultCode;
@@ -157,12 +157,12 @@ fn noted_start(
     known: Option<Fault>,
     commands: &Commands,
     line: u32,
-    verb: Verb,
+    verb: CommandVerb,
     operand: &[u8],
 ) -> Result<Option<Fault>, Memory>
     ensures { IfOk result (λ best. best ≡ least known (bad_start commands.now line verb (name_in operand.now))) }
 {
-    let Verb::Start(object) = verb else {
+    let CommandVerb::Start(object) = verb else {
         return Ok(known);
     };
     let Some(name) = name_in(alloc, operand)? else {

@@ -4,7 +4,7 @@ ghost use Rattle.pw_base.specs.Limits.{longest_input};
 ghost use Rattle.pw_pathcom.specs.Reading.{commands_of};
 
 use crate::commands::Commands;
-use crate::reading::Reading;
+use crate::reading::CommandReading;
 use pw_base::fault::Refusal;
 use pw_lines::line::next_line;
 use std::alloc::Global;
@@ -19,7 +19,7 @@ pub fn pathcom(alloc: Global, text: &[u8], first_line: u32) -> Result<Commands, 
     requires lines { (1 ≤ first_line) × (first_line ≤ longest_input + 1) }
     ensures { Gives (λ commands. commands) result (commands_of text.now first_line) }
 {
-    let mut reading = Reading::new(alloc);
+    let mut reading = CommandReading::new(alloc);
     let mut number = first_line;
     let mut rest = text;
     while let Some((line, behind)) = next_line(rest) {

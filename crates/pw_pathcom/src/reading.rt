@@ -1,10 +1,10 @@
 ghost use Rattle.std.specs.Prelude.{◌≡◌, map};
 ghost use Rattle.pw_base.specs.First.{Gives};
 ghost use Rattle.pw_pathcom.specs.declared.verb.Object.TheVariants.{Tcp, Term, Server};
-ghost use Rattle.pw_pathcom.specs.Reading.{named, checked, ranged, admitted, has_tcp, has_class, has_terminal, added, first_start, start_tcp, start_class, start_terminal, started, taken, is_comment, line_read, starting};
+ghost use Rattle.pw_pathcom.specs.Reading.{named, checked, ranged, admitted, has_tcp, has_class, has_terminal, added, first_start, start_tcp, start_class, start_terminal, started, command_taken, is_comment, line_read, starting};
 
 use crate::commands::{ClassCommand, Commands, Started, TermCommand};
-use crate::verb::{Object, Verb, command_of};
+use crate::verb::{Object, CommandVerb, command_of};
 use pw_base::bytes::Bytes;
 use pw_base::fault::Refusal;
 use pw_base::fault_code::FaultCode;
@@ -29,7 +29,7 @@ pub struct Values {
 
 /// What was added and set so far.
 #[derive(Debug, Drop)]
-pub struct Reading {
+pub struct CommandReading {
     pub commands: Commands,
     pub values: Values,
 }
@@ -212,12 +212,12 @@ impl Commands {
     }
 }
 
-impl Reading {
+impl CommandReading {
     /// Nothing is added, and each value is its default.
-    pub fn new(alloc: Global) -> Reading
+    pub fn new(alloc: Global) -> CommandReading
         ensures { result ≡ starting }
     {
-        Reading {
+        CommandReading {
             commands: Commands {
                 tcps: List::new(alloc),
                 classes: List::new(alloc),
@@ -296,24 +296,24 @@ impl Reading {
     }
 
     /// Takes a command.
-    fn take(&mut self, alloc: Global, line: u32, verb: Verb, operand: &[u8]) -> Result<(), Refusal>
-        ensures { Gives (λ done. self.new) result (taken line self.old verb operand.now) }
+    fn take(&mut self, alloc: Global, line: u32, verb: CommandVerb, operand: &[u8]) -> Result<(), Refusal>
+        ensures { Gives (λ done. self.new) result (command_taken line self.old verb operand.now) }
     {
         match verb {
-            Verb::SetTcp => self.values.tcp = named(alloc, line, operand)?,
-            Verb::SetInitial => self.values.initial = named(alloc, line, operand)?,
-            Verb::SetRestarts => {
+            CommandVerb::SetTcp => self.values.tcp = named(alloc, line, operand)?,
+            CommandVerb::SetInitial => self.values.initial = named(alloc, line, operand)?,
+            CommandVerb::SetRestarts => {
                 self.values.max_restarts = ranged(line, 0, MAX_RESTARTS, operand)?
             }
-            Verb::SetProgram => self.values.program = named(alloc, line, operand)?,
-            Verb::SetProcesses => {
+            CommandVerb::SetProgram => self.values.program = named(alloc, line, operand)?,
+            CommandVerb::SetProcesses => {
                 self.values.processes = ranged(line, 1, MAX_PROCESSES, operand)?
             }
-            Verb::Add(object) => {
+            CommandVerb::Add(object) => {
                 let name = named(alloc, line, operand)?;
                 return self.add(alloc, line, object, name);
             }
-            Verb::Start(object) => {
+            CommandVerb::Start(object) => {
                 let name = named(alloc, line, operand)?;
                 self.commands.start(alloc, line, object, name.as_slice());
             }

@@ -7,7 +7,7 @@ use pw_words::texts::pathcom_words;
 
 /// A word of the commands, or another word.
 #[derive(Clone, Copy, Debug)]
-pub enum Keyword {
+pub enum CommandKeyword {
     Set,
     Add,
     Start,
@@ -22,27 +22,27 @@ pub enum Keyword {
 }
 
 /// The keywords, in the order of the table of words.
-const KEYWORDS: [Keyword; 10] = [
-    Keyword::Set,
-    Keyword::Add,
-    Keyword::Start,
-    Keyword::Tcp,
-    Keyword::Term,
-    Keyword::Server,
-    Keyword::Initial,
-    Keyword::Program,
-    Keyword::MaxServers,
-    Keyword::MaxRestarts,
+const KEYWORDS: [CommandKeyword; 10] = [
+    CommandKeyword::Set,
+    CommandKeyword::Add,
+    CommandKeyword::Start,
+    CommandKeyword::Tcp,
+    CommandKeyword::Term,
+    CommandKeyword::Server,
+    CommandKeyword::Initial,
+    CommandKeyword::Program,
+    CommandKeyword::MaxServers,
+    CommandKeyword::MaxRestarts,
 ];
 
-impl Keyword {
+impl CommandKeyword {
     /// The keyword that a word is, in either case.
-    fn of(word: &[u8]) -> Keyword
+    fn of(word: &[u8]) -> CommandKeyword
         ensures { result ≡ keyword word.now }
     {
         match pathcom_words().find(word) {
             Some(place) => KEYWORDS[place],
-            None => Keyword::Other,
+            None => CommandKeyword::Other,
         }
     }
 }
@@ -57,7 +57,7 @@ pub enum Object {
 
 /// What a command does.
 #[derive(Clone, Copy, Debug)]
-pub enum Verb {
+pub enum CommandVerb {
     SetTcp,
     SetInitial,
     SetRestarts,
@@ -68,86 +68,86 @@ pub enum Verb {
 }
 
 /// The kind of object that a keyword names.
-fn object_of(kind: Keyword) -> Option<Object>
+fn object_of(kind: CommandKeyword) -> Option<Object>
     ensures { result ≡ object_of kind }
 {
     match kind {
-        Keyword::Tcp => Some(Object::Tcp),
-        Keyword::Term => Some(Object::Term),
-        Keyword::Server => Some(Object::Server),
+        CommandKeyword::Tcp => Some(Object::Tcp),
+        CommandKeyword::Term => Some(Object::Term),
+        CommandKeyword::Server => Some(Object::Server),
         _ => None,
     }
 }
 
 /// ADD or START of an object.
-fn deed(action: Keyword, kind: Keyword) -> Option<Verb>
+fn deed(action: CommandKeyword, kind: CommandKeyword) -> Option<CommandVerb>
     ensures { result ≡ deed action kind }
 {
     match action {
-        Keyword::Add => object_of(kind).map(Verb::Add),
-        Keyword::Start => object_of(kind).map(Verb::Start),
+        CommandKeyword::Add => object_of(kind).map(CommandVerb::Add),
+        CommandKeyword::Start => object_of(kind).map(CommandVerb::Start),
         _ => None,
     }
 }
 
 /// What is set for terminals.
-fn set_for_terminals(attribute: Keyword) -> Option<Verb>
+fn set_for_terminals(attribute: CommandKeyword) -> Option<CommandVerb>
     ensures { result ≡ set_for_terminals attribute }
 {
     match attribute {
-        Keyword::Tcp => Some(Verb::SetTcp),
-        Keyword::Initial => Some(Verb::SetInitial),
-        Keyword::MaxRestarts => Some(Verb::SetRestarts),
+        CommandKeyword::Tcp => Some(CommandVerb::SetTcp),
+        CommandKeyword::Initial => Some(CommandVerb::SetInitial),
+        CommandKeyword::MaxRestarts => Some(CommandVerb::SetRestarts),
         _ => None,
     }
 }
 
 /// What is set for servers.
-fn set_for_servers(attribute: Keyword) -> Option<Verb>
+fn set_for_servers(attribute: CommandKeyword) -> Option<CommandVerb>
     ensures { result ≡ set_for_servers attribute }
 {
     match attribute {
-        Keyword::Program => Some(Verb::SetProgram),
-        Keyword::MaxServers => Some(Verb::SetProcesses),
+        CommandKeyword::Program => Some(CommandVerb::SetProgram),
+        CommandKeyword::MaxServers => Some(CommandVerb::SetProcesses),
         _ => None,
     }
 }
 
 /// What is set for a kind of object.
-fn set_for(kind: Keyword, attribute: Keyword) -> Option<Verb>
+fn set_for(kind: CommandKeyword, attribute: CommandKeyword) -> Option<CommandVerb>
     ensures { result ≡ set_for kind attribute }
 {
     match kind {
-        Keyword::Term => set_for_terminals(attribute),
-        Keyword::Server => set_for_servers(attribute),
+        CommandKeyword::Term => set_for_terminals(attribute),
+        CommandKeyword::Server => set_for_servers(attribute),
         _ => None,
     }
 }
 
 /// SET of an attribute of a kind of object.
-fn setting(set: Keyword, kind: Keyword, attribute: Keyword) -> Option<Verb>
+fn setting(set: CommandKeyword, kind: CommandKeyword, attribute: CommandKeyword) -> Option<CommandVerb>
     ensures { result ≡ setting set kind attribute }
 {
     match set {
-        Keyword::Set => set_for(kind, attribute),
+        CommandKeyword::Set => set_for(kind, attribute),
         _ => None,
     }
 }
 
 /// What a command does, and its operand; None exactly where the words of the line are no command.
-pub fn command_of(line: &[u8]) -> Option<(Verb, &[u8])>
+pub fn command_of(line: &[u8]) -> Option<(CommandVerb, &[u8])>
     ensures { option_map (λ command. (command.0, command.1.now)) result ≡ command_of (words line.now) }
 {
     let (first, rest) = next_word(line)?;
     let (second, rest) = next_word(rest)?;
     let (third, rest) = next_word(rest)?;
     let Some((fourth, rest)) = next_word(rest) else {
-        let verb = deed(Keyword::of(first), Keyword::of(second))?;
+        let verb = deed(CommandKeyword::of(first), CommandKeyword::of(second))?;
         return Some((verb, third));
     };
     if !is_blank(rest) {
         return None;
     }
-    let verb = setting(Keyword::of(first), Keyword::of(second), Keyword::of(third))?;
+    let verb = setting(CommandKeyword::of(first), CommandKeyword::of(second), CommandKeyword::of(third))?;
     Some((verb, fourth))
 }

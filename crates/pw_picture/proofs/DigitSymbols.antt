@@ -3,7 +3,7 @@ use Rattle.std.proofs.Common.{◌≡◌, ℕ, ◌+◌, ◌≤◌, Bool, List, ta
 use Rattle.std.proofs.lemmas.List.{take-append-drop}
 use Rattle.std.proofs.lemmas.List.Sums.{sum_by-append}
 use Rattle.std.proofs.lemmas.Bool.Decides.{nat_tests}
-use Rattle.pw_picture.specs.Grammar.{digit_symbols, is_either, is_edited, is_body, is_run_of, after}
+use Rattle.pw_picture.specs.Grammar.{digit_symbols, is_either, is_edited, is_body, is_run_of, after_symbol}
 use Rattle.pw_picture.specs.Symbols.{begins_with}
 
 -- the digits in front and those behind are all
@@ -22,4 +22,4 @@ few_by digits a b d h = grind (arith, nat_tests)
 
 -- an edited picture has at most 18 digits
 pub few_digits : (symbols : List ℕ) → IsTrue (is_edited symbols) → digit_symbols symbols ≤ 18
-few_digits symbols h = few_by (digit_symbols symbols) (is_body (begins_with 45 symbols) (after 45 symbols)) (nat_le 1 (digit_symbols symbols)) (not (is_run_of 57 symbols)) h
+few_digits symbols h = few_by (digit_symbols symbols) (is_body (begins_with 45 symbols) (after_symbol 45 symbols)) (nat_le 1 (digit_symbols symbols)) (not (is_run_of 57 symbols)) h

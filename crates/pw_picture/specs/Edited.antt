@@ -13,8 +13,8 @@ is_edited_picture (picture.Number digits places sign) = false
 is_edited_picture (picture.Edited symbols) = true
 
 -- how many decimals a picture shows: the digits from its point on
-abbrev pub places_of : List ℕ → ℕ
-places_of symbols = digit_symbols (drop (length (take_while (λ symbol. not (symbol == 46)) symbols)) symbols)
+abbrev pub shown_decimals : List ℕ → ℕ
+shown_decimals symbols = digit_symbols (drop (length (take_while (λ symbol. not (symbol == 46)) symbols)) symbols)
 
 -- the digit of this weight
 abbrev pub digit_at : ℕ → ℕ → ℕ
@@ -41,7 +41,7 @@ shown_from nine negative size (symbol ∷ symbols) = shown nine negative size (d
 
 -- the digits that a number shows
 abbrev pub shown_size : List ℕ → Number → ℕ
-shown_size symbols n = size_at (places_of symbols) n % 10 ^ digit_symbols symbols
+shown_size symbols n = size_at (shown_decimals symbols) n % 10 ^ digit_symbols symbols
 
 -- the characters of a number in an edited picture; the shown number is negative where it is not zero
 abbrev pub edited : Picture → Number → List ℕ

@@ -19,9 +19,9 @@ abbrev pub past : ℕ → ℕ → List ℕ → List ℕ
 past first second symbols = drop (length (take_while (is_either first second) symbols)) symbols
 
 -- what is behind a symbol in front, where it is there
-abbrev pub after : ℕ → List ℕ → List ℕ
-after symbol [] = []
-after symbol (found ∷ rest) = if found == symbol then rest else found ∷ rest
+abbrev pub after_symbol : ℕ → List ℕ → List ℕ
+after_symbol symbol [] = []
+after_symbol symbol (found ∷ rest) = if found == symbol then rest else found ∷ rest
 
 -- the decimals behind the nines of a number: none, or a V and one or more 9
 abbrev pub decimals : List ℕ → Option ℕ
@@ -33,21 +33,21 @@ abbrev pub number_with : Bool → ℕ → ℕ → Option Picture
 number_with signed whole places = if nat_le 1 (whole + places) && nat_le (whole + places) 18 then Some (Number (whole + places) places signed) else None
 
 -- an optional S, nines, and decimals
-abbrev pub number_of : List ℕ → Option Picture
-number_of symbols =
-    let body = after 83 symbols in
+abbrev pub number_picture_of : List ℕ → Option Picture
+number_picture_of symbols =
+    let body = after_symbol 83 symbols in
     let whole = length (take_while (λ s. s == 57) body) in
     option_and_then (λ places. number_with (begins_with 83 symbols) whole places) (decimals (drop whole body))
 
 -- the end of an edited picture: nothing, or a `-` where there is no leading one
-abbrev pub is_end : Bool → List ℕ → Bool
-is_end leading [] = true
-is_end leading (last ∷ rest) = not leading && (last == 45 && length rest == 0)
+abbrev pub is_edited_end : Bool → List ℕ → Bool
+is_edited_end leading [] = true
+is_edited_end leading (last ∷ rest) = not leading && (last == 45 && length rest == 0)
 
 -- what is behind the digits before the point: an optional point with one or more 9, and the end
 abbrev pub is_tail : Bool → List ℕ → Bool
 is_tail leading [] = true
-is_tail leading (point ∷ rest) = if point == 46 then begins_with 57 rest && is_end leading (past 57 57 rest) else is_end leading (point ∷ rest)
+is_tail leading (point ∷ rest) = if point == 46 then begins_with 57 rest && is_edited_end leading (past 57 57 rest) else is_edited_end leading (point ∷ rest)
 
 -- Z and comma, then 9 and comma, and the rest
 abbrev pub is_body : Bool → List ℕ → Bool
@@ -60,18 +60,18 @@ digit_symbols symbols = count_by (is_either 57 90) symbols
 -- an optional `-` and a body, 1 to 18 digits, and not nines alone
 abbrev pub is_edited : List ℕ → Bool
 is_edited symbols =
-    is_body (begins_with 45 symbols) (after 45 symbols) && (nat_le 1 (digit_symbols symbols) && (nat_le (digit_symbols symbols) 18 && not (is_run_of 57 symbols)))
+    is_body (begins_with 45 symbols) (after_symbol 45 symbols) && (nat_le 1 (digit_symbols symbols) && (nat_le (digit_symbols symbols) 18 && not (is_run_of 57 symbols)))
 
 -- the picture of these symbols, of which there are not too many
-abbrev pub kind_of : List ℕ → Option Picture
-kind_of symbols =
+abbrev pub picture_of_symbols : List ℕ → Option Picture
+picture_of_symbols symbols =
     if is_run_of 88 symbols then Some (Text (length symbols))
     else if is_edited symbols then Some (Edited symbols)
-    else number_of symbols
+    else number_picture_of symbols
 
 -- the picture that a text is
 abbrev pub picture_of : List ℕ → Option Picture
-picture_of text = option_and_then kind_of (symbols_of text)
+picture_of text = option_and_then picture_of_symbols (symbols_of text)
 
 -- a picture is one that a text may be
 abbrev pub IsPicture : Picture → Type 0

@@ -2,7 +2,7 @@
 use Rattle.std.specs.Prelude.{ℕ, ◌-◌, Bool, false, ◌==◌}
 use Rattle.std.specs.List.{list_any}
 use Rattle.pw_picture.specs.Grammar.{digit_symbols}
-use Rattle.pw_picture.specs.Edited.{places_of}
+use Rattle.pw_picture.specs.Edited.{shown_decimals}
 use Rattle.pw_picture.specs.declared.picture.Picture.{Picture}
 use Rattle.pw_picture.specs.declared.picture.Picture.TheVariants.{Text, Number, Edited}
 
@@ -10,13 +10,13 @@ use Rattle.pw_picture.specs.declared.picture.Picture.TheVariants.{Text, Number, 
 abbrev pub whole_digits : Picture → ℕ
 whole_digits (Text size) = 0
 whole_digits (Number digits places signed) = digits - places
-whole_digits (Edited symbols) = digit_symbols symbols - places_of symbols
+whole_digits (Edited symbols) = digit_symbols symbols - shown_decimals symbols
 
 -- the digits behind it
 abbrev pub decimals_of : Picture → ℕ
 decimals_of (Text size) = 0
 decimals_of (Number digits places signed) = places
-decimals_of (Edited symbols) = places_of symbols
+decimals_of (Edited symbols) = shown_decimals symbols
 
 -- there is a place for a sign
 abbrev pub has_sign : Picture → Bool

@@ -1,10 +1,10 @@
 -- Runs of symbols, by their counts.
 use Rattle.std.specs.Prelude.{ℕ, ◌+◌, min, List, [], ◌∷◌, ◌++◌, replicate}
 use Rattle.pw_picture.specs.Symbols.{longest}
-use Rattle.pw_picture.specs.declared.run.Run.{Run}
+use Rattle.pw_picture.specs.declared.run.SymbolRun.{SymbolRun}
 
 -- the symbols of runs, one run after another
-abbrev pub spread : List Run → List ℕ
+abbrev pub spread : List SymbolRun → List ℕ
 spread [] = []
 spread (run ∷ runs) = replicate run.count run.symbol ++ spread runs
 

@@ -8,10 +8,10 @@ use Rattle.pw_picture.specs.declared.picture.Picture.{Picture}
 use Rattle.pw_picture.specs.declared.picture.Picture.TheVariants as picture
 
 -- the picture is a Number
-abbrev pub is_number : Picture → Bool
-is_number (picture.Text size) = false
-is_number (picture.Number digits places sign) = true
-is_number (picture.Edited symbols) = false
+abbrev pub is_numeric_picture : Picture → Bool
+is_numeric_picture (picture.Text size) = false
+is_numeric_picture (picture.Number digits places sign) = true
+is_numeric_picture (picture.Edited symbols) = false
 
 -- a character as a digit: one that is none counts as 0
 abbrev pub digit_of : ℕ → ℕ

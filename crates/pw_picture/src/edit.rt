@@ -1,7 +1,7 @@
 ghost use Rattle.std.specs.Prelude.{◌≡◌, ◌==◌, ◌<◌, ◌≤◌, ◌^◌, Bool, false, not, ◌&&◌, length, drop, take_while, IsTrue};
 ghost use Rattle.pw_picture.specs.Grammar.{IsPicture, size_of, is_either, digit_symbols};
 ghost use Rattle.pw_picture.specs.Stored.{is_negative};
-ghost use Rattle.pw_picture.specs.Edited.{is_edited_picture, places_of, digit_at, is_blank, shown, shown_from, shown_size, edited};
+ghost use Rattle.pw_picture.specs.Edited.{is_edited_picture, shown_decimals, digit_at, is_blank, shown, shown_from, shown_size, edited};
 
 use crate::picture::Picture;
 use crate::store::low_digits;
@@ -35,7 +35,7 @@ fn before_point(symbols: &[u8]) -> usize
 
 /// How many decimals a picture shows.
 pub fn places_of(symbols: &[u8]) -> usize
-    ensures places { result ≡ places_of symbols.now }
+    ensures places { result ≡ shown_decimals symbols.now }
     ensures bound { result ≤ digit_symbols symbols.now }
 {
     digit_symbols(&symbols[before_point(symbols)..])

@@ -1,40 +1,40 @@
 ghost use Rattle.std.specs.Prelude.{◌≡◌, ◌==◌, ◌+◌, ◌^◌, ◌<◌, ◌≤◌, false, length, take_while, IfSome};
 ghost use Rattle.std.specs.List.{list_all};
 ghost use Rattle.pw_picture.specs.Symbols.{may_repeat, longest};
-ghost use Rattle.pw_picture.specs.Grammar.{is_run_of, after, decimals, number_with, number_of};
+ghost use Rattle.pw_picture.specs.Grammar.{is_run_of, after_symbol, decimals, number_with, number_picture_of};
 ghost use Rattle.pw_picture.specs.Runs.{spread};
 
 use crate::picture::Picture;
-use crate::run::Run;
+use crate::run::SymbolRun;
 use crate::runs::{are_none, begin_with, length_of, strip};
 
 /// The most digits of a number.
 const MAX_DIGITS: usize = 18;
 
 /// Whether all symbols are this one.
-fn are_all(symbol: u8, runs: &[Run]) -> bool
+fn are_all(symbol: u8, runs: &[SymbolRun]) -> bool
     ensures { result ≡ list_all (λ run. run.symbol == symbol) runs.now }
 {
     runs.iter().all(|run| run.symbol == symbol)
 }
 
 /// Whether there are one or more symbols, and all are this one.
-pub fn are_run_of(symbol: u8, runs: &[Run]) -> bool
+pub fn are_run_of(symbol: u8, runs: &[SymbolRun]) -> bool
     ensures { result ≡ is_run_of symbol (spread runs.now) }
 {
     !are_none(runs) && are_all(symbol, runs)
 }
 
 /// What is behind a symbol in front, where it is there. The symbol may not have a count.
-pub fn after(symbol: u8, runs: &[Run]) -> &[Run]
+pub fn after(symbol: u8, runs: &[SymbolRun]) -> &[SymbolRun]
     requires { may_repeat symbol ≡ false }
-    ensures { spread result.now ≡ after symbol (spread runs.now) }
+    ensures { spread result.now ≡ after_symbol symbol (spread runs.now) }
 {
     strip(symbol, runs).unwrap_or(runs)
 }
 
 /// How many runs of nines are in front.
-fn nines_in_front(runs: &[Run]) -> usize
+fn nines_in_front(runs: &[SymbolRun]) -> usize
     ensures nines { result ≡ length (take_while (λ run. run.symbol == 57) runs.now) }
     ensures bound { result ≤ length runs.now }
 {
@@ -42,7 +42,7 @@ fn nines_in_front(runs: &[Run]) -> usize
 }
 
 /// The decimals behind a number's nines.
-fn decimals(runs: &[Run]) -> Option<usize>
+fn decimals(runs: &[SymbolRun]) -> Option<usize>
     requires { length (spread runs.now) ≤ longest }
     ensures decimals { result ≡ decimals (spread runs.now) }
     ensures few { IfSome result (λ places. places ≤ longest) }
@@ -72,9 +72,9 @@ fn number_with(signed: bool, whole: usize, places: usize) -> Option<Picture>
 }
 
 /// The number that the symbols are.
-pub fn number_of(runs: &[Run]) -> Option<Picture>
+pub fn number_of(runs: &[SymbolRun]) -> Option<Picture>
     requires { length (spread runs.now) ≤ longest }
-    ensures { result ≡ number_of (spread runs.now) }
+    ensures { result ≡ number_picture_of (spread runs.now) }
 {
     let body = after(b'S', runs);
     let (whole, behind) = body.split_at(nines_in_front(body));

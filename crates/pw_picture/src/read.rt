@@ -2,7 +2,7 @@ ghost use Rattle.std.specs.Prelude.{◌≡◌, ◌<◌, ◌≤◌, ◌^◌, leng
 ghost use Rattle.pw_number.specs.Number.{number};
 ghost use Rattle.pw_number.specs.Sign.{signed};
 ghost use Rattle.pw_picture.specs.Grammar.{IsPicture, size_of};
-ghost use Rattle.pw_picture.specs.Stored.{digit_of, value_of, number_of_chars, is_number, read_of};
+ghost use Rattle.pw_picture.specs.Stored.{digit_of, value_of, number_of_chars, is_numeric_picture, read_of};
 
 use crate::picture::Picture;
 use pw_number::scaled::Scaled;
@@ -64,7 +64,7 @@ impl Picture {
     /// picture is signed and the first character is `-`.
     pub fn read_number(&self, chars: &[u8]) -> Scaled
         requires picture { IsPicture self.now }
-        requires number { IsTrue (is_number self.now) }
+        requires number { IsTrue (is_numeric_picture self.now) }
         requires size { length chars.now ≡ size_of self.now }
         ensures { result ≡ read_of self.now chars.now }
     {

@@ -3,7 +3,7 @@ ghost use Rattle.pw_picture.specs.Symbols.{may_repeat};
 
 /// A symbol of a picture, and how often it stands there: once, where it may not have a count.
 #[derive(Clone, Copy, Debug)]
-pub struct Run {
+pub struct SymbolRun {
     pub symbol: u8,
     pub count: u32,
     ghost some: { 1 ≤ count },

@@ -3,7 +3,7 @@ ghost use Rattle.pw_picture.specs.Symbols.{may_repeat, begins_with, longest, wit
 ghost use Rattle.pw_picture.specs.Runs.{spread};
 
 use crate::fault::PictureFault;
-use crate::run::Run;
+use crate::run::SymbolRun;
 use crate::symbols::{LONGEST, count_behind};
 use pw_base::bytes::Bytes;
 use pw_base::list::List;
@@ -12,7 +12,7 @@ use std::alloc::Global;
 
 /// The run of symbols in front of a text, and what is behind it. A run that is longer than every
 /// picture is one longer than the longest.
-fn next_run(text: &[u8]) -> Option<(Run, &[u8])>
+fn next_run(text: &[u8]) -> Option<(SymbolRun, &[u8])>
     requires { 0 < length text.now }
     ensures none { IfNone result (symbols_behind 0 text.now ≡ None) }
     ensures run { IfSome result (λ found. found.0.count ≤ longest → symbols_behind 0 text.now
@@ -24,12 +24,12 @@ fn next_run(text: &[u8]) -> Option<(Run, &[u8])>
     let symbol = *symbol;
     let (count, size) = count_behind(symbol, behind)?;
     let (_, rest) = behind.split_at(size);
-    Some((Run { symbol, count }, rest))
+    Some((SymbolRun { symbol, count }, rest))
 }
 
 /// The symbols that a text stands for. It is `Bad` exactly where a count is out of place, or the
 /// symbols are too many.
-pub fn runs_of(alloc: Global, text: &[u8]) -> Result<List<Run>, PictureFault>
+pub fn runs_of(alloc: Global, text: &[u8]) -> Result<List<SymbolRun>, PictureFault>
     ensures symbols { IfOk result (λ runs. symbols_of text.now ≡ Some (spread runs)) }
     ensures bound { IfOk result (λ runs. length (spread runs) ≤ longest) }
     ensures bad { result ≡ Err PictureFault.Bad → symbols_of text.now ≡ None }
@@ -49,7 +49,7 @@ pub fn runs_of(alloc: Global, text: &[u8]) -> Result<List<Run>, PictureFault>
 }
 
 /// Whether the first symbol is this one.
-pub fn begin_with(wanted: u8, runs: &[Run]) -> bool
+pub fn begin_with(wanted: u8, runs: &[SymbolRun]) -> bool
     ensures { result ≡ begins_with wanted (spread runs.now) }
 {
     match runs.split_first() {
@@ -59,7 +59,7 @@ pub fn begin_with(wanted: u8, runs: &[Run]) -> bool
 }
 
 /// What is behind a symbol, where it is the first. It is none that may have a count.
-pub fn strip(symbol: u8, runs: &[Run]) -> Option<&[Run]>
+pub fn strip(symbol: u8, runs: &[SymbolRun]) -> Option<&[SymbolRun]>
     requires { may_repeat symbol ≡ false }
     ensures some { IfSome result (λ rest. spread runs.now ≡ symbol ∷ spread rest.now) }
     ensures none { IfNone result (begins_with symbol (spread runs.now) ≡ false) }
@@ -73,14 +73,14 @@ pub fn strip(symbol: u8, runs: &[Run]) -> Option<&[Run]>
 }
 
 /// Whether there are no symbols.
-pub fn are_none(runs: &[Run]) -> bool
+pub fn are_none(runs: &[SymbolRun]) -> bool
     ensures { result ≡ (length (spread runs.now) == 0) }
 {
     runs.is_empty()
 }
 
 /// How many symbols there are.
-pub fn length_of(runs: &[Run]) -> usize
+pub fn length_of(runs: &[SymbolRun]) -> usize
     requires { length (spread runs.now) ≤ longest }
     ensures { result ≡ length (spread runs.now) }
 {
@@ -92,7 +92,7 @@ pub fn length_of(runs: &[Run]) -> usize
 }
 
 /// Puts the symbols of a run behind the others.
-fn push_run(symbols: &mut Bytes, run: Run) -> Result<(), Memory>
+fn push_run(symbols: &mut Bytes, run: SymbolRun) -> Result<(), Memory>
     ensures { OnOk result (symbols.new ≡ symbols.old ++ replicate run.count run.symbol) }
 {
     for _ in 0..run.count {
@@ -102,7 +102,7 @@ fn push_run(symbols: &mut Bytes, run: Run) -> Result<(), Memory>
 }
 
 /// The symbols, written out.
-pub fn written_out(alloc: Global, runs: &[Run]) -> Result<Bytes, Memory>
+pub fn written_out(alloc: Global, runs: &[SymbolRun]) -> Result<Bytes, Memory>
     ensures { IfOk result (λ symbols. symbols ≡ spread runs.now) }
 {
     let mut symbols = Bytes::new(alloc);

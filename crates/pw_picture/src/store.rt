@@ -1,7 +1,7 @@
 ghost use Rattle.std.specs.Prelude.{◌≡◌, ◌%◌, ◌<◌, ◌≤◌, ◌^◌, ◌↔◌, length, IsTrue, IsOk, if◌then◌else◌, ◌+◌};
 ghost use Rattle.std.specs.Option.{SomeIff};
 ghost use Rattle.pw_picture.specs.Grammar.{IsPicture, size_of};
-ghost use Rattle.pw_picture.specs.Stored.{is_number, size_at, sign_of, digits_of, chars_of, is_negative, moved, is_kept, stored};
+ghost use Rattle.pw_picture.specs.Stored.{is_numeric_picture, size_at, sign_of, digits_of, chars_of, is_negative, moved, is_kept, stored};
 
 use crate::picture::Picture;
 use pw_number::power::power_of_ten;
@@ -95,7 +95,7 @@ impl Picture {
     /// and the sign where there is none. The picture is a Number.
     pub fn move_to(&self, value: Scaled, into: &mut [u8])
         requires picture { IsPicture self.now }
-        requires number { IsTrue (is_number self.now) }
+        requires number { IsTrue (is_numeric_picture self.now) }
         requires size { length into.old ≡ size_of self.now }
         ensures { into.new ≡ moved self.now value }
     {
@@ -116,7 +116,7 @@ impl Picture {
     /// sign. Then nothing is stored.
     pub fn store(&self, value: Scaled, into: &mut [u8]) -> Result<(), SizeError>
         requires picture { IsPicture self.now }
-        requires number { IsTrue (is_number self.now) }
+        requires number { IsTrue (is_numeric_picture self.now) }
         requires size { length into.old ≡ size_of self.now }
         ensures succeeds { IsOk result ↔ IsTrue (is_kept self.now value) }
         ensures chars { into.new ≡ stored self.now value into.old }

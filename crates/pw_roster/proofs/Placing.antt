@@ -16,10 +16,10 @@ use Rattle.std.specs.List.{sum_by}
 use Rattle.std.proofs.lemmas.List.{take-append-le, take_all}
 use Rattle.std.proofs.lemmas.List.Sums.{sum_by-set}
 use Rattle.pw_base.proofs.Plain.{cond_none}
-use Rattle.pw_roster.specs.Places.{NoneBelow, StartsAt, all_marked, blank, is_waiting, is_placed, is_same_actor, noted, notes_in, place_of, waiting, with_mark}
+use Rattle.pw_roster.specs.Places.{NoneBelow, StartsAt, all_marked, blank, is_waiting, is_placed, is_same_actor, actor_noted, notes_in, actor_place, waiting, with_mark}
 use Rattle.pw_roster.specs.declared.actor.Actor.{Actor}
 use Rattle.pw_roster.specs.declared.actor.Actor.TheVariants.{Terminal, Process, Pair, Class}
-use Rattle.pw_roster.specs.declared.roster.Note.{Note}
+use Rattle.pw_roster.specs.declared.roster.ActorNote.{ActorNote}
 
 -- two actors that are one are equal
 pub same-is : (a b : Actor) → is_same_actor a b ≡ true → a ≡ b
@@ -41,7 +41,7 @@ same-is (Class c) (Pair q) e = search rules
 same-is (Class c) (Class d) e = let h : c ≡ d = grind arith in ap Class h
 
 -- two actors with one place are one
-placed-apart : (a b : Actor) → is_placed a ≡ true → is_placed b ≡ true → place_of a ≡ place_of b → is_same_actor a b ≡ true
+placed-apart : (a b : Actor) → is_placed a ≡ true → is_placed b ≡ true → actor_place a ≡ actor_place b → is_same_actor a b ≡ true
 placed-apart (Terminal t) (Terminal u) low low' e = grind arith
 placed-apart (Terminal t) (Process d j) low low' e = grind arith
 placed-apart (Terminal t) (Pair q) low low' e = grind arith
@@ -60,24 +60,24 @@ placed-apart (Class c) (Pair q) low low' e = grind arith
 placed-apart (Class c) (Class d) low low' e = grind arith
 
 -- what is noted at a place
-notes-at : (notes : List Note) (a : Actor) → is_placed a ≡ true → notes_in notes a ≡ slice_index_or notes (place_of a) blank
+notes-at : (notes : List ActorNote) (a : Actor) → is_placed a ≡ true → notes_in notes a ≡ slice_index_or notes (actor_place a) blank
 notes-at notes a placed = cond-true (is_placed a) _ _ placed
 
 -- the note of another actor is left
-other-note : (notes : List Note) (a b : Actor) (new : Note) → is_placed a ≡ true → is_same_actor b a ≡ false
-    → notes_in (slice_set notes (place_of a) new) b ≡ notes_in notes b
+other-note : (notes : List ActorNote) (a b : Actor) (new : ActorNote) → is_placed a ≡ true → is_same_actor b a ≡ false
+    → notes_in (slice_set notes (actor_place a) new) b ≡ notes_in notes b
 other-note notes a b new placed ne =
     ⊎_elim
     (λ there.
-    let apart : place_of b ≢ place_of a = λ e. let is : is_same_actor b a ≡ true = placed-apart b a there placed e in cc (is, ne) in
-    notes-at (slice_set notes (place_of a) new) b there ∙ (get_or-set_other notes (place_of a) (place_of b) new blank apart ∙ sym (notes-at notes b there)))
+    let apart : actor_place b ≢ actor_place a = λ e. let is : is_same_actor b a ≡ true = placed-apart b a there placed e in cc (is, ne) in
+    notes-at (slice_set notes (actor_place a) new) b there ∙ (get_or-set_other notes (actor_place a) (actor_place b) new blank apart ∙ sym (notes-at notes b there)))
     (λ missing. cond-false (is_placed b) _ _ missing ∙ sym (cond-false (is_placed b) _ _ missing))
     (cases_Bool (is_placed b))
 
 -- one note is changed
-pub note-changed : (change : Note → Note) (notes : List Note) (a : Actor) (n : ℕ) (old new : Note) → length notes ≡ 408 → is_placed a ≡ true
-    → n ≡ place_of a → n < 408 → old ≡ slice_index_or notes n old → new ≡ change old
-    → notes_in (slice_set notes n new) ≡ noted a change (notes_in notes)
+pub note-changed : (change : ActorNote → ActorNote) (notes : List ActorNote) (a : Actor) (n : ℕ) (old new : ActorNote) → length notes ≡ 408 → is_placed a ≡ true
+    → n ≡ actor_place a → n < 408 → old ≡ slice_index_or notes n old → new ≡ change old
+    → notes_in (slice_set notes n new) ≡ actor_noted a change (notes_in notes)
 note-changed change notes a n old new size placed at low is made = fun_ext (λ b.
     ⊎_elim
     (λ same.
@@ -88,7 +88,7 @@ note-changed change notes a n old new size placed at low is made = fun_ext (λ b
     let read : notes_in (slice_set notes n new) a ≡ new =
     notes-at (slice_set notes n new) a placed
     ∙ (ap (λ k. slice_index_or (slice_set notes n new) k blank) (sym at) ∙ get_or-set_same notes n new blank lt) in
-    let there : noted a change (notes_in notes) b ≡ change (notes_in notes b) = cond-true (is_same_actor b a) _ _ same in
+    let there : actor_noted a change (notes_in notes) b ≡ change (notes_in notes b) = cond-true (is_same_actor b a) _ _ same in
     ap (notes_in (slice_set notes n new)) one
     ∙ (read ∙ (made ∙ (ap change was ∙ (ap (λ x. change (notes_in notes x)) (sym one) ∙ sym there)))))
     (λ ne.
@@ -106,25 +106,25 @@ blank-at n k =
     (λ high. get_or_past (replicate n blank) k blank (omega (arith, length-replicate n blank, high)))
     (cases_lt k n)
 
-pub all-blank : (notes : List Note) → notes ≡ replicate 408 blank → notes_in notes ≡ (λ actor. blank)
+pub all-blank : (notes : List ActorNote) → notes ≡ replicate 408 blank → notes_in notes ≡ (λ actor. blank)
 all-blank notes is = fun_ext (λ a.
     ap (λ ns. notes_in ns a) is
     ∙ ⊎_elim
-    (λ there. notes-at (replicate 408 blank) a there ∙ blank-at 408 (place_of a))
+    (λ there. notes-at (replicate 408 blank) a there ∙ blank-at 408 (actor_place a))
     (λ missing. cond-false (is_placed a) _ _ missing)
     (cases_Bool (is_placed a)))
 
 -- ---- the first that waits
 
 -- each place is below their number
-place-low : (a : Actor) → is_placed a ≡ true → place_of a < 408
+place-low : (a : Actor) → is_placed a ≡ true → actor_place a < 408
 place-low (Terminal t) e = grind arith
 place-low (Process c i) e = grind arith
 place-low (Pair p) e = grind arith
 place-low (Class c) e = grind arith
 
 -- where none below a place waits, nor any of so many from it on, none below the place behind those waits
-none-ahead : (notes : List Note) (from ahead : ℕ) → NoneBelow from notes → NoneBelow ahead (drop from notes) → NoneBelow (from + ahead) notes
+none-ahead : (notes : List ActorNote) (from ahead : ℕ) → NoneBelow from notes → NoneBelow ahead (drop from notes) → NoneBelow (from + ahead) notes
 none-ahead notes from ahead below next k lt =
     ⊎_elim
     (λ low. below k low)
@@ -136,7 +136,7 @@ none-ahead notes from ahead below next k lt =
     (cases_lt k from)
 
 -- the place that is found is where work is looked for from
-pub starts-ahead : (notes : List Note) (from ahead : ℕ) → StartsAt from notes → position is_waiting (drop from notes) ≡ Some ahead
+pub starts-ahead : (notes : List ActorNote) (from ahead : ℕ) → StartsAt from notes → position is_waiting (drop from notes) ≡ Some ahead
     → StartsAt (from + ahead) notes
 starts-ahead notes from ahead starts e =
     let first = position-Some is_waiting (drop from notes) ahead blank e in
@@ -147,7 +147,7 @@ starts-ahead notes from ahead starts e =
     }
 
 -- where none is found, nobody waits
-pub starts-at-end : (notes : List Note) (from : ℕ) → StartsAt from notes → position is_waiting (drop from notes) ≡ None → StartsAt 408 notes
+pub starts-at-end : (notes : List ActorNote) (from : ℕ) → StartsAt from notes → position is_waiting (drop from notes) ≡ None → StartsAt 408 notes
 starts-at-end notes from starts e =
     let rest = drop from notes in
     let past = cond_none _ _ e in
@@ -160,16 +160,16 @@ starts-at-end notes from starts e =
     }
 
 -- where work is looked for from the end on, no actor waits
-pub none-waits : (notes : List Note) → StartsAt 408 notes → (a : Actor) → is_waiting (notes_in notes a) ≡ false
+pub none-waits : (notes : List ActorNote) → StartsAt 408 notes → (a : Actor) → is_waiting (notes_in notes a) ≡ false
 none-waits notes starts a =
     ⊎_elim
-    (λ there. ap is_waiting (notes-at notes a there) ∙ starts.below (place_of a) (place-low a there))
+    (λ there. ap is_waiting (notes-at notes a there) ∙ starts.below (actor_place a) (place-low a there))
     (λ missing. ap is_waiting (cond-false (is_placed a) _ _ missing))
     (cases_Bool (is_placed a))
 
 -- the actor of the place that is found waits
-pub one-waits : (notes : List Note) (a : Actor) (from ahead : ℕ) → position is_waiting (drop from notes) ≡ Some ahead → is_placed a ≡ true
-    → place_of a ≡ from + ahead → is_waiting (notes_in notes a) ≡ true
+pub one-waits : (notes : List ActorNote) (a : Actor) (from ahead : ℕ) → position is_waiting (drop from notes) ≡ Some ahead → is_placed a ≡ true
+    → actor_place a ≡ from + ahead → is_waiting (notes_in notes a) ≡ true
 one-waits notes a from ahead e placed at =
     ap is_waiting
     (notes-at notes a placed
@@ -179,10 +179,10 @@ one-waits notes a from ahead e placed at =
 -- ---- marks
 
 -- where an actor that waits does so no more, fewer wait
-pub fewer-wait : (notes : List Note) (a : Actor) (n : ℕ) (new : Note) → length notes ≡ 408 → is_placed a ≡ true → n ≡ place_of a → n < 408
+pub fewer-wait : (notes : List ActorNote) (a : Actor) (n : ℕ) (new : ActorNote) → length notes ≡ 408 → is_placed a ≡ true → n ≡ actor_place a → n < 408
     → is_waiting new ≡ false → is_waiting (notes_in notes a) ≡ true → waiting (slice_set notes n new) < waiting notes
 fewer-wait notes a n new size placed at low rests waits =
-    let f : Note → ℕ = λ (note : Note). if is_waiting note then 1 else 0 in
+    let f : ActorNote → ℕ = λ (note : ActorNote). if is_waiting note then 1 else 0 in
     let was : is_waiting (slice_index_or notes n blank) ≡ true =
     ap is_waiting (ap (λ k. slice_index_or notes k blank) at ∙ sym (notes-at notes a placed)) ∙ waits in
     let one : f (slice_index_or notes n blank) ≡ 1 = ap (λ (b : Bool). if b then 1 else 0) was in
@@ -194,25 +194,25 @@ fewer-wait notes a n new size placed at low rests waits =
     less
 
 -- every note is marked
-pub marked-everywhere : (notes new : List Note) → length notes ≡ 408
+pub marked-everywhere : (notes new : List ActorNote) → length notes ≡ 408
     → ((k : ℕ) → k < length notes → slice_index_or new k blank ≡ with_mark true (slice_index_or notes k blank))
     → notes_in new ≡ all_marked (notes_in notes)
 marked-everywhere notes new size marks = fun_ext (λ a.
     ⊎_elim
     (λ there.
-    let low : place_of a < length notes = let below = place-low a there in omega (arith, size, below) in
+    let low : actor_place a < length notes = let below = place-low a there in omega (arith, size, below) in
     notes-at new a there
-    ∙ (marks (place_of a) low
+    ∙ (marks (actor_place a) low
     ∙ (ap (with_mark true) (sym (notes-at notes a there))
     ∙ sym (cond-true (is_placed a) (with_mark true (notes_in notes a)) (notes_in notes a) there))))
     (λ missing.
-    cond-false (is_placed a) (slice_index_or new (place_of a) blank) blank missing
-    ∙ (sym (cond-false (is_placed a) (slice_index_or notes (place_of a) blank) blank missing)
+    cond-false (is_placed a) (slice_index_or new (actor_place a) blank) blank missing
+    ∙ (sym (cond-false (is_placed a) (slice_index_or notes (actor_place a) blank) blank missing)
     ∙ sym (cond-false (is_placed a) (with_mark true (notes_in notes a)) (notes_in notes a) missing)))
     (cases_Bool (is_placed a)))
 
 -- what was written back whole is all that there is
-pub written-whole : (n : ℕ) (new rest : List Note) → n ≡ length new → take n (new ++ rest) ≡ new
+pub written-whole : (n : ℕ) (new rest : List ActorNote) → n ≡ length new → take n (new ++ rest) ≡ new
 written-whole n new rest is =
     let le : n ≤ length new = omega arith in
     let ge : length new ≤ n = omega arith in

@@ -1,7 +1,7 @@
 -- The place of each actor in one flat list, and what is noted of it there.
 use Rattle.std.specs.Prelude.{◌≡◌, ◌<◌, ◌≤◌, length, ℕ, ◌+◌, ◌-◌, ◌*◌, ◌==◌, ◌&&◌, nat_lt, nat_le, Bool, true, false, not, List, Option, Some, None, slice_index_or, if◌then◌else◌}
 use Rattle.std.specs.List.{sum_by}
-use Rattle.pw_roster.specs.declared.roster.Note.{Note}
+use Rattle.pw_roster.specs.declared.roster.ActorNote.{ActorNote}
 use Rattle.pw_roster.specs.declared.actor.Actor.{Actor}
 use Rattle.pw_roster.specs.declared.actor.Actor.TheVariants.{Terminal, Process, Pair, Class}
 
@@ -21,60 +21,60 @@ is_placed (Pair p) = nat_lt p 8
 is_placed (Class c) = nat_lt c 16
 
 -- terminals come first, then the processes of each class, the pairs and the classes
-abbrev pub place_of : Actor → ℕ
-place_of (Terminal t) = t
-place_of (Process c i) = 128 + c * 16 + (i - 1)
-place_of (Pair p) = 384 + p
-place_of (Class c) = 392 + c
+abbrev pub actor_place : Actor → ℕ
+actor_place (Terminal t) = t
+actor_place (Process c i) = 128 + c * 16 + (i - 1)
+actor_place (Pair p) = 384 + p
+actor_place (Class c) = 392 + c
 
 -- what is noted of an actor at first, and of one without a place
-abbrev pub blank : Note
+abbrev pub blank : ActorNote
 blank = record { stamp = 0; out = false; marked = false }
 
 -- what is noted of each actor
-abbrev pub notes_in : List Note → Actor → Note
-notes_in notes actor = if is_placed actor then slice_index_or notes (place_of actor) blank else blank
+abbrev pub notes_in : List ActorNote → Actor → ActorNote
+notes_in notes actor = if is_placed actor then slice_index_or notes (actor_place actor) blank else blank
 
 -- what is noted of one actor is changed
-abbrev pub noted : Actor → (Note → Note) → (Actor → Note) → Actor → Note
-noted actor change notes other =
+abbrev pub actor_noted : Actor → (ActorNote → ActorNote) → (Actor → ActorNote) → Actor → ActorNote
+actor_noted actor change notes other =
     if is_same_actor other actor then change (notes other) else notes other
 
 -- the state changed behind n entries
-abbrev pub stamped : ℕ → Note → Note
+abbrev pub stamped : ℕ → ActorNote → ActorNote
 stamped n note = record note { stamp = n }
 
 -- the actor is out, or is not
-abbrev pub with_out : Bool → Note → Note
+abbrev pub with_out : Bool → ActorNote → ActorNote
 with_out out note = record note { out = out }
 
 -- the actor is marked, or is not
-abbrev pub with_mark : Bool → Note → Note
+abbrev pub with_mark : Bool → ActorNote → ActorNote
 with_mark marked note = record note { marked = marked }
 
 -- every actor that has a place is looked at for work
-abbrev pub all_marked : (Actor → Note) → Actor → Note
+abbrev pub all_marked : (Actor → ActorNote) → Actor → ActorNote
 all_marked notes actor = if is_placed actor then with_mark true (notes actor) else notes actor
 
 -- the actor is marked and not out
-abbrev pub is_waiting : Note → Bool
+abbrev pub is_waiting : ActorNote → Bool
 is_waiting note = note.marked && not note.out
 
 -- how many actors are marked and not out
-abbrev pub waiting : List Note → ℕ
+abbrev pub waiting : List ActorNote → ℕ
 waiting notes = sum_by (λ note. if is_waiting note then 1 else 0) notes
 
 -- an actor that is marked and not out, or none where there is none
-abbrev pub IsNext : (Actor → Note) → Option Actor → Type 0
+abbrev pub IsNext : (Actor → ActorNote) → Option Actor → Type 0
 IsNext notes None = (actor : Actor) → is_waiting (notes actor) ≡ false
 IsNext notes (Some actor) = (is_placed actor ≡ true) × (is_waiting (notes actor) ≡ true)
 
 -- no actor below a place is marked and not out
-abbrev pub NoneBelow : ℕ → List Note → Type 0
+abbrev pub NoneBelow : ℕ → List ActorNote → Type 0
 NoneBelow from notes = (k : ℕ) → k < from → is_waiting (slice_index_or notes k blank) ≡ false
 
 -- there is a note at each place, and whoever waits has a place from this one on
-pub record StartsAt (from : ℕ) (notes : List Note) : Type 0 where
+pub record StartsAt (from : ℕ) (notes : List ActorNote) : Type 0 where
   pub size : length notes ≡ 408
   pub within : from ≤ 408
   pub below : NoneBelow from notes

@@ -1,5 +1,5 @@
 ghost use Rattle.std.specs.Prelude.{◌≡◌, ◌<◌, ℕ, ◌≤◌, true, IfOk, position, Some, false, length, slice_index_or};
-ghost use Rattle.pw_roster.specs.Places.{IsNext, all_marked, blank, is_placed, is_waiting, noted, notes_in, place_of, stamped, waiting, with_mark, with_out};
+ghost use Rattle.pw_roster.specs.Places.{IsNext, all_marked, blank, is_placed, is_waiting, actor_noted, notes_in, actor_place, stamped, waiting, with_mark, with_out};
 
 use crate::actor::Actor;
 use pw_base::memory::Memory;
@@ -12,7 +12,7 @@ const PLACES: usize = 408;
 
 /// What a world notes of an actor.
 #[derive(Clone, Copy, Debug, PartialEq, Eq)]
-pub struct Note {
+pub struct ActorNote {
     /// The length of the log when the actor's state last changed.
     pub stamp: u64,
     /// Whether it is out: its task was claimed, and no outcome of it was applied yet.
@@ -25,7 +25,7 @@ pub struct Note {
 /// Contracts see for each actor what is noted of it.
 #[derive(Debug, Drop)]
 pub struct Roster {
-    notes: Vec<Note>,
+    notes: Vec<ActorNote>,
     /// No actor whose place is before this one is marked and not out, so work is looked for from here.
     from: usize,
 }
@@ -33,7 +33,7 @@ pub struct Roster {
 impl Model for Roster {
     ghost use Rattle.std.specs.Prelude.{List};
     ghost use Rattle.pw_roster.specs.Places.{StartsAt};
-    ghost use Rattle.pw_roster.specs.declared.roster.Note.{Note as SeenNote};
+    ghost use Rattle.pw_roster.specs.declared.roster.ActorNote.{ActorNote as SeenNote};
 
     ghost Value = { List SeenNote };
 
@@ -47,7 +47,7 @@ impl Roster {
     pub fn new(alloc: Global) -> Result<Roster, Memory>
         ensures { IfOk result (λ roster. notes_in roster ≡ (λ actor. blank)) }
     {
-        let blank = Note {
+        let blank = ActorNote {
             stamp: 0,
             out: false,
             marked: false,
@@ -59,7 +59,7 @@ impl Roster {
     }
 
     /// What is noted of an actor.
-    pub fn get(&self, actor: Actor) -> Note
+    pub fn get(&self, actor: Actor) -> ActorNote
         requires { is_placed actor ≡ true }
         ensures { result ≡ notes_in self.now actor }
     {
@@ -69,7 +69,7 @@ impl Roster {
     /// The actor's state changes behind so many entries.
     pub fn stamp(&mut self, actor: Actor, length: u64)
         requires { is_placed actor ≡ true }
-        ensures { notes_in self.new ≡ noted actor (stamped length) (notes_in self.old) }
+        ensures { notes_in self.new ≡ actor_noted actor (stamped length) (notes_in self.old) }
     {
         self.notes[place_of(actor)].stamp = length;
     }
@@ -77,7 +77,7 @@ impl Roster {
     /// The actor is out from now on, or no more.
     pub fn set_out(&mut self, actor: Actor, out: bool)
         requires { is_placed actor ≡ true }
-        ensures { notes_in self.new ≡ noted actor (with_out out) (notes_in self.old) }
+        ensures { notes_in self.new ≡ actor_noted actor (with_out out) (notes_in self.old) }
     {
         let place = place_of(actor);
         self.notes[place].out = out;
@@ -89,7 +89,7 @@ impl Roster {
     /// The actor is looked at for work from now on, or no more.
     pub fn mark(&mut self, actor: Actor, marked: bool)
         requires { is_placed actor ≡ true }
-        ensures notes { notes_in self.new ≡ noted actor (with_mark marked) (notes_in self.old) }
+        ensures notes { notes_in self.new ≡ actor_noted actor (with_mark marked) (notes_in self.old) }
         ensures fewer { marked ≡ false → is_waiting (notes_in self.old actor) ≡ true
             → waiting self.new < waiting self.old }
     {
@@ -127,7 +127,7 @@ impl Roster {
 }
 
 /// Marks each of these notes.
-fn mark_each(notes: &mut [Note])
+fn mark_each(notes: &mut [ActorNote])
     ensures size { length notes.new ≡ length notes.old }
     ensures marks { (k : ℕ) → k < length notes.old
         → slice_index_or notes.new k blank ≡ with_mark true (slice_index_or notes.old k blank) }
@@ -138,7 +138,7 @@ fn mark_each(notes: &mut [Note])
 }
 
 /// The first place of which the actor is marked and not out.
-fn first_waiting(notes: &[Note]) -> Option<usize>
+fn first_waiting(notes: &[ActorNote]) -> Option<usize>
     ensures { result ≡ position is_waiting notes.now }
 {
     notes.iter().position(|note| note.marked && !note.out)
@@ -147,7 +147,7 @@ fn first_waiting(notes: &[Note]) -> Option<usize>
 /// The place of an actor.
 fn place_of(actor: Actor) -> usize
     requires { is_placed actor ≡ true }
-    ensures place { result ≡ place_of actor }
+    ensures place { result ≡ actor_place actor }
     ensures within { result < 408 }
 {
     match actor {
@@ -162,7 +162,7 @@ fn place_of(actor: Actor) -> usize
 fn actor_at(place: usize) -> Actor
     requires { place < 408 }
     ensures placed { is_placed result ≡ true }
-    ensures place { place_of result ≡ place }
+    ensures place { actor_place result ≡ place }
 {
     if place < 128 {
         Actor::Terminal(place as u32)

@@ -13,7 +13,7 @@ use Rattle.pw_roster.specs.contracts.roster.Roster as Roster
 use Rattle.pw_tmf.specs.declared.disc.Disc as Disc
 use Rattle.pw_run.proofs.lane.LinkLane.TheSendSync as lane
 use Rattle.pw_run.specs.contracts.shared.Shared as Shared
-use Rattle.pw_run.specs.contracts.workers.Lock as Lock
+use Rattle.pw_run.specs.contracts.workers.RunLock as Lock
 use Rattle.pw_run.specs.declared.shared.Naming as Naming
 
 refresh : IsSend Refresh.the_row

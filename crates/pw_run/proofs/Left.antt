@@ -14,11 +14,11 @@ use Rattle.pw_monitor_world.specs.Worlds.{Books, IsDiscOf, IsNew, IsWorld}
 use Rattle.pw_onecopy.specs.Behaviour.{Behaviour}
 use Rattle.pw_paired.specs.Step.{IsRun, after, is_finished}
 use Rattle.pw_run.specs.Endings.{EndsAs, status_of}
-use Rattle.pw_run.specs.Runs.{IsFailed, IsIdle, IsLeft, IsReported, Writing}
-use Rattle.pw_run.specs.declared.ending.Ended.{Ended}
+use Rattle.pw_run.specs.Runs.{IsFailed, IsSinkUntouched, IsLeft, IsReported, Writing}
+use Rattle.pw_run.specs.declared.ending.LogEnding.{LogEnding}
 use Rattle.pw_tmf.specs.Tells.{Tells}
 use Rattle.pw_tmf.specs.Told.{Told}
-use Rattle.pw_run.specs.Ends.{GoesOn, IsFor}
+use Rattle.pw_run.specs.Ends.{RunGoesOn, IsFor}
 
 pub for-new : (system : System) (lines : List FailLine) (disc : Told) (events : ℕ) (first world : Seen)
     → IsNew system lines disc events first
@@ -38,7 +38,7 @@ module _ (system : System) (lines : List FailLine) (events : ℕ) (disc : Told) 
   sys-same =
       ap (λ ls. behaviour ls world.system) same.script_is ∙ ap (λ (s : System). behaviour lines s) same.system_is
 
-  pub ends-same : (ended : Ended) → EndsAs ended world.limit (sys_of world) world.log
+  pub ends-same : (ended : LogEnding) → EndsAs ended world.limit (sys_of world) world.log
       → EndsAs ended events (behaviour lines system) world.log
   ends-same ended ends =
       subst (λ n. EndsAs ended n (behaviour lines system) world.log) same.limit_is
@@ -55,7 +55,7 @@ module _ (system : System) (lines : List FailLine) (events : ℕ) (disc : Told) 
     count = subst (λ n. min n (2 ^ 64 - 1) ≤ world.kept.disc.faults) same.count is.count;
   }
 
-  pub failed : (sink : Writing) → HasFailed world → GoesOn world → IsIdle sink
+  pub failed : (sink : Writing) → HasFailed world → RunGoesOn world → IsSinkUntouched sink
       → IsFailed (behaviour lines system) events disc world.log world.kept.disc DiscFault sink
   failed sink has on idle = record {
     status_is = refl;
@@ -65,7 +65,7 @@ module _ (system : System) (lines : List FailLine) (events : ℕ) (disc : Told) 
     idle = idle;
   }
 
-  pub reported : (sink : Writing) (ended : Ended) (status : Status) (text : List ℕ)
+  pub reported : (sink : Writing) (ended : LogEnding) (status : Status) (text : List ℕ)
       → EndsAs ended events (behaviour lines system) world.log
       → text ≡ report_text world.system (sys_of world) world.log
       → EndsWriting (status_of ended) status text sink.before sink.now sink.faults sink.faults_then

@@ -5,7 +5,7 @@ use Rattle.pw_code.specs.declared.system.System.{System}
 use Rattle.pw_event.specs.declared.event.Event.{Event}
 use Rattle.pw_listing.proofs.Printed.{files-same}
 use Rattle.pw_listing.specs.Lines.{last_line, line}
-use Rattle.pw_listing.specs.Listing.{counted, files_part, log_part, records_in, report_of, screens_part, serial_part}
+use Rattle.pw_listing.specs.Listing.{refreshes_counted_once, files_part, log_part, records_in, report_of, screens_part, serial_part}
 use Rattle.pw_listing.specs.Meaning.{printed}
 use Rattle.pw_onecopy.specs.Behaviour.{Behaviour}
 use Rattle.pw_onecopy.specs.declared.refresh.Refresh.{Refresh}
@@ -28,14 +28,14 @@ pub whole-same : (system own : System) (sys : Behaviour) (log entries : List Eve
     → own ≡ system → entries ≡ log → order ≡ map told (blocks sys log) → screens ≡ refreshes sys log
     → ((f : ℕ) → f < length system.files → records_in files f ≡ committed_files sys (after sys log) f)
     → finished ≡ is_finished sys (after sys log)
-    → report_of own order (counted screens) (records_in files) entries finished ≡ printed system sys log
+    → report_of own order (refreshes_counted_once screens) (records_in files) entries finished ≡ printed system sys log
 whole-same system own sys log entries order screens files finished own_is log_is order_is screens_are same finished_is =
-    ap (λ (s : System). report_of s order (counted screens) (records_in files) entries finished) own_is
-    ∙ (ap (λ (l : List Event). report_of system order (counted screens) (records_in files) l finished) log_is
-    ∙ (ap (λ (o : List Block). report_of system o (counted screens) (records_in files) log finished) order_is
-    ∙ (ap (λ (rs : List Refresh). report_of system (map told (blocks sys log)) (counted rs) (records_in files) log finished) screens_are
-    ∙ (ap (λ (b : Bool). report_of system (map told (blocks sys log)) (counted (refreshes sys log)) (records_in files) log b) finished_is
+    ap (λ (s : System). report_of s order (refreshes_counted_once screens) (records_in files) entries finished) own_is
+    ∙ (ap (λ (l : List Event). report_of system order (refreshes_counted_once screens) (records_in files) l finished) log_is
+    ∙ (ap (λ (o : List Block). report_of system o (refreshes_counted_once screens) (records_in files) log finished) order_is
+    ∙ (ap (λ (rs : List Refresh). report_of system (map told (blocks sys log)) (refreshes_counted_once rs) (records_in files) log finished) screens_are
+    ∙ (ap (λ (b : Bool). report_of system (map told (blocks sys log)) (refreshes_counted_once (refreshes sys log)) (records_in files) log b) finished_is
     ∙ ap (λ (part : List ℕ).
-    serial_part system (map told (blocks sys log)) ++ (screens_part system (counted (refreshes sys log)) ++ (part
+    serial_part system (map told (blocks sys log)) ++ (screens_part system (refreshes_counted_once (refreshes sys log)) ++ (part
     ++ (log_part system log ++ last_line (is_finished sys (after sys log))))))
     (part-same system files (committed_files sys (after sys log)) same)))))

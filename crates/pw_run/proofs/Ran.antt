@@ -1,6 +1,6 @@
 -- What a run with a report comes to, by what its calls answered.
 use Rattle.std.proofs.Common.{◌≡◌, ◌∙◌, ℕ, List, None, Some, ap, inl, inr, refl, subst, sym}
-use Rattle.pw_call.specs.Numbers.{number_of}
+use Rattle.pw_call.specs.Numbers.{status_number}
 use Rattle.pw_call.specs.Outputs.{EndsWriting}
 use Rattle.pw_call.specs.declared.status.Status.{Status}
 use Rattle.pw_call.specs.declared.status.Status.TheVariants.{DiscFault, Memory}
@@ -13,17 +13,17 @@ use Rattle.pw_monitor_world.specs.Seen.{sys_of}
 use Rattle.pw_monitor_world.specs.Worlds.{Books, IsDiscOf, IsWorld}
 use Rattle.pw_run.proofs.Left.{failed, left-is, reported}
 use Rattle.pw_run.specs.Endings.{status_of}
-use Rattle.pw_run.specs.Over.{Leaves}
+use Rattle.pw_run.specs.Over.{LeavesWorld}
 use Rattle.pw_run.specs.Runs.{HasLeft, LeavesIfAny, RunsWith, Writing}
-use Rattle.pw_run.specs.declared.ending.Ended.{Ended}
-use Rattle.pw_run.specs.declared.over.Over as over
-use Rattle.pw_run.specs.declared.over.Over.TheVariants as come
+use Rattle.pw_run.specs.declared.ending.LogEnding.{LogEnding}
+use Rattle.pw_run.specs.declared.over.RunEnding as over
+use Rattle.pw_run.specs.declared.over.RunEnding.TheVariants as come
 use Rattle.pw_run.specs.declared.run.Ran.{Ran}
 use Rattle.pw_tmf.specs.Told.{Told}
 
 module _ {D : Type 0} (told : D → Told) (system : System) (lines : List FailLine) (events : ℕ) (disc : D) where
   -- memory ran out
-  pub without : (ran : Ran D) (sink : Writing) → ran.status ≡ number_of Memory → ran.disc ≡ None
+  pub without : (ran : Ran D) (sink : Writing) → ran.status ≡ status_number Memory → ran.disc ≡ None
       → sink.now ≡ sink.before → sink.faults_then ≡ sink.faults
       → RunsWith told system lines events disc ran sink
   without ran sink number none text count = record {
@@ -33,7 +33,7 @@ module _ {D : Type 0} (told : D → Told) (system : System) (lines : List FailLi
         (refl, record { text = text; count = count });
   }
 
-  with : (ran : Ran D) (sink : Writing) (status : Status) (left : D) → ran.status ≡ number_of status
+  with : (ran : Ran D) (sink : Writing) (status : Status) (left : D) → ran.status ≡ status_number status
       → ran.disc ≡ Some left → HasLeft (behaviour lines system) system events (told disc) (told left) status sink
       → RunsWith told system lines events disc ran sink
   with ran sink status left number some has = record {
@@ -44,16 +44,16 @@ module _ {D : Type 0} (told : D → Told) (system : System) (lines : List FailLi
 
   module _ (world : WorldState D) (books : Books) (of : IsDiscOf system lines (told disc))
       (is : IsWorld (seen told world) books) (ran : Ran D) (sink : Writing) (left : D) (disc_is : left ≡ world.keep.disc)
-      (some : ran.disc ≡ Some left) (o : over.Over D) (leaves : Leaves told system lines events disc o) where
+      (some : ran.disc ≡ Some left) (o : over.RunEnding D) (leaves : LeavesWorld told system lines events disc o) where
     -- the run has ended
-    pub with-report : (ended : Ended) (given status : Status) (text : List ℕ) → o ≡ come.Ended ended world
+    pub with-report : (ended : LogEnding) (given status : Status) (text : List ℕ) → o ≡ come.Ended ended world
         → text ≡ report_text (seen told world).system (sys_of (seen told world)) (seen told world).log
         → given ≡ status_of ended
         → EndsWriting given status text sink.before sink.now sink.faults sink.faults_then
-        → ran.status ≡ number_of status → RunsWith told system lines events disc ran sink
+        → ran.status ≡ status_number status → RunsWith told system lines events disc ran sink
     with-report ended given status text ends said asked writing number =
-        let own : Leaves told system lines events disc (come.Ended ended world) =
-        subst (Leaves told system lines events disc) ends leaves in
+        let own : LeavesWorld told system lines events disc (come.Ended ended world) =
+        subst (LeavesWorld told system lines events disc) ends leaves in
         let wrote : EndsWriting (status_of ended) status text sink.before sink.now sink.faults sink.faults_then =
         subst (λ s. EndsWriting s status text sink.before sink.now sink.faults sink.faults_then) asked writing in
         with ran sink status world.keep.disc number (some ∙ ap Some disc_is) (record {
@@ -64,10 +64,10 @@ module _ {D : Type 0} (told : D → Told) (system : System) (lines : List FailLi
 
     -- the disc has failed
     pub with-fault : o ≡ come.Failed world → sink.now ≡ sink.before → sink.faults_then ≡ sink.faults
-        → ran.status ≡ number_of DiscFault → RunsWith told system lines events disc ran sink
+        → ran.status ≡ status_number DiscFault → RunsWith told system lines events disc ran sink
     with-fault fails text count number =
-        let own : Leaves told system lines events disc (come.Failed world) =
-        subst (Leaves told system lines events disc) fails leaves in
+        let own : LeavesWorld told system lines events disc (come.Failed world) =
+        subst (LeavesWorld told system lines events disc) fails leaves in
         with ran sink DiscFault world.keep.disc number (some ∙ ap Some disc_is) (record {
           log = (seen told world).log;
           left_is = left-is system lines events (told disc) (seen told world) own.0 books of is;

@@ -21,7 +21,7 @@ use Rattle.pw_order.proofs.Reading.{order-grows}
 use Rattle.pw_order.specs.Entries.{Shadow}
 use Rattle.pw_order.specs.Order.{blocks_behind, entry_order}
 use Rattle.pw_run.specs.Read.{IsReadTo}
-use Rattle.pw_order.specs.Shadow.{IsOf, IsTold, Stands, is_send}
+use Rattle.pw_order.specs.Shadow.{IsOfSystem, IsOneSendFlag, ShadowStands, is_send}
 use Rattle.pw_order.specs.declared.block.Block.{Block}
 use Rattle.pw_paired.specs.State.{starting}
 use Rattle.pw_paired.specs.Step.{IsRun, after}
@@ -57,7 +57,7 @@ begins sys log place t n r one here flag =
 
 -- the flag of a place tells what the reading of its entry asks
 pub flag-told : (sys : Behaviour) (log : List Event) (place : ℕ) (entry : Event) (one : Bool) → slice_get log place ≡ Some entry
-    → (IsTrue one ↔ BeginsOneSend sys log place) → IsTold sys (after sys (take place log)) entry one
+    → (IsTrue one ↔ BeginsOneSend sys log place) → IsOneSendFlag sys (after sys (take place log)) entry one
 flag-told sys log place (event.Begin t n r) one here flag = begins sys log place t n r one here flag
 flag-told sys log place (event.Show t phase attempt k) one here flag = tt
 flag-told sys log place (event.Key t k) one here flag = tt
@@ -91,7 +91,7 @@ pub run-to : (sys : Behaviour) (log : List Event) (n : ℕ) → IsRun sys log �
 run-to sys log n run = (IsRunFrom-split sys (starting sys) (take n log) (drop n log) (subst (IsRun sys) (sym (take-append-drop n log)) run)).0
 
 -- a system is that of its behaviour
-pub is-of : (system : System) (script : List FailLine) → IsOf system (behaviour script system)
+pub is-of : (system : System) (script : List FailLine) → IsOfSystem system (behaviour script system)
 is-of system script = record {
   terminals = refl;
   pairs = refl;
@@ -101,10 +101,10 @@ is-of system script = record {
 -- the reading is on behind one entry more
 pub read-on : (sys : Behaviour) (log : List Event) (place : ℕ) (entry : Event) (reading next : Shadow) (before behind : List Block)
     → slice_get log place ≡ Some entry → IsReadTo sys log place reading before
-    → Stands sys (take place log ++ entry ∷ []) next × (behind ≡ before ++ blocks_behind sys (take place log) entry)
+    → ShadowStands sys (take place log ++ entry ∷ []) next × (behind ≡ before ++ blocks_behind sys (take place log) entry)
     → IsReadTo sys log (place + 1) next behind
 read-on sys log place entry reading next before behind here read both = record {
-  stands = subst (λ l. Stands sys l next) (sym (more log place entry here)) both.0;
+  stands = subst (λ l. ShadowStands sys l next) (sym (more log place entry here)) both.0;
   blocks =
       both.1
       ∙ (ap (λ l. l ++ blocks_behind sys (take place log) entry) read.blocks
@@ -118,7 +118,7 @@ on-ok f (Err e) p = tt
 
 -- all entries are read
 pub read-all : (sys : Behaviour) (log : List Event) (n : ℕ) (reading : Shadow) (order : List Block) → IsReadTo sys log n reading order → length log ≤ n
-    → Stands sys log reading × (order ≡ entry_order sys log)
+    → ShadowStands sys log reading × (order ≡ entry_order sys log)
 read-all sys log n reading order read all =
     let whole : take n log ≡ log = take_all n log all in
-    (subst (λ l. Stands sys l reading) whole read.stands, read.blocks ∙ ap (entry_order sys) whole)
+    (subst (λ l. ShadowStands sys l reading) whole read.stands, read.blocks ∙ ap (entry_order sys) whole)

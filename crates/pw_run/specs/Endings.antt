@@ -11,8 +11,8 @@ use Rattle.pw_event.specs.declared.event.Event.TheVariants.{End}
 use Rattle.pw_listing.specs.Meaning.{report_text}
 use Rattle.pw_onecopy.specs.Behaviour.{Behaviour}
 use Rattle.pw_paired.specs.Step.{IsRun, after, is_finished}
-use Rattle.pw_run.specs.declared.ending.Ended.{Ended}
-use Rattle.pw_run.specs.declared.ending.Ended.TheVariants.{Full, Irregular, Regular}
+use Rattle.pw_run.specs.declared.ending.LogEnding.{LogEnding}
+use Rattle.pw_run.specs.declared.ending.LogEnding.TheVariants.{Full, Irregular, Regular}
 
 -- the ending is STOPPED or NOENTRIES
 abbrev pub is_regular_ending : Ending → Bool
@@ -30,24 +30,24 @@ abbrev pub all_regular : List Event → Bool
 all_regular log = list_all is_regular log
 
 -- the log is finished, with such endings alone or with another one; or it has as many entries as it may, and is not
-abbrev pub HasEndedAs : Ended → ℕ → Behaviour → List Event → Type 0
+abbrev pub HasEndedAs : LogEnding → ℕ → Behaviour → List Event → Type 0
 HasEndedAs Regular events sys log = (is_finished sys (after sys log) ≡ true) × (all_regular log ≡ true)
 HasEndedAs Irregular events sys log = (is_finished sys (after sys log) ≡ true) × (all_regular log ≡ false)
 HasEndedAs Full events sys log = (length log ≡ events) × (is_finished sys (after sys log) ≡ false)
 
 -- a log of at most so many entries has ended so
-pub record EndsAs (ended : Ended) (events : ℕ) (sys : Behaviour) (log : List Event) : Type 0 where
+pub record EndsAs (ended : LogEnding) (events : ℕ) (sys : Behaviour) (log : List Event) : Type 0 where
   pub room : length log ≤ events
   pub has : HasEndedAs ended events sys log
 
 -- the status of a run that ended so
-abbrev pub status_of : Ended → call.Status
+abbrev pub status_of : LogEnding → call.Status
 status_of Regular = status.Finished
 status_of Irregular = status.Irregular
 status_of Full = status.Limit
 
 -- the text is the report of a run that ended so
-pub record RunsTo (sys : Behaviour) (system : System) (events : ℕ) (ended : Ended) (text : List ℕ) : Type 0 where
+pub record IsReportOfRun (sys : Behaviour) (system : System) (events : ℕ) (ended : LogEnding) (text : List ℕ) : Type 0 where
   pub log : List Event
   pub run : IsRun sys log
   pub ends : EndsAs ended events sys log

@@ -9,7 +9,7 @@ use Rattle.pw_run.specs.declared.end.RunEnd.{RunEnd}
 use Rattle.pw_run.specs.declared.end.RunEnd.TheVariants.{Finished, Limit, DiscFault, Memory}
 
 -- the log is neither finished nor as long as it may be
-pub record GoesOn (world : Seen) : Type 0 where
+pub record RunGoesOn (world : Seen) : Type 0 where
   pub unfinished : finished world ≡ false
   pub room : ¬ IsFull world
 
@@ -18,8 +18,8 @@ pub record GoesOn (world : Seen) : Type 0 where
 abbrev pub EndsSo : RunEnd → Seen → Type 0
 EndsSo Finished world = finished world ≡ true
 EndsSo Limit world = IsFull world
-EndsSo DiscFault world = HasFailed world × GoesOn world
-EndsSo Memory world = GoesOn world
+EndsSo DiscFault world = HasFailed world × RunGoesOn world
+EndsSo Memory world = RunGoesOn world
 
 -- The world is over this system, with this script and limit, its log begins with this one, and this was its disc's
 -- count when it was made.

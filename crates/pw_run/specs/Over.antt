@@ -6,17 +6,17 @@ use Rattle.pw_exec.specs.OfSystem.{behaviour}
 use Rattle.pw_monitor.specs.States.{seen}
 use Rattle.pw_monitor_world.specs.Answers.{HasFailed}
 use Rattle.pw_run.specs.Endings.{EndsAs}
-use Rattle.pw_run.specs.declared.over.Over as over
-use Rattle.pw_run.specs.declared.over.Over.TheVariants.{Ended, Failed}
+use Rattle.pw_run.specs.declared.over.RunEnding as over
+use Rattle.pw_run.specs.declared.over.RunEnding.TheVariants.{Ended, Failed}
 use Rattle.pw_tmf.specs.Told.{Told}
-use Rattle.pw_run.specs.Ends.{GoesOn, IsFor}
+use Rattle.pw_run.specs.Ends.{RunGoesOn, IsFor}
 
 -- The world is one of this system, script and limit, over this disc: its log has ended so; or its disc has failed, and
 -- its log is neither finished nor as long as it may be.
-abbrev pub Leaves : {D : Type 0} → (D → Told) → System → List FailLine → ℕ → D → over.Over D → Type 0
-Leaves told system lines events disc (Ended ended world) =
+abbrev pub LeavesWorld : {D : Type 0} → (D → Told) → System → List FailLine → ℕ → D → over.RunEnding D → Type 0
+LeavesWorld told system lines events disc (Ended ended world) =
     IsFor system lines [] events (told disc).faults (seen told world)
     × EndsAs ended events (behaviour lines system) (seen told world).log
-Leaves told system lines events disc (Failed world) =
+LeavesWorld told system lines events disc (Failed world) =
     IsFor system lines [] events (told disc).faults (seen told world)
-    × (HasFailed (seen told world) × GoesOn (seen told world))
+    × (HasFailed (seen told world) × RunGoesOn (seen told world))

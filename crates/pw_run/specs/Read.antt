@@ -4,10 +4,10 @@ use Rattle.pw_event.specs.declared.event.Event.{Event}
 use Rattle.pw_onecopy.specs.Behaviour.{Behaviour}
 use Rattle.pw_order.specs.Entries.{Shadow}
 use Rattle.pw_order.specs.Order.{entry_order}
-use Rattle.pw_order.specs.Shadow.{Stands}
+use Rattle.pw_order.specs.Shadow.{ShadowStands}
 use Rattle.pw_order.specs.declared.block.Block.{Block}
 
 -- what the reading keeps stands behind the first n entries, and these are their blocks
 pub record IsReadTo (sys : Behaviour) (log : List Event) (n : ℕ) (reading : Shadow) (order : List Block) : Type 0 where
-  pub stands : Stands sys (take n log) reading
+  pub stands : ShadowStands sys (take n log) reading
   pub blocks : order ≡ entry_order sys (take n log)

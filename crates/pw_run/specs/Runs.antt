@@ -1,8 +1,8 @@
 -- What a run whose report is written comes to.
 use Rattle.std.specs.Prelude.{◌≡◌, ◌≢◌, ◌⊎◌, ◌-◌, ◌^◌, ℕ, ◌≤◌, false, List, length, min, Option, None, Some}
 use Rattle.pw_base.specs.Outside.{Rose}
-use Rattle.pw_call.specs.Numbers.{number_of}
-use Rattle.pw_call.specs.Outputs.{EndsWriting, IsWhole}
+use Rattle.pw_call.specs.Numbers.{status_number}
+use Rattle.pw_call.specs.Outputs.{EndsWriting, IsWrittenWhole}
 use Rattle.pw_call.specs.declared.status.Status.{Status}
 use Rattle.pw_call.specs.declared.status.Status.TheVariants.{DiscFault, Memory}
 use Rattle.pw_code.specs.declared.system.System.{System}
@@ -13,7 +13,7 @@ use Rattle.pw_listing.specs.Meaning.{report_text}
 use Rattle.pw_onecopy.specs.Behaviour.{Behaviour}
 use Rattle.pw_paired.specs.Step.{IsRun, after, is_finished}
 use Rattle.pw_run.specs.Endings.{EndsAs, status_of}
-use Rattle.pw_run.specs.declared.ending.Ended.{Ended}
+use Rattle.pw_run.specs.declared.ending.LogEnding.{LogEnding}
 use Rattle.pw_run.specs.declared.run.Ran.{Ran}
 use Rattle.pw_tmf.specs.Tells.{Tells}
 use Rattle.pw_tmf.specs.Told.{Told}
@@ -28,7 +28,7 @@ pub record Writing : Type 0 where
   pub faults_then : ℕ
 
 -- nothing is written, and no fault is counted
-pub record IsIdle (sink : Writing) : Type 0 where
+pub record IsSinkUntouched (sink : Writing) : Type 0 where
   pub text : sink.now ≡ sink.before
   pub count : sink.faults_then ≡ sink.faults
 
@@ -53,12 +53,12 @@ pub record IsFailed (sys : Behaviour) (events : ℕ) (disc : Told) (log : List E
   pub rose : Rose disc.faults left.faults
   pub unfinished : is_finished sys (after sys log) ≡ false
   pub short : length log ≢ events
-  pub idle : IsIdle sink
+  pub idle : IsSinkUntouched sink
 
 -- the run has ended so, and its report is written, or a beginning of it where the sink has failed
 pub record IsReported (sys : Behaviour) (system : System) (events : ℕ) (log : List Event) (status : Status)
     (sink : Writing) : Type 0 where
-  pub ended : Ended
+  pub ended : LogEnding
   pub ends : EndsAs ended events sys log
   pub written : EndsWriting (status_of ended) status (report_text system sys log)
       sink.before sink.now sink.faults sink.faults_then
@@ -75,7 +75,7 @@ pub record HasLeft (sys : Behaviour) (system : System) (events : ℕ) (disc left
 -- memory ran out, and nothing is written; or the run left a disc
 abbrev pub LeavesIfAny : {D : Type 0} → (D → Told) → System → List FailLine → ℕ → D → Status → Writing → Option D
     → Type 0
-LeavesIfAny told system lines events disc status sink None = (status ≡ Memory) × IsIdle sink
+LeavesIfAny told system lines events disc status sink None = (status ≡ Memory) × IsSinkUntouched sink
 LeavesIfAny told system lines events disc status sink (Some left) =
     HasLeft (behaviour lines system) system events (told disc) (told left) status sink
 
@@ -83,7 +83,7 @@ LeavesIfAny told system lines events disc status sink (Some left) =
 pub record RunsWith {D : Type 0} (told : D → Told) (system : System) (lines : List FailLine) (events : ℕ)
     (disc : D) (ran : Ran D) (sink : Writing) : Type 0 where
   pub status : Status
-  pub number : ran.status ≡ number_of status
+  pub number : ran.status ≡ status_number status
   pub leaves : LeavesIfAny told system lines events disc status sink ran.disc
 
 -- ---- a run without faults
@@ -97,10 +97,10 @@ IsUncounted told disc (Some left) = ¬ Rose (told disc).faults (told left).fault
 pub record HasEnded (sys : Behaviour) (system : System) (events number : ℕ) (sink : Writing) : Type 0 where
   pub log : List Event
   pub run : IsRun sys log
-  pub ended : Ended
+  pub ended : LogEnding
   pub ends : EndsAs ended events sys log
-  pub number_is : number ≡ number_of (status_of ended)
-  pub whole : IsWhole (report_text system sys log) sink.before sink.now sink.faults sink.faults_then
+  pub number_is : number ≡ status_number (status_of ended)
+  pub whole : IsWrittenWhole (report_text system sys log) sink.before sink.now sink.faults sink.faults_then
 
 -- where neither the disc nor the sink has counted a fault, the run has ended so, or memory ran out
 abbrev pub IsSure : {D : Type 0} → (D → Told) → System → List FailLine → ℕ → D → Ran D → Writing → Type 0

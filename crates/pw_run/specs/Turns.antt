@@ -6,8 +6,8 @@ use Rattle.pw_exec.specs.Sound.{IsSoundContext}
 use Rattle.pw_monitor_world.specs.Actors.{IsActor}
 use Rattle.pw_monitor_world.specs.declared.task.Task.{Task}
 use Rattle.pw_run.specs.declared.lane.LinkLane.{LinkLane}
-use Rattle.pw_run.specs.declared.turn.Turn.{Turn}
-use Rattle.pw_run.specs.declared.turn.Turn.TheVariants.{Build, Run, Wait, Stop}
+use Rattle.pw_run.specs.declared.turn.WorkerTurn.{WorkerTurn}
+use Rattle.pw_run.specs.declared.turn.WorkerTurn.TheVariants.{Build, Run, Wait, Stop}
 
 -- a task that can be run: it is one of the system, and its work is sound
 pub record CanRun (system : System) (task : Task) : Type 0 where
@@ -20,7 +20,7 @@ pub record CanBuild (system : System) (tcp : ℕ) (lane : LinkLane) : Type 0 whe
   pub waits : IsSome lane.waiting
 
 -- what a worker is given can be done in this system
-abbrev pub CanDo : System → Turn → Type 0
+abbrev pub CanDo : System → WorkerTurn → Type 0
 CanDo system (Build tcp lane) = CanBuild system tcp lane
 CanDo system (Run task) = CanRun system task
 CanDo system Wait = Unit {0}

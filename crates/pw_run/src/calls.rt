@@ -10,7 +10,7 @@ const FIRST: u32 = 1_000_000;
 /// made only where a task is worth that: where what is done under the lock is most of the work, one worker does it
 /// alone. It has no meaning.
 #[derive(Clone, Copy, Debug, PartialEq, Eq)]
-pub struct Calls {
+pub struct WorkerCalls {
     /// How many workers wait.
     waiting: u8,
     /// Whether one is called that has not come yet.
@@ -19,10 +19,10 @@ pub struct Calls {
     size: u32,
 }
 
-impl Calls {
+impl WorkerCalls {
     /// No worker waits, and no task was run.
-    pub const fn new() -> Calls {
-        Calls {
+    pub const fn new() -> WorkerCalls {
+        WorkerCalls {
             waiting: 0,
             is_open: false,
             size: FIRST,

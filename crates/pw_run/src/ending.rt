@@ -8,7 +8,7 @@ use pw_event::event::{Ending, Event};
 
 /// How the log of a run stands at its end (docs/DESK.md).
 #[derive(Clone, Copy, Debug, PartialEq, Eq)]
-pub enum Ended {
+pub enum LogEnding {
     /// Every terminal has ended, each STOPPED or NOENTRIES.
     Regular,
     /// Every terminal has ended, and one otherwise.
@@ -17,15 +17,15 @@ pub enum Ended {
     Full,
 }
 
-impl Ended {
+impl LogEnding {
     /// The status of a call that has run so: `Finished`, `Irregular` or `Limit`.
     pub fn status(self) -> Status
         ensures { result ≡ status_of self }
     {
         match self {
-            Ended::Regular => Status::Finished,
-            Ended::Irregular => Status::Irregular,
-            Ended::Full => Status::Limit,
+            LogEnding::Regular => Status::Finished,
+            LogEnding::Irregular => Status::Irregular,
+            LogEnding::Full => Status::Limit,
         }
     }
 }

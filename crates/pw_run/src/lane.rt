@@ -1,13 +1,6 @@
 ghost use Rattle.std.specs.Prelude.{◌≡◌, ◌+◌, IfOk, IsSome, None, Some};
 ghost use Rattle.std.specs.Option.{ForNone, ForSome, is_some};
-ghost use Rattle.pw_link.specs.Lanes.{
-  IsOn,
-  backup_lane,
-  message_number,
-  primary_lane,
-  sent_count,
-  taken_count,
-};
+ghost use Rattle.pw_link.specs.Lanes.{IsOn, backup_lane, message_number, primary_lane, sent_count, taken_count, };
 ghost use Rattle.pw_run.specs.Lanes.{waiting_in};
 
 use pw_base::memory::Memory;

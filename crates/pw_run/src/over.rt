@@ -10,10 +10,10 @@ ghost use Rattle.pw_monitor_world.specs.Seen.{finished, sys_of};
 ghost use Rattle.pw_monitor_world.specs.Worlds.{IsDiscOf};
 ghost use Rattle.pw_onecopy.specs.IsBehaviour.{IsBehaviour};
 ghost use Rattle.pw_run.specs.Endings.{EndsAs};
-ghost use Rattle.pw_run.specs.Over.{Leaves};
+ghost use Rattle.pw_run.specs.Over.{LeavesWorld};
 
 use crate::end::RunEnd;
-use crate::ending::{Ended, are_regular};
+use crate::ending::{LogEnding, are_regular};
 use crate::gate::Gate;
 use crate::workers::run_workers;
 use pw_base::memory::Memory;
@@ -27,9 +27,9 @@ use std::thread::Threads;
 
 /// What the run of a system over a disc comes to, with the world that it leaves.
 #[derive(Drop)]
-pub enum Over<D: Disc> {
+pub enum RunEnding<D: Disc> {
     /// The run has ended so.
-    Ended(Ended, World<D>),
+    Ended(LogEnding, World<D>),
     /// The disc has failed, and the log is neither finished nor full.
     Failed(World<D>),
 }
@@ -46,7 +46,7 @@ pub fn run_over<D: Disc, G: Gate, R: Threads + Wait + Sync>(
     workers: u8,
     events: u32,
     gate: &G,
-) -> Result<Over<D>, Memory>
+) -> Result<RunEnding<D>, Memory>
     requires valid { IsValid system }
     requires deck { IsBehaviour (behaviour script.lines system) }
     requires lines { All (IsLineThere system) script.lines }
@@ -54,29 +54,29 @@ pub fn run_over<D: Disc, G: Gate, R: Threads + Wait + Sync>(
     requires disc { IsDiscOf system script.lines (D.told disc) }
     requires workers { (1 ≤ workers) × (workers ≤ 16) }
     requires events { events ≤ most_log_lines }
-    ensures { IfOk result (Leaves D.told system script.lines events disc) }
+    ensures { IfOk result (LeavesWorld D.told system script.lines events disc) }
 {
     let first = World::new(alloc, system, script, disc, events)?;
     let (world, end) = run_workers(rt, alloc, first, workers, gate);
     match end {
         RunEnd::Finished => {
             let ended = ended_as(&world);
-            Ok(Over::Ended(ended, world))
+            Ok(RunEnding::Ended(ended, world))
         }
-        RunEnd::Limit => Ok(Over::Ended(Ended::Full, world)),
-        RunEnd::DiscFault => Ok(Over::Failed(world)),
+        RunEnd::Limit => Ok(RunEnding::Ended(LogEnding::Full, world)),
+        RunEnd::DiscFault => Ok(RunEnding::Failed(world)),
         RunEnd::Memory => Err(Memory),
     }
 }
 
 /// How a log has ended that is finished.
-fn ended_as<D: Disc>(world: &World<D>) -> Ended
+fn ended_as<D: Disc>(world: &World<D>) -> LogEnding
     requires { finished (seen D.told world.now) ≡ true }
     ensures { EndsAs result world.now.limit (sys_of (seen D.told world.now)) world.now.ledger.log }
 {
     if are_regular(world.log()) {
-        Ended::Regular
+        LogEnding::Regular
     } else {
-        Ended::Irregular
+        LogEnding::Irregular
     }
 }

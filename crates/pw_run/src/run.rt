@@ -1,7 +1,7 @@
 //! A run whose report is written.
 
 ghost use Rattle.std.specs.Prelude.{◌≡◌, ◌-◌, ◌<◌, ◌≤◌, ◌^◌, All, length};
-ghost use Rattle.pw_call.specs.Numbers.{number_of};
+ghost use Rattle.pw_call.specs.Numbers.{status_number};
 ghost use Rattle.pw_code.specs.Limits.{most_log_lines};
 ghost use Rattle.pw_code.specs.Valid.{IsValid};
 ghost use Rattle.pw_exec.specs.OfSystem.{behaviour};
@@ -11,7 +11,7 @@ ghost use Rattle.pw_onecopy.specs.IsBehaviour.{IsBehaviour};
 ghost use Rattle.pw_run.specs.Runs.{IsSure, RunsWith};
 
 use crate::gate::Gate;
-use crate::over::{Over, run_over};
+use crate::over::{RunEnding, run_over};
 use crate::report::report;
 use pw_base::memory::Memory;
 use pw_base::sink::Sink;
@@ -73,7 +73,7 @@ pub fn run_with<D: Disc, K: Sink, G: Gate, R: Threads + Wait + Sync>(
         Err(Memory) => return Ran::of(Status::Memory, None),
     };
     match over {
-        Over::Ended(ended, world) => {
+        RunEnding::Ended(ended, world) => {
             let Ok(text) = report(alloc, &world) else {
                 return Ran::of(Status::Memory, None);
             };
@@ -81,7 +81,7 @@ pub fn run_with<D: Disc, K: Sink, G: Gate, R: Threads + Wait + Sync>(
             let status = written(sink, ended.status(), text.as_slice());
             Ran::of(status, Some(world.into_disc()))
         }
-        Over::Failed(world) => {
+        RunEnding::Failed(world) => {
             world.holds();
             Ran::of(Status::DiscFault, Some(world.into_disc()))
         }
@@ -91,7 +91,7 @@ pub fn run_with<D: Disc, K: Sink, G: Gate, R: Threads + Wait + Sync>(
 impl<D: Disc> Ran<D> {
     /// What a call with this status leaves of its disc.
     fn of(status: Status, disc: Option<D>) -> Ran<D>
-        ensures status { result.status ≡ number_of status }
+        ensures status { result.status ≡ status_number status }
         ensures disc { result.disc ≡ disc }
     {
         Ran {

@@ -4,11 +4,11 @@ ghost use Rattle.std.specs.Prelude.{◌≡◌, ◌<◌, IfSome, None, length};
 ghost use Rattle.pw_monitor_world.specs.Actors.{IsActor};
 ghost use Rattle.pw_run.specs.Turns.{CanBuild, CanDo};
 
-use crate::calls::Calls;
+use crate::calls::WorkerCalls;
 use crate::end::{RunEnd, end_at_fault, end_of};
 use crate::lane::LinkLane;
 use crate::places::{is_any_waiting, lend_down, take_first};
-use crate::turn::Turn;
+use crate::turn::WorkerTurn;
 use pw_base::memory::Memory;
 use pw_monitor::world::World;
 use pw_monitor_world::answers::{Applied, Claim};
@@ -71,7 +71,7 @@ pub struct Shared<D: Disc, N: Naming> {
     pub(crate) ready: Option<Task>,
     pub(crate) end: Option<RunEnd>,
     /// Who waits, and whether to call one is worth it.
-    pub(crate) calls: Calls,
+    pub(crate) calls: WorkerCalls,
     pub(crate) of: PhantomData<N>,
 }
 
@@ -94,22 +94,22 @@ impl<D: Disc, N: Naming> Model for Shared<D, N> {
 
 impl<D: Disc, N: Naming> Shared<D, N> {
     /// What a worker does next. Images are built before anything is claimed.
-    pub fn next(&mut self) -> Turn
+    pub fn next(&mut self) -> WorkerTurn
         ensures { CanDo N.system result }
     {
         if self.end.is_some() {
-            return Turn::Stop;
+            return WorkerTurn::Stop;
         }
         if let Some((tcp, lane)) = self.waiting_lane() {
-            return Turn::Build { tcp, lane };
+            return WorkerTurn::Build { tcp, lane };
         }
         match mem::take(&mut self.ready) {
-            Some(task) => Turn::Run(task),
+            Some(task) => WorkerTurn::Run(task),
             None => self.claim(),
         }
     }
 
-    /// Calls a worker that waits, where tasks are worth it and there is more to do: an image to build, or a task, which is
+    /// WorkerCalls a worker that waits, where tasks are worth it and there is more to do: an image to build, or a task, which is
     /// claimed for it here.
     pub fn calls_another(&mut self) -> bool {
         if self.end.is_some() || !self.calls.is_worth() {
@@ -123,7 +123,7 @@ impl<D: Disc, N: Naming> Shared<D, N> {
     }
 
     /// What a worker does next that was called.
-    pub fn called(&mut self) -> Turn
+    pub fn called(&mut self) -> WorkerTurn
         ensures { CanDo N.system result }
     {
         self.calls.come();
@@ -138,11 +138,11 @@ impl<D: Disc, N: Naming> Shared<D, N> {
             return true;
         }
         match self.claim() {
-            Turn::Run(task) => {
+            WorkerTurn::Run(task) => {
                 self.ready = Some(task);
                 true
             }
-            Turn::Build { .. } | Turn::Wait | Turn::Stop => false,
+            WorkerTurn::Build { .. } | WorkerTurn::Wait | WorkerTurn::Stop => false,
         }
     }
 
@@ -155,16 +155,16 @@ impl<D: Disc, N: Naming> Shared<D, N> {
     }
 
     /// What the world has to be done, where the run goes on.
-    fn claim(&mut self) -> Turn
+    fn claim(&mut self) -> WorkerTurn
         requires { self.old.end ≡ None }
         ensures { CanDo N.system result }
     {
         match self.world.claim() {
-            Ok(Claim::Work(task)) => Turn::Run(task),
-            Ok(Claim::Idle) => Turn::Wait,
+            Ok(Claim::Work(task)) => WorkerTurn::Run(task),
+            Ok(Claim::Idle) => WorkerTurn::Wait,
             Ok(Claim::Finished) | Err(Memory) => {
                 self.end = Some(end_of(&self.world));
-                Turn::Stop
+                WorkerTurn::Stop
             }
         }
     }

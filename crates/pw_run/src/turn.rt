@@ -3,7 +3,7 @@ use pw_monitor_world::task::Task;
 
 /// What a worker does next.
 #[derive(Drop)]
-pub enum Turn {
+pub enum WorkerTurn {
     /// It builds the image for which a task waits on the lane of this pair.
     Build { tcp: usize, lane: LinkLane },
     /// It runs this task.

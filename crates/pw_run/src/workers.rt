@@ -7,12 +7,12 @@ ghost use Rattle.pw_monitor.specs.States.{seen};
 ghost use Rattle.pw_run.specs.Ends.{EndsSo, IsFor};
 ghost use Rattle.pw_run.specs.Turns.{CanBuild, CanDo, CanRun};
 
-use crate::calls::Calls;
+use crate::calls::WorkerCalls;
 use crate::end::{RunEnd, end_of};
 use crate::gate::{Gate, Step};
 use crate::lane::LinkLane;
 use crate::shared::{Naming, Shared};
-use crate::turn::Turn;
+use crate::turn::WorkerTurn;
 use pw_base::memory::Memory;
 use pw_code::copies::Duplicate;
 use pw_code::system::System;
@@ -28,14 +28,14 @@ use std::thread::{Threads, join};
 
 /// The lock of a run, and what tells that there is more to do.
 #[derive(Drop)]
-struct Lock<D: Disc, N: Naming> {
+struct RunLock<D: Disc, N: Naming> {
     shared: Mutex<Shared<D, N>>,
     more: Condvar,
 }
 
-impl<D: Disc, N: Naming> Lock<D, N> {
+impl<D: Disc, N: Naming> RunLock<D, N> {
     /// What the worker does next; where it waits, it has waited.
-    fn next<R: Wait>(&self, rt: &R) -> Turn
+    fn next<R: Wait>(&self, rt: &R) -> WorkerTurn
         ensures { CanDo N.system result }
     {
         self.leave(rt, self.shared.lock(rt))
@@ -43,14 +43,14 @@ impl<D: Disc, N: Naming> Lock<D, N> {
 
     /// What a worker does next that is done with something and has the lock. Where there is more to do, it
     /// calls another that waits.
-    fn leave<R: Wait>(&self, rt: &R, mut shared: MutexGuard<'_, Shared<D, N>>) -> Turn
+    fn leave<R: Wait>(&self, rt: &R, mut shared: MutexGuard<'_, Shared<D, N>>) -> WorkerTurn
         ensures { CanDo N.system result }
     {
         let turn = shared.next();
         match &turn {
-            Turn::Wait => return self.wait(rt, shared),
-            Turn::Stop => self.more.notify_all(),
-            Turn::Build { .. } | Turn::Run(_) => {
+            WorkerTurn::Wait => return self.wait(rt, shared),
+            WorkerTurn::Stop => self.more.notify_all(),
+            WorkerTurn::Build { .. } | WorkerTurn::Run(_) => {
                 let calls = shared.calls_another();
                 drop(shared);
                 if calls {
@@ -62,7 +62,7 @@ impl<D: Disc, N: Naming> Lock<D, N> {
     }
 
     /// Waits until another worker calls or the run has ended, and gives what the worker does then.
-    fn wait<R: Wait>(&self, rt: &R, mut shared: MutexGuard<'_, Shared<D, N>>) -> Turn
+    fn wait<R: Wait>(&self, rt: &R, mut shared: MutexGuard<'_, Shared<D, N>>) -> WorkerTurn
         ensures { CanDo N.system result }
     {
         shared.calls.wait();
@@ -70,14 +70,14 @@ impl<D: Disc, N: Naming> Lock<D, N> {
             !shared.calls.is_open() && shared.end.is_none()
         });
         let turn = called.called();
-        if matches!(&turn, Turn::Stop) {
+        if matches!(&turn, WorkerTurn::Stop) {
             self.more.notify_all();
         }
         turn
     }
 
     /// Runs a task outside the lock, passes the gate and applies what came of it.
-    fn run<G: Gate, R: Wait>(&self, rt: &R, system: &System, gate: &G, task: Task) -> Turn
+    fn run<G: Gate, R: Wait>(&self, rt: &R, system: &System, gate: &G, task: Task) -> WorkerTurn
         requires system { system.now ≡ N.system }
         requires valid { IsValid N.system }
         requires can { CanRun N.system task }
@@ -101,7 +101,7 @@ impl<D: Disc, N: Naming> Lock<D, N> {
     }
 
     /// Builds the image for which a task waits on a lane, outside the lock.
-    fn build<R: Wait>(&self, rt: &R, alloc: Global, tcp: usize, mut lane: LinkLane) -> Turn
+    fn build<R: Wait>(&self, rt: &R, alloc: Global, tcp: usize, mut lane: LinkLane) -> WorkerTurn
         requires { CanBuild N.system tcp lane }
         ensures { CanDo N.system result }
     {
@@ -116,7 +116,7 @@ impl<D: Disc, N: Naming> Lock<D, N> {
     }
 
     /// Want of memory ends the run.
-    fn end_for_memory<R: Wait>(&self, rt: &R) -> Turn
+    fn end_for_memory<R: Wait>(&self, rt: &R) -> WorkerTurn
         ensures { CanDo N.system result }
     {
         let mut shared = self.shared.lock(rt);
@@ -129,7 +129,7 @@ impl<D: Disc, N: Naming> Lock<D, N> {
 fn one<D: Disc, N: Naming, G: Gate, R: Wait>(
     rt: &R,
     alloc: Global,
-    lock: &Lock<D, N>,
+    lock: &RunLock<D, N>,
     system: &System,
     gate: &G,
 )
@@ -139,10 +139,10 @@ fn one<D: Disc, N: Naming, G: Gate, R: Wait>(
     let mut turn = lock.next(rt);
     for _ in rt.forever() {
         turn = match turn {
-            Turn::Build { tcp, lane } => lock.build(rt, alloc, tcp, lane),
-            Turn::Run(task) => lock.run(rt, system, gate, task),
-            Turn::Wait => lock.next(rt),
-            Turn::Stop => return,
+            WorkerTurn::Build { tcp, lane } => lock.build(rt, alloc, tcp, lane),
+            WorkerTurn::Run(task) => lock.run(rt, system, gate, task),
+            WorkerTurn::Wait => lock.next(rt),
+            WorkerTurn::Stop => return,
         };
     }
 }
@@ -152,7 +152,7 @@ fn one<D: Disc, N: Naming, G: Gate, R: Wait>(
 fn start<D: Disc, N: Naming, G: Gate, R: Threads + Wait + Sync>(
     rt: &R,
     alloc: Global,
-    lock: &Lock<D, N>,
+    lock: &RunLock<D, N>,
     system: &System,
     count: u8,
     gate: &G,
@@ -196,7 +196,7 @@ fn until_end<D: Disc, N: Naming, G: Gate, R: Threads + Wait + Sync>(
 {
     let mut shared = first;
     for _ in rt.forever() {
-        let lock = Lock {
+        let lock = RunLock {
             shared: Mutex::new(shared),
             more: Condvar::new(),
         };
@@ -252,7 +252,7 @@ fn run_named<D: Disc, N: Naming, G: Gate, R: Threads + Wait + Sync>(
         lanes,
         ready: None,
         end: None,
-        calls: Calls::new(),
+        calls: WorkerCalls::new(),
         of: PhantomData,
     };
     until_end(rt, alloc, shared, &system, count, gate)

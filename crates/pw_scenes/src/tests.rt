@@ -8,7 +8,7 @@ mod rounds;
 mod runs;
 mod statuses;
 
-use opening::{Opened, open};
+use opening::{OpenedDeck, open};
 use pw_event::event::Event;
 use pw_monitor::replay::MAX_ENTRIES;
 use pw_monitor::task::run_task;
@@ -25,7 +25,7 @@ use std::test::Fail;
 
 /// A new world of a deck over a disc whose calls of these numbers fail.
 fn world_of(alloc: Global, bytes: &[u8], fail_at: &[u64]) -> Result<World<Faulty<Tmf>>, Fail> {
-    let Opened {
+    let OpenedDeck {
         system,
         script,
         disc,

@@ -16,8 +16,8 @@ use Rattle.pw_text.specs.declared.token.Token.{Token}
 use Rattle.pw_text.specs.Cursor.{Left, has_kind, kind_place, is_the_word, begins_with, spelling, sees, sees_word, behind}
 use Rattle.pw_data.specs.Parts.{left_of, is_heading, part_of, parts_of}
 use Rattle.pw_divisions.specs.Divided.{DataDivision, Divided}
-use Rattle.pw_divisions.specs.Entries.{entries_of}
-use Rattle.pw_divisions.specs.Steps.{Step, and_then, ◌>>=◌, pure, word, period, size_up_to, some_tokens, up_to, between}
+use Rattle.pw_divisions.specs.Entries.{division_entries_of}
+use Rattle.pw_divisions.specs.Steps.{TokenStep, and_then, ◌>>=◌, pure, word, period, size_up_to, some_tokens, up_to, between}
 use Rattle.pw_divisions.specs.Divisions.{begins_division, begins_section, ends_text, identification, environment_text, environment, section_text, section, stored_sections, no_data, sections, data_sections, data_division, parameters, is_parameter, used_names, using_names, begins_procedure, period_behind, procedure_heading, front, source, divided, divisions_of}
 use Rattle.pw_scobol.proofs.Items.{Among}
 use Rattle.pw_scobol.proofs.Linkage.{HasNoHeading, Begins, entry-part}
@@ -25,12 +25,12 @@ use Rattle.pw_scobol.proofs.Linkage.{HasNoHeading, Begins, entry-part}
 -- ---- steps that go on
 
 -- a step and the one behind it
-record Goes {A B : Type 0} (first : Result (A × Left) Left) (next : A → Step B) (out : B × Left) : Type 0 where
+record Goes {A B : Type 0} (first : Result (A × Left) Left) (next : A → TokenStep B) (out : B × Left) : Type 0 where
   found : A × Left
   first_is : first ≡ Ok found
   next_is : next found.0 found.1 ≡ Ok out
 
-goes : {A B : Type 0} (first : Result (A × Left) Left) (next : A → Step B) (out : B × Left) → and_then first next ≡ Ok out → Goes first next out
+goes : {A B : Type 0} (first : Result (A × Left) Left) (next : A → TokenStep B) (out : B × Left) → and_then first next ≡ Ok out → Goes first next out
 goes (Ok found) next out is = record { found = found; first_is = refl; next_is = is }
 goes (Err left) next out is = absurd cc
 
@@ -45,7 +45,7 @@ period-ok : (left : Left) (found : Unit {0} × Left) → period left ≡ Ok foun
 period-ok left found is = taken-by (sees kind.Period left) left found is
 
 -- a step stays in its text
-abbrev Keeps : {A : Type 0} → Step A → Type 0
+abbrev Keeps : {A : Type 0} → TokenStep A → Type 0
 Keeps {A = A} step = (left : Left) (found : A × Left) → step left ≡ Ok found → found.1.text ≡ left.text
 
 keeps-word : (name : Word) → Keeps (word name)
@@ -57,7 +57,7 @@ keeps-period left found is = ap (λ (l : Left). l.text) (period-ok left found is
 keeps-pure : {A : Type 0} (value : A) → Keeps (pure value)
 keeps-pure {A = A} value left found is = ap (λ (f : A × Left). f.1.text) (same-ok (Ok found) found (value, left) refl (sym is))
 
-keeps-next : {A B : Type 0} (first : Step A) (next : A → Step B) → Keeps first → ((a : A) → Keeps (next a)) → Keeps (first >>= next)
+keeps-next : {A B : Type 0} (first : TokenStep A) (next : A → TokenStep B) → Keeps first → ((a : A) → Keeps (next a)) → Keeps (first >>= next)
 keeps-next first next keeps_first keeps_next left found is =
     let g = goes (first left) next found is in
     keeps_next g.found.0 g.found.1 found g.next_is ∙ keeps_first left g.found g.first_is
@@ -209,10 +209,10 @@ section-ok name left found rest is = section-by name left found rest (sees_word 
 
 -- each entry of LINKAGE SECTION is a part of the data
 abbrev pub AreParts : List ℕ → List Token → List Token → Type 0
-AreParts text stored linkage = (entry : List Token) → Among entry (entries_of linkage) → Among (part_of true entry) (parts_of text stored)
+AreParts text stored linkage = (entry : List Token) → Among entry (division_entries_of linkage) → Among (part_of true entry) (parts_of text stored)
 
 no-entries : (text : List ℕ) (stored : List Token) → AreParts text stored []
-unfolding entries_of
+unfolding division_entries_of
 no-entries text stored entry among = absurd among
 
 -- tokens in front of others, which stay in the text

@@ -13,9 +13,9 @@ use Rattle.pw_base.proofs.Plain.{append-none}
 use Rattle.pw_words.specs.Words.{Word, same_word}
 use Rattle.pw_text.specs.declared.token.Token.{Token}
 use Rattle.pw_data.specs.declared.entry.Entry.{Entry}
-use Rattle.pw_data.specs.declared.item.Table.{Table}
+use Rattle.pw_data.specs.declared.item.ItemTable.{ItemTable}
 use Rattle.pw_data.specs.declared.item.Item.{Item}
-use Rattle.pw_data.specs.Entries.{only_if, faults_of_parts}
+use Rattle.pw_data.specs.Entries.{data_fault_if, faults_of_parts}
 use Rattle.pw_data.specs.Parts.{parts_of}
 use Rattle.pw_data.specs.Tree.{Forest, Empty, Node, stands_in, inside, past, forest, tree_faults}
 use Rattle.pw_data.specs.Names.{name_of, is_this_name, is_taken, clashes}
@@ -67,7 +67,7 @@ Match-append text [] fs (i ∷ is) js front back = absurd front
 Match-append text (e ∷ es) fs [] js front back = absurd front
 Match-append text (e ∷ es) fs (i ∷ is) js front back = (front.0, Match-append text es fs is js front.1 back)
 
-items-match : (text : List ℕ) (at : ℕ) (around : Table) (f : Forest) → Match text (flat f) (items_in text at around f)
+items-match : (text : List ℕ) (at : ℕ) (around : ItemTable) (f : Forest) → Match text (flat f) (items_in text at around f)
 items-match text at around Empty = tt
 items-match text at around (Node e ms r) = (
   record { name = refl; level = refl; linked = refl },
@@ -92,10 +92,10 @@ not_taken-less text before e (Some name) none =
 not_taken : (text : List ℕ) (before es : List Entry) (E : Entry) → clashes text before es ≡ [] → Among E es → is_taken text before (name_of text E) ≡ false
 not_taken text before [] E none among = absurd among
 not_taken text before (e ∷ es) E none (inl same) =
-    let here = no_fault-here (is_taken text before (name_of text e)) e.line NameTwice (append-none (only_if (is_taken text before (name_of text e)) e.line NameTwice) (clashes text (before ++ e ∷ []) es) none).0 in
+    let here = no_fault-here (is_taken text before (name_of text e)) e.line NameTwice (append-none (data_fault_if (is_taken text before (name_of text e)) e.line NameTwice) (clashes text (before ++ e ∷ []) es) none).0 in
     ap (λ (x : Entry). is_taken text before (name_of text x)) same ∙ here
 not_taken text before (e ∷ es) E none (inr more) =
-    let rest = (append-none (only_if (is_taken text before (name_of text e)) e.line NameTwice) (clashes text (before ++ e ∷ []) es) none).1 in
+    let rest = (append-none (data_fault_if (is_taken text before (name_of text e)) e.line NameTwice) (clashes text (before ++ e ∷ []) es) none).1 in
     (not_taken-less text before e (name_of text E) (not_taken text (before ++ e ∷ []) es E rest more)).0
 
 -- the same of an entry and one behind it
@@ -142,7 +142,7 @@ module _ (text : List ℕ) (E : Entry) (own word : Word) (own_is : name_of text 
   found-among before [] is match none among = absurd among
   found-among before (e ∷ es) [] match none among = absurd match
   found-among before (e ∷ es) (i ∷ is) match none among =
-      let rest = (append-none (only_if (is_taken text before (name_of text e)) e.line NameTwice) (clashes text (before ++ e ∷ []) es) none).1 in
+      let rest = (append-none (data_fault_if (is_taken text before (name_of text e)) e.line NameTwice) (clashes text (before ++ e ∷ []) es) none).1 in
       found-by (is_this_name i.name word) before es e i is refl match.0 rest among (λ more. found-among (before ++ e ∷ []) es is match.1 rest more)
 
 -- a layout has the item of an entry with a name, and finds it by the name

@@ -6,7 +6,7 @@ use Rattle.pw_text.specs.declared.token.TokenKind.TheVariants as kind
 use Rattle.pw_text.specs.declared.token.Token.{Token}
 use Rattle.pw_text.specs.Cursor.{has_kind, is_the_word}
 use Rattle.pw_data.specs.Parts.{left_of, is_heading, is_linkage, heading_size, ends_entry, entry_size, Part, part_of, parts_from, parts_of}
-use Rattle.pw_divisions.specs.Entries.{joined, entries_of}
+use Rattle.pw_divisions.specs.Entries.{token_joined, division_entries_of}
 use Rattle.pw_scobol.proofs.Items.{Among}
 
 -- no section begins at one of the tokens
@@ -17,7 +17,7 @@ HasNoHeading text (token ∷ tokens) = (is_heading (left_of text (token ∷ toke
 -- ---- the entries of a section
 
 joined-parts : (x : Token) (es : List (List Token)) (t : List Token) (ps : List Part) → map (part_of true) es ≡ part_of true t ∷ ps
-    → map (part_of true) (joined x es) ≡ part_of true (x ∷ t) ∷ ps
+    → map (part_of true) (token_joined x es) ≡ part_of true (x ∷ t) ∷ ps
 joined-parts x [] t ps is = absurd cc
 joined-parts x (e ∷ es) t ps is =
     let first : part_of true e ≡ part_of true t = cc in
@@ -58,12 +58,12 @@ skipped text linked zero x xs some = absurd (omega arith)
 skipped text linked (suc n) x xs some = ap (λ k. parts_from text linked k xs) (omega arith)
 
 module _ (text : List ℕ) (x y : Token) (r : List Token) (none : is_heading (left_of text (x ∷ y ∷ r)) ≡ false) (none-next : is_heading (left_of text (y ∷ r)) ≡ false) where
-  longer : has_kind kind.Period x ≡ false → map (part_of true) (entries_of (y ∷ r)) ≡ parts_from text true 0 (y ∷ r)
-      → map (part_of true) (joined x (entries_of (y ∷ r))) ≡ parts_from text true 0 (x ∷ y ∷ r)
+  longer : has_kind kind.Period x ≡ false → map (part_of true) (division_entries_of (y ∷ r)) ≡ parts_from text true 0 (y ∷ r)
+      → map (part_of true) (token_joined x (division_entries_of (y ∷ r))) ≡ parts_from text true 0 (x ∷ y ∷ r)
   longer goes_on rest =
       let n : ℕ = entry_size text (y ∷ r) in
       let size : entry_size text (x ∷ y ∷ r) ≡ suc n = size-more text x (y ∷ r) (rw (goes_on, none-next) refl) ∙ omega arith in
-      joined-parts x (entries_of (y ∷ r)) (take n (y ∷ r)) (rest_parts text n r) (rest ∙ parts-here text y r none-next)
+      joined-parts x (division_entries_of (y ∷ r)) (take n (y ∷ r)) (rest_parts text n r) (rest ∙ parts-here text y r none-next)
       ∙ ap (λ (ps : List Part). part_of true (x ∷ take n (y ∷ r)) ∷ ps) (sym (skipped text true n y r (size-some text y r)))
       ∙ ap (λ k. part_of true (x ∷ take n (y ∷ r)) ∷ parts_from text true k (y ∷ r)) (omega arith)
       ∙ sym (ap (λ s. first_part text s x (y ∷ r)) size) ∙ sym (parts-here text x (y ∷ r) none)
@@ -81,21 +81,21 @@ last-by text x false ends none = rw (none, ends) refl
 last-part : (text : List ℕ) (x : Token) → is_heading (left_of text (x ∷ [])) ≡ false → parts_from text true 0 (x ∷ []) ≡ part_of true (x ∷ []) ∷ []
 last-part text x none = last-by text x (ends_entry text x []) refl none
 
-entries-alone_by : (text : List ℕ) (x : Token) (b : Bool) → has_kind kind.Period x ≡ b → entries_of (x ∷ []) ≡ (x ∷ []) ∷ []
-unfolding entries_of
+entries-alone_by : (text : List ℕ) (x : Token) (b : Bool) → has_kind kind.Period x ≡ b → division_entries_of (x ∷ []) ≡ (x ∷ []) ∷ []
+unfolding division_entries_of
 entries-alone_by text x true is = rw is refl
 entries-alone_by text x false is = rw is refl
 
-entries-period : (x : Token) (xs : List Token) → has_kind kind.Period x ≡ true → entries_of (x ∷ xs) ≡ (x ∷ []) ∷ entries_of xs
-unfolding entries_of
+entries-period : (x : Token) (xs : List Token) → has_kind kind.Period x ≡ true → division_entries_of (x ∷ xs) ≡ (x ∷ []) ∷ division_entries_of xs
+unfolding division_entries_of
 entries-period x xs is = rw is refl
 
-entries-joined : (x : Token) (xs : List Token) → has_kind kind.Period x ≡ false → entries_of (x ∷ xs) ≡ joined x (entries_of xs)
-unfolding entries_of
+entries-joined : (x : Token) (xs : List Token) → has_kind kind.Period x ≡ false → division_entries_of (x ∷ xs) ≡ token_joined x (division_entries_of xs)
+unfolding division_entries_of
 entries-joined x xs is = rw is refl
 
 next-by : (text : List ℕ) (x y : Token) (r : List Token) (b : Bool) → has_kind kind.Period x ≡ b → HasNoHeading text (x ∷ y ∷ r)
-    → map (part_of true) (entries_of (y ∷ r)) ≡ parts_from text true 0 (y ∷ r) → map (part_of true) (entries_of (x ∷ y ∷ r)) ≡ parts_from text true 0 (x ∷ y ∷ r)
+    → map (part_of true) (division_entries_of (y ∷ r)) ≡ parts_from text true 0 (y ∷ r) → map (part_of true) (division_entries_of (x ∷ y ∷ r)) ≡ parts_from text true 0 (x ∷ y ∷ r)
 next-by text x y r true is none rest =
     ap (map (part_of true)) (entries-period x (y ∷ r) is) ∙ ap (λ (ps : List Part). part_of true (x ∷ []) ∷ ps) rest
     ∙ sym (ended text x (y ∷ r) none.0 (rw is refl))
@@ -103,8 +103,8 @@ next-by text x y r false is none rest =
     ap (map (part_of true)) (entries-joined x (y ∷ r) is) ∙ longer text x y r none.0 none.1.0 is rest
 
 -- the entries of tokens in which no section begins are their parts
-entries-parts : (text : List ℕ) (tokens : List Token) → HasNoHeading text tokens → map (part_of true) (entries_of tokens) ≡ parts_from text true 0 tokens
-unfolding entries_of parts_from
+entries-parts : (text : List ℕ) (tokens : List Token) → HasNoHeading text tokens → map (part_of true) (division_entries_of tokens) ≡ parts_from text true 0 tokens
+unfolding division_entries_of parts_from
 entries-parts text [] none = refl
 entries-parts text (x ∷ []) none =
     ap (map (part_of true)) (entries-alone_by text x (has_kind kind.Period x) refl) ∙ sym (last-part text x none.0)
@@ -202,9 +202,9 @@ behind-heading text h s p tokens begins period =
 
 -- each entry of LINKAGE SECTION is a part of the data that end with it
 pub entry-part : (text : List ℕ) (front : List Token) (h s p : Token) (tokens : List Token) → Begins text h (s ∷ p ∷ tokens) → has_kind kind.Period p ≡ true
-    → HasNoHeading text tokens → (entry : List Token) → Among entry (entries_of tokens)
+    → HasNoHeading text tokens → (entry : List Token) → Among entry (division_entries_of tokens)
     → Among (part_of true entry) (parts_of text (front ++ h ∷ s ∷ p ∷ tokens))
 entry-part text front h s p tokens begins period none entry among =
     let cut = front-of text h (s ∷ p ∷ tokens) begins false 0 front (omega arith) in
     let whole = cut.is ∙ ap (λ (ps : List Part). cut.front ++ ps) (behind-heading text h s p tokens begins period ∙ sym (entries-parts text tokens none)) in
-    rw whole (Among-behind (part_of true entry) cut.front (map (part_of true) (entries_of tokens)) (Among-map (part_of true) entry (entries_of tokens) among))
+    rw whole (Among-behind (part_of true entry) cut.front (map (part_of true) (division_entries_of tokens)) (Among-map (part_of true) entry (division_entries_of tokens) among))

@@ -8,7 +8,7 @@ use Rattle.pw_text.specs.Cursor.{has_kind, spelling}
 use Rattle.pw_data.specs.Parts.{part_of, parts_of}
 use Rattle.pw_data.specs.Layouts.{Laid, layout_of}
 use Rattle.pw_divisions.specs.Divided.{Divided}
-use Rattle.pw_divisions.specs.Entries.{entries_of}
+use Rattle.pw_divisions.specs.Entries.{division_entries_of}
 use Rattle.pw_divisions.specs.Names.{upper_name}
 use Rattle.pw_divisions.specs.Divisions.{parameters, is_parameter}
 use Rattle.pw_scobol.specs.Using.{IsParameter}
@@ -20,7 +20,7 @@ use Rattle.pw_scobol.proofs.Divided.{HasUsing}
 named : (text : List ℕ) (parts : Divided) (layout : Laid) (using : HasUsing text parts) → layout_of text parts.stored false ≡ Ok layout
     → (token : Token) → is_parameter text (parameters text using.linkage) token ≡ true → IsParameter layout (upper_name text token)
 named text parts layout using laid token is =
-    let found = parameter-of text (entries_of using.linkage) (spelling text token) (and_parts (has_kind kind.Word token) (parameters text using.linkage (spelling text token)) is).1 in
+    let found = parameter-of text (division_entries_of using.linkage) (spelling text token) (and_parts (has_kind kind.Word token) (parameters text using.linkage (spelling text token)) is).1 in
     let read = read-parameter text found.tokens found.name found.name_is in
     let among = entry-among text (parts_of text parts.stored) (part_of true found.tokens) read.entry (using.are_parts found.tokens found.among) read.is in
     let item = item-of_entry text parts.stored false layout laid read.entry (spelling text found.name) (upper_name text token) among read.name_is

@@ -10,7 +10,7 @@ use Rattle.pw_text.specs.declared.token.Token.{Token}
 use Rattle.pw_text.specs.Cursor.{spelling}
 use Rattle.pw_data.specs.declared.entry.Entry.{Entry}
 use Rattle.pw_data.specs.Parts.{left_of, Part, part_of}
-use Rattle.pw_data.specs.Entries.{name_in, proper_name, reading_of, line_of, entry_with, entry_of, entries_of}
+use Rattle.pw_data.specs.Entries.{data_name_token, proper_name, reading_of, line_of, entry_with, data_entry_of, data_entries_of}
 use Rattle.pw_data.specs.Names.{name_of}
 use Rattle.pw_divisions.specs.Names.{level_of, with_name}
 use Rattle.pw_divisions.specs.Divisions.{parameter_by, parameter_of, with_parameters}
@@ -64,7 +64,7 @@ read-by text (Some level) second token is =
 -- an entry of level 01 in LINKAGE, with its name
 pub record Read (text : List ℕ) (part : Part) (name : Token) : Type 0 where
   pub entry : Entry
-  pub is : entry_of false text part ≡ Some entry
+  pub is : data_entry_of false text part ≡ Some entry
   pub level : entry.level ≡ 1
   pub linked : entry.linked ≡ true
   pub name_is : name_of text entry ≡ Some (spelling text name)
@@ -72,7 +72,7 @@ pub record Read (text : List ℕ) (part : Part) (name : Token) : Type 0 where
 pub read-parameter : (text : List ℕ) (tokens : List Token) (name : Token) → parameter_of text tokens ≡ Some name → Read text (part_of true tokens) name
 read-parameter text tokens name is =
     let reading = reading_of false (left_of text tokens) in
-    let facts = read-by text (level_of (left_of text tokens)) (option_and_then (name_in false text) (slice_get tokens 1)) name is in
+    let facts = read-by text (level_of (left_of text tokens)) (option_and_then (data_name_token false text) (slice_get tokens 1)) name is in
     record {
       entry = entry_with text true (line_of tokens) reading 1;
       is = ap (option_map (entry_with text true (line_of tokens) reading)) facts.0;
@@ -87,13 +87,13 @@ Among-front x (z ∷ zs) ys (inl here) = inl here
 Among-front x (z ∷ zs) ys (inr more) = inr (Among-front x zs ys more)
 
 -- what the data read of a part is one of their entries
-pub entry-among : (text : List ℕ) (parts : List Part) (part : Part) (entry : Entry) → Among part parts → entry_of false text part ≡ Some entry → Among entry (entries_of false text parts)
+pub entry-among : (text : List ℕ) (parts : List Part) (part : Part) (entry : Entry) → Among part parts → data_entry_of false text part ≡ Some entry → Among entry (data_entries_of false text parts)
 entry-among text [] part entry among is = absurd among
 entry-among text (p ∷ ps) part entry (inl here) is =
-    let at : entry_of false text p ≡ Some entry = sym (ap (entry_of false text) here) ∙ is in
+    let at : data_entry_of false text p ≡ Some entry = sym (ap (data_entry_of false text) here) ∙ is in
     rw at (inl refl)
 entry-among text (p ∷ ps) part entry (inr more) is =
-    Among-behind entry (option_to_list (entry_of false text p)) (entries_of false text ps) (entry-among text ps part entry more is)
+    Among-behind entry (option_to_list (data_entry_of false text p)) (data_entries_of false text ps) (entry-among text ps part entry more is)
 
 -- the case of a letter does not count
 lower-upper : (word : Word) → str_to_ascii_lowercase (str_to_ascii_uppercase word) ≡ str_to_ascii_lowercase word

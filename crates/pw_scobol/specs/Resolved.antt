@@ -5,6 +5,6 @@ use Rattle.pw_scobol.specs.declared.requester.Requester.{Requester}
 
 -- Every name of a requester resolves, and every operand has its kind and length. How many arguments a CALL has, and how
 -- long they are, is not looked at.
-abbrev pub IsResolved : Requester → Links → Type 0
-IsResolved requester links =
+abbrev pub IsResolvedRequester : Requester → Links → Type 0
+IsResolvedRequester requester links =
     RequesterResolves requester.layout requester.screens requester.procedure links

@@ -13,16 +13,16 @@ places_from from zero = []
 places_from from (suc count) = from ∷ places_from (from + 1) count
 
 -- the places of the cells of a field
-abbrev pub places_of : Field → List ℕ
-places_of field = places_from (first_cell field) (cells_of field.shown)
+abbrev pub field_cell_places : Field → List ℕ
+field_cell_places field = places_from (first_cell field) (cells_of field.shown)
 
 -- a place is one of so many from another one on
-abbrev pub is_among : ℕ → ℕ → ℕ → Bool
-is_among from count place = nat_le from place && nat_lt place (from + count)
+abbrev pub is_place_within : ℕ → ℕ → ℕ → Bool
+is_place_within from count place = nat_le from place && nat_lt place (from + count)
 
 -- a field has the cell at a place
 abbrev pub has_cell : Field → ℕ → Bool
-has_cell field place = is_among (first_cell field) (cells_of field.shown) place
+has_cell field place = is_place_within (first_cell field) (cells_of field.shown) place
 
 -- the cell at a place is marked in a map of the cells
 abbrev pub is_marked : List Bool → ℕ → Bool

@@ -2,7 +2,7 @@
 use Rattle.std.specs.Prelude.{ℕ, zero, suc, List, length, Bool, true, false, ◌&&◌, ◌||◌, ◌==◌, is_some, is_none, codes, Option, Some, None, option_map, unwrap_or, if◌then◌else◌}
 use Rattle.pw_text.specs.declared.token.TokenKind.TheVariants as kind
 use Rattle.pw_text.specs.declared.token.Token.{Token}
-use Rattle.pw_text.specs.Cursor.{Left, Reader, ◌>>=◌, pure, spelling, sees, sees_word, behind, after, eat_word, expect, expect_word}
+use Rattle.pw_text.specs.Cursor.{Left, TokenReader, ◌>>=◌, pure, spelling, sees, sees_word, behind, after_token, eat_word, expect, expect_word}
 use Rattle.pw_data.specs.Literals.{whole_number}
 use Rattle.pw_data.specs.Clauses.{is_end}
 use Rattle.pw_data.specs.Layouts.{Laid, place_of}
@@ -11,14 +11,14 @@ use Rattle.pw_screen.specs.declared.clauses.Clause.TheVariants as clause
 use Rattle.pw_screen.specs.declared.clauses.Clauses.{Clauses}
 use Rattle.pw_screen.specs.declared.clauses.ItemName.{ItemName}
 use Rattle.pw_screen.specs.declared.body.At.{At}
-use Rattle.pw_screen.specs.declared.body.Body.{Body}
+use Rattle.pw_screen.specs.declared.body.FieldBody.{FieldBody}
 
 -- the value, where there is one
-abbrev pub given : {A : Type 0} → Option A → Reader A
+abbrev pub given : {A : Type 0} → Option A → TokenReader A
 given value = λ left. option_map (λ v. (v, left)) value
 
 -- digits without a sign or a point, by their value; every value above 1,000 is as 1,001
-abbrev pub whole : Reader ℕ
+abbrev pub whole : TokenReader ℕ
 whole = λ left. (do
   token ← expect kind.Number
   given (whole_number (spelling left.text token))) left
@@ -29,7 +29,7 @@ is_size_end None = false
 is_size_end (Some found) = (found.0.row == 24 && found.0.column == 80) && is_end found.1.tokens
 
 -- two whole numbers
-abbrev pub position : Reader At
+abbrev pub position : TokenReader At
 position = do
   row ← whole
   column ← whole
@@ -38,7 +38,7 @@ position = do
 -- behind the name of a screen: BASE or not, SIZE 24, 80 or not, and a period as the last token
 abbrev pub is_screen_end : Left → Bool
 is_screen_end left =
-    let rest = after (sees_word (codes "BASE") left) left in
+    let rest = after_token (sees_word (codes "BASE") left) left in
     if sees_word (codes "SIZE") rest
     then is_size_end (position (behind 1 rest))
     else is_end rest.tokens
@@ -91,49 +91,49 @@ added text laid found (clause.Using item) = naming text laid item (record found 
 })
 
 -- behind PIC, a picture; IS may stand before it
-abbrev pub picture_clause : Reader Clause
+abbrev pub picture_clause : TokenReader Clause
 picture_clause = do
   is ← eat_word (codes "IS")
   token ← expect kind.Picture
   pure (clause.Picture token)
 
 -- behind VALUE, a text; IS may stand before it
-abbrev pub value_clause : Reader Clause
+abbrev pub value_clause : TokenReader Clause
 value_clause = do
   is ← eat_word (codes "IS")
   token ← expect kind.Text
   pure (clause.Value token)
 
 -- a number or a word
-abbrev pub index : Reader Token
+abbrev pub index : TokenReader Token
 index left = if sees kind.Number left then expect kind.Number left else expect kind.Word left
 
 -- behind a left parenthesis, an index and a right one
-abbrev pub subscript_end : Reader Bool
+abbrev pub subscript_end : TokenReader Bool
 subscript_end = do
   value ← index
   close ← expect kind.RightParen
   pure true
 
 -- a subscript, where a parenthesis opens; whether there is one
-abbrev pub subscript : Reader Bool
+abbrev pub subscript : TokenReader Bool
 subscript left = if sees kind.LeftParen left then subscript_end (behind 1 left) else Some (false, left)
 
 -- the name of an item, with a subscript or without one
-abbrev pub item_name : Reader ItemName
+abbrev pub item_name : TokenReader ItemName
 item_name = do
   name ← expect kind.Word
   subscripted ← subscript
   pure (record { name = name; subscripted = subscripted })
 
 -- behind FROM, TO or USING, an item
-abbrev pub item_clause : (ItemName → Clause) → Reader Clause
+abbrev pub item_clause : (ItemName → Clause) → TokenReader Clause
 item_clause clause_of = do
   item ← item_name
   pure (clause_of item)
 
 -- the clause in front
-abbrev pub one_clause : Reader Clause
+abbrev pub one_clause : TokenReader Clause
 one_clause left =
     if sees_word (codes "PIC") left || sees_word (codes "PICTURE") left
     then picture_clause (behind 1 left)
@@ -162,17 +162,17 @@ abbrev pub clauses_in : Laid → Left → Option Clauses
 clauses_in laid left = clauses_from left.text laid (length left.tokens) no_clauses left
 
 -- AT, a row and a column
-abbrev pub place : Reader At
+abbrev pub place : TokenReader At
 place = do
   at ← expect_word (codes "AT")
   position
 
 -- a place with clauses behind it
-abbrev pub body_by : Laid → Option (At × Left) → Option Body
+abbrev pub body_by : Laid → Option (At × Left) → Option FieldBody
 body_by laid None = None
 body_by laid (Some found) =
     option_map (λ clauses. record { at = found.0; clauses = clauses }) (clauses_in laid found.1)
 
 -- behind the name of a field: AT row, column and clauses, up to a period as the last token
-abbrev pub body_of : Laid → Left → Option Body
+abbrev pub body_of : Laid → Left → Option FieldBody
 body_of laid left = body_by laid (place left)

@@ -13,24 +13,24 @@ use Rattle.pw_code.specs.declared.field.Field.{Field}
 use Rattle.pw_code.specs.Fields.{IsField}
 use Rattle.pw_divisions.specs.Names.{level_of, name_of, own_name_of, upper_name, is_taken, with_name}
 use Rattle.pw_screen.specs.declared.body.At.{At}
-use Rattle.pw_screen.specs.declared.body.Body.{Body}
+use Rattle.pw_screen.specs.declared.body.FieldBody.{FieldBody}
 use Rattle.pw_screen.specs.declared.shown.Shown.{Shown}
-use Rattle.pw_screen.specs.declared.entry.Entry.{Entry}
-use Rattle.pw_screen.specs.declared.entry.Entry.TheVariants as entry
+use Rattle.pw_screen.specs.declared.entry.ScreenEntry.{ScreenEntry}
+use Rattle.pw_screen.specs.declared.entry.ScreenEntry.TheVariants as entry
 use Rattle.pw_screen.specs.Clauses.{is_screen_end, body_of}
 use Rattle.pw_screen.specs.Shown.{shown_of, extent_of, is_outside}
-use Rattle.pw_screen.specs.Cells.{places_of, has_cell}
+use Rattle.pw_screen.specs.Cells.{field_cell_places, has_cell}
 
 -- What the entries so far leave: whether a screen has begun, the names of items and screens, the names of the fields of
 -- the screen, and which of its cells its fields have. A field that is refused has none.
-pub record Before : Type 0 where
+pub record ScreenEntriesBefore : Type 0 where
   pub begun : Bool
   pub names : Word → Bool
   pub fields : Word → Bool
   pub used : ℕ → Bool
 
 -- before the first entry
-abbrev pub at_first : Laid → Before
+abbrev pub at_first : Laid → ScreenEntriesBefore
 at_first laid = record {
   begun = false;
   names = λ name. is_some (place_of laid name);
@@ -66,18 +66,18 @@ abbrev pub is_twice : List ℕ → (Word → Bool) → Option Token → Bool
 is_twice text taken name = is_table_name text name || is_taken text taken name
 
 -- the refusal, where the test holds, and else what comes next
-abbrev pub refused_if : Bool → FaultCode → Entry → Entry
+abbrev pub refused_if : Bool → FaultCode → ScreenEntry → ScreenEntry
 refused_if test code next = if test then entry.Refused code else next
 
 -- an entry of the form of a screen has a name
-abbrev pub screen_by : List ℕ → Option Token → Bool → Entry
+abbrev pub screen_by : List ℕ → Option Token → Bool → ScreenEntry
 screen_by text (Some name) true = entry.Screen (upper_name text name)
 screen_by text _ _ = entry.Refused BadClause
 
 -- What an entry is that begins a screen. 111: a picture that is none. 122: its name is a table word, or that of an item
 -- or an earlier screen. 143: another form.
-abbrev pub screen_of : (Word → Bool) → Left → Entry
-screen_of names part =
+abbrev pub screen_head_entry : (Word → Bool) → Left → ScreenEntry
+screen_head_entry names part =
     refused_if (has_bad_picture part) BadPicture
     (refused_if (is_twice part.text names (name_of part)) NameTwice
     (screen_by part.text (name_of part) (is_screen_end (behind 2 part))))
@@ -102,17 +102,17 @@ field_with name at cells shown = record {
 }
 
 -- 142: one of its cells is another field's
-abbrev pub field_on : (ℕ → Bool) → Field → Entry
-field_on used field = refused_if (list_any used (places_of field)) FieldsOverlap (entry.Field field)
+abbrev pub field_on : (ℕ → Bool) → Field → ScreenEntry
+field_on used field = refused_if (list_any used (field_cell_places field)) FieldsOverlap (entry.Field field)
 
 -- 143: the clauses do not go together, or a field may not stand here
-abbrev pub field_by : (ℕ → Bool) → Bool → List ℕ → At → ℕ → Option Shown → Entry
+abbrev pub field_by : (ℕ → Bool) → Bool → List ℕ → At → ℕ → Option Shown → ScreenEntry
 field_by used may_stand name at cells None = entry.Refused BadClause
 field_by used may_stand name at cells (Some shown) =
     refused_if (not may_stand) BadClause (field_on used (field_with name at cells shown))
 
 -- the form of a field: a level, a name or FILLER, AT row, column and clauses
-abbrev pub form_of : Laid → Left → Option Body
+abbrev pub form_of : Laid → Left → Option FieldBody
 form_of laid part = if is_some (name_of part) then body_of laid (behind 2 part) else None
 
 -- a screen has begun, and the level is a field's
@@ -120,7 +120,7 @@ abbrev pub may_stand : Bool → Left → Bool
 may_stand begun part = begun && is_field_level (level_of part)
 
 -- what an entry with the form of a field is
-abbrev pub field_in : Laid → (ℕ → Bool) → Bool → Left → Option Body → Entry
+abbrev pub field_in : Laid → (ℕ → Bool) → Bool → Left → Option FieldBody → ScreenEntry
 field_in laid used begun part None = entry.Refused BadClause
 field_in laid used begun part (Some body) =
     refused_if body.clauses.unknown UnknownItem
@@ -131,28 +131,28 @@ field_in laid used begun part (Some body) =
 -- What a field's entry is. 111: a picture that is none. 122: its name is a table word, or that of an earlier field of the
 -- screen. 143: another form. 123: an item that there is not. 141: a cell outside rows 1 to 23 or columns 1 to 80. 143:
 -- clauses that do not go together, or a field that may not stand here. 142: a cell that an earlier field has.
-abbrev pub field_of : Laid → (Word → Bool) → (ℕ → Bool) → Bool → Left → Entry
+abbrev pub field_of : Laid → (Word → Bool) → (ℕ → Bool) → Bool → Left → ScreenEntry
 field_of laid fields used begun part =
     refused_if (has_bad_picture part) BadPicture
     (refused_if (is_twice part.text fields (own_name_of part)) NameTwice
     (field_in laid used begun part (form_of laid part)))
 
 -- what an entry is
-abbrev pub entry_of : Laid → Before → Left → Entry
-entry_of laid before part =
+abbrev pub screen_entry_of : Laid → ScreenEntriesBefore → Left → ScreenEntry
+screen_entry_of laid before part =
     if begins_screen part
-    then screen_of before.names part
+    then screen_head_entry before.names part
     else field_of laid before.fields before.used before.begun part
 
 -- what an entry leaves of the cells: those of a field are used
-abbrev pub used_after : (ℕ → Bool) → Entry → ℕ → Bool
+abbrev pub used_after : (ℕ → Bool) → ScreenEntry → ℕ → Bool
 used_after used (entry.Screen name) = used
 used_after used (entry.Field field) = λ place. has_cell field place || used place
 used_after used (entry.Refused code) = used
 
 -- What an entry leaves: a screen begins with no fields, and a name is taken also where its entry is refused.
-abbrev pub after : Before → Left → Entry → Before
-after before part found =
+abbrev pub after_screen_entry : ScreenEntriesBefore → Left → ScreenEntry → ScreenEntriesBefore
+after_screen_entry before part found =
     if begins_screen part
     then record {
       begun = true;
@@ -166,7 +166,7 @@ after before part found =
     }
 
 -- what holds of an entry in a program whose storage has this size
-abbrev pub IsSound : ℕ → Entry → Type 0
-IsSound storage (entry.Screen name) = Unit {0}
-IsSound storage (entry.Field field) = IsField storage field
-IsSound storage (entry.Refused code) = Unit {0}
+abbrev pub IsSoundEntry : ℕ → ScreenEntry → Type 0
+IsSoundEntry storage (entry.Screen name) = Unit {0}
+IsSoundEntry storage (entry.Field field) = IsField storage field
+IsSoundEntry storage (entry.Refused code) = Unit {0}

@@ -1,5 +1,5 @@
 ghost use Rattle.std.specs.Prelude.{◌≡◌};
-ghost use Rattle.pw_text.specs.Cursor.{Reads, behind};
+ghost use Rattle.pw_text.specs.Cursor.{ReadsTokens, behind};
 ghost use Rattle.pw_screen.specs.Clauses.{whole, position, place, is_size_end, is_screen_end, body_by, body_of};
 
 use crate::clauses::{Clauses, clauses_in};
@@ -18,14 +18,14 @@ pub struct At {
 
 /// What stands behind the name of a field: its row and column, and its clauses.
 #[derive(Clone, Copy)]
-pub struct Body {
+pub struct FieldBody {
     pub at: At,
     pub clauses: Clauses,
 }
 
 /// Reads a whole number without a sign.
 fn whole(cursor: &mut Cursor<'_>) -> Option<u16>
-    ensures { Reads (whole cursor.old) result cursor.new }
+    ensures { ReadsTokens (whole cursor.old) result cursor.new }
 {
     let token = cursor.expect(TokenKind::Number)?;
     whole_number(token.spelling(cursor.text()))
@@ -33,7 +33,7 @@ fn whole(cursor: &mut Cursor<'_>) -> Option<u16>
 
 /// Reads two whole numbers, a row and a column.
 fn position(cursor: &mut Cursor<'_>) -> Option<At>
-    ensures { Reads (position cursor.old) result cursor.new }
+    ensures { ReadsTokens (position cursor.old) result cursor.new }
 {
     let row = whole(cursor)?;
     let column = whole(cursor)?;
@@ -66,7 +66,7 @@ pub fn is_screen_end(cursor: &Cursor<'_>) -> bool
 
 /// Reads AT, a row and a column.
 fn place(cursor: &mut Cursor<'_>) -> Option<At>
-    ensures { Reads (place cursor.old) result cursor.new }
+    ensures { ReadsTokens (place cursor.old) result cursor.new }
 {
     let _at = cursor.expect_word(b"AT")?;
     position(cursor)
@@ -74,11 +74,11 @@ fn place(cursor: &mut Cursor<'_>) -> Option<At>
 
 /// What stands behind the name of a field: AT row, column and clauses, up to a period as the last
 /// token. It is None where that has another form.
-pub fn body_of(layout: &Layout, cursor: &Cursor<'_>) -> Option<Body>
+pub fn body_of(layout: &Layout, cursor: &Cursor<'_>) -> Option<FieldBody>
     ensures { result ≡ body_of layout.now cursor.now }
 {
     let mut ahead = cursor.fork();
     let at = place(&mut ahead)?;
     let clauses = clauses_in(layout, &ahead)?;
-    Some(Body { at, clauses })
+    Some(FieldBody { at, clauses })
 }

@@ -2,7 +2,7 @@ use pw_code::field::ScreenTable;
 
 /// The screens so far: those that are complete, and the last one, where a screen has begun.
 #[derive(Drop)]
-pub struct Build {
+pub struct ScreenBuilder {
     pub done: Vec<ScreenTable>,
     pub current: Option<ScreenTable>,
 }

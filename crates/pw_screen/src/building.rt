@@ -1,12 +1,12 @@
 ghost use Rattle.std.specs.Prelude.{◌≡◌, ◌++◌, [], None, ℕ, All, IfOk, IfSome, OnOk, option_to_list};
 ghost use Rattle.pw_code.specs.Fields.{IsField, IsTable};
-ghost use Rattle.pw_screen.specs.declared.entry.Entry.TheVariants as Entry;
-ghost use Rattle.pw_screen.specs.Entries.{IsSound};
-ghost use Rattle.pw_screen.specs.Screens.{Behind, with_entry, nothing};
+ghost use Rattle.pw_screen.specs.declared.entry.ScreenEntry.TheVariants as Entry;
+ghost use Rattle.pw_screen.specs.Entries.{IsSoundEntry};
+ghost use Rattle.pw_screen.specs.Screens.{ScreensBehind, with_entry, nothing};
 ghost use Rattle.pw_screen.specs.Built.{built, AreSound};
 
-use crate::build::Build;
-use crate::entry::Entry;
+use crate::build::ScreenBuilder;
+use crate::entry::ScreenEntry;
 use pw_base::bytes::Bytes;
 use pw_base::list::List;
 use pw_base::memory::Memory;
@@ -26,13 +26,13 @@ fn push_screen(screens: &mut Vec<ScreenTable>, screen: Option<ScreenTable>) -> R
     Ok(())
 }
 
-impl Build {
+impl ScreenBuilder {
     /// No screen.
-    pub fn new(alloc: Global) -> Build
+    pub fn new(alloc: Global) -> ScreenBuilder
         ensures done { result.done.items ≡ [] }
         ensures current { result.current ≡ None }
     {
-        Build {
+        ScreenBuilder {
             done: Vec::new(alloc),
             current: None,
         }
@@ -40,8 +40,8 @@ impl Build {
 
     /// Begins a screen.
     fn begin(&mut self, alloc: Global, name: Bytes) -> Result<(), Memory>
-        ensures built { OnOk result ((rest : Behind)
-            → built self.new rest ≡ built self.old (with_entry (Entry.Screen name) rest)) }
+        ensures built { OnOk result ((rest : ScreensBehind)
+            → built self.new rest ≡ built self.old (with_entry (ScreenEntry.Screen name) rest)) }
         ensures sound { OnOk result ((storage : ℕ)
             → AreSound storage self.old → AreSound storage self.new) }
     {
@@ -56,8 +56,8 @@ impl Build {
 
     /// Puts a field behind those of the screen that has begun, where one has.
     fn push_field(&mut self, field: Field) -> Result<(), Memory>
-        ensures built { OnOk result ((rest : Behind)
-            → built self.new rest ≡ built self.old (with_entry (Entry.Field field) rest)) }
+        ensures built { OnOk result ((rest : ScreensBehind)
+            → built self.new rest ≡ built self.old (with_entry (ScreenEntry.Field field) rest)) }
         ensures sound { OnOk result ((storage : ℕ) → IsField storage field
             → AreSound storage self.old → AreSound storage self.new) }
     {
@@ -68,16 +68,16 @@ impl Build {
     }
 
     /// Puts an entry behind the others.
-    pub fn put(&mut self, alloc: Global, entry: Entry) -> Result<(), Memory>
-        ensures built { OnOk result ((rest : Behind)
+    pub fn put(&mut self, alloc: Global, entry: ScreenEntry) -> Result<(), Memory>
+        ensures built { OnOk result ((rest : ScreensBehind)
             → built self.new rest ≡ built self.old (with_entry entry rest)) }
-        ensures sound { OnOk result ((storage : ℕ) → IsSound storage entry
+        ensures sound { OnOk result ((storage : ℕ) → IsSoundEntry storage entry
             → AreSound storage self.old → AreSound storage self.new) }
     {
         match entry {
-            Entry::Screen(name) => self.begin(alloc, name),
-            Entry::Field(field) => self.push_field(field),
-            Entry::Refused(_) => Ok(()),
+            ScreenEntry::Screen(name) => self.begin(alloc, name),
+            ScreenEntry::Field(field) => self.push_field(field),
+            ScreenEntry::Refused(_) => Ok(()),
         }
     }
 
@@ -87,7 +87,7 @@ impl Build {
         ensures sound { IfOk result (λ tables. (storage : ℕ)
             → AreSound storage self → All (IsTable storage) tables.items) }
     {
-        let Build { mut done, current } = self;
+        let ScreenBuilder { mut done, current } = self;
         push_screen(&mut done, current)?;
         Ok(done)
     }

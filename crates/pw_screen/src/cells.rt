@@ -1,6 +1,6 @@
 ghost use Rattle.std.specs.Prelude.{◌≡◌, ◌+◌, ◌≤◌, ◌||◌, ℕ, IfOk, false, length};
 ghost use Rattle.std.specs.List.{list_any};
-ghost use Rattle.pw_screen.specs.Cells.{places_from, is_among, is_marked};
+ghost use Rattle.pw_screen.specs.Cells.{places_from, is_place_within, is_marked};
 
 use pw_base::memory::Memory;
 use std::alloc::Global;
@@ -48,7 +48,7 @@ impl Cells {
     pub fn mark(&mut self, from: usize, count: usize)
         requires { from + count ≤ 1840 }
         ensures { (place : ℕ) → is_marked self.new place
-            ≡ (is_among from count place || is_marked self.old place) }
+            ≡ (is_place_within from count place || is_marked self.old place) }
     {
         mark(&mut self.marks, from, count);
     }
@@ -75,7 +75,7 @@ fn has_mark(marks: &[bool], from: usize, count: usize) -> bool
 fn mark(marks: &mut [bool], from: usize, count: usize)
     requires { from + count ≤ length marks.old }
     ensures { (place : ℕ) → is_marked marks.new place
-        ≡ (is_among from count place || is_marked marks.old place) }
+        ≡ (is_place_within from count place || is_marked marks.old place) }
 {
     let mut done = 0;
     while done < count {

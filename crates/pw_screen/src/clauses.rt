@@ -1,5 +1,5 @@
 ghost use Rattle.std.specs.Prelude.{◌≡◌, ◌<◌, ◌≤◌, IsSome, length};
-ghost use Rattle.pw_text.specs.Cursor.{Reads};
+ghost use Rattle.pw_text.specs.Cursor.{ReadsTokens};
 ghost use Rattle.pw_screen.specs.declared.clauses.Clause.TheVariants as clause;
 ghost use Rattle.pw_screen.specs.Clauses.{no_clauses, is_unknown, naming, added, picture_clause, value_clause, index, subscript, item_name, item_clause, one_clause, clauses_in};
 
@@ -116,7 +116,7 @@ fn is_unknown(layout: &Layout, text: &[u8], name: Token) -> bool
 
 /// Reads what is behind PIC: a picture, and an IS before it or none.
 fn picture_clause(cursor: &mut Cursor<'_>) -> Option<Clause>
-    ensures value { Reads (picture_clause cursor.old) result cursor.new }
+    ensures value { ReadsTokens (picture_clause cursor.old) result cursor.new }
     ensures shorter { length cursor.new.tokens ≤ length cursor.old.tokens }
 {
     let _is = cursor.eat_word(b"IS");
@@ -125,7 +125,7 @@ fn picture_clause(cursor: &mut Cursor<'_>) -> Option<Clause>
 
 /// Reads what is behind VALUE: a text, and an IS before it or none.
 fn value_clause(cursor: &mut Cursor<'_>) -> Option<Clause>
-    ensures value { Reads (value_clause cursor.old) result cursor.new }
+    ensures value { ReadsTokens (value_clause cursor.old) result cursor.new }
     ensures shorter { length cursor.new.tokens ≤ length cursor.old.tokens }
 {
     let _is = cursor.eat_word(b"IS");
@@ -134,7 +134,7 @@ fn value_clause(cursor: &mut Cursor<'_>) -> Option<Clause>
 
 /// Reads what stands in the parentheses of a subscript: a number or a word.
 fn index(cursor: &mut Cursor<'_>) -> Option<Token>
-    ensures value { Reads (index cursor.old) result cursor.new }
+    ensures value { ReadsTokens (index cursor.old) result cursor.new }
     ensures shorter { length cursor.new.tokens ≤ length cursor.old.tokens }
 {
     if cursor.sees(TokenKind::Number) {
@@ -146,7 +146,7 @@ fn index(cursor: &mut Cursor<'_>) -> Option<Token>
 
 /// Reads a subscript, where a parenthesis opens, and gives whether there is one.
 fn subscript(cursor: &mut Cursor<'_>) -> Option<bool>
-    ensures value { Reads (subscript cursor.old) result cursor.new }
+    ensures value { ReadsTokens (subscript cursor.old) result cursor.new }
     ensures shorter { length cursor.new.tokens ≤ length cursor.old.tokens }
 {
     if !cursor.eat(TokenKind::LeftParen) {
@@ -159,7 +159,7 @@ fn subscript(cursor: &mut Cursor<'_>) -> Option<bool>
 
 /// Reads the name of an item, with a subscript or without one.
 fn item_name(cursor: &mut Cursor<'_>) -> Option<ItemName>
-    ensures value { Reads (item_name cursor.old) result cursor.new }
+    ensures value { ReadsTokens (item_name cursor.old) result cursor.new }
     ensures shorter { length cursor.new.tokens ≤ length cursor.old.tokens }
 {
     let name = cursor.expect(TokenKind::Word)?;
@@ -169,7 +169,7 @@ fn item_name(cursor: &mut Cursor<'_>) -> Option<ItemName>
 
 /// Reads what is behind FROM: an item.
 fn from_clause(cursor: &mut Cursor<'_>) -> Option<Clause>
-    ensures value { Reads (item_clause clause.From cursor.old) result cursor.new }
+    ensures value { ReadsTokens (item_clause clause.From cursor.old) result cursor.new }
     ensures shorter { length cursor.new.tokens ≤ length cursor.old.tokens }
 {
     Some(Clause::From(item_name(cursor)?))
@@ -177,7 +177,7 @@ fn from_clause(cursor: &mut Cursor<'_>) -> Option<Clause>
 
 /// Reads what is behind TO: an item.
 fn to_clause(cursor: &mut Cursor<'_>) -> Option<Clause>
-    ensures value { Reads (item_clause clause.To cursor.old) result cursor.new }
+    ensures value { ReadsTokens (item_clause clause.To cursor.old) result cursor.new }
     ensures shorter { length cursor.new.tokens ≤ length cursor.old.tokens }
 {
     Some(Clause::To(item_name(cursor)?))
@@ -185,7 +185,7 @@ fn to_clause(cursor: &mut Cursor<'_>) -> Option<Clause>
 
 /// Reads what is behind USING: an item.
 fn using_clause(cursor: &mut Cursor<'_>) -> Option<Clause>
-    ensures value { Reads (item_clause clause.Using cursor.old) result cursor.new }
+    ensures value { ReadsTokens (item_clause clause.Using cursor.old) result cursor.new }
     ensures shorter { length cursor.new.tokens ≤ length cursor.old.tokens }
 {
     Some(Clause::Using(item_name(cursor)?))
@@ -193,7 +193,7 @@ fn using_clause(cursor: &mut Cursor<'_>) -> Option<Clause>
 
 /// Reads the clause in front.
 fn one_clause(cursor: &mut Cursor<'_>) -> Option<Clause>
-    ensures value { Reads (one_clause cursor.old) result cursor.new }
+    ensures value { ReadsTokens (one_clause cursor.old) result cursor.new }
     ensures shorter { IsSome result → length cursor.new.tokens < length cursor.old.tokens }
 {
     if eat_pic(cursor) {

@@ -6,13 +6,13 @@ ghost use Rattle.pw_data.specs.Names.{has_name};
 ghost use Rattle.pw_divisions.specs.Names.{name_of, own_name_of, is_taken, with_name};
 ghost use Rattle.pw_screen.specs.Cells.{used_by};
 ghost use Rattle.pw_screen.specs.Clauses.{is_screen_end};
-ghost use Rattle.pw_screen.specs.Entries.{is_screen_level, begins_screen, has_bad_picture, is_table_name, is_twice, refused_if, screen_by, screen_of, field_of, used_after, IsSound};
+ghost use Rattle.pw_screen.specs.Entries.{is_screen_level, begins_screen, has_bad_picture, is_table_name, is_twice, refused_if, screen_by, screen_head_entry, field_of, used_after, IsSoundEntry};
 ghost use Rattle.pw_screen.specs.Built.{is_item};
 ghost use Rattle.pw_base.specs.declared.fault_code.FaultCode.TheVariants.{BadPicture, NameTwice};
 
 use crate::body::is_screen_end;
 use crate::cells::Cells;
-use crate::entry::Entry;
+use crate::entry::ScreenEntry;
 use crate::field::{field_in, form_of};
 use pw_base::fault_code::FaultCode;
 use pw_base::memory::Memory;
@@ -83,7 +83,7 @@ fn is_item(layout: &Layout, text: &[u8], name: Option<Token>) -> bool
 }
 
 /// The screen that an entry with its name begins, where it has the form of one.
-fn screen_by(alloc: Global, part: &Cursor<'_>) -> Result<Entry, Memory>
+fn screen_by(alloc: Global, part: &Cursor<'_>) -> Result<ScreenEntry, Memory>
     ensures { IfOk result (λ found. found
         ≡ screen_by part.now.text (name_of part.now) (is_screen_end (behind 2 part.now))) }
 {
@@ -92,9 +92,9 @@ fn screen_by(alloc: Global, part: &Cursor<'_>) -> Result<Entry, Memory>
     let _name = behind_name.next();
     match name_of(part) {
         Some(name) if is_screen_end(&behind_name) => {
-            Ok(Entry::Screen(upper_name(alloc, part.text(), name)?))
+            Ok(ScreenEntry::Screen(upper_name(alloc, part.text(), name)?))
         }
-        _ => Ok(Entry::Refused(FaultCode::BadClause)),
+        _ => Ok(ScreenEntry::Refused(FaultCode::BadClause)),
     }
 }
 
@@ -106,21 +106,21 @@ pub fn read_screen(
     layout: &Layout,
     part: &Cursor<'_>,
     names: &mut Names,
-) -> Result<Entry, Memory>
+) -> Result<ScreenEntry, Memory>
     ensures entry { IfOk result (λ found. found
-        ≡ screen_of (λ word. has_name names.old word || is_item layout.now word) part.now) }
+        ≡ screen_head_entry (λ word. has_name names.old word || is_item layout.now word) part.now) }
     ensures names { OnOk result (has_name names.new
         ≡ with_name part.now.text (name_of part.now) (has_name names.old)) }
-    ensures sound { (storage : ℕ) → IfOk result (IsSound storage) }
+    ensures sound { (storage : ℕ) → IfOk result (IsSoundEntry storage) }
 {
     let text = part.text();
     let name = name_of(part);
     let taken = put_name(alloc, text, name, names)?;
     if has_bad_picture(alloc, part)? {
-        return Ok(Entry::Refused(FaultCode::BadPicture));
+        return Ok(ScreenEntry::Refused(FaultCode::BadPicture));
     }
     if is_table_name(text, name) || (taken || is_item(layout, text, name)) {
-        return Ok(Entry::Refused(FaultCode::NameTwice));
+        return Ok(ScreenEntry::Refused(FaultCode::NameTwice));
     }
     screen_by(alloc, part)
 }
@@ -135,23 +135,23 @@ pub fn read_field(
     begun: bool,
     names: &mut Names,
     used: &mut Option<Cells>,
-) -> Result<Entry, Memory>
+) -> Result<ScreenEntry, Memory>
     ensures entry { IfOk result (λ found. found
         ≡ field_of layout.now (has_name names.old) (used_by used.old) begun part.now) }
     ensures names { OnOk result (has_name names.new
         ≡ with_name part.now.text (own_name_of part.now) (has_name names.old)) }
     ensures used { IfOk result (λ found.
         (place : ℕ) → used_by used.new place ≡ used_after (used_by used.old) found place) }
-    ensures sound { IfOk result (IsSound (length layout.now.storage)) }
+    ensures sound { IfOk result (IsSoundEntry (length layout.now.storage)) }
 {
     let text = part.text();
     let name = own_name_of(part);
     let taken = put_name(alloc, text, name, names)?;
     if has_bad_picture(alloc, part)? {
-        return Ok(Entry::Refused(FaultCode::BadPicture));
+        return Ok(ScreenEntry::Refused(FaultCode::BadPicture));
     }
     if is_table_name(text, name) || taken {
-        return Ok(Entry::Refused(FaultCode::NameTwice));
+        return Ok(ScreenEntry::Refused(FaultCode::NameTwice));
     }
     field_in(alloc, layout, part, begun, form_of(layout, part), used)
 }

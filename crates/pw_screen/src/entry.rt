@@ -4,7 +4,7 @@ use pw_code::field::Field;
 
 /// What an entry of the section is.
 #[derive(Drop)]
-pub enum Entry {
+pub enum ScreenEntry {
     /// It begins a screen of this name, in upper case.
     Screen(Bytes),
     /// A field of the screen that has begun.
@@ -15,7 +15,7 @@ pub enum Entry {
 
 /// An entry with the line of its first token.
 #[derive(Drop)]
-pub struct Placed {
+pub struct PlacedEntry {
     pub line: u32,
-    pub entry: Entry,
+    pub entry: ScreenEntry,
 }

@@ -3,12 +3,12 @@ ghost use Rattle.std.specs.List.{list_any};
 ghost use Rattle.pw_code.specs.Fields.{cells_of, IsField};
 ghost use Rattle.pw_divisions.specs.Names.{own_name_of};
 ghost use Rattle.pw_screen.specs.Shown.{extent_of, is_outside, shown_of, IsShown};
-ghost use Rattle.pw_screen.specs.Cells.{first_cell, places_from, is_among, is_marked, used_by};
-ghost use Rattle.pw_screen.specs.Entries.{is_field_level, where_cells, field_name, field_with, field_on, field_by, form_of, may_stand, field_in, used_after, IsSound};
+ghost use Rattle.pw_screen.specs.Cells.{first_cell, places_from, is_place_within, is_marked, used_by};
+ghost use Rattle.pw_screen.specs.Entries.{is_field_level, where_cells, field_name, field_with, field_on, field_by, form_of, may_stand, field_in, used_after, IsSoundEntry};
 
-use crate::body::{At, Body, body_of};
+use crate::body::{At, FieldBody, body_of};
 use crate::cells::Cells;
-use crate::entry::Entry;
+use crate::entry::ScreenEntry;
 use crate::shown::{Shown, extent_of, literal_at, shown_of};
 use pw_base::bytes::Bytes;
 use pw_base::fault_code::FaultCode;
@@ -95,7 +95,7 @@ fn mark_free(map: &mut Cells, from: usize, count: usize) -> bool
     requires { from + count ≤ 1840 }
     ensures taken { result ≡ list_any (is_marked map.old) (places_from from count) }
     ensures marks { (place : ℕ) → is_marked map.new place
-        ≡ ((not result && is_among from count place) || is_marked map.old place) }
+        ≡ ((not result && is_place_within from count place) || is_marked map.old place) }
 {
     let taken = map.has_mark(from, count);
     if !taken {
@@ -110,21 +110,21 @@ fn field_on(
     field: Field,
     cells: usize,
     used: &mut Option<Cells>,
-) -> Result<Entry, Memory>
+) -> Result<ScreenEntry, Memory>
     requires cells { cells_of field.shown ≡ cells }
     requires within { first_cell field + cells ≤ 1840 }
     ensures entry { IfOk result (λ found. found ≡ field_on (used_by used.old) field) }
     ensures used { IfOk result (λ found.
         (place : ℕ) → used_by used.new place ≡ used_after (used_by used.old) found place) }
-    ensures sound { (storage : ℕ) → IsField storage field → IfOk result (IsSound storage) }
+    ensures sound { (storage : ℕ) → IsField storage field → IfOk result (IsSoundEntry storage) }
 {
     let mut map = map_of(alloc, used.take())?;
     let taken = mark_free(&mut map, first_cell(&field), cells);
     *used = Some(map);
     if taken {
-        Ok(Entry::Refused(FaultCode::FieldsOverlap))
+        Ok(ScreenEntry::Refused(FaultCode::FieldsOverlap))
     } else {
-        Ok(Entry::Field(field))
+        Ok(ScreenEntry::Field(field))
     }
 }
 
@@ -137,7 +137,7 @@ fn field_by(
     cells: usize,
     shown: Option<Shown>,
     used: &mut Option<Cells>,
-) -> Result<Entry, Memory>
+) -> Result<ScreenEntry, Memory>
     requires inside { is_outside at cells ≡ false }
     requires cells { IfSome shown (λ s. cells_of s.kind ≡ cells) }
     ensures entry { IfOk result (λ found. found
@@ -146,20 +146,20 @@ fn field_by(
     ensures used { IfOk result (λ found.
         (place : ℕ) → used_by used.new place ≡ used_after (used_by used.old) found place) }
     ensures sound { (storage : ℕ)
-        → IfSome shown (IsShown storage cells) → IfOk result (IsSound storage) }
+        → IfSome shown (IsShown storage cells) → IfOk result (IsSoundEntry storage) }
 {
     let Some(shown) = shown else {
-        return Ok(Entry::Refused(FaultCode::BadClause));
+        return Ok(ScreenEntry::Refused(FaultCode::BadClause));
     };
     if !may_stand {
-        return Ok(Entry::Refused(FaultCode::BadClause));
+        return Ok(ScreenEntry::Refused(FaultCode::BadClause));
     }
     let field = field_with(field_name(alloc, part)?, at, cells, shown);
     field_on(alloc, field, cells, used)
 }
 
 /// What an entry has that has the form of a field: a level, a name or FILLER, AT row, column and clauses.
-pub fn form_of(layout: &Layout, part: &Cursor<'_>) -> Option<Body>
+pub fn form_of(layout: &Layout, part: &Cursor<'_>) -> Option<FieldBody>
     ensures { result ≡ form_of layout.now part.now }
 {
     let mut behind_name = part.fork();
@@ -180,27 +180,27 @@ pub fn field_in(
     layout: &Layout,
     part: &Cursor<'_>,
     begun: bool,
-    body: Option<Body>,
+    body: Option<FieldBody>,
     used: &mut Option<Cells>,
-) -> Result<Entry, Memory>
+) -> Result<ScreenEntry, Memory>
     ensures entry { IfOk result (λ found.
         found ≡ field_in layout.now (used_by used.old) begun part.now body) }
     ensures used { IfOk result (λ found.
         (place : ℕ) → used_by used.new place ≡ used_after (used_by used.old) found place) }
-    ensures sound { IfOk result (IsSound (length layout.now.storage)) }
+    ensures sound { IfOk result (IsSoundEntry (length layout.now.storage)) }
 {
-    let Some(Body { at, clauses }) = body else {
-        return Ok(Entry::Refused(FaultCode::BadClause));
+    let Some(FieldBody { at, clauses }) = body else {
+        return Ok(ScreenEntry::Refused(FaultCode::BadClause));
     };
     if clauses.unknown {
-        return Ok(Entry::Refused(FaultCode::UnknownItem));
+        return Ok(ScreenEntry::Refused(FaultCode::UnknownItem));
     }
     let text = part.text();
     let picture = picture_at(alloc, text, clauses.picture)?;
     let literal = literal_at(alloc, text, clauses.value)?;
     let cells = extent_of(clauses, text, &picture, &literal);
     if at.is_outside(cells) {
-        return Ok(Entry::Refused(FaultCode::FieldOutside));
+        return Ok(ScreenEntry::Refused(FaultCode::FieldOutside));
     }
     let shown = shown_of(layout, text, clauses, picture, literal);
     field_by(alloc, part, may_stand(begun, part), at, cells, shown, used)

@@ -3,16 +3,16 @@ ghost use Rattle.pw_base.specs.First.{least, Gives};
 ghost use Rattle.pw_text.specs.declared.token.Token.{Token as TokenValue};
 ghost use Rattle.pw_code.specs.Fields.{IsTable};
 ghost use Rattle.pw_data.specs.Layouts.{Laid};
-ghost use Rattle.pw_divisions.specs.Entries.{entries_of};
-ghost use Rattle.pw_screen.specs.Entries.{at_first, entry_of, after, IsSound};
+ghost use Rattle.pw_divisions.specs.Entries.{division_entries_of};
+ghost use Rattle.pw_screen.specs.Entries.{at_first, screen_entry_of, after_screen_entry, IsSoundEntry};
 ghost use Rattle.pw_screen.specs.Screens.{fault_of, screens_of};
 ghost use Rattle.pw_screen.specs.Built.{before_of, AreSound, outcome};
 
-use crate::build::Build;
+use crate::build::ScreenBuilder;
 use crate::entries::{begins_screen, read_field, read_screen};
-use crate::entry::Entry;
-use crate::reading::Reading;
-use crate::taken::Taken;
+use crate::entry::ScreenEntry;
+use crate::reading::ScreenReading;
+use crate::taken::ScreensTaken;
 use pw_base::fault::{Fault, Refusal, better};
 use pw_base::memory::Memory;
 use pw_code::field::ScreenTable;
@@ -25,21 +25,21 @@ use pw_words::names::Names;
 use std::alloc::Global;
 
 /// The first of the fault that is known and of that of an entry, where it is refused.
-fn noted(known: Option<Fault>, line: u32, entry: &Entry) -> Option<Fault>
+fn noted(known: Option<Fault>, line: u32, entry: &ScreenEntry) -> Option<Fault>
     ensures { result ≡ least known (fault_of line entry.now) }
 {
     match entry {
-        Entry::Refused(code) => better(known, Fault { line, code: *code }),
+        ScreenEntry::Refused(code) => better(known, Fault { line, code: *code }),
         _ => known,
     }
 }
 
-impl Taken {
+impl ScreensTaken {
     /// Nothing is taken.
-    fn new(alloc: Global) -> Taken
+    fn new(alloc: Global) -> ScreensTaken
         ensures { (laid : Laid) → before_of laid result ≡ at_first laid }
     {
-        Taken {
+        ScreensTaken {
             begun: false,
             names: Names::new(alloc),
             fields: Names::new(alloc),
@@ -48,12 +48,12 @@ impl Taken {
     }
 
     /// Reads an entry behind those so far.
-    fn read(&mut self, alloc: Global, layout: &Layout, part: &Cursor<'_>) -> Result<Entry, Memory>
+    fn read(&mut self, alloc: Global, layout: &Layout, part: &Cursor<'_>) -> Result<ScreenEntry, Memory>
         ensures entry { IfOk result (λ found.
-            found ≡ entry_of layout.now (before_of layout.now self.old) part.now) }
+            found ≡ screen_entry_of layout.now (before_of layout.now self.old) part.now) }
         ensures after { IfOk result (λ found.
-            before_of layout.now self.new ≡ after (before_of layout.now self.old) part.now found) }
-        ensures sound { IfOk result (IsSound (length layout.now.storage)) }
+            before_of layout.now self.new ≡ after_screen_entry (before_of layout.now self.old) part.now found) }
+        ensures sound { IfOk result (IsSoundEntry (length layout.now.storage)) }
     {
         if begins_screen(part) {
             let found = read_screen(alloc, layout, part, &mut self.names)?;
@@ -74,17 +74,17 @@ impl Taken {
     }
 }
 
-impl Reading {
+impl ScreenReading {
     /// No entry was read. It takes no memory.
-    fn new(alloc: Global) -> Reading
+    fn new(alloc: Global) -> ScreenReading
         ensures outcome { (text : List ℕ) (tokens : List TokenValue) (laid : Laid)
-            → outcome text laid result (entries_of tokens) ≡ screens_of text tokens laid }
+            → outcome text laid result (division_entries_of tokens) ≡ screens_of text tokens laid }
         ensures sound { (storage : ℕ) → AreSound storage result.build }
     {
-        Reading {
+        ScreenReading {
             known: None,
-            taken: Taken::new(alloc),
-            build: Build::new(alloc),
+            taken: ScreensTaken::new(alloc),
+            build: ScreenBuilder::new(alloc),
         }
     }
 
@@ -137,7 +137,7 @@ pub fn screens(
         (screens_of text.now tokens.now layout.now) }
     ensures sound { IfOk result (λ tables. All (IsTable (length layout.now.storage)) tables.items) }
 {
-    let mut reading = Reading::new(alloc);
+    let mut reading = ScreenReading::new(alloc);
     let mut cursor = Cursor::new(text, tokens);
     while !cursor.is_empty() {
         let part = take_entry(&mut cursor);

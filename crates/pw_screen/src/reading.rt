@@ -1,11 +1,11 @@
-use crate::build::Build;
-use crate::taken::Taken;
+use crate::build::ScreenBuilder;
+use crate::taken::ScreensTaken;
 use pw_base::fault::Fault;
 
 /// What reading has found so far: the first fault, what is taken, and the screens.
 #[derive(Drop)]
-pub struct Reading {
+pub struct ScreenReading {
     pub known: Option<Fault>,
-    pub taken: Taken,
-    pub build: Build,
+    pub taken: ScreensTaken,
+    pub build: ScreenBuilder,
 }

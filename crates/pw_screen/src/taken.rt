@@ -4,7 +4,7 @@ use pw_words::names::Names;
 /// What the entries so far leave: whether a screen has begun, the names of the screens, those of the
 /// fields of the last one, and which of its cells its fields have.
 #[derive(Drop)]
-pub struct Taken {
+pub struct ScreensTaken {
     pub begun: bool,
     pub names: Names,
     pub fields: Names,

@@ -37,16 +37,16 @@ abbrev pub ready_at : Verb → Context → Seat → Seat
 ready_at verb context seat = record seat { ready = Some (record { verb = verb; context = context }) }
 
 -- it goes on with this context
-abbrev pub answered : Context → Seat → Seat
-answered context seat = record seat { context = Some context; ready = None }
+abbrev pub seat_answered : Context → Seat → Seat
+seat_answered context seat = record seat { context = Some context; ready = None }
 
 -- an attempt of the unit runs, from this context
 abbrev pub started : Unit → Context → Seat → Seat
 started unit start seat = record seat { start = Some start; unit = Some unit }
 
 -- no unit of it is open
-abbrev pub over : Seat → Seat
-over seat = record seat { start = None; unit = None; restarts = 0; awaits = None }
+abbrev pub seat_unit_over : Seat → Seat
+seat_unit_over seat = record seat { start = None; unit = None; restarts = 0; awaits = None }
 
 -- for OLDER the named unit is awaited
 abbrev pub awaiting : Cause → Option AwaitedUnit → Option AwaitedUnit
@@ -56,8 +56,8 @@ awaiting (Server k) awaits = awaits
 awaiting Redo awaits = awaits
 
 -- it is at its start again
-abbrev pub restarted : Cause → Seat → Seat
-restarted cause seat = record seat {
+abbrev pub seat_restarted : Cause → Seat → Seat
+seat_restarted cause seat = record seat {
   context = seat.start;
   ready = None;
   start = None;
@@ -71,15 +71,15 @@ abbrev pub without_path : Seat → Seat
 without_path seat = record seat { context = None; ready = None; pending = None }
 
 -- the first of two that is there
-abbrev pub first_of : Option Cause → Option Cause → Option Cause
-first_of None other = other
-first_of (Some cause) other = Some cause
+abbrev pub first_cause : Option Cause → Option Cause → Option Cause
+first_cause None other = other
+first_cause (Some cause) other = Some cause
 
 -- it goes on with this context, and the cause, if there is one, is pending
 abbrev pub resumed : Context → Option Cause → Seat → Seat
 resumed context cause seat =
-    record seat { context = Some context; ready = None; pending = first_of cause seat.pending }
+    record seat { context = Some context; ready = None; pending = first_cause cause seat.pending }
 
 -- it has this ending
-abbrev pub ended : Ending → Seat → Seat
-ended ending seat = record seat { pending = None; ending = Some ending }
+abbrev pub seat_ended : Ending → Seat → Seat
+seat_ended ending seat = record seat { pending = None; ending = Some ending }

@@ -10,7 +10,7 @@ use std::marker::Model;
 
 /// What a process works with.
 #[derive(Drop)]
-pub struct Job {
+pub struct ProcessJob {
     /// The terminal for which it works.
     pub terminal: u32,
     /// The context of its server, at an answer or at its next verb.
@@ -22,12 +22,12 @@ pub struct Job {
 /// The jobs of a class's processes. Contracts see for each process its job, if it has one.
 #[derive(Drop)]
 pub struct Jobs {
-    jobs: Vec<Option<Job>>,
+    jobs: Vec<Option<ProcessJob>>,
 }
 
 impl Model for Jobs {
     ghost use Rattle.std.specs.Prelude.{List, Option};
-    ghost use Rattle.pw_seats.specs.declared.job.Job.{Job as SeenJob};
+    ghost use Rattle.pw_seats.specs.declared.job.ProcessJob.{ProcessJob as SeenJob};
 
     ghost Value = { List (Option SeenJob) };
 
@@ -49,7 +49,7 @@ impl Jobs {
     }
 
     /// The job at a place, None where there is none.
-    pub fn get(&self, place: usize) -> Option<&Job>
+    pub fn get(&self, place: usize) -> Option<&ProcessJob>
         ensures { option_copied result ≡ job_in self.now place }
     {
         let job = self.jobs.get(place)?;
@@ -64,7 +64,7 @@ impl Jobs {
     }
 
     /// Takes the job at a place, and puts another one, if any, there.
-    pub fn put(&mut self, place: usize, job: Option<Job>)
+    pub fn put(&mut self, place: usize, job: Option<ProcessJob>)
         requires { place < length self.old }
         ensures { self.new ≡ slice_set self.old place job }
     {
@@ -94,7 +94,7 @@ impl Jobs {
 }
 
 /// Whether there is a job, and it is for the terminal.
-fn is_for(job: &Option<Job>, terminal: u32) -> bool
+fn is_for(job: &Option<ProcessJob>, terminal: u32) -> bool
     ensures { result ≡ is_for terminal job.now }
 {
     match job {
@@ -104,7 +104,7 @@ fn is_for(job: &Option<Job>, terminal: u32) -> bool
 }
 
 /// Drops a job for the terminal.
-fn drop_one(job: &mut Option<Job>, terminal: u32)
+fn drop_one(job: &mut Option<ProcessJob>, terminal: u32)
     ensures { job.new ≡ dropped_for terminal job.old }
 {
     if is_for(job, terminal) {

@@ -1,5 +1,5 @@
 ghost use Rattle.std.specs.Prelude.{◌≡◌, ◌-◌, ◌<◌, ◌^◌};
-ghost use Rattle.pw_seats.specs.Seats.{answered, ended, first_seat, over, ready_at, restarted, resumed, runs_unit, started, without_path};
+ghost use Rattle.pw_seats.specs.Seats.{seat_answered, seat_ended, first_seat, seat_unit_over, ready_at, seat_restarted, resumed, runs_unit, started, without_path};
 
 use pw_code::context::Context;
 use pw_code::unit::Unit;
@@ -77,7 +77,7 @@ impl Seat {
 
     /// Its program goes on with this context, which has one answer more.
     pub fn answer(&mut self, context: Context)
-        ensures { self.new ≡ answered context self.old }
+        ensures { self.new ≡ seat_answered context self.old }
     {
         self.context = Some(context);
         self.ready = None;
@@ -93,7 +93,7 @@ impl Seat {
 
     /// No unit of it is open.
     pub fn end_unit(&mut self)
-        ensures { self.new ≡ over self.old }
+        ensures { self.new ≡ seat_unit_over self.old }
     {
         self.start = None;
         self.unit = None;
@@ -104,7 +104,7 @@ impl Seat {
     /// It is at its start again, and the restart is recorded.
     pub fn restart(&mut self, cause: Cause)
         requires { self.old.restarts < 2 ^ 32 - 1 }
-        ensures { self.new ≡ restarted cause self.old }
+        ensures { self.new ≡ seat_restarted cause self.old }
     {
         self.context = self.start.take();
         self.ready = None;
@@ -140,7 +140,7 @@ impl Seat {
 
     /// It has this ending.
     pub fn end(&mut self, ending: Ending)
-        ensures { self.new ≡ ended ending self.old }
+        ensures { self.new ≡ seat_ended ending self.old }
     {
         self.pending = None;
         self.ending = Some(ending);

@@ -2,7 +2,7 @@
 use Rattle.std.proofs.Common.{◌≡◌, ℕ, suc, ◌+◌, ◌<◌, ◌≤◌, Bool, true, false, ◌&&◌, eqb, List, [], ◌∷◌, length, get_or, take, drop, refl, sym, ap, ◌∙◌, arith}
 use Rattle.std.proofs.lemmas.Bool.{and_parts, eqb-true}
 use Rattle.std.proofs.lemmas.List.{drop_more, drop_all}
-use Rattle.pw_sections.specs.Parts.{Cut, with_byte, cut, sections, front}
+use Rattle.pw_sections.specs.Parts.{DeckSections, with_byte, cut, sections, front}
 
 step : (s : Bool) (b : ℕ) (rest : List ℕ) → cut s (b ∷ rest) ≡ with_byte (s && eqb b 63) b (cut (eqb b 10) rest)
 unfolding cut
@@ -20,11 +20,11 @@ size s text = length (cut s text).front
 
 -- a section line begins here
 pub size_here : (s : Bool) (b : ℕ) (rest : List ℕ) → (s && eqb b 63) ≡ true → length (cut s (b ∷ rest)).front ≡ 0
-size_here s b rest is = ap (λ (c : Cut). length c.front) (begun s b rest true is)
+size_here s b rest is = ap (λ (c : DeckSections). length c.front) (begun s b rest true is)
 
 -- or this byte stands before it
 pub size_more : (s : Bool) (b : ℕ) (rest : List ℕ) → (s && eqb b 63) ≡ false → length (cut s (b ∷ rest)).front ≡ suc (length (cut (eqb b 10) rest).front)
-size_more s b rest is = ap (λ (c : Cut). length c.front) (begun s b rest false is)
+size_more s b rest is = ap (λ (c : DeckSections). length c.front) (begun s b rest false is)
 
 -- the loop's turn, and its ends
 pub turn_here : (text : List ℕ) (i whole : ℕ) (s : Bool) → i < length text → true ≡ (s && eqb (get_or text i 0) 63)
@@ -42,7 +42,7 @@ turn_more text i whole s next lt is next_is so_far =
 
 pub turn_end : (text : List ℕ) (i whole : ℕ) (s : Bool) → length text ≤ i → whole ≡ i + length (cut s (drop i text)).front → i ≡ whole
 turn_end text i whole s le so_far =
-    let none = ap (λ t. length (cut s t).front) (drop_all i text le) ∙ ap (λ (c : Cut). length c.front) (no_text s) in
+    let none = ap (λ t. length (cut s t).front) (drop_all i text le) ∙ ap (λ (c : DeckSections). length c.front) (no_text s) in
     omega (arith, none, so_far)
 
 -- what is known where a text is cut at its first section line
@@ -66,18 +66,18 @@ parted s (b ∷ rest) = go (s && eqb b 63) refl (parted (eqb b 10) rest)
         let none : length (cut s (b ∷ rest)).front ≡ 0 = size_here s b rest is in
         record {
           size = omega (arith, none);
-          front = ap (λ n. take n (b ∷ rest)) none ∙ sym (ap (λ (c : Cut). c.front) whole);
+          front = ap (λ n. take n (b ∷ rest)) none ∙ sym (ap (λ (c : DeckSections). c.front) whole);
           rest = ap (λ n. cut true (drop n (b ∷ rest))) none ∙ begun true b rest true mark
-              ∙ ap (λ (ss : List (List ℕ)). record { front = []; sections = ss }) (sym (ap (λ (c : Cut). c.sections) whole));
+              ∙ ap (λ (ss : List (List ℕ)). record { front = []; sections = ss }) (sym (ap (λ (c : DeckSections). c.sections) whole));
         }
     go false is more =
         let whole = begun s b rest false is in
         let one : length (cut s (b ∷ rest)).front ≡ suc (length (cut (eqb b 10) rest).front) = size_more s b rest is in
         record {
           size = omega (arith, one, more.size);
-          front = ap (λ n. take n (b ∷ rest)) one ∙ ap (λ f. b ∷ f) more.front ∙ sym (ap (λ (c : Cut). c.front) whole);
+          front = ap (λ n. take n (b ∷ rest)) one ∙ ap (λ f. b ∷ f) more.front ∙ sym (ap (λ (c : DeckSections). c.front) whole);
           rest = ap (λ n. cut true (drop n (b ∷ rest))) one ∙ more.rest
-              ∙ ap (λ (ss : List (List ℕ)). record { front = []; sections = ss }) (sym (ap (λ (c : Cut). c.sections) whole));
+              ∙ ap (λ (ss : List (List ℕ)). record { front = []; sections = ss }) (sym (ap (λ (c : DeckSections). c.sections) whole));
         }
 
 pub front_size-le : (s : Bool) (text : List ℕ) → length (cut s text).front ≤ length text
@@ -87,10 +87,10 @@ pub front_is : (text : List ℕ) (n : ℕ) → n ≡ length (front text) → tak
 front_is text n is = ap (λ k. take k text) is ∙ (parted true text).front
 
 pub sections_behind : (text : List ℕ) (n : ℕ) → n ≡ length (front text) → sections (drop n text) ≡ sections text
-sections_behind text n is = ap (λ k. sections (drop k text)) is ∙ ap (λ (c : Cut). c.sections) (parted true text).rest
+sections_behind text n is = ap (λ k. sections (drop k text)) is ∙ ap (λ (c : DeckSections). c.sections) (parted true text).rest
 
 pub none_before : (text : List ℕ) (n : ℕ) → n ≡ length (front text) → front (drop n text) ≡ []
-none_before text n is = ap (λ k. front (drop k text)) is ∙ ap (λ (c : Cut). c.front) (parted true text).rest
+none_before text n is = ap (λ k. front (drop k text)) is ∙ ap (λ (c : DeckSections). c.front) (parted true text).rest
 
 -- the first section, where the text begins with one
 pub record First (b : ℕ) (rest : List ℕ) (n : ℕ) : Type 0 where
@@ -104,22 +104,22 @@ first_section b rest n none is = go (true && eqb b 63) refl
     go true mark =
         let code : b ≡ 63 = eqb-true b 63 mark in
         let within : eqb b 10 ≡ false = ap (λ x. eqb x 10) code in
-        let whole = ap (λ (c : Cut). c.sections) (begun true b rest true mark) in
+        let whole = ap (λ (c : DeckSections). c.sections) (begun true b rest true mark) in
         let p = parted false rest in
         record {
           cases = whole
-              ∙ ap (λ (c : Cut). (b ∷ c.front) ∷ c.sections) (ap (λ x. cut x rest) within)
+              ∙ ap (λ (c : DeckSections). (b ∷ c.front) ∷ c.sections) (ap (λ x. cut x rest) within)
               ∙ sym (ap (λ k. (b ∷ take k rest) ∷ sections (drop k rest)) is ∙ ap (λ f. (b ∷ f) ∷ sections (drop (length (cut false rest).front) rest)) p.front
-              ∙ ap (λ ss. (b ∷ (cut false rest).front) ∷ ss) (ap (λ (c : Cut). c.sections) p.rest));
-          at_section = ap (λ k. front (drop k rest)) is ∙ ap (λ (c : Cut). c.front) p.rest;
+              ∙ ap (λ ss. (b ∷ (cut false rest).front) ∷ ss) (ap (λ (c : DeckSections). c.sections) p.rest));
+          at_section = ap (λ k. front (drop k rest)) is ∙ ap (λ (c : DeckSections). c.front) p.rest;
         }
     go false mark =
-        let bad : b ∷ (cut (eqb b 10) rest).front ≡ [] = sym (ap (λ (c : Cut). c.front) (begun true b rest false mark)) ∙ none in
+        let bad : b ∷ (cut (eqb b 10) rest).front ≡ [] = sym (ap (λ (c : DeckSections). c.front) (begun true b rest false mark)) ∙ none in
         absurd cc
 
 -- an empty text has no section
 pub no_sections : (text : List ℕ) → true ≡ eqb (length text) 0 → sections text ≡ []
-no_sections [] none = ap (λ (c : Cut). c.sections) (no_text true)
+no_sections [] none = ap (λ (c : DeckSections). c.sections) (no_text true)
 no_sections (b ∷ rest) none = let bad : length (b ∷ rest) ≡ 0 = eqb-true (length (b ∷ rest)) 0 (sym none) in absurd (omega arith)
 
 -- the first section of a text that is not empty

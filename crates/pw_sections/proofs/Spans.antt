@@ -4,7 +4,7 @@ use Rattle.std.proofs.lemmas.List.{drop_more, drop_all, append-nil}
 use Rattle.pw_lines.specs.Lines.{in_front}
 use Rattle.std.specs.Option.{option_map, option_and_then}
 use Rattle.std.specs.Str.{bytes_eq}
-use Rattle.pw_sections.specs.Entries.{parts, part_size, quoted, next_quoted, Pair, pair_of, with_pair, pairs_of}
+use Rattle.pw_sections.specs.Entries.{parts, part_size, quoted, next_quoted, NameValue, name_value_pair, with_pair, pairs_of}
 
 -- whether what stands behind a byte is in a text
 abbrev pub behind : Bool → ℕ → Bool
@@ -165,14 +165,14 @@ value_none value rest whole_text none end so_far =
     sym (ap (option_map (λ t. value ++ t)) (no_byte rest none ∙ ap (λ k. cond k (Some []) None) end)) ∙ so_far
 
 -- one part more may stand behind the pairs, or none may
-pub pair_turn : (pairs : List Pair) (more : Option (List Pair)) (part : List ℕ) (all rest : List (List ℕ)) (whole : Option (List Pair)) → all ≡ part ∷ rest
-    → more ≡ with_pair pairs (pair_of part) → pairs_of pairs all ≡ whole → option_and_then (λ more. pairs_of more rest) more ≡ whole
+pub pair_turn : (pairs : List NameValue) (more : Option (List NameValue)) (part : List ℕ) (all rest : List (List ℕ)) (whole : Option (List NameValue)) → all ≡ part ∷ rest
+    → more ≡ with_pair pairs (name_value_pair part) → pairs_of pairs all ≡ whole → option_and_then (λ more. pairs_of more rest) more ≡ whole
 unfolding pairs_of
 pair_turn pairs more part all rest whole is with so_far =
     ap (option_and_then (λ more. pairs_of more rest)) with ∙ sym (ap (pairs_of pairs) is) ∙ so_far
 
 -- no part is left
-pub pairs_end : (fields : List Pair) (whole : Option (List Pair)) → pairs_of fields [] ≡ whole → Some fields ≡ whole
+pub pairs_end : (fields : List NameValue) (whole : Option (List NameValue)) → pairs_of fields [] ≡ whole → Some fields ≡ whole
 unfolding pairs_of
 pairs_end fields whole so_far = so_far
 

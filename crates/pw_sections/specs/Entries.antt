@@ -4,7 +4,7 @@ use Rattle.std.specs.List.{list_any}
 use Rattle.std.specs.Str.{bytes_eq}
 use Rattle.pw_base.specs.declared.fault.Fault.{Fault}
 use Rattle.pw_base.specs.declared.fault_code.FaultCode.TheVariants.{BadEntry, TooMany}
-use Rattle.pw_code.specs.Entry.{Entry}
+use Rattle.pw_code.specs.Entry.{EntryLineModel}
 use Rattle.pw_code.specs.Limits.{most_entry_lines, most_pairs}
 use Rattle.pw_lines.specs.Lines.{lines, in_front}
 use Rattle.pw_lines.specs.Steps.{refused, or_refused, ◌>>=◌, each_line}
@@ -60,61 +60,61 @@ value_of [] = Some []
 value_of (b ∷ rest) = if b == 34 then quoted rest else (if list_any (λ c. c == 34) (b ∷ rest) then None else Some (b ∷ rest))
 
 -- a pair of a name and a value
-abbrev pub Pair : Type 0
-Pair = List ℕ × List ℕ
+abbrev pub NameValue : Type 0
+NameValue = List ℕ × List ℕ
 
 -- both, where both are there
-abbrev pub both : Option (List ℕ) → Option (List ℕ) → Option Pair
+abbrev pub both : Option (List ℕ) → Option (List ℕ) → Option NameValue
 both (Some name) (Some value) = Some (name, value)
 both _ _ = None
 
 -- the pair that a part is, whose first `=` stands at a place
-abbrev pub pair_at : List ℕ → Option ℕ → Option Pair
+abbrev pub pair_at : List ℕ → Option ℕ → Option NameValue
 pair_at part None = None
 pair_at part (Some place) = both (name_in (take place part)) (value_of (drop (place + 1) part))
 
 -- the pair `name=value` that a part is
-abbrev pub pair_of : List ℕ → Option Pair
-pair_of part = pair_at part (position (λ b. b == 61) part)
+abbrev pub name_value_pair : List ℕ → Option NameValue
+name_value_pair part = pair_at part (position (λ b. b == 61) part)
 
 -- the name stands already
-abbrev pub has_field : List Pair → List ℕ → Bool
+abbrev pub has_field : List NameValue → List ℕ → Bool
 has_field fields name = list_any (λ field. bytes_eq field.0 name) fields
 
 -- the pairs with one more, if it may stand behind them
-abbrev pub with_pair : List Pair → Option Pair → Option (List Pair)
+abbrev pub with_pair : List NameValue → Option NameValue → Option (List NameValue)
 with_pair fields None = None
 with_pair fields (Some pair) =
     if has_field fields pair.0 || nat_le most_pairs (length fields) then None else Some (fields ++ pair ∷ [])
 
 -- the pairs of some parts, behind those before
-unfoldable pub pairs_of : List Pair → List (List ℕ) → Option (List Pair)
+unfoldable pub pairs_of : List NameValue → List (List ℕ) → Option (List NameValue)
 pairs_of fields [] = Some fields
-pairs_of fields (part ∷ rest) = option_and_then (λ more. pairs_of more rest) (with_pair fields (pair_of part))
+pairs_of fields (part ∷ rest) = option_and_then (λ more. pairs_of more rest) (with_pair fields (name_value_pair part))
 
 -- an entry, where it has a key and its pairs
-abbrev pub entry_with : Option ℕ → Option (List Pair) → Option Entry
+abbrev pub entry_with : Option ℕ → Option (List NameValue) → Option EntryLineModel
 entry_with (Some key) (Some fields) = Some (record { key = key; fields = fields })
 entry_with _ _ = None
 
 -- the entry of these parts: a key, and pairs
-abbrev pub entry_by : List (List ℕ) → Option Entry
+abbrev pub entry_by : List (List ℕ) → Option EntryLineModel
 entry_by [] = None
 entry_by (word ∷ rest) = entry_with (key_of word) (pairs_of [] rest)
 
 -- the entry that a line is
-abbrev pub entry_of : List ℕ → Option Entry
+abbrev pub entry_of : List ℕ → Option EntryLineModel
 entry_of line = entry_by (parts false line)
 
 -- a terminal has not too many entries
-abbrev pub with_entry : ℕ → List Entry → Entry → Result (List Entry) Fault
+abbrev pub with_entry : ℕ → List EntryLineModel → EntryLineModel → Result (List EntryLineModel) Fault
 with_entry number entries entry =
     if nat_le most_entry_lines (length entries) then refused number TooMany else Ok (entries ++ entry ∷ [])
 
 -- the entry of a line behind the others
-abbrev pub entry_read : ℕ → List Entry → List ℕ → Result (List Entry) Fault
+abbrev pub entry_read : ℕ → List EntryLineModel → List ℕ → Result (List EntryLineModel) Fault
 entry_read number entries line = or_refused number BadEntry (entry_of line) >>= (λ entry. with_entry number entries entry)
 
 -- the entries of a text whose first line has a number
-abbrev pub entries_of : List ℕ → ℕ → Result (List Entry) Fault
+abbrev pub entries_of : List ℕ → ℕ → Result (List EntryLineModel) Fault
 entries_of text first_line = each_line entry_read first_line [] (lines text)

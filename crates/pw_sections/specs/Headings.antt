@@ -1,6 +1,6 @@
 -- The section lines.
 use Rattle.std.specs.Prelude.{ℕ, List, [], ◌∷◌, Bool, true, ◌&&◌, nat_le, codes, Option, None, Some, if◌then◌else◌}
-use Rattle.pw_lines.specs.Words.{words, name_in, number_in}
+use Rattle.pw_lines.specs.Words.{words, name_in, word_number}
 use Rattle.pw_words.specs.Words.{Word, same_word}
 use Rattle.pw_sections.specs.declared.heading.Heading.{Heading}
 use Rattle.pw_sections.specs.declared.heading.Heading.TheVariants as heading
@@ -35,7 +35,7 @@ abbrev pub heading_by : List Word → Option Heading
 heading_by (word ∷ []) = plain_heading word
 heading_by (word ∷ name ∷ []) = named_heading word (name_in name)
 heading_by (word ∷ name ∷ key ∷ number ∷ []) =
-    file_heading (same_word word (codes "?FILE") && same_word key (codes "KEY")) (name_in name) (number_in number)
+    file_heading (same_word word (codes "?FILE") && same_word key (codes "KEY")) (name_in name) (word_number number)
 heading_by _ = None
 
 -- what a section line says; none where it says nothing

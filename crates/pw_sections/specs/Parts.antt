@@ -2,18 +2,18 @@
 use Rattle.std.specs.Prelude.{◌≡◌, ℕ, ◌==◌, List, [], ◌∷◌, Bool, true, ◌&&◌, if◌then◌else◌}
 
 -- what stands before the first section line, and each section with its line, up to the next section line
-pub record Cut : Type 0 where
+pub record DeckSections : Type 0 where
   pub front : List ℕ
   pub sections : List (List ℕ)
 
 -- a byte stands in front, and begins a section line or does not
-abbrev pub with_byte : Bool → ℕ → Cut → Cut
+abbrev pub with_byte : Bool → ℕ → DeckSections → DeckSections
 with_byte begins b cut =
     if begins then record { front = []; sections = (b ∷ cut.front) ∷ cut.sections }
     else record cut { front = b ∷ cut.front }
 
 -- A text is cut. A section line begins with `?`, at the start of a line.
-unfoldable pub cut : Bool → List ℕ → Cut
+unfoldable pub cut : Bool → List ℕ → DeckSections
 cut at_start [] = record { front = []; sections = [] }
 cut at_start (b ∷ rest) = with_byte (at_start && b == 63) b (cut (b == 10) rest)
 

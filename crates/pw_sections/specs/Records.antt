@@ -30,5 +30,5 @@ abbrev pub record_read : ℕ → ℕ → List (List ℕ) → List ℕ → Result
 record_read key number records line = if is_bad_record key records line then refused number BadRecord else Ok (records ++ line ∷ [])
 
 -- the records of a text whose first line has a number, in a file whose key has a length
-abbrev pub records_of : ℕ → List ℕ → ℕ → Result (List (List ℕ)) Fault
-records_of key text first_line = each_line (record_read key) first_line [] (lines text)
+abbrev pub records_of_text : ℕ → List ℕ → ℕ → Result (List (List ℕ)) Fault
+records_of_text key text first_line = each_line (record_read key) first_line [] (lines text)

@@ -6,7 +6,7 @@ ghost use Rattle.pw_base.specs.First.{Gives};
 ghost use Rattle.pw_base.specs.Limits.{longest_input};
 ghost use Rattle.pw_code.specs.Limits.{most_pairs};
 ghost use Rattle.pw_lines.specs.Steps.{line_taken};
-ghost use Rattle.pw_sections.specs.Entries.{keys, key_of, parts, part_size, parts_behind, quoted, next_quoted, value_of, pair_of, with_pair, pairs_of, entry_of, with_entry, entry_read, entries_of};
+ghost use Rattle.pw_sections.specs.Entries.{keys, key_of, parts, part_size, parts_behind, quoted, next_quoted, value_of, name_value_pair, with_pair, pairs_of, entry_of, with_entry, entry_read, entries_of};
 
 use crate::pairs::Pairs;
 use pw_base::bytes::Bytes;
@@ -156,7 +156,7 @@ fn equals_place(part: &[u8]) -> Option<usize>
 
 /// The pair `name=value` that a part is; None exactly where it is none.
 fn pair_of(alloc: Global, part: &[u8]) -> Result<Option<(Bytes, Bytes)>, Memory>
-    ensures { IfOk result (λ pair. pair ≡ pair_of part.now) }
+    ensures { IfOk result (λ pair. pair ≡ name_value_pair part.now) }
 {
     let Some(place) = equals_place(part) else {
         return Ok(None);
@@ -172,7 +172,7 @@ fn pair_of(alloc: Global, part: &[u8]) -> Result<Option<(Bytes, Bytes)>, Memory>
 
 /// The pairs with the one that a part is behind them; None exactly where it may not stand there.
 fn with_pair(alloc: Global, pairs: Pairs, part: &[u8]) -> Result<Option<Pairs>, Memory>
-    ensures { IfOk result (λ more. more ≡ with_pair pairs (pair_of part.now)) }
+    ensures { IfOk result (λ more. more ≡ with_pair pairs (name_value_pair part.now)) }
 {
     match pair_of(alloc, part)? {
         Some(pair) => pairs.with(alloc, pair),

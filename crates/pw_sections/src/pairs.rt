@@ -20,14 +20,14 @@ pub struct Pairs {
 
 impl Model for Pairs {
     ghost use Rattle.std.specs.Prelude.{List};
-    ghost use Rattle.pw_sections.specs.Entries.{Pair};
-    ghost use Rattle.pw_sections.specs.Pairs.{IsNamed};
+    ghost use Rattle.pw_sections.specs.Entries.{NameValue};
+    ghost use Rattle.pw_sections.specs.Pairs.{AreNamesOfPairs};
 
-    ghost Value = { List Pair };
+    ghost Value = { List NameValue };
 
     ghost view = { λ pairs. pairs.fields };
 
-    ghost invariant = { λ pairs. IsNamed pairs.fields pairs.names };
+    ghost invariant = { λ pairs. AreNamesOfPairs pairs.fields pairs.names };
 }
 
 impl Pairs {

@@ -3,7 +3,7 @@ ghost use Rattle.std.specs.List.{list_all};
 ghost use Rattle.pw_base.specs.First.{Gives};
 ghost use Rattle.pw_base.specs.Limits.{longest_input};
 ghost use Rattle.pw_lines.specs.Steps.{line_taken};
-ghost use Rattle.pw_sections.specs.Records.{is_printable, printable_line, printable, record_read, records_of};
+ghost use Rattle.pw_sections.specs.Records.{is_printable, printable_line, printable, record_read, records_of_text};
 
 use crate::key::add_key;
 use indexmap::IndexSet;
@@ -124,7 +124,7 @@ pub fn records(
     first_line: u32,
 ) -> Result<List<Bytes>, Refusal>
     requires { first_line + length text.now ≤ 2 * longest_input + 1 }
-    ensures { Gives (λ records. records) result (records_of key text.now first_line) }
+    ensures { Gives (λ records. records) result (records_of_text key text.now first_line) }
 {
     let mut keys = IndexSet::new(alloc);
     let mut records = List::new(alloc);

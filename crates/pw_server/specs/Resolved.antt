@@ -4,5 +4,5 @@ use Rattle.pw_operands.specs.Resolved.{ServerResolves}
 use Rattle.pw_server.specs.declared.server.Server.{Server}
 
 -- every name of a server resolves, and every operand has its kind and length
-abbrev pub IsResolved : Server → Links → Type 0
-IsResolved server links = ServerResolves server.layout server.procedure links
+abbrev pub IsResolvedServer : Server → Links → Type 0
+IsResolvedServer server links = ServerResolves server.layout server.procedure links

@@ -14,11 +14,11 @@ use Rattle.pw_data.specs.Store.{joined}
 use Rattle.pw_data.specs.declared.item.Item.{Item}
 use Rattle.pw_data.proofs.Cells.{joined-append}
 use Rattle.pw_operands.specs.Resolved.{Each}
-use Rattle.pw_code.specs.declared.place.Place.{Place}
+use Rattle.pw_code.specs.declared.place.StoragePlace.{StoragePlace}
 use Rattle.pw_code.specs.declared.place.Register.TheVariants as register
-use Rattle.pw_code.specs.declared.place.Subscript as index
-use Rattle.pw_code.specs.declared.place.Subscript.TheVariants as subscript
-use Rattle.pw_code.specs.declared.place.Table.{Table}
+use Rattle.pw_code.specs.declared.place.PlaceSubscript as index
+use Rattle.pw_code.specs.declared.place.PlaceSubscript.TheVariants as subscript
+use Rattle.pw_code.specs.declared.place.PlaceTable.{PlaceTable}
 use Rattle.pw_source.specs.Program.{Program, item_named}
 use Rattle.pw_source.specs.State.{Registers}
 use Rattle.pw_source.specs.Store.{Store, Spot, spot_of, chars_at, put_at}
@@ -64,7 +64,7 @@ kept-back registers =
     ∙ ap (λ (chars : List ℕ). reading-of t chars) (ap (take 5) (sym (append-nil r)) ∙ first-same r [] 5 (length-digits_of 5 registers.restarts))
 
 -- what an index is, by the registers that a CALL kept: the same where it lies within a table
-index-kept : (registers : Registers) (storage : List ℕ) (one : index.Subscript) (occurs : ℕ) → IsKeptIndex one → occurs ≤ most_occurrences
+index-kept : (registers : Registers) (storage : List ℕ) (one : index.PlaceSubscript) (occurs : ℕ) → IsKeptIndex one → occurs ≤ most_occurrences
     → reading.subscript_of registers storage one ≤ occurs
     → reading.subscript_of (kept_in (kept true registers)) storage one ≡ reading.subscript_of registers storage one
 index-kept registers storage (subscript.Number k) occurs is few within = refl
@@ -80,7 +80,7 @@ occurrence-by : (k occurs at step : ℕ) (b : Bool) → (nat_le 1 k && nat_le k 
 occurrence-by k occurs at step true e found is = leb-true k occurs (and_parts (nat_le 1 k) (nat_le k occurs) e).1
 occurrence-by k occurs at step false e found is = absurd cc
 
-at-kept : (registers : Registers) (storage : List ℕ) (at : ℕ) (table : Option Table) (found : ℕ) → IsKeptTable table → IfSome table (λ one. one.occurs ≤ most_occurrences)
+at-kept : (registers : Registers) (storage : List ℕ) (at : ℕ) (table : Option PlaceTable) (found : ℕ) → IsKeptTable table → IfSome table (λ one. one.occurs ≤ most_occurrences)
     → reading.at_this_moment registers storage at table ≡ Some found → reading.at_this_moment (kept_in (kept true registers)) storage at table ≡ Some found
 at-kept registers storage at None found is few e = e
 at-kept registers storage at (Some table) found is few e =
@@ -92,7 +92,7 @@ some-of : {A B : Type 0} (f : A → B) (o : Option A) (found : B) → option_map
 some-of f None found e = absurd cc
 some-of f (Some x) found e = (x, refl, same_Some (f x) found e)
 
-spot-kept : (registers : Registers) (storage : List ℕ) (place : Place) (found : Spot) → IsKeptPlace place → IsFew place
+spot-kept : (registers : Registers) (storage : List ℕ) (place : StoragePlace) (found : Spot) → IsKeptPlace place → IsFew place
     → reading.spot_of registers storage place ≡ Some found → reading.spot_of (kept_in (kept true registers)) storage place ≡ Some found
 spot-kept registers storage place found is few e =
     let s = some-of (reading.spot_at place) (reading.at_this_moment registers storage place.at place.table) found e in
@@ -113,8 +113,8 @@ both-some : {A : Type 0} (a : Option A) (b : Option (List A)) (x : A) (xs : List
 both-some a b x xs e f = ap (λ o. one_more o b) e ∙ ap (one_more (Some x)) f
 
 -- by registers by which the places lie where they did
-spots-again : (old new : Registers) (storage : List ℕ) (places : List Place) (spots : List Spot)
-    → Each (λ (place : Place). (spot : Spot) → reading.spot_of old storage place ≡ Some spot → reading.spot_of new storage place ≡ Some spot) places
+spots-again : (old new : Registers) (storage : List ℕ) (places : List StoragePlace) (spots : List Spot)
+    → Each (λ (place : StoragePlace). (spot : Spot) → reading.spot_of old storage place ≡ Some spot → reading.spot_of new storage place ≡ Some spot) places
     → spots_of old storage places ≡ Some spots → spots_of new storage places ≡ Some spots
 spots-again old new storage [] spots same e = e
 spots-again old new storage (place ∷ places) [] same e = absurd (no-one (reading.spot_of old storage place) (spots_of old storage places) e)
@@ -123,8 +123,8 @@ spots-again old new storage (place ∷ places) (spot ∷ spots) same e =
     both-some (reading.spot_of new storage place) (spots_of new storage places) spot spots (same.0 spot parts.0) (spots-again old new storage places spots same.1 parts.1)
 
 -- as many characters as their places have
-pub spots-long : (registers : Registers) (storage : List ℕ) (places : List Place) (spots : List Spot) → spots_of registers storage places ≡ Some spots
-    → map (λ (spot : Spot). spot.size) spots ≡ map (λ (place : Place). place.size) places
+pub spots-long : (registers : Registers) (storage : List ℕ) (places : List StoragePlace) (spots : List Spot) → spots_of registers storage places ≡ Some spots
+    → map (λ (spot : Spot). spot.size) spots ≡ map (λ (place : StoragePlace). place.size) places
 spots-long registers storage [] spots e = ap (map (λ (spot : Spot). spot.size)) (sym (same_Some [] spots e))
 spots-long registers storage (place ∷ places) [] e = absurd (no-one (reading.spot_of registers storage place) (spots_of registers storage places) e)
 spots-long registers storage (place ∷ places) (spot ∷ spots) e =
@@ -133,31 +133,31 @@ spots-long registers storage (place ∷ places) (spot ∷ spots) e =
     ap (λ (n : ℕ). n ∷ map (λ (one : Spot). one.size) spots) (ap (λ (one : Spot). one.size) (sym s.2))
     ∙ ap (λ (ns : List ℕ). place.size ∷ ns) (spots-long registers storage places spots parts.1)
 
-kept-each : (registers : Registers) (storage : List ℕ) (places : List Place) → Each IsKeptPlace places → Each IsFew places
-    → Each (λ (place : Place). (spot : Spot) → reading.spot_of registers storage place ≡ Some spot → reading.spot_of (kept_in (kept true registers)) storage place ≡ Some spot) places
+kept-each : (registers : Registers) (storage : List ℕ) (places : List StoragePlace) → Each IsKeptPlace places → Each IsFew places
+    → Each (λ (place : StoragePlace). (spot : Spot) → reading.spot_of registers storage place ≡ Some spot → reading.spot_of (kept_in (kept true registers)) storage place ≡ Some spot) places
 kept-each registers storage [] is few = tt
 kept-each registers storage (place ∷ places) is few = ((λ spot e. spot-kept registers storage place spot is.0 few.0 e), kept-each registers storage places is.1 few.1)
 
 -- the places of a CALL that keeps the registers
-pub spots-kept : (registers : Registers) (storage : List ℕ) (places : List Place) (spots : List Spot) → Each IsKeptPlace places → Each IsFew places
+pub spots-kept : (registers : Registers) (storage : List ℕ) (places : List StoragePlace) (spots : List Spot) → Each IsKeptPlace places → Each IsFew places
     → spots_of registers storage places ≡ Some spots → spots_of (kept_in (kept true registers)) storage places ≡ Some spots
 spots-kept registers storage places spots is few e =
     spots-again registers (kept_in (kept true registers)) storage places spots (kept-each registers storage places is few) e
 
 -- ---- without registers
 
-free-index : (old new : Registers) (storage : List ℕ) (one : index.Subscript) → is_register one ≡ false → reading.subscript_of new storage one ≡ reading.subscript_of old storage one
+free-index : (old new : Registers) (storage : List ℕ) (one : index.PlaceSubscript) → is_register one ≡ false → reading.subscript_of new storage one ≡ reading.subscript_of old storage one
 free-index old new storage (subscript.Number k) is = refl
 free-index old new storage (subscript.Item at digits places) is = refl
 free-index old new storage (subscript.Register one) is = absurd cc
 
-free-at : (old new : Registers) (storage : List ℕ) (at : ℕ) (table : Option Table) → is_by_register table ≡ false
+free-at : (old new : Registers) (storage : List ℕ) (at : ℕ) (table : Option PlaceTable) → is_by_register table ≡ false
     → reading.at_this_moment new storage at table ≡ reading.at_this_moment old storage at table
 free-at old new storage at None is = refl
 free-at old new storage at (Some table) is = ap (reading.occurrence_at at table) (free-index old new storage table.subscript is)
 
-free-each : (old new : Registers) (storage : List ℕ) (places : List Place) → keeps places ≡ false
-    → Each (λ (place : Place). (spot : Spot) → reading.spot_of old storage place ≡ Some spot → reading.spot_of new storage place ≡ Some spot) places
+free-each : (old new : Registers) (storage : List ℕ) (places : List StoragePlace) → keeps places ≡ false
+    → Each (λ (place : StoragePlace). (spot : Spot) → reading.spot_of old storage place ≡ Some spot → reading.spot_of new storage place ≡ Some spot) places
 free-each old new storage [] is = tt
 free-each old new storage (place ∷ places) is =
     let parts = or_parts (is_by_register place.table) (keeps places) is in (
@@ -165,7 +165,7 @@ free-each old new storage (place ∷ places) is =
       free-each old new storage places parts.1,
     )
 
-pub spots-free : (old new : Registers) (storage : List ℕ) (places : List Place) (spots : List Spot) → keeps places ≡ false
+pub spots-free : (old new : Registers) (storage : List ℕ) (places : List StoragePlace) (spots : List Spot) → keeps places ≡ false
     → spots_of old storage places ≡ Some spots → spots_of new storage places ≡ Some spots
 spots-free old new storage places spots is e = spots-again old new storage places spots (free-each old new storage places is) e
 

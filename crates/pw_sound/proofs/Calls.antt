@@ -9,14 +9,14 @@ use Rattle.pw_operands.specs.Resolved.{Each}
 use Rattle.pw_code.specs.declared.context.Frame.{Frame}
 use Rattle.pw_code.specs.declared.context.Return.{Return}
 use Rattle.pw_code.specs.declared.instr.Instr.TheVariants as instr
-use Rattle.pw_code.specs.declared.place.Place.{Place}
+use Rattle.pw_code.specs.declared.place.StoragePlace.{StoragePlace}
 use Rattle.pw_code.specs.declared.system.System.{System}
 use Rattle.pw_source.specs.Program.{Program, program_at, program_number}
 use Rattle.pw_source.specs.Setting.{Setting}
-use Rattle.pw_source.specs.State.{State, Out, Goes, Leaves, Asks}
+use Rattle.pw_source.specs.State.{ProgramState, Out, Goes, Leaves, Asks}
 use Rattle.pw_source.specs.Store.{Spot}
 use Rattle.pw_source.specs.Operands as operands
-use Rattle.pw_source.specs.Operands.{Taken, spot_in}
+use Rattle.pw_source.specs.Operands.{ResolvedOperand, spot_in}
 use Rattle.pw_source.specs.Performs as tree
 use Rattle.pw_source.specs.Performs.{budget}
 use Rattle.pw_exec.specs.Calls as calls
@@ -43,7 +43,7 @@ pub record IsCallee (system : System) (q : ℕ) (program : Program) : Type 0 whe
   pub items : AreItems program program.parameters
 
 -- the called program, behind its caller
-abbrev pub inner : Env → ℕ → Bool → ℕ → List Return → State → Env
+abbrev pub inner : Env → ℕ → Bool → ℕ → List Return → ProgramState → Env
 inner e q keeping at rs s = record {
   program = q;
   callers = e.callers ++ (record { program = e.program; at = at; storage = joined s.store ++ e.tail; returns = rs }) ∷ [];
@@ -52,16 +52,16 @@ inner e q keeping at rs s = record {
 
 module _ (system : System) (setting : Setting) (e : Env) where
   -- the code of the called program does what a call does
-  abbrev pub CallDoes : (ℕ → List (List ℕ) → State → Out) → Type 0
+  abbrev pub CallDoes : (ℕ → List (List ℕ) → ProgramState → Out) → Type 0
   CallDoes call =
-      (q : ℕ) (keeping : Bool) (spots : List Spot) (at : ℕ) (rs : List Return) (s : State) (m : Marks) → q < length setting.deck.programs
+      (q : ℕ) (keeping : Bool) (spots : List Spot) (at : ℕ) (rs : List Return) (s : ProgramState) (m : Marks) → q < length setting.deck.programs
       → Each (Sits s.store) spots
       → map (λ (spot : Spot). spot.size) spots
       ≡ map (λ (item : ℕ × ℕ). item.1) (linkage_of (program_at setting.deck.programs q).layout (program_at setting.deck.programs q).parameters)
       → Finishes system (program_at setting.deck.programs q) (inner e q keeping at rs s) (budget s) (calls.calls system q keeping spots (mach e at rs s m)) s.answers
       (call q (tree.chars_of_all spots s.store) s)
 
-  module _ (q : ℕ) (keeping : Bool) (spots : List Spot) (places : List Place) (at : ℕ) (rs : List Return) (s : State)
+  module _ (q : ℕ) (keeping : Bool) (spots : List Spot) (places : List StoragePlace) (at : ℕ) (rs : List Return) (s : ProgramState)
       (h : slice_get (code_at system e.program).instrs at ≡ Some (instr.Call q places keeping))
       (keeping_is : keeping ≡ keeps places) (kept : Each IsKeptPlace places) (few : Each IsFew places)
       (found : spots_of s.registers (joined s.store ++ e.tail) places ≡ Some spots)
@@ -76,11 +76,11 @@ module _ (system : System) (setting : Setting) (e : Env) where
     abbrev caller : Frame
     caller = record { program = e.program; at = at; storage = joined s.store ++ e.tail; returns = rs }
 
-    abbrev left_at : ℕ → List Return → State → Marks → Config
+    abbrev left_at : ℕ → List Return → ProgramState → Marks → Config
     left_at to returns u n = mach (inner e q keeping at rs s) to returns u n
 
     -- the places from before the call
-    places-again : (b : Bool) → keeping ≡ b → (to : ℕ) (returns : List Return) (u : State) (n : Marks) → Ground called u.store
+    places-again : (b : Bool) → keeping ≡ b → (to : ℕ) (returns : List Return) (u : ProgramState) (n : Marks) → Ground called u.store
         → spots_of (calls.registers_at_call keeping (length (code_at system q).storage) (left_at to returns u n).top (left_at to returns u n).rest) (joined s.store ++ e.tail) places ≡ Some spots
     places-again true is to returns u n ground =
         let long : length (joined u.store) ≡ length (code_at system q).storage = ground.1 ∙ sym (ap length callee.storage) in
@@ -92,7 +92,7 @@ module _ (system : System) (setting : Setting) (e : Env) where
         ∙ spots-free s.registers u.registers (joined s.store ++ e.tail) places spots (sym keeping_is ∙ is) found
 
     -- the storage of the caller behind the call
-    storage-back : (to : ℕ) (returns : List Return) (u : State) (n : Marks) → Ground called u.store
+    storage-back : (to : ℕ) (returns : List Return) (u : ProgramState) (n : Marks) → Ground called u.store
         → calls.storage_behind system (slice_get (code_at system e.program).instrs at) caller (left_at to returns u n).top (left_at to returns u n).rest
         ≡ joined (tree.put_all spots (tree.chars_of_all (tree.parameter_spots called) u.store) s.store) ++ e.tail
     storage-back to returns u n ground =
@@ -103,14 +103,14 @@ module _ (system : System) (setting : Setting) (e : Env) where
         ∙ ap (λ (given : List (List ℕ)). calls.put_all spots given caller.storage) (linkage-says called callee.fits called.parameters u.store (calls.kept keeping s.registers) callee.items ground)
         ∙ arguments-put spots charss s.store e.tail sits (linkage-long called callee.fits called.parameters u.store callee.items ground ∙ sym sizes)
 
-    abbrev back : ℕ → List Return → State → Marks → List ℕ → Config
+    abbrev back : ℕ → List Return → ProgramState → Marks → List ℕ → Config
     back to returns u n storage = record {
       top = record caller { at = at + 1; storage = storage };
       rest = record (left_at to returns u n).rest { frames = e.callers };
     }
 
     -- the called program is left
-    leaves-same : (to : ℕ) (returns : List Return) (u : State) (n : Marks) → Ground called u.store
+    leaves-same : (to : ℕ) (returns : List Return) (u : ProgramState) (n : Marks) → Ground called u.store
         → calls.leaves system (left_at to returns u n) ≡ mach e (at + 1) rs (tree.caller_state called spots s.store u) n
     leaves-same to returns u n ground =
         ap (λ o. calls.leaves_by system o (left_at to returns u n)) (split-end e.callers caller)
@@ -136,14 +136,14 @@ module _ (system : System) (setting : Setting) (e : Env) where
     comes_back_does c b ground (Asks v u) f = f
 
   module _ (known : Known setting.is_server setting.program) where
-    each-spots : (u : State) (targets : List Taken) → Each (TakenSits u.store) targets → Each (Sits u.store) (map spot_in targets)
+    each-spots : (u : ProgramState) (targets : List ResolvedOperand) → Each (TakenSits u.store) targets → Each (Sits u.store) (map spot_in targets)
     each-spots u [] all = tt
     each-spots u (target ∷ targets) all = (spot-sits u.store target all.0, each-spots u targets all.1)
 
     -- CALL
-    pub call_does : (call : ℕ → List (List ℕ) → State → Out) → CallDoes call → (name : Word) (arguments : List Operand) (number : ℕ) → number ≡ program_number setting.deck name
+    pub call_does : (call : ℕ → List (List ℕ) → ProgramState → Out) → CallDoes call → (name : Word) (arguments : List Operand) (number : ℕ) → number ≡ program_number setting.deck name
         → CallSuits system setting name arguments → IsCallee system (program_number setting.deck name) (program_at setting.deck.programs (program_number setting.deck name))
-        → (at : ℕ) (rs : List Return) (s : State) (m : Marks) → Ground setting.program s.store
+        → (at : ℕ) (rs : List Return) (s : ProgramState) (m : Marks) → Ground setting.program s.store
         → slice_get (code_at system e.program).instrs at
         ≡ Some (instr.Call number (map (code.place_in setting.program.layout) arguments) (keeps (map (code.place_in setting.program.layout) arguments)))
         → Does system setting.program e (budget s)
@@ -152,7 +152,7 @@ module _ (system : System) (setting : Setting) (e : Env) where
         s.answers (at + 1) rs (tree.call_program setting call name arguments s)
     call_does call does name arguments number same suits callee at rs s m ground h =
         let q = program_number setting.deck name in
-        let places : List Place = map (code.place_in setting.program.layout) arguments in
+        let places : List StoragePlace = map (code.place_in setting.program.layout) arguments in
         let spots_are = spots-same setting.is_server setting.deck setting.program known s e.tail ground arguments suits.own in
         subst (λ n. Does system setting.program e (budget s) (with_taken (spots_of s.registers (joined s.store ++ e.tail) places) (calls.calls system n (keeps places)) (mach e at rs s m)) s.answers (at + 1) rs (tree.call_program setting call name arguments s)) (sym same)
         (taken_does system setting.program e (map spot_in) (operands.taken_all setting.program s arguments) _ (budget s) at rs s m (at + 1) rs

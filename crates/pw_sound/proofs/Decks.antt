@@ -17,15 +17,15 @@ use Rattle.pw_code.specs.declared.field.ScreenTable.{ScreenTable}
 use Rattle.pw_code.specs.declared.links.Links.{Links}
 use Rattle.pw_code.specs.declared.lock.LockRule.{LockRule}
 use Rattle.pw_code.specs.declared.system.System.{System}
-use Rattle.pw_operands.specs.Resolved.{Each, IsShown, IsShownName, Resolves, RowResolves}
+use Rattle.pw_operands.specs.Resolved.{Each, IsDisplayOperand, IsShownName, Resolves, RowResolves}
 use Rattle.pw_operands.specs.Scope.{screen_of}
 use Rattle.pw_operands.specs.Variables.{is_any}
-use Rattle.pw_source.specs.Program.{Deck, Program, no_program, first_screen, screen_named}
+use Rattle.pw_source.specs.Program.{DeckModel, Program, no_program, first_screen, screen_named}
 use Rattle.pw_source.specs.Program as tree
 use Rattle.pw_source.specs.Runs.{setting_of, server_setting}
 use Rattle.pw_source.specs.Setting.{Setting}
-use Rattle.pw_source.specs.Sound.{links_of, scope_of, HasForms, RowHasForms, IsSound, IsSoundProgram}
-use Rattle.pw_sound.specs.Premises.{IsShownOf, CallsFit, RowCallsFit, IsFitting, AreFitting}
+use Rattle.pw_source.specs.Sound.{links_of, scope_of, HasForms, RowHasForms, IsSoundDeck, IsSoundProgram}
+use Rattle.pw_sound.specs.Premises.{IsShownOf, DeckCallsFit, DeckRowCallsFit, IsFitting, AreFitting}
 use Rattle.pw_sound.specs.Systems.{code_in, codes_in, screens_of, system_of}
 use Rattle.std.proofs.lemmas.List.{length-map}
 use Rattle.std.proofs.lemmas.Option.{same_Some, slice_get_within}
@@ -130,7 +130,7 @@ program-below programs name some =
 
 -- ---- programs of terminals
 
-module _ (rule : LockRule) (deck : Deck) (q : ℕ) (lt : q < length deck.programs) (sound : IsSoundProgram false deck (tree.program_at deck.programs q)) (fitting : IsFitting deck (tree.program_at deck.programs q)) where
+module _ (rule : LockRule) (deck : DeckModel) (q : ℕ) (lt : q < length deck.programs) (sound : IsSoundProgram false deck (tree.program_at deck.programs q)) (fitting : IsFitting deck (tree.program_at deck.programs q)) where
   abbrev system : System
   system = system_of rule deck
 
@@ -160,7 +160,7 @@ module _ (rule : LockRule) (deck : Deck) (q : ℕ) (lt : q < length deck.program
   shown-name name one (Some n) is = absurd cc
   shown-name name one None is = named-own system setting is_any name (Some one) is
 
-  shows : (shown : Operand) → IsShown (scope_of false deck setting.program) shown → suits.Shows system setting shown
+  shows : (shown : Operand) → IsDisplayOperand (scope_of false deck setting.program) shown → suits.Shows system setting shown
   shows (operands.Item name None) is = by (screen_named setting.program name) refl
     where
       by : (o : Option ScreenTable) → screen_named setting.program name ≡ o → suits.ShownBy system setting o name
@@ -173,7 +173,7 @@ module _ (rule : LockRule) (deck : Deck) (q : ℕ) (lt : q < length deck.program
   shows operands.Zeros is = tt
 
   mutual
-    shaped : (one : Statement) → Resolves (scope_of false deck setting.program) one → HasForms false one → CallsFit deck setting.program one → IsWritten one → Shaped system setting one
+    shaped : (one : Statement) → Resolves (scope_of false deck setting.program) one → HasForms false one → DeckCallsFit deck setting.program one → IsWritten one → Shaped system setting one
     shaped (form.OnSizeError' line a n first m second) is forms fits written = (row-shaped first is.1 forms.0 fits.0 written.0, row-shaped second is.2 forms.1 fits.1 written.1)
     shaped (form.If' line cond n first m second) is forms fits written = (row-shaped first is.1 forms.0 fits.0 written.0, row-shaped second is.2 forms.1 fits.1 written.1)
     shaped (form.DisplayBase line name) is forms fits written = shows-screen name is.0
@@ -209,16 +209,16 @@ module _ (rule : LockRule) (deck : Deck) (q : ℕ) (lt : q < length deck.program
     shaped (form.Abort line) is forms fits written = tt
     shaped (form.Restart line) is forms fits written = tt
 
-    row-shaped : {n : _} (row : Row_of-Statement n) → RowResolves (scope_of false deck setting.program) row → RowHasForms false row → RowCallsFit deck setting.program row → RowIsWritten row → RowShaped system setting row
+    row-shaped : {n : _} (row : Row_of-Statement n) → RowResolves (scope_of false deck setting.program) row → RowHasForms false row → DeckRowCallsFit deck setting.program row → RowIsWritten row → RowShaped system setting row
     row-shaped end_of-Statement is forms fits written = tt
     row-shaped (more_of-Statement one rest) is forms fits written = (shaped one is.0 forms.0 fits.0 written.0, row-shaped rest is.1 forms.1 fits.1 written.1)
 
-  body-suits : (ones : List Statement) → Each (Resolves (scope_of false deck setting.program)) ones → Each (HasForms false) ones → Each (CallsFit deck setting.program) ones → Each IsWritten ones → Each (Suits system setting) ones
+  body-suits : (ones : List Statement) → Each (Resolves (scope_of false deck setting.program)) ones → Each (HasForms false) ones → Each (DeckCallsFit deck setting.program) ones → Each IsWritten ones → Each (Suits system setting) ones
   body-suits [] is forms fits written = tt
   body-suits (one ∷ ones) is forms fits written = (suited system setting one is.0 (shaped one is.0 forms.0 fits.0 written.0), body-suits ones is.1 forms.1 fits.1 written.1)
 
   paragraphs-suit : (ps : List Paragraph) → Each (λ (p : Paragraph). Each (Resolves (scope_of false deck setting.program)) p.body) ps → Each (λ (p : Paragraph). Each (HasForms false) p.body) ps
-      → Each (λ (p : Paragraph). Each (CallsFit deck setting.program) p.body) ps → Each (λ (p : Paragraph). Each IsWritten p.body) ps → Each (λ (p : Paragraph). Each (Suits system setting) p.body) ps
+      → Each (λ (p : Paragraph). Each (DeckCallsFit deck setting.program) p.body) ps → Each (λ (p : Paragraph). Each IsWritten p.body) ps → Each (λ (p : Paragraph). Each (Suits system setting) p.body) ps
   paragraphs-suit [] is forms fits written = tt
   paragraphs-suit (p ∷ ps) is forms fits written = (body-suits p.body is.0 forms.0 fits.0 written.0, paragraphs-suit ps is.1 forms.1 fits.1 written.1)
 
@@ -238,7 +238,7 @@ module _ (rule : LockRule) (deck : Deck) (q : ℕ) (lt : q < length deck.program
 
 -- ---- servers
 
-module _ (rule : LockRule) (deck : Deck) (q : ℕ) (lt : q < length deck.servers) (sound : IsSoundProgram true deck (tree.program_at deck.servers q)) where
+module _ (rule : LockRule) (deck : DeckModel) (q : ℕ) (lt : q < length deck.servers) (sound : IsSoundProgram true deck (tree.program_at deck.servers q)) where
   abbrev server_system : System
   server_system = system_of rule deck
 
@@ -307,9 +307,9 @@ module _ (rule : LockRule) (deck : Deck) (q : ℕ) (lt : q < length deck.servers
 
 -- ---- all of a deck
 
-pub all-programs : (rule : LockRule) (deck : Deck) → IsSound deck → AreFitting deck → (q : ℕ) → q < length deck.programs → IsProgram (system_of rule deck) deck q
+pub all-programs : (rule : LockRule) (deck : DeckModel) → IsSoundDeck deck → AreFitting deck → (q : ℕ) → q < length deck.programs → IsProgram (system_of rule deck) deck q
 all-programs rule deck sound fitting q lt =
     is-program rule deck q lt (each-program (IsSoundProgram false deck) deck.programs q sound.programs lt) (each-program (IsFitting deck) deck.programs q fitting lt)
 
-pub all-servers : (rule : LockRule) (deck : Deck) → IsSound deck → (q : ℕ) → q < length deck.servers → IsServer (system_of rule deck) deck q
+pub all-servers : (rule : LockRule) (deck : DeckModel) → IsSoundDeck deck → (q : ℕ) → q < length deck.servers → IsServer (system_of rule deck) deck q
 all-servers rule deck sound q lt = is-server rule deck q lt (each-program (IsSoundProgram true deck) deck.servers q sound.servers lt)

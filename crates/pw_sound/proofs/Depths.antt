@@ -9,7 +9,7 @@ use Rattle.pw_code.specs.declared.context.Return.{Return}
 use Rattle.pw_code.specs.declared.system.System.{System}
 use Rattle.pw_source.specs.Program.{body_named}
 use Rattle.pw_source.specs.Setting.{Setting}
-use Rattle.pw_source.specs.State.{State, Out}
+use Rattle.pw_source.specs.State.{ProgramState, Out}
 use Rattle.pw_source.specs.State as source
 use Rattle.pw_source.specs.Performs.{budget}
 use Rattle.pw_source.specs.Runs.{performed}
@@ -23,14 +23,14 @@ use Rattle.pw_sound.proofs.Calls.{CallDoes}
 use Rattle.pw_sound.proofs.Whole.{IsSet, StandsIn, body_does}
 
 module _ (system : System) (setting : Setting) (e : Env) (set : IsSet system setting e)
-    (call : ℕ → List (List ℕ) → State → Out)
+    (call : ℕ → List (List ℕ) → ProgramState → Out)
     (stands : (name : Word) → Performed system setting name → StandsIn system setting e set name)
     (calling : setting.is_server ≡ false → CallDoes system setting e call) where
   abbrev pub Full : ℕ → Type 0
-  Full d = (name : Word) (rs : List Return) (t : State) → length rs + d ≡ turning.most_performs → nat_lt (length rs) turning.most_performs ≡ false → performed d setting call name t ≡ source.faults 202 t
+  Full d = (name : Word) (rs : List Return) (t : ProgramState) → length rs + d ≡ turning.most_performs → nat_lt (length rs) turning.most_performs ≡ false → performed d setting call name t ≡ source.faults 202 t
 
   abbrev pub Inside : ℕ → Type 0
-  Inside d = (name : Word) → Performed system setting name → (rs : List Return) (r : Return) (t : State) (m : Marks) → length rs + d ≡ turning.most_performs → nat_lt (length rs) turning.most_performs ≡ true → Ground setting.program t.store
+  Inside d = (name : Word) → Performed system setting name → (rs : List Return) (r : Return) (t : ProgramState) (m : Marks) → length rs + d ≡ turning.most_performs → nat_lt (length rs) turning.most_performs ≡ true → Ground setting.program t.store
       → Does system setting.program e (budget t)
       (mach e (turn_of (plan_in setting) name).start (rs ++ r ∷ []) t m) t.answers
       (turn_of (plan_in setting) name).end (rs ++ r ∷ []) (performed d setting call name t)

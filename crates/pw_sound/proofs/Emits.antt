@@ -11,25 +11,25 @@ use Rattle.std.proofs.lemmas.Option.{same_Some, none-some, slice_get_within}
 use Rattle.pw_words.specs.Words.{Word, same_word}
 use Rattle.pw_data.specs.Layouts.{place_at}
 use Rattle.pw_data.specs.declared.item.Item.{Item}
-use Rattle.pw_forms.specs.declared.cond.Comparison.{Comparison}
-use Rattle.pw_forms.specs.declared.cond.Comparison.TheVariants as comparisons
-use Rattle.pw_forms.specs.declared.cond.Cond.{Cond}
-use Rattle.pw_forms.specs.declared.lists.Code as sending
+use Rattle.pw_forms.specs.declared.cond.ComparisonForm.{ComparisonForm}
+use Rattle.pw_forms.specs.declared.cond.ComparisonForm.TheVariants as comparisons
+use Rattle.pw_forms.specs.declared.cond.ConditionForm.{ConditionForm}
+use Rattle.pw_forms.specs.declared.lists.SendCode as sending
 use Rattle.pw_forms.specs.declared.operand.Operand.{Operand}
 use Rattle.pw_forms.specs.declared.operand.Operand.TheVariants as operands
 use Rattle.pw_forms.specs.declared.operand.Subscript.{Subscript}
-use Rattle.pw_forms.specs.declared.statement.Arithmetic.{Arithmetic}
+use Rattle.pw_forms.specs.declared.statement.ArithmeticForm.{ArithmeticForm}
 use Rattle.pw_forms.specs.declared.statement.Paragraph.{Paragraph}
 use Rattle.pw_forms.specs.declared.statement.Statement.{Statement, Row_of-Statement, end_of-Statement, more_of-Statement}
 use Rattle.pw_forms.specs.declared.statement.Statement as form
-use Rattle.pw_operands.specs.Resolved.{Each, IsNamed, IsItem, IsShownName, IsOfFile, Fits, Resolves, RowResolves, is_key, is_record, is_sum}
+use Rattle.pw_operands.specs.Resolved.{Each, NamesVariable, IsItem, IsShownName, IsOfFile, FitsPlace, Resolves, RowResolves, is_key, is_record, is_sum}
 use Rattle.pw_operands.specs.Scope.{Scope, paragraph_of, screen_of, program_of, class_of}
 use Rattle.pw_operands.specs.Uses.{Use, cond_uses, comparison_uses}
 use Rattle.pw_operands.specs.Uses as place
-use Rattle.pw_operands.specs.Variables.{is_any, is_item, is_number, of_place, of_register, register_of, digits_of}
-use Rattle.pw_operands.specs.declared.register.Register as registers
+use Rattle.pw_operands.specs.Variables.{is_any, is_item, is_number_variable, of_place, of_register, register_of, digits_of}
+use Rattle.pw_operands.specs.declared.register.SpecialRegister as registers
 use Rattle.pw_operands.specs.declared.variable.Variable.{Variable}
-use Rattle.pw_code.specs.Instrs.{is_for, HasRanges, IsInstr, AreInstrs, IsTurn, IsScreen, IsCall, IsSend, IsKey, IsRecord, IsItemOperand, IsReplyCode, IsArithmetic, most_keys, file_at, size_of_item, digits_of_register}
+use Rattle.pw_code.specs.Instrs.{is_for, HasRanges, IsInstr, AreInstrs, IsTurn, IsScreen, IsProgramCall, IsSend, IsKey, IsRecord, IsItemOperand, IsReplyCode, IsArithmetic, most_keys, file_at, size_of_item, digits_of_register}
 use Rattle.pw_code.specs.Places.{IsPlace, IsOperand, IsComparison, IsCond}
 use Rattle.pw_code.specs.declared.code.Code.{Code}
 use Rattle.pw_code.specs.declared.file.FileInfo.{FileInfo}
@@ -38,7 +38,7 @@ use Rattle.pw_code.specs.declared.instr.Instr.TheVariants as instr
 use Rattle.pw_code.specs.declared.lock.LockRule.{LockRule}
 use Rattle.pw_code.specs.declared.system.ClassInfo.{ClassInfo}
 use Rattle.pw_code.specs.declared.system.System.{System}
-use Rattle.pw_source.specs.Program.{Deck, Program, item_named, program_number}
+use Rattle.pw_source.specs.Program.{DeckModel, Program, item_named, program_number}
 use Rattle.pw_source.specs.Sound.{links_of, scope_of, HasForms, RowHasForms, IsLayout}
 use Rattle.pw_source.proofs.Resolved.{class-below, file-got}
 use Rattle.pw_compile.specs.Conditions as compiled
@@ -47,7 +47,7 @@ use Rattle.pw_compile.specs.Operands as code
 use Rattle.pw_compile.specs.Plan as plans
 use Rattle.pw_compile.specs.Plan.{Plan, plan_of, turn_of}
 use Rattle.pw_compile.specs.Sizes.{row_size, body_size}
-use Rattle.pw_sound.specs.Premises.{IsLiteral, AreLiterals, CallFits, CallsFit, RowCallsFit, IsRead, RowIsRead}
+use Rattle.pw_sound.specs.Premises.{IsLiteral, AreLiterals, CallFits, DeckCallsFit, DeckRowCallsFit, IsReadStatement, RowIsRead}
 use Rattle.pw_source.specs.Written.{IsWritten, RowIsWritten}
 use Rattle.pw_sound.specs.Systems.{code_in, codes_in, system_of}
 use Rattle.pw_sound.proofs.Decks.{code-in, codes-long, program-below}
@@ -74,7 +74,7 @@ register-by true b never = refl
 register-by false true never = absurd (never refl)
 register-by false false never = refl
 
-register-size : (server : Bool) (name : Word) (r : registers.Register) → server ≡ true → register_of server name ≡ Some r → digits_of_register (code.register_named name) ≡ digits_of r
+register-size : (server : Bool) (name : Word) (r : registers.SpecialRegister) → server ≡ true → register_of server name ≡ Some r → digits_of_register (code.register_named name) ≡ digits_of r
 register-size false name r is e = absurd cc
 register-size true name r is e = by (same_word name (codes "FILE-STATUS")) refl e
   where
@@ -87,7 +87,7 @@ register-size true name r is e = by (same_word name (codes "FILE-STATUS")) refl 
         ∙ ap digits_of (same_Some registers.TheVariants.FileStatus r found)
     by false same found = absurd (none-some r found)
 
-module _ (rule : LockRule) (deck : Deck) (server : Bool) (program : Program) (first : ℕ) (laid : IsLayout server program.layout) where
+module _ (rule : LockRule) (deck : DeckModel) (server : Bool) (program : Program) (first : ℕ) (laid : IsLayout server program.layout) where
   abbrev system : System
   system = system_of rule deck
 
@@ -104,7 +104,7 @@ module _ (rule : LockRule) (deck : Deck) (server : Bool) (program : Program) (fi
   plan = plan_of program.layout program.screens program.paragraphs first (links_of deck)
 
   module _ (turn-there : (name : Word) → IsSome (paragraph_of scope name) → IsTurn own (turn_of plan name))
-      (screen-there : server ≡ false → (name : Word) → IsSome (screen_of scope name) → IsScreen system long (plans.screen_of plan name)) where
+      (screen-there : server ≡ false → (name : Word) → IsSome (screen_of scope name) → IsScreen system long (plans.planned_screen plan name)) where
     -- these instructions are valid, with so many more behind them
     abbrev pub AreIn : List Instr → ℕ → Type 0
     AreIn [] more = Unit {0}
@@ -122,43 +122,43 @@ module _ (rule : LockRule) (deck : Deck) (server : Bool) (program : Program) (fi
 
     -- ---- lists
 
-    places-lie : (ones : List Operand) → Each (Fits scope) (map place.Receiver ones) → All (IsPlace long) (map (code.place_in program.layout) ones)
+    places-lie : (ones : List Operand) → Each (FitsPlace scope) (map place.Receiver ones) → All (IsPlace long) (map (code.place_in program.layout) ones)
     places-lie [] each = All-nil (IsPlace long)
     places-lie (one ∷ ones) each =
         All-cons (IsPlace long) (code.place_in program.layout one) (map (code.place_in program.layout) ones) (place-lies server deck program laid is_item one each.0) (places-lie ones each.1)
 
-    codes-lie : (ones : List sending.Code) → Each (Fits scope) (map (λ (one : sending.Code). place.Receiver one.yields) ones) → Each (λ (one : sending.Code). one.number ≤ 9999) ones
+    codes-lie : (ones : List sending.SendCode) → Each (FitsPlace scope) (map (λ (one : sending.SendCode). place.Receiver one.yields) ones) → Each (λ (one : sending.SendCode). one.number ≤ 9999) ones
         → All (IsReplyCode long) (map (reply_code plan) ones)
     codes-lie [] each few = All-nil (IsReplyCode long)
     codes-lie (one ∷ ones) each few =
         All-cons (IsReplyCode long) (reply_code plan one) (map (reply_code plan) ones) (few.0, place-lies server deck program laid is_item one.yields each.0) (codes-lie ones each.1 few.1)
 
-    each-front : (xs ys : List Use) → Each (Fits scope) (xs ++ ys) → Each (Fits scope) xs
+    each-front : (xs ys : List Use) → Each (FitsPlace scope) (xs ++ ys) → Each (FitsPlace scope) xs
     each-front [] ys each = tt
     each-front (x ∷ xs) ys each = (each.0, each-front xs ys each.1)
 
-    each-back : (xs ys : List Use) → Each (Fits scope) (xs ++ ys) → Each (Fits scope) ys
+    each-back : (xs ys : List Use) → Each (FitsPlace scope) (xs ++ ys) → Each (FitsPlace scope) ys
     each-back [] ys each = each
     each-back (x ∷ xs) ys each = each-back xs ys each.1
 
-    turns-there : (names : List Word) → Each (Fits scope) (map place.Paragraph names) → All (IsTurn own) (map (turn_of plan) names)
+    turns-there : (names : List Word) → Each (FitsPlace scope) (map place.Paragraph names) → All (IsTurn own) (map (turn_of plan) names)
     turns-there [] each = All-nil (IsTurn own)
     turns-there (name ∷ names) each = All-cons (IsTurn own) (turn_of plan name) (map (turn_of plan) names) (turn-there name each.0) (turns-there names each.1)
 
     -- ---- conditions and arithmetic
 
-    comparison-lies : (one : Comparison) → Each (Fits scope) (comparison_uses one) → AreLiterals one → IsComparison long (compiled.comparison_of program.layout one)
+    comparison-lies : (one : ComparisonForm) → Each (FitsPlace scope) (comparison_uses one) → AreLiterals one → IsComparison long (compiled.comparison_of program.layout one)
     comparison-lies (comparisons.Compare left negated op right) each read = (any-lies server deck program laid left each.0 read.0, any-lies server deck program laid right each.1.0 read.1)
     comparison-lies (comparisons.Numeric one negated) each read = any-lies server deck program laid one each.0 read
 
-    all-lie : (ones : List Comparison) → Each (Fits scope) (flat_map comparison_uses ones) → Each AreLiterals ones → All (IsComparison long) (map (compiled.comparison_of program.layout) ones)
+    all-lie : (ones : List ComparisonForm) → Each (FitsPlace scope) (flat_map comparison_uses ones) → Each AreLiterals ones → All (IsComparison long) (map (compiled.comparison_of program.layout) ones)
     all-lie [] each read = All-nil (IsComparison long)
     all-lie (one ∷ ones) each read =
         All-cons (IsComparison long) (compiled.comparison_of program.layout one) (map (compiled.comparison_of program.layout) ones)
         (comparison-lies one (each-front (comparison_uses one) (flat_map comparison_uses ones) each) read.0)
         (all-lie ones (each-back (comparison_uses one) (flat_map comparison_uses ones) each) read.1)
 
-    lists-lie : (lists : List (List Comparison)) → Each (Fits scope) (flat_map (λ all. flat_map comparison_uses all) lists) → Each (Each AreLiterals) lists
+    lists-lie : (lists : List (List ComparisonForm)) → Each (FitsPlace scope) (flat_map (λ all. flat_map comparison_uses all) lists) → Each (Each AreLiterals) lists
         → All (All (IsComparison long)) (map (map (compiled.comparison_of program.layout)) lists)
     lists-lie [] each read = All-nil (All (IsComparison long))
     lists-lie (list ∷ lists) each read =
@@ -166,24 +166,24 @@ module _ (rule : LockRule) (deck : Deck) (server : Bool) (program : Program) (fi
         (all-lie list (each-front (flat_map comparison_uses list) (flat_map (λ all. flat_map comparison_uses all) lists) each) read.0)
         (lists-lie lists (each-back (flat_map comparison_uses list) (flat_map (λ all. flat_map comparison_uses all) lists) each) read.1)
 
-    cond-lies : (cond : Cond) → Each (Fits scope) (cond_uses cond) → Each (Each AreLiterals) cond.any → IsCond long (compiled.cond_of program.layout cond)
+    cond-lies : (cond : ConditionForm) → Each (FitsPlace scope) (cond_uses cond) → Each (Each AreLiterals) cond.any → IsCond long (compiled.cond_of program.layout cond)
     cond-lies cond each read = lists-lie cond.any each read
 
-    arithmetic-lies : (a : Arithmetic) → Each (Fits scope) (place.arithmetic_uses a) → IsLiteral a.first → IsLiteral a.second → IsArithmetic long (compiled.arithmetic_of program.layout a)
+    arithmetic-lies : (a : ArithmeticForm) → Each (FitsPlace scope) (place.arithmetic_uses a) → IsLiteral a.first → IsLiteral a.second → IsArithmetic long (compiled.arithmetic_of program.layout a)
     arithmetic-lies a each one two = let r = by a.giving each.1 in record { first = amount-lies server deck program laid a.first each.0 one; second = r.0; receiver = r.1 }
       where
-        by : (giving : Option Operand) → Each (Fits scope) (place.result_uses a.second giving)
+        by : (giving : Option Operand) → Each (FitsPlace scope) (place.result_uses a.second giving)
             → IsOperand long (code.operand_of program.layout a.second) × IsPlace long (code.place_in program.layout (compiled.receiver_by giving a.second))
         by None rest = (item-lies server deck program laid is_sum a.second rest.0, place-lies server deck program laid is_sum a.second rest.0)
         by (Some item) rest = (amount-lies server deck program laid a.second rest.0 two, place-lies server deck program laid is_sum item rest.1.0)
 
     -- ---- files
 
-    named-size : server ≡ true → (test : Variable → Bool) (name : Word) (subscript : Option Subscript) → (is : IsNamed scope test name subscript)
+    named-size : server ≡ true → (test : Variable → Bool) (name : Word) (subscript : Option Subscript) → (is : NamesVariable scope test name subscript)
         → size_of_item (code.operand_of program.layout (operands.Item name subscript)) ≡ is.variable.size
     named-size here test name subscript is = by (item_named program name) refl
       where
-        by-register : (r : Option registers.Register) → register_of server name ≡ r → option_or (option_map of_register r) None ≡ Some is.variable → digits_of_register (code.register_named name) ≡ is.variable.size
+        by-register : (r : Option registers.SpecialRegister) → register_of server name ≡ r → option_or (option_map of_register r) None ≡ Some is.variable → digits_of_register (code.register_named name) ≡ is.variable.size
         by-register None e found = absurd (none-some is.variable found)
         by-register (Some r) e found = register-size server name r here e ∙ ap (λ (v : Variable). v.size) (same_Some (of_register r) is.variable found)
 
@@ -231,24 +231,24 @@ module _ (rule : LockRule) (deck : Deck) (server : Bool) (program : Program) (fi
 
     -- ---- calls and sends
 
-    call-lies : (name : Word) (arguments : List Operand) → IsSome (program_of scope name) → Each (Fits scope) (map place.Receiver arguments) → CallFits deck program name arguments
-        → IsCall system long (plans.program_of plan name) (map (code.place_in program.layout) arguments)
+    call-lies : (name : Word) (arguments : List Operand) → IsSome (program_of scope name) → Each (FitsPlace scope) (map place.Receiver arguments) → CallFits deck program name arguments
+        → IsProgramCall system long (plans.planned_program plan name) (map (code.place_in program.layout) arguments)
     call-lies name arguments named each fits =
         let there = program-below deck.programs name named in
-        let n : plans.program_of plan name ≡ program_number deck name = number-same (λ (one : Program). one.name) deck.programs name in
+        let n : plans.planned_program plan name ≡ program_number deck name = number-same (λ (one : Program). one.name) deck.programs name in
         let below : program_number deck name < length (codes_in (links_of deck) 0 deck.programs) = omega (arith, there, codes-long (links_of deck) deck.programs 0) in
-        subst (λ k. IsCall system long k (map (code.place_in program.layout) arguments)) (sym n)
+        subst (λ k. IsProgramCall system long k (map (code.place_in program.layout) arguments)) (sym n)
         (record {
           known = below;
           places = places-lie arguments each;
           sizes = fits.sizes ∙ sym (ap (λ (one : Code). map (λ (item : ℕ × ℕ). item.1) one.linkage) (code-in (links_of deck) deck.programs (program_number deck name) 0 there));
         })
 
-    send-lies : (more : ℕ) (message : Operand) (class : Word) (ones : List sending.Code) → IsItem scope is_any message → IsSome (class_of scope class)
-        → Each (Fits scope) (map (λ (one : sending.Code). place.Receiver one.yields) ones) → length ones ≤ most_keys → Each (λ (one : sending.Code). one.number ≤ 9999) ones
-        → IsSend system long (suc more) (plans.class_of plan class) (code.operand_of program.layout message) (map (reply_code plan) ones)
+    send-lies : (more : ℕ) (message : Operand) (class : Word) (ones : List sending.SendCode) → IsItem scope is_any message → IsSome (class_of scope class)
+        → Each (FitsPlace scope) (map (λ (one : sending.SendCode). place.Receiver one.yields) ones) → length ones ≤ most_keys → Each (λ (one : sending.SendCode). one.number ≤ 9999) ones
+        → IsSend system long (suc more) (plans.planned_class plan class) (code.operand_of program.layout message) (map (reply_code plan) ones)
     send-lies more message class ones sent named each few numbers =
-        let n : plans.class_of plan class ≡ unwrap_or (position (λ (one : ClassInfo). bytes_eq one.name class) deck.classes) 0 = class-same (λ (one : ClassInfo). one.name) deck.classes class in
+        let n : plans.planned_class plan class ≡ unwrap_or (position (λ (one : ClassInfo). bytes_eq one.name class) deck.classes) 0 = class-same (λ (one : ClassInfo). one.name) deck.classes class in
         let below = class-below deck.classes class named in
         record {
           known = omega (arith, n, below);
@@ -263,7 +263,7 @@ module _ (rule : LockRule) (deck : Deck) (server : Bool) (program : Program) (fi
     valid : (behind : ℕ) (i : Instr) → IsTrue (is_for server i) → HasRanges system own behind i → IsInstr server system own behind i
     valid behind i kind ranges = record { kind = kind; ranges = ranges }
 
-    shown-lies : (shown : Operand) → server ≡ false → Fits scope (place.Shown shown) → IsLiteral shown → (more : ℕ) → AreIn (display_of plan shown ∷ []) more
+    shown-lies : (shown : Operand) → server ≡ false → FitsPlace scope (place.Shown shown) → IsLiteral shown → (more : ℕ) → AreIn (display_of plan shown ∷ []) more
     shown-lies (operands.Item name None) here is read more = by (screen_of scope name) refl is (has_screen program.screens name) (ap is_some (position_from-zero (λ screen. bytes_eq screen.name name) program.screens))
       where
         by : (o : Option ℕ) → screen_of scope name ≡ o → IsShownName scope name None o → (b : Bool) → b ≡ is_some (screen_of scope name)
@@ -295,7 +295,7 @@ module _ (rule : LockRule) (deck : Deck) (server : Bool) (program : Program) (fi
         omega (arith, length-append (row_code plan first) (instr.Jump (row_size second) ∷ row_code plan second), row_length plan first)
 
     mutual
-      pub statement-in : (one : Statement) → Resolves scope one → HasForms server one → (server ≡ false → CallsFit deck program one) → IsRead one → IsWritten one → (more : ℕ) → AreIn (statement_code plan one) more
+      pub statement-in : (one : Statement) → Resolves scope one → HasForms server one → (server ≡ false → DeckCallsFit deck program one) → IsReadStatement one → IsWritten one → (more : ℕ) → AreIn (statement_code plan one) more
       statement-in (form.Move line from to) is forms fit read written more = (valid (0 + more) _ refl (any-lies server deck program laid from is.0 read, places-lie to is.1), tt)
       statement-in (form.Arithmetic line a) is forms fit read written more = (valid (0 + more) _ refl (arithmetic-lies a is read.0 read.1), tt)
       statement-in (form.OnSizeError' line a n first m second) is forms fit read written more = (
@@ -312,7 +312,7 @@ module _ (rule : LockRule) (deck : Deck) (server : Bool) (program : Program) (fi
       statement-in (form.PerformOneOf line names position) is forms fit read written more = (
         valid (0 + more) _ refl (
           turns-there names (each-front (map place.Paragraph names) (place.Position position ∷ []) is),
-          item-lies server deck program laid is_number position (each-back (map place.Paragraph names) (place.Position position ∷ []) is).0,
+          item-lies server deck program laid is_number_variable position (each-back (map place.Paragraph names) (place.Position position ∷ []) is).0,
         ),
         tt,
       )
@@ -334,7 +334,7 @@ module _ (rule : LockRule) (deck : Deck) (server : Bool) (program : Program) (fi
       statement-in (form.Send line message class ones) is forms fit read written more =
           let here = requester-only server (λ b. HasForms b (form.Send line message class ones)) (λ never. never) forms in
           let same : suc more ≡ 1 + more = omega arith in (
-            valid (1 + more) _ here (subst (λ n. IsSend system long n (plans.class_of plan class) (code.operand_of program.layout message) (map (reply_code plan) ones)) same (send-lies more message class ones is.0 is.1.0 is.1.1 written.0 written.1)),
+            valid (1 + more) _ here (subst (λ n. IsSend system long n (plans.planned_class plan class) (code.operand_of program.layout message) (map (reply_code plan) ones)) same (send-lies more message class ones is.0 is.1.0 is.1.1 written.0 written.1)),
             (valid (0 + more) instr.NoCode here tt, tt),
           )
       statement-in (form.Begin line) is forms fit read written more = (valid (0 + more) instr.Begin (requester-only server (λ b. HasForms b (form.Begin line)) (λ never. never) forms) tt, tt)
@@ -361,13 +361,13 @@ module _ (rule : LockRule) (deck : Deck) (server : Bool) (program : Program) (fi
           let here = server-only server (λ b. HasForms b (form.Delete line file key)) (λ never. never) forms in
           (valid (0 + more) _ here (key-lies here file key is.0), tt)
 
-      row-in : {n : _} (row : Row_of-Statement n) → RowResolves scope row → RowHasForms server row → (server ≡ false → RowCallsFit deck program row) → RowIsRead row → RowIsWritten row → (more : ℕ) → AreIn (row_code plan row) more
+      row-in : {n : _} (row : Row_of-Statement n) → RowResolves scope row → RowHasForms server row → (server ≡ false → DeckRowCallsFit deck program row) → RowIsRead row → RowIsWritten row → (more : ℕ) → AreIn (row_code plan row) more
       row-in end_of-Statement is forms fit read written more = tt
       row-in (more_of-Statement one rest) is forms fit read written more =
           append-in (statement_code plan one) (row_code plan rest) more
           (statement-in one is.0 forms.0 (λ e. (fit e).0) read.0 written.0 (length (row_code plan rest) + more)) (row-in rest is.1 forms.1 (λ e. (fit e).1) read.1 written.1 more)
 
-    body-in : (ones : List Statement) → Each (Resolves scope) ones → Each (HasForms server) ones → (server ≡ false → Each (CallsFit deck program) ones) → Each IsRead ones → Each IsWritten ones → (more : ℕ) → AreIn (body_code plan ones) more
+    body-in : (ones : List Statement) → Each (Resolves scope) ones → Each (HasForms server) ones → (server ≡ false → Each (DeckCallsFit deck program) ones) → Each IsReadStatement ones → Each IsWritten ones → (more : ℕ) → AreIn (body_code plan ones) more
     body-in [] is forms fit read written more = tt
     body-in (one ∷ ones) is forms fit read written more =
         append-in (statement_code plan one) (body_code plan ones) more
@@ -375,7 +375,7 @@ module _ (rule : LockRule) (deck : Deck) (server : Bool) (program : Program) (fi
 
     -- the paragraphs from a place on, where as many instructions stand in front as that says
     paragraphs-in : (ps : List Paragraph) (at : ℕ) → Each (λ (p : Paragraph). Each (Resolves scope) p.body) ps → Each (λ (p : Paragraph). Each (HasForms server) p.body) ps
-        → (server ≡ false → Each (λ (p : Paragraph). Each (CallsFit deck program) p.body) ps) → Each (λ (p : Paragraph). Each IsRead p.body) ps → Each (λ (p : Paragraph). Each IsWritten p.body) ps
+        → (server ≡ false → Each (λ (p : Paragraph). Each (DeckCallsFit deck program) p.body) ps) → Each (λ (p : Paragraph). Each IsReadStatement p.body) ps → Each (λ (p : Paragraph). Each IsWritten p.body) ps
         → at + length (procedure_code plan at ps) ≤ length own.instrs → AreIn (procedure_code plan at ps) 0
     paragraphs-in [] at is forms fit read written le = tt
     paragraphs-in (p ∷ ps) at is forms fit read written le =
@@ -388,6 +388,6 @@ module _ (rule : LockRule) (deck : Deck) (server : Bool) (program : Program) (fi
         )
 
     pub instrs-are : Each (λ (p : Paragraph). Each (Resolves scope) p.body) program.paragraphs → Each (λ (p : Paragraph). Each (HasForms server) p.body) program.paragraphs
-        → (server ≡ false → Each (λ (p : Paragraph). Each (CallsFit deck program) p.body) program.paragraphs) → Each (λ (p : Paragraph). Each IsRead p.body) program.paragraphs → Each (λ (p : Paragraph). Each IsWritten p.body) program.paragraphs
+        → (server ≡ false → Each (λ (p : Paragraph). Each (DeckCallsFit deck program) p.body) program.paragraphs) → Each (λ (p : Paragraph). Each IsReadStatement p.body) program.paragraphs → Each (λ (p : Paragraph). Each IsWritten p.body) program.paragraphs
         → AreInstrs server system own own.instrs
     instrs-are is forms fit read written = to-instrs own.instrs (paragraphs-in program.paragraphs 0 is forms fit read written (omega arith))

@@ -12,8 +12,8 @@ use Rattle.pw_data.specs.Names.{is_this_name}
 use Rattle.pw_data.specs.declared.item.Item.{Item}
 use Rattle.pw_data.specs.declared.item.Place.{Place}
 use Rattle.pw_data.specs.Store.{joined}
-use Rattle.pw_data.specs.declared.item.Kind.{Kind}
-use Rattle.pw_data.specs.declared.item.Kind.TheVariants as kinds
+use Rattle.pw_data.specs.declared.item.ItemKind.{ItemKind}
+use Rattle.pw_data.specs.declared.item.ItemKind.TheVariants as kinds
 use Rattle.pw_operands.specs.Resolved.{Each}
 use Rattle.pw_code.specs.declared.field.Field.{Field}
 use Rattle.pw_code.specs.declared.field.FieldKind.{FieldKind}
@@ -35,7 +35,7 @@ use Rattle.pw_sound.specs.Premises.{IsItemAt, IsShownOf}
 
 -- the item of a field is a run of cells of the store
 pub record SitsAt (store : Store) (at : ℕ) (source : Picture) : Type 0 where
-  pub kind : Kind
+  pub kind : ItemKind
   pub shown : source ≡ picture_of_kind kind
   pub cut : Cut store at (size_of source)
 
@@ -48,7 +48,7 @@ spot_at at source = record { at = at; size = size_of source; picture = Some sour
 
 -- ---- from the program
 
-kind-by : (o : Option Kind) (source : Picture) → option_map picture_of_kind o ≡ Some source → (kind : Kind) × (o ≡ Some kind) × (picture_of_kind kind ≡ source)
+kind-by : (o : Option ItemKind) (source : Picture) → option_map picture_of_kind o ≡ Some source → (kind : ItemKind) × (o ≡ Some kind) × (picture_of_kind kind ≡ source)
 kind-by None source e = absurd cc
 kind-by (Some kind) source e = (kind, refl, cc)
 
@@ -91,7 +91,7 @@ chars-same : (store : Store) (tail : List ℕ) (spot : Spot) → Cut store spot.
 chars-same store tail spot cut =
     flat-chars spot store tail cut ∙ sym (flat-chars spot store [] cut) ∙ ap (λ chars. take spot.size (drop spot.at chars)) (append-nil (joined store))
 
-text-same : (store : Store) (tail : List ℕ) (one : FieldKind) → FieldSits store one → shown.text_of (joined store ++ tail) one ≡ shown.text_of (joined store) one
+text-same : (store : Store) (tail : List ℕ) (one : FieldKind) → FieldSits store one → shown.field_text (joined store ++ tail) one ≡ shown.field_text (joined store) one
 text-same store tail (fields.Literal text) sits = refl
 text-same store tail (fields.Item picture at source true) sits = ap (shown.as_shown picture source) (chars-same store tail (spot_at at source) sits.cut)
 text-same store tail (fields.Item picture at source false) sits = refl
@@ -100,13 +100,13 @@ pub shown-same : (base : Bool) (store : Store) (tail : List ℕ) (ones : List Fi
     → shown.with_fields base (joined store ++ tail) ones cells ≡ shown.with_fields base (joined store) ones cells
 shown-same base store tail [] cells each = refl
 shown-same base store tail (one ∷ ones) cells each =
-    ap (λ (text : List ℕ). shown.with_fields base (joined store ++ tail) ones (if shown.is_put base one.shown then shown.written (shown.place_of one.row one.column) text cells else cells))
+    ap (λ (text : List ℕ). shown.with_fields base (joined store ++ tail) ones (if shown.is_put base one.shown then shown.written (shown.cell_place one.row one.column) text cells else cells))
     (text-same store tail one.shown each.0)
     ∙ shown-same base store tail ones (shown.with_field base (joined store) one cells) each.1
 
 -- ---- what is entered
 
-length-entered : (kind : Kind) (value : List ℕ) → length (screens.entered_chars (picture_of_kind kind) value) ≡ size_of (picture_of_kind kind)
+length-entered : (kind : ItemKind) (value : List ℕ) → length (screens.entered_chars (picture_of_kind kind) value) ≡ size_of (picture_of_kind kind)
 length-entered (kinds.Text size) value = length-fitted size value
 length-entered (kinds.Number digits places sign) value =
     length-chars_of digits (size_at places (number_in value) % 10 ^ digits) sign (is_negative (number_in value))
@@ -139,11 +139,11 @@ kept-all o value store [] each = tt
 kept-all o value store (one ∷ ones) each = (kept-by o one.shown value store each.0, kept-all o value store ones each.1)
 
 pub entered-same : (ones : List Field) (pairs : List (List ℕ × List ℕ)) (store : Store) (tail : List ℕ) → Each (λ (field : Field). FieldSits store field.shown) ones
-    → entry.entered ones pairs (joined store ++ tail) ≡ joined (screens.entered ones pairs store) ++ tail
+    → entry.storage_entered ones pairs (joined store ++ tail) ≡ joined (screens.store_entered ones pairs store) ++ tail
 entered-same ones [] store tail each = refl
 entered-same ones (pair ∷ pairs) store tail each =
     let o = find (is_entry_field pair.0) ones in
-    ap (entry.entered ones pairs) (entered-by o pair.1 store tail (λ field is. each-found (λ (one : Field). FieldSits store one.shown) (is_entry_field pair.0) ones field each is))
+    ap (entry.storage_entered ones pairs) (entered-by o pair.1 store tail (λ field is. each-found (λ (one : Field). FieldSits store one.shown) (is_entry_field pair.0) ones field each is))
     ∙ entered-same ones pairs (screens.entered_by o pair.1 store) tail (kept-all o pair.1 store ones each)
 
 ground-in : (program : Program) (one : FieldKind) (value : List ℕ) (store : Store) → Ground program store → Ground program (screens.entered_in one value store)
@@ -155,7 +155,7 @@ ground-by program None value store ground = ground
 ground-by program (Some field) value store ground = ground-in program field.shown value store ground
 
 pub entered-ground : (program : Program) (ones : List Field) (pairs : List (List ℕ × List ℕ)) (store : Store) → Ground program store
-    → Ground program (screens.entered ones pairs store)
+    → Ground program (screens.store_entered ones pairs store)
 entered-ground program ones [] store ground = ground
 entered-ground program ones (pair ∷ pairs) store ground =
     entered-ground program ones pairs (screens.entered_by (find (is_entry_field pair.0) ones) pair.1 store)

@@ -18,26 +18,26 @@ use Rattle.pw_forms.specs.declared.operand.Subscript.{Subscript}
 use Rattle.pw_forms.specs.declared.statement.Paragraph.{Paragraph}
 use Rattle.pw_forms.specs.declared.statement.Statement.{Statement, Row_of-Statement, end_of-Statement, more_of-Statement}
 use Rattle.pw_forms.specs.declared.statement.Statement as form
-use Rattle.pw_operands.specs.Resolved.{Each, IsNamed, IsItem, Fits, Resolves, RowResolves}
+use Rattle.pw_operands.specs.Resolved.{Each, NamesVariable, IsItem, FitsPlace, Resolves, RowResolves}
 use Rattle.pw_operands.specs.Scope.{Scope, program_of}
 use Rattle.pw_operands.specs.Uses as place
 use Rattle.pw_operands.specs.Uses.{uses}
 use Rattle.pw_operands.specs.Variables.{is_item, of_place, of_register, register_of}
-use Rattle.pw_operands.specs.declared.register.Register as registers
+use Rattle.pw_operands.specs.declared.register.SpecialRegister as registers
 use Rattle.pw_operands.specs.declared.variable.Variable.{Variable}
-use Rattle.pw_code.specs.declared.place.Place.{Place}
+use Rattle.pw_code.specs.declared.place.StoragePlace.{StoragePlace}
 use Rattle.pw_names.specs.Calls as names
 use Rattle.pw_names.specs.Calls.{Lengths, lengths_of, is_long, arguments_fit, found_fit, numbered_fit, call_fits, statement_flaws}
 use Rattle.pw_names.specs.Faults.{own_faults, faults, row_faults, paragraph_faults, program_faults}
 use Rattle.pw_names.specs.Flaws.{passes, unless_holds, variable_at, flaws_of}
 use Rattle.pw_names.proofs.Accepted.{at_line-none}
 use Rattle.pw_names.proofs.Fitting.{holds}
-use Rattle.pw_source.specs.Program.{Deck, Program, item_named, program_number}
+use Rattle.pw_source.specs.Program.{DeckModel, Program, item_named, program_number}
 use Rattle.pw_source.specs.Program as tree
 use Rattle.pw_source.specs.Sound.{scope_of, IsLayout, IsSoundProgram}
 use Rattle.pw_compile.specs.Operands as code
 use Rattle.pw_compile.specs.Programs.{linked_by, linkage_of}
-use Rattle.pw_sound.specs.Premises.{arguments_of, CallFits, CallsFit, RowCallsFit}
+use Rattle.pw_sound.specs.Premises.{arguments_of, CallFits, DeckCallsFit, DeckRowCallsFit}
 use Rattle.pw_sound.specs.Systems.{named_in}
 use Rattle.pw_sound.proofs.Decks.{found-at, some-found}
 use Rattle.pw_sound.proofs.Items.{variable-of}
@@ -52,22 +52,22 @@ got-program [] q lt = absurd (omega (arith, lt))
 got-program (x ∷ xs) zero lt = refl
 got-program (x ∷ xs) (suc q) lt = got-program xs q (omega (arith, lt))
 
-module _ (deck : Deck) (program : Program) (laid : IsLayout false program.layout) where
+module _ (deck : DeckModel) (program : Program) (laid : IsLayout false program.layout) where
   abbrev scope : Scope
   scope = scope_of false deck program
 
-  abbrev named : names.Program
+  abbrev named : names.CallScope
   named = named_in deck program
 
   -- ---- one argument
 
-  register-is : (r : registers.Register) (v : Variable) → of_register r ≡ v → is_item v ≡ true → ⊥
+  register-is : (r : registers.SpecialRegister) (v : Variable) → of_register r ≡ v → is_item v ≡ true → ⊥
   register-is r v e item = false≢true (subst (λ (w : Variable). is_item w ≡ true) (sym e) item)
 
-  item-long : (name : Word) (subscript : Option Subscript) → (is : IsNamed scope is_item name subscript) → (code.place_in program.layout (operands.Item name subscript)).size ≡ is.variable.size
+  item-long : (name : Word) (subscript : Option Subscript) → (is : NamesVariable scope is_item name subscript) → (code.place_in program.layout (operands.Item name subscript)).size ≡ is.variable.size
   item-long name subscript is = by (item_named program name) refl
     where
-      by-register : (r : Option registers.Register) → option_or (option_map of_register r) None ≡ Some is.variable → (code.place_by program.layout None subscript).size ≡ is.variable.size
+      by-register : (r : Option registers.SpecialRegister) → option_or (option_map of_register r) None ≡ Some is.variable → (code.place_by program.layout None subscript).size ≡ is.variable.size
       by-register None found = absurd (none-some is.variable found)
       by-register (Some r) found = absurd (register-is r is.variable (same_Some (of_register r) is.variable found) is.passes)
 
@@ -93,17 +93,17 @@ module _ (deck : Deck) (program : Program) (laid : IsLayout false program.layout
 
   -- ---- all of a CALL
 
-  arguments-long : (ones : List Operand) (layout : Laid) (using : List Word) → Each (Fits scope) (map place.Receiver ones) → arguments_fit scope ones (lengths_of layout using) ≡ true
-      → map (λ (one : Place). one.size) (arguments_of program ones) ≡ map (λ (item : ℕ × ℕ). item.1) (linkage_of layout using)
+  arguments-long : (ones : List Operand) (layout : Laid) (using : List Word) → Each (FitsPlace scope) (map place.Receiver ones) → arguments_fit scope ones (lengths_of layout using) ≡ true
+      → map (λ (one : StoragePlace). one.size) (arguments_of program ones) ≡ map (λ (item : ℕ × ℕ). item.1) (linkage_of layout using)
   arguments-long [] layout [] each fits = refl
   arguments-long [] layout (name ∷ using) each fits = absurd cc
   arguments-long (one ∷ ones) layout [] each fits = absurd cc
   arguments-long (one ∷ ones) layout (name ∷ using) each fits =
       let parts = and_parts (passes (is_long (option_map (λ (at : items.Place). at.size) (place_of layout name))) (variable_at scope one)) (arguments_fit scope ones (lengths_of layout using)) fits in
-      ap (λ (n : ℕ). n ∷ map (λ (at : Place). at.size) (arguments_of program ones)) (argument-long one (place_of layout name) each.0 parts.0)
+      ap (λ (n : ℕ). n ∷ map (λ (at : StoragePlace). at.size) (arguments_of program ones)) (argument-long one (place_of layout name) each.0 parts.0)
       ∙ ap (λ (ns : List ℕ). (linked_by (place_of layout name)).1 ∷ ns) (arguments-long ones layout using each.1 parts.1)
 
-  call-fits : (name : Word) (ones : List Operand) → IsSome (program_of scope name) → Each (Fits scope) (map place.Receiver ones) → call_fits named name ones ≡ true → CallFits deck program name ones
+  call-fits : (name : Word) (ones : List Operand) → IsSome (program_of scope name) → Each (FitsPlace scope) (map place.Receiver ones) → call_fits named name ones ≡ true → CallFits deck program name ones
   call-fits name ones some each fits =
       let programs = deck.programs in
       let words = map (λ (one : Program). one.name) programs in
@@ -125,7 +125,7 @@ module _ (deck : Deck) (program : Program) (laid : IsLayout false program.layout
       }
 
   mutual
-    calls-fit : (one : Statement) → faults named one ≡ [] → Resolves scope one → CallsFit deck program one
+    calls-fit : (one : Statement) → faults named one ≡ [] → Resolves scope one → DeckCallsFit deck program one
     calls-fit (form.OnSizeError' line a n first m second) none is =
         let rest = append-none (own_faults named (form.OnSizeError' line a n first m second)) (row_faults named first ++ row_faults named second) none in
         let rows = append-none (row_faults named first) (row_faults named second) rest.1 in
@@ -163,22 +163,22 @@ module _ (deck : Deck) (program : Program) (laid : IsLayout false program.layout
     calls-fit (form.Rewrite line file from) none is = tt
     calls-fit (form.Delete line file key) none is = tt
 
-    row-fits : {n : _} (row : Row_of-Statement n) → row_faults named row ≡ [] → RowResolves scope row → RowCallsFit deck program row
+    row-fits : {n : _} (row : Row_of-Statement n) → row_faults named row ≡ [] → RowResolves scope row → DeckRowCallsFit deck program row
     row-fits end_of-Statement none is = tt
     row-fits (more_of-Statement one rest) none is =
         let parts = append-none (faults named one) (row_faults named rest) none in (calls-fit one parts.0 is.0, row-fits rest parts.1 is.1)
 
-  body-fits : (ones : List Statement) → Each (λ (one : Statement). faults named one ≡ []) ones → Each (Resolves scope) ones → Each (CallsFit deck program) ones
+  body-fits : (ones : List Statement) → Each (λ (one : Statement). faults named one ≡ []) ones → Each (Resolves scope) ones → Each (DeckCallsFit deck program) ones
   body-fits [] none is = tt
   body-fits (one ∷ ones) none is = (calls-fit one none.0 is.0, body-fits ones none.1 is.1)
 
   paragraphs-fit : (ps : List Paragraph) → Each (λ (p : Paragraph). paragraph_faults named p ≡ []) ps → Each (λ (p : Paragraph). Each (Resolves scope) p.body) ps
-      → Each (λ (p : Paragraph). Each (CallsFit deck program) p.body) ps
+      → Each (λ (p : Paragraph). Each (DeckCallsFit deck program) p.body) ps
   paragraphs-fit [] none is = tt
   paragraphs-fit (p ∷ ps) none is = (body-fits p.body (none-each (faults named) p.body none.0) is.0, paragraphs-fit ps none.1 is.1)
 
 -- the CALLs of a program whose names have no fault
-pub program-fits : (deck : Deck) (program : Program) → IsSoundProgram false deck program → program_faults (named_in deck program) ≡ []
-    → Each (λ (p : Paragraph). Each (CallsFit deck program) p.body) program.paragraphs
+pub program-fits : (deck : DeckModel) (program : Program) → IsSoundProgram false deck program → program_faults (named_in deck program) ≡ []
+    → Each (λ (p : Paragraph). Each (DeckCallsFit deck program) p.body) program.paragraphs
 program-fits deck program sound none =
     paragraphs-fit deck program sound.laid program.paragraphs (none-each (paragraph_faults (named_in deck program)) program.paragraphs none) sound.resolves

@@ -6,7 +6,7 @@ use Rattle.pw_operands.specs.Resolved.{Each}
 use Rattle.pw_code.specs.declared.instr.Instr.TheVariants as instr
 use Rattle.pw_code.specs.declared.system.System.{System}
 use Rattle.pw_source.specs.Setting.{Setting}
-use Rattle.pw_source.specs.State.{State, Out, Goes, Leaves, Asks, then_do}
+use Rattle.pw_source.specs.State.{ProgramState, Out, Goes, Leaves, Asks, then_do}
 use Rattle.pw_source.specs.Performs.{budget}
 use Rattle.pw_source.specs.Statements.{body}
 use Rattle.pw_source.specs.Runs.{performed, flow, program_run, most_performs}
@@ -24,12 +24,12 @@ use Rattle.pw_sound.proofs.Placed.{HasFrom, from-start, stands-in, suits-named}
 use Rattle.pw_sound.proofs.Depths.{full_at, inside_at, Inside}
 
 module _ (system : System) (setting : Setting) (e : Env) (set : IsSet system setting e)
-    (call : ℕ → List (List ℕ) → State → Out)
+    (call : ℕ → List (List ℕ) → ProgramState → Out)
     (stands : (name : Word) → Performed system setting name → StandsIn system setting e set name)
     (calling : setting.is_server ≡ false → CallDoes system setting e call)
     (d : ℕ) (all : turning.most_performs ≡ d)
     (inside : Inside system setting e set call stands calling d) where
-  pub flow_does : (ps : List Paragraph) (at : ℕ) (s : State) (m : Marks) → Ground setting.program s.store → HasFrom system setting e at ps
+  pub flow_does : (ps : List Paragraph) (at : ℕ) (s : ProgramState) (m : Marks) → Ground setting.program s.store → HasFrom system setting e at ps
       → Each (λ (q : Paragraph). Each (Suits system setting) q.body) ps
       → Finishes system setting.program e (budget s) (mach e at [] s m) s.answers (flow setting (performed d setting call) call ps s)
   flow_does [] at s m ground has fit =
@@ -43,7 +43,7 @@ module _ (system : System) (setting : Setting) (e : Env) (set : IsSet system set
       start : 0 + d ≡ turning.most_performs
       start = omega (arith, all)
 
-      by : ((t : State) (n : Marks) → Ground setting.program t.store → Finishes system setting.program e (budget t) (mach e (at + body_size paragraph.body + 1) [] t n) t.answers (flow setting (performed d setting call) call rest t))
+      by : ((t : ProgramState) (n : Marks) → Ground setting.program t.store → Finishes system setting.program e (budget t) (mach e (at + body_size paragraph.body + 1) [] t n) t.answers (flow setting (performed d setting call) call rest t))
           → (o : Out) → Does system setting.program e (budget s) (mach e at [] s m) s.answers (at + body_size paragraph.body) [] o
           → Finishes system setting.program e (budget s) (mach e at [] s m) s.answers (then_do o (flow setting (performed d setting call) call rest))
       by next (Goes t) r =
@@ -54,10 +54,10 @@ module _ (system : System) (setting : Setting) (e : Env) (set : IsSet system set
       by next (Asks v t) r = r
 
 -- a program from its first paragraph on
-pub program_does : (system : System) (setting : Setting) (e : Env) → IsSet system setting e → (call : ℕ → List (List ℕ) → State → Out) → (setting.is_server ≡ false → CallDoes system setting e call)
+pub program_does : (system : System) (setting : Setting) (e : Env) → IsSet system setting e → (call : ℕ → List (List ℕ) → ProgramState → Out) → (setting.is_server ≡ false → CallDoes system setting e call)
     → (code_at system e.program).instrs ≡ procedure_code (plan_in setting) 0 setting.program.paragraphs
     → Each (λ (q : Paragraph). Each (Suits system setting) q.body) setting.program.paragraphs
-    → (s : State) (m : Marks) → Ground setting.program s.store
+    → (s : ProgramState) (m : Marks) → Ground setting.program s.store
     → Finishes system setting.program e (budget s) (mach e 0 [] s m) s.answers (program_run setting call s)
 program_does system setting e set call calling emitted suits s m ground =
     let has = from-start system setting e setting.program.paragraphs emitted in

@@ -16,9 +16,9 @@ use Rattle.pw_data.specs.Store.{joined}
 use Rattle.pw_data.specs.Tree.{Forest, Empty, Node, forest}
 use Rattle.pw_data.specs.declared.entry.Entry.{Entry}
 use Rattle.pw_data.specs.declared.item.Item.{Item}
-use Rattle.pw_data.specs.declared.item.Kind.{Kind}
-use Rattle.pw_data.specs.declared.item.Kind.TheVariants as kinds
-use Rattle.pw_data.specs.declared.item.Table as tables
+use Rattle.pw_data.specs.declared.item.ItemKind.{ItemKind}
+use Rattle.pw_data.specs.declared.item.ItemKind.TheVariants as kinds
+use Rattle.pw_data.specs.declared.item.ItemTable as tables
 use Rattle.pw_text.specs.declared.token.Token.{Token}
 use Rattle.pw_data.proofs.Cells.{Good, AllIn, All-forest}
 use Rattle.pw_data.proofs.StoreLaws.{fine, length-of_layout, unless-ok}
@@ -27,13 +27,13 @@ use Rattle.pw_forms.specs.declared.operand.Operand.{Operand}
 use Rattle.pw_forms.specs.declared.operand.Operand.TheVariants as operands
 use Rattle.pw_forms.specs.declared.operand.Subscript.{Subscript}
 use Rattle.pw_forms.specs.declared.operand.Subscript.TheVariants as subscripts
-use Rattle.pw_operands.specs.Resolved.{Each, IsSubscript, HasSubscript, IsNamed, IsItem, IsAny, IsAmount}
+use Rattle.pw_operands.specs.Resolved.{Each, IsSubscript, HasSubscript, NamesVariable, IsItem, IsAny, IsAmount}
 use Rattle.pw_operands.specs.Scope.{Scope, variable_in}
 use Rattle.pw_operands.specs.Variables.{of_place, is_index, has_no_sign}
 use Rattle.pw_operands.specs.declared.variable.Variable.{Variable}
 use Rattle.pw_code.specs.Places as lies
 use Rattle.pw_code.specs.Places.{IsPlace, IsOperand, picture_of}
-use Rattle.pw_source.specs.Program.{Deck, Program, item_named}
+use Rattle.pw_source.specs.Program.{DeckModel, Program, item_named}
 use Rattle.pw_source.specs.Runs.{start}
 use Rattle.pw_source.specs.Sound.{scope_of, IsLayout}
 use Rattle.pw_source.specs.Store.{Store, initial_store}
@@ -75,11 +75,11 @@ few-at : (text : List ℕ) (token : Option Token) → IfSome (count_at text toke
 few-at text None = tt
 few-at text (Some token) = few-number (whole_number (spelling text token))
 
-few-table : (text : List ℕ) (around : tables.Table) (o : Option ℕ) (size : ℕ) → around.occurs ≤ most_occurrences → IfSome o (λ k. k ≤ most_occurrences) → (table_of around o size).occurs ≤ most_occurrences
+few-table : (text : List ℕ) (around : tables.ItemTable) (o : Option ℕ) (size : ℕ) → around.occurs ≤ most_occurrences → IfSome o (λ k. k ≤ most_occurrences) → (table_of around o size).occurs ≤ most_occurrences
 few-table text around None size few is = few
 few-table text around (Some n) size few is = is
 
-few-items : (text : List ℕ) (at : ℕ) (around : tables.Table) (f : Forest) → around.occurs ≤ most_occurrences → AllIn (Good text) f
+few-items : (text : List ℕ) (at : ℕ) (around : tables.ItemTable) (f : Forest) → around.occurs ≤ most_occurrences → AllIn (Good text) f
     → Each (λ (x : Item). x.occurs ≤ most_occurrences) (items_in text at around f)
 few-items text at around Empty few good = tt
 few-items text at around (Node e ms r) few good =
@@ -107,7 +107,7 @@ ends-at n store item cuts long =
 
 -- ---- places
 
-module _ (server : Bool) (deck : Deck) (program : Program) (is_laid : IsLayout server program.layout) where
+module _ (server : Bool) (deck : DeckModel) (program : Program) (is_laid : IsLayout server program.layout) where
   abbrev scope : Scope
   scope = scope_of server deck program
 
@@ -134,8 +134,8 @@ module _ (server : Bool) (deck : Deck) (program : Program) (is_laid : IsLayout s
   pub variable-of : (name : Word) (item : Item) (variable : Variable) → item_named program name ≡ Some item → variable_in scope name ≡ Some variable → of_place (place_at item) ≡ variable
   variable-of name item variable is found = item-variable server deck program known (start program []) [] ground name item variable is found
 
-  picture-of : (o : Option Kind) (size : ℕ) → ForSome o (λ kind. IsPicture (picture_of_kind kind) × (size_of (picture_of_kind kind) ≡ size))
-      → IfSome (picture_of (code.kind_of (option_map picture_of_kind o)) size) (λ p. IsPicture p × (size_of p ≡ size))
+  picture-of : (o : Option ItemKind) (size : ℕ) → ForSome o (λ kind. IsPicture (picture_of_kind kind) × (size_of (picture_of_kind kind) ≡ size))
+      → IfSome (picture_of (code.code_kind_of (option_map picture_of_kind o)) size) (λ p. IsPicture p × (size_of p ≡ size))
   picture-of None size fits = tt
   picture-of (Some (kinds.Text n)) size fits =
       let fit = fits (kinds.Text n) refl in
@@ -143,19 +143,19 @@ module _ (server : Bool) (deck : Deck) (program : Program) (is_laid : IsLayout s
   picture-of (Some (kinds.Number digits places sign)) size fits = fits (kinds.Number digits places sign) refl
 
   -- an item that is a subscript
-  index-at : (o : Option Kind) (at size occurs step : ℕ) → ForSome o (λ kind. IsPicture (picture_of_kind kind) × (size_of (picture_of_kind kind) ≡ size))
-      → has_no_sign (option_map picture_of_kind o) ≡ true → at + (max occurs 1 - 1) * step + size ≤ long → lies.IsSubscript long (code.index_at at (option_map picture_of_kind o))
+  index-at : (o : Option ItemKind) (at size occurs step : ℕ) → ForSome o (λ kind. IsPicture (picture_of_kind kind) × (size_of (picture_of_kind kind) ≡ size))
+      → has_no_sign (option_map picture_of_kind o) ≡ true → at + (max occurs 1 - 1) * step + size ≤ long → lies.IsSubscriptInStorage long (code.index_at at (option_map picture_of_kind o))
   index-at None at size occurs step fits plain ends = absurd cc
   index-at (Some (kinds.Text n)) at size occurs step fits plain ends = absurd cc
   index-at (Some (kinds.Number digits places true)) at size occurs step fits plain ends = absurd cc
   index-at (Some (kinds.Number digits places false)) at size occurs step fits plain ends =
       let fit = fits (kinds.Number digits places false) refl in (fit.0, omega (arith, fit.1, ends))
 
-  subscript-lies : (occurs : ℕ) (one : Subscript) → occurs ≤ most_occurrences → IsSubscript scope one → lies.IsSubscript long (code.subscript_of program.layout occurs one)
+  subscript-lies : (occurs : ℕ) (one : Subscript) → occurs ≤ most_occurrences → IsSubscript scope one → lies.IsSubscriptInStorage long (code.subscript_of program.layout occurs one)
   subscript-lies occurs (subscripts.Number spelling) few is = omega (arith, few)
   subscript-lies occurs (subscripts.Item name) few is = by (item_named program name) refl
     where
-      by : (o : Option Item) → item_named program name ≡ o → lies.IsSubscript long (code.index_by (option_map place_at o) name)
+      by : (o : Option Item) → item_named program name ≡ o → lies.IsSubscriptInStorage long (code.index_by (option_map place_at o) name)
       by None e = tt
       by (Some item) e =
           let v = variable-of name item is.variable e is.found in
@@ -184,18 +184,18 @@ module _ (server : Bool) (deck : Deck) (program : Program) (is_laid : IsLayout s
   no-place = record { picture = tt; inside = omega arith }
 
   -- what is known of a name that is an item's
-  item-has : (test : Variable → Bool) (name : Word) (subscript : Option Subscript) (item : Item) → IsNamed scope test name subscript → item_named program name ≡ Some item
+  item-has : (test : Variable → Bool) (name : Word) (subscript : Option Subscript) (item : Item) → NamesVariable scope test name subscript → item_named program name ≡ Some item
       → HasSubscript scope (of_place (place_at item)) subscript
   item-has test name subscript item is e = subst (λ v. HasSubscript scope v subscript) (sym (variable-of name item is.variable e is.found)) is.subscripted
 
-  named-place : (test : Variable → Bool) (name : Word) (subscript : Option Subscript) → IsNamed scope test name subscript → IsPlace long (code.place_in program.layout (operands.Item name subscript))
+  named-place : (test : Variable → Bool) (name : Word) (subscript : Option Subscript) → NamesVariable scope test name subscript → IsPlace long (code.place_in program.layout (operands.Item name subscript))
   named-place test name subscript is = by (item_named program name) refl
     where
       by : (o : Option Item) → item_named program name ≡ o → IsPlace long (code.place_by program.layout (option_map place_at o) subscript)
       by None e = no-place
       by (Some item) e = placed-lies name item subscript e (item-has test name subscript item is e)
 
-  named-operand : (test : Variable → Bool) (name : Word) (subscript : Option Subscript) → IsNamed scope test name subscript → IsOperand long (code.operand_of program.layout (operands.Item name subscript))
+  named-operand : (test : Variable → Bool) (name : Word) (subscript : Option Subscript) → NamesVariable scope test name subscript → IsOperand long (code.operand_of program.layout (operands.Item name subscript))
   named-operand test name subscript is = by (item_named program name) refl
     where
       by : (o : Option Item) → item_named program name ≡ o → IsOperand long (code.operand_by program.layout (option_map place_at o) name subscript)

@@ -12,13 +12,13 @@ use Rattle.pw_code.specs.declared.verb.Answer.{Answer}
 use Rattle.pw_code.specs.declared.verb.Verb.{Verb}
 use Rattle.pw_code.specs.declared.verb.Verb.TheVariants as verb
 use Rattle.pw_source.specs.Program.{Program}
-use Rattle.pw_source.specs.State.{State, Out, Goes, Leaves, Asks, then_do, most_counted}
+use Rattle.pw_source.specs.State.{ProgramState, Out, Goes, Leaves, Asks, then_do, most_counted}
 use Rattle.pw_source.specs.State as source
 use Rattle.pw_source.specs.Operands as operands
 use Rattle.pw_source.specs.Performs.{budget}
 use Rattle.pw_exec.specs.Answers.{put, shown, answered_by}
 use Rattle.pw_exec.specs.Calls.{leaves}
-use Rattle.pw_exec.specs.Config.{Config, code_at, code_of, has_fault, asks, faults, counted, with_taken}
+use Rattle.pw_exec.specs.Config.{Config, code_at, code_of, has_fault, asks, faults, code_statement_counted, with_taken}
 use Rattle.pw_exec.specs.Runs.{Run, run, at_verb}
 use Rattle.pw_exec.specs.Steps.{instr_of, act, does, step, verb_of, asked_by}
 use Rattle.pw_sound.proofs.Ground.{Ground}
@@ -38,7 +38,7 @@ pub record Marks : Type 0 where
   pub units : ℕ
 
 -- the configuration at a place with these active PERFORMs that has a state of the tree
-abbrev pub mach : Env → ℕ → List Return → State → Marks → Config
+abbrev pub mach : Env → ℕ → List Return → ProgramState → Marks → Config
 mach e at rs s m = record {
   top = record { program = e.program; at = at; storage = joined s.store ++ e.tail; returns = rs };
   rest = record {
@@ -61,7 +61,7 @@ mach e at rs s m = record {
 }
 
 -- by the test of the count
-count_cases {ℓ} : (s : State) (P : Bool → Type ℓ) → (s.count < most_counted → P true) → (most_counted ≤ s.count → P false) → P (nat_lt s.count most_counted)
+count_cases {ℓ} : (s : ProgramState) (P : Bool → Type ℓ) → (s.count < most_counted → P true) → (most_counted ≤ s.count → P false) → P (nat_lt s.count most_counted)
 count_cases s P yes_case no_case = pick (nat_lt s.count most_counted) refl
   where
     pick : (b : Bool) → nat_lt s.count most_counted ≡ b → P b
@@ -86,20 +86,20 @@ module _ (system : System) where
   stays c p k = (k, refl)
 
   -- one instruction
-  pub one : (e : Env) (at : ℕ) (rs : List Return) (s : State) (m : Marks) (p : List Answer) (i : Option Instr) → slice_get (code_at system e.program).instrs at ≡ i
+  pub one : (e : Env) (at : ℕ) (rs : List Return) (s : ProgramState) (m : Marks) (p : List Answer) (i : Option Instr) → slice_get (code_at system e.program).instrs at ≡ i
       → Leads (mach e at rs s m) p (act system i (mach e at rs s m)) p
   one e at rs s m p i h k = (suc k, ap (λ o. run system k (act system o (mach e at rs s m)) p) h)
 
   module _ (program : Program) (e : Env) where
     -- the code comes to a place in a state of the tree, where no more can be counted than so much
-    pub record Came (b : ℕ) (c : Config) (p : List Answer) (to : ℕ) (rs : List Return) (t : State) : Type 0 where
+    pub record Came (b : ℕ) (c : Config) (p : List Answer) (to : ℕ) (rs : List Return) (t : ProgramState) : Type 0 where
       pub marks : Marks
       pub ground : Ground program t.store
       pub less : budget t ≤ b
       pub leads : Leads c p (mach e to rs t marks) t.answers
 
     -- the code comes to where the program is left
-    pub record Left (b : ℕ) (c : Config) (p : List Answer) (t : State) : Type 0 where
+    pub record Left (b : ℕ) (c : Config) (p : List Answer) (t : ProgramState) : Type 0 where
       pub at : ℕ
       pub returns : List Return
       pub marks : Marks
@@ -161,8 +161,8 @@ module _ (system : System) where
     weaker a b c p to rs (Leaves t) le r = record { at = r.at; returns = r.returns; marks = r.marks; quiet = r.quiet; ground = r.ground; less = omega (arith, r.less, le); leads = r.leads }
     weaker a b c p to rs (Asks v t) le r = r
 
-    pub seq : (b : ℕ) (c : Config) (p : List Answer) (mid to : ℕ) (rs rs' : List Return) (o : Out) (next : State → Out) → Does b c p mid rs o
-        → ((t : State) (m : Marks) → budget t ≤ b → Ground program t.store → Does (budget t) (mach e mid rs t m) t.answers to rs' (next t)) → Does b c p to rs' (then_do o next)
+    pub seq : (b : ℕ) (c : Config) (p : List Answer) (mid to : ℕ) (rs rs' : List Return) (o : Out) (next : ProgramState → Out) → Does b c p mid rs o
+        → ((t : ProgramState) (m : Marks) → budget t ≤ b → Ground program t.store → Does (budget t) (mach e mid rs t m) t.answers to rs' (next t)) → Does b c p to rs' (then_do o next)
     seq b c p mid to rs rs' (Goes t) next r h =
         weaker (budget t) b c p to rs' (next t) r.less (after (budget t) c (mach e mid rs t r.marks) p t.answers to rs' (next t) r.leads (h t r.marks r.less r.ground))
     seq b c p mid to rs rs' (Leaves t) next r h = r
@@ -187,25 +187,25 @@ module _ (system : System) where
         record { steps = r.0; last = faults x c; comes = r.1; stands = refl; asks_it = ap (λ b. if b then verb.Fault x else (if c.rest.mode == 1 then verb.Show else asked_by (instr_of system c) (faults x c))) has; shows = refl }
 
     -- a statement or a turn begins
-    pub ticks : (at : ℕ) (rs : List Return) (s : State) (m : Marks) (to : ℕ) (rs' : List Return) (f : Config → Config) (next : State → Out)
-        → ((t : State) → budget t < budget s → t.store ≡ s.store → Does (budget t) (f (mach e at rs t m)) t.answers to rs' (next t))
-        → Does (budget s) (counted f (mach e at rs s m)) s.answers to rs' (source.counted next s)
+    pub ticks : (at : ℕ) (rs : List Return) (s : ProgramState) (m : Marks) (to : ℕ) (rs' : List Return) (f : Config → Config) (next : ProgramState → Out)
+        → ((t : ProgramState) → budget t < budget s → t.store ≡ s.store → Does (budget t) (f (mach e at rs t m)) t.answers to rs' (next t))
+        → Does (budget s) (code_statement_counted f (mach e at rs s m)) s.answers to rs' (source.statement_counted next s)
     ticks at rs s m to rs' f next h =
         count_cases s (λ b. Does (budget s) (if b then f (mach e at rs (record s { count = s.count + 1 }) m) else faults 201 (mach e at rs s m)) s.answers to rs' (if b then next (record s { count = s.count + 1 }) else source.faults 201 s))
         (λ lt. let t = record s { count = s.count + 1 } in let less : budget t < budget s = omega (arith, lt) in weaker (budget t) (budget s) _ s.answers to rs' (next t) (omega (arith, less)) (h t less refl))
         (λ ge. fault_ends (mach e at rs s m) s.answers 201 refl)
 
     -- a statement by its instruction
-    pub begins : (at : ℕ) (rs : List Return) (s : State) (m : Marks) (to : ℕ) (rs' : List Return) (i : Instr) (next : State → Out) → slice_get (code_at system e.program).instrs at ≡ Some i
-        → act system (Some i) ≡ counted (does system i)
-        → ((t : State) → t.store ≡ s.store → Does (budget t) (does system i (mach e at rs t m)) t.answers to rs' (next t))
-        → Does (budget s) (mach e at rs s m) s.answers to rs' (source.counted next s)
+    pub begins : (at : ℕ) (rs : List Return) (s : ProgramState) (m : Marks) (to : ℕ) (rs' : List Return) (i : Instr) (next : ProgramState → Out) → slice_get (code_at system e.program).instrs at ≡ Some i
+        → act system (Some i) ≡ code_statement_counted (does system i)
+        → ((t : ProgramState) → t.store ≡ s.store → Does (budget t) (does system i (mach e at rs t m)) t.answers to rs' (next t))
+        → Does (budget s) (mach e at rs s m) s.answers to rs' (source.statement_counted next s)
     begins at rs s m to rs' i next h is r =
-        after (budget s) _ _ s.answers s.answers to rs' (source.counted next s) (one e at rs s m s.answers (Some i) h)
-        (subst (λ f. Does (budget s) (f (mach e at rs s m)) s.answers to rs' (source.counted next s)) (sym is) (ticks at rs s m to rs' (does system i) next (λ t lt same. r t same)))
+        after (budget s) _ _ s.answers s.answers to rs' (source.statement_counted next s) (one e at rs s m s.answers (Some i) h)
+        (subst (λ f. Does (budget s) (f (mach e at rs s m)) s.answers to rs' (source.statement_counted next s)) (sym is) (ticks at rs s m to rs' (does system i) next (λ t lt same. r t same)))
 
     -- operands whose subscripts were taken, or SUBSCRIPT
-    pub taken_does : {A B : Type 0} (f : A → B) (o : Option A) (o' : Option B) (b at : ℕ) (rs : List Return) (s : State) (m : Marks) (to : ℕ) (rs' : List Return)
+    pub taken_does : {A B : Type 0} (f : A → B) (o : Option A) (o' : Option B) (b at : ℕ) (rs : List Return) (s : ProgramState) (m : Marks) (to : ℕ) (rs' : List Return)
         (next : B → Config → Config) (goes : A → Out) → o' ≡ option_map f o
         → ((x : A) → o ≡ Some x → Does b (next (f x) (mach e at rs s m)) s.answers to rs' (goes x))
         → Does b (with_taken o' next (mach e at rs s m)) s.answers to rs' (operands.with_taken o s goes)
@@ -215,9 +215,9 @@ module _ (system : System) where
         subst (λ o. Does b (with_taken o next (mach e at rs s m)) s.answers to rs' (goes x)) (sym is) (h x refl)
 
     -- a verb
-    pub verb_does : (at : ℕ) (rs : List Return) (s : State) (m : Marks) (to : ℕ) (rs' : List Return) (i : Instr) (v : Verb) (next : Answer → State → Out)
+    pub verb_does : (at : ℕ) (rs : List Return) (s : ProgramState) (m : Marks) (to : ℕ) (rs' : List Return) (i : Instr) (v : Verb) (next : Answer → ProgramState → Out)
         → slice_get (code_at system e.program).instrs at ≡ Some i → asked_by (Some i) (asks (mach e at rs s m)) ≡ v
-        → ((a : Answer) (answers : List Answer) → let t : State = record s { count = 0; answers = answers } in
+        → ((a : Answer) (answers : List Answer) → let t : ProgramState = record s { count = 0; answers = answers } in
         Does (budget t) (answered_by system (Some i) a (asks (mach e at rs s m))) answers to rs' (next a t))
         → Does (budget s) (asks (mach e at rs s m)) s.answers to rs' (source.asks v next s)
     verb_does at rs s m to rs' i v next h is r = by s.answers refl
@@ -225,14 +225,14 @@ module _ (system : System) where
         by : (answers : List Answer) → s.answers ≡ answers → Does (budget s) (asks (mach e at rs s m)) answers to rs' (source.asked v next answers s)
         by [] same = record { steps = 0; last = asks (mach e at rs s m); comes = refl; stands = refl; asks_it = ap (λ o. asked_by o (asks (mach e at rs s m))) h ∙ is; shows = refl }
         by (a ∷ answers) same =
-            let t : State = record s { count = 0; answers = answers } in
+            let t : ProgramState = record s { count = 0; answers = answers } in
             let longer : length s.answers ≡ length (a ∷ answers) = ap length same in
             weaker (budget t) (budget s) (asks (mach e at rs s m)) (a ∷ answers) to rs' (next a t) (omega (arith, longer))
             (after (budget t) (asks (mach e at rs s m)) (answered_by system (Some i) a (asks (mach e at rs s m))) (a ∷ answers) answers to rs' (next a t)
             (λ k. (suc k, ap (λ o. run system k (answered_by system o a (asks (mach e at rs s m))) answers) h)) (r a answers))
 
     -- a verb at which no answer is taken
-    pub stop_ends : (at : ℕ) (rs : List Return) (s : State) (m : Marks) (i : Option Instr) (v : Verb) → slice_get (code_at system e.program).instrs at ≡ i → asked_by i (asks (mach e at rs s m)) ≡ v
+    pub stop_ends : (at : ℕ) (rs : List Return) (s : ProgramState) (m : Marks) (i : Option Instr) (v : Verb) → slice_get (code_at system e.program).instrs at ≡ i → asked_by i (asks (mach e at rs s m)) ≡ v
         → ((a : Answer) → answered_by system i a (asks (mach e at rs s m)) ≡ asks (mach e at rs s m)) → Ends (asks (mach e at rs s m)) s.answers v s.screen
     stop_ends at rs s m i v h is r =
         let z = frozen (asks (mach e at rs s m)) s.answers refl (λ a. ap (λ o. answered_by system o a (asks (mach e at rs s m))) h ∙ r a) in

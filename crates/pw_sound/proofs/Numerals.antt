@@ -15,7 +15,7 @@ use Rattle.pw_picture.specs.declared.picture.Picture.TheVariants as picture
 use Rattle.pw_picture.specs.Stored.{digit_of, value_of, read_of}
 use Rattle.pw_picture.specs.Symbols.{begins_with}
 use Rattle.pw_code.specs.Spelling.{decimals_in, number_in}
-use Rattle.pw_data.specs.Literals.{before_point, behind_point, has_sign, sign_size, number_with, number_of}
+use Rattle.pw_data.specs.Literals.{before_point, behind_point, has_sign, sign_size, number_with, number_of_literal}
 use Rattle.pw_forms.specs.declared.operand.Operand.TheVariants as operands
 use Rattle.pw_operands.specs.Resolved.{Each}
 use Rattle.pw_text.specs.Bytes.{is_digit, is_sign}
@@ -125,7 +125,7 @@ with-digits s front places n is some few =
     ap Read is ∙ ap (λ a. Tested a (nat_le n 18)) (le-leb 1 n some) ∙ ap (Tested true) (le-leb n 18 few)
 
 of-parts : (bytes front places : List ℕ) (s : Bool) (n : ℕ) → has_sign bytes ≡ s → bytes ≡ front ++ point_and places → before_point bytes ≡ front
-    → length front + length places - sign_size s ≡ n → 1 ≤ n → n ≤ 18 → number_of bytes ≡ Some (read_of (picture.Number n (length places) s) (front ++ places))
+    → length front + length places - sign_size s ≡ n → 1 ≤ n → n ≤ 18 → number_of_literal bytes ≡ Some (read_of (picture.Number n (length places) s) (front ++ places))
 of-parts bytes front places s n sign is before long some few =
     ap (λ b. number_with b (before_point bytes) (behind_point bytes)) sign ∙ ap (λ (xs : List ℕ). number_with s xs (behind_point bytes)) before
     ∙ ap (number_with s front) (behind-front front places bytes is before) ∙ with-digits s front places n long some few
@@ -138,10 +138,10 @@ in-parts bytes front places digits b begins is before filtered =
     ∙ ap (λ (xs : List ℕ). number (signed b (value_of 0 xs)) (length (decimals_in bytes))) filtered
     ∙ ap (λ (xs : List ℕ). number (signed b (value_of 0 digits)) (length xs)) decimals
 
-is-literal : (bytes digits : List ℕ) (b : Bool) (places : ℕ) → number_of bytes ≡ Some (number (signed b (value_of 0 digits)) places)
+is-literal : (bytes digits : List ℕ) (b : Bool) (places : ℕ) → number_of_literal bytes ≡ Some (number (signed b (value_of 0 digits)) places)
     → number_in bytes ≡ number (signed b (value_of 0 digits)) places → length digits ≤ 18 → IsLiteral (operands.Number bytes)
 is-literal bytes digits b places of is few =
-    let value : unwrap_or (number_of bytes) (number (pos 0) 0) ≡ number (signed b (value_of 0 digits)) places = ap (λ o. unwrap_or o (number (pos 0) 0)) of in
+    let value : unwrap_or (number_of_literal bytes) (number (pos 0) 0) ≡ number (signed b (value_of 0 digits)) places = ap (λ o. unwrap_or o (number (pos 0) 0)) of in
     let short : unsigned_abs (signed b (value_of 0 digits)) < 10 ^ 18 = subst (λ n. n < 10 ^ 18) (sym (abs-signed b (value_of 0 digits))) (value-short digits few) in
     (value ∙ sym is, subst (λ (v : Number). unsigned_abs v.units < 10 ^ 18) (sym value) short)
 
@@ -172,7 +172,7 @@ with-sign sign b minus point digit signs whole places all more some few =
     let filtered : filter is_ascii_digit bytes ≡ whole ++ places =
     ap (λ c. if c then sign ∷ filter is_ascii_digit (whole ++ point_and places) else filter is_ascii_digit (whole ++ point_and places)) digit
     ∙ filter-digits whole (point_and places) all ∙ ap (λ (xs : List ℕ). whole ++ xs) (filter-point places more) in
-    let of : number_of bytes ≡ Some (number (signed (sign == 45) (value_of 0 (whole ++ places))) (length places)) =
+    let of : number_of_literal bytes ≡ Some (number (signed (sign == 45) (value_of 0 (whole ++ places))) (length places)) =
     of-parts bytes (sign ∷ whole) places true (length whole + length places) signs refl before (omega arith) (omega (arith, some)) few in
     is-literal bytes (whole ++ places) b (length places)
     (of ∙ ap (λ c. Some (number (signed c (value_of 0 (whole ++ places))) (length places))) minus)

@@ -21,31 +21,31 @@ use Rattle.pw_data.specs.Layouts.{FitsPicture, place_at, place_of}
 use Rattle.pw_data.specs.Names.{is_this_name}
 use Rattle.pw_data.specs.Store.{joined}
 use Rattle.pw_data.specs.declared.item.Item.{Item}
-use Rattle.pw_data.specs.declared.item.Kind.{Kind}
-use Rattle.pw_data.specs.declared.item.Kind.TheVariants as kinds
+use Rattle.pw_data.specs.declared.item.ItemKind.{ItemKind}
+use Rattle.pw_data.specs.declared.item.ItemKind.TheVariants as kinds
 use Rattle.pw_forms.specs.declared.operand.Operand.{Operand}
 use Rattle.pw_forms.specs.declared.operand.Operand.TheVariants as operands
 use Rattle.pw_forms.specs.declared.operand.Subscript.{Subscript}
 use Rattle.pw_forms.specs.declared.operand.Subscript.TheVariants as subscripts
 use Rattle.pw_operands.specs.Variables.{register_of, of_place, of_register, is_index, has_no_sign}
-use Rattle.pw_operands.specs.declared.register.Register as registers
+use Rattle.pw_operands.specs.declared.register.SpecialRegister as registers
 use Rattle.pw_operands.specs.declared.variable.Variable.{Variable}
 use Rattle.pw_operands.specs.Scope.{variable_in}
 use Rattle.pw_operands.specs.Resolved.{Each, IsVariable, IsSubscript, is_whole}
 use Rattle.pw_code.specs.Places.{picture_of}
 use Rattle.pw_code.specs.Spelling.{number_in}
 use Rattle.pw_code.specs.declared.place.Register.TheVariants as register
-use Rattle.pw_code.specs.declared.operand.Operand.TheVariants as operand
+use Rattle.pw_code.specs.declared.operand.InstructionOperand.TheVariants as operand
 use Rattle.pw_code.specs.Instrs.{digits_of_register}
-use Rattle.pw_source.specs.Program.{Deck, Program, item_named}
+use Rattle.pw_source.specs.Program.{DeckModel, Program, item_named}
 use Rattle.pw_source.specs.Store.{Store, Spot}
 use Rattle.pw_source.specs.Store as tree
-use Rattle.pw_source.specs.State.{State, Registers}
+use Rattle.pw_source.specs.State.{ProgramState, Registers}
 use Rattle.pw_source.specs.Values.{Chars, Register, number_of, whole_part}
-use Rattle.pw_source.specs.Operands.{Taken, Stored, Fixed, one_more, spot_in}
+use Rattle.pw_source.specs.Operands.{ResolvedOperand, Stored, Fixed, one_more, spot_in}
 use Rattle.pw_source.specs.Operands as source
 use Rattle.pw_source.specs.Sound.{scope_of}
-use Rattle.pw_exec.specs.Reading.{register_value, subscript_of, spot_at, taken}
+use Rattle.pw_exec.specs.Reading.{register_value, subscript_of, spot_at, code_operand_taken}
 use Rattle.pw_compile.specs.Operands as code
 use Rattle.pw_sound.proofs.Flat.{flat-chars}
 use Rattle.pw_sound.proofs.Ground.{Ground, IsCut}
@@ -55,8 +55,8 @@ use Rattle.pw_source.proofs.Resolved.{each-found}
 
 -- ---- pictures and places
 
-picture-by : (k : Option Kind) (size : ℕ) → ForSome k (λ kind. IsPicture (picture_of_kind kind) × (size_of (picture_of_kind kind) ≡ size))
-    → picture_of (code.kind_of (option_map picture_of_kind k)) size ≡ option_map picture_of_kind k
+picture-by : (k : Option ItemKind) (size : ℕ) → ForSome k (λ kind. IsPicture (picture_of_kind kind) × (size_of (picture_of_kind kind) ≡ size))
+    → picture_of (code.code_kind_of (option_map picture_of_kind k)) size ≡ option_map picture_of_kind k
 picture-by None size fits = refl
 picture-by (Some (kinds.Text n)) size fits = ap (λ m. Some (picture.Text m)) (sym (fits (kinds.Text n) refl).1)
 picture-by (Some (kinds.Number digits places sign)) size fits = refl
@@ -147,7 +147,7 @@ whole-value false v = whole-pos v
 whole-value true zero = refl
 whole-value true (suc v) = refl
 
-number-same : (spelling : List ℕ) → is_whole spelling ≡ true → whole_part (number_in spelling) ≡ code.number_in spelling
+number-same : (spelling : List ℕ) → is_whole spelling ≡ true → whole_part (number_in spelling) ≡ code.subscript_number spelling
 number-same spelling whole =
     ap (λ (xs : List ℕ). whole_part (number (signed (begins_with 45 spelling) (value_of 0 (filter is_ascii_digit spelling))) (length xs))) (whole-decimals spelling whole)
     ∙ whole-value (begins_with 45 spelling) (value_of 0 (filter is_ascii_digit spelling))
@@ -157,13 +157,13 @@ pub record Known (server : Bool) (program : Program) : Type 0 where
   pub fits : Each FitsPicture program.layout.items
   pub unnamed : (name : Word) → IsSome (register_of server name) → item_named program name ≡ None
 
-module _ (server : Bool) (deck : Deck) (program : Program) where
+module _ (server : Bool) (deck : DeckModel) (program : Program) where
   -- the subscript that an operand has is one
   abbrev pub Indexed : Operand → Type 0
   Indexed (operands.Item name (Some one)) = IsSubscript (scope_of server deck program) one
   Indexed _ = Unit {0}
 
-module _ (server : Bool) (deck : Deck) (program : Program) (known : Known server program) (s : State) (tail : List ℕ) (ground : Ground program s.store) where
+module _ (server : Bool) (deck : DeckModel) (program : Program) (known : Known server program) (s : ProgramState) (tail : List ℕ) (ground : Ground program s.store) where
   storage : List ℕ
   storage = joined s.store ++ tail
 
@@ -185,16 +185,16 @@ module _ (server : Bool) (deck : Deck) (program : Program) (known : Known server
       → variable_in (scope_of server deck program) name ≡ Some variable → of_place (place_at item) ≡ variable
   item-variable name item variable is found = by (register_of server name) refl
     where
-      by : (r : Option registers.Register) → register_of server name ≡ r → of_place (place_at item) ≡ variable
+      by : (r : Option registers.SpecialRegister) → register_of server name ≡ r → of_place (place_at item) ≡ variable
       by (Some r) e =
-          let none : item_named program name ≡ None = known.unnamed name (subst (λ (o : Option registers.Register). IsSome o) (sym e) refl) in
+          let none : item_named program name ≡ None = known.unnamed name (subst (λ (o : Option registers.SpecialRegister). IsSome o) (sym e) refl) in
           absurd (none-some item (sym none ∙ is))
       by None e =
           same_Some (of_place (place_at item)) variable
           (sym (ap (λ (o : Option Item). option_map of_place (option_map place_at o)) is)
-          ∙ sym (ap (λ (o : Option registers.Register). option_or (option_map of_register o) (option_map of_place (place_of program.layout name))) e) ∙ found)
+          ∙ sym (ap (λ (o : Option registers.SpecialRegister). option_or (option_map of_register o) (option_map of_place (place_of program.layout name))) e) ∙ found)
 
-  index-by : (k : Option Kind) (at size occurs : ℕ) (chars : List ℕ) → ForSome k (λ kind. IsPicture (picture_of_kind kind) × (size_of (picture_of_kind kind) ≡ size))
+  index-by : (k : Option ItemKind) (at size occurs : ℕ) (chars : List ℕ) → ForSome k (λ kind. IsPicture (picture_of_kind kind) × (size_of (picture_of_kind kind) ≡ size))
       → (has_no_sign (option_map picture_of_kind k) && occurs == 0) ≡ true → take size (drop at (joined s.store ++ tail)) ≡ chars
       → subscript_of s.registers (joined s.store ++ tail) (code.index_at at (option_map picture_of_kind k)) ≡ whole_part (number_of (Chars (option_map picture_of_kind k) chars))
   index-by None at size occurs chars fits index same = absurd cc
@@ -224,10 +224,10 @@ module _ (server : Bool) (deck : Deck) (program : Program) (known : Known server
 
   -- an occurrence of an item
   occurrence-same : (one : Subscript) (item : Item) → FitsPicture item → IsSubscript (scope_of server deck program) one
-      → taken s.registers (joined s.store ++ tail) (operand.Item (code.placed program.layout (place_at item) (Some one)))
+      → code_operand_taken s.registers (joined s.store ++ tail) (operand.Item (code.placed program.layout (place_at item) (Some one)))
       ≡ source.occurrence_of item (Some (source.subscript_value program s one))
   occurrence-same (subscripts.Number spelling) item fits is =
-      let v = code.number_in spelling in
+      let v = code.subscript_number spelling in
       let k = min v (item.occurs + 1) in
       let same : v ≡ source.subscript_value program s (subscripts.Number spelling) = sym (number-same spelling is) in
       ap (λ b. option_map Stored (option_map (spot_at (code.placed program.layout (place_at item) (Some (subscripts.Number spelling)))) (if b then Some (item.at + (k - 1) * item.step) else None))) (within-same v item.occurs)
@@ -242,7 +242,7 @@ module _ (server : Bool) (deck : Deck) (program : Program) (known : Known server
       (λ within. spot-same program (Some (subscripts.Item name)) item v (item.at + (v - 1) * item.step) fits refl)
 
   pub item-same : (o : Option Item) (name : Word) (subscript : Option Subscript) → ((item : Item) → o ≡ Some item → FitsPicture item) → Indexed server deck program (operands.Item name subscript)
-      → taken s.registers (joined s.store ++ tail) (code.operand_by program.layout (option_map place_at o) name subscript)
+      → code_operand_taken s.registers (joined s.store ++ tail) (code.operand_by program.layout (option_map place_at o) name subscript)
       ≡ source.taken_item o s.registers name (option_map (source.subscript_value program s) subscript)
   item-same None name subscript fits is = taken-register s.registers s.store (bytes_eq name (codes "TERMINATION-STATUS")) (bytes_eq name (codes "RESTART-COUNTER"))
   item-same (Some item) name None fits is =
@@ -250,7 +250,7 @@ module _ (server : Bool) (deck : Deck) (program : Program) (known : Known server
   item-same (Some item) name (Some one) fits is = occurrence-same one item (fits item refl) is
 
   -- an operand
-  pub taken-same : (one : Operand) → Indexed server deck program one → taken s.registers (joined s.store ++ tail) (code.operand_of program.layout one) ≡ source.taken program s one
+  pub taken-same : (one : Operand) → Indexed server deck program one → code_operand_taken s.registers (joined s.store ++ tail) (code.operand_of program.layout one) ≡ source.operand_taken program s one
   taken-same (operands.Item name subscript) is = item-same (item_named program name) name subscript (λ item e. item-fits name item e) is
   taken-same (operands.Number spelling) is = refl
   taken-same (operands.Text chars) is = refl

@@ -14,17 +14,17 @@ use Rattle.pw_code.specs.declared.instr.Instr.TheVariants as instr
 use Rattle.pw_code.specs.declared.system.System.{System}
 use Rattle.pw_code.specs.declared.verb.Answer.{Answer}
 use Rattle.pw_code.specs.declared.verb.Verb.TheVariants as verb
-use Rattle.pw_source.specs.Program.{Deck, Program, storage_size, first_screen}
+use Rattle.pw_source.specs.Program.{DeckModel, Program, storage_size, first_screen}
 use Rattle.pw_source.specs.Program as tree
 use Rattle.pw_source.specs.Setting.{Setting}
 use Rattle.pw_source.specs.Sound.{links_of}
-use Rattle.pw_source.specs.State.{State, Out, Goes, Leaves, Asks}
+use Rattle.pw_source.specs.State.{ProgramState, Out, Goes, Leaves, Asks}
 use Rattle.pw_source.specs.State as source
 use Rattle.pw_source.specs.Sends as sends
 use Rattle.pw_source.specs.Store.{Spot, initial_store}
 use Rattle.pw_source.specs.Performs as performs
 use Rattle.pw_source.specs.Performs.{budget}
-use Rattle.pw_source.specs.Runs.{most_calls, setting_of, server_setting, called, program_run, ended, start, server_run, verb_of, screen_of}
+use Rattle.pw_source.specs.Runs.{most_calls, setting_of, server_setting, called, program_run, program_ended, start, server_run, verb_of, asked_screen}
 use Rattle.pw_exec.specs.Calls as calls
 use Rattle.pw_exec.specs.Config.{Config, code_at, starting, starting_server, frame_at, fresh, faults}
 use Rattle.pw_exec.specs.Reading as reading
@@ -44,7 +44,7 @@ use Rattle.pw_sound.proofs.Whole.{IsSet, is_plan_in}
 use Rattle.pw_sound.proofs.Flow.{program_does}
 
 -- what is known of a program of terminals, by its number
-pub record IsProgram (system : System) (deck : Deck) (q : ℕ) : Type 0 where
+pub record IsProgram (system : System) (deck : DeckModel) (q : ℕ) : Type 0 where
   pub known : Known false (tree.program_at deck.programs q)
   pub requester : nat_lt q (length system.programs) ≡ true
   pub coded : program_at system q ≡ code_in (links_of deck) (first_screen deck.programs q) (tree.program_at deck.programs q)
@@ -58,7 +58,7 @@ sum-behind : {A : Type 0} (f : A → ℕ) (xs : List A) (y : A) (n : ℕ) → fo
 sum-behind f [] y n = refl
 sum-behind f (x ∷ xs) y n = sum-behind f xs y (n + f x)
 
-module _ (system : System) (deck : Deck) (all : (q : ℕ) → q < length deck.programs → IsProgram system deck q) where
+module _ (system : System) (deck : DeckModel) (all : (q : ℕ) → q < length deck.programs → IsProgram system deck q) where
   code-is : (q : ℕ) → q < length deck.programs → code_at system q ≡ code_in (links_of deck) (first_screen deck.programs q) (tree.program_at deck.programs q)
   code-is q lt = ap (λ b. if b then program_at system q else slice_index_or system.servers (q - length system.programs) no_code) (all q lt).requester ∙ (all q lt).coded
 
@@ -84,8 +84,8 @@ module _ (system : System) (deck : Deck) (all : (q : ℕ) → q < length deck.pr
   }
 
   -- a program from its first paragraph on
-  runs_by : (q : ℕ) (lt : q < length deck.programs) (callers : List Frame) (tail : List ℕ) (call : ℕ → List (List ℕ) → State → Out) → CallDoes system (setting_of deck q) (env q callers tail) call
-      → (s : State) (m : Marks) → Ground (tree.program_at deck.programs q) s.store
+  runs_by : (q : ℕ) (lt : q < length deck.programs) (callers : List Frame) (tail : List ℕ) (call : ℕ → List (List ℕ) → ProgramState → Out) → CallDoes system (setting_of deck q) (env q callers tail) call
+      → (s : ProgramState) (m : Marks) → Ground (tree.program_at deck.programs q) s.store
       → Finishes system (tree.program_at deck.programs q) (env q callers tail) (budget s) (mach (env q callers tail) 0 [] s m) s.answers (program_run (setting_of deck q) call s)
   runs_by q lt callers tail call does s m ground =
       program_does system (setting_of deck q) (env q callers tail) (is_set q lt callers tail) call (λ is. does)
@@ -133,7 +133,7 @@ module _ (system : System) (deck : Deck) (all : (q : ℕ) → q < length deck.pr
         top = calls.called_frame system p spots keeping (mach e at rs s m);
         rest = record (mach e at rs s m).rest { frames = callers ++ (mach e at rs s m).top ∷ [] };
       } in
-      let t : State = record s { store = performs.put_all (performs.parameter_spots callee) (performs.chars_of_all spots s.store) (initial_store callee) } in
+      let t : ProgramState = record s { store = performs.put_all (performs.parameter_spots callee) (performs.chars_of_all spots s.store) (initial_store callee) } in
       let active : calls.active system (mach e at rs s m) + length (program_at system p).storage ≡ used + storage_size callee =
       ap (λ k. k + length (program_at system p).storage) sum ∙ ap (λ k. used + k) size in
       let long : length (callers ++ (mach e at rs s m).top ∷ []) ≡ length callers + 1 = length-append callers ((mach e at rs s m).top ∷ []) in
@@ -167,19 +167,19 @@ first_ends system c d p q v screen l f =
     let x = l f.steps in record { steps = x.0; last = f.last; comes = x.1 ∙ f.comes; stands = f.stands; asks_it = f.asks_it; shows = f.shows }
 
 module _ (system : System) (setting : Setting) (e : Env) (set : IsSet system setting e) (first : e.callers ≡ []) where
-  stopped : (a b : Bool) (c : Config) (p : List Answer) (n to : ℕ) (rs : List Return) (t : State)
+  stopped : (a b : Bool) (c : Config) (p : List Answer) (n to : ℕ) (rs : List Return) (t : ProgramState)
       → Does system setting.program e n c p to rs (if a then source.faults 209 t else if b then source.faults 207 t else Asks verb.Stop t)
-      → Ends system c p (verb_of (if a then source.faults 209 t else if b then source.faults 207 t else Asks verb.Stop t)) (screen_of (if a then source.faults 209 t else if b then source.faults 207 t else Asks verb.Stop t))
+      → Ends system c p (verb_of (if a then source.faults 209 t else if b then source.faults 207 t else Asks verb.Stop t)) (asked_screen (if a then source.faults 209 t else if b then source.faults 207 t else Asks verb.Stop t))
   stopped true b c p n to rs t d = d
   stopped false true c p n to rs t d = d
   stopped false false c p n to rs t d = d
 
-  left-ends : (b : ℕ) (c : Config) (p : List Answer) (t : State) → Left system setting.program e b c p t → Ends system c p (verb_of (sends.stop setting t)) (screen_of (sends.stop setting t))
+  left-ends : (b : ℕ) (c : Config) (p : List Answer) (t : ProgramState) → Left system setting.program e b c p t → Ends system c p (verb_of (sends.stop setting t)) (asked_screen (sends.stop setting t))
   left-ends b c p t l =
       let at_end = mach e l.at l.returns t l.marks in
       let none : calls.leaves system at_end ≡ calls.stops system at_end = ap (λ (frames : List Frame). calls.leaves_by system (turns.split_last frames) at_end) first in
       first_ends system c (calls.leaves system at_end) p t.answers _ _ l.leads
-      (subst (λ d. Ends system d t.answers (verb_of (sends.stop setting t)) (screen_of (sends.stop setting t))) (sym none)
+      (subst (λ d. Ends system d t.answers (verb_of (sends.stop setting t)) (asked_screen (sends.stop setting t))) (sym none)
       (stopped setting.is_server t.in_unit (calls.stops system at_end) t.answers (budget t) l.at l.returns t (by l.quiet)))
     where
       by : (slice_get (code_at system e.program).instrs l.at ≡ None) ⊎ (slice_get (code_at system e.program).instrs l.at ≡ Some instr.ExitProgram)
@@ -187,7 +187,7 @@ module _ (system : System) (setting : Setting) (e : Env) (set : IsSet system set
       by (inl none) = stop_does system setting set.known e (plan_in setting) (is_plan_in setting) set.kind l.at l.at l.returns l.returns t l.marks None none refl (λ a. refl)
       by (inr exit) = stop_does system setting set.known e (plan_in setting) (is_plan_in setting) set.kind l.at l.at l.returns l.returns t l.marks (Some instr.ExitProgram) exit refl (λ a. refl)
 
-  pub ended_does : (b : ℕ) (c : Config) (p : List Answer) (o : Out) → Finishes system setting.program e b c p o → Ends system c p (verb_of (ended setting o)) (screen_of (ended setting o))
+  pub ended_does : (b : ℕ) (c : Config) (p : List Answer) (o : Out) → Finishes system setting.program e b c p o → Ends system c p (verb_of (program_ended setting o)) (asked_screen (program_ended setting o))
   ended_does b c p (Goes t) f = left-ends b c p t f
   ended_does b c p (Leaves t) f = left-ends b c p t f
   ended_does b c p (Asks v t) f = f
@@ -197,12 +197,12 @@ no_marks = record { phase = 0; attempt = 0; shown = 0; entries = 0; units = 0 }
 
 -- ---- terminals
 
-module _ (system : System) (deck : Deck) (all : (q : ℕ) → q < length deck.programs → IsProgram system deck q) where
+module _ (system : System) (deck : DeckModel) (all : (q : ℕ) → q < length deck.programs → IsProgram system deck q) where
   -- a program of a terminal comes to what its tree asks, over any answers
   pub terminal_does : (q : ℕ) → q < length deck.programs → (answers : List Answer)
       → let setting = setting_of deck q in
-      let out = ended setting (program_run setting (called most_calls deck (storage_size setting.program)) (start setting.program answers)) in
-      Ends system (starting system q) answers (verb_of out) (screen_of out)
+      let out = program_ended setting (program_run setting (called most_calls deck (storage_size setting.program)) (start setting.program answers)) in
+      Ends system (starting system q) answers (verb_of out) (asked_screen out)
   terminal_does q lt answers =
       let setting = setting_of deck q in
       let program = setting.program in
@@ -214,14 +214,14 @@ module _ (system : System) (deck : Deck) (all : (q : ℕ) → q < length deck.pr
       ap (λ (code : Code). 0 + length code.storage) (code-is system deck all q lt) ∙ omega arith in
       let run = runs_by system deck all q lt [] [] (called most_calls deck (storage_size program))
       (calls_do system deck all most_calls (storage_size program) q lt [] [] refl none) s no_marks (all q lt).ground in
-      let out = ended setting (program_run setting (called most_calls deck (storage_size program)) s) in
-      subst (λ (chars : List ℕ). Ends system (record { top = frame_at q chars; rest = fresh }) answers (verb_of out) (screen_of out)) storage
+      let out = program_ended setting (program_run setting (called most_calls deck (storage_size program)) s) in
+      subst (λ (chars : List ℕ). Ends system (record { top = frame_at q chars; rest = fresh }) answers (verb_of out) (asked_screen out)) storage
       (ended_does system setting e (is_set system deck all q lt [] []) refl (budget s) (mach e 0 [] s no_marks) answers (program_run setting (called most_calls deck (storage_size program)) s) run)
 
 -- ---- servers
 
 -- what is known of a server, by its number
-pub record IsServer (system : System) (deck : Deck) (q : ℕ) : Type 0 where
+pub record IsServer (system : System) (deck : DeckModel) (q : ℕ) : Type 0 where
   pub known : Known true (tree.program_at deck.servers q)
   pub server : nat_lt (length system.programs + q) (length system.programs) ≡ false
   pub coded : code_at system (length system.programs + q) ≡ code_in (links_of deck) 0 (tree.program_at deck.servers q)
@@ -229,12 +229,12 @@ pub record IsServer (system : System) (deck : Deck) (q : ℕ) : Type 0 where
   pub ground : Ground (tree.program_at deck.servers q) (initial_store (tree.program_at deck.servers q))
   pub starts : joined (initial_store (tree.program_at deck.servers q)) ≡ (tree.program_at deck.servers q).layout.storage
 
-module _ (system : System) (deck : Deck) (all : (q : ℕ) → q < length deck.programs → IsProgram system deck q) where
+module _ (system : System) (deck : DeckModel) (all : (q : ℕ) → q < length deck.programs → IsProgram system deck q) where
   -- a server comes to what its tree asks, over any answers
   pub server_does : (q : ℕ) → IsServer system deck q → (message : List ℕ) (answers : List Answer)
       → let setting = server_setting deck q message false in
       let out = server_run setting (start setting.program answers) in
-      Ends system (starting_server system q message) answers (verb_of out) (screen_of out)
+      Ends system (starting_server system q message) answers (verb_of out) (asked_screen out)
   server_does q is message answers =
       let setting = server_setting deck q message false in
       let program = setting.program in
@@ -251,8 +251,8 @@ module _ (system : System) (deck : Deck) (all : (q : ℕ) → q < length deck.pr
         stored = ap (λ (code : Code). length code.storage) is.coded;
         callees = is_callee system deck all;
       } in
-      let call : ℕ → List (List ℕ) → State → Out = λ p given t. source.faults 202 t in
+      let call : ℕ → List (List ℕ) → ProgramState → Out = λ p given t. source.faults 202 t in
       let run = program_does system setting e set call (λ no. absurd cc) (ap (λ (code : Code). code.instrs) is.coded) (is.suits message) s no_marks is.ground in
       let out = server_run setting s in
-      subst (λ (chars : List ℕ). Ends system (record { top = frame_at n chars; rest = fresh }) answers (verb_of out) (screen_of out)) storage
+      subst (λ (chars : List ℕ). Ends system (record { top = frame_at n chars; rest = fresh }) answers (verb_of out) (asked_screen out)) storage
       (ended_does system setting e set refl (budget s) (mach e 0 [] s no_marks) answers (program_run setting call s) run)

@@ -16,10 +16,10 @@ use Rattle.pw_data.specs.Entries.{picture_of_kind}
 use Rattle.pw_data.specs.Layouts.{FitsPicture, place_at}
 use Rattle.pw_data.specs.Store.{joined}
 use Rattle.pw_data.specs.declared.item.Item.{Item}
-use Rattle.pw_data.specs.declared.item.Kind.{Kind}
-use Rattle.pw_forms.specs.declared.cond.Comparison.{Comparison}
-use Rattle.pw_forms.specs.declared.cond.Comparison.TheVariants as comparisons
-use Rattle.pw_forms.specs.declared.cond.Cond.{Cond}
+use Rattle.pw_data.specs.declared.item.ItemKind.{ItemKind}
+use Rattle.pw_forms.specs.declared.cond.ComparisonForm.{ComparisonForm}
+use Rattle.pw_forms.specs.declared.cond.ComparisonForm.TheVariants as comparisons
+use Rattle.pw_forms.specs.declared.cond.ConditionForm.{ConditionForm}
 use Rattle.pw_forms.specs.declared.cond.Operator.{Operator}
 use Rattle.pw_forms.specs.declared.cond.Operator.TheVariants as operators
 use Rattle.pw_forms.specs.declared.operand.Operand.{Operand}
@@ -28,15 +28,15 @@ use Rattle.pw_forms.specs.declared.operand.Subscript.{Subscript}
 use Rattle.pw_forms.specs.declared.statement.Operation.{Operation}
 use Rattle.pw_forms.specs.declared.statement.Operation.TheVariants as operations
 use Rattle.pw_operands.specs.Resolved.{Each}
-use Rattle.pw_source.specs.Program.{Deck, Program, item_named}
+use Rattle.pw_source.specs.Program.{DeckModel, Program, item_named}
 use Rattle.pw_source.specs.Store.{Store, Spot, no_spot}
 use Rattle.pw_source.specs.Store as tree
-use Rattle.pw_source.specs.State.{State}
+use Rattle.pw_source.specs.State.{ProgramState}
 use Rattle.pw_source.specs.Values.{Value, Chars, number_of}
-use Rattle.pw_source.specs.Operands.{Taken, Stored, Fixed, one_more, spot_in}
+use Rattle.pw_source.specs.Operands.{ResolvedOperand, Stored, Fixed, one_more, spot_in}
 use Rattle.pw_source.specs.Operands as source
 use Rattle.pw_source.specs.Conditions as conditions
-use Rattle.pw_source.specs.Conditions.{turned, compared, is_numeric, of_both}
+use Rattle.pw_source.specs.Conditions.{condition_turned, compared, is_numeric, of_both}
 use Rattle.pw_source.specs.Moves.{moved_chars}
 use Rattle.pw_source.specs.Moves as moving
 use Rattle.pw_source.specs.Arithmetic as computing
@@ -64,19 +64,19 @@ no-spot-sits store = record { cut = record { front = []; run = []; back = store;
 pub sits-kept : (spot : Spot) (chars : List ℕ) (store : Store) (other : Spot) → Sits store other → Sits (tree.put_at spot chars store) other
 sits-kept spot chars store other s = record { cut = cut-kept spot chars store other.at other.size s.cut; fits = s.fits }
 
-abbrev pub TakenSits : Store → Taken → Type 0
+abbrev pub TakenSits : Store → ResolvedOperand → Type 0
 TakenSits store (Stored spot) = Sits store spot
 TakenSits store (Fixed value) = Unit {0}
 
-pub taken-kept : (spot : Spot) (chars : List ℕ) (store : Store) (found : Taken) → TakenSits store found → TakenSits (tree.put_at spot chars store) found
+pub taken-kept : (spot : Spot) (chars : List ℕ) (store : Store) (found : ResolvedOperand) → TakenSits store found → TakenSits (tree.put_at spot chars store) found
 taken-kept spot chars store (Stored other) s = sits-kept spot chars store other s
 taken-kept spot chars store (Fixed value) s = tt
 
-pub spot-sits : (store : Store) (found : Taken) → TakenSits store found → Sits store (spot_in found)
+pub spot-sits : (store : Store) (found : ResolvedOperand) → TakenSits store found → Sits store (spot_in found)
 spot-sits store (Stored spot) s = s
 spot-sits store (Fixed value) s = no-spot-sits store
 
-pub value-same : (store : Store) (tail : List ℕ) (found : Taken) → TakenSits store found → value_in (joined store ++ tail) found ≡ source.value_in found store
+pub value-same : (store : Store) (tail : List ℕ) (found : ResolvedOperand) → TakenSits store found → value_in (joined store ++ tail) found ≡ source.value_in found store
 value-same store tail (Stored spot) s = ap (Chars spot.picture) (flat-chars spot store tail s.cut)
 value-same store tail (Fixed value) s = refl
 
@@ -94,7 +94,7 @@ pub move-same : (value : Value) (spot : Spot) (store : Store) (tail : List ℕ) 
 move-same value spot store tail s =
     flat-put spot (moved_chars spot.picture spot.size value) tail store s.cut (length-moved_chars spot.picture spot.size value s.fits)
 
-pub moves-same : (found : Taken) (spots : List Spot) (store : Store) (tail : List ℕ) → TakenSits store found → Each (Sits store) spots
+pub moves-same : (found : ResolvedOperand) (spots : List Spot) (store : Store) (tail : List ℕ) → TakenSits store found → Each (Sits store) spots
     → moves.moves found spots (joined store ++ tail) ≡ joined (moving.moves found spots store) ++ tail
 moves-same found [] store tail s each = refl
 moves-same found (spot ∷ spots) store tail s each =
@@ -108,7 +108,7 @@ moves-same found (spot ∷ spots) store tail s each =
     each-kept [] all = tt
     each-kept (other ∷ others) all = (sits-kept spot (moved_chars spot.picture spot.size (source.value_in found store)) store other all.0, each-kept others all.1)
 
-pub moves-ground : (program : Program) (found : Taken) (spots : List Spot) (store : Store) → Ground program store → Ground program (moving.moves found spots store)
+pub moves-ground : (program : Program) (found : ResolvedOperand) (spots : List Spot) (store : Store) → Ground program store → Ground program (moving.moves found spots store)
 moves-ground program found [] store ground = ground
 moves-ground program found (spot ∷ spots) store ground =
     moves-ground program found spots (moving.move_value (source.value_in found store) spot store)
@@ -129,7 +129,7 @@ spot-again : (o : Option Spot) → o ≡ option_map spot_in (option_map Stored o
 spot-again None = refl
 spot-again (Some spot) = refl
 
-picture-fits : (k : Option Kind) (size : ℕ) → ForSome k (λ kind. IsPicture (picture_of_kind kind) × (size_of (picture_of_kind kind) ≡ size))
+picture-fits : (k : Option ItemKind) (size : ℕ) → ForSome k (λ kind. IsPicture (picture_of_kind kind) × (size_of (picture_of_kind kind) ≡ size))
     → (p : Picture) → option_map picture_of_kind k ≡ Some p → size_of p ≡ size
 picture-fits None size fits p e = absurd cc
 picture-fits (Some k) size fits p e = ap size_of (sym (same_Some (picture_of_kind k) p e)) ∙ (fits k refl).1
@@ -138,7 +138,7 @@ item-sits : (store : Store) (item : Item) (k : ℕ) → FitsPicture item → IsC
 item-sits store item k fits cut low high = record { cut = cut k low high; fits = picture-fits item.kind item.size fits }
 
 occurs-by : (store : Store) (item : Item) (k : ℕ) → FitsPicture item → IsCut store item → (b : Bool) → (nat_le 1 k && nat_le k item.occurs) ≡ b
-    → (found : Taken) → (if b then Some (Stored (tree.spot_of item k)) else None) ≡ Some found → TakenSits store found
+    → (found : ResolvedOperand) → (if b then Some (Stored (tree.spot_of item k)) else None) ≡ Some found → TakenSits store found
 occurs-by store item k fits cut true e found is =
     let parts = and_parts _ _ e in
     let low : 1 ≤ k = leb-true 1 k parts.0 in
@@ -146,30 +146,30 @@ occurs-by store item k fits cut true e found is =
     subst (TakenSits store) (same_Some (Stored (tree.spot_of item k)) found is) (item-sits store item k fits cut low (omega (arith, high)))
 occurs-by store item k fits cut false e found is = absurd cc
 
-module _ (server : Bool) (deck : Deck) (program : Program) where
-  abbrev pub ComparisonIndexed : Comparison → Type 0
+module _ (server : Bool) (deck : DeckModel) (program : Program) where
+  abbrev pub ComparisonIndexed : ComparisonForm → Type 0
   ComparisonIndexed (comparisons.Compare left negated op right) =
       Indexed server deck program left × Indexed server deck program right
   ComparisonIndexed (comparisons.Numeric one negated) = Indexed server deck program one
 
-module _ (server : Bool) (deck : Deck) (program : Program) (known : Known server program) (s : State) (tail : List ℕ) (ground : Ground program s.store) where
-  register-sits : (a b : Bool) (x y z : Value) (found : Taken) → Some (if a then Fixed x else if b then Fixed y else Fixed z) ≡ Some found → TakenSits s.store found
+module _ (server : Bool) (deck : DeckModel) (program : Program) (known : Known server program) (s : ProgramState) (tail : List ℕ) (ground : Ground program s.store) where
+  register-sits : (a b : Bool) (x y z : Value) (found : ResolvedOperand) → Some (if a then Fixed x else if b then Fixed y else Fixed z) ≡ Some found → TakenSits s.store found
   register-sits true b x y z found is = subst (TakenSits s.store) (same_Some (Fixed x) found is) tt
   register-sits false true x y z found is = subst (TakenSits s.store) (same_Some (Fixed y) found is) tt
   register-sits false false x y z found is = subst (TakenSits s.store) (same_Some (Fixed z) found is) tt
 
   named-sits : (o : Option Item) (name : Word) (k : Option ℕ) → ((item : Item) → o ≡ Some item → FitsPicture item) → ((item : Item) → o ≡ Some item → IsCut s.store item)
-      → (found : Taken) → source.taken_item o s.registers name k ≡ Some found → TakenSits s.store found
+      → (found : ResolvedOperand) → source.taken_item o s.registers name k ≡ Some found → TakenSits s.store found
   named-sits None name k fits cut found is = register-sits (bytes_eq name (codes "TERMINATION-STATUS")) (bytes_eq name (codes "RESTART-COUNTER")) _ _ _ found is
   named-sits (Some item) name None fits cut found is =
       subst (TakenSits s.store) (same_Some (Stored (tree.spot_of item 1)) found is) (item-sits s.store item 1 (fits item refl) (cut item refl) (omega arith) (omega arith))
   named-sits (Some item) name (Some k) fits cut found is = occurs-by s.store item k (fits item refl) (cut item refl) (nat_le 1 k && nat_le k item.occurs) refl found is
 
-  fixed-sits : (value : Value) (found : Taken) → Some (Fixed value) ≡ Some found → TakenSits s.store found
+  fixed-sits : (value : Value) (found : ResolvedOperand) → Some (Fixed value) ≡ Some found → TakenSits s.store found
   fixed-sits value found is = subst (TakenSits s.store) (same_Some (Fixed value) found is) tt
 
   -- what is taken is a run of cells
-  pub taken-sits : (one : Operand) (found : Taken) → source.taken program s one ≡ Some found → TakenSits s.store found
+  pub taken-sits : (one : Operand) (found : ResolvedOperand) → source.operand_taken program s one ≡ Some found → TakenSits s.store found
   taken-sits (operands.Item name subscript) found is =
       named-sits (item_named program name) name (option_map (source.subscript_value program s) subscript)
       (λ item e. item-fits server deck program known s tail ground name item e) (λ item e. item-cut server deck program known s tail ground name item e) found is
@@ -178,11 +178,11 @@ module _ (server : Bool) (deck : Deck) (program : Program) (known : Known server
   taken-sits operands.Spaces found is = fixed-sits _ found is
   taken-sits operands.Zeros found is = fixed-sits _ found is
 
-  pub all-sit : (ones : List Operand) (found : List Taken) → source.taken_all program s ones ≡ Some found → Each (TakenSits s.store) found
+  pub all-sit : (ones : List Operand) (found : List ResolvedOperand) → source.taken_all program s ones ≡ Some found → Each (TakenSits s.store) found
   all-sit [] found is = subst (Each (TakenSits s.store)) (same_Some [] found is) tt
-  all-sit (one ∷ ones) found is = by (source.taken program s one) (source.taken_all program s ones) (λ x e. taken-sits one x e) (λ xs e. all-sit ones xs e) is
+  all-sit (one ∷ ones) found is = by (source.operand_taken program s one) (source.taken_all program s ones) (λ x e. taken-sits one x e) (λ xs e. all-sit ones xs e) is
     where
-      by : (a : Option Taken) (b : Option (List Taken)) → ((x : Taken) → a ≡ Some x → TakenSits s.store x) → ((xs : List Taken) → b ≡ Some xs → Each (TakenSits s.store) xs)
+      by : (a : Option ResolvedOperand) (b : Option (List ResolvedOperand)) → ((x : ResolvedOperand) → a ≡ Some x → TakenSits s.store x) → ((xs : List ResolvedOperand) → b ≡ Some xs → Each (TakenSits s.store) xs)
           → one_more a b ≡ Some found → Each (TakenSits s.store) found
       by None b f g e = absurd cc
       by (Some x) None f g e = absurd cc
@@ -190,10 +190,10 @@ module _ (server : Bool) (deck : Deck) (program : Program) (known : Known server
 
   -- an operand as it is read
   pub read-same : (one : Operand) → Indexed server deck program one
-      → read s.registers (joined s.store ++ tail) (code.operand_of program.layout one) ≡ option_map (λ found. source.value_in found s.store) (source.taken program s one)
+      → read s.registers (joined s.store ++ tail) (code.operand_of program.layout one) ≡ option_map (λ found. source.value_in found s.store) (source.operand_taken program s one)
   read-same one is =
       ap (option_map (value_in (joined s.store ++ tail))) (taken-same server deck program known s tail ground one is)
-      ∙ map-some (value_in (joined s.store ++ tail)) (λ found. source.value_in found s.store) (source.taken program s one)
+      ∙ map-some (value_in (joined s.store ++ tail)) (λ found. source.value_in found s.store) (source.operand_taken program s one)
       (λ found e. value-same s.store tail found (taken-sits one found e))
 
   no-place-same : (a b : Bool) (x y z : Value) → Some no_spot ≡ option_map spot_in (Some (if a then Fixed x else if b then Fixed y else Fixed z))
@@ -212,7 +212,7 @@ module _ (server : Bool) (deck : Deck) (program : Program) (known : Known server
 
   -- an item that receives
   pub spot-same : (one : Operand) → Indexed server deck program one
-      → spot_of s.registers (joined s.store ++ tail) (code.place_in program.layout one) ≡ option_map spot_in (source.taken program s one)
+      → spot_of s.registers (joined s.store ++ tail) (code.place_in program.layout one) ≡ option_map spot_in (source.operand_taken program s one)
   spot-same (operands.Item name subscript) is = place-by-same (item_named program name) name subscript (λ item e. item-fits server deck program known s tail ground name item e) is
   spot-same (operands.Number spelling) is = refl
   spot-same (operands.Text chars) is = refl
@@ -225,8 +225,8 @@ module _ (server : Bool) (deck : Deck) (program : Program) (known : Known server
   spots-same [] each = refl
   spots-same (one ∷ ones) each =
       ap (λ o. one_more o (spots_of s.registers (joined s.store ++ tail) (map (code.place_in program.layout) ones))) (spot-same one each.0)
-      ∙ ap (one_more (option_map spot_in (source.taken program s one))) (spots-same ones each.1)
-      ∙ one-more-map spot_in (source.taken program s one) (source.taken_all program s ones)
+      ∙ ap (one_more (option_map spot_in (source.operand_taken program s one))) (spots-same ones each.1)
+      ∙ one-more-map spot_in (source.operand_taken program s one) (source.taken_all program s ones)
 
   -- ---- conditions
 
@@ -237,35 +237,35 @@ module _ (server : Bool) (deck : Deck) (program : Program) (known : Known server
   operator-same operators.LessEqual found = refl
   operator-same operators.GreaterEqual found = refl
 
-  two-same : (negated : Bool) (op : Operator) (a b : Option Taken)
-      → tests.of_two (λ x y. turned negated (tests.holds_by (compiled.operator_of op) (compared x y))) (option_map (λ found. source.value_in found s.store) a) (option_map (λ found. source.value_in found s.store) b)
-      ≡ conditions.of_two (λ x y. turned negated (conditions.holds_by op (compared (source.value_in x s.store) (source.value_in y s.store)))) a b
+  two-same : (negated : Bool) (op : Operator) (a b : Option ResolvedOperand)
+      → tests.of_two (λ x y. condition_turned negated (tests.holds_by (compiled.operator_of op) (compared x y))) (option_map (λ found. source.value_in found s.store) a) (option_map (λ found. source.value_in found s.store) b)
+      ≡ conditions.of_two (λ x y. condition_turned negated (conditions.holds_by op (compared (source.value_in x s.store) (source.value_in y s.store)))) a b
   two-same negated op None b = refl
   two-same negated op (Some x) None = refl
-  two-same negated op (Some x) (Some y) = ap (λ t. Some (turned negated t)) (operator-same op (compared (source.value_in x s.store) (source.value_in y s.store)))
+  two-same negated op (Some x) (Some y) = ap (λ t. Some (condition_turned negated t)) (operator-same op (compared (source.value_in x s.store) (source.value_in y s.store)))
 
-  one-same : (negated : Bool) (a : Option Taken)
-      → tests.of_one (λ x. turned negated (is_numeric x)) (option_map (λ found. source.value_in found s.store) a) ≡ conditions.of_one (λ x. turned negated (is_numeric (source.value_in x s.store))) a
+  one-same : (negated : Bool) (a : Option ResolvedOperand)
+      → tests.of_one (λ x. condition_turned negated (is_numeric x)) (option_map (λ found. source.value_in found s.store) a) ≡ conditions.of_one (λ x. condition_turned negated (is_numeric (source.value_in x s.store))) a
   one-same negated None = refl
   one-same negated (Some x) = refl
 
-  comparison-same : (one : Comparison) → ComparisonIndexed server deck program one
+  comparison-same : (one : ComparisonForm) → ComparisonIndexed server deck program one
       → tests.comparison_holds s.registers (joined s.store ++ tail) (compiled.comparison_of program.layout one) ≡ conditions.comparison_holds program s one
   comparison-same (comparisons.Compare left negated op right) is =
-      ap (λ o. tests.of_two (λ x y. turned negated (tests.holds_by (compiled.operator_of op) (compared x y))) o (read s.registers (joined s.store ++ tail) (code.operand_of program.layout right))) (read-same left is.0)
-      ∙ ap (tests.of_two (λ x y. turned negated (tests.holds_by (compiled.operator_of op) (compared x y))) (option_map (λ found. source.value_in found s.store) (source.taken program s left))) (read-same right is.1)
-      ∙ two-same negated op (source.taken program s left) (source.taken program s right)
+      ap (λ o. tests.of_two (λ x y. condition_turned negated (tests.holds_by (compiled.operator_of op) (compared x y))) o (read s.registers (joined s.store ++ tail) (code.operand_of program.layout right))) (read-same left is.0)
+      ∙ ap (tests.of_two (λ x y. condition_turned negated (tests.holds_by (compiled.operator_of op) (compared x y))) (option_map (λ found. source.value_in found s.store) (source.operand_taken program s left))) (read-same right is.1)
+      ∙ two-same negated op (source.operand_taken program s left) (source.operand_taken program s right)
   comparison-same (comparisons.Numeric one negated) is =
-      ap (tests.of_one (λ x. turned negated (is_numeric x))) (read-same one is) ∙ one-same negated (source.taken program s one)
+      ap (tests.of_one (λ x. condition_turned negated (is_numeric x))) (read-same one is) ∙ one-same negated (source.operand_taken program s one)
 
-  all-same : (ones : List Comparison) → Each (ComparisonIndexed server deck program) ones
+  all-same : (ones : List ComparisonForm) → Each (ComparisonIndexed server deck program) ones
       → tests.all_hold s.registers (joined s.store ++ tail) (map (compiled.comparison_of program.layout) ones) ≡ conditions.all_hold program s ones
   all-same [] each = refl
   all-same (one ∷ ones) each =
       ap (λ o. of_both (λ a b. a && b) o (tests.all_hold s.registers (joined s.store ++ tail) (map (compiled.comparison_of program.layout) ones))) (comparison-same one each.0)
       ∙ ap (of_both (λ a b. a && b) (conditions.comparison_holds program s one)) (all-same ones each.1)
 
-  any-same : (lists : List (List Comparison)) → Each (Each (ComparisonIndexed server deck program)) lists
+  any-same : (lists : List (List ComparisonForm)) → Each (Each (ComparisonIndexed server deck program)) lists
       → tests.any_holds s.registers (joined s.store ++ tail) (map (map (compiled.comparison_of program.layout)) lists) ≡ conditions.any_holds program s lists
   any-same [] each = refl
   any-same (list ∷ lists) each =
@@ -273,14 +273,14 @@ module _ (server : Bool) (deck : Deck) (program : Program) (known : Known server
       ∙ ap (of_both (λ a b. a || b) (conditions.all_hold program s list)) (any-same lists each.1)
 
   -- a condition
-  pub holds-same : (cond : Cond) → Each (Each (ComparisonIndexed server deck program)) cond.any
-      → tests.holds s.registers (joined s.store ++ tail) (compiled.cond_of program.layout cond) ≡ conditions.holds program s cond
+  pub holds-same : (cond : ConditionForm) → Each (Each (ComparisonIndexed server deck program)) cond.any
+      → tests.code_condition_holds s.registers (joined s.store ++ tail) (compiled.cond_of program.layout cond) ≡ conditions.holds program s cond
   holds-same cond each = any-same cond.any each
 
 -- ---- arithmetic
 
 -- the storage of a state, if there is one
-abbrev pub stored : List ℕ → Option State → Option (List ℕ)
+abbrev pub stored : List ℕ → Option ProgramState → Option (List ℕ)
 stored tail o = option_map (λ s. joined s.store ++ tail) o
 
 operated-same : (op : Operation) (places : ℕ) (first second : Number) → moves.operated (compiled.operation_of op) places first second ≡ computing.operated op places first second
@@ -289,12 +289,12 @@ operated-same operations.Subtract places first second = refl
 operated-same operations.Multiply places first second = refl
 operated-same operations.Divide places first second = refl
 
-stored-by-same : (b : Bool) (p : Picture) (spot : Spot) (n : Number) (s : State) (tail : List ℕ) → Cut s.store spot.at spot.size → length (moved p n) ≡ spot.size
+stored-by-same : (b : Bool) (p : Picture) (spot : Spot) (n : Number) (s : ProgramState) (tail : List ℕ) → Cut s.store spot.at spot.size → length (moved p n) ≡ spot.size
     → (if b then Some (put_at spot (moved p n) (joined s.store ++ tail)) else None) ≡ stored tail (if b then Some (record s { store = tree.put_at spot (moved p n) s.store }) else None)
 stored-by-same true p spot n s tail cut long = ap Some (flat-put spot (moved p n) tail s.store cut long)
 stored-by-same false p spot n s tail cut long = refl
 
-stored-in-same : (r : Result Number SizeError) (spot : Spot) (s : State) (tail : List ℕ) → Sits s.store spot
+stored-in-same : (r : Result Number SizeError) (spot : Spot) (s : ProgramState) (tail : List ℕ) → Sits s.store spot
     → moves.stored_in spot r (joined s.store ++ tail) ≡ stored tail (computing.stored_in spot r s)
 stored-in-same (Err error) spot s tail sits = refl
 stored-in-same (Ok n) spot s tail sits = by spot.picture refl
@@ -307,21 +307,21 @@ stored-in-same (Ok n) spot s tail sits = by spot.picture refl
         (length-chars_of digits (size_at places n % 10 ^ digits) sign (is_negative n) ∙ sits.fits (picture.Number digits places sign) e)
     by (Some (picture.Edited symbols)) e = refl
 
-pub computed-same : (op : Operation) (first second : Value) (spot : Spot) (s : State) (tail : List ℕ) → Sits s.store spot
+pub computed-same : (op : Operation) (first second : Value) (spot : Spot) (s : ProgramState) (tail : List ℕ) → Sits s.store spot
     → moves.computed (compiled.operation_of op) first second spot (joined s.store ++ tail) ≡ stored tail (computing.computed op first second spot s)
 computed-same op first second spot s tail sits =
-    ap (λ r. moves.stored_in spot r (joined s.store ++ tail)) (operated-same op (computing.places_of spot.picture) (number_of first) (number_of second))
-    ∙ stored-in-same (computing.operated op (computing.places_of spot.picture) (number_of first) (number_of second)) spot s tail sits
+    ap (λ r. moves.stored_in spot r (joined s.store ++ tail)) (operated-same op (computing.receiver_decimals spot.picture) (number_of first) (number_of second))
+    ∙ stored-in-same (computing.operated op (computing.receiver_decimals spot.picture) (number_of first) (number_of second)) spot s tail sits
 
 -- what a computation leaves is the state with another store of the program
-pub record Computed (program : Program) (s t : State) : Type 0 where
+pub record Computed (program : Program) (s t : ProgramState) : Type 0 where
   pub store : Store
   pub is : t ≡ record s { store = store }
   pub ground : Ground program store
 
-pub computed-state : (program : Program) (op : Operation) (first second : Value) (spot : Spot) (s t : State) → computing.computed op first second spot s ≡ Some t → Ground program s.store
+pub computed-state : (program : Program) (op : Operation) (first second : Value) (spot : Spot) (s t : ProgramState) → computing.computed op first second spot s ≡ Some t → Ground program s.store
     → Computed program s t
-computed-state program op first second spot s t is ground = by (computing.operated op (computing.places_of spot.picture) (number_of first) (number_of second)) is
+computed-state program op first second spot s t is ground = by (computing.operated op (computing.receiver_decimals spot.picture) (number_of first) (number_of second)) is
   where
     kept : (b : Bool) (p : Picture) (n : Number) → (if b then Some (record s { store = tree.put_at spot (moved p n) s.store }) else None) ≡ Some t → Computed program s t
     kept true p n e = record {

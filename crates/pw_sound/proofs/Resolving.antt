@@ -1,22 +1,22 @@
 -- Statements whose names resolve suit the simulation.
 use Rattle.std.proofs.Common.{◌≡◌, Bool, true, List, [], ◌∷◌, ◌++◌, map, flat_map, Option, Some, None}
 use Rattle.pw_words.specs.Words.{Word}
-use Rattle.pw_forms.specs.declared.cond.Comparison.{Comparison}
-use Rattle.pw_forms.specs.declared.cond.Comparison.TheVariants as comparisons
-use Rattle.pw_forms.specs.declared.cond.Cond.{Cond}
-use Rattle.pw_forms.specs.declared.lists.Code.{Code}
+use Rattle.pw_forms.specs.declared.cond.ComparisonForm.{ComparisonForm}
+use Rattle.pw_forms.specs.declared.cond.ComparisonForm.TheVariants as comparisons
+use Rattle.pw_forms.specs.declared.cond.ConditionForm.{ConditionForm}
+use Rattle.pw_forms.specs.declared.lists.SendCode.{SendCode}
 use Rattle.pw_forms.specs.declared.operand.Operand.{Operand}
 use Rattle.pw_forms.specs.declared.operand.Operand.TheVariants as operands
 use Rattle.pw_forms.specs.declared.operand.Subscript.{Subscript}
-use Rattle.pw_forms.specs.declared.statement.Arithmetic.{Arithmetic}
+use Rattle.pw_forms.specs.declared.statement.ArithmeticForm.{ArithmeticForm}
 use Rattle.pw_forms.specs.declared.statement.Statement.{Statement, Row_of-Statement, end_of-Statement, more_of-Statement}
 use Rattle.pw_forms.specs.declared.statement.Statement as form
 use Rattle.pw_code.specs.declared.system.System.{System}
-use Rattle.pw_operands.specs.Resolved.{Each, IsNamed, IsItem, IsAny, IsAmount, Fits, Resolves, RowResolves, is_key, is_record, is_sum}
+use Rattle.pw_operands.specs.Resolved.{Each, NamesVariable, IsItem, IsAny, IsAmount, FitsPlace, Resolves, RowResolves, is_key, is_record, is_sum}
 use Rattle.pw_operands.specs.Scope.{Scope}
 use Rattle.pw_operands.specs.Uses.{Use, cond_uses, comparison_uses, uses}
 use Rattle.pw_operands.specs.Uses as place
-use Rattle.pw_operands.specs.Variables.{is_any, is_item, is_number}
+use Rattle.pw_operands.specs.Variables.{is_any, is_item, is_number_variable}
 use Rattle.pw_operands.specs.declared.variable.Variable.{Variable}
 use Rattle.pw_source.specs.Setting.{Setting}
 use Rattle.pw_source.specs.Sends.{yields_of}
@@ -49,7 +49,7 @@ module _ (system : System) (setting : Setting) where
     RowShaped end_of-Statement = Unit {0}
     RowShaped (more_of-Statement one rest) = Shaped one × RowShaped rest
 
-  pub named-own : (test : Variable → Bool) (name : Word) (subscript : Option Subscript) → IsNamed scope test name subscript → own (operands.Item name subscript)
+  pub named-own : (test : Variable → Bool) (name : Word) (subscript : Option Subscript) → NamesVariable scope test name subscript → own (operands.Item name subscript)
   named-own test name None is = tt
   named-own test name (Some one) is = is.subscripted.1
 
@@ -61,7 +61,7 @@ module _ (system : System) (setting : Setting) where
   any-own operands.Zeros is = tt
 
   amount-own : (one : Operand) → IsAmount scope one → own one
-  amount-own (operands.Item name subscript) is = named-own is_number name subscript is
+  amount-own (operands.Item name subscript) is = named-own is_number_variable name subscript is
   amount-own (operands.Number digits) is = tt
   amount-own (operands.Text chars) is = tt
   amount-own operands.Spaces is = tt
@@ -74,38 +74,38 @@ module _ (system : System) (setting : Setting) where
   item-own test operands.Spaces is = tt
   item-own test operands.Zeros is = tt
 
-  pub receivers-own : (ones : List Operand) → Each (Fits scope) (map place.Receiver ones) → Each own ones
+  pub receivers-own : (ones : List Operand) → Each (FitsPlace scope) (map place.Receiver ones) → Each own ones
   receivers-own [] each = tt
   receivers-own (one ∷ ones) each = (item-own is_item one each.0, receivers-own ones each.1)
 
-  yields-own : (codes : List Code) → Each (Fits scope) (map (λ (code : Code). place.Receiver code.yields) codes) → Each own (yields_of codes)
+  yields-own : (codes : List SendCode) → Each (FitsPlace scope) (map (λ (code : SendCode). place.Receiver code.yields) codes) → Each own (yields_of codes)
   yields-own [] each = tt
   yields-own (code ∷ codes) each = (item-own is_item code.yields each.0, yields-own codes each.1)
 
-  each-front : (xs ys : List Use) → Each (Fits scope) (xs ++ ys) → Each (Fits scope) xs
+  each-front : (xs ys : List Use) → Each (FitsPlace scope) (xs ++ ys) → Each (FitsPlace scope) xs
   each-front [] ys each = tt
   each-front (x ∷ xs) ys each = (each.0, each-front xs ys each.1)
 
-  each-back : (xs ys : List Use) → Each (Fits scope) (xs ++ ys) → Each (Fits scope) ys
+  each-back : (xs ys : List Use) → Each (FitsPlace scope) (xs ++ ys) → Each (FitsPlace scope) ys
   each-back [] ys each = each
   each-back (x ∷ xs) ys each = each-back xs ys each.1
 
-  paragraphs-own : (names : List Word) (more : List Use) → Each (Fits scope) (map place.Paragraph names ++ more) → Each (Performed system setting) names × Each (Fits scope) more
+  paragraphs-own : (names : List Word) (more : List Use) → Each (FitsPlace scope) (map place.Paragraph names ++ more) → Each (Performed system setting) names × Each (FitsPlace scope) more
   paragraphs-own [] more each = (tt, each)
   paragraphs-own (name ∷ names) more each = let rest = paragraphs-own names more each.1 in ((each.0, rest.0), rest.1)
 
-  comparison-own : (one : Comparison) → Each (Fits scope) (comparison_uses one) → ComparisonIndexed setting.is_server setting.deck setting.program one
+  comparison-own : (one : ComparisonForm) → Each (FitsPlace scope) (comparison_uses one) → ComparisonIndexed setting.is_server setting.deck setting.program one
   comparison-own (comparisons.Compare left negated op right) each = (any-own left each.0, any-own right each.1.0)
   comparison-own (comparisons.Numeric one negated) each = any-own one each.0
 
-  all-own : (ones : List Comparison) → Each (Fits scope) (flat_map comparison_uses ones) → Each (ComparisonIndexed setting.is_server setting.deck setting.program) ones
+  all-own : (ones : List ComparisonForm) → Each (FitsPlace scope) (flat_map comparison_uses ones) → Each (ComparisonIndexed setting.is_server setting.deck setting.program) ones
   all-own [] each = tt
   all-own (one ∷ ones) each = (
     comparison-own one (each-front (comparison_uses one) (flat_map comparison_uses ones) each),
     all-own ones (each-back (comparison_uses one) (flat_map comparison_uses ones) each),
   )
 
-  lists-own : (lists : List (List Comparison)) → Each (Fits scope) (flat_map (λ all. flat_map comparison_uses all) lists)
+  lists-own : (lists : List (List ComparisonForm)) → Each (FitsPlace scope) (flat_map (λ all. flat_map comparison_uses all) lists)
       → Each (Each (ComparisonIndexed setting.is_server setting.deck setting.program)) lists
   lists-own [] each = tt
   lists-own (list ∷ lists) each = (
@@ -113,13 +113,13 @@ module _ (system : System) (setting : Setting) where
     lists-own lists (each-back (flat_map comparison_uses list) (flat_map (λ all. flat_map comparison_uses all) lists) each),
   )
 
-  cond-own : (cond : Cond) → Each (Fits scope) (cond_uses cond) → Each (Each (ComparisonIndexed setting.is_server setting.deck setting.program)) cond.any
+  cond-own : (cond : ConditionForm) → Each (FitsPlace scope) (cond_uses cond) → Each (Each (ComparisonIndexed setting.is_server setting.deck setting.program)) cond.any
   cond-own cond each = lists-own cond.any each
 
-  arithmetic-own : (a : Arithmetic) → Each (Fits scope) (place.arithmetic_uses a) → suits.ArithmeticOwn system setting a
+  arithmetic-own : (a : ArithmeticForm) → Each (FitsPlace scope) (place.arithmetic_uses a) → suits.ArithmeticOwn system setting a
   arithmetic-own a each = by a.giving each.1
     where
-      by : (giving : Option Operand) → Each (Fits scope) (place.result_uses a.second giving) → own a.first × own a.second × own (computing.receiver_by giving a.second)
+      by : (giving : Option Operand) → Each (FitsPlace scope) (place.result_uses a.second giving) → own a.first × own a.second × own (computing.receiver_by giving a.second)
       by None rest = (amount-own a.first each.0, item-own is_sum a.second rest.0, item-own is_sum a.second rest.0)
       by (Some item) rest = (amount-own a.first each.0, amount-own a.second rest.0, item-own is_sum item rest.1.0)
 
@@ -133,7 +133,7 @@ module _ (system : System) (setting : Setting) where
     suited (form.PerformTimes line name times) is has = (is.0, amount-own times is.1.0)
     suited (form.PerformUntil line name cond) is has = (is.0, cond-own cond is.1)
     suited (form.PerformOneOf line names position) is has =
-        let parts = paragraphs-own names (place.Position position ∷ []) is in (parts.0, item-own is_number position parts.1.0)
+        let parts = paragraphs-own names (place.Position position ∷ []) is in (parts.0, item-own is_number_variable position parts.1.0)
     suited (form.DisplayBase line name) is has = has
     suited (form.Display line shown) is has = has
     suited (form.Accept line name keys) is has = has

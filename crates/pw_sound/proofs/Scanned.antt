@@ -18,28 +18,28 @@ use Rattle.pw_text.specs.Cursor.{spelling}
 use Rattle.pw_text.specs.Items as items
 use Rattle.pw_text.specs.Items.{places_at, number_item, or_equal, mark_item, number_or_mark, line_item, text_item, quoted, word_item, word_at, dollar_item, picture_of, picture_item, item_by, item_at, is_is, is_pic, without_period}
 use Rattle.pw_text.specs.Tokens.{token_of, tokens_at, tokens_in, items_from, items_of, line_after, faults_in, tokens_of}
-use Rattle.pw_text.specs.declared.item.Item.{Item}
-use Rattle.pw_text.specs.declared.item.Piece.{Piece}
-use Rattle.pw_text.specs.declared.item.Piece.TheVariants as piece
-use Rattle.pw_text.specs.declared.item.Place.{Place}
-use Rattle.pw_text.specs.declared.item.Place.TheVariants.{LineStart, InLine, BehindPic, BehindIs}
+use Rattle.pw_text.specs.declared.item.TextItem.{TextItem}
+use Rattle.pw_text.specs.declared.item.TextPiece.{TextPiece}
+use Rattle.pw_text.specs.declared.item.TextPiece.TheVariants as piece
+use Rattle.pw_text.specs.declared.item.LinePlace.{LinePlace}
+use Rattle.pw_text.specs.declared.item.LinePlace.TheVariants.{LineStart, InLine, BehindPic, BehindIs}
 use Rattle.pw_text.specs.declared.token.Token.{Token}
 use Rattle.pw_text.specs.declared.token.TokenKind.{TokenKind}
 use Rattle.pw_text.specs.declared.token.TokenKind.TheVariants as kind
 use Rattle.pw_sound.proofs.Numerals.{AreDigits, IsNumeral, point_and, signs, AreSigns, numeral-literal}
-use Rattle.pw_sound.specs.Tokens.{Says, HasNumber}
+use Rattle.pw_sound.specs.Tokens.{Says, HasSpelledNumber}
 
 -- bytes of a token of this kind: those of a number are written so
 abbrev Spells : TokenKind → List ℕ → Type 0
 Spells kind.Number bytes = IsNumeral bytes
 Spells _ bytes = Unit {0}
 
-abbrev PieceSpells : Piece → List ℕ → Type 0
+abbrev PieceSpells : TextPiece → List ℕ → Type 0
 PieceSpells (piece.Token found) bytes = Spells found bytes
 PieceSpells _ bytes = Unit {0}
 
 -- the bytes that an item takes of these
-record ItemSpells (bytes : List ℕ) (item : Item) : Type 0 where
+record ItemSpells (bytes : List ℕ) (item : TextItem) : Type 0 where
   is : PieceSpells item.piece (take item.size bytes)
 
 -- ---- a number
@@ -151,7 +151,7 @@ number-spells sign bytes signed some = by (nat_lt most_digits (run is_digit byte
 
 -- ---- what else stands in a line
 
-spells-if : (bytes : List ℕ) (b : Bool) (one other : Item) → (b ≡ true → ItemSpells bytes one) → (b ≡ false → ItemSpells bytes other) → ItemSpells bytes (if b then one else other)
+spells-if : (bytes : List ℕ) (b : Bool) (one other : TextItem) → (b ≡ true → ItemSpells bytes one) → (b ≡ false → ItemSpells bytes other) → ItemSpells bytes (if b then one else other)
 spells-if bytes true one other f g = f refl
 spells-if bytes false one other f g = g refl
 
@@ -190,13 +190,13 @@ line-spells (b ∷ bs) =
 picture-spells : (size : ℕ) (bytes : List ℕ) → ItemSpells bytes (picture_of size)
 picture-spells size bytes = spells-if bytes (size == 0) _ _ (λ _. record { is = tt }) (λ _. record { is = tt })
 
-by-spells : (place : Place) (bytes : List ℕ) → ItemSpells bytes (item_by place bytes)
+by-spells : (place : LinePlace) (bytes : List ℕ) → ItemSpells bytes (item_by place bytes)
 by-spells LineStart bytes = spells-if bytes (begins_with (λ b. b == 42) bytes) _ _ (λ _. record { is = tt }) (λ _. line-spells bytes)
 by-spells InLine bytes = line-spells bytes
 by-spells BehindPic bytes = spells-if bytes (is_is bytes) _ _ (λ _. record { is = tt }) (λ _. picture-spells (length (without_period (take_while is_picture_byte bytes))) bytes)
 by-spells BehindIs bytes = picture-spells (length (without_period (take_while is_picture_byte bytes))) bytes
 
-item-spells : (place : Place) (bytes : List ℕ) → ItemSpells bytes (item_at place bytes)
+item-spells : (place : LinePlace) (bytes : List ℕ) → ItemSpells bytes (item_at place bytes)
 unfolding item_at
 item-spells place [] = record { is = tt }
 item-spells place (b ∷ bs) = spells-if (b ∷ bs) (b == 10) _ _ (λ _. record { is = tt }) (λ _. spells-if (b ∷ bs) (b == 32 || b == 13) _ _ (λ _. record { is = tt }) (λ _. by-spells place (b ∷ bs)))
@@ -214,7 +214,7 @@ kind-spells kind.Number text bytes line at size is spells =
     subst IsNumeral (sym (ap (λ n. take n (drop (at + 0) text)) size_is ∙ ap (λ n. take size (drop n text)) at_is ∙ ap (take size) is)) spells
 kind-spells _ text bytes line at size is spells = tt
 
-piece-tokens : (found : Piece) (text bytes : List ℕ) (line at size : ℕ) → drop at text ≡ bytes → PieceSpells found (take size bytes) → Each (TokenSpells text) (tokens_at found line at (at + size))
+piece-tokens : (found : TextPiece) (text bytes : List ℕ) (line at size : ℕ) → drop at text ≡ bytes → PieceSpells found (take size bytes) → Each (TokenSpells text) (tokens_at found line at (at + size))
 piece-tokens (piece.Token found) text bytes line at size is spells = (kind-spells found text bytes line at size is spells, tt)
 piece-tokens (piece.Fault code) text bytes line at size is spells = tt
 piece-tokens piece.Gap text bytes line at size is spells = tt
@@ -223,7 +223,7 @@ piece-tokens piece.LineEnd text bytes line at size is spells = tt
 drop-next : (n : ℕ) (xs rest : List ℕ) (x : ℕ) → drop n xs ≡ x ∷ rest → drop (n + 1) xs ≡ rest
 drop-next n xs rest x is = sym (drop-drop 1 n xs) ∙ ap (drop 1) is
 
-from-spells : (text : List ℕ) (skip : ℕ) (place : Place) (at line : ℕ) (bytes : List ℕ) → drop at text ≡ bytes → Each (TokenSpells text) (tokens_in (items_from skip place at line bytes))
+from-spells : (text : List ℕ) (skip : ℕ) (place : LinePlace) (at line : ℕ) (bytes : List ℕ) → drop at text ≡ bytes → Each (TokenSpells text) (tokens_in (items_from skip place at line bytes))
 unfolding items_from
 from-spells text skip place at line [] is = tt
 from-spells text (suc skip) place at line (b ∷ bs) is = from-spells text skip place (at + 1) line bs (drop-next at text bs b is)
@@ -246,10 +246,10 @@ says : (found : TokenKind) (bytes : List ℕ) → Spells found bytes → Says fo
 says kind.Number bytes is = numeral-literal bytes is
 says _ bytes is = tt
 
-all-say : (text : List ℕ) (tokens : List Token) → Each (TokenSpells text) tokens → Each (HasNumber text) tokens
+all-say : (text : List ℕ) (tokens : List Token) → Each (TokenSpells text) tokens → Each (HasSpelledNumber text) tokens
 all-say text [] each = tt
 all-say text (token ∷ tokens) each = (says token.kind (spelling text token) each.0, all-say text tokens each.1)
 
 -- the numbers among the tokens of a text are those that they are written as
-pub tokens-say : (text : List ℕ) (first_line : ℕ) (tokens : List Token) → tokens_of text first_line ≡ Ok tokens → Each (HasNumber text) tokens
+pub tokens-say : (text : List ℕ) (first_line : ℕ) (tokens : List Token) → tokens_of text first_line ≡ Ok tokens → Each (HasSpelledNumber text) tokens
 tokens-say text first_line tokens is = all-say text tokens (tokens-spell text first_line tokens is)

@@ -4,7 +4,7 @@ use Rattle.std.specs.Prelude.{slice_get}
 use Rattle.pw_data.specs.Store.{joined}
 use Rattle.pw_forms.specs.declared.operand.Operand.{Operand}
 use Rattle.pw_operands.specs.Resolved.{Each}
-use Rattle.pw_code.specs.Entry.{Entry}
+use Rattle.pw_code.specs.Entry.{EntryLineModel}
 use Rattle.pw_code.specs.Instrs.{screen_at}
 use Rattle.pw_code.specs.declared.context.Return.{Return}
 use Rattle.pw_code.specs.declared.field.Field.{Field}
@@ -21,7 +21,7 @@ use Rattle.pw_terminal.specs.Entries.{check, with_advice}
 use Rattle.pw_terminal.specs.declared.entries.EntryAnswer.{EntryAnswer}
 use Rattle.pw_terminal.specs.declared.entries.EntryAnswer.TheVariants as found
 use Rattle.pw_source.specs.Setting.{Setting}
-use Rattle.pw_source.specs.State.{State, Out, Goes, most_counted}
+use Rattle.pw_source.specs.State.{ProgramState, Out, Goes, most_counted}
 use Rattle.pw_source.specs.Operands as operands
 use Rattle.pw_source.specs.Performs.{budget}
 use Rattle.pw_source.specs.Screens as screens
@@ -42,21 +42,21 @@ module _ (system : System) (setting : Setting) (known : Known setting.is_server 
   -- ---- DISPLAY
 
   -- cells are shown
-  pub cells_do : (at : ℕ) (rs : List Return) (s : State) (m : Marks) (i : Instr) (cells : List ℕ) → Ground setting.program s.store
+  pub cells_do : (at : ℕ) (rs : List Return) (s : ProgramState) (m : Marks) (i : Instr) (cells : List ℕ) → Ground setting.program s.store
       → slice_get (code_at system e.program).instrs at ≡ Some i
       → steps.asked_by (Some i) (asks (mach e at rs (record s { screen = cells }) m)) ≡ verb.Show
       → ((a : Answer) → puts.answered_by system (Some i) a (asks (mach e at rs (record s { screen = cells }) m)) ≡ on (puts.shown (asks (mach e at rs (record s { screen = cells }) m))))
       → Does system setting.program e (budget s) (steps.shows cells (mach e at rs s m)) s.answers (at + 1) rs (screens.shows cells s)
   cells_do at rs s m i cells ground h is same =
-      let u : State = record s { screen = cells } in
+      let u : ProgramState = record s { screen = cells } in
       verb_does system setting.program e at rs u m (at + 1) rs i verb.Show (λ a t. Goes t) h is
       (λ a given.
-      let t : State = record u { count = 0; answers = given } in
+      let t : ProgramState = record u { count = 0; answers = given } in
       subst (λ c. Does system setting.program e (budget t) c given (at + 1) rs (Goes t)) (sym (same a))
       (record { marks = record m { shown = m.shown + 1 }; ground = ground; less = omega arith; leads = stays system _ given }))
 
   -- a screen
-  pub screen_does : (base : Bool) (n : ℕ) (table : ScreenTable) (at : ℕ) (rs : List Return) (s : State) (m : Marks) → Ground setting.program s.store
+  pub screen_does : (base : Bool) (n : ℕ) (table : ScreenTable) (at : ℕ) (rs : List Return) (s : ProgramState) (m : Marks) → Ground setting.program s.store
       → screen_at system n ≡ table → Each (λ (field : Field). IsShownOf setting.program.layout field.shown) table.fields
       → slice_get (code_at system e.program).instrs at ≡ Some (instr.DisplayScreen n base)
       → Does system setting.program e (budget s) (steps.does system (instr.DisplayScreen n base) (mach e at rs s m)) s.answers (at + 1) rs (screens.display_table base (Some table) s)
@@ -69,12 +69,12 @@ module _ (system : System) (setting : Setting) (known : Known setting.is_server 
       (cells_do at rs s m (instr.DisplayScreen n base) (with_screen base (joined s.store) table s.screen) ground h refl (λ a. refl))
 
   -- an operand
-  pub operand_shown : (one : Operand) → Indexed setting.is_server setting.deck setting.program one → (at : ℕ) (rs : List Return) (s : State) (m : Marks) → Ground setting.program s.store
+  pub operand_shown : (one : Operand) → Indexed setting.is_server setting.deck setting.program one → (at : ℕ) (rs : List Return) (s : ProgramState) (m : Marks) → Ground setting.program s.store
       → slice_get (code_at system e.program).instrs at ≡ Some (instr.Display (code.operand_of setting.program.layout one))
       → Does system setting.program e (budget s) (steps.does system (instr.Display (code.operand_of setting.program.layout one)) (mach e at rs s m)) s.answers (at + 1) rs
       (operands.with_operand setting.program one s (λ found. screens.shows (with_message (operands.chars_in found s.store) s.screen) s))
   operand_shown one own at rs s m ground h =
-      taken_does system setting.program e (λ found. operands.value_in found s.store) (operands.taken setting.program s one) _ (budget s) at rs s m (at + 1) rs
+      taken_does system setting.program e (λ found. operands.value_in found s.store) (operands.operand_taken setting.program s one) _ (budget s) at rs s m (at + 1) rs
       (λ value d. steps.shows (with_message (as_it_stands value) d.rest.screen) d)
       (λ found. screens.shows (with_message (operands.chars_in found s.store) s.screen) s)
       (read-same setting.is_server setting.deck setting.program known s e.tail ground one own)
@@ -87,26 +87,26 @@ module _ (system : System) (setting : Setting) (known : Known setting.is_server 
       (each : Each (λ (field : Field). IsShownOf setting.program.layout field.shown) table.fields)
       (h : slice_get (code_at system e.program).instrs at ≡ Some (instr.Accept n keys)) where
     -- at the ACCEPT, whatever is counted
-    abbrev there : ℕ → State → Marks → Config
+    abbrev there : ℕ → ProgramState → Marks → Config
     there count s m = asks (mach e at rs (record s { count = count }) m)
 
     -- behind a wrong entry
-    abbrev wrong : State → Marks → Config
+    abbrev wrong : ProgramState → Marks → Config
     wrong s m = record (mach e at rs (record s { count = 0 }) m) { rest = record (mach e at rs (record s { count = 0 }) m).rest { mode = 1 } }
 
     abbrev Awaits : List Answer → Config → Out → Type 0
     Awaits answers c o = Does system setting.program e (most_counted * length answers) c answers (at + 1) rs o
 
     -- an entry that was looked at
-    checked : (line : Entry) (answer_is : EntryAnswer) (count : ℕ) (s : State) (m : Marks) (given : List Answer) (next : State → Out) → Ground setting.program s.store
-        → ((t : State) (k : Marks) → Ground setting.program t.store → Awaits given (wrong t k) (next t))
+    checked : (line : EntryLineModel) (answer_is : EntryAnswer) (count : ℕ) (s : ProgramState) (m : Marks) (given : List Answer) (next : ProgramState → Out) → Ground setting.program s.store
+        → ((t : ProgramState) (k : Marks) → Ground setting.program t.store → Awaits given (wrong t k) (next t))
         → Does system setting.program e (most_counted * length given + most_counted) (puts.entry_checked table line answer_is (there count s m)) given (at + 1) rs
         (screens.entry_checked table line answer_is next (record s { count = 0; answers = given }))
     checked line (found.Valid place) count s m given next ground h' =
-        let t : State = record s {
+        let t : ProgramState = record s {
           count = 0;
           answers = given;
-          store = screens.entered table.fields line.fields s.store;
+          store = screens.store_entered table.fields line.fields s.store;
           registers = record s.registers { termination = place };
         } in
         let k : Marks = record m { entries = m.entries + 1 } in
@@ -121,22 +121,22 @@ module _ (system : System) (setting : Setting) (known : Known setting.is_server 
               (stays system (mach e (at + 1) rs t k) given);
         }
     checked line found.BadKey count s m given next ground h' =
-        let t : State = record s { count = 0; answers = given; screen = with_advice found.BadKey line s.screen } in
+        let t : ProgramState = record s { count = 0; answers = given; screen = with_advice found.BadKey line s.screen } in
         weaker system setting.program e (most_counted * length given) (most_counted * length given + most_counted) _ given (at + 1) rs (next t) (omega arith)
         (h' t (record m { entries = m.entries + 1 }) ground)
     checked line (found.BadField place) count s m given next ground h' =
-        let t : State = record s { count = 0; answers = given; screen = with_advice (found.BadField place) line s.screen } in
+        let t : ProgramState = record s { count = 0; answers = given; screen = with_advice (found.BadField place) line s.screen } in
         weaker system setting.program e (most_counted * length given) (most_counted * length given + most_counted) _ given (at + 1) rs (next t) (omega arith)
         (h' t (record m { entries = m.entries + 1 }) ground)
 
     -- what is no entry
-    passes : (count : ℕ) (s : State) (m : Marks) (given : List Answer) → Ground setting.program s.store
+    passes : (count : ℕ) (s : ProgramState) (m : Marks) (given : List Answer) → Ground setting.program s.store
         → Does system setting.program e (most_counted * length given + most_counted) (puts.passed (there count s m)) given (at + 1) rs (Goes (record s { count = 0; answers = given }))
     passes count s m given ground = record { marks = m; ground = ground; less = omega arith; leads = stays system _ given }
 
     -- an answer
-    taken : (a : Answer) (count : ℕ) (s : State) (m : Marks) (given : List Answer) (next : State → Out) → Ground setting.program s.store
-        → ((t : State) (k : Marks) → Ground setting.program t.store → Awaits given (wrong t k) (next t))
+    taken : (a : Answer) (count : ℕ) (s : ProgramState) (m : Marks) (given : List Answer) (next : ProgramState → Out) → Ground setting.program s.store
+        → ((t : ProgramState) (k : Marks) → Ground setting.program t.store → Awaits given (wrong t k) (next t))
         → Does system setting.program e (most_counted * length given + most_counted) (puts.entry_put table keys a (there count s m)) given (at + 1) rs
         (screens.entry_taken table keys a next (record s { count = 0; answers = given }))
     taken (answer.Entry line) count s m given next ground h' = checked line (check table keys line) count s m given next ground h'
@@ -149,7 +149,7 @@ module _ (system : System) (setting : Setting) (known : Known setting.is_server 
     taken (answer.FileDone status content) count s m given next ground h' = passes count s m given ground
 
     mutual
-      pub awaited_does : (answers : List Answer) (count : ℕ) (s : State) (m : Marks) → Ground setting.program s.store
+      pub awaited_does : (answers : List Answer) (count : ℕ) (s : ProgramState) (m : Marks) → Ground setting.program s.store
           → Awaits answers (there count s m) (screens.awaited table keys (verb.Accept n) answers s)
       awaited_does [] count s m ground =
           record { steps = 0; last = there count s m; comes = refl; stands = refl; asks_it = ap (λ o. steps.asked_by o (there count s m)) h; shows = refl }
@@ -161,11 +161,11 @@ module _ (system : System) (setting : Setting) (known : Known setting.is_server 
           (subst (λ (one : ScreenTable). Does system setting.program e (most_counted * length answers + most_counted) (puts.entry_put one keys a (there count s m)) answers (at + 1) rs o) (sym is)
           (taken a count s m answers (screens.advised table keys (verb.Accept n) answers) ground (λ t k t_ground. advised_does answers t k t_ground))))
 
-      pub advised_does : (answers : List Answer) (s : State) (m : Marks) → Ground setting.program s.store
+      pub advised_does : (answers : List Answer) (s : ProgramState) (m : Marks) → Ground setting.program s.store
           → Awaits answers (wrong s m) (screens.advised table keys (verb.Accept n) answers s)
       advised_does [] s m ground = record { steps = 1; last = asks (wrong s m); comes = refl; stands = refl; asks_it = refl; shows = refl }
       advised_does (a ∷ answers) s m ground =
-          let t : State = record s { count = 0; answers = answers } in
+          let t : ProgramState = record s { count = 0; answers = answers } in
           let k : Marks = record m { shown = m.shown + 1 } in
           let o : Out = screens.awaited table keys (verb.Accept n) answers t in
           weaker system setting.program e (most_counted * length answers) (most_counted * length (a ∷ answers)) (wrong s m) (a ∷ answers) (at + 1) rs o (omega arith)
@@ -173,7 +173,7 @@ module _ (system : System) (setting : Setting) (known : Known setting.is_server 
           (λ j. (suc (suc (suc j)), ap (λ i. run system j (steps.act system i (mach e at rs t k)) answers) h))
           (awaited_does answers 1 t k ground))
 
-    pub accept_does : (s : State) (m : Marks) → Ground setting.program s.store
+    pub accept_does : (s : ProgramState) (m : Marks) → Ground setting.program s.store
         → Does system setting.program e (budget s) (asks (mach e at rs s m)) s.answers (at + 1) rs (screens.awaited table keys (verb.Accept n) s.answers s)
     accept_does s m ground =
         weaker system setting.program e (most_counted * length s.answers) (budget s) (asks (mach e at rs s m)) s.answers (at + 1) rs (screens.awaited table keys (verb.Accept n) s.answers s) (omega arith)

@@ -6,7 +6,7 @@ use Rattle.std.proofs.lemmas.Option.{same_Some}
 use Rattle.pw_base.proofs.Plain.{or-true}
 use Rattle.pw_words.specs.Words.{Word}
 use Rattle.pw_data.specs.Store.{joined}
-use Rattle.pw_forms.specs.declared.lists.Code.{Code}
+use Rattle.pw_forms.specs.declared.lists.SendCode.{SendCode}
 use Rattle.pw_forms.specs.declared.operand.Operand.{Operand}
 use Rattle.pw_operands.specs.Resolved.{Each}
 use Rattle.pw_code.specs.declared.context.Context.{Context}
@@ -15,18 +15,18 @@ use Rattle.pw_code.specs.declared.file.FileCall.{FileCall}
 use Rattle.pw_code.specs.declared.instr.Instr.{Instr}
 use Rattle.pw_code.specs.declared.instr.Instr.TheVariants as instr
 use Rattle.pw_code.specs.declared.instr.ReplyCode.{ReplyCode}
-use Rattle.pw_code.specs.declared.place.Place.{Place}
+use Rattle.pw_code.specs.declared.place.StoragePlace.{StoragePlace}
 use Rattle.pw_code.specs.declared.system.System.{System}
 use Rattle.pw_code.specs.declared.verb.Answer.{Answer}
 use Rattle.pw_code.specs.declared.verb.Answer.TheVariants as answer
 use Rattle.pw_code.specs.declared.verb.Verb.TheVariants as verb
 use Rattle.pw_source.specs.Program.{class_number}
 use Rattle.pw_source.specs.Setting.{Setting}
-use Rattle.pw_source.specs.State.{State, Registers, Out, Goes, Leaves, Asks}
+use Rattle.pw_source.specs.State.{ProgramState, Registers, Out, Goes, Leaves, Asks}
 use Rattle.pw_source.specs.State as source
 use Rattle.pw_source.specs.Store.{Spot}
 use Rattle.pw_source.specs.Operands as operands
-use Rattle.pw_source.specs.Operands.{Taken, spot_in}
+use Rattle.pw_source.specs.Operands.{ResolvedOperand, spot_in}
 use Rattle.pw_source.specs.Performs.{budget}
 use Rattle.pw_source.specs.Files as files
 use Rattle.pw_source.specs.Moves as moving
@@ -97,22 +97,22 @@ module _ (system : System) (setting : Setting) (known : Known setting.is_server 
   abbrev Own : Operand → Type 0
   Own one = Indexed setting.is_server setting.deck setting.program one
 
-  each-spots : (u : State) (targets : List Taken) → Each (TakenSits u.store) targets → Each (Sits u.store) (map spot_in targets)
+  each-spots : (u : ProgramState) (targets : List ResolvedOperand) → Each (TakenSits u.store) targets → Each (Sits u.store) (map spot_in targets)
   each-spots u [] all = tt
   each-spots u (target ∷ targets) all = (spot-sits u.store target all.0, each-spots u targets all.1)
 
   -- ---- SEND
 
-  yields-same : (codes : List Code) → map (λ (one : ReplyCode). one.yields) (map (reply_code (plan_in setting)) codes) ≡ map (code.place_in setting.program.layout) (sends.yields_of codes)
+  yields-same : (codes : List SendCode) → map (λ (one : ReplyCode). one.yields) (map (reply_code (plan_in setting)) codes) ≡ map (code.place_in setting.program.layout) (sends.yields_of codes)
   yields-same [] = refl
-  yields-same (one ∷ ones) = ap (λ (rest : List Place). code.place_in setting.program.layout one.yields ∷ rest) (yields-same ones)
+  yields-same (one ∷ ones) = ap (λ (rest : List StoragePlace). code.place_in setting.program.layout one.yields ∷ rest) (yields-same ones)
 
   -- behind a reply, which may have been a unit
-  pub record Replied (at : ℕ) (rs : List Return) (t : State) (m : Marks) : Type 0 where
+  pub record Replied (at : ℕ) (rs : List Return) (t : ProgramState) (m : Marks) : Type 0 where
     pub marks : Marks
     pub is : puts.reply_taken (asks (mach e at rs t m)).rest ≡ (mach e at rs (record t { count = 0 }) marks).rest
 
-  replied-by : (at : ℕ) (rs : List Return) (t : State) (m : Marks) (b : Bool) → t.in_unit ≡ b → Replied at rs t m
+  replied-by : (at : ℕ) (rs : List Return) (t : ProgramState) (m : Marks) (b : Bool) → t.in_unit ≡ b → Replied at rs t m
   replied-by at rs t m true inside =
       record { marks = m; is = ap (λ b. if b then puts.answered (asks (mach e at rs t m)).rest else puts.unit_ended (asks (mach e at rs t m)).rest) inside }
   replied-by at rs t m false inside =
@@ -122,7 +122,7 @@ module _ (system : System) (setting : Setting) (known : Known setting.is_server 
             ∙ ap (λ b. record (puts.unit_ended (asks (mach e at rs t m)).rest) { in_unit = b }) (sym inside);
       }
 
-  module _ (codes : List Code) (items : List Spot) (at : ℕ) (rs : List Return) (t : State) (m : Marks) (ground : Ground setting.program t.store)
+  module _ (codes : List SendCode) (items : List Spot) (at : ℕ) (rs : List Return) (t : ProgramState) (m : Marks) (ground : Ground setting.program t.store)
       (sit : Each (Sits t.store) items)
       (all : spots_of t.registers (joined t.store ++ e.tail) (map (λ (one : ReplyCode). one.yields) (map (reply_code (plan_in setting)) codes)) ≡ Some items)
       (behind : slice_get (code_at system e.program).instrs (at + 1) ≡ Some instr.NoCode) where
@@ -134,14 +134,14 @@ module _ (system : System) (setting : Setting) (known : Known setting.is_server 
 
     -- the code that a reply has, with the item to which it goes
     found-same : (reply : List ℕ) → option_and_then (puts.spot_among at_send ones) (puts.place_among ones reply) ≡ sends.found_by codes items reply
-    found-same reply = by-code (sends.code_of reply)
+    found-same reply = by-code (sends.code_in_reply reply)
       where
         by-place : (o : Option ℕ) → option_and_then (puts.spot_among at_send ones) o ≡ option_and_then (sends.item_at items) o
         by-place None = refl
         by-place (Some i) = spot-at t.registers (joined t.store ++ e.tail) ones items i all
 
         by-code : (o : Option ℕ) → option_and_then (puts.spot_among at_send ones) (option_and_then (λ number. position (λ (one : ReplyCode). one.number == number) ones) o)
-            ≡ option_and_then (sends.item_at items) (option_and_then (sends.place_of codes) o)
+            ≡ option_and_then (sends.item_at items) (option_and_then (sends.reply_code_place codes) o)
         by-code None = refl
         by-code (Some number) =
             by-place (position (λ (one : ReplyCode). one.number == number) ones)
@@ -158,17 +158,17 @@ module _ (system : System) (setting : Setting) (known : Known setting.is_server 
             subst (λ (pair : ℕ × Spot). Sits t.store pair.1) (same_Some (numbered i spot) found is') (each-got (Sits t.store) items i spot sit got)
 
     yielded_does : (reply : List ℕ) (given : List Answer) (o : Option (ℕ × Spot)) → ((found : ℕ × Spot) → o ≡ Some found → Sits t.store found.1)
-        → let u : State = record t { count = 0; answers = given } in
+        → let u : ProgramState = record t { count = 0; answers = given } in
         Does system setting.program e (budget u) (puts.yielded o reply at_send) given (at + 1 + 1) rs (sends.yielded o reply u)
     yielded_does reply given None sits =
-        let u : State = record t { count = 0; answers = given } in
+        let u : ProgramState = record t { count = 0; answers = given } in
         let r = replied-by at rs t m t.in_unit refl in
         subst (λ (rest : Context). Does system setting.program e (budget u) (on (record at_send { rest = rest })) given (at + 1 + 1) rs (source.faults 204 u)) (sym r.is)
         (after system setting.program e (budget u) (mach e (at + 1) rs u r.marks) (faults 204 (mach e (at + 1) rs u r.marks)) given given (at + 1 + 1) rs (source.faults 204 u)
         (one system e (at + 1) rs u r.marks given (Some instr.NoCode) behind) (fault_ends system setting.program e (mach e (at + 1) rs u r.marks) given 204 refl))
     yielded_does reply given (Some found) sits =
-        let u : State = record t { count = 0; answers = given } in
-        let v : State = moving.move_text reply found.1 (record u { registers = record u.registers { termination = found.0 + 1 } }) in
+        let u : ProgramState = record t { count = 0; answers = given } in
+        let v : ProgramState = moving.move_text reply found.1 (record u { registers = record u.registers { termination = found.0 + 1 } }) in
         let r = replied-by at rs t m t.in_unit refl in
         let c : List ℕ → Context → Config = λ storage rest. over 1 (record (with_storage storage at_send) { rest = record rest { termination = found.0 + 1 } }) in
         subst (λ (rest : Context). Does system setting.program e (budget u) (c (moves.move_text reply found.1 (joined t.store ++ e.tail)) rest) given (at + 1 + 1) rs (Goes v)) (sym r.is)
@@ -181,19 +181,19 @@ module _ (system : System) (setting : Setting) (known : Known setting.is_server 
           leads = stays system (mach e (at + 1 + 1) rs v r.marks) given;
         }))
 
-    passes : (given : List Answer) → let u : State = record t { count = 0; answers = given } in
+    passes : (given : List Answer) → let u : ProgramState = record t { count = 0; answers = given } in
         Does system setting.program e (budget u) (over 1 (record at_send { rest = puts.answered at_send.rest })) given (at + 1 + 1) rs (Goes u)
     passes given = record { marks = m; ground = ground; less = omega arith; leads = stays system _ given }
 
-    reply_does : (a : Answer) (given : List Answer) → let u : State = record t { count = 0; answers = given } in
-        Does system setting.program e (budget u) (puts.reply_put ones a at_send) given (at + 1 + 1) rs (sends.replied codes items a u)
+    reply_does : (a : Answer) (given : List Answer) → let u : ProgramState = record t { count = 0; answers = given } in
+        Does system setting.program e (budget u) (puts.reply_put ones a at_send) given (at + 1 + 1) rs (sends.after_send_answer codes items a u)
     reply_does (answer.Replied reply) given =
-        let u : State = record t { count = 0; answers = given } in
+        let u : ProgramState = record t { count = 0; answers = given } in
         subst (λ o. Does system setting.program e (budget u) (puts.yielded o reply at_send) given (at + 1 + 1) rs (sends.yielded (sends.found_by codes items reply) reply u)) (sym (found-same reply))
         (yielded_does reply given (sends.found_by codes items reply)
-        (λ found is. found-sits (option_and_then (sends.place_of codes) (sends.code_of reply)) found is))
+        (λ found is. found-sits (option_and_then (sends.reply_code_place codes) (sends.code_in_reply reply)) found is))
     reply_does (answer.Failed x) given =
-        let u : State = record t { count = 0; answers = given } in
+        let u : ProgramState = record t { count = 0; answers = given } in
         let c : Config = mach e at rs u m in
         let told : Config = record c { rest = record c.rest { mode = 2 } } in
         after system setting.program e (budget u) (puts.failed x at_send) (faults x told) given given (at + 1 + 1) rs (source.faults x u)
@@ -206,8 +206,8 @@ module _ (system : System) (setting : Setting) (known : Known setting.is_server 
     reply_does (answer.FileDone status content) given = passes given
 
   -- the message and the items of YIELDS are taken, and the reply is awaited
-  pub send_does : (message : Operand) (class : Word) (number : ℕ) (codes : List Code) → number ≡ class_number setting.deck class → Own message → Each Own (sends.yields_of codes)
-      → (at : ℕ) (rs : List Return) (t : State) (m : Marks) → Ground setting.program t.store
+  pub send_does : (message : Operand) (class : Word) (number : ℕ) (codes : List SendCode) → number ≡ class_number setting.deck class → Own message → Each Own (sends.yields_of codes)
+      → (at : ℕ) (rs : List Return) (t : ProgramState) (m : Marks) → Ground setting.program t.store
       → slice_get (code_at system e.program).instrs at
       ≡ Some (instr.Send number (code.operand_of setting.program.layout message) (map (reply_code (plan_in setting)) codes))
       → slice_get (code_at system e.program).instrs (at + 1) ≡ Some instr.NoCode
@@ -219,18 +219,18 @@ module _ (system : System) (setting : Setting) (known : Known setting.is_server 
       ≡ option_map (map spot_in) (operands.taken_all setting.program t (sends.yields_of codes)) =
       ap (spots_of t.registers (joined t.store ++ e.tail)) (yields-same codes)
       ∙ spots-same setting.is_server setting.deck setting.program known t e.tail ground (sends.yields_of codes) all in
-      taken_does system setting.program e (λ found. found) (operands.taken setting.program t message) _ (budget t) at rs t m (at + 1 + 1) rs
+      taken_does system setting.program e (λ found. found) (operands.operand_taken setting.program t message) _ (budget t) at rs t m (at + 1 + 1) rs
       (λ found. with_taken (spots_of t.registers (joined t.store ++ e.tail) (map (λ (one : ReplyCode). one.yields) (map (reply_code (plan_in setting)) codes))) (λ items. asks))
       (λ found. operands.with_operands setting.program (sends.yields_of codes) t (λ items.
-      source.asks (verb.Send (class_number setting.deck class) (operands.chars_in found t.store)) (sends.replied codes (map spot_in items)) t))
-      (taken-same setting.is_server setting.deck setting.program known t e.tail ground message own ∙ same-map (operands.taken setting.program t message))
+      source.asks (verb.Send (class_number setting.deck class) (operands.chars_in found t.store)) (sends.after_send_answer codes (map spot_in items)) t))
+      (taken-same setting.is_server setting.deck setting.program known t e.tail ground message own ∙ same-map (operands.operand_taken setting.program t message))
       (λ found taken_is.
       taken_does system setting.program e (map spot_in) (operands.taken_all setting.program t (sends.yields_of codes)) _ (budget t) at rs t m (at + 1 + 1) rs
       (λ items. asks)
-      (λ items. source.asks (verb.Send (class_number setting.deck class) (operands.chars_in found t.store)) (sends.replied codes (map spot_in items)) t)
+      (λ items. source.asks (verb.Send (class_number setting.deck class) (operands.chars_in found t.store)) (sends.after_send_answer codes (map spot_in items)) t)
       items_same
       (λ items items_are.
-      verb_does system setting.program e at rs t m (at + 1 + 1) rs i (verb.Send (class_number setting.deck class) (operands.chars_in found t.store)) (sends.replied codes (map spot_in items)) h
+      verb_does system setting.program e at rs t m (at + 1 + 1) rs i (verb.Send (class_number setting.deck class) (operands.chars_in found t.store)) (sends.after_send_answer codes (map spot_in items)) h
       (ap (λ o. verb.Send number (steps.chars_by o))
       (read-same setting.is_server setting.deck setting.program known t e.tail ground message own ∙ ap (option_map (λ x. operands.value_in x t.store)) taken_is)
       ∙ ap (λ n. verb.Send n (operands.chars_in found t.store)) same)
@@ -243,9 +243,9 @@ module _ (system : System) (setting : Setting) (known : Known setting.is_server 
 
   module _ (not_alone : setting.alone ≡ false) where
     -- an operation is asked
-    pub operation_asked : (i : Instr) (into : Option Spot) (call : FileCall) (at : ℕ) (rs : List Return) (t : State) (m : Marks)
+    pub operation_asked : (i : Instr) (into : Option Spot) (call : FileCall) (at : ℕ) (rs : List Return) (t : ProgramState) (m : Marks)
         → slice_get (code_at system e.program).instrs at ≡ Some i → steps.asked_by (Some i) (asks (mach e at rs t m)) ≡ verb.File call
-        → ((a : Answer) (given : List Answer) → let u : State = record t { answers = given } in
+        → ((a : Answer) (given : List Answer) → let u : ProgramState = record t { answers = given } in
         Does system setting.program e (budget u) (puts.answered_by system (Some i) a (asks (mach e at rs t m))) given (at + 1) rs (files.file_answered into a u))
         → Does system setting.program e (budget t) (asks (mach e at rs t m)) t.answers (at + 1) rs (files.operates setting call into t)
     operation_asked i into call at rs t m h v next =
@@ -255,7 +255,7 @@ module _ (system : System) (setting : Setting) (known : Known setting.is_server 
         by : (given : List Answer) → t.answers ≡ given → Does system setting.program e (budget t) (asks (mach e at rs t m)) given (at + 1) rs (files.operation_asked call into given t)
         by [] answers_are = record { steps = 0; last = asks (mach e at rs t m); comes = refl; stands = refl; asks_it = ap (λ o. steps.asked_by o (asks (mach e at rs t m))) h ∙ v; shows = refl }
         by (a ∷ given) answers_are =
-            let u : State = record t { answers = given } in
+            let u : ProgramState = record t { answers = given } in
             let longer : length t.answers ≡ length (a ∷ given) = ap length answers_are in
             weaker system setting.program e (budget u) (budget t) (asks (mach e at rs t m)) (a ∷ given) (at + 1) rs (files.file_answered into a u) (omega (arith, longer))
             (after system setting.program e (budget u) (asks (mach e at rs t m)) (puts.answered_by system (Some i) a (asks (mach e at rs t m))) (a ∷ given) given (at + 1) rs (files.file_answered into a u)
@@ -263,21 +263,21 @@ module _ (system : System) (setting : Setting) (known : Known setting.is_server 
             (next a given))
 
     -- a record that was read
-    read_answered : (at : ℕ) (rs : List Return) (t : State) (m : Marks) (place : Place) (into : Spot) → Ground setting.program t.store → Sits t.store into
+    read_answered : (at : ℕ) (rs : List Return) (t : ProgramState) (m : Marks) (place : StoragePlace) (into : Spot) → Ground setting.program t.store → Sits t.store into
         → spot_of t.registers (joined t.store ++ e.tail) place ≡ Some into → (a : Answer) (given : List Answer)
-        → let u : State = record t { answers = given } in
+        → let u : ProgramState = record t { answers = given } in
         Does system setting.program e (budget u) (puts.read_put place a (asks (mach e at rs t m))) given (at + 1) rs (files.file_answered (Some into) a u)
     read_answered at rs t m place into ground sits is (answer.FileDone status content) given =
-        let u : State = record t { answers = given } in
+        let u : ProgramState = record t { answers = given } in
         subst (λ o. Does system setting.program e (budget u) (puts.file_done o status content (asks (mach e at rs t m))) given (at + 1) rs (files.file_done (Some into) status content u)) (sym is)
         (by-content content)
       where
-        by-status : (b : Bool) (chars : List ℕ) → let u : State = record t { answers = given; registers = record t.registers { file_status = status } } in
+        by-status : (b : Bool) (chars : List ℕ) → let u : ProgramState = record t { answers = given; registers = record t.registers { file_status = status } } in
             Does system setting.program e (budget u)
             (on (record (with_storage (if b then moves.move_text chars into (joined t.store ++ e.tail) else joined t.store ++ e.tail) (asks (mach e at rs t m))) { rest = record (asks (mach e at rs t m)).rest { at_verb = false; file_status = status } }))
             given (at + 1) rs (Goes (if b then moving.move_text chars into u else u))
         by-status true chars =
-            let u : State = record t { answers = given; registers = record t.registers { file_status = status } } in
+            let u : ProgramState = record t { answers = given; registers = record t.registers { file_status = status } } in
             subst (λ (storage : List ℕ). Does system setting.program e (budget u) (on (record (with_storage storage (asks (mach e at rs t m))) { rest = record (asks (mach e at rs t m)).rest { at_verb = false; file_status = status } })) given (at + 1) rs (Goes (moving.move_text chars into u)))
             (sym (move-same (Text' chars) into t.store e.tail sits))
             (record {
@@ -288,7 +288,7 @@ module _ (system : System) (setting : Setting) (known : Known setting.is_server 
             })
         by-status false chars = record { marks = m; ground = ground; less = omega arith; leads = stays system _ given }
 
-        by-content : (o : Option (List ℕ)) → let u : State = record t { answers = given } in
+        by-content : (o : Option (List ℕ)) → let u : ProgramState = record t { answers = given } in
             Does system setting.program e (budget u) (puts.file_done (Some into) status o (asks (mach e at rs t m))) given (at + 1) rs (files.file_done (Some into) status o u)
         by-content None = record { marks = m; ground = ground; less = omega arith; leads = stays system _ given }
         by-content (Some chars) = by-status (status == 0) chars
@@ -300,28 +300,28 @@ module _ (system : System) (setting : Setting) (known : Known setting.is_server 
     read_answered at rs t m place into ground sits is answer.Ended given = record { marks = m; ground = ground; less = omega arith; leads = stays system _ given }
     read_answered at rs t m place into ground sits is answer.Dropped given = record { marks = m; ground = ground; less = omega arith; leads = stays system _ given }
 
-    pub read_does : (key into : Operand) → Own key → Own into → (at : ℕ) (rs : List Return) (t : State) (m : Marks) → Ground setting.program t.store → (i : Instr)
+    pub read_does : (key into : Operand) → Own key → Own into → (at : ℕ) (rs : List Return) (t : ProgramState) (m : Marks) → Ground setting.program t.store → (i : Instr)
         → slice_get (code_at system e.program).instrs at ≡ Some i → (call_of : List ℕ → FileCall)
-        → ((found : Taken) → steps.read_here (asks (mach e at rs t m)) (code.operand_of setting.program.layout key) ≡ Some (operands.value_in found t.store)
+        → ((found : ResolvedOperand) → steps.read_here (asks (mach e at rs t m)) (code.operand_of setting.program.layout key) ≡ Some (operands.value_in found t.store)
         → steps.asked_by (Some i) (asks (mach e at rs t m)) ≡ verb.File (call_of (operands.chars_in found t.store)))
         → ((a : Answer) → puts.answered_by system (Some i) a (asks (mach e at rs t m)) ≡ puts.read_put (code.place_in setting.program.layout into) a (asks (mach e at rs t m)))
         → Does system setting.program e (budget t) (steps.reads (code.operand_of setting.program.layout key) (code.place_in setting.program.layout into) (mach e at rs t m)) t.answers (at + 1) rs
         (operands.with_operand setting.program key t (λ found. operands.with_operand setting.program into t (λ item.
         files.operates setting (call_of (operands.chars_in found t.store)) (Some (spot_in item)) t)))
     read_does key into own own_into at rs t m ground i h call_of asked same =
-        taken_does system setting.program e (λ found. found) (operands.taken setting.program t key) _ (budget t) at rs t m (at + 1) rs
+        taken_does system setting.program e (λ found. found) (operands.operand_taken setting.program t key) _ (budget t) at rs t m (at + 1) rs
         (λ found. with_taken (spot_of t.registers (joined t.store ++ e.tail) (code.place_in setting.program.layout into)) (λ item. asks))
         (λ found. operands.with_operand setting.program into t (λ item. files.operates setting (call_of (operands.chars_in found t.store)) (Some (spot_in item)) t))
-        (taken-same setting.is_server setting.deck setting.program known t e.tail ground key own ∙ same-map (operands.taken setting.program t key))
+        (taken-same setting.is_server setting.deck setting.program known t e.tail ground key own ∙ same-map (operands.operand_taken setting.program t key))
         (λ found taken_is.
-        taken_does system setting.program e spot_in (operands.taken setting.program t into) _ (budget t) at rs t m (at + 1) rs
+        taken_does system setting.program e spot_in (operands.operand_taken setting.program t into) _ (budget t) at rs t m (at + 1) rs
         (λ item. asks) (λ item. files.operates setting (call_of (operands.chars_in found t.store)) (Some (spot_in item)) t)
         (spot-same setting.is_server setting.deck setting.program known t e.tail ground into own_into)
         (λ item item_is.
         operation_asked i (Some (spot_in item)) (call_of (operands.chars_in found t.store)) at rs t m h
         (asked found (read-same setting.is_server setting.deck setting.program known t e.tail ground key own ∙ ap (option_map (λ x. operands.value_in x t.store)) taken_is))
         (λ a given.
-        let u : State = record t { answers = given } in
+        let u : ProgramState = record t { answers = given } in
         subst (λ c. Does system setting.program e (budget u) c given (at + 1) rs (files.file_answered (Some (spot_in item)) a u)) (sym (same a))
         (read_answered at rs t m (code.place_in setting.program.layout into) (spot_in item) ground
         (spot-sits t.store item (taken-sits setting.is_server setting.deck setting.program known t e.tail ground into item item_is))

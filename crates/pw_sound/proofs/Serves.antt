@@ -12,20 +12,20 @@ use Rattle.pw_code.specs.declared.verb.Verb.TheVariants as verb
 use Rattle.pw_exec.specs.Answers.{put}
 use Rattle.pw_exec.specs.Config.{Config, starting_server}
 use Rattle.pw_exec.specs.OfSystem as code
-use Rattle.pw_exec.specs.Runs.{Run, after, at_verb, Comes, run, runs, most_steps}
+use Rattle.pw_exec.specs.Runs.{Run, config_after_answers, at_verb, Comes, run, runs, most_steps}
 use Rattle.pw_exec.specs.Steps.{step, verb_of}
 use Rattle.pw_exec.proofs.Bounds.{after_server, after_is, put_shallow, server_shallow}
 use Rattle.pw_exec.proofs.Progress.{Shallow, step_progress}
 use Rattle.pw_onecopy.specs.Behaviour.{Served}
 use Rattle.pw_onecopy.specs.Operation.{answer_of, records_behind}
-use Rattle.pw_onecopy.specs.Path.{FileAnswer}
+use Rattle.pw_onecopy.specs.Path.{FileResult}
 use Rattle.pw_onecopy.specs.Update.{upd}
 use Rattle.pw_source.specs.OfDeck as tree
-use Rattle.pw_source.specs.Program.{Deck, program_at, key_length}
+use Rattle.pw_source.specs.Program.{DeckModel, program_at, key_length}
 use Rattle.pw_source.specs.Runs as source
 use Rattle.pw_source.specs.Runs.{file_told, server_setting, server_run, start}
-use Rattle.pw_source.specs.Sound.{IsSound}
-use Rattle.pw_source.specs.State.{State, Asks, most_counted}
+use Rattle.pw_source.specs.Sound.{IsSoundDeck}
+use Rattle.pw_source.specs.State.{ProgramState, Asks, most_counted}
 use Rattle.pw_onecopy.specs.IsBehaviour.{IsBehaviour}
 use Rattle.pw_source.proofs.Behaviours.{sound-behaviour}
 use Rattle.pw_source.proofs.Servers.{server-found, no_files}
@@ -39,7 +39,7 @@ use Rattle.pw_sound.proofs.Behaves.{server-answers, server-there, ask-is, image-
 use Rattle.pw_sound.proofs.Split.{splits}
 
 -- of runs with at most so many answers, also by themselves
-abbrev pub any_rules : Deck → ℕ → Rules
+abbrev pub any_rules : DeckModel → ℕ → Rules
 any_rules deck most = record {
   deck = deck;
   most = most;
@@ -73,7 +73,7 @@ run-shallow system (suc n) c answers s =
     pick false q one more = more q
 
 -- a server's last verb
-last : (system : System) (v : Verb) → ((call : FileCall) → v ≡ verb.File call → ⊥) → (c : Config) (now : Files) (next : Config → Files → Served) (s : State)
+last : (system : System) (v : Verb) → ((call : FileCall) → v ≡ verb.File call → ⊥) → (c : Config) (now : Files) (next : Config → Files → Served) (s : ProgramState)
     → code.served_by system v c now next ≡ source.served_by (Asks v (at [] now s))
 last system verb.Show never c now next s = refl
 last system (verb.Accept screen) never c now next s = refl
@@ -90,7 +90,7 @@ last system (verb.Reply reply) never c now next s = refl
 no-file : (v : Verb) → TakesNone v → (call : FileCall) → v ≡ verb.File call → ⊥
 no-file v none call e = subst TakesNone e none
 
-module _ (rule : LockRule) (deck : Deck) (sound : IsSound deck) (fitting : AreFitting deck) (valid : IsValid (system_of rule deck))
+module _ (rule : LockRule) (deck : DeckModel) (sound : IsSoundDeck deck) (fitting : AreFitting deck) (valid : IsValid (system_of rule deck))
     (class : ClassInfo) (there : class.server < length deck.servers) (message : List ℕ) where
   abbrev system : System
   system = system_of rule deck
@@ -99,28 +99,28 @@ module _ (rule : LockRule) (deck : Deck) (sound : IsSound deck) (fitting : AreFi
   began = starting_server system class.server message
 
   -- where the code stands behind some answers
-  abbrev stood : List FileAnswer → Config
+  abbrev stood : List FileResult → Config
   stood done = code.server_after system class message done
 
-  abbrev answered : (done : List FileAnswer) → AnswersAs system began (map file_told done) (server_run (server_setting deck class.server message false) (start (program_at deck.servers class.server) (map file_told done)))
+  abbrev answered : (done : List FileResult) → AnswersAs system began (map file_told done) (server_run (server_setting deck class.server message false) (start (program_at deck.servers class.server) (map file_told done)))
   answered done = server-answers rule deck sound fitting class.server there message done
 
-  stood-is : (done : List FileAnswer) → stood done ≡ (answered done).at
+  stood-is : (done : List FileResult) → stood done ≡ (answered done).at
   stood-is done = after_server system class.server message (map file_told done) (answered done).at valid (answered done).comes (answered done).stands
 
-  comes-stood : (done : List FileAnswer) → Comes system began (map file_told done) (stood done)
+  comes-stood : (done : List FileResult) → Comes system began (map file_told done) (stood done)
   comes-stood done = subst (λ c. Comes system began (map file_told done) c) (sym (stood-is done)) (answered done).comes
 
-  stands-stood : (done : List FileAnswer) → at_verb (stood done) ≡ true
+  stands-stood : (done : List FileResult) → at_verb (stood done) ≡ true
   stands-stood done = subst (λ c. at_verb c ≡ true) (sym (stood-is done)) (answered done).stands
 
-  shallow-stood : (done : List FileAnswer) → Shallow (stood done)
+  shallow-stood : (done : List FileResult) → Shallow (stood done)
   shallow-stood done =
       run-shallow system (most_steps * (length (map file_told done) + 1)) began (map file_told done) (server_shallow system class.server message)
 
   -- one answer more
-  goes-on : (done : List FileAnswer) (found : FileAnswer)
-      → after system (put system (file_told found) (stood done)) [] ≡ stood (done ++ found ∷ [])
+  goes-on : (done : List FileResult) (found : FileResult)
+      → config_after_answers system (put system (file_told found) (stood done)) [] ≡ stood (done ++ found ∷ [])
   goes-on done found =
       let more = comes-stood (done ++ found ∷ []) in
       let told : map file_told (done ++ found ∷ []) ≡ map file_told done ++ file_told found ∷ [] = map-append file_told done (found ∷ []) in
@@ -133,17 +133,17 @@ module _ (rule : LockRule) (deck : Deck) (sound : IsSound deck) (fitting : AreFi
   r = any_rules deck most_counted
 
   -- what is asked without a further answer
-  asks-now : (t : Tree) (done : List FileAnswer) → length done ≤ most_counted
-      → ((rest : List FileAnswer) → length (done ++ rest) ≤ most_counted → verb_of system (stood (done ++ rest)) ≡ source.verb_of (play t (map file_told rest) no_files))
+  asks-now : (t : Tree) (done : List FileResult) → length done ≤ most_counted
+      → ((rest : List FileResult) → length (done ++ rest) ≤ most_counted → verb_of system (stood (done ++ rest)) ≡ source.verb_of (play t (map file_told rest) no_files))
       → verb_of system (stood done) ≡ source.verb_of (play t [] no_files)
   asks-now t done most asks =
-      ap (λ (xs : List FileAnswer). verb_of system (stood xs)) (sym (append-nil done))
-      ∙ asks [] (let P : List FileAnswer → Type 0 = λ xs. length xs ≤ most_counted in subst P (sym (append-nil done)) most)
+      ap (λ (xs : List FileResult). verb_of system (stood xs)) (sym (append-nil done))
+      ∙ asks [] (let P : List FileResult → Type 0 = λ xs. length xs ≤ most_counted in subst P (sym (append-nil done)) most)
 
   -- by itself the server comes to what its tree comes to
   serves-same : (t : Tree) (count : ℕ) (inside : Bool) → Obeys (closed r) count inside t
-      → (done : List FileAnswer) (now : Files) → length done ≤ count → length done ≤ most_counted
-      → ((rest : List FileAnswer) → length (done ++ rest) ≤ most_counted → verb_of system (stood (done ++ rest)) ≡ source.verb_of (play t (map file_told rest) no_files))
+      → (done : List FileResult) (now : Files) → length done ≤ count → length done ≤ most_counted
+      → ((rest : List FileResult) → length (done ++ rest) ≤ most_counted → verb_of system (stood (done ++ rest)) ≡ source.verb_of (play t (map file_told rest) no_files))
       → (fuel : ℕ) → fuel + length done ≡ most_counted + 1
       → code.serves system fuel (stood done) now ≡ source.served_by (play_alone deck t now)
   serves-same t count inside ok done now few most asks zero is = absurd (omega (arith, is, most))
@@ -153,7 +153,7 @@ module _ (rule : LockRule) (deck : Deck) (sound : IsSound deck) (fitting : AreFi
       ap (λ w. code.served_by system w (stood done) now (code.serves system n)) (asks-now (Stuck v s) done most asks)
       ∙ last system v (no-file v ok.2) (stood done) now (code.serves system n) s
   serves-same (Waits (verb.File call) s next) count inside ok done now few most asks (suc n) is =
-      let found : FileAnswer = answer_of (key_length deck call.file) (now call.file) call.op call in
+      let found : FileResult = answer_of (key_length deck call.file) (now call.file) call.op call in
       let then : Files = upd now call.file (records_behind (key_length deck call.file) (now call.file) call) in
       let long : length (done ++ found ∷ []) ≡ length done + 1 = length-append done (found ∷ []) in
       ap (λ w. code.served_by system w (stood done) now (code.serves system n)) (asks-now (Waits (verb.File call) s next) done most asks)
@@ -162,8 +162,8 @@ module _ (rule : LockRule) (deck : Deck) (sound : IsSound deck) (fitting : AreFi
       (omega (arith, few, ok.3.0, long)) (omega (arith, few, ok.3.0, ok.3.1, long))
       (λ rest le.
       let same : (done ++ found ∷ []) ++ rest ≡ done ++ found ∷ rest = append_assoc done (found ∷ []) rest in
-      ap (λ (xs : List FileAnswer). verb_of system (stood xs)) same
-      ∙ asks (found ∷ rest) (let P : List FileAnswer → Type 0 = λ xs. length xs ≤ most_counted in subst P same le))
+      ap (λ (xs : List FileResult). verb_of system (stood xs)) same
+      ∙ asks (found ∷ rest) (let P : List FileResult → Type 0 = λ xs. length xs ≤ most_counted in subst P same le))
       n (omega (arith, is, long))
   serves-same (Waits v s next) count inside ok done now few most asks (suc n) is =
       ap (λ w. code.served_by system w (stood done) now (code.serves system n)) (asks-now (Waits v s next) done most asks)
@@ -179,7 +179,7 @@ module _ (rule : LockRule) (deck : Deck) (sound : IsSound deck) (fitting : AreFi
       (most_counted + 1) (omega arith)
       ∙ sym (ap source.served_by (f.serves tt files))
 
-module _ (rule : LockRule) (deck : Deck) (sound : IsSound deck) (fitting : AreFitting deck) (valid : IsValid (system_of rule deck)) where
+module _ (rule : LockRule) (deck : DeckModel) (sound : IsSoundDeck deck) (fitting : AreFitting deck) (valid : IsValid (system_of rule deck)) where
   serves-by : (o : Option ClassInfo) → ((class : ClassInfo) → o ≡ Some class → class.server < length deck.servers) → (message : List ℕ) (files : Files)
       → code.served_alone (system_of rule deck) o message files ≡ tree.serve_by deck o message files
   serves-by None there message files = refl

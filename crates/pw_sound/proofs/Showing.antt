@@ -17,16 +17,16 @@ use Rattle.pw_code.specs.Fields.{is_source_of}
 use Rattle.pw_code.specs.declared.field.Field.{Field}
 use Rattle.pw_code.specs.declared.field.FieldKind.TheVariants as fields
 use Rattle.pw_code.specs.declared.field.ScreenTable.{ScreenTable}
-use Rattle.pw_divisions.specs.Entries.{entries_of}
+use Rattle.pw_divisions.specs.Entries.{division_entries_of}
 use Rattle.pw_divisions.specs.Names.{name_of, own_name_of}
-use Rattle.pw_screen.specs.Entries.{Before, at_first, after, begins_screen, has_bad_picture, is_twice, refused_if, screen_by, screen_of, field_name, field_with, field_on, field_by, form_of, may_stand, field_in, field_of, entry_of}
-use Rattle.pw_screen.specs.Screens.{placed_from, faults_of, with_entry, behind, Behind, screens_of}
+use Rattle.pw_screen.specs.Entries.{ScreenEntriesBefore, at_first, after_screen_entry, begins_screen, has_bad_picture, is_twice, refused_if, screen_by, screen_head_entry, field_name, field_with, field_on, field_by, form_of, may_stand, field_in, field_of, screen_entry_of}
+use Rattle.pw_screen.specs.Screens.{placed_from, faults_of, with_entry, screen_entries_behind, ScreensBehind, screens_of}
 use Rattle.pw_screen.specs.Shown.{names_item, is_outside, extent_of, item_with, item_at, item_by, item_shown, literal_shown, literal_of, only_item, shown_by, shown_of}
 use Rattle.pw_screen.specs.declared.body.At.{At}
-use Rattle.pw_screen.specs.declared.body.Body.{Body}
-use Rattle.pw_screen.specs.declared.entry.Entry.{Entry}
-use Rattle.pw_screen.specs.declared.entry.Entry.TheVariants as entry
-use Rattle.pw_screen.specs.declared.entry.Placed.{Placed}
+use Rattle.pw_screen.specs.declared.body.FieldBody.{FieldBody}
+use Rattle.pw_screen.specs.declared.entry.ScreenEntry.{ScreenEntry}
+use Rattle.pw_screen.specs.declared.entry.ScreenEntry.TheVariants as entry
+use Rattle.pw_screen.specs.declared.entry.PlacedEntry.{PlacedEntry}
 use Rattle.pw_screen.specs.declared.shown.ItemClause.{ItemClause}
 use Rattle.pw_screen.specs.declared.shown.Shown.{Shown}
 use Rattle.pw_sound.specs.Premises.{IsShownOf}
@@ -71,12 +71,12 @@ module _ (laid : Laid) where
 
   -- ---- entries
 
-  abbrev EntryIn : Entry → Type 0
+  abbrev EntryIn : ScreenEntry → Type 0
   EntryIn (entry.Screen name) = Unit {0}
   EntryIn (entry.Field field) = IsShownOf laid field.shown
   EntryIn (entry.Refused code) = Unit {0}
 
-  refused-in : (test : Bool) (code : FaultCode) (next : Entry) → EntryIn next → EntryIn (refused_if test code next)
+  refused-in : (test : Bool) (code : FaultCode) (next : ScreenEntry) → EntryIn next → EntryIn (refused_if test code next)
   refused-in true code next is = tt
   refused-in false code next is = is
 
@@ -85,7 +85,7 @@ module _ (laid : Laid) where
   field-by-in used stands name at cells (Some shown) is =
       refused-in (not stands) _ (field_on used (field_with name at cells shown)) (refused-in _ _ (entry.Field (field_with name at cells shown)) is)
 
-  field-in-in : (used : ℕ → Bool) (begun : Bool) (part : Left) (o : Option Body) → EntryIn (field_in laid used begun part o)
+  field-in-in : (used : ℕ → Bool) (begun : Bool) (part : Left) (o : Option FieldBody) → EntryIn (field_in laid used begun part o)
   field-in-in used begun part None = tt
   field-in-in used begun part (Some body) =
       refused-in body.clauses.unknown _ _
@@ -98,37 +98,37 @@ module _ (laid : Laid) where
   screen-by-in text (Some name) true = tt
   screen-by-in text (Some name) false = tt
 
-  entry-by-in : (b : Bool) (one other : Entry) → EntryIn one → EntryIn other → EntryIn (if b then one else other)
+  entry-by-in : (b : Bool) (one other : ScreenEntry) → EntryIn one → EntryIn other → EntryIn (if b then one else other)
   entry-by-in true one other f g = f
   entry-by-in false one other f g = g
 
-  entry-in : (before : Before) (part : Left) → EntryIn (entry_of laid before part)
+  entry-in : (before : ScreenEntriesBefore) (part : Left) → EntryIn (screen_entry_of laid before part)
   entry-in before part =
-      entry-by-in (begins_screen part) (screen_of before.names part) (field_of laid before.fields before.used before.begun part)
+      entry-by-in (begins_screen part) (screen_head_entry before.names part) (field_of laid before.fields before.used before.begun part)
       (refused-in (has_bad_picture part) _ _ (refused-in (is_twice part.text before.names (name_of part)) _ _ (screen-by-in part.text (name_of part) _)))
       (refused-in (has_bad_picture part) _ _ (refused-in (is_twice part.text before.fields (own_name_of part)) _ _ (field-in-in before.used before.begun part (form_of laid part))))
 
-  all-in : (text : List ℕ) (before : Before) (parts : List (List Token)) → Each (λ (placed : Placed). EntryIn placed.entry) (placed_from text laid before parts)
+  all-in : (text : List ℕ) (before : ScreenEntriesBefore) (parts : List (List Token)) → Each (λ (placed : PlacedEntry). EntryIn placed.entry) (placed_from text laid before parts)
   unfolding placed_from
   all-in text before [] = tt
-  all-in text before (part ∷ parts) = (entry-in before (left_of text part), all-in text (after before (left_of text part) (entry_of laid before (left_of text part))) parts)
+  all-in text before (part ∷ parts) = (entry-in before (left_of text part), all-in text (after_screen_entry before (left_of text part) (screen_entry_of laid before (left_of text part))) parts)
 
   -- ---- screens
 
   abbrev TableIn : ScreenTable → Type 0
   TableIn table = Each (λ (field : Field). IsShownOf laid field.shown) table.fields
 
-  abbrev BehindIn : Behind → Type 0
+  abbrev BehindIn : ScreensBehind → Type 0
   BehindIn rest = Each (λ (field : Field). IsShownOf laid field.shown) rest.fields × Each TableIn rest.tables
 
-  with-entry-in : (one : Entry) (rest : Behind) → EntryIn one → BehindIn rest → BehindIn (with_entry one rest)
+  with-entry-in : (one : ScreenEntry) (rest : ScreensBehind) → EntryIn one → BehindIn rest → BehindIn (with_entry one rest)
   with-entry-in (entry.Screen name) rest is all = (tt, (all.0, all.1))
   with-entry-in (entry.Field field) rest is all = ((is, all.0), all.1)
   with-entry-in (entry.Refused code) rest is all = all
 
-  behind-in : (entries : List Placed) → Each (λ (placed : Placed). EntryIn placed.entry) entries → BehindIn (behind entries)
+  behind-in : (entries : List PlacedEntry) → Each (λ (placed : PlacedEntry). EntryIn placed.entry) entries → BehindIn (screen_entries_behind entries)
   behind-in [] each = (tt, tt)
-  behind-in (placed ∷ entries) each = with-entry-in placed.entry (behind entries) each.0 (behind-in entries each.1)
+  behind-in (placed ∷ entries) each = with-entry-in placed.entry (screen_entries_behind entries) each.0 (behind-in entries each.1)
 
 pub unless-is : (fault : Option Fault) (value tables : List ScreenTable) → unless fault value ≡ Ok tables → value ≡ tables
 unless-is None value tables is = cc
@@ -138,6 +138,6 @@ unless-is (Some fault) value tables is = absurd cc
 pub screens-show : (text : List ℕ) (tokens : List Token) (laid : Laid) (tables : List ScreenTable) → screens_of text tokens laid ≡ Ok tables
     → Each (λ (table : ScreenTable). Each (λ (field : Field). IsShownOf laid field.shown) table.fields) tables
 screens-show text tokens laid tables is =
-    let entries = placed_from text laid (at_first laid) (entries_of tokens) in
-    subst (Each (TableIn laid)) (unless-is (least None (faults_of entries)) (behind entries).tables tables is)
-    (behind-in laid entries (all-in laid text (at_first laid) (entries_of tokens))).1
+    let entries = placed_from text laid (at_first laid) (division_entries_of tokens) in
+    subst (Each (TableIn laid)) (unless-is (least None (faults_of entries)) (screen_entries_behind entries).tables tables is)
+    (behind-in laid entries (all-in laid text (at_first laid) (division_entries_of tokens))).1

@@ -4,9 +4,9 @@ use Rattle.std.specs.Prelude.{nat_lt, ◌==◌, slice_get, option_map}
 use Rattle.std.proofs.lemmas.Bool.{eq-eqb, eqb-true, le-ltb}
 use Rattle.pw_words.specs.Words.{Word}
 use Rattle.pw_data.specs.Store.{joined}
-use Rattle.pw_forms.specs.declared.cond.Cond.{Cond}
+use Rattle.pw_forms.specs.declared.cond.ConditionForm.{ConditionForm}
 use Rattle.pw_forms.specs.declared.operand.Operand.{Operand}
-use Rattle.pw_forms.specs.declared.statement.Arithmetic.{Arithmetic}
+use Rattle.pw_forms.specs.declared.statement.ArithmeticForm.{ArithmeticForm}
 use Rattle.pw_forms.specs.declared.statement.Statement.{Statement}
 use Rattle.pw_operands.specs.Resolved.{Each}
 use Rattle.pw_code.specs.declared.context.Return.{Return}
@@ -19,16 +19,16 @@ use Rattle.pw_code.specs.declared.verb.Answer.TheVariants as answer
 use Rattle.pw_code.specs.declared.verb.Verb.{Verb}
 use Rattle.pw_code.specs.declared.verb.Verb.TheVariants as verb
 use Rattle.pw_source.specs.Setting.{Setting}
-use Rattle.pw_source.specs.State.{State, Out, Goes, Leaves, Asks, then_do}
+use Rattle.pw_source.specs.State.{ProgramState, Out, Goes, Leaves, Asks, then_do}
 use Rattle.pw_source.specs.State as source
 use Rattle.pw_source.specs.Operands as operands
-use Rattle.pw_source.specs.Operands.{Taken, spot_in}
+use Rattle.pw_source.specs.Operands.{ResolvedOperand, spot_in}
 use Rattle.pw_source.specs.Arithmetic as computing
 use Rattle.pw_source.specs.Conditions as conditions
 use Rattle.pw_source.specs.Moves as moving
 use Rattle.pw_source.specs.Performs.{budget, turns, turns_until, tested}
 use Rattle.pw_source.specs.Statements.{move_all}
-use Rattle.pw_exec.specs.Config.{Config, code_at, asks, faults, counted, on, with_storage, with_taken}
+use Rattle.pw_exec.specs.Config.{Config, code_at, asks, faults, code_statement_counted, on, with_storage, with_taken}
 use Rattle.pw_exec.specs.Reading.{spot_of, read}
 use Rattle.pw_exec.specs.Moves as moves
 use Rattle.pw_exec.specs.Answers as puts
@@ -71,19 +71,19 @@ pub record IsPlan (setting : Setting) (plan : Plan) : Type 0 where
 
 module _ (system : System) (setting : Setting) (known : Known setting.is_server setting.program) (e : Env) (plan : Plan) (is_plan : IsPlan setting plan) where
   -- MOVE
-  pub move_does : (at : ℕ) (rs : List Return) (s : State) (m : Marks) (from : Operand) (to : List Operand) → Ground setting.program s.store
+  pub move_does : (at : ℕ) (rs : List Return) (s : ProgramState) (m : Marks) (from : Operand) (to : List Operand) → Ground setting.program s.store
       → Indexed setting.is_server setting.deck setting.program from → Each (Indexed setting.is_server setting.deck setting.program) to
       → Does system setting.program e (budget s) (steps.move_all (code.operand_of setting.program.layout from) (map (code.place_in setting.program.layout) to) (mach e at rs s m)) s.answers (at + 1) rs
       (move_all setting from to s)
   move_does at rs s m from to ground i j =
-      taken_does system setting.program e (λ found. found) (operands.taken setting.program s from) _ (budget s) at rs s m (at + 1) rs _ _
-      (taken-same setting.is_server setting.deck setting.program known s e.tail ground from i ∙ same-map (operands.taken setting.program s from))
+      taken_does system setting.program e (λ found. found) (operands.operand_taken setting.program s from) _ (budget s) at rs s m (at + 1) rs _ _
+      (taken-same setting.is_server setting.deck setting.program known s e.tail ground from i ∙ same-map (operands.operand_taken setting.program s from))
       (λ source is.
       taken_does system setting.program e (map spot_in) (operands.taken_all setting.program s to) _ (budget s) at rs s m (at + 1) rs _ _
       (spots-same setting.is_server setting.deck setting.program known s e.tail ground to j)
       (λ targets js.
       let spots = map spot_in targets in
-      let t : State = record s { store = moving.moves source spots s.store } in
+      let t : ProgramState = record s { store = moving.moves source spots s.store } in
       let sits = taken-sits setting.is_server setting.deck setting.program known s e.tail ground from source is in
       let all = each-spots s targets (all-sit setting.is_server setting.deck setting.program known s e.tail ground to targets js) in
       record {
@@ -98,13 +98,13 @@ module _ (system : System) (setting : Setting) (known : Known setting.is_server 
       same-map None = refl
       same-map (Some x) = refl
 
-      each-spots : (u : State) (targets : List Taken) → Each (TakenSits u.store) targets → Each (Sits u.store) (map spot_in targets)
+      each-spots : (u : ProgramState) (targets : List ResolvedOperand) → Each (TakenSits u.store) targets → Each (Sits u.store) (map spot_in targets)
       each-spots u [] all = tt
       each-spots u (target ∷ targets) all = (spot-sits u.store target all.0, each-spots u targets all.1)
 
   -- ---- arithmetic
 
-  abbrev pub ArithmeticIndexed : Arithmetic → Type 0
+  abbrev pub ArithmeticIndexed : ArithmeticForm → Type 0
   ArithmeticIndexed a =
       Indexed setting.is_server setting.deck setting.program a.first × Indexed setting.is_server setting.deck setting.program a.second
       × Indexed setting.is_server setting.deck setting.program (computing.receiver_of a)
@@ -113,15 +113,15 @@ module _ (system : System) (setting : Setting) (known : Known setting.is_server 
   receiver-same None second = refl
   receiver-same (Some item) second = refl
 
-  module _ (at to : ℕ) (rs : List Return) (s : State) (m : Marks) (ground : Ground setting.program s.store) (f g : Config → Config) (on_error else' : State → Out)
+  module _ (at to : ℕ) (rs : List Return) (s : ProgramState) (m : Marks) (ground : Ground setting.program s.store) (f g : Config → Config) (on_error else' : ProgramState → Out)
       (hf : Does system setting.program e (budget s) (f (mach e at rs s m)) s.answers to rs (on_error s))
-      (hg : (t : State) → Computed setting.program s t → Does system setting.program e (budget s) (g (with_storage (joined t.store ++ e.tail) (mach e at rs s m))) s.answers to rs (else' t)) where
-    or_else_does : (o : Option State) (o' : Option (List ℕ)) → o' ≡ stored e.tail o → ((t : State) → o ≡ Some t → Computed setting.program s t)
+      (hg : (t : ProgramState) → Computed setting.program s t → Does system setting.program e (budget s) (g (with_storage (joined t.store ++ e.tail) (mach e at rs s m))) s.answers to rs (else' t)) where
+    or_else_does : (o : Option ProgramState) (o' : Option (List ℕ)) → o' ≡ stored e.tail o → ((t : ProgramState) → o ≡ Some t → Computed setting.program s t)
         → Does system setting.program e (budget s) (steps.or_else o' f g (mach e at rs s m)) s.answers to rs (computing.or_else o s on_error else')
     or_else_does None o' is h = subst (λ x. Does system setting.program e (budget s) (steps.or_else x f g (mach e at rs s m)) s.answers to rs (on_error s)) (sym is) hf
     or_else_does (Some t) o' is h = subst (λ x. Does system setting.program e (budget s) (steps.or_else x f g (mach e at rs s m)) s.answers to rs (else' t)) (sym is) (hg t (h t refl))
 
-    three_does : (a : Arithmetic) (o1 o2 o3 : Option Taken) → ((x : Taken) → o3 ≡ Some x → Sits s.store (spot_in x))
+    three_does : (a : ArithmeticForm) (o1 o2 o3 : Option ResolvedOperand) → ((x : ResolvedOperand) → o3 ≡ Some x → Sits s.store (spot_in x))
         → Does system setting.program e (budget s)
         (with_taken (moves.operands_with (option_map (λ found. operands.value_in found s.store) o1) (option_map (λ found. operands.value_in found s.store) o2) (option_map spot_in o3))
         (λ found d. steps.or_else (moves.result_of (compiled.operation_of a.operation) found d.top.storage) f g d) (mach e at rs s m))
@@ -137,7 +137,7 @@ module _ (system : System) (setting : Setting) (known : Known setting.is_server 
         or_else_does (computing.computed a.operation v w (spot_in z) s) _ (computed-same a.operation v w (spot_in z) s e.tail (sits z refl))
         (λ t is. computed-state setting.program a.operation v w (spot_in z) s t is ground)
 
-    pub arithmetic_does : (a : Arithmetic) → ArithmeticIndexed a
+    pub arithmetic_does : (a : ArithmeticForm) → ArithmeticIndexed a
         → Does system setting.program e (budget s) (steps.computes (compiled.arithmetic_of setting.program.layout a) f g (mach e at rs s m)) s.answers to rs
         (computing.arithmetic_on setting.program a on_error else' s)
     arithmetic_does a is =
@@ -149,21 +149,21 @@ module _ (system : System) (setting : Setting) (known : Known setting.is_server 
         Does system setting.program e (budget s) (with_taken o (λ found d. steps.or_else (moves.result_of (compiled.operation_of a.operation) found d.top.storage) f g d) (mach e at rs s m)) s.answers to rs
         (computing.arithmetic_on setting.program a on_error else' s) in
         subst whole (sym (ap (λ o. moves.operands_with o (read s.registers (joined s.store ++ e.tail) (code.operand_of setting.program.layout a.second)) (spot_of s.registers (joined s.store ++ e.tail) (code.place_in setting.program.layout (compiled.receiver_by a.giving a.second)))) r1
-        ∙ ap (λ o. moves.operands_with (option_map (λ found. operands.value_in found s.store) (operands.taken setting.program s a.first)) o (spot_of s.registers (joined s.store ++ e.tail) (code.place_in setting.program.layout (compiled.receiver_by a.giving a.second)))) r2
-        ∙ ap (λ o. moves.operands_with (option_map (λ found. operands.value_in found s.store) (operands.taken setting.program s a.first)) (option_map (λ found. operands.value_in found s.store) (operands.taken setting.program s a.second)) o) r3))
-        (three_does a (operands.taken setting.program s a.first) (operands.taken setting.program s a.second) (operands.taken setting.program s (computing.receiver_of a))
+        ∙ ap (λ o. moves.operands_with (option_map (λ found. operands.value_in found s.store) (operands.operand_taken setting.program s a.first)) o (spot_of s.registers (joined s.store ++ e.tail) (code.place_in setting.program.layout (compiled.receiver_by a.giving a.second)))) r2
+        ∙ ap (λ o. moves.operands_with (option_map (λ found. operands.value_in found s.store) (operands.operand_taken setting.program s a.first)) (option_map (λ found. operands.value_in found s.store) (operands.operand_taken setting.program s a.second)) o) r3))
+        (three_does a (operands.operand_taken setting.program s a.first) (operands.operand_taken setting.program s a.second) (operands.operand_taken setting.program s (computing.receiver_of a))
         (λ x taken_is. spot-sits s.store x (taken-sits setting.is_server setting.deck setting.program known s e.tail ground (computing.receiver_of a) x taken_is)))
 
   -- ---- verbs of transactions, and the end
 
-  if_does : (b : Bool) (c d : Config) (to : ℕ) (rs : List Return) (s : State) (o q : Out) → Does system setting.program e (budget s) c s.answers to rs o → Does system setting.program e (budget s) d s.answers to rs q
+  if_does : (b : Bool) (c d : Config) (to : ℕ) (rs : List Return) (s : ProgramState) (o q : Out) → Does system setting.program e (budget s) c s.answers to rs o → Does system setting.program e (budget s) d s.answers to rs q
       → Does system setting.program e (budget s) (if b then c else d) s.answers to rs (if b then o else q)
   if_does true c d to rs s o q h g = h
   if_does false c d to rs s o q h g = g
 
-  begin_answered : (at : ℕ) (rs : List Return) (s : State) (m : Marks) → Ground setting.program s.store → (a : Answer) (answers : List Answer)
-      → let t : State = record s { count = 0; answers = answers } in
-      Does system setting.program e (budget t) (puts.begin_put a (asks (mach e at rs s m))) answers (at + 1) rs (sends.begun a t)
+  begin_answered : (at : ℕ) (rs : List Return) (s : ProgramState) (m : Marks) → Ground setting.program s.store → (a : Answer) (answers : List Answer)
+      → let t : ProgramState = record s { count = 0; answers = answers } in
+      Does system setting.program e (budget t) (puts.begin_put a (asks (mach e at rs s m))) answers (at + 1) rs (sends.after_begin_answer a t)
   begin_answered at rs s m ground (answer.Begun r) answers =
       record { marks = record m { phase = 2 * m.units + 1; attempt = r; shown = 0 }; ground = ground; less = omega arith; leads = stays system _ answers }
   begin_answered at rs s m ground answer.Shown answers = record { marks = m; ground = ground; less = omega arith; leads = stays system _ answers }
@@ -174,26 +174,26 @@ module _ (system : System) (setting : Setting) (known : Known setting.is_server 
   begin_answered at rs s m ground answer.Dropped answers = record { marks = m; ground = ground; less = omega arith; leads = stays system _ answers }
   begin_answered at rs s m ground (answer.FileDone status content) answers = record { marks = m; ground = ground; less = omega arith; leads = stays system _ answers }
 
-  pub begin_does : (at : ℕ) (rs : List Return) (s : State) (m : Marks) → Ground setting.program s.store → slice_get (code_at system e.program).instrs at ≡ Some instr.Begin
+  pub begin_does : (at : ℕ) (rs : List Return) (s : ProgramState) (m : Marks) → Ground setting.program s.store → slice_get (code_at system e.program).instrs at ≡ Some instr.Begin
       → Does system setting.program e (budget s) (steps.does system instr.Begin (mach e at rs s m)) s.answers (at + 1) rs (sends.begin s)
   begin_does at rs s m ground h =
-      if_does s.in_unit (faults 205 (mach e at rs s m)) (asks (mach e at rs s m)) (at + 1) rs s (source.faults 205 s) (source.asks verb.Begin sends.begun s)
+      if_does s.in_unit (faults 205 (mach e at rs s m)) (asks (mach e at rs s m)) (at + 1) rs s (source.faults 205 s) (source.asks verb.Begin sends.after_begin_answer s)
       (fault_ends system setting.program e (mach e at rs s m) s.answers 205 refl)
-      (verb_does system setting.program e at rs s m (at + 1) rs instr.Begin verb.Begin sends.begun h refl (λ a answers. begin_answered at rs s m ground a answers))
+      (verb_does system setting.program e at rs s m (at + 1) rs instr.Begin verb.Begin sends.after_begin_answer h refl (λ a answers. begin_answered at rs s m ground a answers))
 
-  pub unit_end_does : (at : ℕ) (rs : List Return) (s : State) (m : Marks) (i : Instr) (v : Verb) → Ground setting.program s.store → slice_get (code_at system e.program).instrs at ≡ Some i
+  pub unit_end_does : (at : ℕ) (rs : List Return) (s : ProgramState) (m : Marks) (i : Instr) (v : Verb) → Ground setting.program s.store → slice_get (code_at system e.program).instrs at ≡ Some i
       → steps.asked_by (Some i) (asks (mach e at rs s m)) ≡ v → ((a : Answer) → puts.answered_by system (Some i) a (asks (mach e at rs s m)) ≡ puts.unit_end_put (asks (mach e at rs s m)))
       → Does system setting.program e (budget s) (if s.in_unit then asks (mach e at rs s m) else faults 206 (mach e at rs s m)) s.answers (at + 1) rs (if s.in_unit then source.asks v sends.outside s else source.faults 206 s)
   unit_end_does at rs s m i v ground h is same =
       if_does s.in_unit (asks (mach e at rs s m)) (faults 206 (mach e at rs s m)) (at + 1) rs s (source.asks v sends.outside s) (source.faults 206 s)
       (verb_does system setting.program e at rs s m (at + 1) rs i v sends.outside h is (λ a given.
-      let t : State = record s { count = 0; answers = given } in
+      let t : ProgramState = record s { count = 0; answers = given } in
       let n : Marks = record m { units = m.units + 1; phase = 2 * (m.units + 1); attempt = 0; shown = 0 } in
       subst (λ c. Does system setting.program e (budget t) c given (at + 1) rs (Goes (record t { in_unit = false }))) (sym (same a))
       (record { marks = n; ground = ground; less = omega arith; leads = stays system _ given })))
       (fault_ends system setting.program e (mach e at rs s m) s.answers 206 refl)
 
-  pub restart_does : (at : ℕ) (rs : List Return) (s : State) (m : Marks) → slice_get (code_at system e.program).instrs at ≡ Some instr.Restart
+  pub restart_does : (at : ℕ) (rs : List Return) (s : ProgramState) (m : Marks) → slice_get (code_at system e.program).instrs at ≡ Some instr.Restart
       → Does system setting.program e (budget s) (steps.does system instr.Restart (mach e at rs s m)) s.answers (at + 1) rs (sends.restart s)
   restart_does at rs s m h =
       if_does s.in_unit (asks (mach e at rs s m)) (faults 206 (mach e at rs s m)) (at + 1) rs s (Asks verb.Redo s) (source.faults 206 s)
@@ -202,7 +202,7 @@ module _ (system : System) (setting : Setting) (known : Known setting.is_server 
 
   module _ (kind : (if nat_lt e.program (length system.programs) then false else true) ≡ setting.is_server) where
     -- STOP RUN, and the end of a program that no other called
-    pub stop_does : (at to : ℕ) (rs rs' : List Return) (s : State) (m : Marks) (i : Option Instr) → slice_get (code_at system e.program).instrs at ≡ i → steps.asked_by i (asks (mach e at rs s m)) ≡ verb.Stop
+    pub stop_does : (at to : ℕ) (rs rs' : List Return) (s : ProgramState) (m : Marks) (i : Option Instr) → slice_get (code_at system e.program).instrs at ≡ i → steps.asked_by i (asks (mach e at rs s m)) ≡ verb.Stop
         → ((a : Answer) → puts.answered_by system i a (asks (mach e at rs s m)) ≡ asks (mach e at rs s m))
         → Does system setting.program e (budget s) (calls.stops system (mach e at rs s m)) s.answers to rs' (sends.stop setting s)
     stop_does at to rs rs' s m i h is same =
@@ -231,22 +231,22 @@ module _ (system : System) (setting : Setting) (known : Known setting.is_server 
       by true is = let none : suc n ≡ 0 = eqb-true (suc n) 0 is in absurd (omega (arith, none))
       by false is = refl
 
-  at-end : (start at : ℕ) (rs : List Return) (r : Return) (s : State) (m : Marks) → r.until ≡ at
+  at-end : (start at : ℕ) (rs : List Return) (r : Return) (s : ProgramState) (m : Marks) → r.until ≡ at
       → turning.ends start (mach e at (rs ++ r ∷ []) s m) ≡ turning.comes_back start rs r (mach e at (rs ++ r ∷ []) s m)
   at-end start at rs r s m is =
       ap (λ o. turning.ends_by start o (mach e at (rs ++ r ∷ []) s m)) (split-end rs r)
       ∙ ap (λ b. if b then turning.comes_back start rs r (mach e at (rs ++ r ∷ []) s m) else on (mach e at (rs ++ r ∷ []) s m)) (ap (λ n. n == at) is ∙ same-number at)
 
-  module _ (perform : Word → State → Out) (d : ℕ) (name : Word) (turn : Turn)
+  module _ (perform : Word → ProgramState → Out) (d : ℕ) (name : Word) (turn : Turn)
       (end : slice_get (code_at system e.program).instrs turn.end ≡ Some (instr.ParagraphEnd turn.start))
-      (full : (rs : List Return) (t : State) → length rs + d ≡ turning.most_performs → nat_lt (length rs) turning.most_performs ≡ false → perform name t ≡ source.faults 202 t)
-      (inside : (rs : List Return) (r : Return) (t : State) (m : Marks) → length rs + d ≡ turning.most_performs → nat_lt (length rs) turning.most_performs ≡ true → Ground setting.program t.store
+      (full : (rs : List Return) (t : ProgramState) → length rs + d ≡ turning.most_performs → nat_lt (length rs) turning.most_performs ≡ false → perform name t ≡ source.faults 202 t)
+      (inside : (rs : List Return) (r : Return) (t : ProgramState) (m : Marks) → length rs + d ≡ turning.most_performs → nat_lt (length rs) turning.most_performs ≡ true → Ground setting.program t.store
       → Does system setting.program e (budget t) (mach e turn.start (rs ++ r ∷ []) t m) t.answers turn.end (rs ++ r ∷ []) (perform name t)) where
     -- a turn that begins, from where it comes back to a place
-    pub turn_does : (resume x to : ℕ) (rs : List Return) (left : ℕ) (t : State) (m : Marks) (next : State → Out) → length rs + d ≡ turning.most_performs → Ground setting.program t.store
-        → ((u : State) (n : Marks) → budget u < budget t → Ground setting.program u.store → nat_lt (length rs) turning.most_performs ≡ true
+    pub turn_does : (resume x to : ℕ) (rs : List Return) (left : ℕ) (t : ProgramState) (m : Marks) (next : ProgramState → Out) → length rs + d ≡ turning.most_performs → Ground setting.program t.store
+        → ((u : ProgramState) (n : Marks) → budget u < budget t → Ground setting.program u.store → nat_lt (length rs) turning.most_performs ≡ true
         → Does system setting.program e (budget u) (turning.comes_back turn.start rs (record { resume = resume; until = turn.end; turns = left }) (mach e turn.end (rs ++ (record { resume = resume; until = turn.end; turns = left }) ∷ []) u n)) u.answers to rs (next u))
-        → Does system setting.program e (budget t) (turning.turn resume turn left (mach e x rs t m)) t.answers to rs (source.counted (λ u. then_do (perform name u) next) t)
+        → Does system setting.program e (budget t) (turning.turn resume turn left (mach e x rs t m)) t.answers to rs (source.statement_counted (λ u. then_do (perform name u) next) t)
     turn_does resume x to rs left t m next is ground h =
         let r : Return = record { resume = resume; until = turn.end; turns = left } in
         ticks system setting.program e x rs t m to rs
@@ -254,7 +254,7 @@ module _ (system : System) (setting : Setting) (known : Known setting.is_server 
         (λ u. then_do (perform name u) next)
         (λ u less same. by (nat_lt (length rs) turning.most_performs) refl u less same)
       where
-        by : (b : Bool) → nat_lt (length rs) turning.most_performs ≡ b → (u : State) → budget u < budget t → u.store ≡ t.store
+        by : (b : Bool) → nat_lt (length rs) turning.most_performs ≡ b → (u : ProgramState) → budget u < budget t → u.store ≡ t.store
             → Does system setting.program e (budget u)
             (if b then mach e turn.start (rs ++ (record { resume = resume; until = turn.end; turns = left }) ∷ []) u m else faults 202 (mach e x rs u m)) u.answers to rs (then_do (perform name u) next)
         by false f u less same =
@@ -269,8 +269,8 @@ module _ (system : System) (setting : Setting) (known : Known setting.is_server 
             (h w n (omega (arith, less, w_less)) w_ground f)))
 
     -- PERFORM
-    pub perform_does : (at : ℕ) (rs : List Return) (t : State) (m : Marks) → length rs + d ≡ turning.most_performs → Ground setting.program t.store
-        → Does system setting.program e (budget t) (turning.turn (at + 1) turn 0 (mach e at rs t m)) t.answers (at + 1) rs (source.counted (perform name) t)
+    pub perform_does : (at : ℕ) (rs : List Return) (t : ProgramState) (m : Marks) → length rs + d ≡ turning.most_performs → Ground setting.program t.store
+        → Does system setting.program e (budget t) (turning.turn (at + 1) turn 0 (mach e at rs t m)) t.answers (at + 1) rs (source.statement_counted (perform name) t)
     perform_does at rs t m is ground =
         subst (λ o. Does system setting.program e (budget t) (turning.turn (at + 1) turn 0 (mach e at rs t m)) t.answers (at + 1) rs o) (goes_same (nat_lt t.count source.most_counted))
         (turn_does (at + 1) at (at + 1) rs 0 t m Goes is ground
@@ -286,7 +286,7 @@ module _ (system : System) (setting : Setting) (known : Known setting.is_server 
         goes_same false = refl
 
     -- the turns that follow one
-    later_does : (n resume : ℕ) (rs : List Return) (t : State) (m : Marks) → length rs + d ≡ turning.most_performs → nat_lt (length rs) turning.most_performs ≡ true → Ground setting.program t.store
+    later_does : (n resume : ℕ) (rs : List Return) (t : ProgramState) (m : Marks) → length rs + d ≡ turning.most_performs → nat_lt (length rs) turning.most_performs ≡ true → Ground setting.program t.store
         → let r : Return = record { resume = resume; until = turn.end; turns = n } in
         Does system setting.program e (budget t) (turning.comes_back turn.start rs r (mach e turn.end (rs ++ r ∷ []) t m)) t.answers resume rs (turns n (perform name) t)
     later_does zero resume rs t m is f ground = record { marks = m; ground = ground; less = omega arith; leads = stays system (mach e resume rs t m) t.answers }
@@ -294,8 +294,8 @@ module _ (system : System) (setting : Setting) (known : Known setting.is_server 
         let r : Return = record { resume = resume; until = turn.end; turns = suc n } in
         let q : Return = record { resume = resume; until = turn.end; turns = suc n - 1 } in
         let fewer : suc n - 1 ≡ n = omega arith in
-        let again : Does system setting.program e (budget t) (counted (turning.placed turn.start (rs ++ q ∷ [])) (mach e turn.end (rs ++ r ∷ []) t m)) t.answers resume rs (then_do (source.counted (perform name) t) (turns n (perform name))) =
-        subst (λ o. Does system setting.program e (budget t) (counted (turning.placed turn.start (rs ++ q ∷ [])) (mach e turn.end (rs ++ r ∷ []) t m)) t.answers resume rs o) (counted-then t)
+        let again : Does system setting.program e (budget t) (code_statement_counted (turning.placed turn.start (rs ++ q ∷ [])) (mach e turn.end (rs ++ r ∷ []) t m)) t.answers resume rs (then_do (source.statement_counted (perform name) t) (turns n (perform name))) =
+        subst (λ o. Does system setting.program e (budget t) (code_statement_counted (turning.placed turn.start (rs ++ q ∷ [])) (mach e turn.end (rs ++ r ∷ []) t m)) t.answers resume rs o) (counted-then t)
         (ticks system setting.program e turn.end (rs ++ r ∷ []) t m resume rs (turning.placed turn.start (rs ++ q ∷ [])) (λ u. then_do (perform name u) (turns n (perform name)))
         (λ u less same.
         seq system setting.program e (budget u) (mach e turn.start (rs ++ q ∷ []) u m) u.answers turn.end resume (rs ++ q ∷ []) rs (perform name u) (turns n (perform name))
@@ -305,27 +305,27 @@ module _ (system : System) (setting : Setting) (known : Known setting.is_server 
         (subst (λ c. Does system setting.program e (budget w) c w.answers resume rs (turns n (perform name) w)) (sym (at-end turn.start turn.end rs q w k refl))
         (subst (λ j. Does system setting.program e (budget w) (turning.comes_back turn.start rs (record { resume = resume; until = turn.end; turns = j }) (mach e turn.end (rs ++ (record { resume = resume; until = turn.end; turns = j }) ∷ []) w k)) w.answers resume rs (turns n (perform name) w))
         (sym fewer) (later_does n resume rs w k is f w_ground)))))) in
-        subst (λ b. Does system setting.program e (budget t) (if b then turning.placed resume rs (mach e turn.end (rs ++ r ∷ []) t m) else counted (turning.placed turn.start (rs ++ q ∷ [])) (mach e turn.end (rs ++ r ∷ []) t m)) t.answers resume rs (then_do (source.counted (perform name) t) (turns n (perform name))))
+        subst (λ b. Does system setting.program e (budget t) (if b then turning.placed resume rs (mach e turn.end (rs ++ r ∷ []) t m) else code_statement_counted (turning.placed turn.start (rs ++ q ∷ [])) (mach e turn.end (rs ++ r ∷ []) t m)) t.answers resume rs (then_do (source.statement_counted (perform name) t) (turns n (perform name))))
         (sym (not-zero n)) again
       where
-        counted-by : (b : Bool) (u v : State) → then_do (if b then perform name u else source.faults 201 v) (turns n (perform name)) ≡ (if b then then_do (perform name u) (turns n (perform name)) else source.faults 201 v)
+        counted-by : (b : Bool) (u v : ProgramState) → then_do (if b then perform name u else source.faults 201 v) (turns n (perform name)) ≡ (if b then then_do (perform name u) (turns n (perform name)) else source.faults 201 v)
         counted-by true u v = refl
         counted-by false u v = refl
 
-        counted-then : (u : State) → source.counted (λ w. then_do (perform name w) (turns n (perform name))) u ≡ then_do (source.counted (perform name) u) (turns n (perform name))
+        counted-then : (u : ProgramState) → source.statement_counted (λ w. then_do (perform name w) (turns n (perform name))) u ≡ then_do (source.statement_counted (perform name) u) (turns n (perform name))
         counted-then u = sym (counted-by (nat_lt u.count source.most_counted) (record u { count = u.count + 1 }) u)
 
     -- PERFORM TIMES
-    pub times_does : (count at : ℕ) (rs : List Return) (t : State) (m : Marks) → length rs + d ≡ turning.most_performs → Ground setting.program t.store
+    pub times_does : (count at : ℕ) (rs : List Return) (t : ProgramState) (m : Marks) → length rs + d ≡ turning.most_performs → Ground setting.program t.store
         → Does system setting.program e (budget t) (turning.turns turn count (mach e at rs t m)) t.answers (at + 1) rs (turns count (perform name) t)
     times_does zero at rs t m is ground = record { marks = m; ground = ground; less = omega arith; leads = stays system (mach e (at + 1) rs t m) t.answers }
     times_does (suc n) at rs t m is ground =
         let fewer : suc n - 1 ≡ n = omega arith in
-        let first : Does system setting.program e (budget t) (turning.turn (at + 1) turn n (mach e at rs t m)) t.answers (at + 1) rs (source.counted (λ u. then_do (perform name u) (turns n (perform name))) t) =
+        let first : Does system setting.program e (budget t) (turning.turn (at + 1) turn n (mach e at rs t m)) t.answers (at + 1) rs (source.statement_counted (λ u. then_do (perform name u) (turns n (perform name))) t) =
         turn_does (at + 1) at (at + 1) rs n t m (turns n (perform name)) is ground (λ u k less u_ground f. later_does n (at + 1) rs u k is f u_ground) in
-        subst (λ b. Does system setting.program e (budget t) (if b then on (mach e at rs t m) else turning.turn (at + 1) turn (suc n - 1) (mach e at rs t m)) t.answers (at + 1) rs (then_do (source.counted (perform name) t) (turns n (perform name))))
+        subst (λ b. Does system setting.program e (budget t) (if b then on (mach e at rs t m) else turning.turn (at + 1) turn (suc n - 1) (mach e at rs t m)) t.answers (at + 1) rs (then_do (source.statement_counted (perform name) t) (turns n (perform name))))
         (sym (not-zero n))
-        (subst (λ k. Does system setting.program e (budget t) (turning.turn (at + 1) turn k (mach e at rs t m)) t.answers (at + 1) rs (then_do (source.counted (perform name) t) (turns n (perform name)))) (sym fewer)
+        (subst (λ k. Does system setting.program e (budget t) (turning.turn (at + 1) turn k (mach e at rs t m)) t.answers (at + 1) rs (then_do (source.statement_counted (perform name) t) (turns n (perform name)))) (sym fewer)
         (subst (λ o. Does system setting.program e (budget t) (turning.turn (at + 1) turn n (mach e at rs t m)) t.answers (at + 1) rs o) (counted-by (nat_lt t.count source.most_counted)) first))
       where
         counted-by : (b : Bool) → (if b then then_do (perform name (record t { count = t.count + 1 })) (turns n (perform name)) else source.faults 201 t)
@@ -334,7 +334,7 @@ module _ (system : System) (setting : Setting) (known : Known setting.is_server 
         counted-by false = refl
 
     -- PERFORM UNTIL, from the test on
-    pub until_does : (n at : ℕ) (cond : Cond) (rs : List Return) (t : State) (m : Marks) → length rs + d ≡ turning.most_performs → Ground setting.program t.store → Each (Each (ComparisonIndexed setting.is_server setting.deck setting.program)) cond.any
+    pub until_does : (n at : ℕ) (cond : ConditionForm) (rs : List Return) (t : ProgramState) (m : Marks) → length rs + d ≡ turning.most_performs → Ground setting.program t.store → Each (Each (ComparisonIndexed setting.is_server setting.deck setting.program)) cond.any
         → slice_get (code_at system e.program).instrs at ≡ Some (instr.Until turn (compiled.cond_of setting.program.layout cond)) → budget t ≤ n
         → Does system setting.program e (budget t) (mach e at rs t m) t.answers (at + 1) rs (turns_until n (λ u. conditions.holds setting.program u cond) (perform name) t)
     until_does zero at cond rs t m is ground fits h le =
@@ -351,14 +351,14 @@ module _ (system : System) (setting : Setting) (known : Known setting.is_server 
             (sym f) (fault_ends system setting.program e (mach e at rs t m) t.answers 201 refl)
     until_does (suc n) at cond rs t m is ground fits h le =
         let next = turns_until n (λ u. conditions.holds setting.program u cond) (perform name) in
-        let again : Does system setting.program e (budget t) (turning.turn at turn 0 (mach e at rs t m)) t.answers (at + 1) rs (source.counted (λ u. then_do (perform name u) next) t) =
+        let again : Does system setting.program e (budget t) (turning.turn at turn 0 (mach e at rs t m)) t.answers (at + 1) rs (source.statement_counted (λ u. then_do (perform name u) next) t) =
         turn_does at at (at + 1) rs 0 t m next is ground (λ u k less u_ground f. until_does n at cond rs u k is u_ground fits h (omega (arith, le, less))) in
         after system setting.program e (budget t) _ _ t.answers t.answers (at + 1) rs _ (one system e at rs t m t.answers (Some (instr.Until turn (compiled.cond_of setting.program.layout cond))) h)
         (subst (λ o. Does system setting.program e (budget t) (turning.tested turn o (mach e at rs t m)) t.answers (at + 1) rs (turns_until (suc n) (λ u. conditions.holds setting.program u cond) (perform name) t))
         (sym (holds-same setting.is_server setting.deck setting.program known t e.tail ground cond fits)) (by (conditions.holds setting.program t cond) again))
       where
-        by : (o : Option Bool) → Does system setting.program e (budget t) (turning.turn at turn 0 (mach e at rs t m)) t.answers (at + 1) rs (source.counted (λ u. then_do (perform name u) (turns_until n (λ w. conditions.holds setting.program w cond) (perform name))) t)
-            → Does system setting.program e (budget t) (turning.tested turn o (mach e at rs t m)) t.answers (at + 1) rs (tested o (λ u. then_do (source.counted (perform name) u) (turns_until n (λ w. conditions.holds setting.program w cond) (perform name))) t)
+        by : (o : Option Bool) → Does system setting.program e (budget t) (turning.turn at turn 0 (mach e at rs t m)) t.answers (at + 1) rs (source.statement_counted (λ u. then_do (perform name u) (turns_until n (λ w. conditions.holds setting.program w cond) (perform name))) t)
+            → Does system setting.program e (budget t) (turning.tested turn o (mach e at rs t m)) t.answers (at + 1) rs (tested o (λ u. then_do (source.statement_counted (perform name) u) (turns_until n (λ w. conditions.holds setting.program w cond) (perform name))) t)
         by None again = fault_ends system setting.program e (mach e at rs t m) t.answers 203 refl
         by (Some true) again = record { marks = m; ground = ground; less = omega arith; leads = stays system (mach e (at + 1) rs t m) t.answers }
         by (Some false) again = subst (λ o. Does system setting.program e (budget t) (turning.turn at turn 0 (mach e at rs t m)) t.answers (at + 1) rs o) (counted-by (nat_lt t.count source.most_counted)) again

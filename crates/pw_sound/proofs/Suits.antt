@@ -3,7 +3,7 @@ use Rattle.std.proofs.Common.{◌≡◌, true, false, List, Option, Some, None, 
 use Rattle.pw_words.specs.Words.{Word}
 use Rattle.pw_forms.specs.declared.operand.Operand.{Operand}
 use Rattle.pw_forms.specs.declared.operand.Operand.TheVariants as operands
-use Rattle.pw_forms.specs.declared.statement.Arithmetic.{Arithmetic}
+use Rattle.pw_forms.specs.declared.statement.ArithmeticForm.{ArithmeticForm}
 use Rattle.pw_forms.specs.declared.statement.Statement.{Statement, Row_of-Statement, end_of-Statement, more_of-Statement}
 use Rattle.pw_forms.specs.declared.statement.Statement as form
 use Rattle.pw_operands.specs.Resolved.{Each}
@@ -17,14 +17,14 @@ use Rattle.pw_source.specs.Setting.{Setting}
 use Rattle.pw_source.specs.Arithmetic as computing
 use Rattle.pw_source.specs.Sends.{yields_of}
 use Rattle.pw_source.specs.Sound.{scope_of}
-use Rattle.pw_compile.specs.Plan.{screen_of}
+use Rattle.pw_compile.specs.Plan.{planned_screen}
 use Rattle.pw_base.specs.Limits.{most_occurrences}
-use Rattle.pw_code.specs.declared.place.Place.{Place}
+use Rattle.pw_code.specs.declared.place.StoragePlace.{StoragePlace}
 use Rattle.pw_code.specs.declared.place.Register.{Register}
 use Rattle.pw_code.specs.declared.place.Register.TheVariants as register
-use Rattle.pw_code.specs.declared.place.Subscript as index
-use Rattle.pw_code.specs.declared.place.Subscript.TheVariants as subscript
-use Rattle.pw_code.specs.declared.place.Table.{Table}
+use Rattle.pw_code.specs.declared.place.PlaceSubscript as index
+use Rattle.pw_code.specs.declared.place.PlaceSubscript.TheVariants as subscript
+use Rattle.pw_code.specs.declared.place.PlaceTable.{PlaceTable}
 use Rattle.std.specs.Prelude.{◌≤◌, ◌<◌, IfSome, length}
 use Rattle.pw_source.specs.Program.{program_number}
 use Rattle.pw_sound.specs.Premises.{IsShownOf, CallFits, arguments_of}
@@ -38,20 +38,20 @@ IsKept register.Termination = Unit {0}
 IsKept register.Restarts = Unit {0}
 IsKept register.FileStatus = ⊥
 
-abbrev pub IsKeptIndex : index.Subscript → Type 0
+abbrev pub IsKeptIndex : index.PlaceSubscript → Type 0
 IsKeptIndex (subscript.Register one) = IsKept one
 IsKeptIndex _ = Unit {0}
 
 -- an argument goes by such a register alone
-abbrev pub IsKeptTable : Option Table → Type 0
+abbrev pub IsKeptTable : Option PlaceTable → Type 0
 IsKeptTable None = Unit {0}
 IsKeptTable (Some table) = IsKeptIndex table.subscript
 
-abbrev pub IsKeptPlace : Place → Type 0
+abbrev pub IsKeptPlace : StoragePlace → Type 0
 IsKeptPlace place = IsKeptTable place.table
 
 -- an item occurs at most as often as one may
-abbrev pub IsFew : Place → Type 0
+abbrev pub IsFew : StoragePlace → Type 0
 IsFew place = IfSome place.table (λ table. table.occurs ≤ most_occurrences)
 
 module _ (system : System) (setting : Setting) where
@@ -61,12 +61,12 @@ module _ (system : System) (setting : Setting) where
   abbrev pub Performed : Word → Type 0
   Performed name = IsSome (paragraph_of (scope_of setting.is_server setting.deck setting.program) name)
 
-  abbrev pub ArithmeticOwn : Arithmetic → Type 0
+  abbrev pub ArithmeticOwn : ArithmeticForm → Type 0
   ArithmeticOwn a = Own a.first × Own a.second × Own (computing.receiver_of a)
 
   -- a screen of the program, by its number in the system
   pub record IsScreenOf (name : Word) (table : ScreenTable) : Type 0 where
-    pub coded : screen_at system (screen_of (plan_in setting) name) ≡ table
+    pub coded : screen_at system (planned_screen (plan_in setting) name) ≡ table
     pub shown : Each (λ (field : Field). IsShownOf setting.program.layout field.shown) table.fields
 
   pub record ShowsScreen (name : Word) : Type 0 where

@@ -11,17 +11,17 @@ use Rattle.pw_words.specs.Words.{Word, same_word}
 use Rattle.pw_data.specs.Entries.{picture_of_kind}
 use Rattle.pw_data.specs.Layouts.{place_at, place_of}
 use Rattle.pw_data.specs.declared.item.Item.{Item}
-use Rattle.pw_data.specs.declared.item.Kind.{Kind}
-use Rattle.pw_data.specs.declared.item.Kind.TheVariants as kinds
+use Rattle.pw_data.specs.declared.item.ItemKind.{ItemKind}
+use Rattle.pw_data.specs.declared.item.ItemKind.TheVariants as kinds
 use Rattle.pw_data.specs.declared.item.Place as items
 use Rattle.pw_forms.specs.declared.operand.Operand.{Operand}
 use Rattle.pw_forms.specs.declared.operand.Operand.TheVariants as operands
 use Rattle.pw_forms.specs.declared.operand.Subscript.TheVariants as subscripts
 use Rattle.pw_operands.specs.Resolved.{Each, IsVariable}
 use Rattle.pw_operands.specs.Variables.{is_index, of_place, of_register, register_of}
-use Rattle.pw_operands.specs.declared.register.Register as registers
+use Rattle.pw_operands.specs.declared.register.SpecialRegister as registers
 use Rattle.pw_operands.specs.declared.variable.Variable.{Variable}
-use Rattle.pw_source.specs.Program.{Deck, Program, item_named}
+use Rattle.pw_source.specs.Program.{DeckModel, Program, item_named}
 use Rattle.pw_source.specs.Sound.{scope_of}
 use Rattle.pw_compile.specs.Operands as code
 use Rattle.pw_sound.specs.Premises.{arguments_of}
@@ -71,12 +71,12 @@ kept-register name upper v found = by (same_word name (codes "TERMINATION-STATUS
     by false true one two is = subst (λ (word : Word). IsKept (code.register_named word)) (sym (same-upper name (codes "RESTART-COUNTER") upper refl two)) tt
     by false false one two is = absurd (none-some v is)
 
-kept-kind : (at : ℕ) (o : Option Kind) → IsKeptIndex (code.index_at at (option_map picture_of_kind o))
+kept-kind : (at : ℕ) (o : Option ItemKind) → IsKeptIndex (code.index_at at (option_map picture_of_kind o))
 kept-kind at None = tt
 kept-kind at (Some (kinds.Text n)) = tt
 kept-kind at (Some (kinds.Number digits places sign)) = tt
 
-kept-index : (deck : Deck) (program : Program) (name : Word) → IsVariable (scope_of false deck program) is_index name → IsUpper name → IsKeptIndex (code.index_by (place_of program.layout name) name)
+kept-index : (deck : DeckModel) (program : Program) (name : Word) → IsVariable (scope_of false deck program) is_index name → IsUpper name → IsKeptIndex (code.index_by (place_of program.layout name) name)
 kept-index deck program name is upper = by (item_named program name) refl
   where
     by : (o : Option Item) → item_named program name ≡ o → IsKeptIndex (code.index_by (option_map place_at o) name)
@@ -87,7 +87,7 @@ kept-index deck program name is upper = by (item_named program name) refl
 
 -- ---- arguments
 
-kept-place : (deck : Deck) (program : Program) (one : Operand) → Indexed false deck program one → HasUpperIndex one → IsKeptPlace (code.place_in program.layout one)
+kept-place : (deck : DeckModel) (program : Program) (one : Operand) → Indexed false deck program one → HasUpperIndex one → IsKeptPlace (code.place_in program.layout one)
 kept-place deck program (operands.Item name None) own upper = by (place_of program.layout name)
   where
     by : (o : Option items.Place) → IsKeptPlace (code.place_by program.layout o None)
@@ -108,6 +108,6 @@ kept-place deck program (operands.Text chars) own upper = tt
 kept-place deck program operands.Spaces own upper = tt
 kept-place deck program operands.Zeros own upper = tt
 
-pub kept-places : (deck : Deck) (program : Program) (ones : List Operand) → Each (Indexed false deck program) ones → Each HasUpperIndex ones → Each IsKeptPlace (arguments_of program ones)
+pub kept-places : (deck : DeckModel) (program : Program) (ones : List Operand) → Each (Indexed false deck program) ones → Each HasUpperIndex ones → Each IsKeptPlace (arguments_of program ones)
 kept-places deck program [] own upper = tt
 kept-places deck program (one ∷ ones) own upper = (kept-place deck program one own.0 upper.0, kept-places deck program ones own.1 upper.1)

@@ -19,16 +19,16 @@ use Rattle.std.proofs.lemmas.Bool.{false≢true}
 use Rattle.std.proofs.lemmas.Option.{slice_get_within}
 use Rattle.pw_code.specs.declared.links.Links.{Links}
 use Rattle.pw_code.specs.declared.lock.LockRule.{LockRule}
-use Rattle.pw_source.specs.Program.{Deck, Program, first_screen}
+use Rattle.pw_source.specs.Program.{DeckModel, Program, first_screen}
 use Rattle.pw_source.specs.Program as tree
-use Rattle.pw_source.specs.Sound.{links_of, scope_of, IsSound, IsSoundProgram}
+use Rattle.pw_source.specs.Sound.{links_of, scope_of, IsSoundDeck, IsSoundProgram}
 use Rattle.pw_source.proofs.Resolved.{each-found}
 use Rattle.pw_compile.specs.Plan as plans
 use Rattle.pw_compile.specs.Plan.{Plan, plan_of, turn_of}
 use Rattle.pw_compile.specs.Programs.{linked_by}
 use Rattle.pw_compile.specs.Sizes.{body_size, turns_from}
 use Rattle.pw_compile.specs.Lengths.{instructions_of}
-use Rattle.pw_sound.specs.Premises.{HasTables, CallsFit, IsFitting, AreFitting, IsReadProgram, AreRead}
+use Rattle.pw_sound.specs.Premises.{HasTables, DeckCallsFit, IsFitting, AreFitting, IsReadProgram, AreRead}
 use Rattle.pw_sound.specs.Systems.{code_in, codes_in, screens_of, system_of}
 use Rattle.pw_sound.proofs.Decks.{found-at, some-found, screen-in, each-program}
 use Rattle.pw_sound.proofs.Emits.{instrs-are}
@@ -72,7 +72,7 @@ turned test (p ∷ ps) at k some =
         let same : k + 1 + r.number ≡ k + suc r.number = omega arith in
         record { number = suc r.number; found = r.found ∙ ap Some same; start = omega (arith, r.start); end = omega (arith, r.end) }
 
-turn-there : (links : Links) (first : ℕ) (server : Bool) (deck : Deck) (program : Program) (name : Word) → IsSome (paragraph_of (scope_of server deck program) name)
+turn-there : (links : Links) (first : ℕ) (server : Bool) (deck : DeckModel) (program : Program) (name : Word) → IsSome (paragraph_of (scope_of server deck program) name)
     → IsTurn (code_in links first program) (turn_of (plan_of program.layout program.screens program.paragraphs first links) name)
 turn-there links first server deck program name some =
     let test : Paragraph → Bool = λ p. bytes_eq p.name name in
@@ -86,7 +86,7 @@ turn-there links first server deck program name some =
 
 -- ---- codes
 
-linked-all : (server : Bool) (deck : Deck) (program : Program) → IsSoundProgram server deck program → (names : List Word)
+linked-all : (server : Bool) (deck : DeckModel) (program : Program) → IsSoundProgram server deck program → (names : List Word)
     → All (IsLinked (length program.layout.storage)) (map (λ name. linked_by (place_of program.layout name)) names)
 linked-all server deck program sound [] = All-nil (IsLinked (length program.layout.storage))
 linked-all server deck program sound (name ∷ names) =
@@ -94,10 +94,10 @@ linked-all server deck program sound (name ∷ names) =
     (linked-lies server deck program sound.laid name) (linked-all server deck program sound names)
 
 -- the code of a program
-code-valid : (rule : LockRule) (deck : Deck) (server : Bool) (program : Program) (first : ℕ) → IsSoundProgram server deck program → IsReadProgram program
-    → (server ≡ false → Each (λ (p : Paragraph). Each (CallsFit deck program) p.body) program.paragraphs)
+code-valid : (rule : LockRule) (deck : DeckModel) (server : Bool) (program : Program) (first : ℕ) → IsSoundProgram server deck program → IsReadProgram program
+    → (server ≡ false → Each (λ (p : Paragraph). Each (DeckCallsFit deck program) p.body) program.paragraphs)
     → (server ≡ false → (name : Word) → IsSome (screen_of (scope_of server deck program) name)
-    → IsScreen (system_of rule deck) (length program.layout.storage) (plans.screen_of (plan_of program.layout program.screens program.paragraphs first (links_of deck)) name))
+    → IsScreen (system_of rule deck) (length program.layout.storage) (plans.planned_screen (plan_of program.layout program.screens program.paragraphs first (links_of deck)) name))
     → IsCode server (system_of rule deck) (code_in (links_of deck) first program)
 code-valid rule deck server program first sound read fit screens =
     let plan = plan_of program.layout program.screens program.paragraphs first (links_of deck) in
@@ -115,7 +115,7 @@ screens-long [] q i lt below = absurd (omega (arith, lt))
 screens-long (x ∷ xs) zero i lt below = omega (arith, below, length-append x.screens (screens_of xs))
 screens-long (x ∷ xs) (suc q) i lt below = omega (arith, screens-long xs q i (omega (arith, lt)) below, length-append x.screens (screens_of xs))
 
-requester-valid : (rule : LockRule) (deck : Deck) (q : ℕ) → q < length deck.programs → IsSoundProgram false deck (tree.program_at deck.programs q) → IsFitting deck (tree.program_at deck.programs q)
+requester-valid : (rule : LockRule) (deck : DeckModel) (q : ℕ) → q < length deck.programs → IsSoundProgram false deck (tree.program_at deck.programs q) → IsFitting deck (tree.program_at deck.programs q)
     → IsReadProgram (tree.program_at deck.programs q) → IsCode false (system_of rule deck) (code_in (links_of deck) (first_screen deck.programs q) (tree.program_at deck.programs q))
 requester-valid rule deck q lt sound fitting read =
     let program = tree.program_at deck.programs q in
@@ -123,7 +123,7 @@ requester-valid rule deck q lt sound fitting read =
   where
     there : (name : Word) → IsSome (screen_of (scope_of false deck (tree.program_at deck.programs q)) name)
         → IsScreen (system_of rule deck) (length (tree.program_at deck.programs q).layout.storage)
-        (plans.screen_of (plan_of (tree.program_at deck.programs q).layout (tree.program_at deck.programs q).screens (tree.program_at deck.programs q).paragraphs (first_screen deck.programs q) (links_of deck)) name)
+        (plans.planned_screen (plan_of (tree.program_at deck.programs q).layout (tree.program_at deck.programs q).screens (tree.program_at deck.programs q).paragraphs (first_screen deck.programs q) (links_of deck)) name)
     there name some =
         let program = tree.program_at deck.programs q in
         let test : ScreenTable → Bool = λ screen. bytes_eq screen.name name in
@@ -157,7 +157,7 @@ servers-valid P links [] each = All-nil P
 servers-valid P links (x ∷ xs) each =
     All-cons P (code_in links 0 x) (map (code_in links 0) xs) (each 0 (omega arith)) (servers-valid P links xs (λ q lt. each (suc q) (omega (arith, lt))))
 
-module _ (rule : LockRule) (deck : Deck) (sound : IsSound deck) (fitting : AreFitting deck) (read : AreRead deck) where
+module _ (rule : LockRule) (deck : DeckModel) (sound : IsSoundDeck deck) (fitting : AreFitting deck) (read : AreRead deck) where
   pub programs-are : All (IsCode false (system_of rule deck)) (system_of rule deck).programs
   programs-are =
       codes-valid (IsCode false (system_of rule deck)) (links_of deck) deck.programs 0

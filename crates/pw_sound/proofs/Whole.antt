@@ -20,10 +20,10 @@ use Rattle.pw_code.specs.declared.file.FileOp.TheVariants as fileop
 use Rattle.pw_code.specs.declared.verb.Verb.TheVariants as verb
 use Rattle.pw_source.specs.Program.{Program, body_named}
 use Rattle.pw_source.specs.Setting.{Setting}
-use Rattle.pw_source.specs.State.{State, Out, Goes, Leaves, Asks, then_do}
+use Rattle.pw_source.specs.State.{ProgramState, Out, Goes, Leaves, Asks, then_do}
 use Rattle.pw_source.specs.State as source
 use Rattle.pw_source.specs.Operands as operands
-use Rattle.pw_source.specs.Operands.{Taken, spot_in}
+use Rattle.pw_source.specs.Operands.{ResolvedOperand, spot_in}
 use Rattle.pw_source.specs.Conditions as conditions
 use Rattle.pw_source.specs.Values.{Text', number_of, whole_part}
 use Rattle.pw_source.specs.Moves as moving
@@ -32,7 +32,7 @@ use Rattle.pw_source.specs.Performs.{budget}
 use Rattle.pw_source.specs.Performs as performs
 use Rattle.pw_source.specs.Files as files
 use Rattle.pw_source.specs.Statements.{statement, branch_row, body, branch}
-use Rattle.pw_exec.specs.Config.{Config, code_at, asks, counted, on, over, with_storage, with_taken}
+use Rattle.pw_exec.specs.Config.{Config, code_at, asks, code_statement_counted, on, over, with_storage, with_taken}
 use Rattle.pw_exec.specs.Answers as puts
 use Rattle.pw_exec.specs.Steps as steps
 use Rattle.pw_exec.specs.Turns as turning
@@ -50,7 +50,7 @@ use Rattle.pw_source.specs.Program.{program_at, program_number, screen_named}
 use Rattle.pw_source.specs.Screens as screens
 use Rattle.pw_source.specs.Sends as sends
 use Rattle.pw_compile.specs.Emitted.{has_screen, display_by, display_of, call_of, reply_code}
-use Rattle.pw_compile.specs.Plan.{screen_of, program_of, class_of}
+use Rattle.pw_compile.specs.Plan.{planned_screen, planned_program, planned_class}
 use Rattle.pw_sound.specs.Systems.{plan_in}
 use Rattle.pw_sound.proofs.Suits as suits
 use Rattle.pw_sound.proofs.Screens.{screen_does, operand_shown, accept_does}
@@ -140,22 +140,22 @@ module _ (system : System) (setting : Setting) (e : Env) (set : IsSet system set
   abbrev Performed : Word → Type 0
   Performed name = suits.Performed system setting name
 
-  module _ (perform : Word → State → Out) (call : ℕ → List (List ℕ) → State → Out) (d : ℕ)
+  module _ (perform : Word → ProgramState → Out) (call : ℕ → List (List ℕ) → ProgramState → Out) (d : ℕ)
       (stands : (name : Word) → Performed name → StandsIn system setting e set name)
-      (full : (name : Word) (rs : List Return) (t : State) → length rs + d ≡ turning.most_performs → nat_lt (length rs) turning.most_performs ≡ false → perform name t ≡ source.faults 202 t)
-      (inside : (name : Word) → Performed name → (rs : List Return) (r : Return) (t : State) (m : Marks) → length rs + d ≡ turning.most_performs → nat_lt (length rs) turning.most_performs ≡ true → Ground setting.program t.store
+      (full : (name : Word) (rs : List Return) (t : ProgramState) → length rs + d ≡ turning.most_performs → nat_lt (length rs) turning.most_performs ≡ false → perform name t ≡ source.faults 202 t)
+      (inside : (name : Word) → Performed name → (rs : List Return) (r : Return) (t : ProgramState) (m : Marks) → length rs + d ≡ turning.most_performs → nat_lt (length rs) turning.most_performs ≡ true → Ground setting.program t.store
       → Does system setting.program e (budget t) (mach e (turn_of (plan_in setting) name).start (rs ++ r ∷ []) t m) t.answers (turn_of (plan_in setting) name).end (rs ++ r ∷ []) (perform name t))
       (calling : setting.is_server ≡ false → CallDoes system setting e call) where
     -- a statement does what it does
     abbrev pub IsDone : Statement → Type 0
-    IsDone one = (at : ℕ) (rs : List Return) (s : State) (m : Marks) → length rs + d ≡ turning.most_performs → Ground setting.program s.store → HasAt instrs at (statement_code plan one)
+    IsDone one = (at : ℕ) (rs : List Return) (s : ProgramState) (m : Marks) → length rs + d ≡ turning.most_performs → Ground setting.program s.store → HasAt instrs at (statement_code plan one)
         → Does system setting.program e (budget s) (mach e at rs s m) s.answers (at + size one) rs (statement setting perform call one s)
 
     abbrev Own : Operand → Type 0
     Own one = Indexed setting.is_server setting.deck setting.program one
 
     -- a screen, or an operand
-    display_does : (shown : Operand) → suits.Shows system setting shown → (at : ℕ) (rs : List Return) (t : State) (m : Marks) → Ground setting.program t.store
+    display_does : (shown : Operand) → suits.Shows system setting shown → (at : ℕ) (rs : List Return) (t : ProgramState) (m : Marks) → Ground setting.program t.store
         → slice_get instrs at ≡ Some (display_of plan shown)
         → Does system setting.program e (budget t) (steps.does system (display_of plan shown) (mach e at rs t m)) t.answers (at + 1) rs (screens.display setting shown t)
     display_does (operands'.Item name None) fit at rs t m fine h =
@@ -166,7 +166,7 @@ module _ (system : System) (setting : Setting) (e : Env) (set : IsSet system set
             → Does system setting.program e (budget t) (steps.does system (display_by plan b name (operands'.Item name None)) (mach e at rs t m)) t.answers (at + 1) rs (screens.display_by o setting (operands'.Item name None) t)
         by None fit true is h' = absurd cc
         by None fit false is h' = operand_shown system setting set.known e (operands'.Item name None) fit at rs t m fine h'
-        by (Some table) fit true is h' = screen_does system setting set.known e false (screen_of plan name) table at rs t m fine fit.coded fit.shown h'
+        by (Some table) fit true is h' = screen_does system setting set.known e false (planned_screen plan name) table at rs t m fine fit.coded fit.shown h'
         by (Some table) fit false is h' = absurd cc
     display_does (operands'.Item name (Some one)) fit at rs t m fine h = operand_shown system setting set.known e (operands'.Item name (Some one)) fit at rs t m fine h
     display_does (operands'.Number spelling) fit at rs t m fine h = operand_shown system setting set.known e (operands'.Number spelling) fit at rs t m fine h
@@ -174,7 +174,7 @@ module _ (system : System) (setting : Setting) (e : Env) (set : IsSet system set
     display_does operands'.Spaces fit at rs t m fine h = operand_shown system setting set.known e operands'.Spaces fit at rs t m fine h
     display_does operands'.Zeros fit at rs t m fine h = operand_shown system setting set.known e operands'.Zeros fit at rs t m fine h
 
-    branch_does : (o : Option Bool) (n at to : ℕ) (rs : List Return) (s : State) (m : Marks) (on_true on_false : State → Out)
+    branch_does : (o : Option Bool) (n at to : ℕ) (rs : List Return) (s : ProgramState) (m : Marks) (on_true on_false : ProgramState → Out)
         → Does system setting.program e (budget s) (mach e (at + 1) rs s m) s.answers to rs (on_true s) → Does system setting.program e (budget s) (mach e (at + 1 + n) rs s m) s.answers to rs (on_false s)
         → Does system setting.program e (budget s) (with_taken o (steps.branch n) (mach e at rs s m)) s.answers to rs (branch o on_true on_false s)
     branch_does None n at to rs s m on_true on_false h g = fault_ends system setting.program e (mach e at rs s m) s.answers 203 refl
@@ -186,18 +186,18 @@ module _ (system : System) (setting : Setting) (e : Env) (set : IsSet system set
     then_goes c p b to rs (Leaves t) r = r
     then_goes c p b to rs (Asks v t) r = r
 
-    chosen_does : (o : Option Word) → ((name : Word) → o ≡ Some name → Performed name) → (at : ℕ) (rs : List Return) (t : State) (m : Marks) → length rs + d ≡ turning.most_performs → Ground setting.program t.store
+    chosen_does : (o : Option Word) → ((name : Word) → o ≡ Some name → Performed name) → (at : ℕ) (rs : List Return) (t : ProgramState) (m : Marks) → length rs + d ≡ turning.most_performs → Ground setting.program t.store
         → Does system setting.program e (budget t) (turning.chosen (option_map (turn_of plan) o) (mach e at rs t m)) t.answers (at + 1) rs (performs.perform_chosen perform o t)
     chosen_does None each at rs t m is ground = record { marks = m; ground = ground; less = omega arith; leads = stays system (mach e (at + 1) rs t m) t.answers }
     chosen_does (Some name) each at rs t m is ground =
         perform_does system setting set.known e plan is_plan perform d name (turn_of plan name) (stands name (each name refl)).end (full name) (inside name (each name refl)) at rs t m is ground
 
     -- a reply
-    reply_does : (from : Operand) → Own from → (at : ℕ) (rs : List Return) (t : State) (m : Marks) → Ground setting.program t.store → slice_get instrs at ≡ Some (instr.Reply (code.operand_of setting.program.layout from))
+    reply_does : (from : Operand) → Own from → (at : ℕ) (rs : List Return) (t : ProgramState) (m : Marks) → Ground setting.program t.store → slice_get instrs at ≡ Some (instr.Reply (code.operand_of setting.program.layout from))
         → Does system setting.program e (budget t) (steps.operates (code.operand_of setting.program.layout from) (mach e at rs t m)) t.answers (at + 1) rs (files.reply setting from t)
     reply_does from fit at rs t m fine h =
-        taken_does system setting.program e (λ found. found) (operands.taken setting.program t from) _ (budget t) at rs t m (at + 1) rs (λ found. asks) (λ found. Asks (verb.Reply (operands.chars_in found t.store)) t)
-        (taken-same setting.is_server setting.deck setting.program set.known t e.tail fine from fit ∙ same-map (operands.taken setting.program t from))
+        taken_does system setting.program e (λ found. found) (operands.operand_taken setting.program t from) _ (budget t) at rs t m (at + 1) rs (λ found. asks) (λ found. Asks (verb.Reply (operands.chars_in found t.store)) t)
+        (taken-same setting.is_server setting.deck setting.program set.known t e.tail fine from fit ∙ same-map (operands.operand_taken setting.program t from))
         (λ found taken_is.
         stop_ends system setting.program e at rs t m (Some (instr.Reply (code.operand_of setting.program.layout from))) (verb.Reply (operands.chars_in found t.store)) h
         (ap (λ o. verb.Reply (steps.chars_by o))
@@ -205,8 +205,8 @@ module _ (system : System) (setting : Setting) (e : Env) (set : IsSet system set
         (λ a. refl))
 
     -- what follows an operation that reads no record
-    file_answered : (at : ℕ) (rs : List Return) (t : State) (m : Marks) → Ground setting.program t.store → (a : Answer) (given : List Answer)
-        → let u : State = record t { answers = given } in
+    file_answered : (at : ℕ) (rs : List Return) (t : ProgramState) (m : Marks) → Ground setting.program t.store → (a : Answer) (given : List Answer)
+        → let u : ProgramState = record t { answers = given } in
         Does system setting.program e (budget u) (puts.file_put a (asks (mach e at rs t m))) given (at + 1) rs (files.file_answered None a u)
     file_answered at rs t m fine (answer.FileDone status content) given = record { marks = m; ground = fine; less = omega arith; leads = stays system _ given }
     file_answered at rs t m fine answer.Shown given = record { marks = m; ground = fine; less = omega arith; leads = stays system _ given }
@@ -218,16 +218,16 @@ module _ (system : System) (setting : Setting) (e : Env) (set : IsSet system set
     file_answered at rs t m fine answer.Dropped given = record { marks = m; ground = fine; less = omega arith; leads = stays system _ given }
 
     -- an operation with a key or a record
-    operation_does : (one : Operand) → Own one → (at : ℕ) (rs : List Return) (t : State) (m : Marks) → Ground setting.program t.store → (i : Instr) → slice_get instrs at ≡ Some i → (call_of : List ℕ → FileCall)
+    operation_does : (one : Operand) → Own one → (at : ℕ) (rs : List Return) (t : ProgramState) (m : Marks) → Ground setting.program t.store → (i : Instr) → slice_get instrs at ≡ Some i → (call_of : List ℕ → FileCall)
         → steps.does system i ≡ steps.operates (code.operand_of setting.program.layout one)
-        → ((found : Taken) → steps.read_here (asks (mach e at rs t m)) (code.operand_of setting.program.layout one) ≡ Some (operands.value_in found t.store) → steps.asked_by (Some i) (asks (mach e at rs t m)) ≡ verb.File (call_of (operands.chars_in found t.store)))
+        → ((found : ResolvedOperand) → steps.read_here (asks (mach e at rs t m)) (code.operand_of setting.program.layout one) ≡ Some (operands.value_in found t.store) → steps.asked_by (Some i) (asks (mach e at rs t m)) ≡ verb.File (call_of (operands.chars_in found t.store)))
         → ((a : Answer) → puts.answered_by system (Some i) a (asks (mach e at rs t m)) ≡ puts.file_put a (asks (mach e at rs t m)))
         → Does system setting.program e (budget t) (steps.does system i (mach e at rs t m)) t.answers (at + 1) rs
         (operands.with_operand setting.program one t (λ found. files.operates setting (call_of (operands.chars_in found t.store)) None t))
     operation_does one_operand fit at rs t m fine i h call_of is asked same =
         subst (λ f. Does system setting.program e (budget t) (f (mach e at rs t m)) t.answers (at + 1) rs (operands.with_operand setting.program one_operand t (λ found. files.operates setting (call_of (operands.chars_in found t.store)) None t))) (sym is)
-        (taken_does system setting.program e (λ found. found) (operands.taken setting.program t one_operand) _ (budget t) at rs t m (at + 1) rs (λ found. asks) (λ found. files.operates setting (call_of (operands.chars_in found t.store)) None t)
-        (taken-same setting.is_server setting.deck setting.program set.known t e.tail fine one_operand fit ∙ same-map (operands.taken setting.program t one_operand))
+        (taken_does system setting.program e (λ found. found) (operands.operand_taken setting.program t one_operand) _ (budget t) at rs t m (at + 1) rs (λ found. asks) (λ found. files.operates setting (call_of (operands.chars_in found t.store)) None t)
+        (taken-same setting.is_server setting.deck setting.program set.known t e.tail fine one_operand fit ∙ same-map (operands.operand_taken setting.program t one_operand))
         (λ found taken_is.
         operation_asked system setting set.known e set.not_alone i None (call_of (operands.chars_in found t.store)) at rs t m h
         (asked found (read-same setting.is_server setting.deck setting.program set.known t e.tail fine one_operand fit ∙ ap (option_map (λ x. operands.value_in x t.store)) taken_is))
@@ -236,14 +236,14 @@ module _ (system : System) (setting : Setting) (e : Env) (set : IsSet system set
 
     -- the message is moved
     receive_does : (into : Operand) → Own into → e.tail ≡ setting.message → length (code_at system e.program).storage ≡ length setting.program.layout.storage
-        → (at : ℕ) (rs : List Return) (t : State) (m : Marks) → Ground setting.program t.store
+        → (at : ℕ) (rs : List Return) (t : ProgramState) (m : Marks) → Ground setting.program t.store
         → Does system setting.program e (budget t) (steps.receives system (code.place_in setting.program.layout into) (mach e at rs t m)) t.answers (at + 1) rs (files.receive setting into t)
     receive_does into fit told long at rs t m fine =
-        taken_does system setting.program e spot_in (operands.taken setting.program t into) _ (budget t) at rs t m (at + 1) rs
+        taken_does system setting.program e spot_in (operands.operand_taken setting.program t into) _ (budget t) at rs t m (at + 1) rs
         (λ item d. on (with_storage (moves.move_text (drop (length (code_at system d.top.program).storage) d.top.storage) item d.top.storage) d)) (λ item. Goes (moving.move_text setting.message (spot_in item) t))
         (spot-same setting.is_server setting.deck setting.program set.known t e.tail fine into fit)
         (λ item taken_is.
-        let u : State = moving.move_text setting.message (spot_in item) t in
+        let u : ProgramState = moving.move_text setting.message (spot_in item) t in
         let message : drop (length (code_at system e.program).storage) (joined t.store ++ e.tail) ≡ setting.message =
         drop-front (joined t.store) e.tail (length (code_at system e.program).storage) (fine.1 ∙ sym long) ∙ told in
         let sits = spot-sits t.store item (taken-sits setting.is_server setting.deck setting.program set.known t e.tail fine into item taken_is) in
@@ -255,14 +255,14 @@ module _ (system : System) (setting : Setting) (e : Env) (set : IsSet system set
           leads = subst (λ (chars : List ℕ). Leads system (on (with_storage chars (mach e at rs t m))) t.answers (mach e (at + 1) rs u m) t.answers) (sym storage) (stays system (mach e (at + 1) rs u m) t.answers);
         })
 
-    goes_on : (at : ℕ) (rs : List Return) (t : State) (m : Marks) (u : State) → Computed setting.program t u
+    goes_on : (at : ℕ) (rs : List Return) (t : ProgramState) (m : Marks) (u : ProgramState) → Computed setting.program t u
         → Does system setting.program e (budget t) (on (with_storage (joined u.store ++ e.tail) (mach e at rs t m))) t.answers (at + 1) rs (Goes u)
     goes_on at rs t m u made =
-        subst (λ (w : State). Does system setting.program e (budget t) (on (with_storage (joined w.store ++ e.tail) (mach e at rs t m))) t.answers (at + 1) rs (Goes w)) (sym made.is)
+        subst (λ (w : ProgramState). Does system setting.program e (budget t) (on (with_storage (joined w.store ++ e.tail) (mach e at rs t m))) t.answers (at + 1) rs (Goes w)) (sym made.is)
         (record { marks = m; ground = made.ground; less = omega arith; leads = stays system (mach e (at + 1) rs (record t { store = made.store }) m) t.answers })
 
     -- the first branch, and the jump over the second
-    first_does : {n : _} (k at : ℕ) (rs : List Return) (t : State) (m : Marks) (row : Row_of-Statement n)
+    first_does : {n : _} (k at : ℕ) (rs : List Return) (t : ProgramState) (m : Marks) (row : Row_of-Statement n)
         → Does system setting.program e (budget t) (mach e (at + 1) rs t m) t.answers (at + 1 + row_size row) rs (branch_row setting perform call row t)
         → slice_get instrs (at + 1 + row_size row) ≡ Some (instr.Jump k)
         → Does system setting.program e (budget t) (mach e (at + 1) rs t m) t.answers (at + 1 + row_size row + 1 + k) rs (branch_row setting perform call row t)
@@ -273,20 +273,20 @@ module _ (system : System) (setting : Setting) (e : Env) (set : IsSet system set
         (λ u n less u_ground. record { marks = n; ground = u_ground; less = omega arith; leads = one system e mid rs u n u.answers (Some (instr.Jump k)) jump }))
 
     -- the second branch, behind arithmetic
-    other_does : {n : _} (at k : ℕ) (rs : List Return) (t : State) (m : Marks) (u : State) → (made : Computed setting.program t u) → (row : Row_of-Statement n)
+    other_does : {n : _} (at k : ℕ) (rs : List Return) (t : ProgramState) (m : Marks) (u : ProgramState) → (made : Computed setting.program t u) → (row : Row_of-Statement n)
         → Does system setting.program e (budget t) (mach e (at + 1 + k + 1) rs (record t { store = made.store }) m) t.answers (at + 1 + k + 1 + row_size row) rs (branch_row setting perform call row (record t { store = made.store }))
         → Does system setting.program e (budget t) (over (k + 1) (with_storage (joined u.store ++ e.tail) (mach e at rs t m))) t.answers (at + 1 + k + 1 + row_size row) rs (branch_row setting perform call row u)
     other_does at k rs t m u made row done =
         let passed : at + 1 + k + 1 ≡ at + 1 + (k + 1) = omega arith in
-        let w : State = record t { store = made.store } in
-        subst (λ (v : State). Does system setting.program e (budget t) (over (k + 1) (with_storage (joined v.store ++ e.tail) (mach e at rs t m))) t.answers (at + 1 + k + 1 + row_size row) rs (branch_row setting perform call row v)) (sym made.is)
+        let w : ProgramState = record t { store = made.store } in
+        subst (λ (v : ProgramState). Does system setting.program e (budget t) (over (k + 1) (with_storage (joined v.store ++ e.tail) (mach e at rs t m))) t.answers (at + 1 + k + 1 + row_size row) rs (branch_row setting perform call row v)) (sym made.is)
         (subst (λ j. Does system setting.program e (budget t) (mach e j rs w m) t.answers (at + 1 + k + 1 + row_size row) rs (branch_row setting perform call row w)) passed done)
 
     -- DISPLAY is a statement, whatever it shows
-    display-counts : (shown : Operand) → steps.act system (Some (display_of plan shown)) ≡ counted (steps.does system (display_of plan shown))
+    display-counts : (shown : Operand) → steps.act system (Some (display_of plan shown)) ≡ code_statement_counted (steps.does system (display_of plan shown))
     display-counts (operands'.Item name None) = by (has_screen plan.screens name)
       where
-        by : (b : Bool) → steps.act system (Some (display_by plan b name (operands'.Item name None))) ≡ counted (steps.does system (display_by plan b name (operands'.Item name None)))
+        by : (b : Bool) → steps.act system (Some (display_by plan b name (operands'.Item name None))) ≡ code_statement_counted (steps.does system (display_by plan b name (operands'.Item name None)))
         by true = refl
         by false = refl
     display-counts (operands'.Item name (Some one)) = refl
@@ -343,7 +343,7 @@ module _ (system : System) (setting : Setting) (e : Env) (set : IsSet system set
           begins system setting.program e at rs s m (at + 1) rs _ _ h.0 refl
           (λ t same.
           let fine = subst (Ground setting.program) (sym same) ground in
-          taken_does system setting.program e (λ found. operands.value_in found t.store) (operands.taken setting.program t times) _ (budget t) at rs t m (at + 1) rs _ _
+          taken_does system setting.program e (λ found. operands.value_in found t.store) (operands.operand_taken setting.program t times) _ (budget t) at rs t m (at + 1) rs _ _
           (read-same setting.is_server setting.deck setting.program set.known t e.tail fine times fit.1)
           (λ found taken_is. times_does system setting set.known e plan is_plan perform d name (turn_of plan name) (stands name fit.0).end (full name) (inside name fit.0)
           (whole_part (number_of (operands.value_in found t.store))) at rs t m is fine))
@@ -378,34 +378,34 @@ module _ (system : System) (setting : Setting) (e : Env) (set : IsSet system set
           begins system setting.program e at rs s m (at + 1) rs _ _ h.0 refl
           (λ t same.
           let fine = subst (Ground setting.program) (sym same) ground in
-          taken_does system setting.program e (λ found. operands.value_in found t.store) (operands.taken setting.program t position) _ (budget t) at rs t m (at + 1) rs _ _
+          taken_does system setting.program e (λ found. operands.value_in found t.store) (operands.operand_taken setting.program t position) _ (budget t) at rs t m (at + 1) rs _ _
           (read-same setting.is_server setting.deck setting.program set.known t e.tail fine position fit.1)
           (λ found taken_is.
           let n = whole_part (number_of (operands.value_in found t.store)) in
           subst (λ o. Does system setting.program e (budget t) (turning.chosen o (mach e at rs t m)) t.answers (at + 1) rs (performs.perform_chosen perform (performs.at_position names n) t)) (sym (position-same (turn_of plan) names n))
           (chosen_does (performs.at_position names n) (λ name named. position-each Performed names n name fit.0 named) at rs t m is fine)))
       statement_does (form.DisplayBase line screen) fit at rs s m is ground h =
-          begins system setting.program e at rs s m (at + 1) rs (instr.DisplayScreen (screen_of plan screen) true) (screens.display_table true (screen_named setting.program screen)) h.0 refl
+          begins system setting.program e at rs s m (at + 1) rs (instr.DisplayScreen (planned_screen plan screen) true) (screens.display_table true (screen_named setting.program screen)) h.0 refl
           (λ t same.
-          subst (λ o. Does system setting.program e (budget t) (steps.does system (instr.DisplayScreen (screen_of plan screen) true) (mach e at rs t m)) t.answers (at + 1) rs (screens.display_table true o t)) (sym fit.is)
-          (screen_does system setting set.known e true (screen_of plan screen) fit.table at rs t m (subst (Ground setting.program) (sym same) ground) fit.of.coded fit.of.shown h.0))
+          subst (λ o. Does system setting.program e (budget t) (steps.does system (instr.DisplayScreen (planned_screen plan screen) true) (mach e at rs t m)) t.answers (at + 1) rs (screens.display_table true o t)) (sym fit.is)
+          (screen_does system setting set.known e true (planned_screen plan screen) fit.table at rs t m (subst (Ground setting.program) (sym same) ground) fit.of.coded fit.of.shown h.0))
       statement_does (form.Display line shown) fit at rs s m is ground h =
           begins system setting.program e at rs s m (at + 1) rs (display_of plan shown) (screens.display setting shown) h.0 (display-counts shown)
           (λ t same. display_does shown fit at rs t m (subst (Ground setting.program) (sym same) ground) h.0)
       statement_does (form.Accept line screen keys) fit at rs s m is ground h =
-          begins system setting.program e at rs s m (at + 1) rs (instr.Accept (screen_of plan screen) keys) (screens.accept setting screen keys) h.0 refl
+          begins system setting.program e at rs s m (at + 1) rs (instr.Accept (planned_screen plan screen) keys) (screens.accept setting screen keys) h.0 refl
           (λ t same.
-          subst (λ o. Does system setting.program e (budget t) (asks (mach e at rs t m)) t.answers (at + 1) rs (screens.accept_by o keys (screen_of plan screen) t)) (sym fit.is)
-          (accept_does system setting set.known e at rs (screen_of plan screen) keys fit.table fit.of.coded fit.of.shown h.0 t m (subst (Ground setting.program) (sym same) ground)))
+          subst (λ o. Does system setting.program e (budget t) (asks (mach e at rs t m)) t.answers (at + 1) rs (screens.accept_by o keys (planned_screen plan screen) t)) (sym fit.is)
+          (accept_does system setting set.known e at rs (planned_screen plan screen) keys fit.table fit.of.coded fit.of.shown h.0 t m (subst (Ground setting.program) (sym same) ground)))
       statement_does (form.Call line called arguments) fit at rs s m is ground h =
           begins system setting.program e at rs s m (at + 1) rs (call_of plan called arguments) (performs.call_program setting call called arguments) h.0 refl
-          (λ t same. call_does system setting e set.known call (calling fit.requester) called arguments (program_of plan called)
+          (λ t same. call_does system setting e set.known call (calling fit.requester) called arguments (planned_program plan called)
           (number-same (λ (program : Program). program.name) setting.deck.programs called) fit (set.callees (program_number setting.deck called) fit.there) at rs t m (subst (Ground setting.program) (sym same) ground) h.0)
       statement_does (form.Send line message class codes) fit at rs s m is ground h =
           let same_end : at + 1 + 1 ≡ at + 2 = omega arith in
           ends_at system setting.program e (budget s) _ s.answers (at + 1 + 1) _ rs _ same_end
-          (begins system setting.program e at rs s m (at + 1 + 1) rs (instr.Send (class_of plan class) (code.operand_of setting.program.layout message) (map (reply_code plan) codes)) (sends.send setting message class codes) h.0 refl
-          (λ t same. send_does system setting set.known e message class (class_of plan class) codes
+          (begins system setting.program e at rs s m (at + 1 + 1) rs (instr.Send (planned_class plan class) (code.operand_of setting.program.layout message) (map (reply_code plan) codes)) (sends.send setting message class codes) h.0 refl
+          (λ t same. send_does system setting set.known e message class (planned_class plan class) codes
           (class-same (λ (one : ClassInfo). one.name) setting.deck.classes class) fit.0 fit.1 at rs t m (subst (Ground setting.program) (sym same) ground) h.0 h.1.0))
       statement_does (form.Receive line into) fit at rs s m is ground h =
           begins system setting.program e at rs s m (at + 1) rs (instr.Receive (code.place_in setting.program.layout into)) (files.receive setting into) h.0 refl
@@ -448,7 +448,7 @@ module _ (system : System) (setting : Setting) (e : Env) (set : IsSet system set
           (λ found is_read. ap (λ o. verb.File (record { file = file_of plan file; op = fileop.Delete; key = steps.chars_by o; content = [] })) is_read)
           (λ a. refl))
 
-      row_does : {n : _} (row : Row_of-Statement n) (at : ℕ) (rs : List Return) (s : State) (m : Marks) → length rs + d ≡ turning.most_performs → Ground setting.program s.store → suits.RowSuits system setting row → HasAt instrs at (row_code plan row)
+      row_does : {n : _} (row : Row_of-Statement n) (at : ℕ) (rs : List Return) (s : ProgramState) (m : Marks) → length rs + d ≡ turning.most_performs → Ground setting.program s.store → suits.RowSuits system setting row → HasAt instrs at (row_code plan row)
           → Does system setting.program e (budget s) (mach e at rs s m) s.answers (at + row_size row) rs (branch_row setting perform call row s)
       row_does end_of-Statement at rs s m is ground fit h =
           let same : at ≡ at + 0 = omega arith in
@@ -461,7 +461,7 @@ module _ (system : System) (setting : Setting) (e : Env) (set : IsSet system set
           (λ t k less t_ground. row_does rest (at + size each) rs t k is t_ground fit.1 (has_back instrs at (statement_code plan each) (row_code plan rest) (at + size each) (omega (arith, statement_length plan each)) h)))
 
     -- the statements of a paragraph
-    pub body_does : (ones : List Statement) (at : ℕ) (rs : List Return) (s : State) (m : Marks) → length rs + d ≡ turning.most_performs → Ground setting.program s.store → Each (suits.Suits system setting) ones → HasAt instrs at (body_code plan ones)
+    pub body_does : (ones : List Statement) (at : ℕ) (rs : List Return) (s : ProgramState) (m : Marks) → length rs + d ≡ turning.most_performs → Ground setting.program s.store → Each (suits.Suits system setting) ones → HasAt instrs at (body_code plan ones)
         → Does system setting.program e (budget s) (mach e at rs s m) s.answers (at + body_size ones) rs (body setting perform call ones s)
     body_does [] at rs s m is ground fit h =
         let same : at ≡ at + 0 = omega arith in

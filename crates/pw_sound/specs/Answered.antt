@@ -14,4 +14,4 @@ pub record AnswersAs (system : System) (start : Config) (answers : List Answer) 
   pub comes : Comes system start answers at
   pub stands : at_verb at ≡ true
   pub asks : verb_of system at ≡ tree.verb_of out
-  pub shows : at.rest.screen ≡ tree.screen_of out
+  pub shows : at.rest.screen ≡ tree.asked_screen out

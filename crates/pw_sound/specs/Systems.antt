@@ -5,13 +5,13 @@ use Rattle.pw_code.specs.declared.field.ScreenTable.{ScreenTable}
 use Rattle.pw_code.specs.declared.links.Links.{Links}
 use Rattle.pw_code.specs.declared.lock.LockRule.{LockRule}
 use Rattle.pw_code.specs.declared.system.System.{System}
-use Rattle.pw_source.specs.Program.{Deck, Program}
+use Rattle.pw_source.specs.Program.{DeckModel, Program}
 use Rattle.pw_source.specs.Setting.{Setting}
 use Rattle.pw_names.specs.Calls as names
 use Rattle.pw_names.specs.Calls.{lengths_of}
 use Rattle.pw_source.specs.Sound.{links_of, scope_of}
 use Rattle.pw_compile.specs.Plan.{Plan, plan_of}
-use Rattle.pw_compile.specs.Programs.{code_of}
+use Rattle.pw_compile.specs.Programs.{program_code}
 
 -- what the code of a program goes by, in the setting in which it runs
 abbrev pub plan_in : Setting → Plan
@@ -22,7 +22,7 @@ plan_in setting =
 -- the code of a program whose screens are numbered from one on
 abbrev pub code_in : Links → ℕ → Program → Code
 code_in links first program =
-    code_of program.name program.layout program.screens program.parameters program.paragraphs first
+    program_code program.name program.layout program.screens program.parameters program.paragraphs first
     links
 
 -- the codes of programs, whose screens are numbered through
@@ -37,7 +37,7 @@ screens_of [] = []
 screens_of (program ∷ programs) = program.screens ++ screens_of programs
 
 -- the system of a deck under a rule of locking
-abbrev pub system_of : LockRule → Deck → System
+abbrev pub system_of : LockRule → DeckModel → System
 system_of rule deck = record {
   programs = codes_in (links_of deck) 0 deck.programs;
   servers = map (code_in (links_of deck) 0) deck.servers;
@@ -51,7 +51,7 @@ system_of rule deck = record {
 
 -- a requester of a deck as its names are looked at: what they may stand for, and how long the items of
 -- USING of each requester are
-abbrev pub named_in : Deck → Program → names.Program
+abbrev pub named_in : DeckModel → Program → names.CallScope
 named_in deck program = record {
   scope = scope_of false deck program;
   usings = map (λ one. lengths_of one.layout one.parameters) deck.programs;

@@ -13,5 +13,5 @@ Says kind.Number bytes = IsLiteral (operands.Number bytes)
 Says _ bytes = Unit {0}
 
 -- a token of a text that is a number is the number that it is written as, and has at most 18 digits
-abbrev pub HasNumber : List ℕ → Token → Type 0
-HasNumber text token = Says token.kind (spelling text token)
+abbrev pub HasSpelledNumber : List ℕ → Token → Type 0
+HasSpelledNumber text token = Says token.kind (spelling text token)

@@ -1,5 +1,5 @@
 ghost use Rattle.std.specs.Prelude.{◌≡◌, ◌<◌, ℕ, List, [], Bool, false, map, length, All, true, Ok};
-ghost use Rattle.pw_code.specs.Entry.{Entry};
+ghost use Rattle.pw_code.specs.Entry.{EntryLineModel};
 ghost use Rattle.pw_code.specs.Valid.{IsValid, IsCode};
 ghost use Rattle.pw_code.specs.Fields.{IsTable};
 ghost use Rattle.pw_code.specs.declared.lock.LockRule.{LockRule};
@@ -10,7 +10,7 @@ ghost use Rattle.pw_exec.specs.Config.{starting, starting_server};
 ghost use Rattle.pw_exec.specs.OfSystem as code;
 ghost use Rattle.pw_names.specs.Faults.{program_faults};
 ghost use Rattle.pw_onecopy.specs.IsBehaviour.{IsBehaviour};
-ghost use Rattle.pw_onecopy.specs.Path.{PathAnswer, FileAnswer};
+ghost use Rattle.pw_onecopy.specs.Path.{PathAnswer, FileResult};
 ghost use Rattle.pw_forms.specs.Procedures.{procedure_of};
 ghost use Rattle.pw_forms.specs.declared.statement.Paragraph.{Paragraph};
 ghost use Rattle.pw_forms.specs.declared.statement.Procedure.{Procedure};
@@ -22,15 +22,15 @@ ghost use Rattle.pw_screen.specs.Screens.{screens_of};
 ghost use Rattle.pw_server.specs.Servers.{server_of};
 ghost use Rattle.pw_server.specs.declared.server.Server.{Server};
 ghost use Rattle.pw_source.specs.OfDeck as tree;
-ghost use Rattle.pw_source.specs.Program.{Deck, Program};
+ghost use Rattle.pw_source.specs.Program.{DeckModel, Program};
 ghost use Rattle.pw_source.specs.Runs.{told, file_told, run_after, server_setting, server_run, start};
 ghost use Rattle.pw_source.specs.Setting.{Setting};
-ghost use Rattle.pw_source.specs.Sound.{IsSound, IsSoundProgram};
+ghost use Rattle.pw_source.specs.Sound.{IsSoundDeck, IsSoundProgram};
 ghost use Rattle.pw_text.specs.Tokens.{tokens_of};
 ghost use Rattle.pw_text.specs.declared.token.Token.{Token};
 ghost use Rattle.pw_sound.specs.Answered.{AnswersAs};
-ghost use Rattle.pw_sound.specs.Premises.{AreFitting, AreItems, AreRead, CallsFit, HasTables, IsRead, IsShownOf};
-ghost use Rattle.pw_sound.specs.Tokens.{HasNumber};
+ghost use Rattle.pw_sound.specs.Premises.{AreFitting, AreItems, AreRead, DeckCallsFit, HasTables, IsReadStatement, IsShownOf};
+ghost use Rattle.pw_sound.specs.Tokens.{HasSpelledNumber};
 ghost use Rattle.pw_source.specs.Written.{IsWritten};
 ghost use Rattle.pw_sound.specs.Systems.{named_in, system_of};
 
@@ -39,12 +39,12 @@ ghost use Rattle.pw_sound.specs.Systems.{named_in, system_of};
 /// verb that the tree asks, run faults and the count of statements included, and shows the screen that the
 /// tree shows. What is taken of the deck besides is `AreFitting`, which docs/CODE.md says in words.
 pub fn program_laws()
-    ensures terminals { (rule : LockRule) (deck : Deck) → IsSound deck → AreFitting deck
-        → (q : ℕ) → q < length deck.programs → (lines : List Entry) (path : List PathAnswer)
+    ensures terminals { (rule : LockRule) (deck : DeckModel) → IsSoundDeck deck → AreFitting deck
+        → (q : ℕ) → q < length deck.programs → (lines : List EntryLineModel) (path : List PathAnswer)
         → AnswersAs (system_of rule deck) (starting (system_of rule deck) q) (map (told lines) path)
         (run_after deck q lines path) }
-    ensures servers { (rule : LockRule) (deck : Deck) → IsSound deck → AreFitting deck
-        → (q : ℕ) → q < length deck.servers → (message : List ℕ) (done : List FileAnswer)
+    ensures servers { (rule : LockRule) (deck : DeckModel) → IsSoundDeck deck → AreFitting deck
+        → (q : ℕ) → q < length deck.servers → (message : List ℕ) (done : List FileResult)
         → let setting : Setting = server_setting deck q message false in
         AnswersAs (system_of rule deck) (starting_server (system_of rule deck) q message)
         (map file_told done)
@@ -55,10 +55,10 @@ pub fn program_laws()
 /// of the one is a run of the other, and the paired system may run it. Of the deck `IsSound` and
 /// `AreFitting` are taken, and that its system is valid.
 pub fn behaviour_laws()
-    ensures same { (rule : LockRule) (deck : Deck) → IsSound deck → AreFitting deck
+    ensures same { (rule : LockRule) (deck : DeckModel) → IsSoundDeck deck → AreFitting deck
         → IsValid (system_of rule deck)
         → code.behaviour deck.script (system_of rule deck) ≡ tree.behaviour rule deck }
-    ensures behaves { (rule : LockRule) (deck : Deck) → IsSound deck → AreFitting deck
+    ensures behaves { (rule : LockRule) (deck : DeckModel) → IsSoundDeck deck → AreFitting deck
         → IsValid (system_of rule deck)
         → IsBehaviour (code.behaviour deck.script (system_of rule deck)) }
 {}
@@ -68,11 +68,11 @@ pub fn behaviour_laws()
 /// deck may say the whole system is valid. Beside what the other laws take, `AreRead` is taken of the
 /// number literals, of how many keys and codes there are, of the screens, and of the length of the code.
 pub fn code_laws()
-    ensures requesters { (rule : LockRule) (deck : Deck) → IsSound deck → AreFitting deck → AreRead deck
+    ensures requesters { (rule : LockRule) (deck : DeckModel) → IsSoundDeck deck → AreFitting deck → AreRead deck
         → All (IsCode false (system_of rule deck)) (system_of rule deck).programs }
-    ensures servers { (rule : LockRule) (deck : Deck) → IsSound deck → AreFitting deck → AreRead deck
+    ensures servers { (rule : LockRule) (deck : DeckModel) → IsSoundDeck deck → AreFitting deck → AreRead deck
         → All (IsCode true (system_of rule deck)) (system_of rule deck).servers }
-    ensures system { (rule : LockRule) (deck : Deck) → IsSound deck → AreFitting deck → AreRead deck
+    ensures system { (rule : LockRule) (deck : DeckModel) → IsSoundDeck deck → AreFitting deck → AreRead deck
         → HasTables (system_of rule deck) → IsValid (system_of rule deck) }
 {}
 
@@ -91,23 +91,23 @@ pub fn reading_laws()
     ensures statements { (server : Bool) (text : List ℕ) (tokens : List Token) (procedure : Procedure)
         → procedure_of server text tokens ≡ Ok procedure
         → Each (λ (paragraph : Paragraph). Each IsWritten paragraph.body) procedure.paragraphs }
-    ensures calls { (deck : Deck) (program : Program) → IsSoundProgram false deck program
+    ensures calls { (deck : DeckModel) (program : Program) → IsSoundProgram false deck program
         → program_faults (named_in deck program) ≡ []
-        → Each (λ (paragraph : Paragraph). Each (CallsFit deck program) paragraph.body)
+        → Each (λ (paragraph : Paragraph). Each (DeckCallsFit deck program) paragraph.body)
         program.paragraphs }
     ensures parameters { (program : Program) → All (IsParameter program.layout) program.parameters
         → AreItems program program.parameters }
     ensures numbers { (text : List ℕ) (first_line : ℕ) (tokens : List Token)
-        → tokens_of text first_line ≡ Ok tokens → Each (HasNumber text) tokens }
+        → tokens_of text first_line ≡ Ok tokens → Each (HasSpelledNumber text) tokens }
     ensures literals { (server : Bool) (text : List ℕ) (tokens : List Token) (procedure : Procedure)
-        → Each (HasNumber text) tokens → procedure_of server text tokens ≡ Ok procedure
-        → Each (λ (paragraph : Paragraph). Each IsRead paragraph.body) procedure.paragraphs }
+        → Each (HasSpelledNumber text) tokens → procedure_of server text tokens ≡ Ok procedure
+        → Each (λ (paragraph : Paragraph). Each IsReadStatement paragraph.body) procedure.paragraphs }
     ensures requester { (name : List ℕ) (text : List ℕ) (first_line : ℕ) (one : Requester)
         → requester_of name text first_line ≡ Ok one
-        → Each (λ (paragraph : Paragraph). Each IsRead paragraph.body) one.procedure.paragraphs }
+        → Each (λ (paragraph : Paragraph). Each IsReadStatement paragraph.body) one.procedure.paragraphs }
     ensures server { (name : List ℕ) (text : List ℕ) (first_line : ℕ) (one : Server)
         → server_of name text first_line ≡ Ok one
-        → Each (λ (paragraph : Paragraph). Each IsRead paragraph.body) one.procedure.paragraphs }
+        → Each (λ (paragraph : Paragraph). Each IsReadStatement paragraph.body) one.procedure.paragraphs }
     ensures tables { (program : Program)
         → All (IsTable (length program.layout.storage)) program.screens
         → Each (IsTable (length program.layout.storage)) program.screens }

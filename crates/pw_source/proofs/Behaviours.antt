@@ -15,10 +15,10 @@ use Rattle.pw_files.specs.Records.{IsFile, IsContent, with_record}
 use Rattle.pw_files.proofs.RecordLemmas.{IsFile-empty, IsFile-with_record}
 use Rattle.pw_onecopy.specs.Behaviour.{Behaviour}
 use Rattle.pw_onecopy.specs.IsBehaviour.{IsBehaviour, IsPath, IsAsked, AddsUp}
-use Rattle.pw_onecopy.specs.Path.{PathAnswer, FileAnswer}
-use Rattle.pw_source.specs.Program.{Program, Deck, program_at, first_screen, key_length_by}
+use Rattle.pw_onecopy.specs.Path.{PathAnswer, FileResult}
+use Rattle.pw_source.specs.Program.{Program, DeckModel, program_at, first_screen, key_length_by}
 use Rattle.pw_source.specs.OfDeck.{ask, ops, behaviour, number_by, processes_by, records_by}
-use Rattle.pw_source.specs.Sound.{IsSound, IsSoundProgram, IsSoundTerminal, IsSoundClass}
+use Rattle.pw_source.specs.Sound.{IsSoundDeck, IsSoundProgram, IsSoundTerminal, IsSoundClass}
 use Rattle.pw_source.proofs.trees.Programs.{SuitedAll}
 use Rattle.pw_source.proofs.Resolved.{each-got, below-got}
 use Rattle.pw_source.proofs.Stored.{FitsProgram, fits-kept}
@@ -27,13 +27,13 @@ use Rattle.pw_source.proofs.trees.Trees.{Files}
 use Rattle.pw_source.proofs.Servers.{ServerRight, server_rules, ops-right, ops-add-up}
 use Rattle.pw_source.proofs.Decks.{RequesterRight, requester-suited, IsCall, server-suited}
 
-program-sound : (server : Bool) (deck : Deck) (programs : List Program) (q : ℕ) → Each (IsSoundProgram server deck) programs → q < length programs
+program-sound : (server : Bool) (deck : DeckModel) (programs : List Program) (q : ℕ) → Each (IsSoundProgram server deck) programs → q < length programs
     → IsSoundProgram server deck (program_at programs q)
 program-sound server deck [] q each lt = absurd (omega (arith, lt))
 program-sound server deck (program ∷ rest) zero each lt = each.0
 program-sound server deck (program ∷ rest) (suc q) each lt = program-sound server deck rest q each.1 (omega (arith, lt))
 
-module _ (rule : LockRule) (deck : Deck) (sound : IsSound deck) where
+module _ (rule : LockRule) (deck : DeckModel) (sound : IsSoundDeck deck) where
   abbrev sys : Behaviour
   sys = behaviour rule deck
 
@@ -88,12 +88,12 @@ module _ (rule : LockRule) (deck : Deck) (sound : IsSound deck) where
         let program = program_at deck.servers the_class.0.server in
         server-suited deck program server-sound most message program.paragraphs server-sound.resolves server-sound.forms
 
-    ops-are-right : (message : List ℕ) (done : List FileAnswer) → ServerRight (IsCall deck) (ops deck c message done)
+    ops-are-right : (message : List ℕ) (done : List FileResult) → ServerRight (IsCall deck) (ops deck c message done)
     ops-are-right message done =
         let program = program_at deck.servers the_class.0.server in
         ops-right rule deck (IsCall deck) (FitsProgram program) (fits-kept program) c the_class.0 the_class.1 message (all-served message) refl done
 
-    call-right : (message : List ℕ) (done : List FileAnswer) (call : FileCall) → ops deck c message done ≡ verb.File call → IsCall deck call
+    call-right : (message : List ℕ) (done : List FileResult) (call : FileCall) → ops deck c message done ≡ verb.File call → IsCall deck call
     call-right message done call e = let P : Verb → Type 0 = ServerRight (IsCall deck) in subst P e (ops-are-right message done)
 
     adds : (message : List ℕ) (files : Files) → AddsUp sys c message files

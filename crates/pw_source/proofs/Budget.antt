@@ -2,9 +2,9 @@
 use Rattle.std.proofs.Common.{◌≡◌, ℕ, ◌+◌, ◌*◌, ◌≤◌, Bool, true, false, List, [], length, sym, ◌∙◌, arith}
 use Rattle.pw_words.specs.Words.{Word}
 use Rattle.pw_forms.specs.declared.operand.Operand.{Operand}
-use Rattle.pw_forms.specs.declared.cond.Cond.{Cond}
-use Rattle.pw_source.specs.Program.{Program, Deck, program_at, first_screen}
-use Rattle.pw_source.specs.State.{State, Out, faults, most_counted}
+use Rattle.pw_forms.specs.declared.cond.ConditionForm.{ConditionForm}
+use Rattle.pw_source.specs.Program.{Program, DeckModel, program_at, first_screen}
+use Rattle.pw_source.specs.State.{ProgramState, Out, faults, most_counted}
 use Rattle.pw_source.specs.Conditions.{holds}
 use Rattle.pw_source.specs.Performs.{turns_until, budget, call_program}
 use Rattle.pw_source.specs.Runs.{performed, setting_of, server_setting, called}
@@ -16,7 +16,7 @@ use Rattle.pw_source.proofs.trees.Programs.{performed-behaves, called-behaves, c
 use Rattle.pw_source.proofs.trees.Suited.{each-fine}
 
 -- of runs with at most so many answers
-abbrev any_rules : Deck → ℕ → Rules
+abbrev any_rules : DeckModel → ℕ → Rules
 any_rules deck most = record {
   deck = deck;
   most = most;
@@ -27,14 +27,14 @@ any_rules deck most = record {
   kept = λ spot chars store fits. tt;
 }
 
-module _ (deck : Deck) (program : Program) (first : ℕ) (is_server : Bool) (message : List ℕ) (s : State) where
+module _ (deck : DeckModel) (program : Program) (first : ℕ) (is_server : Bool) (message : List ℕ) (s : ProgramState) where
   abbrev r : Rules
   r = any_rules deck (length s.answers)
 
-  enough : (call : ℕ → List (List ℕ) → State → Out)
+  enough : (call : ℕ → List (List ℕ) → ProgramState → Out)
       → ((name : Word) (arguments : List Operand) → Behaves r (call_program (own r program first is_server message) call name arguments)
       (call_program (by_itself r program first is_server message) call name arguments))
-      → (d more : ℕ) (name : Word) (cond : Cond) → budget s ≤ more
+      → (d more : ℕ) (name : Word) (cond : ConditionForm) → budget s ≤ more
       → turns_until more (λ t. holds program t cond) (performed d (own r program first is_server message) call name) s
       ≡ turns_until (budget s) (λ t. holds program t cond) (performed d (own r program first is_server message) call name) s
   enough call calls d more name cond le =
@@ -46,7 +46,7 @@ module _ (deck : Deck) (program : Program) (first : ℕ) (is_server : Bool) (mes
       u.plays more s.answers s.files (omega arith) (omega arith) le
       ∙ sym (u.plays (budget s) s.answers s.files (omega arith) (omega arith) (omega arith))
 
-pub enough-requester : (deck : Deck) (q d n used more : ℕ) (name : Word) (cond : Cond) (s : State) → budget s ≤ more
+pub enough-requester : (deck : DeckModel) (q d n used more : ℕ) (name : Word) (cond : ConditionForm) (s : ProgramState) → budget s ≤ more
     → turns_until more (λ t. holds (program_at deck.programs q) t cond) (performed d (setting_of deck q) (called n deck used) name) s
     ≡ turns_until (budget s) (λ t. holds (program_at deck.programs q) t cond) (performed d (setting_of deck q) (called n deck used) name) s
 enough-requester deck q d n used more name cond s le =
@@ -56,7 +56,7 @@ enough-requester deck q d n used more name cond s le =
     (calls-behave rules (λ none. none) (λ store. tt) (program_at deck.programs q) (first_screen deck.programs q) false [] (called n deck used) (called n deck used)
     (called-behaves rules (λ none. none) (λ store. tt) all n used)) d more name cond le
 
-pub enough-server : (deck : Deck) (q d more : ℕ) (message : List ℕ) (name : Word) (cond : Cond) (s : State) → budget s ≤ more
+pub enough-server : (deck : DeckModel) (q d more : ℕ) (message : List ℕ) (name : Word) (cond : ConditionForm) (s : ProgramState) → budget s ≤ more
     → turns_until more (λ t. holds (program_at deck.servers q) t cond) (performed d (server_setting deck q message false) (λ p given t. faults 202 t) name) s
     ≡ turns_until (budget s) (λ t. holds (program_at deck.servers q) t cond) (performed d (server_setting deck q message false) (λ p given t. faults 202 t) name) s
 enough-server deck q d more message name cond s le =

@@ -18,8 +18,8 @@ use Rattle.pw_forms.specs.declared.statement.Statement.{Statement}
 use Rattle.pw_forms.specs.declared.statement.Statement as form
 use Rattle.pw_forms.specs.declared.statement.Statement.{Row_of-Statement, end_of-Statement, more_of-Statement}
 use Rattle.pw_operands.specs.declared.variable.Variable.{Variable}
-use Rattle.pw_operands.specs.declared.register.Register as register
-use Rattle.pw_operands.specs.declared.register.Register.TheVariants.{FileStatus}
+use Rattle.pw_operands.specs.declared.register.SpecialRegister as register
+use Rattle.pw_operands.specs.declared.register.SpecialRegister.TheVariants.{FileStatus}
 use Rattle.pw_operands.specs.Variables.{register_of, of_register, of_place}
 use Rattle.pw_operands.specs.Scope.{file_of}
 use Rattle.pw_operands.specs.Resolved.{Each, Resolves, RowResolves, ParagraphResolves, IsItem, IsOfFile, is_key, is_record}
@@ -32,10 +32,10 @@ use Rattle.pw_code.specs.declared.verb.Verb.TheVariants as verb
 use Rattle.pw_files.specs.Records.{IsContent}
 use Rattle.pw_onecopy.specs.IsBehaviour.{is_written}
 use Rattle.pw_onecopy.specs.Operation.{key_of}
-use Rattle.pw_source.specs.Program.{Program, Deck, item_named, key_length, key_length_by, file_number}
+use Rattle.pw_source.specs.Program.{Program, DeckModel, item_named, key_length, key_length_by, file_number}
 use Rattle.pw_source.specs.Store.{Store, spot_of}
-use Rattle.pw_source.specs.State.{State, Registers}
-use Rattle.pw_source.specs.Operands.{Taken, Stored, Fixed, taken, taken_item, register_named, occurrence_of, subscript_value, chars_in}
+use Rattle.pw_source.specs.State.{ProgramState, Registers}
+use Rattle.pw_source.specs.Operands.{ResolvedOperand, Stored, Fixed, operand_taken, taken_item, register_named, occurrence_of, subscript_value, chars_in}
 use Rattle.pw_source.specs.Values.{Register}
 use Rattle.pw_source.specs.Sound.{IsSoundProgram, HasForms, RowHasForms, scope_of}
 use Rattle.pw_source.proofs.trees.Trees.{Rules}
@@ -50,13 +50,13 @@ use Rattle.pw_source.proofs.Requesters.{requester_rules}
 -- ---- requesters
 
 -- the verbs of terminals, and messages to classes that are there
-abbrev pub RequesterRight : Deck → Verb → Type 0
+abbrev pub RequesterRight : DeckModel → Verb → Type 0
 RequesterRight deck (verb.Send class message) = class < length deck.classes
 RequesterRight deck (verb.File call) = ⊥
 RequesterRight deck (verb.Reply reply) = ⊥
 RequesterRight deck _ = Unit {0}
 
-module _ (deck : Deck) (most : ℕ) (program : Program) (first : ℕ) where
+module _ (deck : DeckModel) (most : ℕ) (program : Program) (first : ℕ) where
   abbrev r : Rules
   r = requester_rules deck most (RequesterRight deck) (λ x. tt)
 
@@ -97,7 +97,7 @@ module _ (deck : Deck) (most : ℕ) (program : Program) (first : ℕ) where
 -- ---- servers
 
 -- an operation of a server: its file is there, its key is as long as that file's, and what it writes has a record's length
-pub record IsCall (deck : Deck) (call : FileCall) : Type 0 where
+pub record IsCall (deck : DeckModel) (call : FileCall) : Type 0 where
   pub file : call.file < length deck.files
   pub key : length (key_of (key_length deck call.file) call.op call) ≡ key_length deck call.file
   pub content : is_written call.op ≡ true → IsContent (key_length deck call.file) call.content
@@ -113,11 +113,11 @@ named-long true second registers store e = length-digits_of 4 registers.terminat
 named-long false true registers store e = absurd cc
 named-long false false registers store e = length-digits_of 4 registers.file_status
 
-file_status-by : (b : Bool) (reg : register.Register) → (if b then Some FileStatus else None) ≡ Some reg → FileStatus ≡ reg
+file_status-by : (b : Bool) (reg : register.SpecialRegister) → (if b then Some FileStatus else None) ≡ Some reg → FileStatus ≡ reg
 file_status-by true reg e = cc
 file_status-by false reg e = absurd cc
 
-no-counter : (name : Word) (reg : register.Register) → register_of true name ≡ Some reg → (b : Bool) → bytes_eq name (codes "RESTART-COUNTER") ≡ b → b ≡ false
+no-counter : (name : Word) (reg : register.SpecialRegister) → register_of true name ≡ Some reg → (b : Bool) → bytes_eq name (codes "RESTART-COUNTER") ≡ b → b ≡ false
 no-counter name reg e false t = refl
 no-counter name reg e true t =
     let same : name ≡ codes "RESTART-COUNTER" = (bytes_eq-Decides name (codes "RESTART-COUNTER")).0 t in
@@ -127,7 +127,7 @@ no-counter name reg e true t =
     no-name : register_of true (codes "RESTART-COUNTER") ≡ Some reg → ⊥
     no-name h = cc
 
-register-long : (name : Word) (registers : Registers) (store : Store) (o : Option register.Register) → register_of true name ≡ o → (variable : Variable)
+register-long : (name : Word) (registers : Registers) (store : Store) (o : Option register.SpecialRegister) → register_of true name ≡ o → (variable : Variable)
     → option_or (option_map of_register o) None ≡ Some variable → length (chars_in (register_named registers name) store) ≡ variable.size
 register-long name registers store None e variable is = absurd cc
 register-long name registers store (Some reg) e variable is =
@@ -137,7 +137,7 @@ register-long name registers store (Some reg) e variable is =
     ∙ ap (λ one. (of_register one).size) file ∙ ap (λ v. v.size) same
 
 -- so is an item that is stored
-stored-by : (store : Store) (item : Item) → IsLong store item → (k : ℕ) (b : Bool) → (nat_le 1 k && nat_le k item.occurs) ≡ b → (found : Taken)
+stored-by : (store : Store) (item : Item) → IsLong store item → (k : ℕ) (b : Bool) → (nat_le 1 k && nat_le k item.occurs) ≡ b → (found : ResolvedOperand)
     → (if b then Some (Stored (spot_of item k)) else None) ≡ Some found → length (chars_in found store) ≡ item.size
 stored-by store item long k true t found e =
     let parts = and_parts (nat_le 1 k) (nat_le k item.occurs) t in
@@ -146,14 +146,14 @@ stored-by store item long k true t found e =
     some-same (λ x. length (chars_in x store) ≡ item.size) (Stored (spot_of item k)) found e (long k low (omega (arith, high)))
 stored-by store item long k false t found e = absurd cc
 
-stored-long : (store : Store) (item : Item) → IsLong store item → (subscript : Option ℕ) (found : Taken) → occurrence_of item subscript ≡ Some found
+stored-long : (store : Store) (item : Item) → IsLong store item → (subscript : Option ℕ) (found : ResolvedOperand) → occurrence_of item subscript ≡ Some found
     → length (chars_in found store) ≡ item.size
 stored-long store item long None found e =
     some-same (λ x. length (chars_in x store) ≡ item.size) (Stored (spot_of item 1)) found e (long 1 (omega arith) (omega arith))
 stored-long store item long (Some k) found e = stored-by store item long k _ refl found e
 
-module _ (deck : Deck) (program : Program) (sound : IsSoundProgram true deck program) where
-  no-register : (name : Word) (item : Item) → item_named program name ≡ Some item → (o : Option register.Register) → register_of true name ≡ o → (variable : Variable)
+module _ (deck : DeckModel) (program : Program) (sound : IsSoundProgram true deck program) where
+  no-register : (name : Word) (item : Item) → item_named program name ≡ Some item → (o : Option register.SpecialRegister) → register_of true name ≡ o → (variable : Variable)
       → option_or (option_map of_register o) (Some (of_place (place_at item))) ≡ Some variable → item.size ≡ variable.size
   no-register name item there None e variable is = let same : of_place (place_at item) ≡ variable = cc in ap (λ v. v.size) same
   no-register name item there (Some reg) e variable is = absurd (both (no-item true program.layout sound.laid name (subst IsSome (sym e) refl)))
@@ -161,7 +161,7 @@ module _ (deck : Deck) (program : Program) (sound : IsSoundProgram true deck pro
       both : item_named program name ≡ None → ⊥
       both none = cc
 
-  taken-by : (s : State) (name : Word) (subscript : Option ℕ) (found : Taken) (variable : Variable) → FitsProgram program s.store
+  taken-by : (s : ProgramState) (name : Word) (subscript : Option ℕ) (found : ResolvedOperand) (variable : Variable) → FitsProgram program s.store
       → (o : Option Item) → item_named program name ≡ o → taken_item o s.registers name subscript ≡ Some found
       → option_or (option_map of_register (register_of true name)) (option_map of_place (option_map place_at o)) ≡ Some variable
       → length (chars_in found s.store) ≡ variable.size
@@ -175,8 +175,8 @@ module _ (deck : Deck) (program : Program) (sound : IsSoundProgram true deck pro
       ∙ no-register name item o_is (register_of true name) refl variable is
 
   -- an operand that is an item or a register has as many characters as this is long
-  taken-long : (s : State) (test : Variable → Bool) (operand : Operand) (found : Taken) → FitsProgram program s.store
-      → IsItem (scope_of true deck program) test operand → taken program s operand ≡ Some found
+  taken-long : (s : ProgramState) (test : Variable → Bool) (operand : Operand) (found : ResolvedOperand) → FitsProgram program s.store
+      → IsItem (scope_of true deck program) test operand → operand_taken program s operand ≡ Some found
       → (variable : Variable) × IsTrue (test variable) × (length (chars_in found s.store) ≡ variable.size)
   taken-long s test (operands.Item name subscript) found fits is e = (
     is.variable,

@@ -8,7 +8,7 @@ use Rattle.pw_code.specs.declared.verb.Verb.TheVariants as verb
 use Rattle.pw_onecopy.specs.IsBehaviour.{IsPath}
 use Rattle.pw_onecopy.specs.Path.{PathAnswer, is_outside}
 use Rattle.pw_onecopy.specs.Path as path
-use Rattle.pw_source.specs.Program.{Deck, program_at, first_screen}
+use Rattle.pw_source.specs.Program.{DeckModel, program_at, first_screen}
 use Rattle.pw_source.specs.Runs.{told, verb_of, start, most_calls}
 use Rattle.pw_source.specs.OfDeck.{ask, asked_by, behaviour}
 use Rattle.pw_source.specs.Restarts.{NeverRestarts}
@@ -18,7 +18,7 @@ use Rattle.pw_source.proofs.trees.Suited.{IsNoRedo, each-suited, each-fine, neve
 use Rattle.pw_source.proofs.Terminals.{no_files, Reached, reach, Asked, asked-at, failed-at}
 
 -- of requesters with at most so many answers, where each verb is right that is
-abbrev pub requester_rules : Deck → ℕ → (Right : Verb → Type 0) → ((x : ℕ) → Right (verb.Fault x)) → Rules
+abbrev pub requester_rules : DeckModel → ℕ → (Right : Verb → Type 0) → ((x : ℕ) → Right (verb.Fault x)) → Rules
 requester_rules deck most Right right_fault = record {
   deck = deck;
   most = most;
@@ -29,7 +29,7 @@ requester_rules deck most Right right_fault = record {
   kept = λ spot chars store fits. tt;
 }
 
-module _ (rule : LockRule) (deck : Deck) (Right : Verb → Type 0) (right_fault : (x : ℕ) → Right (verb.Fault x)) (right_stop : Right verb.Stop)
+module _ (rule : LockRule) (deck : DeckModel) (Right : Verb → Type 0) (right_fault : (x : ℕ) → Right (verb.Fault x)) (right_stop : Right verb.Stop)
     (all : (most q : ℕ) → SuitedAll (requester_rules deck most Right right_fault) (program_at deck.programs q) (first_screen deck.programs q) false [] (program_at deck.programs q).paragraphs) where
   -- a terminal of the deck at its start
   at-start : (t most : ℕ) (terminal : TermInfo) → slice_get deck.terminals t ≡ Some terminal
@@ -89,7 +89,7 @@ module _ (rule : LockRule) (deck : Deck) (Right : Verb → Type 0) (right_fault 
 
 -- ---- of every deck
 
-module _ (rule : LockRule) (deck : Deck) where
+module _ (rule : LockRule) (deck : DeckModel) where
   abbrev AnyRight : Verb → Type 0
   AnyRight v = Unit {0}
 

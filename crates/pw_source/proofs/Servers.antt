@@ -11,12 +11,12 @@ use Rattle.pw_onecopy.specs.Behaviour.{Behaviour, Served}
 use Rattle.pw_onecopy.specs.Behaviour as served
 use Rattle.pw_onecopy.specs.IsBehaviour.{ComesTo, AddsUp}
 use Rattle.pw_onecopy.specs.Operation.{answer_of, records_behind}
-use Rattle.pw_onecopy.specs.Path.{FileAnswer}
+use Rattle.pw_onecopy.specs.Path.{FileResult}
 use Rattle.pw_onecopy.specs.Play.{Play, play_operation, play_after}
 use Rattle.pw_onecopy.specs.Update.{upd}
-use Rattle.pw_source.specs.Program.{Deck, program_at, key_length}
+use Rattle.pw_source.specs.Program.{DeckModel, program_at, key_length}
 use Rattle.pw_source.specs.Store.{Store, Spot, put_at, initial_store}
-use Rattle.pw_source.specs.State.{State, Asks, faults, most_counted}
+use Rattle.pw_source.specs.State.{ProgramState, Asks, faults, most_counted}
 use Rattle.pw_source.specs.Runs.{start, verb_of, file_told, server_setting, server_run, served_by}
 use Rattle.pw_source.specs.OfDeck.{ops, ops_by, serve_by, behaviour}
 use Rattle.pw_source.proofs.trees.Trees.{Tree, Here, Left, Stuck, Waits, Files, at, play, play_alone, Rules, TakesNone, Obeys, Found}
@@ -34,7 +34,7 @@ ServerRight CallRight (verb.Fault x) = Unit {0}
 ServerRight CallRight _ = ⊥
 
 -- of servers with at most so many answers, also by themselves
-abbrev pub server_rules : Deck → ℕ → (FileCall → Type 0) → (Fits : Store → Type 0)
+abbrev pub server_rules : DeckModel → ℕ → (FileCall → Type 0) → (Fits : Store → Type 0)
     → ((spot : Spot) (chars : List ℕ) (store : Store) → Fits store → Fits (put_at spot chars store)) → Rules
 server_rules deck most CallRight Fits kept = record {
   deck = deck;
@@ -47,7 +47,7 @@ server_rules deck most CallRight Fits kept = record {
 }
 
 -- a server from its start
-pub server-found : (r : Rules) (q : ℕ) (message : List ℕ) (s : State)
+pub server-found : (r : Rules) (q : ℕ) (message : List ℕ) (s : ProgramState)
     → SuitedAll r (program_at r.deck.servers q) 0 true message (program_at r.deck.servers q).paragraphs → r.Fits s.store
     → Found (closed r) s.count s.in_unit
     (λ answers files. server_run (server_setting r.deck q message false) (at answers files s))
@@ -68,14 +68,14 @@ play-right r (Waits v s next) count inside ok (a ∷ answers) = play-right r (ne
 
 -- ---- the operations add up
 
-module _ (rule : LockRule) (deck : Deck) (CallRight : FileCall → Type 0) (c : ℕ) (message : List ℕ) (files : Files) where
+module _ (rule : LockRule) (deck : DeckModel) (CallRight : FileCall → Type 0) (c : ℕ) (message : List ℕ) (files : Files) where
   abbrev sys : Behaviour
   sys = behaviour rule deck
 
   -- the server's last verb
-  last-verb : (n : ℕ) (done : List FileAnswer) (now : Files) (v : Verb) → ServerRight CallRight v → ((call : FileCall) → v ≡ verb.File call → ⊥)
+  last-verb : (n : ℕ) (done : List FileResult) (now : Files) (v : Verb) → ServerRight CallRight v → ((call : FileCall) → v ≡ verb.File call → ⊥)
       → play_after sys c message files n ≡ record { files = now; done = done }
-      → sys.ops c message done ≡ v → (s : State) → sys.serve c message files ≡ served_by (Asks v (at [] now s))
+      → sys.ops c message done ≡ v → (s : ProgramState) → sys.serve c message files ≡ served_by (Asks v (at [] now s))
       → AddsUp sys c message files
   last-verb n done now (verb.Reply reply) right no_file after asks s serves = record {
     operations = n;
@@ -101,18 +101,18 @@ module _ (rule : LockRule) (deck : Deck) (CallRight : FileCall → Type 0) (c : 
     r = server_rules deck most_counted CallRight Fits kept
 
     -- without a further answer
-    asks-now : (t : Tree) (done : List FileAnswer) → length done ≤ most_counted
-        → ((rest : List FileAnswer) → length (done ++ rest) ≤ most_counted → sys.ops c message (done ++ rest) ≡ verb_of (play t (map file_told rest) no_files))
+    asks-now : (t : Tree) (done : List FileResult) → length done ≤ most_counted
+        → ((rest : List FileResult) → length (done ++ rest) ≤ most_counted → sys.ops c message (done ++ rest) ≡ verb_of (play t (map file_told rest) no_files))
         → sys.ops c message done ≡ verb_of (play t [] no_files)
     asks-now t done most asks =
         ap (sys.ops c message) (sym (append-nil done))
-        ∙ asks [] (let P : List FileAnswer → Type 0 = λ xs. length xs ≤ most_counted in subst P (sym (append-nil done)) most)
+        ∙ asks [] (let P : List FileResult → Type 0 = λ xs. length xs ≤ most_counted in subst P (sym (append-nil done)) most)
 
     no-file : (v : Verb) → TakesNone v → (call : FileCall) → v ≡ verb.File call → ⊥
     no-file v none call e = subst TakesNone e none
 
     -- one operation more
-    one-more : (call : FileCall) (n : ℕ) (done : List FileAnswer) (now : Files)
+    one-more : (call : FileCall) (n : ℕ) (done : List FileResult) (now : Files)
         → play_after sys c message files n ≡ record { files = now; done = done } → sys.ops c message done ≡ verb.File call
         → play_after sys c message files (suc n) ≡ record {
           files = upd now call.file (records_behind (key_length deck call.file) (now call.file) call);
@@ -123,9 +123,9 @@ module _ (rule : LockRule) (deck : Deck) (CallRight : FileCall → Type 0) (c : 
         ∙ ap (λ v. play_operation sys v (record { files = now; done = done })) asks
 
     adds-up : (t : Tree) (count : ℕ) (inside : Bool) → Obeys (closed r) count inside t
-        → (n : ℕ) (done : List FileAnswer) (now : Files) → play_after sys c message files n ≡ record { files = now; done = done }
+        → (n : ℕ) (done : List FileResult) (now : Files) → play_after sys c message files n ≡ record { files = now; done = done }
         → length done ≤ count → length done ≤ most_counted
-        → ((rest : List FileAnswer) → length (done ++ rest) ≤ most_counted → sys.ops c message (done ++ rest) ≡ verb_of (play t (map file_told rest) no_files))
+        → ((rest : List FileResult) → length (done ++ rest) ≤ most_counted → sys.ops c message (done ++ rest) ≡ verb_of (play t (map file_told rest) no_files))
         → sys.serve c message files ≡ served_by (play_alone deck t now)
         → AddsUp sys c message files
     adds-up (Here s) count inside ok n done now after few most asks serves = absurd ok.fits
@@ -133,7 +133,7 @@ module _ (rule : LockRule) (deck : Deck) (CallRight : FileCall → Type 0) (c : 
     adds-up (Stuck v s) count inside ok n done now after few most asks serves =
         last-verb n done now v ok.1 (no-file v ok.2) after (asks-now (Stuck v s) done most asks) s serves
     adds-up (Waits (verb.File call) s next) count inside ok n done now after few most asks serves =
-        let found : FileAnswer = answer_of (key_length deck call.file) (now call.file) call.op call in
+        let found : FileResult = answer_of (key_length deck call.file) (now call.file) call.op call in
         let long : length (done ++ found ∷ []) ≡ length done + 1 = length-append done (found ∷ []) in
         adds-up (next (file_told found)) s.count inside (ok.4 (file_told found)) (suc n) (done ++ found ∷ [])
         (upd now call.file (records_behind (key_length deck call.file) (now call.file) call))
@@ -142,13 +142,13 @@ module _ (rule : LockRule) (deck : Deck) (CallRight : FileCall → Type 0) (c : 
         (λ rest le.
         let same : (done ++ found ∷ []) ++ rest ≡ done ++ found ∷ rest = append_assoc done (found ∷ []) rest in
         ap (sys.ops c message) same
-        ∙ asks (found ∷ rest) (let P : List FileAnswer → Type 0 = λ xs. length xs ≤ most_counted in subst P same le))
+        ∙ asks (found ∷ rest) (let P : List FileResult → Type 0 = λ xs. length xs ≤ most_counted in subst P same le))
         serves
     adds-up (Waits v s next) count inside ok n done now after few most asks serves =
         last-verb n done now v ok.1 (λ call e. absurd cc) after (asks-now (Waits v s next) done most asks) s serves
 
 -- of a class that is there
-module _ (rule : LockRule) (deck : Deck) (CallRight : FileCall → Type 0) (Fits : Store → Type 0)
+module _ (rule : LockRule) (deck : DeckModel) (CallRight : FileCall → Type 0) (Fits : Store → Type 0)
     (kept : (spot : Spot) (chars : List ℕ) (store : Store) → Fits store → Fits (put_at spot chars store))
     (c : ℕ) (class : ClassInfo) (there : slice_get deck.classes c ≡ Some class) (message : List ℕ)
     (all : (most : ℕ) → SuitedAll (server_rules deck most CallRight Fits kept) (program_at deck.servers class.server) 0 true message (program_at deck.servers class.server).paragraphs)
@@ -158,14 +158,14 @@ module _ (rule : LockRule) (deck : Deck) (CallRight : FileCall → Type 0) (Fits
       (λ files. server_run (server_setting deck class.server message true) (at [] files (start (program_at deck.servers class.server) [])))
   found-of most = server-found (server_rules deck most CallRight Fits kept) class.server message (start (program_at deck.servers class.server) []) (all most) fits
 
-  asks-played : (most : ℕ) (done : List FileAnswer) → length done ≤ most
+  asks-played : (most : ℕ) (done : List FileResult) → length done ≤ most
       → ops deck c message done ≡ verb_of (play (found-of most).tree (map file_told done) no_files)
   asks-played most done le =
       ap (λ o. ops_by deck o message done) there
       ∙ ap verb_of ((found-of most).plays (map file_told done) no_files (subst (λ n. n ≤ most) (sym (length-map done file_told)) le))
 
   -- what it asks is right
-  pub ops-right : (done : List FileAnswer) → ServerRight CallRight (ops deck c message done)
+  pub ops-right : (done : List FileResult) → ServerRight CallRight (ops deck c message done)
   ops-right done =
       let f = found-of (length done) in
       let P : Verb → Type 0 = ServerRight CallRight in

@@ -1,7 +1,7 @@
 -- What a terminal's program asks along its path, where each of its statements is right.
 use Rattle.std.proofs.Common.{◌≡◌, ℕ, ◌+◌, ◌≤◌, Bool, not, List, [], ◌∷◌, ◌++◌, length, map, Option, Some, None, is_none, refl, sym, ap, ◌∙◌, subst, arith}
 use Rattle.std.proofs.lemmas.List.{length-append}
-use Rattle.pw_code.specs.Entry.{Entry}
+use Rattle.pw_code.specs.Entry.{EntryLineModel}
 use Rattle.pw_code.specs.declared.verb.Verb.{Verb}
 use Rattle.pw_code.specs.declared.verb.Verb.TheVariants as verb
 use Rattle.pw_code.specs.declared.verb.Answer.TheVariants as answer
@@ -24,7 +24,7 @@ reply-outside : (s : Standing) (within : Option ℕ) → s.within ≡ within →
 reply-outside s None e = refl
 reply-outside s (Some r) e = ap is_none e
 
-module _ (sys : Behaviour) (t : ℕ) (lines : List Entry) where
+module _ (sys : Behaviour) (t : ℕ) (lines : List EntryLineModel) where
   -- whether a transaction is open behind an answer
   abbrev Opens : Standing → Bool → Verb → PathAnswer → Type 0
   Opens s inside v a = is_none (standing_after_answer s a).within ≡ not (inside_after v (told lines a) inside)
@@ -57,7 +57,7 @@ EndsIn-asks v (Left s) e = absurd e
 EndsIn-asks v (Stuck own s) e = e
 EndsIn-asks v (Waits own s next) e = absurd e
 
-module _ (sys : Behaviour) (t : ℕ) (lines : List Entry) (r : Rules) where
+module _ (sys : Behaviour) (t : ℕ) (lines : List EntryLineModel) (r : Rules) where
   -- behind a path the program is a tree, which says what it asks behind each longer path of at most so many answers
   pub record Reached (before : List PathAnswer) : Type 0 where
     pub tree : Tree

@@ -9,10 +9,10 @@ use Rattle.pw_picture.specs.Stored.{is_kept, moved}
 use Rattle.pw_forms.specs.declared.operand.Operand.{Operand}
 use Rattle.pw_forms.specs.declared.statement.Operation.{Operation}
 use Rattle.pw_forms.specs.declared.statement.Operation.TheVariants as operation
-use Rattle.pw_forms.specs.declared.statement.Arithmetic as arithmetic
+use Rattle.pw_forms.specs.declared.statement.ArithmeticForm as arithmetic
 use Rattle.pw_source.specs.Program.{Program}
 use Rattle.pw_source.specs.Store.{Spot, put_at}
-use Rattle.pw_source.specs.State.{State, Out}
+use Rattle.pw_source.specs.State.{ProgramState, Out}
 use Rattle.pw_source.specs.Operands.{spot_in, value_in, with_operand}
 use Rattle.pw_source.specs.Values.{Value, number_of}
 
@@ -25,29 +25,29 @@ operated operation.Multiply places first second = sized (cut 18 (product second 
 operated operation.Divide places first second = divided places second first
 
 -- the places of a receiver
-abbrev pub places_of : Option Picture → ℕ
-places_of None = 0
-places_of (Some p) = decimals_of p
+abbrev pub receiver_decimals : Option Picture → ℕ
+receiver_decimals None = 0
+receiver_decimals (Some p) = decimals_of p
 
 -- the state with a result stored in the receiver; none on a size error, which leaves all as it is
-abbrev pub stored_by : Option Picture → Spot → Number → State → Option State
+abbrev pub stored_by : Option Picture → Spot → Number → ProgramState → Option ProgramState
 stored_by None spot n s = None
 stored_by (Some p) spot n s =
     if is_kept p n then Some (record s { store = put_at spot (moved p n) s.store }) else None
 
 -- the state with a result in a spot; nothing on a size error
-abbrev pub stored_in : Spot → Result Number SizeError → State → Option State
+abbrev pub stored_in : Spot → Result Number SizeError → ProgramState → Option ProgramState
 stored_in spot (Ok n) s = stored_by spot.picture spot n s
 stored_in spot (Err error) s = None
 
 -- both operands are read, the operation is done, and the receiver gets the result
-abbrev pub computed : Operation → Value → Value → Spot → State → Option State
+abbrev pub computed : Operation → Value → Value → Spot → ProgramState → Option ProgramState
 computed op first second receiver s =
     stored_in receiver
-    (operated op (places_of receiver.picture) (number_of first) (number_of second)) s
+    (operated op (receiver_decimals receiver.picture) (number_of first) (number_of second)) s
 
 -- what follows: the one on a size error, with all as it was, or else the other
-abbrev pub or_else : Option State → State → (State → Out) → (State → Out) → Out
+abbrev pub or_else : Option ProgramState → ProgramState → (ProgramState → Out) → (ProgramState → Out) → Out
 or_else None s on_error else' = on_error s
 or_else (Some after) s on_error else' = else' after
 
@@ -57,12 +57,12 @@ receiver_by None second = second
 receiver_by (Some item) second = item
 
 -- the item that receives: that of GIVING, and else the second operand
-abbrev pub receiver_of : arithmetic.Arithmetic → Operand
+abbrev pub receiver_of : arithmetic.ArithmeticForm → Operand
 receiver_of a = receiver_by a.giving a.second
 
 -- an arithmetic statement, with what follows it on a size error and else
-abbrev pub arithmetic_on : Program → arithmetic.Arithmetic → (State → Out) → (State → Out)
-    → State → Out
+abbrev pub arithmetic_on : Program → arithmetic.ArithmeticForm → (ProgramState → Out) → (ProgramState → Out)
+    → ProgramState → Out
 arithmetic_on program a on_error else' s =
     with_operand program a.first s (λ first.
     with_operand program a.second s (λ second.

@@ -9,15 +9,15 @@ use Rattle.pw_number.specs.Order.{order}
 use Rattle.pw_picture.specs.declared.picture.Picture.{Picture}
 use Rattle.pw_picture.specs.declared.picture.Picture.TheVariants as picture
 use Rattle.pw_picture.specs.Text.{fitted}
-use Rattle.pw_forms.specs.declared.cond.Cond.{Cond}
-use Rattle.pw_forms.specs.declared.cond.Comparison.{Comparison}
-use Rattle.pw_forms.specs.declared.cond.Comparison.TheVariants as comparison
+use Rattle.pw_forms.specs.declared.cond.ConditionForm.{ConditionForm}
+use Rattle.pw_forms.specs.declared.cond.ComparisonForm.{ComparisonForm}
+use Rattle.pw_forms.specs.declared.cond.ComparisonForm.TheVariants as comparison
 use Rattle.pw_forms.specs.declared.cond.Operator.{Operator}
 use Rattle.pw_forms.specs.declared.cond.Operator.TheVariants as operator
 use Rattle.pw_source.specs.Program.{Program}
-use Rattle.pw_source.specs.State.{State}
-use Rattle.pw_source.specs.Values.{Value, Chars, Register, Number', Text', Spaces', Zeros', text_of, text_in, is_number, number_of}
-use Rattle.pw_source.specs.Operands.{Taken, value_in, taken}
+use Rattle.pw_source.specs.State.{ProgramState}
+use Rattle.pw_source.specs.Values.{Value, Chars, Register, Number', Text', Spaces', Zeros', operand_text, text_in, is_number_operand, number_of}
+use Rattle.pw_source.specs.Operands.{ResolvedOperand, value_in, operand_taken}
 
 -- ---- how two operands compare
 
@@ -34,9 +34,9 @@ length_of Spaces' Spaces' = 1
 length_of Spaces' Zeros' = 1
 length_of Zeros' Spaces' = 1
 length_of Zeros' Zeros' = 1
-length_of Spaces' other = length (text_of other)
-length_of Zeros' other = length (text_of other)
-length_of own other = length (text_of own)
+length_of Spaces' other = length (operand_text other)
+length_of Zeros' other = length (operand_text other)
+length_of own other = length (operand_text own)
 
 -- the characters of an operand beside another: a number those that MOVE to a text takes
 abbrev pub beside : Value → Value → List ℕ
@@ -49,7 +49,7 @@ is_zeros _ = false
 
 -- the two compare as numbers: each is one, or one is and the other is ZEROS
 abbrev pub are_numbers : Value → Value → Bool
-are_numbers a b = (is_number a && (is_number b || is_zeros b)) || (is_zeros a && is_number b)
+are_numbers a b = (is_number_operand a && (is_number_operand b || is_zeros b)) || (is_zeros a && is_number_operand b)
 
 -- how two operands compare: numbers by value, all else as texts
 abbrev pub compared : Value → Value → Ordering
@@ -93,27 +93,27 @@ is_numeric Zeros' = true
 -- ---- conditions; none where a subscript is outside
 
 -- NOT turns what holds
-abbrev pub turned : Bool → Bool → Bool
-turned negated holds = if negated then not holds else holds
+abbrev pub condition_turned : Bool → Bool → Bool
+condition_turned negated holds = if negated then not holds else holds
 
 -- a test of an operand that was taken, where it was
-abbrev pub of_one : (Taken → Bool) → Option Taken → Option Bool
+abbrev pub of_one : (ResolvedOperand → Bool) → Option ResolvedOperand → Option Bool
 of_one test None = None
 of_one test (Some a) = Some (test a)
 
 -- a test of two operands that were taken, where both were
-abbrev pub of_two : (Taken → Taken → Bool) → Option Taken → Option Taken → Option Bool
+abbrev pub of_two : (ResolvedOperand → ResolvedOperand → Bool) → Option ResolvedOperand → Option ResolvedOperand → Option Bool
 of_two test None b = None
 of_two test (Some a) b = of_one (test a) b
 
 -- a comparison at this moment
-abbrev pub comparison_holds : Program → State → Comparison → Option Bool
+abbrev pub comparison_holds : Program → ProgramState → ComparisonForm → Option Bool
 comparison_holds program s (comparison.Compare left negated op right) =
     of_two
-    (λ a b. turned negated (holds_by op (compared (value_in a s.store) (value_in b s.store))))
-    (taken program s left) (taken program s right)
+    (λ a b. condition_turned negated (holds_by op (compared (value_in a s.store) (value_in b s.store))))
+    (operand_taken program s left) (operand_taken program s right)
 comparison_holds program s (comparison.Numeric operand negated) =
-    of_one (λ a. turned negated (is_numeric (value_in a s.store))) (taken program s operand)
+    of_one (λ a. condition_turned negated (is_numeric (value_in a s.store))) (operand_taken program s operand)
 
 -- two parts of a condition: neither is left out
 abbrev pub of_both : (Bool → Bool → Bool) → Option Bool → Option Bool → Option Bool
@@ -122,17 +122,17 @@ of_both join (Some a) None = None
 of_both join (Some a) (Some b) = Some (join a b)
 
 -- each of the comparisons holds
-abbrev pub all_hold : Program → State → List Comparison → Option Bool
+abbrev pub all_hold : Program → ProgramState → List ComparisonForm → Option Bool
 all_hold program s [] = Some true
 all_hold program s (c ∷ cs) =
     of_both (λ a b. a && b) (comparison_holds program s c) (all_hold program s cs)
 
 -- in one of the lists each comparison holds
-abbrev pub any_holds : Program → State → List (List Comparison) → Option Bool
+abbrev pub any_holds : Program → ProgramState → List (List ComparisonForm) → Option Bool
 any_holds program s [] = Some false
 any_holds program s (cs ∷ css) =
     of_both (λ a b. a || b) (all_hold program s cs) (any_holds program s css)
 
 -- a condition at this moment
-abbrev pub holds : Program → State → Cond → Option Bool
+abbrev pub holds : Program → ProgramState → ConditionForm → Option Bool
 holds program s cond = any_holds program s cond.any

@@ -4,9 +4,9 @@ use Rattle.pw_picture.specs.declared.picture.Picture.{Picture}
 use Rattle.pw_picture.specs.declared.picture.Picture.TheVariants as picture
 use Rattle.pw_picture.specs.Stored.{moved}
 use Rattle.pw_source.specs.Store.{Store, Spot, put_at}
-use Rattle.pw_source.specs.State.{State}
+use Rattle.pw_source.specs.State.{ProgramState}
 use Rattle.pw_source.specs.Values.{Value, Text', text_in, number_of}
-use Rattle.pw_source.specs.Operands.{Taken, value_in}
+use Rattle.pw_source.specs.Operands.{ResolvedOperand, value_in}
 
 -- the characters that a move leaves in an item of a picture and a size, or in a group
 abbrev pub moved_chars : Option Picture → ℕ → Value → List ℕ
@@ -20,11 +20,11 @@ move_value source target store =
     put_at target (moved_chars target.picture target.size source) store
 
 -- one move to each item, from left to right: each reads its source anew
-abbrev pub moves : Taken → List Spot → Store → Store
+abbrev pub moves : ResolvedOperand → List Spot → Store → Store
 moves source [] store = store
 moves source (target ∷ targets) store =
     moves source targets (move_value (value_in source store) target store)
 
 -- a message, a record or a reply is moved to an item as a text
-abbrev pub move_text : List ℕ → Spot → State → State
+abbrev pub move_text : List ℕ → Spot → ProgramState → ProgramState
 move_text chars target s = record s { store = move_value (Text' chars) target s.store }

@@ -7,11 +7,11 @@ use Rattle.pw_code.specs.declared.system.TermInfo.{TermInfo}
 use Rattle.pw_code.specs.declared.verb.Verb.{Verb}
 use Rattle.pw_code.specs.declared.verb.Verb.TheVariants as verb
 use Rattle.pw_files.specs.Records.{with_record}
-use Rattle.pw_onecopy.specs.Path.{PathAnswer, FileAnswer}
+use Rattle.pw_onecopy.specs.Path.{PathAnswer, FileResult}
 use Rattle.pw_onecopy.specs.Behaviour.{Behaviour, Served}
 use Rattle.pw_onecopy.specs.Behaviour as served
-use Rattle.pw_source.specs.Program.{Deck, key_length}
-use Rattle.pw_source.specs.Runs.{run_after, verb_of, screen_of, operations, served_alone}
+use Rattle.pw_source.specs.Program.{DeckModel, key_length}
+use Rattle.pw_source.specs.Runs.{run_after, verb_of, asked_screen, operations, served_alone}
 
 -- a number of a terminal, and 0 where there is none
 abbrev pub number_by : (TermInfo → ℕ) → Option TermInfo → ℕ
@@ -19,22 +19,22 @@ number_by of None = 0
 number_by of (Some terminal) = of terminal
 
 -- the next verb of a terminal's program after a path
-abbrev pub asked_by : Deck → Option TermInfo → List PathAnswer → Verb
+abbrev pub asked_by : DeckModel → Option TermInfo → List PathAnswer → Verb
 asked_by deck None path = verb.Stop
 asked_by deck (Some terminal) path = verb_of (run_after deck terminal.program terminal.entries path)
 
 -- the next verb of a terminal after a path
-abbrev pub ask : Deck → ℕ → List PathAnswer → Verb
+abbrev pub ask : DeckModel → ℕ → List PathAnswer → Verb
 ask deck t path = asked_by deck (slice_get deck.terminals t) path
 
 -- the cells of its screen after the path
-abbrev pub image_by : Deck → Option TermInfo → List PathAnswer → List ℕ
+abbrev pub image_by : DeckModel → Option TermInfo → List PathAnswer → List ℕ
 image_by deck None path = []
 image_by deck (Some terminal) path =
-    screen_of (run_after deck terminal.program terminal.entries path)
+    asked_screen (run_after deck terminal.program terminal.entries path)
 
 -- the cells of a terminal's screen after a path
-abbrev pub image : Deck → ℕ → List PathAnswer → List ℕ
+abbrev pub image : DeckModel → ℕ → List PathAnswer → List ℕ
 image deck t path = image_by deck (slice_get deck.terminals t) path
 
 -- the processes of a class
@@ -43,21 +43,21 @@ processes_by None = 0
 processes_by (Some class) = class.processes
 
 -- the next verb of a class's server on a message, behind a list of file answers
-abbrev pub ops_by : Deck → Option ClassInfo → List ℕ → List FileAnswer → Verb
+abbrev pub ops_by : DeckModel → Option ClassInfo → List ℕ → List FileResult → Verb
 ops_by deck None message done = verb.Fault 0
 ops_by deck (Some class) message done = operations deck class.server message done
 
 -- what a server of a class asks on a message behind file answers
-abbrev pub ops : Deck → ℕ → List ℕ → List FileAnswer → Verb
+abbrev pub ops : DeckModel → ℕ → List ℕ → List FileResult → Verb
 ops deck c message done = ops_by deck (slice_get deck.classes c) message done
 
 -- what a class's server comes to on a message and files, run by itself
-abbrev pub serve_by : Deck → Option ClassInfo → List ℕ → (ℕ → List (List ℕ)) → Served
+abbrev pub serve_by : DeckModel → Option ClassInfo → List ℕ → (ℕ → List (List ℕ)) → Served
 serve_by deck None message files = served.Fault 0
 serve_by deck (Some class) message files = served_alone deck class.server message files
 
 -- what a server of a class comes to by itself on a message and files
-abbrev pub serve : Deck → ℕ → List ℕ → (ℕ → List (List ℕ)) → Served
+abbrev pub serve : DeckModel → ℕ → List ℕ → (ℕ → List (List ℕ)) → Served
 serve deck c message files = serve_by deck (slice_get deck.classes c) message files
 
 -- the records of a file in the order of their keys
@@ -66,7 +66,7 @@ records_by None = []
 records_by (Some file) = fold (with_record file.key) [] file.records
 
 -- the behaviour of a deck under a rule of locking
-abbrev pub behaviour : LockRule → Deck → Behaviour
+abbrev pub behaviour : LockRule → DeckModel → Behaviour
 behaviour rule deck = record {
   terminals = length deck.terminals;
   pairs = length deck.tcps;

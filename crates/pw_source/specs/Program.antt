@@ -22,7 +22,7 @@ pub record Program : Type 0 where
   pub paragraphs : List Paragraph
 
 -- what a deck says: the programs of terminals and of servers, the tables, and the failure lines
-pub record Deck : Type 0 where
+pub record DeckModel : Type 0 where
   pub programs : List Program
   pub servers : List Program
   pub classes : List ClassInfo
@@ -52,17 +52,17 @@ abbrev pub storage_size : Program → ℕ
 storage_size program = length program.layout.storage
 
 -- the number of a program, a class or a file by its name, in upper case
-abbrev pub program_number : Deck → Word → ℕ
+abbrev pub program_number : DeckModel → Word → ℕ
 program_number deck name =
     unwrap_or (position (λ program. bytes_eq program.name name) deck.programs) 0
 
 -- the number of the class of a name
-abbrev pub class_number : Deck → Word → ℕ
+abbrev pub class_number : DeckModel → Word → ℕ
 class_number deck name =
     unwrap_or (position (λ class. bytes_eq class.name name) deck.classes) 0
 
 -- the number of the file of a name
-abbrev pub file_number : Deck → Word → ℕ
+abbrev pub file_number : DeckModel → Word → ℕ
 file_number deck name =
     unwrap_or (position (λ file. bytes_eq file.name name) deck.files) 0
 
@@ -72,7 +72,7 @@ key_length_by None = 1
 key_length_by (Some file) = file.key
 
 -- the length of the keys of a file
-abbrev pub key_length : Deck → ℕ → ℕ
+abbrev pub key_length : DeckModel → ℕ → ℕ
 key_length deck f = key_length_by (slice_get deck.files f)
 
 -- the screens of a deck are numbered through all programs: the number of a program's first screen

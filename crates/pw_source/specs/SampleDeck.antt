@@ -1,16 +1,16 @@
 -- A small deck without a fault.
 use Rattle.std.specs.Prelude.{true, false, [], ◌∷◌, codes}
-use Rattle.pw_source.specs.Program.{Deck}
-use Rattle.pw_source.specs.Samples.{program_of, sample_classes}
+use Rattle.pw_source.specs.Program.{DeckModel}
+use Rattle.pw_source.specs.Samples.{sample_program, sample_classes}
 
 -- a terminal whose program sends a message to a server, which reads a record by it
-abbrev pub small_deck : Deck
+abbrev pub small_deck : DeckModel
 small_deck = record {
   programs =
-      program_of false (codes "MAIN") [] (codes "01 M PIC X(2). 01 A PIC X(6).")
+      sample_program false (codes "MAIN") [] (codes "01 M PIC X(2). 01 A PIC X(6).")
       (codes "P. SEND M TO STORE REPLY CODE 0 YIELDS A.") ∷ [];
   servers =
-      program_of true (codes "S") [] (codes "01 K PIC X(2). 01 R PIC X(6).")
+      sample_program true (codes "S") [] (codes "01 K PIC X(2). 01 R PIC X(6).")
       (codes "P. READ $RECEIVE INTO K READ STOCK KEY K INTO R WRITE $RECEIVE FROM R.") ∷ [];
   classes = sample_classes;
   files = (record { name = codes "STOCK"; key = 2; records = [] }) ∷ [];

@@ -1,12 +1,12 @@
 -- A sample program with a screen.
 use Rattle.std.specs.Prelude.{ℕ, Bool, true, false, List, [], ◌∷◌, ◌++◌, codes, if◌then◌else◌}
 use Rattle.pw_picture.specs.declared.picture.Picture.TheVariants as picture
-use Rattle.pw_code.specs.Entry.{Entry}
+use Rattle.pw_code.specs.Entry.{EntryLineModel}
 use Rattle.pw_code.specs.declared.field.Field.{Field}
 use Rattle.pw_code.specs.declared.field.FieldKind.{FieldKind}
 use Rattle.pw_code.specs.declared.field.FieldKind.TheVariants as shown
 use Rattle.pw_code.specs.declared.field.ScreenTable.{ScreenTable}
-use Rattle.pw_source.specs.Program.{Deck}
+use Rattle.pw_source.specs.Program.{DeckModel}
 use Rattle.pw_onecopy.specs.Path as path
 use Rattle.pw_source.specs.Samples.{screen_deck, row_with}
 
@@ -34,24 +34,24 @@ ask_screen = record {
 }
 
 -- takes an entry by F1 or F3, and displays the items and the position of the key
-abbrev pub taking : Deck
+abbrev pub taking : DeckModel
 taking =
     screen_deck (ask_screen ∷ []) data_text
     (codes "P. ACCEPT ASK UNTIL F1, F3 MOVE TERMINATION-STATUS TO T DISPLAY G.")
 
 -- takes an entry by F1, and displays the screen without BASE
-abbrev pub staying : Deck
+abbrev pub staying : DeckModel
 staying = screen_deck (ask_screen ∷ []) data_text (codes "P. ACCEPT ASK UNTIL F1 DISPLAY ASK.")
 
 -- displays a text, and then the screen, with BASE or without
-abbrev pub asking : Bool → Deck
+abbrev pub asking : Bool → DeckModel
 asking base =
     screen_deck (ask_screen ∷ []) data_text
     (if base then codes "P. DISPLAY \"HI\" DISPLAY BASE ASK."
     else codes "P. DISPLAY \"HI\" DISPLAY ASK.")
 
 -- an entry line of a key with pairs
-abbrev pub line : ℕ → List (List ℕ × List ℕ) → Entry
+abbrev pub line : ℕ → List (List ℕ × List ℕ) → EntryLineModel
 line key pairs = record { key = key; fields = pairs }
 
 -- ---- a screen with fields of all kinds
@@ -73,7 +73,7 @@ kinds_screen = record {
 }
 
 -- takes an entry by F1 or SF16, shows the screen, and then the position of the key
-abbrev pub kinds : Deck
+abbrev pub kinds : DeckModel
 kinds =
     screen_deck (kinds_screen ∷ [])
     (codes "01 T PIC X(5) VALUE \"INIT\". 01 N PIC S9(3)V9 VALUE 9. 01 U PIC 9(4) VALUE 1. "
@@ -82,5 +82,5 @@ kinds =
     ++ codes "DISPLAY BASE S. DISPLAY TERMINATION-STATUS.")
 
 -- a row, from 0, behind one entry
-abbrev pub row_of_kinds : ℕ → Entry → List ℕ
+abbrev pub row_of_kinds : ℕ → EntryLineModel → List ℕ
 row_of_kinds row entry = row_with row kinds (entry ∷ []) (path.Entry 1 ∷ [])

@@ -8,18 +8,18 @@ use Rattle.pw_data.specs.Layouts.{Laid, layout_of}
 use Rattle.pw_forms.specs.declared.statement.Paragraph.{Paragraph}
 use Rattle.pw_forms.specs.declared.statement.Procedure.{Procedure}
 use Rattle.pw_forms.specs.Procedures.{procedure_of}
-use Rattle.pw_code.specs.Entry.{Entry}
+use Rattle.pw_code.specs.Entry.{EntryLineModel}
 use Rattle.pw_code.specs.declared.field.ScreenTable.{ScreenTable}
 use Rattle.pw_code.specs.declared.file.FileInfo.{FileInfo}
 use Rattle.pw_code.specs.declared.system.ClassInfo.{ClassInfo}
 use Rattle.pw_code.specs.declared.verb.Verb.{Verb}
-use Rattle.pw_onecopy.specs.Path.{PathAnswer, FileAnswer}
+use Rattle.pw_onecopy.specs.Path.{PathAnswer, FileResult}
 use Rattle.pw_onecopy.specs.Path as path
 use Rattle.pw_onecopy.specs.Behaviour.{Served}
 use Rattle.pw_onecopy.specs.Behaviour as served
 use Rattle.pw_terminal.specs.Screen.{trimmed}
-use Rattle.pw_source.specs.Program.{Deck, Program}
-use Rattle.pw_source.specs.Runs.{run_after, verb_of, screen_of, operations, served_alone, setting_of, server_setting, server_run, program_run, called, most_calls, start, ended, file_told}
+use Rattle.pw_source.specs.Program.{DeckModel, Program}
+use Rattle.pw_source.specs.Runs.{run_after, verb_of, asked_screen, operations, served_alone, setting_of, server_setting, server_run, program_run, called, most_calls, start, program_ended, file_told}
 
 -- the tokens of a text
 abbrev pub tokens_of_text : List ℕ → List Token
@@ -36,8 +36,8 @@ paragraphs_by (Ok procedure) = procedure.paragraphs
 paragraphs_by (Err fault) = []
 
 -- a program of a name with these USING names, data and procedure
-abbrev pub program_of : Bool → Word → List Word → List ℕ → List ℕ → Program
-program_of server name using data_text text = record {
+abbrev pub sample_program : Bool → Word → List Word → List ℕ → List ℕ → Program
+sample_program server name using data_text text = record {
   name = name;
   layout = laid_by (layout_of data_text (tokens_of_text data_text) server);
   screens = [];
@@ -57,7 +57,7 @@ sample_files =
     (record { name = codes "STOCK"; key = 2; records = codes "A10005" ∷ codes "B10007" ∷ [] }) ∷ []
 
 -- a deck of these programs and servers
-abbrev pub deck_of : List Program → List Program → Deck
+abbrev pub deck_of : List Program → List Program → DeckModel
 deck_of programs servers = record {
   programs = programs;
   servers = servers;
@@ -69,13 +69,13 @@ deck_of programs servers = record {
 }
 
 -- a deck of one requester, MAIN
-abbrev pub main_deck : List ℕ → List ℕ → Deck
-main_deck data_text text = deck_of (program_of false (codes "MAIN") [] data_text text ∷ []) []
+abbrev pub main_deck : List ℕ → List ℕ → DeckModel
+main_deck data_text text = deck_of (sample_program false (codes "MAIN") [] data_text text ∷ []) []
 
 -- row 24 without the spaces at its end, and the verb, after a path without entries
 abbrev pub says_after : List PathAnswer → List ℕ → List ℕ → List ℕ
 says_after path data_text text =
-    trimmed (drop 1840 (screen_of (run_after (main_deck data_text text) 0 [] path)))
+    trimmed (drop 1840 (asked_screen (run_after (main_deck data_text text) 0 [] path)))
 
 -- the verb of MAIN after a path
 abbrev pub asks_after : List PathAnswer → List ℕ → List ℕ → Verb
@@ -90,48 +90,48 @@ abbrev pub asks : List ℕ → List ℕ → Verb
 asks data_text text = asks_after [] data_text text
 
 -- what a server asks on the message M behind file answers
-abbrev pub serves : List FileAnswer → List ℕ → List ℕ → Verb
+abbrev pub serves : List FileResult → List ℕ → List ℕ → Verb
 serves done data_text text =
-    operations (deck_of [] (program_of true (codes "S") [] data_text text ∷ [])) 0 (codes "M") done
+    operations (deck_of [] (sample_program true (codes "S") [] data_text text ∷ [])) 0 (codes "M") done
 
 -- ---- two programs
 
 -- a deck of MAIN and of SUB, which has these USING names
-abbrev pub calling : List ℕ → List ℕ → List Word → List ℕ → List ℕ → Deck
+abbrev pub calling : List ℕ → List ℕ → List Word → List ℕ → List ℕ → DeckModel
 calling data_text text using sub_data sub_text =
-    deck_of (program_of false (codes "MAIN") [] data_text text
-    ∷ program_of false (codes "SUB") using sub_data sub_text ∷ []) []
+    deck_of (sample_program false (codes "MAIN") [] data_text text
+    ∷ sample_program false (codes "SUB") using sub_data sub_text ∷ []) []
 
 -- row 24 and the verb of MAIN at the start
-abbrev pub says_in : Deck → List ℕ
-says_in deck = trimmed (drop 1840 (screen_of (run_after deck 0 [] [])))
+abbrev pub says_in : DeckModel → List ℕ
+says_in deck = trimmed (drop 1840 (asked_screen (run_after deck 0 [] [])))
 
 -- the verb of the deck's first program at the start
-abbrev pub asks_in : Deck → Verb
+abbrev pub asks_in : DeckModel → Verb
 asks_in deck = verb_of (run_after deck 0 [] [])
 
 -- ---- a program with a screen
 
 -- a deck of MAIN with the screen ASK
-abbrev pub screen_deck : List ScreenTable → List ℕ → List ℕ → Deck
+abbrev pub screen_deck : List ScreenTable → List ℕ → List ℕ → DeckModel
 screen_deck screens data_text text =
-    deck_of (record (program_of false (codes "MAIN") [] data_text text) { screens = screens } ∷ [])
+    deck_of (record (sample_program false (codes "MAIN") [] data_text text) { screens = screens } ∷ [])
     []
 
 -- the verb and a row, from 0, after a path of these entry lines
-abbrev pub asks_with : Deck → List Entry → List PathAnswer → Verb
+abbrev pub asks_with : DeckModel → List EntryLineModel → List PathAnswer → Verb
 asks_with deck lines path = verb_of (run_after deck 0 lines path)
 
 -- a row, from 0, of the screen after a path of these entry lines
-abbrev pub row_with : ℕ → Deck → List Entry → List PathAnswer → List ℕ
+abbrev pub row_with : ℕ → DeckModel → List EntryLineModel → List PathAnswer → List ℕ
 row_with row deck lines path =
-    trimmed (take 80 (drop (row * 80) (screen_of (run_after deck 0 lines path))))
+    trimmed (take 80 (drop (row * 80) (asked_screen (run_after deck 0 lines path))))
 
 -- ---- a server by itself
 
 -- a deck of one server, S
-abbrev pub server_deck : List ℕ → List ℕ → Deck
-server_deck data_text text = deck_of [] (program_of true (codes "S") [] data_text text ∷ [])
+abbrev pub server_deck : List ℕ → List ℕ → DeckModel
+server_deck data_text text = deck_of [] (sample_program true (codes "S") [] data_text text ∷ [])
 
 -- what it comes to on a message and on records of STOCK
 abbrev pub comes_to_on : List ℕ → List (List ℕ) → List ℕ → List ℕ → Served
@@ -155,14 +155,14 @@ stock_of (served.Fault code) = []
 -- ---- whole paths
 
 -- row 24 of each refresh on a path, where the path goes on from these answers
-abbrev pub rows_from : Deck → List Entry → List PathAnswer → List PathAnswer → List (List ℕ)
+abbrev pub rows_from : DeckModel → List EntryLineModel → List PathAnswer → List PathAnswer → List (List ℕ)
 rows_from deck lines before [] = []
 rows_from deck lines before (path.Shown ∷ rest) =
     row_with 23 deck lines before ∷ rows_from deck lines (before ++ path.Shown ∷ []) rest
 rows_from deck lines before (answer ∷ rest) = rows_from deck lines (before ++ answer ∷ []) rest
 
 -- the same of a whole path, and the verb at its end
-abbrev pub story : Deck → List Entry → List PathAnswer → List (List ℕ) × Verb
+abbrev pub story : DeckModel → List EntryLineModel → List PathAnswer → List (List ℕ) × Verb
 story deck lines path = (rows_from deck lines [] path, asks_with deck lines path)
 
 -- a screen without fields
@@ -174,7 +174,7 @@ abbrev pub with_bare_screen : Program → Program
 with_bare_screen program = record program { screens = bare_screen ∷ [] }
 
 -- a deck whose programs have a screen without fields besides
-abbrev pub with_bare_screens : Deck → Deck
+abbrev pub with_bare_screens : DeckModel → DeckModel
 with_bare_screens deck = record deck { programs = map with_bare_screen deck.programs }
 
 -- ---- runs that have counted so many statements
@@ -183,11 +183,11 @@ with_bare_screens deck = record deck { programs = map with_bare_screen deck.prog
 abbrev pub asks_counting : ℕ → List ℕ → List ℕ → Verb
 asks_counting count data_text text =
     let setting = setting_of (main_deck data_text text) 0 in
-    verb_of (ended setting (program_run setting (called most_calls setting.deck 0)
+    verb_of (program_ended setting (program_run setting (called most_calls setting.deck 0)
     (record (start setting.program []) { count = count })))
 
 -- the same of a server, behind file answers
-abbrev pub serves_counting : ℕ → List FileAnswer → List ℕ → List ℕ → Verb
+abbrev pub serves_counting : ℕ → List FileResult → List ℕ → List ℕ → Verb
 serves_counting count done data_text text =
     let setting = server_setting (server_deck data_text text) 0 (codes "M") false in
     verb_of

@@ -1,11 +1,11 @@
 -- In what a program runs.
 use Rattle.std.specs.Prelude.{ℕ, Bool, List}
-use Rattle.pw_source.specs.Program.{Deck, Program}
+use Rattle.pw_source.specs.Program.{DeckModel, Program}
 
 -- The deck, the program, the number of its first screen, and whether it is a server; of a server
 -- the message, and whether it runs by itself on plain files.
 pub record Setting : Type 0 where
-  pub deck : Deck
+  pub deck : DeckModel
   pub program : Program
   pub first : ℕ
   pub is_server : Bool

@@ -12,10 +12,10 @@ use Rattle.pw_code.specs.Valid.{IsDeckFile}
 use Rattle.pw_code.specs.declared.links.Links.{Links}
 use Rattle.pw_code.specs.declared.system.ClassInfo.{ClassInfo}
 use Rattle.pw_code.specs.declared.system.TermInfo.{TermInfo}
-use Rattle.pw_source.specs.Program.{Program, Deck}
+use Rattle.pw_source.specs.Program.{Program, DeckModel}
 
 -- what the programs of a deck may name besides what is theirs
-abbrev pub links_of : Deck → Links
+abbrev pub links_of : DeckModel → Links
 links_of deck = record {
   programs = map (λ program. program.name) deck.programs;
   classes = map (λ class. class.name) deck.classes;
@@ -23,7 +23,7 @@ links_of deck = record {
 }
 
 -- what the names of a program may stand for
-abbrev pub scope_of : Bool → Deck → Program → Scope
+abbrev pub scope_of : Bool → DeckModel → Program → Scope
 scope_of server deck program = record {
   server = server;
   layout = program.layout;
@@ -73,23 +73,23 @@ pub record IsLayout (server : Bool) (layout : Laid) : Type 0 where
 
 -- a program of a deck: its names resolve, its statements are those of its side, and its layout is
 -- that of data
-pub record IsSoundProgram (server : Bool) (deck : Deck) (program : Program) : Type 0 where
+pub record IsSoundProgram (server : Bool) (deck : DeckModel) (program : Program) : Type 0 where
   pub resolves : AllResolve (scope_of server deck program)
   pub forms : Each (λ paragraph. Each (HasForms server) paragraph.body) program.paragraphs
   pub laid : IsLayout server program.layout
 
 -- a terminal's pair and program are there
-pub record IsSoundTerminal (deck : Deck) (terminal : TermInfo) : Type 0 where
+pub record IsSoundTerminal (deck : DeckModel) (terminal : TermInfo) : Type 0 where
   pub pair : terminal.tcp < length deck.tcps
   pub program : terminal.program < length deck.programs
 
 -- a class's server is there, and it has a process
-pub record IsSoundClass (deck : Deck) (class : ClassInfo) : Type 0 where
+pub record IsSoundClass (deck : DeckModel) (class : ClassInfo) : Type 0 where
   pub server : class.server < length deck.servers
   pub some : 1 ≤ class.processes
 
 -- a deck whose programs, terminals, classes and files are sound
-pub record IsSound (deck : Deck) : Type 0 where
+pub record IsSoundDeck (deck : DeckModel) : Type 0 where
   pub programs : Each (IsSoundProgram false deck) deck.programs
   pub servers : Each (IsSoundProgram true deck) deck.servers
   pub terminals : Each (IsSoundTerminal deck) deck.terminals

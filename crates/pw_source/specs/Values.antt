@@ -39,17 +39,17 @@ without_sign _ chars = chars
 
 -- the characters of an operand as MOVE to a text takes them: a number without its sign, a number
 -- literal its digits
-abbrev pub text_of : Value → List ℕ
-text_of (Chars picture chars) = without_sign picture chars
-text_of (Number' spelling) = filter is_ascii_digit spelling
-text_of other = as_it_stands other
+abbrev pub operand_text : Value → List ℕ
+operand_text (Chars picture chars) = without_sign picture chars
+operand_text (Number' spelling) = filter is_ascii_digit spelling
+operand_text other = as_it_stands other
 
 -- the same in so many characters: SPACES and ZEROS fill, a text is cut at its end or has spaces
 -- behind it
 abbrev pub text_in : ℕ → Value → List ℕ
 text_in size Spaces' = replicate size 32
 text_in size Zeros' = replicate size 48
-text_in size other = fitted size (text_of other)
+text_in size other = fitted size (operand_text other)
 
 -- ---- numbers
 
@@ -63,11 +63,11 @@ is_number_picture (Some (picture.Number digits places sign)) = true
 is_number_picture _ = false
 
 -- an operand is a number
-abbrev pub is_number : Value → Bool
-is_number (Chars picture chars) = is_number_picture picture
-is_number (Register digits value) = true
-is_number (Number' spelling) = true
-is_number _ = false
+abbrev pub is_number_operand : Value → Bool
+is_number_operand (Chars picture chars) = is_number_picture picture
+is_number_operand (Register digits value) = true
+is_number_operand (Number' spelling) = true
+is_number_operand _ = false
 
 -- a text as an unsigned whole number: its last 18 characters, where one that is no digit is as 0
 abbrev pub number_of_text : List ℕ → Number

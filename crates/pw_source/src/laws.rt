@@ -3,7 +3,7 @@ ghost use Rattle.pw_text.specs.declared.token.Token.{Token};
 ghost use Rattle.pw_data.specs.declared.item.Item.{Item};
 ghost use Rattle.pw_data.specs.Store.{IsStoreOf};
 ghost use Rattle.pw_words.specs.Words.{Word};
-ghost use Rattle.pw_forms.specs.declared.cond.Cond.{Cond};
+ghost use Rattle.pw_forms.specs.declared.cond.ConditionForm.{ConditionForm};
 ghost use Rattle.pw_forms.specs.declared.statement.Procedure.{Procedure};
 ghost use Rattle.pw_forms.specs.Procedures.{procedure_of};
 ghost use Rattle.pw_operands.specs.Resolved.{Each};
@@ -13,14 +13,14 @@ ghost use Rattle.pw_code.specs.declared.verb.Verb.TheVariants as verb;
 ghost use Rattle.pw_onecopy.specs.IsBehaviour.{IsBehaviour, IsPath};
 ghost use Rattle.pw_onecopy.specs.Path.{PathAnswer, Failed, is_outside};
 ghost use Rattle.pw_source.specs.Store.{Store, Spot, spot_of, chars_at, put_at, initial_store};
-ghost use Rattle.pw_source.specs.State.{State, Out, faults};
-ghost use Rattle.pw_source.specs.Program.{Program, Deck, item_named, program_at};
+ghost use Rattle.pw_source.specs.State.{ProgramState, Out, faults};
+ghost use Rattle.pw_source.specs.Program.{Program, DeckModel, item_named, program_at};
 ghost use Rattle.pw_source.specs.Setting.{Setting};
 ghost use Rattle.pw_source.specs.Conditions.{holds};
 ghost use Rattle.pw_source.specs.Performs.{turns_until, budget};
 ghost use Rattle.pw_source.specs.Runs.{performed, setting_of, server_setting, called};
 ghost use Rattle.pw_source.specs.Restarts.{NeverRestarts};
-ghost use Rattle.pw_source.specs.Sound.{HasForms, IsLayout, IsSound};
+ghost use Rattle.pw_source.specs.Sound.{HasForms, IsLayout, IsSoundDeck};
 ghost use Rattle.pw_source.specs.OfDeck.{ask, behaviour};
 
 /// Putting characters into an item changes no item but by its characters, and no item's size.
@@ -61,15 +61,15 @@ pub fn initial_laws()
 /// PERFORM UNTIL never makes as many turns as its budget has: with more of them it does the same,
 /// in requesters and in servers.
 pub fn until_laws()
-    ensures requesters { (deck : Deck) (q d n used more : ℕ) (name : Word) (cond : Cond) (s : State)
-        → let test : State → Option Bool = λ t. holds (program_at deck.programs q) t cond in
-        let turn : State → Out = performed d (setting_of deck q) (called n deck used) name in
+    ensures requesters { (deck : DeckModel) (q d n used more : ℕ) (name : Word) (cond : ConditionForm) (s : ProgramState)
+        → let test : ProgramState → Option Bool = λ t. holds (program_at deck.programs q) t cond in
+        let turn : ProgramState → Out = performed d (setting_of deck q) (called n deck used) name in
         budget s ≤ more → turns_until more test turn s ≡ turns_until (budget s) test turn s }
-    ensures servers { (deck : Deck) (q d more : ℕ) (message : List ℕ) (name : Word) (cond : Cond)
-        (s : State)
-        → let test : State → Option Bool = λ t. holds (program_at deck.servers q) t cond in
+    ensures servers { (deck : DeckModel) (q d more : ℕ) (message : List ℕ) (name : Word) (cond : ConditionForm)
+        (s : ProgramState)
+        → let test : ProgramState → Option Bool = λ t. holds (program_at deck.servers q) t cond in
         let setting : Setting = server_setting deck q message false in
-        let turn : State → Out = performed d setting (λ p arguments t. faults 202 t) name in
+        let turn : ProgramState → Out = performed d setting (λ p arguments t. faults 202 t) name in
         budget s ≤ more → turns_until more test turn s ≡ turns_until (budget s) test turn s }
 {}
 
@@ -77,22 +77,22 @@ pub fn until_laws()
 /// transactions alone, END-, ABORT- and RESTART-TRANSACTION inside them; and a server's run fault
 /// is that of the program that sent.
 pub fn unit_laws()
-    ensures begins { (rule : LockRule) (deck : Deck) (t : ℕ) (path : List PathAnswer)
+    ensures begins { (rule : LockRule) (deck : DeckModel) (t : ℕ) (path : List PathAnswer)
         → IsPath (behaviour rule deck) t path → ask deck t path ≡ verb.Begin
         → is_outside path ≡ true }
-    ensures stops { (rule : LockRule) (deck : Deck) (t : ℕ) (path : List PathAnswer)
+    ensures stops { (rule : LockRule) (deck : DeckModel) (t : ℕ) (path : List PathAnswer)
         → IsPath (behaviour rule deck) t path → ask deck t path ≡ verb.Stop
         → is_outside path ≡ true }
-    ensures ends { (rule : LockRule) (deck : Deck) (t : ℕ) (path : List PathAnswer)
+    ensures ends { (rule : LockRule) (deck : DeckModel) (t : ℕ) (path : List PathAnswer)
         → IsPath (behaviour rule deck) t path → ask deck t path ≡ verb.End
         → is_outside path ≡ false }
-    ensures drops { (rule : LockRule) (deck : Deck) (t : ℕ) (path : List PathAnswer)
+    ensures drops { (rule : LockRule) (deck : DeckModel) (t : ℕ) (path : List PathAnswer)
         → IsPath (behaviour rule deck) t path → ask deck t path ≡ verb.Drop
         → is_outside path ≡ false }
-    ensures redoes { (rule : LockRule) (deck : Deck) (t : ℕ) (path : List PathAnswer)
+    ensures redoes { (rule : LockRule) (deck : DeckModel) (t : ℕ) (path : List PathAnswer)
         → IsPath (behaviour rule deck) t path → ask deck t path ≡ verb.Redo
         → is_outside path ≡ false }
-    ensures fails { (rule : LockRule) (deck : Deck) (t c x : ℕ) (message : List ℕ)
+    ensures fails { (rule : LockRule) (deck : DeckModel) (t c x : ℕ) (message : List ℕ)
         (path : List PathAnswer)
         → IsPath (behaviour rule deck) t path → ask deck t path ≡ verb.Send c message
         → ask deck t (path ++ Failed x ∷ []) ≡ verb.Fault x }
@@ -103,12 +103,12 @@ pub fn unit_laws()
 /// that are there; that operations name files that are there, with keys and records of their
 /// lengths; and that a server's operations add up to what it comes to by itself.
 pub fn deck_laws()
-    ensures { (rule : LockRule) (deck : Deck) → IsSound deck → IsBehaviour (behaviour rule deck) }
+    ensures { (rule : LockRule) (deck : DeckModel) → IsSoundDeck deck → IsBehaviour (behaviour rule deck) }
 {}
 
 /// Where no program has a RESTART-TRANSACTION, none is asked.
 pub fn restart_laws()
-    ensures never { (rule : LockRule) (deck : Deck) (t : ℕ) (path : List PathAnswer)
+    ensures never { (rule : LockRule) (deck : DeckModel) (t : ℕ) (path : List PathAnswer)
         → NeverRestarts deck.programs → IsPath (behaviour rule deck) t path
         → ask deck t path ≡ verb.Redo → ⊥ }
 {}

@@ -31,12 +31,12 @@ ending_or_running system None = codes "RUNNING"
 ending_or_running system (Some ending) = ending_text system ending
 
 -- a word, and the number behind it
-abbrev pub numbered : List ℕ → ℕ → List (List ℕ) → List (List ℕ)
-numbered word n rest = word ∷ decimal n ∷ rest
+abbrev pub word_with_number : List ℕ → ℕ → List (List ℕ) → List (List ℕ)
+word_with_number word n rest = word ∷ decimal n ∷ rest
 
 -- the line of how many entries there are
 abbrev pub entries_line : ℕ → List ℕ
-entries_line n = line (sentence (numbered (codes "ENTRIES") n []))
+entries_line n = line (sentence (word_with_number (codes "ENTRIES") n []))
 
 -- the line of a pair
 abbrev pub pair_line : System → ℕ → Mode → List ℕ
@@ -47,38 +47,38 @@ pair_line system p mode =
 abbrev pub terminal_line : System → ℕ → Option Ending → TerminalCounts → List ℕ
 terminal_line system t ending counts =
     line (sentence (codes "TERM" ∷ terminal_name system t ∷ ending_or_running system ending
-    ∷ numbered (codes "UNITS") counts.units
-    (numbered (codes "RESTARTS") counts.restarts
-    (numbered (codes "ENTRIES") counts.entries
-    (numbered (codes "SHOWN") counts.shown [])))))
+    ∷ word_with_number (codes "UNITS") counts.units
+    (word_with_number (codes "RESTARTS") counts.restarts
+    (word_with_number (codes "ENTRIES") counts.entries
+    (word_with_number (codes "SHOWN") counts.shown [])))))
 
 -- the line of a class
 abbrev pub class_line : System → ℕ → ClassCounts → List ℕ
 class_line system c counts =
     line (sentence (codes "SERVER" ∷ class_name system c
-    ∷ numbered (codes "WAITING") counts.waiting
-    (numbered (codes "BUSY") counts.busy
-    (numbered (codes "TAKEN") counts.taken
-    (numbered (codes "LONGEST") counts.longest [])))))
+    ∷ word_with_number (codes "WAITING") counts.waiting
+    (word_with_number (codes "BUSY") counts.busy
+    (word_with_number (codes "TAKEN") counts.taken
+    (word_with_number (codes "LONGEST") counts.longest [])))))
 
 -- the line of a file
 abbrev pub file_line : System → ℕ → FileCounts → List ℕ
 file_line system f counts =
     line (sentence (codes "FILE" ∷ file_name system f
-    ∷ numbered (codes "RECORDS") counts.records (numbered (codes "LOCKS") counts.locks [])))
+    ∷ word_with_number (codes "RECORDS") counts.records (word_with_number (codes "LOCKS") counts.locks [])))
 
 -- the line of the units
 abbrev pub units_line : UnitCounts → List ℕ
 units_line counts =
     line (sentence (codes "TMF"
-    ∷ numbered (codes "BEGUN") counts.begun
-    (numbered (codes "COMMITTED") counts.committed
-    (numbered (codes "DROPPED") counts.dropped
-    (numbered (codes "LEFT") counts.left
-    (numbered (codes "OLDER") counts.older
-    (numbered (codes "TAKEOVER") counts.takeover
-    (numbered (codes "SERVER") counts.server
-    (numbered (codes "REDO") counts.redo [])))))))))
+    ∷ word_with_number (codes "BEGUN") counts.begun
+    (word_with_number (codes "COMMITTED") counts.committed
+    (word_with_number (codes "DROPPED") counts.dropped
+    (word_with_number (codes "LEFT") counts.left
+    (word_with_number (codes "OLDER") counts.older
+    (word_with_number (codes "TAKEOVER") counts.takeover
+    (word_with_number (codes "SERVER") counts.server
+    (word_with_number (codes "REDO") counts.redo [])))))))))
 
 -- the first n of some lines
 abbrev pub lines_to : (ℕ → List ℕ) → ℕ → List ℕ

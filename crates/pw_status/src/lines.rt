@@ -1,7 +1,7 @@
 ghost use Rattle.std.specs.Prelude.{◌≡◌, ◌<◌, ◌++◌, IfOk, IfSome, OnOk, length, map, string_bytes};
 ghost use Rattle.std.specs.Fmt.{decimal};
 ghost use Rattle.std.specs.List.{AllByRecursion};
-ghost use Rattle.pw_event.specs.Line.{IsThere, ending_words, sentence};
+ghost use Rattle.pw_event.specs.Line.{IsWordOfSystem, ending_words, sentence};
 ghost use Rattle.pw_listing.specs.Lines.{line};
 ghost use Rattle.pw_status.specs.Text.{class_line, ending_or_running, entries_line, file_line, mode_word, pair_line, terminal_line, units_line};
 
@@ -70,7 +70,7 @@ fn ending_or_running(
     system: &System,
     ending: Option<Ending>,
 ) -> Result<Bytes, Memory>
-    requires { IfSome ending (λ ending. AllByRecursion (IsThere system.now) (ending_words ending)) }
+    requires { IfSome ending (λ ending. AllByRecursion (IsWordOfSystem system.now) (ending_words ending)) }
     ensures { IfOk result (λ text. text ≡ ending_or_running system.now ending) }
 {
     match ending {
@@ -90,7 +90,7 @@ pub fn print_terminal(
 ) -> Result<(), Memory>
     requires terminal { terminal < length system.now.terminals }
     requires ending { IfSome ending
-        (λ ending. AllByRecursion (IsThere system.now) (ending_words ending)) }
+        (λ ending. AllByRecursion (IsWordOfSystem system.now) (ending_words ending)) }
     ensures { OnOk result (text.new
         ≡ text.old ++ terminal_line system.now terminal ending counts.now) }
 {

@@ -7,10 +7,10 @@ use Rattle.pw_code.specs.declared.unit.Unit as unit
 use Rattle.pw_event.specs.declared.event.Cause.{Cause}
 use Rattle.pw_event.specs.declared.event.Cause.TheVariants.{Older, Takeover, Server, Redo}
 use Rattle.pw_kept.specs.Asked.{verb_in}
-use Rattle.pw_kept.specs.CauseTests.{holds}
+use Rattle.pw_kept.specs.CauseTests.{kept_cause_holds}
 use Rattle.pw_kept.specs.Kept.{Kept}
 use Rattle.pw_kept.specs.PairTests.{is_gone}
-use Rattle.pw_kept.specs.TerminalTests.{can_where, pair_of}
+use Rattle.pw_kept.specs.TerminalTests.{can_where, seen_pair_of}
 use Rattle.pw_laws.specs.legal.Values.{is_server_by, is_takeover_by, some_with}
 use Rattle.pw_laws.specs.legal.Verbs.{asks_redo}
 use Rattle.pw_steps.proofs.Meets.{open-of-unit}
@@ -47,26 +47,26 @@ module _ (system : System) (kept : Kept) (known : IsKnown system kept) (own : un
   told-of = open-of-unit system kept known own is
 
   holds-told : (cause : Cause) → HoldsFor system kept own cause
-      → holds system kept own.terminal told-of.open_unit cause ≡ true
+      → kept_cause_holds system kept own.terminal told-of.open_unit cause ≡ true
   holds-told cause h = h told-of.open_unit told-of.here
 
   -- what fails for it does not hold
   fails : (cause : Cause)
       → ((told : ToldUnit) → kept.disc.units own.terminal ≡ Some told
-      → false ≡ holds system kept own.terminal told cause)
+      → false ≡ kept_cause_holds system kept own.terminal told cause)
       → HoldsFor system kept own cause → ⊥
   fails cause none h = refutes (holds-told cause h) (sym (none told-of.open_unit told-of.here))
 
   -- where the only pending cause fails, no pending one holds
   pub only-pending : (cause : Cause) → (kept.terminals own.terminal).pending ≡ Some cause
       → ((told : ToldUnit) → kept.disc.units own.terminal ≡ Some told
-      → false ≡ holds system kept own.terminal told cause)
+      → false ≡ kept_cause_holds system kept own.terminal told cause)
       → IsOneFound (λ one. (kept.terminals own.terminal).pending ≡ Some one) system kept own None
   only-pending cause at none other e =
       fails other
       (subst
       (λ one. (told : ToldUnit) → kept.disc.units own.terminal ≡ Some told
-      → false ≡ holds system kept own.terminal told one)
+      → false ≡ kept_cause_holds system kept own.terminal told one)
       (some_is (sym at ∙ e)) none)
 
   -- ---- an older unit
@@ -81,7 +81,7 @@ module _ (system : System) (kept : Kept) (known : IsKnown system kept) (own : un
 
   -- none is older where no member of its pair is left
   gone-fails : (o m : ℕ) (it : Option unit.Unit) → unit_told o (kept.disc.units o) ≡ it
-      → is_gone (pair_of system kept own.terminal).mode ≡ true
+      → is_gone (seen_pair_of system kept own.terminal).mode ≡ true
       → HoldsFor system kept own (Older o m) → ⊥
   gone-fails o m None at gone h =
       refutes (holds-told (Older o m) h)
@@ -89,7 +89,7 @@ module _ (system : System) (kept : Kept) (known : IsKnown system kept) (own : un
   gone-fails o m (Some older) at gone h =
       refutes (is-left system kept own older m (older-parts o m older at h).0) (ap not gone)
 
-  pub gone-found : is_gone (pair_of system kept own.terminal).mode ≡ true
+  pub gone-found : is_gone (seen_pair_of system kept own.terminal).mode ≡ true
       → IsOneFound IsOlderCause system kept own None
   gone-found gone (Older o m) which h = gone-fails o m (unit_told o (kept.disc.units o)) refl gone h
   gone-found gone (Takeover p) which h = which
@@ -120,7 +120,7 @@ module _ (system : System) (kept : Kept) (known : IsKnown system kept) (own : un
   none-found none Redo which h = which
 
   -- the one that it meets is the cause
-  pub older-found : (older : unit.Unit) → is_gone (pair_of system kept own.terminal).mode ≡ false
+  pub older-found : (older : unit.Unit) → is_gone (seen_pair_of system kept own.terminal).mode ≡ false
       → IsOlder system kept own (units_meet system kept own) older
       → HoldsFor system kept own (Older older.terminal older.number)
   older-found older left h told here =

@@ -11,7 +11,7 @@ use Rattle.pw_event.specs.declared.event.Ending.TheVariants.{Suspended}
 use Rattle.pw_event.specs.declared.event.Event.{Event}
 use Rattle.pw_event.specs.declared.event.Event.TheVariants.{End, Restart}
 use Rattle.pw_kept.specs.Asked.{verb_in}
-use Rattle.pw_kept.specs.CauseTests.{holds, most_restarts, unit_named}
+use Rattle.pw_kept.specs.CauseTests.{kept_cause_holds, most_restarts, unit_named}
 use Rattle.pw_kept.specs.Kept.{Kept}
 use Rattle.pw_kept.specs.Meeting.{IsRedoRead}
 use Rattle.pw_kept.specs.PairTests.{may_lose}
@@ -40,7 +40,7 @@ module _ (system : System) (kept : Kept) (t : ℕ) where
   forced none lives (Some entry) h = found-of-terminal system kept t entry h
 
   -- of a program that asks for a restart, its verb is there
-  redo-read : (told : ToldUnit) (cause : Cause) → holds system kept t told cause ≡ true → IsRedoRead system kept t cause
+  redo-read : (told : ToldUnit) (cause : Cause) → kept_cause_holds system kept t told cause ≡ true → IsRedoRead system kept t cause
   redo-read told (Older o m) h = tt
   redo-read told (Takeover p) h = tt
   redo-read told (Server k) h = tt
@@ -49,14 +49,14 @@ module _ (system : System) (kept : Kept) (t : ℕ) where
 
   -- ---- an attempt of the unit runs
   module _ (own : unit.Unit) (run : IsRun kept t own) where
-    holds-told : (cause : Cause) → HoldsFor system kept own cause → holds system kept t run.told cause ≡ true
+    holds-told : (cause : Cause) → HoldsFor system kept own cause → kept_cause_holds system kept t run.told cause ≡ true
     holds-told cause h = subst (λ (u : unit.Unit). HoldsFor system kept u cause) (sym run.named) h run.told run.here
 
-    holds-for : (cause : Cause) → holds system kept t run.told cause ≡ true → HoldsFor system kept (unit_named t run.told) cause
+    holds-for : (cause : Cause) → kept_cause_holds system kept t run.told cause ≡ true → HoldsFor system kept (unit_named t run.told) cause
     holds-for cause h other is =
-        let same : run.told ≡ other = cc (sym run.here ∙ is) in subst (λ (x : ToldUnit). holds system kept t x cause ≡ true) same h
+        let same : run.told ≡ other = cc (sym run.here ∙ is) in subst (λ (x : ToldUnit). kept_cause_holds system kept t x cause ≡ true) same h
 
-    fails : IsCauseFound system kept own None → (cause : Cause) → holds system kept t run.told cause ≡ false
+    fails : IsCauseFound system kept own None → (cause : Cause) → kept_cause_holds system kept t run.told cause ≡ false
     fails none cause =
         false_from_ne_true _ (λ h. none cause (subst (λ (u : unit.Unit). HoldsFor system kept u cause) run.named (holds-for cause h)))
 

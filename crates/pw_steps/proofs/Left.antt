@@ -5,7 +5,7 @@ use Rattle.std.specs.Borrow.{Bor}
 use Rattle.std.specs.List.{flat_map}
 use Rattle.std.specs.Option.{MatchOption, option_copied}
 use Rattle.std.specs.Str.{bytes_eq}
-use Rattle.pw_steps.specs.Images.{Leaves, is_all, left_behind, left_of}
+use Rattle.pw_steps.specs.Images.{IsRestBehind, is_all, left_behind, left_of}
 
 -- ---- one front behind the other
 
@@ -89,7 +89,7 @@ strip-left front bytes (Some x) h = ap Some h.1 ∙ sym (stripped front bytes h.
 
 -- the same of one that is read at its place
 pub left-more-at : {A : Type 0} (spell : A → List ℕ) (xs : List A) (i : ℕ) (d : A) → i < length xs → (first left new : Option (List ℕ))
-    → left ≡ left_of (flat_map spell (take i xs)) first → Leaves (spell (get_or xs i d)) left new
+    → left ≡ left_of (flat_map spell (take i xs)) first → IsRestBehind (spell (get_or xs i d)) left new
     → new ≡ left_of (flat_map spell (take (i + 1) xs)) first
 left-more-at spell xs i d lt first left new so_far h =
     left-more spell xs i (get_or xs i d) lt (get_or_default xs i d (get_or xs i d) lt) first left new so_far h.is

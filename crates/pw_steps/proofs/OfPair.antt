@@ -20,7 +20,7 @@ use Rattle.pw_kept.specs.PairTests.{may_apply, may_copy, may_raise, may_take_ove
 use Rattle.pw_kept.specs.TerminalTests.{seat_at}
 use Rattle.pw_pair.specs.Pairs.{SeenPair, passes}
 use Rattle.pw_pair.specs.Seats.{is_waiting}
-use Rattle.pw_pair.specs.declared.seat.Seat.{Seat}
+use Rattle.pw_pair.specs.declared.seat.BackupSeat.{BackupSeat}
 use Rattle.pw_roster.specs.declared.actor.Actor.TheVariants.{Pair}
 use Rattle.pw_steps.proofs.NoStep.{step-of-pair}
 use Rattle.pw_steps.specs.Members.{IsBuiltFound, IsMember, IsPassed}
@@ -38,10 +38,10 @@ module _ (system : System) (kept : Kept) (p : ℕ) where
     pub waits : passes is_waiting (seat_at system kept t) ≡ true
 
   -- behind some terminals: they have nothing else, and one that has an APPLIED is noted
-  pub record IsBehind (seats : List Seat) (unbuilt : Option ℕ) : Type 0 where
-    pub passed : All (λ (seat : Seat). IsPassed system kept seat.terminal) seats
+  pub record IsBehind (seats : List BackupSeat) (unbuilt : Option ℕ) : Type 0 where
+    pub passed : All (λ (seat : BackupSeat). IsPassed system kept seat.terminal) seats
     pub noted : IfSome unbuilt IsNoted
-    pub all : All (λ (seat : Seat). may_apply system kept seat.terminal ≡ true → IsSome unbuilt) seats
+    pub all : All (λ (seat : BackupSeat). may_apply system kept seat.terminal ≡ true → IsSome unbuilt) seats
 
   noted-step : (t : ℕ) → IsNoted t → IsStepOf system kept (Pair p) (Applied t)
   noted-step t h = record { own = ap Pair h.member.of_pair; there = h.member.there; read = tt; passes = h.applies }
@@ -68,7 +68,7 @@ module _ (system : System) (kept : Kept) (p : ℕ) where
   some-now t true unbuilt e = refl
   some-now t false unbuilt e = cc e
 
-  module _ (seats : List Seat) (i : ℕ) (seat : Seat) (lt : i < length seats) (is : seat ≡ get_or seats i seat) (unbuilt : Option ℕ)
+  module _ (seats : List BackupSeat) (i : ℕ) (seat : BackupSeat) (lt : i < length seats) (is : seat ≡ get_or seats i seat) (unbuilt : Option ℕ)
       (member : IsMember system p seat.terminal) (here : IsPassed system kept seat.terminal) where
     behind-here : (new : Option ℕ) → new ≡ cond (is_unbuilt system kept seat.terminal) (Some seat.terminal) unbuilt
         → may_apply system kept seat.terminal ≡ true → IsSome new
@@ -85,65 +85,65 @@ module _ (system : System) (kept : Kept) (p : ℕ) where
         → new ≡ cond (is_unbuilt system kept seat.terminal) (Some seat.terminal) unbuilt → IsBehind (take (i + 1) seats) new
     behind-more h new e = record {
       passed =
-          All-more (λ (x : Seat). IsPassed system kept x.terminal) seats i seat lt h.passed
-          (subst (λ (x : Seat). IsPassed system kept x.terminal) is here);
+          All-more (λ (x : BackupSeat). IsPassed system kept x.terminal) seats i seat lt h.passed
+          (subst (λ (x : BackupSeat). IsPassed system kept x.terminal) is here);
       noted =
           subst (λ (o : Option ℕ). IfSome o IsNoted) (sym e)
           (note-it seat.terminal (is_unbuilt system kept seat.terminal) unbuilt
           (λ yes. let both = and_parts _ _ yes in record { member = member; applies = both.0; waits = both.1 }) h.noted);
       all =
-          All-more (λ (x : Seat). may_apply system kept x.terminal ≡ true → IsSome new) seats i seat lt
-          (All-weaker (λ (x : Seat). may_apply system kept x.terminal ≡ true → IsSome unbuilt)
-          (λ (x : Seat). may_apply system kept x.terminal ≡ true → IsSome new) (λ x known applies. behind-before new e (known applies))
+          All-more (λ (x : BackupSeat). may_apply system kept x.terminal ≡ true → IsSome new) seats i seat lt
+          (All-weaker (λ (x : BackupSeat). may_apply system kept x.terminal ≡ true → IsSome unbuilt)
+          (λ (x : BackupSeat). may_apply system kept x.terminal ≡ true → IsSome new) (λ x known applies. behind-before new e (known applies))
           (take i seats) h.all)
-          (subst (λ (x : Seat). may_apply system kept x.terminal ≡ true → IsSome new) is (behind-here new e));
+          (subst (λ (x : BackupSeat). may_apply system kept x.terminal ≡ true → IsSome new) is (behind-here new e));
     }
 
   -- ---- all of them
 
-  among : (t : ℕ) (seats : List Seat) → list_any (λ one. one == t) (map (λ (seat : Seat). seat.terminal) seats) ≡ true
-      → (seat : Seat) × (Contains seats seat × (seat.terminal ≡ t))
+  among : (t : ℕ) (seats : List BackupSeat) → list_any (λ one. one == t) (map (λ (seat : BackupSeat). seat.terminal) seats) ≡ true
+      → (seat : BackupSeat) × (Contains seats seat × (seat.terminal ≡ t))
   among t seats h = find-it seats h
     where
-      later : (x : Seat) (xs : List Seat) → (seat : Seat) × (Contains xs seat × (seat.terminal ≡ t)) → (seat : Seat) × (Contains (x ∷ xs) seat × (seat.terminal ≡ t))
+      later : (x : BackupSeat) (xs : List BackupSeat) → (seat : BackupSeat) × (Contains xs seat × (seat.terminal ≡ t)) → (seat : BackupSeat) × (Contains (x ∷ xs) seat × (seat.terminal ≡ t))
       later x xs found = (found.0, ((suc found.1.0.0, omega (arith, found.1.0.1), found.1.0.2), found.1.1))
 
-      step : (x : Seat) (xs : List Seat) (b : Bool) → (x.terminal == t) ≡ b
-          → ((list_any (λ one. one == t) (map (λ (seat : Seat). seat.terminal) xs) ≡ true) → (seat : Seat) × (Contains xs seat × (seat.terminal ≡ t)))
-          → (b || list_any (λ one. one == t) (map (λ (seat : Seat). seat.terminal) xs)) ≡ true
-          → (seat : Seat) × (Contains (x ∷ xs) seat × (seat.terminal ≡ t))
+      step : (x : BackupSeat) (xs : List BackupSeat) (b : Bool) → (x.terminal == t) ≡ b
+          → ((list_any (λ one. one == t) (map (λ (seat : BackupSeat). seat.terminal) xs) ≡ true) → (seat : BackupSeat) × (Contains xs seat × (seat.terminal ≡ t)))
+          → (b || list_any (λ one. one == t) (map (λ (seat : BackupSeat). seat.terminal) xs)) ≡ true
+          → (seat : BackupSeat) × (Contains (x ∷ xs) seat × (seat.terminal ≡ t))
       step x xs true e rest h = (x, ((0, omega arith, refl), eqb-true x.terminal t e))
       step x xs false e rest h = later x xs (rest h)
 
-      find-it : (xs : List Seat) → list_any (λ one. one == t) (map (λ (seat : Seat). seat.terminal) xs) ≡ true
-          → (seat : Seat) × (Contains xs seat × (seat.terminal ≡ t))
+      find-it : (xs : List BackupSeat) → list_any (λ one. one == t) (map (λ (seat : BackupSeat). seat.terminal) xs) ≡ true
+          → (seat : BackupSeat) × (Contains xs seat × (seat.terminal ≡ t))
       find-it [] h = cc h
       find-it (x ∷ xs) h = step x xs (x.terminal == t) refl (λ e. find-it xs e) h
 
   -- behind the last of them
-  pub behind-all : (seats : List Seat) (i : ℕ) (unbuilt : Option ℕ) → length seats ≤ i → IsBehind (take i seats) unbuilt → IsBehind seats unbuilt
+  pub behind-all : (seats : List BackupSeat) (i : ℕ) (unbuilt : Option ℕ) → length seats ≤ i → IsBehind (take i seats) unbuilt → IsBehind seats unbuilt
   behind-all seats i unbuilt past h = subst (λ xs. IsBehind xs unbuilt) (take_all i seats past) h
 
-  module _ (seats : List Seat) (pair : SeenPair) (same : seats ≡ pair.seats) (members : AreOf system p (terminals_in pair)) where
-    own : AreOf system p (map (λ (seat : Seat). seat.terminal) seats)
-    own = subst (λ xs. AreOf system p (map (λ (seat : Seat). seat.terminal) xs)) (sym same) members
+  module _ (seats : List BackupSeat) (pair : SeenPair) (same : seats ≡ pair.seats) (members : AreOf system p (terminals_in pair)) where
+    own : AreOf system p (map (λ (seat : BackupSeat). seat.terminal) seats)
+    own = subst (λ xs. AreOf system p (map (λ (seat : BackupSeat). seat.terminal) xs)) (sym same) members
 
     -- the terminals of its seats are its own, and each of its own has a seat
-    pub member-of-seat : (seat : Seat) (i : ℕ) → i < length seats → seat ≡ get_or seats i seat → IsMember system p seat.terminal
+    pub member-of-seat : (seat : BackupSeat) (i : ℕ) → i < length seats → seat ≡ get_or seats i seat → IsMember system p seat.terminal
     member-of-seat seat i lt is =
-        let found : IsOf system p seat.terminal = of-all (λ (x : Seat). x.terminal) seats i seat lt is own.each in
+        let found : IsOf system p seat.terminal = of-all (λ (x : BackupSeat). x.terminal) seats i seat lt is own.each in
         record {
           there = slice_get_within system.terminals seat.terminal found.info found.here;
           of_pair = ap (number_by (λ (info : TermInfo). info.tcp)) found.here ∙ found.of_pair;
         }
       where
-        of-all : (f : Seat → ℕ) (xs : List Seat) (k : ℕ) (x : Seat) → k < length xs → x ≡ get_or xs k x → All (IsOf system p) (map f xs) → IsOf system p (f x)
+        of-all : (f : BackupSeat → ℕ) (xs : List BackupSeat) (k : ℕ) (x : BackupSeat) → k < length xs → x ≡ get_or xs k x → All (IsOf system p) (map f xs) → IsOf system p (f x)
         of-all f [] k x low e all = absurd (omega (arith, low))
         of-all f (y ∷ ys) zero x low e all = subst (λ z. IsOf system p (f z)) (sym e) (All-head (IsOf system p) (f y) (map f ys) all)
         of-all f (y ∷ ys) (suc k) x low e all = of-all f ys k x (omega (arith, low)) e (All-tail (IsOf system p) (f y) (map f ys) all)
 
     module _ (taken : may_take_over kept p ≡ false) (raised : may_raise system kept p ≡ false) (unbuilt : Option ℕ) (h : IsBehind seats unbuilt) where
-      seat-for : (t : ℕ) → IsMember system p t → (seat : Seat) × (Contains seats seat × (seat.terminal ≡ t))
+      seat-for : (t : ℕ) → IsMember system p t → (seat : BackupSeat) × (Contains seats seat × (seat.terminal ≡ t))
       seat-for t m =
           ⊎_elim
           (λ got.
@@ -155,13 +155,13 @@ module _ (system : System) (kept : Kept) (p : ℕ) where
       passed-by t m =
           let found = seat-for t m in
           subst (IsPassed system kept) found.1.1
-          (All-contains (λ (x : Seat). IsPassed system kept x.terminal) seats found.0 h.passed found.1.0)
+          (All-contains (λ (x : BackupSeat). IsPassed system kept x.terminal) seats found.0 h.passed found.1.0)
 
       noted-by : (t : ℕ) → IsMember system p t → may_apply system kept t ≡ true → IsSome unbuilt
       noted-by t m =
           let found = seat-for t m in
           subst (λ x. may_apply system kept x ≡ true → IsSome unbuilt) found.1.1
-          (All-contains (λ (x : Seat). may_apply system kept x.terminal ≡ true → IsSome unbuilt) seats found.0 h.all found.1.0)
+          (All-contains (λ (x : BackupSeat). may_apply system kept x.terminal ≡ true → IsSome unbuilt) seats found.0 h.all found.1.0)
 
       no-copy : (t : ℕ) → IsMember system p t → may_copy system kept t ≡ true → ⊥
       no-copy t m passes = true≢false (sym passes ∙ (passed-by t m).copies)

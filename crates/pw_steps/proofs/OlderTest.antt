@@ -7,7 +7,7 @@ use Rattle.pw_code.specs.declared.unit.Unit as unit
 use Rattle.pw_kept.specs.CauseTests.{is_older, meets, unit_named}
 use Rattle.pw_kept.specs.Kept.{Kept}
 use Rattle.pw_kept.specs.PairTests.{is_gone}
-use Rattle.pw_kept.specs.TerminalTests.{pair_of}
+use Rattle.pw_kept.specs.TerminalTests.{seen_pair_of}
 use Rattle.pw_laws.specs.legal.Values.{some_with}
 use Rattle.pw_steps.proofs.Anywhere.{meets-either}
 use Rattle.pw_steps.proofs.Opened.{named}
@@ -25,20 +25,20 @@ module _ (system : System) (kept : Kept) (own : unit.Unit) where
   abbrev tested : ℕ → unit.Unit → unit.Unit → Bool
   tested m one other =
       other.number == m && (nat_lt other.birth one.birth
-      && (not (is_gone (pair_of system kept one.terminal).mode)
+      && (not (is_gone (seen_pair_of system kept one.terminal).mode)
       && (meets system kept one other || meets system kept other one)))
 
   tested-is : (m : ℕ) (older : unit.Unit)
       → tested m own older ≡ (comes_before system kept own older m && units_meet system kept own older)
   tested-is m older =
       ap (λ d. older.number == m
-      && (nat_lt older.birth own.birth && (not (is_gone (pair_of system kept own.terminal).mode) && d)))
+      && (nat_lt older.birth own.birth && (not (is_gone (seen_pair_of system kept own.terminal).mode) && d)))
       (sym (meets-either system kept own older))
       ∙ regroup (older.number == m) (nat_lt older.birth own.birth)
-      (not (is_gone (pair_of system kept own.terminal).mode)) (units_meet system kept own older)
+      (not (is_gone (seen_pair_of system kept own.terminal).mode)) (units_meet system kept own older)
 
   parts : (older : unit.Unit) (m : ℕ) → comes_before system kept own older m ≡ true
-      → (nat_lt older.birth own.birth ≡ true) × (not (is_gone (pair_of system kept own.terminal).mode) ≡ true)
+      → (nat_lt older.birth own.birth ≡ true) × (not (is_gone (seen_pair_of system kept own.terminal).mode) ≡ true)
   parts older m e = and_parts _ _ (and_parts (older.number == m) _ e).1
 
   pub is-first : (older : unit.Unit) (m : ℕ) → comes_before system kept own older m ≡ true
@@ -47,7 +47,7 @@ module _ (system : System) (kept : Kept) (own : unit.Unit) where
       ltb-true older.birth own.birth (parts older m e).0
 
   pub is-left : (older : unit.Unit) (m : ℕ) → comes_before system kept own older m ≡ true
-      → not (is_gone (pair_of system kept own.terminal).mode) ≡ true
+      → not (is_gone (seen_pair_of system kept own.terminal).mode) ≡ true
   is-left older m e =
       (parts older m e).1
 

@@ -4,7 +4,7 @@ use Rattle.std.proofs.lemmas.Bool.{and_right}
 use Rattle.pw_code.specs.declared.system.System.{System}
 use Rattle.pw_code.specs.declared.unit.Unit as unit
 use Rattle.pw_event.specs.declared.event.Cause.{Cause}
-use Rattle.pw_kept.specs.CauseTests.{holds, may_restart, may_suspend, most_restarts}
+use Rattle.pw_kept.specs.CauseTests.{kept_cause_holds, may_restart, may_suspend, most_restarts}
 use Rattle.pw_kept.specs.Kept.{Kept}
 use Rattle.pw_laws.specs.legal.Values.{some_with}
 use Rattle.pw_steps.proofs.Opened.{IsRun, run-terminal}
@@ -30,14 +30,14 @@ module _ (system : System) (kept : Kept) (t : ℕ) where
       → may_restart system kept t n cause ≡ false
   idle-restart e n cause =
       idle-at (kept.disc.units t) _ e (λ own still.
-      middle (own.number == n) own.running (holds system kept t own cause)
+      middle (own.number == n) own.running (kept_cause_holds system kept t own cause)
       (nat_lt (kept.terminals t).restarts (most_restarts system t)) still)
 
   pub idle-suspend : running_told t (kept.disc.units t) ≡ None → (cause : Cause)
       → may_suspend system kept t cause ≡ false
   idle-suspend e cause =
       idle-at (kept.disc.units t) _ e (λ own still.
-      middle true own.running (holds system kept t own cause)
+      middle true own.running (kept_cause_holds system kept t own cause)
       ((kept.terminals t).restarts == most_restarts system t) still)
 
   and-one : (a b : Bool) → b ≡ true → (a && b) ≡ a
@@ -61,33 +61,33 @@ module _ (system : System) (kept : Kept) (t : ℕ) where
 
     pub restart-is : (n : ℕ) (cause : Cause) → may_restart system kept t n cause
         ≡ (own.number == n
-        && (holds system kept t run.told cause
+        && (kept_cause_holds system kept t run.told cause
         && nat_lt (kept.terminals t).restarts (most_restarts system t)))
     restart-is n cause =
         ap (some_with
-        (λ (it : ToldUnit). it.number == n && ((it.running && holds system kept t it cause)
+        (λ (it : ToldUnit). it.number == n && ((it.running && kept_cause_holds system kept t it cause)
         && nat_lt (kept.terminals t).restarts (most_restarts system t)))) run.here
         ∙ ap₂ (λ m b. m == n && (b && nat_lt (kept.terminals t).restarts (most_restarts system t)))
-        (ap (λ (u : unit.Unit). u.number) run.named) (runs-and (holds system kept t run.told cause))
+        (ap (λ (u : unit.Unit). u.number) run.named) (runs-and (kept_cause_holds system kept t run.told cause))
 
     pub suspend-is : (cause : Cause) → may_suspend system kept t cause
-        ≡ (holds system kept t run.told cause && (kept.terminals t).restarts == most_restarts system t)
+        ≡ (kept_cause_holds system kept t run.told cause && (kept.terminals t).restarts == most_restarts system t)
     suspend-is cause =
         ap (some_with
-        (λ (it : ToldUnit). (it.running && holds system kept t it cause) && (kept.terminals t).restarts
+        (λ (it : ToldUnit). (it.running && kept_cause_holds system kept t it cause) && (kept.terminals t).restarts
         == most_restarts system t)) run.here
         ∙ ap (λ b. b && (kept.terminals t).restarts == most_restarts system t)
-        (runs-and (holds system kept t run.told cause))
+        (runs-and (kept_cause_holds system kept t run.told cause))
 
     -- what is known of the unit by its own terminal is so of this one
     pub holds-is : (passes : Bool) (cause : Cause)
         → ((told : ToldUnit) → kept.disc.units own.terminal ≡ Some told
-        → passes ≡ holds system kept own.terminal told cause)
-        → passes ≡ holds system kept t run.told cause
+        → passes ≡ kept_cause_holds system kept own.terminal told cause)
+        → passes ≡ kept_cause_holds system kept t run.told cause
     holds-is passes cause h =
         subst
         (λ j. (told : ToldUnit) → kept.disc.units j ≡ Some told
-        → passes ≡ holds system kept j told cause)
+        → passes ≡ kept_cause_holds system kept j told cause)
         (run-terminal t kept own run) h run.told run.here
 
     -- ---- by the tests
@@ -95,11 +95,11 @@ module _ (system : System) (kept : Kept) (t : ℕ) where
         → (own.number == n && nat_lt (kept.terminals t).restarts (most_restarts system t)) ≡ true
         → (passes : Bool)
         → ((told : ToldUnit) → kept.disc.units own.terminal ≡ Some told
-        → passes ≡ holds system kept own.terminal told cause)
+        → passes ≡ kept_cause_holds system kept own.terminal told cause)
         → passes ≡ may_restart system kept t n cause
     restarts n cause left passes h =
         holds-is passes cause h
-        ∙ (sym (inner (own.number == n) (holds system kept t run.told cause)
+        ∙ (sym (inner (own.number == n) (kept_cause_holds system kept t run.told cause)
         (nat_lt (kept.terminals t).restarts (most_restarts system t)) left)
         ∙ sym (restart-is n cause))
 
@@ -108,21 +108,21 @@ module _ (system : System) (kept : Kept) (t : ℕ) where
         → false ≡ may_restart system kept t n cause
     restarts-not n cause fails =
         sym (restart-is n cause
-        ∙ outer (own.number == n) (holds system kept t run.told cause)
+        ∙ outer (own.number == n) (kept_cause_holds system kept t run.told cause)
         (nat_lt (kept.terminals t).restarts (most_restarts system t)) fails)
 
     pub suspends : (cause : Cause) → ((kept.terminals t).restarts == most_restarts system t) ≡ true
         → (passes : Bool)
         → ((told : ToldUnit) → kept.disc.units own.terminal ≡ Some told
-        → passes ≡ holds system kept own.terminal told cause)
+        → passes ≡ kept_cause_holds system kept own.terminal told cause)
         → passes ≡ may_suspend system kept t cause
     suspends cause most passes h =
         holds-is passes cause h
-        ∙ (sym (and-one (holds system kept t run.told cause) _ most) ∙ sym (suspend-is cause))
+        ∙ (sym (and-one (kept_cause_holds system kept t run.told cause) _ most) ∙ sym (suspend-is cause))
 
     pub suspends-not : (cause : Cause) → ((kept.terminals t).restarts == most_restarts system t) ≡ false
         → false ≡ may_suspend system kept t cause
     suspends-not cause fails =
         sym (suspend-is cause
-        ∙ and_right (holds system kept t run.told cause)
+        ∙ and_right (kept_cause_holds system kept t run.told cause)
         ((kept.terminals t).restarts == most_restarts system t) fails)

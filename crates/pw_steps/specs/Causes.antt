@@ -7,11 +7,11 @@ use Rattle.pw_code.specs.declared.unit.Unit as unit
 use Rattle.pw_event.specs.declared.event.Cause.{Cause}
 use Rattle.pw_event.specs.declared.event.Cause.TheVariants.{Older}
 use Rattle.pw_exec.specs.OfSystem.{processes_by}
-use Rattle.pw_kept.specs.CauseTests.{holds, unit_named, work_meets}
+use Rattle.pw_kept.specs.CauseTests.{kept_cause_holds, unit_named, work_meets}
 use Rattle.pw_kept.specs.ClassTests.{works_where}
 use Rattle.pw_kept.specs.Kept.{Kept}
 use Rattle.pw_kept.specs.PairTests.{is_gone}
-use Rattle.pw_kept.specs.TerminalTests.{pair_of}
+use Rattle.pw_kept.specs.TerminalTests.{seen_pair_of}
 use Rattle.pw_paired.specs.Units.{any_below}
 use Rattle.pw_tmf.specs.Leaving.{unit_told}
 use Rattle.pw_tmf.specs.Operation.{awaits}
@@ -59,7 +59,7 @@ units_meet system kept one other =
 abbrev pub comes_before : System → Kept → unit.Unit → unit.Unit → ℕ → Bool
 comes_before system kept own older m =
     older.number == m && (nat_lt older.birth own.birth
-    && not (is_gone (pair_of system kept own.terminal).mode))
+    && not (is_gone (seen_pair_of system kept own.terminal).mode))
 
 -- ---- what was found
 
@@ -79,7 +79,7 @@ IsOlderFound system kept own met (Some older) = IsOlder system kept own met olde
 abbrev pub HoldsFor : System → Kept → unit.Unit → Cause → Type 0
 HoldsFor system kept own cause =
     (told : ToldUnit) → kept.disc.units own.terminal ≡ Some told
-    → holds system kept own.terminal told cause ≡ true
+    → kept_cause_holds system kept own.terminal told cause ≡ true
 
 -- none holds, or this one does
 abbrev pub IsCauseFound : System → Kept → unit.Unit → Option Cause → Type 0

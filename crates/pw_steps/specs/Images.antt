@@ -18,7 +18,7 @@ left_of front None = None
 left_of front (Some bytes) = left_behind front bytes
 
 -- the second is what is left of the first behind these bytes
-pub record Leaves (front : List ℕ) (first last : Option (List ℕ)) : Type 0 where
+pub record IsRestBehind (front : List ℕ) (first last : Option (List ℕ)) : Type 0 where
   pub is : last ≡ left_of front first
 
 -- nothing is left

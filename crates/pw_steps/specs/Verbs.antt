@@ -10,7 +10,7 @@ use Rattle.pw_seats.specs.declared.seat.Ready.{Ready}
 use Rattle.pw_steps.specs.Known.{IsFewCounted, stepping}
 
 -- the terminal can step, and its program stands so at this verb
-pub record IsAt (system : System) (kept : Kept) (t : ℕ) (at : Ready) : Type 0 where
+pub record StandsAtVerb (system : System) (kept : Kept) (t : ℕ) (at : Ready) : Type 0 where
   pub stands : stepping system kept t ≡ Some at.context
   pub verb : at.verb ≡ verb_in system at.context
   pub counts : IsFewCounted at.context

@@ -6,7 +6,7 @@ ghost use Rattle.pw_kept.specs.TerminalTests.{may_send};
 ghost use Rattle.pw_laws.specs.legal.Verbs.{asks_send_to};
 ghost use Rattle.pw_steps.specs.Known.{IsKnown};
 ghost use Rattle.pw_steps.specs.Steps.{IsFoundOr};
-ghost use Rattle.pw_steps.specs.Verbs.{HasNoAgain, HasNoBegin, HasNoDrop, HasNoEnd, HasNoKey, HasNoSend, HasNoVerbStep, HasNoneAt, IsAt};
+ghost use Rattle.pw_steps.specs.Verbs.{HasNoAgain, HasNoBegin, HasNoDrop, HasNoEnd, HasNoKey, HasNoSend, HasNoVerbStep, HasNoneAt, StandsAtVerb};
 
 use crate::terminals::{may_again, may_end_entries, may_key, may_send, stepping};
 use crate::units::{may_back, may_begin, may_check_end, may_check_start, may_commit};
@@ -33,7 +33,7 @@ pub fn verb_step<D: Disc>(keep: &Keep<D>, terminal: u32) -> Option<Event>
 fn step_at<D: Disc>(keep: &Keep<D>, terminal: u32, at: &Ready) -> Option<Event>
     requires there { terminal < length keep.now.system.terminals }
     requires known { IsKnown keep.now.system (kept_in D.told keep.now) }
-    requires at { IsAt keep.now.system (kept_in D.told keep.now) terminal at.now }
+    requires at { StandsAtVerb keep.now.system (kept_in D.told keep.now) terminal at.now }
     ensures { IsFoundOr keep.now.system (kept_in D.told keep.now) terminal
         (HasNoneAt keep.now.system (kept_in D.told keep.now) terminal at.now.verb) result }
 {
@@ -65,7 +65,7 @@ fn step_at<D: Disc>(keep: &Keep<D>, terminal: u32, at: &Ready) -> Option<Event>
 fn accept_step<D: Disc>(keep: &Keep<D>, terminal: u32, at: &Ready) -> Option<Event>
     requires there { terminal < length keep.now.system.terminals }
     requires known { IsKnown keep.now.system (kept_in D.told keep.now) }
-    requires at { IsAt keep.now.system (kept_in D.told keep.now) terminal at.now }
+    requires at { StandsAtVerb keep.now.system (kept_in D.told keep.now) terminal at.now }
     ensures { IsFoundOr keep.now.system (kept_in D.told keep.now) terminal
         (HasNoKey keep.now.system (kept_in D.told keep.now) terminal) result }
 {
@@ -86,7 +86,7 @@ fn accept_step<D: Disc>(keep: &Keep<D>, terminal: u32, at: &Ready) -> Option<Eve
 fn begin_step<D: Disc>(keep: &Keep<D>, terminal: u32, at: &Ready) -> Option<Event>
     requires there { terminal < length keep.now.system.terminals }
     requires known { IsKnown keep.now.system (kept_in D.told keep.now) }
-    requires at { IsAt keep.now.system (kept_in D.told keep.now) terminal at.now }
+    requires at { StandsAtVerb keep.now.system (kept_in D.told keep.now) terminal at.now }
     ensures { IsFoundOr keep.now.system (kept_in D.told keep.now) terminal
         (HasNoBegin keep.now.system (kept_in D.told keep.now) terminal) result }
 {
@@ -109,7 +109,7 @@ fn begin_step<D: Disc>(keep: &Keep<D>, terminal: u32, at: &Ready) -> Option<Even
 fn send_step<D: Disc>(keep: &Keep<D>, terminal: u32, at: &Ready, class: u32) -> Option<Event>
     requires there { terminal < length keep.now.system.terminals }
     requires known { IsKnown keep.now.system (kept_in D.told keep.now) }
-    requires at { IsAt keep.now.system (kept_in D.told keep.now) terminal at.now }
+    requires at { StandsAtVerb keep.now.system (kept_in D.told keep.now) terminal at.now }
     requires class { asks_send_to class at.now.verb ≡ true }
     ensures { IsFoundOr keep.now.system (kept_in D.told keep.now) terminal
         (HasNoSend keep.now.system (kept_in D.told keep.now) terminal) result }
@@ -124,7 +124,7 @@ fn send_step<D: Disc>(keep: &Keep<D>, terminal: u32, at: &Ready, class: u32) -> 
 fn own_send<D: Disc>(keep: &Keep<D>, terminal: u32, at: &Ready, class: u32) -> Option<Event>
     requires there { terminal < length keep.now.system.terminals }
     requires known { IsKnown keep.now.system (kept_in D.told keep.now) }
-    requires at { IsAt keep.now.system (kept_in D.told keep.now) terminal at.now }
+    requires at { StandsAtVerb keep.now.system (kept_in D.told keep.now) terminal at.now }
     requires class { asks_send_to class at.now.verb ≡ true }
     ensures { IsFoundOr keep.now.system (kept_in D.told keep.now) terminal
         ((n c : ℕ) → may_send keep.now.system (kept_in D.told keep.now) terminal n c ≡ false) result }
@@ -149,7 +149,7 @@ fn own_send<D: Disc>(keep: &Keep<D>, terminal: u32, at: &Ready, class: u32) -> O
 fn again_step<D: Disc>(keep: &Keep<D>, terminal: u32, at: &Ready) -> Option<Event>
     requires there { terminal < length keep.now.system.terminals }
     requires known { IsKnown keep.now.system (kept_in D.told keep.now) }
-    requires at { IsAt keep.now.system (kept_in D.told keep.now) terminal at.now }
+    requires at { StandsAtVerb keep.now.system (kept_in D.told keep.now) terminal at.now }
     ensures { IsFoundOr keep.now.system (kept_in D.told keep.now) terminal
         (HasNoAgain keep.now.system (kept_in D.told keep.now) terminal) result }
 {
@@ -164,7 +164,7 @@ fn again_step<D: Disc>(keep: &Keep<D>, terminal: u32, at: &Ready) -> Option<Even
 fn end_step<D: Disc>(keep: &Keep<D>, terminal: u32, at: &Ready) -> Option<Event>
     requires there { terminal < length keep.now.system.terminals }
     requires known { IsKnown keep.now.system (kept_in D.told keep.now) }
-    requires at { IsAt keep.now.system (kept_in D.told keep.now) terminal at.now }
+    requires at { StandsAtVerb keep.now.system (kept_in D.told keep.now) terminal at.now }
     ensures { IsFoundOr keep.now.system (kept_in D.told keep.now) terminal
         (HasNoEnd keep.now.system (kept_in D.told keep.now) terminal) result }
 {
@@ -182,7 +182,7 @@ fn end_step<D: Disc>(keep: &Keep<D>, terminal: u32, at: &Ready) -> Option<Event>
 fn drop_step<D: Disc>(keep: &Keep<D>, terminal: u32, at: &Ready) -> Option<Event>
     requires there { terminal < length keep.now.system.terminals }
     requires known { IsKnown keep.now.system (kept_in D.told keep.now) }
-    requires at { IsAt keep.now.system (kept_in D.told keep.now) terminal at.now }
+    requires at { StandsAtVerb keep.now.system (kept_in D.told keep.now) terminal at.now }
     ensures { IsFoundOr keep.now.system (kept_in D.told keep.now) terminal
         (HasNoDrop keep.now.system (kept_in D.told keep.now) terminal) result }
 {

@@ -3,9 +3,9 @@
 ghost use Rattle.std.specs.Prelude.{◌≡◌, ◌&&◌, ◌<◌, ◌==◌, nat_lt, IfOk, Some, length};
 ghost use Rattle.pw_keep.specs.Keeps.{kept_in};
 ghost use Rattle.pw_kept.specs.Asked.{verb_in};
-ghost use Rattle.pw_kept.specs.CauseTests.{holds, may_restart, may_suspend, most_restarts};
+ghost use Rattle.pw_kept.specs.CauseTests.{kept_cause_holds, may_restart, may_suspend, most_restarts};
 ghost use Rattle.pw_kept.specs.PairTests.{is_alone, is_gone};
-ghost use Rattle.pw_kept.specs.TerminalTests.{can_where, is_paired, pair_of};
+ghost use Rattle.pw_kept.specs.TerminalTests.{can_where, is_paired, seen_pair_of};
 ghost use Rattle.pw_laws.specs.legal.Values.{is_server_by, is_takeover_by, some_with};
 ghost use Rattle.pw_laws.specs.legal.Verbs.{asks_redo};
 ghost use Rattle.pw_steps.specs.Causes.{IsCauseFound, IsOlderCause, IsOneFound, IsUnit, running_told};
@@ -112,7 +112,7 @@ fn holds<D: Disc>(keep: &Keep<D>, own: &Unit, cause: Cause) -> Result<bool, Memo
     requires known { IsKnown keep.now.system (kept_in D.told keep.now) }
     ensures { IfOk result (λ passes. (told : ToldUnit)
         → (kept_in D.told keep.now).disc.units own.now.terminal ≡ Some told
-        → passes ≡ holds keep.now.system (kept_in D.told keep.now) own.now.terminal told cause) }
+        → passes ≡ kept_cause_holds keep.now.system (kept_in D.told keep.now) own.now.terminal told cause) }
 {
     match cause {
         Cause::Older { terminal, unit } => is_older(keep, own, terminal, unit),
@@ -127,7 +127,7 @@ fn is_taken_over<D: Disc>(keep: &Keep<D>, terminal: u32, tcp: u32) -> bool
     requires there { terminal < length keep.now.system.terminals }
     requires known { IsKnown keep.now.system (kept_in D.told keep.now) }
     ensures { result ≡ (some_with (is_takeover_by tcp) ((kept_in D.told keep.now).terminals terminal).pending
-        && is_alone (pair_of keep.now.system (kept_in D.told keep.now) terminal).mode) }
+        && is_alone (seen_pair_of keep.now.system (kept_in D.told keep.now) terminal).mode) }
 {
     is_takeover_by(keep.seat(terminal).pending, tcp)
         && pair_of(keep, terminal).mode() == Mode::Alone
@@ -138,7 +138,7 @@ fn is_server_lost<D: Disc>(keep: &Keep<D>, terminal: u32, line: u32) -> bool
     requires there { terminal < length keep.now.system.terminals }
     requires known { IsKnown keep.now.system (kept_in D.told keep.now) }
     ensures { result ≡ (some_with (is_server_by line) ((kept_in D.told keep.now).terminals terminal).pending
-        && is_paired (pair_of keep.now.system (kept_in D.told keep.now) terminal).mode) }
+        && is_paired (seen_pair_of keep.now.system (kept_in D.told keep.now) terminal).mode) }
 {
     is_server_by(keep.seat(terminal).pending, line)
         && pair_of(keep, terminal).mode() == Mode::Paired
@@ -194,7 +194,7 @@ fn pending_cause<D: Disc>(keep: &Keep<D>, own: &Unit) -> Result<Option<Cause>, M
 fn is_gone<D: Disc>(keep: &Keep<D>, terminal: u32) -> bool
     requires there { terminal < length keep.now.system.terminals }
     requires known { IsKnown keep.now.system (kept_in D.told keep.now) }
-    ensures { result ≡ is_gone (pair_of keep.now.system (kept_in D.told keep.now) terminal).mode }
+    ensures { result ≡ is_gone (seen_pair_of keep.now.system (kept_in D.told keep.now) terminal).mode }
 {
     pair_of(keep, terminal).mode() == Mode::Gone
 }

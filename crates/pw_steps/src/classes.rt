@@ -26,7 +26,7 @@ use pw_tmf::disc::Disc;
 
 /// A file operation as an entry of the log tells it.
 #[derive(Clone, Copy)]
-pub struct Told {
+pub struct ToldOperation {
     pub op: FileOp,
     pub mode: LockMode,
     pub file: u32,
@@ -85,7 +85,7 @@ pub fn may_file<D: Disc>(
     keep: &Keep<D>,
     class: u32,
     process: u32,
-    told: &Told,
+    told: &ToldOperation,
 ) -> Result<bool, Memory>
     requires class { class < length keep.now.system.classes }
     requires process { 1 ≤ process }
@@ -105,7 +105,7 @@ fn is_call<D: Disc>(
     keep: &Keep<D>,
     request: &Request,
     call: &FileCall,
-    told: &Told,
+    told: &ToldOperation,
 ) -> Result<bool, Memory>
     requires known { IsKnown keep.now.system (kept_in D.told keep.now) }
     requires runs { IsRunning (kept_in D.told keep.now).disc

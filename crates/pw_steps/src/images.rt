@@ -5,7 +5,7 @@ ghost use Rattle.std.specs.Int.{to_be_bytes, w32};
 ghost use Rattle.std.specs.List.{flat_map};
 ghost use Rattle.std.specs.Option.{option_copied};
 ghost use Rattle.pw_image.specs.Image.{frame_bytes, image_of, return_bytes};
-ghost use Rattle.pw_steps.specs.Images.{Leaves, behind_end, head_bytes, is_all, left_of};
+ghost use Rattle.pw_steps.specs.Images.{IsRestBehind, behind_end, head_bytes, is_all, left_of};
 ghost use Rattle.pw_steps.specs.Known.{IsFewCounted};
 
 use pw_code::context::{Context, Frame, Return};
@@ -182,7 +182,7 @@ fn behind_returns<'a>(left: Option<&'a [u8]>, returns: &[Return]) -> Option<&'a 
 
 /// What is left of bytes behind an active PERFORM.
 fn behind_return<'a>(left: Option<&'a [u8]>, active: &Return) -> Option<&'a [u8]>
-    ensures { Leaves (return_bytes active.now) (option_copied left.entry) (option_copied result) }
+    ensures { IsRestBehind (return_bytes active.now) (option_copied left.entry) (option_copied result) }
 {
     let left = behind(left, &active.resume.to_be_bytes());
     let left = behind(left, &active.until.to_be_bytes());

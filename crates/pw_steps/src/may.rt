@@ -10,11 +10,9 @@ ghost use Rattle.pw_paired.specs.Failure.{fail_line};
 ghost use Rattle.pw_steps.specs.Known.{IsKnown};
 
 use crate::causes::{may_restart, may_suspend};
-use crate::classes::{Told, may_file, may_reply, may_take};
+use crate::classes::{ToldOperation, may_file, may_reply, may_take};
 use crate::pairs::{may_apply, may_copy, may_lose, may_raise, may_take_over};
-use crate::terminals::{
-    may_again, may_end_entries, may_fault, may_key, may_send, may_show, may_stop,
-};
+use crate::terminals::{may_again, may_end_entries, may_fault, may_key, may_send, may_show, may_stop};
 use crate::units::{may_back, may_begin, may_check_end, may_check_start, may_commit};
 use pw_base::memory::Memory;
 use pw_event::event::{Ending, Event};
@@ -69,7 +67,7 @@ pub fn may<D: Disc>(keep: &Keep<D>, script: &[FailLine], entry: &Event) -> Resul
             keep,
             class,
             process,
-            &Told {
+            &ToldOperation {
                 op,
                 mode,
                 file,

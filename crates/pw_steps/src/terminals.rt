@@ -4,10 +4,10 @@ ghost use Rattle.std.specs.Prelude.{◌≡◌, ◌&&◌, ◌+◌, ◌<◌, ◌==
 ghost use Rattle.std.specs.Option.{IfSome, option_copied, option_map};
 ghost use Rattle.pw_image.specs.Image.{image_of};
 ghost use Rattle.pw_keep.specs.Keeps.{awaited_as, kept_in};
-ghost use Rattle.pw_kept.specs.Asked.{number_in, unit_in, verb_in};
+ghost use Rattle.pw_kept.specs.Asked.{next_refresh_number, unit_in, verb_in};
 ghost use Rattle.pw_kept.specs.Changes.{runs_told};
 ghost use Rattle.pw_kept.specs.Entered.{tcp_of};
-ghost use Rattle.pw_kept.specs.TerminalTests.{can_step, entries_of, is_live, is_out, may_again, may_end_entries, may_fault, may_key, may_send, may_show, may_stop, pair_of, seat_at, start_held};
+ghost use Rattle.pw_kept.specs.TerminalTests.{can_step, entry_line_count, is_live, is_out, may_again, may_end_entries, may_fault, may_key, may_send, may_show, may_stop, seen_pair_of, seat_at, start_held};
 ghost use Rattle.pw_laws.specs.legal.Terminals.{is_over};
 ghost use Rattle.pw_laws.specs.legal.Values.{is_same_refresh};
 ghost use Rattle.pw_laws.specs.legal.Verbs.{asks_accept, asks_send, asks_send_to, asks_show};
@@ -39,7 +39,7 @@ pub fn tcp_of(system: &System, terminal: u32) -> u32
 
 /// How many entry lines a terminal has.
 pub fn entries_of(system: &System, terminal: u32) -> usize
-    ensures { result ≡ entries_of system.now terminal }
+    ensures { result ≡ entry_line_count system.now terminal }
 {
     match system.terminals.get(terminal as usize) {
         Some(info) => info.entries.len(),
@@ -51,7 +51,7 @@ pub fn entries_of(system: &System, terminal: u32) -> usize
 pub fn pair_of<D: Disc>(keep: &Keep<D>, terminal: u32) -> &Pair
     requires there { terminal < length keep.now.system.terminals }
     requires known { IsKnown keep.now.system (kept_in D.told keep.now) }
-    ensures { result.now ≡ pair_of keep.now.system (kept_in D.told keep.now) terminal }
+    ensures { result.now ≡ seen_pair_of keep.now.system (kept_in D.told keep.now) terminal }
 {
     keep.pair(tcp_of(keep.system(), terminal))
 }
@@ -180,7 +180,7 @@ pub fn may_show<D: Disc>(keep: &Keep<D>, terminal: u32, phase: u32, attempt: u32
 /// Whether the program shows its screen, as this refresh.
 fn shows(at: &Ready, phase: u32, attempt: u32, k: u32) -> bool
     requires { IsFewCounted at.now.context }
-    ensures { result ≡ (asks_show at.now.verb && is_same_refresh (number_in at.now.context)
+    ensures { result ≡ (asks_show at.now.verb && is_same_refresh (next_refresh_number at.now.context)
         (record { phase = phase; attempt = attempt; k = k })) }
 {
     asks_show(&at.verb) && is_refresh(&at.context, phase, attempt, k)
@@ -189,7 +189,7 @@ fn shows(at: &Ready, phase: u32, attempt: u32, k: u32) -> bool
 /// Whether this is the number of the next refresh.
 fn is_refresh(context: &Context, phase: u32, attempt: u32, k: u32) -> bool
     requires { IsFewCounted context.now }
-    ensures { result ≡ is_same_refresh (number_in context.now)
+    ensures { result ≡ is_same_refresh (next_refresh_number context.now)
         (record { phase = phase; attempt = attempt; k = k }) }
 {
     context.phase == phase && is_shown_next(context, attempt, k)

@@ -12,17 +12,17 @@ use Rattle.pw_lines.specs.Lines.{lines}
 use Rattle.pw_lines.specs.Steps.{◌>>=◌, or_refused}
 use Rattle.pw_lines.specs.Words.{words}
 use Rattle.pw_words.specs.Words.{Word}
-use Rattle.pw_pathcom.specs.Reading.{no_commands, starting, named, ranged, admitted, has_tcp, has_class, has_terminal, added, first_start, start_tcp, start_class, start_terminal, started, taken, taken_if, is_comment, is_none, line_read, lines_read, commands_of}
+use Rattle.pw_pathcom.specs.Reading.{no_commands, starting, named, ranged, admitted, has_tcp, has_class, has_terminal, added, first_start, start_tcp, start_class, start_terminal, started, command_taken, taken_if, is_comment, is_none, line_read, lines_read, commands_of}
 use Rattle.pw_pathcom.specs.Verbs.{command_of}
 use Rattle.pw_pathcom.specs.declared.commands.ClassCommand.{ClassCommand}
 use Rattle.pw_pathcom.specs.declared.commands.Commands.{Commands}
 use Rattle.pw_pathcom.specs.declared.commands.Started.{Started}
 use Rattle.pw_pathcom.specs.declared.commands.TermCommand.{TermCommand}
-use Rattle.pw_pathcom.specs.declared.reading.Reading.{Reading}
+use Rattle.pw_pathcom.specs.declared.reading.CommandReading.{CommandReading}
 use Rattle.pw_pathcom.specs.declared.verb.Object.{Object}
 use Rattle.pw_pathcom.specs.declared.verb.Object.TheVariants as object
-use Rattle.pw_pathcom.specs.declared.verb.Verb.{Verb}
-use Rattle.pw_pathcom.specs.declared.verb.Verb.TheVariants as verb
+use Rattle.pw_pathcom.specs.declared.verb.CommandVerb.{CommandVerb}
+use Rattle.pw_pathcom.specs.declared.verb.CommandVerb.TheVariants as verb
 use Rattle.pw_tables.proofs.Named.{Named, none_named, named_more}
 
 -- the names of TCPs, of classes and of terminals
@@ -81,7 +81,7 @@ admitted_is line false false = record { new = refl; room = refl }
 pub more_few : {X : Type 0} (xs : List X) (x : X) (most : ℕ) → nat_le most (length xs) ≡ false → length (xs ++ x ∷ []) ≤ most
 more_few xs x most room = omega (arith, leb-false most (length xs) room, length-append xs (x ∷ []))
 
-added_are : (line : ℕ) (reading : Reading) (object : Object) (name : Word) → IsName name → AreCommands reading.commands
+added_are : (line : ℕ) (reading : CommandReading) (object : Object) (name : Word) → IsName name → AreCommands reading.commands
     → IfOk (added line reading object name) (λ r. AreCommands r.commands)
 added_are line reading object.Tcp name is are =
     let commands = reading.commands in
@@ -185,8 +185,8 @@ pub any_of : {A : Type 0} (step : Result A Fault) → IfOk step Any
 any_of (Ok a) = tt
 any_of (Err fault) = tt
 
-taken_are : (line : ℕ) (reading : Reading) (verb : Verb) (operand : Word) → AreCommands reading.commands
-    → IfOk (taken line reading verb operand) (λ r. AreCommands r.commands)
+taken_are : (line : ℕ) (reading : CommandReading) (verb : CommandVerb) (operand : Word) → AreCommands reading.commands
+    → IfOk (command_taken line reading verb operand) (λ r. AreCommands r.commands)
 taken_are line reading verb.SetTcp operand are = and_then (named line operand) _ Any (λ r. AreCommands r.commands) (any_of (named line operand)) (λ name h. are)
 taken_are line reading verb.SetInitial operand are = and_then (named line operand) _ Any (λ r. AreCommands r.commands) (any_of (named line operand)) (λ name h. are)
 taken_are line reading verb.SetRestarts operand are =
@@ -199,19 +199,19 @@ taken_are line reading (verb.Add object) operand are =
 taken_are line reading (verb.Start object) operand are =
     and_then (named line operand) _ Any (λ r. AreCommands r.commands) (any_of (named line operand)) (λ name h. started_are line reading.commands object name are)
 
-if_are : (line : ℕ) (reading : Reading) (command : Option (Verb × Word)) → AreCommands reading.commands
+if_are : (line : ℕ) (reading : CommandReading) (command : Option (CommandVerb × Word)) → AreCommands reading.commands
     → IfOk (taken_if line reading command) (λ r. AreCommands r.commands)
 if_are line reading None are = tt
 if_are line reading (Some command) are = taken_are line reading command.0 command.1 are
 
-line_are : (number : ℕ) (reading : Reading) (line : List ℕ) → AreCommands reading.commands → IfOk (line_read number reading line) (λ r. AreCommands r.commands)
+line_are : (number : ℕ) (reading : CommandReading) (line : List ℕ) → AreCommands reading.commands → IfOk (line_read number reading line) (λ r. AreCommands r.commands)
 line_are number reading line are = go (is_comment line || is_none (words line))
   where
     go : (b : Bool) → IfOk (cond b (Ok reading) (taken_if number reading (command_of (words line)))) (λ r. AreCommands r.commands)
     go true = are
     go false = if_are number reading (command_of (words line)) are
 
-lines_are : (number : ℕ) (reading : Reading) (all : List (List ℕ)) → AreCommands reading.commands → IfOk (lines_read number reading all) (λ r. AreCommands r.commands)
+lines_are : (number : ℕ) (reading : CommandReading) (all : List (List ℕ)) → AreCommands reading.commands → IfOk (lines_read number reading all) (λ r. AreCommands r.commands)
 unfolding lines_read
 lines_are number reading [] are = are
 lines_are number reading (line ∷ rest) are =

@@ -15,13 +15,13 @@ use Rattle.pw_pathcom.specs.declared.commands.TermCommand.{TermCommand}
 use Rattle.pw_script.specs.Fail.{failures_counted}
 use Rattle.pw_script.specs.Log.{entries_counted}
 use Rattle.pw_sections.specs.Entries.{entries_of}
-use Rattle.pw_sections.specs.Records.{printable, records_of}
+use Rattle.pw_sections.specs.Records.{printable, records_of_text}
 use Rattle.pw_words.specs.Names.{has_name}
 use Rattle.pw_words.specs.Words.{Word}
 use Rattle.pw_tables.proofs.Commands.{AreCommands, no_commands_are, commands_are, and_then, Any, any_of, more_few}
 use Rattle.pw_tables.proofs.Named.{Named, none_named, named_more, named_kept, are_names, filter_le}
-use Rattle.pw_tables.specs.Objects.{no_objects, has_file, once, one_more, pathcom_section, file_section, entries_section, fail_section, log_section}
-use Rattle.pw_tables.specs.Tables.{is_started, class_of, terminal_of, tcp_names}
+use Rattle.pw_tables.specs.Objects.{no_objects, has_file, once, section_admitted, pathcom_section, file_section, entries_section, fail_section, log_section}
+use Rattle.pw_tables.specs.Tables.{is_started, class_from_command, terminal_of, tcp_names}
 use Rattle.pw_tables.specs.Unknown.{tables_of}
 use Rattle.pw_tables.specs.declared.objects.Objects.{Objects}
 
@@ -38,7 +38,7 @@ pub record IsOneMore (stands full : Bool) (done : Unit {0}) : Type 0 where
   pub new : stands ≡ false
   pub room : full ≡ false
 
-pub one_more_is : (line : ℕ) (stands full : Bool) → IfOk (one_more line stands full) (IsOneMore stands full)
+pub one_more_is : (line : ℕ) (stands full : Bool) → IfOk (section_admitted line stands full) (IsOneMore stands full)
 one_more_is line true full = tt
 one_more_is line false true = tt
 one_more_is line false false = record { new = refl; room = refl }
@@ -52,10 +52,10 @@ pathcom_good objects line text good =
 
 pub file_good : (objects : Objects) (line : ℕ) (text : List ℕ) (name : Word) (key : ℕ) → IsName name → IsGood objects → IfOk (file_section objects line text name key) IsGood
 file_good objects line text name key is good =
-    and_then (one_more line (has_file objects name) (nat_le most_files (length objects.files))) _ (IsOneMore (has_file objects name) (nat_le most_files (length objects.files))) IsGood
+    and_then (section_admitted line (has_file objects name) (nat_le most_files (length objects.files))) _ (IsOneMore (has_file objects name) (nat_le most_files (length objects.files))) IsGood
     (one_more_is line (has_file objects name) (nat_le most_files (length objects.files)))
     (λ done more. and_then (printable text (line + 1)) _ Any IsGood (any_of (printable text (line + 1)))
-    (λ done h. and_then (records_of key text (line + 1)) _ Any IsGood (any_of (records_of key text (line + 1)))
+    (λ done h. and_then (records_of_text key text (line + 1)) _ Any IsGood (any_of (records_of_text key text (line + 1)))
     (λ records h. record {
       commands = good.commands;
       files = named_more (λ (file : FileInfo). file.name) objects.files _ good.files is more.new;
@@ -84,7 +84,7 @@ log_good objects line text good =
     (λ count h. record { commands = good.commands; files = good.files; few_files = good.few_files })))
 
 -- the tables keep the names
-class_names_stay : (servers : List Word) (classes : List ClassCommand) → map (λ class. class.name) (map (class_of servers) classes) ≡ map (λ class. class.name) classes
+class_names_stay : (servers : List Word) (classes : List ClassCommand) → map (λ class. class.name) (map (class_from_command servers) classes) ≡ map (λ class. class.name) classes
 class_names_stay servers [] = refl
 class_names_stay servers (c ∷ cs) = ap (λ ns. c.name ∷ ns) (class_names_stay servers cs)
 
@@ -109,7 +109,7 @@ good_few objects programs servers good rule = record {
   programs = omega arith;
   servers = omega arith;
   screens = omega arith;
-  classes = omega (arith, length-map objects.commands.classes (class_of servers), good.commands.few_classes);
+  classes = omega (arith, length-map objects.commands.classes (class_from_command servers), good.commands.few_classes);
   files = good.few_files;
   tcps = omega (arith, length-map objects.commands.tcps (λ tcp. tcp.name), good.commands.few_tcps);
   terminals = omega (

@@ -2,11 +2,11 @@
 use Rattle.std.proofs.Common.{◌≡◌, ℕ, List, [], length, ap}
 use Rattle.pw_lines.specs.Lines.{lines}
 use Rattle.pw_lines.proofs.Folds.{no_lines}
-use Rattle.pw_tables.specs.Pieces.{first_of}
+use Rattle.pw_tables.specs.Pieces.{first_line_of}
 
 -- an empty text has no first line
-pub no_first : (text : List ℕ) → text ≡ [] → first_of (lines text) ≡ []
-no_first text none = ap first_of (no_lines text none)
+pub no_first : (text : List ℕ) → text ≡ [] → first_line_of (lines text) ≡ []
+no_first text none = ap first_line_of (no_lines text none)
 
 -- and no line
 pub none_counted : (text : List ℕ) → text ≡ [] → length (lines text) ≡ 0

@@ -11,7 +11,7 @@ use Rattle.pw_pathcom.specs.Reading.{no_commands, commands_of}
 use Rattle.pw_script.specs.Fail.{failures_counted}
 use Rattle.pw_script.specs.Log.{entries_counted}
 use Rattle.pw_sections.specs.Entries.{entries_of}
-use Rattle.pw_sections.specs.Records.{printable, records_of}
+use Rattle.pw_sections.specs.Records.{printable, records_of_text}
 use Rattle.pw_words.specs.Names.{has_name, with_name}
 use Rattle.pw_words.specs.Words.{Word}
 use Rattle.pw_tables.specs.declared.objects.Objects.{Objects}
@@ -37,8 +37,8 @@ abbrev pub once : ℕ → Bool → Result (Unit {0}) Fault
 once line stands = if stands then refused line SectionTwice else Ok tt
 
 -- and where as many of its kind stand as may be
-abbrev pub one_more : ℕ → Bool → Bool → Result (Unit {0}) Fault
-one_more line stands full = if stands then refused line SectionTwice else (if full then refused line TooMany else Ok tt)
+abbrev pub section_admitted : ℕ → Bool → Bool → Result (Unit {0}) Fault
+section_admitted line stands full = if stands then refused line SectionTwice else (if full then refused line TooMany else Ok tt)
 
 -- the commands; the text of a section stands behind its section line, as below
 abbrev pub pathcom_section : Objects → ℕ → List ℕ → Result Objects Fault
@@ -51,9 +51,9 @@ pathcom_section objects line text = do
 -- a file, whose keys have a length
 abbrev pub file_section : Objects → ℕ → List ℕ → Word → ℕ → Result Objects Fault
 file_section objects line text name key = do
-  done ← one_more line (has_file objects name) (nat_le most_files (length objects.files))
+  done ← section_admitted line (has_file objects name) (nat_le most_files (length objects.files))
   done ← printable text (line + 1)
-  records ← records_of key text (line + 1)
+  records ← records_of_text key text (line + 1)
   Ok (record objects { files = objects.files ++ record { name = name; key = key; records = records } ∷ [] })
 
 -- the entries of a terminal

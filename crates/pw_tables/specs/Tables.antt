@@ -3,7 +3,7 @@ use Rattle.std.specs.Prelude.{ℕ, List, [], ◌∷◌, map, Bool, position, Opt
 use Rattle.std.specs.List.{filter}
 use Rattle.std.specs.Option.{is_some}
 use Rattle.std.specs.Str.{bytes_eq}
-use Rattle.pw_code.specs.Entry.{Entry}
+use Rattle.pw_code.specs.Entry.{EntryLineModel}
 use Rattle.pw_code.specs.declared.file.FileInfo.{FileInfo}
 use Rattle.pw_code.specs.declared.lock.LockRule.{LockRule}
 use Rattle.pw_code.specs.declared.system.ClassInfo.{ClassInfo}
@@ -33,19 +33,19 @@ or_first None = 0
 or_first (Some place) = place
 
 -- the number of a name among names, 0 where it is none of them
-abbrev pub number_of : List Word → Word → ℕ
-number_of names word = or_first (position (λ name. bytes_eq name word) names)
+abbrev pub number_among_names : List Word → Word → ℕ
+number_among_names names word = or_first (position (λ name. bytes_eq name word) names)
 
 -- a class, by the names of the programs of servers
-abbrev pub class_of : List Word → ClassCommand → ClassInfo
-class_of servers class = record { name = class.name; server = number_of servers class.program; processes = class.processes }
+abbrev pub class_from_command : List Word → ClassCommand → ClassInfo
+class_from_command servers class = record { name = class.name; server = number_among_names servers class.program; processes = class.processes }
 
 -- a terminal before its entries, by the names of the pairs and of the programs
 abbrev pub terminal_of : List Word → List Word → TermCommand → TermInfo
 terminal_of tcps programs terminal = record {
   name = terminal.name;
-  tcp = number_of tcps terminal.tcp;
-  program = number_of programs terminal.program;
+  tcp = number_among_names tcps terminal.tcp;
+  program = number_among_names programs terminal.program;
   max_restarts = terminal.max_restarts;
   entries = [];
 }
@@ -57,7 +57,7 @@ tables commands programs servers files rule = record {
   programs = [];
   servers = [];
   screens = [];
-  classes = map (class_of servers) commands.classes;
+  classes = map (class_from_command servers) commands.classes;
   files = files;
   tcps = tcp_names commands;
   terminals = map (terminal_of (tcp_names commands) programs) (filter is_started commands.terminals);
@@ -65,7 +65,7 @@ tables commands programs servers files rule = record {
 }
 
 -- the entries of a terminal; a terminal without an ENTRIES section has none
-unfoldable pub entries_for : List TermEntries → Word → List Entry
+unfoldable pub entries_for : List TermEntries → Word → List EntryLineModel
 entries_for [] name = []
 entries_for (section ∷ rest) name = if bytes_eq section.name name then section.entries else entries_for rest name
 
@@ -74,5 +74,5 @@ abbrev pub with_entries : List TermEntries → TermInfo → TermInfo
 with_entries sections terminal = record terminal { entries = entries_for sections terminal.name }
 
 -- a system whose terminals have their entries
-abbrev pub entered : List TermEntries → System → System
-entered sections system = record system { terminals = map (with_entries sections) system.terminals }
+abbrev pub with_terminal_entries : List TermEntries → System → System
+with_terminal_entries sections system = record system { terminals = map (with_entries sections) system.terminals }

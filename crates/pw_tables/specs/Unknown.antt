@@ -18,11 +18,11 @@ use Rattle.pw_pathcom.specs.declared.commands.Commands.{Commands}
 use Rattle.pw_script.specs.Fail.{failures_of}
 use Rattle.pw_script.specs.Log.{rule_of, version_of, events_of}
 use Rattle.pw_words.specs.Words.{Word}
-use Rattle.pw_tables.specs.Pieces.{Piece}
-use Rattle.pw_tables.specs.Tables.{tables, entered}
+use Rattle.pw_tables.specs.Pieces.{DeckPieceModel}
+use Rattle.pw_tables.specs.Tables.{tables, with_terminal_entries}
 use Rattle.pw_tables.specs.declared.objects.Objects.{Objects}
 use Rattle.pw_tables.specs.declared.objects.TermEntries.{TermEntries}
-use Rattle.pw_tables.specs.declared.told.Told.{Told}
+use Rattle.pw_tables.specs.declared.told.DeckTables.{DeckTables}
 
 -- a reading as its fault refuses it
 abbrev pub refusing : {A : Type 0} → Result A Fault → Result A Refusal
@@ -30,17 +30,17 @@ refusing (Ok value) = Ok value
 refusing (Err fault) = Err (refusal_of fault)
 
 -- the failure lines of a piece, in a system
-abbrev pub failures_in : System → Option Piece → Result (List FailLine) Fault
+abbrev pub failures_in : System → Option DeckPieceModel → Result (List FailLine) Fault
 failures_in system None = Ok []
 failures_in system (Some piece) = failures_of system piece.bytes piece.first_line
 
 -- the entries of a log, in a system
-abbrev pub events_in : System → Option Piece → Result (List Event) Fault
+abbrev pub events_in : System → Option DeckPieceModel → Result (List Event) Fault
 events_in system None = Ok []
 events_in system (Some piece) = events_of system piece.bytes piece.first_line
 
 -- the version of a log: 2 where there is none
-abbrev pub log_version : Option Piece → ℕ
+abbrev pub log_version : Option DeckPieceModel → ℕ
 log_version None = 2
 log_version (Some piece) = version_of piece.bytes piece.first_line
 
@@ -83,7 +83,7 @@ abbrev pub known : Objects → List Word → List Word → Result (Unit {0}) Fau
 known objects programs servers = unless (least None (all_unknown objects programs servers)) tt
 
 -- the STARTs of a piece that may not be
-abbrev pub bad_starts_in : Commands → Option Piece → List Fault
+abbrev pub bad_starts_in : Commands → Option DeckPieceModel → List Fault
 bad_starts_in commands None = []
 bad_starts_in commands (Some piece) = bad_starts commands piece.first_line (lines piece.bytes)
 
@@ -92,16 +92,16 @@ abbrev pub startable : Objects → Result (Unit {0}) Fault
 startable objects = unless (least None (bad_starts_in objects.commands objects.pathcom)) tt
 
 -- what a deck says besides its programs
-abbrev pub told_with : Objects → List Word → List Word → List FailLine → List Event → Told
+abbrev pub told_with : Objects → List Word → List Word → List FailLine → List Event → DeckTables
 told_with objects programs servers fails events = record {
-  system = entered objects.entries (tables_of objects programs servers ReadersShare);
+  system = with_terminal_entries objects.entries (tables_of objects programs servers ReadersShare);
   script = record { lines = fails };
   log = events;
   version = log_version objects.log;
 }
 
 -- that, by the names of its programs, or its first fault: names of what is not there, and then STARTs that may not be
-abbrev pub told_of : Objects → List Word → List Word → Result Told Fault
+abbrev pub told_of : Objects → List Word → List Word → Result DeckTables Fault
 told_of objects programs servers = do
   done ← known objects programs servers
   done ← startable objects

@@ -1,9 +1,9 @@
 ghost use Rattle.std.specs.Prelude.{◌≡◌, ◌+◌, ◌≤◌, length};
 ghost use Rattle.pw_base.specs.First.{Gives};
 ghost use Rattle.pw_base.specs.Limits.{longest_input};
-ghost use Rattle.pw_tables.specs.Objects.{no_objects, has_file, once, one_more, pathcom_section, file_section, entries_section, fail_section, log_section};
+ghost use Rattle.pw_tables.specs.Objects.{no_objects, has_file, once, section_admitted, pathcom_section, file_section, entries_section, fail_section, log_section};
 
-use crate::piece::Piece;
+use crate::piece::DeckPiece;
 use pw_base::bytes::Bytes;
 use pw_base::fault::Refusal;
 use pw_base::fault_code::FaultCode;
@@ -33,7 +33,7 @@ pub struct TermEntries {
 #[derive(Drop)]
 pub struct Objects<'a> {
     /// The text of the commands.
-    pub pathcom: Option<Piece<'a>>,
+    pub pathcom: Option<DeckPiece<'a>>,
     pub commands: Commands,
     pub files: List<FileInfo>,
     /// The names of the terminals that have an ENTRIES section.
@@ -41,9 +41,9 @@ pub struct Objects<'a> {
     /// The ENTRIES sections in their order.
     pub entries: List<TermEntries>,
     /// The text of the failure lines.
-    pub fail: Option<Piece<'a>>,
+    pub fail: Option<DeckPiece<'a>>,
     /// The text of the log.
-    pub log: Option<Piece<'a>>,
+    pub log: Option<DeckPiece<'a>>,
 }
 
 /// Refuses a section line whose section stands already.
@@ -62,7 +62,7 @@ pub fn once(line: u32, stands: bool) -> Result<(), Refusal>
 
 /// Refuses a section line whose section stands already, or where as many of its kind stand as may be.
 pub fn one_more(line: u32, stands: bool, full: bool) -> Result<(), Refusal>
-    ensures { Gives (λ done. done) result (one_more line stands full) }
+    ensures { Gives (λ done. done) result (section_admitted line stands full) }
 {
     if stands {
         Err(Refusal::At {
@@ -119,7 +119,7 @@ impl<'a> Objects<'a> {
         once(line, self.pathcom.is_some())?;
         printable(text, line + 1)?;
         self.commands = pathcom(alloc, text, line + 1)?;
-        self.pathcom = Some(Piece {
+        self.pathcom = Some(DeckPiece {
             bytes: text,
             first_line: line + 1,
         });
@@ -180,7 +180,7 @@ impl<'a> Objects<'a> {
         once(line, self.fail.is_some())?;
         printable(text, line + 1)?;
         let _count = count_failures(alloc, text, line + 1)?;
-        self.fail = Some(Piece {
+        self.fail = Some(DeckPiece {
             bytes: text,
             first_line: line + 1,
         });
@@ -196,7 +196,7 @@ impl<'a> Objects<'a> {
         once(line, self.log.is_some())?;
         printable(text, line + 1)?;
         let _count = count_entries(alloc, text, line + 1)?;
-        self.log = Some(Piece {
+        self.log = Some(DeckPiece {
             bytes: text,
             first_line: line + 1,
         });

@@ -9,13 +9,13 @@ use std::marker::Model;
 /// A piece of a deck, and the number of its first line. A deck is not too long, so a piece has no line
 /// above its length.
 #[derive(Debug, Drop)]
-pub struct Piece<'a> {
+pub struct DeckPiece<'a> {
     pub bytes: &'a [u8],
     pub first_line: u32,
 }
 
-impl<'a> Model for Piece<'a> {
-    ghost use Rattle.pw_tables.specs.Pieces.{Piece as PieceOf, IsPiece};
+impl<'a> Model for DeckPiece<'a> {
+    ghost use Rattle.pw_tables.specs.Pieces.{DeckPieceModel as PieceOf, IsPiece};
 
     ghost Value = { PieceOf };
 

@@ -1,7 +1,7 @@
 ghost use Rattle.std.specs.Prelude.{◌≡◌, ◌≤◌, ◌<◌, ◌^◌, List, ℕ, false, map, length, position, IfSome, IfOk};
 ghost use Rattle.std.specs.List.{filter, IsDistinct};
 ghost use Rattle.std.specs.Str.{bytes_eq};
-ghost use Rattle.pw_tables.specs.Tables.{number_of, is_started, class_of, terminal_of, tables, entries_for, with_entries, entered};
+ghost use Rattle.pw_tables.specs.Tables.{number_among_names, is_started, class_from_command, terminal_of, tables, entries_for, with_entries, with_terminal_entries};
 
 use crate::objects::TermEntries;
 use pw_base::bytes::Bytes;
@@ -47,7 +47,7 @@ fn place_of(names: &[Bytes], word: &[u8]) -> Option<usize>
 /// The number of a name among names; 0 where it is none of them.
 fn number_of(names: &[Bytes], word: &[u8]) -> u32
     requires { length names.now ≤ 2 ^ 32 }
-    ensures { result ≡ number_of names.now word.now }
+    ensures { result ≡ number_among_names names.now word.now }
 {
     match place_of(names, word) {
         Some(place) => place as u32,
@@ -58,7 +58,7 @@ fn number_of(names: &[Bytes], word: &[u8]) -> u32
 /// A class, by the names of the programs of servers.
 fn class_of(alloc: Global, servers: &[Bytes], class: &ClassCommand) -> Result<ClassInfo, Memory>
     requires { length servers.now ≤ 2 ^ 32 }
-    ensures { IfOk result (λ info. info ≡ class_of servers.now class.now) }
+    ensures { IfOk result (λ info. info ≡ class_from_command servers.now class.now) }
 {
     Ok(ClassInfo {
         name: class.name.copy(alloc)?,
@@ -74,7 +74,7 @@ fn classes_of(
     classes: &[ClassCommand],
 ) -> Result<List<ClassInfo>, Memory>
     requires { length servers.now ≤ 2 ^ 32 }
-    ensures { IfOk result (λ infos. infos ≡ map (class_of servers.now) classes.now) }
+    ensures { IfOk result (λ infos. infos ≡ map (class_from_command servers.now) classes.now) }
 {
     let mut infos = List::new(alloc);
     for class in classes {
@@ -203,7 +203,7 @@ fn enter_all(alloc: Global, sections: &mut Vec<TermEntries>, terminals: &mut Vec
 /// Gives each terminal of a system its entries. It takes no memory.
 pub fn enter(alloc: Global, system: System, sections: List<TermEntries>) -> System
     requires { IsDistinct bytes_eq (map (λ terminal. terminal.name) system.terminals) }
-    ensures { result ≡ entered sections system }
+    ensures { result ≡ with_terminal_entries sections system }
 {
     let mut sections = sections.into_vec();
     let mut terminals = system.terminals.into_vec();

@@ -24,7 +24,7 @@ use std::mem::replace;
 
 /// What a deck says besides its programs.
 #[derive(Debug, Drop)]
-pub struct Told {
+pub struct DeckTables {
     /// The tables, under ReadersShare. Its lists of compiled programs and of screens are empty.
     pub system: System,
     pub script: Script,
@@ -84,7 +84,7 @@ pub fn tell(
     objects: Objects,
     programs: &[Bytes],
     servers: &[Bytes],
-) -> Result<Told, Refusal>
+) -> Result<DeckTables, Refusal>
     requires few { (length programs.now ≤ 2 ^ 32) × (length servers.now ≤ 2 ^ 32) }
     requires names { (rule : LockRule) → HasNames (tables_of objects programs.now servers.now rule) }
     requires counts { (rule : LockRule) → HasFew (tables_of objects programs.now servers.now rule) }
@@ -102,7 +102,7 @@ pub fn tell(
     )?;
     let lines = lines_in(alloc, &objects, &mut system, programs, servers)?;
     let version = log_version(&objects.log);
-    Ok(Told {
+    Ok(DeckTables {
         system: enter(alloc, system, objects.entries),
         script: Script { lines: lines.fails },
         log: lines.log,

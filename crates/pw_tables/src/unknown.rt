@@ -5,7 +5,7 @@ ghost use Rattle.pw_code.specs.Valid.{HasNames, HasFew};
 ghost use Rattle.pw_tables.specs.Unknown.{refusing, failures_in, events_in, log_version, has_terminal, unknown_terminal, fault_in, bad_starts_in};
 
 use crate::objects::TermEntries;
-use crate::piece::Piece;
+use crate::piece::DeckPiece;
 use pw_base::fault::{Fault, Refusal, better, noted};
 use pw_base::fault_code::FaultCode;
 use pw_base::list::List;
@@ -35,7 +35,7 @@ fn settled<T>(read: Result<T, Refusal>) -> Result<Result<T, Fault>, Memory>
 pub fn failures_in(
     alloc: Global,
     system: &System,
-    piece: &Option<Piece>,
+    piece: &Option<DeckPiece>,
 ) -> Result<Result<List<FailLine>, Fault>, Memory>
     requires names { HasNames system.now }
     requires few { HasFew system.now }
@@ -51,7 +51,7 @@ pub fn failures_in(
 }
 
 /// The version of a log: 2 where there is none.
-pub fn log_version(piece: &Option<Piece>) -> u8
+pub fn log_version(piece: &Option<DeckPiece>) -> u8
     ensures { result ≡ log_version piece.now }
 {
     match piece {
@@ -64,7 +64,7 @@ pub fn log_version(piece: &Option<Piece>) -> u8
 pub fn events_in(
     alloc: Global,
     system: &System,
-    piece: &Option<Piece>,
+    piece: &Option<DeckPiece>,
 ) -> Result<Result<List<Event>, Fault>, Memory>
     requires names { HasNames system.now }
     requires few { HasFew system.now }
@@ -141,7 +141,7 @@ pub fn first_of_all(
 pub fn first_start(
     alloc: Global,
     commands: &Commands,
-    piece: &Option<Piece>,
+    piece: &Option<DeckPiece>,
 ) -> Result<Option<Fault>, Memory>
     ensures { IfOk result (λ best. best ≡ least None (bad_starts_in commands.now piece.now)) }
 {

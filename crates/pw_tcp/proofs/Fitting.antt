@@ -22,7 +22,7 @@ use Rattle.pw_paired.specs.State.{Paired, OpenUnit, State}
 use Rattle.pw_paired.specs.Step.{Fits}
 use Rattle.pw_paired.specs.Terminal.{CanStep, IsIdle, IsLive, IsOver, awaited_of, closed_path, closing_answer, next_verb, path_of, path_with}
 use Rattle.pw_paired.specs.Units.{attempt_of, is_out, restarts_of}
-use Rattle.pw_tcp.specs.Entries.{cause_of, class_of, entry_of}
+use Rattle.pw_tcp.specs.Entries.{cause_of, class_of_send, step_entry}
 use Rattle.pw_tcp.specs.InState.{FitsTogether, MayStep, is_within, next_step_in, note_of, pending_of, terminal_of}
 use Rattle.pw_tcp.specs.NextStep.{MayAsk, ends_attempt, is_pending, is_restarting, is_to_begin, is_waiting, lacks_check, restart_of, send_step, step_of_verb}
 use Rattle.pw_tcp.specs.declared.step.TcpStep.{TcpStep}
@@ -62,7 +62,7 @@ send-cases false false false h = inl (refl, refl, refl, refl)
 module _ (sys : Behaviour) (state : State) (t : ℕ) where
   -- the entry of the step fits its kind
   abbrev pub Names : TcpStep → Type 0
-  Names next = IfSome (entry_of sys state t next) (Fits sys state)
+  Names next = IfSome (step_entry sys state t next) (Fits sys state)
 
   -- A restart, or the suspension in its place.
 
@@ -246,7 +246,7 @@ module _ (sys : Behaviour) (state : State) (t : ℕ) where
             start = r.1;
             runs = r.3;
             message = message;
-            asks = e ∙ ap (λ v. verb.Send v message) (sym (ap (λ v. class_of v) e));
+            asks = e ∙ ap (λ v. verb.Send v message) (sym (ap (λ v. class_of_send v) e));
             not_out = out;
           })))
           (λ w.

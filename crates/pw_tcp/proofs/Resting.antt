@@ -10,7 +10,7 @@ use Rattle.pw_event.specs.declared.event.Event.TheVariants as entry
 use Rattle.pw_onecopy.specs.Behaviour.{Behaviour}
 use Rattle.pw_paired.specs.End.{LegalEnd}
 use Rattle.pw_paired.specs.Failure.{Holds}
-use Rattle.pw_paired.specs.State.{Alone, Mode, OpenUnit, Paired, State}
+use Rattle.pw_paired.specs.State.{Alone, PairMode, OpenUnit, Paired, State}
 use Rattle.pw_paired.specs.Step.{Fits}
 use Rattle.pw_paired.specs.Terminal.{CanStep}
 use Rattle.pw_tcp.specs.Entries.{makes_way, stepper_of}

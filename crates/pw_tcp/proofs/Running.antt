@@ -15,7 +15,7 @@ use Rattle.pw_onecopy.specs.Behaviour.{Behaviour}
 use Rattle.pw_onecopy.specs.IsBehaviour.{IsAsked, IsBehaviour, IsPath}
 use Rattle.pw_onecopy.specs.Path.{PathAnswer, is_outside, unit_number}
 use Rattle.pw_paired.specs.Raising.{is_takeover}
-use Rattle.pw_paired.specs.State.{Alone, Awaited, Down, Gone, LastEnded, Mode, OpenUnit, Paired, Raising, State}
+use Rattle.pw_paired.specs.State.{Alone, Awaited, Down, Gone, LastEnded, PairMode, OpenUnit, Paired, Raising, State}
 use Rattle.pw_paired.specs.Step.{IsRun, after}
 use Rattle.pw_paired.specs.Terminal.{IsIdle, IsLive, IsOver, awaited_of, next_verb, path_of}
 use Rattle.pw_paired.specs.Units.{attempt_of, is_out, restarts_of}
@@ -40,7 +40,7 @@ use Rattle.pw_laws.proofs.steps.Terminals.{entries-from}
 use Rattle.pw_laws.proofs.PairSteps.{takeover-cause}
 
 -- a member of the pair works
-works-as : (mode : Mode) → HasMember mode → IsWorking mode
+works-as : (mode : PairMode) → HasMember mode → IsWorking mode
 works-as Alone has = tt
 works-as Raising has = tt
 works-as Paired has = tt
@@ -243,7 +243,7 @@ module _ (sys : Behaviour) (b : IsBehaviour sys) (log : List Event) (run : IsRun
 
   -- ---- what fits together
 
-  alone-is : (mode : Mode) → s.modes (sys.pair_of t) ≡ mode → is_takeover (s.terms t).pending ≡ true → s.modes (sys.pair_of t) ≡ Alone
+  alone-is : (mode : PairMode) → s.modes (sys.pair_of t) ≡ mode → is_takeover (s.terms t).pending ≡ true → s.modes (sys.pair_of t) ≡ Alone
   alone-is Alone is takeover = is
   alone-is Raising is takeover = absurd (false≢true (sym (ok.calm (rw is tt)) ∙ takeover))
   alone-is Paired is takeover = absurd (false≢true (sym (ok.calm (rw is tt)) ∙ takeover))

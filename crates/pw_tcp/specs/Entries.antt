@@ -16,9 +16,9 @@ use Rattle.pw_tcp.specs.declared.step.TcpStep.{TcpStep}
 use Rattle.pw_tcp.specs.declared.step.TcpStep.TheVariants as step
 
 -- the class that a verb sends to
-abbrev pub class_of : Verb → ℕ
-class_of (verb.Send class message) = class
-class_of _ = 0
+abbrev pub class_of_send : Verb → ℕ
+class_of_send (verb.Send class message) = class
+class_of_send _ = 0
 
 -- the cause for which the terminal's unit restarts: the pending one, and else REDO
 abbrev pub cause_of : State → ℕ → Cause
@@ -29,25 +29,25 @@ abbrev pub show_of : ℕ → RefreshNumber → Event
 show_of t number = entry.Show t number.phase number.attempt number.k
 
 -- the entry that a step names, and none for Wait
-abbrev pub entry_of : Behaviour → State → ℕ → TcpStep → Option Event
-entry_of sys state t step.Show = Some (show_of t (next_number (path_of state t)))
-entry_of sys state t step.Key = Some (entry.Key t (entries_on (path_of state t) + 1))
-entry_of sys state t step.CheckStart = Some (entry.CheckStart t)
-entry_of sys state t step.CheckEnd = Some (entry.CheckEnd t)
-entry_of sys state t step.Begin =
+abbrev pub step_entry : Behaviour → State → ℕ → TcpStep → Option Event
+step_entry sys state t step.Show = Some (show_of t (next_number (path_of state t)))
+step_entry sys state t step.Key = Some (entry.Key t (entries_on (path_of state t) + 1))
+step_entry sys state t step.CheckStart = Some (entry.CheckStart t)
+step_entry sys state t step.CheckEnd = Some (entry.CheckEnd t)
+step_entry sys state t step.Begin =
     Some (entry.Begin t (unit_number (path_of state t)) (restarts_of (state.units t)))
-entry_of sys state t step.Again = Some (entry.Again t (unit_number (path_of state t)))
-entry_of sys state t step.Send =
-    Some (entry.Send t (unit_number (path_of state t)) (class_of (next_verb sys state t)))
-entry_of sys state t step.Commit = Some (entry.Commit t (unit_number (path_of state t)))
-entry_of sys state t step.Back = Some (entry.Back t (unit_number (path_of state t)))
-entry_of sys state t step.Restart =
+step_entry sys state t step.Again = Some (entry.Again t (unit_number (path_of state t)))
+step_entry sys state t step.Send =
+    Some (entry.Send t (unit_number (path_of state t)) (class_of_send (next_verb sys state t)))
+step_entry sys state t step.Commit = Some (entry.Commit t (unit_number (path_of state t)))
+step_entry sys state t step.Back = Some (entry.Back t (unit_number (path_of state t)))
+step_entry sys state t step.Restart =
     Some (entry.Restart t (unit_number (path_of state t)) (cause_of state t))
-entry_of sys state t step.Suspend = Some (entry.End t (ending.Suspended (cause_of state t)))
-entry_of sys state t step.Stopped = Some (entry.End t ending.Stopped)
-entry_of sys state t step.NoEntries = Some (entry.End t ending.NoEntries)
-entry_of sys state t (step.Fault code) = Some (entry.End t (ending.Fault code))
-entry_of sys state t step.Wait = None
+step_entry sys state t step.Suspend = Some (entry.End t (ending.Suspended (cause_of state t)))
+step_entry sys state t step.Stopped = Some (entry.End t ending.Stopped)
+step_entry sys state t step.NoEntries = Some (entry.End t ending.NoEntries)
+step_entry sys state t (step.Fault code) = Some (entry.End t (ending.Fault code))
+step_entry sys state t step.Wait = None
 
 -- the terminal whose own step an entry is
 abbrev pub stepper_of : Event → Option ℕ

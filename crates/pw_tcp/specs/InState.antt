@@ -8,7 +8,7 @@ use Rattle.pw_laws.specs.legal.Verbs.{asks_send}
 use Rattle.pw_onecopy.specs.Attempt.{BeginsUnit}
 use Rattle.pw_onecopy.specs.Behaviour.{Behaviour}
 use Rattle.pw_onecopy.specs.Path.{entries_on, is_outside, unit_number}
-use Rattle.pw_paired.specs.State.{Alone, Down, Gone, Mode, Paired, Raising, OpenUnit, State}
+use Rattle.pw_paired.specs.State.{Alone, Down, Gone, PairMode, Paired, Raising, OpenUnit, State}
 use Rattle.pw_paired.specs.Terminal.{HoldsStart, IsIdle, awaited_of, closed_path, next_verb, path_of}
 use Rattle.pw_paired.specs.Units.{attempt_of, is_out, restarts_of}
 use Rattle.pw_tcp.specs.NextStep.{BeginsAnew, MayAsk, RunsWhere, next_step_of}
@@ -96,7 +96,7 @@ pub record FitsTogether (sys : Behaviour) (state : State) (t : ℕ) : Type 0 whe
       → is_over state.ended (awaited_of (state.units t)) ≢ true → WaitsAtStart sys state t
 
 -- a member of the pair works
-abbrev pub HasMember : Mode → Type 0
+abbrev pub HasMember : PairMode → Type 0
 HasMember Alone = Unit {0}
 HasMember Raising = Unit {0}
 HasMember Paired = Unit {0}

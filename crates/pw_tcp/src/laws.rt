@@ -5,7 +5,7 @@ ghost use Rattle.pw_onecopy.specs.IsBehaviour.{IsBehaviour};
 ghost use Rattle.pw_paired.specs.State.{State};
 ghost use Rattle.pw_paired.specs.Step.{Fits, IsRun, after};
 ghost use Rattle.pw_paired.specs.Terminal.{IsLive};
-ghost use Rattle.pw_tcp.specs.Entries.{entry_of, makes_way, stepper_of};
+ghost use Rattle.pw_tcp.specs.Entries.{step_entry, makes_way, stepper_of};
 ghost use Rattle.pw_tcp.specs.InState.{FitsTogether, HasMember, MayStep, next_step_in};
 ghost use Rattle.pw_tcp.specs.declared.step.TcpStep.TheVariants.{Wait};
 
@@ -15,7 +15,7 @@ ghost use Rattle.pw_tcp.specs.declared.step.TcpStep.TheVariants.{Wait};
 pub fn step_laws()
     ensures fits { (sys : Behaviour) (state : State) (t : ℕ) → IsLive sys state t → MayStep sys state t
         → FitsTogether sys state t
-        → IfSome (entry_of sys state t (next_step_in sys state t)) (Fits sys state) }
+        → IfSome (step_entry sys state t (next_step_in sys state t)) (Fits sys state) }
     ensures waits { (sys : Behaviour) (state : State) (t : ℕ) → MayStep sys state t → FitsTogether sys state t
         → next_step_in sys state t ≡ Wait
         → (entry : Event) → stepper_of entry ≡ Some t → Fits sys state entry → makes_way entry ≡ true }
@@ -36,7 +36,7 @@ pub fn run_laws()
     ensures fits { (sys : Behaviour) → IsBehaviour sys → (log : List Event) → IsRun sys log
         → (t : ℕ) → IsLive sys (after sys log) t
         → HasMember ((after sys log).modes (sys.pair_of t))
-        → IfSome (entry_of sys (after sys log) t (next_step_in sys (after sys log) t))
+        → IfSome (step_entry sys (after sys log) t (next_step_in sys (after sys log) t))
         (Fits sys (after sys log)) }
     ensures waits { (sys : Behaviour) → IsBehaviour sys → (log : List Event) → IsRun sys log
         → (t : ℕ) → IsLive sys (after sys log) t

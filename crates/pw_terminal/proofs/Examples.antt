@@ -4,11 +4,11 @@ use Rattle.std.specs.Prelude.{codes}
 use Rattle.pw_picture.specs.declared.picture.Picture.TheVariants.{Number, Edited}
 use Rattle.pw_code.specs.declared.field.FieldKind.{FieldKind}
 use Rattle.pw_code.specs.declared.field.FieldKind.TheVariants.{Item}
-use Rattle.pw_terminal.specs.Shown.{as_shown, text_of, place_of}
+use Rattle.pw_terminal.specs.Shown.{as_shown, field_text, cell_place}
 use Rattle.pw_terminal.specs.Entries.{digits_in, is_value_for}
 
 -- column 1 of row 24 is the cell 1,840
-row_24 : place_of 24 1 ≡ 1840
+row_24 : cell_place 24 1 ≡ 1840
 row_24 = refl
 
 -- -1,234.50 in ZZ,ZZ9.99-, and 123.45 in 9(3)
@@ -19,10 +19,10 @@ whole : as_shown (Number 3 0 false) (Number 5 2 false) (codes "12345") ≡ codes
 whole = refl
 
 -- the item from the second character on, by USING and by TO
-by_using : text_of (codes "AB12CD") (Item (Number 4 0 false) 2 (Number 2 0 false) true) ≡ codes "0012"
+by_using : field_text (codes "AB12CD") (Item (Number 4 0 false) 2 (Number 2 0 false) true) ≡ codes "0012"
 by_using = refl
 
-by_to : text_of (codes "AB12CD") (Item (Number 4 0 false) 2 (Number 2 0 false) false) ≡ codes "    "
+by_to : field_text (codes "AB12CD") (Item (Number 4 0 false) 2 (Number 2 0 false) false) ≡ codes "    "
 by_to = refl
 
 -- numbers have digits before and behind their point

@@ -8,7 +8,7 @@ use Rattle.pw_picture.specs.declared.picture.Picture.{Picture}
 use Rattle.pw_picture.specs.Grammar.{size_of}
 use Rattle.pw_picture.specs.Room.{whole_digits, decimals_of, has_sign}
 use Rattle.pw_picture.specs.Symbols.{begins_with}
-use Rattle.pw_code.specs.Entry.{Entry}
+use Rattle.pw_code.specs.Entry.{EntryLineModel}
 use Rattle.pw_code.specs.Fields.{is_text}
 use Rattle.pw_code.specs.declared.field.Field.{Field}
 use Rattle.pw_code.specs.declared.field.FieldKind.{FieldKind}
@@ -73,16 +73,16 @@ answer_of (Some place) None = Valid (place + 1)
 answer_of (Some place) (Some wrong) = BadField wrong
 
 -- the answer to an entry for a screen that waits for these keys
-abbrev pub check : ScreenTable → List ℕ → Entry → EntryAnswer
+abbrev pub check : ScreenTable → List ℕ → EntryLineModel → EntryAnswer
 check table keys entry = answer_of (position (λ key. key == entry.key) keys) (position (is_wrong table.fields) entry.fields)
 
 -- the name of a pair, and none past the last
-abbrev pub name_in : Option (List ℕ × List ℕ) → List ℕ
-name_in None = []
-name_in (Some pair) = pair.0
+abbrev pub entry_pair_name : Option (List ℕ × List ℕ) → List ℕ
+entry_pair_name None = []
+entry_pair_name (Some pair) = pair.0
 
 -- the cells after the answer was told: row 24 says what is wrong
-abbrev pub with_advice : EntryAnswer → Entry → List ℕ → List ℕ
+abbrev pub with_advice : EntryAnswer → EntryLineModel → List ℕ → List ℕ
 with_advice (Valid position) entry cells = cells
 with_advice BadKey entry cells = with_message (codes "INVALID KEY") cells
-with_advice (BadField place) entry cells = with_message (codes "INVALID FIELD " ++ name_in (slice_get entry.fields place)) cells
+with_advice (BadField place) entry cells = with_message (codes "INVALID FIELD " ++ entry_pair_name (slice_get entry.fields place)) cells

@@ -13,8 +13,8 @@ use Rattle.pw_code.specs.declared.field.ScreenTable.{ScreenTable}
 use Rattle.pw_terminal.specs.Screen.{blank_cells}
 
 -- where a row's cell lies among the cells of the screen
-abbrev pub place_of : ℕ → ℕ → ℕ
-place_of row column = (row - 1) * 80 + (column - 1)
+abbrev pub cell_place : ℕ → ℕ → ℕ
+cell_place row column = (row - 1) * 80 + (column - 1)
 
 -- cells with a text written over them from a place on
 abbrev pub written : ℕ → List ℕ → List ℕ → List ℕ
@@ -32,10 +32,10 @@ as_shown (Number digits places signed) source chars = moved (Number digits place
 as_shown (Edited symbols) source chars = edited (Edited symbols) (read_of source chars)
 
 -- what a field shows: a literal its text, FROM and USING the item, TO spaces
-abbrev pub text_of : List ℕ → FieldKind → List ℕ
-text_of storage (Literal text) = text
-text_of storage (Item picture at source true) = as_shown picture source (chars_at at source storage)
-text_of storage (Item picture at source false) = replicate (size_of picture) 32
+abbrev pub field_text : List ℕ → FieldKind → List ℕ
+field_text storage (Literal text) = text
+field_text storage (Item picture at source true) = as_shown picture source (chars_at at source storage)
+field_text storage (Item picture at source false) = replicate (size_of picture) 32
 
 -- literals are put with BASE alone
 abbrev pub is_put : Bool → FieldKind → Bool
@@ -45,7 +45,7 @@ is_put base (Item picture at source show) = true
 -- the cells after one field was put
 abbrev pub with_field : Bool → List ℕ → Field → List ℕ → List ℕ
 with_field base storage field cells =
-    if is_put base field.shown then written (place_of field.row field.column) (text_of storage field.shown) cells else cells
+    if is_put base field.shown then written (cell_place field.row field.column) (field_text storage field.shown) cells else cells
 
 -- the cells after some fields were put, one after the other
 abbrev pub with_fields : Bool → List ℕ → List Field → List ℕ → List ℕ
@@ -59,5 +59,5 @@ with_screen base storage table cells = with_fields base storage table.fields (if
 -- a field that is put has this cell
 pub record HasCell (base : Bool) (storage : List ℕ) (field : Field) (cell : ℕ) : Type 0 where
   pub put : is_put base field.shown ≡ true
-  pub from : place_of field.row field.column ≤ cell
-  pub below : cell < place_of field.row field.column + length (text_of storage field.shown)
+  pub from : cell_place field.row field.column ≤ cell
+  pub below : cell < cell_place field.row field.column + length (field_text storage field.shown)

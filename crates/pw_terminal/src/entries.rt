@@ -1,6 +1,6 @@
 ghost use Rattle.std.specs.Prelude.{◌≡◌, ◌==◌, ◌+◌, ◌<◌, ◌≤◌, ◌&&◌, ◌++◌, length, position, slice_get, is_some, codes, IfSome};
 ghost use Rattle.pw_terminal.specs.Screen.{with_message};
-ghost use Rattle.pw_terminal.specs.Entries.{is_entry_field, is_value_for, is_right, is_wrong, check, name_in, with_advice};
+ghost use Rattle.pw_terminal.specs.Entries.{is_entry_field, is_value_for, is_right, is_wrong, check, entry_pair_name, with_advice};
 
 use crate::images::message;
 use crate::values::is_value_for;
@@ -113,7 +113,7 @@ pub fn advise(answer: EntryAnswer, entry: &EntryLine, image: &mut ScreenImage)
 
 /// The name of the pair at a place, and none past the last.
 fn name_at(entry: &EntryLine, place: u16) -> &[u8]
-    ensures { result.now ≡ name_in (slice_get entry.now.fields place) }
+    ensures { result.now ≡ entry_pair_name (slice_get entry.now.fields place) }
 {
     match entry.fields.get(place as usize) {
         Some((name, _)) => name.as_slice(),

@@ -1,9 +1,9 @@
 ghost use Rattle.std.specs.Prelude.{◌≡◌, ◌+◌, ◌<◌, ◌≤◌, length, IsTrue, if◌then◌else◌};
 ghost use Rattle.pw_picture.specs.Grammar.{IsPicture, size_of};
-ghost use Rattle.pw_code.specs.Fields.{IsItem, IsField, IsTable, is_source_of};
+ghost use Rattle.pw_code.specs.Fields.{IsFieldItem, IsField, IsTable, is_source_of};
 ghost use Rattle.pw_code.specs.declared.field.FieldKind.TheVariants.{Item};
 ghost use Rattle.pw_terminal.specs.Screen.{blank_cells};
-ghost use Rattle.pw_terminal.specs.Shown.{place_of, written, as_shown, text_of, with_field, with_screen};
+ghost use Rattle.pw_terminal.specs.Shown.{cell_place, written, as_shown, field_text, with_field, with_screen};
 
 use crate::images::put;
 use pw_code::field::{Field, FieldKind, ScreenTable};
@@ -35,7 +35,7 @@ fn clear(base: bool, image: &mut ScreenImage)
 
 /// Where a cell lies among those of the screen.
 fn place_of(row: u8, column: u8) -> usize
-    ensures { result ≡ place_of row column }
+    ensures { result ≡ cell_place row column }
 {
     row.saturating_sub(1) as usize * COLUMNS + column.saturating_sub(1) as usize
 }
@@ -81,9 +81,9 @@ pub(crate) fn write_item(
     storage: &[u8],
     into: &mut [u8],
 )
-    requires item { IsItem (length storage.now) picture.now at source.now }
+    requires item { IsFieldItem (length storage.now) picture.now at source.now }
     requires size { length into.old ≡ size_of picture.now }
-    ensures { into.new ≡ text_of storage.now (Item picture.now at source.now show) }
+    ensures { into.new ≡ field_text storage.now (Item picture.now at source.now show) }
 {
     if show {
         let (_, behind) = storage.split_at(at as usize);

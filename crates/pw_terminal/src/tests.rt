@@ -1,6 +1,6 @@
 ghost use Rattle.std.specs.Prelude.{◌≡◌, ◌≤◌, false, length, All, IfOk, OnOk};
 ghost use Rattle.pw_picture.specs.Grammar.{size_of};
-ghost use Rattle.pw_code.specs.Fields.{IsItem, IsInside, IsField, is_source_of};
+ghost use Rattle.pw_code.specs.Fields.{IsFieldItem, IsInside, IsField, is_source_of};
 
 use crate::entries::{EntryAnswer, advise, check_entry};
 use crate::images::{blank, message};
@@ -171,7 +171,7 @@ fn using(
     at: u32,
     source: Picture,
 ) -> Result<Field, Memory>
-    requires item { IsItem 25 picture at source }
+    requires item { IsFieldItem 25 picture at source }
     requires inside { IsInside row 10 (size_of picture) }
     ensures field { IfOk result (λ field. IsField 25 field) }
     ensures row { IfOk result (λ field. field.row ≡ row) }

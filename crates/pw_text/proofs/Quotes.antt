@@ -4,14 +4,14 @@ use Rattle.std.proofs.Math.Seq.{drop-cons}
 use Rattle.std.proofs.lemmas.List.{drop_all}
 use Rattle.std.proofs.lemmas.Bool.{eq-eqb, ne_eqb}
 use Rattle.std.specs.Prelude.{◌==◌}
-use Rattle.pw_text.specs.Items.{quoted, one_more}
+use Rattle.pw_text.specs.Items.{quoted, one_byte_more}
 
 -- a size behind bytes that are counted already
 abbrev pub plus : ℕ → Option ℕ → Option ℕ
 plus i None = None
 plus i (Some n) = Some (i + n)
 
-plus-one_more : (i : ℕ) (size : Option ℕ) → plus i (one_more size) ≡ plus (i + 1) size
+plus-one_more : (i : ℕ) (size : Option ℕ) → plus i (one_byte_more size) ≡ plus (i + 1) size
 plus-one_more i None = refl
 plus-one_more i (Some n) = ap Some (omega arith)
 
@@ -22,7 +22,7 @@ pub quoted_closed : (b : ℕ) (bs : List ℕ) → b ≢ 34 → quoted true (b �
 unfolding quoted
 quoted_closed b bs ne = rw (ne_eqb b 34 ne) refl
 
-pub quoted_doubled : (b : ℕ) (bs : List ℕ) → b ≡ 34 → quoted true (b ∷ bs) ≡ one_more (quoted false bs)
+pub quoted_doubled : (b : ℕ) (bs : List ℕ) → b ≡ 34 → quoted true (b ∷ bs) ≡ one_byte_more (quoted false bs)
 unfolding quoted
 quoted_doubled b bs is = rw (eq-eqb b 34 is) refl
 
@@ -30,11 +30,11 @@ pub quoted_line : (b : ℕ) (bs : List ℕ) → b ≡ 10 → quoted false (b ∷
 unfolding quoted
 quoted_line b bs is = rw (eq-eqb b 10 is) refl
 
-pub quoted_quote : (b : ℕ) (bs : List ℕ) → b ≢ 10 → b ≡ 34 → quoted false (b ∷ bs) ≡ one_more (quoted true bs)
+pub quoted_quote : (b : ℕ) (bs : List ℕ) → b ≢ 10 → b ≡ 34 → quoted false (b ∷ bs) ≡ one_byte_more (quoted true bs)
 unfolding quoted
 quoted_quote b bs ne is = rw (ne_eqb b 10 ne, eq-eqb b 34 is) refl
 
-pub quoted_byte : (b : ℕ) (bs : List ℕ) → b ≢ 10 → b ≢ 34 → quoted false (b ∷ bs) ≡ one_more (quoted false bs)
+pub quoted_byte : (b : ℕ) (bs : List ℕ) → b ≢ 10 → b ≢ 34 → quoted false (b ∷ bs) ≡ one_byte_more (quoted false bs)
 unfolding quoted
 quoted_byte b bs no_lf no_quote = rw (ne_eqb b 10 no_lf, ne_eqb b 34 no_quote) refl
 
@@ -46,7 +46,7 @@ quoted_end false bytes i whole all is = let gone : drop i bytes ≡ [] = drop_al
 
 -- one byte further
 pub quoted_further : (closed next : Bool) (bytes : List ℕ) (i : ℕ) (whole : Option ℕ) → i < length bytes
-    → quoted closed (get_or bytes i 0 ∷ drop (i + 1) bytes) ≡ one_more (quoted next (drop (i + 1) bytes))
+    → quoted closed (get_or bytes i 0 ∷ drop (i + 1) bytes) ≡ one_byte_more (quoted next (drop (i + 1) bytes))
     → plus i (quoted closed (drop i bytes)) ≡ whole → plus (i + 1) (quoted next (drop (i + 1) bytes)) ≡ whole
 quoted_further closed next bytes i whole within one is =
     sym (plus-one_more i (quoted next (drop (i + 1) bytes))) ∙ sym (ap (plus i) (ap (quoted closed) (front bytes i within) ∙ one)) ∙ is
@@ -56,11 +56,11 @@ pub quoted_stops : (closed : Bool) (bytes : List ℕ) (i : ℕ) (whole size : Op
     → quoted closed (get_or bytes i 0 ∷ drop (i + 1) bytes) ≡ size → plus i (quoted closed (drop i bytes)) ≡ whole → plus i size ≡ whole
 quoted_stops closed bytes i whole size within one is = sym (ap (plus i) (ap (quoted closed) (front bytes i within) ∙ one)) ∙ is
 
-one_more-some : (size : Option ℕ) (n : ℕ) → Some n ≡ one_more size → 0 < n
+one_more-some : (size : Option ℕ) (n : ℕ) → Some n ≡ one_byte_more size → 0 < n
 one_more-some None n is = absurd cc
 one_more-some (Some m) n is = let same : n ≡ m + 1 = cc in omega arith
 
-quoted-some_by : (is_lf is_quote : Bool) (bs : List ℕ) (n : ℕ) → Some n ≡ cond is_lf None (cond is_quote (one_more (quoted true bs)) (one_more (quoted false bs))) → 0 < n
+quoted-some_by : (is_lf is_quote : Bool) (bs : List ℕ) (n : ℕ) → Some n ≡ cond is_lf None (cond is_quote (one_byte_more (quoted true bs)) (one_byte_more (quoted false bs))) → 0 < n
 quoted-some_by true is_quote bs n is = absurd cc
 quoted-some_by false true bs n is = one_more-some (quoted true bs) n is
 quoted-some_by false false bs n is = one_more-some (quoted false bs) n is

@@ -3,8 +3,8 @@ use Rattle.std.proofs.Common.{ℕ, ◌+◌, ◌≤◌, List, [], ◌∷◌, ◌+
 use Rattle.std.proofs.lemmas.List.{append-nil}
 use Rattle.std.proofs.lemmas.List.Elements.{All-push}
 use Rattle.pw_text.specs.declared.token.Token.{Token}
-use Rattle.pw_text.specs.declared.item.Piece.{Piece}
-use Rattle.pw_text.specs.declared.item.Piece.TheVariants as piece
+use Rattle.pw_text.specs.declared.item.TextPiece.{TextPiece}
+use Rattle.pw_text.specs.declared.item.TextPiece.TheVariants as piece
 use Rattle.pw_text.specs.Items.{quotes}
 use Rattle.pw_text.specs.Tokens.{token_of, tokens_at, LieBetween, StandsOn}
 
@@ -19,14 +19,14 @@ LieBetween-push [] from at to token lie starts ends le = (omega arith, ends, le)
 LieBetween-push (first ∷ tokens) from at to token lie starts ends le = (lie.0, lie.1, LieBetween-push tokens first.end at to token lie.2 starts ends le)
 
 -- one more piece of a size
-pub LieBetween-piece : (piece : Piece) (tokens : List Token) (line from at size : ℕ) → LieBetween from tokens at → quotes piece ≤ size → LieBetween from (tokens ++ tokens_at piece line at (at + size)) (at + size)
+pub LieBetween-piece : (piece : TextPiece) (tokens : List Token) (line from at size : ℕ) → LieBetween from tokens at → quotes piece ≤ size → LieBetween from (tokens ++ tokens_at piece line at (at + size)) (at + size)
 LieBetween-piece (piece.Token kind) tokens line from at size lie fits = LieBetween-push tokens from at (at + size) (token_of kind line at (at + size)) lie (omega arith) (omega arith) (omega arith)
 LieBetween-piece (piece.Fault code) tokens line from at size lie fits = rw append-nil (LieBetween-longer tokens from at (at + size) lie (omega arith))
 LieBetween-piece piece.Gap tokens line from at size lie fits = rw append-nil (LieBetween-longer tokens from at (at + size) lie (omega arith))
 LieBetween-piece piece.LineEnd tokens line from at size lie fits = rw append-nil (LieBetween-longer tokens from at (at + size) lie (omega arith))
 
 -- one more piece of a line
-pub lines-piece : (piece : Piece) (tokens : List Token) (line start end first last : ℕ) → All (StandsOn first last) tokens → first ≤ line → line ≤ last → All (StandsOn first last) (tokens ++ tokens_at piece line start end)
+pub lines-piece : (piece : TextPiece) (tokens : List Token) (line start end first last : ℕ) → All (StandsOn first last) tokens → first ≤ line → line ≤ last → All (StandsOn first last) (tokens ++ tokens_at piece line start end)
 lines-piece (piece.Token kind) tokens line start end first last all from to = All-push (StandsOn first last) tokens (token_of kind line start end) all (from, to)
 lines-piece (piece.Fault code) tokens line start end first last all from to = rw append-nil all
 lines-piece piece.Gap tokens line start end first last all from to = rw append-nil all

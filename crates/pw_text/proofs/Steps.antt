@@ -5,23 +5,23 @@ use Rattle.pw_base.specs.declared.fault.Fault.{Fault}
 use Rattle.pw_base.specs.First.{least, unless}
 use Rattle.pw_base.proofs.FirstFault.{least-append}
 use Rattle.pw_text.specs.declared.token.Token.{Token}
-use Rattle.pw_text.specs.declared.item.Item.{Item}
-use Rattle.pw_text.specs.declared.item.Place.{Place}
-use Rattle.pw_text.specs.declared.item.Place.TheVariants.{LineStart}
+use Rattle.pw_text.specs.declared.item.TextItem.{TextItem}
+use Rattle.pw_text.specs.declared.item.LinePlace.{LinePlace}
+use Rattle.pw_text.specs.declared.item.LinePlace.TheVariants.{LineStart}
 use Rattle.pw_text.specs.Bytes.{bad_bytes}
 use Rattle.pw_text.specs.Items.{item_at}
-use Rattle.pw_text.specs.Tokens.{Placed, items_from, items_of, line_after, tokens_at, faults_at, tokens_in, faults_in, tokens_of}
+use Rattle.pw_text.specs.Tokens.{PlacedTextItem, items_from, items_of, line_after, tokens_at, faults_at, tokens_in, faults_in, tokens_of}
 
 -- what a text gives, of which a fault and tokens are known, and these items are left
-abbrev pub finish : Option Fault → List Token → List Placed → Result (List Token) Fault
+abbrev pub finish : Option Fault → List Token → List PlacedTextItem → Result (List Token) Fault
 finish known tokens items = unless (least known (faults_in items)) (tokens ++ tokens_in items)
 
 -- an item of a line, from a start on
-abbrev placed : Item → ℕ → ℕ → Placed
+abbrev placed : TextItem → ℕ → ℕ → PlacedTextItem
 placed item line start = record { piece = item.piece; line = line; start = start; end = start + item.size }
 
 -- bytes that belong to the item before are passed over
-skips : (k : ℕ) (place : Place) (at line : ℕ) (bs : List ℕ) → items_from k place at line bs ≡ items_from 0 place (at + k) line (drop k bs)
+skips : (k : ℕ) (place : LinePlace) (at line : ℕ) (bs : List ℕ) → items_from k place at line bs ≡ items_from 0 place (at + k) line (drop k bs)
 unfolding items_from
 skips zero place at line bs = rw add-zero refl
 skips (suc k) place at line [] = refl
@@ -30,7 +30,7 @@ skips (suc k) place at line (b ∷ bs) =
     skips k place (at + 1) line bs ∙ ap (λ n. items_from 0 place n line (drop k bs)) further
 
 -- an item of a size is passed over
-behind : (size : ℕ) (place : Place) (at line b : ℕ) (bs : List ℕ) → 0 < size → items_from (size - 1) place (at + 1) line bs ≡ items_from 0 place (at + size) line (drop size (b ∷ bs))
+behind : (size : ℕ) (place : LinePlace) (at line b : ℕ) (bs : List ℕ) → 0 < size → items_from (size - 1) place (at + 1) line bs ≡ items_from 0 place (at + size) line (drop size (b ∷ bs))
 behind zero place at line b bs some = absurd (omega arith)
 behind (suc k) place at line b bs some =
     let less : suc k - 1 ≡ k = omega arith in
@@ -38,20 +38,20 @@ behind (suc k) place at line b bs some =
     ap (λ n. items_from n place (at + 1) line bs) less ∙ skips k place (at + 1) line bs ∙ ap (λ n. items_from 0 place n line (drop k bs)) further
 
 -- the first item, and those behind it
-items_step : (place : Place) (at line : ℕ) (bytes : List ℕ) (item : Item) → 0 < length bytes → item ≡ item_at place bytes → 0 < item.size
+items_step : (place : LinePlace) (at line : ℕ) (bytes : List ℕ) (item : TextItem) → 0 < length bytes → item ≡ item_at place bytes → 0 < item.size
     → items_from 0 place at line bytes ≡ placed item line at ∷ items_from 0 item.next (at + item.size) (line_after item.piece line) (drop item.size bytes)
 unfolding items_from
 items_step place at line [] item left is some = absurd (omega arith)
 items_step place at line (b ∷ bs) item left is some =
-    ap (λ (i : Item). placed i line at ∷ items_from (i.size - 1) i.next (at + 1) (line_after i.piece line) bs) (sym is)
-    ∙ ap (λ (rest : List Placed). placed item line at ∷ rest) (behind item.size item.next at (line_after item.piece line) b bs some)
+    ap (λ (i : TextItem). placed i line at ∷ items_from (i.size - 1) i.next (at + 1) (line_after i.piece line) bs) (sym is)
+    ∙ ap (λ (rest : List PlacedTextItem). placed item line at ∷ rest) (behind item.size item.next at (line_after item.piece line) b bs some)
 
 -- one item is read
-pub finish_step : (place : Place) (at line : ℕ) (bytes : List ℕ) (item : Item) (known : Option Fault) (tokens : List Token) → 0 < length bytes → item ≡ item_at place bytes → 0 < item.size
+pub finish_step : (place : LinePlace) (at line : ℕ) (bytes : List ℕ) (item : TextItem) (known : Option Fault) (tokens : List Token) → 0 < length bytes → item ≡ item_at place bytes → 0 < item.size
     → finish known tokens (items_from 0 place at line bytes)
     ≡ finish (least known (faults_at item.piece line)) (tokens ++ tokens_at item.piece line at (at + item.size)) (items_from 0 item.next (at + item.size) (line_after item.piece line) (drop item.size bytes))
 finish_step place at line bytes item known tokens left is some =
-    let rest : List Placed = items_from 0 item.next (at + item.size) (line_after item.piece line) (drop item.size bytes) in
+    let rest : List PlacedTextItem = items_from 0 item.next (at + item.size) (line_after item.piece line) (drop item.size bytes) in
     ap (finish known tokens) (items_step place at line bytes item left is some)
     ∙ ap (λ (k : Option Fault). unless k (tokens ++ (tokens_at item.piece line at (at + item.size) ++ tokens_in rest))) (least-append known (faults_at item.piece line) (faults_in rest))
     ∙ ap (unless (least (least known (faults_at item.piece line)) (faults_in rest))) (sym (append_assoc tokens (tokens_at item.piece line at (at + item.size)) (tokens_in rest)))
@@ -61,13 +61,13 @@ pub finish_first : (text : List ℕ) (line : ℕ) → finish (least None (bad_by
 finish_first text line = ap (λ (k : Option Fault). unless k (tokens_in (items_of text line))) (sym (least-append None (bad_bytes line text) (faults_in (items_of text line))))
 
 -- behind the last byte
-pub finish_last : (place : Place) (at line : ℕ) (bytes : List ℕ) (known : Option Fault) (tokens : List Token) → length bytes ≡ 0 → finish known tokens (items_from 0 place at line bytes) ≡ unless known tokens
+pub finish_last : (place : LinePlace) (at line : ℕ) (bytes : List ℕ) (known : Option Fault) (tokens : List Token) → length bytes ≡ 0 → finish known tokens (items_from 0 place at line bytes) ≡ unless known tokens
 unfolding items_from
 finish_last place at line [] known tokens none = ap (unless known) (append-nil tokens)
 finish_last place at line (b ∷ bs) known tokens none = absurd (omega arith)
 
 -- one item further
-pub finish_further : (place : Place) (at line : ℕ) (bytes : List ℕ) (item : Item) (known : Option Fault) (tokens : List Token) (whole : Result (List Token) Fault)
+pub finish_further : (place : LinePlace) (at line : ℕ) (bytes : List ℕ) (item : TextItem) (known : Option Fault) (tokens : List Token) (whole : Result (List Token) Fault)
     (next_known : Option Fault) (next_tokens : List Token) (next_line : ℕ) (next_bytes : List ℕ)
     → next_known ≡ least known (faults_at item.piece line) → next_tokens ≡ tokens ++ tokens_at item.piece line at (at + item.size)
     → next_line ≡ line_after item.piece line → next_bytes ≡ drop item.size bytes

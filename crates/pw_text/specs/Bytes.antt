@@ -59,10 +59,10 @@ abbrev pub line_behind : ℕ → ℕ → ℕ
 line_behind b line = if b == 10 then line + 1 else line
 
 -- the fault, where it is one
-abbrev pub only_if : Bool → Fault → List Fault
-only_if is_fault fault = if is_fault then fault ∷ [] else []
+abbrev pub text_fault_if : Bool → Fault → List Fault
+text_fault_if is_fault fault = if is_fault then fault ∷ [] else []
 
 -- BadCharacter for each byte that may not stand in its line, from a line on
 unfoldable pub bad_bytes : ℕ → List ℕ → List Fault
 bad_bytes line [] = []
-bad_bytes line (b ∷ bs) = only_if (is_bad (b ∷ bs)) (record { line = line; code = BadCharacter }) ++ bad_bytes (line_behind b line) bs
+bad_bytes line (b ∷ bs) = text_fault_if (is_bad (b ∷ bs)) (record { line = line; code = BadCharacter }) ++ bad_bytes (line_behind b line) bs

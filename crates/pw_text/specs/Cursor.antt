@@ -59,58 +59,58 @@ abbrev pub behind : ℕ → Left → Left
 behind count left = record left { tokens = drop count left.tokens }
 
 -- what is left where the next token is taken if it was found
-abbrev pub after : Bool → Left → Left
-after found left = if found then behind 1 left else left
+abbrev pub after_token : Bool → Left → Left
+after_token found left = if found then behind 1 left else left
 
 -- a reader: it gives a value and what is left behind it, or none
-abbrev pub Reader : Type 0 → Type 0
-Reader A = Left → Option (A × Left)
+abbrev pub TokenReader : Type 0 → Type 0
+TokenReader A = Left → Option (A × Left)
 
 -- behind what was read goes on the reader that the value chooses
-abbrev pub and_then : {A B : Type 0} → Option (A × Left) → (A → Reader B) → Option (B × Left)
+abbrev pub and_then : {A B : Type 0} → Option (A × Left) → (A → TokenReader B) → Option (B × Left)
 and_then None next = None
 and_then (Some found) next = next found.0 found.1
 
 -- reads one thing, and then what that asks for
 infixl 10 ◌>>=◌
-abbrev pub ◌>>=◌ : {A B : Type 0} → Reader A → (A → Reader B) → Reader B
+abbrev pub ◌>>=◌ : {A B : Type 0} → TokenReader A → (A → TokenReader B) → TokenReader B
 first >>= next = λ left. and_then (first left) next
 
 -- reads one thing, which is passed over, and then another
 infixl 10 ◌>>◌
-abbrev pub ◌>>◌ : {A B : Type 0} → Reader A → Reader B → Reader B
+abbrev pub ◌>>◌ : {A B : Type 0} → TokenReader A → TokenReader B → TokenReader B
 first >> second = first >>= (λ _. second)
 
 -- a value, for which nothing is read
-abbrev pub pure : {A : Type 0} → A → Reader A
+abbrev pub pure : {A : Type 0} → A → TokenReader A
 pure value = λ left. Some (value, left)
 
 -- no value
-abbrev pub none : {A : Type 0} → Reader A
+abbrev pub none : {A : Type 0} → TokenReader A
 none = λ left. None
 
 -- whether the next token is of a kind; then it is taken
-abbrev pub eat : TokenKind → Reader Bool
-eat kind = λ left. Some (sees kind left, after (sees kind left) left)
+abbrev pub eat : TokenKind → TokenReader Bool
+eat kind = λ left. Some (sees kind left, after_token (sees kind left) left)
 
 -- whether the next token is this word; then it is taken
-abbrev pub eat_word : Word → Reader Bool
-eat_word word = λ left. Some (sees_word word left, after (sees_word word left) left)
+abbrev pub eat_word : Word → TokenReader Bool
+eat_word word = λ left. Some (sees_word word left, after_token (sees_word word left) left)
 
 -- the next token, where it passes a test
-abbrev pub taken : List ℕ → (Token → Bool) → List Token → Option (Token × Left)
-taken text test [] = None
-taken text test (token ∷ tokens) =
+abbrev pub token_taken : List ℕ → (Token → Bool) → List Token → Option (Token × Left)
+token_taken text test [] = None
+token_taken text test (token ∷ tokens) =
     if test token then Some (token, record { text = text; tokens = tokens }) else None
 
 -- the next token, where it is of a kind
-abbrev pub expect : TokenKind → Reader Token
-expect kind = λ left. taken left.text (has_kind kind) left.tokens
+abbrev pub expect : TokenKind → TokenReader Token
+expect kind = λ left. token_taken left.text (has_kind kind) left.tokens
 
 -- the next token, where it is this word
-abbrev pub expect_word : Word → Reader Token
-expect_word word = λ left. taken left.text (is_the_word left.text word) left.tokens
+abbrev pub expect_word : Word → TokenReader Token
+expect_word word = λ left. token_taken left.text (is_the_word left.text word) left.tokens
 
 -- the code gives what the reader gives and leaves what it leaves, or it gives none where the reader gives none
-abbrev pub Reads : {A : Type 0} → Option (A × Left) → Option A → Left → Type 0
-Reads read result left = MatchOption result (read ≡ None) (λ value. read ≡ Some (value, left))
+abbrev pub ReadsTokens : {A : Type 0} → Option (A × Left) → Option A → Left → Type 0
+ReadsTokens read result left = MatchOption result (read ≡ None) (λ value. read ≡ Some (value, left))

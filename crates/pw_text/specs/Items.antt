@@ -6,11 +6,11 @@ use Rattle.pw_base.specs.Limits.{longest_word, most_digits}
 use Rattle.pw_words.specs.Words.{same_word}
 use Rattle.pw_text.specs.declared.token.TokenKind.{TokenKind}
 use Rattle.pw_text.specs.declared.token.TokenKind.TheVariants as kind
-use Rattle.pw_text.specs.declared.item.Piece.{Piece}
-use Rattle.pw_text.specs.declared.item.Piece.TheVariants as piece
-use Rattle.pw_text.specs.declared.item.Place.{Place}
-use Rattle.pw_text.specs.declared.item.Place.TheVariants.{LineStart, InLine, BehindPic, BehindIs}
-use Rattle.pw_text.specs.declared.item.Item.{Item}
+use Rattle.pw_text.specs.declared.item.TextPiece.{TextPiece}
+use Rattle.pw_text.specs.declared.item.TextPiece.TheVariants as piece
+use Rattle.pw_text.specs.declared.item.LinePlace.{LinePlace}
+use Rattle.pw_text.specs.declared.item.LinePlace.TheVariants.{LineStart, InLine, BehindPic, BehindIs}
+use Rattle.pw_text.specs.declared.item.TextItem.{TextItem}
 use Rattle.pw_text.specs.Bytes.{is_letter, is_digit, is_signed, is_word_byte, is_separator, is_picture_byte, is_line_byte, run, begins_with}
 
 -- the quote at each end of a text is no part of it
@@ -29,42 +29,42 @@ quote_size kind.LessEqual = 0
 quote_size kind.GreaterEqual = 0
 
 -- the size of the quotes at both ends
-abbrev pub quotes : Piece → ℕ
+abbrev pub quotes : TextPiece → ℕ
 quotes (piece.Token kind) = 2 * quote_size kind
 quotes (piece.Fault code) = 0
 quotes piece.Gap = 0
 quotes piece.LineEnd = 0
 
 -- a token of a kind and a size
-abbrev pub token : TokenKind → ℕ → Item
+abbrev pub token : TokenKind → ℕ → TextItem
 token kind size = record { piece = piece.Token kind; size = size; next = InLine }
 
 -- a fault in bytes of a size
-abbrev pub fault : FaultCode → ℕ → Item
+abbrev pub fault : FaultCode → ℕ → TextItem
 fault code size = record { piece = piece.Fault code; size = size; next = InLine }
 
 -- bytes that are no token
-abbrev pub gap : ℕ → Place → Item
+abbrev pub gap : ℕ → LinePlace → TextItem
 gap size next = record { piece = piece.Gap; size = size; next = next }
 
 -- one byte more, where there is a size
-abbrev pub one_more : Option ℕ → Option ℕ
-one_more None = None
-one_more (Some n) = Some (n + 1)
+abbrev pub one_byte_more : Option ℕ → Option ℕ
+one_byte_more None = None
+one_byte_more (Some n) = Some (n + 1)
 
 -- The size of a text behind its first quote, with its last; none where its line or all ends before.
 -- closed: the byte before was a quote, which is the last one unless another follows it.
 unfoldable pub quoted : Bool → List ℕ → Option ℕ
 quoted true [] = Some 0
-quoted true (b ∷ bs) = if b == 34 then one_more (quoted false bs) else Some 0
+quoted true (b ∷ bs) = if b == 34 then one_byte_more (quoted false bs) else Some 0
 quoted false [] = None
 quoted false (b ∷ bs) =
     if b == 10 then None
-    else (if b == 34 then one_more (quoted true bs)
-    else one_more (quoted false bs))
+    else (if b == 34 then one_byte_more (quoted true bs)
+    else one_byte_more (quoted false bs))
 
 -- a text, or behind a quote that no other closes the rest of its line
-abbrev pub text_item : Option ℕ → List ℕ → Item
+abbrev pub text_item : Option ℕ → List ℕ → TextItem
 text_item None behind = fault UnclosedLiteral (1 + run is_line_byte behind)
 text_item (Some size) behind = token kind.Text (1 + size)
 
@@ -77,14 +77,14 @@ abbrev pub is_pic : List ℕ → Bool
 is_pic word = same_word word (codes "PIC") || same_word word (codes "PICTURE")
 
 -- a word of at most so many characters as the longest
-abbrev pub word_item : List ℕ → Item
+abbrev pub word_item : List ℕ → TextItem
 word_item word =
     if nat_lt longest_word (length word) then fault WordTooLong (length word)
     else (if is_pic word then record (token kind.Word (length word)) { next = BehindPic }
     else token kind.Word (length word))
 
 -- what a $ is, by the word behind it
-abbrev pub dollar_item : List ℕ → Item
+abbrev pub dollar_item : List ℕ → TextItem
 dollar_item word = if same_word word (codes "RECEIVE") then token kind.Word (1 + length word) else fault BadCharacter 1
 
 -- how many digits stand behind a point
@@ -93,21 +93,21 @@ places_at [] = 0
 places_at (b ∷ bs) = if b == 46 then run is_digit bs else 0
 
 -- a number of so many digits before and behind its point, and with a sign of a size
-abbrev pub number_of : ℕ → ℕ → ℕ → Item
-number_of sign whole places =
+abbrev pub number_token : ℕ → ℕ → ℕ → TextItem
+number_token sign whole places =
     let size = sign + (whole + (if places == 0 then 0 else 1 + places)) in
     if nat_lt most_digits (whole + places) then fault NumberTooLong size else token kind.Number size
 
 -- the number of these digits, with a sign of a size before them
-abbrev pub number_item : ℕ → List ℕ → Item
-number_item sign bytes = let whole = run is_digit bytes in number_of sign whole (places_at (drop whole bytes))
+abbrev pub number_item : ℕ → List ℕ → TextItem
+number_item sign bytes = let whole = run is_digit bytes in number_token sign whole (places_at (drop whole bytes))
 
 -- a mark that an = may follow
-abbrev pub or_equal : TokenKind → TokenKind → List ℕ → Item
+abbrev pub or_equal : TokenKind → TokenKind → List ℕ → TextItem
 or_equal alone with_equal behind = if begins_with (λ b. b == 61) behind then token with_equal 2 else token alone 1
 
 -- a mark; every other byte is a fault
-abbrev pub mark_item : ℕ → List ℕ → Item
+abbrev pub mark_item : ℕ → List ℕ → TextItem
 mark_item b behind =
     if b == 46 then token kind.Period 1
     else (if b == 40 then token kind.LeftParen 1
@@ -118,7 +118,7 @@ mark_item b behind =
     else fault BadCharacter 1)))))
 
 -- a number or a mark
-unfoldable pub number_or_mark : List ℕ → Item
+unfoldable pub number_or_mark : List ℕ → TextItem
 number_or_mark [] = gap 1 InLine
 number_or_mark (b ∷ behind) =
     if is_digit b then number_item 0 (b ∷ behind)
@@ -126,7 +126,7 @@ number_or_mark (b ∷ behind) =
     else mark_item b behind)
 
 -- what stands in a line, where no picture is awaited
-unfoldable pub line_item : List ℕ → Item
+unfoldable pub line_item : List ℕ → TextItem
 line_item [] = gap 1 InLine
 line_item (b ∷ bs) =
     if is_separator b then gap 1 InLine
@@ -142,11 +142,11 @@ without_period (b ∷ []) = if b == 46 then [] else b ∷ []
 without_period (b ∷ (c ∷ bs)) = b ∷ without_period (c ∷ bs)
 
 -- a picture of a size, or the period where none is left
-abbrev pub picture_of : ℕ → Item
+abbrev pub picture_of : ℕ → TextItem
 picture_of size = if size == 0 then token kind.Period 1 else token kind.Picture size
 
 -- the run of characters other than space; a period at its end is no part of the picture
-abbrev pub picture_item : List ℕ → Item
+abbrev pub picture_item : List ℕ → TextItem
 picture_item bytes = picture_of (length (without_period (take_while is_picture_byte bytes)))
 
 -- the word IS stands in front
@@ -154,21 +154,21 @@ abbrev pub is_is : List ℕ → Bool
 is_is bytes = begins_with is_letter bytes && same_word (word_at bytes) (codes "IS")
 
 -- what stands at a place of a line, which has neither ended nor goes on with a space
-abbrev pub item_by : Place → List ℕ → Item
+abbrev pub item_by : LinePlace → List ℕ → TextItem
 item_by LineStart bytes = if begins_with (λ b. b == 42) bytes then gap (run is_line_byte bytes) InLine else line_item bytes
 item_by InLine bytes = line_item bytes
 item_by BehindPic bytes = if is_is bytes then record (token kind.Word (length (word_at bytes))) { next = BehindIs } else picture_item bytes
 item_by BehindIs bytes = picture_item bytes
 
 -- the place behind a space
-abbrev pub behind_space : Place → Place
+abbrev pub behind_space : LinePlace → LinePlace
 behind_space LineStart = InLine
 behind_space InLine = InLine
 behind_space BehindPic = BehindPic
 behind_space BehindIs = BehindIs
 
 -- what stands at a place of a line; a CR that no LF follows is a bad byte besides
-unfoldable pub item_at : Place → List ℕ → Item
+unfoldable pub item_at : LinePlace → List ℕ → TextItem
 item_at place [] = gap 1 place
 item_at place (b ∷ bs) =
     if b == 10 then record { piece = piece.LineEnd; size = 1; next = LineStart }
@@ -176,7 +176,7 @@ item_at place (b ∷ bs) =
     else item_by place (b ∷ bs))
 
 -- An item takes one or more of the bytes, and the quotes at both ends of its token are among them.
-pub record Fits (item : Item) (bytes : List ℕ) : Type 0 where
+pub record FitsBytes (item : TextItem) (bytes : List ℕ) : Type 0 where
   pub some : 0 < item.size
   pub within : item.size ≤ length bytes
   pub quotes : quotes item.piece ≤ item.size

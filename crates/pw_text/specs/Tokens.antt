@@ -4,29 +4,29 @@ use Rattle.pw_base.specs.declared.fault.Fault.{Fault}
 use Rattle.pw_base.specs.First.{least, unless}
 use Rattle.pw_text.specs.declared.token.TokenKind.{TokenKind}
 use Rattle.pw_text.specs.declared.token.Token.{Token}
-use Rattle.pw_text.specs.declared.item.Piece.{Piece}
-use Rattle.pw_text.specs.declared.item.Piece.TheVariants as piece
-use Rattle.pw_text.specs.declared.item.Place.{Place}
-use Rattle.pw_text.specs.declared.item.Place.TheVariants.{LineStart}
+use Rattle.pw_text.specs.declared.item.TextPiece.{TextPiece}
+use Rattle.pw_text.specs.declared.item.TextPiece.TheVariants as piece
+use Rattle.pw_text.specs.declared.item.LinePlace.{LinePlace}
+use Rattle.pw_text.specs.declared.item.LinePlace.TheVariants.{LineStart}
 use Rattle.pw_text.specs.Bytes.{bad_bytes}
 use Rattle.pw_text.specs.Items.{quote_size, item_at}
 
 -- an item of a text, with its line and with its bytes from a start to an end
-pub record Placed : Type 0 where
-  pub piece : Piece
+pub record PlacedTextItem : Type 0 where
+  pub piece : TextPiece
   pub line : ℕ
   pub start : ℕ
   pub end : ℕ
 
 -- the line behind a piece
-abbrev pub line_after : Piece → ℕ → ℕ
+abbrev pub line_after : TextPiece → ℕ → ℕ
 line_after (piece.Token kind) line = line
 line_after (piece.Fault code) line = line
 line_after piece.Gap line = line
 line_after piece.LineEnd line = line + 1
 
 -- What stands from a place of a line on, one item behind the other. The first `skip` bytes belong to the item before.
-unfoldable pub items_from : ℕ → Place → ℕ → ℕ → List ℕ → List Placed
+unfoldable pub items_from : ℕ → LinePlace → ℕ → ℕ → List ℕ → List PlacedTextItem
 items_from skip place at line [] = []
 items_from (suc skip) place at line (b ∷ bs) = items_from skip place (at + 1) line bs
 items_from zero place at line (b ∷ bs) =
@@ -38,29 +38,29 @@ abbrev pub token_of : TokenKind → ℕ → ℕ → ℕ → Token
 token_of kind line start end = record { kind = kind; line = line; start = start + quote_size kind; end = end - quote_size kind }
 
 -- the token that a piece of a line is, if it is one
-abbrev pub tokens_at : Piece → ℕ → ℕ → ℕ → List Token
+abbrev pub tokens_at : TextPiece → ℕ → ℕ → ℕ → List Token
 tokens_at (piece.Token kind) line start end = token_of kind line start end ∷ []
 tokens_at (piece.Fault code) line start end = []
 tokens_at piece.Gap line start end = []
 tokens_at piece.LineEnd line start end = []
 
 -- the fault that a piece of a line is, if it is one
-abbrev pub faults_at : Piece → ℕ → List Fault
+abbrev pub faults_at : TextPiece → ℕ → List Fault
 faults_at (piece.Token kind) line = []
 faults_at (piece.Fault code) line = (record { line = line; code = code }) ∷ []
 faults_at piece.Gap line = []
 faults_at piece.LineEnd line = []
 
 -- the tokens among the items
-abbrev pub tokens_in : List Placed → List Token
+abbrev pub tokens_in : List PlacedTextItem → List Token
 tokens_in items = flat_map (λ item. tokens_at item.piece item.line item.start item.end) items
 
 -- the faults among the items
-abbrev pub faults_in : List Placed → List Fault
+abbrev pub faults_in : List PlacedTextItem → List Fault
 faults_in items = flat_map (λ item. faults_at item.piece item.line) items
 
 -- the items of a text whose first line has a number
-abbrev pub items_of : List ℕ → ℕ → List Placed
+abbrev pub items_of : List ℕ → ℕ → List PlacedTextItem
 items_of text first_line = items_from 0 LineStart 0 first_line text
 
 -- the tokens of a text, or the first of its bytes that may not stand there and of its other faults

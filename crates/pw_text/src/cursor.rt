@@ -1,5 +1,5 @@
 ghost use Rattle.std.specs.Prelude.{◌≡◌, ◌==◌, ◌≤◌, None, length, take, slice_get};
-ghost use Rattle.pw_text.specs.Cursor.{spelling, sees, sees_word, behind, after, expect, expect_word, Reads};
+ghost use Rattle.pw_text.specs.Cursor.{spelling, sees, sees_word, behind, after_token, expect, expect_word, ReadsTokens};
 
 use crate::token::{Token, TokenKind};
 use std::marker::Model;
@@ -136,7 +136,7 @@ impl<'a> Cursor<'a> {
     /// Takes the next token if it is of a kind. It gives whether it was.
     pub fn eat(&mut self, kind: TokenKind) -> bool
         ensures found { result ≡ sees kind self.old }
-        ensures left { self.new ≡ after (sees kind self.old) self.old }
+        ensures left { self.new ≡ after_token (sees kind self.old) self.old }
     {
         let found = self.sees(kind);
         if found {
@@ -148,7 +148,7 @@ impl<'a> Cursor<'a> {
     /// Takes the next token if it is this word, in either case. It gives whether it was.
     pub fn eat_word(&mut self, word: &[u8]) -> bool
         ensures found { result ≡ sees_word word.now self.old }
-        ensures left { self.new ≡ after (sees_word word.now self.old) self.old }
+        ensures left { self.new ≡ after_token (sees_word word.now self.old) self.old }
     {
         let found = self.sees_word(word);
         if found {
@@ -159,7 +159,7 @@ impl<'a> Cursor<'a> {
 
     /// Takes the next token, which has to be of a kind. None leaves all that was left.
     pub fn expect(&mut self, kind: TokenKind) -> Option<Token>
-        ensures token { Reads (expect kind self.old) result self.new }
+        ensures token { ReadsTokens (expect kind self.old) result self.new }
         ensures none { result ≡ None → self.new ≡ self.old }
     {
         if self.sees(kind) { self.next() } else { None }
@@ -167,7 +167,7 @@ impl<'a> Cursor<'a> {
 
     /// Takes the next token, which has to be this word, in either case. None leaves all that was left.
     pub fn expect_word(&mut self, word: &[u8]) -> Option<Token>
-        ensures token { Reads (expect_word word.now self.old) result self.new }
+        ensures token { ReadsTokens (expect_word word.now self.old) result self.new }
         ensures none { result ≡ None → self.new ≡ self.old }
     {
         if self.sees_word(word) {

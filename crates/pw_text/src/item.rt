@@ -3,7 +3,7 @@ use pw_base::fault_code::FaultCode;
 
 /// What stands at the front of a text.
 #[derive(Clone, Copy)]
-pub enum Piece {
+pub enum TextPiece {
     Token(TokenKind),
     Fault(FaultCode),
     /// A separator or a comment.
@@ -13,7 +13,7 @@ pub enum Piece {
 
 /// Where in its line something stands.
 #[derive(Clone, Copy)]
-pub enum Place {
+pub enum LinePlace {
     /// At the first byte of the line.
     LineStart,
     /// Further on.
@@ -26,8 +26,8 @@ pub enum Place {
 
 /// A piece of a text: its size in bytes, and the place behind it.
 #[derive(Clone, Copy)]
-pub struct Item {
-    pub piece: Piece,
+pub struct TextItem {
+    pub piece: TextPiece,
     pub size: usize,
-    pub next: Place,
+    pub next: LinePlace,
 }

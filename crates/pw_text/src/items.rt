@@ -1,51 +1,49 @@
 ghost use Rattle.std.specs.Prelude.{◌≡◌, ◌<◌, ◌≤◌, ◌+◌, ◌^◌, false, length};
 ghost use Rattle.pw_text.specs.Bytes.{is_digit, run};
-ghost use Rattle.pw_text.specs.Items.{quote_size, quotes, token, fault, gap, text_item, quoted, is_pic, word_at, word_item, dollar_item, places_at, number_of, number_item, or_equal, mark_item, number_or_mark, line_item, without_period, picture_of, picture_item, is_is, item_by, behind_space, item_at, Fits};
+ghost use Rattle.pw_text.specs.Items.{quote_size, quotes, token, fault, gap, text_item, quoted, is_pic, word_at, word_item, dollar_item, places_at, number_token, number_item, or_equal, mark_item, number_or_mark, line_item, without_period, picture_of, picture_item, is_is, item_by, behind_space, item_at, FitsBytes};
 
-use crate::bytes::{
-    digit_count, is_digit, is_letter, is_separator, is_signed, line_size, picture_at, word_at,
-};
-use crate::item::{Item, Piece, Place};
+use crate::bytes::{digit_count, is_digit, is_letter, is_separator, is_signed, line_size, picture_at, word_at};
+use crate::item::{TextItem, TextPiece, LinePlace};
 use crate::quoted::quoted;
 use crate::token::{MAX_DIGITS, MAX_WORD, TokenKind};
 use pw_base::fault_code::FaultCode;
 use pw_words::table::is_same_word;
 
 /// A token of so many bytes. What follows stands further on in the line.
-fn token(kind: TokenKind, size: usize) -> Item
+fn token(kind: TokenKind, size: usize) -> TextItem
     ensures { result ≡ token kind size }
 {
-    Item {
-        piece: Piece::Token(kind),
+    TextItem {
+        piece: TextPiece::Token(kind),
         size,
-        next: Place::InLine,
+        next: LinePlace::InLine,
     }
 }
 
 /// A fault of so many bytes. What follows stands further on in the line.
-fn fault(code: FaultCode, size: usize) -> Item
+fn fault(code: FaultCode, size: usize) -> TextItem
     ensures { result ≡ fault code size }
 {
-    Item {
-        piece: Piece::Fault(code),
+    TextItem {
+        piece: TextPiece::Fault(code),
         size,
-        next: Place::InLine,
+        next: LinePlace::InLine,
     }
 }
 
 /// So many bytes that are no token, and the place behind them.
-fn gap(size: usize, next: Place) -> Item
+fn gap(size: usize, next: LinePlace) -> TextItem
     ensures { result ≡ gap size next }
 {
-    Item {
-        piece: Piece::Gap,
+    TextItem {
+        piece: TextPiece::Gap,
         size,
         next,
     }
 }
 
 /// The text behind a quote.
-fn text_item(behind: &[u8]) -> Item
+fn text_item(behind: &[u8]) -> TextItem
     requires { length behind.now < 2 ^ 32 }
     ensures value { result ≡ text_item (quoted false behind.now) behind.now }
     ensures some { 0 < result.size }
@@ -66,7 +64,7 @@ fn is_pic(word: &[u8]) -> bool
 }
 
 /// A word in front: a token, or a fault where it is too long. A picture follows PIC.
-fn word_item(word: &[u8]) -> Item
+fn word_item(word: &[u8]) -> TextItem
     ensures value { result ≡ word_item word.now }
     ensures size { result.size ≡ length word.now }
     ensures quotes { quotes result.piece ≤ result.size }
@@ -74,8 +72,8 @@ fn word_item(word: &[u8]) -> Item
     if word.len() > MAX_WORD {
         fault(FaultCode::WordTooLong, word.len())
     } else if is_pic(word) {
-        Item {
-            next: Place::BehindPic,
+        TextItem {
+            next: LinePlace::BehindPic,
             ..token(TokenKind::Word, word.len())
         }
     } else {
@@ -84,7 +82,7 @@ fn word_item(word: &[u8]) -> Item
 }
 
 /// A `$`, by the word behind it.
-fn dollar_item(word: &[u8]) -> Item
+fn dollar_item(word: &[u8]) -> TextItem
     ensures value { result ≡ dollar_item word.now }
     ensures some { 0 < result.size }
     ensures bound { result.size ≤ 1 + length word.now }
@@ -109,9 +107,9 @@ fn places_at(bytes: &[u8]) -> usize
 }
 
 /// The number of so many digits before and behind its point.
-fn number_of(sign: usize, whole: usize, places: usize) -> Item
+fn number_of(sign: usize, whole: usize, places: usize) -> TextItem
     requires { sign + whole + places + 1 < 2 ^ 32 }
-    ensures value { result ≡ number_of sign whole places }
+    ensures value { result ≡ number_token sign whole places }
     ensures some { sign + whole ≤ result.size }
     ensures bound { result.size ≤ sign + whole + places + 1 }
     ensures quotes { quotes result.piece ≤ result.size }
@@ -127,7 +125,7 @@ fn number_of(sign: usize, whole: usize, places: usize) -> Item
 }
 
 /// The number of these digits, behind a sign of so many bytes.
-fn number_item(sign: usize, bytes: &[u8]) -> Item
+fn number_item(sign: usize, bytes: &[u8]) -> TextItem
     requires { sign + length bytes.now < 2 ^ 30 }
     ensures value { result ≡ number_item sign bytes.now }
     ensures some { sign + run is_digit bytes.now ≤ result.size }
@@ -140,7 +138,7 @@ fn number_item(sign: usize, bytes: &[u8]) -> Item
 }
 
 /// A mark that an `=` may follow.
-fn or_equal(alone: TokenKind, with_equal: TokenKind, behind: &[u8]) -> Item
+fn or_equal(alone: TokenKind, with_equal: TokenKind, behind: &[u8]) -> TextItem
     requires alone { quote_size alone ≡ 0 }
     requires with_equal { quote_size with_equal ≡ 0 }
     ensures value { result ≡ or_equal alone with_equal behind.now }
@@ -155,7 +153,7 @@ fn or_equal(alone: TokenKind, with_equal: TokenKind, behind: &[u8]) -> Item
 }
 
 /// A mark in front, by its first byte and those behind it, or a fault.
-fn mark_item(byte: u8, behind: &[u8]) -> Item
+fn mark_item(byte: u8, behind: &[u8]) -> TextItem
     ensures value { result ≡ mark_item byte behind.now }
     ensures some { 0 < result.size }
     ensures bound { result.size ≤ 1 + length behind.now }
@@ -174,14 +172,14 @@ fn mark_item(byte: u8, behind: &[u8]) -> Item
 
 /// A number or a mark.
 #[tactic(auto, unfolding(crate::specs::Items::number_or_mark))]
-fn number_or_mark(bytes: &[u8]) -> Item
+fn number_or_mark(bytes: &[u8]) -> TextItem
     requires some { 0 < length bytes.now }
     requires room { length bytes.now < 2 ^ 29 }
     ensures value { result ≡ number_or_mark bytes.now }
-    ensures fits { Fits result bytes.now }
+    ensures fits { FitsBytes result bytes.now }
 {
     match bytes {
-        [] => gap(1, Place::InLine),
+        [] => gap(1, LinePlace::InLine),
         [byte, behind @ ..] => {
             if is_digit(*byte) {
                 number_item(0, bytes)
@@ -196,17 +194,17 @@ fn number_or_mark(bytes: &[u8]) -> Item
 
 /// What stands in a line, where no picture is awaited.
 #[tactic(auto, unfolding(crate::specs::Items::line_item))]
-fn line_item(bytes: &[u8]) -> Item
+fn line_item(bytes: &[u8]) -> TextItem
     requires some { 0 < length bytes.now }
     requires room { length bytes.now < 2 ^ 29 }
     ensures value { result ≡ line_item bytes.now }
-    ensures fits { Fits result bytes.now }
+    ensures fits { FitsBytes result bytes.now }
 {
     match bytes {
-        [] => gap(1, Place::InLine),
+        [] => gap(1, LinePlace::InLine),
         [byte, behind @ ..] => {
             if is_separator(*byte) {
-                gap(1, Place::InLine)
+                gap(1, LinePlace::InLine)
             } else if *byte == b'"' {
                 text_item(behind)
             } else if is_letter(*byte) {
@@ -229,7 +227,7 @@ fn without_period(bytes: &[u8]) -> &[u8]
 }
 
 /// A picture of a size, or the period where none is left.
-fn picture_of(size: usize) -> Item
+fn picture_of(size: usize) -> TextItem
     ensures value { result ≡ picture_of size }
     ensures some { 0 < result.size }
     ensures bound { result.size ≤ size + 1 }
@@ -244,10 +242,10 @@ fn picture_of(size: usize) -> Item
 }
 
 /// The run of characters other than space; a period at its end is no part of the picture.
-fn picture_item(bytes: &[u8]) -> Item
+fn picture_item(bytes: &[u8]) -> TextItem
     requires { 0 < length bytes.now }
     ensures value { result ≡ picture_item bytes.now }
-    ensures fits { Fits result bytes.now }
+    ensures fits { FitsBytes result bytes.now }
 {
     picture_of(without_period(picture_at(bytes)).len())
 }
@@ -263,14 +261,14 @@ fn is_is(bytes: &[u8]) -> bool
 }
 
 /// What stands behind PIC or PICTURE.
-fn pic_item(bytes: &[u8]) -> Item
+fn pic_item(bytes: &[u8]) -> TextItem
     requires { 0 < length bytes.now }
-    ensures value { result ≡ item_by Place.BehindPic bytes.now }
-    ensures fits { Fits result bytes.now }
+    ensures value { result ≡ item_by LinePlace.BehindPic bytes.now }
+    ensures fits { FitsBytes result bytes.now }
 {
     if is_is(bytes) {
-        Item {
-            next: Place::BehindIs,
+        TextItem {
+            next: LinePlace::BehindIs,
             ..token(TokenKind::Word, word_at(bytes).len())
         }
     } else {
@@ -279,57 +277,57 @@ fn pic_item(bytes: &[u8]) -> Item
 }
 
 /// What stands in front of a line.
-fn first_item(bytes: &[u8]) -> Item
+fn first_item(bytes: &[u8]) -> TextItem
     requires some { 0 < length bytes.now }
     requires room { length bytes.now < 2 ^ 29 }
-    ensures value { result ≡ item_by Place.LineStart bytes.now }
-    ensures fits { Fits result bytes.now }
+    ensures value { result ≡ item_by LinePlace.LineStart bytes.now }
+    ensures fits { FitsBytes result bytes.now }
 {
     match bytes {
-        [b'*', ..] => gap(line_size(bytes), Place::InLine),
+        [b'*', ..] => gap(line_size(bytes), LinePlace::InLine),
         _ => line_item(bytes),
     }
 }
 
 /// What stands at a place of a line, which has neither ended nor goes on with a space.
-fn item_by(place: Place, bytes: &[u8]) -> Item
+fn item_by(place: LinePlace, bytes: &[u8]) -> TextItem
     requires some { 0 < length bytes.now }
     requires room { length bytes.now < 2 ^ 29 }
     ensures value { result ≡ item_by place bytes.now }
-    ensures fits { Fits result bytes.now }
+    ensures fits { FitsBytes result bytes.now }
 {
     match place {
-        Place::LineStart => first_item(bytes),
-        Place::InLine => line_item(bytes),
-        Place::BehindPic => pic_item(bytes),
-        Place::BehindIs => picture_item(bytes),
+        LinePlace::LineStart => first_item(bytes),
+        LinePlace::InLine => line_item(bytes),
+        LinePlace::BehindPic => pic_item(bytes),
+        LinePlace::BehindIs => picture_item(bytes),
     }
 }
 
 /// The place behind a space.
-fn behind_space(place: Place) -> Place
+fn behind_space(place: LinePlace) -> LinePlace
     ensures { result ≡ behind_space place }
 {
     match place {
-        Place::LineStart => Place::InLine,
+        LinePlace::LineStart => LinePlace::InLine,
         _ => place,
     }
 }
 
 /// What stands at a place of a line, in front of the bytes.
 #[tactic(auto, unfolding(crate::specs::Items::item_at))]
-pub fn item_at(place: Place, bytes: &[u8]) -> Item
+pub fn item_at(place: LinePlace, bytes: &[u8]) -> TextItem
     requires some { 0 < length bytes.now }
     requires room { length bytes.now < 2 ^ 29 }
     ensures value { result ≡ item_at place bytes.now }
-    ensures fits { Fits result bytes.now }
+    ensures fits { FitsBytes result bytes.now }
 {
     match bytes {
         [] => gap(1, place),
-        [b'\n', ..] => Item {
-            piece: Piece::LineEnd,
+        [b'\n', ..] => TextItem {
+            piece: TextPiece::LineEnd,
             size: 1,
-            next: Place::LineStart,
+            next: LinePlace::LineStart,
         },
         [b' ' | b'\r', ..] => gap(1, behind_space(place)),
         _ => item_by(place, bytes),

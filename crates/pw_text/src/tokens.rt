@@ -5,7 +5,7 @@ ghost use Rattle.pw_text.specs.Items.{quote_size};
 ghost use Rattle.pw_text.specs.Tokens.{token_of, tokens_at, faults_at, line_after, tokens_of, LieBetween, StandsOn};
 
 use crate::bytes::first_bad_byte;
-use crate::item::{Piece, Place};
+use crate::item::{TextPiece, LinePlace};
 use crate::items::item_at;
 use crate::token::{Token, TokenKind};
 use pw_base::fault::{Fault, Refusal, better};
@@ -41,7 +41,7 @@ fn token_of(kind: TokenKind, line: u32, start: u32, end: u32) -> Token
 /// Puts the token that a piece is, if it is one, behind the others.
 fn push_token(
     tokens: &mut Vec<Token>,
-    piece: Piece,
+    piece: TextPiece,
     line: u32,
     start: u32,
     end: u32,
@@ -51,31 +51,31 @@ fn push_token(
     ensures { OnOk result (tokens.new.items ≡ tokens.old.items ++ tokens_at piece line start end) }
 {
     match piece {
-        Piece::Token(kind) => tokens.push(token_of(kind, line, start, end))?,
+        TextPiece::Token(kind) => tokens.push(token_of(kind, line, start, end))?,
         _ => {}
     }
     Ok(())
 }
 
 /// The first of the fault that a piece is, if it is one, and of the one that is known.
-fn noted_piece(known: Option<Fault>, piece: Piece, line: u32) -> Option<Fault>
+fn noted_piece(known: Option<Fault>, piece: TextPiece, line: u32) -> Option<Fault>
     ensures { result ≡ least known (faults_at piece line) }
 {
     match piece {
-        Piece::Fault(code) => better(known, Fault { line, code }),
+        TextPiece::Fault(code) => better(known, Fault { line, code }),
         _ => known,
     }
 }
 
 /// The line behind a piece.
-fn line_after(piece: Piece, line: u32) -> u32
+fn line_after(piece: TextPiece, line: u32) -> u32
     requires { line + 1 < 2 ^ 32 }
     ensures value { result ≡ line_after piece line }
     ensures from { line ≤ result }
     ensures bound { result ≤ line + 1 }
 {
     match piece {
-        Piece::LineEnd => line + 1,
+        TextPiece::LineEnd => line + 1,
         _ => line,
     }
 }
@@ -96,7 +96,7 @@ pub fn tokens(alloc: Global, text: &[u8], first_line: u32) -> Result<Vec<Token>,
 {
     let mut tokens = Vec::new(alloc);
     let mut known = first_bad_byte(text, first_line);
-    let mut place = Place::LineStart;
+    let mut place = LinePlace::LineStart;
     let mut line = first_line;
     let mut at = 0;
     let mut rest = text;

@@ -10,14 +10,14 @@ use Rattle.pw_paired.specs.State.{BeforeImage}
 use Rattle.pw_tmf.specs.Slots.{SlotState, backed_out_slot}
 use Rattle.pw_tmf.specs.Tmf.{IsTmf, TmfState, slot_at, told_of, unit_at, with_images}
 use Rattle.pw_tmf.specs.Told.{Told}
-use Rattle.pw_tmf.specs.Units.{AreApart, CanBackOut, IsOpen, all_backed_out, backed_out}
+use Rattle.pw_tmf.specs.Units.{HaveDistinctTerminals, CanBackOut, IsOpen, all_backed_out, backed_out}
 use Rattle.pw_tmf.proofs.Stopped.{IsTmf-backed_out, backing, can-open, can-still, others, told-backed_out}
 
 -- some units have been backed out, and these are left
 pub record IsBackingOut (ends : Bool) (goal : Told) (state : TmfState) (rest : List unit.Unit) : Type 0 where
   pub told : all_backed_out ends (told_of state) rest ≡ goal
   pub ok : IsTmf state
-  pub apart : AreApart rest
+  pub apart : HaveDistinctTerminals rest
   pub can : All (CanBackOut ends (told_of state)) rest
 
 -- a fact of the units of other terminals
@@ -38,7 +38,7 @@ pub one-more : (ends : Bool) (goal : Told) (state next : TmfState) (u : unit.Uni
     → IsBackingOut ends goal next rest
 one-more ends goal state next u rest units is b rule files pending locks slots =
     let open_u : IsOpen (told_of state) u = next-open ends goal state u rest units is b in
-    let apart : AreApart (u ∷ rest) = subst AreApart is b.apart in
+    let apart : HaveDistinctTerminals (u ∷ rest) = subst HaveDistinctTerminals is b.apart in
     let can : All (CanBackOut ends (told_of state)) (u ∷ rest) = subst (All (CanBackOut ends (told_of state))) is b.can in
     let next_is : next ≡ backing state u open_u.open_unit open_u.here open_u.number open_u.terminal b.ok ends = state-is next state.rule state.files _ _ _ rule files pending locks slots in
     let told_is : told_of next ≡ backed_out ends (told_of state) u = ap told_of next_is ∙ told-backed_out state u open_u.open_unit open_u.here open_u.number open_u.terminal b.ok ends in

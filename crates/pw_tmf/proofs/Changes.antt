@@ -10,7 +10,7 @@ use Rattle.pw_code.specs.declared.file.FileOp.{FileOp}
 use Rattle.pw_code.specs.declared.file.FileOp.TheVariants.{Read, Next, Write, Rewrite, Delete, ReadLock, NextLock}
 use Rattle.pw_files.specs.Records.{has_key, record_at}
 use Rattle.pw_onecopy.specs.Operation.{answer_of, changes_records, is_change, key_of, records_behind, changed_records}
-use Rattle.pw_onecopy.specs.Path.{FileAnswer}
+use Rattle.pw_onecopy.specs.Path.{FileResult}
 use Rattle.pw_paired.specs.Units.{has_image, image_before}
 use Rattle.pw_tmf.specs.Committed.{images_of}
 use Rattle.pw_tmf.specs.Operation.{answer_with, refusal, with_image}
@@ -83,7 +83,7 @@ allowed-answer n records call = allowed-op n records call.op call
 
 pub allowed-changes : (n : ℕ) (records : List (List ℕ)) (call : FileCall) → is_change call.op ≡ true → refusal call.op (has_key n records (key_of n call.op call)) ≡ None
     → changes_records n records call ≡ true
-allowed-changes n records call c h = and_from (is_change call.op) _ c (ap (λ (a : FileAnswer). a.status == 0) (allowed-op n records call.op call c h))
+allowed-changes n records call c h = and_from (is_change call.op) _ c (ap (λ (a : FileResult). a.status == 0) (allowed-op n records call.op call c h))
 
 -- a read changes nothing
 pub read-changes : (n : ℕ) (records : List (List ℕ)) (call : FileCall) → is_change call.op ≡ false → changes_records n records call ≡ false

@@ -17,7 +17,7 @@ use Rattle.pw_paired.specs.Units.{attempt_of, drop_unit, has_image, last_after_l
 use Rattle.pw_tmf.specs.Leaving.{AreSingle, CanLeave, HaveOpen, IsKeyed, is_among, open_units, unit_told}
 use Rattle.pw_tmf.specs.Tells.{Tells, as_told, images_by}
 use Rattle.pw_tmf.specs.Told.{Told, ToldUnit}
-use Rattle.pw_tmf.specs.Units.{AreApart, CanBackOut, all_backed_out, backed_out}
+use Rattle.pw_tmf.specs.Units.{HaveDistinctTerminals, CanBackOut, all_backed_out, backed_out}
 use Rattle.pw_tmf.proofs.Leaving.{none-of-theirs, none-passes, tells-rest, tells-same}
 use Rattle.pw_tmf.proofs.Telling.{tells-drop}
 
@@ -138,7 +138,7 @@ is_one_of us t = list_any (λ (u : unit.Unit). u.terminal == t) us
 
 tells-all : (sys : Behaviour) (whose : ℕ → Bool) (us : List unit.Unit) (state : State) (told : Told) → Tells sys state told
     → AllByRecursion (IsKeyed sys.key_length) state.before → AreSingle state.before → AllByRecursion (λ lock. IsSome (state.units lock.unit.terminal)) state.locks
-    → AreApart us → AllByRecursion (IsOwn state) us → AllByRecursion (λ u. whose u.terminal ≡ true) us
+    → HaveDistinctTerminals us → AllByRecursion (IsOwn state) us → AllByRecursion (λ u. whose u.terminal ≡ true) us
     → ((t : ℕ) → whose t ≡ true → IsSome (state.units t) → is_one_of us t ≡ true)
     → Tells sys (leave_units sys whose state) (all_backed_out true told us)
 tells-all sys whose [] state told h keyed single held apart own theirs every =
@@ -195,12 +195,12 @@ module _ (told : Told) where
       (λ own is. All-cons P (record { terminal = s; number = own.number; birth = own.birth }) (open_units told terminals) (λ same. eqb-false t s all.0 (sym same)) rest)
 
   -- those of different terminals are apart
-  pub are-apart : (terminals : List ℕ) → IsDistinct (λ a b. a == b) terminals → AreApart (open_units told terminals)
+  pub are-apart : (terminals : List ℕ) → IsDistinct (λ a b. a == b) terminals → HaveDistinctTerminals (open_units told terminals)
   unfolding IsDistinct
   are-apart [] distinct = tt
   are-apart (t ∷ terminals) distinct =
-      let rest : AreApart (open_units told terminals) = are-apart terminals distinct.1 in
-      with-unit AreApart t (open_units told terminals) rest (λ own is. (none-of-other t terminals distinct.0, rest))
+      let rest : HaveDistinctTerminals (open_units told terminals) = are-apart terminals distinct.1 in
+      with-unit HaveDistinctTerminals t (open_units told terminals) rest (λ own is. (none-of-other t terminals distinct.0, rest))
 
   -- they can be backed out
   pub can-back-out : (terminals : List ℕ) → AllByRecursion (λ t. t < told.terminals) terminals → All (CanBackOut true told) (open_units told terminals)
@@ -214,7 +214,7 @@ module _ (told : Told) where
 
 -- the units of different terminals may be left at once
 pub may-leave : (told : Told) (terminals : List ℕ) → IsDistinct (λ a b. a == b) terminals → All (λ t. t < told.terminals) terminals
-    → AreApart (open_units told terminals) × All (CanBackOut true told) (open_units told terminals)
+    → HaveDistinctTerminals (open_units told terminals) × All (CanBackOut true told) (open_units told terminals)
 may-leave told terminals distinct few = (are-apart told terminals distinct, can-back-out told terminals (recursion_from_All (λ t. t < told.terminals) terminals few))
 
 -- ---- the open units of terminals

@@ -24,7 +24,7 @@ use Rattle.pw_paired.specs.Units.{image_before, is_first_change}
 use Rattle.pw_tmf.specs.Committed.{images_of}
 use Rattle.pw_tmf.specs.Operation.{after_operation, lock_now, with_image}
 use Rattle.pw_tmf.specs.Slots.{SlotState, with_unit}
-use Rattle.pw_tmf.specs.Tmf.{AreImages, HasNumber, IsHeld, IsImage, IsTmf, TmfState, files_of, key_lengths, no_slot, slot_at, stored, told_of, unit_at}
+use Rattle.pw_tmf.specs.Tmf.{AreImages, HasNumber, IsLockOfOpenUnit, IsImage, IsTmf, TmfState, files_of, key_lengths, no_slot, slot_at, stored, told_of, unit_at}
 use Rattle.pw_tmf.specs.Told.{Told, ToldUnit}
 use Rattle.pw_tmf.proofs.Stored.{file-is, get-set, upd-itself}
 
@@ -109,7 +109,7 @@ module _ (state : TmfState) (u : unit.Unit) (call : FileCall) (files' : List Blo
       by None h = h
       by (Some own) h = kept (key_lengths state.files call.file) (stored state.files call.file) u.terminal own (is_first_change (key_lengths state.files call.file) (stored state.files call.file) u.terminal call own.before) h
 
-  held-stays : (l : Lock) → IsHeld state.slots l → IsHeld (slice_set state.slots u.terminal slot') l
+  held-stays : (l : Lock) → IsLockOfOpenUnit state.slots l → IsLockOfOpenUnit (slice_set state.slots u.terminal slot') l
   held-stays l h =
       subst (λ (g : ℕ → Option ToldUnit). HasNumber l.unit.number (g l.unit.terminal)) (sym (get-set (λ (x : SlotState). x.open_unit) state.slots u.terminal slot' no_slot lt))
       (upd_elim (unit_at state.slots) u.terminal slot'.open_unit l.unit.terminal (HasNumber l.unit.number)
@@ -147,8 +147,8 @@ module _ (state : TmfState) (u : unit.Unit) (call : FileCall) (files' : List Blo
       let all : All (Q (key_lengths state.files) (length state.files)) (slice_set state.slots u.terminal slot') =
       All-set (Q (key_lengths state.files) (length state.files)) state.slots u.terminal slot' (images-fit file within old) ok.images in
       record {
-        locks = All-push (IsHeld (slice_set state.slots u.terminal slot')) state.locks lock
-            (All-weaker (IsHeld state.slots) (IsHeld (slice_set state.slots u.terminal slot')) held-stays state.locks ok.locks) (held-stays lock own);
+        locks = All-push (IsLockOfOpenUnit (slice_set state.slots u.terminal slot')) state.locks lock
+            (All-weaker (IsLockOfOpenUnit state.slots) (IsLockOfOpenUnit (slice_set state.slots u.terminal slot')) held-stays state.locks ok.locks) (held-stays lock own);
         pending = subst (λ (k : ℕ → ℕ). All (AreImages k (length files')) state.pending) (sym keys) (subst (λ m. All (AreImages (key_lengths state.files) m) state.pending) (sym count) ok.pending);
         images = subst (λ (k : ℕ → ℕ). All (Q k (length files')) (slice_set state.slots u.terminal slot')) (sym keys)
             (subst (λ m. All (Q (key_lengths state.files) m) (slice_set state.slots u.terminal slot')) (sym count) all);

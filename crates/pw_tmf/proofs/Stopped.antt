@@ -15,9 +15,9 @@ use Rattle.pw_paired.specs.State.{BeforeImage, LastEnded}
 use Rattle.pw_paired.specs.Units.{only, restored_files, without_locks}
 use Rattle.pw_tmf.specs.Committed.{images_of}
 use Rattle.pw_tmf.specs.Slots.{SlotState, backed_out_slot, ended_slot, ended_with_reply}
-use Rattle.pw_tmf.specs.Tmf.{AreImages, HasNumber, IsHeld, IsTmf, TmfState, all_pending, files_of, key_lengths, no_slot, slot_at, stored, told_of, unit_at, with_images}
+use Rattle.pw_tmf.specs.Tmf.{AreImages, HasNumber, IsLockOfOpenUnit, IsTmf, TmfState, all_pending, files_of, key_lengths, no_slot, slot_at, stored, told_of, unit_at, with_images}
 use Rattle.pw_tmf.specs.Told.{Told, ToldUnit}
-use Rattle.pw_tmf.specs.Units.{CanBackOut, IsOpen, backed_out, ended, over, stopped, undone}
+use Rattle.pw_tmf.specs.Units.{CanBackOut, IsOpen, backed_out, ended, attempt_over, stopped, undone}
 use Rattle.pw_tmf.proofs.Drained.{restored-append}
 use Rattle.pw_tmf.proofs.Operated.{told-is}
 use Rattle.pw_tmf.proofs.Stored.{get-set, upd-itself}
@@ -43,12 +43,12 @@ others u held = not (is_same_unit held.unit u)
 
 module _ (state : TmfState) (u : unit.Unit) (own : ToldUnit) (here : unit_at state.slots u.terminal ≡ Some own) (number : own.number ≡ u.number) (lt : u.terminal < length state.slots) (ok : IsTmf state) where
   -- a lock of the unit's terminal is the unit's
-  own-number : (held : Lock) → IsHeld state.slots held → held.unit.terminal ≡ u.terminal → held.unit.number ≡ u.number
+  own-number : (held : Lock) → IsLockOfOpenUnit state.slots held → held.unit.terminal ≡ u.terminal → held.unit.number ≡ u.number
   own-number held h is =
       let at : HasNumber held.unit.number (Some own) = subst (HasNumber held.unit.number) (ap (unit_at state.slots) is ∙ here) h in
       sym at ∙ number
 
-  same-test : (held : Lock) → IsHeld state.slots held → others u held ≡ not (only u.terminal held.unit.terminal)
+  same-test : (held : Lock) → IsLockOfOpenUnit state.slots held → others u held ≡ not (only u.terminal held.unit.terminal)
   same-test held h =
       ⊎_elim
       (λ is. ap (λ b. not ((held.unit.terminal == u.terminal) && b)) (eq-eqb held.unit.number u.number (own-number held h (eqb-true held.unit.terminal u.terminal is)))
@@ -57,11 +57,11 @@ module _ (state : TmfState) (u : unit.Unit) (own : ToldUnit) (here : unit_at sta
       (cases_Bool (held.unit.terminal == u.terminal))
 
   pub same-locks : filter (others u) state.locks ≡ without_locks (only u.terminal) state.locks
-  same-locks = filter-same (IsHeld state.slots) (others u) (λ held. not (only u.terminal held.unit.terminal)) same-test state.locks ok.locks
+  same-locks = filter-same (IsLockOfOpenUnit state.slots) (others u) (λ held. not (only u.terminal held.unit.terminal)) same-test state.locks ok.locks
 
   -- the locks that stay are of other terminals
   module _ (slot' : SlotState) where
-    held-stays : (held : Lock) → IsHeld state.slots held → others u held ≡ true → IsHeld (slice_set state.slots u.terminal slot') held
+    held-stays : (held : Lock) → IsLockOfOpenUnit state.slots held → others u held ≡ true → IsLockOfOpenUnit (slice_set state.slots u.terminal slot') held
     held-stays held h passes =
         let apart : held.unit.terminal ≢ u.terminal = λ is. true≢false (sym passes ∙ (same-test held h ∙ ap not (eq-eqb held.unit.terminal u.terminal is))) in
         subst (λ (g : ℕ → Option ToldUnit). HasNumber held.unit.number (g held.unit.terminal)) (sym (get-set (λ (x : SlotState). x.open_unit) state.slots u.terminal slot' no_slot lt))
@@ -72,7 +72,7 @@ module _ (state : TmfState) (u : unit.Unit) (own : ToldUnit) (here : unit_at sta
     IsTmf-stopped none pending' fit =
         let Q : SlotState → Type 0 = λ x. AreImages (key_lengths state.files) (length state.files) (images_of x.open_unit) in
         record {
-          locks = All-passed (IsHeld state.slots) (IsHeld (slice_set state.slots u.terminal slot')) (others u) held-stays state.locks ok.locks;
+          locks = All-passed (IsLockOfOpenUnit state.slots) (IsLockOfOpenUnit (slice_set state.slots u.terminal slot')) (others u) held-stays state.locks ok.locks;
           pending = fit;
           images = All-set Q state.slots u.terminal slot' (subst (AreImages (key_lengths state.files) (length state.files)) (sym none) (All-nil _)) ok.images;
         }
@@ -97,9 +97,9 @@ module _ (state : TmfState) (u : unit.Unit) (own : ToldUnit) (here : unit_at sta
   pub told-over : (pending' : List (List BeforeImage)) (told : Told) → told.rule ≡ state.rule → told.terminals ≡ length state.slots → told.file_count ≡ length state.files
       → told.key_length ≡ key_lengths state.files → told.files ≡ files_of state.files pending' → told.locks ≡ state.locks → told.units ≡ unit_at state.slots → told.ended ≡ (λ t. (slot_at state.slots t).ended)
       → told_of (record { rule = told.rule; files = state.files; pending = pending'; locks = filter (others u) state.locks; slots = slice_set state.slots u.terminal (backed_out_slot false (slot_at state.slots u.terminal)) })
-      ≡ record (over told u) { faults = 0 }
+      ≡ record (attempt_over told u) { faults = 0 }
   told-over pending' told rule terminals count keys files locks units last =
-      told-is (record (over told u) { faults = 0 }) _ _ _ _ _ _ _
+      told-is (record (attempt_over told u) { faults = 0 }) _ _ _ _ _ _ _
       (length-set state.slots u.terminal (backed_out_slot false (slot_at state.slots u.terminal)) ∙ sym terminals)
       (sym count) (sym keys) (sym files)
       (same-locks ∙ ap (without_locks (only u.terminal)) (sym locks))

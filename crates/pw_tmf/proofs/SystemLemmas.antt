@@ -11,7 +11,7 @@ use Rattle.pw_code.specs.declared.system.System.{System}
 use Rattle.pw_code.specs.declared.system.TermInfo.{TermInfo}
 use Rattle.pw_files.specs.Records.{IsContent}
 use Rattle.pw_code.specs.Names.{AreNames, IsName}
-use Rattle.pw_code.specs.Valid.{HasKey, IsCode, IsClass, IsDeckFile, IsTerminal, IsValid}
+use Rattle.pw_code.specs.Valid.{HasFunctionKey, IsCode, IsClass, IsDeckFile, IsTerminal, IsValid}
 use Rattle.pw_code.proofs.Codes.{IsCode-empty}
 use Rattle.pw_code.proofs.NameLemmas.{AreNames-none, AreNames-one}
 use Rattle.pw_tmf.specs.TwoUnits.{IsTestSystem, stock_file}
@@ -47,7 +47,7 @@ three-names = record {
 pub test-valid : (code : Code) → code.instrs ≡ [] → code.storage ≡ [] → code.linkage ≡ [] → IsValid (test_system code)
 test-valid code empty no_storage no_linkage =
     let system : System = test_system code in
-    let one : (name : List ℕ) → IsTerminal system (terminal_named name) = λ name. record { pair = omega arith; program = omega arith; restarts = omega arith; few = omega arith; keys = All-nil HasKey } in
+    let one : (name : List ℕ) → IsTerminal system (terminal_named name) = λ name. record { pair = omega arith; program = omega arith; restarts = omega arith; few = omega arith; keys = All-nil HasFunctionKey } in
     record {
       programs = All-cons (IsCode false system) code [] (IsCode-empty false system code empty no_storage no_linkage) (All-nil (IsCode false system));
       servers = All-nil (IsCode true system);

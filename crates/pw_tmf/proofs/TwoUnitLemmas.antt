@@ -20,7 +20,7 @@ use Rattle.pw_tmf.specs.Told.{Told, ToldUnit}
 use Rattle.pw_tmf.specs.TwoUnits.{AreBoth, IsFresh, IsTestCall, IsTestSystem, older_unit, third_unit, younger_unit}
 use Rattle.pw_tmf.specs.Faulty.{with_faults}
 use Rattle.pw_tmf.specs.Starting.{key_of_file, told_at_start}
-use Rattle.pw_tmf.specs.Units.{AreApart, CanBackOut, CanBegin, IsRunning, MayBegin, all_backed_out, backed_out, begun, opened, stopped}
+use Rattle.pw_tmf.specs.Units.{HaveDistinctTerminals, CanBackOut, CanBegin, IsRunning, MayBegin, all_backed_out, backed_out, begun, opened, stopped}
 
 pub older-can : (told : Told) → IsFresh told → CanBegin told older_unit
 older-can told f = record {
@@ -164,7 +164,7 @@ files-stay ends told [] = refl
 files-stay true told (u ∷ units) = files-stay true (backed_out true told u) units
 files-stay false told (u ∷ units) = files-stay false (backed_out false told u) units
 
-pub both-apart : AreApart (older_unit ∷ younger_unit ∷ [])
+pub both-apart : HaveDistinctTerminals (older_unit ∷ younger_unit ∷ [])
 both-apart =
     let P : unit.Unit → Type 0 = λ other. other.terminal ≢ 0 in
     (All-cons P younger_unit [] (λ is. absurd (omega (arith, is))) (All-nil P), (All-nil (λ (other : unit.Unit). other.terminal ≢ 1), tt))
@@ -191,7 +191,7 @@ fresh-faulty told f = record { terminals = f.terminals; files = f.files; key = f
 abbrev pub restarted : Told → Told
 restarted told = all_backed_out false told (younger_unit ∷ [])
 
-pub younger-alone : AreApart (younger_unit ∷ [])
+pub younger-alone : HaveDistinctTerminals (younger_unit ∷ [])
 younger-alone = (All-nil (λ (other : unit.Unit). other.terminal ≢ 1), tt)
 
 pub younger-backs : (ends : Bool) (told : Told) → AreBoth told → All (CanBackOut ends told) (younger_unit ∷ [])
@@ -265,7 +265,7 @@ third-can told b = record {
       (cases_eq t 0);
 }
 
-pub three-apart : AreApart (older_unit ∷ third_unit ∷ younger_unit ∷ [])
+pub three-apart : HaveDistinctTerminals (older_unit ∷ third_unit ∷ younger_unit ∷ [])
 three-apart =
     let P : unit.Unit → Type 0 = λ other. other.terminal ≢ 0 in
     let Q : unit.Unit → Type 0 = λ other. other.terminal ≢ 2 in (

@@ -18,13 +18,13 @@ use Rattle.pw_tmf.specs.Operation.{after_operation, answer_with, lock_now}
 use Rattle.pw_tmf.specs.Told.{Told}
 
 -- the count of faults rose, and all else stayed
-pub record HasFailed (old new : Told) : Type 0 where
+pub record OnlyFaultsRose (old new : Told) : Type 0 where
   pub count : Rose old.faults new.faults
   pub stays : new ≡ record old { faults = new.faults }
 
 -- what a refused call leaves: all as it was, but for the count where the disc failed
 abbrev pub Leaves : DiscFault → Told → Told → Type 0
-Leaves fault.Failed old new = HasFailed old new
+Leaves fault.Failed old new = OnlyFaultsRose old new
 Leaves fault.Memory old new = new ≡ old
 
 -- What an operation answers and leaves. It is done where no other unit holds a lock that conflicts with
@@ -35,7 +35,7 @@ Operates (answer.Done status content) old unit call new =
     × (answer_with status content ≡ answer_of (old.key_length call.file) (old.files call.file) call.op call)
     × (new ≡ after_operation old unit call)
 Operates (answer.Conflict holder) old unit call new = IsOldest holder (holders (lock_now old unit call) old.locks) × (new ≡ old)
-Operates answer.Failed old unit call new = HasFailed old new
+Operates answer.Failed old unit call new = OnlyFaultsRose old new
 Operates answer.Memory old unit call new = new ≡ old
 
 -- What an operation would answer now: the status with which it would be done, where no other unit holds a lock that

@@ -14,8 +14,8 @@ abbrev pub fails_next : Calls → Bool
 fails_next calls = is_listed calls.fail_at.items calls.made
 
 -- the counts behind one more call
-abbrev pub called : Calls → Calls
-called calls = record calls { made = counted calls.made; faults = counted_if (fails_next calls) calls.faults }
+abbrev pub call_counted : Calls → Calls
+call_counted calls = record calls { made = counted calls.made; faults = counted_if (fails_next calls) calls.faults }
 
 -- so many faults more than the disc inside tells
 abbrev pub with_faults : ℕ → Told → Told

@@ -11,7 +11,7 @@ use Rattle.pw_locks.specs.Conflicts.{conflict, is_same_unit}
 use Rattle.pw_locks.specs.declared.lock.Lock.{Lock}
 use Rattle.pw_onecopy.specs.IsBehaviour.{is_written}
 use Rattle.pw_onecopy.specs.Operation.{lock_for, records_behind}
-use Rattle.pw_onecopy.specs.Path.{FileAnswer}
+use Rattle.pw_onecopy.specs.Path.{FileResult}
 use Rattle.pw_onecopy.specs.Update.{upd}
 use Rattle.pw_paired.specs.Units.{image_before, is_first_change}
 use Rattle.pw_tmf.specs.Told.{ToldUnit, Told}
@@ -47,7 +47,7 @@ status_with None = 0
 status_with (Some status) = status
 
 -- a file status and a record that was read, if any, as the answer of an operation
-abbrev pub answer_with : ℕ → Option (List ℕ) → FileAnswer
+abbrev pub answer_with : ℕ → Option (List ℕ) → FileResult
 answer_with status content = record { status = status; content = content }
 
 -- the lock is added, and the operation is done

@@ -4,7 +4,7 @@ use Rattle.pw_files.specs.Records.{record_at}
 use Rattle.pw_onecopy.specs.Update.{upd}
 use Rattle.pw_paired.specs.State.{BeforeImage}
 use Rattle.pw_paired.specs.Units.{put_back}
-use Rattle.pw_tmf.specs.declared.answer.Changed.{Changed}
+use Rattle.pw_tmf.specs.declared.answer.ChangedKey.{ChangedKey}
 use Rattle.pw_tmf.specs.Committed.{images_of}
 use Rattle.pw_tmf.specs.Told.{Told}
 
@@ -14,7 +14,7 @@ restored told file key content =
     record told { files = upd told.files file (put_back (told.key_length file) (told.files file) key content) }
 
 -- what is at the key of a before-image in these files
-abbrev pub changed_in : (ℕ → ℕ) → (ℕ → List (List ℕ)) → BeforeImage → Changed
+abbrev pub changed_in : (ℕ → ℕ) → (ℕ → List (List ℕ)) → BeforeImage → ChangedKey
 changed_in key_length files image = record {
   file = image.file;
   key = image.key;
@@ -22,5 +22,5 @@ changed_in key_length files image = record {
 }
 
 -- what is now at each key that the open unit of a terminal has changed, the first change first
-abbrev pub changes_of : Told → ℕ → List Changed
+abbrev pub changes_of : Told → ℕ → List ChangedKey
 changes_of told t = map (changed_in told.key_length told.files) (reverse (images_of (told.units t)))

@@ -17,7 +17,7 @@ last_ended None = record { number = 0; reply = None }
 last_ended (Some unit) = record { number = unit.number; reply = unit.reply }
 
 -- the numbers count from 1
-pub record HasNumbers (unit : Option ToldUnit) (ended : Option Ended) : Type 0 where
+pub record NumbersFromOne (unit : Option ToldUnit) (ended : Option Ended) : Type 0 where
   pub unit_number : IfSome unit (λ own. 1 ≤ own.number)
   pub ended_number : IfSome ended (λ last. 1 ≤ last.number)
 

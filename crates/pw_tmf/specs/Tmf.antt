@@ -90,11 +90,11 @@ HasNumber number None = ⊥
 HasNumber number (Some unit) = unit.number ≡ number
 
 -- the lock is one of the open unit of its terminal
-abbrev pub IsHeld : List SlotState → Lock → Type 0
-IsHeld slots lock = HasNumber lock.unit.number (unit_at slots lock.unit.terminal)
+abbrev pub IsLockOfOpenUnit : List SlotState → Lock → Type 0
+IsLockOfOpenUnit slots lock = HasNumber lock.unit.number (unit_at slots lock.unit.terminal)
 
 -- each lock is one of an open unit, and each before-image can be put back
 pub record IsTmf (state : TmfState) : Type 0 where
-  pub locks : All (IsHeld state.slots) state.locks
+  pub locks : All (IsLockOfOpenUnit state.slots) state.locks
   pub pending : All (AreImages (key_lengths state.files) (length state.files)) state.pending
   pub images : All (λ slot. AreImages (key_lengths state.files) (length state.files) (images_of slot.open_unit)) state.slots

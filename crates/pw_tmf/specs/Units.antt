@@ -55,8 +55,8 @@ abbrev pub stopped : ToldUnit → ToldUnit
 stopped unit = record unit { running = false; before = [] }
 
 -- the attempt of a unit is over: its locks are released
-abbrev pub over : Told → unit.Unit → Told
-over told unit = record told {
+abbrev pub attempt_over : Told → unit.Unit → Told
+attempt_over told unit = record told {
   locks = without_locks (only unit.terminal) told.locks;
   units = upd told.units unit.terminal (option_map stopped (told.units unit.terminal));
 }
@@ -68,7 +68,7 @@ undone told unit = record told { files = restored_files told.key_length (images_
 -- a unit is backed out: it ends, or stays open without an attempt
 abbrev pub backed_out : Bool → Told → unit.Unit → Told
 backed_out true told unit = ended (undone told unit) unit None
-backed_out false told unit = over (undone told unit) unit
+backed_out false told unit = attempt_over (undone told unit) unit
 
 -- units are backed out, one after the other
 abbrev pub all_backed_out : Bool → Told → List unit.Unit → Told
@@ -81,6 +81,6 @@ CanBackOut true told unit = IsOpen told unit
 CanBackOut false told unit = IsRunning told unit
 
 -- the units are of different terminals
-abbrev pub AreApart : List unit.Unit → Type 0
-AreApart [] = Unit {0}
-AreApart (unit ∷ units) = All (λ other. other.terminal ≢ unit.terminal) units × AreApart units
+abbrev pub HaveDistinctTerminals : List unit.Unit → Type 0
+HaveDistinctTerminals [] = Unit {0}
+HaveDistinctTerminals (unit ∷ units) = All (λ other. other.terminal ≢ unit.terminal) units × HaveDistinctTerminals units

@@ -56,7 +56,7 @@ pub struct Ended {
 
 /// What an open unit has changed at a key of a file: the record that is there now, if any.
 #[derive(Debug, Drop)]
-pub struct Changed {
+pub struct ChangedKey {
     pub file: u32,
     pub key: Bytes,
     pub content: Option<Bytes>,

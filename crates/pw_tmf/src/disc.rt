@@ -4,7 +4,7 @@ ghost use Rattle.pw_tmf.specs.Answers.{Foresees, Leaves, Operates, ended_unit};
 ghost use Rattle.pw_tmf.specs.Committed.{committed};
 ghost use Rattle.pw_tmf.specs.Operation.{IsCall, awaits};
 ghost use Rattle.pw_tmf.specs.Told.{Told};
-ghost use Rattle.pw_tmf.specs.Units.{AreApart, CanBackOut, CanBegin, IsOpen, IsRunning, all_backed_out, begun, ended};
+ghost use Rattle.pw_tmf.specs.Units.{HaveDistinctTerminals, CanBackOut, CanBegin, IsOpen, IsRunning, all_backed_out, begun, ended};
 
 use crate::answer::{DiscFault, Ended, FileAnswer, Foreseen};
 use pw_base::bytes::Bytes;
@@ -42,7 +42,7 @@ pub trait Disc: Send + Drop {
     /// so, and else stay open for their next attempts.
     fn back_out(&mut self, units: &[Unit], ends: bool) -> Result<(), DiscFault>
         requires some { units.now ≢ [] }
-        requires apart { AreApart units.now }
+        requires apart { HaveDistinctTerminals units.now }
         requires units { All (CanBackOut ends (told self.old)) units.now }
         ensures ok { OnOk result (told self.new ≡ all_backed_out ends (told self.old) units.now) }
         ensures err { IfErr result (λ fault. Leaves fault (told self.old) (told self.new)) };

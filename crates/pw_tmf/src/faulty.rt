@@ -1,8 +1,8 @@
 ghost use Rattle.std.specs.Prelude.{◌≡◌, ◌≢◌, [], true, All, Err, IfErr, IfOk, OnOk};
 ghost use Rattle.pw_tmf.specs.Answers.{Leaves, Operates};
-ghost use Rattle.pw_tmf.specs.Faulty.{called, fails_next, told_by};
+ghost use Rattle.pw_tmf.specs.Faulty.{call_counted, fails_next, told_by};
 ghost use Rattle.pw_tmf.specs.Operation.{IsCall};
-ghost use Rattle.pw_tmf.specs.Units.{AreApart, CanBackOut, CanBegin, IsRunning, all_backed_out, begun, ended};
+ghost use Rattle.pw_tmf.specs.Units.{HaveDistinctTerminals, CanBackOut, CanBegin, IsRunning, all_backed_out, begun, ended};
 
 use crate::answer::{DiscFault, Ended, FileAnswer, Foreseen};
 use crate::disc::Disc;
@@ -24,7 +24,7 @@ impl Calls {
     /// Counts a call, and tells whether it fails.
     fn fails(&mut self) -> bool
         ensures answer { result ≡ fails_next self.old }
-        ensures counts { self.new ≡ called self.old }
+        ensures counts { self.new ≡ call_counted self.old }
     {
         self.made = self.made.saturating_add(1);
         let fails = self.fail_at.contains(&self.made);
@@ -71,7 +71,7 @@ impl<D: Disc> Disc for Faulty<D> {
         requires { CanBegin (told_by D.told self.old) unit.now }
         ensures ok { OnOk result (told_by D.told self.new ≡ begun (told_by D.told self.old) unit.now) }
         ensures err { IfErr result (λ fault. Leaves fault (told_by D.told self.old) (told_by D.told self.new)) }
-        ensures calls { self.new.calls ≡ called self.old.calls }
+        ensures calls { self.new.calls ≡ call_counted self.old.calls }
         ensures failed { fails_next self.old.calls ≡ true
             → (result ≡ Err DiscFault.Failed) × (self.new.inner ≡ self.old.inner) }
     {
@@ -85,7 +85,7 @@ impl<D: Disc> Disc for Faulty<D> {
         requires unit { IsRunning (told_by D.told self.old) unit.now }
         requires call { IsCall (told_by D.told self.old) call.now }
         ensures answer { Operates result (told_by D.told self.old) unit.now call.now (told_by D.told self.new) }
-        ensures calls { self.new.calls ≡ called self.old.calls }
+        ensures calls { self.new.calls ≡ call_counted self.old.calls }
         ensures failed { fails_next self.old.calls ≡ true
             → (result ≡ FileAnswer.Failed) × (self.new.inner ≡ self.old.inner) }
     {
@@ -99,7 +99,7 @@ impl<D: Disc> Disc for Faulty<D> {
         requires { IsRunning (told_by D.told self.old) unit.now }
         ensures ok { OnOk result (told_by D.told self.new ≡ ended (told_by D.told self.old) unit.now reply) }
         ensures err { IfErr result (λ fault. Leaves fault (told_by D.told self.old) (told_by D.told self.new)) }
-        ensures calls { self.new.calls ≡ called self.old.calls }
+        ensures calls { self.new.calls ≡ call_counted self.old.calls }
         ensures failed { fails_next self.old.calls ≡ true
             → (result ≡ Err DiscFault.Failed) × (self.new.inner ≡ self.old.inner) }
     {
@@ -111,12 +111,12 @@ impl<D: Disc> Disc for Faulty<D> {
 
     fn back_out(&mut self, units: &[Unit], ends: bool) -> Result<(), DiscFault>
         requires some { units.now ≢ [] }
-        requires apart { AreApart units.now }
+        requires apart { HaveDistinctTerminals units.now }
         requires units { All (CanBackOut ends (told_by D.told self.old)) units.now }
         ensures ok { OnOk result (told_by D.told self.new
             ≡ all_backed_out ends (told_by D.told self.old) units.now) }
         ensures err { IfErr result (λ fault. Leaves fault (told_by D.told self.old) (told_by D.told self.new)) }
-        ensures calls { self.new.calls ≡ called self.old.calls }
+        ensures calls { self.new.calls ≡ call_counted self.old.calls }
         ensures failed { fails_next self.old.calls ≡ true
             → (result ≡ Err DiscFault.Failed) × (self.new.inner ≡ self.old.inner) }
     {

@@ -8,13 +8,13 @@ ghost use Rattle.pw_tmf.specs.Placed.{is_found_at};
 ghost use Rattle.pw_tmf.specs.Restored.{changed_in};
 ghost use Rattle.pw_tmf.specs.Tmf.{AreImages, key_lengths, stored};
 
-use crate::answer::Changed;
+use crate::answer::ChangedKey;
 use crate::image::Image;
 use crate::store::{changed, put_back_if};
 use pw_base::bytes::Bytes;
 use pw_base::memory::Memory;
 use pw_blocks::block_file::BlockFile;
-use pw_locks::index::Index;
+use pw_locks::index::FiledNumbers;
 use std::alloc::Global;
 use std::marker::Model;
 
@@ -24,7 +24,7 @@ use std::marker::Model;
 pub struct Images {
     images: Vec<Image>,
     /// The places in that list of those at each key of a file.
-    places: Index<(u32, Bytes)>,
+    places: FiledNumbers<(u32, Bytes)>,
 }
 
 impl Model for Images {
@@ -46,7 +46,7 @@ impl Images {
     {
         Images {
             images: Vec::new(alloc),
-            places: Index::new(alloc),
+            places: FiledNumbers::new(alloc),
         }
     }
 
@@ -105,7 +105,7 @@ impl Images {
     }
 
     /// What is at the key of each one in these files now, the first one that was made first.
-    pub fn changes_in(&self, alloc: Global, files: &[BlockFile]) -> Result<Vec<Changed>, Memory>
+    pub fn changes_in(&self, alloc: Global, files: &[BlockFile]) -> Result<Vec<ChangedKey>, Memory>
         requires { AreImages (key_lengths files.now) (length files.now) self.now }
         ensures { IfOk result (λ changes. changes.items
             ≡ map (changed_in (key_lengths files.now) (stored files.now)) (reverse self.now)) }

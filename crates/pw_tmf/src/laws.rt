@@ -15,7 +15,7 @@ ghost use Rattle.pw_tmf.specs.Leaving.{AreSingle, CanLeave, HaveOpen, IsKeyed, o
 ghost use Rattle.pw_tmf.specs.Operation.{after_operation};
 ghost use Rattle.pw_tmf.specs.Tells.{Tells, begun_as, unit_begun};
 ghost use Rattle.pw_tmf.specs.Told.{Told};
-ghost use Rattle.pw_tmf.specs.Units.{AreApart, CanBackOut, all_backed_out, backed_out, begun, ended};
+ghost use Rattle.pw_tmf.specs.Units.{HaveDistinctTerminals, CanBackOut, all_backed_out, backed_out, begun, ended};
 
 /// A disc that tells the files, locks and units of a state of the paired system tells them behind an entry too, once the
 /// entry's call is made: BEGIN begins the unit, FILE operates, COMMIT and the REPLY that ends one SEND commit, BACK
@@ -61,5 +61,5 @@ pub fn leaving_laws()
         → Tells sys (leave_units sys whose state) (all_backed_out true told (open_units told terminals)) }
     ensures may { (told : Told) (terminals : List ℕ) → IsDistinct (λ a b. a == b) terminals
         → All (λ t. t < told.terminals) terminals
-        → AreApart (open_units told terminals) × All (CanBackOut true told) (open_units told terminals) }
+        → HaveDistinctTerminals (open_units told terminals) × All (CanBackOut true told) (open_units told terminals) }
 {}

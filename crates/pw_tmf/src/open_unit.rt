@@ -10,14 +10,14 @@ use std::marker::Model;
 
 /// The open unit of a terminal.
 #[derive(Debug, Drop)]
-pub struct OpenUnit {
+pub struct TmfUnit {
     number: u32,
     birth: u64,
     running: bool,
     images: Images,
 }
 
-impl Model for OpenUnit {
+impl Model for TmfUnit {
     ghost use Rattle.pw_tmf.specs.Told.{ToldUnit};
 
     ghost Value = { ToldUnit };
@@ -30,12 +30,12 @@ impl Model for OpenUnit {
     } };
 }
 
-impl OpenUnit {
+impl TmfUnit {
     /// A unit at the beginning of an attempt. It takes no memory.
-    pub fn new(alloc: Global, unit: &Unit) -> OpenUnit
+    pub fn new(alloc: Global, unit: &Unit) -> TmfUnit
         ensures { result ≡ opened unit.now }
     {
-        OpenUnit {
+        TmfUnit {
             number: unit.number,
             birth: unit.birth,
             running: true,
@@ -73,11 +73,11 @@ impl OpenUnit {
     }
 
     /// The unit between two attempts, and its before-images. It takes no memory.
-    pub fn stop(self, alloc: Global) -> (OpenUnit, Images)
+    pub fn stop(self, alloc: Global) -> (TmfUnit, Images)
         ensures unit { result.0 ≡ stopped self }
         ensures images { result.1 ≡ self.before }
     {
-        let stopped = OpenUnit {
+        let stopped = TmfUnit {
             number: self.number,
             birth: self.birth,
             running: false,
@@ -94,10 +94,10 @@ impl OpenUnit {
     }
 
     /// An equal value.
-    pub fn copy(&self, alloc: Global) -> Result<OpenUnit, Memory>
+    pub fn copy(&self, alloc: Global) -> Result<TmfUnit, Memory>
         ensures { IfOk result (λ unit. unit ≡ self.now) }
     {
-        Ok(OpenUnit {
+        Ok(TmfUnit {
             number: self.number,
             birth: self.birth,
             running: self.running,

@@ -9,10 +9,10 @@ ghost use Rattle.pw_tmf.specs.Tmf.{AreImages, key_lengths, stored};
 ghost use Rattle.pw_tmf.specs.Slots.{backed_out_slot, ended_slot, images_in, with_before, with_unit, without_last};
 ghost use Rattle.pw_tmf.specs.Units.{opened};
 
-use crate::answer::{Changed, Ended};
+use crate::answer::{ChangedKey, Ended};
 use crate::image::{Image, copy_if_any};
 use crate::images::Images;
-use crate::open_unit::OpenUnit;
+use crate::open_unit::TmfUnit;
 use pw_base::bytes::Bytes;
 use pw_base::memory::Memory;
 use pw_blocks::block_file::BlockFile;
@@ -23,18 +23,18 @@ use std::marker::Model;
 /// The units of a terminal: the open one, if any, and the last ended one. The numbers of units count from 1.
 #[derive(Debug, Drop)]
 pub struct Slot {
-    open_unit: Option<OpenUnit>,
+    open_unit: Option<TmfUnit>,
     ended: Option<Ended>,
 }
 
 impl Model for Slot {
-    ghost use Rattle.pw_tmf.specs.Slots.{HasNumbers, SlotState, last_ended};
+    ghost use Rattle.pw_tmf.specs.Slots.{NumbersFromOne, SlotState, last_ended};
 
     ghost Value = { SlotState };
 
     ghost view = { λ slot. record { open_unit = slot.open_unit; ended = last_ended slot.ended } };
 
-    ghost invariant = { λ slot. HasNumbers slot.open_unit slot.ended };
+    ghost invariant = { λ slot. NumbersFromOne slot.open_unit slot.ended };
 }
 
 impl Slot {
@@ -53,7 +53,7 @@ impl Slot {
         requires { 1 ≤ unit.now.number }
         ensures { self.new ≡ record self.old { open_unit = Some (opened unit.now) } }
     {
-        self.open_unit = Some(OpenUnit::new(alloc, unit));
+        self.open_unit = Some(TmfUnit::new(alloc, unit));
     }
 
     /// Ends the open unit, if there is one, with its reply. It takes no memory.
@@ -138,7 +138,7 @@ impl Slot {
     }
 
     /// What is now at each key of these files that the open unit has changed, if there is one, the first change first.
-    pub fn changes_in(&self, alloc: Global, files: &[BlockFile]) -> Result<Vec<Changed>, Memory>
+    pub fn changes_in(&self, alloc: Global, files: &[BlockFile]) -> Result<Vec<ChangedKey>, Memory>
         requires { AreImages (key_lengths files.now) (length files.now) (images_of self.now.open_unit) }
         ensures { IfOk result (λ changes. changes.items
             ≡ map (changed_in (key_lengths files.now) (stored files.now)) (reverse (images_of self.now.open_unit))) }
@@ -161,7 +161,7 @@ impl Slot {
 }
 
 /// An equal value.
-fn copy_unit(alloc: Global, unit: &Option<OpenUnit>) -> Result<Option<OpenUnit>, Memory>
+fn copy_unit(alloc: Global, unit: &Option<TmfUnit>) -> Result<Option<TmfUnit>, Memory>
     ensures { IfOk result (λ copy. copy ≡ unit.now) }
 {
     match unit {

@@ -9,7 +9,7 @@ ghost use Rattle.pw_tmf.specs.Committed.{FitsFile, put_back_if};
 ghost use Rattle.pw_tmf.specs.Restored.{changed_in};
 ghost use Rattle.pw_tmf.specs.Tmf.{IsImage, key_lengths, stored};
 
-use crate::answer::Changed;
+use crate::answer::ChangedKey;
 use crate::image::Image;
 use pw_base::bytes::Bytes;
 use pw_base::memory::Memory;
@@ -121,7 +121,7 @@ pub fn change_in(files: &mut Vec<BlockFile>, call: &FileCall) -> Result<(), Memo
 }
 
 /// What is at an image's key in the file that it is of.
-pub fn changed(alloc: Global, files: &[BlockFile], image: &Image) -> Result<Changed, Memory>
+pub fn changed(alloc: Global, files: &[BlockFile], image: &Image) -> Result<ChangedKey, Memory>
     requires { image.now.file < length files.now }
     ensures { IfOk result (λ changed. changed ≡ changed_in (key_lengths files.now) (stored files.now) image.now) }
 {
@@ -129,7 +129,7 @@ pub fn changed(alloc: Global, files: &[BlockFile], image: &Image) -> Result<Chan
         Some(content) => Some(Bytes::from_slice(alloc, content)?),
         None => None,
     };
-    Ok(Changed {
+    Ok(ChangedKey {
         file: image.file(),
         key: Bytes::from_slice(alloc, image.key())?,
         content,

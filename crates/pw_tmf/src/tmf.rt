@@ -6,9 +6,9 @@ ghost use Rattle.pw_tmf.specs.Operation.{IsCall};
 ghost use Rattle.pw_tmf.specs.Restored.{changes_of, restored};
 ghost use Rattle.pw_tmf.specs.Starting.{told_at_start};
 ghost use Rattle.pw_tmf.specs.Tmf.{IsImage, told_of};
-ghost use Rattle.pw_tmf.specs.Units.{AreApart, CanBackOut, IsRunning, all_backed_out, ended};
+ghost use Rattle.pw_tmf.specs.Units.{HaveDistinctTerminals, CanBackOut, IsRunning, all_backed_out, ended};
 
-use crate::answer::{Changed, DiscFault, Ended, FileAnswer, Foreseen};
+use crate::answer::{ChangedKey, DiscFault, Ended, FileAnswer, Foreseen};
 use crate::committed::put_all_back;
 use crate::copies::{copy_files, copy_lists, copy_slots};
 use crate::disc::Disc;
@@ -108,7 +108,7 @@ impl Tmf {
 
     /// What is now at each key that the open unit of a terminal has changed, if there is one, the first change first. It
     /// changes nothing that is told.
-    pub fn changes(&mut self, terminal: u32) -> Result<Vec<Changed>, Memory>
+    pub fn changes(&mut self, terminal: u32) -> Result<Vec<ChangedKey>, Memory>
         requires { terminal < (told_of self.old).terminals }
         ensures told { told_of self.new ≡ told_of self.old }
         ensures changes { IfOk result (λ changes. changes.items ≡ changes_of (told_of self.old) terminal) }
@@ -118,7 +118,7 @@ impl Tmf {
     }
 
     /// What is now at each key that the open unit of a terminal has changed, where nothing is to be put back.
-    fn changes_settled(&self, terminal: u32) -> Result<Vec<Changed>, Memory>
+    fn changes_settled(&self, terminal: u32) -> Result<Vec<ChangedKey>, Memory>
         requires settled { self.now.pending ≡ [] }
         requires terminal { terminal < (told_of self.now).terminals }
         ensures { IfOk result (λ changes. changes.items ≡ changes_of (told_of self.now) terminal) }
@@ -164,7 +164,7 @@ impl Tmf {
     /// is told.
     fn back_out_settled(&mut self, units: &[Unit], ends: bool) -> Result<(), Memory>
         requires settled { self.old.pending ≡ [] }
-        requires apart { AreApart units.now }
+        requires apart { HaveDistinctTerminals units.now }
         requires units { All (CanBackOut ends (told_of self.old)) units.now }
         ensures ok { OnOk result (told_of self.new ≡ all_backed_out ends (told_of self.old) units.now) }
         ensures err { OnErr result (told_of self.new ≡ told_of self.old) }

@@ -4,7 +4,7 @@ use Rattle.pw_code.specs.Limits.{most_log_lines}
 use Rattle.pw_code.specs.declared.lock.LockRule.{LockRule}
 use Rattle.pw_code.specs.declared.system.System.{System}
 use Rattle.pw_deck.specs.Deck.{deck_of}
-use Rattle.pw_deck.specs.declared.deck.Deck.{Deck}
+use Rattle.pw_deck.specs.declared.deck.ParsedDeck.{ParsedDeck}
 use Rattle.pw_event.specs.declared.event.Event.{Event}
 use Rattle.pw_event.specs.declared.script.FailLine.{FailLine}
 use Rattle.pw_event.specs.declared.script.FailLine.TheVariants as line
@@ -35,7 +35,7 @@ like system other pairs classes (line.Server c i after) there = record {
   high = rw (sym classes) there.high;
 }
 
-module _ (rule : LockRule) (bytes : List ℕ) (deck : Deck) (says : deck_of bytes ≡ Ok deck)
+module _ (rule : LockRule) (bytes : List ℕ) (deck : ParsedDeck) (says : deck_of bytes ≡ Ok deck)
     (small : IsSmall (compiled deck).system) (log : List Event)
     (run : IsRun (tree.behaviour rule (trees_of deck)) log) (short : length log ≤ most_log_lines) where
   abbrev system : System

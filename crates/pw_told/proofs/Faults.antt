@@ -5,7 +5,7 @@ use Rattle.std.specs.List.{AllByRecursion}
 use Rattle.pw_terminal.specs.Entries.{check}
 use Rattle.pw_terminal.specs.declared.entries.EntryAnswer.{EntryAnswer}
 use Rattle.pw_terminal.specs.declared.entries.EntryAnswer.TheVariants.{Valid, BadKey, BadField}
-use Rattle.pw_code.specs.Entry.{Entry}
+use Rattle.pw_code.specs.Entry.{EntryLineModel}
 use Rattle.pw_code.specs.Instrs.{program_at, screen_at}
 use Rattle.pw_code.specs.declared.context.Frame.{Frame}
 use Rattle.pw_code.specs.declared.context.Return.{Return}
@@ -14,7 +14,7 @@ use Rattle.pw_code.specs.declared.instr.Instr.{Instr}
 use Rattle.pw_code.specs.declared.instr.Instr.TheVariants.{Jump, JumpUnless, ParagraphEnd, Move, Compute, OnSizeError, Perform, PerformTimes, Until, PerformOneOf, Exit, ExitProgram, StopRun, DisplayScreen, Display, Accept, Call, Send, NoCode, Begin, End, Abort, Restart, Receive, Reply, Read, ReadNext, Write, Rewrite, Delete}
 use Rattle.pw_code.specs.declared.instr.ReplyCode.{ReplyCode}
 use Rattle.pw_code.specs.declared.instr.Turn.{Turn}
-use Rattle.pw_code.specs.declared.place.Place.{Place}
+use Rattle.pw_code.specs.declared.place.StoragePlace.{StoragePlace}
 use Rattle.pw_code.specs.declared.system.System.{System}
 use Rattle.pw_code.specs.declared.verb.Answer.{Answer}
 use Rattle.pw_code.specs.declared.verb.Answer.TheVariants as answer
@@ -23,10 +23,10 @@ use Rattle.pw_code.specs.declared.verb.Verb.TheVariants as verb
 use Rattle.pw_source.specs.Values.{number_of, whole_part}
 use Rattle.pw_exec.specs.Answers.{answered, answered_by, begin_put, entry_checked, entry_put, file_put, put, read_put, reply_put, unit_ended, yielded}
 use Rattle.pw_exec.specs.Calls.{active, calls, leaves_by, most_active, most_calls, stops}
-use Rattle.pw_exec.specs.Config.{Config, has_fault, faults, counted, is_server, most_counted, on, over, with_taken}
+use Rattle.pw_exec.specs.Config.{Config, has_fault, faults, code_statement_counted, is_server, most_counted, on, over, with_taken}
 use Rattle.pw_exec.specs.Moves.{operands_of, result_of}
 use Rattle.pw_exec.specs.Reading.{Spot, registers_of}
-use Rattle.pw_exec.specs.Runs.{Run, after, at_verb, most_steps, run}
+use Rattle.pw_exec.specs.Runs.{Run, config_after_answers, at_verb, most_steps, run}
 use Rattle.pw_exec.specs.Steps.{act, asked_by, branch, does, holds_here, instr_of, or_else, read_here, spot_here, spots_here, step, taken_here, verb_of}
 use Rattle.pw_exec.specs.Turns.{at_position, chosen, comes_back, ends_by, most_performs, placed, split_last, tested, turn, turns}
 
@@ -54,7 +54,7 @@ by_taken (Some a) next c h = h a
 abbrev more : Config → Config
 more c = record c { rest = record c.rest { count = c.rest.count + 1 } }
 
-by_count : (f : Config → Config) (c : Config) → Keeps (more c) (f (more c)) → Keeps c (counted f c)
+by_count : (f : Config → Config) (c : Config) → Keeps (more c) (f (more c)) → Keeps c (code_statement_counted f c)
 by_count f c g = by_test c (f (more c)) (faults 201 c) (nat_lt c.rest.count most_counted) g
     (fails 201 c (omega arith))
 
@@ -166,8 +166,8 @@ does_kept system (Receive into) c = by_taken (spot_here c into) _ c (λ item s. 
 does_kept system (Reply from) c = by_taken (taken_here c from) _ c (λ found s. s)
 does_kept system (Read file locking key into) c =
     by_taken (taken_here c key) _ c (λ found. by_taken (spot_here c into) _ c (λ item s. s))
-does_kept system (ReadNext file locking after into) c =
-    by_taken (taken_here c after) _ c (λ found. by_taken (spot_here c into) _ c (λ item s. s))
+does_kept system (ReadNext file locking config_after_answers into) c =
+    by_taken (taken_here c config_after_answers) _ c (λ found. by_taken (spot_here c into) _ c (λ item s. s))
 does_kept system (Write file from) c = by_taken (taken_here c from) _ c (λ found s. s)
 does_kept system (Rewrite file from) c = by_taken (taken_here c from) _ c (λ found s. s)
 does_kept system (Delete file key) c = by_taken (taken_here c key) _ c (λ found s. s)
@@ -176,7 +176,7 @@ does_kept system (ParagraphEnd start) c = λ s. s
 does_kept system (Until paragraph cond) c = λ s. s
 does_kept system NoCode c = λ s. s
 
-ticked : (system : System) (i : Instr) (c : Config) → Keeps c (counted (does system i) c)
+ticked : (system : System) (i : Instr) (c : Config) → Keeps c (code_statement_counted (does system i) c)
 ticked system i c = by_count (does system i) c (does_kept system i (more c))
 
 act_kept : (system : System) (o : Option Instr) (c : Config) → Keeps c (act system o c)
@@ -208,8 +208,8 @@ act_kept system (Some Restart) c = ticked system Restart c
 act_kept system (Some (Receive into)) c = ticked system (Receive into) c
 act_kept system (Some (Reply from)) c = ticked system (Reply from) c
 act_kept system (Some (Read file locking key into)) c = ticked system (Read file locking key into) c
-act_kept system (Some (ReadNext file locking after into)) c =
-    ticked system (ReadNext file locking after into) c
+act_kept system (Some (ReadNext file locking config_after_answers into)) c =
+    ticked system (ReadNext file locking config_after_answers into) c
 act_kept system (Some (Write file from)) c = ticked system (Write file from) c
 act_kept system (Some (Rewrite file from)) c = ticked system (Rewrite file from) c
 act_kept system (Some (Delete file key)) c = ticked system (Delete file key) c
@@ -224,7 +224,7 @@ abbrev pub IsTold : Answer → Type 0
 IsTold (answer.Failed code) = code < 2 ^ 16
 IsTold _ = Unit {0}
 
-checked : (table : ScreenTable) (line : Entry) (found : EntryAnswer) (c : Config)
+checked : (table : ScreenTable) (line : EntryLineModel) (found : EntryAnswer) (c : Config)
     → Keeps c (entry_checked table line found c)
 checked table line (Valid place) c = λ s. s
 checked table line BadKey c = λ s. s
@@ -274,7 +274,7 @@ begins answer.Ended c = λ s. s
 begins answer.Dropped c = λ s. s
 begins (answer.FileDone status content) c = λ s. s
 
-reads : (into : Place) (a : Answer) (c : Config) → Keeps c (read_put into a c)
+reads : (into : StoragePlace) (a : Answer) (c : Config) → Keeps c (read_put into a c)
 reads into (answer.FileDone status content) c = λ s. s
 reads into (answer.Begun r) c = λ s. s
 reads into (answer.Replied reply) c = λ s. s
@@ -364,7 +364,7 @@ module _ (system : System) where
 
   -- where the code stands behind answers
   pub after_kept : (c : Config) (answers : List Answer) → AllByRecursion IsTold answers → IsSmall c
-      → IsSmall (after system c answers)
+      → IsSmall (config_after_answers system c answers)
   after_kept c answers told s = run_kept (most_steps * (length answers + 1)) c answers told s
 
 -- ---- what is asked

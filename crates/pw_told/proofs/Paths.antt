@@ -20,7 +20,7 @@ use Rattle.pw_kept.proofs.There.{of-all}
 use Rattle.pw_onecopy.proofs.Update.{upd_elim}
 use Rattle.pw_onecopy.specs.Behaviour.{Behaviour}
 use Rattle.pw_onecopy.specs.IsBehaviour.{IsBehaviour}
-use Rattle.pw_onecopy.specs.Path.{FileAnswer, PathAnswer, Begun, Dropped, Ended, Entry, Failed, Replied, Shown, unit_number}
+use Rattle.pw_onecopy.specs.Path.{FileResult, PathAnswer, Begun, Dropped, Ended, Entry, Failed, Replied, Shown, unit_number}
 use Rattle.pw_onecopy.specs.Update.{upd}
 use Rattle.pw_paired.specs.Failure.{is_live_of, is_of_pair, resume_terminal, with_restart, with_start_path}
 use Rattle.pw_paired.specs.Raising.{copied_path, with_message}
@@ -50,7 +50,7 @@ abbrev pub AreFine : List PathAnswer → Type 0
 AreFine path = AllByRecursion IsFine path
 
 module _ (system : System) where
-  files-told : (done : List FileAnswer) → AllByRecursion IsTold (map file_told done)
+  files-told : (done : List FileResult) → AllByRecursion IsTold (map file_told done)
   files-told [] = tt
   files-told (a ∷ done) = (tt, files-told done)
 
@@ -77,7 +77,7 @@ module _ (system : System) where
       (faults.after_kept system (config.starting system terminal.program)
       (map (told terminal.entries) path) (told-small terminal path fine) (omega arith)) is
 
-  served-small : (o : Option ClassInfo) (message : List ℕ) (done : List FileAnswer) (x : ℕ)
+  served-small : (o : Option ClassInfo) (message : List ℕ) (done : List FileResult) (x : ℕ)
       → operation_of system o message done ≡ verb.Fault x → x < 2 ^ 16
   served-small None message done x is = let same : 0 ≡ x = ap fault_in is in omega (arith, same)
   served-small (Some class) message done x is =
@@ -99,7 +99,7 @@ reply-small script system s c i t x l =
 
 -- servers have such run faults alone
 abbrev ServesSmall : Behaviour → Type 0
-ServesSmall sys = (c : ℕ) (message : List ℕ) (done : List FileAnswer) (x : ℕ)
+ServesSmall sys = (c : ℕ) (message : List ℕ) (done : List FileResult) (x : ℕ)
     → sys.ops c message done ≡ verb.Fault x → x < 2 ^ 16
 
 -- ---- all paths of a state

@@ -11,7 +11,7 @@ use Rattle.pw_code.specs.declared.lock.LockRule.{LockRule}
 use Rattle.pw_code.specs.declared.lock.LockRule.TheVariants.{ReadersShare, AllExclusive}
 use Rattle.pw_code.specs.declared.system.ClassInfo.{ClassInfo}
 use Rattle.pw_code.specs.declared.system.System.{System}
-use Rattle.pw_event.specs.Line.{IsInRange, Word, cause_words, ending_words, event_words, reply_words, with_mode}
+use Rattle.pw_event.specs.Line.{IsInRange, LineWord, cause_words, ending_words, event_words, reply_words, with_mode}
 use Rattle.pw_event.specs.Line.{Plain}
 use Rattle.pw_event.specs.declared.event.Cause.{Cause}
 use Rattle.pw_event.specs.declared.event.Cause.TheVariants as cause
@@ -147,7 +147,7 @@ status-small n records op.Write call = change-small 10 _ (omega arith)
 status-small n records op.Rewrite call = change-small 11 _ (omega arith)
 status-small n records op.Delete call = change-small 11 _ (omega arith)
 
-mode-small : (rule : LockRule) (mode : List ℕ) (words : List Word) → AllByRecursion IsInRange words
+mode-small : (rule : LockRule) (mode : List ℕ) (words : List LineWord) → AllByRecursion IsInRange words
     → AllByRecursion IsInRange (with_mode rule (Plain mode) words)
 mode-small ReadersShare mode words small = (tt, small)
 mode-small AllExclusive mode words small = small
@@ -165,7 +165,7 @@ module _ (system : System) (script : List FailLine) (valid : IsValid system)
   abbrev state : State
   state = after sys log
 
-  abbrev Small : List Word → Type 0
+  abbrev Small : List LineWord → Type 0
   Small words = AllByRecursion IsInRange words
 
   unit-small : (t : ℕ) (unit : OpenUnit) → state.units t ≡ Some unit → unit.number < 2 ^ 32

@@ -12,7 +12,7 @@ use Rattle.pw_exec.specs.OfSystem.{behaviour}
 use Rattle.pw_listing.proofs.OneLines.{event-one}
 use Rattle.pw_listing.proofs.ReadingBack.{report-cut}
 use Rattle.pw_listing.specs.Meaning.{machine_of, report_text}
-use Rattle.pw_listing.specs.ReadBack.{AreLines, IsOneLine, behind_log, header_lines, last_words, lines_of, numbered}
+use Rattle.pw_listing.specs.ReadBack.{AreLines, IsOneLine, behind_log, header_lines, last_words, lines_of, numbered_entry_lines}
 use Rattle.pw_named.proofs.Naming.{log-named}
 use Rattle.pw_order.specs.Order.{told}
 use Rattle.pw_paired.specs.Serial.{blocks}
@@ -43,7 +43,7 @@ run-lines system script log of = record {
 pub run-behind : (system : System) (script : List FailLine) (log : List Event)
     → IsRunOf system script log
     → behind_log (lines_of (report_text system (behaviour script system) log))
-    ≡ header_lines system.rule ++ (numbered system 1 log ++ last_words
+    ≡ header_lines system.rule ++ (numbered_entry_lines system 1 log ++ last_words
     (is_finished (behaviour script system) (after (behaviour script system) log)) ∷ [])
 run-behind system script log of =
     report-cut system (map told (blocks (behaviour script system) log))
@@ -55,7 +55,7 @@ run-behind system script log of =
 -- ---- it is read back
 
 numbered-read : (system : System) (n : ℕ) (log : List Event) → AllByRecursion (IsNamed system) log
-    → AllByRecursion (HasRanges system) log → AreReadAs system n (numbered system n log) log
+    → AllByRecursion (HasRanges system) log → AreReadAs system n (numbered_entry_lines system n log) log
 numbered-read system n [] named small = tt
 numbered-read system n (entry ∷ log) named small = (
   record {
@@ -71,7 +71,7 @@ pub run-read : (system : System) (script : List FailLine) (log : List Event)
     → IsRunOf system script log → IsReadFrom system
     (report_text system (behaviour script system) log) log
 run-read system script log of = record {
-  lines = numbered system 1 log;
+  lines = numbered_entry_lines system 1 log;
   finished = is_finished (behaviour script system) (after (behaviour script system) log);
   behind = run-behind system script log of;
   each = numbered-read system 1 log (log-named system script of.deck of.lines log of.run)

@@ -2,7 +2,7 @@
 use Rattle.std.specs.Prelude.{◌≡◌, ℕ, ◌+◌, Bool, List, [], ◌∷◌, ◌++◌, Ok}
 use Rattle.std.specs.Fmt.{decimal}
 use Rattle.pw_code.specs.declared.system.System.{System}
-use Rattle.pw_event.specs.Reading.{Reads}
+use Rattle.pw_event.specs.Reading.{ReadsEventLine}
 use Rattle.pw_event.specs.declared.event.Event.{Event}
 use Rattle.pw_listing.specs.ReadBack.{behind_log, header_lines, last_words, lines_of}
 
@@ -10,7 +10,7 @@ use Rattle.pw_listing.specs.ReadBack.{behind_log, header_lines, last_words, line
 pub record IsReadAs (system : System) (n : ℕ) (line : List ℕ) (entry : Event) : Type 0 where
   pub words : List ℕ
   pub is : line ≡ decimal n ++ 32 ∷ words
-  pub reads : Reads system words (Ok entry)
+  pub reads : ReadsEventLine system words (Ok entry)
 
 -- the lines are read one by one as the entries, which are numbered from n
 abbrev pub AreReadAs : System → ℕ → List (List ℕ) → List Event → Type 0

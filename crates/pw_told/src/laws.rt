@@ -5,13 +5,13 @@ ghost use Rattle.pw_code.specs.Valid.{HasNames};
 ghost use Rattle.pw_code.specs.declared.lock.LockRule.{LockRule};
 ghost use Rattle.pw_code.specs.declared.system.System.{System};
 ghost use Rattle.pw_deck.specs.Deck.{deck_of};
-ghost use Rattle.pw_deck.specs.declared.deck.Deck.{Deck};
+ghost use Rattle.pw_deck.specs.declared.deck.ParsedDeck.{ParsedDeck};
 ghost use Rattle.pw_event.specs.Line.{IsInRange, event_words};
 ghost use Rattle.pw_event.specs.declared.event.Event.{Event};
 ghost use Rattle.pw_event.specs.declared.script.FailLine.{FailLine};
 ghost use Rattle.pw_exec.specs.OfSystem.{behaviour};
 ghost use Rattle.pw_listing.specs.Meaning.{report_text};
-ghost use Rattle.pw_listing.specs.ReadBack.{AreLines, behind_log, header_lines, last_words, lines_of, numbered};
+ghost use Rattle.pw_listing.specs.ReadBack.{AreLines, behind_log, header_lines, last_words, lines_of, numbered_entry_lines};
 ghost use Rattle.pw_paired.specs.Step.{IsRun, after, is_finished};
 ghost use Rattle.pw_sound.specs.Systems.{system_of};
 ghost use Rattle.pw_source.specs.OfDeck as tree;
@@ -38,7 +38,7 @@ pub fn runs_are_lines()
     ensures behind { (system : System) (script : List FailLine) (log : List Event)
         → IsRunOf system script log
         → behind_log (lines_of (report_text system (behaviour script system) log))
-        ≡ header_lines system.rule ++ (numbered system 1 log
+        ≡ header_lines system.rule ++ (numbered_entry_lines system 1 log
         ++ last_words (is_finished (behaviour script system) (after (behaviour script system) log)) ∷ []) }
 {}
 
@@ -61,7 +61,7 @@ pub fn runs_are_read_back()
 /// The same of every deck without a fault, by the trees of its programs, under either rule of locking.
 /// Its codes and screens are not too many for their numbers, which is so wherever `read` gives them.
 pub fn decks_are_read_back()
-    ensures { (rule : LockRule) (bytes : List ℕ) (deck : Deck) → deck_of bytes ≡ Ok deck
+    ensures { (rule : LockRule) (bytes : List ℕ) (deck : ParsedDeck) → deck_of bytes ≡ Ok deck
         → IsSmall (compiled deck).system
         → (log : List Event) → IsRun (tree.behaviour rule (trees_of deck)) log
         → length log ≤ most_log_lines

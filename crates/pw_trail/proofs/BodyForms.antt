@@ -10,26 +10,26 @@ use Rattle.pw_code.specs.declared.file.FileInfo.{FileInfo}
 use Rattle.pw_image.proofs.Forms.{IsForm, Takes, bind_some, block, both, byte, counted, made, many, number32}
 use Rattle.pw_image.specs.Reading.{Front, ◌>>=◌, all_of, block_at, is_any, is_truth, many_at, number_at}
 use Rattle.pw_image.specs.Values.{AreBytes}
-use Rattle.pw_trail.specs.Body.{any_change_at, body_of, change_at, change_bytes, change_from, changes_at, fits, kind_byte, kind_of, piece_at, such_at, unit_at, unit_from, unit_in}
-use Rattle.pw_trail.specs.Values.{ChangeHasValues, UnitHasValues}
+use Rattle.pw_trail.specs.Body.{any_change_at, body_of, change_at, change_bytes, change_from, changes_at, fits, kind_byte, change_kind_of, piece_at, such_at, unit_at, unit_from, unit_in}
+use Rattle.pw_trail.specs.Values.{ChangeHasValues, UnitChangesHaveValues}
 use Rattle.pw_trail.specs.declared.changes.Change.{Change}
-use Rattle.pw_trail.specs.declared.changes.Kind.{Kind}
-use Rattle.pw_trail.specs.declared.changes.Kind.TheVariants.{Put, Remove}
+use Rattle.pw_trail.specs.declared.changes.ChangeKind.{ChangeKind}
+use Rattle.pw_trail.specs.declared.changes.ChangeKind.TheVariants.{Put, Remove}
 use Rattle.pw_trail.specs.declared.changes.UnitChanges.{UnitChanges}
 
 piece-form : IsForm piece_at (λ (l : List ℕ). to_be_bytes w32 (length l) ++ l) (λ (l : List ℕ). (length l < 2 ^ 32) × ((is_any (length l) ≡ true) × AreBytes l))
 unfolding piece_at
 piece-form = counted (number_at w32) is_any block_at (to_be_bytes w32) (λ l. l) (λ n. n < 2 ^ 32) (λ (l : List ℕ). length l) AreBytes number32 block
 
-kind_again : (kind : Kind) → kind_of (kind_byte kind) ≡ kind
+kind_again : (kind : ChangeKind) → change_kind_of (kind_byte kind) ≡ kind
 kind_again Put = refl
 kind_again Remove = refl
 
-kind_fits : (kind : Kind) → (is_truth (kind_byte kind) ≡ true) × (kind_byte kind < 256)
+kind_fits : (kind : ChangeKind) → (is_truth (kind_byte kind) ≡ true) × (kind_byte kind < 256)
 kind_fits Put = (refl, omega arith)
 kind_fits Remove = (refl, omega arith)
 
-byte_again : (byte : ℕ) → is_truth byte ≡ true → kind_byte (kind_of byte) ≡ byte
+byte_again : (byte : ℕ) → is_truth byte ≡ true → kind_byte (change_kind_of byte) ≡ byte
 byte_again zero is = refl
 byte_again (suc zero) is = refl
 byte_again (suc (suc n)) is = let small : suc (suc n) ≤ 1 = leb-true _ _ is in absurd (omega arith)
@@ -44,7 +44,7 @@ any-change-form =
     (record {
       spelled = λ x fits. ap (λ (b : ℕ). to_be_bytes w32 x.0 ++ (b ∷ [] ++ (to_be_bytes w32 (length x.1.1) ++ x.1.1))) (byte_again x.1.0 fits.1.0.0);
       fit = λ x fits. record { file = fits.0; size = fits.1.1.0; bytes = fits.1.1.1.1 };
-      whole = λ y fits. ap (λ (k : Kind). record { file = y.file; kind = k; bytes = y.bytes }) (kind_again y.kind);
+      whole = λ y fits. ap (λ (k : ChangeKind). record { file = y.file; kind = k; bytes = y.bytes }) (kind_again y.kind);
       parts_fit = λ y fits. (fits.file, (kind_fits y.kind, (fits.size, (refl, fits.bytes))));
     })
     (both _ _ _ _ _ _ number32 (both _ _ _ _ _ _ (byte is_truth) piece-form))
@@ -107,7 +107,7 @@ module _ (files : List FileInfo) where
   changes_are changes values fit place d lt = (values place d lt, fit place d lt)
 
   -- the body of a unit whose changes are of the files is read again
-  pub unit_again : (own : UnitChanges) → UnitHasValues own → All (λ change. fits files change ≡ true) own.changes → unit_in files (body_of own) ≡ Some own
+  pub unit_again : (own : UnitChanges) → UnitChangesHaveValues own → All (λ change. fits files change ≡ true) own.changes → unit_in files (body_of own) ≡ Some own
   unfolding unit_in
   unit_again own values fit =
       ap (λ (l : List ℕ). all_of (unit_at files l)) (sym (append-nil (body_of own)))

@@ -6,7 +6,7 @@ use Rattle.pw_code.specs.declared.file.FileInfo.{FileInfo}
 use Rattle.pw_code.specs.declared.system.System.{System}
 use Rattle.pw_tmf.specs.Told.{Told}
 use Rattle.pw_tmf.specs.declared.answer.DiscFault.TheVariants as fault
-use Rattle.pw_trail.specs.Calls.{Call, Commit, HasEither, HasPrefixOf, IsPrefix, Moment, Other, RecoversPrefixOf, Runs, Stands, acknowledged_by, committed_by}
+use Rattle.pw_trail.specs.Calls.{Call, Commit, HasEither, HasPrefixOf, IsPrefix, Moment, Other, RecoversPrefixOf, CallsLeadTo, DiskHoldsUnits, acknowledged_by, committed_by}
 use Rattle.pw_trail.specs.Files.{files_after, files_read, told_with}
 use Rattle.pw_trail.specs.Format.{units_in}
 use Rattle.pw_trail.specs.Restoring.{IsReadBack}
@@ -75,7 +75,7 @@ module _ {S : Type 0} (held : S → List ℕ) (images : S → List ℕ → Type 
   broken-on : (calls : List Call) (now next : Moment S) (before units acknowledged : List UnitChanges)
       → now.is_broken ≡ true
       → ((image : List ℕ) → images now.disk image → Has now.files before units acknowledged image)
-      → Runs held images now calls next → (image : List ℕ) → images next.disk image
+      → CallsLeadTo held images now calls next → (image : List ℕ) → images next.disk image
       → Has now.files before (units ++ committed_by calls) (acknowledged ++ acknowledged_by calls) image
   broken-on [] now next before units acknowledged broken has run image may =
       subst (λ (us : List UnitChanges). Has now.files before (units ++ []) us image)
@@ -84,7 +84,7 @@ module _ {S : Type 0} (held : S → List ℕ) (images : S → List ℕ → Type 
       (has image (subst (λ (m : Moment S). images m.disk image) run may)))
   broken-on (Other ∷ calls) now next before units acknowledged broken has run image may =
       broken-on calls now next before units acknowledged broken has
-      (subst (λ (m : Moment S). Runs held images m calls next) run.1.0 run.1.1) image may
+      (subst (λ (m : Moment S). CallsLeadTo held images m calls next) run.1.0 run.1.1) image may
   broken-on (Commit unit (Ok done) ∷ calls) now next before units acknowledged broken has run image may =
       let failed = (run.1.0.broken broken).0 in absurd (cc failed)
   broken-on (Commit unit (Err fault.Memory) ∷ calls) now next before units acknowledged broken has run image may =
@@ -93,13 +93,13 @@ module _ {S : Type 0} (held : S → List ℕ) (images : S → List ℕ → Type 
       let same = (run.1.0.broken broken).1 in
       let rest = broken-on calls now next before (units ++ unit ∷ []) acknowledged broken
       (λ other left. has-more now.files before units (unit ∷ []) acknowledged other (has other left))
-      (subst (λ (m : Moment S). Runs held images m calls next) same run.1.1) image may in
+      (subst (λ (m : Moment S). CallsLeadTo held images m calls next) same run.1.1) image may in
       subst (λ (us : List UnitChanges). Has now.files before us (acknowledged ++ acknowledged_by calls) image)
       (append_assoc units (unit ∷ []) (committed_by calls)) rest
 
   -- until then each image has all that was put there
   run-on : (calls : List Call) (now next : Moment S) (before units : List UnitChanges)
-      → Stands held images now (Ok (before ++ units)) → Runs held images now calls next
+      → DiskHoldsUnits held images now (Ok (before ++ units)) → CallsLeadTo held images now calls next
       → (image : List ℕ) → images next.disk image
       → Has now.files before (units ++ committed_by calls) (units ++ acknowledged_by calls) image
   run-on [] now next before units stands run image may =
@@ -108,10 +108,10 @@ module _ {S : Type 0} (held : S → List ℕ) (images : S → List ℕ → Type 
       subst (λ (us : List UnitChanges). Has now.files before us us image) (sym (append-nil units)) all
   run-on (Other ∷ calls) now next before units stands run image may =
       run-on calls now next before units stands
-      (subst (λ (m : Moment S). Runs held images m calls next) run.1.0 run.1.1) image may
+      (subst (λ (m : Moment S). CallsLeadTo held images m calls next) run.1.0 run.1.1) image may
   run-on (Commit unit (Ok done) ∷ calls) now next before units stands run image may =
       let left = run.1.0.stands (Ok (before ++ units)) stands in
-      let more = subst (λ (us : List UnitChanges). Stands held images run.0 (Ok us))
+      let more = subst (λ (us : List UnitChanges). DiskHoldsUnits held images run.0 (Ok us))
       (append_assoc before units (unit ∷ [])) left in
       let rest = run-on calls run.0 next before (units ++ unit ∷ []) more run.1.1 image may in
       let at-files = subst
@@ -137,10 +137,10 @@ module _ {S : Type 0} (held : S → List ℕ) (images : S → List ℕ → Type 
       (append_assoc units (unit ∷ []) (committed_by calls)) at-files
 
   pub leaves : (before : List UnitChanges) (calls : List Call) (first now : Moment S)
-      → Stands held images first (Ok before) → Runs held images first calls now
+      → DiskHoldsUnits held images first (Ok before) → CallsLeadTo held images first calls now
       → (image : List ℕ) → images now.disk image → HasPrefixOf first.files before calls image
   leaves before calls first now stands run image may =
-      let none = subst (λ (us : List UnitChanges). Stands held images first (Ok us))
+      let none = subst (λ (us : List UnitChanges). DiskHoldsUnits held images first (Ok us))
       (sym (append-nil before)) stands in
       let has : Has first.files before (committed_by calls) (acknowledged_by calls) image =
       run-on calls first now before [] none run image may in

@@ -10,7 +10,7 @@ use Rattle.pw_trail.specs.Format.{framed, units_in}
 use Rattle.pw_trail.specs.Stored.{AreRecords, IsBeforeOrAfter, IsBehind, IsGated, IsSynced, staged}
 use Rattle.pw_trail.specs.declared.changes.UnitChanges.{UnitChanges}
 use Rattle.pw_trail.specs.Body.{fits}
-use Rattle.pw_trail.specs.Values.{UnitHasValues}
+use Rattle.pw_trail.specs.Values.{UnitChangesHaveValues}
 use Rattle.pw_trail.proofs.BodyForms.{unit_again}
 use Rattle.pw_trail.proofs.Framing.{framed_is}
 use Rattle.pw_trail.proofs.Reading.{closed, records_more}
@@ -89,7 +89,7 @@ module _ (files : List FileInfo) (bytes : List ℕ) (may_leave : List ℕ → Ty
 
 -- What was staged of a unit whose changes are of the files is stored.
 module _ (files : List FileInfo) (bytes : List ℕ) (may_leave : List ℕ → Type 0) (end : ℕ) (units : List UnitChanges) (s : IsSynced files bytes may_leave end units)
-    (own : UnitChanges) (values : UnitHasValues own) (fit : All (λ change. fits files change ≡ true) own.changes) (size : length (body_of own) < 2 ^ 32)
+    (own : UnitChanges) (values : UnitChangesHaveValues own) (fit : All (λ change. fits files change ≡ true) own.changes) (size : length (body_of own) < 2 ^ 32)
     (piece : List ℕ) (is_staged : piece ≡ staged own) where
   pub append_keeps : (image : List ℕ) → IsBehind bytes image ⊎ IsGated end bytes piece image → IsBeforeOrAfter files units own image
   append_keeps image left =

@@ -31,9 +31,9 @@ use Rattle.pw_tmf.proofs.Reversed.{All-reverse, list_any-reverse}
 use Rattle.pw_tmf.proofs.Together.{images-told}
 use Rattle.pw_trail.specs.Body.{fits}
 use Rattle.pw_trail.specs.Committing.{LeadsTo, change_of, change_to, record_of}
-use Rattle.pw_trail.specs.Files.{files_after, files_read, keys_of, records_of, with_change, with_changes}
+use Rattle.pw_trail.specs.Files.{files_after, files_read, keys_of, deck_file_records, with_change, with_changes}
 use Rattle.pw_trail.specs.Format.{units_in, with_last}
-use Rattle.pw_trail.specs.Orderly.{IsOrderly, IsPlaced}
+use Rattle.pw_trail.specs.Orderly.{IsOrderly, IsImagePlaced}
 use Rattle.pw_trail.specs.Restoring.{HasFiles}
 use Rattle.pw_trail.specs.declared.changes.Change.{Change}
 use Rattle.pw_trail.specs.declared.changes.UnitChanges.{UnitChanges}
@@ -207,7 +207,7 @@ read-more : (files : List FileInfo) (read : Result (List UnitChanges) ℕ) (own 
 read-more files (Err place) own before after is made = absurd (cc is)
 read-more files (Ok units) own before after is made =
     let so_far : files_after files units ≡ before = cc is in
-    ap Ok (units-more (keys_of files) units own (records_of files) ∙ ap (λ (g : ℕ → List (List ℕ)). with_changes (keys_of files) g own.changes) so_far ∙ made)
+    ap Ok (units-more (keys_of files) units own (deck_file_records files) ∙ ap (λ (g : ℕ → List (List ℕ)). with_changes (keys_of files) g own.changes) so_far ∙ made)
 
 module _ (files : List FileInfo) (told : Told) (of : HasFiles files told) (o : IsOrderly told) (u : unit.Unit) (reply : Option (List ℕ)) (bytes : List ℕ) (leads : LeadsTo files told bytes) where
   -- with the record of the unit
@@ -223,7 +223,7 @@ module _ (files : List FileInfo) (told : Told) (of : HasFiles files told) (o : I
   no_file : FileInfo
   no_file = record { name = []; key = 0; records = [] }
 
-  change-fits : (image : BeforeImage) → IsPlaced told.terminals told.file_count o.sys.key_length image → (info : Option FileInfo) → slice_get files image.file ≡ info
+  change-fits : (image : BeforeImage) → IsImagePlaced told.terminals told.file_count o.sys.key_length image → (info : Option FileInfo) → slice_get files image.file ≡ info
       → (content : Option (List ℕ)) → record_at (told.key_length image.file) (told.files image.file) image.key ≡ content
       → fits files (change_of image.file image.key content) ≡ true
   change-fits image place None none content is =
@@ -242,7 +242,7 @@ module _ (files : List FileInfo) (told : Told) (of : HasFiles files told) (o : I
   abbrev image-fits : BeforeImage → Type 0
   image-fits image = fits files (change_to (changed_in told.key_length told.files image)) ≡ true
 
-  all-fit : (images : List BeforeImage) → AllByRecursion (IsPlaced told.terminals told.file_count o.sys.key_length) images → All image-fits images
+  all-fit : (images : List BeforeImage) → AllByRecursion (IsImagePlaced told.terminals told.file_count o.sys.key_length) images → All image-fits images
   all-fit [] all = All-nil image-fits
   all-fit (image ∷ images) all =
       All-cons image-fits image images (change-fits image all.0 (slice_get files image.file) refl (record_at (told.key_length image.file) (told.files image.file) image.key) refl) (all-fit images all.1)
@@ -252,6 +252,6 @@ module _ (files : List FileInfo) (told : Told) (of : HasFiles files told) (o : I
   changes-fit t =
       let images : List BeforeImage = images_of (told.units t) in
       let theirs : All image-fits images = subst (All image-fits) (sym (images-told o.sys o.state told o.tells t))
-      (all-fit (images_by t o.state.before) (all-filter (IsPlaced told.terminals told.file_count o.sys.key_length) (λ image. only t image.terminal) o.state.before o.places)) in
+      (all-fit (images_by t o.state.before) (all-filter (IsImagePlaced told.terminals told.file_count o.sys.key_length) (λ image. only t image.terminal) o.state.before o.places)) in
       All-map (λ change. fits files change ≡ true) change_to (changes_of told t)
       (All-map (λ changed. fits files (change_to changed) ≡ true) (changed_in told.key_length told.files) (reverse images) (All-reverse image-fits images theirs))

@@ -14,7 +14,7 @@ use Rattle.pw_tmf.specs.Operation.{IsCall, after_operation}
 use Rattle.pw_tmf.specs.Restored.{changes_of}
 use Rattle.pw_tmf.specs.Told.{Told}
 use Rattle.pw_tmf.specs.Units.{CanBegin, IsRunning, all_backed_out, backed_out, begun, ended}
-use Rattle.pw_tmf.specs.declared.answer.Changed.{Changed}
+use Rattle.pw_tmf.specs.declared.answer.ChangedKey.{ChangedKey}
 use Rattle.pw_tmf.specs.declared.answer.DiscFault.{DiscFault}
 use Rattle.pw_tmf.specs.declared.answer.DiscFault.TheVariants as fault
 use Rattle.pw_tmf.specs.declared.answer.FileAnswer.{FileAnswer}
@@ -111,7 +111,7 @@ pub record-fits : (files : List FileInfo) (told : Told) → HasFiles files told 
 record-fits files told of o t = ∥∥₁_elim o (fits-prop files (map change_to (changes_of told t))) (λ own. changes-fit files told of own t)
 
 -- what was made is the record of the unit
-pub record-is : (told : Told) (u : unit.Unit) (made : UnitChanges) (changed : List Changed) → made ≡ record { terminal = u.terminal; unit = u.number; changes = map change_to changed }
+pub record-is : (told : Told) (u : unit.Unit) (made : UnitChanges) (changed : List ChangedKey) → made ≡ record { terminal = u.terminal; unit = u.number; changes = map change_to changed }
     → changed ≡ changes_of told u.terminal → made ≡ record_of told u
 record-is told u made changed is changes = is ∙ ap (λ cs. record { terminal = u.terminal; unit = u.number; changes = map change_to cs }) changes
 

@@ -35,17 +35,17 @@ use Rattle.pw_tmf.specs.Units.{CanBegin, IsRunning, MayBegin, all_backed_out, ba
 use Rattle.pw_tmf.proofs.Telling.{tells-begin, tells-commit, tells-drop, tells-operate, tells-restart}
 use Rattle.pw_tmf.proofs.Together.{committed-told}
 use Rattle.pw_laws.proofs.Tests.{all-filter}
-use Rattle.pw_trail.specs.Orderly.{IsOrderly, IsPlaced, IsRecord, Stays}
+use Rattle.pw_trail.specs.Orderly.{IsOrderly, IsImagePlaced, PutsBackRecord, Stays}
 
-abbrev pub records-ok : (sys : Behaviour) (before : List BeforeImage) → AllByRecursion (IsRecord sys.key_length) before → AllByRecursion (ImageOk sys) before
-records-ok sys before all = all-weaker (IsRecord sys.key_length) (ImageOk sys) (λ image is. record { content = is.content; key = is.key }) before all
+abbrev pub records-ok : (sys : Behaviour) (before : List BeforeImage) → AllByRecursion (PutsBackRecord sys.key_length) before → AllByRecursion (ImageOk sys) before
+records-ok sys before all = all-weaker (PutsBackRecord sys.key_length) (ImageOk sys) (λ image is. record { content = is.content; key = is.key }) before all
 
-are-records : (sys : Behaviour) (before : List BeforeImage) → AllByRecursion (ImageOk sys) before → AllByRecursion (IsRecord sys.key_length) before
-are-records sys before all = all-weaker (ImageOk sys) (IsRecord sys.key_length) (λ image is. record { content = is.content; key = is.key }) before all
+are-records : (sys : Behaviour) (before : List BeforeImage) → AllByRecursion (ImageOk sys) before → AllByRecursion (PutsBackRecord sys.key_length) before
+are-records sys before all = all-weaker (ImageOk sys) (PutsBackRecord sys.key_length) (λ image is. record { content = is.content; key = is.key }) before all
 
 -- an image has its key
-are-keyed : (key_length : ℕ → ℕ) (before : List BeforeImage) → AllByRecursion (IsRecord key_length) before → AllByRecursion (IsKeyed key_length) before
-are-keyed key_length before all = all-weaker (IsRecord key_length) (IsKeyed key_length) (λ image is. by image.content image.key (key_length image.file) is.key) before all
+are-keyed : (key_length : ℕ → ℕ) (before : List BeforeImage) → AllByRecursion (PutsBackRecord key_length) before → AllByRecursion (IsKeyed key_length) before
+are-keyed key_length before all = all-weaker (PutsBackRecord key_length) (IsKeyed key_length) (λ image is. by image.content image.key (key_length image.file) is.key) before all
   where
     by : (content : Option (List ℕ)) (key : List ℕ) (n : ℕ) → ((c : List ℕ) → content ≡ Some c → take n c ≡ key) → HasKey n key content
     by None key n is = tt
@@ -59,7 +59,7 @@ module _ (told : Told) (o : IsOrderly told) where
   -- what is committed
   pub committed-are : committed told ≡ committed_files o.sys o.state
   committed-are = committed-told o.sys o.state told o.tells (are-keyed o.sys.key_length o.state.before o.records) o.single
-      (all-weaker (IsPlaced told.terminals told.file_count o.sys.key_length) (λ image. image.terminal < told.terminals) (λ image is. is.terminal) o.state.before o.places)
+      (all-weaker (IsImagePlaced told.terminals told.file_count o.sys.key_length) (λ image. image.terminal < told.terminals) (λ image is. is.terminal) o.state.before o.places)
 
   pub committed-file : (f : ℕ) → IsFile (o.sys.key_length f) (committed_files o.sys o.state f)
   committed-file f = restored-file o.sys o.state.before (records-ok o.sys o.state.before o.records) o.state.files o.files f
@@ -143,14 +143,14 @@ module _ (told : Told) (o : IsOrderly told) (u : unit.Unit) (call : FileCall) (r
       subst (λ (v : unit.Unit). Tells o.sys next-state (after_operation told v call)) same-unit
       (tells-operate o.sys o.state told 0 0 job call has-own.unit own-runs.0 o.tells has-own.is own-runs.1)
 
-  place : IsPlaced told.terminals told.file_count o.sys.key_length (image_before n (o.state.files call.file) u.terminal call)
+  place : IsImagePlaced told.terminals told.file_count o.sys.key_length (image_before n (o.state.files call.file) u.terminal call)
   place = record {
     terminal = running.is_open.terminal;
     file = is_call.file;
     key = key-fits n call.op call content-fits (λ is. is_call.key is ∙ told-keys call.file);
   }
 
-  places : (b : Bool) → AllByRecursion (IsPlaced told.terminals told.file_count o.sys.key_length) (cond b (image_before n (o.state.files call.file) u.terminal call ∷ o.state.before) o.state.before)
+  places : (b : Bool) → AllByRecursion (IsImagePlaced told.terminals told.file_count o.sys.key_length) (cond b (image_before n (o.state.files call.file) u.terminal call ∷ o.state.before) o.state.before)
   places true = (place, o.places)
   places false = o.places
 
@@ -224,8 +224,8 @@ begins told o u can = by (o.state.units u.terminal) refl (told.units u.terminal)
 -- ---- an end
 
 module _ (told : Told) (o : IsOrderly told) where
-  places-left : (t : ℕ) → AllByRecursion (IsPlaced told.terminals told.file_count o.sys.key_length) (filter (λ image. not (only t image.terminal)) o.state.before)
-  places-left t = all-filter (IsPlaced told.terminals told.file_count o.sys.key_length) (λ image. not (only t image.terminal)) o.state.before o.places
+  places-left : (t : ℕ) → AllByRecursion (IsImagePlaced told.terminals told.file_count o.sys.key_length) (filter (λ image. not (only t image.terminal)) o.state.before)
+  places-left t = all-filter (IsImagePlaced told.terminals told.file_count o.sys.key_length) (λ image. not (only t image.terminal)) o.state.before o.places
 
   -- a unit commits
   pub ends : (u : unit.Unit) (reply : Option (List ℕ)) → IsOrderly (ended told u reply)

@@ -9,7 +9,7 @@ use Rattle.pw_code.specs.declared.file.FileInfo.{FileInfo}
 use Rattle.pw_image.specs.Reading.{◌>>=◌}
 use Rattle.pw_trail.specs.Body.{unit_in}
 use Rattle.pw_trail.specs.Format.{body_in, recorded, units_from, units_in, with_first, size_of}
-use Rattle.pw_trail.specs.Stored.{AreRecords, behind, piece_in}
+use Rattle.pw_trail.specs.Stored.{AreRecords, with_earlier_units, piece_in}
 use Rattle.pw_trail.specs.declared.changes.UnitChanges.{UnitChanges}
 use Rattle.pw_trail.proofs.Framing.{IsFrame, IsTaken, found_is, frame_body, frame_size, piece_open, piece_shut}
 
@@ -29,22 +29,22 @@ open_gate : (files : List FileInfo) (place gate : ℕ) (rest : List ℕ) → gat
     → units_from files place 0 (gate ∷ rest) ≡ with_first (recorded files rest) place (units_from files (place + 1) (4 + size_of rest) rest)
 open_gate files place gate rest is_open = grind (arith, nat_tests)
 
-first_behind : (unit : UnitChanges) (place : ℕ) (later : Result (List UnitChanges) ℕ) → with_first (Some unit) place later ≡ behind (unit ∷ []) later
+first_behind : (unit : UnitChanges) (place : ℕ) (later : Result (List UnitChanges) ℕ) → with_first (Some unit) place later ≡ with_earlier_units (unit ∷ []) later
 first_behind unit place (Ok later) = refl
 first_behind unit place (Err at) = refl
 
-behind_twice : (units : List UnitChanges) (unit : UnitChanges) (later : Result (List UnitChanges) ℕ) → behind units (behind (unit ∷ []) later) ≡ behind (units ++ unit ∷ []) later
+behind_twice : (units : List UnitChanges) (unit : UnitChanges) (later : Result (List UnitChanges) ℕ) → with_earlier_units units (with_earlier_units (unit ∷ []) later) ≡ with_earlier_units (units ++ unit ∷ []) later
 behind_twice units unit (Ok later) = ap Ok (sym (append_assoc units (unit ∷ []) later))
 behind_twice units unit (Err at) = refl
 
-behind_none : (later : Result (List UnitChanges) ℕ) → later ≡ behind [] later
+behind_none : (later : Result (List UnitChanges) ℕ) → later ≡ with_earlier_units [] later
 behind_none (Ok later) = refl
 behind_none (Err at) = refl
 
 -- a whole record behind an open gate, and then what stands behind it
 gated : (files : List FileInfo) (place next gate : ℕ) (frame body other : List ℕ) (unit : UnitChanges) → gate ≢ 0 → IsFrame frame body → unit_in files body ≡ Some unit
     → place + (1 + length frame) ≡ next
-    → units_from files place 0 (gate ∷ (frame ++ other)) ≡ behind (unit ∷ []) (units_from files next 0 other)
+    → units_from files place 0 (gate ∷ (frame ++ other)) ≡ with_earlier_units (unit ∷ []) (units_from files next 0 other)
 gated files place next gate frame body other unit is_open f is there =
     let found : recorded files (frame ++ other) ≡ Some unit = ap (λ o. o >>= λ b. unit_in files b) (frame_body frame body other f) ∙ is in
     let passed : units_from files (place + 1) (4 + size_of (frame ++ other)) (frame ++ other) ≡ units_from files next 0 other =
@@ -64,13 +64,13 @@ pub records_more : (files : List FileInfo) (units : List UnitChanges) (front : L
 records_more files units front are gate frame body unit is_open f is other =
     ap (units_from files 0 0) (append_assoc front (gate ∷ frame) other)
     ∙ are (gate ∷ (frame ++ other))
-    ∙ ap (behind units) (gated files (length front) (length (front ++ gate ∷ frame)) gate frame body other unit is_open f is (omega (arith, length-append front (gate ∷ frame))))
+    ∙ ap (with_earlier_units units) (gated files (length front) (length (front ++ gate ∷ frame)) gate frame body other unit is_open f is (omega (arith, length-append front (gate ∷ frame))))
     ∙ behind_twice units unit (units_from files (length (front ++ gate ∷ frame)) 0 other)
 
 -- records, a zero gate, and anything
 pub closed : (files : List FileInfo) (units : List UnitChanges) (front rest : List ℕ) → AreRecords files units front → units_in files (front ++ 0 ∷ rest) ≡ Ok units
 closed files units front rest are =
-    are (0 ∷ rest) ∙ ap (behind units) (shut files (length front) 0 rest refl) ∙ ap Ok (append-nil units)
+    are (0 ∷ rest) ∙ ap (with_earlier_units units) (shut files (length front) 0 rest refl) ∙ ap Ok (append-nil units)
 
 -- what a reader finds at a gate, behind the records so far
 mapped_none : {A B : Type 0} (f : A → B) (o : Option A) → None ≡ option_map f o → o ≡ None
@@ -133,8 +133,8 @@ module _ (files : List FileInfo) (bytes : List ℕ) (units : List UnitChanges) (
   split : bytes ≡ take at bytes ++ drop at bytes
   split = sym (take-append-drop at bytes)
 
-  reads : units_in files bytes ≡ behind units (units_from files at 0 (drop at bytes))
-  reads = ap (units_in files) split ∙ are (drop at bytes) ∙ ap (λ (n : ℕ). behind units (units_from files n 0 (drop at bytes))) size
+  reads : units_in files bytes ≡ with_earlier_units units (units_from files at 0 (drop at bytes))
+  reads = ap (units_in files) split ∙ are (drop at bytes) ∙ ap (λ (n : ℕ). with_earlier_units units (units_from files n 0 (drop at bytes))) size
 
   -- the trail ends
   pub ends : Some None ≡ piece_in (drop at bytes) → units_in files bytes ≡ Ok units
@@ -154,7 +154,7 @@ module _ (files : List FileInfo) (bytes : List ℕ) (units : List UnitChanges) (
 
   -- neither a record nor the end stands there
   pub breaks : None ≡ piece_in (drop at bytes) → units_in files bytes ≡ Err at
-  breaks e = reads ∙ ap (behind units) ((is_broken files (drop at bytes) e).fails at)
+  breaks e = reads ∙ ap (with_earlier_units units) ((is_broken files (drop at bytes) e).fails at)
 
   -- a record stands there whose body is of no unit
   pub refuses : (body : List ℕ) → Some (Some body) ≡ piece_in (drop at bytes) → unit_in files body ≡ None → units_in files bytes ≡ Err at
@@ -162,8 +162,8 @@ module _ (files : List FileInfo) (bytes : List ℕ) (units : List UnitChanges) (
       let here = is_body (drop at bytes) body e in
       let nothing : recorded files here.rest ≡ None = ap (λ o. o >>= λ b. unit_in files b) here.found ∙ none in
       reads
-      ∙ ap (λ (l : List ℕ). behind units (units_from files at 0 l)) here.is
-      ∙ ap (behind units) (open_gate files at here.gate here.rest here.is_open
+      ∙ ap (λ (l : List ℕ). with_earlier_units units (units_from files at 0 l)) here.is
+      ∙ ap (with_earlier_units units) (open_gate files at here.gate here.rest here.is_open
       ∙ ap (λ (o : Option UnitChanges). with_first o at (units_from files (at + 1) (4 + size_of here.rest) here.rest)) nothing)
 
   -- a record of one unit more stands there

@@ -5,7 +5,7 @@ use Rattle.pw_code.specs.declared.file.FileInfo.{FileInfo}
 use Rattle.pw_volume.specs.Crash.{Only, Shortened}
 use Rattle.pw_trail.specs.Body.{unit_in}
 use Rattle.pw_trail.specs.Format.{units_in}
-use Rattle.pw_trail.specs.Stored.{AreRecords, HasTakenOne, IsFound, IsRecovered, piece_in}
+use Rattle.pw_trail.specs.Stored.{AreRecords, HasTakenOne, IsTrailRead, IsRecovered, piece_in}
 use Rattle.pw_trail.proofs.Commits.{trim_keeps, trim_synced}
 use Rattle.pw_trail.specs.declared.changes.UnitChanges.{UnitChanges}
 use Rattle.pw_trail.proofs.Reading.{body_more, body_within, breaks, ends, ends_at, ends_within, records_none, refuses}
@@ -21,7 +21,7 @@ pub reading_none : (files : List FileInfo) (bytes : List ℕ) (Taken : List Unit
 reading_none files bytes Taken none = record { units = []; taken = none; records = records_none files; within = omega arith }
 
 module _ (files : List FileInfo) (bytes : List ℕ) (Taken : List UnitChanges → Type 0) (at : ℕ) (r : IsReading files bytes Taken at) where
-  pub reading_end : Some None ≡ piece_in (drop at bytes) → IsFound files bytes Taken at
+  pub reading_end : Some None ≡ piece_in (drop at bytes) → IsTrailRead files bytes Taken at
   reading_end e = record {
     units = r.units;
     reads = ends files bytes r.units at r.within r.records e;
@@ -52,7 +52,7 @@ module _ (files : List FileInfo) (bytes : List ℕ) (Taken : List UnitChanges �
         subst (λ n. IsReading files bytes Next n) (sym is) there
 
 -- A cut behind the zero gate that was found.
-module _ (files : List FileInfo) (before bytes read : List ℕ) (Taken : List UnitChanges → Type 0) (end : ℕ) (found : IsFound files bytes Taken end) (same : bytes ≡ before) (is_read : read ≡ bytes) where
+module _ (files : List FileInfo) (before bytes read : List ℕ) (Taken : List UnitChanges → Type 0) (end : ℕ) (found : IsTrailRead files bytes Taken end) (same : bytes ≡ before) (is_read : read ≡ bytes) where
   reads : units_in files before ≡ Ok found.units
   reads = ap (units_in files) (sym same) ∙ found.reads
 

@@ -16,15 +16,15 @@ use Rattle.pw_onecopy.proofs.Update.{upd_elim}
 use Rattle.pw_tmf.specs.Starting.{all_put, key_of_file, records_of_file, told_at_start}
 use Rattle.pw_tmf.specs.Told.{Told}
 use Rattle.pw_trail.specs.Body.{fits, fits_file}
-use Rattle.pw_trail.specs.Files.{changed_by, files_after, keys_of, records_of, told_with, with_change, with_changes, with_units}
+use Rattle.pw_trail.specs.Files.{changed_by, files_after, keys_of, deck_file_records, told_with, with_change, with_changes, with_units}
 use Rattle.pw_trail.specs.Restoring.{HasFiles, IsRestored}
 use Rattle.pw_trail.specs.declared.changes.Change.{Change}
-use Rattle.pw_trail.specs.declared.changes.Kind.{Kind}
-use Rattle.pw_trail.specs.declared.changes.Kind.TheVariants.{Put, Remove}
+use Rattle.pw_trail.specs.declared.changes.ChangeKind.{ChangeKind}
+use Rattle.pw_trail.specs.declared.changes.ChangeKind.TheVariants.{Put, Remove}
 use Rattle.pw_trail.specs.declared.changes.UnitChanges.{UnitChanges}
 
 -- the file of a change that fits is there
-pub fit-within : (files : List FileInfo) (f : ℕ) (kind : Kind) (bytes : List ℕ) → fits_file (slice_get files f) kind bytes ≡ true → f < length files
+pub fit-within : (files : List FileInfo) (f : ℕ) (kind : ChangeKind) (bytes : List ℕ) → fits_file (slice_get files f) kind bytes ≡ true → f < length files
 fit-within files f kind bytes fit = by (slice_get files f) refl fit
   where
     by : (file : Option FileInfo) → slice_get files f ≡ file → fits_file file kind bytes ≡ true → f < length files
@@ -63,7 +63,7 @@ change-leaves files now change fit are f =
     (λ same. subst (λ g. IsFile (keys_of files g) (changed_by change.kind n (now change.file) change.bytes)) (sym same) (by change.kind fit))
     (λ other. are f)
   where
-    by : (kind : Kind) → fits_file (slice_get files change.file) kind change.bytes ≡ true
+    by : (kind : ChangeKind) → fits_file (slice_get files change.file) kind change.bytes ≡ true
         → IsFile (keys_of files change.file) (changed_by kind (keys_of files change.file) (now change.file) change.bytes)
     by Put fit = IsFile-with_record (keys_of files change.file) (now change.file) (are change.file) change.bytes (fit-content (slice_get files change.file) change.bytes fit)
     by Remove fit = IsFile-without_key (keys_of files change.file) (now change.file) (are change.file) change.bytes
@@ -79,8 +79,8 @@ pub restored-more : (system : System) (units : List UnitChanges) (unit : UnitCha
 restored-more system units unit old new fit made h = record {
   is = made
       ∙ ap (λ (t : Told). record t { files = with_changes t.key_length t.files unit.changes }) h.is
-      ∙ ap (told_with system) (sym (units-more (keys_of system.files) units unit (records_of system.files)));
-  files = λ f. subst (λ (g : ℕ → List (List ℕ)). IsFile (keys_of system.files f) (g f)) (sym (units-more (keys_of system.files) units unit (records_of system.files)))
+      ∙ ap (told_with system) (sym (units-more (keys_of system.files) units unit (deck_file_records system.files)));
+  files = λ f. subst (λ (g : ℕ → List (List ℕ)). IsFile (keys_of system.files f) (g f)) (sym (units-more (keys_of system.files) units unit (deck_file_records system.files)))
       (changes-leave system.files (files_after system.files units) unit.changes (recursion_from_All (λ change. fits system.files change ≡ true) unit.changes fit) h.files f);
 }
 
@@ -89,7 +89,7 @@ all-put : (n : ℕ) (records contents : List (List ℕ)) → IsFile n records �
 all-put n records [] file all = file
 all-put n records (content ∷ contents) file all = all-put n (with_record n records content) contents (IsFile-with_record n records file content all.0) all.1
 
-start-files : (system : System) → IsValid system → (f : ℕ) → IsFile (keys_of system.files f) (records_of system.files f)
+start-files : (system : System) → IsValid system → (f : ℕ) → IsFile (keys_of system.files f) (deck_file_records system.files f)
 start-files system valid f = by (slice_get system.files f) refl
   where
     by : (file : Option FileInfo) → slice_get system.files f ≡ file → IsFile (key_of_file file) (records_of_file file)

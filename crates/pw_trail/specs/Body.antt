@@ -6,14 +6,14 @@ use Rattle.pw_base.specs.Limits.{most_content}
 use Rattle.pw_code.specs.declared.file.FileInfo.{FileInfo}
 use Rattle.pw_image.specs.Reading.{Front, ◌>>=◌, all_of, block_at, both_at, byte_at, counted_at, is_any, is_truth, made_at, many_at, number_at}
 use Rattle.pw_trail.specs.declared.changes.Change.{Change}
-use Rattle.pw_trail.specs.declared.changes.Kind.{Kind}
-use Rattle.pw_trail.specs.declared.changes.Kind.TheVariants.{Put, Remove}
+use Rattle.pw_trail.specs.declared.changes.ChangeKind.{ChangeKind}
+use Rattle.pw_trail.specs.declared.changes.ChangeKind.TheVariants.{Put, Remove}
 use Rattle.pw_trail.specs.declared.changes.UnitChanges.{UnitChanges}
 use Rattle.pw_trail.specs.declared.fault.BodyFault.{BodyFault}
 use Rattle.pw_trail.specs.declared.fault.BodyFault.TheVariants.{Bad, Memory}
 
 -- a kind as a byte
-abbrev pub kind_byte : Kind → ℕ
+abbrev pub kind_byte : ChangeKind → ℕ
 kind_byte Put = 0
 kind_byte Remove = 1
 
@@ -31,7 +31,7 @@ body_of unit =
     ++ (to_be_bytes w32 (length unit.changes) ++ flat_map change_bytes unit.changes))
 
 -- a put has a whole record of its file, and a remove has its key
-abbrev pub fits_file : Option FileInfo → Kind → List ℕ → Bool
+abbrev pub fits_file : Option FileInfo → ChangeKind → List ℕ → Bool
 fits_file None kind bytes = false
 fits_file (Some file) Put bytes = nat_le file.key (length bytes) && nat_le (length bytes) most_content
 fits_file (Some file) Remove bytes = length bytes == file.key
@@ -45,13 +45,13 @@ abbrev pub such_at : {A : Type 0} → (A → Bool) → (List ℕ → Front A) �
 such_at test read bytes = read bytes >>= λ front. if test front.0 then Some front else None
 
 -- the kind that a byte is
-abbrev pub kind_of : ℕ → Kind
-kind_of zero = Put
-kind_of (suc n) = Remove
+abbrev pub change_kind_of : ℕ → ChangeKind
+change_kind_of zero = Put
+change_kind_of (suc n) = Remove
 
 -- a change of any file
 abbrev pub change_from : ℕ × (ℕ × List ℕ) → Change
-change_from parts = record { file = parts.0; kind = kind_of parts.1.0; bytes = parts.1.1 }
+change_from parts = record { file = parts.0; kind = change_kind_of parts.1.0; bytes = parts.1.1 }
 
 -- a length, and so many bytes
 unfoldable pub piece_at : List ℕ → Front (List ℕ)
@@ -87,6 +87,6 @@ Fails Bad read = read ≡ None
 Fails Memory read = Unit {0}
 
 -- what a call answered, seen by view, is what was read, unless memory ran out
-abbrev pub Gives : {X Y : Type 0} → (X → Y) → Result X BodyFault → Option Y → Type 0
-Gives view (Ok x) read = read ≡ Some (view x)
-Gives view (Err fault) read = Fails fault read
+abbrev pub GivesBodyPart : {X Y : Type 0} → (X → Y) → Result X BodyFault → Option Y → Type 0
+GivesBodyPart view (Ok x) read = read ≡ Some (view x)
+GivesBodyPart view (Err fault) read = Fails fault read

@@ -1,4 +1,4 @@
--- Runs of calls of a disc over a trail, and what they leave on its disk.
+-- CallsLeadTo of calls of a disc over a trail, and what they leave on its disk.
 use Rattle.std.specs.Prelude.{◌≡◌, ◌⊎◌, ℕ, ◌+◌, ◌≤◌, Bool, true, false, List, [], ◌∷◌, ◌++◌, length, Result, Ok, Err}
 use Rattle.pw_code.specs.declared.file.FileInfo.{FileInfo}
 use Rattle.pw_code.specs.declared.system.System.{System}
@@ -44,7 +44,7 @@ abbrev pub moment : {S : Type 0} → List FileInfo → S → Bool → Moment S
 moment files disk is_broken = record { files = files; disk = disk; is_broken = is_broken }
 
 -- The disk has not failed, and what it holds and each image that a crash may leave have these units.
-pub record Stands {S : Type 0} (held : S → List ℕ) (images : S → List ℕ → Type 0) (now : Moment S)
+pub record DiskHoldsUnits {S : Type 0} (held : S → List ℕ) (images : S → List ℕ → Type 0) (now : Moment S)
     (read : Result (List UnitChanges) ℕ) : Type 0 where
   pub goes : now.is_broken ≡ false
   pub holds : units_in now.files (held now.disk) ≡ read
@@ -64,8 +64,8 @@ pub record FailsAt {S : Type 0} (images : S → List ℕ → Type 0) (next : Mom
 -- what a commit leaves of a trail that stands at these units
 abbrev pub CommitLeaves : {S : Type 0} → (S → List ℕ) → (S → List ℕ → Type 0)
     → Result (List UnitChanges) ℕ → UnitChanges → Result Unit DiscFault → Moment S → Type 0
-CommitLeaves held images read unit (Ok done) next = Stands held images next (with_last read unit)
-CommitLeaves held images read unit (Err fault.Memory) next = Stands held images next read
+CommitLeaves held images read unit (Ok done) next = DiskHoldsUnits held images next (with_last read unit)
+CommitLeaves held images read unit (Err fault.Memory) next = DiskHoldsUnits held images next read
 CommitLeaves held images read unit (Err fault.Failed) next = FailsAt images next read unit
 
 -- ---- runs
@@ -74,22 +74,22 @@ CommitLeaves held images read unit (Err fault.Failed) next = FailsAt images next
 pub record Commits {S : Type 0} (held : S → List ℕ) (images : S → List ℕ → Type 0) (now : Moment S)
     (unit : UnitChanges) (answer : Result Unit DiscFault) (next : Moment S) : Type 0 where
   pub files : next.files ≡ now.files
-  pub stands : (read : Result (List UnitChanges) ℕ) → Stands held images now read
+  pub stands : (read : Result (List UnitChanges) ℕ) → DiskHoldsUnits held images now read
       → CommitLeaves held images read unit answer next
   pub broken : now.is_broken ≡ true → (answer ≡ Err fault.Failed) × (next ≡ now)
 
 -- no call but a commit changes anything
-abbrev pub Steps : {S : Type 0} → (S → List ℕ) → (S → List ℕ → Type 0) → Moment S → Call → Moment S
+abbrev pub CallLeadsTo : {S : Type 0} → (S → List ℕ) → (S → List ℕ → Type 0) → Moment S → Call → Moment S
     → Type 0
-Steps held images now (Commit unit answer) next = Commits held images now unit answer next
-Steps held images now Other next = next ≡ now
+CallLeadsTo held images now (Commit unit answer) next = Commits held images now unit answer next
+CallLeadsTo held images now Other next = next ≡ now
 
 -- a run of calls
-abbrev pub Runs : {S : Type 0} → (S → List ℕ) → (S → List ℕ → Type 0) → Moment S → List Call → Moment S
+abbrev pub CallsLeadTo : {S : Type 0} → (S → List ℕ) → (S → List ℕ → Type 0) → Moment S → List Call → Moment S
     → Type 0
-Runs held images now [] next = next ≡ now
-Runs {S} held images now (call ∷ calls) next =
-    (mid : Moment S) × (Steps held images now call mid × Runs held images mid calls next)
+CallsLeadTo held images now [] next = next ≡ now
+CallsLeadTo {S} held images now (call ∷ calls) next =
+    (mid : Moment S) × (CallLeadsTo held images now call mid × CallsLeadTo held images mid calls next)
 
 -- ---- what is found again
 

@@ -6,10 +6,10 @@ use Rattle.pw_tmf.specs.Committed.{committed}
 use Rattle.pw_tmf.specs.Restored.{changes_of}
 use Rattle.pw_tmf.specs.Told.{Told}
 use Rattle.pw_tmf.specs.Units.{ended}
-use Rattle.pw_tmf.specs.declared.answer.Changed.{Changed}
+use Rattle.pw_tmf.specs.declared.answer.ChangedKey.{ChangedKey}
 use Rattle.pw_trail.specs.Files.{trail_files}
 use Rattle.pw_trail.specs.declared.changes.Change.{Change}
-use Rattle.pw_trail.specs.declared.changes.Kind.TheVariants.{Put, Remove}
+use Rattle.pw_trail.specs.declared.changes.ChangeKind.TheVariants.{Put, Remove}
 use Rattle.pw_trail.specs.declared.changes.UnitChanges.{UnitChanges}
 
 -- the change that leads to what is at a key now
@@ -18,7 +18,7 @@ change_of file key None = record { file = file; kind = Remove; bytes = key }
 change_of file key (Some content) = record { file = file; kind = Put; bytes = content }
 
 -- the change that leads to what is at a key now
-abbrev pub change_to : Changed → Change
+abbrev pub change_to : ChangedKey → Change
 change_to changed = change_of changed.file changed.key changed.content
 
 -- what the record of a unit tells: one change for each key that its attempt has changed

@@ -8,12 +8,12 @@ use Rattle.pw_tmf.specs.Starting.{key_of_file, records_of_file, told_at_start}
 use Rattle.pw_tmf.specs.Told.{Told}
 use Rattle.pw_trail.specs.Format.{units_in}
 use Rattle.pw_trail.specs.declared.changes.Change.{Change}
-use Rattle.pw_trail.specs.declared.changes.Kind.{Kind}
-use Rattle.pw_trail.specs.declared.changes.Kind.TheVariants.{Put, Remove}
+use Rattle.pw_trail.specs.declared.changes.ChangeKind.{ChangeKind}
+use Rattle.pw_trail.specs.declared.changes.ChangeKind.TheVariants.{Put, Remove}
 use Rattle.pw_trail.specs.declared.changes.UnitChanges.{UnitChanges}
 
 -- the records of a file with keys of n characters, with a change made
-abbrev pub changed_by : Kind → ℕ → List (List ℕ) → List ℕ → List (List ℕ)
+abbrev pub changed_by : ChangeKind → ℕ → List (List ℕ) → List ℕ → List (List ℕ)
 changed_by Put n records bytes = with_record n records bytes
 changed_by Remove n records bytes = without_key n records bytes
 
@@ -38,12 +38,12 @@ abbrev pub keys_of : List FileInfo → ℕ → ℕ
 keys_of files f = key_of_file (slice_get files f)
 
 -- the records of each file of a deck
-abbrev pub records_of : List FileInfo → ℕ → List (List ℕ)
-records_of files f = records_of_file (slice_get files f)
+abbrev pub deck_file_records : List FileInfo → ℕ → List (List ℕ)
+deck_file_records files f = records_of_file (slice_get files f)
 
 -- the deck's records after the changes of units in order
 abbrev pub files_after : List FileInfo → List UnitChanges → ℕ → List (List ℕ)
-files_after files units = with_units (keys_of files) (records_of files) units
+files_after files units = with_units (keys_of files) (deck_file_records files) units
 
 -- the same of what was read, or the place where the bytes are not in the format
 abbrev pub files_read : List FileInfo → Result (List UnitChanges) ℕ → Result (ℕ → List (List ℕ)) ℕ

@@ -12,13 +12,13 @@ use Rattle.pw_tmf.specs.Tells.{Tells}
 use Rattle.pw_tmf.specs.Told.{Told}
 
 -- the image is of a terminal and of a key of a file that are there
-pub record IsPlaced (terminals files : ℕ) (key_length : ℕ → ℕ) (image : BeforeImage) : Type 0 where
+pub record IsImagePlaced (terminals files : ℕ) (key_length : ℕ → ℕ) (image : BeforeImage) : Type 0 where
   pub terminal : image.terminal < terminals
   pub file : image.file < files
   pub key : length image.key ≡ key_length image.file
 
 -- what it puts back is a record with its key
-pub record IsRecord (key_length : ℕ → ℕ) (image : BeforeImage) : Type 0 where
+pub record PutsBackRecord (key_length : ℕ → ℕ) (image : BeforeImage) : Type 0 where
   pub content : (c : List ℕ) → image.content ≡ Some c → IsContent (key_length image.file) c
   pub key : (c : List ℕ) → image.content ≡ Some c → take (key_length image.file) c ≡ image.key
 
@@ -29,8 +29,8 @@ pub record IsOrderly (told : Told) : Type 0 where
   pub state : State
   pub tells : Tells sys state told
   pub files : (f : ℕ) → IsFile (sys.key_length f) (state.files f)
-  pub places : AllByRecursion (IsPlaced told.terminals told.file_count sys.key_length) state.before
-  pub records : AllByRecursion (IsRecord sys.key_length) state.before
+  pub places : AllByRecursion (IsImagePlaced told.terminals told.file_count sys.key_length) state.before
+  pub records : AllByRecursion (PutsBackRecord sys.key_length) state.before
   pub locked : (t f : ℕ) (key : List ℕ) → has_image t f key state.before ≡ true → has_key_lock t f key state.locks ≡ true
   pub single : AreSingle state.before
 

@@ -5,18 +5,18 @@ use Rattle.pw_volume.specs.Crash.{Only}
 use Rattle.pw_trail.specs.Body.{body_of}
 use Rattle.pw_trail.specs.Format.{body_in, framed, units_from, units_in, with_units}
 use Rattle.pw_trail.specs.declared.changes.UnitChanges.{UnitChanges}
-use Rattle.pw_trail.specs.declared.piece.Piece.{Piece}
-use Rattle.pw_trail.specs.declared.piece.Piece.TheVariants.{End, Body, Broken}
+use Rattle.pw_trail.specs.declared.piece.TrailPiece.{TrailPiece}
+use Rattle.pw_trail.specs.declared.piece.TrailPiece.TheVariants.{End, Body, Broken}
 
 -- units before those that are read behind them
-abbrev pub behind : List UnitChanges → Result (List UnitChanges) ℕ → Result (List UnitChanges) ℕ
-behind units (Ok later) = Ok (units ++ later)
-behind units (Err place) = Err place
+abbrev pub with_earlier_units : List UnitChanges → Result (List UnitChanges) ℕ → Result (List UnitChanges) ℕ
+with_earlier_units units (Ok later) = Ok (units ++ later)
+with_earlier_units units (Err place) = Err place
 
 -- the bytes are records of these units: whatever stands behind them is read behind these
 abbrev pub AreRecords : List FileInfo → List UnitChanges → List ℕ → Type 0
 AreRecords files units front =
-    (other : List ℕ) → units_from files 0 0 (front ++ other) ≡ behind units (units_from files (length front) 0 other)
+    (other : List ℕ) → units_from files 0 0 (front ++ other) ≡ with_earlier_units units (units_from files (length front) 0 other)
 
 -- a trail of these units up to the zero gate at `end`, and nothing behind it, where all is synced
 pub record IsSynced (files : List FileInfo) (bytes : List ℕ) (may_leave : List ℕ → Type 0) (end : ℕ)
@@ -49,7 +49,7 @@ piece_in [] = None
 piece_in (gate ∷ rest) = if gate == 0 then Some None else option_map Some (body_in rest)
 
 -- the same as it was read
-abbrev pub seen : Piece → Option (Option (List ℕ))
+abbrev pub seen : TrailPiece → Option (Option (List ℕ))
 seen End = Some None
 seen (Body body) = Some (Some body.items)
 seen Broken = None
@@ -65,7 +65,7 @@ pub record HasTakenOne (read : Option UnitChanges) (old new : List UnitChanges �
   pub takes : (units : List UnitChanges) → old units → new (units ++ unit ∷ [])
 
 -- the units of a trail were taken, and its zero gate is at `end`
-pub record IsFound (files : List FileInfo) (bytes : List ℕ) (Taken : List UnitChanges → Type 0) (end : ℕ) : Type 0 where
+pub record IsTrailRead (files : List FileInfo) (bytes : List ℕ) (Taken : List UnitChanges → Type 0) (end : ℕ) : Type 0 where
   pub units : List UnitChanges
   pub reads : units_in files bytes ≡ Ok units
   pub taken : Taken units

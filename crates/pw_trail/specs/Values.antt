@@ -11,7 +11,7 @@ pub record ChangeHasValues (change : Change) : Type 0 where
   pub bytes : AreBytes change.bytes
 
 -- the numbers and bytes of a unit's changes are of their types
-pub record UnitHasValues (own : UnitChanges) : Type 0 where
+pub record UnitChangesHaveValues (own : UnitChanges) : Type 0 where
   pub terminal : own.terminal < 2 ^ 32
   pub unit : own.unit < 2 ^ 32
   pub count : length own.changes < 2 ^ 32

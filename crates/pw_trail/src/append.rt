@@ -2,7 +2,7 @@ ghost use Rattle.std.specs.Prelude.{◌≡◌, ℕ, ◌+◌, ◌<◌, ◌≤◌,
 ghost use Rattle.pw_base.specs.Outside.{Rose};
 ghost use Rattle.pw_code.specs.declared.file.FileInfo.{FileInfo};
 ghost use Rattle.pw_volume.specs.Crash.{NoMore, Only};
-ghost use Rattle.pw_volume.specs.Life.{Endless, Fails, Passes};
+ghost use Rattle.pw_volume.specs.Life.{Endless, OneCallFails, Passes};
 ghost use Rattle.pw_trail.specs.Body.{fits};
 ghost use Rattle.pw_trail.specs.Format.{units_in};
 ghost use Rattle.pw_trail.specs.Stored.{IsBeforeOrAfter, IsSynced};
@@ -67,7 +67,7 @@ pub fn append<S: Synced>(
 
     // Four calls of the disk.
     ensures passes { OnOk result (Passes 4 (S.lasts disk.old) (S.lasts disk.new)) }
-    ensures fails { IsErrOf result WriteFault.Failed → Fails 4 (S.lasts disk.old) (S.lasts disk.new) }
+    ensures fails { IsErrOf result WriteFault.Failed → OneCallFails 4 (S.lasts disk.old) (S.lasts disk.new) }
     ensures uncounted { IsErrOf result WriteFault.Memory → S.lasts disk.new ≡ S.lasts disk.old }
 {
     let staged = stage(alloc, unit)?;

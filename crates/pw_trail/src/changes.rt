@@ -3,7 +3,7 @@ use pw_base::list::List;
 
 /// What a change does at a key of a file.
 #[derive(Clone, Copy, Debug, PartialEq, Eq)]
-pub enum Kind {
+pub enum ChangeKind {
     /// It puts a record there, in place of the one that is there, if any.
     Put,
     /// It takes the record away.
@@ -15,7 +15,7 @@ pub enum Kind {
 pub struct Change {
     /// The number of the file.
     pub file: u32,
-    pub kind: Kind,
+    pub kind: ChangeKind,
     /// The whole record of a put, the key of a remove.
     pub bytes: Bytes,
 }

@@ -2,7 +2,7 @@ ghost use Rattle.std.specs.Prelude.{◌≡◌, ◌∷◌, [], ℕ, List, Ok};
 ghost use Rattle.pw_code.specs.declared.file.FileInfo.{FileInfo};
 ghost use Rattle.pw_code.specs.declared.system.System.{System};
 ghost use Rattle.pw_tmf.specs.Told.{Told};
-ghost use Rattle.pw_trail.specs.Calls.{Call, HasPrefixOf, Moment, RecoversPrefixOf, Runs, Stands};
+ghost use Rattle.pw_trail.specs.Calls.{Call, HasPrefixOf, Moment, RecoversPrefixOf, CallsLeadTo, DiskHoldsUnits};
 ghost use Rattle.pw_trail.specs.Format.{units_in};
 ghost use Rattle.pw_trail.specs.Restoring.{IsReadBack};
 ghost use Rattle.pw_trail.specs.declared.changes.UnitChanges.{UnitChanges};
@@ -17,7 +17,7 @@ use crate::synced::Synced;
 pub fn run_laws<S: Synced>()
     ensures formatted { (files : List FileInfo) → units_in files (0 ∷ []) ≡ Ok [] }
     ensures leaves { (before : List UnitChanges) (calls : List Call) (first now : Moment S)
-        → Stands S.held S.images first (Ok before) → Runs S.held S.images first calls now
+        → DiskHoldsUnits S.held S.images first (Ok before) → CallsLeadTo S.held S.images first calls now
         → (image : List ℕ) → S.images now.disk image → HasPrefixOf first.files before calls image }
     ensures recovers { (system : System) (before : List UnitChanges) (calls : List Call)
         (image : List ℕ) (told : Told)

@@ -1,7 +1,7 @@
 ghost use Rattle.std.specs.Prelude.{◌≡◌, ◌⊎◌, ◌↔◌, ℕ, ◌≤◌, List, [], true, false, All, Ok, Err, IfOk, IfErr, OnErr, OnOk, IsErrOf, IsTrue};
 ghost use Rattle.pw_base.specs.Outside.{Rose};
 ghost use Rattle.pw_volume.specs.Crash.{NoMore};
-ghost use Rattle.pw_volume.specs.Life.{Endless, Fails, Passes};
+ghost use Rattle.pw_volume.specs.Life.{Endless, OneCallFails, Passes};
 ghost use Rattle.pw_trail.specs.Body.{fits};
 ghost use Rattle.pw_trail.specs.Format.{units_in, with_last};
 ghost use Rattle.pw_trail.specs.Stored.{HasUnits, Keeps};
@@ -21,7 +21,7 @@ use std::alloc::Global;
 /// The units of a trail on a disk. Until a fault of the disk, what a read gives is a trail, and a crash leaves no other
 /// bytes. After one it answers `Failed`, and does not touch the disk, until it is opened again.
 #[derive(Drop)]
-pub struct Log<S: Synced> {
+pub struct TrailLog<S: Synced> {
     pub disk: S,
     /// The files whose changes it keeps.
     pub files: List<FileInfo>,
@@ -31,14 +31,14 @@ pub struct Log<S: Synced> {
     ghost sound: { is_broken ≡ false → Keeps files (S.held disk) (S.images disk) end },
 }
 
-impl<D: Disk> Log<D> {
+impl<D: Disk> TrailLog<D> {
     /// Opens the trail on a disk, and hands its units on. A crash inside leaves the same units.
     pub fn open<R: Recovery>(
         alloc: Global,
         mut disk: D,
         files: List<FileInfo>,
         into: &mut R,
-    ) -> Result<Log<D>, (D, OpenFault)>
+    ) -> Result<TrailLog<D>, (D, OpenFault)>
         requires files { (R.system into.old).files ≡ files }
         requires none { R.taken into.old [] }
         ensures opened { IfOk result (λ log. (log.is_broken ≡ false) × (log.files ≡ files)
@@ -58,7 +58,7 @@ impl<D: Disk> Log<D> {
         ensures never { IfErr result (λ error. D.life disk ≡ Endless → error.1 ≡ OpenFault.Failed → ⊥) }
     {
         match recover(alloc, &mut disk, files.as_slice(), into) {
-            Ok(end) => Ok(Log {
+            Ok(end) => Ok(TrailLog {
                 disk,
                 files,
                 end,
@@ -69,7 +69,7 @@ impl<D: Disk> Log<D> {
     }
 }
 
-impl<S: Synced> Log<S> {
+impl<S: Synced> TrailLog<S> {
     /// Puts the record of a unit behind the others, by two writes and two syncs (docs/TRAIL.md). Its
     /// changes are of the log's files (`fits`). `Failed` comes only where the disk's count of faults rose
     /// in this call or an earlier one, and from then on always; want of memory changes nothing.
@@ -105,7 +105,7 @@ impl<S: Synced> Log<S> {
         // Four calls of the disk.
         ensures passes { OnOk result (Passes 4 (S.lasts self.old.disk) (S.lasts self.new.disk)) }
         ensures fails { self.old.is_broken ≡ false → IsErrOf result WriteFault.Failed
-            → Fails 4 (S.lasts self.old.disk) (S.lasts self.new.disk) }
+            → OneCallFails 4 (S.lasts self.old.disk) (S.lasts self.new.disk) }
         ensures uncounted { IsErrOf result WriteFault.Memory → S.lasts self.new.disk ≡ S.lasts self.old.disk }
     {
         if self.is_broken {
@@ -140,7 +140,7 @@ impl<S: Synced> Log<S> {
     pub fn close(self) -> S
         ensures { result ≡ self.disk }
     {
-        let Log { disk, .. } = self;
+        let TrailLog { disk, .. } = self;
         disk
     }
 }

@@ -8,7 +8,7 @@ ghost use Rattle.pw_trail.specs.Format.{units_in};
 ghost use Rattle.pw_trail.specs.Restoring.{IsReadBack};
 
 use crate::fault::OpenFault;
-use crate::log::Log;
+use crate::log::TrailLog;
 use crate::restore::Restoring;
 use pw_base::list::List;
 use pw_base::memory::Memory;
@@ -35,7 +35,7 @@ pub fn open<D: Disk>(
     alloc: Global,
     disk: D,
     system: &System,
-) -> Result<(Log<D>, Tmf), (D, OpenFault)>
+) -> Result<(TrailLog<D>, Tmf), (D, OpenFault)>
     requires { IsValid system.now }
     ensures log { IfOk result (λ both. (both.0.is_broken ≡ false) × (both.0.files ≡ system.now.files)
         × (units_in system.now.files (D.bytes both.0.disk) ≡ units_in system.now.files (D.bytes disk))) }
@@ -57,7 +57,7 @@ pub fn open<D: Disk>(
         return Err((disk, OpenFault::Memory));
     };
     let mut into = Restoring { system, tmf };
-    match Log::open(alloc, disk, files, &mut into) {
+    match TrailLog::open(alloc, disk, files, &mut into) {
         Ok(log) => {
             let Restoring { tmf, .. } = into;
             Ok((log, tmf))

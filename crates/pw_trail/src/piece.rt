@@ -11,7 +11,7 @@ use std::alloc::Global;
 
 /// What stands at a gate of a trail.
 #[derive(Debug, Drop)]
-pub enum Piece {
+pub enum TrailPiece {
     /// A zero gate.
     End,
     /// A record with this body.
@@ -26,7 +26,7 @@ pub fn read_piece<D: Disk>(
     disk: &mut D,
     at: u64,
     total: u64,
-) -> Result<Piece, OpenFault>
+) -> Result<TrailPiece, OpenFault>
     requires total { total ≡ length (D.bytes disk.old) }
     requires within { at ≤ length (D.bytes disk.old) }
     ensures piece { IfOk result (λ piece. seen piece ≡ piece_in (drop at (D.bytes disk.old))) }
@@ -39,12 +39,12 @@ pub fn read_piece<D: Disk>(
     ensures never { D.life disk.old ≡ Endless → IsErrOf result OpenFault.Failed → ⊥ }
 {
     if at == total {
-        return Ok(Piece::Broken);
+        return Ok(TrailPiece::Broken);
     }
     let mut gate = [0u8; 1];
     disk.read(at, &mut gate)?;
     if gate[0] == 0 {
-        return Ok(Piece::End);
+        return Ok(TrailPiece::End);
     }
     read_record(alloc, disk, at + 1, total)
 }
@@ -55,7 +55,7 @@ fn read_record<D: Disk>(
     disk: &mut D,
     at: u64,
     total: u64,
-) -> Result<Piece, OpenFault>
+) -> Result<TrailPiece, OpenFault>
     requires total { total ≡ length (D.bytes disk.old) }
     requires within { at ≤ length (D.bytes disk.old) }
     ensures piece { IfOk result (λ piece. seen piece ≡ option_map Some (body_in (drop at (D.bytes disk.old)))) }
@@ -69,16 +69,16 @@ fn read_record<D: Disk>(
 {
     let behind = total - at;
     if behind < 4 {
-        return Ok(Piece::Broken);
+        return Ok(TrailPiece::Broken);
     }
     let mut size = [0u8; 4];
     disk.read(at, &mut size)?;
     let size = u64::from(u32::from_be_bytes(size));
     if behind - 4 < size {
-        return Ok(Piece::Broken);
+        return Ok(TrailPiece::Broken);
     }
     let body = read_bytes(alloc, disk, at + 4, size as usize)?;
-    Ok(Piece::Body(body))
+    Ok(TrailPiece::Body(body))
 }
 
 /// Reads so many bytes from a place on. It changes nothing.

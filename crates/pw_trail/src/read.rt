@@ -1,9 +1,9 @@
 ghost use Rattle.std.specs.Prelude.{◌≡◌, ◌↔◌, true, All, IfOk, IsTrue};
 ghost use Rattle.std.specs.Int.{w32};
 ghost use Rattle.pw_image.specs.Reading.{byte_at, is_truth, many_at, number_at};
-ghost use Rattle.pw_trail.specs.Body.{Gives, change_at, changes_at, fits, fits_file, kind_byte, any_change_at, piece_at, unit_at, unit_in};
+ghost use Rattle.pw_trail.specs.Body.{GivesBodyPart, change_at, changes_at, fits, fits_file, kind_byte, any_change_at, piece_at, unit_at, unit_in};
 
-use crate::changes::{Change, Kind, UnitChanges};
+use crate::changes::{Change, ChangeKind, UnitChanges};
 use crate::fault::BodyFault;
 use pw_base::bytes::Bytes;
 use pw_base::list::List;
@@ -15,7 +15,7 @@ const MAX_CONTENT: usize = 4_000;
 
 /// The number at the front, and the rest.
 fn read_number(bytes: &[u8]) -> Result<(u32, &[u8]), BodyFault>
-    ensures { Gives (λ x. (x.0, x.1.now)) result (number_at w32 bytes.now) }
+    ensures { GivesBodyPart (λ x. (x.0, x.1.now)) result (number_at w32 bytes.now) }
 {
     if bytes.len() < 4 {
         return Err(BodyFault::Bad);
@@ -26,12 +26,12 @@ fn read_number(bytes: &[u8]) -> Result<(u32, &[u8]), BodyFault>
 }
 
 /// The kind at the front, and the rest.
-fn read_kind(bytes: &[u8]) -> Result<(Kind, &[u8]), BodyFault>
-    ensures { Gives (λ x. (kind_byte x.0, x.1.now)) result (byte_at is_truth bytes.now) }
+fn read_kind(bytes: &[u8]) -> Result<(ChangeKind, &[u8]), BodyFault>
+    ensures { GivesBodyPart (λ x. (kind_byte x.0, x.1.now)) result (byte_at is_truth bytes.now) }
 {
     match bytes {
-        [0, rest @ ..] => Ok((Kind::Put, rest)),
-        [1, rest @ ..] => Ok((Kind::Remove, rest)),
+        [0, rest @ ..] => Ok((ChangeKind::Put, rest)),
+        [1, rest @ ..] => Ok((ChangeKind::Remove, rest)),
         _ => Err(BodyFault::Bad),
     }
 }
@@ -39,7 +39,7 @@ fn read_kind(bytes: &[u8]) -> Result<(Kind, &[u8]), BodyFault>
 /// The bytes behind the length at the front, and the rest.
 #[tactic(auto, unfolding(crate::specs::Body::piece_at))]
 fn read_piece(alloc: Global, bytes: &[u8]) -> Result<(Bytes, &[u8]), BodyFault>
-    ensures { Gives (λ x. (x.0, x.1.now)) result (piece_at bytes.now) }
+    ensures { GivesBodyPart (λ x. (x.0, x.1.now)) result (piece_at bytes.now) }
 {
     let (size, rest) = read_number(bytes)?;
     let size = size as usize;
@@ -54,7 +54,7 @@ fn read_piece(alloc: Global, bytes: &[u8]) -> Result<(Bytes, &[u8]), BodyFault>
 /// The change at the front, of any file, and the rest.
 #[tactic(auto, unfolding(crate::specs::Body::any_change_at))]
 fn read_any_change(alloc: Global, bytes: &[u8]) -> Result<(Change, &[u8]), BodyFault>
-    ensures { Gives (λ x. (x.0, x.1.now)) result (any_change_at bytes.now) }
+    ensures { GivesBodyPart (λ x. (x.0, x.1.now)) result (any_change_at bytes.now) }
 {
     let (file, rest) = read_number(bytes)?;
     let (kind, rest) = read_kind(rest)?;
@@ -63,13 +63,13 @@ fn read_any_change(alloc: Global, bytes: &[u8]) -> Result<(Change, &[u8]), BodyF
 }
 
 /// Whether bytes are a whole record of a file, or its key.
-fn fits_file(file: &FileInfo, kind: Kind, bytes: &[u8]) -> bool
+fn fits_file(file: &FileInfo, kind: ChangeKind, bytes: &[u8]) -> bool
     ensures { result ≡ fits_file (Some file.now) kind bytes.now }
 {
     let key = usize::from(file.key);
     match kind {
-        Kind::Put => key <= bytes.len() && bytes.len() <= MAX_CONTENT,
-        Kind::Remove => bytes.len() == key,
+        ChangeKind::Put => key <= bytes.len() && bytes.len() <= MAX_CONTENT,
+        ChangeKind::Remove => bytes.len() == key,
     }
 }
 
@@ -97,7 +97,7 @@ fn read_change<'a>(
     files: &[FileInfo],
     bytes: &'a [u8],
 ) -> Result<(Change, &'a [u8]), BodyFault>
-    ensures { Gives (λ x. (x.0, x.1.now)) result (change_at files.now bytes.now) }
+    ensures { GivesBodyPart (λ x. (x.0, x.1.now)) result (change_at files.now bytes.now) }
 {
     let (change, rest) = read_any_change(alloc, bytes)?;
     if !fits(files, &change) {
@@ -113,7 +113,7 @@ fn read_many_changes<'a>(
     count: u32,
     bytes: &'a [u8],
 ) -> Result<(Vec<Change>, &'a [u8]), BodyFault>
-    ensures { Gives (λ x. (x.0.items, x.1.now)) result (many_at (change_at files.now) count bytes.now) }
+    ensures { GivesBodyPart (λ x. (x.0.items, x.1.now)) result (many_at (change_at files.now) count bytes.now) }
 {
     let mut changes = Vec::new(alloc);
     let mut rest = bytes;
@@ -132,7 +132,7 @@ fn read_changes<'a>(
     files: &[FileInfo],
     bytes: &'a [u8],
 ) -> Result<(List<Change>, &'a [u8]), BodyFault>
-    ensures { Gives (λ x. (x.0, x.1.now)) result (changes_at files.now bytes.now) }
+    ensures { GivesBodyPart (λ x. (x.0, x.1.now)) result (changes_at files.now bytes.now) }
 {
     let (count, rest) = read_number(bytes)?;
     let (changes, rest) = read_many_changes(alloc, files, count, rest)?;
@@ -146,7 +146,7 @@ fn read_front<'a>(
     files: &[FileInfo],
     bytes: &'a [u8],
 ) -> Result<(UnitChanges, &'a [u8]), BodyFault>
-    ensures { Gives (λ x. (x.0, x.1.now)) result (unit_at files.now bytes.now) }
+    ensures { GivesBodyPart (λ x. (x.0, x.1.now)) result (unit_at files.now bytes.now) }
 {
     let (terminal, rest) = read_number(bytes)?;
     let (unit, rest) = read_number(rest)?;
@@ -164,7 +164,7 @@ fn read_front<'a>(
 /// The unit that a record's body is of.
 #[tactic(auto, unfolding(crate::specs::Body::unit_in))]
 fn read_whole(alloc: Global, files: &[FileInfo], body: &[u8]) -> Result<UnitChanges, BodyFault>
-    ensures { Gives (λ unit. unit) result (unit_in files.now body.now) }
+    ensures { GivesBodyPart (λ unit. unit) result (unit_in files.now body.now) }
 {
     let (unit, rest) = read_front(alloc, files, body)?;
     if !rest.is_empty() {
@@ -176,7 +176,7 @@ fn read_whole(alloc: Global, files: &[FileInfo], body: &[u8]) -> Result<UnitChan
 /// The unit that a record's body is of, each of whose changes is of one of the files. It is `Bad` exactly where the
 /// bytes are no such body.
 pub fn read_unit(alloc: Global, files: &[FileInfo], body: &[u8]) -> Result<UnitChanges, BodyFault>
-    ensures reads { Gives (λ unit. unit) result (unit_in files.now body.now) }
+    ensures reads { GivesBodyPart (λ unit. unit) result (unit_in files.now body.now) }
     ensures fit { IfOk result (λ unit. All (λ change. fits files.now change ≡ true) unit.changes) }
 {
     read_whole(alloc, files, body)

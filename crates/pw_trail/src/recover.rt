@@ -5,12 +5,12 @@ ghost use Rattle.pw_volume.specs.Crash.{NoMore, Only};
 ghost use Rattle.pw_volume.specs.Life.{Endless};
 ghost use Rattle.pw_trail.specs.Body.{fits, unit_in};
 ghost use Rattle.pw_trail.specs.Format.{units_in};
-ghost use Rattle.pw_trail.specs.Stored.{HasTakenOne, IsFound, IsRecovered};
+ghost use Rattle.pw_trail.specs.Stored.{HasTakenOne, IsTrailRead, IsRecovered};
 ghost use Rattle.pw_trail.specs.declared.changes.UnitChanges.{UnitChanges};
 
 use crate::changes::UnitChanges;
 use crate::fault::{BodyFault, OpenFault};
-use crate::piece::{Piece, read_piece};
+use crate::piece::{TrailPiece, read_piece};
 use crate::read::read_unit;
 use crate::synced::Synced;
 use pw_base::memory::Memory;
@@ -71,7 +71,7 @@ fn read_units<D: Disk, R: Recovery>(
     requires files { (R.system into.old).files ≡ files.now }
     requires total { total ≡ length (D.bytes disk.old) }
     requires none { R.taken into.old [] }
-    ensures found { IfOk result (λ end. IsFound files.now (D.bytes disk.old) (R.taken into.new) end) }
+    ensures found { IfOk result (λ end. IsTrailRead files.now (D.bytes disk.old) (R.taken into.new) end) }
     ensures system { R.system into.new ≡ R.system into.old }
     ensures small { IfOk result (λ end. end + 1 < 2 ^ 64) }
     ensures bytes { D.bytes disk.new ≡ D.bytes disk.old }
@@ -86,9 +86,9 @@ fn read_units<D: Disk, R: Recovery>(
     let mut at = 0;
     loop {
         match read_piece(alloc, disk, at, total)? {
-            Piece::End => return Ok(at),
-            Piece::Broken => return Err(OpenFault::Damaged { at }),
-            Piece::Body(body) => {
+            TrailPiece::End => return Ok(at),
+            TrailPiece::Broken => return Err(OpenFault::Damaged { at }),
+            TrailPiece::Body(body) => {
                 take_unit(alloc, files, &body, at, into)?;
                 at += 5 + body.len() as u64;
             }

@@ -4,7 +4,7 @@ ghost use Rattle.pw_trail.specs.Body.{fits};
 ghost use Rattle.pw_trail.specs.Files.{with_change};
 ghost use Rattle.pw_trail.specs.Restoring.{HasFiles};
 
-use crate::changes::{Change, Kind, UnitChanges};
+use crate::changes::{Change, ChangeKind, UnitChanges};
 use crate::recover::Recovery;
 use pw_base::bytes::Bytes;
 use pw_base::memory::Memory;
@@ -32,8 +32,8 @@ fn restore(tmf: &mut Tmf, system: &System, change: &Change) -> Result<(), Memory
     let alloc = change.bytes.allocator();
     let bytes = change.bytes.copy(alloc)?;
     match change.kind {
-        Kind::Put => tmf.restore(change.file, Bytes::new(alloc), Some(bytes)),
-        Kind::Remove => tmf.restore(change.file, bytes, None),
+        ChangeKind::Put => tmf.restore(change.file, Bytes::new(alloc), Some(bytes)),
+        ChangeKind::Remove => tmf.restore(change.file, bytes, None),
     }
 }
 

@@ -1,7 +1,7 @@
 ghost use Rattle.std.specs.Prelude.{◌≡◌, ℕ, ◌⊎◌, ◌+◌, ◌^◌, ◌<◌, ◌≤◌, List, ◌∷◌, ◌++◌, length, take, OnErr, OnOk, IsErrOf};
 ghost use Rattle.pw_base.specs.Outside.{Rose};
 ghost use Rattle.pw_volume.specs.Crash.{NoMore, Only};
-ghost use Rattle.pw_volume.specs.Life.{Fails, Passes};
+ghost use Rattle.pw_volume.specs.Life.{OneCallFails, Passes};
 ghost use Rattle.pw_trail.specs.Stored.{IsBehind, IsGated};
 
 use crate::synced::Synced;
@@ -26,7 +26,7 @@ pub fn store<S: Synced>(disk: &mut S, gate: u64, staged: &[u8]) -> Result<(), Wr
 
     // Four calls of the disk.
     ensures passes { OnOk result (Passes 4 (S.lasts disk.old) (S.lasts disk.new)) }
-    ensures fails { IsErrOf result WriteFault.Failed → Fails 4 (S.lasts disk.old) (S.lasts disk.new) }
+    ensures fails { IsErrOf result WriteFault.Failed → OneCallFails 4 (S.lasts disk.old) (S.lasts disk.new) }
     ensures uncounted { IsErrOf result WriteFault.Memory → S.lasts disk.new ≡ S.lasts disk.old }
 {
     disk.write_synced(gate + 1, staged)?;

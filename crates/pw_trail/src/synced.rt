@@ -1,7 +1,7 @@
 ghost use Rattle.std.specs.Prelude.{◌≡◌, ℕ, ◌+◌, ◌<◌, ◌≤◌, List, length, take, OnErr, OnOk, IsErrOf};
 ghost use Rattle.pw_base.specs.Outside.{Rose};
-ghost use Rattle.pw_volume.specs.Crash.{written, Torn, Shortened, NoMore, Only, Counts};
-ghost use Rattle.pw_volume.specs.Life.{Fails, Life, Passes};
+ghost use Rattle.pw_volume.specs.Crash.{written, Torn, Shortened, NoMore, Only, CountsFaults};
+ghost use Rattle.pw_volume.specs.Life.{OneCallFails, Life, Passes};
 
 use pw_volume::disk::Disk;
 use pw_volume::fault::{DiskFailed, WriteFault};
@@ -38,7 +38,7 @@ pub trait Synced: Drop {
         ensures memory { IsErrOf result WriteFault.Memory → (length (held self.old) < at + length piece.now)
             × (held self.new ≡ held self.old) × NoMore (images self.old) (images self.new) }
         ensures passes { OnOk result (Passes 2 (lasts self.old) (lasts self.new)) }
-        ensures fails { IsErrOf result WriteFault.Failed → Fails 2 (lasts self.old) (lasts self.new) }
+        ensures fails { IsErrOf result WriteFault.Failed → OneCallFails 2 (lasts self.old) (lasts self.new) }
         ensures uncounted { IsErrOf result WriteFault.Memory → lasts self.new ≡ lasts self.old };
 
     /// Cuts and syncs.
@@ -50,9 +50,9 @@ pub trait Synced: Drop {
         ensures images { (image : List ℕ) → images self.new image → Shortened end (held self.old) image }
         ensures settled { OnOk result (settled self.new ≡ held self.new) }
         ensures unsettled { OnErr result (settled self.new ≡ settled self.old) }
-        ensures count { Counts result (faulted self.old) (faulted self.new) }
+        ensures count { CountsFaults result (faulted self.old) (faulted self.new) }
         ensures passes { OnOk result (Passes 2 (lasts self.old) (lasts self.new)) }
-        ensures fails { OnErr result (Fails 2 (lasts self.old) (lasts self.new)) };
+        ensures fails { OnErr result (OneCallFails 2 (lasts self.old) (lasts self.new)) };
 
     /// What the last sync left is one of the images.
     ghost settled_may_stay: { (disk : Self) → images disk (settled disk) };

@@ -1,22 +1,22 @@
 ghost use Rattle.std.specs.Prelude.{◌≡◌, ◌⊎◌, ◌≢◌, ◌∷◌, [], ℕ, ◌≤◌, List, All, Err, IfErr, IfOk, IsErrOf, OnOk, Ok, false, map, true};
 ghost use Rattle.pw_base.specs.Outside.{Rose};
 ghost use Rattle.pw_code.specs.Valid.{IsValid};
-ghost use Rattle.pw_volume.specs.Life.{Endless, Fails, Passes};
+ghost use Rattle.pw_volume.specs.Life.{Endless, OneCallFails, Passes};
 ghost use Rattle.pw_tmf.specs.Answers.{Leaves, Operates};
 ghost use Rattle.pw_tmf.specs.Committed.{committed};
 ghost use Rattle.pw_tmf.specs.Faulty.{with_faults};
 ghost use Rattle.pw_tmf.specs.Operation.{IsCall};
 ghost use Rattle.pw_tmf.specs.Tmf.{told_of};
-ghost use Rattle.pw_tmf.specs.Units.{AreApart, CanBackOut, CanBegin, IsRunning, all_backed_out, begun, ended};
-ghost use Rattle.pw_trail.specs.Calls.{Commits, Stands, moment};
+ghost use Rattle.pw_tmf.specs.Units.{HaveDistinctTerminals, CanBackOut, CanBegin, IsRunning, all_backed_out, begun, ended};
+ghost use Rattle.pw_trail.specs.Calls.{Commits, DiskHoldsUnits, moment};
 ghost use Rattle.pw_trail.specs.Committing.{LeadsTo, LeadsToEither, change_to, record_of};
 ghost use Rattle.pw_trail.specs.Format.{units_in};
 ghost use Rattle.pw_trail.specs.Orderly.{IsOrderly};
 ghost use Rattle.pw_trail.specs.Restoring.{HasFiles, IsReadBack};
 
-use crate::changes::{Change, Kind, UnitChanges};
+use crate::changes::{Change, ChangeKind, UnitChanges};
 use crate::fault::OpenFault;
-use crate::log::Log;
+use crate::log::TrailLog;
 use crate::open::open;
 use crate::synced::Synced;
 use pw_base::bytes::Bytes;
@@ -25,7 +25,7 @@ use pw_base::memory::Memory;
 use pw_code::file::FileCall;
 use pw_code::system::System;
 use pw_code::unit::Unit;
-use pw_tmf::answer::{Changed, DiscFault, Ended, FileAnswer, Foreseen};
+use pw_tmf::answer::{ChangedKey, DiscFault, Ended, FileAnswer, Foreseen};
 use pw_tmf::disc::Disc;
 use pw_tmf::tmf::Tmf;
 use pw_volume::disk::Disk;
@@ -37,7 +37,7 @@ use std::alloc::Global;
 #[derive(Drop)]
 pub struct Trail<S: Synced> {
     pub alloc: Global,
-    pub log: Log<S>,
+    pub log: TrailLog<S>,
     pub tmf: Tmf,
     /// How often a call has answered `Failed`.
     pub faults: u64,
@@ -48,26 +48,26 @@ pub struct Trail<S: Synced> {
 }
 
 /// The change that leads to what is at a key now.
-fn change_to(changed: Changed) -> Change
+fn change_to(changed: ChangedKey) -> Change
     ensures { result ≡ change_to changed }
 {
-    let Changed { file, key, content } = changed;
+    let ChangedKey { file, key, content } = changed;
     match content {
         Some(content) => Change {
             file,
-            kind: Kind::Put,
+            kind: ChangeKind::Put,
             bytes: content,
         },
         None => Change {
             file,
-            kind: Kind::Remove,
+            kind: ChangeKind::Remove,
             bytes: key,
         },
     }
 }
 
 /// The record of a unit that has changed this.
-fn record_of(alloc: Global, unit: &Unit, changed: Vec<Changed>) -> Result<UnitChanges, Memory>
+fn record_of(alloc: Global, unit: &Unit, changed: Vec<ChangedKey>) -> Result<UnitChanges, Memory>
     ensures { IfOk result (λ made. made ≡ record {
       terminal = unit.now.terminal;
       unit = unit.now.number;
@@ -104,7 +104,7 @@ impl<D: Disk> Trail<D> {
         ensures told { IfOk result (λ trail.
             IsReadBack system.now (units_in system.now.files (D.bytes disk)) (told_of trail.tmf)) }
         ensures faults { IfOk result (λ trail. trail.faults ≡ 0) }
-        ensures stands { IfOk result (λ trail. Stands D.bytes D.may_leave
+        ensures stands { IfOk result (λ trail. DiskHoldsUnits D.bytes D.may_leave
             (moment trail.log.files trail.log.disk trail.log.is_broken)
             (units_in system.now.files (D.bytes disk))) }
         ensures images { IfOk result (λ trail. (image : List ℕ) → D.may_leave trail.log.disk image
@@ -200,7 +200,7 @@ impl<S: Synced + Send> Disc for Trail<S> {
             ≡ units_in self.old.log.files (S.held self.old.log.disk)) }
         ensures passes { OnOk result (Passes 4 (S.lasts self.old.log.disk) (S.lasts self.new.log.disk)) }
         ensures fails { self.old.log.is_broken ≡ false → IsErrOf result DiscFault.Failed
-            → Fails 4 (S.lasts self.old.log.disk) (S.lasts self.new.log.disk) }
+            → OneCallFails 4 (S.lasts self.old.log.disk) (S.lasts self.new.log.disk) }
         ensures uncounted { IsErrOf result DiscFault.Memory
             → S.lasts self.new.log.disk ≡ S.lasts self.old.log.disk }
     {
@@ -218,7 +218,7 @@ impl<S: Synced + Send> Disc for Trail<S> {
 
     fn back_out(&mut self, units: &[Unit], ends: bool) -> Result<(), DiscFault>
         requires some { units.now ≢ [] }
-        requires apart { AreApart units.now }
+        requires apart { HaveDistinctTerminals units.now }
         requires units { All (CanBackOut ends (with_faults self.old.faults (told_of self.old.tmf))) units.now }
         ensures ok { OnOk result (with_faults self.new.faults (told_of self.new.tmf)
             ≡ all_backed_out ends (with_faults self.old.faults (told_of self.old.tmf)) units.now) }

@@ -4,9 +4,9 @@ ghost use Rattle.std.specs.List.{flat_map};
 ghost use Rattle.pw_image.specs.Values.{AreBytes};
 ghost use Rattle.pw_trail.specs.Body.{body_of, change_bytes, kind_byte};
 ghost use Rattle.pw_trail.specs.Stored.{staged};
-ghost use Rattle.pw_trail.specs.Values.{ChangeHasValues, UnitHasValues};
+ghost use Rattle.pw_trail.specs.Values.{ChangeHasValues, UnitChangesHaveValues};
 
-use crate::changes::{Change, Kind, UnitChanges};
+use crate::changes::{Change, ChangeKind, UnitChanges};
 use pw_base::bytes::Bytes;
 use pw_base::memory::Memory;
 use std::alloc::Global;
@@ -16,7 +16,7 @@ use std::alloc::Global;
 pub fn stage(alloc: Global, unit: &UnitChanges) -> Result<Vec<u8>, Memory>
     ensures bytes { IfOk result (λ staged_bytes. staged_bytes.items ≡ staged unit.now) }
     ensures size { OnOk result (length (body_of unit.now) < 2 ^ 32) }
-    ensures values { OnOk result (UnitHasValues unit.now) }
+    ensures values { OnOk result (UnitChangesHaveValues unit.now) }
 {
     let mut made = Bytes::from_slice(alloc, &[0, 0, 0, 0])?;
     put_unit(&mut made, unit)?;
@@ -31,7 +31,7 @@ pub fn stage(alloc: Global, unit: &UnitChanges) -> Result<Vec<u8>, Memory>
 /// Puts the body of a unit's record behind other bytes.
 fn put_unit(made: &mut Bytes, unit: &UnitChanges) -> Result<(), Memory>
     ensures bytes { OnOk result (made.new ≡ made.old ++ body_of unit.now) }
-    ensures values { OnOk result (UnitHasValues unit.now) }
+    ensures values { OnOk result (UnitChangesHaveValues unit.now) }
 {
     made.extend(&unit.terminal.to_be_bytes())?;
     made.extend(&unit.unit.to_be_bytes())?;
@@ -64,12 +64,12 @@ fn put_changes(made: &mut Bytes, changes: &[Change]) -> Result<(), Memory>
 }
 
 /// The byte that stands for a kind.
-fn kind_byte(kind: Kind) -> u8
+fn kind_byte(kind: ChangeKind) -> u8
     ensures { result ≡ kind_byte kind }
 {
     match kind {
-        Kind::Put => 0,
-        Kind::Remove => 1,
+        ChangeKind::Put => 0,
+        ChangeKind::Remove => 1,
     }
 }
 

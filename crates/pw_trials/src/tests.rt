@@ -23,7 +23,7 @@ use std::test::Fail;
 
 /// What a program asks, and what it is answered then.
 #[derive(Clone, Copy)]
-enum Step {
+enum TrialStep {
     /// To show the screen, whose rows that are not blank are these.
     Show(&'static [u8]),
     /// To take the next entry line.
@@ -84,26 +84,26 @@ fn shows(alloc: Global, context: &Context, rows: &[u8]) -> Result<bool, Memory> 
 }
 
 /// The program asks what the step says.
-fn is_asked(alloc: Global, context: &Context, asked: &Verb, step: Step) -> Result<bool, Memory> {
+fn is_asked(alloc: Global, context: &Context, asked: &Verb, step: TrialStep) -> Result<bool, Memory> {
     match (asked, step) {
-        (Verb::Show, Step::Show(rows)) => shows(alloc, context, rows),
-        (Verb::Send { class, message }, Step::Send(to, wanted, _)) => {
+        (Verb::Show, TrialStep::Show(rows)) => shows(alloc, context, rows),
+        (Verb::Send { class, message }, TrialStep::Send(to, wanted, _)) => {
             Ok(*class == to && message.as_slice() == wanted)
         }
-        (Verb::Fault(code), Step::Fault(wanted)) => Ok(*code == wanted),
-        (Verb::File(call), Step::File(op, key, content, _, _)) => Ok(
+        (Verb::Fault(code), TrialStep::Fault(wanted)) => Ok(*code == wanted),
+        (Verb::File(call), TrialStep::File(op, key, content, _, _)) => Ok(
             call.file == 0
                 && call.op == op
                 && call.key.as_slice() == key
                 && call.content.as_slice() == content,
         ),
-        (Verb::Reply(reply), Step::Reply(wanted)) => Ok(reply.as_slice() == wanted),
-        (Verb::Accept(_), Step::Accept)
-        | (Verb::Begin, Step::Begin)
-        | (Verb::End, Step::End)
-        | (Verb::Drop, Step::Drop)
-        | (Verb::Redo, Step::Redo)
-        | (Verb::Stop, Step::Stop) => Ok(true),
+        (Verb::Reply(reply), TrialStep::Reply(wanted)) => Ok(reply.as_slice() == wanted),
+        (Verb::Accept(_), TrialStep::Accept)
+        | (Verb::Begin, TrialStep::Begin)
+        | (Verb::End, TrialStep::End)
+        | (Verb::Drop, TrialStep::Drop)
+        | (Verb::Redo, TrialStep::Redo)
+        | (Verb::Stop, TrialStep::Stop) => Ok(true),
         _ => Ok(false),
     }
 }
@@ -113,19 +113,19 @@ fn answer_to(
     alloc: Global,
     entries: &[EntryLine],
     taken: u32,
-    step: Step,
+    step: TrialStep,
 ) -> Result<Option<Answer>, Memory> {
     match step {
-        Step::Show(_) => Ok(Some(Answer::Shown)),
-        Step::Accept => match entries.get(taken as usize) {
+        TrialStep::Show(_) => Ok(Some(Answer::Shown)),
+        TrialStep::Accept => match entries.get(taken as usize) {
             Some(line) => Ok(Some(Answer::Entry(line.copy(alloc)?))),
             None => Ok(None),
         },
-        Step::Begin => Ok(Some(Answer::Begun(0))),
-        Step::Send(_, _, reply) => Ok(Some(Answer::Replied(Bytes::from_slice(alloc, reply)?))),
-        Step::End => Ok(Some(Answer::Ended)),
-        Step::Drop => Ok(Some(Answer::Dropped)),
-        Step::File(_, _, _, status, record) => {
+        TrialStep::Begin => Ok(Some(Answer::Begun(0))),
+        TrialStep::Send(_, _, reply) => Ok(Some(Answer::Replied(Bytes::from_slice(alloc, reply)?))),
+        TrialStep::End => Ok(Some(Answer::Ended)),
+        TrialStep::Drop => Ok(Some(Answer::Dropped)),
+        TrialStep::File(_, _, _, status, record) => {
             let content = if record.is_empty() {
                 None
             } else {
@@ -133,7 +133,7 @@ fn answer_to(
             };
             Ok(Some(Answer::FileDone { status, content }))
         }
-        Step::Redo | Step::Stop | Step::Fault(_) | Step::Reply(_) => Ok(None),
+        TrialStep::Redo | TrialStep::Stop | TrialStep::Fault(_) | TrialStep::Reply(_) => Ok(None),
     }
 }
 
@@ -155,7 +155,7 @@ fn runs(
     system: &System,
     context: &mut Context,
     entries: &[EntryLine],
-    steps: &[Step],
+    steps: &[TrialStep],
 ) -> Result<(), Fail>
     requires valid { IsValid system.now }
     requires sound { IsSoundContext system.now context.old }
@@ -172,7 +172,7 @@ fn runs(
 }
 
 /// Runs the first requester of a deck over these steps.
-fn requester_runs(rt: &(impl Abort + AllocGlobal), deck: &Deck, steps: &[Step]) -> Result<(), Fail>
+fn requester_runs(rt: &(impl Abort + AllocGlobal), deck: &Deck, steps: &[TrialStep]) -> Result<(), Fail>
     requires { IsValid deck.now.system }
 {
     let system = &deck.system;
@@ -189,7 +189,7 @@ fn server_runs(
     rt: &(impl Abort + AllocGlobal),
     deck: &Deck,
     message: &[u8],
-    steps: &[Step],
+    steps: &[TrialStep],
 ) -> Result<(), Fail>
     requires { IsValid deck.now.system }
 {
@@ -203,7 +203,7 @@ fn server_runs(
 }
 
 /// Data, a procedure, entries, and what the program asks.
-type Trial = (&'static [u8], &'static [u8], &'static [u8], &'static [Step]);
+type Trial = (&'static [u8], &'static [u8], &'static [u8], &'static [TrialStep]);
 
 const KEYS: &[u8] = b"DATA DIVISION.
 WORKING-STORAGE SECTION.
@@ -223,47 +223,47 @@ const TRIALS: &[Trial] = &[
         b"",
         b"MAIN.\nDISPLAY \"HELLO\".\nSTOP RUN.\n",
         b"",
-        &[Step::Show(b"24|HELLO\n"), Step::Stop],
+        &[TrialStep::Show(b"24|HELLO\n"), TrialStep::Stop],
     ),
     (
         KEYS,
         TAKE,
         b"F2\nF1 F=AB\n",
         &[
-            Step::Accept,
-            Step::Show(b"24|INVALID KEY\n"),
-            Step::Accept,
-            Step::Show(b"24|AB\n"),
-            Step::Stop,
+            TrialStep::Accept,
+            TrialStep::Show(b"24|INVALID KEY\n"),
+            TrialStep::Accept,
+            TrialStep::Show(b"24|AB\n"),
+            TrialStep::Stop,
         ],
     ),
     (
         KEYS,
         TAKE,
         b"F2\n",
-        &[Step::Accept, Step::Show(b"24|INVALID KEY\n"), Step::Accept],
+        &[TrialStep::Accept, TrialStep::Show(b"24|INVALID KEY\n"), TrialStep::Accept],
     ),
     (
         b"DATA DIVISION.\nWORKING-STORAGE SECTION.\n01 A PIC 9(18) VALUE 999999999999999999.\n",
         b"MAIN. ADD 1 TO A ON SIZE ERROR DISPLAY \"SIZE\" ELSE DISPLAY \"FITS\". DISPLAY A. STOP RUN.\n",
         b"",
         &[
-            Step::Show(b"24|SIZE\n"),
-            Step::Show(b"24|999999999999999999\n"),
-            Step::Stop,
+            TrialStep::Show(b"24|SIZE\n"),
+            TrialStep::Show(b"24|999999999999999999\n"),
+            TrialStep::Stop,
         ],
     ),
     (
         COUNT,
         b"P1. PERFORM P2 49999 TIMES. STOP RUN. P2. ADD 1 TO X.\n",
         b"",
-        &[Step::Stop],
+        &[TrialStep::Stop],
     ),
     (
         COUNT,
         b"P1. PERFORM P2 49999 TIMES. ADD 1 TO X. STOP RUN. P2. ADD 1 TO X.\n",
         b"",
-        &[Step::Fault(201)],
+        &[TrialStep::Fault(201)],
     ),
 ];
 
@@ -282,7 +282,7 @@ fn programs_ask_what_they_say(rt: HostRuntime) -> Result<(), Fail> {
 #[test]
 fn perform_depth_limit(rt: HostRuntime) -> Result<(), Fail> {
     let deck = hello(&rt, b"", b"P1.\nDISPLAY \"X\".\nPERFORM P1.\n", b"")?;
-    let mut steps = [Step::Show(b"24|X\n"); 66];
-    steps[65] = Step::Fault(202);
+    let mut steps = [TrialStep::Show(b"24|X\n"); 66];
+    steps[65] = TrialStep::Fault(202);
     requester_runs(&rt, &deck, &steps)
 }

@@ -25,8 +25,8 @@ pub record Shortened (n : ℕ) (old new : List ℕ) : Type 0 where
   pub is : new ≡ take n old ++ tail
 
 -- each new image comes of an old one by such a step
-abbrev pub Follows : (List ℕ → List ℕ → Type 0) → (List ℕ → Type 0) → (List ℕ → Type 0) → Type 0
-Follows Step old new =
+abbrev pub ImagesComeBy : (List ℕ → List ℕ → Type 0) → (List ℕ → Type 0) → (List ℕ → Type 0) → Type 0
+ImagesComeBy Step old new =
     (image : List ℕ) → new image → (before : List ℕ) × old before × Step before image
 
 -- each new image is an old one
@@ -38,6 +38,6 @@ abbrev pub Only : List ℕ → (List ℕ → Type 0) → Type 0
 Only bytes images = (image : List ℕ) → images image → image ≡ bytes
 
 -- the count of faults never falls, and rises where the call failed
-pub record Counts {T E : Type 0} (result : Result T E) (before now : ℕ) : Type 0 where
+pub record CountsFaults {T E : Type 0} (result : Result T E) (before now : ℕ) : Type 0 where
   pub stays : before ≤ now
   pub cause : IsErr result → Rose before now

@@ -39,7 +39,7 @@ Passes n Endless now = now ≡ Endless
 Passes n (Calls left) now = (n ≤ left) × (now ≡ Calls (left - n))
 
 -- one of so many has failed
-abbrev pub Fails : ℕ → Life → Life → Type 0
-Fails n Untold now = Unit {0}
-Fails n Endless now = ⊥
-Fails n (Calls left) now = (left < n) × (now ≡ Calls 0)
+abbrev pub OneCallFails : ℕ → Life → Life → Type 0
+OneCallFails n Untold now = Unit {0}
+OneCallFails n Endless now = ⊥
+OneCallFails n (Calls left) now = (left < n) × (now ≡ Calls 0)

@@ -1,6 +1,6 @@
 ghost use Rattle.std.specs.Prelude.{◌≡◌, ℕ, ◌+◌, ◌<◌, ◌≤◌, List, length, take, drop, IfOk, OnOk, OnErr, IsErrOf, is_err};
 ghost use Rattle.pw_base.specs.Outside.{Rose};
-ghost use Rattle.pw_volume.specs.Crash.{IsWithin, written, Torn, Shortened, Follows, NoMore, Only, Counts};
+ghost use Rattle.pw_volume.specs.Crash.{IsWithin, written, Torn, Shortened, ImagesComeBy, NoMore, Only, CountsFaults};
 ghost use Rattle.pw_volume.specs.Life.{Life, Lives, has_failed, spent};
 
 use crate::fault::{DiskFailed, WriteFault};
@@ -28,7 +28,7 @@ pub trait Disk: Send + Drop {
         ensures length { IfOk result (λ n. n ≡ length (bytes self.old)) }
         ensures bytes { bytes self.new ≡ bytes self.old }
         ensures images { NoMore (may_leave self.old) (may_leave self.new) }
-        ensures count { Counts result (faults self.old) (faults self.new) }
+        ensures count { CountsFaults result (faults self.old) (faults self.new) }
         ensures settled { settled self.new ≡ settled self.old }
         ensures lives { Lives (life self.old) (is_err result) }
         ensures life { life self.new ≡ life self.old };
@@ -39,7 +39,7 @@ pub trait Disk: Send + Drop {
         ensures read { OnOk result (into.new ≡ take (length into.old) (drop at (bytes self.old))) }
         ensures bytes { bytes self.new ≡ bytes self.old }
         ensures images { NoMore (may_leave self.old) (may_leave self.new) }
-        ensures count { Counts result (faults self.old) (faults self.new) }
+        ensures count { CountsFaults result (faults self.old) (faults self.new) }
         ensures settled { settled self.new ≡ settled self.old }
         ensures lives { Lives (life self.old) (is_err result) }
         ensures life { life self.new ≡ life self.old };
@@ -49,7 +49,7 @@ pub trait Disk: Send + Drop {
     fn write_at(&mut self, at: u64, piece: &[u8]) -> Result<(), WriteFault>
         requires { IsWithin at (bytes self.old) }
         ensures written { OnOk result (bytes self.new ≡ written at piece.now (bytes self.old)) }
-        ensures images { Follows (Torn at (length piece.now)) (may_leave self.old) (may_leave self.new) }
+        ensures images { ImagesComeBy (Torn at (length piece.now)) (may_leave self.old) (may_leave self.new) }
         ensures count { faults self.old ≤ faults self.new }
         ensures cause { IsErrOf result WriteFault.Failed → Rose (faults self.old) (faults self.new) }
         ensures memory { IsErrOf result WriteFault.Memory → (length (bytes self.old) < at + length piece.now)
@@ -63,8 +63,8 @@ pub trait Disk: Send + Drop {
     fn cut(&mut self, length: u64) -> Result<(), DiskFailed>
         requires { IsWithin length (bytes self.old) }
         ensures cut { OnOk result (bytes self.new ≡ take length (bytes self.old)) }
-        ensures images { Follows (Shortened length) (may_leave self.old) (may_leave self.new) }
-        ensures count { Counts result (faults self.old) (faults self.new) }
+        ensures images { ImagesComeBy (Shortened length) (may_leave self.old) (may_leave self.new) }
+        ensures count { CountsFaults result (faults self.old) (faults self.new) }
         ensures settled { settled self.new ≡ settled self.old }
         ensures lives { Lives (life self.old) (is_err result) }
         ensures spent { OnOk result (life self.new ≡ spent (life self.old)) }
@@ -77,7 +77,7 @@ pub trait Disk: Send + Drop {
         ensures settled { OnOk result (settled self.new ≡ bytes self.new) }
         ensures unsettled { OnErr result (settled self.new ≡ settled self.old) }
         ensures images { NoMore (may_leave self.old) (may_leave self.new) }
-        ensures count { Counts result (faults self.old) (faults self.new) }
+        ensures count { CountsFaults result (faults self.old) (faults self.new) }
         ensures lives { Lives (life self.old) (is_err result) }
         ensures spent { OnOk result (life self.new ≡ spent (life self.old)) }
         ensures life { OnErr result (life self.new ≡ life self.old) };

@@ -1,5 +1,5 @@
 ghost use Rattle.std.specs.Prelude.{◌≡◌, ◌+◌, ◌-◌, ◌<◌, ◌≤◌, [], length, Some, None, option_map, IfOk, IfErr, OnOk, OnErr, is_err, vec_len, vec_capacity};
-ghost use Rattle.pw_volume.specs.Crash.{written, Counts};
+ghost use Rattle.pw_volume.specs.Crash.{written, CountsFaults};
 ghost use Rattle.pw_volume.specs.Life.{Lives};
 ghost use Rattle.pw_volume.specs.MemDisk.{AreSame, crashed, left_by_crash, life_by};
 
@@ -102,7 +102,7 @@ fn twice(alloc: Global, bytes: &[u8]) -> Result<(Vec<u8>, Vec<u8>), Memory>
 /// Fails where no call is left.
 fn admit(left: Option<u64>, faults: &mut u64) -> Result<(), DiskFailed>
     ensures lives { Lives (life_by left) (is_err result) }
-    ensures count { Counts result faults.old faults.new }
+    ensures count { CountsFaults result faults.old faults.new }
 {
     if left == Some(0) {
         *faults = faults.saturating_add(1);

@@ -18,7 +18,7 @@ use Rattle.pw_event.specs.declared.script.FailLine.{FailLine}
 use Rattle.pw_exec.specs.OfSystem.{behaviour, records_by}
 use Rattle.pw_files.proofs.RecordLemmas.{IsFile-empty}
 use Rattle.pw_files.specs.Records.{record_at}
-use Rattle.pw_listing.specs.declared.numbers.Number.{Number}
+use Rattle.pw_listing.specs.declared.numbers.ListedRefreshNumber.{ListedRefreshNumber}
 use Rattle.pw_monitor.specs.States.{WorldState, seen}
 use Rattle.pw_monitor_world.specs.Worlds.{IsNew}
 use Rattle.pw_paired.specs.Shown.{refreshes}
@@ -52,7 +52,7 @@ module _ (world : WorldState TmfState) (system : System) (script : List FailLine
       ∙ (ap (λ (lines : List FailLine). record { system = system; script = lines; log = world.ledger.log }) new.script_is
       ∙ ap (λ (log : List Event). record { system = system; script = script; log = log }) new.empty)
 
-  pub watch-begun : IsValid system → (tally : TallyState) (numbers : List (BTreeSet Number)) → IsFirstTally system tally
+  pub watch-begun : IsValid system → (tally : TallyState) (numbers : List (BTreeSet ListedRefreshNumber)) → IsFirstTally system tally
       → length numbers ≡ length system.terminals → AreShownOf [] numbers → IsWatch world tally numbers
   watch-begun valid tally numbers first count none = record {
     limit = new.limit_is;

@@ -10,7 +10,7 @@ use Rattle.pw_onecopy.specs.Behaviour.{Behaviour}
 use Rattle.pw_onecopy.specs.IsBehaviour.{IsBehaviour}
 use Rattle.pw_script.specs.Log.{rule_of}
 use Rattle.pw_source.specs.OfDeck as tree
-use Rattle.pw_watch.specs.Status.{Counts, IsStatusOf}
+use Rattle.pw_watch.specs.Status.{TellsStatus, IsStatusOf}
 use Rattle.pw_watch.specs.declared.status.Counted.{Counted}
 use Rattle.pw_whole.proofs.Decks.{IsOf}
 use Rattle.pw_whole.proofs.Rules.{log-few, ruled-behaves, ruled-same, ruled-valid}
@@ -48,18 +48,18 @@ module _ (bytes : List ℕ) (whole : Deck) (of : IsOf bytes whole) (small : IsSm
 
   -- what is said of the first entries is said of the deck
   pub status-of : (rule : LockRule) → rule ≡ rule_of whole.version → (at : ℕ) (log : List Event) → log ≡ take at whole.log → (counted : Counted) (text : List ℕ)
-      → Counts (code.behaviour whole.script.lines (ruled rule)) (ruled rule) log counted text → IsStatusOf bytes at counted text
+      → TellsStatus (code.behaviour whole.script.lines (ruled rule)) (ruled rule) log counted text → IsStatusOf bytes at counted text
   status-of rule is at log same counted text counts =
-      let by-trees : Counts (tree.behaviour tree-rule (trees_of of.deck)) (ruled rule) log counted text =
-      subst (λ (b : Behaviour). Counts b (ruled rule) log counted text) (whole-same rule is) counts in
-      let by-rule : Counts (tree.behaviour tree-rule (trees_of of.deck)) (record whole.system { rule = rule_of whole.version }) log counted text =
-      subst (λ (r : LockRule). Counts (tree.behaviour tree-rule (trees_of of.deck)) (ruled r) log counted text) is by-trees in
-      let by-log : Counts (tree.behaviour tree-rule (trees_of of.deck)) (record whole.system { rule = rule_of whole.version }) (take at whole.log) counted text =
-      subst (λ (l : List Event). Counts (tree.behaviour tree-rule (trees_of of.deck)) (record whole.system { rule = rule_of whole.version }) l counted text) same by-rule in
+      let by-trees : TellsStatus (tree.behaviour tree-rule (trees_of of.deck)) (ruled rule) log counted text =
+      subst (λ (b : Behaviour). TellsStatus b (ruled rule) log counted text) (whole-same rule is) counts in
+      let by-rule : TellsStatus (tree.behaviour tree-rule (trees_of of.deck)) (record whole.system { rule = rule_of whole.version }) log counted text =
+      subst (λ (r : LockRule). TellsStatus (tree.behaviour tree-rule (trees_of of.deck)) (ruled r) log counted text) is by-trees in
+      let by-log : TellsStatus (tree.behaviour tree-rule (trees_of of.deck)) (record whole.system { rule = rule_of whole.version }) (take at whole.log) counted text =
+      subst (λ (l : List Event). TellsStatus (tree.behaviour tree-rule (trees_of of.deck)) (record whole.system { rule = rule_of whole.version }) l counted text) same by-rule in
       record {
         deck = of.deck;
         says = of.says;
-        counts = subst (λ (w : Deck). Counts (tree.behaviour tree-rule (trees_of of.deck)) (record w.system { rule = rule_of w.version }) (take at w.log) counted text) of.is by-log;
+        counts = subst (λ (w : Deck). TellsStatus (tree.behaviour tree-rule (trees_of of.deck)) (record w.system { rule = rule_of w.version }) (take at w.log) counted text) of.is by-log;
       }
 
 -- the first of a list are no more than all

@@ -5,7 +5,7 @@ use Rattle.std.specs.List.{AllByRecursion}
 use Rattle.std.specs.Option.{IfSome}
 use Rattle.std.specs.Prelude.{All}
 use Rattle.pw_code.specs.declared.system.System.{System}
-use Rattle.pw_event.specs.Line.{IsThere, ending_words}
+use Rattle.pw_event.specs.Line.{IsWordOfSystem, ending_words}
 use Rattle.pw_event.specs.declared.event.Ending.{Ending}
 use Rattle.pw_event.specs.declared.event.Event.{Event}
 use Rattle.pw_event.specs.declared.event.Event.TheVariants as event
@@ -22,7 +22,7 @@ use Rattle.pw_laws.proofs.induction.Runs.{holds-behind}
 
 -- the words of an ending name what is there
 abbrev pub AreThere : System → Option Ending → Type 0
-AreThere system ending = IfSome ending (λ (e : Ending). AllByRecursion (IsThere system) (ending_words e))
+AreThere system ending = IfSome ending (λ (e : Ending). AllByRecursion (IsWordOfSystem system) (ending_words e))
 
 module _ (system : System) (script : List FailLine) (b : IsBehaviour (behaviour script system)) (lines : All (IsLineThere system) script) where
   abbrev sys : Behaviour

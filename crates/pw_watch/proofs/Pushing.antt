@@ -15,7 +15,7 @@ use Rattle.pw_counts.specs.Counts.{waiting}
 use Rattle.pw_counts.specs.Longest.{sent_to}
 use Rattle.pw_counts.specs.Over.{ends_at}
 use Rattle.pw_counts.specs.Shown.{AreShownOf, IsSameAs, numbers_of}
-use Rattle.pw_counts.specs.Tally.{AreSized, IsMet, IsNotedIn, IsSameTally, IsTallyOf, TallyState, worker_for}
+use Rattle.pw_counts.specs.Tally.{AreSized, EntryMeets, IsNotedIn, IsSameTally, IsTallyOf, TallyState, worker_for}
 use Rattle.pw_counts.specs.declared.tally.Met.{Met}
 use Rattle.pw_event.specs.Line.{no_terminal}
 use Rattle.pw_event.specs.declared.event.Event.{Event}
@@ -23,7 +23,7 @@ use Rattle.pw_event.specs.declared.event.Event.TheVariants as event
 use Rattle.pw_event.specs.declared.script.FailLine.{FailLine}
 use Rattle.pw_exec.specs.OfSystem.{behaviour, number_by}
 use Rattle.pw_kept.specs.May.{IsThere}
-use Rattle.pw_listing.specs.declared.numbers.Number.{Number}
+use Rattle.pw_listing.specs.declared.numbers.ListedRefreshNumber.{ListedRefreshNumber}
 use Rattle.pw_monitor.specs.Ledgers.{books_of}
 use Rattle.pw_monitor.specs.States.{WorldState, seen}
 use Rattle.pw_monitor_world.proofs.Books.{screens-more}
@@ -36,19 +36,19 @@ use Rattle.pw_named.proofs.Naming.{named}
 use Rattle.pw_onecopy.specs.Behaviour.{Behaviour}
 use Rattle.pw_onecopy.specs.Refreshes.{refresh_numbered}
 use Rattle.pw_onecopy.specs.declared.refresh.Refresh.{Refresh}
-use Rattle.pw_order.specs.Shadow.{IsOf}
+use Rattle.pw_order.specs.Shadow.{IsOfSystem}
 use Rattle.pw_paired.specs.Serial.{is_gone}
 use Rattle.pw_paired.specs.Shown.{refresh_of, refreshes}
 use Rattle.pw_paired.specs.State.{State, starting}
 use Rattle.pw_paired.specs.Step.{Legal, after, effect}
 use Rattle.pw_laws.proofs.induction.Runs.{after-more, kept}
 use Rattle.pw_tmf.specs.Tmf.{TmfState, told_of}
-use Rattle.pw_watch.specs.Meeting.{ends_then, may_end, replied, waits_then}
-use Rattle.pw_watch.specs.Noting.{Forgets, IsKept, Notes, shown_in}
+use Rattle.pw_watch.specs.Meeting.{ends_then, may_end, replied_terminal, waits_then}
+use Rattle.pw_watch.specs.Noting.{Forgets, HasKeptNumbers, Notes, shown_in}
 use Rattle.pw_watch.specs.Watching.{IsWatch, WatchState, sys_in, watched}
 
 -- a system is that of its behaviour
-pub is-of : (system : System) (script : List FailLine) → IsOf system (behaviour script system)
+pub is-of : (system : System) (script : List FailLine) → IsOfSystem system (behaviour script system)
 is-of system script = record {
   terminals = refl;
   pairs = refl;
@@ -58,17 +58,17 @@ is-of system script = record {
 -- ---- refresh numbers
 
 -- the terminal of a SHOW is one of those whose numbers are kept
-pub shown-kept : (system : System) (entry : Event) (sets : List (BTreeSet Number)) → length sets ≡ length system.terminals → IsThere system entry → IsKept (shown_in entry) sets
+pub shown-kept : (system : System) (entry : Event) (sets : List (BTreeSet ListedRefreshNumber)) → length sets ≡ length system.terminals → IsThere system entry → HasKeptNumbers (shown_in entry) sets
 shown-kept system (event.Show t phase attempt k) sets count low = subst (λ (n : ℕ). t < n) (sym count) low
 shown-kept system entry sets count there = tt
 
 -- so many sets still
-noted-count : (shown : Option (ℕ × Number)) (fresh : Bool) (old new : List (BTreeSet Number)) → Notes shown fresh old new → length new ≡ length old
+noted-count : (shown : Option (ℕ × ListedRefreshNumber)) (fresh : Bool) (old new : List (BTreeSet ListedRefreshNumber)) → Notes shown fresh old new → length new ≡ length old
 noted-count None fresh old new is = ap length is.1
 noted-count (Some shown) fresh old new is = ap length is.sets ∙ length-set old shown.0 (numbers_of new shown.0)
 
 -- those of the refreshes with that of the entry
-pub shown-more : (sys : Behaviour) (s : State) (refreshes : List Refresh) (entry : Event) (fresh : Bool) (old new : List (BTreeSet Number)) → IsKept (shown_in entry) old
+pub shown-more : (sys : Behaviour) (s : State) (refreshes : List Refresh) (entry : Event) (fresh : Bool) (old new : List (BTreeSet ListedRefreshNumber)) → HasKeptNumbers (shown_in entry) old
     → Notes (shown_in entry) fresh old new → AreShownOf refreshes old → AreShownOf (refreshes ++ refresh_of sys s entry) new
 shown-more sys s refreshes (event.Show t phase attempt k) fresh old new low is shown =
     noted refreshes (refresh_numbered t (record { phase = phase; attempt = attempt; k = k }) (sys.image t ((s.terms t).path))) t fresh old new low refl is shown
@@ -76,7 +76,7 @@ shown-more sys s refreshes entry fresh old new low is shown =
     subst (λ (l : List Refresh). AreShownOf l new) (sym (append-nil refreshes)) (subst (AreShownOf refreshes) (sym is.1) shown)
 
 -- those of the same refreshes, once what was new is forgotten
-undone : (refreshes : List Refresh) (shown : Option (ℕ × Number)) (fresh : Bool) (old mid new : List (BTreeSet Number)) → IsKept shown old → Notes shown fresh old mid
+undone : (refreshes : List Refresh) (shown : Option (ℕ × ListedRefreshNumber)) (fresh : Bool) (old mid new : List (BTreeSet ListedRefreshNumber)) → HasKeptNumbers shown old → Notes shown fresh old mid
     → Forgets shown fresh mid new → AreShownOf refreshes old → AreShownOf refreshes new × (length new ≡ length old)
 undone refreshes None fresh old mid new low is gone shown = (subst (AreShownOf refreshes) (sym (gone ∙ is.1)) shown, ap length (gone ∙ is.1))
 undone refreshes (Some own) true old mid new low is gone shown =
@@ -112,7 +112,7 @@ module _ (sys : Behaviour) (log : List Event) (entry : Event) where
 
   -- of what the world tells
   pub meets : (before met : Met) → before.terminal ≡ worker_for state entry → before.ends ≡ may_end state entry
-      → met ≡ record before { ends = ends_then next entry before.ends; waiting = waits_then next entry } → IsMet sys log entry met
+      → met ≡ record before { ends = ends_then next entry before.ends; waiting = waits_then next entry } → EntryMeets sys log entry met
   meets before met terminal ends is = record {
     terminal = ap (λ (m : Met). m.terminal) is ∙ terminal;
     ends = ap (λ (m : Met). m.ends) is ∙ (ap (ends_then next entry) ends ∙ (ap (λ (s : State). ends_then s entry (may_end state entry)) (after-more sys log entry) ∙ ends-are sys state entry));
@@ -121,7 +121,7 @@ module _ (sys : Behaviour) (log : List Event) (entry : Event) where
 
 -- a REPLY is of a terminal that is there
 pub replied-there : (world : Seen) (books : Books) → IsWorld world books → (entry : Event) → Legal (sys_of world) (state_of world) entry
-    → IfSome (replied entry) (λ t. t < length world.system.terminals)
+    → IfSome (replied_terminal entry) (λ t. t < length world.system.terminals)
 replied-there world books w (event.Reply c i t fault) legal =
     subst (λ (own : ℕ). own < length world.system.terminals) legal.fits.whose
     (job-here (sys_of world) (state_of world) (kept (sys_of world) w.deck world.log w.run) c i legal.fits.job legal.fits.at_work)
@@ -138,7 +138,7 @@ sent-there world books w entry legal = tt
 
 -- over a world of the same system, failure lines and log
 module _ (old new : WorldState TmfState) (same : watched new ≡ watched old) (limit : new.limit ≡ old.limit) (failed : new.failed ≡ old.failed) where
-  watch-same : (tally : TallyState) (numbers : List (BTreeSet Number)) → IsWatch old tally numbers → IsWatch new tally numbers
+  watch-same : (tally : TallyState) (numbers : List (BTreeSet ListedRefreshNumber)) → IsWatch old tally numbers → IsWatch new tally numbers
   watch-same tally numbers w = record {
     limit = limit ∙ w.limit;
     sound = failed ∙ w.sound;
@@ -148,7 +148,7 @@ module _ (old new : WorldState TmfState) (same : watched new ≡ watched old) (l
   }
 
 -- with more room
-pub watch-roomy : (world : WorldState TmfState) (terminal : Option ℕ) (old new : TallyState) (numbers : List (BTreeSet Number)) → IsSameTally terminal old new
+pub watch-roomy : (world : WorldState TmfState) (terminal : Option ℕ) (old new : TallyState) (numbers : List (BTreeSet ListedRefreshNumber)) → IsSameTally terminal old new
     → IsWatch world old numbers → IsWatch world new numbers
 watch-roomy world terminal old new numbers same w = record {
   limit = w.limit;
@@ -159,7 +159,7 @@ watch-roomy world terminal old new numbers same w = record {
 }
 
 -- with the same numbers
-pub watch-numbers : (world : WorldState TmfState) (tally : TallyState) (old new : List (BTreeSet Number)) → IsSameAs old new → IsWatch world tally old → IsWatch world tally new
+pub watch-numbers : (world : WorldState TmfState) (tally : TallyState) (old new : List (BTreeSet ListedRefreshNumber)) → IsSameAs old new → IsWatch world tally old → IsWatch world tally new
 watch-numbers world tally old new same w = record {
   limit = w.limit;
   sound = w.sound;
@@ -184,8 +184,8 @@ module _ (old new : WorldState TmfState) (stays : Stays old new) where
   stays-seen = seen-same old new stays.0 old.ledger.log stays.1.0
 
   -- an entry is refused
-  pub watch-refused : (tally roomy : TallyState) (first mid last : List (BTreeSet Number)) (terminal : Option ℕ) (shown : Option (ℕ × Number)) (fresh : Bool)
-      → IsWatch old tally first → IsSameTally terminal tally roomy → IsKept shown first → Notes shown fresh first mid → Forgets shown fresh mid last → IsWatch new roomy last
+  pub watch-refused : (tally roomy : TallyState) (first mid last : List (BTreeSet ListedRefreshNumber)) (terminal : Option ℕ) (shown : Option (ℕ × ListedRefreshNumber)) (fresh : Bool)
+      → IsWatch old tally first → IsSameTally terminal tally roomy → HasKeptNumbers shown first → Notes shown fresh first mid → Forgets shown fresh mid last → IsWatch new roomy last
   watch-refused tally roomy first mid last terminal shown fresh w same low is gone =
       let back = undone (refreshes (sys_in (watched old)) old.ledger.log) shown fresh first mid last low is gone w.shown in
       watch-same old new stays-seen stays.0.limit stays.1.1 roomy last
@@ -206,8 +206,8 @@ module _ (old new : WorldState TmfState) (entry : Event) (world : IsWorld (seen 
   few : length old.keep.system.terminals ≤ 128
   few = world.valid.few.terminals
 
-  pub watch-more : (tally roomy behind : TallyState) (first mid : List (BTreeSet Number)) (terminal : Option ℕ) (fresh : Bool) (before met : Met) → length old.ledger.log < most_log_lines
-      → IsWatch old tally first → IsSameTally terminal tally roomy → IsKept (shown_in entry) first → Notes (shown_in entry) fresh first mid
+  pub watch-more : (tally roomy behind : TallyState) (first mid : List (BTreeSet ListedRefreshNumber)) (terminal : Option ℕ) (fresh : Bool) (before met : Met) → length old.ledger.log < most_log_lines
+      → IsWatch old tally first → IsSameTally terminal tally roomy → HasKeptNumbers (shown_in entry) first → Notes (shown_in entry) fresh first mid
       → before.terminal ≡ worker_for (state_of (seen told_of old)) entry
       → before.ends ≡ may_end (state_of (seen told_of old)) entry
       → met ≡ record before { ends = ends_then (state_of (seen told_of new)) entry before.ends; waiting = waits_then (state_of (seen told_of new)) entry }
@@ -234,7 +234,7 @@ module _ (old new : WorldState TmfState) (entry : Event) (world : IsWorld (seen 
         shown = subst (λ (v : WatchState). AreShownOf (refreshes (sys_in v) v.log) mid) (sym pushed-seen) shows;
       }
 
-  pub roomy-sized : (tally roomy : TallyState) (first : List (BTreeSet Number)) (terminal : Option ℕ) → IsWatch old tally first → IsSameTally terminal tally roomy → AreSized roomy
+  pub roomy-sized : (tally roomy : TallyState) (first : List (BTreeSet ListedRefreshNumber)) (terminal : Option ℕ) → IsWatch old tally first → IsSameTally terminal tally roomy → AreSized roomy
   roomy-sized tally roomy first terminal w same =
       tally-sized old.keep.system (sys_in (watched old)) old.ledger.log roomy (is-of old.keep.system old.script) few
       (roomy-tally old.keep.system (sys_in (watched old)) old.ledger.log terminal tally roomy same w.counted)

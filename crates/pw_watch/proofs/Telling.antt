@@ -15,8 +15,8 @@ use Rattle.pw_event.specs.declared.event.Ending.{Ending}
 use Rattle.pw_event.specs.declared.event.Event.{Event}
 use Rattle.pw_exec.specs.OfSystem.{processes_by}
 use Rattle.pw_pair.specs.Follows.{mode_as}
-use Rattle.pw_listing.specs.Listing.{counted}
-use Rattle.pw_listing.specs.declared.numbers.Number.{Number}
+use Rattle.pw_listing.specs.Listing.{refreshes_counted_once}
+use Rattle.pw_listing.specs.declared.numbers.ListedRefreshNumber.{ListedRefreshNumber}
 use Rattle.pw_monitor.specs.States.{WorldState}
 use Rattle.pw_onecopy.specs.Behaviour.{Behaviour}
 use Rattle.pw_onecopy.specs.Path.{entries_on}
@@ -26,13 +26,13 @@ use Rattle.pw_paired.specs.Step.{after}
 use Rattle.pw_paired.specs.Terminal.{path_of}
 use Rattle.pw_status.specs.Text.{class_line, file_line, pair_line, terminal_line}
 use Rattle.pw_tmf.specs.Tmf.{TmfState}
-use Rattle.pw_watch.specs.Lines.{class_of, file_of, pair_of, terminal_of}
+use Rattle.pw_watch.specs.Lines.{class_watch_line, file_of, pair_watch_line, terminal_of}
 use Rattle.pw_watch.specs.Watching.{IsWatch, WatchState, state_in, sys_in, watched}
 
 -- ---- lines
 
 module _ (watch : WatchState) (system : System) (same : system ≡ watch.system) where
-  pub pair-told : (p : ℕ) (mode : Mode) → mode ≡ mode_as ((state_in watch).modes p) → pair_line system p mode ≡ pair_of watch p
+  pub pair-told : (p : ℕ) (mode : Mode) → mode ≡ mode_as ((state_in watch).modes p) → pair_line system p mode ≡ pair_watch_line watch p
   pair-told p mode is = ap (λ (s : System). pair_line s p mode) same ∙ ap (pair_line watch.system p) is
 
   pub terminal-told : (t : ℕ) (ending : Option Ending) (counts : TerminalCounts) → ending ≡ ((state_in watch).terms t).ending → counts ≡ terminal_counts (sys_in watch) watch.log t
@@ -41,7 +41,7 @@ module _ (watch : WatchState) (system : System) (same : system ≡ watch.system)
       ap (λ (s : System). terminal_line s t ending counts) same
       ∙ (ap (λ (e : Option Ending). terminal_line watch.system t e counts) ends ∙ ap (terminal_line watch.system t ((state_in watch).terms t).ending) is)
 
-  pub class-told : (c : ℕ) (counts : ClassCounts) → counts ≡ class_counts (sys_in watch) watch.log c → class_line system c counts ≡ class_of watch c
+  pub class-told : (c : ℕ) (counts : ClassCounts) → counts ≡ class_counts (sys_in watch) watch.log c → class_line system c counts ≡ class_watch_line watch c
   class-told c counts is = ap (λ (s : System). class_line s c counts) same ∙ ap (class_line watch.system c) is
 
   pub file-told : (f : ℕ) (counts : FileCounts) → counts ≡ file_counts (sys_in watch) watch.log f → file_line system f counts ≡ file_of watch f
@@ -89,14 +89,14 @@ module _ (system : System) (sys : Behaviour) (log : List Event) (tally : TallySt
       let a = of.attempts in
       rw (c.begun, a.committed, a.dropped, a.left, c.older, c.takeover, c.server, c.redo) refl
 
-module _ (world : WorldState TmfState) (tally : TallyState) (numbers : List (BTreeSet Number)) (w : IsWatch world tally numbers) where
+module _ (world : WorldState TmfState) (tally : TallyState) (numbers : List (BTreeSet ListedRefreshNumber)) (w : IsWatch world tally numbers) where
   abbrev sys : Behaviour
   sys = sys_in (watched world)
 
   abbrev log : List Event
   log = world.ledger.log
 
-  pub shown-is : (t n : ℕ) → t < length world.keep.system.terminals → n ≡ btree_set_len (numbers_of numbers t) → n ≡ length (counted (refreshes sys log) t)
+  pub shown-is : (t n : ℕ) → t < length world.keep.system.terminals → n ≡ btree_set_len (numbers_of numbers t) → n ≡ length (refreshes_counted_once (refreshes sys log) t)
   shown-is t n low is = is ∙ (w.shown t (omega (arith, w.count, low))).count
 
   pub terminal-counts : (t : ℕ) (counts : TerminalCounts) → t < length world.keep.system.terminals → counts.units ≡ ((after sys log).ended t).number

@@ -16,9 +16,9 @@ is_lost mode.Gone = true
 is_lost _ = false
 
 -- the terminal of a REPLY
-abbrev pub replied : Event → Option ℕ
-replied (Reply c i t fault) = Some t
-replied _ = None
+abbrev pub replied_terminal : Event → Option ℕ
+replied_terminal (Reply c i t fault) = Some t
+replied_terminal _ = None
 
 -- before the entry: a REPLY is of a unit that is one SEND, and the pair of a FAIL TCP is not lost
 abbrev pub may_end : State → Event → Bool

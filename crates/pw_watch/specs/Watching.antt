@@ -8,7 +8,7 @@ use Rattle.pw_counts.specs.Tally.{IsTallyOf, TallyState}
 use Rattle.pw_event.specs.declared.event.Event.{Event}
 use Rattle.pw_event.specs.declared.script.FailLine.{FailLine}
 use Rattle.pw_exec.specs.OfSystem.{behaviour}
-use Rattle.pw_listing.specs.declared.numbers.Number.{Number}
+use Rattle.pw_listing.specs.declared.numbers.ListedRefreshNumber.{ListedRefreshNumber}
 use Rattle.pw_monitor.specs.States.{WorldState}
 use Rattle.pw_onecopy.specs.Behaviour.{Behaviour}
 use Rattle.pw_paired.specs.Shown.{refreshes}
@@ -33,11 +33,11 @@ abbrev pub state_in : WatchState → State
 state_in watch = after (sys_in watch) watch.log
 
 -- a push adds a step; an entry that is none, and want of memory, leave all as it was
-abbrev pub Pushes : WatchState → Event → Result (Unit {0}) WatchFault → WatchState → Type 0
-Pushes watch event (Ok done) new =
+abbrev pub PushesToWatch : WatchState → Event → Result (Unit {0}) WatchFault → WatchState → Type 0
+PushesToWatch watch event (Ok done) new =
     Legal (sys_in watch) (state_in watch) event × (new ≡ record watch { log = watch.log ++ event ∷ [] })
-Pushes watch event (Err fault.NotAStep) new = (¬ Legal (sys_in watch) (state_in watch) event) × (new ≡ watch)
-Pushes watch event (Err fault.Memory) new = new ≡ watch
+PushesToWatch watch event (Err fault.NotAStep) new = (¬ Legal (sys_in watch) (state_in watch) event) × (new ≡ watch)
+PushesToWatch watch event (Err fault.Memory) new = new ≡ watch
 
 -- ---- what its type keeps
 
@@ -46,7 +46,7 @@ abbrev pub watched : WorldState TmfState → WatchState
 watched world = record { system = world.keep.system; script = world.script; log = world.ledger.log }
 
 -- the world may have 500,000 entries and has met no fault, and what is counted is that of its log
-pub record IsWatch (world : WorldState TmfState) (tally : TallyState) (numbers : List (BTreeSet Number)) : Type 0 where
+pub record IsWatch (world : WorldState TmfState) (tally : TallyState) (numbers : List (BTreeSet ListedRefreshNumber)) : Type 0 where
   pub limit : world.limit ≡ most_log_lines
   pub sound : world.failed ≡ false
   pub counted : IsTallyOf world.keep.system (sys_in (watched world)) world.ledger.log tally

@@ -3,7 +3,7 @@
 ghost use Rattle.std.specs.Prelude.{◌≡◌, ◌<◌, length};
 ghost use Rattle.pw_code.specs.Limits.{most_log_lines};
 ghost use Rattle.pw_kept.specs.May.{IsThere};
-ghost use Rattle.pw_watch.specs.Watching.{IsWatch, Pushes, watched};
+ghost use Rattle.pw_watch.specs.Watching.{IsWatch, PushesToWatch, watched};
 
 use crate::meeting::{met_before, met_behind};
 use crate::noting::{forget, note, shown_in};
@@ -27,7 +27,7 @@ pub(crate) fn enter(
     requires room { length world.old.ledger.log < most_log_lines }
     requires there { IsThere world.old.keep.system event.now }
     ensures watch { IsWatch world.new tally.new numbers.new }
-    ensures pushes { Pushes (watched world.old) event.now result (watched world.new) }
+    ensures pushes { PushesToWatch (watched world.old) event.now result (watched world.new) }
 {
     world.holds();
     let shown = shown_in(event);

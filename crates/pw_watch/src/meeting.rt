@@ -11,7 +11,7 @@ ghost use Rattle.pw_monitor_world.specs.Seen.{state_of};
 ghost use Rattle.pw_onecopy.specs.Path.{is_outside};
 ghost use Rattle.pw_paired.specs.Terminal.{path_of};
 ghost use Rattle.pw_tmf.specs.Tmf.{told_of};
-ghost use Rattle.pw_watch.specs.Meeting.{ends_then, is_lost, may_end, replied, waits_then};
+ghost use Rattle.pw_watch.specs.Meeting.{ends_then, is_lost, may_end, replied_terminal, waits_then};
 
 use pw_counts::laws::longest_laws;
 use pw_counts::tally::Met;
@@ -24,7 +24,7 @@ use pw_tmf::tmf::Tmf;
 pub(crate) fn met_before(world: &World<Tmf>, entry: &Event) -> Met
     requires { IsThere world.now.keep.system entry.now }
     ensures terminal { result.terminal ≡ worker_for (state_of (seen told_of world.now)) entry.now }
-    ensures ends { IfSome (replied entry.now) (λ t. t < length world.now.keep.system.terminals)
+    ensures ends { IfSome (replied_terminal entry.now) (λ t. t < length world.now.keep.system.terminals)
         → result.ends ≡ may_end (state_of (seen told_of world.now)) entry.now }
 {
     Met {
@@ -64,7 +64,7 @@ fn worker_for(world: &World<Tmf>, entry: &Event) -> Option<u32>
 /// Whether a REPLY is of a unit that is one SEND, and whether the pair of a FAIL TCP is not lost yet.
 fn may_end(world: &World<Tmf>, entry: &Event) -> bool
     requires { IsThere world.now.keep.system entry.now }
-    ensures { IfSome (replied entry.now) (λ t. t < length world.now.keep.system.terminals)
+    ensures { IfSome (replied_terminal entry.now) (λ t. t < length world.now.keep.system.terminals)
         → result ≡ may_end (state_of (seen told_of world.now)) entry.now }
 {
     match *entry {

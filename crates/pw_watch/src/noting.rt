@@ -2,15 +2,15 @@
 
 ghost use Rattle.std.specs.Prelude.{◌≡◌, ◌<◌, IfOk, OnErr, length};
 ghost use Rattle.pw_counts.specs.Shown.{IsSameAs};
-ghost use Rattle.pw_watch.specs.Noting.{Forgets, IsKept, IsUndone, Notes, shown_in};
+ghost use Rattle.pw_watch.specs.Noting.{Forgets, HasKeptNumbers, IsUndone, Notes, shown_in};
 
 use pw_base::memory::Memory;
 use pw_counts::shown::Numbers;
 use pw_event::event::Event;
-use pw_listing::numbers::Number;
+use pw_listing::numbers::ListedRefreshNumber;
 
 /// The terminal of a SHOW, and its refresh number.
-pub(crate) fn shown_in(entry: &Event) -> Option<(u32, Number)>
+pub(crate) fn shown_in(entry: &Event) -> Option<(u32, ListedRefreshNumber)>
     ensures { result ≡ shown_in entry.now }
 {
     match *entry {
@@ -19,14 +19,14 @@ pub(crate) fn shown_in(entry: &Event) -> Option<(u32, Number)>
             phase,
             attempt,
             k,
-        } => Some((terminal, Number { phase, attempt, k })),
+        } => Some((terminal, ListedRefreshNumber { phase, attempt, k })),
         _ => None,
     }
 }
 
 /// Notes a refresh number, if there is one; whether it is new. An `Err` leaves all as it was.
-pub(crate) fn note(numbers: &mut Numbers, shown: Option<(u32, Number)>) -> Result<bool, Memory>
-    requires { IsKept shown numbers.old }
+pub(crate) fn note(numbers: &mut Numbers, shown: Option<(u32, ListedRefreshNumber)>) -> Result<bool, Memory>
+    requires { HasKeptNumbers shown numbers.old }
     ensures ok { IfOk result (λ fresh. Notes shown fresh numbers.old numbers.new) }
     ensures err { OnErr result (IsSameAs numbers.old numbers.new) }
 {
@@ -37,8 +37,8 @@ pub(crate) fn note(numbers: &mut Numbers, shown: Option<(u32, Number)>) -> Resul
 }
 
 /// Forgets a refresh number that was new.
-pub(crate) fn forget(numbers: &mut Numbers, shown: Option<(u32, Number)>, fresh: bool)
-    requires { IsKept shown numbers.old }
+pub(crate) fn forget(numbers: &mut Numbers, shown: Option<(u32, ListedRefreshNumber)>, fresh: bool)
+    requires { HasKeptNumbers shown numbers.old }
     ensures { Forgets shown fresh numbers.old numbers.new }
 {
     match shown {
@@ -48,7 +48,7 @@ pub(crate) fn forget(numbers: &mut Numbers, shown: Option<(u32, Number)>, fresh:
 }
 
 /// Forgets the refresh number of a terminal where it was new.
-fn forget_if(numbers: &mut Numbers, terminal: u32, number: Number, fresh: bool)
+fn forget_if(numbers: &mut Numbers, terminal: u32, number: ListedRefreshNumber, fresh: bool)
     requires { terminal < length numbers.old }
     ensures { IsUndone (terminal, number) fresh numbers.old numbers.new }
 {

@@ -8,7 +8,7 @@ ghost use Rattle.pw_deck.specs.Deck.{deck_of};
 ghost use Rattle.pw_exec.specs.OfSystem.{behaviour};
 ghost use Rattle.pw_kept.specs.May.{IsLineThere};
 ghost use Rattle.pw_onecopy.specs.IsBehaviour.{IsBehaviour};
-ghost use Rattle.pw_watch.specs.Status.{Counts, IsStatusOf};
+ghost use Rattle.pw_watch.specs.Status.{TellsStatus, IsStatusOf};
 ghost use Rattle.pw_watch.specs.Watching.{sys_in};
 
 use crate::watch::{Watch, WatchFault};
@@ -76,7 +76,7 @@ fn count(
     requires lines { All (IsLineThere system) script.lines }
     requires few { length script.lines < 2 ^ 32 - 1 }
     requires log { length log.now ≤ most_log_lines }
-    ensures { IfOk result (λ output. Counts (behaviour script.lines system) system log.now output.0
+    ensures { IfOk result (λ output. TellsStatus (behaviour script.lines system) system log.now output.0
         output.1) }
 {
     let mut watch = Watch::new(alloc, system, script)?;
@@ -89,7 +89,7 @@ fn count(
 fn count_over(alloc: Global, watch: &mut Watch, log: &[Event]) -> Result<(Counted, Bytes), Memory>
     requires new { watch.old.log ≡ [] }
     requires log { length log.now ≤ most_log_lines }
-    ensures { IfOk result (λ output. Counts (sys_in watch.old) watch.old.system log.now output.0
+    ensures { IfOk result (λ output. TellsStatus (sys_in watch.old) watch.old.system log.now output.0
         output.1) }
 {
     for event in log {

@@ -4,7 +4,7 @@ ghost use Rattle.std.specs.Prelude.{◌≡◌, ◌+◌, ◌-◌, ◌<◌, ◌^�
 ghost use Rattle.pw_counts.specs.Counts.{busy_to, class_counts, terminal_counts};
 ghost use Rattle.pw_counts.specs.Tally.{IsTallyOf};
 ghost use Rattle.pw_status.specs.Text.{lines_to, status_text};
-ghost use Rattle.pw_watch.specs.Lines.{class_of, file_of, pair_of, terminal_of};
+ghost use Rattle.pw_watch.specs.Lines.{class_watch_line, file_of, pair_watch_line, terminal_of};
 ghost use Rattle.pw_watch.specs.Watching.{IsWatch, state_in, sys_in, watched};
 
 use crate::meeting::waiting;
@@ -15,9 +15,7 @@ use pw_counts::laws::number_laws;
 use pw_counts::shown::Numbers;
 use pw_counts::tally::Tally;
 use pw_monitor::world::World;
-use pw_status::lines::{
-    print_class, print_entries, print_file, print_pair, print_terminal, print_units,
-};
+use pw_status::lines::{print_class, print_entries, print_file, print_pair, print_terminal, print_units};
 use pw_tmf::tmf::Tmf;
 use std::alloc::Global;
 
@@ -46,7 +44,7 @@ pub(crate) fn text_of(
 /// the lines there.
 fn print_pairs(text: &mut Bytes, world: &World<Tmf>) -> Result<(), Memory>
     ensures { OnOk result (text.new ≡ text.old
-        ++ lines_to (pair_of (watched world.now)) (length world.now.keep.system.tcps)) }
+        ++ lines_to (pair_watch_line (watched world.now)) (length world.now.keep.system.tcps)) }
 {
     world.holds();
     let system = world.system();
@@ -102,7 +100,7 @@ fn count_terminal(
 fn print_classes(text: &mut Bytes, world: &World<Tmf>, tally: &Tally) -> Result<(), Memory>
     requires { IsTallyOf world.now.keep.system (sys_in (watched world.now)) world.now.ledger.log tally.now }
     ensures { OnOk result (text.new ≡ text.old
-        ++ lines_to (class_of (watched world.now)) (length world.now.keep.system.classes)) }
+        ++ lines_to (class_watch_line (watched world.now)) (length world.now.keep.system.classes)) }
 {
     world.holds();
     let system = world.system();

@@ -9,7 +9,7 @@ ghost use Rattle.pw_onecopy.specs.IsBehaviour.{IsBehaviour};
 ghost use Rattle.pw_status.specs.Text.{status_text};
 ghost use Rattle.pw_tmf.specs.Starting.{told_at_start};
 ghost use Rattle.pw_tmf.specs.Tmf.{told_of};
-ghost use Rattle.pw_watch.specs.Watching.{Pushes, sys_in};
+ghost use Rattle.pw_watch.specs.Watching.{PushesToWatch, sys_in};
 
 use crate::entering::enter;
 use crate::text::text_of;
@@ -83,7 +83,7 @@ impl Watch {
             let_go(system);
             return Err(Memory);
         };
-        let Parts {
+        let WatchParts {
             tally,
             numbers,
             disc,
@@ -100,7 +100,7 @@ impl Watch {
     /// what the entry touches.
     pub fn push(&mut self, event: Event) -> Result<(), WatchFault>
         requires { length self.old.log < most_log_lines }
-        ensures { Pushes self.old event result self.new }
+        ensures { PushesToWatch self.old event result self.new }
     {
         self.world.holds();
         if !is_there(self.world.system(), &event) {
@@ -131,21 +131,21 @@ impl Watch {
 
 /// What a watch over the empty log of a system is made of, but for its world.
 #[derive(Drop)]
-struct Parts {
+struct WatchParts {
     tally: Tally,
     numbers: Numbers,
     disc: Tmf,
 }
 
 /// The parts of a watch over the empty log of a system.
-fn first_parts(alloc: Global, system: &System) -> Result<Parts, Memory>
+fn first_parts(alloc: Global, system: &System) -> Result<WatchParts, Memory>
     requires { IsValid system.now }
     ensures tally { IfOk result (λ parts. IsFirstTally system.now parts.tally) }
     ensures count { IfOk result (λ parts. length parts.numbers ≡ length system.now.terminals) }
     ensures none { IfOk result (λ parts. AreShownOf [] parts.numbers) }
     ensures disc { IfOk result (λ parts. told_of parts.disc ≡ told_at_start system.now) }
 {
-    Ok(Parts {
+    Ok(WatchParts {
         tally: Tally::new(alloc, system)?,
         numbers: Numbers::new(alloc, system.terminals.len())?,
         disc: Tmf::new(alloc, system)?,

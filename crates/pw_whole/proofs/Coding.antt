@@ -7,7 +7,7 @@ use Rattle.pw_code.specs.declared.field.ScreenTable.{ScreenTable}
 use Rattle.pw_code.specs.declared.links.Links.{Links}
 use Rattle.pw_code.specs.declared.lock.LockRule.TheVariants.{ReadersShare}
 use Rattle.pw_code.specs.declared.system.ClassInfo.{ClassInfo}
-use Rattle.pw_deck.specs.declared.deck.Deck as trees
+use Rattle.pw_deck.specs.declared.deck.ParsedDeck as trees
 use Rattle.pw_scobol.specs.declared.requester.Requester.{Requester}
 use Rattle.pw_server.specs.declared.server.Server.{Server}
 use Rattle.pw_source.specs.Program as source
@@ -58,11 +58,11 @@ screens-more (x ∷ xs) r =
 -- ---- the deck
 
 -- what programs may name besides what is theirs
-abbrev pub linked : trees.Deck → List Word → List Word → Links
+abbrev pub linked : trees.ParsedDeck → List Word → List Word → Links
 linked deck names classes = record { programs = names; classes = classes; files = deck.told.system.files }
 
 -- a deck with these codes and screens
-abbrev pub with_codes : trees.Deck → List Code → List Code → List ScreenTable → Deck
+abbrev pub with_codes : trees.ParsedDeck → List Code → List Code → List ScreenTable → Deck
 with_codes deck programs servers screens = record {
   system = record {
     programs = programs;
@@ -83,13 +83,13 @@ programs-named : (rs : List Requester) → map (λ (r : Requester). r.name) rs �
 programs-named [] = refl
 programs-named (r ∷ rs) = ap (λ (names : List Word). r.name ∷ names) (programs-named rs)
 
-links-same : (deck : trees.Deck) (names classes : List Word) → names ≡ map (λ (r : Requester). r.name) deck.requesters → classes ≡ map (λ (class : ClassInfo). class.name) deck.told.system.classes
+links-same : (deck : trees.ParsedDeck) (names classes : List Word) → names ≡ map (λ (r : Requester). r.name) deck.requesters → classes ≡ map (λ (class : ClassInfo). class.name) deck.told.system.classes
     → linked deck names classes ≡ links_of (trees_of deck)
 links-same deck names classes names_are classes_are =
     ap (λ (n : List Word). linked deck n classes) (names_are ∙ programs-named deck.requesters)
     ∙ ap (λ (n : List Word). linked deck (map (λ (program : source.Program). program.name) (map of_requester deck.requesters)) n) classes_are
 
-pub made : (deck : trees.Deck) (names classes : List Word) (programs servers : List Code) (screens : List ScreenTable) → names ≡ map (λ (r : Requester). r.name) deck.requesters
+pub made : (deck : trees.ParsedDeck) (names classes : List Word) (programs servers : List Code) (screens : List ScreenTable) → names ≡ map (λ (r : Requester). r.name) deck.requesters
     → classes ≡ map (λ (class : ClassInfo). class.name) deck.told.system.classes → programs ≡ codes_in (linked deck names classes) 0 (map of_requester deck.requesters)
     → servers ≡ map (code_in (linked deck names classes) 0) (map of_server deck.servers) → screens ≡ screens_of (map of_requester deck.requesters) → with_codes deck programs servers screens ≡ compiled deck
 made deck names classes programs servers screens names_are classes_are programs_are servers_are screens_are =

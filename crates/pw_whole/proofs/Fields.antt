@@ -18,23 +18,23 @@ use Rattle.pw_data.specs.Names.{is_this_name}
 use Rattle.pw_data.specs.Parts.{left_of}
 use Rattle.pw_data.specs.Store.{joined}
 use Rattle.pw_data.specs.declared.item.Item.{Item}
-use Rattle.pw_data.specs.declared.item.Kind.{Kind}
+use Rattle.pw_data.specs.declared.item.ItemKind.{ItemKind}
 use Rattle.pw_data.specs.declared.item.Place.{Place}
 use Rattle.pw_operands.specs.Resolved.{Each}
 use Rattle.pw_code.specs.Fields.{is_source_of, cells_of, HasClauses, IsInside, IsField, IsTable}
 use Rattle.pw_code.specs.declared.field.Field.{Field}
 use Rattle.pw_code.specs.declared.field.FieldKind.TheVariants as fields
 use Rattle.pw_code.specs.declared.field.ScreenTable.{ScreenTable}
-use Rattle.pw_divisions.specs.Entries.{entries_of}
+use Rattle.pw_divisions.specs.Entries.{division_entries_of}
 use Rattle.pw_divisions.specs.Names.{name_of, own_name_of}
-use Rattle.pw_screen.specs.Entries.{Before, at_first, after, begins_screen, has_bad_picture, is_twice, refused_if, screen_by, screen_of, field_name, where_cells, field_with, field_on, field_by, form_of, may_stand, field_in, field_of, entry_of}
-use Rattle.pw_screen.specs.Screens.{placed_from, faults_of, with_entry, behind, Behind, screens_of}
+use Rattle.pw_screen.specs.Entries.{ScreenEntriesBefore, at_first, after_screen_entry, begins_screen, has_bad_picture, is_twice, refused_if, screen_by, screen_head_entry, field_name, where_cells, field_with, field_on, field_by, form_of, may_stand, field_in, field_of, screen_entry_of}
+use Rattle.pw_screen.specs.Screens.{placed_from, faults_of, with_entry, screen_entries_behind, ScreensBehind, screens_of}
 use Rattle.pw_screen.specs.Shown.{names_item, is_inside, is_outside, extent_of, size_by, length_by, item_for, item_with, item_at, item_by, item_shown, literal_shown, literal_of, only_one, only_item, shown_by, shown_of, IsShown}
 use Rattle.pw_screen.specs.declared.body.At.{At}
-use Rattle.pw_screen.specs.declared.body.Body.{Body}
-use Rattle.pw_screen.specs.declared.entry.Entry.{Entry}
-use Rattle.pw_screen.specs.declared.entry.Entry.TheVariants as entry
-use Rattle.pw_screen.specs.declared.entry.Placed.{Placed}
+use Rattle.pw_screen.specs.declared.body.FieldBody.{FieldBody}
+use Rattle.pw_screen.specs.declared.entry.ScreenEntry.{ScreenEntry}
+use Rattle.pw_screen.specs.declared.entry.ScreenEntry.TheVariants as entry
+use Rattle.pw_screen.specs.declared.entry.PlacedEntry.{PlacedEntry}
 use Rattle.pw_screen.specs.declared.shown.ItemClause.{ItemClause}
 use Rattle.pw_screen.specs.declared.shown.Shown.{Shown}
 use Rattle.pw_screen.proofs.Sound.{item-sound}
@@ -56,7 +56,7 @@ ends-at n store item cuts long =
     let le = length-joined store (item.at + (max item.occurs 1 - 1) * item.step) item.size (cuts (max item.occurs 1) (omega arith) (omega arith)) in
     omega (arith, le, long)
 
-fits-by : (o : Option Kind) (size : ℕ) → ForSome o (λ kind. IsPicture (picture_of_kind kind) × (size_of (picture_of_kind kind) ≡ size))
+fits-by : (o : Option ItemKind) (size : ℕ) → ForSome o (λ kind. IsPicture (picture_of_kind kind) × (size_of (picture_of_kind kind) ≡ size))
     → IfSome (option_map picture_of_kind o) (λ p. IsPicture p × (size_of p ≡ size))
 fits-by None size fits = tt
 fits-by (Some kind) size fits = fits kind refl
@@ -151,12 +151,12 @@ module _ (laid : Laid) (is : IsLayout false laid) where
 
   -- ---- entries
 
-  abbrev EntryIn : Entry → Type 0
+  abbrev EntryIn : ScreenEntry → Type 0
   EntryIn (entry.Screen name) = Unit {0}
   EntryIn (entry.Field field) = IsField long field
   EntryIn (entry.Refused code) = Unit {0}
 
-  refused-in : (test : Bool) (code : FaultCode) (next : Entry) → (test ≡ false → EntryIn next) → EntryIn (refused_if test code next)
+  refused-in : (test : Bool) (code : FaultCode) (next : ScreenEntry) → (test ≡ false → EntryIn next) → EntryIn (refused_if test code next)
   refused-in true code next more = tt
   refused-in false code next more = more refl
 
@@ -190,7 +190,7 @@ module _ (laid : Laid) (is : IsLayout false laid) where
   field-by-in used stands name at cells (Some shown) within on =
       refused-in (not stands) _ (field_on used (field_with name at cells shown)) (λ e. refused-in _ _ (entry.Field (field_with name at cells shown)) (λ f. field-is name at cells shown within on))
 
-  field-in-in : (used : ℕ → Bool) (begun : Bool) (part : Left) (o : Option Body) → EntryIn (field_in laid used begun part o)
+  field-in-in : (used : ℕ → Bool) (begun : Bool) (part : Left) (o : Option FieldBody) → EntryIn (field_in laid used begun part o)
   field-in-in used begun part None = tt
   field-in-in used begun part (Some body) =
       refused-in body.clauses.unknown _ _
@@ -204,39 +204,39 @@ module _ (laid : Laid) (is : IsLayout false laid) where
   screen-by-in text (Some name) true = tt
   screen-by-in text (Some name) false = tt
 
-  entry-by-in : (b : Bool) (one other : Entry) → EntryIn one → EntryIn other → EntryIn (if b then one else other)
+  entry-by-in : (b : Bool) (one other : ScreenEntry) → EntryIn one → EntryIn other → EntryIn (if b then one else other)
   entry-by-in true one other f g = f
   entry-by-in false one other f g = g
 
-  entry-in : (before : Before) (part : Left) → EntryIn (entry_of laid before part)
+  entry-in : (before : ScreenEntriesBefore) (part : Left) → EntryIn (screen_entry_of laid before part)
   entry-in before part =
-      entry-by-in (begins_screen part) (screen_of before.names part) (field_of laid before.fields before.used before.begun part)
+      entry-by-in (begins_screen part) (screen_head_entry before.names part) (field_of laid before.fields before.used before.begun part)
       (refused-in (has_bad_picture part) _ _ (λ e. refused-in (is_twice part.text before.names (name_of part)) _ _ (λ f. screen-by-in part.text (name_of part) _)))
       (refused-in (has_bad_picture part) _ _ (λ e. refused-in (is_twice part.text before.fields (own_name_of part)) _ _ (λ f. field-in-in before.used before.begun part (form_of laid part))))
 
-  all-in : (text : List ℕ) (before : Before) (parts : List (List Token)) → Each (λ (placed : Placed). EntryIn placed.entry) (placed_from text laid before parts)
+  all-in : (text : List ℕ) (before : ScreenEntriesBefore) (parts : List (List Token)) → Each (λ (placed : PlacedEntry). EntryIn placed.entry) (placed_from text laid before parts)
   unfolding placed_from
   all-in text before [] = tt
-  all-in text before (part ∷ parts) = (entry-in before (left_of text part), all-in text (after before (left_of text part) (entry_of laid before (left_of text part))) parts)
+  all-in text before (part ∷ parts) = (entry-in before (left_of text part), all-in text (after_screen_entry before (left_of text part) (screen_entry_of laid before (left_of text part))) parts)
 
   -- ---- screens
 
-  abbrev BehindIn : Behind → Type 0
+  abbrev BehindIn : ScreensBehind → Type 0
   BehindIn rest = All (IsField long) rest.fields × Each (IsTable long) rest.tables
 
-  with-entry-in : (one : Entry) (rest : Behind) → EntryIn one → BehindIn rest → BehindIn (with_entry one rest)
+  with-entry-in : (one : ScreenEntry) (rest : ScreensBehind) → EntryIn one → BehindIn rest → BehindIn (with_entry one rest)
   with-entry-in (entry.Screen name) rest own all = (All-nil (IsField long), (all.0, all.1))
   with-entry-in (entry.Field field) rest own all = (All-cons (IsField long) field rest.fields own all.0, all.1)
   with-entry-in (entry.Refused code) rest own all = all
 
-  behind-in : (entries : List Placed) → Each (λ (placed : Placed). EntryIn placed.entry) entries → BehindIn (behind entries)
+  behind-in : (entries : List PlacedEntry) → Each (λ (placed : PlacedEntry). EntryIn placed.entry) entries → BehindIn (screen_entries_behind entries)
   behind-in [] each = (All-nil (IsField long), tt)
-  behind-in (placed ∷ entries) each = with-entry-in placed.entry (behind entries) each.0 (behind-in entries each.1)
+  behind-in (placed ∷ entries) each = with-entry-in placed.entry (screen_entries_behind entries) each.0 (behind-in entries each.1)
 
 -- the screens that were read are tables of a program with the storage of the layout
 pub screens-tables : (text : List ℕ) (tokens : List Token) (laid : Laid) (tables : List ScreenTable) → IsLayout false laid → screens_of text tokens laid ≡ Ok tables
     → Each (IsTable (length laid.storage)) tables
 screens-tables text tokens laid tables known is =
-    let entries = placed_from text laid (at_first laid) (entries_of tokens) in
-    subst (Each (IsTable (length laid.storage))) (unless-is (least None (faults_of entries)) (behind entries).tables tables is)
-    (behind-in laid known entries (all-in laid known text (at_first laid) (entries_of tokens))).1
+    let entries = placed_from text laid (at_first laid) (division_entries_of tokens) in
+    subst (Each (IsTable (length laid.storage))) (unless-is (least None (faults_of entries)) (screen_entries_behind entries).tables tables is)
+    (behind-in laid known entries (all-in laid known text (at_first laid) (division_entries_of tokens))).1

@@ -19,50 +19,50 @@ use Rattle.pw_script.specs.Fail.{failure_counted, failures_counted, failure_read
 use Rattle.pw_script.specs.Grammar.{nobody, is_bad, or_unknown}
 use Rattle.pw_source.proofs.storage.Places.{each-append}
 use Rattle.pw_tables.proofs.Commands.{and_then, Any, any_of}
-use Rattle.pw_tables.specs.Pieces.{Piece}
+use Rattle.pw_tables.specs.Pieces.{DeckPieceModel}
 use Rattle.pw_tables.specs.Unknown.{failures_in}
-use Rattle.pw_whole.specs.Named.{IsNamed}
+use Rattle.pw_whole.specs.Named.{IsFailNamed}
 use Rattle.pw_whole.proofs.Failures.{failure-named}
 
 -- in a system with the same pairs and classes it is there too
-pub line-like : (a b : System) → a.tcps ≡ b.tcps → a.classes ≡ b.classes → (one : FailLine) → IsNamed a one → IsNamed b one
+pub line-like : (a b : System) → a.tcps ≡ b.tcps → a.classes ≡ b.classes → (one : FailLine) → IsFailNamed a one → IsFailNamed b one
 line-like a b pairs classes (line.Tcp p primary after) there = (omega (arith, there.0, ap length pairs), there.1)
 line-like a b pairs classes (line.Server c i after) there =
     ((omega (arith, there.0.0, ap length classes), omega (arith, there.0.1, ap (λ all. (slice_index_or all c no_class).processes) classes)), there.1)
 
 module _ (system : System) where
-  known-there : (number : ℕ) (r : Result FailLine EventFault) → IfOk r (IsNamed system) → IfOk (or_unknown number r) (IsNamed system)
+  known-there : (number : ℕ) (r : Result FailLine EventFault) → IfOk r (IsFailNamed system) → IfOk (or_unknown number r) (IsFailNamed system)
   known-there number (Ok one) is = is
   known-there number (Err fault) is = tt
 
-  step-there : (number : ℕ) (fails : List FailLine) (text : List ℕ) → Each (IsNamed system) fails → IfOk (failure_read system number fails text) (Each (IsNamed system))
+  step-there : (number : ℕ) (fails : List FailLine) (text : List ℕ) → Each (IsFailNamed system) fails → IfOk (failure_read system number fails text) (Each (IsFailNamed system))
   step-there number fails text all =
-      and_then (or_unknown number (failure_in system text)) _ (IsNamed system) (Each (IsNamed system)) (known-there number (failure_in system text) (failure-named system text))
-      (λ one there. each-append (IsNamed system) fails (one ∷ []) all (there, tt))
+      and_then (or_unknown number (failure_in system text)) _ (IsFailNamed system) (Each (IsFailNamed system)) (known-there number (failure_in system text) (failure-named system text))
+      (λ one there. each-append (IsFailNamed system) fails (one ∷ []) all (there, tt))
 
-  taken-there : (number : ℕ) (fails : List FailLine) (text : List ℕ) → Each (IsNamed system) fails → IfOk (line_taken (failure_read system) number fails text) (Each (IsNamed system))
+  taken-there : (number : ℕ) (fails : List FailLine) (text : List ℕ) → Each (IsFailNamed system) fails → IfOk (line_taken (failure_read system) number fails text) (Each (IsFailNamed system))
   taken-there number fails text all = by (is_blank text)
     where
-      by : (b : Bool) → IfOk (if b then Ok fails else failure_read system number fails text) (Each (IsNamed system))
+      by : (b : Bool) → IfOk (if b then Ok fails else failure_read system number fails text) (Each (IsFailNamed system))
       by true = all
       by false = step-there number fails text all
 
-  lines-there : (number : ℕ) (fails : List FailLine) (texts : List (List ℕ)) → Each (IsNamed system) fails → IfOk (each_line (failure_read system) number fails texts) (Each (IsNamed system))
+  lines-there : (number : ℕ) (fails : List FailLine) (texts : List (List ℕ)) → Each (IsFailNamed system) fails → IfOk (each_line (failure_read system) number fails texts) (Each (IsFailNamed system))
   unfolding each_line
   lines-there number fails [] all = all
   lines-there number fails (text ∷ rest) all =
-      and_then (line_taken (failure_read system) number fails text) _ (Each (IsNamed system)) (Each (IsNamed system)) (taken-there number fails text all)
+      and_then (line_taken (failure_read system) number fails text) _ (Each (IsFailNamed system)) (Each (IsFailNamed system)) (taken-there number fails text all)
       (λ next more. lines-there (number + 1) next rest more)
 
   -- those of a piece of a deck
-  pub fails-there : (piece : Option Piece) → IfOk (failures_in system piece) (Each (IsNamed system))
+  pub fails-there : (piece : Option DeckPieceModel) → IfOk (failures_in system piece) (Each (IsFailNamed system))
   fails-there None = tt
   fails-there (Some piece) = lines-there piece.first_line [] (lines piece.bytes) tt
 
 -- ---- how many there are
 
 -- the failure lines of a piece were counted
-abbrev pub IsCounted : Option Piece → Type 0
+abbrev pub IsCounted : Option DeckPieceModel → Type 0
 IsCounted None = Unit {0}
 IsCounted (Some piece) = (count : ℕ) × (failures_counted piece.bytes piece.first_line ≡ Ok count)
 
@@ -98,6 +98,6 @@ few-lines system (text ∷ rest) number fails few total is = by (λ next small o
     by more true ok = more fails few ok
     by more false ok = read more (nat_le most_fail_lines (length fails)) refl (is_bad (failure_in (nobody ReadersShare) text)) ok
 
-pub few-fails : (system : System) (piece : Option Piece) → IsCounted piece → IfOk (failures_in system piece) (λ fails. length fails ≤ most_fail_lines)
+pub few-fails : (system : System) (piece : Option DeckPieceModel) → IsCounted piece → IfOk (failures_in system piece) (λ fails. length fails ≤ most_fail_lines)
 few-fails system None counted = omega arith
 few-fails system (Some piece) counted = few-lines system (lines piece.bytes) piece.first_line [] (omega arith) counted.0 counted.1

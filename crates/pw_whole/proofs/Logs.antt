@@ -13,11 +13,11 @@ use Rattle.pw_lines.specs.Steps.{◌>>=◌, refused, is_blank, each_line}
 use Rattle.pw_script.specs.Grammar.{nobody, is_bad, or_unknown}
 use Rattle.pw_script.specs.Log.{Opened, entries_counted, entry_counted, event_read, numbered_entry, opened, rule_of}
 use Rattle.pw_tables.proofs.Commands.{and_then, Any, any_of}
-use Rattle.pw_tables.specs.Pieces.{Piece}
+use Rattle.pw_tables.specs.Pieces.{DeckPieceModel}
 use Rattle.pw_tables.specs.Unknown.{events_in}
 
 -- the entries of a piece were counted
-abbrev pub IsLogCounted : Option Piece → Type 0
+abbrev pub IsLogCounted : Option DeckPieceModel → Type 0
 IsLogCounted None = Unit {0}
 IsLogCounted (Some piece) = (count : ℕ) × (entries_counted piece.bytes piece.first_line ≡ Ok count)
 
@@ -62,7 +62,7 @@ few-lines rule system (text ∷ rest) number events few total is =
         read more (nat_le most_log_lines (length events)) refl (is_bad (numbered_entry (nobody rule) (length events + 1) text)) ok
 
 -- those of a log are few
-pub few-entries : (system : System) (piece : Option Piece) → IsLogCounted piece → IfOk (events_in system piece) (λ events. length events ≤ most_log_lines)
+pub few-entries : (system : System) (piece : Option DeckPieceModel) → IsLogCounted piece → IfOk (events_in system piece) (λ events. length events ≤ most_log_lines)
 few-entries system None counted = omega arith
 few-entries system (Some piece) counted =
     let log : Opened = opened piece.first_line (lines piece.bytes) in

@@ -10,7 +10,7 @@ use Rattle.pw_code.specs.declared.system.ClassInfo.{ClassInfo}
 use Rattle.pw_code.specs.declared.links.Links.{Links}
 use Rattle.pw_deck.specs.Deck.{sized, end_found, links_of, deck_in, deck_of}
 use Rattle.pw_deck.specs.Parts.{no_parts, has_requester, has_server, requester_section, server_section, with_objects, section_of, section_read, sections_read, front_read, parts_of, program_names, server_names}
-use Rattle.pw_deck.specs.declared.deck.Deck.{Deck}
+use Rattle.pw_deck.specs.declared.deck.ParsedDeck.{ParsedDeck}
 use Rattle.pw_deck.specs.declared.parts.Parts.{Parts}
 use Rattle.pw_deck.proofs.Good.{ArePartsGood, parts_good}
 use Rattle.pw_deck.proofs.Decks.{both_ok}
@@ -29,7 +29,7 @@ use Rattle.pw_script.specs.Log.{entries_counted, rule_of}
 use Rattle.pw_sections.specs.Entries.{entries_of}
 use Rattle.pw_sections.specs.Headings.{heading_of}
 use Rattle.pw_sections.specs.Parts.{front, sections}
-use Rattle.pw_sections.specs.Records.{printable, records_of}
+use Rattle.pw_sections.specs.Records.{printable, records_of_text}
 use Rattle.pw_sections.specs.declared.heading.Heading.{Heading}
 use Rattle.pw_sections.specs.declared.heading.Heading.TheVariants as heading
 use Rattle.pw_server.specs.Servers.{server_of}
@@ -38,16 +38,16 @@ use Rattle.pw_source.proofs.storage.Places.{each-append}
 use Rattle.pw_source.specs.Program as source
 use Rattle.pw_source.specs.Sound as source_links
 use Rattle.pw_tables.proofs.Commands.{and_then, Any, any_of}
-use Rattle.pw_tables.specs.Objects.{has_file, once, one_more, pathcom_section, file_section, entries_section, fail_section, log_section}
+use Rattle.pw_tables.specs.Objects.{has_file, once, section_admitted, pathcom_section, file_section, entries_section, fail_section, log_section}
 use Rattle.pw_tables.specs.Pieces.{section_line, section_text}
-use Rattle.pw_tables.specs.Tables.{class_of, class_names, entered}
+use Rattle.pw_tables.specs.Tables.{class_from_command, class_names, with_terminal_entries}
 use Rattle.pw_tables.specs.Unknown.{log_version, tables_of, known, startable, fails_of, log_of, told_with, told_of}
 use Rattle.pw_tables.specs.declared.objects.Objects.{Objects}
-use Rattle.pw_tables.specs.declared.told.Told.{Told}
+use Rattle.pw_tables.specs.declared.told.DeckTables.{DeckTables}
 use Rattle.pw_words.specs.Names.{has_name}
 use Rattle.pw_words.specs.Words.{Word}
 use Rattle.pw_whole.specs.Whole.{of_requester, of_server, trees_of}
-use Rattle.pw_whole.specs.Named.{IsNamed}
+use Rattle.pw_whole.specs.Named.{IsFailNamed}
 use Rattle.pw_whole.proofs.Lines.{IsCounted, fails-there, few-fails, line-like}
 use Rattle.pw_whole.proofs.Logs.{IsLogCounted, few-entries}
 use Rattle.pw_whole.proofs.Sources.{IsReadRequester, IsReadServer, requester-is, server-is}
@@ -84,13 +84,13 @@ read-server name text first_line = by (server_of name text first_line) refl
 
 requester-sources : (parts : Parts) (line : ℕ) (text : List ℕ) (name : Word) → AreSources parts → IfOk (requester_section parts line text name) AreSources
 requester-sources parts line text name all =
-    and_then (one_more line (has_requester parts name) (nat_le most_programs (length parts.requesters))) _ Any AreSources (any_of (one_more line (has_requester parts name) (nat_le most_programs (length parts.requesters))))
+    and_then (section_admitted line (has_requester parts name) (nat_le most_programs (length parts.requesters))) _ Any AreSources (any_of (section_admitted line (has_requester parts name) (nat_le most_programs (length parts.requesters))))
     (λ done h. and_then (requester_of name text (line + 1)) _ IsReadRequester AreSources (read-requester name text (line + 1))
     (λ one is. record { requesters = each-append IsReadRequester parts.requesters (one ∷ []) all.requesters (is, tt); servers = all.servers; counted = all.counted }))
 
 server-sources : (parts : Parts) (line : ℕ) (text : List ℕ) (name : Word) → AreSources parts → IfOk (server_section parts line text name) AreSources
 server-sources parts line text name all =
-    and_then (one_more line (has_server parts name) (nat_le most_servers (length parts.servers))) _ Any AreSources (any_of (one_more line (has_server parts name) (nat_le most_servers (length parts.servers))))
+    and_then (section_admitted line (has_server parts name) (nat_le most_servers (length parts.servers))) _ Any AreSources (any_of (section_admitted line (has_server parts name) (nat_le most_servers (length parts.servers))))
     (λ done h. and_then (server_of name text (line + 1)) _ IsReadServer AreSources (read-server name text (line + 1))
     (λ one is. record { requesters = all.requesters; servers = each-append IsReadServer parts.servers (one ∷ []) all.servers (is, tt); counted = all.counted }))
 
@@ -106,10 +106,10 @@ pathcom-counted objects line text counted =
 
 file-counted : (objects : Objects) (line : ℕ) (text : List ℕ) (name : Word) (key : ℕ) → Counted objects → IfOk (file_section objects line text name key) Counted
 file-counted objects line text name key counted =
-    and_then (one_more line (has_file objects name) (nat_le most_files (length objects.files))) _ Any Counted
-    (any_of (one_more line (has_file objects name) (nat_le most_files (length objects.files))))
+    and_then (section_admitted line (has_file objects name) (nat_le most_files (length objects.files))) _ Any Counted
+    (any_of (section_admitted line (has_file objects name) (nat_le most_files (length objects.files))))
     (λ done h. and_then (printable text (line + 1)) _ Any Counted (any_of (printable text (line + 1)))
-    (λ done h. and_then (records_of key text (line + 1)) _ Any Counted (any_of (records_of key text (line + 1))) (λ records h. counted)))
+    (λ done h. and_then (records_of_text key text (line + 1)) _ Any Counted (any_of (records_of_text key text (line + 1))) (λ records h. counted)))
 
 entries-counted : (objects : Objects) (line : ℕ) (text : List ℕ) (name : Word) → Counted objects → IfOk (entries_section objects line text name) Counted
 entries-counted objects line text name counted =
@@ -171,17 +171,17 @@ programs-named : (requesters : List Requester) → map (λ (program : source.Pro
 programs-named [] = refl
 programs-named (r ∷ rs) = ap (λ names. r.name ∷ names) (programs-named rs)
 
-classes-named : (servers : List Word) (classes : List ClassCommand) → map (λ (class : ClassInfo). class.name) (map (class_of servers) classes) ≡ map (λ (class : ClassCommand). class.name) classes
+classes-named : (servers : List Word) (classes : List ClassCommand) → map (λ (class : ClassInfo). class.name) (map (class_from_command servers) classes) ≡ map (λ (class : ClassCommand). class.name) classes
 classes-named servers [] = refl
 classes-named servers (c ∷ cs) = ap (λ names. c.name ∷ names) (classes-named servers cs)
 
 -- ---- decks
 
-pub record IsReadDeck (deck : Deck) : Type 0 where
+pub record IsReadDeck (deck : ParsedDeck) : Type 0 where
   pub requesters : Each IsReadRequester deck.requesters
   pub servers : Each IsReadServer deck.servers
   pub names : names_of deck.requesters deck.servers (source_links.links_of (trees_of deck)) ≡ Ok (tt {0})
-  pub lines : Each (IsNamed deck.told.system) deck.told.script.lines
+  pub lines : Each (IsFailNamed deck.told.system) deck.told.script.lines
   pub few : length deck.told.script.lines ≤ most_fail_lines
   pub log : length deck.told.log ≤ most_log_lines
   pub rule : deck.told.system.rule ≡ ReadersShare
@@ -196,10 +196,10 @@ same-links parts fails events =
     ∙ ap (λ (names : List Word). with_names parts (map (λ (program : source.Program). program.name) (map of_requester parts.requesters)) names) (sym (classes-named (server_names parts) parts.objects.commands.classes))
 
 -- what is told, with the failure lines and the log that were read
-record IsTold (objects : Objects) (first second : List Word) (told : Told) : Type 0 where
+record IsTold (objects : Objects) (first second : List Word) (told : DeckTables) : Type 0 where
   fails : List FailLine
   events : List Event
-  there : Each (IsNamed (tables_of objects first second ReadersShare)) fails
+  there : Each (IsFailNamed (tables_of objects first second ReadersShare)) fails
   few : length fails ≤ most_fail_lines
   log : length events ≤ most_log_lines
   is : told ≡ told_with objects first second fails events
@@ -209,22 +209,22 @@ told-is objects first second counted =
     let tables = tables_of objects first second ReadersShare in
     and_then (known objects first second) _ Any (IsTold objects first second) (any_of (known objects first second))
     (λ done h. and_then (startable objects) _ Any (IsTold objects first second) (any_of (startable objects))
-    (λ done h. and_then (fails_of objects first second) _ (λ (fails : List FailLine). Each (IsNamed tables) fails × (length fails ≤ most_fail_lines)) (IsTold objects first second)
-    (both_ok (Each (IsNamed tables)) (λ (fails : List FailLine). length fails ≤ most_fail_lines) (fails_of objects first second) (fails-there tables objects.fail) (few-fails tables objects.fail counted.0))
+    (λ done h. and_then (fails_of objects first second) _ (λ (fails : List FailLine). Each (IsFailNamed tables) fails × (length fails ≤ most_fail_lines)) (IsTold objects first second)
+    (both_ok (Each (IsFailNamed tables)) (λ (fails : List FailLine). length fails ≤ most_fail_lines) (fails_of objects first second) (fails-there tables objects.fail) (few-fails tables objects.fail counted.0))
     (λ fails both. and_then (log_of objects first second) _ (λ (events : List Event). length events ≤ most_log_lines) (IsTold objects first second)
     (few-entries (tables_of objects first second (rule_of (log_version objects.log))) objects.log counted.1)
     (λ events log. record { fails = fails; events = events; there = both.0; few = both.1; log = log; is = refl }))))
 
-deck-is : (parts : Parts) (told : Told) → AreSources parts → names_of parts.requesters parts.servers (links_of parts) ≡ Ok (tt {0}) → IsTold parts.objects (program_names parts) (server_names parts) told
+deck-is : (parts : Parts) (told : DeckTables) → AreSources parts → names_of parts.requesters parts.servers (links_of parts) ≡ Ok (tt {0}) → IsTold parts.objects (program_names parts) (server_names parts) told
     → IsReadDeck (record { told = told; requesters = parts.requesters; servers = parts.servers })
 deck-is parts told all named is =
     let tables = tables_of parts.objects (program_names parts) (server_names parts) ReadersShare in
-    let P : Told → Type 0 = λ one. IsReadDeck (record { told = one; requesters = parts.requesters; servers = parts.servers }) in
+    let P : DeckTables → Type 0 = λ one. IsReadDeck (record { told = one; requesters = parts.requesters; servers = parts.servers }) in
     subst P (sym is.is) (record {
       requesters = all.requesters;
       servers = all.servers;
       names = ap (names_of parts.requesters parts.servers) (sym (same-links parts is.fails is.events)) ∙ named;
-      lines = each-map (IsNamed tables) (IsNamed (entered parts.objects.entries tables)) is.fails (line-like tables (entered parts.objects.entries tables) refl refl) is.there;
+      lines = each-map (IsFailNamed tables) (IsFailNamed (with_terminal_entries parts.objects.entries tables)) is.fails (line-like tables (with_terminal_entries parts.objects.entries tables) refl refl) is.there;
       few = is.few;
       log = is.log;
       rule = refl;
@@ -245,5 +245,5 @@ deck-read bytes =
     and_then (sized bytes) _ Any IsReadDeck (any_of (sized bytes))
     (λ done h. and_then (parts_of bytes) _ (λ parts. ArePartsGood parts × AreSources parts) IsReadDeck (parts-sources bytes) (λ parts fine. in-deck bytes parts fine.0 fine.1))
 
-pub deck-known : (bytes : List ℕ) (deck : Deck) → deck_of bytes ≡ Ok deck → IsReadDeck deck
-deck-known bytes deck is = subst (λ (r : Result Deck Fault). IfOk r IsReadDeck) is (deck-read bytes)
+pub deck-known : (bytes : List ℕ) (deck : ParsedDeck) → deck_of bytes ≡ Ok deck → IsReadDeck deck
+deck-known bytes deck is = subst (λ (r : Result ParsedDeck Fault). IfOk r IsReadDeck) is (deck-read bytes)

@@ -9,7 +9,7 @@ use Rattle.pw_code.specs.declared.system.System.{System}
 use Rattle.pw_code.specs.declared.system.TermInfo.{TermInfo}
 use Rattle.pw_deck.specs.Deck.{deck_of}
 use Rattle.pw_deck.specs.Sound as decks
-use Rattle.pw_deck.specs.declared.deck.Deck.{Deck}
+use Rattle.pw_deck.specs.declared.deck.ParsedDeck.{ParsedDeck}
 use Rattle.pw_exec.specs.OfSystem as code
 use Rattle.pw_onecopy.specs.IsBehaviour.{IsBehaviour}
 use Rattle.pw_sound.specs.Premises.{HasTables}
@@ -22,7 +22,7 @@ use Rattle.pw_whole.specs.Short.{IsSmall}
 use Rattle.pw_whole.specs.Whole.{compiled, trees_of}
 use Rattle.pw_whole.proofs.Whole.{deck-fits, deck-reads, deck-sound, known, tables}
 
-module _ (rule : LockRule) (bytes : List ℕ) (deck : Deck) (is : deck_of bytes ≡ Ok deck) where
+module _ (rule : LockRule) (bytes : List ℕ) (deck : ParsedDeck) (is : deck_of bytes ≡ Ok deck) where
   -- the system under the rule
   abbrev ruled : System
   ruled = system_of rule (trees_of deck)

@@ -23,7 +23,7 @@ use Rattle.pw_server.specs.Servers.{server_of}
 use Rattle.pw_server.specs.declared.server.Server.{Server}
 use Rattle.pw_source.specs.Sound.{HasForms, IsLayout}
 use Rattle.pw_source.proofs.sides.Pieces.{procedure-forms, procedure-written}
-use Rattle.pw_sound.specs.Premises.{IsRead, IsShownOf}
+use Rattle.pw_sound.specs.Premises.{IsReadStatement, IsShownOf}
 use Rattle.pw_source.specs.Written.{IsWritten}
 use Rattle.pw_sound.proofs.Showing.{screens-show}
 use Rattle.pw_sound.proofs.numbers.Sources.{requester-read, server-read, pass}
@@ -33,7 +33,7 @@ use Rattle.pw_whole.proofs.Fields.{screens-tables}
 pub record AreStatements (server : Bool) (paragraphs : List Paragraph) : Type 0 where
   pub forms : Each (λ (p : Paragraph). Each (HasForms server) p.body) paragraphs
   pub written : Each (λ (p : Paragraph). Each IsWritten p.body) paragraphs
-  pub numbers : Each (λ (p : Paragraph). Each IsRead p.body) paragraphs
+  pub numbers : Each (λ (p : Paragraph). Each IsReadStatement p.body) paragraphs
 
 pub record IsReadRequester (one : Requester) : Type 0 where
   pub laid : IsLayout false one.layout

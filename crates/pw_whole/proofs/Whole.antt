@@ -18,7 +18,7 @@ use Rattle.pw_compile.specs.Lengths.{instructions_of}
 use Rattle.pw_compile.specs.Plan.{plan_of}
 use Rattle.pw_deck.specs.Deck.{deck_of}
 use Rattle.pw_deck.specs.Sound as decks
-use Rattle.pw_deck.specs.declared.deck.Deck.{Deck}
+use Rattle.pw_deck.specs.declared.deck.ParsedDeck.{ParsedDeck}
 use Rattle.pw_deck.proofs.Decks.{deck_tables}
 use Rattle.pw_exec.specs.OfSystem as code
 use Rattle.pw_names.specs.Calls.{Lengths, lengths_of}
@@ -34,7 +34,7 @@ use Rattle.pw_server.specs.Resolved as of_servers
 use Rattle.pw_server.specs.declared.server.Server.{Server}
 use Rattle.pw_source.specs.OfDeck as tree
 use Rattle.pw_source.specs.Program as source
-use Rattle.pw_source.specs.Sound.{links_of, IsSound, IsSoundProgram, IsSoundTerminal, IsSoundClass}
+use Rattle.pw_source.specs.Sound.{links_of, IsSoundDeck, IsSoundProgram, IsSoundTerminal, IsSoundClass}
 use Rattle.pw_sound.specs.Premises.{AreFitting, AreRead, IsFitting, IsReadProgram, HasTables}
 use Rattle.pw_sound.specs.Systems.{code_in, codes_in, named_in, system_of}
 use Rattle.pw_sound.proofs.Decks.{codes-long}
@@ -43,7 +43,7 @@ use Rattle.pw_sound.proofs.Given.{using-items}
 use Rattle.pw_sound.proofs.Serves.{behaves-same}
 use Rattle.pw_sound.proofs.Valid.{valid-is, each-all}
 use Rattle.pw_source.proofs.Behaviours.{sound-behaviour}
-use Rattle.pw_whole.specs.Named.{IsNamed}
+use Rattle.pw_whole.specs.Named.{IsFailNamed}
 use Rattle.pw_whole.specs.Short.{IsShort, IsSmall}
 use Rattle.pw_whole.specs.Whole.{of_requester, of_server, trees_of, compiled}
 use Rattle.pw_whole.proofs.Lines.{line-like}
@@ -88,8 +88,8 @@ servers-short links (p ∷ ps) all =
 
 -- ---- a deck without a fault
 
-module _ (bytes : List ℕ) (deck : Deck) (is : deck_of bytes ≡ Ok deck) where
-  abbrev trees : source.Deck
+module _ (bytes : List ℕ) (deck : ParsedDeck) (is : deck_of bytes ≡ Ok deck) where
+  abbrev trees : source.DeckModel
   trees = trees_of deck
 
   abbrev links : Links
@@ -107,23 +107,23 @@ module _ (bytes : List ℕ) (deck : Deck) (is : deck_of bytes ≡ Ok deck) where
   -- the tables, with these screens
   pub tables : (screens : List ScreenTable) → length screens < 2 ^ 32 → decks.AreTables (decks.with_code deck system.programs system.servers screens)
   tables screens few =
-      subst (λ (r : Result Deck Fault). IfOk r decks.HasTables) is (deck_tables bytes) system.programs system.servers screens
+      subst (λ (r : Result ParsedDeck Fault). IfOk r decks.HasValidTables) is (deck_tables bytes) system.programs system.servers screens
       (codes-long links (map of_requester deck.requesters) 0 ∙ length-map deck.requesters of_requester)
       (length-map (map of_server deck.servers) (code_in links 0) ∙ length-map deck.servers of_server) few
 
   -- ---- programs
 
-  requester-sound : (one : Requester) → IsReadRequester one → of_requesters.IsResolved one links → IsSoundProgram false trees (of_requester one)
+  requester-sound : (one : Requester) → IsReadRequester one → of_requesters.IsResolvedRequester one links → IsSoundProgram false trees (of_requester one)
   requester-sound one read resolves = record { resolves = resolves; forms = read.statements.forms; laid = read.laid }
 
-  server-sound : (one : Server) → IsReadServer one → of_servers.IsResolved one links → IsSoundProgram true trees (of_server one)
+  server-sound : (one : Server) → IsReadServer one → of_servers.IsResolvedServer one links → IsSoundProgram true trees (of_server one)
   server-sound one read resolves = record { resolves = resolves; forms = read.statements.forms; laid = read.laid }
 
   programs-sound : Each (IsSoundProgram false trees) trees.programs
-  programs-sound = each-made of_requester IsReadRequester (λ one. of_requesters.IsResolved one links) (IsSoundProgram false trees) requester-sound deck.requesters known.requesters names.requesters_resolve
+  programs-sound = each-made of_requester IsReadRequester (λ one. of_requesters.IsResolvedRequester one links) (IsSoundProgram false trees) requester-sound deck.requesters known.requesters names.requesters_resolve
 
   servers-sound : Each (IsSoundProgram true trees) trees.servers
-  servers-sound = each-made of_server IsReadServer (λ one. of_servers.IsResolved one links) (IsSoundProgram true trees) server-sound deck.servers known.servers names.servers_resolve
+  servers-sound = each-made of_server IsReadServer (λ one. of_servers.IsResolvedServer one links) (IsSoundProgram true trees) server-sound deck.servers known.servers names.servers_resolve
 
   -- ---- tables
 
@@ -140,7 +140,7 @@ module _ (bytes : List ℕ) (deck : Deck) (is : deck_of bytes ≡ Ok deck) where
       let below : one.server < length (map (code_in links 0) trees.servers) = there.server in
       record { server = omega (arith, below, length-map trees.servers (code_in links 0)); some = there.some }
 
-  pub deck-sound : IsSound trees
+  pub deck-sound : IsSoundDeck trees
   deck-sound =
       let told = tables [] (omega arith) in
       record {
@@ -155,7 +155,7 @@ module _ (bytes : List ℕ) (deck : Deck) (is : deck_of bytes ≡ Ok deck) where
 
   -- a requester whose names resolve and whose CALLs fit
   abbrev Faultless : Requester → Type 0
-  Faultless one = of_requesters.IsResolved one links × AllCallsFit (requester_program (usings_of deck.requesters) links one)
+  Faultless one = of_requesters.IsResolvedRequester one links × AllCallsFit (requester_program (usings_of deck.requesters) links one)
 
   requester-fits : (one : Requester) → IsReadRequester one → Faultless one → IsFitting trees (of_requester one)
   requester-fits one read fits =
@@ -172,7 +172,7 @@ module _ (bytes : List ℕ) (deck : Deck) (is : deck_of bytes ≡ Ok deck) where
   pub deck-fits : AreFitting trees
   deck-fits =
       each-made of_requester IsReadRequester Faultless (IsFitting trees) requester-fits deck.requesters known.requesters
-      (each-both (λ one. of_requesters.IsResolved one links) (λ one. AllCallsFit (requester_program (usings_of deck.requesters) links one)) deck.requesters names.requesters_resolve names.requester_calls)
+      (each-both (λ one. of_requesters.IsResolvedRequester one links) (λ one. AllCallsFit (requester_program (usings_of deck.requesters) links one)) deck.requesters names.requesters_resolve names.requester_calls)
 
   -- ---- the system
 
@@ -222,5 +222,5 @@ module _ (bytes : List ℕ) (deck : Deck) (is : deck_of bytes ≡ Ok deck) where
   pub lines-few : length trees.script ≤ most_fail_lines
   lines-few = known.few
 
-  pub lines-there : All (IsNamed system) trees.script
-  lines-there = each-all (IsNamed system) trees.script (each-map (IsNamed deck.told.system) (IsNamed system) trees.script (line-like deck.told.system system refl refl) known.lines)
+  pub lines-there : All (IsFailNamed system) trees.script
+  lines-there = each-all (IsFailNamed system) trees.script (each-map (IsFailNamed deck.told.system) (IsFailNamed system) trees.script (line-like deck.told.system system refl refl) known.lines)

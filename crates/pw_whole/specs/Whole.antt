@@ -3,7 +3,7 @@ use Rattle.std.specs.Prelude.{ℕ, List, [], map, Result, Ok}
 use Rattle.pw_base.specs.declared.fault.Fault.{Fault}
 use Rattle.pw_code.specs.declared.lock.LockRule.TheVariants.{ReadersShare}
 use Rattle.pw_deck.specs.Deck.{deck_of}
-use Rattle.pw_deck.specs.declared.deck.Deck as trees
+use Rattle.pw_deck.specs.declared.deck.ParsedDeck as trees
 use Rattle.pw_lines.specs.Steps.{◌>>=◌}
 use Rattle.pw_scobol.specs.declared.requester.Requester.{Requester}
 use Rattle.pw_server.specs.declared.server.Server.{Server}
@@ -32,7 +32,7 @@ of_server server = record {
 }
 
 -- the programs, tables and failure lines of a deck as their meaning takes them
-abbrev pub trees_of : trees.Deck → source.Deck
+abbrev pub trees_of : trees.ParsedDeck → source.DeckModel
 trees_of deck = record {
   programs = map of_requester deck.requesters;
   servers = map of_server deck.servers;
@@ -44,7 +44,7 @@ trees_of deck = record {
 }
 
 -- what a deck says, with its programs compiled: its readers share locks
-abbrev pub compiled : trees.Deck → Deck
+abbrev pub compiled : trees.ParsedDeck → Deck
 compiled deck = record {
   system = system_of ReadersShare (trees_of deck);
   script = deck.told.script;

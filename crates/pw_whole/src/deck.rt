@@ -4,11 +4,11 @@ ghost use Rattle.pw_code.specs.Limits.{most_fail_lines};
 ghost use Rattle.pw_code.specs.Valid.{IsValid};
 ghost use Rattle.pw_code.specs.declared.lock.LockRule.TheVariants.{ReadersShare};
 ghost use Rattle.pw_deck.specs.Deck.{deck_of};
-ghost use Rattle.pw_deck.specs.declared.deck.Deck as trees_of_deck;
+ghost use Rattle.pw_deck.specs.declared.deck.ParsedDeck as trees_of_deck;
 ghost use Rattle.pw_exec.specs.OfSystem.{behaviour};
 ghost use Rattle.pw_onecopy.specs.IsBehaviour.{IsBehaviour};
 ghost use Rattle.pw_source.specs.OfDeck as tree;
-ghost use Rattle.pw_whole.specs.Named.{IsNamed};
+ghost use Rattle.pw_whole.specs.Named.{IsFailNamed};
 ghost use Rattle.pw_whole.specs.Short.{IsSmall};
 ghost use Rattle.pw_whole.specs.Whole.{compiled, trees_of, whole_of};
 
@@ -25,7 +25,7 @@ use pw_deck::deck::read_deck;
 use pw_deck::named::requester_names;
 use pw_event::event::Event;
 use pw_event::script::Script;
-use pw_tables::told::Told;
+use pw_tables::told::DeckTables;
 use std::alloc::Global;
 
 /// What a deck says.
@@ -53,16 +53,16 @@ fn class_names(alloc: Global, classes: &[ClassInfo]) -> Result<List<Bytes>, Memo
 }
 
 /// A deck with its programs compiled.
-fn compiled(alloc: Global, deck: trees::Deck) -> Result<Deck, Memory>
+fn compiled(alloc: Global, deck: trees::ParsedDeck) -> Result<Deck, Memory>
     ensures deck { IfOk result (λ whole. whole ≡ compiled deck) }
     ensures small { IfOk result (λ whole. IsSmall whole.system) }
 {
-    let trees::Deck {
+    let trees::ParsedDeck {
         told,
         requesters,
         servers,
     } = deck;
-    let Told {
+    let DeckTables {
         system: tables,
         script,
         log,
@@ -102,11 +102,11 @@ pub fn read(alloc: Global, bytes: &[u8]) -> Result<Deck, Refusal>
     ensures gives { Gives (λ deck. deck) result (whole_of bytes.now) }
     ensures valid { IfOk result (λ deck. IsValid deck.system) }
     ensures behaves { IfOk result (λ deck. IsBehaviour (behaviour deck.script.lines deck.system)) }
-    ensures same { (deck : trees_of_deck.Deck) → deck_of bytes.now ≡ Ok deck
+    ensures same { (deck : trees_of_deck.ParsedDeck) → deck_of bytes.now ≡ Ok deck
         → IfOk result (λ whole. behaviour whole.script.lines whole.system
         ≡ tree.behaviour ReadersShare (trees_of deck)) }
     ensures small { IfOk result (λ deck. IsSmall deck.system) }
-    ensures lines { IfOk result (λ deck. All (IsNamed deck.system) deck.script.lines) }
+    ensures lines { IfOk result (λ deck. All (IsFailNamed deck.system) deck.script.lines) }
     ensures few { IfOk result (λ deck. length deck.script.lines ≤ most_fail_lines) }
 {
     let deck = read_deck(alloc, bytes)?;

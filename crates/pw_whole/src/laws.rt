@@ -4,14 +4,14 @@ ghost use Rattle.pw_code.specs.Valid.{IsValid};
 ghost use Rattle.pw_code.specs.declared.lock.LockRule.{LockRule};
 ghost use Rattle.pw_code.specs.declared.lock.LockRule.TheVariants.{ReadersShare};
 ghost use Rattle.pw_deck.specs.Deck.{deck_of};
-ghost use Rattle.pw_deck.specs.declared.deck.Deck as trees;
+ghost use Rattle.pw_deck.specs.declared.deck.ParsedDeck as trees;
 ghost use Rattle.pw_exec.specs.OfSystem as code;
 ghost use Rattle.pw_onecopy.specs.IsBehaviour.{IsBehaviour};
 ghost use Rattle.pw_sound.specs.Premises.{AreFitting};
 ghost use Rattle.pw_sound.specs.Systems.{system_of};
 ghost use Rattle.pw_source.specs.OfDeck as tree;
-ghost use Rattle.pw_source.specs.Sound.{IsSound};
-ghost use Rattle.pw_whole.specs.Named.{IsNamed};
+ghost use Rattle.pw_source.specs.Sound.{IsSoundDeck};
+ghost use Rattle.pw_whole.specs.Named.{IsFailNamed};
 ghost use Rattle.pw_whole.specs.Short.{IsSmall};
 ghost use Rattle.pw_whole.specs.Whole.{compiled, trees_of};
 
@@ -21,35 +21,35 @@ ghost use Rattle.pw_whole.specs.Whole.{compiled, trees_of};
 /// trees: so the paired system may run it, and a run of the one is a run of the other. What its failure
 /// lines name is there, and they are not too many.
 pub fn whole_laws()
-    ensures sound { (bytes : List ℕ) (deck : trees.Deck) → deck_of bytes ≡ Ok deck
-        → IsSound (trees_of deck) }
-    ensures fitting { (bytes : List ℕ) (deck : trees.Deck) → deck_of bytes ≡ Ok deck
+    ensures sound { (bytes : List ℕ) (deck : trees.ParsedDeck) → deck_of bytes ≡ Ok deck
+        → IsSoundDeck (trees_of deck) }
+    ensures fitting { (bytes : List ℕ) (deck : trees.ParsedDeck) → deck_of bytes ≡ Ok deck
         → AreFitting (trees_of deck) }
-    ensures valid { (bytes : List ℕ) (deck : trees.Deck) → deck_of bytes ≡ Ok deck
+    ensures valid { (bytes : List ℕ) (deck : trees.ParsedDeck) → deck_of bytes ≡ Ok deck
         → IsSmall (compiled deck).system → IsValid (compiled deck).system }
-    ensures same { (bytes : List ℕ) (deck : trees.Deck) → deck_of bytes ≡ Ok deck
+    ensures same { (bytes : List ℕ) (deck : trees.ParsedDeck) → deck_of bytes ≡ Ok deck
         → IsSmall (compiled deck).system
         → code.behaviour (compiled deck).script.lines (compiled deck).system
         ≡ tree.behaviour ReadersShare (trees_of deck) }
-    ensures behaves { (bytes : List ℕ) (deck : trees.Deck) → deck_of bytes ≡ Ok deck
+    ensures behaves { (bytes : List ℕ) (deck : trees.ParsedDeck) → deck_of bytes ≡ Ok deck
         → IsBehaviour (tree.behaviour ReadersShare (trees_of deck)) }
-    ensures few { (bytes : List ℕ) (deck : trees.Deck) → deck_of bytes ≡ Ok deck
+    ensures few { (bytes : List ℕ) (deck : trees.ParsedDeck) → deck_of bytes ≡ Ok deck
         → length (compiled deck).script.lines ≤ most_fail_lines }
-    ensures lines { (bytes : List ℕ) (deck : trees.Deck) → deck_of bytes ≡ Ok deck
-        → All (IsNamed (compiled deck).system) (compiled deck).script.lines }
+    ensures lines { (bytes : List ℕ) (deck : trees.ParsedDeck) → deck_of bytes ≡ Ok deck
+        → All (IsFailNamed (compiled deck).system) (compiled deck).script.lines }
 {}
 
 /// The same of a deck without a fault under either rule of locking, as a log of version 1 is read by the
 /// one under which every lock is exclusive. And its log has not too many entries.
 pub fn rule_laws()
-    ensures valid { (rule : LockRule) (bytes : List ℕ) (deck : trees.Deck) → deck_of bytes ≡ Ok deck
+    ensures valid { (rule : LockRule) (bytes : List ℕ) (deck : trees.ParsedDeck) → deck_of bytes ≡ Ok deck
         → IsSmall (compiled deck).system → IsValid (system_of rule (trees_of deck)) }
-    ensures same { (rule : LockRule) (bytes : List ℕ) (deck : trees.Deck) → deck_of bytes ≡ Ok deck
+    ensures same { (rule : LockRule) (bytes : List ℕ) (deck : trees.ParsedDeck) → deck_of bytes ≡ Ok deck
         → IsSmall (compiled deck).system
         → code.behaviour (trees_of deck).script (system_of rule (trees_of deck))
         ≡ tree.behaviour rule (trees_of deck) }
-    ensures behaves { (rule : LockRule) (bytes : List ℕ) (deck : trees.Deck) → deck_of bytes ≡ Ok deck
+    ensures behaves { (rule : LockRule) (bytes : List ℕ) (deck : trees.ParsedDeck) → deck_of bytes ≡ Ok deck
         → IsBehaviour (tree.behaviour rule (trees_of deck)) }
-    ensures log { (bytes : List ℕ) (deck : trees.Deck) → deck_of bytes ≡ Ok deck
+    ensures log { (bytes : List ℕ) (deck : trees.ParsedDeck) → deck_of bytes ≡ Ok deck
         → length deck.told.log ≤ most_log_lines }
 {}

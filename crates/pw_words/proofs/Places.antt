@@ -6,7 +6,7 @@ use Rattle.std.specs.Str.{str_to_ascii_lowercase}
 use Rattle.std.specs.Cmp.Lexicographic.{bytes_decides}
 use Rattle.std.proofs.lemmas.Bool.{cases_lt, eqb-true, and_parts}
 use Rattle.std.proofs.lemmas.Iterator.Adapters.{position_from-zero}
-use Rattle.pw_words.specs.Words.{Word, same_word, place_of}
+use Rattle.pw_words.specs.Words.{Word, same_word, word_place}
 use Rattle.pw_words.specs.Index.{is_row, place_by, is_place, finds_from, finds_all}
 
 find-none : (test : ℕ → Bool) (places : List ℕ) → ((place : ℕ) → test place ≡ false) → find test places ≡ None
@@ -74,7 +74,7 @@ module _ (index : List (List ℕ)) (rows : List Word) (word : Word) where
       (λ is. from (place + 1) behind parts.1 (next place row behind at) (one-more place row (at 0) is before))
 
   -- by an index that finds all rows, a word is found at its place
-  pub place_by-all : finds_all index rows ≡ true → place_by index rows (str_to_ascii_lowercase word) ≡ place_of rows word
+  pub place_by-all : finds_all index rows ≡ true → place_by index rows (str_to_ascii_lowercase word) ≡ word_place rows word
   place_by-all all =
       from 0 rows all (λ count. let same : 0 + count ≡ count = omega arith in ap (slice_get rows) same) (λ j h. absurd (omega arith))
       ∙ sym (position_from-zero (λ r. same_word r word) rows)

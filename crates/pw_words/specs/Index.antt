@@ -14,8 +14,8 @@ first_letter [] = 0
 first_letter (byte ∷ bytes) = letter_number byte
 
 -- the places that an index has for a word in lower case
-abbrev pub places_of : List (List ℕ) → Word → List ℕ
-places_of index folded = unwrap_or (slice_get index (first_letter folded)) []
+abbrev pub word_index_places : List (List ℕ) → Word → List ℕ
+word_index_places index folded = unwrap_or (slice_get index (first_letter folded)) []
 
 -- there is a row, and in lower case it is this word
 abbrev pub is_row : Option Word → Word → Bool
@@ -24,7 +24,7 @@ is_row (Some row) folded = bytes_eq (str_to_ascii_lowercase row) folded
 
 -- the first place of the index for a word in lower case at which the word stands
 abbrev pub place_by : List (List ℕ) → List Word → Word → Option ℕ
-place_by index rows folded = find (λ place. is_row (slice_get rows place) folded) (places_of index folded)
+place_by index rows folded = find (λ place. is_row (slice_get rows place) folded) (word_index_places index folded)
 
 -- the place is this one
 abbrev pub is_place : Option ℕ → ℕ → Bool

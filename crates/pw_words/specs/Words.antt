@@ -17,5 +17,5 @@ all_apart [] = true
 all_apart (word ∷ words) = list_all (λ other. not (same_word word other)) words && all_apart words
 
 -- the place of a word in a list, counted from 0
-abbrev pub place_of : List Word → Word → Option ℕ
-place_of words word = position (λ row. same_word row word) words
+abbrev pub word_place : List Word → Word → Option ℕ
+word_place words word = position (λ row. same_word row word) words

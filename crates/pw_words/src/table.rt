@@ -1,7 +1,7 @@
 ghost use Rattle.std.specs.Prelude.{◌≡◌, ◌<◌, ◌≤◌, List, ℕ, Some, IfSome, IsTrue, find, length, map, slice_get};
 ghost use Rattle.std.specs.Str.{str_to_ascii_lowercase};
-ghost use Rattle.pw_words.specs.Words.{all_apart, place_of, same_word};
-ghost use Rattle.pw_words.specs.Index.{letter_number, first_letter, places_of, is_row, finds_all};
+ghost use Rattle.pw_words.specs.Words.{all_apart, word_place, same_word};
+ghost use Rattle.pw_words.specs.Index.{letter_number, first_letter, word_index_places, is_row, finds_all};
 
 use std::marker::Model;
 
@@ -28,7 +28,7 @@ impl<const N: usize> Table<N> {
     /// The place of a word in either case, from 0 to N - 1; `None` exactly where it is not there. It
     /// looks at the few rows that begin with its letter.
     pub fn find(&self, word: &[u8]) -> Option<usize>
-        ensures place { result ≡ place_of self.now word.now }
+        ensures place { result ≡ word_place self.now word.now }
         ensures bound { IfSome result (λ place. place < N) }
     {
         place_among(self.rows, places_of(self.index, word), word)
@@ -67,7 +67,7 @@ fn first_letter(word: &[u8]) -> usize
 
 /// The places that an index has for a word.
 fn places_of<'a>(index: &[&'a [u8]], word: &[u8]) -> &'a [u8]
-    ensures { result.now ≡ places_of (map (λ places. places.now) index.now) (str_to_ascii_lowercase word.now) }
+    ensures { result.now ≡ word_index_places (map (λ places. places.now) index.now) (str_to_ascii_lowercase word.now) }
 {
     match index.get(first_letter(word)) {
         Some(places) => *places,

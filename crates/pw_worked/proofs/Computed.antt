@@ -6,7 +6,7 @@ use Rattle.pw_laws.proofs.decided.Blocks.{block, serial}
 use Rattle.pw_laws.proofs.decided.Legality.{legal, run-sound}
 use Rattle.pw_laws.specs.legal.Blocks.{is_legal_block, is_serial}
 use Rattle.pw_laws.specs.legal.Legality.{is_legal, is_run}
-use Rattle.pw_onecopy.specs.Blocks.{Block}
+use Rattle.pw_onecopy.specs.Blocks.{SerialBlock}
 use Rattle.pw_onecopy.specs.OneCopy.{one_copy}
 use Rattle.pw_onecopy.specs.Refreshes.{once, refreshes_of}
 use Rattle.pw_paired.specs.Serial.{blocks}
@@ -15,8 +15,8 @@ use Rattle.pw_paired.specs.State.{starting}
 use Rattle.pw_paired.specs.Step.{after}
 use Rattle.pw_paired.specs.Units.{committed_files}
 use Rattle.pw_worked.proofs.DeckLaws.{behaves}
-use Rattle.pw_worked.specs.Deck.{Setting, deck}
-use Rattle.pw_worked.specs.Worked.{IsBarred, IsRefused, WorkedLog, WorksOut, behind}
+use Rattle.pw_worked.specs.Deck.{WorkedSetting, deck}
+use Rattle.pw_worked.specs.Worked.{IsBarred, IsIllegalEntry, WorkedLog, WorksOut, worked_state}
 
 -- a log works out where each part computes
 pub works : (w : WorkedLog) → is_run (deck w.setting) w.log ≡ true
@@ -42,12 +42,12 @@ works w run stock order first second orders copy_stock copy_first copy_second = 
 }
 
 -- behind a log that computes as a run, what the test refuses is no step
-pub refused : (setting : Setting) (log : List Event) (entry : Event) → is_run (deck setting) log ≡ true
-    → is_legal (deck setting) (behind setting log) entry ≡ false → IsRefused setting log entry
+pub refused : (setting : WorkedSetting) (log : List Event) (entry : Event) → is_run (deck setting) log ≡ true
+    → is_legal (deck setting) (worked_state setting log) entry ≡ false → IsIllegalEntry setting log entry
 refused setting log entry run refuses =
     not_from_Decides _ (legal (deck setting) (behaves setting) log (run-sound (deck setting) (starting (deck setting)) log run) entry) refuses
 
 -- behind a list of blocks, what the test refuses is not run
-pub barred : (setting : Setting) (order : List Block) (next : Block)
+pub barred : (setting : WorkedSetting) (order : List SerialBlock) (next : SerialBlock)
     → is_legal_block (deck setting) (one_copy (deck setting) order) next ≡ false → IsBarred setting order next
 barred setting order next bars = not_from_Decides _ (block (deck setting) (one_copy (deck setting) order) next) bars

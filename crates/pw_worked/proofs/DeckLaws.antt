@@ -14,9 +14,9 @@ use Rattle.pw_files.specs.Records.{IsContent, IsFile}
 use Rattle.pw_onecopy.specs.Behaviour.{Behaviour}
 use Rattle.pw_onecopy.specs.IsBehaviour.{AddsUp, ComesTo, IsAsked, IsBehaviour, IsPath, Suits, SuitsFrom, is_written}
 use Rattle.pw_onecopy.specs.Operation.{key_of}
-use Rattle.pw_onecopy.specs.Path.{PathAnswer, Shown, Entry, Begun, Replied, Failed, Ended, Dropped, FileAnswer, Standing, is_outside, standing_after_answer, standing_at_start, standing_from}
+use Rattle.pw_onecopy.specs.Path.{PathAnswer, Shown, Entry, Begun, Replied, Failed, Ended, Dropped, FileResult, Standing, is_outside, standing_after_answer, standing_at_start, standing_from}
 use Rattle.pw_onecopy.specs.Play.{Play, play_after}
-use Rattle.pw_worked.specs.Deck.{Line, Sends, Begins, Ends, Drops, Redoes, Program, Keys, Displays, Setting, Task, Does, Increments, Breaks, asked_by, asked_for, asked_of, call_of, deck, item, key_length_of, last_of, line_at, processes_of, program_of, records_of, served_by, spaces, task_of, verb_at, verb_behind, with_one_more}
+use Rattle.pw_worked.specs.Deck.{KeyedLine, Sends, Begins, Ends, Drops, Redoes, WorkedProgram, Keys, Displays, WorkedSetting, WorkedTask, Does, Increments, Breaks, asked_by, asked_for, asked_of, call_of, deck, item, key_length_of, last_of, line_at, processes_of, worked_program, worked_records, served_by, spaces, task_of, verb_at, verb_behind, with_one_more}
 
 -- What programs ask.
 
@@ -42,7 +42,7 @@ at_fault outside x = record { asked = tt; begins = λ e. absurd (cc e); stops = 
 at_stop : AtPath true verb.Stop
 at_stop = record { asked = tt; begins = λ e. absurd (cc e); stops = λ e. refl; ends = λ e. absurd (cc e); drops = λ e. absurd (cc e); redoes = λ e. absurd (cc e); sends = λ c message e. absurd (cc e) }
 
-at_line : (line : Line) (outside : Bool) → AtPath outside (verb_at line outside)
+at_line : (line : KeyedLine) (outside : Bool) → AtPath outside (verb_at line outside)
 at_line (Sends m) outside = record { asked = tt; begins = λ e. absurd (cc e); stops = λ e. absurd (cc e); ends = λ e. absurd (cc e); drops = λ e. absurd (cc e); redoes = λ e. absurd (cc e); sends = λ c message e. let none : c ≡ 0 = cc in omega (arith, none) }
 at_line Begins true = record { asked = tt; begins = λ e. refl; stops = λ e. absurd (cc e); ends = λ e. absurd (cc e); drops = λ e. absurd (cc e); redoes = λ e. absurd (cc e); sends = λ c message e. absurd (cc e) }
 at_line Begins false = at_fault false 205
@@ -53,7 +53,7 @@ at_line Drops false = record { asked = tt; begins = λ e. absurd (cc e); stops =
 at_line Redoes true = at_fault true 206
 at_line Redoes false = record { asked = tt; begins = λ e. absurd (cc e); stops = λ e. absurd (cc e); ends = λ e. absurd (cc e); drops = λ e. absurd (cc e); redoes = λ e. refl; sends = λ c message e. absurd (cc e) }
 
-at_key : (lines : List Line) (outside : Bool) (last : Option PathAnswer) → AtPath outside (verb_behind lines outside last)
+at_key : (lines : List KeyedLine) (outside : Bool) (last : Option PathAnswer) → AtPath outside (verb_behind lines outside last)
 at_key lines outside None = at_accept outside
 at_key lines outside (Some Shown) = at_accept outside
 at_key lines outside (Some (Entry k)) = at_line (line_at lines k) outside
@@ -85,15 +85,15 @@ module _ (sys : Behaviour) (t : ℕ) (shows : List PathAnswer → Bool) (asks : 
   shown-outside path suits = ap (λ (r : Option ℕ). is_none r) (stays_outside [] path suits standing_at_start refl)
 
 -- the verb of a terminal's program after a path that it may have
-at_path : (setting : Setting) (t : ℕ) (path : List PathAnswer) → IsPath (deck setting) t path → AtPath (is_outside path) (asked_by (program_of setting t) path)
-at_path setting t path is_path = of (program_of setting t) refl
+at_path : (setting : WorkedSetting) (t : ℕ) (path : List PathAnswer) → IsPath (deck setting) t path → AtPath (is_outside path) (asked_by (worked_program setting t) path)
+at_path setting t path is_path = of (worked_program setting t) refl
   where
-    of : (program : Program) → program_of setting t ≡ program → AtPath (is_outside path) (asked_by (program_of setting t) path)
-    of (Keys lines) is = subst (λ (p : Program). AtPath (is_outside path) (asked_by p path)) (sym is) (at_key lines (is_outside path) (last_of path))
+    of : (program : WorkedProgram) → worked_program setting t ≡ program → AtPath (is_outside path) (asked_by (worked_program setting t) path)
+    of (Keys lines) is = subst (λ (p : WorkedProgram). AtPath (is_outside path) (asked_by p path)) (sym is) (at_key lines (is_outside path) (last_of path))
     of (Displays texts) is =
-        subst (λ (p : Program). AtPath (is_outside path) (asked_by p path)) (sym is)
+        subst (λ (p : WorkedProgram). AtPath (is_outside path) (asked_by p path)) (sym is)
         (at_text (nat_lt (length path) (length texts)) (is_outside path)
-        (shown-outside (deck setting) t (λ own. nat_lt (length own) (length texts)) (λ own. ap (λ (p : Program). asked_by p own) is) path is_path.suits))
+        (shown-outside (deck setting) t (λ own. nat_lt (length own) (length texts)) (λ own. ap (λ (p : WorkedProgram). asked_by p own) is) path is_path.suits))
 
 -- behind a run fault of a server a program has it
 last_of-push : (path : List PathAnswer) (answer : PathAnswer) → last_of (path ++ answer ∷ []) ≡ Some answer
@@ -105,7 +105,7 @@ no_send : (b : Bool) (c : ℕ) (message : List ℕ) → cond b verb.Show verb.St
 no_send true c message e = cc e
 no_send false c message e = cc e
 
-fails-with : (program : Program) (c x : ℕ) (message : List ℕ) (path : List PathAnswer) → asked_by program path ≡ verb.Send c message
+fails-with : (program : WorkedProgram) (c x : ℕ) (message : List ℕ) (path : List PathAnswer) → asked_by program path ≡ verb.Send c message
     → asked_by program (path ++ Failed x ∷ []) ≡ verb.Fault x
 fails-with (Keys lines) c x message path asks =
     ap (λ (last : Option PathAnswer). verb_behind lines (is_outside (path ++ Failed x ∷ [])) last) (last_of-push path (Failed x))
@@ -137,7 +137,7 @@ good_call _ content six = record { there = omega arith; keyed = length-take-le 2
 is_call : (own call : FileCall) → verb.File own ≡ verb.File call → IsGoodCall own → IsGoodCall call
 is_call own call is good = subst IsGoodCall (let same : own ≡ call = cc in same) good
 
-good_task : (task : Task) (content : List ℕ) (done : List FileAnswer) (call : FileCall) → length content ≡ 6
+good_task : (task : WorkedTask) (content : List ℕ) (done : List FileResult) (call : FileCall) → length content ≡ 6
     → asked_for task content done ≡ verb.File call → IsGoodCall call
 good_task (Does op) content [] call six is = is_call _ call is (good_call op content six)
 good_task (Does op) content (answer ∷ done) call six is = absurd (cc is)
@@ -146,23 +146,23 @@ good_task (Increments op) content (read ∷ []) call six is = is_call _ call is 
 good_task (Increments op) content (read ∷ rewritten ∷ done) call six is = absurd (cc is)
 good_task (Breaks code) content done call six is = absurd (cc is)
 
-good_ask : (c : ℕ) (message : List ℕ) (done : List FileAnswer) (call : FileCall) → asked_of c message done ≡ verb.File call → IsGoodCall call
+good_ask : (c : ℕ) (message : List ℕ) (done : List FileResult) (call : FileCall) → asked_of c message done ≡ verb.File call → IsGoodCall call
 good_ask zero message done call is = good_task (task_of message) (item (drop 1 message)) done call (length-item (drop 1 message)) is
 good_ask (suc c) message done call is = absurd (cc is)
 
 -- a system whose server has one task
-abbrev with_task : Task → List ℕ → Behaviour → Behaviour
+abbrev with_task : WorkedTask → List ℕ → Behaviour → Behaviour
 with_task task content sys = record sys { ops = λ c message done. asked_for task content done }
 
 -- its operations come to its reply or run fault within two
-two_add_up : (task : Task) (content : List ℕ) (sys : Behaviour) (c : ℕ) (message : List ℕ) (files : ℕ → List (List ℕ))
+two_add_up : (task : WorkedTask) (content : List ℕ) (sys : Behaviour) (c : ℕ) (message : List ℕ) (files : ℕ → List (List ℕ))
     → let at : Play = play_after (with_task task content sys) c message files 2 in
     ComesTo (served_by (asked_for task content at.done) at.files) (asked_for task content at.done) at.files
 two_add_up (Does op) content sys c message files = (refl, refl)
 two_add_up (Increments op) content sys c message files = (refl, refl)
 two_add_up (Breaks code) content sys c message files = refl
 
-adds_up : (setting : Setting) (c : ℕ) (message : List ℕ) (files : ℕ → List (List ℕ)) → c < 1 → AddsUp (deck setting) c message files
+adds_up : (setting : WorkedSetting) (c : ℕ) (message : List ℕ) (files : ℕ → List (List ℕ)) → c < 1 → AddsUp (deck setting) c message files
 adds_up setting zero message files there = record {
   operations = 2;
   comes = two_add_up (task_of message) (item (drop 1 message)) (deck setting) 0 message files;
@@ -171,7 +171,7 @@ adds_up setting (suc c) message files there = absurd (omega (arith, there))
 
 -- The file, and the deck.
 
-stock_is : (f : ℕ) → IsFile (key_length_of f) (records_of f)
+stock_is : (f : ℕ) → IsFile (key_length_of f) (worked_records f)
 unfolding IsStrictlySortedBy
 stock_is zero = record {
   key = (omega arith, omega arith);
@@ -186,7 +186,7 @@ staffed zero there = omega arith
 staffed (suc c) there = absurd (omega (arith, there))
 
 -- what holds of every deck holds of these
-pub behaves : (setting : Setting) → IsBehaviour (deck setting)
+pub behaves : (setting : WorkedSetting) → IsBehaviour (deck setting)
 behaves setting = record {
   pairs = λ t known. omega arith;
   asks = λ t path is_path. (at_path setting t path is_path).asked;
@@ -195,7 +195,7 @@ behaves setting = record {
   ends = λ t path is_path. (at_path setting t path is_path).ends;
   drops = λ t path is_path. (at_path setting t path is_path).drops;
   redoes = λ t path is_path. (at_path setting t path is_path).redoes;
-  fails = λ t c x message path is_path asks. fails-with (program_of setting t) c x message path asks;
+  fails = λ t c x message path is_path asks. fails-with (worked_program setting t) c x message path asks;
   sends = λ t c message path is_path. (at_path setting t path is_path).sends c message;
   staffed = staffed;
   calls = λ c message done call there asks. (good_ask c message done call asks).there;

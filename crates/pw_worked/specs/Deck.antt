@@ -11,28 +11,28 @@ use Rattle.pw_code.specs.declared.verb.Verb.TheVariants as verb
 use Rattle.pw_event.specs.declared.script.FailLine.{FailLine}
 use Rattle.pw_onecopy.specs.Play.{Play, play_after}
 use Rattle.pw_onecopy.specs.IsBehaviour.{is_written}
-use Rattle.pw_onecopy.specs.Path.{PathAnswer, Shown, Entry, Begun, Replied, Failed, Ended, Dropped, FileAnswer, is_outside}
+use Rattle.pw_onecopy.specs.Path.{PathAnswer, Shown, Entry, Begun, Replied, Failed, Ended, Dropped, FileResult, is_outside}
 use Rattle.pw_onecopy.specs.Behaviour.{Behaviour, Served, Reply, Fault}
 
 -- The programs of terminals.
 
 -- an entry line of deck C by its key: F1 with the message that its fields make, and F2 to F5
-pub data Line : Type 0 where
-  Sends : (message : List ℕ) → Line
-  Begins : Line
-  Ends : Line
-  Drops : Line
-  Redoes : Line
+pub data KeyedLine : Type 0 where
+  Sends : (message : List ℕ) → KeyedLine
+  Begins : KeyedLine
+  Ends : KeyedLine
+  Drops : KeyedLine
+  Redoes : KeyedLine
 
 -- Keys: deck C's program with these entry lines. It takes a line and, by its key, sends the message
 -- to STORE and displays the reply, or begins, ends, drops or restarts a transaction. Displays: a
 -- DISPLAY of each text, and STOP RUN.
-pub data Program : Type 0 where
-  Keys : (lines : List Line) → Program
-  Displays : (texts : List (List ℕ)) → Program
+pub data WorkedProgram : Type 0 where
+  Keys : (lines : List KeyedLine) → WorkedProgram
+  Displays : (texts : List (List ℕ)) → WorkedProgram
 
 -- the verb behind an entry line, outside a transaction or in one
-abbrev pub verb_at : Line → Bool → Verb
+abbrev pub verb_at : KeyedLine → Bool → Verb
 verb_at (Sends message) outside = verb.Send 0 message
 verb_at Begins true = verb.Begin
 verb_at Begins false = verb.Fault 205
@@ -44,11 +44,11 @@ verb_at Redoes true = verb.Fault 206
 verb_at Redoes false = verb.Redo
 
 -- the k-th entry line
-abbrev pub line_at : List Line → ℕ → Line
+abbrev pub line_at : List KeyedLine → ℕ → KeyedLine
 line_at lines k = slice_index_or lines (k - 1) Begins
 
 -- the verb behind the last answer
-abbrev pub verb_behind : List Line → Bool → Option PathAnswer → Verb
+abbrev pub verb_behind : List KeyedLine → Bool → Option PathAnswer → Verb
 verb_behind lines outside None = verb.Accept 0
 verb_behind lines outside (Some Shown) = verb.Accept 0
 verb_behind lines outside (Some (Entry k)) = verb_at (line_at lines k) outside
@@ -65,7 +65,7 @@ last_of (answer ∷ []) = Some answer
 last_of (first ∷ next ∷ path) = last_of (next ∷ path)
 
 -- what a program asks after a path
-abbrev pub asked_by : Program → List PathAnswer → Verb
+abbrev pub asked_by : WorkedProgram → List PathAnswer → Verb
 asked_by (Keys lines) path = verb_behind lines (is_outside path) (last_of path)
 asked_by (Displays texts) path =
     if nat_lt (length path) (length texts) then verb.Show else verb.Stop
@@ -81,24 +81,24 @@ row_after row [] = row
 row_after row (answer ∷ path) = row_after (row_behind row answer) path
 
 -- row 24 of a program's screen after a path: the last reply, or the next text
-abbrev pub row_of : Program → List PathAnswer → List ℕ
+abbrev pub row_of : WorkedProgram → List PathAnswer → List ℕ
 row_of (Keys lines) path = row_after [] path
 row_of (Displays texts) path = slice_index_or texts (length path) []
 
 -- the number of a program's entry lines
-abbrev pub entries_of : Program → ℕ
-entries_of (Keys lines) = length lines
-entries_of (Displays texts) = 0
+abbrev pub program_entry_count : WorkedProgram → ℕ
+program_entry_count (Keys lines) = length lines
+program_entry_count (Displays texts) = 0
 
 -- The server of STORE.
 
 -- What a message asks of the server. Does: one operation on STOCK, whose status and record it
 -- replies. Increments: a read by this operation and a REWRITE of the record with 1 more, which it
 -- replies. Breaks: this run fault.
-pub data Task : Type 0 where
-  Does : (op : FileOp) → Task
-  Increments : (op : FileOp) → Task
-  Breaks : (code : ℕ) → Task
+pub data WorkedTask : Type 0 where
+  Does : (op : FileOp) → WorkedTask
+  Increments : (op : FileOp) → WorkedTask
+  Breaks : (code : ℕ) → WorkedTask
 
 -- the message begins with a letter
 abbrev pub has_letter : List ℕ → List ℕ → Bool
@@ -106,7 +106,7 @@ has_letter letter message = bytes_eq (take 1 message) letter
 
 -- The task of a message by its letter: those of deck C, L and M for reads WITH LOCK, K for I with
 -- such a read, and X
-abbrev pub task_of : List ℕ → Task
+abbrev pub task_of : List ℕ → WorkedTask
 task_of message =
     if has_letter (codes "R") message then Does Read
     else if has_letter (codes "N") message then Does Next
@@ -151,7 +151,7 @@ call_of op content = record {
 }
 
 -- what the server asks for a task with a record, after these file answers
-abbrev pub asked_for : Task → List ℕ → List FileAnswer → Verb
+abbrev pub asked_for : WorkedTask → List ℕ → List FileResult → Verb
 asked_for (Does op) content [] = verb.File (call_of op content)
 asked_for (Does op) content (answer ∷ done) =
     verb.Reply (reply_with answer.status (unwrap_or answer.content spaces))
@@ -164,7 +164,7 @@ asked_for (Breaks code) content done = verb.Fault code
 
 -- what the server of a class asks on a message: that of STORE by the message's letter and its
 -- record
-abbrev pub asked_of : ℕ → List ℕ → List FileAnswer → Verb
+abbrev pub asked_of : ℕ → List ℕ → List FileResult → Verb
 asked_of zero message done = asked_for (task_of message) (item (drop 1 message)) done
 asked_of (suc c) message done = verb.Stop
 
@@ -178,15 +178,15 @@ served_by _ files = Fault 0
 
 -- what a worked deck is made of: the program of each terminal, MAXTMFRESTARTS, the rule of locking
 -- and the failure lines
-pub record Setting : Type 0 where
-  pub programs : List Program
+pub record WorkedSetting : Type 0 where
+  pub programs : List WorkedProgram
   pub max_restarts : ℕ
   pub rule : LockRule
   pub script : List FailLine
 
 -- the program of a terminal; one that is not there only stops
-abbrev pub program_of : Setting → ℕ → Program
-program_of setting t = slice_index_or setting.programs t (Displays [])
+abbrev pub worked_program : WorkedSetting → ℕ → WorkedProgram
+worked_program setting t = slice_index_or setting.programs t (Displays [])
 
 -- the processes of a class
 abbrev pub processes_of : ℕ → ℕ
@@ -199,27 +199,27 @@ key_length_of zero = 2
 key_length_of (suc f) = 1
 
 -- the records of a file
-abbrev pub records_of : ℕ → List (List ℕ)
-records_of zero = codes "A10005" ∷ codes "B10007" ∷ []
-records_of (suc f) = []
+abbrev pub worked_records : ℕ → List (List ℕ)
+worked_records zero = codes "A10005" ∷ codes "B10007" ∷ []
+worked_records (suc f) = []
 
 -- the system of a worked deck, but for what its servers come to
-abbrev pub deck_but_serve : Setting → Behaviour
+abbrev pub deck_but_serve : WorkedSetting → Behaviour
 deck_but_serve setting = record {
   terminals = length setting.programs;
   pairs = 1;
   pair_of = λ t. 0;
   max_restarts = λ t. if nat_lt t (length setting.programs) then setting.max_restarts else 0;
-  entries = λ t. entries_of (program_of setting t);
-  ask = λ t path. asked_by (program_of setting t) path;
-  image = λ t path. row_of (program_of setting t) path;
+  entries = λ t. program_entry_count (worked_program setting t);
+  ask = λ t path. asked_by (worked_program setting t) path;
+  image = λ t path. row_of (worked_program setting t) path;
   classes = 1;
   processes = processes_of;
   ops = asked_of;
   serve = λ c message files. Fault 0;
   files = 1;
   key_length = key_length_of;
-  records = records_of;
+  records = worked_records;
   rule = setting.rule;
   script = setting.script;
 }
@@ -233,5 +233,5 @@ with_serve sys = record sys {
 }
 
 -- the system of a worked deck
-abbrev pub deck : Setting → Behaviour
+abbrev pub deck : WorkedSetting → Behaviour
 deck setting = with_serve (deck_but_serve setting)

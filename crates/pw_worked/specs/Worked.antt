@@ -7,20 +7,20 @@ use Rattle.pw_onecopy.specs.declared.refresh.Refresh.{Refresh}
 use Rattle.pw_onecopy.specs.OneCopy.{IsSerial, LegalBlock, one_copy}
 use Rattle.pw_onecopy.specs.Refreshes.{once, refreshes_of}
 use Rattle.pw_paired.specs.Shown.{refreshes}
-use Rattle.pw_onecopy.specs.Blocks.{Block}
+use Rattle.pw_onecopy.specs.Blocks.{SerialBlock}
 use Rattle.pw_paired.specs.Serial.{blocks}
 use Rattle.pw_paired.specs.State.{State}
 use Rattle.pw_paired.specs.Step.{IsRun, Legal, after}
 use Rattle.pw_paired.specs.Units.{committed_files}
-use Rattle.pw_worked.specs.Deck.{Keys, Line, Setting, deck}
+use Rattle.pw_worked.specs.Deck.{Keys, KeyedLine, WorkedSetting, deck}
 
 -- deck C with one terminal that has these entry lines, and with these failure lines
-abbrev pub one_terminal : List Line → List FailLine → Setting
+abbrev pub one_terminal : List KeyedLine → List FailLine → WorkedSetting
 one_terminal lines script =
     record { programs = Keys lines ∷ []; max_restarts = 5; rule = ReadersShare; script = script }
 
 -- deck C with two terminals
-abbrev pub two_terminals : List Line → List Line → List FailLine → Setting
+abbrev pub two_terminals : List KeyedLine → List KeyedLine → List FailLine → WorkedSetting
 two_terminals first second script =
     record (one_terminal first script) { programs = Keys first ∷ Keys second ∷ [] }
 
@@ -32,10 +32,10 @@ shown t phase attempt k row =
 -- A log with its deck, and what was worked out by hand: the committed records of STOCK behind it,
 -- its serial order, and the refreshes of T1 and of T2, each number counted once.
 pub record WorkedLog : Type 0 where
-  pub setting : Setting
+  pub setting : WorkedSetting
   pub log : List Event
   pub stock : List (List ℕ)
-  pub order : List Block
+  pub order : List SerialBlock
   pub first : List Refresh
   pub second : List Refresh
 
@@ -53,21 +53,21 @@ pub record WorksOut (w : WorkedLog) : Type 0 where
   pub copy_second : ((one_copy (deck w.setting) w.order).terms 1).refreshes ≡ w.second
 
 -- the state behind a log of a worked deck
-abbrev pub behind : Setting → List Event → State
-behind setting log = after (deck setting) log
+abbrev pub worked_state : WorkedSetting → List Event → State
+worked_state setting log = after (deck setting) log
 
 -- the state behind the first n entries of a worked log
 abbrev pub state_at : WorkedLog → ℕ → State
-state_at w n = behind w.setting (take n w.log)
+state_at w n = worked_state w.setting (take n w.log)
 
 -- behind a log of a worked deck the entry is no step
-abbrev pub IsRefused : Setting → List Event → Event → Type 0
-IsRefused setting log entry = ¬ Legal (deck setting) (behind setting log) entry
+abbrev pub IsIllegalEntry : WorkedSetting → List Event → Event → Type 0
+IsIllegalEntry setting log entry = ¬ Legal (deck setting) (worked_state setting log) entry
 
 -- behind the first n entries of a worked log the entry is no step
 abbrev pub IsNoStep : WorkedLog → ℕ → Event → Type 0
-IsNoStep w n entry = IsRefused w.setting (take n w.log) entry
+IsNoStep w n entry = IsIllegalEntry w.setting (take n w.log) entry
 
 -- behind a list of blocks the block is none that the one-copy machine of a worked deck runs
-abbrev pub IsBarred : Setting → List Block → Block → Type 0
+abbrev pub IsBarred : WorkedSetting → List SerialBlock → SerialBlock → Type 0
 IsBarred setting order block = ¬ LegalBlock (deck setting) (one_copy (deck setting) order) block

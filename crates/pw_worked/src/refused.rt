@@ -8,14 +8,14 @@ ghost use Rattle.pw_event.specs.declared.event.Event.TheVariants.{Again, Begin, 
 ghost use Rattle.pw_event.specs.declared.script.FailLine.TheVariants as line;
 ghost use Rattle.pw_onecopy.specs.Blocks.{Out, Attempted, Left, Restarted};
 ghost use Rattle.pw_paired.specs.Step.{Legal};
-ghost use Rattle.pw_worked.specs.Deck.{Setting, deck};
+ghost use Rattle.pw_worked.specs.Deck.{WorkedSetting, deck};
 ghost use Rattle.pw_worked.specs.logs.Locks.{locks_outlive_reply, next_with_lock_reaches_the_found, older_unit_wins, shared_readers, span_lock, two_increment, with_lock_reads_exclusive};
 ghost use Rattle.pw_worked.specs.logs.Losses.{pair_lost_while_down};
 ghost use Rattle.pw_worked.specs.logs.Servers.{server_cause_waits_for_backup, server_failure_restarts_unit};
 ghost use Rattle.pw_worked.specs.logs.Takeovers.{takeover_after_commit, takeover_answers_kept_reply, takeover_frees_process, takeover_restarts_open_unit, transaction};
 ghost use Rattle.pw_worked.specs.logs.Units.{redo_until_suspended};
 ghost use Rattle.pw_worked.specs.Refused.{pending_after_takeover, raising_before_restart};
-ghost use Rattle.pw_worked.specs.Worked.{IsBarred, IsNoStep, IsRefused, one_terminal};
+ghost use Rattle.pw_worked.specs.Worked.{IsBarred, IsNoStep, IsIllegalEntry, one_terminal};
 
 /// What is no step behind the entries of a worked log before it, where two units lock the same
 /// records: an operation whose lock conflicts, a restart without a conflict, for a younger unit,
@@ -35,9 +35,9 @@ pub fn refused_locks()
         (File 0 1 Read Shared 0 0) }
     ensures read_of_a_locked_record_22 { IsNoStep locks_outlive_reply 21
         (File 0 1 Read Shared 0 0) }
-    ensures restart_beyond_the_limit_19 { IsRefused (two_increment 0 AllExclusive)
+    ensures restart_beyond_the_limit_19 { IsIllegalEntry (two_increment 0 AllExclusive)
         (take 18 older_unit_wins.log) (Restart 1 1 (cause.Older 0 1)) }
-    ensures suspended_below_the_limit_19 { IsRefused (two_increment 1 AllExclusive)
+    ensures suspended_below_the_limit_19 { IsIllegalEntry (two_increment 1 AllExclusive)
         (take 18 older_unit_wins.log) (End 1 (Suspended (cause.Older 0 1))) }
 {}
 
@@ -51,7 +51,7 @@ pub fn refused_entries()
     ensures raise_before_takeover_20 { IsNoStep takeover_after_commit 19 (Raise 0) }
     ensures begin_of_ended_unit_19 { IsNoStep takeover_answers_kept_reply 18 (Begin 0 1 0) }
     ensures raise_before_restart_17 { IsNoStep takeover_restarts_open_unit 16 (Raise 0) }
-    ensures request_taken_while_down_10 { IsRefused takeover_frees_process.setting
+    ensures request_taken_while_down_10 { IsIllegalEntry takeover_frees_process.setting
         (take 8 takeover_frees_process.log ++ FailTcp 0 true 1 ∷ []) (Take 0 1 0) }
     ensures operation_while_down_11 { IsNoStep takeover_frees_process 10
         (File 0 1 Read Shared 0 0) }
@@ -59,9 +59,9 @@ pub fn refused_entries()
     ensures again_of_a_new_unit_5 { IsNoStep server_failure_restarts_unit 4 (Again 0 1) }
     ensures server_cause_without_backup_12 { IsNoStep server_cause_waits_for_backup 11
         (Restart 0 1 (cause.Server 1)) }
-    ensures failure_line_0 { IsRefused (one_terminal transaction (line.Tcp 0 true 0 ∷ [])) []
+    ensures failure_line_0 { IsIllegalEntry (one_terminal transaction (line.Tcp 0 true 0 ∷ [])) []
         (FailTcp 0 true 0) }
-    ensures failure_of_a_finished_log_1 { IsRefused (record redo_until_suspended.setting {
+    ensures failure_of_a_finished_log_1 { IsIllegalEntry (record redo_until_suspended.setting {
       programs = [];
       script = line.Tcp 0 true 0 ∷ [];
     }) [] (FailTcp 0 true 1) }

@@ -1,6 +1,6 @@
 use crate::tests::rows::{case_of, numbers_of};
 use pw_code::system::{System, TermInfo};
-use pw_deck::deck::{Deck, read_deck};
+use pw_deck::deck::{ParsedDeck, read_deck};
 use pw_event::event::Event;
 use pw_event::script::FailLine;
 use std::alloc::{AllocError, Global};
@@ -226,7 +226,7 @@ fn expect_system(rt: &impl Abort, system: &System) {
 }
 
 /// Asserts its failure lines and its log.
-fn expect_script_and_log(rt: &impl Abort, deck: &Deck) {
+fn expect_script_and_log(rt: &impl Abort, deck: &ParsedDeck) {
     let line = FailLine::Tcp {
         tcp: 0,
         primary: false,

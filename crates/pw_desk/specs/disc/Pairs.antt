@@ -12,7 +12,7 @@ use Rattle.pw_event.specs.declared.script.FailLine.{FailLine}
 use Rattle.pw_exec.specs.OfSystem.{behaviour}
 use Rattle.pw_onecopy.specs.Behaviour.{Behaviour}
 use Rattle.pw_paired.specs.Step.{after, is_finished}
-use Rattle.pw_run.specs.Endings.{RunsTo}
+use Rattle.pw_run.specs.Endings.{IsReportOfRun}
 use Rattle.pw_run.specs.Runs.{IsLeft}
 use Rattle.pw_tmf.specs.Starting.{told_at_start}
 
@@ -29,6 +29,6 @@ pub record HasLost (sys : Behaviour) (system : System) (events : ℕ) (lines : L
 
 -- the report of a run, as over any disc; or the pair was lost, and the text is empty
 abbrev pub RunsOver : System → List FailLine → ℕ → List DiscLine → PairRan → List ℕ → Type 0
-RunsOver system script events lines (Ended ended) text = RunsTo (behaviour script system) system events ended text
+RunsOver system script events lines (Ended ended) text = IsReportOfRun (behaviour script system) system events ended text
 RunsOver system script events lines (Lost pair) text =
     HasLost (behaviour script system) system events lines pair × (text ≡ [])

@@ -2,14 +2,14 @@
 use Rattle.std.specs.Prelude.{ℕ, Bool, true, false, List, count_by}
 use Rattle.pw_event.specs.declared.event.Event.{Event}
 use Rattle.pw_onecopy.specs.Behaviour.{Behaviour}
-use Rattle.pw_onecopy.specs.Blocks.{Block, Attempted, Committed}
+use Rattle.pw_onecopy.specs.Blocks.{SerialBlock, Attempted, Committed}
 use Rattle.pw_order.specs.declared.block.Block as order
 use Rattle.pw_order.specs.declared.block.Block.TheVariants as block
 use Rattle.pw_order.specs.declared.block.How.TheVariants as how
 use Rattle.pw_paired.specs.Serial.{blocks}
 
 -- the block is one of a unit that commits
-abbrev pub is_commit : Block → Bool
+abbrev pub is_commit : SerialBlock → Bool
 is_commit (Attempted t n Committed j) = true
 is_commit _ = false
 

@@ -4,7 +4,7 @@ use Rattle.pw_code.specs.declared.file.FileInfo.{FileInfo}
 use Rattle.pw_tmf.specs.Faulty.{with_faults}
 use Rattle.pw_tmf.specs.Tmf.{TmfState, told_of}
 use Rattle.pw_tmf.specs.Told.{Told}
-use Rattle.pw_trail.specs.Calls.{Stands, moment}
+use Rattle.pw_trail.specs.Calls.{DiskHoldsUnits, moment}
 use Rattle.pw_trail.specs.Format.{units_in}
 use Rattle.pw_trail.specs.Stored.{those}
 use Rattle.pw_trail.specs.declared.changes.UnitChanges.{UnitChanges}
@@ -44,7 +44,7 @@ EndsBehind n (Calls left) = (4 * n ≤ left) × (left < 4 * n + 4)
 
 -- The disk has not failed: it has these units, and each has taken four calls of its life.
 pub record Goes (life : Life) (units : List UnitChanges) (trail : TrailState) : Type 0 where
-  pub stands : Stands held MayLeave (moment trail.files trail.disk trail.is_broken) (Ok units)
+  pub stands : DiskHoldsUnits held MayLeave (moment trail.files trail.disk trail.is_broken) (Ok units)
   pub passed : Passes (4 * length units) life (life_by trail.disk.left)
   pub faults : trail.faults ≡ 0
 

@@ -11,7 +11,7 @@ use Rattle.pw_desk.specs.recovery.Runs.{AreAfter}
 use Rattle.pw_desk.specs.declared.recovery.ending.Recovered.{Recovered}
 use Rattle.pw_desk.specs.declared.recovery.ending.Recovered.TheVariants.{Full, Irregular, Regular, Stopped}
 use Rattle.pw_run.specs.Endings.{EndsAs}
-use Rattle.pw_run.specs.declared.ending.Ended.TheVariants as ended
+use Rattle.pw_run.specs.declared.ending.LogEnding.TheVariants as ended
 use Rattle.pw_volume.specs.Life.{Life}
 
 -- The disk has failed: the log goes on no more, `fit` units of it commit, and the committed records are those behind so
@@ -32,7 +32,7 @@ EndsOver Full life fit files events sys log = EndsAs ended.Full events sys log
 EndsOver Stopped life fit files events sys log = StopsOver life fit files events sys log
 
 -- a run over a trail of these files, on a disk with this life, which tells these records as committed
-pub record Ran (files : List FileInfo) (life : Life) (fit : ℕ) (sys : Behaviour) (events : ℕ) (recovered : Recovered)
+pub record RanOverTrail (files : List FileInfo) (life : Life) (fit : ℕ) (sys : Behaviour) (events : ℕ) (recovered : Recovered)
     (records : ℕ → List (List ℕ)) : Type 0 where
   pub log : List Event
   pub run : IsRun sys log

@@ -11,13 +11,13 @@ use Rattle.pw_desk.specs.recovery.Commits.{commits}
 use Rattle.pw_desk.specs.declared.recovery.ending.Recovered.{Recovered}
 use Rattle.pw_desk.specs.declared.recovery.ending.Recovered.TheVariants.{Full, Irregular, Regular, Stopped}
 use Rattle.pw_run.specs.Endings.{EndsAs}
-use Rattle.pw_run.specs.declared.ending.Ended.{Ended}
-use Rattle.pw_run.specs.declared.ending.Ended.TheVariants as ended
+use Rattle.pw_run.specs.declared.ending.LogEnding.{LogEnding}
+use Rattle.pw_run.specs.declared.ending.LogEnding.TheVariants as ended
 use Rattle.pw_trail.specs.Files.{files_after}
 use Rattle.pw_trail.specs.declared.changes.UnitChanges.{UnitChanges}
 
 -- the end of a run whose disk has not failed
-abbrev pub as_recovered : Ended → Recovered
+abbrev pub as_recovered : LogEnding → Recovered
 as_recovered ended.Regular = Regular
 as_recovered ended.Irregular = Irregular
 as_recovered ended.Full = Full
@@ -38,16 +38,16 @@ pub record StopsAt (at : ℕ) (files : List FileInfo) (events : ℕ) (sys : Beha
   pub records : AreAfter ((at - 1) / 4) files (committed_files sys (after sys log))
 
 -- the run has ended as its log says, or by a fault of the disk
-abbrev pub EndsSo : Recovered → ℕ → List FileInfo → ℕ → Behaviour → List Event → Type 0
-EndsSo Regular at files events sys log = EndsAs ended.Regular events sys log
-EndsSo Irregular at files events sys log = EndsAs ended.Irregular events sys log
-EndsSo Full at files events sys log = EndsAs ended.Full events sys log
-EndsSo Stopped at files events sys log = StopsAt at files events sys log
+abbrev pub EndsRecoveredRun : Recovered → ℕ → List FileInfo → ℕ → Behaviour → List Event → Type 0
+EndsRecoveredRun Regular at files events sys log = EndsAs ended.Regular events sys log
+EndsRecoveredRun Irregular at files events sys log = EndsAs ended.Irregular events sys log
+EndsRecoveredRun Full at files events sys log = EndsAs ended.Full events sys log
+EndsRecoveredRun Stopped at files events sys log = StopsAt at files events sys log
 
 -- the text lists the records of a run that ended so
 pub record RecoversTo (sys : Behaviour) (system : System) (events at : ℕ) (recovered : Recovered)
     (text : List ℕ) : Type 0 where
   pub log : List Event
   pub run : IsRun sys log
-  pub ends : EndsSo recovered at system.files events sys log
+  pub ends : EndsRecoveredRun recovered at system.files events sys log
   pub is : text ≡ files_text system sys log

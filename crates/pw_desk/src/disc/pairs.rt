@@ -19,7 +19,7 @@ use pw_disc::pair::DiscPair;
 use pw_disc_call::script::DiscScript;
 use pw_event::script::Script;
 use pw_run::gate::Gate;
-use pw_run::over::{Over, run_over};
+use pw_run::over::{RunEnding, run_over};
 use pw_run::taken::{let_go, report_of};
 use std::alloc::Global;
 use std::sync::Wait;
@@ -78,8 +78,8 @@ fn run_losing<G: Gate, R: Threads + Wait + Sync>(
         return Err(Memory);
     };
     match run_over(rt, alloc, system, script, disc, workers, events, gate)? {
-        Over::Ended(ended, world) => Ok((PairRan::Ended(ended), report_of(alloc, world)?)),
-        Over::Failed(world) => {
+        RunEnding::Ended(ended, world) => Ok((PairRan::Ended(ended), report_of(alloc, world)?)),
+        RunEnding::Failed(world) => {
             world.holds();
             Ok((PairRan::Lost(world.into_disc()), Bytes::new(alloc)))
         }
@@ -111,8 +111,8 @@ fn run_lasting<G: Gate, R: Threads + Wait + Sync>(
         return Err(Memory);
     };
     match run_over(rt, alloc, system, script, disc, workers, events, gate)? {
-        Over::Ended(ended, world) => Ok((PairRan::Ended(ended), report_of(alloc, world)?)),
-        Over::Failed(world) => {
+        RunEnding::Ended(ended, world) => Ok((PairRan::Ended(ended), report_of(alloc, world)?)),
+        RunEnding::Failed(world) => {
             world.into_disc().known();
             unreachable!()
         }

@@ -3,7 +3,7 @@
 ghost use Rattle.std.specs.Prelude.{◌≤◌, IfErr, IfOk};
 ghost use Rattle.pw_base.specs.First.{Refuses};
 ghost use Rattle.pw_code.specs.Limits.{most_log_lines};
-ghost use Rattle.pw_desk.specs.disc.PairRuns.{Comes, pair_deck_of};
+ghost use Rattle.pw_desk.specs.disc.PairRuns.{IsPairRun, pair_deck_of};
 
 use crate::disc::ending::PairRan;
 use crate::disc::pairs::run_pair;
@@ -37,7 +37,7 @@ pub fn run<G: Gate, R: Threads + Wait + Sync>(
 ) -> Result<(PairRan, Bytes), Refusal>
     requires workers { (1 ≤ workers) × (workers ≤ 16) }
     requires events { events ≤ most_log_lines }
-    ensures ok { IfOk result (λ output. Comes bytes.now events output.0 output.1) }
+    ensures ok { IfOk result (λ output. IsPairRun bytes.now events output.0 output.1) }
     ensures fault { IfErr result (λ refusal. Refuses refusal (pair_deck_of bytes.now)) }
 {
     runs_are_serializable();

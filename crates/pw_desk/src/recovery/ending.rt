@@ -3,7 +3,7 @@
 ghost use Rattle.std.specs.Prelude.{◌≡◌};
 ghost use Rattle.pw_desk.specs.recovery.Runs.{as_recovered};
 
-use pw_run::ending::Ended;
+use pw_run::ending::LogEnding;
 
 /// How a run over a trail has ended (docs/TRAIL.md).
 #[derive(Clone, Copy, Debug, PartialEq, Eq)]
@@ -19,12 +19,12 @@ pub enum Recovered {
 }
 
 /// The end of a run whose disk has not failed.
-pub fn of_ended(ended: Ended) -> Recovered
+pub fn of_ended(ended: LogEnding) -> Recovered
     ensures { result ≡ as_recovered ended }
 {
     match ended {
-        Ended::Regular => Recovered::Regular,
-        Ended::Irregular => Recovered::Irregular,
-        Ended::Full => Recovered::Full,
+        LogEnding::Regular => Recovered::Regular,
+        LogEnding::Irregular => Recovered::Irregular,
+        LogEnding::Full => Recovered::Full,
     }
 }

@@ -15,7 +15,7 @@ use std::alloc::Global;
 use std::marker::{Brand, Model, PhantomData};
 
 /// Which trail it is: each run picks it.
-pub trait Naming: Send + Sync {
+pub trait TrailNaming: Send + Sync {
     ghost use Rattle.std.specs.Prelude.{List};
     ghost use Rattle.pw_code.specs.declared.file.FileInfo.{FileInfo};
     ghost use Rattle.pw_volume.specs.Life.{Life};
@@ -27,7 +27,7 @@ pub trait Naming: Send + Sync {
     ghost life: { Life };
 }
 
-impl Naming for Brand {
+impl TrailNaming for Brand {
     ghost use Rattle.std.specs.Prelude.{[]};
     ghost use Rattle.pw_volume.specs.Life.{Endless};
 
@@ -38,12 +38,12 @@ impl Naming for Brand {
 
 /// A trail on a disk in memory, through a run. Contracts see its files, its disk, and what it tells.
 #[derive(Drop)]
-pub struct Kept<N: Naming> {
+pub struct KeptTrail<N: TrailNaming> {
     trail: Trail<MemDisk>,
     of: PhantomData<N>,
 }
 
-impl<N: Naming> Model for Kept<N> {
+impl<N: TrailNaming> Model for KeptTrail<N> {
     ghost use Rattle.pw_desk.specs.recovery.Kept.{IsKept as Keeps, TrailState, trail_state as state};
 
     ghost Value = { TrailState };
@@ -55,15 +55,15 @@ impl<N: Naming> Model for Kept<N> {
         kept.trail.log.is_broken kept.trail.faults kept.trail.tmf) };
 }
 
-impl<N: Naming> Kept<N> {
+impl<N: TrailNaming> KeptTrail<N> {
     /// The trail that it is.
-    pub fn of(trail: Trail<MemDisk>) -> Kept<N>
+    pub fn of(trail: Trail<MemDisk>) -> KeptTrail<N>
         requires { IsKept N.files N.life (trail_state trail.log.files trail.log.disk trail.log.is_broken
             trail.faults trail.tmf) }
         ensures { result ≡ trail_state trail.log.files trail.log.disk trail.log.is_broken
             trail.faults trail.tmf }
     {
-        Kept {
+        KeptTrail {
             trail,
             of: PhantomData,
         }
@@ -75,12 +75,12 @@ impl<N: Naming> Kept<N> {
             result.faults result.tmf ≡ self }
         ensures keeps { IsKept N.files N.life self }
     {
-        let Kept { trail, .. } = self;
+        let KeptTrail { trail, .. } = self;
         trail
     }
 }
 
-impl<N: Naming> Disc for Kept<N> {
+impl<N: TrailNaming> Disc for KeptTrail<N> {
     ghost use Rattle.pw_desk.specs.recovery.Kept.{told_in};
 
     ghost told = { told_in };

@@ -4,7 +4,7 @@ ghost use Rattle.std.specs.Prelude.{◌≡◌, ℕ, Err, None, IfOk};
 ghost use Rattle.pw_code.specs.Valid.{IsValid};
 ghost use Rattle.pw_desk.specs.recovery.Kept.{held};
 ghost use Rattle.pw_tmf.specs.Tmf.{told_of};
-ghost use Rattle.pw_trail.specs.Calls.{Stands, moment};
+ghost use Rattle.pw_trail.specs.Calls.{DiskHoldsUnits, moment};
 ghost use Rattle.pw_trail.specs.Format.{units_in};
 ghost use Rattle.pw_trail.specs.Restoring.{IsReadBack};
 ghost use Rattle.pw_volume.specs.MemDisk.{MayLeave};
@@ -25,7 +25,7 @@ pub fn opened(alloc: Global, disk: MemDisk, system: &System) -> Result<Trail<Mem
     ensures read { IfOk result (λ trail.
         IsReadBack system.now (units_in system.now.files disk.bytes) (told_of trail.tmf)) }
     ensures faults { IfOk result (λ trail. trail.faults ≡ 0) }
-    ensures stands { IfOk result (λ trail. Stands held MayLeave
+    ensures stands { IfOk result (λ trail. DiskHoldsUnits held MayLeave
         (moment trail.log.files trail.log.disk trail.log.is_broken)
         (units_in system.now.files disk.bytes)) }
     ensures lasts { IfOk result (λ trail. trail.log.disk.left ≡ None) }

@@ -12,21 +12,21 @@ ghost use Rattle.pw_onecopy.specs.IsBehaviour.{IsBehaviour};
 ghost use Rattle.pw_paired.specs.Step.{IsRun};
 ghost use Rattle.pw_paired.specs.Units.{committed_files};
 ghost use Rattle.pw_desk.specs.recovery.Kept.{IsKept, told_in, trail_state};
-ghost use Rattle.pw_desk.specs.recovery.Ran.{Ran};
+ghost use Rattle.pw_desk.specs.recovery.Ran.{RanOverTrail};
 ghost use Rattle.pw_tmf.specs.Committed.{committed};
 ghost use Rattle.pw_tmf.specs.Faulty.{with_faults};
 ghost use Rattle.pw_tmf.specs.Tmf.{told_of};
 
 use crate::recovery::commits::commits;
 use crate::recovery::ending::{Recovered, of_ended};
-use crate::recovery::kept::{Kept, Naming};
+use crate::recovery::kept::{KeptTrail, TrailNaming};
 use pw_base::memory::Memory;
 use pw_code::system::System;
 use pw_event::script::Script;
 use pw_kept::runs::run_laws;
 use pw_monitor::world::World;
 use pw_run::gate::Gate;
-use pw_run::over::{Over, run_over};
+use pw_run::over::{RunEnding, run_over};
 use pw_tmf::laws::committed_laws;
 use pw_trail::trail::Trail;
 use pw_volume::mem_disk::MemDisk;
@@ -35,7 +35,7 @@ use std::sync::Wait;
 use std::thread::Threads;
 
 /// The trail of a world. What it tells as committed are the committed records behind the log.
-fn trail_of<N: Naming>(world: World<Kept<N>>) -> Trail<MemDisk>
+fn trail_of<N: TrailNaming>(world: World<KeptTrail<N>>) -> Trail<MemDisk>
     ensures kept { IsKept N.files N.life (trail_state result.log.files result.log.disk
         result.log.is_broken result.faults result.tmf) }
     ensures told { with_faults result.faults (told_of result.tmf) ≡ (seen told_in world).kept.disc }
@@ -53,7 +53,7 @@ fn trail_of<N: Naming>(world: World<Kept<N>>) -> Trail<MemDisk>
 /// Runs a system over a trail with so many workers, for at most so many entries: how the run ended, and
 /// the trail as it left it. Where the disk has failed, `fit` units of the log commit: they are counted,
 /// and another number would be want of memory.
-pub fn run_known<N: Naming, G: Gate, R: Threads + Wait + Sync>(
+pub fn run_known<N: TrailNaming, G: Gate, R: Threads + Wait + Sync>(
     rt: &R,
     alloc: Global,
     system: System,
@@ -74,15 +74,15 @@ pub fn run_known<N: Naming, G: Gate, R: Threads + Wait + Sync>(
         trail.log.is_broken trail.faults trail.tmf) }
     requires workers { (1 ≤ workers) × (workers ≤ 16) }
     requires events { events ≤ most_log_lines }
-    ensures ran { IfOk result (λ ran. Ran N.files N.life fit (behaviour script.lines system) events ran.0
+    ensures ran { IfOk result (λ ran. RanOverTrail N.files N.life fit (behaviour script.lines system) events ran.0
         (committed (told_of ran.1.tmf))) }
     ensures files { IfOk result (λ ran. ran.1.log.files ≡ N.files) }
 {
-    let disc: Kept<N> = Kept::of(trail);
+    let disc: KeptTrail<N> = KeptTrail::of(trail);
     let over = run_over(rt, alloc, system, script, disc, workers, events, gate)?;
     match over {
-        Over::Ended(ended, world) => Ok((of_ended(ended), trail_of(world))),
-        Over::Failed(world) => {
+        RunEnding::Ended(ended, world) => Ok((of_ended(ended), trail_of(world))),
+        RunEnding::Failed(world) => {
             let counted = commits(alloc, &world);
             let left = trail_of(world);
             let count = counted?;

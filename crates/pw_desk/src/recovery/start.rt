@@ -12,7 +12,7 @@ use crate::recovery::opened::opened;
 use pw_base::memory::Memory;
 use pw_code::system::System;
 use pw_trail::append::format;
-use pw_trail::log::Log;
+use pw_trail::log::TrailLog;
 use pw_trail::trail::Trail;
 use pw_volume::fault::WriteFault;
 use pw_volume::mem_disk::MemDisk;
@@ -47,7 +47,7 @@ fn stopping(trail: Trail<MemDisk>, calls: u64) -> Trail<MemDisk>
         tmf,
         faults,
     } = trail;
-    let Log {
+    let TrailLog {
         mut disk,
         files,
         end,
@@ -56,7 +56,7 @@ fn stopping(trail: Trail<MemDisk>, calls: u64) -> Trail<MemDisk>
     disk.stop_after(calls);
     Trail {
         alloc,
-        log: Log {
+        log: TrailLog {
             disk,
             files,
             end,

@@ -1,9 +1,6 @@
 ghost use Rattle.std.specs.Prelude.{◌≤◌, length};
 
-use crate::tests::forms_rows::{
-    REQUESTER, REQUESTER_NO_FORM, REQUESTER_REFUSED, SERVER, SERVER_BARRED, SERVER_NO_FORM,
-    SERVER_REFUSED, TEXTS,
-};
+use crate::tests::forms_rows::{REQUESTER, REQUESTER_NO_FORM, REQUESTER_REFUSED, SERVER, SERVER_BARRED, SERVER_NO_FORM, SERVER_REFUSED, TEXTS};
 use crate::tests::rows::{lines_of, refusal_shown};
 use pw_base::bytes::Bytes;
 use pw_base::fault::Refusal;

@@ -1,6 +1,6 @@
 ghost use Rattle.std.specs.Prelude.{◌≤◌, IsTrue};
 ghost use Rattle.pw_picture.specs.Grammar.{IsPicture};
-ghost use Rattle.pw_picture.specs.Stored.{is_number};
+ghost use Rattle.pw_picture.specs.Stored.{is_numeric_picture};
 
 use pw_number::scaled::Scaled;
 use pw_picture::fault::PictureFault;
@@ -90,7 +90,7 @@ fn texts_are_padded_or_cut(rt: HostRuntime) {
 fn number_picture(places: u8, signed: bool) -> Picture
     requires { places ≤ 3 }
     ensures valid { IsPicture result }
-    ensures number { IsTrue (is_number result) }
+    ensures number { IsTrue (is_numeric_picture result) }
 {
     Picture::Number {
         digits: 3,

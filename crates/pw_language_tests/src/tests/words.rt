@@ -1,8 +1,6 @@
 use pw_base::fault_code::FaultCode;
 use pw_words::names::Names;
-use pw_words::texts::{
-    pathcom_words, refusal_text, refusal_text_laws, refusal_texts, requester_words, server_words,
-};
+use pw_words::texts::{pathcom_words, refusal_text, refusal_text_laws, refusal_texts, requester_words, server_words};
 use std::test::Fail;
 
 #[test]

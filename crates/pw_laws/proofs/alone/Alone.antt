@@ -12,7 +12,7 @@ use Rattle.pw_onecopy.specs.IsBehaviour.{IsBehaviour, IsPath}
 use Rattle.pw_onecopy.specs.Path.{PathAnswer}
 use Rattle.pw_onecopy.specs.Play.{play_after}
 use Rattle.pw_paired.specs.Raising.{is_takeover}
-use Rattle.pw_paired.specs.State.{BeforeImage, Job, Mode, Term}
+use Rattle.pw_paired.specs.State.{BeforeImage, Job, PairMode, Term}
 use Rattle.pw_paired.specs.Units.{has_image}
 use Rattle.pw_laws.proofs.requests.Requests.{Place, Nowhere, InLine, AtWork}
 use Rattle.pw_laws.proofs.terms.TermOk.{IsWorking}
@@ -40,7 +40,7 @@ module _ (sys : Behaviour) (b : IsBehaviour sys) (t : ℕ) (q : List PathAnswer)
     pub agree : (f : ℕ) (key : List ℕ) → IsLocked t f key locks → HaveSameAt sys mid now f key
 
   -- a running attempt is the one that the machine makes alone
-  pub record AloneOk (committed now : ℕ → List (List ℕ)) (j : ℕ) (locks : List Lock) (before : List BeforeImage) (place : Place) (term : Term) (mode : Mode) : Type 0 where
+  pub record AloneOk (committed now : ℕ → List (List ℕ)) (j : ℕ) (locks : List Lock) (before : List BeforeImage) (place : Place) (term : Term) (mode : PairMode) : Type 0 where
     pub is_attempt : IsAttempt sys t q committed r j
     pub path_is : IsWorking mode → is_takeover term.pending ≡ false → term.path ≡ (attempt sys t q committed r j).path
     pub locked : EachOp sys b t q r start committed j (LocksAre sys t locks)
@@ -49,7 +49,7 @@ module _ (sys : Behaviour) (b : IsBehaviour sys) (t : ℕ) (q : List PathAnswer)
         → Calm (attempt sys t q committed r j).files now locks before place
 
   -- what others do: the committed and the open files stay at the locked keys, the locks and the images of the terminal stay
-  module _ (x y now now' : ℕ → List (List ℕ)) (j : ℕ) (locks locks' : List Lock) (before before' : List BeforeImage) (place : Place) (term : Term) (mode mode' : Mode)
+  module _ (x y now now' : ℕ → List (List ℕ)) (j : ℕ) (locks locks' : List Lock) (before before' : List BeforeImage) (place : Place) (term : Term) (mode mode' : PairMode)
       (are : AreFiles sys x) (others : AreFiles sys y)
       (same : (f : ℕ) (key : List ℕ) → IsLocked t f key locks → HaveSameAt sys x y f key)
       (more : (f : ℕ) (key : List ℕ) → IsLocked t f key locks → IsLocked t f key locks')

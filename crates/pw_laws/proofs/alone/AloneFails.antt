@@ -22,8 +22,8 @@ use Rattle.pw_onecopy.specs.Path.{PathAnswer}
 use Rattle.pw_paired.specs.End.{LegalEnd, end_terminal}
 use Rattle.pw_paired.specs.Failure.{LegalRestart, LegalTakeover, lose_backup, lose_primary, lose_pair, is_live_of, is_of_pair, process_fails, with_restart, resume_terminal, runs_unit}
 use Rattle.pw_paired.specs.Raising.{is_takeover, settle_mode}
-use Rattle.pw_paired.specs.Serial.{one_more}
-use Rattle.pw_paired.specs.State.{Alone, Down, Gone, Job, BackupCopy, Mode, OpenUnit, State, Term}
+use Rattle.pw_paired.specs.Serial.{one_answer_more}
+use Rattle.pw_paired.specs.State.{Alone, Down, Gone, Job, BackupCopy, PairMode, OpenUnit, State, Term}
 use Rattle.pw_paired.specs.Step.{Fits, effect}
 use Rattle.pw_paired.specs.Terminal.{LegalAgain, LegalBack, LegalCommit}
 use Rattle.pw_paired.specs.Units.{attempt_of, committed_files, leave_units, only}
@@ -48,7 +48,7 @@ module _ (sys : Behaviour) (b : IsBehaviour sys) (s : State) (i : Inv sys s) (ok
       restored-file sys (effect sys s entry).before st.ok.images (effect sys s entry).files st.ok.are_files
 
   -- a unit of a terminal ends: the others' attempts stay
-  pub alone-again : (t n : ℕ) → LegalAgain sys s t n → AllAlone sys b (effect sys s (Again t n)) (one_more t answers)
+  pub alone-again : (t n : ℕ) → LegalAgain sys s t n → AllAlone sys b (effect sys s (Again t n)) (one_answer_more t answers)
   alone-again t n l j unit q is runs =
       ⊎_elim
       (λ same.
@@ -58,25 +58,25 @@ module _ (sys : Behaviour) (b : IsBehaviour sys) (s : State) (i : Inv sys s) (ok
       let own = l.number in
       let last = l.last in
       absurd (omega (arith, number, own, last)))
-      (λ differ. moved-plain sys b s (effect sys s (Again t n)) ok lk answers (one_more t answers) j unit q
+      (λ differ. moved-plain sys b s (effect sys s (Again t n)) ok lk answers (one_answer_more t answers) j unit q
       (upd-other s.terms t _ j differ) (upd-other answers t (answers t + 1) j differ) (λ place placed. placed) (λ works. works) refl refl refl (all j unit q is runs))
       (cases_eq j t)
 
   -- behind COMMIT running attempts are alone
-  pub alone-commit : (t n : ℕ) → LegalCommit sys s t n → AllAlone sys b (effect sys s (Commit t n)) (one_more t answers)
+  pub alone-commit : (t n : ℕ) → LegalCommit sys s t n → AllAlone sys b (effect sys s (Commit t n)) (one_answer_more t answers)
   alone-commit t n l j unit q =
-      upd_elim s.units t None j (λ (u : Option OpenUnit). u ≡ Some unit → unit.running ≡ Some q → AloneAt sys b (effect sys s (Commit t n)) (one_more t answers) j unit q)
+      upd_elim s.units t None j (λ (u : Option OpenUnit). u ≡ Some unit → unit.running ≡ Some q → AloneAt sys b (effect sys s (Commit t n)) (one_answer_more t answers) j unit q)
       (λ same is runs. absurd (no-unit is))
-      (λ differ is runs. moved-committed sys b s (effect sys s (Commit t n)) ok lk answers (one_more t answers) j unit q
+      (λ differ is runs. moved-committed sys b s (effect sys s (Commit t n)) ok lk answers (one_answer_more t answers) j unit q
       (upd-other s.terms t _ j differ) (upd-other answers t (answers t + 1) j differ) (λ place placed. placed) (λ works. works)
       (only t) (ne_eqb j t differ) refl refl refl (files-behind (Commit t n) l) (all j unit q is runs))
 
   -- behind BACK running attempts are alone
-  pub alone-back : (t n : ℕ) → LegalBack sys s t n → AllAlone sys b (effect sys s (Back t n)) (one_more t answers)
+  pub alone-back : (t n : ℕ) → LegalBack sys s t n → AllAlone sys b (effect sys s (Back t n)) (one_answer_more t answers)
   alone-back t n l j unit q =
-      upd_elim s.units t None j (λ (u : Option OpenUnit). u ≡ Some unit → unit.running ≡ Some q → AloneAt sys b (effect sys s (Back t n)) (one_more t answers) j unit q)
+      upd_elim s.units t None j (λ (u : Option OpenUnit). u ≡ Some unit → unit.running ≡ Some q → AloneAt sys b (effect sys s (Back t n)) (one_answer_more t answers) j unit q)
       (λ same is runs. absurd (no-unit is))
-      (λ differ is runs. moved-withdrawn sys b s (effect sys s (Back t n)) ok lk answers (one_more t answers) j unit q
+      (λ differ is runs. moved-withdrawn sys b s (effect sys s (Back t n)) ok lk answers (one_answer_more t answers) j unit q
       (upd-other s.terms t _ j differ) (upd-other answers t (answers t + 1) j differ) (λ place placed. placed) (λ works. works)
       (only t) (ne_eqb j t differ) refl refl refl (files-behind (Back t n) l) (all j unit q is runs))
 
@@ -161,7 +161,7 @@ module _ (sys : Behaviour) (b : IsBehaviour sys) (s : State) (i : Inv sys s) (ok
   lone-alone : (p : ℕ) → IsWorking (s.modes p) → AllAlone sys b (lose_backup sys p s) answers
   lone-alone p working t unit q is runs =
       moved-plain sys b s (lose_backup sys p s) ok lk answers answers t unit q refl refl (λ place placed. placed)
-      (upd_elim s.modes p Alone (sys.pair_of t) (λ (m : Mode). IsWorking m → IsWorking (s.modes (sys.pair_of t)))
+      (upd_elim s.modes p Alone (sys.pair_of t) (λ (m : PairMode). IsWorking m → IsWorking (s.modes (sys.pair_of t)))
       (λ same _. subst (λ (x : ℕ). IsWorking (s.modes x)) (sym same) working) (λ _ works. works))
       refl refl refl (all t unit q is runs)
 

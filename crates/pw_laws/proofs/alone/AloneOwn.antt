@@ -20,19 +20,19 @@ use Rattle.pw_onecopy.specs.Attempt.{Attempt, GoesOn, TakesAnswer, attempt, atte
 use Rattle.pw_onecopy.specs.Behaviour.{Behaviour, Served, Reply, Fault}
 use Rattle.pw_onecopy.specs.IsBehaviour.{IsBehaviour, IsPath}
 use Rattle.pw_onecopy.specs.Operation.{answer_of, changes_records, key_of, records_behind, span_of}
-use Rattle.pw_onecopy.specs.Path.{FileAnswer, PathAnswer, Failed, Replied, unit_number}
+use Rattle.pw_onecopy.specs.Path.{FileResult, PathAnswer, Failed, Replied, unit_number}
 use Rattle.pw_onecopy.specs.Play.{Play, play_operation, play_after}
 use Rattle.pw_onecopy.specs.Update.{upd}
 use Rattle.pw_paired.specs.Raising.{is_takeover}
 use Rattle.pw_paired.specs.Server.{with_answer}
-use Rattle.pw_paired.specs.State.{BeforeImage, Job, Mode, Term}
+use Rattle.pw_paired.specs.State.{BeforeImage, Job, PairMode, Term}
 use Rattle.pw_paired.specs.Units.{has_image}
 use Rattle.pw_laws.proofs.requests.Requests.{Place, Nowhere, AtWork}
 use Rattle.pw_laws.proofs.terms.TermOk.{IsWorking}
 
 module _ (sys : Behaviour) (b : IsBehaviour sys) (t : ℕ) (q : List PathAnswer) (r : ℕ) (start : IsPath sys t q) where
   -- one more answer that is no reply
-  pub own-answered : (x now : ℕ → List (List ℕ)) (j : ℕ) (locks : List Lock) (before : List BeforeImage) (term term' : Term) (mode : Mode) (v : Verb)
+  pub own-answered : (x now : ℕ → List (List ℕ)) (j : ℕ) (locks : List Lock) (before : List BeforeImage) (term term' : Term) (mode : PairMode) (v : Verb)
       → AloneOk sys b t q r start x now j locks before Nowhere term mode
       → IsWorking mode → term.pending ≡ None → sys.ask t term.path ≡ v → TakesAnswer sys t term.path v → unit_number term.path ≡ unit_number q
       → ((c : ℕ) (message : List ℕ) → v ≢ verb.Send c message) → ((n : ℕ) → v ≢ verb.Fault n)
@@ -65,7 +65,7 @@ module _ (sys : Behaviour) (b : IsBehaviour sys) (t : ℕ) (q : List PathAnswer)
       }
 
   -- the request is sent, and taken: the files are as they were
-  pub own-placed : (x now : ℕ → List (List ℕ)) (j : ℕ) (locks : List Lock) (before : List BeforeImage) (place place' : Place) (term : Term) (mode : Mode)
+  pub own-placed : (x now : ℕ → List (List ℕ)) (j : ℕ) (locks : List Lock) (before : List BeforeImage) (place place' : Place) (term : Term) (mode : PairMode)
       → ((mid : ℕ → List (List ℕ)) → Mid sys b t q r start (attempt sys t q x r j).files locks before place mid → Mid sys b t q r start (attempt sys t q x r j).files locks before place' mid)
       → AloneOk sys b t q r start x now j locks before place term mode
       → AloneOk sys b t q r start x now j locks before place' term mode
@@ -90,7 +90,7 @@ module _ (sys : Behaviour) (b : IsBehaviour sys) (t : ℕ) (q : List PathAnswer)
   }
 
   -- where nothing is pending any more, or no member works, nothing is said of the open files
-  pub own-cut : (x now now' : ℕ → List (List ℕ)) (j : ℕ) (locks : List Lock) (before : List BeforeImage) (place place' : Place) (term term' : Term) (mode mode' : Mode)
+  pub own-cut : (x now now' : ℕ → List (List ℕ)) (j : ℕ) (locks : List Lock) (before : List BeforeImage) (place place' : Place) (term term' : Term) (mode mode' : PairMode)
       → (IsWorking mode' → is_takeover term'.pending ≡ false → (IsWorking mode) × (is_takeover term.pending ≡ false) × (term'.path ≡ term.path))
       → (IsWorking mode' → term'.pending ≡ None → ⊥)
       → AloneOk sys b t q r start x now j locks before place term mode
@@ -104,7 +104,7 @@ module _ (sys : Behaviour) (b : IsBehaviour sys) (t : ℕ) (q : List PathAnswer)
   }
 
   -- an operation of the server at work: what it sees in the open files it sees in the attempt's
-  module _ (x now : ℕ → List (List ℕ)) (j : ℕ) (locks : List Lock) (before before' : List BeforeImage) (c p : ℕ) (job : Job) (term : Term) (mode : Mode)
+  module _ (x now : ℕ → List (List ℕ)) (j : ℕ) (locks : List Lock) (before before' : List BeforeImage) (c p : ℕ) (job : Job) (term : Term) (mode : PairMode)
       (call : FileCall) (lock : Lock)
       (are_now : AreFiles sys now) (is_fine : AreFiles sys (attempt sys t q x r j).files)
       (whose : lock.unit.terminal ≡ t) (file : lock.file ≡ call.file) (span : lock.span ≡ span_of (sys.key_length call.file) (now call.file) call.op call)
@@ -117,7 +117,7 @@ module _ (sys : Behaviour) (b : IsBehaviour sys) (t : ℕ) (q : List PathAnswer)
     abbrev n : ℕ
     n = sys.key_length call.file
 
-    abbrev answer : FileAnswer
+    abbrev answer : FileResult
     answer = answer_of n (now call.file) call.op call
 
     abbrev after : ℕ → List (List ℕ)
@@ -144,7 +144,7 @@ module _ (sys : Behaviour) (b : IsBehaviour sys) (t : ℕ) (q : List PathAnswer)
           mid_is = record {
             known = serving.known;
             n = suc serving.n;
-            done = ap (λ (p : Play). p.done) next ∙ ap₂ (λ (d : List FileAnswer) (a : FileAnswer). d ++ a ∷ []) serving.done (sym answers);
+            done = ap (λ (p : Play). p.done) next ∙ ap₂ (λ (d : List FileResult) (a : FileResult). d ++ a ∷ []) serving.done (sym answers);
             mid_is = ap (λ (p : Play). p.files) (sym next);
             locked = λ k below other is key covers.
                 ⊎_elim
@@ -193,7 +193,7 @@ module _ (sys : Behaviour) (b : IsBehaviour sys) (t : ℕ) (q : List PathAnswer)
     }
 
   -- the server replies, or has a run fault
-  module _ (x now : ℕ → List (List ℕ)) (j : ℕ) (locks : List Lock) (before : List BeforeImage) (c p : ℕ) (job : Job) (term term' : Term) (mode : Mode)
+  module _ (x now : ℕ → List (List ℕ)) (j : ℕ) (locks : List Lock) (before : List BeforeImage) (c p : ℕ) (job : Job) (term term' : Term) (mode : PairMode)
       (ok : AloneOk sys b t q r start x now j locks before (AtWork c p job) term mode)
       (are : AreFiles sys x)
       (working : IsWorking mode) (calm : term.pending ≡ None) (sends : sys.ask t term.path ≡ verb.Send c job.request.message)

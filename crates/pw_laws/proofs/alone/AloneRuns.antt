@@ -22,7 +22,7 @@ use Rattle.pw_onecopy.specs.Update.{upd}
 use Rattle.pw_paired.specs.Raising.{is_takeover, with_message}
 use Rattle.pw_paired.specs.Serial.{answers_behind, reading_starts}
 use Rattle.pw_paired.specs.Server.{free_process, reply_at}
-use Rattle.pw_paired.specs.State.{Alone, Down, Gone, Mode, OpenUnit, Paired, Raising, State, starting}
+use Rattle.pw_paired.specs.State.{Alone, Down, Gone, PairMode, OpenUnit, Paired, Raising, State, starting}
 use Rattle.pw_paired.specs.Step.{Fits, IsRun, IsRunFrom, after, after_from, effect}
 use Rattle.pw_paired.specs.Terminal.{path_of}
 use Rattle.pw_paired.specs.Units.{commit_unit, committed_files}
@@ -56,7 +56,7 @@ module _ (sys : Behaviour) (b : IsBehaviour sys) (s : State) (i : Inv sys s) (ok
   keeps-alone (FailServer c p k) l = alone-fail-server sys b s i ok lk answers all c p k
   keeps-alone (Takeover p) l = alone-takeover sys b s i ok lk answers all p l
   keeps-alone (Raise p) l = alone-plain sys b s i ok lk answers all (effect sys s (Raise p)) refl refl refl refl refl refl
-      (λ j. upd_elim s.modes p Raising (sys.pair_of j) (λ (m : Mode). IsWorking m → IsWorking (s.modes (sys.pair_of j)))
+      (λ j. upd_elim s.modes p Raising (sys.pair_of j) (λ (m : PairMode). IsWorking m → IsWorking (s.modes (sys.pair_of j)))
       (λ same _. subst IsWorking (sym (ap s.modes same)) (rw l.alone tt)) (λ _ works. works))
   keeps-alone (End t e) l = alone-end sys b s i ok lk answers all t e l
 
@@ -79,7 +79,7 @@ pub attempt-alone : (sys : Behaviour) → IsBehaviour sys → (log : List Event)
     → IsAttempt sys t start (committed_files sys (after sys log)) unit.restarts (answers_after sys log t)
 attempt-alone sys b log run t unit start is runs = (all-alone sys b log run t unit start is runs).alone.is_attempt
 
-working : (mode : Mode) → has_paths mode ≡ true → IsWorking mode
+working : (mode : PairMode) → has_paths mode ≡ true → IsWorking mode
 working Alone works = tt
 working Raising works = tt
 working Paired works = tt

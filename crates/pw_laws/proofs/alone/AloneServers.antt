@@ -34,7 +34,7 @@ use Rattle.pw_onecopy.specs.IsBehaviour.{IsBehaviour}
 use Rattle.pw_onecopy.specs.Operation.{changes_records, key_of, span_of}
 use Rattle.pw_onecopy.specs.Path.{PathAnswer, Failed, Replied, unit_number}
 use Rattle.pw_onecopy.specs.Update.{upd}
-use Rattle.pw_paired.specs.Serial.{one_more}
+use Rattle.pw_paired.specs.Serial.{one_answer_more}
 use Rattle.pw_paired.specs.Server.{do_reply, LegalFile, LegalReply, answer_on, do_operation, free_process, lock_of_job, server_verb, with_answer}
 use Rattle.pw_paired.specs.State.{Class, Job, OpenUnit, State, Term}
 use Rattle.pw_paired.specs.Step.{effect}
@@ -194,7 +194,7 @@ module _ (sys : Behaviour) (b : IsBehaviour sys) (s : State) (i : Inv sys s) (ok
         → ((at : AloneAt sys b s answers whose unit q)
         → AloneOk sys b whose q unit.restarts at.start (committed_files sys s) s.files (answers whose) s.locks s.before (AtWork c p job) (s.terms whose) (s.modes (sys.pair_of whose))
         → AloneOk sys b whose q unit.restarts at.start (committed_files sys s) s.files (suc (answers whose)) s.locks s.before Nowhere (record (s.terms whose) { path = path_of s whose ++ answer ∷ [] }) (s.modes (sys.pair_of whose)))
-        → AloneAt sys b s' (one_more whose answers) whose unit q
+        → AloneAt sys b s' (one_answer_more whose answers) whose unit q
     own-alone s' answer unit q files before locks modes classes terms is runs own =
         let at = all whose unit q is runs in
         let here : at.place ≡ AtWork c p job = place_at_work s.classes at.place c p job works refl at.placed in
@@ -214,56 +214,56 @@ module _ (sys : Behaviour) (b : IsBehaviour sys) (s : State) (i : Inv sys s) (ok
     all-files : AreFiles sys (committed_files sys s)
     all-files = restored-file sys s.before ok.images s.files ok.are_files
 
-    failed-alone : (x : ℕ) → server_verb sys c job ≡ verb.Fault x → AllAlone sys b (give_answer whose (Failed x) (free_process c p s)) (one_more whose answers)
+    failed-alone : (x : ℕ) → server_verb sys c job ≡ verb.Fault x → AllAlone sys b (give_answer whose (Failed x) (free_process c p s)) (one_answer_more whose answers)
     failed-alone x asks j unit q is runs =
         ⊎_elim
         (λ same.
         let was = ap s.units (sym same) ∙ is in
-        subst (λ (k : ℕ). AloneAt sys b (give_answer whose (Failed x) (free_process c p s)) (one_more whose answers) k unit q) (sym same)
+        subst (λ (k : ℕ). AloneAt sys b (give_answer whose (Failed x) (free_process c p s)) (one_answer_more whose answers) k unit q) (sym same)
         (own-alone (give_answer whose (Failed x) (free_process c p s)) (Failed x) unit q refl refl refl refl refl refl was runs
         (λ at alone.
         own-failed sys b whose q unit.restarts at.start (committed_files sys s) s.files (answers whose) s.locks s.before c p job (s.terms whose) (record (s.terms whose) { path = path_of s whose ++ Failed x ∷ [] }) (s.modes (sys.pair_of whose))
         alone all-files out.working out.calm out.asks (agree unit q was runs) x asks refl
         (b.fails whose c x job.request.message (path_of s whose) (out-path sys b s i.terms whose (record { class = c; request = job.request }) out).is_path out.asks))))
-        (λ differ. moved-plain sys b s (give_answer whose (Failed x) (free_process c p s)) ok lk answers (one_more whose answers) j unit q
+        (λ differ. moved-plain sys b s (give_answer whose (Failed x) (free_process c p s)) ok lk answers (one_answer_more whose answers) j unit q
         (upd-other s.terms whose _ j differ) (upd-other answers whose (answers whose + 1) j differ)
         (λ place placed. placed_process_other s.classes c p job None works (λ mine. differ (sym mine)) tt place placed) (λ w. w) refl refl refl (all j unit q is runs))
         (cases_eq j whose)
 
-    replied-alone : (reply : List ℕ) → server_verb sys c job ≡ verb.Reply reply → AllAlone sys b (give_answer whose (Replied reply) (free_process c p s)) (one_more whose answers)
+    replied-alone : (reply : List ℕ) → server_verb sys c job ≡ verb.Reply reply → AllAlone sys b (give_answer whose (Replied reply) (free_process c p s)) (one_answer_more whose answers)
     replied-alone reply asks j unit q is runs =
         ⊎_elim
         (λ same.
         let was = ap s.units (sym same) ∙ is in
-        subst (λ (k : ℕ). AloneAt sys b (give_answer whose (Replied reply) (free_process c p s)) (one_more whose answers) k unit q) (sym same)
+        subst (λ (k : ℕ). AloneAt sys b (give_answer whose (Replied reply) (free_process c p s)) (one_answer_more whose answers) k unit q) (sym same)
         (own-alone (give_answer whose (Replied reply) (free_process c p s)) (Replied reply) unit q refl refl refl refl refl refl was runs
         (λ at alone.
         (own-replied sys b whose q unit.restarts at.start (committed_files sys s) s.files (answers whose) s.locks s.before c p job (s.terms whose) (record (s.terms whose) { path = path_of s whose ++ Replied reply ∷ [] }) (s.modes (sys.pair_of whose))
         alone all-files out.working out.calm out.asks (agree unit q was runs) reply asks refl).0)))
-        (λ differ. moved-plain sys b s (give_answer whose (Replied reply) (free_process c p s)) ok lk answers (one_more whose answers) j unit q
+        (λ differ. moved-plain sys b s (give_answer whose (Replied reply) (free_process c p s)) ok lk answers (one_answer_more whose answers) j unit q
         (upd-other s.terms whose _ j differ) (upd-other answers whose (answers whose + 1) j differ)
         (λ place placed. placed_process_other s.classes c p job None works (λ mine. differ (sym mine)) tt place placed) (λ w. w) refl refl refl (all j unit q is runs))
         (cases_eq j whose)
 
     -- a unit that is one SEND commits
     sent-alone : (reply : List ℕ)
-        → AllAlone sys b (give_answer whose (Replied reply) (commit_unit whose (unit_number (path_of s whose)) (Some reply) (free_process c p s))) (one_more whose answers)
+        → AllAlone sys b (give_answer whose (Replied reply) (commit_unit whose (unit_number (path_of s whose)) (Some reply) (free_process c p s))) (one_answer_more whose answers)
     sent-alone reply j unit q is runs =
         let after : State = give_answer whose (Replied reply) (commit_unit whose (unit_number (path_of s whose)) (Some reply) (free_process c p s)) in
         let st = send-stays sys b s i ok c p whose (unit_number (path_of s whose)) reply in
-        upd_elim s.units whose None j (λ (u : Option OpenUnit). u ≡ Some unit → unit.running ≡ Some q → AloneAt sys b after (one_more whose answers) j unit q)
+        upd_elim s.units whose None j (λ (u : Option OpenUnit). u ≡ Some unit → unit.running ≡ Some q → AloneAt sys b after (one_answer_more whose answers) j unit q)
         (λ same none _. absurd (no-unit none))
-        (λ differ is runs. moved-committed sys b s after ok lk answers (one_more whose answers) j unit q
+        (λ differ is runs. moved-committed sys b s after ok lk answers (one_answer_more whose answers) j unit q
         (upd-other s.terms whose _ j differ) (upd-other answers whose (answers whose + 1) j differ)
         (λ place placed. placed_process_other s.classes c p job None works (λ mine. differ (sym mine)) tt place placed) (λ w. w)
         (only whose) (ne_eqb j whose differ) refl refl refl (restored-file sys after.before st.ok.images after.files st.ok.are_files) (all j unit q is runs)) is runs
 
   -- behind REPLY running attempts are alone
-  pub alone-reply : (c p t : ℕ) (fault : Option ℕ) → LegalReply sys s c p t fault → AllAlone sys b (effect sys s (Reply c p t fault)) (one_more t answers)
+  pub alone-reply : (c p t : ℕ) (fault : Option ℕ) → LegalReply sys s c p t fault → AllAlone sys b (effect sys s (Reply c p t fault)) (one_answer_more t answers)
   alone-reply c p t fault l =
       let own : ℕ = l.job.request.terminal in
-      logged-alone sys b _ _ _ (subst (λ (o : ℕ). AllAlone sys b (do_reply sys c p o fault s) (one_more o answers)) l.whose
-      (reply-cases sys s c p own (λ x. AllAlone sys b x (one_more own answers)) fault
+      logged-alone sys b _ _ _ (subst (λ (o : ℕ). AllAlone sys b (do_reply sys c p o fault s) (one_answer_more o answers)) l.whose
+      (reply-cases sys s c p own (λ x. AllAlone sys b x (one_answer_more own answers)) fault
       (record { job = l.job; at_work = l.at_work; whose = refl; replies = l.replies })
       (λ reply none asks outside. sent-alone c p l.job l.at_work reply)
       (λ reply none asks inside. replied-alone c p l.job l.at_work reply asks)

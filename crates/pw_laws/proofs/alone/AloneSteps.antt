@@ -21,9 +21,9 @@ use Rattle.pw_onecopy.specs.IsBehaviour.{IsBehaviour, IsPath}
 use Rattle.pw_onecopy.specs.Path.{PathAnswer, Entry, Shown, entries_on, unit_number}
 use Rattle.pw_onecopy.specs.Update.{upd}
 use Rattle.pw_paired.specs.Raising.{lacks_one, settle_mode}
-use Rattle.pw_paired.specs.Serial.{answers_at_begin, one_more}
+use Rattle.pw_paired.specs.Serial.{answers_at_begin, one_answer_more}
 use Rattle.pw_paired.specs.Server.{LegalTake}
-use Rattle.pw_paired.specs.State.{BeforeImage, Class, Mode, OpenUnit, State, Term}
+use Rattle.pw_paired.specs.State.{BeforeImage, Class, PairMode, OpenUnit, State, Term}
 use Rattle.pw_paired.specs.Step.{effect}
 use Rattle.pw_paired.specs.Terminal.{CanStep, IsIdle, LegalBegin, LegalKey, LegalSend, LegalShow, unit_with_attempt, begun_path, message_of, next_verb, path_of}
 use Rattle.pw_paired.specs.Units.{attempt_of, committed_files, restarts_of, restored_files}
@@ -50,7 +50,7 @@ idle-unlocked units t f key (lock ∷ locks) held idle (inr more) = idle-unlocke
 -- a pair that works behind an entry that settles it worked before
 pub settled-was : (sys : Behaviour) (s : State) (p j : ℕ) → IsWorking ((settle_mode sys p s).modes (sys.pair_of j)) → IsWorking (s.modes (sys.pair_of j))
 settled-was sys s p j =
-    upd_elim s.modes p _ (sys.pair_of j) (λ (m : Mode). IsWorking m → IsWorking (s.modes (sys.pair_of j)))
+    upd_elim s.modes p _ (sys.pair_of j) (λ (m : PairMode). IsWorking m → IsWorking (s.modes (sys.pair_of j)))
     (λ same works. subst (λ (q : ℕ). IsWorking (s.modes q)) (sym same) (raised-works (s.modes p) (lacks_one sys p s) works)) (λ _ works. works)
 
 module _ (sys : Behaviour) (b : IsBehaviour sys) (s : State) (i : Inv sys s) (ok : RecordsOk sys s.files s.before s.locks) (lk : LocksOk s.units s.locks) (answers : ℕ → ℕ) (all : AllAlone sys b s answers) where
@@ -72,7 +72,7 @@ module _ (sys : Behaviour) (b : IsBehaviour sys) (s : State) (i : Inv sys s) (ok
       → ((unit : OpenUnit) (q : List PathAnswer) → s.units t ≡ Some unit → unit.running ≡ Some q → (at : AloneAt sys b s answers t unit q)
       → AloneOk sys b t q unit.restarts at.start (committed_files sys s) s.files (suc (answers t)) s.locks s.before Nowhere (record (s.terms t) { path = path_of s t ++ answer ∷ [] }) (s.modes (sys.pair_of t)))
       → IsIn t i.places
-      → AllAlone sys b s' (one_more t answers)
+      → AllAlone sys b s' (one_answer_more t answers)
   answered-alone t s' answer v can asks files before locks units classes modes terms own in_it j unit q is runs =
       let was : s.units j ≡ Some unit = ap (λ (u : ℕ → Option OpenUnit). u j) (sym units) ∙ is in
       ⊎_elim
@@ -80,7 +80,7 @@ module _ (sys : Behaviour) (b : IsBehaviour sys) (s : State) (i : Inv sys s) (ok
       let was_t : s.units t ≡ Some unit = ap s.units (sym same) ∙ was in
       let at = all t unit q was_t runs in
       let here : Placed s.classes t Nowhere = subst (Placed s.classes t) (nowhere t at.place at.placed in_it) at.placed in
-      subst (λ (k : ℕ). AloneAt sys b s' (one_more t answers) k unit q) (sym same)
+      subst (λ (k : ℕ). AloneAt sys b s' (one_answer_more t answers) k unit q) (sym same)
       (record {
         going = ap (λ (x : ℕ → Term). (x t).ending) terms ∙ (ap (λ (x : Term). x.ending) (upd-same s.terms t _ t refl) ∙ at.going);
         start = at.start;
@@ -88,24 +88,24 @@ module _ (sys : Behaviour) (b : IsBehaviour sys) (s : State) (i : Inv sys s) (ok
         placed = subst (λ (c : ℕ → Class). Placed c t Nowhere) (sym classes) here;
         alone = now-alone unit q at (own unit q was_t runs at);
       }))
-      (λ differ. moved-plain sys b s s' ok lk answers (one_more t answers) j unit q
+      (λ differ. moved-plain sys b s s' ok lk answers (one_answer_more t answers) j unit q
       (ap (λ (x : ℕ → Term). x j) terms ∙ upd-other s.terms t _ j differ) (upd-other answers t (answers t + 1) j differ)
-      (λ place placed. subst (λ (c : ℕ → Class). Placed c j place) (sym classes) placed) (λ works. subst (λ (m : ℕ → Mode). IsWorking (m (sys.pair_of j))) modes works)
+      (λ place placed. subst (λ (c : ℕ → Class). Placed c j place) (sym classes) placed) (λ works. subst (λ (m : ℕ → PairMode). IsWorking (m (sys.pair_of j))) modes works)
       files before locks (all j unit q was runs))
       (cases_eq j t)
     where
       now-alone : (unit : OpenUnit) (q : List PathAnswer) (at : AloneAt sys b s answers t unit q)
           → AloneOk sys b t q unit.restarts at.start (committed_files sys s) s.files (suc (answers t)) s.locks s.before Nowhere (record (s.terms t) { path = path_of s t ++ answer ∷ [] }) (s.modes (sys.pair_of t))
-          → AloneOk sys b t q unit.restarts at.start (committed_files sys s') s'.files (one_more t answers t) s'.locks s'.before Nowhere (s'.terms t) (s'.modes (sys.pair_of t))
+          → AloneOk sys b t q unit.restarts at.start (committed_files sys s') s'.files (one_answer_more t answers t) s'.locks s'.before Nowhere (s'.terms t) (s'.modes (sys.pair_of t))
       now-alone unit q at alone =
           subst₂ (λ (n : ℕ) (x : Term). AloneOk sys b t q unit.restarts at.start (committed_files sys s') s'.files n s'.locks s'.before Nowhere x (s'.modes (sys.pair_of t)))
           (let next : suc (answers t) ≡ answers t + 1 = omega arith in next ∙ sym (upd-same answers t (answers t + 1) t refl)) (sym (ap (λ (x : ℕ → Term). x t) terms ∙ upd-same s.terms t _ t refl))
-          (subst (λ (m : ℕ → Mode). AloneOk sys b t q unit.restarts at.start (committed_files sys s') s'.files (suc (answers t)) s'.locks s'.before Nowhere (record (s.terms t) { path = path_of s t ++ answer ∷ [] }) (m (sys.pair_of t))) (sym modes)
+          (subst (λ (m : ℕ → PairMode). AloneOk sys b t q unit.restarts at.start (committed_files sys s') s'.files (suc (answers t)) s'.locks s'.before Nowhere (record (s.terms t) { path = path_of s t ++ answer ∷ [] }) (m (sys.pair_of t))) (sym modes)
           (subst (λ (l : List Lock). AloneOk sys b t q unit.restarts at.start (committed_files sys s') s'.files (suc (answers t)) l s'.before Nowhere (record (s.terms t) { path = path_of s t ++ answer ∷ [] }) (s.modes (sys.pair_of t))) (sym locks)
           (subst₂ (λ (x : ℕ → List (List ℕ)) (y : List BeforeImage). AloneOk sys b t q unit.restarts at.start (restored_files sys.key_length y x) x (suc (answers t)) s.locks y Nowhere (record (s.terms t) { path = path_of s t ++ answer ∷ [] }) (s.modes (sys.pair_of t))) (sym files) (sym before) alone)))
 
   -- behind SHOW running attempts are alone
-  pub alone-show : (t phase attempt k : ℕ) → LegalShow sys s t phase attempt k → AllAlone sys b (effect sys s (Show t phase attempt k)) (one_more t answers)
+  pub alone-show : (t phase attempt k : ℕ) → LegalShow sys s t phase attempt k → AllAlone sys b (effect sys s (Show t phase attempt k)) (one_answer_more t answers)
   alone-show t phase attempt_no k l =
       answered-alone t (effect sys s (Show t phase attempt_no k)) Shown verb.Show l.can l.asks refl refl refl refl refl refl refl
       (λ unit q is runs at.
@@ -117,7 +117,7 @@ module _ (sys : Behaviour) (b : IsBehaviour sys) (s : State) (i : Inv sys s) (ok
       (no-request t i (λ c message is. absurd (cc (l.asks, is))))
 
   -- behind KEY running attempts are alone
-  pub alone-key : (t k : ℕ) → LegalKey sys s t k → AllAlone sys b (effect sys s (Key t k)) (one_more t answers)
+  pub alone-key : (t k : ℕ) → LegalKey sys s t k → AllAlone sys b (effect sys s (Key t k)) (one_answer_more t answers)
   alone-key t k l =
       let next = l.next in
       let exists = l.exists in
@@ -139,7 +139,7 @@ module _ (sys : Behaviour) (b : IsBehaviour sys) (s : State) (i : Inv sys s) (ok
       files before locks (all t unit q (ap (λ (u : ℕ → Option OpenUnit). u t) (sym units) ∙ is) runs)
 
   -- a unit begins
-  begin-alone : (t r : ℕ) (q : List PathAnswer) (v : Verb) (start : IsPath sys t q) → sys.ask t q ≡ v → BeginsUnit v q → IsIdle s t → (term' : Term) (mode : Mode) → term'.path ≡ begun_path r v q
+  begin-alone : (t r : ℕ) (q : List PathAnswer) (v : Verb) (start : IsPath sys t q) → sys.ask t q ≡ v → BeginsUnit v q → IsIdle s t → (term' : Term) (mode : PairMode) → term'.path ≡ begun_path r v q
       → AloneOk sys b t q r start (committed_files sys s) s.files (answers_at_begin v) s.locks s.before Nowhere term' mode
   begin-alone t r q verb.Begin start asks begins idle term' mode path = record {
     is_attempt = (subst (λ (w : Verb). BeginsUnit w q) (sym asks) tt, record { takes = rw asks tt; is_open = refl });

@@ -9,7 +9,7 @@ use Rattle.pw_code.specs.declared.lock.LockMode.{LockMode}
 use Rattle.pw_code.specs.declared.lock.LockMode.TheVariants.{Shared, Exclusive}
 use Rattle.pw_laws.proofs.records.Images.{cases_bytes}
 use Rattle.pw_laws.proofs.seeing.CoveredKeys.{alone_exclusive, exclusive_alone}
-use Rattle.pw_laws.specs.locking.Held.{AreApart, has_key_lock, is_exclusive, is_point, locks_key}
+use Rattle.pw_laws.specs.locking.Held.{AreCompatibleLocks, has_key_lock, is_exclusive, is_point, locks_key}
 use Rattle.pw_locks.specs.Conflicts.{conflict, is_same_unit}
 use Rattle.pw_locks.specs.Spans.{Covers}
 use Rattle.pw_locks.specs.declared.lock.Lock.{Lock}
@@ -81,7 +81,7 @@ other-head t o f key held (lock ∷ locks) differ other free (inl own) = clash-b
 other-head t o f key held (lock ∷ locks) differ other free (inr locked) = other-head t o f key held locks differ other free.1 locked
 
 -- no key under a lock of one terminal is under an exclusive lock of another
-pub unshared : (t o f : ℕ) (key : List ℕ) (locks : List Lock) → t ≢ o → AreApart locks → IsLocked t f key locks → has_key_lock o f key locks ≡ true → ⊥
+pub unshared : (t o f : ℕ) (key : List ℕ) (locks : List Lock) → t ≢ o → AreCompatibleLocks locks → IsLocked t f key locks → has_key_lock o f key locks ≡ true → ⊥
 unshared t o f key [] differ apart locked there = locked
 unshared t o f key (lock ∷ locks) differ apart locked there =
     ⊎_elim

@@ -12,7 +12,7 @@ use Rattle.pw_laws.proofs.records.Images.{ImageOk, dropped, is_at, kept, restore
 use Rattle.pw_laws.proofs.records.RecordsOk.{RecordsOk}
 use Rattle.pw_laws.proofs.records.Withdrawn.{any-image}
 use Rattle.pw_laws.proofs.seeing.Plays.{played_leaves}
-use Rattle.pw_laws.specs.locking.Held.{AreApart}
+use Rattle.pw_laws.specs.locking.Held.{AreCompatibleLocks}
 use Rattle.pw_laws.specs.locking.Seen.{AreFiles, HaveSameAt, files_at, verb_at}
 use Rattle.pw_locks.specs.declared.lock.Lock.{Lock}
 use Rattle.pw_onecopy.specs.Attempt.{Attempt, IsAttempt, attempt, attempt_with_served, answer_verb}
@@ -61,7 +61,7 @@ module _ (sys : Behaviour) (files : ℕ → List (List ℕ)) (before : List Befo
       and-true true e = refl
       and-true false e = e
 
-module _ (sys : Behaviour) (files : ℕ → List (List ℕ)) (before : List BeforeImage) (locks : List Lock) (ok : RecordsOk sys files before locks) (apart : AreApart locks) (t : ℕ) where
+module _ (sys : Behaviour) (files : ℕ → List (List ℕ)) (before : List BeforeImage) (locks : List Lock) (ok : RecordsOk sys files before locks) (apart : AreCompatibleLocks locks) (t : ℕ) where
   -- no other terminal has an image of a locked key
   pub unimaged : (f : ℕ) (key : List ℕ) → IsLocked t f key locks → (o : ℕ) → t ≢ o → has_image o f key before ≡ true → ⊥
   unimaged f key locked o differ there = unshared t o f key locks differ apart locked (ok.locked o f key there)

@@ -15,7 +15,7 @@ use Rattle.pw_onecopy.specs.OneCopy.{LegalDone, Machine, MayEnd, Single, one_cop
 use Rattle.pw_onecopy.specs.Attempt.{attempt}
 use Rattle.pw_onecopy.specs.Path.{PathAnswer, Entry, entries_on}
 use Rattle.pw_paired.specs.Raising.{is_takeover, settle_mode}
-use Rattle.pw_onecopy.specs.Blocks.{Block, Done, Left}
+use Rattle.pw_onecopy.specs.Blocks.{SerialBlock, Done, Left}
 use Rattle.pw_paired.specs.Serial.{left_block}
 use Rattle.pw_paired.specs.State.{Gone, OpenUnit, State, Term}
 use Rattle.pw_paired.specs.Step.{Fits, effect}
@@ -172,7 +172,7 @@ module _ (sys : Behaviour) (b : IsBehaviour sys) (s : State) (f : Fold) (known :
       entry : Event
       entry = event.End t e
 
-      more : List Block
+      more : List SerialBlock
       more = left_block t (f.reading.answers t) (s.units t) ++ Done t e ∷ []
 
       live : (t < sys.terminals) × ((s.terms t).ending ≡ None)

@@ -5,7 +5,7 @@ use Rattle.pw_onecopy.specs.declared.refresh.Refresh.{Refresh}
 use Rattle.pw_onecopy.specs.OneCopy.{IsSerialFrom, Machine, run_block, run_blocks}
 use Rattle.pw_onecopy.specs.Path.{PathAnswer}
 use Rattle.pw_paired.specs.Shown.{refresh_of, refreshes, refreshes_from}
-use Rattle.pw_onecopy.specs.Blocks.{Block}
+use Rattle.pw_onecopy.specs.Blocks.{SerialBlock}
 use Rattle.pw_paired.specs.Serial.{Reading, blocks, blocks_of, entry_blocks_from, last_blocks_from, left_blocks, read_on, reading_starts}
 use Rattle.pw_paired.specs.State.{State, starting}
 use Rattle.pw_paired.specs.Step.{after, after_from, effect}
@@ -21,7 +21,7 @@ use Rattle.pw_laws.specs.attempts.Answers.{answers_after, answers_from}
 pub record Fold : Type 0 where
   pub reading : Reading
   pub frontier : ℕ → List PathAnswer
-  pub order : List Block
+  pub order : List SerialBlock
   pub shown : List Refresh
 
 -- before the first entry
@@ -75,8 +75,8 @@ module _ (sys : Behaviour) where
   pub fold-blocks : (log : List Event)
       → blocks sys log ≡ (fold_after sys log).order ++ left_blocks (after sys log) (fold_after sys log).reading (λ t. true) sys.terminals
   fold-blocks log =
-      ap (λ (l : List Block). l ++ last_blocks_from sys (starting sys) reading_starts log) (sym (fold-order-from (starting sys) fold_starts log))
-      ∙ ap (λ (l : List Block). (fold_after sys log).order ++ l) (fold-last-from (starting sys) fold_starts log)
+      ap (λ (l : List SerialBlock). l ++ last_blocks_from sys (starting sys) reading_starts log) (sym (fold-order-from (starting sys) fold_starts log))
+      ∙ ap (λ (l : List SerialBlock). (fold_after sys log).order ++ l) (fold-last-from (starting sys) fold_starts log)
 
   fold-shown-from : (s : State) (f : Fold) (log : List Event) → (carried_from sys (fold_on sys) s f log).shown ≡ f.shown ++ refreshes_from sys s log
   fold-shown-from s f [] = sym (append-nil f.shown)
@@ -89,12 +89,12 @@ module _ (sys : Behaviour) where
   fold-shown log = fold-shown-from (starting sys) fold_starts log
 
   -- the machine behind more blocks
-  pub run_blocks-append : (machine : Machine) (order more : List Block) → run_blocks sys machine (order ++ more) ≡ run_blocks sys (run_blocks sys machine order) more
+  pub run_blocks-append : (machine : Machine) (order more : List SerialBlock) → run_blocks sys machine (order ++ more) ≡ run_blocks sys (run_blocks sys machine order) more
   run_blocks-append machine [] more = refl
   run_blocks-append machine (block ∷ order) more = run_blocks-append (run_block sys machine block) order more
 
   -- an order in two parts is legal where each part is
-  pub serial-append : (machine : Machine) (order more : List Block) → IsSerialFrom sys machine order → IsSerialFrom sys (run_blocks sys machine order) more
+  pub serial-append : (machine : Machine) (order more : List SerialBlock) → IsSerialFrom sys machine order → IsSerialFrom sys (run_blocks sys machine order) more
       → IsSerialFrom sys machine (order ++ more)
   serial-append machine [] more serial rest = rest
   serial-append machine (block ∷ order) more serial rest = (serial.0, serial-append (run_block sys machine block) order more serial.1 rest)

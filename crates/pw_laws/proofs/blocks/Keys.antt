@@ -15,8 +15,8 @@ use Rattle.pw_onecopy.specs.Attempt.{Attempt, attempt, attempt_with_served, answ
 use Rattle.pw_onecopy.specs.Path.{PathAnswer, Entry, Replied, Standing, entries_on, standing, unit_number}
 use Rattle.pw_paired.specs.Raising.{is_takeover}
 use Rattle.pw_paired.specs.Shown.{refresh_of}
-use Rattle.pw_onecopy.specs.Blocks.{Block, Out}
-use Rattle.pw_paired.specs.Serial.{answers_at_begin, blocks_of, one_more}
+use Rattle.pw_onecopy.specs.Blocks.{SerialBlock, Out}
+use Rattle.pw_paired.specs.Serial.{answers_at_begin, blocks_of, one_answer_more}
 use Rattle.pw_onecopy.specs.Update.{upd}
 use Rattle.pw_paired.specs.State.{Gone, OpenUnit, State, Term}
 use Rattle.pw_paired.specs.Step.{Fits, effect}
@@ -73,7 +73,7 @@ module _ (sys : Behaviour) (b : IsBehaviour sys) (s : State) (f : Fold) (known :
   module _ (entry : Event) (t : ℕ) (here : t < sys.terminals) (a : PathAnswer)
       (terms : (effect sys s entry).terms ≡ upd s.terms t (record (s.terms t) { path = path_of s t ++ a ∷ [] }))
       (units : (effect sys s entry).units ≡ s.units) (modes : (effect sys s entry).modes ≡ s.modes)
-      (answers : (fold_on sys s entry f).reading.answers ≡ one_more t f.reading.answers) (none : refresh_of sys s entry ≡ [])
+      (answers : (fold_on sys s entry f).reading.answers ≡ one_answer_more t f.reading.answers) (none : refresh_of sys s entry ≡ [])
       (files : committed_files sys (effect sys s entry) ≡ committed_files sys s) where
     abbrev next : State
     next = effect sys s entry
@@ -100,7 +100,7 @@ module _ (sys : Behaviour) (b : IsBehaviour sys) (s : State) (f : Fold) (known :
     units-same = ap (λ (u : ℕ → Option OpenUnit). u t) units
 
     -- with these blocks
-    pub by-blocks : (more : List Block) → blocks_of sys s f.reading entry ≡ more → IsSerialFrom sys machine more → (run_blocks sys machine more).files ≡ machine.files
+    pub by-blocks : (more : List SerialBlock) → blocks_of sys s f.reading entry ≡ more → IsSerialFrom sys machine more → (run_blocks sys machine more).files ≡ machine.files
         → ((o : ℕ) → o ≢ t → (run_blocks sys machine more).terms o ≡ machine.terms o)
         → Follows sys next now t ((run_blocks sys machine more).terms t) → FollowsAll sys next now
     by-blocks more blocks serial files_same others own =

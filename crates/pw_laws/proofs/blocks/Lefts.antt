@@ -5,7 +5,7 @@ use Rattle.pw_onecopy.proofs.Update.{upd-other, upd-same}
 use Rattle.pw_onecopy.specs.Attempt.{IsAttempt, attempt}
 use Rattle.pw_onecopy.specs.OneCopy.{IsSerialFrom, LegalAttempted, Machine, Single, run_blocks, single_behind}
 use Rattle.pw_onecopy.specs.Path.{PathAnswer, unit_number}
-use Rattle.pw_onecopy.specs.Blocks.{Block, Attempted, Left}
+use Rattle.pw_onecopy.specs.Blocks.{SerialBlock, Attempted, Left}
 use Rattle.pw_paired.specs.Serial.{Reading, left_block, left_blocks}
 use Rattle.pw_paired.specs.State.{OpenUnit, State}
 use Rattle.pw_onecopy.specs.Behaviour.{Behaviour}
@@ -57,7 +57,7 @@ module _ (sys : Behaviour) where
   }
 
   -- what one attempt that is left does
-  pub record LeftOne (m : Machine) (t j : ℕ) (unit : Option OpenUnit) (more : List Block) : Type 0 where
+  pub record LeftOne (m : Machine) (t j : ℕ) (unit : Option OpenUnit) (more : List SerialBlock) : Type 0 where
     pub serial : IsSerialFrom sys m more
     pub files : (run_blocks sys m more).files ≡ m.files
     pub own : (run_blocks sys m more).terms t ≡ left_term sys t m.files j unit (m.terms t)
@@ -107,7 +107,7 @@ module _ (sys : Behaviour) where
         }
     one-more n all true is =
         let before : Machine = run_blocks sys m (left_blocks s reading whose n) in
-        let last : List Block = left_block n (reading.answers n) (s.units n) in
+        let last : List SerialBlock = left_block n (reading.answers n) (s.units n) in
         let same : left_blocks s reading whose (suc n) ≡ left_blocks s reading whose n ++ last =
         ap (λ (x : Bool). left_blocks s reading whose n ++ (if x then left_block n (reading.answers n) (s.units n) else [])) is in
         let run : run_blocks sys m (left_blocks s reading whose (suc n)) ≡ run_blocks sys before last = ap (run_blocks sys m) same ∙ run_blocks-append sys m (left_blocks s reading whose n) last in

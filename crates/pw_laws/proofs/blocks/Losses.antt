@@ -12,7 +12,7 @@ use Rattle.pw_onecopy.specs.OneCopy.{Machine, Single, one_copy, run_blocks}
 use Rattle.pw_onecopy.specs.Attempt.{attempt}
 use Rattle.pw_onecopy.specs.Refreshes.{once, refreshes_of}
 use Rattle.pw_paired.specs.Serial.{is_gone, left_blocks}
-use Rattle.pw_paired.specs.State.{Gone, Mode, State, Term}
+use Rattle.pw_paired.specs.State.{Gone, PairMode, State, Term}
 use Rattle.pw_paired.specs.Step.{Fits, effect}
 use Rattle.pw_onecopy.specs.Behaviour.{Behaviour}
 use Rattle.pw_paired.specs.Units.{attempt_of, committed_files}
@@ -65,7 +65,7 @@ module _ (sys : Behaviour) (b : IsBehaviour sys) (s : State) (f : Fold) (known :
           each = λ x there. subst (IsIn x) (sym so_far) (ok.each x (subst (IsIn x) shown there));
         }
 
-  breaks-there : (primary : Bool) (mode : Mode) → Breaks primary mode → is_gone mode ≡ false
+  breaks-there : (primary : Bool) (mode : PairMode) → Breaks primary mode → is_gone mode ≡ false
   breaks-there true mode (inl is) = ap is_gone is
   breaks-there true mode (inr is) = ap is_gone is
   breaks-there false mode is = ap is_gone is

@@ -10,7 +10,7 @@ use Rattle.pw_onecopy.specs.Attempt.{attempt}
 use Rattle.pw_onecopy.specs.Path.{PathAnswer}
 use Rattle.pw_onecopy.specs.Refreshes.{once, refreshes_of}
 use Rattle.pw_paired.specs.Shown.{refresh_of}
-use Rattle.pw_onecopy.specs.Blocks.{Block}
+use Rattle.pw_onecopy.specs.Blocks.{SerialBlock}
 use Rattle.pw_paired.specs.Serial.{answers_behind, blocks_of}
 use Rattle.pw_paired.specs.State.{Gone, OpenUnit, State}
 use Rattle.pw_paired.specs.Step.{effect}
@@ -89,14 +89,14 @@ module _ (sys : Behaviour) (b : IsBehaviour sys) (s : State) (f : Fold) (entry :
   stranger-follows t single ending shown ok = record { going_on = ending ∙ ok.going_on; live = ok.live; none = shown ∙ ok.none; refreshes = ok.refreshes }
 
   -- the machine runs the blocks of the entry
-  pub follow-by : (more : List Block) → blocks_of sys s f.reading entry ≡ more → IsSerial sys f.order
+  pub follow-by : (more : List SerialBlock) → blocks_of sys s f.reading entry ≡ more → IsSerial sys f.order
       → IsSerialFrom sys (one_copy sys f.order) more
       → (run_blocks sys (one_copy sys f.order) more).files ≡ committed_files sys next
       → ((t : ℕ) → t < sys.terminals → Follows sys next now t ((run_blocks sys (one_copy sys f.order) more).terms t))
       → ((t : ℕ) → (¬ (t < sys.terminals)) → IsStranger next now t ((run_blocks sys (one_copy sys f.order) more).terms t))
       → FollowsAll sys next now
   follow-by more blocks before serial files terms strangers =
-      let order : now.order ≡ f.order ++ more = ap (λ (l : List Block). f.order ++ l) blocks in
+      let order : now.order ≡ f.order ++ more = ap (λ (l : List SerialBlock). f.order ++ l) blocks in
       let machine : one_copy sys now.order ≡ run_blocks sys (one_copy sys f.order) more = ap (one_copy sys) order ∙ run_blocks-append sys (beginning sys) f.order more in
       record {
         serial = subst (IsSerial sys) (sym order) (serial-append sys (beginning sys) f.order more before serial);

@@ -9,9 +9,9 @@ use Rattle.pw_onecopy.specs.OneCopy.{IsSerialFrom, Machine, Single, one_copy, ru
 use Rattle.pw_onecopy.specs.Attempt.{attempt}
 use Rattle.pw_onecopy.specs.Path.{PathAnswer}
 use Rattle.pw_onecopy.specs.Refreshes.{once, refreshes_of}
-use Rattle.pw_onecopy.specs.Blocks.{Block}
+use Rattle.pw_onecopy.specs.Blocks.{SerialBlock}
 use Rattle.pw_paired.specs.Serial.{blocks_of}
-use Rattle.pw_paired.specs.State.{Gone, Mode, OpenUnit, State, Term}
+use Rattle.pw_paired.specs.State.{Gone, PairMode, OpenUnit, State, Term}
 use Rattle.pw_paired.specs.Step.{effect}
 use Rattle.pw_onecopy.specs.Behaviour.{Behaviour}
 use Rattle.pw_paired.specs.Units.{attempt_of, committed_files, restarts_of}
@@ -45,7 +45,7 @@ module _ (sys : Behaviour) (b : IsBehaviour sys) (s : State) (f : Fold) (known :
   machine = one_copy sys f.order
 
   -- the others stay as they were
-  pub own-follows : (more : List Block) → blocks_of sys s f.reading entry ≡ more → IsSerialFrom sys machine more → (run_blocks sys machine more).files ≡ committed_files sys next
+  pub own-follows : (more : List SerialBlock) → blocks_of sys s f.reading entry ≡ more → IsSerialFrom sys machine more → (run_blocks sys machine more).files ≡ committed_files sys next
       → ((o : ℕ) → o ≢ t → (run_blocks sys machine more).terms o ≡ machine.terms o)
       → ((o : ℕ) → o ≢ t → next.terms o ≡ s.terms o) → ((o : ℕ) → o ≢ t → next.units o ≡ s.units o) → next.modes ≡ s.modes
       → ((o : ℕ) → o ≢ t → now.reading.answers o ≡ f.reading.answers o) → ((o : ℕ) → o ≢ t → refreshes_of o now.shown ≡ refreshes_of o f.shown)
@@ -71,7 +71,7 @@ module _ (sys : Behaviour) (b : IsBehaviour sys) (s : State) (f : Fold) (known :
       (stranger-follows sys b s f entry o (machine.terms o) (ap (λ (x : Term). x.ending) (terms o differ)) (shown o differ) (all.strangers o unknown)))
     where
       there : (o : ℕ) → next.modes (sys.pair_of o) ≢ Gone → s.modes (sys.pair_of o) ≢ Gone
-      there o = subst (λ (m : ℕ → Mode). m (sys.pair_of o) ≢ Gone → s.modes (sys.pair_of o) ≢ Gone) (sym modes) (λ x. x)
+      there o = subst (λ (m : ℕ → PairMode). m (sys.pair_of o) ≢ Gone → s.modes (sys.pair_of o) ≢ Gone) (sym modes) (λ x. x)
 
   -- the terminal itself, where the machine's terminal stays and nothing new is shown
   pub same-follows : (next.terms t).ending ≡ (s.terms t).ending → next.modes ≡ s.modes → restarts_of (next.units t) ≡ restarts_of (s.units t)
@@ -84,7 +84,7 @@ module _ (sys : Behaviour) (b : IsBehaviour sys) (s : State) (f : Fold) (known :
       record {
         ending = ok.ending ∙ sym ending;
         goes = λ live there.
-            let g = ok.goes (sym ending ∙ live) (subst (λ (m : ℕ → Mode). m (sys.pair_of t) ≢ Gone) modes there) in
+            let g = ok.goes (sym ending ∙ live) (subst (λ (m : ℕ → PairMode). m (sys.pair_of t) ≢ Gone) modes there) in
             record { path = g.path ∙ sym (frontier live there); restarts = g.restarts ∙ sym restarts; not_left = g.not_left; bounded = g.bounded; covers = g.covers };
         longest = longest-kept (view_of sys s t) (view_of sys next t) (f.reading.longest t) (f.frontier t) ok.longest;
         screens = ap once shown ∙ (ok.screens ∙ sym so_far);

@@ -14,7 +14,7 @@ use Rattle.pw_paired.specs.Raising.{lacks_one, with_message, settle_mode}
 use Rattle.pw_paired.specs.Serial.{Reading, is_gone, left_blocks}
 use Rattle.pw_paired.specs.Server.{do_file, do_operation}
 use Rattle.pw_onecopy.specs.Update.{upd}
-use Rattle.pw_paired.specs.State.{Alone, Down, Gone, LastEnded, BackupCopy, Mode, OpenUnit, Paired, Raising, State, Term}
+use Rattle.pw_paired.specs.State.{Alone, Down, Gone, LastEnded, BackupCopy, PairMode, OpenUnit, Paired, Raising, State, Term}
 use Rattle.pw_paired.specs.Step.{Fits, effect}
 use Rattle.pw_onecopy.specs.Behaviour.{Behaviour}
 use Rattle.pw_paired.specs.Terminal.{path_of}
@@ -33,14 +33,14 @@ use Rattle.pw_laws.specs.locking.Records.{commits_at}
 use Rattle.pw_laws.specs.runs.Losses.{Breaks}
 
 -- a mode that is put in place of one that was not Gone
-pub put-there : (modes : ℕ → Mode) (p q : ℕ) (mode : Mode) → modes p ≢ Gone → upd modes p mode q ≢ Gone → modes q ≢ Gone
+pub put-there : (modes : ℕ → PairMode) (p q : ℕ) (mode : PairMode) → modes p ≢ Gone → upd modes p mode q ≢ Gone → modes q ≢ Gone
 put-there modes p q mode there =
-    upd_elim modes p mode q (λ (m : Mode). m ≢ Gone → modes q ≢ Gone) (λ same _ lose_pair. there (ap modes (sym same) ∙ lose_pair)) (λ _ stays. stays)
+    upd_elim modes p mode q (λ (m : PairMode). m ≢ Gone → modes q ≢ Gone) (λ same _ lose_pair. there (ap modes (sym same) ∙ lose_pair)) (λ _ stays. stays)
 
 -- a pair that is not lost was not lost before it settled
 pub settled-there : (sys : Behaviour) (s : State) (p q : ℕ) → (settle_mode sys p s).modes q ≢ Gone → s.modes q ≢ Gone
 settled-there sys s p q =
-    upd_elim s.modes p _ q (λ (m : Mode). m ≢ Gone → s.modes q ≢ Gone)
+    upd_elim s.modes p _ q (λ (m : PairMode). m ≢ Gone → s.modes q ≢ Gone)
     (λ same there. subst (λ (x : ℕ). s.modes x ≢ Gone) (sym same) (raised-there (s.modes p) (lacks_one sys p s) there)) (λ _ stays. stays)
 
 -- what the failure of a member of a pair leaves
@@ -56,13 +56,13 @@ outcome sys s p primary =
     fail-cases sys s (Outcome sys s p) p (nothing refl) (λ paired. is_down paired refl) (λ which breaks. is_lost which breaks refl) (λ has. is_alone has refl) primary
 
 -- a pair that is not made Gone leaves no blocks
-none-left : (sys : Behaviour) (s : State) (reading : Reading) (p : ℕ) (mode : Mode) → (is_gone mode ≡ false) ⊎ (mode ≡ s.modes p)
+none-left : (sys : Behaviour) (s : State) (reading : Reading) (p : ℕ) (mode : PairMode) → (is_gone mode ≡ false) ⊎ (mode ≡ s.modes p)
     → (if is_gone mode && not (is_gone (s.modes p)) then left_blocks s reading (is_of_pair sys p) sys.terminals else []) ≡ []
 none-left sys s reading p mode (inl there) =
     cond-false (is_gone mode && not (is_gone (s.modes p))) (left_blocks s reading (is_of_pair sys p) sys.terminals) [] (and_left (is_gone mode) (not (is_gone (s.modes p))) there)
 none-left sys s reading p mode (inr same) =
     cond-false (is_gone mode && not (is_gone (s.modes p))) (left_blocks s reading (is_of_pair sys p) sys.terminals) []
-    (ap (λ (m : Mode). is_gone m && not (is_gone (s.modes p))) same ∙ no (is_gone (s.modes p)))
+    (ap (λ (m : PairMode). is_gone m && not (is_gone (s.modes p))) same ∙ no (is_gone (s.modes p)))
   where
     no : (x : Bool) → (x && not x) ≡ false
     no true = refl
@@ -123,7 +123,7 @@ module _ (sys : Behaviour) (b : IsBehaviour sys) (s : State) (f : Fold) (known :
         units = refl;
       }) in
       still-follows sys b s f (event.FailServer c i k) known refl refl refl (stay (event.FailServer c i k) refl l) left.ending left.path
-      (λ o. subst (λ (m : ℕ → Mode). m (sys.pair_of o) ≢ Gone → s.modes (sys.pair_of o) ≢ Gone) (sym left.modes) (λ there. there)) left.units all
+      (λ o. subst (λ (m : ℕ → PairMode). m (sys.pair_of o) ≢ Gone → s.modes (sys.pair_of o) ≢ Gone) (sym left.modes) (λ there. there)) left.units all
 
   -- the machine follows a RAISE
   pub follows-raise : (p : ℕ) → Fits sys s (event.Raise p) → FollowsAll sys (effect sys s (event.Raise p)) (fold_on sys s (event.Raise p) f)

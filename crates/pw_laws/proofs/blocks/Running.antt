@@ -4,7 +4,7 @@ use Rattle.pw_onecopy.specs.IsBehaviour.{IsBehaviour}
 use Rattle.pw_onecopy.specs.Attempt.{IsAttempt, attempt, BeginsUnit}
 use Rattle.pw_onecopy.specs.OneCopy.{LegalAttempted, Machine, MayBe, next_attempt, one_copy}
 use Rattle.pw_onecopy.specs.Path.{PathAnswer, standing, unit_number}
-use Rattle.pw_onecopy.specs.Blocks.{How, Left}
+use Rattle.pw_onecopy.specs.Blocks.{AttemptEnding, Left}
 use Rattle.pw_paired.specs.State.{Gone, OpenUnit, State}
 use Rattle.pw_onecopy.specs.Behaviour.{Behaviour}
 use Rattle.pw_paired.specs.Units.{attempt_of, committed_files, restarts_of}
@@ -79,7 +79,7 @@ module _ (sys : Behaviour) (b : IsBehaviour sys) (s : State) (f : Fold) (known :
       (subst (λ (r : ℕ). IsAttempt sys t q (committed_files sys s) r j) (sym w.restarts_is) is))
 
   -- a block of it is legal where it is over so
-  pub block-legal : (t : ℕ) (u : OpenUnit) (q : List PathAnswer) → (w : AtWork t u q) → (n j : ℕ) (how : How) → n ≡ u.number → IsAttempt sys t q (committed_files sys s) u.restarts j
+  pub block-legal : (t : ℕ) (u : OpenUnit) (q : List PathAnswer) → (w : AtWork t u q) → (n j : ℕ) (how : AttemptEnding) → n ≡ u.number → IsAttempt sys t q (committed_files sys s) u.restarts j
       → MayBe sys t (machine.terms t) (next_attempt sys machine t j) how → LegalAttempted sys machine t n how j
   block-legal t u q w n j how number is may_be = record {
     live = record { known = w.here; live = (all.terms t w.here).ending ∙ w.going_on };

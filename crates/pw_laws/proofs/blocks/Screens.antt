@@ -14,7 +14,7 @@ use Rattle.pw_onecopy.specs.Attempt.{Attempt, attempt, answer_verb, BeginsUnit}
 use Rattle.pw_onecopy.specs.Path.{PathAnswer, RefreshNumber, Shown}
 use Rattle.pw_paired.specs.Raising.{is_takeover}
 use Rattle.pw_onecopy.specs.Refreshes.{next_refresh, once, refresh_numbered, refreshes_of}
-use Rattle.pw_onecopy.specs.Blocks.{Block, Out}
+use Rattle.pw_onecopy.specs.Blocks.{SerialBlock, Out}
 use Rattle.pw_paired.specs.Serial.{is_idle, out_block}
 use Rattle.pw_paired.specs.State.{Gone, OpenUnit, State, Term}
 use Rattle.pw_paired.specs.Step.{Fits, effect}
@@ -146,7 +146,7 @@ module _ (sys : Behaviour) (b : IsBehaviour sys) (s : State) (f : Fold) (known :
   }
 
   -- all of it, where this is the terminal
-  by-own : (more : List Block) → out_block s f.reading t ≡ more → IsSerialFrom sys machine more → (run_blocks sys machine more).files ≡ machine.files
+  by-own : (more : List SerialBlock) → out_block s f.reading t ≡ more → IsSerialFrom sys machine more → (run_blocks sys machine more).files ≡ machine.files
       → ((o : ℕ) → o ≢ t → (run_blocks sys machine more).terms o ≡ machine.terms o)
       → Follows sys next now t ((run_blocks sys machine more).terms t) → FollowsAll sys next now
   by-own more blocks serial files others own =

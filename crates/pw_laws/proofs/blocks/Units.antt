@@ -16,8 +16,8 @@ use Rattle.pw_onecopy.specs.OneCopy.{EndsCommitted, IsSerialFrom, LegalAttempted
 use Rattle.pw_onecopy.specs.Path.{PathAnswer, Failed, Replied, Ended, is_outside, standing, unit_number}
 use Rattle.pw_paired.specs.Raising.{is_takeover}
 use Rattle.pw_onecopy.specs.Refreshes.{refreshes_of}
-use Rattle.pw_onecopy.specs.Blocks.{Committed, Attempted, How}
-use Rattle.pw_paired.specs.State.{LastEnded, Mode, OpenUnit, State, Term}
+use Rattle.pw_onecopy.specs.Blocks.{Committed, Attempted, AttemptEnding}
+use Rattle.pw_paired.specs.State.{LastEnded, PairMode, OpenUnit, State, Term}
 use Rattle.pw_paired.specs.Step.{Fits, effect}
 use Rattle.pw_onecopy.specs.Behaviour.{Behaviour}
 use Rattle.pw_paired.specs.Terminal.{LegalCommit, path_of}
@@ -119,7 +119,7 @@ module _ (sys : Behaviour) (b : IsBehaviour sys) (s : State) (f : Fold) (known :
     machine-last = ap (next_attempt sys machine t) one ∙ next-is sys b s f known all t u q w (suc j)
 
     -- the block of the whole attempt is legal
-    pub legal-last : (n : ℕ) (how : How) → n ≡ unit_number (path_of s t) → MayBe sys t (machine.terms t) last how → IsSerialFrom sys machine (Attempted t n how (j + 1) ∷ [])
+    pub legal-last : (n : ℕ) (how : AttemptEnding) → n ≡ unit_number (path_of s t) → MayBe sys t (machine.terms t) last how → IsSerialFrom sys machine (Attempted t n how (j + 1) ∷ [])
     legal-last n how same may_be = (
       subst (λ (m : ℕ). LegalAttempted sys machine t n how m) (sym one)
           (block-legal sys b s f known all t u q w n (suc j) how (same ∙ sym number.1) is-attempt (subst (λ (x : Attempt). MayBe sys t (machine.terms t) x how) (sym (next-is sys b s f known all t u q w (suc j))) may_be)),
@@ -131,7 +131,7 @@ module _ (sys : Behaviour) (b : IsBehaviour sys) (s : State) (f : Fold) (known :
     grown same =
         ⊎_elim (λ here. sym same ∙ sym here)
         (λ old.
-        let base = (known'.frontiers t w.here (going ∙ w.going_on) (λ gone. w.there (ap (λ (m : ℕ → Mode). m (sys.pair_of t)) (sym there') ∙ gone))).base.number in
+        let base = (known'.frontiers t w.here (going ∙ w.going_on) (λ gone. w.there (ap (λ (m : ℕ → PairMode). m (sys.pair_of t)) (sym there') ∙ gone))).base.number in
         let was = w.frontier.base.number in
         let stays = ap unit_number old in
         let before = number.0 in let next_one = number.2 in
@@ -143,7 +143,7 @@ module _ (sys : Behaviour) (b : IsBehaviour sys) (s : State) (f : Fold) (known :
     closed same x there =
         inl ((numbered-at sys b s f known all t u q w is_open (suc j) is-attempt).over
         (λ still.
-        let base = (known'.frontiers t w.here (going ∙ w.going_on) (λ gone. w.there (ap (λ (m : ℕ → Mode). m (sys.pair_of t)) (sym there') ∙ gone))).base.number in
+        let base = (known'.frontiers t w.here (going ∙ w.going_on) (λ gone. w.there (ap (λ (m : ℕ → PairMode). m (sys.pair_of t)) (sym there') ∙ gone))).base.number in
         let here = ap unit_number (grown same) in
         let before = number.0 in
         absurd (omega (arith, base, here, still, before, ended))) x there)
@@ -168,7 +168,7 @@ module _ (sys : Behaviour) (b : IsBehaviour sys) (s : State) (f : Fold) (known :
         shown
 
   -- the terminal of the machine behind the block
-  pub taken-is : (t n : ℕ) (how : How) (j : ℕ) (last : Attempt) → next_attempt sys machine t j ≡ last
+  pub taken-is : (t n : ℕ) (how : AttemptEnding) (j : ℕ) (last : Attempt) → next_attempt sys machine t j ≡ last
       → (run_blocks sys machine (Attempted t n how j ∷ [])).terms t ≡ single_behind how last (machine.terms t)
   taken-is t n how j x is = upd-same machine.terms t _ t refl ∙ ap (λ (x : Attempt). single_behind how x (machine.terms t)) is
 

@@ -11,7 +11,7 @@ use Rattle.pw_laws.specs.legal.Blocks as test
 use Rattle.pw_onecopy.specs.OneCopy.{AsksOut, EndsCommitted, IsGoingOn, IsSerial, IsSerialFrom, LegalBlock, Machine, MayBe, MayEnd, Single, beginning, next_attempt, run_block}
 use Rattle.pw_onecopy.specs.Attempt.{Attempt, GoesOn, IsAttempt, TakesAnswer, attempt}
 use Rattle.pw_onecopy.specs.Path.{PathAnswer, Dropped, Ended, Replied, entries_on, unit_number}
-use Rattle.pw_onecopy.specs.Blocks.{Block, Out, Attempted, Done, How, Committed, Aborted, Restarted, Left}
+use Rattle.pw_onecopy.specs.Blocks.{SerialBlock, Out, Attempted, Done, AttemptEnding, Committed, Aborted, Restarted, Left}
 use Rattle.pw_onecopy.specs.Behaviour.{Behaviour}
 
 taking : (sys : Behaviour) (t : ℕ) (path : List PathAnswer) (v : Verb) → Decides (test.takes_answer sys t path v) (TakesAnswer sys t path v)
@@ -48,7 +48,7 @@ committed v (Some Ended) = yes tt
 committed (verb.Send class message) (Some (Replied reply)) = yes tt
 committed _ _ = no (λ h. absurd h)
 
-over : (sys : Behaviour) (t : ℕ) (single : Single) (at : Attempt) (how : How) → Decides (test.may_be sys t single at how) (MayBe sys t single at how)
+over : (sys : Behaviour) (t : ℕ) (single : Single) (at : Attempt) (how : AttemptEnding) → Decides (test.may_be sys t single at how) (MayBe sys t single at how)
 over sys t single at Committed = committed (sys.ask t single.path) at.last
 over sys t single at Aborted =
     like (one_with (λ (last : PathAnswer). same_answer last Dropped) at.last)
@@ -65,7 +65,7 @@ ending-of sys t single (ending.Suspended cause) v = number single.restarts (sys.
 ending-of sys t single ending.Lost v = yes tt
 
 -- whether the block is legal in the machine
-pub block : (sys : Behaviour) (machine : Machine) (one : Block) → Decides (test.is_legal_block sys machine one) (LegalBlock sys machine one)
+pub block : (sys : Behaviour) (machine : Machine) (one : SerialBlock) → Decides (test.is_legal_block sys machine one) (LegalBlock sys machine one)
 unfolding test.is_legal_block
 block sys machine (Out t) =
     let path : List PathAnswer = (machine.terms t).path in
@@ -83,11 +83,11 @@ block sys machine (Done t how) =
     like (both (going_on sys machine t) (ending-of sys t (machine.terms t) how (sys.ask t path)))
     (λ h. record { live = h.0; may_end = h.1 }) (λ l. (l.live, l.may_end))
 
-serial_from : (sys : Behaviour) (machine : Machine) (order : List Block)
+serial_from : (sys : Behaviour) (machine : Machine) (order : List SerialBlock)
     → Decides (test.is_serial_from sys machine order) (IsSerialFrom sys machine order)
 serial_from sys machine [] = yes tt
 serial_from sys machine (one ∷ rest) = both (block sys machine one) (serial_from sys (run_block sys machine one) rest)
 
 -- whether the one-copy machine is defined on the list of blocks
-pub serial : (sys : Behaviour) (order : List Block) → Decides (test.is_serial sys order) (IsSerial sys order)
+pub serial : (sys : Behaviour) (order : List SerialBlock) → Decides (test.is_serial sys order) (IsSerial sys order)
 serial sys order = serial_from sys (beginning sys) order

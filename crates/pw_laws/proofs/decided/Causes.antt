@@ -111,7 +111,7 @@ pending_is : {passes : Cause → Bool} {own : Cause} → ((pending : Cause) → 
 pending_is each pending = like (one_with each pending) (λ h. h.1 ∙ ap (λ (c : Cause). Some c) h.2) (λ e. (_, e, refl))
 
 holding : (sys : Behaviour) (state : State) (t : ℕ) (own : OpenUnit) (why : Cause)
-    → DecidesIf (is_conflict why ≡ true → JobsAreThere sys state) (test.holds sys state t own why) (Holds sys state t own why)
+    → DecidesIf (is_conflict why ≡ true → JobsAreThere sys state) (test.cause_holds sys state t own why) (Holds sys state t own why)
 holding sys state t own (cause.Older o m) = suppose (λ h. h refl) (older sys state t own o m)
 holding sys state t own (cause.Takeover p) =
     always (like (both (pending_is (takeover_by p) (state.terms t).pending) (alone (state.modes (sys.pair_of t))))

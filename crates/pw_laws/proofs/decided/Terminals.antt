@@ -34,7 +34,7 @@ pub end_held : (memory : Option BackupCopy) (path : List PathAnswer) → Decides
 end_held memory path =
     like (one_with end_is memory) (λ h. record { held = h.0; is_held = h.1; path_is = h.2 }) (λ l. (l.held, l.is_held, l.path_is))
   where
-    end_is : (held : BackupCopy) → Decides (test.is_end path held) (held.end ≡ Some path)
+    end_is : (held : BackupCopy) → Decides (test.is_held_end_path path held) (held.end ≡ Some path)
     end_is held =
         like (one_with (λ (own : List PathAnswer). same_path own path) held.end)
         (λ h. h.1 ∙ ap (λ (p : List PathAnswer). Some p) h.2) (λ e. (path, e, refl))

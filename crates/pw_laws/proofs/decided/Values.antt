@@ -13,30 +13,30 @@ use Rattle.pw_laws.proofs.Deciding.{yes, no, both, like, number}
 use Rattle.pw_laws.specs.legal.Values.{is_alone, is_raising, is_paired, is_down, is_same_number, is_same_truth, is_same_answer, is_same_path, is_same_refresh, is_same_op, is_same_mode, is_takeover_by, is_server_by, is_line_of_member, is_line_of_process}
 use Rattle.pw_onecopy.specs.Path.{PathAnswer, Shown, Entry, Begun, Replied, Failed, Ended, Dropped, RefreshNumber}
 use Rattle.pw_paired.specs.Serial.{is_gone}
-use Rattle.pw_paired.specs.State.{Mode, Alone, Raising, Paired, Down, Gone}
+use Rattle.pw_paired.specs.State.{PairMode, Alone, Raising, Paired, Down, Gone}
 
 -- whether the mode is Alone
-pub alone : (mode : Mode) → Decides (is_alone mode) (mode ≡ Alone)
+pub alone : (mode : PairMode) → Decides (is_alone mode) (mode ≡ Alone)
 alone Alone = yes refl
 alone _ = no (λ e. cc e)
 
 -- whether the mode is Raising
-pub raising : (mode : Mode) → Decides (is_raising mode) (mode ≡ Raising)
+pub raising : (mode : PairMode) → Decides (is_raising mode) (mode ≡ Raising)
 raising Raising = yes refl
 raising _ = no (λ e. cc e)
 
 -- whether the mode is Paired
-pub paired : (mode : Mode) → Decides (is_paired mode) (mode ≡ Paired)
+pub paired : (mode : PairMode) → Decides (is_paired mode) (mode ≡ Paired)
 paired Paired = yes refl
 paired _ = no (λ e. cc e)
 
 -- whether the mode is Down
-pub down : (mode : Mode) → Decides (is_down mode) (mode ≡ Down)
+pub down : (mode : PairMode) → Decides (is_down mode) (mode ≡ Down)
 down Down = yes refl
 down _ = no (λ e. cc e)
 
 -- whether the mode is Gone
-pub gone : (mode : Mode) → Decides (is_gone mode) (mode ≡ Gone)
+pub gone : (mode : PairMode) → Decides (is_gone mode) (mode ≡ Gone)
 gone Gone = yes refl
 gone _ = no (λ e. cc e)
 

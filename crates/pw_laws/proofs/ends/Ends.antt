@@ -3,30 +3,30 @@ use Rattle.std.proofs.Common.{◌≡◌, ◌≢◌, ℕ, zero, suc, ◌+◌, ◌
 use Rattle.std.proofs.lemmas.Bool.{cases_eq, eqb-true, and_left, and_right}
 use Rattle.std.proofs.lemmas.List.{length-append}
 use Rattle.std.proofs.lemmas.List.Elements.{filter-append}
-use Rattle.pw_onecopy.specs.Blocks.{Block, Attempted, How, Left}
+use Rattle.pw_onecopy.specs.Blocks.{SerialBlock, Attempted, AttemptEnding, Left}
 use Rattle.pw_paired.specs.Headline.{ends_unit, is_end_of}
 use Rattle.pw_paired.specs.Serial.{Reading, blocks, left_block, left_blocks}
 use Rattle.pw_paired.specs.State.{OpenUnit, State}
 
 -- how many of these blocks end unit n of t
-abbrev pub ends_in : ℕ → ℕ → List Block → ℕ
+abbrev pub ends_in : ℕ → ℕ → List SerialBlock → ℕ
 ends_in t n blocks = length (filter (is_end_of t n) blocks)
 
 -- the ends in two lists of blocks
-pub ends_in-append : (t n : ℕ) (xs ys : List Block) → ends_in t n (xs ++ ys) ≡ ends_in t n xs + ends_in t n ys
-ends_in-append t n xs ys = ap (λ (l : List Block). length l) (filter-append (is_end_of t n) xs ys) ∙ length-append (filter (is_end_of t n) xs) (filter (is_end_of t n) ys)
+pub ends_in-append : (t n : ℕ) (xs ys : List SerialBlock) → ends_in t n (xs ++ ys) ≡ ends_in t n xs + ends_in t n ys
+ends_in-append t n xs ys = ap (λ (l : List SerialBlock). length l) (filter-append (is_end_of t n) xs ys) ∙ length-append (filter (is_end_of t n) xs) (filter (is_end_of t n) ys)
 
 -- the number of a terminal's last ended unit
 abbrev pub last_of : State → ℕ → ℕ
 last_of s t = (s.ended t).number
 
 -- from a state to the next one these blocks end the unit not at all, or once and rightly
-pub data EndsBy (t n : ℕ) (before after : ℕ) (blocks : List Block) : Type 0 where
+pub data EndsBy (t n : ℕ) (before after : ℕ) (blocks : List SerialBlock) : Type 0 where
   not_at_all : ends_in t n blocks ≡ 0 → EndsBy t n before after blocks
   once : ends_in t n blocks ≡ 1 → before < n → after ≡ n → EndsBy t n before after blocks
 
 -- one block that is over
-pub single : (t n own number : ℕ) (how : How) (j before after : ℕ) → (own ≡ t → number ≡ n → (before < n) × (after ≡ n))
+pub single : (t n own number : ℕ) (how : AttemptEnding) (j before after : ℕ) → (own ≡ t → number ≡ n → (before < n) × (after ≡ n))
     → EndsBy t n before after (Attempted own number how j ∷ [])
 single t n own number how j before after right = by_own (own == t) refl
   where
@@ -55,17 +55,17 @@ left-one t n k j before after (Some u) right = by_running (is_none u.running)
     by_running false = single t n k u.number Left j before after (λ same number. right u refl same number)
 
 -- where the unit had ended before, these blocks end it not at all
-none-of : (t n after : ℕ) (blocks : List Block) → EndsBy t n n after blocks → ends_in t n blocks ≡ 0
+none-of : (t n after : ℕ) (blocks : List SerialBlock) → EndsBy t n n after blocks → ends_in t n blocks ≡ 0
 none-of t n after blocks (not_at_all is) = is
 none-of t n after blocks (once is low same) = absurd (omega (arith, low))
 
 -- blocks behind ones that do not end the unit, and before such ones
-pub behind : (t n before after : ℕ) (xs ys : List Block) → ends_in t n xs ≡ 0 → EndsBy t n before after ys → EndsBy t n before after (xs ++ ys)
+pub behind : (t n before after : ℕ) (xs ys : List SerialBlock) → ends_in t n xs ≡ 0 → EndsBy t n before after ys → EndsBy t n before after (xs ++ ys)
 behind t n before after xs ys none (not_at_all is) = not_at_all (let sum = ends_in-append t n xs ys in omega (arith, sum, none, is))
 behind t n before after xs ys none (once is low same) = once (let sum = ends_in-append t n xs ys in omega (arith, sum, none, is)) low same
 
 -- blocks that end nothing stand ahead
-pub ahead : (t n before after : ℕ) (xs ys : List Block) → ends_in t n ys ≡ 0 → EndsBy t n before after xs → EndsBy t n before after (xs ++ ys)
+pub ahead : (t n before after : ℕ) (xs ys : List SerialBlock) → ends_in t n ys ≡ 0 → EndsBy t n before after xs → EndsBy t n before after (xs ++ ys)
 ahead t n before after xs ys none (not_at_all is) = not_at_all (let sum = ends_in-append t n xs ys in omega (arith, sum, none, is))
 ahead t n before after xs ys none (once is low same) = once (let sum = ends_in-append t n xs ys in omega (arith, sum, none, is)) low same
 
@@ -85,7 +85,7 @@ lefts-one s reading whose t n before after (suc k) right = (
       (cases_eq k t),
 )
   where
-    here : Bool → List Block
+    here : Bool → List SerialBlock
     here b = if b then left_block k (reading.answers k) (s.units k) else []
 
     other-by : (b : Bool) → k ≢ t → ends_in t n (here b) ≡ 0

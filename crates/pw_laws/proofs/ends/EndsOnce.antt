@@ -7,7 +7,7 @@ use Rattle.pw_event.specs.declared.event.Event.{Event}
 use Rattle.pw_event.specs.declared.event.Event.TheVariants.{Show, Key, CheckStart, CheckEnd, CheckCopy, Applied, Begin, Send, Take, File, Reply, Again, Commit, Back, Restart, FailTcp, FailServer, Takeover, Raise, End}
 use Rattle.pw_onecopy.proofs.Update.{upd-same, upd-other}
 use Rattle.pw_onecopy.specs.Behaviour.{Behaviour}
-use Rattle.pw_onecopy.specs.Blocks.{Block, Out, Attempted, Done, How, Committed, Aborted, Restarted, Left}
+use Rattle.pw_onecopy.specs.Blocks.{SerialBlock, Out, Attempted, Done, AttemptEnding, Committed, Aborted, Restarted, Left}
 use Rattle.pw_onecopy.specs.IsBehaviour.{IsBehaviour}
 use Rattle.pw_onecopy.specs.Path.{PathAnswer, is_outside, unit_number}
 use Rattle.pw_onecopy.specs.Update.{upd}
@@ -33,16 +33,16 @@ use Rattle.pw_laws.proofs.terms.KeepsPairs.{not-of-pair, of-pair}
 use Rattle.pw_laws.proofs.terms.TermOk.{PathOk}
 
 -- From a state to the next the last ended unit does not fall, and the blocks end the unit not at all, or once and rightly.
-record Goes (t n before after : ℕ) (blocks : List Block) : Type 0 where
+record Goes (t n before after : ℕ) (blocks : List SerialBlock) : Type 0 where
   pub rises : before ≤ after
   pub ends : EndsBy t n before after blocks
 
 -- where nothing has ended
-stays : (t n before after : ℕ) (blocks : List Block) → after ≡ before → ends_in t n blocks ≡ 0 → Goes t n before after blocks
+stays : (t n before after : ℕ) (blocks : List SerialBlock) → after ≡ before → ends_in t n blocks ≡ 0 → Goes t n before after blocks
 stays t n before after blocks same none = record { rises = omega (arith, same); ends = not_at_all none }
 
 -- where one unit has ended
-moves : (s : State) (t n own number j : ℕ) (how : How) (reply : Option (List ℕ)) → number ≡ last_of s own + 1
+moves : (s : State) (t n own number j : ℕ) (how : AttemptEnding) (reply : Option (List ℕ)) → number ≡ last_of s own + 1
     → Goes t n (last_of s t) (upd s.ended own (record { number = number; reply = reply }) t).number (Attempted own number how j ∷ [])
 moves s t n own number j how reply next =
     ⊎_elim
@@ -258,7 +258,7 @@ one-more a c whole before after n sum rises (inr ends) rest one =
     let after_none = rest (omega (arith, same)) in
     (λ ended. absurd (omega (arith, ended, low)), omega (arith, sum, is, after_none))
 
-by-cases : {t n before after : ℕ} {blocks : List Block} → EndsBy t n before after blocks → (ends_in t n blocks ≡ 0) ⊎ ((ends_in t n blocks ≡ 1) × (before < n) × (after ≡ n))
+by-cases : {t n before after : ℕ} {blocks : List SerialBlock} → EndsBy t n before after blocks → (ends_in t n blocks ≡ 0) ⊎ ((ends_in t n blocks ≡ 1) × (before < n) × (after ≡ n))
 by-cases (not_at_all is) = inl is
 by-cases (once is low same) = inr (is, low, same)
 
@@ -280,9 +280,9 @@ at-most-once sys b s i reading [] t n run = end-of-log sys s i reading t n
 at-most-once sys b s i reading (entry ∷ log) t n run =
     let next : State = effect sys s entry in
     let now : Reading = read_on sys s entry reading in
-    let first : List Block = blocks_of sys s reading entry in
-    let others : List Block = entry_blocks_from sys next now log in
-    let last : List Block = last_blocks_from sys next now log in
+    let first : List SerialBlock = blocks_of sys s reading entry in
+    let others : List SerialBlock = entry_blocks_from sys next now log in
+    let last : List SerialBlock = last_blocks_from sys next now log in
     let here = goes sys b s i t n reading entry run.0.fits in
     let rest = at-most-once sys b next (keeps sys b s i entry run.0) now log t n run.1 in
     let whole = ends_in-append t n (first ++ others) last in

@@ -8,7 +8,7 @@ use Rattle.pw_laws.proofs.terms.TermOk.{HasMessages, IsWorking}
 use Rattle.pw_paired.specs.Failure.{resumed_path}
 use Rattle.pw_onecopy.specs.Path.{PathAnswer, Begun}
 use Rattle.pw_paired.specs.Raising.{settled_mode}
-use Rattle.pw_paired.specs.State.{Alone, Copy, Down, End, Gone, LastEnded, BackupCopy, Message, Mode, OpenUnit, Paired, Raising, Start}
+use Rattle.pw_paired.specs.State.{Alone, Copy, Down, End, Gone, LastEnded, BackupCopy, Message, PairMode, OpenUnit, Paired, Raising, Start}
 use Rattle.pw_onecopy.specs.Behaviour.{Behaviour}
 use Rattle.pw_paired.specs.Terminal.{closing_answer}
 use Rattle.pw_paired.specs.Units.{attempt_of}
@@ -109,7 +109,7 @@ one-attempt frontier path r n one other =
     let first : Begun r ≡ Begun n = cc same in cc first
 
 -- modes of a pair that may have become up to date
-pub raised-works : (mode : Mode) (lacks : Bool) → IsWorking (settled_mode mode lacks) → IsWorking mode
+pub raised-works : (mode : PairMode) (lacks : Bool) → IsWorking (settled_mode mode lacks) → IsWorking mode
 raised-works Alone lacks works = tt
 raised-works Raising lacks works = tt
 raised-works Paired lacks works = tt
@@ -117,7 +117,7 @@ raised-works Down lacks works = works
 raised-works Gone lacks works = works
 
 -- a pair that has messages had them before it settled
-pub raised-has : (mode : Mode) (lacks : Bool) → HasMessages (settled_mode mode lacks) → HasMessages mode
+pub raised-has : (mode : PairMode) (lacks : Bool) → HasMessages (settled_mode mode lacks) → HasMessages mode
 raised-has Alone lacks has = has
 raised-has Raising lacks has = tt
 raised-has Paired lacks has = tt
@@ -125,7 +125,7 @@ raised-has Down lacks has = has
 raised-has Gone lacks has = has
 
 -- a pair that is Alone was so
-pub raised-alone : (mode : Mode) (lacks : Bool) → settled_mode mode lacks ≡ Alone → mode ≡ Alone
+pub raised-alone : (mode : PairMode) (lacks : Bool) → settled_mode mode lacks ≡ Alone → mode ≡ Alone
 raised-alone Alone lacks is = refl
 raised-alone Raising true is = is
 raised-alone Raising false is = absurd (cc is)
@@ -134,11 +134,11 @@ raised-alone Down lacks is = is
 raised-alone Gone lacks is = is
 
 -- a pair that is not lost was not
-pub raised-there : (mode : Mode) (lacks : Bool) → settled_mode mode lacks ≢ Gone → mode ≢ Gone
-raised-there mode lacks there gone = there (ap (λ (m : Mode). settled_mode m lacks) gone)
+pub raised-there : (mode : PairMode) (lacks : Bool) → settled_mode mode lacks ≢ Gone → mode ≢ Gone
+raised-there mode lacks there gone = there (ap (λ (m : PairMode). settled_mode m lacks) gone)
 
 -- a pair that has messages works
-pub messages-work : (mode : Mode) → HasMessages mode → IsWorking mode
+pub messages-work : (mode : PairMode) → HasMessages mode → IsWorking mode
 messages-work Raising has = tt
 messages-work Paired has = tt
 messages-work Alone has = absurd has
@@ -146,7 +146,7 @@ messages-work Down has = absurd has
 messages-work Gone has = absurd has
 
 -- a pair that works is not lost
-pub works-there : (mode : Mode) → IsWorking mode → mode ≢ Gone
+pub works-there : (mode : PairMode) → IsWorking mode → mode ≢ Gone
 works-there mode works gone = subst IsWorking gone works
 
 -- a memory without an end path resumes at its start

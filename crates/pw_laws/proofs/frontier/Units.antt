@@ -11,7 +11,7 @@ use Rattle.pw_onecopy.specs.IsBehaviour.{IsBehaviour, Suits}
 use Rattle.pw_paired.specs.Failure.{awaited_after, with_restart, resumed_path}
 use Rattle.pw_onecopy.specs.Path.{PathAnswer, Begun, Replied, Standing, is_outside, unit_number}
 use Rattle.pw_paired.specs.Raising.{is_takeover}
-use Rattle.pw_paired.specs.State.{Alone, Copy, Down, End, Gone, BackupCopy, Message, Mode, OpenUnit, Paired, Raising, Start}
+use Rattle.pw_paired.specs.State.{Alone, Copy, Down, End, Gone, BackupCopy, Message, PairMode, OpenUnit, Paired, Raising, Start}
 use Rattle.pw_onecopy.specs.Behaviour.{Behaviour}
 use Rattle.pw_onecopy.specs.Attempt.{BeginsUnit}
 use Rattle.pw_paired.specs.Terminal.{HoldsEnd, HoldsStart, unit_with_attempt, begun_path}
@@ -238,7 +238,7 @@ module _ (sys : Behaviour) (b : IsBehaviour sys) (t : ℕ) (v : View) (frontier 
         ended : HasMessages v.mode → (e : List PathAnswer) → memory.end ≡ Some e → ⊥
         ended has e is_e = let asks = (ok.ends has w.unit memory e w.is_open is is_e).asks in let sent = from.1 in absurd (cc (asks, sent))
 
-        by : (mode : Mode) → v.mode ≡ mode → IsWorking mode → (e : Option (List PathAnswer)) → memory.end ≡ e → memory.end ≡ None
+        by : (mode : PairMode) → v.mode ≡ mode → IsWorking mode → (e : Option (List PathAnswer)) → memory.end ≡ e → memory.end ≡ None
         by mode in_mode works None none = none
         by Alone in_mode works (Some e) is_e = absurd (let none = ok.alone in_mode in cc (none, is))
         by Raising in_mode works (Some e) is_e = absurd (ended (rw in_mode tt) e is_e)

@@ -4,7 +4,7 @@ use Rattle.std.proofs.lemmas.Bool.{and_from, cond-true, eq-eqb}
 use Rattle.pw_event.specs.declared.event.Event.{Event}
 use Rattle.pw_event.specs.declared.event.Event.TheVariants as event
 use Rattle.pw_onecopy.specs.Behaviour.{Behaviour}
-use Rattle.pw_onecopy.specs.Blocks.{Attempted, Block, Committed}
+use Rattle.pw_onecopy.specs.Blocks.{Attempted, SerialBlock, Committed}
 use Rattle.pw_onecopy.specs.IsBehaviour.{IsBehaviour}
 use Rattle.pw_onecopy.specs.Path.{is_outside, unit_number}
 use Rattle.pw_paired.specs.Headline.{ends_unit}
@@ -34,8 +34,8 @@ module _ (sys : Behaviour) (b : IsBehaviour sys) (before more : List Event) (ent
 
   at-least : ends_in t n (blocks_of sys (after sys before) f.reading entry) ≡ 1 → 1 ≤ ends_in t n (blocks sys whole)
   at-least one =
-      let rest : List Block = entry_blocks_from sys (effect sys (after sys before) entry) (read_on sys (after sys before) entry f.reading) more in
-      let last : List Block = left_blocks (after sys whole) (fold_after sys whole).reading (λ t. true) sys.terminals in
+      let rest : List SerialBlock = entry_blocks_from sys (effect sys (after sys before) entry) (read_on sys (after sys before) entry f.reading) more in
+      let last : List SerialBlock = left_blocks (after sys whole) (fold_after sys whole).reading (λ t. true) sys.terminals in
       let all = ap (ends_in t n) (fold-blocks sys whole) ∙ ends_in-append t n (fold_after sys whole).order last in
       let order = ap (ends_in t n) order-is ∙ ends_in-append t n (f.order ++ blocks_of sys (after sys before) f.reading entry) rest in
       let front = ends_in-append t n f.order (blocks_of sys (after sys before) f.reading entry) in

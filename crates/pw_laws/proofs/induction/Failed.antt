@@ -7,7 +7,7 @@ use Rattle.pw_onecopy.specs.Behaviour.{Behaviour}
 use Rattle.pw_paired.specs.End.{LegalEnd, LegalLost, LegalStopped, do_end, end_terminal}
 use Rattle.pw_paired.specs.Failure.{lose_backup, backup_fails, do_fail_server, do_fail_tcp, lose_primary, lose_pair, primary_fails, process_fails}
 use Rattle.pw_paired.specs.Raising.{settle_mode}
-use Rattle.pw_paired.specs.State.{Alone, Down, Gone, Job, Mode, Paired, Raising, State}
+use Rattle.pw_paired.specs.State.{Alone, Down, Gone, Job, PairMode, Paired, Raising, State}
 use Rattle.pw_paired.specs.Units.{leave_units, only}
 use Rattle.pw_laws.proofs.terms.TermOk.{HasMessages}
 use Rattle.pw_laws.specs.runs.Losses.{Breaks}
@@ -18,7 +18,7 @@ module _ (sys : Behaviour) (s : State) (P : State → Type 0) where
       → (Breaks primary (s.modes p) → P (lose_pair sys p s)) → (HasMessages (s.modes p) → P (lose_backup sys p s)) → P (do_fail_tcp sys p primary s)
   fail-by p true same goes_down is_lost goes_on = by (s.modes p) refl
     where
-      by : (mode : Mode) → s.modes p ≡ mode → P (primary_fails sys p mode s)
+      by : (mode : PairMode) → s.modes p ≡ mode → P (primary_fails sys p mode s)
       by Paired is = goes_down is
       by Raising is = is_lost (inl is)
       by Alone is = is_lost (inr is)
@@ -26,7 +26,7 @@ module _ (sys : Behaviour) (s : State) (P : State → Type 0) where
       by Gone is = same
   fail-by p false same goes_down is_lost goes_on = by (s.modes p) refl
     where
-      by : (mode : Mode) → s.modes p ≡ mode → P (backup_fails sys p mode s)
+      by : (mode : PairMode) → s.modes p ≡ mode → P (backup_fails sys p mode s)
       by Paired is = goes_on (subst HasMessages (sym is) tt)
       by Raising is = goes_on (subst HasMessages (sym is) tt)
       by Alone is = same

@@ -17,7 +17,7 @@ use Rattle.pw_paired.specs.Failure.{with_start_path, is_live_of, is_of_pair, wit
 use Rattle.pw_paired.specs.Raising.{is_takeover, lacks_one, settled_mode, with_message, settle_mode}
 use Rattle.pw_paired.specs.Serial.{reading_starts}
 use Rattle.pw_paired.specs.Server.{LegalReply}
-use Rattle.pw_paired.specs.State.{Alone, Down, Gone, Job, LastEnded, BackupCopy, Message, Mode, OpenUnit, Raising, State, Term, starting}
+use Rattle.pw_paired.specs.State.{Alone, Down, Gone, Job, LastEnded, BackupCopy, Message, PairMode, OpenUnit, Raising, State, Term, starting}
 use Rattle.pw_paired.specs.Step.{Fits, IsRun, after, change, effect}
 use Rattle.pw_paired.specs.Terminal.{CanStep, unit_with_attempt, begun_path, next_verb, path_of}
 use Rattle.pw_paired.specs.Units.{attempt_of, last_after_leaving, leave_units, only}
@@ -207,7 +207,7 @@ module _ (sys : Behaviour) (b : IsBehaviour sys) (s : State) (i : Inv sys s) (t 
       (λ x is asks. move.stays (other-path own _ differ)))
 
   -- a pair fails, and others stay
-  pair-view : (p : ℕ) (mode : Mode) (w : View) → sys.pair_of t ≡ p → record w { mode = upd s.modes p mode (sys.pair_of t) } ≡ record w { mode = mode }
+  pair-view : (p : ℕ) (mode : PairMode) (w : View) → sys.pair_of t ≡ p → record w { mode = upd s.modes p mode (sys.pair_of t) } ≡ record w { mode = mode }
   pair-view p mode w of = View-is refl refl refl refl refl (mode-of-pair sys s p t mode of)
 
   moves-fail-tcp : (p : ℕ) (primary : Bool) (k : ℕ) → Moves sys t v (view_of sys (change sys s (event.FailTcp p primary k)) t)

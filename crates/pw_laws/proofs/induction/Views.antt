@@ -10,7 +10,7 @@ use Rattle.pw_onecopy.specs.Behaviour.{Behaviour}
 use Rattle.pw_onecopy.specs.Path.{PathAnswer, Entry, Failed, Replied, Shown, entries_on, is_outside, unit_number, Dropped, Ended}
 use Rattle.pw_paired.specs.Failure.{with_restart, resume_terminal}
 use Rattle.pw_paired.specs.Raising.{is_takeover, settled_mode, with_message}
-use Rattle.pw_paired.specs.State.{Alone, Copy, Down, End, Gone, LastEnded, BackupCopy, Message, Mode, OpenUnit, Paired, Raising, Start, State, Term}
+use Rattle.pw_paired.specs.State.{Alone, Copy, Down, End, Gone, LastEnded, BackupCopy, Message, PairMode, OpenUnit, Paired, Raising, Start, State, Term}
 use Rattle.pw_paired.specs.Terminal.{HoldsEnd, HoldsStart, unit_with_attempt, begun_path, closing_answer, kept_reply}
 use Rattle.pw_paired.specs.Units.{attempt_of, last_after_leaving, restarts_of}
 use Rattle.pw_laws.proofs.terms.TermOk.{HasMessages, IsWorking}
@@ -22,7 +22,7 @@ pub record View : Type 0 where
   pub memory : Option BackupCopy
   pub flight : Option Message
   pub term : Term
-  pub mode : Mode
+  pub mode : PairMode
 
 -- the view of a terminal in a state
 abbrev pub view_of : Behaviour → State → ℕ → View

@@ -12,7 +12,7 @@ use Rattle.pw_paired.specs.End.{LegalEnd, do_end, end_terminal}
 use Rattle.pw_paired.specs.Failure.{LegalRestart, LegalTakeover, lose_backup, do_fail_server, do_fail_tcp, do_restart, do_takeover, lose_primary, lose_pair, is_live_of, is_of_pair}
 use Rattle.pw_paired.specs.Raising.{LegalApplied, LegalRaise, do_applied, do_raise, lacks_one, settled_mode, with_message, settle_mode}
 use Rattle.pw_paired.specs.Server.{LegalReply, answer_on, with_job_at, do_file, do_reply}
-use Rattle.pw_paired.specs.State.{Term, Class, Job, Mode, Alone, Raising, Paired, Down, Gone, OpenUnit, State}
+use Rattle.pw_paired.specs.State.{Term, Class, Job, PairMode, Alone, Raising, Paired, Down, Gone, OpenUnit, State}
 use Rattle.pw_paired.specs.Units.{leave_units, only}
 use Rattle.pw_laws.proofs.induction.Failed.{fail-cases, process-cases}
 use Rattle.pw_laws.proofs.induction.Served.{file-cases, reply-any}
@@ -24,7 +24,7 @@ use Rattle.pw_laws.proofs.terms.KeepsPairs.{keeps_applied, keeps_raise, keeps_fa
 use Rattle.pw_laws.proofs.terms.TermOk.{IsWorking, TermsOk}
 
 -- a pair that becomes up to date still works
-raised-works : (mode : Mode) (lacks : Bool) → IsWorking mode → IsWorking (settled_mode mode lacks)
+raised-works : (mode : PairMode) (lacks : Bool) → IsWorking mode → IsWorking (settled_mode mode lacks)
 raised-works Alone lacks works = tt
 raised-works Raising true works = tt
 raised-works Raising false works = tt
@@ -113,7 +113,7 @@ module _ (sys : Behaviour) (b : IsBehaviour sys) (s : State) (i : Inv sys s) whe
         places = upd i.places t Nowhere;
         requests = subst (λ (classes : ℕ → Class). RequestsOk sys classes (upd i.places t Nowhere)) (sym (reply-classes c p t fault)) (requests_freed i.requests l.at_work l.whose);
         out = out-placed t i.places Nowhere (λ request is. absurd (cc is))
-            (reply-terms c p t fault) (reply-units c p t fault) (λ j works. subst (λ (m : ℕ → Mode). IsWorking (m (sys.pair_of j))) (sym (reply-modes c p t fault)) works) i.out;
+            (reply-terms c p t fault) (reply-units c p t fault) (λ j works. subst (λ (m : ℕ → PairMode). IsWorking (m (sys.pair_of j))) (sym (reply-modes c p t fault)) works) i.out;
       }
 
   -- RESTART keeps it all
@@ -143,7 +143,7 @@ module _ (sys : Behaviour) (b : IsBehaviour sys) (s : State) (i : Inv sys s) whe
       })
 
   -- another pair keeps its mode
-  beside : (p : ℕ) (mode : Mode) (j : ℕ) → is_of_pair sys p j ≡ false → upd s.modes p mode (sys.pair_of j) ≡ s.modes (sys.pair_of j)
+  beside : (p : ℕ) (mode : PairMode) (j : ℕ) → is_of_pair sys p j ≡ false → upd s.modes p mode (sys.pair_of j) ≡ s.modes (sys.pair_of j)
   beside p mode j spared = mode-of-other sys s p j mode (eqb-false (sys.pair_of j) p spared)
 
   inv_down : (p : ℕ) → TermsOk sys (lose_primary sys p s) → Inv sys (lose_primary sys p s)

@@ -7,7 +7,7 @@ use Rattle.pw_class.specs.Queue.{works_for}
 use Rattle.pw_class.specs.declared.request.Request.{Request}
 use Rattle.pw_onecopy.proofs.Update.{upd_elim, upd-same, upd-other}
 use Rattle.pw_onecopy.specs.Behaviour.{Behaviour}
-use Rattle.pw_onecopy.specs.Path.{FileAnswer}
+use Rattle.pw_onecopy.specs.Path.{FileResult}
 use Rattle.pw_onecopy.specs.Update.{upd}
 use Rattle.pw_paired.specs.Server.{with_job_at, first_free, with_first_taken, with_answer}
 use Rattle.pw_paired.specs.State.{Class, Job, State}
@@ -208,7 +208,7 @@ placed_taken_other classes c i request others first free other =
 
 -- FILE: the terminal of the job.
 pub placed_filed : {t : ℕ} (classes : ℕ → Class) (c i : ℕ) (job : Job) → (classes c).busy i ≡ Some job
-    → job.request.terminal ≡ t → (answer : FileAnswer) (place : Place) → Placed classes t place
+    → job.request.terminal ≡ t → (answer : FileResult) (place : Place) → Placed classes t place
     → Placed (upd classes c (with_job_at i (Some (with_answer answer job)) (classes c))) t
     (AtWork c i (with_answer answer job))
 placed_filed {t = t} classes c i job works whose answer place placed =
@@ -366,7 +366,7 @@ requests_taken {sys = sys} {classes = classes} {places = places} {c = c} {i = i}
 
 -- a process goes on
 pub requests_filed : {sys : Behaviour} {classes : ℕ → Class} {places : ℕ → Place} {c i t : ℕ} {job : Job}
-    (answer : FileAnswer) → RequestsOk sys classes places → (classes c).busy i ≡ Some job → job.request.terminal ≡ t
+    (answer : FileResult) → RequestsOk sys classes places → (classes c).busy i ≡ Some job → job.request.terminal ≡ t
     → RequestsOk sys (upd classes c (with_job_at i (Some (with_answer answer job)) (classes c)))
     (upd places t (AtWork c i (with_answer answer job)))
 requests_filed {classes = classes} {places = places} {c = c} {i = i} {t = t} {job = job} answer ok works whose =

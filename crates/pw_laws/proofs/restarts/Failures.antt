@@ -6,7 +6,7 @@ use Rattle.std.proofs.lemmas.List.Elements.{filter-append}
 use Rattle.std.proofs.lemmas.List.Folds.{list_any-append}
 use Rattle.std.proofs.lemmas.Option.{slice_get_within}
 use Rattle.pw_base.proofs.Plain.{and-second}
-use Rattle.pw_event.specs.Due.{Numbered, due_line, entries_of, if_due, is_fail_of, is_same_owner, next_failure, owner_of, owner_of_line}
+use Rattle.pw_event.specs.Due.{Numbered, due_line, owner_entry_count, if_due, is_fail_of, is_same_owner, next_failure, owner_of, owner_of_line}
 use Rattle.pw_event.specs.declared.event.Event.{Event}
 use Rattle.pw_event.specs.declared.event.Event.TheVariants as event
 use Rattle.pw_event.specs.declared.script.Owner.{Owner}
@@ -65,7 +65,7 @@ due-left : (sys : Behaviour) (log : List Event) (owner : Owner) (k : ℕ) → du
     → (1 ≤ k) × (k - 1 < length sys.script) × (is_left log (k - 1) ≡ true)
 due-left sys log owner k due = by (next_failure sys.script log owner) refl due
   where
-    by : (found : Option Numbered) → next_failure sys.script log owner ≡ found → if_due (entries_of sys.pair_of owner log) found ≡ Some k
+    by : (found : Option Numbered) → next_failure sys.script log owner ≡ found → if_due (owner_entry_count sys.pair_of owner log) found ≡ Some k
         → (1 ≤ k) × (k - 1 < length sys.script) × (is_left log (k - 1) ≡ true)
     by None is none = absurd (cc none)
     by (Some l) is some =

@@ -12,7 +12,7 @@ use Rattle.pw_onecopy.specs.Path.{PathAnswer}
 use Rattle.pw_onecopy.specs.Update.{upd}
 use Rattle.pw_paired.specs.Failure.{LegalTakeover, is_live_of, is_of_pair, resume_terminal, runs_unit, with_restart, with_start_path}
 use Rattle.pw_paired.specs.Raising.{settled_mode}
-use Rattle.pw_paired.specs.State.{Alone, BackupCopy, Down, Gone, LastEnded, Mode, OpenUnit, Paired, Raising, State, Term}
+use Rattle.pw_paired.specs.State.{Alone, BackupCopy, Down, Gone, LastEnded, PairMode, OpenUnit, Paired, Raising, State, Term}
 use Rattle.pw_paired.specs.Step.{Fits, change, effect}
 use Rattle.pw_paired.specs.Units.{attempt_of, only}
 use Rattle.pw_laws.proofs.induction.Failed.{end-cases}
@@ -24,7 +24,7 @@ pub data Owes (sys : Behaviour) (s : State) (t : ℕ) : Type 0 where
   pends : (kind : Cause) → (s.terms t).pending ≡ Some kind → Owes sys s t
   sinks : (u : OpenUnit) (q : List PathAnswer) → s.modes (sys.pair_of t) ≡ Down → s.units t ≡ Some u → u.running ≡ Some q → Owes sys s t
 
-settled-down : (mode : Mode) (lacks : Bool) → settled_mode mode lacks ≡ Down → mode ≡ Down
+settled-down : (mode : PairMode) (lacks : Bool) → settled_mode mode lacks ≡ Down → mode ≡ Down
 settled-down Raising false is = absurd (cc is)
 settled-down Raising true is = is
 settled-down Alone lacks is = is
@@ -76,9 +76,9 @@ module _ (sys : Behaviour) (s : State) (t : ℕ) where
   rests kind (Some u) = refl
 
   -- another mode than Down
-  other-mode : (p : ℕ) (mode : Mode) → (mode ≡ Down → s.modes p ≡ Down) → upd s.modes p mode (sys.pair_of t) ≡ Down → s.modes (sys.pair_of t) ≡ Down
+  other-mode : (p : ℕ) (mode : PairMode) → (mode ≡ Down → s.modes p ≡ Down) → upd s.modes p mode (sys.pair_of t) ≡ Down → s.modes (sys.pair_of t) ≡ Down
   other-mode p mode from =
-      upd_elim s.modes p mode (sys.pair_of t) (λ (y : Mode). y ≡ Down → s.modes (sys.pair_of t) ≡ Down) (λ at is. ap s.modes at ∙ from is) (λ _ is. is)
+      upd_elim s.modes p mode (sys.pair_of t) (λ (y : PairMode). y ≡ Down → s.modes (sys.pair_of t) ≡ Down) (λ at is. ap s.modes at ∙ from is) (λ _ is. is)
 
   left-was : (own : ℕ) (u : OpenUnit) → (if only own t then None else s.units t) ≡ Some u → s.units t ≡ Some u
   left-was own u = by (only own t)

@@ -11,7 +11,7 @@ use Rattle.pw_onecopy.proofs.Update.{upd_elim, upd_both}
 use Rattle.pw_onecopy.specs.Behaviour.{Behaviour}
 use Rattle.pw_onecopy.specs.IsBehaviour.{is_written, IsBehaviour}
 use Rattle.pw_onecopy.specs.Operation.{key_of, changes_records, records_behind, span_of}
-use Rattle.pw_onecopy.specs.Path.{FileAnswer}
+use Rattle.pw_onecopy.specs.Path.{FileResult}
 use Rattle.pw_onecopy.specs.Play.{Play, play_operation, play_after}
 
 module _ (sys : Behaviour) where
@@ -75,7 +75,7 @@ module _ (sys : Behaviour) where
       let Stays : ℕ → List ℕ → Type 0 = λ f key. HaveSameAt p.files q.files f key
       → record_at (sys.key_length f) (records_behind n a call) key ≡ record_at (sys.key_length f) (records_behind n b call) key in
       record {
-        done = ap₂ (λ (done : List FileAnswer) (answer : FileAnswer). done ++ answer ∷ []) same answers;
+        done = ap₂ (λ (done : List FileResult) (answer : FileResult). done ++ answer ∷ []) same answers;
         stays = λ f key e. upd_both p.files q.files call.file (records_behind n a call) (records_behind n b call) f
             (λ now then. record_at (sys.key_length f) now key ≡ record_at (sys.key_length f) then key)
             (λ is. subst (λ k. Stays k key) (sym is) (same_effect n call a b key both) e)
@@ -111,7 +111,7 @@ module _ (sys : Behaviour) where
 
     -- what the server writes has the length of a record
     abbrev pub ServerWrites : Type 0
-    ServerWrites = (done : List FileAnswer) → WritesContent (sys.ops c message done)
+    ServerWrites = (done : List FileResult) → WritesContent (sys.ops c message done)
 
     -- files stay files
     pub played_files : ServerWrites → (files : ℕ → List (List ℕ)) → AreFiles files → (n : ℕ)

@@ -19,7 +19,7 @@ use Rattle.pw_locks.specs.Spans.{Covers}
 use Rattle.pw_locks.specs.declared.span.Span.TheVariants.{After}
 use Rattle.pw_onecopy.specs.IsBehaviour.{is_written}
 use Rattle.pw_onecopy.specs.Operation.{key_of, read_answer, answer_of, is_change, changed_records, changes_records, records_behind, found_key, span_of, lock_for}
-use Rattle.pw_onecopy.specs.Path.{FileAnswer}
+use Rattle.pw_onecopy.specs.Path.{FileResult}
 use Rattle.pw_paired.specs.Units.{put_back}
 
 module _ (n : ℕ) (a b : List (List ℕ)) (file : IsFile n a) (other : IsFile n b) (call : FileCall) where
@@ -62,7 +62,7 @@ module _ (n : ℕ) (a b : List (List ℕ)) (file : IsFile n a) (other : IsFile n
 
   -- and whether it changes a record
   pub same_changes : AgreeOn n a b call → changes_records n a call ≡ changes_records n b call
-  same_changes h = ap (λ (answer : FileAnswer). is_change call.op && answer.status == 0) (same_answer h)
+  same_changes h = ap (λ (answer : FileResult). is_change call.op && answer.status == 0) (same_answer h)
 
 module _ (n : ℕ) (call : FileCall) where
   module _ (a b : List (List ℕ)) (key : List ℕ) (h : record_at n a key ≡ record_at n b key) where

@@ -6,7 +6,7 @@ use Rattle.pw_event.specs.declared.event.Ending.{Ending}
 use Rattle.pw_event.specs.declared.event.Event.{Event}
 use Rattle.pw_onecopy.specs.Behaviour.{Behaviour}
 use Rattle.pw_onecopy.specs.IsBehaviour.{IsBehaviour}
-use Rattle.pw_paired.specs.State.{Alone, Awaited, Down, Gone, Message, Mode, OpenUnit, Paired, Raising, State}
+use Rattle.pw_paired.specs.State.{Alone, Awaited, Down, Gone, Message, PairMode, OpenUnit, Paired, Raising, State}
 use Rattle.pw_paired.specs.Step.{IsRun, after, is_finished, is_going_on}
 use Rattle.pw_paired.specs.Terminal.{IsLive}
 use Rattle.pw_paired.specs.Units.{any_below}
@@ -17,7 +17,7 @@ use Rattle.pw_laws.proofs.blocks.Known.{known}
 use Rattle.pw_laws.proofs.steps.Awaiting.{awaits-ok}
 use Rattle.pw_laws.proofs.steps.Living.{live-ok}
 use Rattle.pw_laws.proofs.steps.Terminals.{terminal-step}
-use Rattle.pw_laws.specs.serial.Actors.{Actor, ActorSteps, actor_of}
+use Rattle.pw_laws.specs.serial.Actors.{StepActor, ActorSteps, actor_of}
 
 module _ (sys : Behaviour) (b : IsBehaviour sys) (log : List Event) (run : IsRun sys log) (unfinished : is_finished sys (after sys log) ≡ false) where
   abbrev s : State
@@ -39,7 +39,7 @@ module _ (sys : Behaviour) (b : IsBehaviour sys) (log : List Event) (run : IsRun
       by-pending mode None calm = by-flight mode calm (s.flight t) refl
       by-pending mode (Some kind) pends = pending-steps sys b log run t live (λ none. absurd (cc (pends, none)))
 
-      by-mode : (mode : Mode) → s.modes (sys.pair_of t) ≡ mode → HasStep sys s
+      by-mode : (mode : PairMode) → s.modes (sys.pair_of t) ≡ mode → HasStep sys s
       by-mode Paired is = by-pending is (s.terms t).pending refl
       by-mode Alone is = pair-steps sys b log run t live (λ paired. absurd (cc (is, paired)))
       by-mode Raising is = pair-steps sys b log run t live (λ paired. absurd (cc (is, paired)))
@@ -87,7 +87,7 @@ module _ (sys : Behaviour) (b : IsBehaviour sys) (log : List Event) (run : IsRun
 
 -- the step's actor and entry
 pub some-actor-steps : (sys : Behaviour) → IsBehaviour sys → (log : List Event) → IsRun sys log → is_finished sys (after sys log) ≡ false
-    → (actor : Actor) × ActorSteps sys (after sys log) actor
+    → (actor : StepActor) × ActorSteps sys (after sys log) actor
 some-actor-steps sys b log run unfinished =
     let step = has-step sys b log run unfinished in
     (actor_of sys step.entry, record { entry = step.entry; own = refl; legal = step.legal })

@@ -7,7 +7,7 @@ use Rattle.pw_onecopy.specs.Attempt.{BeginsUnit}
 use Rattle.pw_onecopy.specs.Behaviour.{Behaviour}
 use Rattle.pw_onecopy.specs.IsBehaviour.{Suits}
 use Rattle.pw_onecopy.specs.Path.{PathAnswer, Shown, Entry, is_outside}
-use Rattle.pw_paired.specs.State.{Mode, BackupCopy, Message, Start, End, Copy, OpenUnit, State, Term}
+use Rattle.pw_paired.specs.State.{PairMode, BackupCopy, Message, Start, End, Copy, OpenUnit, State, Term}
 use Rattle.pw_paired.specs.Terminal.{LegalShow, LegalKey, do_show, do_key, next_verb, path_of}
 use Rattle.pw_paired.specs.Units.{give_answer}
 use Rattle.pw_laws.proofs.Paths.{IsPlain, Shown-plain, Entry-plain, plain-number, plain-outside, IsPath-push}
@@ -67,7 +67,7 @@ flight-moved sys t last unit memory path other (Copy n p) no_begin ok = ok
 flight-moved sys t last unit memory path other (End p) no_begin ok = ok
 
 -- the path of a terminal at its own verb gets a plain answer
-term-plain : {sys : Behaviour} {t last : ℕ} {unit : Option OpenUnit} {memory : Option BackupCopy} {flight : Option Message} {term : Term} {mode : Mode} (answer : PathAnswer)
+term-plain : {sys : Behaviour} {t last : ℕ} {unit : Option OpenUnit} {memory : Option BackupCopy} {flight : Option Message} {term : Term} {mode : PairMode} (answer : PathAnswer)
     → IsPlain answer → Suits sys t term.path (sys.ask t term.path) answer → IsOwn sys t term.path
     → TermOk sys t last unit memory flight term mode
     → TermOk sys t last unit memory flight (record term { path = term.path ++ answer ∷ [] }) mode

@@ -9,7 +9,7 @@ use Rattle.pw_onecopy.specs.IsBehaviour.{IsBehaviour, IsPath, Suits}
 use Rattle.pw_onecopy.specs.Path.{PathAnswer, is_outside, unit_number, Dropped, Ended}
 use Rattle.pw_onecopy.specs.Update.{upd}
 use Rattle.pw_paired.specs.Raising.{LegalCheckCopy, do_check_copy}
-use Rattle.pw_paired.specs.State.{Mode, BackupCopy, Message, Copy, OpenUnit, State, Term}
+use Rattle.pw_paired.specs.State.{PairMode, BackupCopy, Message, Copy, OpenUnit, State, Term}
 use Rattle.pw_paired.specs.Terminal.{CanStep, LegalCheckStart, LegalCheckEnd, do_check_start, do_check_end, closing_answer, next_verb, path_of}
 use Rattle.pw_paired.specs.Units.{attempt_of}
 use Rattle.pw_laws.proofs.Paths.{IsClosing, Ended-closing, Dropped-closing, closing-number, closing-outside, IsPath-push}
@@ -71,7 +71,7 @@ path_ok-is last None ok = ok.rest.is_path
 path_ok-is last (Some unit) ok = path_of-is last unit.running ok
 
 -- a terminal with another message in flight
-pub term-sent : {sys : Behaviour} {t last : ℕ} {unit : Option OpenUnit} {memory : Option BackupCopy} {flight : Option Message} {term : Term} {mode : Mode} (message : Message)
+pub term-sent : {sys : Behaviour} {t last : ℕ} {unit : Option OpenUnit} {memory : Option BackupCopy} {flight : Option Message} {term : Term} {mode : PairMode} (message : Message)
     → HasMessages mode → FlightOk sys t last unit memory term.path message
     → TermOk sys t last unit memory flight term mode → TermOk sys t last unit memory (Some message) term mode
 term-sent {sys = sys} {t = t} {last = last} {unit = unit} {memory = memory} {term = term} message has flies ok = record {

@@ -14,7 +14,7 @@ use Rattle.pw_paired.specs.End.{do_end, end_terminal}
 use Rattle.pw_paired.specs.Failure.{LegalRestart, awaited_after, with_start_path, do_restart, process_fails, with_restart}
 use Rattle.pw_paired.specs.Raising.{is_takeover}
 use Rattle.pw_paired.specs.Server.{do_reply, free_process, reply_at}
-use Rattle.pw_paired.specs.State.{Job, LastEnded, BackupCopy, Message, Mode, Start, End, Copy, OpenUnit, State, Term}
+use Rattle.pw_paired.specs.State.{Job, LastEnded, BackupCopy, Message, PairMode, Start, End, Copy, OpenUnit, State, Term}
 use Rattle.pw_paired.specs.Terminal.{IsLive, path_of}
 use Rattle.pw_paired.specs.Units.{give_answer, attempt_of, commit_unit, last_after_leaving, leave_units, only}
 use Rattle.pw_laws.proofs.Paths.{Failed-plain, plain-number, reply-outside, reply-inside, IsPath-push}
@@ -25,7 +25,7 @@ use Rattle.pw_laws.proofs.terms.KeepsUnits.{OkAt-changed, term-ends}
 use Rattle.pw_laws.proofs.terms.TermOk.{UnitOk, FlightOk, IsWorking, RunningPath, PathOf, PathOk, TermOk, TermsOk, TermOk-same}
 
 -- an attempt restarts
-term-restarts : {sys : Behaviour} {t last : ℕ} {unit : Option OpenUnit} {memory : Option BackupCopy} {flight : Option Message} {term : Term} {mode : Mode}
+term-restarts : {sys : Behaviour} {t last : ℕ} {unit : Option OpenUnit} {memory : Option BackupCopy} {flight : Option Message} {term : Term} {mode : PairMode}
     (u after : OpenUnit) (start : List PathAnswer) → unit ≡ Some u → u.running ≡ Some start → after.number ≡ u.number → after.running ≡ None
     → TermOk sys t last unit memory flight term mode
     → TermOk sys t last (Some after) memory flight (record term { path = start; pending = None }) mode
@@ -54,7 +54,7 @@ term-restarts {sys = sys} {t = t} {last = last} {unit = unit} {memory = memory} 
     flies (End p) f = f
 
 -- a terminal ends
-term-dies : {sys : Behaviour} {t last : ℕ} {unit : Option OpenUnit} {memory : Option BackupCopy} {flight : Option Message} {term : Term} {mode : Mode}
+term-dies : {sys : Behaviour} {t last : ℕ} {unit : Option OpenUnit} {memory : Option BackupCopy} {flight : Option Message} {term : Term} {mode : PairMode}
     (ending : Ending) → TermOk sys t last unit memory flight term mode
     → TermOk sys t last unit None None (record term { pending = None; ending = Some ending }) mode
 term-dies ending ok = record {
@@ -70,7 +70,7 @@ term-dies ending ok = record {
 }
 
 -- and its open unit, if any, is left
-term-left : {sys : Behaviour} {t last other : ℕ} {unit : Option OpenUnit} {memory : Option BackupCopy} {flight : Option Message} {term : Term} {mode : Mode}
+term-left : {sys : Behaviour} {t last other : ℕ} {unit : Option OpenUnit} {memory : Option BackupCopy} {flight : Option Message} {term : Term} {mode : PairMode}
     (ending : Ending) → TermOk sys t last unit memory flight term mode
     → TermOk sys t other None None None (record term { pending = None; ending = Some ending }) mode
 term-left ending ok = record {
@@ -99,7 +99,7 @@ pub record OutOk (sys : Behaviour) (s : State) (t : ℕ) (request : Sent) : Type
   pub asks : sys.ask t (path_of s t) ≡ verb.Send request.class request.request.message
 
 -- a cause of a failed process becomes pending
-term-pending : {sys : Behaviour} {t last : ℕ} {unit : Option OpenUnit} {memory : Option BackupCopy} {flight : Option Message} {term : Term} {mode : Mode}
+term-pending : {sys : Behaviour} {t last : ℕ} {unit : Option OpenUnit} {memory : Option BackupCopy} {flight : Option Message} {term : Term} {mode : PairMode}
     (k : ℕ) → term.pending ≡ None → TermOk sys t last unit memory flight term mode
     → TermOk sys t last unit memory flight (record term { pending = Some (Server k) }) mode
 term-pending k calm ok = record {
@@ -115,7 +115,7 @@ term-pending k calm ok = record {
 }
 
 -- the path of a running attempt moves and stays that of a running attempt
-term-runs : {sys : Behaviour} {t last : ℕ} {unit : Option OpenUnit} {memory : Option BackupCopy} {flight : Option Message} {term : Term} {mode : Mode}
+term-runs : {sys : Behaviour} {t last : ℕ} {unit : Option OpenUnit} {memory : Option BackupCopy} {flight : Option Message} {term : Term} {mode : PairMode}
     (u : OpenUnit) (start path : List PathAnswer) → unit ≡ Some u → u.running ≡ Some start → RunningPath sys t last path
     → TermOk sys t last unit memory flight term mode
     → TermOk sys t last unit memory flight (record term { path = path }) mode

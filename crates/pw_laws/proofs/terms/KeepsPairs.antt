@@ -9,7 +9,7 @@ use Rattle.pw_onecopy.specs.Path.{PathAnswer, unit_number}
 use Rattle.pw_onecopy.specs.Update.{upd}
 use Rattle.pw_paired.specs.Failure.{lose_backup, do_fail_tcp, do_takeover, lose_primary, lose_pair, is_live_of, is_of_pair, resume_terminal, resumed_path, runs_unit, without_path, LegalTakeover}
 use Rattle.pw_paired.specs.Raising.{LegalApplied, LegalRaise, do_applied, do_raise, is_takeover, lacks_one, settled_mode, with_message, settle_mode, with_end}
-use Rattle.pw_paired.specs.State.{Mode, Alone, Raising, Paired, Down, Gone, LastEnded, BackupCopy, Message, Start, End, Copy, OpenUnit, State, Term}
+use Rattle.pw_paired.specs.State.{PairMode, Alone, Raising, Paired, Down, Gone, LastEnded, BackupCopy, Message, Start, End, Copy, OpenUnit, State, Term}
 use Rattle.pw_paired.specs.Units.{any_below}
 use Rattle.pw_paired.proofs.SingleEntries.{resumed-start}
 use Rattle.pw_laws.proofs.induction.Failed.{fail-cases}
@@ -23,7 +23,7 @@ any_below-false (suc n) has none j below =
     ⊎_elim (λ same. rw same parts.1) (λ differ. any_below-false n has parts.0 j (omega (arith, below, differ))) (cases_eq j n)
 
 -- a message is taken in
-pub term-applied : {sys : Behaviour} {t last : ℕ} {unit : Option OpenUnit} {memory : Option BackupCopy} {flight : Option Message} {term : Term} {mode : Mode}
+pub term-applied : {sys : Behaviour} {t last : ℕ} {unit : Option OpenUnit} {memory : Option BackupCopy} {flight : Option Message} {term : Term} {mode : PairMode}
     (message : Message) → flight ≡ Some message → HasMessages mode
     → TermOk sys t last unit memory flight term mode
     → TermOk sys t last unit (with_message (Some message) memory) None term mode
@@ -87,7 +87,7 @@ term-applied {sys = sys} {t = t} {last = last} {unit = unit} {memory = memory} {
 
 -- a pair becomes up to date
 term-raised : {sys : Behaviour} {t last : ℕ} {unit : Option OpenUnit} {memory : Option BackupCopy} {flight : Option Message} {term : Term}
-    (mode : Mode) (lacks : Bool) → (lacks ≡ false → term.ending ≡ None → (held : BackupCopy) × (memory ≡ Some held))
+    (mode : PairMode) (lacks : Bool) → (lacks ≡ false → term.ending ≡ None → (held : BackupCopy) × (memory ≡ Some held))
     → TermOk sys t last unit memory flight term mode → TermOk sys t last unit memory flight term (settled_mode mode lacks)
 term-raised Raising false has ok = record {
   unit_ok = ok.unit_ok;
@@ -186,7 +186,7 @@ term-down ok = record {
 }
 
 -- no member is left
-term-gone : {sys : Behaviour} {t last other : ℕ} {unit : Option OpenUnit} {memory : Option BackupCopy} {flight : Option Message} {term : Term} {mode : Mode}
+term-gone : {sys : Behaviour} {t last other : ℕ} {unit : Option OpenUnit} {memory : Option BackupCopy} {flight : Option Message} {term : Term} {mode : PairMode}
     → TermOk sys t last unit memory flight term mode → TermOk sys t other None None None (without_path term) Gone
 term-gone ok = record {
   unit_ok = λ u is. absurd (cc is);
@@ -201,7 +201,7 @@ term-gone ok = record {
 }
 
 -- the backup fails beside a working primary
-term-alone : {sys : Behaviour} {t last : ℕ} {unit : Option OpenUnit} {memory : Option BackupCopy} {flight : Option Message} {term : Term} {mode : Mode}
+term-alone : {sys : Behaviour} {t last : ℕ} {unit : Option OpenUnit} {memory : Option BackupCopy} {flight : Option Message} {term : Term} {mode : PairMode}
     → IsWorking mode → TermOk sys t last unit memory flight term mode → TermOk sys t last unit None None term Alone
 term-alone working ok = record {
   unit_ok = ok.unit_ok;
@@ -277,15 +277,15 @@ term-taken {sys = sys} {t = t} {last = last} {unit = unit} {memory = memory} {fl
         (subst (λ (n : ℕ). is_takeover (if n == m.unit && is_some u.running then Some (cause.Takeover p) else term.pending) ≡ false) (sym (ok.memory_unit m u is_memory is_open)) untaken)
 
 -- the mode of a terminal's pair where a pair's mode changes
-pub mode-of-pair : (sys : Behaviour) (s : State) (p j : ℕ) (mode : Mode) → sys.pair_of j ≡ p → upd s.modes p mode (sys.pair_of j) ≡ mode
+pub mode-of-pair : (sys : Behaviour) (s : State) (p j : ℕ) (mode : PairMode) → sys.pair_of j ≡ p → upd s.modes p mode (sys.pair_of j) ≡ mode
 mode-of-pair sys s p j mode of = upd-same s.modes p mode (sys.pair_of j) of
 
-pub mode-of-other : (sys : Behaviour) (s : State) (p j : ℕ) (mode : Mode) → sys.pair_of j ≢ p → upd s.modes p mode (sys.pair_of j) ≡ s.modes (sys.pair_of j)
+pub mode-of-other : (sys : Behaviour) (s : State) (p j : ℕ) (mode : PairMode) → sys.pair_of j ≢ p → upd s.modes p mode (sys.pair_of j) ≡ s.modes (sys.pair_of j)
 mode-of-other sys s p j mode differ = upd-other s.modes p mode (sys.pair_of j) differ
 
 module _ (sys : Behaviour) (s : State) (ok : TermsOk sys s) where
   -- a terminal of a pair in a mode
-  in-mode : (p j : ℕ) (mode : Mode) → sys.pair_of j ≡ p → s.modes p ≡ mode → j < sys.terminals
+  in-mode : (p j : ℕ) (mode : PairMode) → sys.pair_of j ≡ p → s.modes p ≡ mode → j < sys.terminals
       → TermOk sys j (s.ended j).number (s.units j) (s.memory j) (s.flight j) (s.terms j) mode
   in-mode p j mode of is known = TermOk-same refl refl refl refl refl (sym is ∙ ap s.modes (sym of)) (ok j known)
 
@@ -321,7 +321,7 @@ module _ (sys : Behaviour) (s : State) (ok : TermsOk sys s) where
       (not-of-pair sys p j _ (s.terms j) differ) (mode-of-other sys s p j Gone differ) (ok j known))
       (cases_eq (sys.pair_of j) p)
 
-  keeps_alone : (p : ℕ) (mode : Mode) → s.modes p ≡ mode → IsWorking mode → TermsOk sys (lose_backup sys p s)
+  keeps_alone : (p : ℕ) (mode : PairMode) → s.modes p ≡ mode → IsWorking mode → TermsOk sys (lose_backup sys p s)
   keeps_alone p mode is working j known =
       ⊎_elim
       (λ of. TermOk-same refl refl (of-pair sys p j None (s.memory j) of) (of-pair sys p j None (s.flight j) of) refl (mode-of-pair sys s p j Alone of)

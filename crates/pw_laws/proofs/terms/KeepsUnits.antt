@@ -9,7 +9,7 @@ use Rattle.pw_onecopy.specs.Behaviour.{Behaviour}
 use Rattle.pw_onecopy.specs.IsBehaviour.{IsBehaviour, IsPath, Suits}
 use Rattle.pw_onecopy.specs.Path.{PathAnswer, Begun, Replied, Standing, is_outside, unit_number, Dropped, Ended}
 use Rattle.pw_onecopy.specs.Update.{upd}
-use Rattle.pw_paired.specs.State.{Mode, LastEnded, BackupCopy, Message, Start, End, Copy, OpenUnit, State, Term}
+use Rattle.pw_paired.specs.State.{PairMode, LastEnded, BackupCopy, Message, Start, End, Copy, OpenUnit, State, Term}
 use Rattle.pw_paired.specs.Terminal.{CanStep, HoldsStart, LegalBegin, LegalAgain, LegalCommit, LegalBack, unit_with_attempt, begun_path, do_begin, do_again, do_commit, do_back, kept_reply, next_verb, path_of}
 use Rattle.pw_paired.specs.Units.{attempt_of}
 use Rattle.pw_laws.proofs.Paths.{IsClosing, Ended-closing, Dropped-closing, closing-number, closing-outside, Begun-number, Begun-inside, reply-outside, IsPath-push}
@@ -17,7 +17,7 @@ use Rattle.pw_laws.proofs.terms.KeepsChecks.{can_path, path_ok-is, resting, uppe
 use Rattle.pw_laws.proofs.terms.TermOk.{IsRest, UnitOk, FlightOk, HasMessages, RunningPath, PathOf, PathOk, TermOk, TermsOk, TermOk-same}
 
 -- A running unit ends: its number is the last ended one now, and the path stands behind it.
-pub term-ends : {sys : Behaviour} {t last : ℕ} {unit : Option OpenUnit} {memory : Option BackupCopy} {flight : Option Message} {term : Term} {mode : Mode}
+pub term-ends : {sys : Behaviour} {t last : ℕ} {unit : Option OpenUnit} {memory : Option BackupCopy} {flight : Option Message} {term : Term} {mode : PairMode}
     (open_unit : OpenUnit) (start path : List PathAnswer) → unit ≡ Some open_unit → open_unit.running ≡ Some start
     → IsRest sys t path → unit_number path ≡ last + 1 + 1
     → TermOk sys t last unit memory flight term mode
@@ -47,7 +47,7 @@ term-ends {sys = sys} {t = t} {last = last} {unit = unit} {memory = memory} {fli
     flies (End p) f = f
 
 -- the unit that was one SEND is answered again
-pub term-again : {sys : Behaviour} {t last : ℕ} {unit : Option OpenUnit} {memory : Option BackupCopy} {flight : Option Message} {term : Term} {mode : Mode}
+pub term-again : {sys : Behaviour} {t last : ℕ} {unit : Option OpenUnit} {memory : Option BackupCopy} {flight : Option Message} {term : Term} {mode : PairMode}
     (path : List PathAnswer) → unit_number term.path ≡ last → IsRest sys t path → unit_number path ≡ last + 1
     → PathOk sys t last unit term.path
     → TermOk sys t last unit memory flight term mode
@@ -82,7 +82,7 @@ term-again {sys = sys} {t = t} {last = last} {unit = unit} {memory = memory} {fl
     moves (Some u) p = moves-open u u.running refl p
 
 -- an attempt begins
-pub term-begins : {sys : Behaviour} {t last : ℕ} {unit : Option OpenUnit} {memory : Option BackupCopy} {flight : Option Message} {term : Term} {mode : Mode}
+pub term-begins : {sys : Behaviour} {t last : ℕ} {unit : Option OpenUnit} {memory : Option BackupCopy} {flight : Option Message} {term : Term} {mode : PairMode}
     (open_unit : OpenUnit) (path : List PathAnswer)
     → open_unit.running ≡ Some term.path → open_unit.number ≡ last + 1
     → IsRest sys t term.path → unit_number term.path ≡ last + 1

@@ -6,7 +6,7 @@ use Rattle.pw_onecopy.specs.Behaviour.{Behaviour}
 use Rattle.pw_onecopy.specs.IsBehaviour.{IsPath}
 use Rattle.pw_onecopy.specs.Path.{PathAnswer, is_outside, unit_number}
 use Rattle.pw_paired.specs.Raising.{is_takeover}
-use Rattle.pw_paired.specs.State.{Mode, Alone, Raising, Paired, Down, Gone, BackupCopy, Message, Start, End, Copy, OpenUnit, State, Term}
+use Rattle.pw_paired.specs.State.{PairMode, Alone, Raising, Paired, Down, Gone, BackupCopy, Message, Start, End, Copy, OpenUnit, State, Term}
 use Rattle.pw_paired.specs.Terminal.{HoldsStart}
 use Rattle.pw_paired.specs.Units.{attempt_of}
 
@@ -38,7 +38,7 @@ FlightOk sys t last unit memory path (End p) =
     (held : BackupCopy) × (memory ≡ Some held) × IsRest sys t p × (unit_number p ≡ held.unit + 1)
 
 -- a member works, so that the terminals have paths
-abbrev pub IsWorking : Mode → Type 0
+abbrev pub IsWorking : PairMode → Type 0
 IsWorking Alone = Unit {0}
 IsWorking Raising = Unit {0}
 IsWorking Paired = Unit {0}
@@ -46,7 +46,7 @@ IsWorking Down = ⊥
 IsWorking Gone = ⊥
 
 -- the backup has every live terminal
-abbrev pub HasMemory : Mode → Type 0
+abbrev pub HasMemory : PairMode → Type 0
 HasMemory Alone = ⊥
 HasMemory Raising = ⊥
 HasMemory Paired = Unit {0}
@@ -54,7 +54,7 @@ HasMemory Down = Unit {0}
 HasMemory Gone = ⊥
 
 -- there may be messages in flight
-abbrev pub HasMessages : Mode → Type 0
+abbrev pub HasMessages : PairMode → Type 0
 HasMessages Alone = ⊥
 HasMessages Raising = Unit {0}
 HasMessages Paired = Unit {0}
@@ -62,7 +62,7 @@ HasMessages Down = ⊥
 HasMessages Gone = ⊥
 
 -- a pair with a backup works
-pub messages-work : (mode : Mode) → HasMessages mode → IsWorking mode
+pub messages-work : (mode : PairMode) → HasMessages mode → IsWorking mode
 messages-work Alone has = tt
 messages-work Raising has = tt
 messages-work Paired has = tt
@@ -92,7 +92,7 @@ PathOk sys t last None path = RestingPath sys t last (last + 1) path
 PathOk sys t last (Some unit) path = PathOf sys t last unit.running path
 
 -- what holds of a terminal
-pub record TermOk (sys : Behaviour) (t last : ℕ) (unit : Option OpenUnit) (memory : Option BackupCopy) (flight : Option Message) (term : Term) (mode : Mode) : Type 0 where
+pub record TermOk (sys : Behaviour) (t last : ℕ) (unit : Option OpenUnit) (memory : Option BackupCopy) (flight : Option Message) (term : Term) (mode : PairMode) : Type 0 where
   pub unit_ok : (open_unit : OpenUnit) → unit ≡ Some open_unit → UnitOk sys t last open_unit
   pub memory_ok : (held : BackupCopy) → memory ≡ Some held → MemoryOk sys t last held
   pub memory_unit : (held : BackupCopy) (open_unit : OpenUnit) → memory ≡ Some held → unit ≡ Some open_unit → held.unit ≡ open_unit.number
@@ -110,7 +110,7 @@ TermsOk sys state =
     → TermOk sys t (state.ended t).number (state.units t) (state.memory t) (state.flight t) (state.terms t) (state.modes (sys.pair_of t))
 
 -- the same of equal parts
-pub TermOk-same : {sys : Behaviour} {t last last' : ℕ} {unit unit' : Option OpenUnit} {memory memory' : Option BackupCopy} {flight flight' : Option Message} {term term' : Term} {mode mode' : Mode}
+pub TermOk-same : {sys : Behaviour} {t last last' : ℕ} {unit unit' : Option OpenUnit} {memory memory' : Option BackupCopy} {flight flight' : Option Message} {term term' : Term} {mode mode' : PairMode}
     → last' ≡ last → unit' ≡ unit → memory' ≡ memory → flight' ≡ flight → term' ≡ term → mode' ≡ mode
     → TermOk sys t last unit memory flight term mode → TermOk sys t last' unit' memory' flight' term' mode'
 TermOk-same l u m f x o ok = rw (l, u, m, f, x, o) ok

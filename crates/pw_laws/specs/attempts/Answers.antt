@@ -6,7 +6,7 @@ use Rattle.pw_onecopy.specs.Attempt.{attempt}
 use Rattle.pw_onecopy.specs.Behaviour.{Behaviour}
 use Rattle.pw_onecopy.specs.Path.{PathAnswer}
 use Rattle.pw_paired.specs.Serial.{answers_behind, reading_starts}
-use Rattle.pw_paired.specs.State.{Alone, Down, Gone, Mode, OpenUnit, Paired, Raising, State, starting}
+use Rattle.pw_paired.specs.State.{Alone, Down, Gone, PairMode, OpenUnit, Paired, Raising, State, starting}
 use Rattle.pw_paired.specs.Step.{effect}
 use Rattle.pw_paired.specs.Units.{committed_files}
 
@@ -21,7 +21,7 @@ abbrev pub answers_after : Behaviour → List Event → ℕ → ℕ
 answers_after sys = answers_from sys (starting sys) reading_starts.answers
 
 -- a member of the pair works, so that its terminals have their paths
-abbrev pub has_paths : Mode → Bool
+abbrev pub has_paths : PairMode → Bool
 has_paths Alone = true
 has_paths Raising = true
 has_paths Paired = true

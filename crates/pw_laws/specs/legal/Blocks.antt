@@ -8,7 +8,7 @@ use Rattle.pw_event.specs.declared.event.Ending.TheVariants as ending
 use Rattle.pw_onecopy.specs.Attempt.{Attempt, attempt}
 use Rattle.pw_onecopy.specs.OneCopy.{Machine, Single, beginning, next_attempt, run_block}
 use Rattle.pw_onecopy.specs.Path.{PathAnswer, Replied, Dropped, Ended, entries_on, unit_number}
-use Rattle.pw_onecopy.specs.Blocks.{Block, Out, Attempted, Done, How, Committed, Aborted, Restarted, Left}
+use Rattle.pw_onecopy.specs.Blocks.{SerialBlock, Out, Attempted, Done, AttemptEnding, Committed, Aborted, Restarted, Left}
 use Rattle.pw_onecopy.specs.Behaviour.{Behaviour}
 use Rattle.pw_laws.specs.legal.Values.{is_same_answer, some_with}
 use Rattle.pw_laws.specs.legal.Verbs.{asks_accept, asks_fault, asks_stop, begins_unit}
@@ -51,7 +51,7 @@ ends_committed (verb.Send class message) (Some (Replied reply)) = true
 ends_committed _ _ = false
 
 -- how an attempt may be over
-abbrev pub may_be : Behaviour → ℕ → Single → Attempt → How → Bool
+abbrev pub may_be : Behaviour → ℕ → Single → Attempt → AttemptEnding → Bool
 may_be sys t single at Committed = ends_committed (sys.ask t single.path) at.last
 may_be sys t single at Aborted = some_with (λ last. is_same_answer last Dropped) at.last
 may_be sys t single at Restarted = nat_lt single.restarts (sys.max_restarts t)
@@ -67,7 +67,7 @@ may_end sys t single (ending.Suspended cause) asked = single.restarts == sys.max
 may_end sys t single ending.Lost asked = true
 
 -- the block is legal in the machine
-unfoldable pub is_legal_block : Behaviour → Machine → Block → Bool
+unfoldable pub is_legal_block : Behaviour → Machine → SerialBlock → Bool
 is_legal_block sys machine (Out t) =
     is_going_on sys machine t && (not (machine.terms t).is_left
     && asks_out sys t (machine.terms t).path (sys.ask t (machine.terms t).path))
@@ -81,11 +81,11 @@ is_legal_block sys machine (Done t ending) =
     && may_end sys t (machine.terms t) ending (sys.ask t (machine.terms t).path)
 
 -- each block is legal in the machine behind those before it
-abbrev pub is_serial_from : Behaviour → Machine → List Block → Bool
+abbrev pub is_serial_from : Behaviour → Machine → List SerialBlock → Bool
 is_serial_from sys machine [] = true
 is_serial_from sys machine (block ∷ rest) =
     is_legal_block sys machine block && is_serial_from sys (run_block sys machine block) rest
 
 -- the one-copy machine is defined on the list of blocks
-abbrev pub is_serial : Behaviour → List Block → Bool
+abbrev pub is_serial : Behaviour → List SerialBlock → Bool
 is_serial sys order = is_serial_from sys (beginning sys) order

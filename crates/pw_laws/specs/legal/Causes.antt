@@ -53,17 +53,17 @@ is_legal_older sys state t own o m =
     (state.units o)
 
 -- the cause holds for the running attempt of a terminal's unit
-abbrev pub holds : Behaviour → State → ℕ → OpenUnit → Cause → Bool
-holds sys state t own (Older o m) = is_legal_older sys state t own o m
-holds sys state t own (Takeover p) =
+abbrev pub cause_holds : Behaviour → State → ℕ → OpenUnit → Cause → Bool
+cause_holds sys state t own (Older o m) = is_legal_older sys state t own o m
+cause_holds sys state t own (Takeover p) =
     some_with (is_takeover_by p) (state.terms t).pending && is_alone (state.modes (sys.pair_of t))
-holds sys state t own (Server k) =
+cause_holds sys state t own (Server k) =
     some_with (is_server_by k) (state.terms t).pending && is_paired (state.modes (sys.pair_of t))
-holds sys state t own Redo = can_step sys state t && asks_redo (next_verb sys state t)
+cause_holds sys state t own Redo = can_step sys state t && asks_redo (next_verb sys state t)
 
 -- an attempt of the open unit runs, and the cause holds for it
 abbrev pub is_caused : Behaviour → State → ℕ → Cause → OpenUnit → Bool
-is_caused sys state t cause unit = is_some unit.running && holds sys state t unit cause
+is_caused sys state t cause unit = is_some unit.running && cause_holds sys state t unit cause
 
 -- RESTART t n cause is legal by its kind
 abbrev pub is_legal_restart : Behaviour → State → ℕ → ℕ → Cause → Bool

@@ -28,12 +28,12 @@ abbrev pub holds_start : Option BackupCopy → ℕ → List PathAnswer → Bool
 holds_start memory n path = some_with (is_start n path) memory
 
 -- what the backup holds has this end path
-abbrev pub is_end : List PathAnswer → BackupCopy → Bool
-is_end path held = some_with (λ own. is_same_path own path) held.end
+abbrev pub is_held_end_path : List PathAnswer → BackupCopy → Bool
+is_held_end_path path held = some_with (λ own. is_same_path own path) held.end
 
 -- the backup holds this end path of the terminal
 abbrev pub holds_end : Option BackupCopy → List PathAnswer → Bool
-holds_end memory path = some_with (is_end path) memory
+holds_end memory path = some_with (is_held_end_path path) memory
 
 -- the awaited unit, if any, has ended
 abbrev pub is_over : (ℕ → LastEnded) → Option Awaited → Bool

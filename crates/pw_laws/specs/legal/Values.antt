@@ -9,7 +9,7 @@ use Rattle.pw_event.specs.declared.event.Cause.TheVariants as cause
 use Rattle.pw_event.specs.declared.script.FailLine.{FailLine}
 use Rattle.pw_event.specs.declared.script.FailLine.TheVariants as line
 use Rattle.pw_onecopy.specs.Path.{PathAnswer, Shown, Entry, Begun, Replied, Failed, Ended, Dropped, RefreshNumber}
-use Rattle.pw_paired.specs.State.{Mode, Alone, Raising, Paired, Down}
+use Rattle.pw_paired.specs.State.{PairMode, Alone, Raising, Paired, Down}
 
 -- there is one, and it passes the test
 abbrev pub some_with : {A : Type 0} → (A → Bool) → Option A → Bool
@@ -29,22 +29,22 @@ is_empty (x ∷ xs) = false
 -- Modes of a pair.
 
 -- the mode is Alone
-abbrev pub is_alone : Mode → Bool
+abbrev pub is_alone : PairMode → Bool
 is_alone Alone = true
 is_alone _ = false
 
 -- the mode is Raising
-abbrev pub is_raising : Mode → Bool
+abbrev pub is_raising : PairMode → Bool
 is_raising Raising = true
 is_raising _ = false
 
 -- the mode is Paired
-abbrev pub is_paired : Mode → Bool
+abbrev pub is_paired : PairMode → Bool
 is_paired Paired = true
 is_paired _ = false
 
 -- the mode is Down
-abbrev pub is_down : Mode → Bool
+abbrev pub is_down : PairMode → Bool
 is_down Down = true
 is_down _ = false
 

@@ -40,6 +40,6 @@ pub record IsHeld (units : ℕ → Option OpenUnit) (lock : Lock) : Type 0 where
   pub runs : unit.running ≡ Some start
 
 -- no lock conflicts with one that was taken after it
-abbrev pub AreApart : List Lock → Type 0
-AreApart [] = Unit {0}
-AreApart (lock ∷ locks) = AllByRecursion (λ held. conflict lock held ≡ false) locks × AreApart locks
+abbrev pub AreCompatibleLocks : List Lock → Type 0
+AreCompatibleLocks [] = Unit {0}
+AreCompatibleLocks (lock ∷ locks) = AllByRecursion (λ held. conflict lock held ≡ false) locks × AreCompatibleLocks locks

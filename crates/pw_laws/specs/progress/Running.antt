@@ -40,7 +40,7 @@ pub record MadeGone (sys : Behaviour) (state : State) (log : List Event) (p : �
   pub breaks : Breaks primary ((after_from sys state before).modes p)
 
 -- unit m of the terminal is open
-pub record IsOpen (state : State) (t m : ℕ) : Type 0 where
+pub record IsUnitOpen (state : State) (t m : ℕ) : Type 0 where
   pub unit : OpenUnit
   pub is_open : state.units t ≡ Some unit
   pub number : unit.number ≡ m

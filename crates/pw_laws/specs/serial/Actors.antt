@@ -7,15 +7,15 @@ use Rattle.pw_paired.specs.State.{State}
 use Rattle.pw_paired.specs.Step.{Legal}
 
 -- a terminal, a process of a class, a pair or a class
-pub data Actor : Type 0 where
-  Terminal : (t : ℕ) → Actor
-  Process : (class process : ℕ) → Actor
-  Pair : (p : ℕ) → Actor
-  Class : (c : ℕ) → Actor
+pub data StepActor : Type 0 where
+  Terminal : (t : ℕ) → StepActor
+  Process : (class process : ℕ) → StepActor
+  Pair : (p : ℕ) → StepActor
+  Class : (c : ℕ) → StepActor
 
 -- Whose step an entry is: FILE and REPLY are steps of a process, TAKE and FAIL SERVER of a class,
 -- RAISE, TAKEOVER, FAIL TCP, CHECK COPY and APPLIED of a pair, and all others of a terminal.
-abbrev pub actor_of : Behaviour → Event → Actor
+abbrev pub actor_of : Behaviour → Event → StepActor
 actor_of sys (Show t phase attempt k) = Terminal t
 actor_of sys (Key t k) = Terminal t
 actor_of sys (CheckStart t) = Terminal t
@@ -38,7 +38,7 @@ actor_of sys (Raise p) = Pair p
 actor_of sys (End t ending) = Terminal t
 
 -- the actor has a step in the state: an entry of it is legal
-pub record ActorSteps (sys : Behaviour) (state : State) (actor : Actor) : Type 0 where
+pub record ActorSteps (sys : Behaviour) (state : State) (actor : StepActor) : Type 0 where
   pub entry : Event
   pub own : actor_of sys entry ≡ actor
   pub legal : Legal sys state entry

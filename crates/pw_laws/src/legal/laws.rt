@@ -3,7 +3,7 @@ ghost use Rattle.pw_event.specs.declared.event.Event.{Event};
 ghost use Rattle.pw_onecopy.specs.IsBehaviour.{IsBehaviour};
 ghost use Rattle.pw_onecopy.specs.OneCopy.{IsSerial, LegalBlock, Machine};
 ghost use Rattle.pw_onecopy.specs.Path.{PathAnswer};
-ghost use Rattle.pw_onecopy.specs.Blocks.{Block};
+ghost use Rattle.pw_onecopy.specs.Blocks.{SerialBlock};
 ghost use Rattle.pw_paired.specs.State.{State};
 ghost use Rattle.pw_paired.specs.Step.{IsRun, Legal, after};
 ghost use Rattle.pw_onecopy.specs.Behaviour.{Behaviour};
@@ -43,8 +43,8 @@ pub fn path_laws()
 /// A block that passes the test is legal in the one-copy machine, and a legal one passes it; the
 /// machine is defined on a list of blocks exactly where each passes.
 pub fn block_laws()
-    ensures blocks { (sys : Behaviour) (machine : Machine) (block : Block)
+    ensures blocks { (sys : Behaviour) (machine : Machine) (block : SerialBlock)
         → (is_legal_block sys machine block ≡ true) ↔ LegalBlock sys machine block }
-    ensures orders { (sys : Behaviour) (order : List Block)
+    ensures orders { (sys : Behaviour) (order : List SerialBlock)
         → (is_serial sys order ≡ true) ↔ IsSerial sys order }
 {}

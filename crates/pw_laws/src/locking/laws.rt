@@ -2,7 +2,7 @@ ghost use Rattle.std.specs.Prelude.{◌≡◌, ◌++◌, ◌∷◌, [], ℕ, Boo
 ghost use Rattle.std.specs.List.{AllByRecursion};
 ghost use Rattle.pw_event.specs.declared.event.Event.{Event};
 ghost use Rattle.pw_files.specs.Records.{IsFile};
-ghost use Rattle.pw_laws.specs.locking.Held.{AreApart, IsHeld, has_key_lock};
+ghost use Rattle.pw_laws.specs.locking.Held.{AreCompatibleLocks, IsHeld, has_key_lock};
 ghost use Rattle.pw_laws.specs.locking.Records.{commits_at};
 ghost use Rattle.pw_locks.specs.Conflicts.{is_same_unit};
 ghost use Rattle.pw_locks.specs.declared.lock.Lock.{Lock};
@@ -35,7 +35,7 @@ pub fn lock_laws()
     ensures held { (sys : Behaviour) → IsBehaviour sys → (log : List Event) → IsRun sys log
         → AllByRecursion (IsHeld (after sys log).units) (after sys log).locks }
     ensures apart { (sys : Behaviour) → IsBehaviour sys → (log : List Event) → IsRun sys log
-        → AreApart (after sys log).locks }
+        → AreCompatibleLocks (after sys log).locks }
 {}
 
 /// To release the locks of a terminal is to release those of its open unit, and of no lock where

@@ -10,7 +10,7 @@ ghost use Rattle.pw_paired.specs.State.{Gone, OpenUnit, Paired, starting};
 ghost use Rattle.pw_paired.specs.Step.{IsRun, after};
 ghost use Rattle.pw_paired.specs.Terminal.{IsLive};
 ghost use Rattle.pw_laws.specs.progress.Failures.{Losses, Suspensions};
-ghost use Rattle.pw_laws.specs.progress.Running.{HasStep, IsOpen, MadeGone, Runs, restarts_in};
+ghost use Rattle.pw_laws.specs.progress.Running.{HasStep, IsUnitOpen, MadeGone, Runs, restarts_in};
 
 /// In a run of a deck each attempt of a unit begins once, whatever fails: no entry BEGIN t n r
 /// stands twice. The recorded restarts of an open unit are its RESTART entries, and never more than
@@ -76,7 +76,7 @@ pub fn older_laws()
     ensures open_before { (sys : Behaviour) → IsBehaviour sys
         → (before between : List Event) (t n r o m : ℕ)
         → IsRun sys (before ++ Begin t n r ∷ (between ++ Restart t n (Older o m) ∷ []))
-        → (after sys before).units t ≡ None → IsOpen (after sys before) o m }
+        → (after sys before).units t ≡ None → IsUnitOpen (after sys before) o m }
 {}
 
 /// What failures leave in a log. In a run a pair is Gone exactly from a FAIL TCP entry on that made

@@ -16,7 +16,7 @@ ghost use Rattle.pw_paired.specs.State.{Gone};
 ghost use Rattle.pw_paired.specs.Step.{IsRun, after, change, is_finished};
 ghost use Rattle.pw_paired.specs.Terminal.{path_of};
 ghost use Rattle.pw_paired.specs.Units.{committed_files};
-ghost use Rattle.pw_laws.specs.serial.Actors.{Actor, ActorSteps};
+ghost use Rattle.pw_laws.specs.serial.Actors.{StepActor, ActorSteps};
 ghost use Rattle.pw_laws.specs.serial.Restarts.{older_restarts_in};
 ghost use Rattle.pw_laws.specs.serial.Guarded.{HasEndedOnce, IsGuarded, NoneCommits, is_fail};
 
@@ -43,7 +43,7 @@ pub fn equal_numbers_equal_images()
 pub fn unfinished_runs_have_a_step()
     ensures { (sys : Behaviour) → IsBehaviour sys → (log : List Event) → IsRun sys log
         → is_finished sys (after sys log) ≡ false
-        → (actor : Actor) × ActorSteps sys (after sys log) actor }
+        → (actor : StepActor) × ActorSteps sys (after sys log) actor }
 {}
 
 /// What failures leave. Where no FAIL TCP entry of a run is of the primary in mode Raising or

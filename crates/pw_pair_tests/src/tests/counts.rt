@@ -13,7 +13,7 @@ use pw_counts::longest::Longest;
 use pw_counts::records::Records;
 use pw_counts::shown::Numbers;
 use pw_event::event::{Cause, Event};
-use pw_listing::numbers::Number;
+use pw_listing::numbers::ListedRefreshNumber;
 use std::alloc::Global;
 use std::process::Abort;
 use std::test::Fail;
@@ -162,7 +162,7 @@ fn expect_room_for_locks(alloc: Global) -> Result<(), Fail> {
 /// The first refresh of the second terminal is a new one.
 fn is_new_number(alloc: Global) -> Result<bool, Fail> {
     let mut numbers = Numbers::new(alloc, 2)?;
-    let number = Number {
+    let number = ListedRefreshNumber {
         phase: 0,
         attempt: 0,
         k: 1,

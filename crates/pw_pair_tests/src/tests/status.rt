@@ -9,9 +9,7 @@ use pw_code::system::{ClassInfo, System, TermInfo};
 use pw_counts::counts::{ClassCounts, FileCounts, TerminalCounts, UnitCounts};
 use pw_event::event::{Cause, Ending};
 use pw_pair::mode::Mode;
-use pw_status::lines::{
-    print_class, print_entries, print_file, print_pair, print_terminal, print_units,
-};
+use pw_status::lines::{print_class, print_entries, print_file, print_pair, print_terminal, print_units};
 use std::alloc::Global;
 use std::process::Abort;
 use std::test::Fail;

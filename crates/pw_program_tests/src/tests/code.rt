@@ -4,15 +4,15 @@ use pw_base::bytes::Bytes;
 use pw_base::list::List;
 use pw_base::memory::Memory;
 use pw_code::code::Code;
-use pw_code::cond::{Comparison, Cond, Operator};
+use pw_code::cond::{Comparison, Cond, ComparisonOperator};
 use pw_code::context::{Context, Frame, Return};
 use pw_code::entry::EntryLine;
 use pw_code::file::FileInfo;
 use pw_code::instr::Instr;
 use pw_code::limits::limit_laws;
 use pw_code::lock::LockRule;
-use pw_code::operand::Operand;
-use pw_code::place::{Kind, Place, Register, Subscript, Table};
+use pw_code::operand::InstructionOperand;
+use pw_code::place::{Kind, StoragePlace, Register, PlaceSubscript, PlaceTable};
 use pw_code::screen::{CELLS, ScreenImage};
 use pw_code::system::{ClassInfo, System, TermInfo};
 use std::alloc::Global;
@@ -131,8 +131,8 @@ fn list_of<T: Drop>(alloc: Global, item: T) -> Result<List<T>, Memory>
 }
 
 /// A place of four digits in a table.
-fn place() -> Place {
-    Place {
+fn place() -> StoragePlace {
+    StoragePlace {
         at: 2,
         size: 4,
         kind: Kind::Number {
@@ -140,8 +140,8 @@ fn place() -> Place {
             places: 0,
             signed: false,
         },
-        table: Some(Table {
-            subscript: Subscript::Register(Register::Termination),
+        table: Some(PlaceTable {
+            subscript: PlaceSubscript::Register(Register::Termination),
             occurs: 1,
             step: 4,
         }),
@@ -151,10 +151,10 @@ fn place() -> Place {
 /// The condition that an item is not less than SPACES.
 fn cond(alloc: Global) -> Result<Cond, Memory> {
     let test = Comparison::Compare {
-        left: Operand::Item(place()),
+        left: InstructionOperand::Item(place()),
         negated: true,
-        operator: Operator::Less,
-        right: Operand::Spaces,
+        operator: ComparisonOperator::Less,
+        right: InstructionOperand::Spaces,
     };
     Ok(Cond {
         any: list_of(alloc, list_of(alloc, test)?)?,
@@ -163,7 +163,7 @@ fn cond(alloc: Global) -> Result<Cond, Memory> {
 
 /// Instructions that move a text, compare it with SPACES and stop.
 fn instrs(alloc: Global) -> Result<List<Instr>, Memory> {
-    let from = Operand::Text(Bytes::from_slice(alloc, b"HELLO")?);
+    let from = InstructionOperand::Text(Bytes::from_slice(alloc, b"HELLO")?);
     let to = list_of(alloc, place())?;
     let mut instrs = list_of(alloc, Instr::Move { from, to })?;
     instrs.push(Instr::JumpUnless(cond(alloc)?, 1))?;
@@ -257,7 +257,7 @@ fn expect_instrs(rt: &impl Abort, instrs: &[Instr]) {
     else {
         panic!(rt; "not the instructions");
     };
-    assert!(rt; matches!(from, Operand::Text(_)));
+    assert!(rt; matches!(from, InstructionOperand::Text(_)));
     assert_eq!(rt; to.as_slice(), [place()].as_slice());
     assert_eq!(rt; *over, 1);
 }

@@ -8,8 +8,8 @@ use pw_base::read_all::MAX_INPUT;
 use pw_code::code::Code;
 use pw_code::instr::Instr;
 use pw_code::links::Links;
-use pw_code::operand::Operand;
-use pw_code::place::{Kind, Place, Register, Subscript, Table};
+use pw_code::operand::InstructionOperand;
+use pw_code::place::{Kind, StoragePlace, Register, PlaceSubscript, PlaceTable};
 use pw_compile::compile::compile;
 use pw_scobol::requester::Requester;
 use std::alloc::Global;
@@ -212,8 +212,8 @@ fn each_form_at_its_place(rt: HostRuntime) -> Result<(), Fail> {
 }
 
 /// The place of N.
-fn signed_number() -> Place {
-    Place {
+fn signed_number() -> StoragePlace {
+    StoragePlace {
         at: 19,
         size: 6,
         kind: Kind::Number {
@@ -226,8 +226,8 @@ fn signed_number() -> Place {
 }
 
 /// The place of T.
-fn group() -> Place {
-    Place {
+fn group() -> StoragePlace {
+    StoragePlace {
         at: 4,
         size: 15,
         kind: Kind::Group,
@@ -236,12 +236,12 @@ fn group() -> Place {
 }
 
 /// The place of I with a subscript.
-fn item(subscript: Subscript) -> Place {
-    Place {
+fn item(subscript: PlaceSubscript) -> StoragePlace {
+    StoragePlace {
         at: 4,
         size: 3,
         kind: Kind::Text,
-        table: Some(Table {
+        table: Some(PlaceTable {
             subscript,
             occurs: 5,
             step: 3,
@@ -250,7 +250,7 @@ fn item(subscript: Subscript) -> Place {
 }
 
 /// The place of the first receiver of the MOVE that a procedure begins with.
-fn first_receiver(alloc: Global, text: &[u8]) -> Result<Option<Place>, Refusal>
+fn first_receiver(alloc: Global, text: &[u8]) -> Result<Option<StoragePlace>, Refusal>
     requires { length text.now ≤ MAX_INPUT }
 {
     let code = compiled(alloc, text, false)?;
@@ -264,7 +264,7 @@ fn first_receiver(alloc: Global, text: &[u8]) -> Result<Option<Place>, Refusal>
 fn expect_receiver(
     rt: &(impl Abort + AllocGlobal),
     text: &[u8],
-    wanted: Place,
+    wanted: StoragePlace,
 ) -> Result<(), Fail> {
     assert!(rt; text.len() <= MAX_INPUT);
     let found = first_receiver(rt.alloc(), text)?;
@@ -274,19 +274,19 @@ fn expect_receiver(
 
 #[test]
 fn receivers_lie_where_their_items_do(rt: HostRuntime) -> Result<(), Fail> {
-    let of_k = Subscript::Item {
+    let of_k = PlaceSubscript::Item {
         at: 25,
         digits: 2,
         places: 0,
     };
-    let counter = Subscript::Register(Register::Restarts);
+    let counter = PlaceSubscript::Register(Register::Restarts);
     expect_receiver(&rt, b"MAIN. MOVE 1 TO N.", signed_number())?;
     expect_receiver(&rt, b"MAIN. MOVE 1 TO T.", group())?;
-    expect_receiver(&rt, b"MAIN. MOVE 1 TO I (5).", item(Subscript::Number(5)))?;
+    expect_receiver(&rt, b"MAIN. MOVE 1 TO I (5).", item(PlaceSubscript::Number(5)))?;
     expect_receiver(
         &rt,
         b"MAIN. MOVE 1 TO I (70000).",
-        item(Subscript::Number(6)),
+        item(PlaceSubscript::Number(6)),
     )?;
     expect_receiver(&rt, b"MAIN. MOVE 1 TO I (K).", item(of_k))?;
     expect_receiver(&rt, b"MAIN. MOVE 1 TO I (RESTART-COUNTER).", item(counter))
@@ -295,19 +295,19 @@ fn receivers_lie_where_their_items_do(rt: HostRuntime) -> Result<(), Fail> {
 /// The kind of operand that is shown. Asserts what its parts are.
 fn operand_kind(rt: &impl Abort, instr: &Instr) -> &'static str {
     match instr {
-        Instr::Display(Operand::Number { spelling, value }) => {
+        Instr::Display(InstructionOperand::Number { spelling, value }) => {
             assert_eq!(rt; spelling.as_slice(), b"-1.50".as_slice());
             assert_eq!(rt; (value.units(), value.places()), (-150, 2));
             "number"
         }
-        Instr::Display(Operand::Text(chars)) => {
+        Instr::Display(InstructionOperand::Text(chars)) => {
             assert_eq!(rt; chars.as_slice(), b"Ab".as_slice());
             "text"
         }
-        Instr::Display(Operand::Spaces) => "spaces",
-        Instr::Display(Operand::Zeros) => "zeros",
-        Instr::Display(Operand::Register(Register::Termination)) => "register",
-        Instr::Display(Operand::Item(place)) => {
+        Instr::Display(InstructionOperand::Spaces) => "spaces",
+        Instr::Display(InstructionOperand::Zeros) => "zeros",
+        Instr::Display(InstructionOperand::Register(Register::Termination)) => "register",
+        Instr::Display(InstructionOperand::Item(place)) => {
             assert_eq!(rt; place.at, 19);
             "item"
         }

@@ -1,11 +1,7 @@
 ghost use Rattle.std.specs.Prelude.{◌≤◌, length};
 
-use crate::tests::names_rows::{
-    DATA, NAMES, ORDERS, REQUESTER, REQUESTER_OPERANDS, SERVER, SERVER_OPERANDS, SUB, TWICE,
-};
-use crate::tests::parts::{
-    file_named, give_names, layout_of, lines_of, listed, procedure_of, program_of,
-};
+use crate::tests::names_rows::{DATA, NAMES, ORDERS, REQUESTER, REQUESTER_OPERANDS, SERVER, SERVER_OPERANDS, SUB, TWICE};
+use crate::tests::parts::{file_named, give_names, layout_of, lines_of, listed, procedure_of, program_of};
 use pw_base::bytes::Bytes;
 use pw_base::fault::Refusal;
 use pw_base::list::List;

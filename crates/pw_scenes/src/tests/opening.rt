@@ -22,14 +22,14 @@ use std::alloc::Global;
 use std::test::Fail;
 
 /// What a world or a run is made of.
-pub struct Opened {
+pub struct OpenedDeck {
     pub system: System,
     pub script: Script,
     pub disc: Faulty<Tmf>,
 }
 
 /// The system and the failure lines of a deck, and a new disc whose calls of these numbers fail.
-pub fn open(alloc: Global, bytes: &[u8], fail_at: &[u64]) -> Result<Opened, Fail>
+pub fn open(alloc: Global, bytes: &[u8], fail_at: &[u64]) -> Result<OpenedDeck, Fail>
     ensures valid { IfOk result (λ it. IsValid it.system) }
     ensures deck { IfOk result (λ it. IsBehaviour (behaviour it.script.lines it.system)) }
     ensures lines { IfOk result (λ it. All (IsLineThere it.system) it.script.lines) }
@@ -43,7 +43,7 @@ pub fn open(alloc: Global, bytes: &[u8], fail_at: &[u64]) -> Result<Opened, Fail
         let_go(system);
         return Err(Fail::new("memory ran out"));
     };
-    Ok(Opened {
+    Ok(OpenedDeck {
         system,
         script,
         disc,

@@ -3,7 +3,7 @@
 ghost use Rattle.std.specs.Prelude.{◌≤◌};
 
 use super::gates::OtherComes;
-use super::opening::{Opened, open};
+use super::opening::{OpenedDeck, open};
 use super::{decks, reports};
 use pw_base::mem_sink::MemSink;
 use pw_monitor::replay::MAX_ENTRIES;
@@ -17,7 +17,7 @@ use std::thread::Threads;
 
 /// What a run leaves.
 #[derive(Drop)]
-struct Left {
+struct RunResult {
     status: u8,
     written: Vec<u8>,
     /// The calls of its disc.
@@ -32,11 +32,11 @@ fn run_deck<G: Gate, R: Threads + Wait + Sync>(
     fail_at: &[u64],
     workers: u8,
     gate: &G,
-) -> Result<Left, Fail>
+) -> Result<RunResult, Fail>
     requires { (1 ≤ workers) × (workers ≤ 16) }
 {
     let mut sink = MemSink::new(alloc, 100_000, 1_000, &[])?;
-    let Opened {
+    let OpenedDeck {
         system,
         script,
         disc,
@@ -55,7 +55,7 @@ fn run_deck<G: Gate, R: Threads + Wait + Sync>(
     let Some(disc) = disc else {
         return Err(Fail::new("memory ran out"));
     };
-    Ok(Left {
+    Ok(RunResult {
         status,
         written: sink.written().to_vec(alloc)?,
         calls: disc.calls,

@@ -3,7 +3,7 @@ use Rattle.std.proofs.Common.{ℕ, Bool, true, false, List, [], length, Some, No
 use Rattle.std.specs.Prelude.{codes}
 use Rattle.pw_words.specs.Words.{Word}
 use Rattle.pw_operands.specs.Resolved.{Each}
-use Rattle.pw_forms.specs.declared.cond.Cond.{Cond}
+use Rattle.pw_forms.specs.declared.cond.ConditionForm.{ConditionForm}
 use Rattle.pw_forms.specs.declared.operand.Operand.{Operand}
 use Rattle.pw_forms.specs.declared.mark.TransactionVerb.{TransactionVerb}
 use Rattle.pw_forms.specs.declared.mark.TransactionVerb.TheVariants as transactions
@@ -11,10 +11,10 @@ use Rattle.pw_forms.specs.declared.mark.TerminalVerb.{TerminalVerb}
 use Rattle.pw_forms.specs.declared.mark.TerminalVerb.TheVariants as terminals
 use Rattle.pw_forms.specs.declared.mark.FileVerb.{FileVerb}
 use Rattle.pw_forms.specs.declared.mark.FileVerb.TheVariants as files
-use Rattle.pw_forms.specs.declared.mark.Verb.{Verb}
-use Rattle.pw_forms.specs.declared.mark.Verb.TheVariants as verb
+use Rattle.pw_forms.specs.declared.mark.StatementVerb.{StatementVerb}
+use Rattle.pw_forms.specs.declared.mark.StatementVerb.TheVariants as verb
 use Rattle.pw_forms.specs.declared.statement.Operation.{Operation}
-use Rattle.pw_forms.specs.declared.statement.Arithmetic.{Arithmetic}
+use Rattle.pw_forms.specs.declared.statement.ArithmeticForm.{ArithmeticForm}
 use Rattle.pw_forms.specs.declared.statement.Statement.TheVariants as statement
 use Rattle.pw_forms.specs.declared.form.Head.{Head}
 use Rattle.pw_forms.specs.declared.form.Head.TheVariants as head
@@ -26,11 +26,11 @@ use Rattle.pw_forms.specs.Conditions.{condition}
 use Rattle.pw_forms.specs.Forms as reads
 use Rattle.pw_forms.specs.FileForms as reads_files
 use Rattle.pw_source.proofs.sides.Holding.{HoldsForm}
-use Rattle.pw_sound.specs.Premises.{IsLiteral, AreLiterals, IsRead}
+use Rattle.pw_sound.specs.Premises.{IsLiteral, AreLiterals, IsReadStatement}
 use Rattle.pw_sound.proofs.numbers.Steps.{Any, Yields, yields-bind, yields-any, yields-pure, yields-fails, yields-if, yields-test, eats-gives, expects-gives, ends-gives, most-gives, some-gives, up-to-gives}
 use Rattle.pw_sound.proofs.numbers.Operands.{operand-gives, name-gives, file-gives, program-gives, key-gives, code-gives, condition-gives}
 
-abbrev pub AreIn : Cond → Type 0
+abbrev pub AreIn : ConditionForm → Type 0
 AreIn cond = Each (Each AreLiterals) cond.any
 
 -- the number literals of a head
@@ -40,7 +40,7 @@ HeadIsRead (head.OnSizeError line a) = IsLiteral a.first × IsLiteral a.second
 
 -- the number literals of a form
 abbrev pub IsOf : Form → Type 0
-IsOf form = HoldsForm IsRead HeadIsRead form
+IsOf form = HoldsForm IsReadStatement HeadIsRead form
 
 module _ (text : List ℕ) where
   abbrev Gives : Reader Form → Type 0
@@ -62,7 +62,7 @@ module _ (text : List ℕ) where
   behind-operand : {k : Operand → Reader Form} → ((x : Operand) → IsLiteral x → Gives (k x)) → Gives (operand >>= k)
   behind-operand {k = k} h = yields-bind text IsLiteral IsOf operand k (operand-gives text) h
 
-  behind-condition : {k : Cond → Reader Form} → ((x : Cond) → AreIn x → Gives (k x)) → Gives (condition >>= k)
+  behind-condition : {k : ConditionForm → Reader Form} → ((x : ConditionForm) → AreIn x → Gives (k x)) → Gives (condition >>= k)
   behind-condition {k = k} h = yields-bind text AreIn IsOf condition k (condition-gives text) h
 
   -- what is read, of which nothing is asked
@@ -110,7 +110,7 @@ module _ (text : List ℕ) where
     whole : (one : Form) → IsOf one → Gives (pure one)
     whole one is = yields-pure text IsOf one is
 
-    by : (opens : Bool) (found : Arithmetic) → IsLiteral found.first → IsLiteral found.second → IsOf (reads.arithmetic_by line opens found)
+    by : (opens : Bool) (found : ArithmeticForm) → IsLiteral found.first → IsLiteral found.second → IsOf (reads.arithmetic_by line opens found)
     by true found one two = (one, two)
     by false found one two = (one, two)
 
@@ -259,7 +259,7 @@ module _ (text : List ℕ) where
 
     -- ---- all forms
 
-    pub form-gives : (v : Verb) → Yields text IsOf (reads.form v line)
+    pub form-gives : (v : StatementVerb) → Yields text IsOf (reads.form v line)
     unfolding reads.form
     form-gives verb.Exit = exit
     form-gives verb.If = if_form

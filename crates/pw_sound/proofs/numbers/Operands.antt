@@ -8,32 +8,32 @@ use Rattle.pw_text.specs.Literals.{unquoted}
 use Rattle.pw_text.specs.declared.token.Token.{Token}
 use Rattle.pw_text.specs.declared.token.TokenKind.{TokenKind}
 use Rattle.pw_text.specs.declared.token.TokenKind.TheVariants as kind
-use Rattle.pw_forms.specs.declared.cond.Comparison.TheVariants as comparisons
-use Rattle.pw_forms.specs.declared.cond.Cond.{Cond}
+use Rattle.pw_forms.specs.declared.cond.ComparisonForm.TheVariants as comparisons
+use Rattle.pw_forms.specs.declared.cond.ConditionForm.{ConditionForm}
 use Rattle.pw_forms.specs.declared.cond.Operator.{Operator}
 use Rattle.pw_forms.specs.declared.cond.Operator.TheVariants as operators
 use Rattle.pw_forms.specs.declared.operand.Operand.{Operand}
 use Rattle.pw_forms.specs.declared.operand.Operand.TheVariants as operands
 use Rattle.pw_forms.specs.declared.operand.Subscript.TheVariants as subscripts
-use Rattle.pw_forms.specs.Words.{is_item_name, is_name, is_receive, is_the_word, is_word, name_in}
+use Rattle.pw_forms.specs.Words.{is_item_name, is_name_token, is_receive, is_the_word, is_word, token_name}
 use Rattle.pw_forms.specs.Readers.{Rest, Reader, ◌>>=◌, pure, token, takes, eats}
 use Rattle.pw_forms.specs.Operands.{operand, operand_by, item, figurative, subscript_by, subscript_behind, code, is_code, value_of, name, file_name, program_by, program_name, key, key_of}
 use Rattle.pw_forms.specs.Conditions.{word_operator, operator_by, operator, compared, comparison, all, condition}
 use Rattle.pw_sound.specs.Premises.{IsLiteral, AreLiterals}
-use Rattle.pw_sound.specs.Tokens.{Says, HasNumber}
+use Rattle.pw_sound.specs.Tokens.{Says, HasSpelledNumber}
 use Rattle.pw_sound.proofs.numbers.Steps.{Any, Good, Yields, found-is, found-if, yields-bind, yields-any, yields-pure, yields-fails, yields-if, token-gives, eats-gives, takes-gives, separated-gives}
 use Rattle.pw_source.proofs.sides.Readers.{as_read}
 
 module _ (text : List ℕ) where
   -- behind a token comes what needs nothing of it
   after-token : {B : Type 0} (Q : B → Type 0) (k : Token → Reader B) → ((x : Token) → Yields text Q (k x)) → Yields text Q (token >>= k)
-  after-token Q k h = yields-bind text (HasNumber text) Q token k (token-gives text) (λ x _. h x)
+  after-token Q k h = yields-bind text (HasSpelledNumber text) Q token k (token-gives text) (λ x _. h x)
 
   -- ---- items
 
   subscript-gives : (found : TokenKind) (value : Token) → Yields text Any (subscript_by found value)
   subscript-gives kind.Number value rest s after good e = found-is text Any (subscripts.Number (spelling rest.text value)) s rest after good tt e
-  subscript-gives _ value rest s after good e = found-if text Any (is_item_name rest.server rest.text value) (subscripts.Item (name_in rest.text value)) s rest after good tt e
+  subscript-gives _ value rest s after good e = found-if text Any (is_item_name rest.server rest.text value) (subscripts.Item (token_name rest.text value)) s rest after good tt e
 
   behind-gives : Yields text Any subscript_behind
   unfolding subscript_behind
@@ -47,7 +47,7 @@ module _ (text : List ℕ) where
   unfolding item
   item-gives first =
       yields-any text IsLiteral subscript_behind _ behind-gives
-      (λ s rest one after good e. found-is text IsLiteral (operands.Item (name_in rest.text first) s) one rest after good tt e)
+      (λ s rest one after good e. found-is text IsLiteral (operands.Item (token_name rest.text first) s) one rest after good tt e)
 
   abbrev beside : Rest → Operand → Operand × Rest
   beside rest found = (found, rest)
@@ -78,21 +78,21 @@ module _ (text : List ℕ) where
 
   pub operand-gives : Yields text IsLiteral operand
   unfolding operand
-  operand-gives = yields-bind text (HasNumber text) IsLiteral token _ (token-gives text) (λ first says. operand-by-gives first.kind first says)
+  operand-gives = yields-bind text (HasSpelledNumber text) IsLiteral token _ (token-gives text) (λ first says. operand-by-gives first.kind first says)
 
   -- ---- names
 
   pub name-gives : Yields text Any name
   unfolding name
-  name-gives = after-token Any _ (λ word rest x after good e. found-if text Any (is_name rest.server rest.text word) (name_in rest.text word) x rest after good tt e)
+  name-gives = after-token Any _ (λ word rest x after good e. found-if text Any (is_name_token rest.server rest.text word) (token_name rest.text word) x rest after good tt e)
 
   pub file-gives : Yields text Any file_name
   unfolding file_name
-  file-gives = after-token Any _ (λ word rest x after good e. found-if text Any (is_word word.kind && not (is_receive rest.text word)) (name_in rest.text word) x rest after good tt e)
+  file-gives = after-token Any _ (λ word rest x after good e. found-if text Any (is_word word.kind && not (is_receive rest.text word)) (token_name rest.text word) x rest after good tt e)
 
   program-by-gives : (found : TokenKind) (first : Token) → Yields text Any (program_by found first)
   program-by-gives kind.Text first rest x after good e = found-is text Any (unquoted false (spelling rest.text first)) x rest after good tt e
-  program-by-gives _ first rest x after good e = found-if text Any (is_word first.kind && not (is_receive rest.text first)) (name_in rest.text first) x rest after good tt e
+  program-by-gives _ first rest x after good e = found-if text Any (is_word first.kind && not (is_receive rest.text first)) (token_name rest.text first) x rest after good tt e
 
   pub program-gives : Yields text Any program_name
   unfolding program_name
@@ -162,8 +162,8 @@ module _ (text : List ℕ) where
   unfolding all
   all-gives = separated-gives text AreLiterals (codes "AND") comparison comparison-gives
 
-  pub condition-gives : Yields text (λ (cond : Cond). Each (Each AreLiterals) cond.any) condition
+  pub condition-gives : Yields text (λ (cond : ConditionForm). Each (Each AreLiterals) cond.any) condition
   unfolding condition
   condition-gives =
-      yields-bind text (Each (Each AreLiterals)) (λ (cond : Cond). Each (Each AreLiterals) cond.any) _ _ (separated-gives text (Each AreLiterals) (codes "OR") all all-gives)
-      (λ any is. yields-pure text (λ (cond : Cond). Each (Each AreLiterals) cond.any) (record { any = any }) is)
+      yields-bind text (Each (Each AreLiterals)) (λ (cond : ConditionForm). Each (Each AreLiterals) cond.any) _ _ (separated-gives text (Each AreLiterals) (codes "OR") all all-gives)
+      (λ any is. yields-pure text (λ (cond : ConditionForm). Each (Each AreLiterals) cond.any) (record { any = any }) is)

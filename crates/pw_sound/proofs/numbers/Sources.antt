@@ -17,13 +17,13 @@ use Rattle.pw_screen.specs.Screens.{screens_of}
 use Rattle.pw_divisions.specs.Divided.{Divided}
 use Rattle.pw_divisions.specs.Divisions.{ends_text, identification, environment_text, environment, section_text, section, no_data, stored_sections, sections, data_sections, data_division, parameters, is_parameter, one_or_more, used_names, using_names, begins_procedure, procedure_heading, front, source, divided, divisions_of}
 use Rattle.pw_divisions.specs.Passes as passes
-use Rattle.pw_divisions.specs.Steps.{Step, and_then, ◌>>=◌, pure, word, period, size_up_to, some_tokens, up_to, between}
+use Rattle.pw_divisions.specs.Steps.{TokenStep, and_then, ◌>>=◌, pure, word, period, size_up_to, some_tokens, up_to, between}
 use Rattle.pw_scobol.specs.Requesters.{requester_of}
 use Rattle.pw_scobol.specs.declared.requester.Requester.{Requester}
 use Rattle.pw_server.specs.Servers.{server_of}
 use Rattle.pw_server.specs.declared.server.Server.{Server}
-use Rattle.pw_sound.specs.Premises.{IsRead}
-use Rattle.pw_sound.specs.Tokens.{HasNumber}
+use Rattle.pw_sound.specs.Premises.{IsReadStatement}
+use Rattle.pw_sound.specs.Tokens.{HasSpelledNumber}
 use Rattle.pw_sound.proofs.Scanned.{tokens-say}
 use Rattle.pw_sound.proofs.numbers.Pieces.{procedure-read}
 
@@ -34,7 +34,7 @@ module _ (P : Token → Type 0) where
   drop-each (suc n) (x ∷ xs) each = drop-each n xs each.1
 
   -- what a step leaves is of what it was given
-  abbrev Keeps : {A : Type 0} → Step A → Type 0
+  abbrev Keeps : {A : Type 0} → TokenStep A → Type 0
   Keeps {A} step = (left : Left) (x : A) (after : Left) → Each P left.tokens → step left ≡ Ok (x, after) → Each P after.tokens
 
   abbrev as_ok : {A : Type 0} → A → Left → Result (A × Left) Left
@@ -47,12 +47,12 @@ module _ (P : Token → Type 0) where
   ok-keeps : {A : Type 0} (x y : A) (left after : Left) → Each P left.tokens → as_ok x left ≡ as_ok y after → Each P after.tokens
   ok-keeps x y left after each e = subst (λ (rest : Left). Each P rest.tokens) (ap left_by e) each
 
-  then-keeps : {A B : Type 0} (o : Result (A × Left) Left) (k : A → Step B) → ((x : A) (rest : Left) → o ≡ Ok (x, rest) → Each P rest.tokens) → ((x : A) → Keeps (k x))
+  then-keeps : {A B : Type 0} (o : Result (A × Left) Left) (k : A → TokenStep B) → ((x : A) (rest : Left) → o ≡ Ok (x, rest) → Each P rest.tokens) → ((x : A) → Keeps (k x))
       → (y : B) (after : Left) → and_then o k ≡ Ok (y, after) → Each P after.tokens
   then-keeps (Ok found) k given h y after e = h found.0 found.1 y after (given found.0 found.1 refl) e
   then-keeps (Err left) k given h y after e = absurd cc
 
-  bind-keeps : {A B : Type 0} (m : Step A) (k : A → Step B) → Keeps m → ((x : A) → Keeps (k x)) → Keeps (m >>= k)
+  bind-keeps : {A B : Type 0} (m : TokenStep A) (k : A → TokenStep B) → Keeps m → ((x : A) → Keeps (k x)) → Keeps (m >>= k)
   bind-keeps m k given h left y after each e = then-keeps (m left) k (λ x rest is. given left x rest each is) h y after e
 
   pure-keeps : {A : Type 0} (x : A) → Keeps (pure x)
@@ -63,7 +63,7 @@ module _ (P : Token → Type 0) where
   if-keeps false x y rest left after each e = absurd cc
 
   -- a step behind the next token, or nothing
-  maybe-keeps : {A : Type 0} (b : Bool) (step : Step A) (none y : A) (left after : Left) → Keeps step → Each P left.tokens → (if b then step (behind 1 left) else as_ok none left) ≡ as_ok y after → Each P after.tokens
+  maybe-keeps : {A : Type 0} (b : Bool) (step : TokenStep A) (none y : A) (left after : Left) → Keeps step → Each P left.tokens → (if b then step (behind 1 left) else as_ok none left) ≡ as_ok y after → Each P after.tokens
   maybe-keeps true step none y left after keeps each e = keeps (behind 1 left) y after (drop-each 1 left.tokens each) e
   maybe-keeps false step none y left after keeps each e = ok-keeps none y left after each e
 
@@ -136,7 +136,7 @@ module _ (P : Token → Type 0) where
   Ends (Ok found) = Each P found.0.procedure
   Ends (Err left) = Unit {0}
 
-  then-ends : {A : Type 0} (o : Result (A × Left) Left) (k : A → Step Divided) → ((x : A) (rest : Left) → o ≡ Ok (x, rest) → Each P rest.tokens) → ((x : A) (rest : Left) → Each P rest.tokens → Ends (k x rest)) → Ends (and_then o k)
+  then-ends : {A : Type 0} (o : Result (A × Left) Left) (k : A → TokenStep Divided) → ((x : A) (rest : Left) → o ≡ Ok (x, rest) → Each P rest.tokens) → ((x : A) (rest : Left) → Each P rest.tokens → Ends (k x rest)) → Ends (and_then o k)
   then-ends (Ok found) k given h = h found.0 found.1 (given found.0 found.1 refl)
   then-ends (Err left) k given h = tt
 
@@ -159,7 +159,7 @@ pass Q (Ok x) k y e h = h x refl e
 pass Q (Err fault) k y e h = absurd cc
 
 abbrev AllRead : Procedure → Type 0
-AllRead procedure = Each (λ (paragraph : Paragraph). Each IsRead paragraph.body) procedure.paragraphs
+AllRead procedure = Each (λ (paragraph : Paragraph). Each IsReadStatement paragraph.body) procedure.paragraphs
 
 -- the number literals of a requester that was read
 pub requester-read : (name : Word) (text : List ℕ) (first_line : ℕ) (one : Requester) → requester_of name text first_line ≡ Ok one → AllRead one.procedure
@@ -170,7 +170,7 @@ requester-read name text first_line one e =
     pass (AllRead one.procedure) (screens_of text parts.screens layout) _ one e3 (λ screens shown e4.
     pass (AllRead one.procedure) (procedure_of false text parts.procedure) _ one e4 (λ procedure is e5.
     let same : procedure ≡ one.procedure = ap (λ o. requester_procedure o procedure) e5 in
-    subst AllRead same (procedure-read false text parts.procedure procedure (procedure-of (HasNumber text) false name text tokens first_line parts (tokens-say text first_line tokens scanned) cut) is))))))
+    subst AllRead same (procedure-read false text parts.procedure procedure (procedure-of (HasSpelledNumber text) false name text tokens first_line parts (tokens-say text first_line tokens scanned) cut) is))))))
   where
     requester_procedure : Result Requester Fault → Procedure → Procedure
     requester_procedure (Ok found) other = found.procedure
@@ -184,7 +184,7 @@ server-read name text first_line one e =
     pass (AllRead one.procedure) (layout_of text parts.stored true) _ one e2 (λ layout laid e3.
     pass (AllRead one.procedure) (procedure_of true text parts.procedure) _ one e3 (λ procedure is e4.
     let same : procedure ≡ one.procedure = ap (λ o. server_procedure o procedure) e4 in
-    subst AllRead same (procedure-read true text parts.procedure procedure (procedure-of (HasNumber text) true name text tokens first_line parts (tokens-say text first_line tokens scanned) cut) is)))))
+    subst AllRead same (procedure-read true text parts.procedure procedure (procedure-of (HasSpelledNumber text) true name text tokens first_line parts (tokens-say text first_line tokens scanned) cut) is)))))
   where
     server_procedure : Result Server Fault → Procedure → Procedure
     server_procedure (Ok found) other = found.procedure

@@ -5,9 +5,9 @@ use Rattle.pw_operands.specs.Resolved.{Each}
 use Rattle.pw_text.specs.declared.token.Token.{Token}
 use Rattle.pw_text.specs.declared.token.TokenKind.{TokenKind}
 use Rattle.pw_words.specs.Words.{Word}
-use Rattle.pw_forms.specs.Readers.{Rest, Reader, and_then, ◌>>=◌, pure, fails, token, takes, left, is_done, expects, eats, ends, some, some_from, up_to, up_to_from, separated, separated_from, behind, past, past_kind, sees, sees_kind}
+use Rattle.pw_forms.specs.Readers.{Rest, Reader, and_then, ◌>>=◌, pure, fails, token, takes, left, is_done, expects, eats, ends, some, some_from, up_to, up_to_from, separated, separated_from, form_rest_behind, past, past_kind, sees, sees_kind}
 use Rattle.pw_forms.specs.Forms as reads
-use Rattle.pw_sound.specs.Tokens.{HasNumber}
+use Rattle.pw_sound.specs.Tokens.{HasSpelledNumber}
 use Rattle.pw_source.proofs.sides.Readers.{as_read, each-more, first_read}
 
 -- nothing is said of a value
@@ -26,7 +26,7 @@ module _ (text : List ℕ) where
   -- what is left is of this text, and its numbers are those that they are written as
   pub record Good (rest : Rest) : Type 0 where
     pub same : rest.text ≡ text
-    pub all : Each (HasNumber text) rest.tokens
+    pub all : Each (HasSpelledNumber text) rest.tokens
 
   -- each value that a reader gives is one of these, and what it leaves is good
   abbrev pub Yields : {A : Type 0} → (A → Type 0) → Reader A → Type 0
@@ -69,36 +69,36 @@ module _ (text : List ℕ) where
 
   -- ---- tokens
 
-  good-behind : (rest : Rest) → Good rest → Good (behind rest)
-  unfolding behind
-  good-behind rest good = record { same = good.same; all = each-drop (HasNumber text) rest.tokens good.all }
+  good-behind : (rest : Rest) → Good rest → Good (form_rest_behind rest)
+  unfolding form_rest_behind
+  good-behind rest good = record { same = good.same; all = each-drop (HasSpelledNumber text) rest.tokens good.all }
 
   good-if : (b : Bool) (one other : Rest) → Good one → Good other → Good (if b then one else other)
   good-if true one other f g = f
   good-if false one other f g = g
 
   token-by : (server : Bool) (own : List ℕ) (tokens : List Token) (x : Token) (after : Rest) → Good (record { server = server; text = own; tokens = tokens })
-      → token (record { server = server; text = own; tokens = tokens }) ≡ Some (x, after) → HasNumber text x × Good after
+      → token (record { server = server; text = own; tokens = tokens }) ≡ Some (x, after) → HasSpelledNumber text x × Good after
   unfolding token
   token-by server own [] x after good e = absurd cc
   token-by server own (next ∷ tokens) x after good e =
       let rest : Rest = record { server = server; text = own; tokens = next ∷ tokens } in
-      found-is (HasNumber text) next x (behind rest) after (good-behind rest good) good.all.0 e
+      found-is (HasSpelledNumber text) next x (form_rest_behind rest) after (good-behind rest good) good.all.0 e
 
-  pub token-gives : Yields (HasNumber text) token
+  pub token-gives : Yields (HasSpelledNumber text) token
   token-gives rest x after good e = token-by rest.server rest.text rest.tokens x after good e
 
   pub eats-gives : (word : Word) → Yields Any (eats word)
   unfolding past
-  eats-gives word rest x after good e = found-is Any (sees word rest) x (past word rest) after (good-if (sees word rest) (behind rest) rest (good-behind rest good) good) tt e
+  eats-gives word rest x after good e = found-is Any (sees word rest) x (past word rest) after (good-if (sees word rest) (form_rest_behind rest) rest (good-behind rest good) good) tt e
 
   pub takes-gives : (found : TokenKind) → Yields Any (takes found)
   unfolding past_kind
-  takes-gives found rest x after good e = found-is Any (sees_kind found rest) x (past_kind found rest) after (good-if (sees_kind found rest) (behind rest) rest (good-behind rest good) good) tt e
+  takes-gives found rest x after good e = found-is Any (sees_kind found rest) x (past_kind found rest) after (good-if (sees_kind found rest) (form_rest_behind rest) rest (good-behind rest good) good) tt e
 
   pub expects-gives : (word : Word) → Yields Any (expects word)
   unfolding expects
-  expects-gives word rest x after good e = found-if Any (sees word rest) tt x (behind rest) after (good-behind rest good) tt e
+  expects-gives word rest x after good e = found-if Any (sees word rest) tt x (form_rest_behind rest) after (good-behind rest good) tt e
 
   pub ends-gives : Yields Any ends
   unfolding ends

@@ -4,9 +4,9 @@ use Rattle.pw_base.specs.declared.fault.Fault.{Fault}
 use Rattle.pw_base.specs.First.{least, unless}
 use Rattle.pw_text.specs.declared.token.Token.{Token}
 use Rattle.pw_text.specs.Cursor.{spelling}
-use Rattle.pw_forms.specs.declared.mark.Mark.{Mark}
-use Rattle.pw_forms.specs.declared.mark.Mark.TheVariants as mark
-use Rattle.pw_forms.specs.declared.mark.Verb.{Verb}
+use Rattle.pw_forms.specs.declared.mark.TokenMark.{TokenMark}
+use Rattle.pw_forms.specs.declared.mark.TokenMark.TheVariants as mark
+use Rattle.pw_forms.specs.declared.mark.StatementVerb.{StatementVerb}
 use Rattle.pw_forms.specs.declared.form.Form.{Form}
 use Rattle.pw_forms.specs.declared.form.Form.TheVariants as forms
 use Rattle.pw_forms.specs.declared.form.Head.{Head}
@@ -20,7 +20,7 @@ use Rattle.pw_forms.specs.Readers.{Rest}
 use Rattle.pw_forms.specs.Forms.{form}
 use Rattle.pw_forms.specs.Pieces.{is_barred, is_period, first_mark, before, cut, form_piece, verb_piece, run_piece, piece_by, placed, placed_all, period_follows, pieces_of}
 use Rattle.pw_forms.specs.Words.{begins_piece, is_word, is_table_word, is_receive, mark_of}
-use Rattle.pw_forms.specs.Tree.{Behind, Levels, Closed, AtElse, AtEndIf, prepend, closed, with_else, opened, behind_period, level_of, levels, tree}
+use Rattle.pw_forms.specs.Tree.{ParagraphsBehind, Levels, Closed, AtElse, AtEndIf, prepend, closed, with_else, opened, behind_period, level_of, levels, tree}
 use Rattle.pw_forms.specs.Faults.{nothing, faults_from}
 use Rattle.pw_forms.specs.Procedures.{procedure_of}
 use Rattle.pw_operands.specs.Resolved.{Each}
@@ -81,7 +81,7 @@ module _ (P : Statement → Type 0) (H : Head → Type 0) where
     abbrev ParagraphsOf : List Paragraph → Type 0
     ParagraphsOf paragraphs = Each (λ paragraph. Each P paragraph.body) paragraphs
 
-    abbrev BehindOf : Behind → Type 0
+    abbrev BehindOf : ParagraphsBehind → Type 0
     BehindOf behind = Each P behind.statements × ParagraphsOf behind.paragraphs
 
     abbrev LevelsOf : Levels → Type 0
@@ -126,14 +126,14 @@ module _ (P : Statement → Type 0) (H : Head → Type 0) where
     -- ---- a procedure that was read of such tokens
 
     module _ (T : Token → Type 0) (server : Bool) (text : List ℕ)
-        (reads : (v : Verb) (line : ℕ) (tokens : List Token) → (server && is_barred v) ≡ false → Each T tokens → (found : Form) (after : Rest)
+        (reads : (v : StatementVerb) (line : ℕ) (tokens : List Token) → (server && is_barred v) ≡ false → Each T tokens → (found : Form) (after : Rest)
         → form v line (record { server = server; text = text; tokens = tokens }) ≡ Some (found, after) → HoldsForm P H found) where
-      verb-piece : (line : ℕ) (v : Verb) (tokens : List Token) → Each T tokens → HoldsPiece P H (verb_piece server text line v tokens)
+      verb-piece : (line : ℕ) (v : StatementVerb) (tokens : List Token) → Each T tokens → HoldsPiece P H (verb_piece server text line v tokens)
       verb-piece line v tokens all =
           piece-if (server && is_barred v) _ _ (λ barred. tt)
           (λ free. form-piece (form v line (record { server = server; text = text; tokens = tokens })) (λ found after e. reads v line tokens free all found after e))
 
-      piece-by : (m : Mark) (followed : Bool) (first : Token) (tokens : List Token) → Each T tokens → HoldsPiece P H (piece_by m server text followed first tokens)
+      piece-by : (m : TokenMark) (followed : Bool) (first : Token) (tokens : List Token) → Each T tokens → HoldsPiece P H (piece_by m server text followed first tokens)
       piece-by (mark.Verb v) followed first tokens all = verb-piece first.line v tokens all
       piece-by mark.Else followed first [] all = tt
       piece-by mark.Else followed first (token ∷ tokens) all = tt

@@ -12,12 +12,12 @@ use Rattle.pw_text.specs.declared.token.Token.{Token}
 use Rattle.pw_text.specs.declared.token.TokenKind.{TokenKind}
 use Rattle.pw_text.specs.declared.token.TokenKind.TheVariants as kind
 use Rattle.pw_operands.specs.Resolved.{Each}
-use Rattle.pw_forms.specs.declared.lists.Code.{Code}
+use Rattle.pw_forms.specs.declared.lists.SendCode.{SendCode}
 use Rattle.pw_forms.specs.declared.operand.Operand.{Operand}
 use Rattle.pw_forms.specs.declared.operand.Operand.TheVariants as operands
 use Rattle.pw_forms.specs.declared.operand.Subscript.{Subscript}
 use Rattle.pw_forms.specs.declared.operand.Subscript.TheVariants as subscripts
-use Rattle.pw_forms.specs.Words.{is_item_name, name_in}
+use Rattle.pw_forms.specs.Words.{is_item_name, token_name}
 use Rattle.pw_words.specs.Words.{Word}
 use Rattle.pw_forms.specs.declared.mark.TransactionVerb.{TransactionVerb}
 use Rattle.pw_forms.specs.declared.mark.TransactionVerb.TheVariants as transactions
@@ -25,10 +25,10 @@ use Rattle.pw_forms.specs.declared.mark.TerminalVerb.{TerminalVerb}
 use Rattle.pw_forms.specs.declared.mark.TerminalVerb.TheVariants as terminals
 use Rattle.pw_forms.specs.declared.mark.FileVerb.{FileVerb}
 use Rattle.pw_forms.specs.declared.mark.FileVerb.TheVariants as files
-use Rattle.pw_forms.specs.declared.mark.Verb.{Verb}
-use Rattle.pw_forms.specs.declared.mark.Verb.TheVariants as verb
+use Rattle.pw_forms.specs.declared.mark.StatementVerb.{StatementVerb}
+use Rattle.pw_forms.specs.declared.mark.StatementVerb.TheVariants as verb
 use Rattle.pw_forms.specs.declared.statement.Operation.{Operation}
-use Rattle.pw_forms.specs.declared.statement.Arithmetic.{Arithmetic}
+use Rattle.pw_forms.specs.declared.statement.ArithmeticForm.{ArithmeticForm}
 use Rattle.pw_forms.specs.declared.statement.Statement.{Statement}
 use Rattle.pw_forms.specs.declared.statement.Statement.TheVariants as statement
 use Rattle.pw_forms.specs.declared.form.Head.TheVariants as head
@@ -169,8 +169,8 @@ abbrev UpperSome : Option Subscript → Type 0
 UpperSome None = Unit {0}
 UpperSome (Some one) = UpperIndex one
 
-item-index : (value : Token) (rest : Rest) (b : Bool) (s : Subscript) (after : Rest) → (if b then as_read (subscripts.Item (name_in rest.text value)) rest else None) ≡ as_read s after → UpperIndex s
-item-index value rest true s after e = found-is UpperIndex (subscripts.Item (name_in rest.text value)) s rest after e (upper-upper (spelling rest.text value))
+item-index : (value : Token) (rest : Rest) (b : Bool) (s : Subscript) (after : Rest) → (if b then as_read (subscripts.Item (token_name rest.text value)) rest else None) ≡ as_read s after → UpperIndex s
+item-index value rest true s after e = found-is UpperIndex (subscripts.Item (token_name rest.text value)) s rest after e (upper-upper (spelling rest.text value))
 item-index value rest false s after e = absurd cc
 
 subscript-gives : (k : TokenKind) (value : Token) → Yields UpperIndex (subscript_by k value)
@@ -194,7 +194,7 @@ item-gives : (first : Token) → Yields HasUpperIndex (item first)
 unfolding item
 item-gives first =
     yields-bind UpperSome HasUpperIndex subscript_behind _ behind-gives
-    (λ s is rest one after e. found-is HasUpperIndex (operands.Item (name_in rest.text first) s) one rest after e (named-upper (name_in rest.text first) s is))
+    (λ s is rest one after e. found-is HasUpperIndex (operands.Item (token_name rest.text first) s) one rest after e (named-upper (token_name rest.text first) s is))
 
 abbrev beside : Rest → Operand → Operand × Rest
 beside rest found = (found, rest)
@@ -232,7 +232,7 @@ using-gives =
     yields-any (Each HasUpperIndex) (eats (codes "USING")) _ (λ found. yields-if (Each HasUpperIndex) found _ _ (some-gives HasUpperIndex operand operand-gives)
     (yields-any (Each HasUpperIndex) ends _ (λ _. yields-pure (Each HasUpperIndex) [] tt)))
 
-abbrev IsFourDigits : Code → Type 0
+abbrev IsFourDigits : SendCode → Type 0
 IsFourDigits code = code.number ≤ 9999
 
 code-gives : Yields (λ n. n ≤ 9999) code
@@ -253,7 +253,7 @@ clause-gives =
 -- ---- forms of both sides
 
 module _ (server : Bool) (line : ℕ) where
-  by : (opens : Bool) (found : Arithmetic) → IsOf server (reads.arithmetic_by line opens found)
+  by : (opens : Bool) (found : ArithmeticForm) → IsOf server (reads.arithmetic_by line opens found)
   by true found = tt
   by false found = (tt, tt)
 
@@ -399,7 +399,7 @@ none-some : (found : Form × Rest) → None ≡ Some found → ⊥
 none-some found e = cc
 
 -- a verb that its side has, in its own text
-pub form-of : (server : Bool) (v : Verb) (line : ℕ) → (server && is_barred v) ≡ false → (rest : Rest) → rest.server ≡ server → (form : Form) (after : Rest)
+pub form-of : (server : Bool) (v : StatementVerb) (line : ℕ) → (server && is_barred v) ≡ false → (rest : Rest) → rest.server ≡ server → (form : Form) (after : Rest)
     → reads.form v line rest ≡ Some (form, after) → IsOf server form
 unfolding reads.form reads_files.file_form
 form-of server verb.Exit line free rest side form after e = exit server line rest form after e

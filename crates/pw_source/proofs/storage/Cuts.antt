@@ -5,11 +5,11 @@ use Rattle.std.proofs.lemmas.List.{length-append, append-nil}
 use Rattle.pw_picture.specs.declared.picture.Picture.{Picture}
 use Rattle.pw_data.specs.declared.entry.Entry.{Entry}
 use Rattle.pw_data.specs.declared.item.Item.{Item}
-use Rattle.pw_data.specs.declared.item.Table.{Table}
+use Rattle.pw_data.specs.declared.item.ItemTable.{ItemTable}
 use Rattle.pw_data.specs.Entries.{has_occurs, picture_at}
 use Rattle.pw_data.specs.Tree.{Forest, Empty, Node}
 use Rattle.pw_data.specs.Laid.{times, size_in, table_of, item_of, items_in, initial}
-use Rattle.pw_data.specs.Store.{Cell, joined, occurrences, cell_by, cells_in, first_of, entry_count}
+use Rattle.pw_data.specs.Store.{Cell, joined, occurrences, cell_by, cells_in, first_occurrence, entry_count}
 use Rattle.pw_data.proofs.Cells.{Good, AllIn, cells_of, length-initial, length-occurrences, length-cells_of, joined-append}
 use Rattle.pw_operands.specs.Resolved.{Each}
 use Rattle.pw_source.proofs.storage.Shaped.{Shaped, ShapedEntry}
@@ -67,7 +67,7 @@ cut-one cells size long (suc d) from (suc count) a n lt c =
 -- ---- the items of trees
 
 -- the occurrences of an item that stand in one repetition of what is around are runs of its cells
-abbrev pub Covers : List Cell → ℕ → ℕ → Table → Item → Type 0
+abbrev pub Covers : List Cell → ℕ → ℕ → ItemTable → Item → Type 0
 Covers cells at k around x =
     (j : ℕ) → 1 ≤ j → j ≤ max x.occurs 1 → (around.occurs ≡ 0) ⊎ (j ≡ k)
     → (o : ℕ) × (x.at + (j - 1) * x.step ≡ at + (k - 1) * around.step + o) × Cut cells o x.size
@@ -81,18 +81,18 @@ each-map-both P Q R [] f one two = tt
 each-map-both P Q R (x ∷ xs) f one two = (f x one.0 two.0, each-map-both P Q R xs f one.1 two.1)
 
 -- in a table each item has its occurrences
-abbrev pub SameTable : Table → Item → Type 0
+abbrev pub SameTable : ItemTable → Item → Type 0
 SameTable around x = (around.occurs ≡ 0) ⊎ (x.occurs ≡ around.occurs)
 
-table-same : (around : Table) (occurs : Option ℕ) (size : ℕ) (x : Item) → (is_some occurs ≡ true → around.occurs ≡ 0) → SameTable (table_of around occurs size) x → SameTable around x
+table-same : (around : ItemTable) (occurs : Option ℕ) (size : ℕ) (x : Item) → (is_some occurs ≡ true → around.occurs ≡ 0) → SameTable (table_of around occurs size) x → SameTable around x
 table-same around None size x alone same = same
 table-same around (Some n) size x alone same = inl (alone refl)
 
 -- from one repetition to all of an entry
-all-cover : (cells : ℕ → List Cell) (at size k : ℕ) (around : Table) (occurs : Option ℕ) (x : Item) → ((j : ℕ) → length (joined (cells j)) ≡ size)
+all-cover : (cells : ℕ → List Cell) (at size k : ℕ) (around : ItemTable) (occurs : Option ℕ) (x : Item) → ((j : ℕ) → length (joined (cells j)) ≡ size)
     → (is_some occurs ≡ true → around.occurs ≡ 0) → 1 ≤ k → k ≤ max around.occurs 1 → SameTable (table_of around occurs size) x
     → ((j : ℕ) → 1 ≤ j → j ≤ max (table_of around occurs size).occurs 1 → Covers (cells j) at j (table_of around occurs size) x)
-    → Covers (occurrences cells (first_of occurs k) (max (unwrap_or occurs 1) 1)) at k around x
+    → Covers (occurrences cells (first_occurrence occurs k) (max (unwrap_or occurs 1) 1)) at k around x
 all-cover cells at size k around None x long alone first last same each j low high here =
     let c = each k first last j low high here in
     (c.0, c.1, cut-behind (cells k) [] c.0 x.size c.2)
@@ -118,12 +118,12 @@ module _ (text : List ℕ) where
   shaped-good inside Empty shape = tt
   shaped-good inside (Node e ms r) shape = (shape.0.good, shaped-good (inside || has_occurs e) ms shape.1, shaped-good inside r shape.2)
 
-  same-table : (inside : Bool) (at : ℕ) (around : Table) (f : Forest) → Shaped text inside f → (inside ≡ false → around.occurs ≡ 0)
+  same-table : (inside : Bool) (at : ℕ) (around : ItemTable) (f : Forest) → Shaped text inside f → (inside ≡ false → around.occurs ≡ 0)
       → Each (SameTable around) (items_in text at around f)
   same-table inside at around Empty shape alone = tt
   same-table inside at around (Node e ms r) shape alone =
       let size : ℕ = e.size + size_in ms in
-      let table : Table = table_of around e.occurs size in
+      let table : ItemTable = table_of around e.occurs size in
       let none_around = inner-alone inside (has_occurs e) around e.occurs size alone (counts text e inside ms shape.0) in
       let has : is_some e.occurs ≡ true → around.occurs ≡ 0 = λ some. alone (shape.0.alone some) in (
         table-same around e.occurs size (item_of text at size table e) has (inr refl),
@@ -138,13 +138,13 @@ module _ (text : List ℕ) where
   no-cell i k chars None none = refl
   no-cell i k chars (Some p) none = ap length (append-nil chars) ∙ none
 
-  own-cover : (i at j : ℕ) (table : Table) (e : Entry) (ms : Forest) → Good text e → AllIn (Good text) ms → 1 ≤ j → j ≤ max table.occurs 1
+  own-cover : (i at j : ℕ) (table : ItemTable) (e : Entry) (ms : Forest) → Good text e → AllIn (Good text) ms → 1 ≤ j → j ≤ max table.occurs 1
       → Covers (cells_of text i e ms j) at j table (item_of text at (e.size + size_in ms) table e)
   own-cover i at j table e ms good all low high m first last here =
       let same : m ≡ j = ⊎_elim (λ none. omega (arith, none, low, high, first, last)) (λ is. is) here in
       (0, ap (λ x. at + (x - 1) * table.step) same ∙ omega arith, cut-all (cells_of text i e ms j) (e.size + size_in ms) (length-cells_of text i j e ms good all))
 
-  inner-cover : (i at j : ℕ) (table : Table) (inside : Bool) (e : Entry) (ms : Forest) → ShapedEntry text inside e ms
+  inner-cover : (i at j : ℕ) (table : ItemTable) (inside : Bool) (e : Entry) (ms : Forest) → ShapedEntry text inside e ms
       → Each (Covers (cells_in text (i + 1) j ms) at j table) (items_in text at table ms)
       → Each (Covers (cells_of text i e ms j) at j table) (items_in text at table ms)
   inner-cover i at j table inside e Empty shape each = tt
@@ -160,12 +160,12 @@ module _ (text : List ℕ) where
       )) each
 
   -- the items are covered by the cells
-  pub covers : (inside : Bool) (i at k : ℕ) (around : Table) (f : Forest) → Shaped text inside f → (inside ≡ false → around.occurs ≡ 0) → 1 ≤ k → k ≤ max around.occurs 1
+  pub covers : (inside : Bool) (i at k : ℕ) (around : ItemTable) (f : Forest) → Shaped text inside f → (inside ≡ false → around.occurs ≡ 0) → 1 ≤ k → k ≤ max around.occurs 1
       → Each (Covers (cells_in text i k f) at k around) (items_in text at around f)
   covers inside i at k around Empty shape alone first last = tt
   covers inside i at k around (Node e ms r) shape alone first last =
       let size : ℕ = e.size + size_in ms in
-      let table : Table = table_of around e.occurs size in
+      let table : ItemTable = table_of around e.occurs size in
       let item : Item = item_of text at size table e in
       let inner : List Item = items_in text at table ms in
       let outer : List Item = items_in text (at + times e * size) around r in
@@ -175,21 +175,21 @@ module _ (text : List ℕ) where
       let none_around = inner-alone inside (has_occurs e) around e.occurs size alone (counts text e inside ms shape.0) in
       let has : is_some e.occurs ≡ true → around.occurs ≡ 0 = λ some. alone (shape.0.alone some) in
       let long : (j : ℕ) → length (joined (cells j)) ≡ size = λ j. length-cells_of text i j e ms shape.0.good good in
-      let behind : (x : Item) → Covers (occurrences cells (first_of e.occurs k) (times e)) at k around x → Covers (occurrences cells (first_of e.occurs k) (times e) ++ second) at k around x =
-      λ x covers m low high here. let d = covers m low high here in (d.0, d.1, cut-behind (occurrences cells (first_of e.occurs k) (times e)) second d.0 x.size d.2) in (
+      let behind : (x : Item) → Covers (occurrences cells (first_occurrence e.occurs k) (times e)) at k around x → Covers (occurrences cells (first_occurrence e.occurs k) (times e) ++ second) at k around x =
+      λ x covers m low high here. let d = covers m low high here in (d.0, d.1, cut-behind (occurrences cells (first_occurrence e.occurs k) (times e)) second d.0 x.size d.2) in (
         behind item (all-cover cells at size k around e.occurs item long has first last (inr refl) (λ j low high. own-cover i at j table e ms shape.0.good good low high)),
-        each-append (Covers (occurrences cells (first_of e.occurs k) (times e) ++ second) at k around) inner outer
+        each-append (Covers (occurrences cells (first_occurrence e.occurs k) (times e) ++ second) at k around) inner outer
             (each-map-both (SameTable table) (λ x. (j : ℕ) → 1 ≤ j → j ≤ max table.occurs 1 → Covers (cells j) at j table x)
-            (Covers (occurrences cells (first_of e.occurs k) (times e) ++ second) at k around) inner
+            (Covers (occurrences cells (first_occurrence e.occurs k) (times e) ++ second) at k around) inner
             (λ x same each. behind x (all-cover cells at size k around e.occurs x long has first last same each))
             (same-table (inside || has_occurs e) at table ms shape.1 none_around)
             (each-number (λ j x. Covers (cells j) at j table x) (λ j. 1 ≤ j) (λ j. j ≤ max table.occurs 1) inner
             (λ j low high. inner-cover i at j table inside e ms shape.0 (covers (inside || has_occurs e) (i + 1) at j table ms shape.1 none_around low high))))
-            (each-map (Covers second (at + times e * size) k around) (Covers (occurrences cells (first_of e.occurs k) (times e) ++ second) at k around) outer
+            (each-map (Covers second (at + times e * size) k around) (Covers (occurrences cells (first_occurrence e.occurs k) (times e) ++ second) at k around) outer
             (λ x covers m low high here. let d = covers m low high here in (
               times e * size + d.0,
               omega (arith, d.1),
-              cut-front (occurrences cells (first_of e.occurs k) (times e)) second d.0 (times e * size) x.size (length-occurrences text i k e ms shape.0.good good) d.2,
+              cut-front (occurrences cells (first_occurrence e.occurs k) (times e)) second d.0 (times e * size) x.size (length-occurrences text i k e ms shape.0.good good) d.2,
             ))
             (covers inside (i + 1 + entry_count ms) (at + times e * size) k around r shape.2 alone first last)),
       )

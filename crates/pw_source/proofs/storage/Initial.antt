@@ -8,8 +8,8 @@ use Rattle.std.proofs.Math.Seq.{take-append_seam}
 use Rattle.std.specs.Option.{ForSome}
 use Rattle.pw_data.specs.declared.item.Item.{Item}
 use Rattle.pw_picture.specs.Grammar.{IsPicture, size_of}
-use Rattle.pw_data.specs.declared.item.Kind.{Kind}
-use Rattle.pw_data.specs.declared.item.Kind.TheVariants as kind
+use Rattle.pw_data.specs.declared.item.ItemKind.{ItemKind}
+use Rattle.pw_data.specs.declared.item.ItemKind.TheVariants as kind
 use Rattle.pw_data.specs.Entries.{picture_of_kind}
 use Rattle.pw_data.specs.Tree.{forest}
 use Rattle.pw_data.specs.Laid.{items_in}
@@ -160,11 +160,11 @@ number-size : (digits : ℕ) (signed : Bool) → 1 ≤ digits → 1 ≤ (if sign
 number-size digits true some = omega arith
 number-size digits false some = some
 
-kind-size : (k : Kind) → IsPicture (picture_of_kind k) → 1 ≤ size_of (picture_of_kind k)
+kind-size : (k : ItemKind) → IsPicture (picture_of_kind k) → 1 ≤ size_of (picture_of_kind k)
 kind-size (kind.Text size) is = is.0
 kind-size (kind.Number digits places signed) is = number-size digits signed is.0
 
-size-by : (o : Option Kind) (size : ℕ) → ForSome o (λ k. IsPicture (picture_of_kind k) × (size_of (picture_of_kind k) ≡ size)) → is_some o ≡ true → 1 ≤ size
+size-by : (o : Option ItemKind) (size : ℕ) → ForSome o (λ k. IsPicture (picture_of_kind k) × (size_of (picture_of_kind k) ≡ size)) → is_some o ≡ true → 1 ≤ size
 size-by None size fits some = absurd cc
 size-by (Some k) size fits some = let fit = fits k refl in omega (arith, kind-size k fit.0, fit.1)
 

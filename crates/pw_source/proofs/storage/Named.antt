@@ -13,12 +13,12 @@ use Rattle.pw_words.specs.Words.{Word, same_word}
 use Rattle.pw_words.specs.Texts.{server_words, requester_words}
 use Rattle.pw_text.specs.declared.token.Token.{Token}
 use Rattle.pw_text.specs.Cursor.{spelling}
-use Rattle.pw_data.specs.declared.reading.Reading.{Reading}
+use Rattle.pw_data.specs.declared.reading.EntryParts.{EntryParts}
 use Rattle.pw_data.specs.declared.entry.Entry.{Entry}
 use Rattle.pw_data.specs.declared.item.Item.{Item}
-use Rattle.pw_data.specs.declared.item.Table.{Table}
+use Rattle.pw_data.specs.declared.item.ItemTable.{ItemTable}
 use Rattle.pw_data.specs.Parts.{Part, left_of, parts_of, is_table_word}
-use Rattle.pw_data.specs.Entries.{only_if, reading_of, line_of, proper_name, has_form, is_bad_picture, has_table_name, is_bad_entry, entry_with, entry_of, part_faults, faults_of_parts, entries_of}
+use Rattle.pw_data.specs.Entries.{data_fault_if, reading_of, line_of, proper_name, has_form, is_bad_picture, has_table_name, is_bad_entry, entry_with, data_entry_of, part_faults, faults_of_parts, data_entries_of}
 use Rattle.pw_data.specs.Tree.{Forest, Empty, Node, forest, tree_faults}
 use Rattle.pw_data.specs.Names.{is_this_name, clashes}
 use Rattle.pw_data.specs.Laid.{times, size_in, table_of, items_in, too_large}
@@ -26,7 +26,7 @@ use Rattle.pw_data.specs.Layouts.{Laid, laid, no_table, entries_in, faults_in, f
 use Rattle.pw_data.proofs.Cells.{AllIn, All-forest}
 use Rattle.pw_data.proofs.Cells as cells
 use Rattle.pw_operands.specs.Resolved.{Each}
-use Rattle.pw_operands.specs.declared.register.Register.TheVariants.{TerminationStatus, RestartCounter, FileStatus}
+use Rattle.pw_operands.specs.declared.register.SpecialRegister.TheVariants.{TerminationStatus, RestartCounter, FileStatus}
 use Rattle.pw_operands.specs.Variables.{register_of}
 use Rattle.pw_source.specs.Sound.{IsLayout}
 use Rattle.pw_data.proofs.StoreLaws.{no_fault-here, Each-append, unless-ok, none-first, fine}
@@ -37,28 +37,28 @@ use Rattle.pw_source.proofs.storage.Places.{each-append}
 abbrev pub PlainEntry : Bool → List ℕ → Entry → Type 0
 PlainEntry server text entry = has_table_name server text entry.name ≡ false
 
-plain-by : (server : Bool) (text : List ℕ) (linked : Bool) (line : ℕ) (reading : Reading) (level : Option ℕ)
+plain-by : (server : Bool) (text : List ℕ) (linked : Bool) (line : ℕ) (reading : EntryParts) (level : Option ℕ)
     → has_table_name server text (option_and_then (proper_name text) reading.name) ≡ false
     → cells.Each (PlainEntry server text) (option_to_list (option_map (entry_with text linked line reading) level))
 plain-by server text linked line reading None plain = tt
 plain-by server text linked line reading (Some level) plain = (plain, tt)
 
-plain-part : (server : Bool) (text : List ℕ) (part : Part) → part_faults server text part ≡ [] → cells.Each (PlainEntry server text) (option_to_list (entry_of server text part))
+plain-part : (server : Bool) (text : List ℕ) (part : Part) → part_faults server text part ≡ [] → cells.Each (PlainEntry server text) (option_to_list (data_entry_of server text part))
 plain-part server text part none =
-    let reading : Reading = reading_of server (left_of text part.tokens) in
+    let reading : EntryParts = reading_of server (left_of text part.tokens) in
     let line : ℕ = line_of part.tokens in
-    let pictures : List Fault = only_if (list_any (is_bad_picture text) part.tokens) line BadPicture in
-    let wrong : Bool = not (has_form reading) || is_bad_entry text (entry_of server text part) in
-    let names : List Fault = only_if (has_table_name server text (option_and_then (proper_name text) reading.name)) line NameTwice in
-    let others = (append-none pictures (only_if wrong line BadDataEntry ++ names) none).1 in
-    let plain = no_fault-here (has_table_name server text (option_and_then (proper_name text) reading.name)) line NameTwice (append-none (only_if wrong line BadDataEntry) names others).1 in
+    let pictures : List Fault = data_fault_if (list_any (is_bad_picture text) part.tokens) line BadPicture in
+    let wrong : Bool = not (has_form reading) || is_bad_entry text (data_entry_of server text part) in
+    let names : List Fault = data_fault_if (has_table_name server text (option_and_then (proper_name text) reading.name)) line NameTwice in
+    let others = (append-none pictures (data_fault_if wrong line BadDataEntry ++ names) none).1 in
+    let plain = no_fault-here (has_table_name server text (option_and_then (proper_name text) reading.name)) line NameTwice (append-none (data_fault_if wrong line BadDataEntry) names others).1 in
     plain-by server text part.linked line reading reading.level plain
 
-plain-parts : (server : Bool) (text : List ℕ) (parts : List Part) → faults_of_parts server text parts ≡ [] → cells.Each (PlainEntry server text) (entries_of server text parts)
+plain-parts : (server : Bool) (text : List ℕ) (parts : List Part) → faults_of_parts server text parts ≡ [] → cells.Each (PlainEntry server text) (data_entries_of server text parts)
 plain-parts server text [] none = tt
 plain-parts server text (part ∷ parts) none =
     let both = append-none (part_faults server text part) (faults_of_parts server text parts) none in
-    Each-append (PlainEntry server text) (option_to_list (entry_of server text part)) (entries_of server text parts) (plain-part server text part both.0) (plain-parts server text parts both.1)
+    Each-append (PlainEntry server text) (option_to_list (data_entry_of server text part)) (data_entries_of server text parts) (plain-part server text part both.0) (plain-parts server text parts both.1)
 
 plain-entries : (text : List ℕ) (tokens : List Token) (server : Bool) (layout : Laid) → layout_of text tokens server ≡ Ok layout
     → cells.Each (PlainEntry server text) (entries_in text tokens server)
@@ -79,7 +79,7 @@ plain-name : (server : Bool) (text : List ℕ) (o : Option Token) → has_table_
 plain-name server text None plain = tt
 plain-name server text (Some token) plain = plain
 
-plain-items : (server : Bool) (text : List ℕ) (at : ℕ) (around : Table) (f : Forest) → AllIn (PlainEntry server text) f
+plain-items : (server : Bool) (text : List ℕ) (at : ℕ) (around : ItemTable) (f : Forest) → AllIn (PlainEntry server text) f
     → Each (λ x. PlainName server x.name) (items_in text at around f)
 plain-items server text at around Empty all = tt
 plain-items server text at around (Node e ms r) all =

@@ -6,7 +6,7 @@ use Rattle.std.proofs.lemmas.Bool.{cases_lt}
 use Rattle.pw_text.specs.declared.token.Token.{Token}
 use Rattle.pw_data.specs.declared.entry.Entry.{Entry}
 use Rattle.pw_data.specs.declared.item.Item.{Item}
-use Rattle.pw_data.specs.declared.item.Table.{Table}
+use Rattle.pw_data.specs.declared.item.ItemTable.{ItemTable}
 use Rattle.pw_data.specs.Entries.{kind_at, has_occurs, count_at}
 use Rattle.pw_data.specs.Tree.{Forest, Empty, Node}
 use Rattle.pw_data.specs.Laid.{times, size_in, table_of, item_of, items_in}
@@ -21,14 +21,14 @@ pub record Starts (p : ℕ) (x : Item) : Type 0 where
   pub begins : p ≡ x.at + m * x.step
 
 -- the place is in what lies so far from a place on, in one of the repetitions of a table
-pub record InSpan (p at size : ℕ) (around : Table) : Type 0 where
+pub record InSpan (p at size : ℕ) (around : ItemTable) : Type 0 where
   pub m : ℕ
   pub last : m + 1 ≤ max around.occurs 1
   pub from : at + m * around.step ≤ p
   pub below : p < at + m * around.step + size
 
 -- what is repeated fits into a repetition
-abbrev pub FitsTable : Table → ℕ → Type 0
+abbrev pub FitsTable : ItemTable → ℕ → Type 0
 FitsTable around size = (around.occurs ≡ 0) ⊎ (size ≤ around.step)
 
 -- an elementary item has a character at least
@@ -42,11 +42,11 @@ times-more m n size le = omega (arith, mul-le (m + 1) size n size le (omega arit
 
 -- ---- spans
 
-in-larger : (p at a b : ℕ) (around : Table) → a ≤ b → InSpan p at a around → InSpan p at b around
+in-larger : (p at a b : ℕ) (around : ItemTable) → a ≤ b → InSpan p at a around → InSpan p at b around
 in-larger p at a b around le s = record { m = s.m; last = s.last; from = s.from; below = omega (arith, s.below, le) }
 
 -- one repetition is apart from the next
-span-apart : (p at a b : ℕ) (around : Table) → FitsTable around (a + b) → InSpan p at a around → InSpan p (at + a) b around → ⊥
+span-apart : (p at a b : ℕ) (around : ItemTable) → FitsTable around (a + b) → InSpan p at a around → InSpan p (at + a) b around → ⊥
 span-apart p at a b around fits s t =
     ⊎_elim (λ none. same (omega (arith, none, s.last, t.last))) (λ fit. by fit) fits
   where
@@ -65,7 +65,7 @@ span-apart p at a b around fits s t =
 
 -- ---- where the items of trees begin
 
-table-span : (at : ℕ) (around : Table) (occurs : Option ℕ) (size p inner : ℕ) → (is_some occurs ≡ true → around.occurs ≡ 0) → inner ≤ size
+table-span : (at : ℕ) (around : ItemTable) (occurs : Option ℕ) (size p inner : ℕ) → (is_some occurs ≡ true → around.occurs ≡ 0) → inner ≤ size
     → InSpan p at inner (table_of around occurs size) → InSpan p at (max (unwrap_or occurs 1) 1 * size) around
 table-span at around None size p inner alone le s = record { m = s.m; last = s.last; from = s.from; below = omega (arith, s.below, le) }
 table-span at around (Some n) size p inner alone le s = record {
@@ -100,7 +100,7 @@ each-all P (x ∷ xs) f = (f x, each-all P xs f)
 -- ---- the items of trees
 
 -- the table of what stands in an entry: none where nothing around has OCCURS
-pub inner-alone : (inside has : Bool) (around : Table) (occurs : Option ℕ) (size : ℕ) → (inside ≡ false → around.occurs ≡ 0) → (is_some occurs ≡ true → has ≡ true)
+pub inner-alone : (inside has : Bool) (around : ItemTable) (occurs : Option ℕ) (size : ℕ) → (inside ≡ false → around.occurs ≡ 0) → (is_some occurs ≡ true → has ≡ true)
     → (inside || has) ≡ false → (table_of around occurs size).occurs ≡ 0
 inner-alone true has around occurs size alone count e = absurd cc
 inner-alone false has around None size alone count e = alone refl
@@ -108,7 +108,7 @@ inner-alone false true around (Some n) size alone count e = absurd cc
 inner-alone false false around (Some n) size alone count e = absurd (cc (count refl))
 
 -- where an elementary item that begins somewhere begins
-abbrev pub BeginsIn : ℕ → ℕ → Table → Item → Type 0
+abbrev pub BeginsIn : ℕ → ℕ → ItemTable → Item → Type 0
 BeginsIn at size around x = (p : ℕ) → Starts p x → InSpan p at size around
 
 module _ (text : List ℕ) where
@@ -119,7 +119,7 @@ module _ (text : List ℕ) where
       by None is = absurd cc
       by (Some token) is = refl
 
-  own-span : (at : ℕ) (around : Table) (e : Entry) (ms : Forest) (inside : Bool) → ShapedEntry text inside e ms → (inside ≡ false → around.occurs ≡ 0)
+  own-span : (at : ℕ) (around : ItemTable) (e : Entry) (ms : Forest) (inside : Bool) → ShapedEntry text inside e ms → (inside ≡ false → around.occurs ≡ 0)
       → HasSize (item_of text at (e.size + size_in ms) (table_of around e.occurs (e.size + size_in ms)) e)
       → BeginsIn at (times e * (e.size + size_in ms)) around (item_of text at (e.size + size_in ms) (table_of around e.occurs (e.size + size_in ms)) e)
   own-span at around e ms inside shape alone sized p s =
@@ -127,12 +127,12 @@ module _ (text : List ℕ) where
       table-span at around e.occurs (e.size + size_in ms) p 1 (λ has. alone (shape.alone has)) some
       (record { m = s.m; last = s.last; from = omega (arith, s.begins); below = omega (arith, s.begins) })
 
-  pub begin-in : (inside : Bool) (at : ℕ) (around : Table) (f : Forest) → Shaped text inside f → (inside ≡ false → around.occurs ≡ 0)
+  pub begin-in : (inside : Bool) (at : ℕ) (around : ItemTable) (f : Forest) → Shaped text inside f → (inside ≡ false → around.occurs ≡ 0)
       → Each HasSize (items_in text at around f) → Each (BeginsIn at (size_in f) around) (items_in text at around f)
   begin-in inside at around Empty shape alone sized = tt
   begin-in inside at around (Node e ms r) shape alone sized =
       let size : ℕ = e.size + size_in ms in
-      let table : Table = table_of around e.occurs size in
+      let table : ItemTable = table_of around e.occurs size in
       let inner : List Item = items_in text at table ms in
       let outer : List Item = items_in text (at + times e * size) around r in
       let members = begin-in (inside || has_occurs e) at table ms shape.1 (inner-alone inside (has_occurs e) around e.occurs size alone (counts e inside ms shape.0)) (each-left HasSize inner outer sized.1) in
@@ -169,19 +169,19 @@ apart-append A B (x ∷ xs) ys never front back one two = (
 abbrev pub HasStep : Item → Type 0
 HasStep x = is_some x.kind ≡ true → (x.occurs ≡ 0) ⊎ (1 ≤ x.step)
 
-inner-fits : (around : Table) (occurs : Option ℕ) (size inner rest : ℕ) → inner ≤ size → FitsTable around (max (unwrap_or occurs 1) 1 * size + rest)
+inner-fits : (around : ItemTable) (occurs : Option ℕ) (size inner rest : ℕ) → inner ≤ size → FitsTable around (max (unwrap_or occurs 1) 1 * size + rest)
     → FitsTable (table_of around occurs size) inner
 inner-fits around None size inner rest le fits = ⊎_elim (λ none. inl none) (λ fit. inr (omega (arith, fit, le))) fits
 inner-fits around (Some n) size inner rest le fits = inr le
 
-own-step : (around : Table) (occurs : Option ℕ) (size rest : ℕ) → 1 ≤ size → FitsTable around (max (unwrap_or occurs 1) 1 * size + rest)
+own-step : (around : ItemTable) (occurs : Option ℕ) (size rest : ℕ) → 1 ≤ size → FitsTable around (max (unwrap_or occurs 1) 1 * size + rest)
     → ((table_of around occurs size).occurs ≡ 0) ⊎ (1 ≤ (table_of around occurs size).step)
 own-step around None size rest some fits = ⊎_elim (λ none. inl none) (λ fit. inr (omega (arith, fit, some))) fits
 own-step around (Some n) size rest some fits = inr some
 
 module _ (text : List ℕ) where
   -- a group is not elementary, and what is no group has no items in it
-  own-apart : (x : Item) (inside : Bool) (e : Entry) (at : ℕ) (table : Table) (ms : Forest) → ShapedEntry text inside e ms → x.kind ≡ kind_at text e
+  own-apart : (x : Item) (inside : Bool) (e : Entry) (at : ℕ) (table : ItemTable) (ms : Forest) → ShapedEntry text inside e ms → x.kind ≡ kind_at text e
       → Each (ApartFrom x) (items_in text at table ms)
   own-apart x inside e at table Empty shape kind = tt
   own-apart x inside e at table (Node a b c) shape kind =
@@ -191,12 +191,12 @@ module _ (text : List ℕ) where
       never : true ≡ false → ⊥
       never h = cc
 
-  pub all-apart : (inside : Bool) (at : ℕ) (around : Table) (f : Forest) → Shaped text inside f → (inside ≡ false → around.occurs ≡ 0) → FitsTable around (size_in f)
+  pub all-apart : (inside : Bool) (at : ℕ) (around : ItemTable) (f : Forest) → Shaped text inside f → (inside ≡ false → around.occurs ≡ 0) → FitsTable around (size_in f)
       → Each HasSize (items_in text at around f) → AllApart (items_in text at around f)
   all-apart inside at around Empty shape alone fits sized = tt
   all-apart inside at around (Node e ms r) shape alone fits sized =
       let size : ℕ = e.size + size_in ms in
-      let table : Table = table_of around e.occurs size in
+      let table : ItemTable = table_of around e.occurs size in
       let item : Item = item_of text at size table e in
       let inner : List Item = items_in text at table ms in
       let outer : List Item = items_in text (at + times e * size) around r in
@@ -213,12 +213,12 @@ module _ (text : List ℕ) where
       (own, in_members) in_behind
       (own-apart item inside e at table ms shape.0 refl, members) behind
 
-  pub all-step : (inside : Bool) (at : ℕ) (around : Table) (f : Forest) → FitsTable around (size_in f)
+  pub all-step : (inside : Bool) (at : ℕ) (around : ItemTable) (f : Forest) → FitsTable around (size_in f)
       → Each HasSize (items_in text at around f) → Each HasStep (items_in text at around f)
   all-step inside at around Empty fits sized = tt
   all-step inside at around (Node e ms r) fits sized =
       let size : ℕ = e.size + size_in ms in
-      let table : Table = table_of around e.occurs size in
+      let table : ItemTable = table_of around e.occurs size in
       let inner : List Item = items_in text at table ms in
       let outer : List Item = items_in text (at + times e * size) around r in (
         λ elementary. own-step around e.occurs size (size_in r) (sized.0 elementary) fits,

@@ -6,15 +6,15 @@ use Rattle.pw_code.specs.declared.verb.Answer.{Answer}
 use Rattle.pw_source.specs.Program.{Program}
 use Rattle.pw_source.specs.Setting.{Setting}
 use Rattle.pw_source.specs.Store.{Store, Spot, put_at}
-use Rattle.pw_source.specs.State.{State, Out, Goes, Leaves, Asks}
+use Rattle.pw_source.specs.State.{ProgramState, Out, Goes, Leaves, Asks}
 use Rattle.pw_source.specs.Performs.{caller_state, comes_back}
 use Rattle.pw_source.specs.Sends.{stop}
-use Rattle.pw_source.specs.Runs.{ended}
+use Rattle.pw_source.specs.Runs.{program_ended}
 use Rattle.pw_source.proofs.trees.Trees.{Tree, Here, Left, Stuck, Waits, Files, at, play, on_files, play_alone, Rules, inside_after, count_after, EndsIn, IsAt, Obeys, Found}
 use Rattle.pw_source.proofs.trees.Found.{lowered, FailsIn-stays}
 
 -- what follows where a program has ended or was left
-abbrev pub finished : (State → Out) → Out → Out
+abbrev pub finished : (ProgramState → Out) → Out → Out
 finished next (Goes s) = next s
 finished next (Leaves s) = next s
 finished next (Asks v s) = Asks v s
@@ -25,19 +25,19 @@ comes_back-finished callee places store (Goes s) = refl
 comes_back-finished callee places store (Leaves s) = refl
 comes_back-finished callee places store (Asks v s) = refl
 
-pub ended-finished : (setting : Setting) (o : Out) → ended setting o ≡ finished (stop setting) o
+pub ended-finished : (setting : Setting) (o : Out) → program_ended setting o ≡ finished (stop setting) o
 ended-finished setting (Goes s) = refl
 ended-finished setting (Leaves s) = refl
 ended-finished setting (Asks v s) = refl
 
 -- by itself, a verb that is no operation on files ends the run
-finished-files : (r : Rules) (v : Verb) (s : State) (k then_k : Answer → Files → Out) (next : State → Out)
+finished-files : (r : Rules) (v : Verb) (s : ProgramState) (k then_k : Answer → Files → Out) (next : ProgramState → Out)
     → ((a : Answer) (files : Files) → finished next (k a files) ≡ then_k a files)
     → (files : Files) → finished next (on_files r.deck v s k files) ≡ on_files r.deck v s then_k files
 finished-files r (verb.File call) s k then_k next same files = same _ _
 finished-files r _ s k then_k next same files = refl
 
-finished-waited : (r : Rules) (v : Verb) (s : State) (k then_k : Answer → Tree) (next : State → Out)
+finished-waited : (r : Rules) (v : Verb) (s : ProgramState) (k then_k : Answer → Tree) (next : ProgramState → Out)
     → ((a : Answer) (answers : List Answer) (files : Files) → length answers ≤ r.most → finished next (play (k a) answers files) ≡ play (then_k a) answers files)
     → (answers : List Answer) (files : Files) → length answers ≤ r.most
     → finished next (play (Waits v s k) answers files) ≡ play (Waits v s then_k) answers files
@@ -53,8 +53,8 @@ abbrev pub closed : Rules → Rules
 closed r = fitting r (λ store. ⊥) (λ spot chars store no. no)
 
 module _ (r : Rules) (Fits : Store → Type 0) (kept : (spot : Spot) (chars : List ℕ) (store : Store) → Fits store → Fits (put_at spot chars store))
-    (next own : State → Out)
-    (h : (s : State) → r.Fits s.store
+    (next own : ProgramState → Out)
+    (h : (s : ProgramState) → r.Fits s.store
     → Found (fitting r Fits kept) s.count s.in_unit (λ answers files. next (at answers files s)) (λ files. own (at [] files s))) where
   record Finish (count : ℕ) (inside : Bool) (t : Tree) : Type 0 where
     pub tree : Tree
@@ -64,7 +64,7 @@ module _ (r : Rules) (Fits : Store → Type 0) (kept : (spot : Spot) (chars : Li
     pub serves : r.Alone → (files : Files) → finished own (play_alone r.deck t files) ≡ play_alone r.deck tree files
     pub stays : (v : Verb) → EndsIn v t → EndsIn v tree
 
-  at-end : (count : ℕ) (inside : Bool) (s : State) → IsAt r count inside s
+  at-end : (count : ℕ) (inside : Bool) (s : ProgramState) → IsAt r count inside s
       → (f : Found (fitting r Fits kept) s.count s.in_unit (λ answers files. next (at answers files s)) (λ files. own (at [] files s)))
       → Obeys (fitting r Fits kept) count inside f.tree
   at-end count inside s ok f =

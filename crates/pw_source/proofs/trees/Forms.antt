@@ -6,9 +6,9 @@ use Rattle.pw_number.specs.declared.size_error.SizeError.{SizeError}
 use Rattle.pw_picture.specs.declared.picture.Picture.{Picture}
 use Rattle.pw_picture.specs.Stored.{is_kept, moved}
 use Rattle.pw_forms.specs.declared.operand.Operand.{Operand}
-use Rattle.pw_forms.specs.declared.cond.Cond.{Cond}
-use Rattle.pw_forms.specs.declared.lists.Code.{Code}
-use Rattle.pw_forms.specs.declared.statement.Arithmetic as arithmetic
+use Rattle.pw_forms.specs.declared.cond.ConditionForm.{ConditionForm}
+use Rattle.pw_forms.specs.declared.lists.SendCode.{SendCode}
+use Rattle.pw_forms.specs.declared.statement.ArithmeticForm as arithmetic
 use Rattle.pw_code.specs.declared.file.FileCall.{FileCall}
 use Rattle.pw_code.specs.declared.field.ScreenTable.{ScreenTable}
 use Rattle.pw_code.specs.declared.verb.Verb.TheVariants as verb
@@ -20,15 +20,15 @@ use Rattle.pw_terminal.specs.Shown.{with_screen}
 use Rattle.pw_source.specs.Program.{Program, screen_named, screen_number, class_number}
 use Rattle.pw_source.specs.Setting.{Setting}
 use Rattle.pw_source.specs.Store.{Store, Spot, put_at}
-use Rattle.pw_source.specs.State.{State, Out, Goes, most_counted}
+use Rattle.pw_source.specs.State.{ProgramState, Out, Goes, most_counted}
 use Rattle.pw_source.specs.Values.{Text', number_of, whole_part}
-use Rattle.pw_source.specs.Operands.{Taken, spot_in, value_in, chars_in}
+use Rattle.pw_source.specs.Operands.{ResolvedOperand, spot_in, value_in, chars_in}
 use Rattle.pw_source.specs.Moves.{moves, moved_chars, move_text}
-use Rattle.pw_source.specs.Arithmetic.{arithmetic_on, or_else, stored_in, stored_by, operated, places_of, receiver_of}
+use Rattle.pw_source.specs.Arithmetic.{arithmetic_on, or_else, stored_in, stored_by, operated, receiver_decimals, receiver_of}
 use Rattle.pw_source.specs.Conditions.{holds}
 use Rattle.pw_source.specs.Performs.{perform_times, perform_until, perform_one_of, perform_chosen, at_position}
 use Rattle.pw_source.specs.Screens.{shows, display_table, display_by, display, screen_in, accept_by, accept}
-use Rattle.pw_source.specs.Sends.{yielded, found_by, replied, yields_of, send, begun, begin, outside, end, abort, restart, stop}
+use Rattle.pw_source.specs.Sends.{yielded, found_by, after_send_answer, yields_of, send, after_begin_answer, begin, outside, end, abort, restart, stop}
 use Rattle.pw_source.specs.Files.{moved_into, file_answered, operation_asked, operates, receive, reply}
 use Rattle.pw_source.specs.Statements.{move_all, branch}
 use Rattle.pw_source.proofs.trees.Trees.{Tree, Waits, Files, at, play, Rules, inside_after, Found, Behaves}
@@ -38,54 +38,54 @@ use Rattle.pw_source.proofs.trees.Loops.{turns-behave, until-behaves}
 use Rattle.pw_source.proofs.trees.Entries.{found-awaited}
 
 -- what a store keeps over moves
-pub Fits-moves : (r : Rules) (source : Taken) (targets : List Spot) (store : Store) → r.Fits store → r.Fits (moves source targets store)
+pub Fits-moves : (r : Rules) (source : ResolvedOperand) (targets : List Spot) (store : Store) → r.Fits store → r.Fits (moves source targets store)
 Fits-moves r source [] store ok = ok
 Fits-moves r source (target ∷ targets) store ok = Fits-moves r source targets _ (r.kept target (moved_chars target.picture target.size (value_in source store)) store ok)
 
 -- ---- arithmetic
 
-module _ (r : Rules) (on_error on_error' else' else'' : State → Out) (e : Behaves r on_error on_error') (l : Behaves r else' else'') where
-  kept-by : (b : Bool) (spot : Spot) (chars : List ℕ) (s : State) → r.Fits s.store
+module _ (r : Rules) (on_error on_error' else' else'' : ProgramState → Out) (e : Behaves r on_error on_error') (l : Behaves r else' else'') where
+  kept-by : (b : Bool) (spot : Spot) (chars : List ℕ) (s : ProgramState) → r.Fits s.store
       → Found r s.count s.in_unit
       (λ answers files. or_else (if b then Some (record (at answers files s) { store = put_at spot chars s.store }) else None) (at answers files s) on_error else')
       (λ files. or_else (if b then Some (record (at [] files s) { store = put_at spot chars s.store }) else None) (at [] files s) on_error' else'')
   kept-by true spot chars s ok = l (record s { store = put_at spot chars s.store }) (r.kept spot chars s.store ok)
   kept-by false spot chars s ok = e s ok
 
-  stored-by : (p : Option Picture) (spot : Spot) (n : Number) (s : State) → r.Fits s.store
+  stored-by : (p : Option Picture) (spot : Spot) (n : Number) (s : ProgramState) → r.Fits s.store
       → Found r s.count s.in_unit
       (λ answers files. or_else (stored_by p spot n (at answers files s)) (at answers files s) on_error else')
       (λ files. or_else (stored_by p spot n (at [] files s)) (at [] files s) on_error' else'')
   stored-by None spot n s ok = e s ok
   stored-by (Some p) spot n s ok = kept-by (is_kept p n) spot (moved p n) s ok
 
-  stored-in : (result : Result Number SizeError) (spot : Spot) (s : State) → r.Fits s.store
+  stored-in : (result : Result Number SizeError) (spot : Spot) (s : ProgramState) → r.Fits s.store
       → Found r s.count s.in_unit
       (λ answers files. or_else (stored_in spot result (at answers files s)) (at answers files s) on_error else')
       (λ files. or_else (stored_in spot result (at [] files s)) (at [] files s) on_error' else'')
   stored-in (Ok n) spot s ok = stored-by spot.picture spot n s ok
   stored-in (Err error) spot s ok = e s ok
 
-  pub arithmetic-behaves : (program : Program) (a : arithmetic.Arithmetic)
+  pub arithmetic-behaves : (program : Program) (a : arithmetic.ArithmeticForm)
       → Behaves r (arithmetic_on program a on_error else') (arithmetic_on program a on_error' else'')
   arithmetic-behaves program a s ok =
       found-operand r s.count s.in_unit program s a.first _ _ (λ first e1.
       found-operand r s.count s.in_unit program s a.second _ _ (λ second e2.
       found-operand r s.count s.in_unit program s (receiver_of a) _ _ (λ receiver e3.
       stored-in
-      (operated a.operation (places_of (spot_in receiver).picture) (number_of (value_in first s.store)) (number_of (value_in second s.store)))
+      (operated a.operation (receiver_decimals (spot_in receiver).picture) (number_of (value_in first s.store)) (number_of (value_in second s.store)))
       (spot_in receiver) s ok)))
 
 -- ---- branches
 
-branch-found : (r : Rules) (first first' second second' : State → Out) → Behaves r first first' → Behaves r second second'
-    → (o : Option Bool) (s : State) → r.Fits s.store
+branch-found : (r : Rules) (first first' second second' : ProgramState → Out) → Behaves r first first' → Behaves r second second'
+    → (o : Option Bool) (s : ProgramState) → r.Fits s.store
     → Found r s.count s.in_unit (λ answers files. branch o first second (at answers files s)) (λ files. branch o first' second' (at [] files s))
 branch-found r first first' second second' f g None s ok = found-fault r s.count s.in_unit 203 s
 branch-found r first first' second second' f g (Some true) s ok = f s ok
 branch-found r first first' second second' f g (Some false) s ok = g s ok
 
-pub branch-behaves : (r : Rules) (program : Program) (cond : Cond) (first first' second second' : State → Out) → Behaves r first first' → Behaves r second second'
+pub branch-behaves : (r : Rules) (program : Program) (cond : ConditionForm) (first first' second second' : ProgramState → Out) → Behaves r first first' → Behaves r second second'
     → Behaves r (λ s. branch (holds program s cond) first second s) (λ s. branch (holds program s cond) first' second' s)
 branch-behaves r program cond first first' second second' f g s ok =
     found-same r s.count s.in_unit _ _ _ _
@@ -112,29 +112,29 @@ module _ (r : Rules) (program : Program) (first : ℕ) (is_server : Bool) (messa
 
   -- ---- PERFORM
 
-  pub times-behave : (turn turn' : State → Out) (times : Operand) → Behaves r turn turn' → Behaves r (perform_times own turn times) (perform_times by_itself turn' times)
+  pub times-behave : (turn turn' : ProgramState → Out) (times : Operand) → Behaves r turn turn' → Behaves r (perform_times own turn times) (perform_times by_itself turn' times)
   times-behave turn turn' times h s ok =
       found-operand r s.count s.in_unit program s times _ _ (λ found e.
       turns-behave r (whole_part (number_of (value_in found s.store))) turn turn' h s ok)
 
-  pub perform_until-behaves : (turn turn' : State → Out) (cond : Cond) → Behaves r turn turn' → Behaves r (perform_until own turn cond) (perform_until by_itself turn' cond)
+  pub perform_until-behaves : (turn turn' : ProgramState → Out) (cond : ConditionForm) → Behaves r turn turn' → Behaves r (perform_until own turn cond) (perform_until by_itself turn' cond)
   perform_until-behaves turn turn' cond h =
       until-behaves r turn turn' (λ s. holds program s cond) (λ s. holds program s cond)
       (λ s answers files. holds-at program answers files s cond) (λ s files. holds-at program [] files s cond) h
 
-  chosen-found : (perform perform' : Word → State → Out) → ((name : Word) → Behaves r (perform name) (perform' name))
-      → (o : Option Word) (s : State) → r.Fits s.store
+  chosen-found : (perform perform' : Word → ProgramState → Out) → ((name : Word) → Behaves r (perform name) (perform' name))
+      → (o : Option Word) (s : ProgramState) → r.Fits s.store
       → Found r s.count s.in_unit (λ answers files. perform_chosen perform o (at answers files s)) (λ files. perform_chosen perform' o (at [] files s))
   chosen-found perform perform' h None s ok = found-here r s.count s.in_unit s (IsAt-own r s ok)
   chosen-found perform perform' h (Some name) s ok = counted-behaves r (perform name) (perform' name) (h name) s ok
 
-  pub one_of-behaves : (perform perform' : Word → State → Out) (names : List Word) (position : Operand) → ((name : Word) → Behaves r (perform name) (perform' name))
+  pub one_of-behaves : (perform perform' : Word → ProgramState → Out) (names : List Word) (position : Operand) → ((name : Word) → Behaves r (perform name) (perform' name))
       → Behaves r (perform_one_of own perform names position) (perform_one_of by_itself perform' names position)
   one_of-behaves perform perform' names position h s ok =
       found-operand r s.count s.in_unit program s position _ _ (λ found e.
       chosen-found perform perform' h (at_position names (whole_part (number_of (value_in found s.store)))) s ok)
 
-  pub stop-found : (is_server ≡ false → r.Right verb.Stop) → (s : State)
+  pub stop-found : (is_server ≡ false → r.Right verb.Stop) → (s : ProgramState)
       → Found r s.count s.in_unit (λ answers files. stop own (at answers files s)) (λ files. stop by_itself (at [] files s))
   stop-found right s =
       found-test r s.count s.in_unit is_server _ _ _ _
@@ -148,7 +148,7 @@ module _ (r : Rules) (program : Program) (first : ℕ) (is_server : Bool) (messa
 
   -- ---- screens
 
-  shows-found : r.Right verb.Show → (cells : List ℕ) (s : State) → r.Fits s.store
+  shows-found : r.Right verb.Show → (cells : List ℕ) (s : ProgramState) → r.Fits s.store
       → Found r s.count s.in_unit (λ answers files. shows cells (at answers files s)) (λ files. shows cells (at [] files s))
   shows-found right cells s ok =
       asks-found r verb.Show (record s { screen = cells }) (λ _ t. Goes t) (λ _ t. Goes t) tt right (λ k files. refl) tt
@@ -179,7 +179,7 @@ module _ (r : Rules) (program : Program) (first : ℕ) (is_server : Bool) (messa
 
   -- ---- SEND and transactions
 
-  abbrev yielded-found : (o : Option (ℕ × Spot)) (reply : List ℕ) (s : State) → r.Fits s.store
+  abbrev yielded-found : (o : Option (ℕ × Spot)) (reply : List ℕ) (s : ProgramState) → r.Fits s.store
       → Found r s.count s.in_unit (λ answers files. yielded o reply (at answers files s)) (λ files. yielded o reply (at [] files s))
   yielded-found None reply s ok = found-fault r s.count s.in_unit 204 s
   yielded-found (Some found) reply s ok =
@@ -187,24 +187,24 @@ module _ (r : Rules) (program : Program) (first : ℕ) (is_server : Bool) (messa
       (move_text reply found.1 (record s { registers = record s.registers { termination = found.0 + 1 } }))
       (record { counted = omega arith; in_place = refl; fits = r.kept found.1 (moved_chars found.1.picture found.1.size (Text' reply)) s.store ok })
 
-  abbrev replied-found : (codes : List Code) (items : List Spot) (a : Answer) (s : State) → r.Fits s.store
-      → Found r s.count s.in_unit (λ answers files. replied codes items a (at answers files s)) (λ files. replied codes items a (at [] files s))
+  abbrev replied-found : (codes : List SendCode) (items : List Spot) (a : Answer) (s : ProgramState) → r.Fits s.store
+      → Found r s.count s.in_unit (λ answers files. after_send_answer codes items a (at answers files s)) (λ files. after_send_answer codes items a (at [] files s))
   replied-found codes items (answer.Replied reply) s ok = yielded-found (found_by codes items reply) reply s ok
   replied-found codes items (answer.Failed code) s ok = found-fault r s.count s.in_unit code s
   replied-found codes items _ s ok = found-here r s.count s.in_unit s (IsAt-own r s ok)
 
-  pub send-behaves : (sent : Operand) (class : Word) (codes : List Code) → ((chars : List ℕ) → r.Right (verb.Send (class_number r.deck class) chars))
+  pub send-behaves : (sent : Operand) (class : Word) (codes : List SendCode) → ((chars : List ℕ) → r.Right (verb.Send (class_number r.deck class) chars))
       → Behaves r (send own sent class codes) (send by_itself sent class codes)
   send-behaves sent class codes right s ok =
       found-operand r s.count s.in_unit program s sent _ _ (λ found e1.
       found-operands r s.count s.in_unit program s (yields_of codes) _ _ (λ items e2.
       asks-found r (verb.Send (class_number r.deck class) (chars_in found s.store)) s
-      (replied codes (map spot_in items)) (replied codes (map spot_in items)) tt (right _) (λ k files. refl) tt
+      (after_send_answer codes (map spot_in items)) (after_send_answer codes (map spot_in items)) tt (right _) (λ k files. refl) tt
       (λ a. replied-found codes (map spot_in items) a (record s { count = 0 }) ok)
       (λ x. refl)))
 
-  begun-found : (a : Answer) (s : State) → r.Fits s.store
-      → Found r s.count (inside_after verb.Begin a s.in_unit) (λ answers files. begun a (at answers files s)) (λ files. begun a (at [] files s))
+  begun-found : (a : Answer) (s : ProgramState) → r.Fits s.store
+      → Found r s.count (inside_after verb.Begin a s.in_unit) (λ answers files. after_begin_answer a (at answers files s)) (λ files. after_begin_answer a (at [] files s))
   begun-found (answer.Begun n) s ok = found-here r s.count true (record s { in_unit = true; registers = record s.registers { restarts = n } }) (record { counted = omega arith; in_place = refl; fits = ok })
   begun-found _ s ok = found-here r s.count s.in_unit s (IsAt-own r s ok)
 
@@ -212,7 +212,7 @@ module _ (r : Rules) (program : Program) (first : ℕ) (is_server : Bool) (messa
   begin-behaves right s ok =
       found-test r s.count s.in_unit s.in_unit _ _ _ _
       (λ yes. found-fault r s.count s.in_unit 205 s)
-      (λ no. asks-found r verb.Begin s begun begun no right (λ k files. refl) tt (λ a. begun-found a (record s { count = 0 }) ok) tt)
+      (λ no. asks-found r verb.Begin s after_begin_answer after_begin_answer no right (λ k files. refl) tt (λ a. begun-found a (record s { count = 0 }) ok) tt)
 
   pub end-behaves : r.Right verb.End → Behaves r end end
   end-behaves right s ok =
@@ -247,7 +247,7 @@ module _ (r : Rules) (program : Program) (first : ℕ) (is_server : Bool) (messa
       found-operand r s.count s.in_unit program s from _ _ (λ found e.
       found-stuck r s.count s.in_unit (verb.Reply (chars_in found s.store)) s tt (right _) tt)
 
-  moved-by : (b : Bool) (spot : Spot) (content : List ℕ) (s : State) → r.Fits s.store
+  moved-by : (b : Bool) (spot : Spot) (content : List ℕ) (s : ProgramState) → r.Fits s.store
       → Found r s.count s.in_unit
       (λ answers files. Goes (if b then move_text content spot (at answers files s) else at answers files s))
       (λ files. Goes (if b then move_text content spot (at [] files s) else at [] files s))
@@ -256,27 +256,27 @@ module _ (r : Rules) (program : Program) (first : ℕ) (is_server : Bool) (messa
       (record { counted = omega arith; in_place = refl; fits = r.kept spot (moved_chars spot.picture spot.size (Text' content)) s.store ok })
   moved-by false spot content s ok = found-here r s.count s.in_unit s (IsAt-own r s ok)
 
-  moved-found : (into : Option Spot) (status : ℕ) (content : Option (List ℕ)) (s : State) → r.Fits s.store
+  moved-found : (into : Option Spot) (status : ℕ) (content : Option (List ℕ)) (s : ProgramState) → r.Fits s.store
       → Found r s.count s.in_unit (λ answers files. Goes (moved_into into status content (at answers files s))) (λ files. Goes (moved_into into status content (at [] files s)))
   moved-found (Some spot) status (Some content) s ok = moved-by (status == 0) spot content s ok
   moved-found (Some spot) status None s ok = found-here r s.count s.in_unit s (IsAt-own r s ok)
   moved-found None status (Some content) s ok = found-here r s.count s.in_unit s (IsAt-own r s ok)
   moved-found None status None s ok = found-here r s.count s.in_unit s (IsAt-own r s ok)
 
-  answered-found : (into : Option Spot) (a : Answer) (s : State) → r.Fits s.store
+  answered-found : (into : Option Spot) (a : Answer) (s : ProgramState) → r.Fits s.store
       → Found r s.count s.in_unit (λ answers files. file_answered into a (at answers files s)) (λ files. file_answered into a (at [] files s))
   answered-found into (answer.FileDone status content) s ok =
       moved-found into status content (record s { registers = record s.registers { file_status = status } }) ok
   answered-found into _ s ok = found-here r s.count s.in_unit s (IsAt-own r s ok)
 
-  operation-plays : (call : FileCall) (into : Option Spot) (s : State) (k : Answer → Tree)
+  operation-plays : (call : FileCall) (into : Option Spot) (s : ProgramState) (k : Answer → Tree)
       → ((a : Answer) (answers : List Answer) (files : Files) → length answers ≤ r.most → file_answered into a (at answers files s) ≡ play (k a) answers files)
       → (answers : List Answer) (files : Files) → length answers ≤ r.most
       → operation_asked call into answers (at answers files s) ≡ play (Waits (verb.File call) s k) answers files
   operation-plays call into s k same [] files le = refl
   operation-plays call into s k same (a ∷ answers) files le = same a answers files (omega (arith, le))
 
-  pub operates-found : (call : FileCall) (into : Option Spot) (s : State) → r.Right (verb.File call) → r.Fits s.store
+  pub operates-found : (call : FileCall) (into : Option Spot) (s : ProgramState) → r.Right (verb.File call) → r.Fits s.store
       → (count : ℕ) → count < s.count → s.count ≤ most_counted
       → Found r count s.in_unit (λ answers files. operates own call into (at answers files s)) (λ files. operates by_itself call into (at [] files s))
   operates-found call into s right ok count below most = record {

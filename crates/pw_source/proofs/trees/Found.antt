@@ -5,17 +5,17 @@ use Rattle.pw_code.specs.declared.verb.Verb.TheVariants as verb
 use Rattle.pw_code.specs.declared.verb.Answer.{Answer}
 use Rattle.std.specs.Prelude.{nat_lt}
 use Rattle.std.proofs.lemmas.Bool.{ltb-true}
-use Rattle.pw_source.specs.Program.{Deck}
-use Rattle.pw_source.specs.State.{State, Out, Goes, Leaves, Asks, then_do, faults, counted, most_counted, asked}
+use Rattle.pw_source.specs.Program.{DeckModel}
+use Rattle.pw_source.specs.State.{ProgramState, Out, Goes, Leaves, Asks, then_do, faults, statement_counted, most_counted, asked}
 use Rattle.pw_source.proofs.trees.Trees.{Tree, Here, Left, Stuck, Waits, Files, at, play, on_files, play_alone, Rules, InPlace, TakesNone, IsFileVerb, inside_after, count_after, Counts, EndsIn, FailsIn, IsAt, Obeys, Found, Behaves, Steps}
 
 -- ---- lower counts
 
-Counts-lowered : (v : Verb) (s : State) (c d : ℕ) → c ≤ d → Counts d v s → Counts c v s
+Counts-lowered : (v : Verb) (s : ProgramState) (c d : ℕ) → c ≤ d → Counts d v s → Counts c v s
 Counts-lowered (verb.File call) s c d le ok = (omega (arith, le, ok.0), ok.1)
 Counts-lowered _ s c d le ok = tt
 
-at-lowered : (r : Rules) (c d : ℕ) (inside : Bool) (s : State) → c ≤ d → IsAt r d inside s → IsAt r c inside s
+at-lowered : (r : Rules) (c d : ℕ) (inside : Bool) (s : ProgramState) → c ≤ d → IsAt r d inside s → IsAt r c inside s
 at-lowered r c d inside s le ok = record { counted = omega (arith, ok.counted, le); in_place = ok.in_place; fits = ok.fits }
 
 pub lowered : (r : Rules) (t : Tree) (c d : ℕ) (inside : Bool) → c ≤ d → Obeys r d inside t → Obeys r c inside t
@@ -62,36 +62,36 @@ found-test r c inside false run other alone besides f g = g refl
 
 -- ---- trees without an answer
 
-abbrev pub found-here : (r : Rules) (c : ℕ) (inside : Bool) (s : State) → IsAt r c inside s
+abbrev pub found-here : (r : Rules) (c : ℕ) (inside : Bool) (s : ProgramState) → IsAt r c inside s
     → Found r c inside (λ answers files. Goes (at answers files s)) (λ files. Goes (at [] files s))
 found-here r c inside s ok = record { tree = Here s; obeys = ok; plays = λ answers files le. refl; serves = λ is files. refl }
 
-pub found-left : (r : Rules) (c : ℕ) (inside : Bool) (s : State) → IsAt r c inside s
+pub found-left : (r : Rules) (c : ℕ) (inside : Bool) (s : ProgramState) → IsAt r c inside s
     → Found r c inside (λ answers files. Leaves (at answers files s)) (λ files. Leaves (at [] files s))
 found-left r c inside s ok = record { tree = Left s; obeys = ok; plays = λ answers files le. refl; serves = λ is files. refl }
 
-abbrev pub found-stuck : (r : Rules) (c : ℕ) (inside : Bool) (v : Verb) (s : State) → InPlace inside v → r.Right v → TakesNone v
+abbrev pub found-stuck : (r : Rules) (c : ℕ) (inside : Bool) (v : Verb) (s : ProgramState) → InPlace inside v → r.Right v → TakesNone v
     → Found r c inside (λ answers files. Asks v (at answers files s)) (λ files. Asks v (at [] files s))
 found-stuck r c inside v s place right none = record { tree = Stuck v s; obeys = (place, right, none); plays = λ answers files le. refl; serves = λ is files. refl }
 
-abbrev pub found-fault : (r : Rules) (c : ℕ) (inside : Bool) (x : ℕ) (s : State)
+abbrev pub found-fault : (r : Rules) (c : ℕ) (inside : Bool) (x : ℕ) (s : ProgramState)
     → Found r c inside (λ answers files. faults x (at answers files s)) (λ files. faults x (at [] files s))
 found-fault r c inside x s = found-stuck r c inside (verb.Fault x) s tt (r.right_fault x) tt
 
 -- where a step goes on from a state of its own
-pub IsAt-own : (r : Rules) (s : State) → r.Fits s.store → IsAt r s.count s.in_unit s
+pub IsAt-own : (r : Rules) (s : ProgramState) → r.Fits s.store → IsAt r s.count s.in_unit s
 IsAt-own r s ok = record { counted = omega arith; in_place = refl; fits = ok }
 
 -- ---- one more statement
 
-pub counted-behaves : (r : Rules) (f g : State → Out) → Behaves r f g → Behaves r (counted f) (counted g)
+pub counted-behaves : (r : Rules) (f g : ProgramState → Out) → Behaves r f g → Behaves r (statement_counted f) (statement_counted g)
 counted-behaves r f g h s ok =
     found-by r s.count s.in_unit (nat_lt s.count most_counted) _ _ _ _
     (found-lowered r s.count (s.count + 1) s.in_unit _ _ (omega arith) (h (record s { count = s.count + 1 }) ok))
     (found-fault r s.count s.in_unit 201 s)
 
 -- a step right behind its count
-pub counted-steps : (r : Rules) (f g : State → Out) → Steps r f g → Behaves r (counted f) (counted g)
+pub counted-steps : (r : Rules) (f g : ProgramState → Out) → Steps r f g → Behaves r (statement_counted f) (statement_counted g)
 counted-steps r f g h s ok =
     found-test r s.count s.in_unit (nat_lt s.count most_counted) _ _ _ _
     (λ room. let lt = ltb-true s.count most_counted room in h (record s { count = s.count + 1 }) ok s.count (omega arith) (omega (arith, lt)))
@@ -100,14 +100,14 @@ counted-steps r f g h s ok =
 -- ---- what follows a tree
 
 -- by itself, a verb that is no operation on files ends the run
-pub on_files-then : (deck : Deck) (v : Verb) (s : State) (k next : Answer → Files → Out) (h : State → Out)
+pub on_files-then : (deck : DeckModel) (v : Verb) (s : ProgramState) (k next : Answer → Files → Out) (h : ProgramState → Out)
     → (IsFileVerb v → (a : Answer) (files : Files) → then_do (k a files) h ≡ next a files)
     → (files : Files) → then_do (on_files deck v s k files) h ≡ on_files deck v s next files
 on_files-then deck (verb.File call) s k next h same files = same tt _ _
 on_files-then deck _ s k next h same files = refl
 
 -- what follows a tree is a tree
-pub record Then (r : Rules) (count : ℕ) (inside : Bool) (t : Tree) (next own : State → Out) : Type 0 where
+pub record Then (r : Rules) (count : ℕ) (inside : Bool) (t : Tree) (next own : ProgramState → Out) : Type 0 where
   pub tree : Tree
   pub obeys : Obeys r count inside tree
   pub plays : (answers : List Answer) (files : Files) → length answers ≤ r.most
@@ -120,14 +120,14 @@ pub FailsIn-stays : (v : Verb) (next then_next : Answer → Tree) → ((a : Answ
 FailsIn-stays (verb.Send class message) next then_next stays fails = λ x. stays _ _ (fails x)
 FailsIn-stays _ next then_next stays fails = tt
 
-then-waited : (r : Rules) (v : Verb) (s : State) (k : Answer → Tree) (then_k : Answer → Tree) (next : State → Out)
+then-waited : (r : Rules) (v : Verb) (s : ProgramState) (k : Answer → Tree) (then_k : Answer → Tree) (next : ProgramState → Out)
     → ((a : Answer) (answers : List Answer) (files : Files) → length answers ≤ r.most → then_do (play (k a) answers files) next ≡ play (then_k a) answers files)
     → (answers : List Answer) (files : Files) → length answers ≤ r.most
     → then_do (play (Waits v s k) answers files) next ≡ play (Waits v s then_k) answers files
 then-waited r v s k then_k next same [] files le = refl
 then-waited r v s k then_k next same (a ∷ answers) files le = same a answers files (omega (arith, le))
 
-pub then-tree : (r : Rules) (count : ℕ) (inside : Bool) (t : Tree) (next own : State → Out)
+pub then-tree : (r : Rules) (count : ℕ) (inside : Bool) (t : Tree) (next own : ProgramState → Out)
     → Obeys r count inside t → Behaves r next own → Then r count inside t next own
 then-tree r count inside (Here s) next own ok h =
     let f = h s ok.fits in
@@ -154,7 +154,7 @@ then-tree r count inside (Waits v s k) next own ok h =
       stays = λ w e. absurd e;
     }
 
-pub then-found : (r : Rules) (count : ℕ) (inside : Bool) (run : List Answer → Files → Out) (alone : Files → Out) (next own : State → Out)
+pub then-found : (r : Rules) (count : ℕ) (inside : Bool) (run : List Answer → Files → Out) (alone : Files → Out) (next own : ProgramState → Out)
     → Found r count inside run alone → Behaves r next own
     → Found r count inside (λ answers files. then_do (run answers files) next) (λ files. then_do (alone files) own)
 then-found r count inside run alone next own f h =
@@ -166,13 +166,13 @@ then-found r count inside run alone next own f h =
       serves = λ is files. ap (λ o. then_do o own) (f.serves is files) ∙ t.serves is files;
     }
 
-pub then-behaves : (r : Rules) (f g next own : State → Out) → Behaves r f g → Behaves r next own
+pub then-behaves : (r : Rules) (f g next own : ProgramState → Out) → Behaves r f g → Behaves r next own
     → Behaves r (λ s. then_do (f s) next) (λ s. then_do (g s) own)
 then-behaves r f g next own h k s ok = then-found r s.count s.in_unit _ _ next own (h s ok) k
 
 -- ---- a verb with its answers
 
-pub asked-plays : (r : Rules) (v : Verb) (s : State) (next : Answer → State → Out) (k : Answer → Tree)
+pub asked-plays : (r : Rules) (v : Verb) (s : ProgramState) (next : Answer → ProgramState → Out) (k : Answer → Tree)
     → ((a : Answer) (answers : List Answer) (files : Files) → length answers ≤ r.most
     → next a (at answers files (record s { count = 0 })) ≡ play (k a) answers files)
     → (answers : List Answer) (files : Files) → length answers ≤ r.most
@@ -181,7 +181,7 @@ asked-plays r v s next k same [] files le = refl
 asked-plays r v s next k same (a ∷ answers) files le = same a answers files (omega (arith, le))
 
 -- a verb of terminals is asked, and each of its answers goes on
-abbrev pub asks-found : (r : Rules) (v : Verb) (s : State) (next own : Answer → State → Out)
+abbrev pub asks-found : (r : Rules) (v : Verb) (s : ProgramState) (next own : Answer → ProgramState → Out)
     → InPlace s.in_unit v → r.Right v
     → ((k : Answer → Files → Out) (files : Files) → Asks v (at [] files s) ≡ on_files r.deck v s k files)
     → Counts s.count v s

@@ -5,33 +5,33 @@ use Rattle.std.proofs.lemmas.Bool.{ltb-true, ltb-false, lt-ltb, le-ltb}
 use Rattle.pw_code.specs.declared.verb.Verb.{Verb}
 use Rattle.pw_code.specs.declared.verb.Verb.TheVariants as verb
 use Rattle.pw_code.specs.declared.verb.Answer.{Answer}
-use Rattle.pw_source.specs.State.{State, Out, Goes, then_do, faults, counted, most_counted}
+use Rattle.pw_source.specs.State.{ProgramState, Out, Goes, then_do, faults, statement_counted, most_counted}
 use Rattle.pw_source.specs.Performs.{turns, tested, turns_until, budget}
 use Rattle.pw_source.proofs.trees.Trees.{Tree, Here, Left, Stuck, Waits, Files, at, play, play_alone, Rules, IsFileVerb, inside_after, count_after, Counts, EndsIn, Obeys, Found, Behaves}
 use Rattle.pw_source.proofs.trees.Found.{lowered, found-here, found-fault, IsAt-own, counted-behaves, then-behaves, on_files-then, FailsIn-stays}
 
 -- ---- TIMES
 
-pub turns-behave : (r : Rules) (n : ℕ) (turn own : State → Out) → Behaves r turn own → Behaves r (turns n turn) (turns n own)
+pub turns-behave : (r : Rules) (n : ℕ) (turn own : ProgramState → Out) → Behaves r turn own → Behaves r (turns n turn) (turns n own)
 turns-behave r zero turn own h s ok = found-here r s.count s.in_unit s (IsAt-own r s ok)
 turns-behave r (suc n) turn own h s ok =
-    then-behaves r (counted turn) (counted own) (turns n turn) (turns n own) (counted-behaves r turn own h) (turns-behave r n turn own h) s ok
+    then-behaves r (statement_counted turn) (statement_counted own) (turns n turn) (turns n own) (counted-behaves r turn own h) (turns-behave r n turn own h) s ok
 
 -- ---- UNTIL
 
 -- what a server by itself may still count
-abbrev pub left_alone : State → ℕ
+abbrev pub left_alone : ProgramState → ℕ
 left_alone s = most_counted - s.count
 
-count_after-file : (v : Verb) (s : State) (c : ℕ) → IsFileVerb v → Counts c v s → c ≤ count_after v s
+count_after-file : (v : Verb) (s : ProgramState) (c : ℕ) → IsFileVerb v → Counts c v s → c ≤ count_after v s
 count_after-file (verb.File call) s c file ok = omega (arith, ok.0)
 count_after-file _ s c file ok = absurd file
 
-module _ (r : Rules) (turn own : State → Out) (done done_alone : State → Option Bool)
-    (same : (s : State) (answers : List Answer) (files : Files) → done (at answers files s) ≡ done s)
-    (same_alone : (s : State) (files : Files) → done_alone (at [] files s) ≡ done s) where
+module _ (r : Rules) (turn own : ProgramState → Out) (done done_alone : ProgramState → Option Bool)
+    (same : (s : ProgramState) (answers : List Answer) (files : Files) → done (at answers files s) ≡ done s)
+    (same_alone : (s : ProgramState) (files : Files) → done_alone (at [] files s) ≡ done s) where
   -- turns until a condition holds, where so many can be counted at most, are a tree
-  pub record Until (most : ℕ) (s : State) : Type 0 where
+  pub record Until (most : ℕ) (s : ProgramState) : Type 0 where
     pub tree : Tree
     pub obeys : Obeys r s.count s.in_unit tree
     pub plays : (m : ℕ) (answers : List Answer) (files : Files) → length answers ≤ r.most
@@ -52,7 +52,7 @@ module _ (r : Rules) (turn own : State → Out) (done done_alone : State → Opt
         → then_do (play_alone r.deck t files) (turns_until m done_alone own) ≡ play_alone r.deck tree files
     pub stays : (v : Verb) → EndsIn v t → EndsIn v tree
 
-  more-waited : (most count : ℕ) (v : Verb) (s : State) (k then_k : Answer → Tree)
+  more-waited : (most count : ℕ) (v : Verb) (s : ProgramState) (k then_k : Answer → Tree)
       → ((a : Answer) (m : ℕ) (answers : List Answer) (files : Files) → length answers ≤ r.most
       → most_counted - count_after v s + most_counted * length answers ≤ most
       → most_counted - count_after v s + most_counted * length answers ≤ m
@@ -66,7 +66,7 @@ module _ (r : Rules) (turn own : State → Out) (done done_alone : State → Opt
       h a m answers files (omega (arith, le)) (omega (arith, small)) (omega (arith, enough))
 
   more : (most count : ℕ) (inside : Bool) (t : Tree) → Obeys r count inside t
-      → ((s : State) → r.Fits s.store → Until most s) → More most count inside t
+      → ((s : ProgramState) → r.Fits s.store → Until most s) → More most count inside t
   more most count inside (Here s) ok rec =
       let u = rec s ok.fits in
       let le : count ≤ s.count = ok.counted in
@@ -102,28 +102,28 @@ module _ (r : Rules) (turn own : State → Out) (done done_alone : State → Opt
   room-test n lt = lt-ltb _ _ lt
 
   -- the test decides, or no turn can be counted
-  outside_range : (m : ℕ) (s : State) (f : State → Out) (d : State → Option Bool) → d s ≡ None → turns_until m d f s ≡ faults 203 s
+  outside_range : (m : ℕ) (s : ProgramState) (f : ProgramState → Out) (d : ProgramState → Option Bool) → d s ≡ None → turns_until m d f s ≡ faults 203 s
   outside_range zero s f d e = ap (λ o. tested o (faults 201) s) e
-  outside_range (suc m) s f d e = ap (λ o. tested o (λ t. then_do (counted f t) (turns_until m d f)) s) e
+  outside_range (suc m) s f d e = ap (λ o. tested o (λ t. then_do (statement_counted f t) (turns_until m d f)) s) e
 
-  is_done : (m : ℕ) (s : State) (f : State → Out) (d : State → Option Bool) → d s ≡ Some true → turns_until m d f s ≡ Goes s
+  is_done : (m : ℕ) (s : ProgramState) (f : ProgramState → Out) (d : ProgramState → Option Bool) → d s ≡ Some true → turns_until m d f s ≡ Goes s
   is_done zero s f d e = ap (λ o. tested o (faults 201) s) e
-  is_done (suc m) s f d e = ap (λ o. tested o (λ t. then_do (counted f t) (turns_until m d f)) s) e
+  is_done (suc m) s f d e = ap (λ o. tested o (λ t. then_do (statement_counted f t) (turns_until m d f)) s) e
 
-  no_turn : (m : ℕ) (s : State) (f : State → Out) (d : State → Option Bool) → most_counted ≤ s.count → d s ≡ Some false
+  no_turn : (m : ℕ) (s : ProgramState) (f : ProgramState → Out) (d : ProgramState → Option Bool) → most_counted ≤ s.count → d s ≡ Some false
       → turns_until m d f s ≡ faults 201 s
   no_turn zero s f d full e = ap (λ o. tested o (faults 201) s) e
   no_turn (suc m) s f d full e =
-      ap (λ o. tested o (λ t. then_do (counted f t) (turns_until m d f)) s) e
+      ap (λ o. tested o (λ t. then_do (statement_counted f t) (turns_until m d f)) s) e
       ∙ ap (λ b. then_do (if b then f (record s { count = s.count + 1 }) else faults 201 s) (turns_until m d f)) (full-test s.count full)
 
-  one_turn : (m : ℕ) (s : State) (f : State → Out) (d : State → Option Bool) → s.count < most_counted → d s ≡ Some false
+  one_turn : (m : ℕ) (s : ProgramState) (f : ProgramState → Out) (d : ProgramState → Option Bool) → s.count < most_counted → d s ≡ Some false
       → turns_until (suc m) d f s ≡ then_do (f (record s { count = s.count + 1 })) (turns_until m d f)
   one_turn m s f d room e =
-      ap (λ o. tested o (λ t. then_do (counted f t) (turns_until m d f)) s) e
+      ap (λ o. tested o (λ t. then_do (statement_counted f t) (turns_until m d f)) s) e
       ∙ ap (λ b. then_do (if b then f (record s { count = s.count + 1 }) else faults 201 s) (turns_until m d f)) (room-test s.count room)
 
-  until-outside : (most : ℕ) (s : State) → done s ≡ None → Until most s
+  until-outside : (most : ℕ) (s : ProgramState) → done s ≡ None → Until most s
   until-outside most s e =
       let f = found-fault r s.count s.in_unit 203 s in
       record {
@@ -133,7 +133,7 @@ module _ (r : Rules) (turn own : State → Out) (done done_alone : State → Opt
         serves = λ m is files a b. outside_range m (at [] files s) own done_alone (same_alone s files ∙ e);
       }
 
-  until-done : (most : ℕ) (s : State) → r.Fits s.store → done s ≡ Some true → Until most s
+  until-done : (most : ℕ) (s : ProgramState) → r.Fits s.store → done s ≡ Some true → Until most s
   until-done most s ok e =
       let f = found-here r s.count s.in_unit s (IsAt-own r s ok) in
       record {
@@ -143,7 +143,7 @@ module _ (r : Rules) (turn own : State → Out) (done done_alone : State → Opt
         serves = λ m is files a b. is_done m (at [] files s) own done_alone (same_alone s files ∙ e);
       }
 
-  until-full : (most : ℕ) (s : State) → most_counted ≤ s.count → done s ≡ Some false → Until most s
+  until-full : (most : ℕ) (s : ProgramState) → most_counted ≤ s.count → done s ≡ Some false → Until most s
   until-full most s full e =
       let f = found-fault r s.count s.in_unit 201 s in
       record {
@@ -154,7 +154,7 @@ module _ (r : Rules) (turn own : State → Out) (done done_alone : State → Opt
       }
 
   -- nothing can be counted any more
-  until-last : (s : State) → r.Fits s.store → (o : Option Bool) → done s ≡ o → Until 0 s
+  until-last : (s : ProgramState) → r.Fits s.store → (o : Option Bool) → done s ≡ o → Until 0 s
   until-last s ok None e = until-outside 0 s e
   until-last s ok (Some true) e = until-done 0 s ok e
   until-last s ok (Some false) e =
@@ -167,7 +167,7 @@ module _ (r : Rules) (turn own : State → Out) (done done_alone : State → Opt
       }
 
   module _ (turn-behaves : Behaves r turn own) where
-    turn-plays : (most : ℕ) (s : State) (room : s.count < most_counted) (not_yet : done s ≡ Some false)
+    turn-plays : (most : ℕ) (s : ProgramState) (room : s.count < most_counted) (not_yet : done s ≡ Some false)
         (f : Found r (s.count + 1) s.in_unit (λ answers files. turn (at answers files (record s { count = s.count + 1 })))
         (λ files. own (at [] files (record s { count = s.count + 1 }))))
         (rest : More most (s.count + 1) s.in_unit f.tree)
@@ -180,7 +180,7 @@ module _ (r : Rules) (turn own : State → Out) (done done_alone : State → Opt
         ∙ ap (λ o. then_do o (turns_until m done turn)) (f.plays answers files short)
         ∙ rest.plays m answers files short (omega (arith, small, room)) (omega (arith, enough, room))
 
-    turn-serves : (most : ℕ) (s : State) (room : s.count < most_counted) (not_yet : done s ≡ Some false)
+    turn-serves : (most : ℕ) (s : ProgramState) (room : s.count < most_counted) (not_yet : done s ≡ Some false)
         (f : Found r (s.count + 1) s.in_unit (λ answers files. turn (at answers files (record s { count = s.count + 1 })))
         (λ files. own (at [] files (record s { count = s.count + 1 }))))
         (rest : More most (s.count + 1) s.in_unit f.tree)
@@ -192,8 +192,8 @@ module _ (r : Rules) (turn own : State → Out) (done done_alone : State → Opt
         ∙ ap (λ o. then_do o (turns_until m done_alone own)) (f.serves is files)
         ∙ rest.serves m is files (omega (arith, small, room)) (omega (arith, enough, room))
 
-    until-turn : (most : ℕ) (s : State) → r.Fits s.store → s.count < most_counted → done s ≡ Some false
-        → ((t : State) → r.Fits t.store → Until most t) → Until (suc most) s
+    until-turn : (most : ℕ) (s : ProgramState) → r.Fits s.store → s.count < most_counted → done s ≡ Some false
+        → ((t : ProgramState) → r.Fits t.store → Until most t) → Until (suc most) s
     until-turn most s ok room not_yet rec =
         let f = turn-behaves (record s { count = s.count + 1 }) ok in
         let rest = more most (s.count + 1) s.in_unit f.tree f.obeys rec in
@@ -204,14 +204,14 @@ module _ (r : Rules) (turn own : State → Out) (done done_alone : State → Opt
           serves = turn-serves most s room not_yet f rest;
         }
 
-    until-more : (most : ℕ) (s : State) → r.Fits s.store → (o : Option Bool) → done s ≡ o → (b : Bool) → nat_lt s.count most_counted ≡ b
-        → ((t : State) → r.Fits t.store → Until most t) → Until (suc most) s
+    until-more : (most : ℕ) (s : ProgramState) → r.Fits s.store → (o : Option Bool) → done s ≡ o → (b : Bool) → nat_lt s.count most_counted ≡ b
+        → ((t : ProgramState) → r.Fits t.store → Until most t) → Until (suc most) s
     until-more most s ok None e b t rec = until-outside (suc most) s e
     until-more most s ok (Some true) e b t rec = until-done (suc most) s ok e
     until-more most s ok (Some false) e true t rec = until-turn most s ok (ltb-true _ _ t) e rec
     until-more most s ok (Some false) e false t rec = until-full (suc most) s (ltb-false _ _ t) e
 
-    pub until : (most : ℕ) (s : State) → r.Fits s.store → Until most s
+    pub until : (most : ℕ) (s : ProgramState) → r.Fits s.store → Until most s
     until zero s ok = until-last s ok (done s) refl
     until (suc most) s ok = until-more most s ok (done s) refl (nat_lt s.count most_counted) refl (λ t fits. until most t fits)
 

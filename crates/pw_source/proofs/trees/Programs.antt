@@ -9,12 +9,12 @@ use Rattle.pw_code.specs.declared.verb.Verb.TheVariants as verb
 use Rattle.pw_code.specs.declared.verb.Answer.{Answer}
 use Rattle.pw_source.specs.Program.{Program, program_at, program_number, body_by, body_named, first_screen, storage_size}
 use Rattle.pw_source.specs.Store.{Store, initial_store}
-use Rattle.pw_source.specs.State.{State, Out, Goes, faults}
+use Rattle.pw_source.specs.State.{ProgramState, Out, Goes, faults}
 use Rattle.pw_source.specs.Operands.{spot_in}
 use Rattle.pw_source.specs.Performs.{call_program, caller_state, comes_back, chars_of_all, parameter_spots, put_all}
 use Rattle.pw_source.specs.Sends.{stop}
 use Rattle.pw_source.specs.Statements.{body}
-use Rattle.pw_source.specs.Runs.{performed, most_performs, flow, program_run, setting_of, called, ended}
+use Rattle.pw_source.specs.Runs.{performed, most_performs, flow, program_run, setting_of, called, program_ended}
 use Rattle.pw_source.proofs.trees.Trees.{Files, at, Rules, Found, Behaves}
 use Rattle.pw_source.proofs.trees.Found.{found-same, found-by, found-here, found-fault, IsAt-own, then-behaves}
 use Rattle.pw_source.proofs.trees.Taken.{found-operands}
@@ -45,7 +45,7 @@ module _ (r : Rules) (program : Program) (first : ℕ) (is_server : Bool) (messa
   suited-found test (paragraph ∷ rest) fit = suited-by (test paragraph) paragraph (find test rest) fit.0 (suited-found test rest fit.1)
 
   module _ (all : SuitedAll program.paragraphs)
-      (call call' : ℕ → List (List ℕ) → State → Out)
+      (call call' : ℕ → List (List ℕ) → ProgramState → Out)
       (calls : (name : Word) (arguments : List Operand)
       → Behaves r (call_program (own r program first is_server message) call name arguments) (call_program (by_itself r program first is_server message) call' name arguments)) where
     pub performed-behaves : (d : ℕ) (name : Word)
@@ -78,7 +78,7 @@ module _ (r : Rules) (program : Program) (first : ℕ) (is_server : Bool) (messa
   pub ended-found : (is_server ≡ false → r.Right verb.Stop) → (count : ℕ) (inside : Bool) (run : List Answer → Files → Out) (alone : Files → Out)
       → Found r count inside run alone
       → Found (closed r) count inside
-      (λ answers files. ended (own r program first is_server message) (run answers files)) (λ files. ended (by_itself r program first is_server message) (alone files))
+      (λ answers files. program_ended (own r program first is_server message) (run answers files)) (λ files. program_ended (by_itself r program first is_server message) (alone files))
   ended-found right count inside run alone f =
       found-same (closed r) count inside _ _ _ _
       (finished-found r (λ store. ⊥) (λ spot chars store no. no) (stop (own r program first is_server message)) (stop (by_itself r program first is_server message))
@@ -97,7 +97,7 @@ no-calls r program first is_server message name arguments s ok =
 
 -- Of requesters nothing is said by themselves, and nothing of their stores.
 module _ (r : Rules) (none : r.Alone → ⊥) (any : (store : Store) → r.Fits store) where
-  pub calls-behave : (program : Program) (first : ℕ) (is_server : Bool) (message : List ℕ) (call call' : ℕ → List (List ℕ) → State → Out)
+  pub calls-behave : (program : Program) (first : ℕ) (is_server : Bool) (message : List ℕ) (call call' : ℕ → List (List ℕ) → ProgramState → Out)
       → ((q : ℕ) (arguments : List (List ℕ)) → Behaves r (call q arguments) (call q arguments))
       → (name : Word) (arguments : List Operand)
       → Behaves r (call_program (own r program first is_server message) call name arguments) (call_program (by_itself r program first is_server message) call' name arguments)
@@ -133,9 +133,9 @@ module _ (r : Rules) (none : r.Alone → ⊥) (any : (store : Store) → r.Fits 
         none)
 
     -- a requester from its start
-    pub requester-found : (q n : ℕ) (s : State) → r.Right verb.Stop
+    pub requester-found : (q n : ℕ) (s : ProgramState) → r.Right verb.Stop
         → Found (closed r) s.count s.in_unit
-        (λ answers files. ended (setting_of r.deck q) (program_run (setting_of r.deck q) (called n r.deck (storage_size (program_at r.deck.programs q))) (at answers files s)))
+        (λ answers files. program_ended (setting_of r.deck q) (program_run (setting_of r.deck q) (called n r.deck (storage_size (program_at r.deck.programs q))) (at answers files s)))
         (λ files. Goes s)
     requester-found q n s right =
         let program = program_at r.deck.programs q in

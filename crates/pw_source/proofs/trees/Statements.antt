@@ -10,8 +10,8 @@ use Rattle.pw_code.specs.declared.file.FileOp.TheVariants.{Read, Next, Write, Re
 use Rattle.pw_code.specs.declared.verb.Verb.TheVariants as verb
 use Rattle.pw_source.specs.Program.{Program, screen_named, class_number}
 use Rattle.pw_source.specs.Setting.{Setting}
-use Rattle.pw_source.specs.State.{State, Out, Goes, Leaves, counted}
-use Rattle.pw_source.specs.Operands.{Taken, taken, spot_in, chars_in}
+use Rattle.pw_source.specs.State.{ProgramState, Out, Goes, Leaves, statement_counted}
+use Rattle.pw_source.specs.Operands.{ResolvedOperand, operand_taken, spot_in, chars_in}
 use Rattle.pw_source.specs.Files.{read_by, read, read_next, write_by, delete, receive, reply, call_by_key, call_by_record}
 use Rattle.pw_source.specs.Performs.{perform_times, perform_until, perform_one_of, call_program}
 use Rattle.pw_source.specs.Arithmetic.{arithmetic_on}
@@ -35,12 +35,12 @@ module _ (r : Rules) (program : Program) (first : ℕ) (is_server : Bool) (messa
   -- each operation of an operand that was taken is right
   abbrev pub KeyRight : FileOp → Word → Operand → Type 0
   KeyRight op file key =
-      (s : State) (found : Taken) → r.Fits s.store → taken program s key ≡ Some found
+      (s : ProgramState) (found : ResolvedOperand) → r.Fits s.store → operand_taken program s key ≡ Some found
       → r.Right (verb.File (call_by_key here op file (chars_in found s.store)))
 
   abbrev pub RecordRight : FileOp → Word → Operand → Type 0
   RecordRight op file from =
-      (s : State) (found : Taken) → r.Fits s.store → taken program s from ≡ Some found
+      (s : ProgramState) (found : ResolvedOperand) → r.Fits s.store → operand_taken program s from ≡ Some found
       → r.Right (verb.File (call_by_record here op file (chars_in found s.store)))
 
   -- what statements ask is right
@@ -99,8 +99,8 @@ module _ (r : Rules) (program : Program) (first : ℕ) (is_server : Bool) (messa
 
   -- ---- all statements
 
-  module _ (perform perform' : Word → State → Out) (performs : (name : Word) → Behaves r (perform name) (perform' name))
-      (call call' : ℕ → List (List ℕ) → State → Out)
+  module _ (perform perform' : Word → ProgramState → Out) (performs : (name : Word) → Behaves r (perform name) (perform' name))
+      (call call' : ℕ → List (List ℕ) → ProgramState → Out)
       (calls : (name : Word) (arguments : List Operand)
       → Behaves r (call_program here call name arguments) (call_program here_alone call' name arguments)) where
     mutual
@@ -115,7 +115,7 @@ module _ (r : Rules) (program : Program) (first : ℕ) (is_server : Bool) (messa
       statement-behaves (form.If' line cond n first m second) fit =
           counted-behaves r (λ s. branch (holds program s cond) (branch_row here perform call first) (branch_row here perform call second) s) (λ s. branch (holds program s cond) (branch_row here_alone perform' call' first) (branch_row here_alone perform' call' second) s) (branch-behaves r program cond (branch_row here perform call first) (branch_row here_alone perform' call' first) (branch_row here perform call second) (branch_row here_alone perform' call' second) (row-behaves first fit.0) (row-behaves second fit.1))
       statement-behaves (form.Perform line paragraph) fit =
-          counted-behaves r (counted (perform paragraph)) (counted (perform' paragraph)) (counted-behaves r (perform paragraph) (perform' paragraph) (performs paragraph))
+          counted-behaves r (statement_counted (perform paragraph)) (statement_counted (perform' paragraph)) (counted-behaves r (perform paragraph) (perform' paragraph) (performs paragraph))
       statement-behaves (form.PerformTimes line paragraph times) fit =
           counted-behaves r (perform_times here (perform paragraph) times) (perform_times here_alone (perform' paragraph) times) (times-behave r program first is_server message (perform paragraph) (perform' paragraph) times (performs paragraph))
       statement-behaves (form.PerformUntil line paragraph cond) fit =

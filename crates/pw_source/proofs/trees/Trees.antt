@@ -5,30 +5,30 @@ use Rattle.pw_code.specs.declared.verb.Verb.TheVariants as verb
 use Rattle.pw_code.specs.declared.verb.Answer.{Answer}
 use Rattle.pw_code.specs.declared.verb.Answer.TheVariants as answer
 use Rattle.pw_onecopy.specs.Operation.{answer_of, records_behind}
-use Rattle.pw_onecopy.specs.Path.{FileAnswer}
+use Rattle.pw_onecopy.specs.Path.{FileResult}
 use Rattle.pw_onecopy.specs.Update.{upd}
-use Rattle.pw_source.specs.Program.{Deck, key_length}
+use Rattle.pw_source.specs.Program.{DeckModel, key_length}
 use Rattle.pw_source.specs.Store.{Store, Spot, put_at}
-use Rattle.pw_source.specs.State.{State, Out, Goes, Leaves, Asks, most_counted}
+use Rattle.pw_source.specs.State.{ProgramState, Out, Goes, Leaves, Asks, most_counted}
 
 -- The run is here, or has left its program, or asks what takes no answer, or asks and goes on by each answer.
 pub data Tree : Type 0 where
-  Here : (s : State) → Tree
-  Left : (s : State) → Tree
-  Stuck : (verb : Verb) (s : State) → Tree
-  Waits : (verb : Verb) (s : State) (next : Answer → Tree) → Tree
+  Here : (s : ProgramState) → Tree
+  Left : (s : ProgramState) → Tree
+  Stuck : (verb : Verb) (s : ProgramState) → Tree
+  Waits : (verb : Verb) (s : ProgramState) (next : Answer → Tree) → Tree
 
 -- the files of a server run by itself
 abbrev pub Files : Type 0
 Files = ℕ → List (List ℕ)
 
 -- the state with these answers to come and these files
-abbrev pub at : List Answer → Files → State → State
+abbrev pub at : List Answer → Files → ProgramState → ProgramState
 at answers files s = record s { answers = answers; files = files }
 
 -- ---- a tree with the answers of a list
 
-abbrev pub waited : Verb → State → (Answer → List Answer → Out) → List Answer → Files → Out
+abbrev pub waited : Verb → ProgramState → (Answer → List Answer → Out) → List Answer → Files → Out
 waited v s next [] files = Asks v (at [] files s)
 waited v s next (a ∷ answers) files = next a answers
 
@@ -40,15 +40,15 @@ play (Waits v s next) answers files = waited v s (λ a rest. play (next a) rest 
 
 -- ---- a tree on files
 
-abbrev pub on_files : Deck → Verb → State → (Answer → Files → Out) → Files → Out
+abbrev pub on_files : DeckModel → Verb → ProgramState → (Answer → Files → Out) → Files → Out
 on_files deck (verb.File call) s next files =
     let n = key_length deck call.file in
     let records = files call.file in
-    let found : FileAnswer = answer_of n records call.op call in
+    let found : FileResult = answer_of n records call.op call in
     next (answer.FileDone found.status found.content) (upd files call.file (records_behind n records call))
 on_files deck v s next files = Asks v (at [] files s)
 
-abbrev pub play_alone : Deck → Tree → Files → Out
+abbrev pub play_alone : DeckModel → Tree → Files → Out
 play_alone deck (Here s) files = Goes (at [] files s)
 play_alone deck (Left s) files = Leaves (at [] files s)
 play_alone deck (Stuck v s) files = Asks v (at [] files s)
@@ -59,7 +59,7 @@ play_alone deck (Waits v s next) files = on_files deck v s (λ a rest. play_alon
 -- Of which runs something is said: the deck, the most answers, whether runs by themselves are spoken of, what holds of
 -- each store, and of each verb that is asked.
 pub record Rules : Type 1 where
-  pub deck : Deck
+  pub deck : DeckModel
   pub most : ℕ
   pub Alone : Type 0
   pub Fits : Store → Type 0
@@ -96,12 +96,12 @@ inside_after verb.Drop a inside = false
 inside_after _ a inside = inside
 
 -- the least count behind an answer
-abbrev pub count_after : Verb → State → ℕ
+abbrev pub count_after : Verb → ProgramState → ℕ
 count_after (verb.File call) s = s.count
 count_after _ s = 0
 
 -- an operation on files is asked where more was counted
-abbrev pub Counts : ℕ → Verb → State → Type 0
+abbrev pub Counts : ℕ → Verb → ProgramState → Type 0
 Counts count (verb.File call) s = (count < s.count) × (s.count ≤ most_counted)
 Counts count _ s = Unit {0}
 
@@ -116,7 +116,7 @@ FailsIn (verb.Send class message) next = (x : ℕ) → EndsIn (verb.Fault x) (ne
 FailsIn _ next = Unit {0}
 
 -- a state that has counted at least so many, in a transaction or not, and whose store fits
-pub record IsAt (r : Rules) (count : ℕ) (inside : Bool) (s : State) : Type 0 where
+pub record IsAt (r : Rules) (count : ℕ) (inside : Bool) (s : ProgramState) : Type 0 where
   pub counted : count ≤ s.count
   pub in_place : s.in_unit ≡ inside
   pub fits : r.Fits s.store
@@ -137,13 +137,13 @@ pub record Found (r : Rules) (count : ℕ) (inside : Bool) (run : List Answer �
   pub serves : r.Alone → (files : Files) → alone files ≡ play_alone r.deck tree files
 
 -- what a step does from each moment, and the same step by itself; an operation on files is asked only behind a count
-abbrev pub Behaves : Rules → (State → Out) → (State → Out) → Type 0
+abbrev pub Behaves : Rules → (ProgramState → Out) → (ProgramState → Out) → Type 0
 Behaves r f g =
-    (s : State) → r.Fits s.store
+    (s : ProgramState) → r.Fits s.store
     → Found r s.count s.in_unit (λ answers files. f (at answers files s)) (λ files. g (at [] files s))
 
 -- the same of a step that comes right behind its count
-abbrev pub Steps : Rules → (State → Out) → (State → Out) → Type 0
+abbrev pub Steps : Rules → (ProgramState → Out) → (ProgramState → Out) → Type 0
 Steps r f g =
-    (s : State) → r.Fits s.store → (count : ℕ) → count < s.count → s.count ≤ most_counted
+    (s : ProgramState) → r.Fits s.store → (count : ℕ) → count < s.count → s.count ≤ most_counted
     → Found r count s.in_unit (λ answers files. f (at answers files s)) (λ files. g (at [] files s))

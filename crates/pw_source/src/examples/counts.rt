@@ -3,16 +3,16 @@ ghost use Rattle.pw_code.specs.declared.verb.Answer.{Answer};
 ghost use Rattle.pw_code.specs.declared.verb.Verb.{Verb};
 ghost use Rattle.pw_code.specs.declared.verb.Verb.TheVariants.{Fault, Show, Reply, Stop};
 ghost use Rattle.pw_source.specs.Samples.{asks_counting, serves_counting};
-ghost use Rattle.pw_source.specs.State.{State, Out, counted, asks, faults};
+ghost use Rattle.pw_source.specs.State.{ProgramState, Out, statement_counted, asks, faults};
 
 /// A statement or a turn that would be counted as number 100,001 is LOOP, and no other one.
 /// Behind an answer the count of a terminal's program is 0 again.
 pub fn counts()
-    ensures last { (next : State → Out) (s : State)
-        → counted next (record s { count = 99999 }) ≡ next (record s { count = 100000 }) }
-    ensures one_more { (next : State → Out) (s : State)
-        → counted next (record s { count = 100000 }) ≡ faults 201 (record s { count = 100000 }) }
-    ensures from_zero { (verb : Verb) (next : Answer → State → Out) (s : State) (answer : Answer)
+    ensures last { (next : ProgramState → Out) (s : ProgramState)
+        → statement_counted next (record s { count = 99999 }) ≡ next (record s { count = 100000 }) }
+    ensures one_more { (next : ProgramState → Out) (s : ProgramState)
+        → statement_counted next (record s { count = 100000 }) ≡ faults 201 (record s { count = 100000 }) }
+    ensures from_zero { (verb : Verb) (next : Answer → ProgramState → Out) (s : ProgramState) (answer : Answer)
         → asks verb next (record s { answers = answer ∷ [] }) ≡ next answer (record s {
           answers =
               [];

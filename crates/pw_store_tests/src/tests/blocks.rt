@@ -11,7 +11,7 @@ use std::process::Abort;
 use std::test::Fail;
 
 #[derive(Clone, Copy)]
-enum Call {
+enum BlockFileCall {
     Insert,
     Replace,
     Remove,
@@ -47,7 +47,7 @@ remove 700 0
 insert 305 60";
 
 /// The call of a row, its key and how many bytes the content has behind it.
-fn call_of(row: &str) -> Result<(Call, u16, usize), Fail> {
+fn call_of(row: &str) -> Result<(BlockFileCall, u16, usize), Fail> {
     let (call, rest) = row.split_once(' ').ok_or("no key")?;
     let (key, more) = rest.split_once(' ').ok_or("no size")?;
     let call = match call {
@@ -74,7 +74,7 @@ fn content(alloc: Global, key: u16, more: usize) -> Result<Bytes, Memory>
 fn answer_of<F: RecordFile>(
     alloc: Global,
     file: &mut F,
-    call: Call,
+    call: BlockFileCall,
     key: u16,
     more: usize,
 ) -> Result<bool, Memory>

@@ -7,7 +7,7 @@ use pw_base::list::List;
 use pw_base::memory::Memory;
 use pw_class::book::ClassBook;
 use pw_class::laws::take_laws;
-use pw_class::request::{Place, Request, Taken};
+use pw_class::request::{RequestPlace, Request, Taken};
 use pw_code::code::Code;
 use pw_code::lock::LockRule;
 use pw_code::system::{ClassInfo, System};
@@ -245,10 +245,10 @@ fn reply(
 }
 
 /// Where a request is: the class for which it waits, or the class and its process that works on it.
-fn place_text(alloc: Global, place: Option<Place>) -> Result<String, Fail> {
+fn place_text(alloc: Global, place: Option<RequestPlace>) -> Result<String, Fail> {
     Ok(match place {
-        Some(Place::Waiting { class }) => format!(in alloc; "waits for {class}")?,
-        Some(Place::Busy { class, process }) => format!(in alloc; "at {class} {process}")?,
+        Some(RequestPlace::Waiting { class }) => format!(in alloc; "waits for {class}")?,
+        Some(RequestPlace::Busy { class, process }) => format!(in alloc; "at {class} {process}")?,
         None => format!(in alloc; "none")?,
     })
 }

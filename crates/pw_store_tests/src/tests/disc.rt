@@ -3,14 +3,12 @@ ghost use Rattle.pw_disc.specs.Pair.{state_of};
 ghost use Rattle.pw_tmf.specs.TwoUnits.{AreBoth, IsFresh, IsTestCall};
 
 use crate::tests::fresh::system;
-use crate::tests::units::{
-    OLDER, begin_both, by_key, expect_records, older_does, writing, younger_does,
-};
+use crate::tests::units::{OLDER, begin_both, by_key, expect_records, older_does, writing, younger_does};
 use pw_base::list::List;
 use pw_base::memory::Memory;
 use pw_code::file::{FileCall, FileOp};
 use pw_disc::pair::DiscPair;
-use pw_disc::standing::Standing;
+use pw_disc::standing::DiscPairState;
 use pw_disc_call::script::{DiscLine, DiscScript};
 use pw_tmf::answer::FileAnswer;
 use pw_tmf::disc::Disc;
@@ -149,7 +147,7 @@ fn expect_all_done(
     rt: &impl Abort,
     alloc: Global,
     pair: &mut DiscPair,
-    standing: Standing,
+    standing: DiscPairState,
 ) -> Result<(), Fail>
     requires { IsFresh (state_of pair.old).told }
 {
@@ -165,7 +163,7 @@ fn expect_kept(
     rt: &impl Abort,
     alloc: Global,
     line: DiscLine,
-    standing: Standing,
+    standing: DiscPairState,
 ) -> Result<(), Fail> {
     let mut pair = started(alloc, script_of(alloc, line)?)?;
     expect_all_done(rt, alloc, &mut pair, standing)
@@ -176,12 +174,12 @@ fn each_line_at_each_call(rt: HostRuntime) -> Result<(), Fail> {
     let alloc = rt.alloc();
     for after in 0..20 {
         let held = if after == 19 {
-            Standing::One
+            DiscPairState::One
         } else {
-            Standing::Two
+            DiscPairState::Two
         };
-        expect_kept(&rt, alloc, DiscLine::Primary(after), Standing::Two)?;
-        expect_kept(&rt, alloc, DiscLine::Backup(after), Standing::Two)?;
+        expect_kept(&rt, alloc, DiscLine::Primary(after), DiscPairState::Two)?;
+        expect_kept(&rt, alloc, DiscLine::Backup(after), DiscPairState::Two)?;
         expect_kept(&rt, alloc, DiscLine::Held(after), held)?;
     }
     Ok(())
@@ -213,7 +211,7 @@ fn expect_failed_from(
 {
     expect_calls(rt, alloc, pair, failed_from)?;
     assert_eq!(rt; pair.faults(), faults);
-    assert!(rt; (pair.standing() == Standing::Lost) == (faults > 0));
+    assert!(rt; (pair.standing() == DiscPairState::Lost) == (faults > 0));
     if faults > 0 {
         expect_records(rt, alloc, pair, "AA one\n")?;
     }
@@ -254,7 +252,7 @@ fn expect_two(rt: &impl Abort, alloc: Global, pair: &mut DiscPair) -> Result<(),
     requires { IsFresh (state_of pair.old).told }
 {
     expect_held(rt, alloc, pair)?;
-    assert!(rt; pair.standing() == Standing::Two);
+    assert!(rt; pair.standing() == DiscPairState::Two);
     Ok(())
 }
 

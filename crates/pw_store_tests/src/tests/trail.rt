@@ -6,9 +6,9 @@ use pw_base::list::List;
 use pw_base::memory::Memory;
 use pw_code::file::FileInfo;
 use pw_trail::append::format;
-use pw_trail::changes::{Change, Kind, UnitChanges};
+use pw_trail::changes::{Change, ChangeKind, UnitChanges};
 use pw_trail::fault::OpenFault;
-use pw_trail::log::Log;
+use pw_trail::log::TrailLog;
 use pw_trail::recover::Recovery;
 use pw_volume::disk::Disk;
 use pw_volume::mem_disk::MemDisk;
@@ -31,11 +31,11 @@ fn one_file(alloc: Global) -> Result<List<FileInfo>, Memory>
 
 /// The numbers of the units that were taken.
 #[derive(Drop)]
-struct Numbers {
+struct UnitNumbers {
     numbers: Vec<u32>,
 }
 
-impl Recovery for Numbers {
+impl Recovery for UnitNumbers {
     ghost use Rattle.std.specs.Prelude.{◌≡◌, map};
     ghost use Rattle.pw_trail.specs.OneFile.{one_file_system};
     ghost use Rattle.pw_trail.specs.declared.changes.UnitChanges.{UnitChanges};
@@ -51,11 +51,11 @@ impl Recovery for Numbers {
 }
 
 /// Opens what is on a disk: the log, and the numbers of its units.
-fn opened(alloc: Global, disk: MemDisk) -> Result<(Log<MemDisk>, Vec<u32>), OpenFault> {
-    let mut into = Numbers {
+fn opened(alloc: Global, disk: MemDisk) -> Result<(TrailLog<MemDisk>, Vec<u32>), OpenFault> {
+    let mut into = UnitNumbers {
         numbers: Vec::new(alloc),
     };
-    match Log::open(alloc, disk, one_file(alloc)?, &mut into) {
+    match TrailLog::open(alloc, disk, one_file(alloc)?, &mut into) {
         Ok(log) => Ok((log, into.numbers)),
         Err((_disk, fault)) => Err(fault),
     }
@@ -163,7 +163,7 @@ fn unit(alloc: Global, number: u32) -> Result<UnitChanges, Memory> {
     let mut changes = List::new(alloc);
     changes.push(Change {
         file: 0,
-        kind: Kind::Put,
+        kind: ChangeKind::Put,
         bytes: Bytes::from_slice(alloc, b"AAx")?,
     })?;
     Ok(UnitChanges {
@@ -183,7 +183,7 @@ pub fn stopping_disk(alloc: Global, calls: u64) -> Result<MemDisk, Fail> {
 }
 
 /// Whether the log takes the unit.
-fn takes(alloc: Global, log: &mut Log<MemDisk>, number: u32) -> Result<bool, Fail> {
+fn takes(alloc: Global, log: &mut TrailLog<MemDisk>, number: u32) -> Result<bool, Fail> {
     let unit = unit(alloc, number)?;
     Ok(log.fits(&unit) && log.append(alloc, &unit).is_ok())
 }

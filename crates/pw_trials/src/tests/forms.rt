@@ -1,6 +1,6 @@
 //! Every form of statement, of requesters and of servers.
 
-use super::{Step, requester_runs, server_runs};
+use super::{TrialStep, requester_runs, server_runs};
 use pw_code::file::FileOp;
 use pw_whole::deck::read;
 use std::test::Fail;
@@ -113,36 +113,36 @@ F2 F-N=20
 ?END
 ";
 
-const REQUESTER: &[Step] = &[
-    Step::Show(b"24|030\n"),
-    Step::Show(b"24|TOO BIG\n"),
-    Step::Show(b"24|NOT LESS\n"),
-    Step::Show(b"24|013\n"),
-    Step::Show(b"01|N 015\n"),
-    Step::Accept,
-    Step::Show(b"01|N 020\n"),
-    Step::Show(b"01|N 020\n24|0002\n"),
-    Step::Begin,
-    Step::Send(0, b"ABCD", b"0001XY"),
-    Step::Show(b"01|N 020\n24|0001\n"),
-    Step::Show(b"01|N 020\n24|XY\n"),
-    Step::End,
-    Step::Show(b"01|N 020\n24|021\n"),
-    Step::Begin,
-    Step::Drop,
-    Step::Begin,
-    Step::Redo,
+const REQUESTER: &[TrialStep] = &[
+    TrialStep::Show(b"24|030\n"),
+    TrialStep::Show(b"24|TOO BIG\n"),
+    TrialStep::Show(b"24|NOT LESS\n"),
+    TrialStep::Show(b"24|013\n"),
+    TrialStep::Show(b"01|N 015\n"),
+    TrialStep::Accept,
+    TrialStep::Show(b"01|N 020\n"),
+    TrialStep::Show(b"01|N 020\n24|0002\n"),
+    TrialStep::Begin,
+    TrialStep::Send(0, b"ABCD", b"0001XY"),
+    TrialStep::Show(b"01|N 020\n24|0001\n"),
+    TrialStep::Show(b"01|N 020\n24|XY\n"),
+    TrialStep::End,
+    TrialStep::Show(b"01|N 020\n24|021\n"),
+    TrialStep::Begin,
+    TrialStep::Drop,
+    TrialStep::Begin,
+    TrialStep::Redo,
 ];
 
-const SERVER: &[Step] = &[
-    Step::File(FileOp::Read, b"A1", b"", 0, b"A10005"),
-    Step::File(FileOp::Rewrite, b"", b"A10006", 0, b""),
-    Step::File(FileOp::Next, b"A1", b"", 0, b"B10007"),
-    Step::File(FileOp::ReadLock, b"B1", b"", 11, b""),
-    Step::File(FileOp::NextLock, b"B1", b"", 1, b""),
-    Step::File(FileOp::Delete, b"B1", b"", 0, b""),
-    Step::File(FileOp::Write, b"", b"B10007", 10, b""),
-    Step::Reply(b"0010ABCD  "),
+const SERVER: &[TrialStep] = &[
+    TrialStep::File(FileOp::Read, b"A1", b"", 0, b"A10005"),
+    TrialStep::File(FileOp::Rewrite, b"", b"A10006", 0, b""),
+    TrialStep::File(FileOp::Next, b"A1", b"", 0, b"B10007"),
+    TrialStep::File(FileOp::ReadLock, b"B1", b"", 11, b""),
+    TrialStep::File(FileOp::NextLock, b"B1", b"", 1, b""),
+    TrialStep::File(FileOp::Delete, b"B1", b"", 0, b""),
+    TrialStep::File(FileOp::Write, b"", b"B10007", 10, b""),
+    TrialStep::Reply(b"0010ABCD  "),
 ];
 
 #[test]
@@ -190,9 +190,9 @@ B10007
 fn store_server_increments(rt: HostRuntime) -> Result<(), Fail> {
     let deck = read(rt.alloc(), STORE)?;
     let steps = [
-        Step::File(FileOp::Read, b"A1", b"", 0, b"A10005"),
-        Step::File(FileOp::Rewrite, b"", b"A10006", 0, b""),
-        Step::Reply(b"00000000A10006"),
+        TrialStep::File(FileOp::Read, b"A1", b"", 0, b"A10005"),
+        TrialStep::File(FileOp::Rewrite, b"", b"A10006", 0, b""),
+        TrialStep::Reply(b"00000000A10006"),
     ];
     server_runs(&rt, &deck, b"IA10000", &steps)
 }

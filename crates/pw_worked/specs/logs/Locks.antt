@@ -9,16 +9,16 @@ use Rattle.pw_event.specs.declared.event.Cause.TheVariants.{Older}
 use Rattle.pw_event.specs.declared.event.Ending.TheVariants.{NoEntries, Suspended}
 use Rattle.pw_event.specs.declared.event.Event.{Event}
 use Rattle.pw_event.specs.declared.event.Event.TheVariants.{Show, Key, CheckStart, CheckCopy, Applied, Begin, Send, Take, File, Reply, Restart, Raise, End}
-use Rattle.pw_onecopy.specs.Blocks.{Block, Out, Attempted, Done, Committed, Restarted, Left}
-use Rattle.pw_worked.specs.Deck.{Keys, Line, Sends, Begins, Setting}
+use Rattle.pw_onecopy.specs.Blocks.{SerialBlock, Out, Attempted, Done, Committed, Restarted, Left}
+use Rattle.pw_worked.specs.Deck.{Keys, KeyedLine, Sends, Begins, WorkedSetting}
 use Rattle.pw_worked.specs.Worked.{WorkedLog, shown, two_terminals}
 
 -- the entry line I A1
-abbrev pub increments_a1 : Line
+abbrev pub increments_a1 : KeyedLine
 increments_a1 = Sends (codes "IA10000")
 
 -- T1 and T2 both read_and_rewrite A1, with this MAXTMFRESTARTS and rule
-abbrev pub two_increment : ℕ → LockRule → Setting
+abbrev pub two_increment : ℕ → LockRule → WorkedSetting
 two_increment max_restarts rule = record {
   programs = Keys (increments_a1 ∷ []) ∷ Keys (increments_a1 ∷ []) ∷ [];
   max_restarts = max_restarts;
@@ -27,7 +27,7 @@ two_increment max_restarts rule = record {
 }
 
 -- the younger unit restarts, T1 commits, and T2 begins again and commits
-abbrev pub younger_behind_older : List Block
+abbrev pub younger_behind_older : List SerialBlock
 younger_behind_older =
     Out 0 ∷ Out 1 ∷ Attempted 1 1 Restarted 0 ∷ Attempted 0 1 Committed 1 ∷ Out 0 ∷
     Attempted 1 1 Committed 1 ∷ Out 1 ∷ Done 0 NoEntries ∷ Done 1 NoEntries ∷ []

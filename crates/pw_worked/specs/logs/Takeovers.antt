@@ -6,13 +6,13 @@ use Rattle.pw_event.specs.declared.event.Event.{Event}
 use Rattle.pw_event.specs.declared.event.Event.TheVariants.{Show, Key, CheckStart, CheckEnd, CheckCopy, Applied, Begin, Send, Take, Reply, Again, Commit, Restart, FailTcp, Takeover, Raise, End}
 use Rattle.pw_event.specs.declared.script.FailLine.TheVariants as line
 use Rattle.pw_onecopy.specs.Blocks.{Out, Attempted, Done, Committed, Restarted, Left}
-use Rattle.pw_worked.specs.Deck.{Line, Begins, Ends, Redoes}
+use Rattle.pw_worked.specs.Deck.{KeyedLine, Begins, Ends, Redoes}
 use Rattle.pw_worked.specs.logs.Locks.{increments_a1}
 use Rattle.pw_worked.specs.logs.Units.{two_texts, entries_to_begin, deck_stock, read_and_rewrite, unit_of_one_send, backup_entries, send_inside}
 use Rattle.pw_worked.specs.Worked.{WorkedLog, one_terminal, shown, two_terminals}
 
 -- F2, I A1, F3
-abbrev pub transaction : List Line
+abbrev pub transaction : List KeyedLine
 transaction = Begins ∷ increments_a1 ∷ Ends ∷ []
 
 -- the entries with which a transaction ends

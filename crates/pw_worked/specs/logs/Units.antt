@@ -10,7 +10,7 @@ use Rattle.pw_event.specs.declared.event.Event.{Event}
 use Rattle.pw_event.specs.declared.event.Event.TheVariants.{Show, Key, CheckStart, CheckEnd, CheckCopy, Applied, Begin, Send, Take, File, Reply, Commit, Back, Restart, Raise, End}
 use Rattle.pw_event.specs.declared.script.FailLine.{FailLine}
 use Rattle.pw_onecopy.specs.Blocks.{Out, Attempted, Done, Committed, Aborted, Restarted, Left}
-use Rattle.pw_worked.specs.Deck.{Displays, Sends, Begins, Drops, Ends, Redoes, Setting}
+use Rattle.pw_worked.specs.Deck.{Displays, Sends, Begins, Drops, Ends, Redoes, WorkedSetting}
 use Rattle.pw_worked.specs.logs.Locks.{increments_a1}
 use Rattle.pw_worked.specs.Worked.{WorkedLog, one_terminal, shown}
 
@@ -44,7 +44,7 @@ abbrev pub read_and_rewrite : List Event
 read_and_rewrite = File 0 1 Read Shared 0 0 ∷ File 0 1 Rewrite Exclusive 0 0 ∷ []
 
 -- a program that displays two texts and stops, with these failure lines
-abbrev pub two_texts : List FailLine → Setting
+abbrev pub two_texts : List FailLine → WorkedSetting
 two_texts script = record {
   programs = Displays (codes "ONE" ∷ codes "TWO" ∷ []) ∷ [];
   max_restarts = 5;

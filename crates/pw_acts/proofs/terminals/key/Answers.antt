@@ -1,5 +1,5 @@
 use Rattle.std.proofs.Common.{◌∙◌, ap}
-use Rattle.pw_code.specs.Entry.{Entry}
+use Rattle.pw_code.specs.Entry.{EntryLineModel}
 use Rattle.pw_code.specs.declared.verb.Answer.TheVariants as answer
 use Rattle.pw_keep.specs.Keeps.{kept_in}
 use Rattle.pw_kept.specs.Entered.{answer_terminal}
@@ -15,5 +15,5 @@ returns-clause-ok g c =
       kept =
           c.answer.ensures.kept
           ∙ (show-is c.args.keep.now.system c.args.terminal (answer.Entry c.in_ok-line.line) c.in_ok-next.next kept c.in_ok-next.ensures
-          ∙ ap (λ (line : Entry). answer_terminal c.args.keep.now.system c.args.terminal (answer.Entry line) kept) c.in_ok-line.ensures);
+          ∙ ap (λ (line : EntryLineModel). answer_terminal c.args.keep.now.system c.args.terminal (answer.Entry line) kept) c.in_ok-line.ensures);
     }

@@ -4,12 +4,12 @@ use Rattle.std.proofs.KnownBytes.{Consumes-trans, Consumes-kept}
 use Rattle.pw_base.specs.declared.read_all.ReadFault.{ReadFault}
 use Rattle.pw_base.specs.declared.read_all.ReadFault.TheVariants.{Fault, TooLong, Memory}
 use Rattle.pw_base.specs.declared.source.Got.{Got}
-use Rattle.pw_base.specs.Reading.{Comes, Stops}
+use Rattle.pw_base.specs.Reading.{HasRead, Stops}
 use Rattle.pw_base.proofs.Leads.{Lead-then}
 use Rattle.pw_base.proofs.read_all.read_all.Goals as goal
 
 -- where memory ran out nothing more is asked
-Comes-memory : (outcome : Result (List ℕ) ReadFault) (taken : List ℕ) (now : Option (List ℕ)) → IsErrAnd outcome (λ fault. fault ≡ Memory) → Comes outcome taken now
+Comes-memory : (outcome : Result (List ℕ) ReadFault) (taken : List ℕ) (now : Option (List ℕ)) → IsErrAnd outcome (λ fault. fault ≡ Memory) → HasRead outcome taken now
 Comes-memory (Ok bytes) taken now is = absurd is
 Comes-memory (Err Fault) taken now is = absurd cc
 Comes-memory (Err TooLong) taken now is = absurd cc

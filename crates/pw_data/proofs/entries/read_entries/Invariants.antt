@@ -2,14 +2,14 @@
 use Rattle.std.proofs.Common.{◌≡◌, ◌++◌, None, length}
 use Rattle.pw_base.specs.First.{least}
 use Rattle.pw_data.specs.Parts.{parts_from, parts_of}
-use Rattle.pw_data.specs.Entries.{faults_of_parts, entries_of}
+use Rattle.pw_data.specs.Entries.{faults_of_parts, data_entries_of}
 use Rattle.pw_data.proofs.entries.read_entries.Given as goal
 
 abbrev pub invariant-loop-cursor : goal.invariant-loop-cursor
 invariant-loop-cursor l = record {
   text : l.cursor.text ≡ l.text;
   server : l.found.server ≡ l.server;
-  entries : l.found.entries.items ++ entries_of l.server l.text (parts_from l.text l.found.linked 0 l.cursor.tokens) ≡ entries_of l.server l.text (parts_of l.text l.tokens);
+  entries : l.found.entries.items ++ data_entries_of l.server l.text (parts_from l.text l.found.linked 0 l.cursor.tokens) ≡ data_entries_of l.server l.text (parts_of l.text l.tokens);
   faults : least l.found.known (faults_of_parts l.server l.text (parts_from l.text l.found.linked 0 l.cursor.tokens)) ≡ least None (faults_of_parts l.server l.text (parts_of l.text l.tokens));
 }
 

@@ -1,7 +1,7 @@
 use Rattle.std.proofs.Common.{◌≡◌, ◌++◌, ◌∷◌, sym, ap, ◌∙◌}
 use Rattle.pw_base.specs.First.{least}
 use Rattle.pw_data.specs.Parts.{part_of, parts_from}
-use Rattle.pw_data.specs.Entries.{faults_of_parts, entries_of}
+use Rattle.pw_data.specs.Entries.{faults_of_parts, data_entries_of}
 use Rattle.pw_data.proofs.Readings.{after-heading, after-entry, entries-further, faults-further}
 use Rattle.pw_data.proofs.entries.read_next.Goals as goal
 
@@ -11,7 +11,7 @@ heading c =
     after-heading c.args.cursor.now c.take_heading-found.new.cursor c.args.found.now.linked c.take_heading-found.result (sym c.is_heading.ensures ∙ c.if-is_heading.true) c.take_heading-found.ensures.linked c.take_heading-found.ensures.left
 
 pub returns-then-is_heading-clause-entries : goal.returns-then-is_heading-clause-entries
-returns-then-is_heading-clause-entries c = sym (ap (λ parts. c.args.found.now.entries.items ++ entries_of c.args.found.now.server c.args.cursor.now.text parts) (heading c))
+returns-then-is_heading-clause-entries c = sym (ap (λ parts. c.args.found.now.entries.items ++ data_entries_of c.args.found.now.server c.args.cursor.now.text parts) (heading c))
 
 pub returns-then-is_heading-clause-faults : goal.returns-then-is_heading-clause-faults
 returns-then-is_heading-clause-faults c = sym (ap (λ parts. least c.args.found.now.known (faults_of_parts c.args.found.now.server c.args.cursor.now.text parts)) (heading c))

@@ -1,6 +1,6 @@
 use Rattle.std.proofs.Common.{◌≡◌, Ok, length, All, sym, ap, ◌∙◌, subst}
 use Rattle.pw_base.specs.First.{unless}
-use Rattle.pw_data.specs.Entries.{IsKept}
+use Rattle.pw_data.specs.Entries.{KeepsPicture}
 use Rattle.pw_data.specs.Tree.{forest}
 use Rattle.pw_data.specs.Laid.{size_in, items_in, chars_in}
 use Rattle.pw_data.specs.Layouts.{FitsPicture, no_table, laid, entries_in}
@@ -21,7 +21,7 @@ laid-requires-clause-kept c =
     let same : c.deref.result.now ≡ entries_in c.args.text.now c.args.tokens.now c.args.server = c.deref.ensures.value ∙ c.in_ok-entries.ensures.entries in
     let found = outcome c.args.text.now c.args.tokens.now c.args.server c.deref.result.now c.in_ok-entries.known c.in_ok-fault.field-0 same c.in_ok-entries.ensures.faults c.in_ok-fault.ensures in
     let is_laid = found ∙ ap (λ fault. unless fault (laid c.args.text.now c.deref.result.now)) c.in-None.is in
-    subst (All (IsKept c.args.text.now)) (sym (c.deref-in-None.ensures.value ∙ c.in_ok-entries.ensures.entries))
+    subst (All (KeepsPicture c.args.text.now)) (sym (c.deref-in-None.ensures.value ∙ c.in_ok-entries.ensures.entries))
     (kept-of_layout c.args.text.now c.args.tokens.now c.args.server (laid c.args.text.now c.deref.result.now) is_laid)
 
 pub laid-requires-clause-pictures : goal.laid-requires-clause-pictures

@@ -1,5 +1,5 @@
 use Rattle.std.proofs.Common.{length, not, false, sym, ap, ◌∙◌, arith}
-use Rattle.pw_base.specs.First.{least, noted}
+use Rattle.pw_base.specs.First.{least, fault_noted}
 use Rattle.pw_data.specs.Tree.{forest, is_top, in_table, tree_faults, is_misplaced}
 use Rattle.pw_data.proofs.Forests.{forest-none}
 use Rattle.pw_data.proofs.Loops.{Cut, faults-further}
@@ -13,7 +13,7 @@ loop-entry-preserved t c =
       shorter = omega (arith, c.split_at.ensures.back_len, ap length c.in-Some.ensures.cases.0, c.loop-entry.invariant.shorter);
       so_far = faults-further _ _ _ _ _ _ cut (is_top c.args.within) (in_table c.args.within) c.is_misplaced-misplaced.result c.loop-entry.known c.noted-known.result c.tree_faults-known.result _
           (c.is_misplaced-misplaced.ensures ∙ ap (λ none. is_misplaced (is_top c.args.within) (in_table c.args.within) (not none) c.in-Some.entry.now) c.is_empty.ensures)
-          (c.noted-known.ensures ∙ ap (noted c.loop-entry.known c.is_misplaced-misplaced.result) c.fault.ensures)
+          (c.noted-known.ensures ∙ ap (fault_noted c.loop-entry.known c.is_misplaced-misplaced.result) c.fault.ensures)
           (c.tree_faults-known.ensures ∙ ap (λ top. least c.noted-known.result (tree_faults top (in_table c.members_of.result) (forest c.split_at.result.0.now))) c.members_of.ensures.top
           ∙ ap (λ table. least c.noted-known.result (tree_faults false table (forest c.split_at.result.0.now))) c.members_of.ensures.table)
           c.loop-entry.invariant.so_far;

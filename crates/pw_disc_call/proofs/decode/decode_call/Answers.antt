@@ -6,20 +6,20 @@ use Rattle.pw_disc_call.specs.declared.call.DiscCall.{DiscCall}
 use Rattle.pw_disc_call.specs.declared.fault.CallFault.{CallFault}
 use Rattle.pw_disc_call.specs.declared.fault.CallFault.TheVariants.{Bad, Memory}
 use Rattle.pw_disc_call.specs.Format.{IsMessageOf}
-use Rattle.pw_disc_call.specs.Reading.{Gives, call_in}
+use Rattle.pw_disc_call.specs.Reading.{GivesCallPart, call_in}
 use Rattle.pw_disc_call.proofs.CallForms.{is_message, read_again}
 use Rattle.pw_disc_call.proofs.decode.decode_call.Goals as goal
 
-found : (bytes : List ℕ) (r : Result DiscCall CallFault) → AreBytes bytes → Gives (λ call. call) r (call_in bytes) → IfOk r (IsMessageOf bytes)
+found : (bytes : List ℕ) (r : Result DiscCall CallFault) → AreBytes bytes → GivesCallPart (λ call. call) r (call_in bytes) → IfOk r (IsMessageOf bytes)
 found bytes (Ok call) values e = is_message bytes call values e
 found bytes (Err fault) values e = tt
 
-only : (bytes : List ℕ) (r : Result DiscCall CallFault) → Gives (λ call. call) r (call_in bytes)
+only : (bytes : List ℕ) (r : Result DiscCall CallFault) → GivesCallPart (λ call. call) r (call_in bytes)
     → IfOk r (λ own. (call : DiscCall) → IsMessageOf bytes call → call ≡ own)
 only bytes (Ok own) e = λ call is. let two : Some call ≡ Some own = sym (read_again bytes call is) ∙ e in cc
 only bytes (Err fault) e = tt
 
-refused : (bytes : List ℕ) (r : Result DiscCall CallFault) → Gives (λ call. call) r (call_in bytes) → r ≡ Err Bad → (call : DiscCall) → ¬ IsMessageOf bytes call
+refused : (bytes : List ℕ) (r : Result DiscCall CallFault) → GivesCallPart (λ call. call) r (call_in bytes) → r ≡ Err Bad → (call : DiscCall) → ¬ IsMessageOf bytes call
 refused bytes (Ok own) e bad call is = absurd cc
 refused bytes (Err Bad) e bad call is =
     let two : None ≡ Some call = sym e ∙ read_again bytes call is in cc two

@@ -2,7 +2,7 @@ use Rattle.std.proofs.Common.{rules, ◌∷◌, Err}
 use Rattle.pw_expand.proofs.Plays.{blank-played, too-many, line-ok, line-err, line-begun}
 use Rattle.pw_expand.specs.Events.{event_in}
 use Rattle.pw_expand.specs.Schedule.{events_from, most_events}
-use Rattle.pw_expand.specs.Systems.{GoesOn, played, world_of}
+use Rattle.pw_expand.specs.Systems.{ScheduleGoesOn, played, world_of}
 use Rattle.pw_expand.proofs.play.play_line.Goals as goal
 
 pub returns-then-is_blank-clause-goes_on : goal.returns-then-is_blank-clause-goes_on
@@ -13,7 +13,7 @@ returns-then-left-eq0-clause-goes_on c = λ rest. too-many _ _ _ _ c.args.line.n
 
 pub returns-in_err-play_event-clause-goes_on : goal.returns-in_err-play_event-clause-goes_on
 returns-in_err-play_event-clause-goes_on c =
-    let goes : GoesOn (Err c.in_err-play_event.field-0.0) (world_of c.play_event.new.world.members.entries c.play_event.new.world.sent.items) c.args.systems c.args.number
+    let goes : ScheduleGoesOn (Err c.in_err-play_event.field-0.0) (world_of c.play_event.new.world.members.entries c.play_event.new.world.sent.items) c.args.systems c.args.number
     (λ rest. played (world_of c.args.world.now.members.entries c.args.world.now.sent.items) (events_from c.args.systems c.args.number c.args.left (c.args.line.now ∷ rest))) =
     line-err c.in_err-play_event.field-0.0 _ _ _ _ _ c.args.line.now c.if-is_blank.ensures c.if-left-eq0.false c.in_err-play_event.ensures in
     search rules

@@ -1,11 +1,11 @@
 use Rattle.std.proofs.Common.{List, ℕ, ◌++◌, ap, ◌∙◌, append_assoc, add-one}
 use Rattle.pw_listing.specs.Lines.{refresh_parts}
-use Rattle.pw_listing.specs.Listing.{counted, screens_to}
+use Rattle.pw_listing.specs.Listing.{refreshes_counted_once, screens_to}
 use Rattle.pw_listing.proofs.parts.print_screens.Goals as goal
 
 pub loop-terminal-preserved : goal.loop-terminal-preserved
 loop-terminal-preserved c =
-    let screens = counted c.args.refreshes.now in
+    let screens = refreshes_counted_once c.args.refreshes.now in
     let t = c.loop-terminal.terminal in
     rw add-one
     (c.in_ok-print_screens_of.ensures

@@ -1,6 +1,6 @@
 use Rattle.std.proofs.Common.{◌≡◌, ◌++◌, take}
 use Rattle.pw_listing.specs.Lines.{refresh_parts}
-use Rattle.pw_listing.specs.Listing.{counted}
+use Rattle.pw_listing.specs.Listing.{refreshes_counted_once}
 use Rattle.pw_listing.proofs.Seen.{HasSeen}
 use Rattle.pw_onecopy.specs.Refreshes.{refreshes_of}
 use Rattle.pw_listing.proofs.parts.print_screens_of.Given as goal
@@ -8,6 +8,6 @@ use Rattle.pw_listing.proofs.parts.print_screens_of.Given as goal
 -- the screens of the refreshes so far, whose numbers are those that were seen
 abbrev pub invariant-loop-refresh : goal.invariant-loop-refresh
 invariant-loop-refresh l = record {
-  text : l.text ≡ l.initial.text ++ refresh_parts l.system (counted (take l.refresh-index l.refreshes) l.terminal);
+  text : l.text ≡ l.initial.text ++ refresh_parts l.system (refreshes_counted_once (take l.refresh-index l.refreshes) l.terminal);
   seen : HasSeen l.seen (refreshes_of l.terminal (take l.refresh-index l.refreshes));
 }

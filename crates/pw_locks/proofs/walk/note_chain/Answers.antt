@@ -7,7 +7,7 @@ use Rattle.std.specs.declared.ops.Bound.TheVariants.{Unbounded}
 use Rattle.pw_locks.specs.Indexes.{has}
 use Rattle.pw_locks.specs.Reach.{is_reached}
 use Rattle.pw_locks.specs.Searches.{Searched, is_sought}
-use Rattle.pw_locks.specs.declared.run.Run.{Run}
+use Rattle.pw_locks.specs.declared.run.SpanLocks.{SpanLocks}
 use Rattle.pw_locks.proofs.Walking.{Walked-start, Walked-more, Walked-end, Walked-stop, earlier}
 use Rattle.pw_locks.proofs.walk.note_chain.Goals as goal
 
@@ -15,7 +15,7 @@ pub loop-run-init : goal.loop-run-init
 loop-run-init c =
     let runs = c.args.chain.now.runs in
     let span = c.args.sought.now.span.now in
-    let left : List (List ℕ × Run) = rev_source c.into_iter-run-iterator.result in
+    let left : List (List ℕ × SpanLocks) = rev_source c.into_iter-run-iterator.result in
     let all : left ≡ earlier span runs =
     ap (λ it. rev_source it) c.into_iter-run-iterator.ensures.into_iter_gives
     ∙ (c.rev-run-items.ensures.source

@@ -9,5 +9,5 @@ pub returns-in-Replied-clause-config : goal.returns-in-Replied-clause-config
 returns-in-Replied-clause-config c =
     λ frames.
     c.replied.ensures.config frames
-    ∙ ap (λ (l : List ℕ). answers.replied c.args.codes.now l (config_with frames c.args.top.now c.args.context.now)) c.as_slice.ensures
+    ∙ ap (λ (l : List ℕ). answers.code_after_reply c.args.codes.now l (config_with frames c.args.top.now c.args.context.now)) c.as_slice.ensures
     ∙ ap (λ (a : Answer). answers.reply_put c.args.codes.now a (config_with frames c.args.top.now c.args.context.now)) (sym c.in-Replied.is)

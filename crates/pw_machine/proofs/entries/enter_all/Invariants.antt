@@ -1,7 +1,7 @@
 -- The pairs that are left, on the storage now, give what all give.
 use Rattle.std.proofs.Common.{◌≡◌, drop}
-use Rattle.pw_exec.specs.Entries.{entered}
+use Rattle.pw_exec.specs.Entries.{storage_entered}
 use Rattle.pw_machine.proofs.entries.enter_all.Given as goal
 
 abbrev pub invariant-loop-name : goal.invariant-loop-name
-invariant-loop-name l = entered l.fields (drop l.name-index l.pairs) l.storage ≡ entered l.fields l.pairs l.fn.storage
+invariant-loop-name l = storage_entered l.fields (drop l.name-index l.pairs) l.storage ≡ storage_entered l.fields l.pairs l.fn.storage

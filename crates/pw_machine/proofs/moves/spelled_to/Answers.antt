@@ -3,7 +3,7 @@ use Rattle.std.proofs.Common.{◌≡◌, ◌<◌, length, [], sym, ◌∙◌, ar
 use Rattle.pw_picture.specs.Text.{fitted}
 use Rattle.pw_terminal.proofs.Written.{length-fitted}
 use Rattle.pw_exec.specs.Reading.{value_in}
-use Rattle.pw_source.specs.Values.{text_of}
+use Rattle.pw_source.specs.Values.{operand_text}
 use Rattle.pw_machine.specs.Views.{taken_by}
 use Rattle.pw_machine.proofs.BesideLemmas.{get_or-fitted}
 use Rattle.pw_machine.proofs.MoveLemmas.{written-more}
@@ -11,7 +11,7 @@ use Rattle.pw_machine.proofs.moves.spelled_to.Goals as goal
 
 pub loop-place-preserved : goal.loop-place-preserved
 loop-place-preserved c =
-    let text = text_of (value_in [] (taken_by c.args.operand.now c.args.found)) in
+    let text = operand_text (value_in [] (taken_by c.args.operand.now c.args.found)) in
     let size = c.args.to.size in
     let place = c.loop-place.place in
     let long : length (fitted size text) ≡ size = length-fitted size text in

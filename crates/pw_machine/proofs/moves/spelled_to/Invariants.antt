@@ -3,10 +3,10 @@ use Rattle.std.proofs.Common.{◌≡◌, take, []}
 use Rattle.pw_picture.specs.Text.{fitted}
 use Rattle.pw_terminal.specs.Shown.{written}
 use Rattle.pw_exec.specs.Reading.{value_in}
-use Rattle.pw_source.specs.Values.{text_of}
+use Rattle.pw_source.specs.Values.{operand_text}
 use Rattle.pw_machine.specs.Views.{taken_by}
 use Rattle.pw_machine.proofs.moves.spelled_to.Given as goal
 
 abbrev pub invariant-loop-place : goal.invariant-loop-place
 invariant-loop-place l =
-    l.storage ≡ written l.to.at (take l.place (fitted l.to.size (text_of (value_in [] (taken_by l.operand l.found))))) l.fn.storage
+    l.storage ≡ written l.to.at (take l.place (fitted l.to.size (operand_text (value_in [] (taken_by l.operand l.found))))) l.fn.storage

@@ -5,7 +5,7 @@ use Rattle.pw_monitor.specs.States.{seen}
 use Rattle.pw_monitor_world.specs.Seen.{sys_of}
 use Rattle.pw_onecopy.specs.Behaviour.{Behaviour}
 use Rattle.pw_order.specs.Order.{last_order}
-use Rattle.pw_order.specs.Shadow.{IsOf}
+use Rattle.pw_order.specs.Shadow.{IsOfSystem}
 use Rattle.pw_order.specs.declared.block.Block.{Block}
 use Rattle.pw_run.proofs.Reading.{is-of, read-all}
 use Rattle.pw_run.proofs.order.blocks.Goals as goal
@@ -15,7 +15,7 @@ loop-place-init g c =
     let world = seen g.D.Disc.told c.args.world.now in
     let sys : Behaviour = sys_of world in
     record {
-      stands = c.in_ok-reading.ensures sys (subst (λ (s : System). IsOf s sys) (sym c.system.ensures.system) (is-of world.system world.script));
+      stands = c.in_ok-reading.ensures sys (subst (λ (s : System). IsOfSystem s sys) (sym c.system.ensures.system) (is-of world.system world.script));
       blocks = c.new-order.ensures.items;
     }
 

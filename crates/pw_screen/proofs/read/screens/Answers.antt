@@ -3,7 +3,7 @@ use Rattle.std.proofs.lemmas.Bool.{eqb-true}
 use Rattle.pw_base.specs.declared.fault.Fault.{Fault}
 use Rattle.pw_base.specs.First.{Gives}
 use Rattle.pw_code.specs.declared.field.ScreenTable.{ScreenTable}
-use Rattle.pw_divisions.specs.Entries.{entries_of}
+use Rattle.pw_divisions.specs.Entries.{division_entries_of}
 use Rattle.pw_divisions.proofs.Cuts.{no-entries}
 use Rattle.pw_screen.specs.Built.{outcome}
 use Rattle.pw_screen.proofs.read.screens.Goals as goal
@@ -11,7 +11,7 @@ use Rattle.pw_screen.proofs.read.screens.Goals as goal
 pub loop-cursor-init : goal.loop-cursor-init
 loop-cursor-init c = record {
   text = c.new-cursor.ensures.text;
-  so_far = ap (λ tokens. outcome c.args.text.now c.args.layout.now c.new-reading.result (entries_of tokens)) c.new-cursor.ensures.tokens
+  so_far = ap (λ tokens. outcome c.args.text.now c.args.layout.now c.new-reading.result (division_entries_of tokens)) c.new-cursor.ensures.tokens
       ∙ c.new-reading.ensures.outcome c.args.text.now c.args.tokens.now c.args.layout.now;
   sound = c.new-reading.ensures.sound (length c.args.layout.now.storage);
 }

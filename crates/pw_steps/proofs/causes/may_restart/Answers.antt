@@ -2,7 +2,7 @@
 use Rattle.std.proofs.Common.{◌≡◌, Some, sym, ◌∙◌}
 use Rattle.std.proofs.lemmas.Result.{IfOk-weaker}
 use Rattle.pw_keep.specs.Keeps.{kept_in}
-use Rattle.pw_kept.specs.CauseTests.{holds, may_restart}
+use Rattle.pw_kept.specs.CauseTests.{kept_cause_holds, may_restart}
 use Rattle.pw_steps.proofs.Opened.{is-run, run-unit}
 use Rattle.pw_steps.proofs.Runs.{idle-restart, restarts, restarts-not}
 use Rattle.pw_tmf.specs.Told.{ToldUnit}
@@ -36,7 +36,7 @@ returns-then-has_restart_left g c =
     let t = c.args.terminal in
     IfOk-weaker c.holds.result
     (λ passes. (told : ToldUnit) → kept.disc.units own.terminal ≡ Some told → passes
-    ≡ holds system kept own.terminal told c.args.cause)
+    ≡ kept_cause_holds system kept own.terminal told c.args.cause)
     (λ passes. passes ≡ may_restart system kept t c.args.unit c.args.cause)
     (restarts system kept t own (is-run t kept own (sym c.running.ensures ∙ c.in-Some.is)) c.args.unit
     c.args.cause

@@ -2,7 +2,7 @@
 use Rattle.std.proofs.Common.{◌≡◌, Some, sym, ◌∙◌}
 use Rattle.std.proofs.lemmas.Result.{IfOk-weaker}
 use Rattle.pw_keep.specs.Keeps.{kept_in}
-use Rattle.pw_kept.specs.CauseTests.{holds, may_suspend}
+use Rattle.pw_kept.specs.CauseTests.{kept_cause_holds, may_suspend}
 use Rattle.pw_steps.proofs.Opened.{is-run, run-unit}
 use Rattle.pw_steps.proofs.Runs.{idle-suspend, suspends, suspends-not}
 use Rattle.pw_tmf.specs.Told.{ToldUnit}
@@ -35,7 +35,7 @@ returns-then-is_at_most g c =
     let t = c.args.terminal in
     IfOk-weaker c.holds.result
     (λ passes. (told : ToldUnit) → kept.disc.units own.terminal ≡ Some told → passes
-    ≡ holds system kept own.terminal told c.args.cause)
+    ≡ kept_cause_holds system kept own.terminal told c.args.cause)
     (λ passes. passes ≡ may_suspend system kept t c.args.cause)
     (suspends system kept t own (is-run t kept own (sym c.running.ensures ∙ c.in-Some.is)) c.args.cause
     (sym c.is_at_most.ensures ∙ c.if-is_at_most.true)) c.holds.ensures

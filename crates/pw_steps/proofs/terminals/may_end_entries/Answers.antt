@@ -2,7 +2,7 @@
 use Rattle.std.proofs.Common.{ap, ◌∙◌, ◌&&◌, ◌==◌}
 use Rattle.pw_keep.specs.Keeps.{kept_in}
 use Rattle.pw_kept.specs.Asked.{verb_in}
-use Rattle.pw_kept.specs.TerminalTests.{entries_of}
+use Rattle.pw_kept.specs.TerminalTests.{entry_line_count}
 use Rattle.pw_laws.specs.legal.Verbs.{asks_accept}
 use Rattle.pw_steps.proofs.AtVerb.{told-at}
 use Rattle.pw_steps.proofs.terminals.may_end_entries.Goals as goal
@@ -14,4 +14,4 @@ returns-in-Some g c =
     let context = c.in-Some.at.now.context in
     c.ends_entries.ensures
     ∙ (ap (λ v. asks_accept v && context.entries == c.entries_of.result) c.in-Some.ensures.verb
-    ∙ ap (λ n. asks_accept (verb_in c.args.keep.now.system context) && context.entries == n) (c.entries_of.ensures ∙ ap (λ s. entries_of s t) c.system.ensures) ∙ told-at c.args.keep.now.system kept t c.stepping.result c.in-Some.at c.stepping.ensures.context c.in-Some.is _)
+    ∙ ap (λ n. asks_accept (verb_in c.args.keep.now.system context) && context.entries == n) (c.entries_of.ensures ∙ ap (λ s. entry_line_count s t) c.system.ensures) ∙ told-at c.args.keep.now.system kept t c.stepping.result c.in-Some.at c.stepping.ensures.context c.in-Some.is _)

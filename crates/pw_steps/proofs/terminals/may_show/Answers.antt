@@ -1,7 +1,7 @@
 -- The test of what was read.
 use Rattle.std.proofs.Common.{ap, ◌∙◌, ◌&&◌}
 use Rattle.pw_keep.specs.Keeps.{kept_in}
-use Rattle.pw_kept.specs.Asked.{number_in}
+use Rattle.pw_kept.specs.Asked.{next_refresh_number}
 use Rattle.pw_laws.specs.legal.Values.{is_same_refresh}
 use Rattle.pw_laws.specs.legal.Verbs.{asks_show}
 use Rattle.pw_steps.proofs.AtVerb.{told-at}
@@ -13,5 +13,5 @@ returns-in-Some g c =
     let t = c.args.terminal in
     let context = c.in-Some.at.now.context in
     c.shows.ensures
-    ∙ (ap (λ v. asks_show v && is_same_refresh (number_in context) (record { phase = c.args.phase; attempt = c.args.attempt; k = c.args.k })) c.in-Some.ensures.verb
+    ∙ (ap (λ v. asks_show v && is_same_refresh (next_refresh_number context) (record { phase = c.args.phase; attempt = c.args.attempt; k = c.args.k })) c.in-Some.ensures.verb
     ∙ told-at c.args.keep.now.system kept t c.stepping.result c.in-Some.at c.stepping.ensures.context c.in-Some.is _)

@@ -5,8 +5,8 @@ use Rattle.pw_code.specs.declared.file.FileInfo.{FileInfo}
 use Rattle.pw_base.specs.declared.fault.Fault.{Fault}
 use Rattle.pw_event.specs.declared.event.Event.{Event}
 use Rattle.pw_event.specs.declared.script.FailLine.{FailLine}
-use Rattle.pw_tables.specs.Tables.{tables, entered}
-use Rattle.pw_tables.specs.declared.told.Told.{Told}
+use Rattle.pw_tables.specs.Tables.{tables, with_terminal_entries}
+use Rattle.pw_tables.specs.declared.told.DeckTables.{DeckTables}
 use Rattle.std.proofs.lemmas.List.{length-map}
 use Rattle.std.proofs.lemmas.Result.{err_from_is_err_and}
 use Rattle.pw_code.specs.Valid.{HasNames, HasFew}
@@ -18,7 +18,7 @@ pub tables-requires-clause-pairs : goal.tables-requires-clause-pairs
 tables-requires-clause-pairs c = omega (arith, length-map c.args.objects.commands.tcps (λ tcp. tcp.name), (c.requires.counts ReadersShare).tcps)
 
 -- what a deck says, of its parts
-abbrev told_as : System → List FailLine → List Event → ℕ → Result Told Fault
+abbrev told_as : System → List FailLine → List Event → ℕ → Result DeckTables Fault
 told_as system fails log version = Ok (record { system = system; script = record { lines = fails }; log = log; version = version })
 
 pub lines_in-requires-clause-names : goal.lines_in-requires-clause-names
@@ -46,4 +46,4 @@ pub returns : goal.returns
 returns c =
     let is = c.in_ok-system.ensures ∙ ap (λ (files : List FileInfo). tables c.args.objects.commands c.args.programs.now c.args.servers.now files ReadersShare) c.replace-files.ensures.value in
     c.in_ok-lines.ensures.told c.args.objects.files is
-    ∙ ap₂ (λ (system : System) (version : ℕ). told_as system c.in_ok-lines.lines.fails c.in_ok-lines.lines.log version) (sym (c.enter.ensures ∙ ap (entered c.args.objects.entries) (c.in_ok-lines.ensures.same ∙ is))) (sym c.log_version-version.ensures)
+    ∙ ap₂ (λ (system : System) (version : ℕ). told_as system c.in_ok-lines.lines.fails c.in_ok-lines.lines.log version) (sym (c.enter.ensures ∙ ap (with_terminal_entries c.args.objects.entries) (c.in_ok-lines.ensures.same ∙ is))) (sym c.log_version-version.ensures)

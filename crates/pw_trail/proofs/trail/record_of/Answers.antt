@@ -2,7 +2,7 @@ use Rattle.std.proofs.Common.{◌≡◌, ◌∙◌, ◌++◌, ◌∷◌, [], Lis
 use Rattle.std.proofs.lemmas.Iterator.Adapters.{YieldsList-from_vec}
 use Rattle.std.proofs.lemmas.Iterator.Consumers.{YieldsList-end}
 use Rattle.std.proofs.lemmas.List.{map-id, map_push}
-use Rattle.pw_tmf.specs.declared.answer.Changed.{Changed}
+use Rattle.pw_tmf.specs.declared.answer.ChangedKey.{ChangedKey}
 use Rattle.pw_trail.specs.Committing.{change_to}
 use Rattle.pw_trail.specs.declared.changes.Change.{Change}
 use Rattle.pw_trail.proofs.trail.record_of.Goals as goal
@@ -12,7 +12,7 @@ loop-one-init c = c.new-changes.ensures
 
 pub loop-one-preserved : goal.loop-one-preserved
 loop-one-preserved c =
-    let one : Changed = c.in-Some.one in
+    let one : ChangedKey = c.in-Some.one in
     c.in_ok-push.ensures.ok
     ∙ ap (λ (cs : List Change). cs ++ c.change_to.result ∷ []) c.loop-one.invariant
     ∙ ap (λ (x : Change). map change_to c.loop-one.yielded ++ x ∷ []) c.change_to.ensures

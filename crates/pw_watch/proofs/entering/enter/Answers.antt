@@ -7,7 +7,7 @@ use Rattle.pw_monitor.specs.Ledgers.{books_of}
 use Rattle.pw_monitor.specs.States.{seen}
 use Rattle.pw_tmf.specs.Tmf.{told_of}
 use Rattle.pw_watch.proofs.Pushing.{replied-there, sent-there, shown-kept, watch-more, watch-numbers, watch-refused, watch-roomy}
-use Rattle.pw_watch.specs.Noting.{IsKept, Notes}
+use Rattle.pw_watch.specs.Noting.{HasKeptNumbers, Notes}
 use Rattle.pw_watch.proofs.entering.enter.Goals as goal
 
 pub returns-in_err-make_room-clause-watch : goal.returns-in_err-make_room-clause-watch
@@ -42,7 +42,7 @@ returns-in-NotAStep-clause-watch c =
     let low = shown-kept old.keep.system c.args.event.now c.args.numbers.now c.requires.watch.count c.requires.there in
     watch-refused old c.enter.new.self c.in-NotAStep.ensures.leaves c.args.tally.now c.make_room.new.self c.args.numbers.now c.note.new.numbers c.forget.new.numbers
     c.met_before-before.result.terminal c.shown_in-shown.result c.in_ok-fresh.fresh c.requires.watch c.make_room.ensures.same
-    (subst (λ shown. IsKept shown c.args.numbers.now) (sym c.shown_in-shown.ensures) low) c.in_ok-fresh.ensures.ok c.forget.ensures
+    (subst (λ shown. HasKeptNumbers shown c.args.numbers.now) (sym c.shown_in-shown.ensures) low) c.in_ok-fresh.ensures.ok c.forget.ensures
 
 pub returns-in-Memory-clause-watch : goal.returns-in-Memory-clause-watch
 returns-in-Memory-clause-watch c =
@@ -50,4 +50,4 @@ returns-in-Memory-clause-watch c =
     let low = shown-kept old.keep.system c.args.event.now c.args.numbers.now c.requires.watch.count c.requires.there in
     watch-refused old c.enter.new.self c.in-Memory.ensures.leaves c.args.tally.now c.make_room.new.self c.args.numbers.now c.note.new.numbers c.forget-in-Memory.new.numbers
     c.met_before-before.result.terminal c.shown_in-shown.result c.in_ok-fresh.fresh c.requires.watch c.make_room.ensures.same
-    (subst (λ shown. IsKept shown c.args.numbers.now) (sym c.shown_in-shown.ensures) low) c.in_ok-fresh.ensures.ok c.forget-in-Memory.ensures
+    (subst (λ shown. HasKeptNumbers shown c.args.numbers.now) (sym c.shown_in-shown.ensures) low) c.in_ok-fresh.ensures.ok c.forget-in-Memory.ensures

@@ -1,6 +1,6 @@
 use Rattle.std.proofs.Common.{ap, subst}
 use Rattle.std.specs.Prelude.{IfOk}
-use Rattle.pw_watch.specs.Status.{Counts}
+use Rattle.pw_watch.specs.Status.{TellsStatus}
 use Rattle.pw_watch.specs.Watching.{WatchState, sys_in}
 use Rattle.pw_watch.proofs.status.count.Goals as goal
 
@@ -9,4 +9,4 @@ count_over-output-requires-clause-new c = ap (λ (w : WatchState). w.log) c.in_o
 
 pub returns : goal.returns
 returns c =
-    subst (λ (w : WatchState). IfOk c.count_over-output.result (λ output. Counts (sys_in w) w.system c.args.log.now output.0 output.1)) c.in_ok-watch.ensures c.count_over-output.ensures
+    subst (λ (w : WatchState). IfOk c.count_over-output.result (λ output. TellsStatus (sys_in w) w.system c.args.log.now output.0 output.1)) c.in_ok-watch.ensures c.count_over-output.ensures

@@ -1,6 +1,6 @@
 use Rattle.std.proofs.Common.{◌≡◌, ◌<◌, ◌∙◌, ap, length, subst, sym}
 use Rattle.std.proofs.lemmas.List.{get_or_default, length-set}
-use Rattle.pw_class.specs.Places.{IsPlace}
+use Rattle.pw_class.specs.Places.{IsRequestPlace}
 use Rattle.pw_class.specs.Queue.{with_request}
 use Rattle.pw_class.proofs.Moves.{noted-put}
 use Rattle.pw_class.proofs.book.ClassBook.put.Goals as goal
@@ -14,6 +14,6 @@ invariant_of-self-2 c =
       few = rw (length-set classes c.args.class c.put.new.self) c.self.invariant.few;
       noted =
           noted-put classes c.reserve.new.self c.set.new.self c.args.class c.args.request _ within
-          (λ other. subst (IsPlace classes other) (sym (c.in_ok-reserve.ensures.same other)) (c.self.invariant.noted other))
+          (λ other. subst (IsRequestPlace classes other) (sym (c.in_ok-reserve.ensures.same other)) (c.self.invariant.noted other))
           c.set.ensures.others (c.in_ok-put.ensures.ok ∙ ap (λ q. with_request q c.args.request) queue) c.set.ensures.here;
     }

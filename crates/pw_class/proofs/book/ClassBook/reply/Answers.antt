@@ -1,7 +1,7 @@
 use Rattle.std.proofs.Common.{◌≡◌, ◌<◌, ◌∙◌, ap, length, subst, sym, Some}
 use Rattle.std.proofs.lemmas.List.{get_or_default, length-set}
 use Rattle.pw_class.specs.Book.{queue_at}
-use Rattle.pw_class.specs.Places.{AreNoted, IsPlace}
+use Rattle.pw_class.specs.Places.{AreNoted, IsRequestPlace}
 use Rattle.pw_class.specs.Queue.{at_process, with_free}
 use Rattle.pw_class.proofs.Moves.{class-within, noted-reply, room-busy}
 use Rattle.pw_class.proofs.book.ClassBook.reply.Goals as goal

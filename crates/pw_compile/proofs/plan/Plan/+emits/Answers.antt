@@ -4,7 +4,7 @@ use Rattle.pw_code.specs.declared.instr.Instr.TheVariants as instr
 use Rattle.pw_compile.specs.Conditions.{cond_of, arithmetic_of}
 use Rattle.pw_compile.specs.Emitted.{statement_code, reply_code}
 use Rattle.pw_compile.specs.Operands.{operand_of}
-use Rattle.pw_compile.specs.Plan.{turn_of, class_of}
+use Rattle.pw_compile.specs.Plan.{turn_of, planned_class}
 use Rattle.pw_compile.proofs.Branches.{choice, ended, ended_two, code-If, code-OnSizeError}
 use Rattle.pw_compile.proofs.plan.Plan.+emits.Goals as goal
 
@@ -45,7 +45,7 @@ emit-returns-in_ok-push-in-Send t c =
     ended_two c.args.self.now c.args.code.now c.push-in-Send.new.self c.push-in-Send-2.new.self _ _ c.args.statement.now _ c.push-in-Send-2.result
     c.in_ok-push-in-Send.ensures.ok c.push-in-Send-2.ensures.ok c.in-Send.is (ap (λ i. i ∷ instr.NoCode ∷ [])
     (c.in_ok-send-in-Send.ensures
-    ∙ ap (λ codes. instr.Send (class_of c.args.self.now c.in-Send.class) (operand_of c.args.self.now.layout c.in-Send.message) (map (reply_code c.args.self.now) codes)) c.as_slice-in-Send.ensures.codes))
+    ∙ ap (λ codes. instr.Send (planned_class c.args.self.now c.in-Send.class) (operand_of c.args.self.now.layout c.in-Send.message) (map (reply_code c.args.self.now) codes)) c.as_slice-in-Send.ensures.codes))
 
 pub emit-returns-in_ok-times-in-PerformTimes : goal.emit-returns-in_ok-times-in-PerformTimes
 emit-returns-in_ok-times-in-PerformTimes t c =

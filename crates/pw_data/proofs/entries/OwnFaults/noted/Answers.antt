@@ -1,14 +1,14 @@
 use Rattle.std.proofs.Common.{◌≡◌, ℕ, ◌++◌, Bool, true, false, Option, refl}
 use Rattle.pw_base.specs.declared.fault.Fault.{Fault}
 use Rattle.pw_base.specs.declared.fault_code.FaultCode.TheVariants.{BadPicture, BadDataEntry, NameTwice}
-use Rattle.pw_base.specs.First.{least, noted}
-use Rattle.pw_data.specs.Entries.{fault, only_if}
+use Rattle.pw_base.specs.First.{least, fault_noted}
+use Rattle.pw_data.specs.Entries.{fault, data_fault_if}
 use Rattle.pw_data.proofs.entries.OwnFaults.noted.Goals as goal
 
 -- one fault after the other is noted
 one_by_one : (a b c : Bool) (line : ℕ) (known : Option Fault)
-    → noted (noted (noted known a (fault line BadPicture)) b (fault line BadDataEntry)) c (fault line NameTwice)
-    ≡ least known (only_if a line BadPicture ++ (only_if b line BadDataEntry ++ only_if c line NameTwice))
+    → fault_noted (fault_noted (fault_noted known a (fault line BadPicture)) b (fault line BadDataEntry)) c (fault line NameTwice)
+    ≡ least known (data_fault_if a line BadPicture ++ (data_fault_if b line BadDataEntry ++ data_fault_if c line NameTwice))
 one_by_one true true true line known = refl
 one_by_one true true false line known = refl
 one_by_one true false true line known = refl

@@ -4,7 +4,7 @@ use Rattle.pw_monitor.specs.States.{seen}
 use Rattle.pw_monitor_world.specs.Worlds.{IsDiscOf}
 use Rattle.pw_desk.proofs.Outcomes.{ran-ended, ran-stopped}
 use Rattle.pw_desk.specs.recovery.Kept.{TrailState, told_in, trail_state}
-use Rattle.pw_desk.specs.recovery.Ran.{Ran}
+use Rattle.pw_desk.specs.recovery.Ran.{RanOverTrail}
 use Rattle.pw_desk.specs.declared.recovery.ending.Recovered.{Recovered}
 use Rattle.pw_tmf.specs.Committed.{committed}
 use Rattle.pw_tmf.specs.Tmf.{told_of}
@@ -22,7 +22,7 @@ returns-in-Ended g c =
     record {
       ran =
           subst
-          (λ (r : Recovered). Ran g.N.Naming.files g.N.Naming.life c.args.fit (behaviour c.args.script.lines c.args.system) c.args.events r records)
+          (λ (r : Recovered). RanOverTrail g.N.Naming.files g.N.Naming.life c.args.fit (behaviour c.args.script.lines c.args.system) c.args.events r records)
           (sym c.of_ended.ensures)
           (ran-ended g.N.Naming.files g.N.Naming.life c.args.fit c.args.system c.args.script.lines c.args.events
           (told_in c.of-disc.result).faults (seen told_in c.in-Ended.world) records leaves.0 last.run last.committed

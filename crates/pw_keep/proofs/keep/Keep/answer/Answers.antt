@@ -1,7 +1,7 @@
 use Rattle.std.proofs.Common.{◌<◌, ap, refl, subst, sym, length}
 use Rattle.pw_keep.specs.Keeps.{HasVerb}
 use Rattle.pw_kept.specs.Changes.{with_context}
-use Rattle.pw_seats.specs.Seats.{answered}
+use Rattle.pw_seats.specs.Seats.{seat_answered}
 use Rattle.pw_seats.specs.declared.seat.Seat.{Seat}
 use Rattle.pw_keep.proofs.Parts.{alike-at, keep-own, seat-step, seat-there}
 use Rattle.pw_keep.proofs.keep.Keep.answer.Goals as goal
@@ -18,5 +18,5 @@ returns g c =
     let lt : c.args.terminal < length c.self.inside.seats.items = seat-there c.args.terminal c.self.invariant (rw (← c.self.view_is) at c.requires) in
     rw (← c.self.view_is)
     (seat-step g.D.Disc.told (with_context c.args.context) (record { system = c.self.inside.system; seats = c.self.inside.seats.items; disc = c.self.inside.disc; book = c.self.inside.classes; jobs = c.self.inside.jobs.items; pairs = c.self.inside.pairs.items; births = c.self.inside.births }) c.args.terminal c.answer.new.self lt
-    (alike-at (answered c.args.context) (with_context c.args.context) (λ s. refl) c.self.inside.seats.items c.args.terminal c.index_mut.result.now c.answer.new.self lt
+    (alike-at (seat_answered c.args.context) (with_context c.args.context) (λ s. refl) c.self.inside.seats.items c.args.terminal c.index_mut.result.now c.answer.new.self lt
     c.index_mut.ensures.value c.answer.ensures))

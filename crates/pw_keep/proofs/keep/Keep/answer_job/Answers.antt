@@ -1,5 +1,5 @@
 use Rattle.std.proofs.Common.{◌<◌, ◌-◌, List, Option, None, refl, subst, length}
-use Rattle.pw_seats.specs.declared.job.Job.{Job}
+use Rattle.pw_seats.specs.declared.job.ProcessJob.{ProcessJob}
 use Rattle.pw_keep.proofs.Posts.{go-on, go-on-kept, jobs-is, post-there}
 use Rattle.pw_keep.proofs.keep.Keep.answer_job.Goals as goal
 
@@ -8,7 +8,7 @@ go_on-requires g c =
     let low = rw (← c.self.view_is) at c.requires.class in
     let busy = rw (← c.self.view_is) at c.requires.busy in
     let there = post-there c.self.inside.system c.self.inside.seats.items (g.D.Disc.told c.self.inside.disc) c.self.inside.classes c.self.inside.jobs.items c.self.inside.pairs.items c.args.class c.args.process c.self.invariant low busy in
-    subst (λ (js : List (Option Job)). c.args.process - 1 < length js)
+    subst (λ (js : List (Option ProcessJob)). c.args.process - 1 < length js)
     (jobs-is c.self.inside.system c.self.inside.seats.items (g.D.Disc.told c.self.inside.disc) c.self.inside.classes c.self.inside.jobs.items c.self.inside.pairs.items c.args.class c.index_mut.result.now c.self.invariant low c.index_mut.ensures.value) there.1
 
 pub invariant_of-self : goal.invariant_of-self

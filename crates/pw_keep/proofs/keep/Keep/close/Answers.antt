@@ -1,7 +1,7 @@
 use Rattle.std.proofs.Common.{◌<◌, ap, refl, subst, sym, length}
 use Rattle.pw_keep.specs.Each.{with_ending}
 use Rattle.pw_keep.specs.Keeps.{HasVerb}
-use Rattle.pw_seats.specs.Seats.{ended}
+use Rattle.pw_seats.specs.Seats.{seat_ended}
 use Rattle.pw_seats.specs.declared.seat.Seat.{Seat}
 use Rattle.pw_keep.proofs.Parts.{alike-at, keep-own, seat-is, seat-step, seat-there}
 use Rattle.pw_keep.proofs.keep.Keep.close.Goals as goal
@@ -21,5 +21,5 @@ returns g c =
     let lt : c.args.terminal < length c.self.inside.seats.items = seat-there c.args.terminal c.self.invariant (rw (← c.self.view_is) at c.requires.known) in
     rw (← c.self.view_is)
     (seat-step g.D.Disc.told (with_ending c.args.ending) (record { system = c.self.inside.system; seats = c.self.inside.seats.items; disc = c.self.inside.disc; book = c.self.inside.classes; jobs = c.self.inside.jobs.items; pairs = c.self.inside.pairs.items; births = c.self.inside.births }) c.args.terminal c.end.new.self lt
-    (alike-at (ended c.args.ending) (with_ending c.args.ending) (λ s. refl) c.self.inside.seats.items c.args.terminal c.index_mut.result.now c.end.new.self lt
+    (alike-at (seat_ended c.args.ending) (with_ending c.args.ending) (λ s. refl) c.self.inside.seats.items c.args.terminal c.index_mut.result.now c.end.new.self lt
     c.index_mut.ensures.value c.end.ensures))

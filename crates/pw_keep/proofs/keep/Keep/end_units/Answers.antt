@@ -4,11 +4,11 @@ use Rattle.pw_keep.specs.Each.{changed_each}
 use Rattle.pw_keep.specs.Keeps.{IsKeep, kept_by}
 use Rattle.pw_kept.specs.Changes.{without_unit}
 use Rattle.pw_kept.specs.Kept.{Kept}
-use Rattle.pw_seats.specs.Seats.{over}
+use Rattle.pw_seats.specs.Seats.{seat_unit_over}
 use Rattle.pw_seats.specs.declared.seat.Seat.{Seat}
 use Rattle.pw_tmf.specs.Leaving.{open_units}
 use Rattle.pw_tmf.specs.Told.{Told}
-use Rattle.pw_tmf.specs.Units.{AreApart, CanBackOut, all_backed_out}
+use Rattle.pw_tmf.specs.Units.{HaveDistinctTerminals, CanBackOut, all_backed_out}
 use Rattle.pw_tmf.proofs.LeftUnits.{may-leave}
 use Rattle.pw_keep.proofs.Changed.{changed-are, keep-over, kept-each}
 use Rattle.pw_keep.proofs.keep.Keep.end_units.Goals as goal
@@ -17,7 +17,7 @@ pub back_out-requires-clause-apart : goal.back_out-requires-clause-apart
 back_out-requires-clause-apart g c κs within =
     let disc = g.D.Disc.told c.self.inside.disc in
     let low = subst (λ n. All (λ t. t < n) c.args.terminals.now) (sym c.self.invariant.disc_terminals) (rw (← c.self.view_is) at c.requires.known) in
-    subst AreApart (sym (c.deref.ensures.value ∙ (rw (← c.self.view_is) at c.in_ok-units.ensures))) (may-leave disc c.args.terminals.now c.requires.distinct low).0
+    subst HaveDistinctTerminals (sym (c.deref.ensures.value ∙ (rw (← c.self.view_is) at c.in_ok-units.ensures))) (may-leave disc c.args.terminals.now c.requires.distinct low).0
 
 pub back_out-requires-clause-may : goal.back_out-requires-clause-may
 back_out-requires-clause-may g c κs within =
@@ -48,6 +48,6 @@ returns-clause-ok g c =
       kept =
           ap₂ (λ (seats : List Seat) (d : Told). kept_by seats d c.self.inside.classes c.self.inside.jobs.items c.self.inside.pairs.items c.self.inside.births) c.end_units.ensures told
           ∙ ap (λ (k : Kept). record k { disc = all_backed_out true disc (open_units disc c.args.terminals.now) })
-          (kept-each (λ t. over) (λ t. without_unit) c.args.terminals.now c.self.inside.seats.items (changed_each (λ t. over) c.args.terminals.now c.self.inside.seats.items) disc c.self.inside.classes c.self.inside.jobs.items c.self.inside.pairs.items c.self.inside.births
-          (λ u low. refl) all (changed-are (λ t. over) (λ t s. refl) c.args.terminals.now c.self.inside.seats.items all));
+          (kept-each (λ t. seat_unit_over) (λ t. without_unit) c.args.terminals.now c.self.inside.seats.items (changed_each (λ t. seat_unit_over) c.args.terminals.now c.self.inside.seats.items) disc c.self.inside.classes c.self.inside.jobs.items c.self.inside.pairs.items c.self.inside.births
+          (λ u low. refl) all (changed-are (λ t. seat_unit_over) (λ t s. refl) c.args.terminals.now c.self.inside.seats.items all));
     })

@@ -5,7 +5,7 @@ use Rattle.pw_keep.specs.Calls.{cancel_of}
 use Rattle.pw_kept.specs.Changes as kept
 use Rattle.pw_kept.specs.Changes.{unit_at}
 use Rattle.pw_kept.specs.Kept.{Kept}
-use Rattle.pw_seats.specs.Seats.{restarted}
+use Rattle.pw_seats.specs.Seats.{seat_restarted}
 use Rattle.pw_seats.specs.declared.seat.Seat.{Seat}
 use Rattle.pw_tmf.specs.Units.{IsRunning, backed_out}
 use Rattle.pw_keep.proofs.Parts.{alike-at, seat-is, seat-there, unit-step}
@@ -39,7 +39,7 @@ returns-clause-ok g c =
     let lt : t < length c.self.inside.seats.items = seat-there t c.self.invariant (rw (← c.self.view_is) at c.requires.known) in
     let asked = rw (← c.self.view_is) at c.unit_at.ensures in
     let before = unit-step g.D.Disc.told (kept.restarted c.args.cause) (λ (kept : Kept). backed_out false kept.disc (unit_at kept t c.args.number)) (λ (kept : Kept). kept.births) (record { system = c.self.inside.system; seats = c.self.inside.seats.items; disc = c.self.inside.disc; book = c.self.inside.classes; jobs = c.self.inside.jobs.items; pairs = c.self.inside.pairs.items; births = c.self.inside.births }) c.back_out.new.self c.self.inside.births t c.restart.new.self lt
-    (alike-at (restarted c.args.cause) (kept.restarted c.args.cause) (restarted-kept c.args.cause) c.self.inside.seats.items t c.index_mut.result.now c.restart.new.self lt
+    (alike-at (seat_restarted c.args.cause) (kept.restarted c.args.cause) (restarted-kept c.args.cause) c.self.inside.seats.items t c.index_mut.result.now c.restart.new.self lt
     c.index_mut.ensures.value c.restart.ensures)
     (c.in_ok-back_out.ensures.ok ∙ ap (λ (u : Unit). backed_out false disc u) asked) refl in
     rw (← c.self.view_is) (record {

@@ -1,12 +1,12 @@
 use Rattle.std.proofs.Common.{◌≡◌, ◌<◌, true, length, sym, subst}
 use Rattle.std.proofs.lemmas.Result.{on_ok_weaker}
-use Rattle.pw_locks.specs.Runs.{Fits, is_in_runs}
+use Rattle.pw_locks.specs.Runs.{FitsAmongSpans, is_in_runs}
 use Rattle.pw_locks.specs.declared.chain.Chain.{Chain}
 use Rattle.pw_locks.proofs.Chaining.{any-set, any-set_here}
 use Rattle.pw_locks.proofs.chains.Chains.put.Goals as goal
 
 pub put-requires : goal.put-requires
-put-requires c = subst (λ (chain : Chain). Fits chain.runs c.args.low.now c.args.high.now) (sym c.index_mut.ensures.value) (c.in-Some.ensures.fits c.index_mut.result.now)
+put-requires c = subst (λ (chain : Chain). FitsAmongSpans chain.runs c.args.low.now c.args.high.now) (sym c.index_mut.ensures.value) (c.in-Some.ensures.fits c.index_mut.result.now)
 
 pub returns-in-Some-clause-ok : goal.returns-in-Some-clause-ok
 returns-in-Some-clause-ok c =

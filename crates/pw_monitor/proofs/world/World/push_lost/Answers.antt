@@ -7,7 +7,7 @@ use Rattle.pw_monitor.specs.States.{WorldState}
 use Rattle.pw_monitor.specs.Touched.{Grows, asks_at}
 use Rattle.pw_monitor_world.specs.Touches.{loses}
 use Rattle.pw_pair.specs.Pairs.{SeenPair}
-use Rattle.pw_pair.specs.declared.seat.Seat.{Seat}
+use Rattle.pw_pair.specs.declared.seat.BackupSeat.{BackupSeat}
 use Rattle.pw_monitor.proofs.world.World.push_lost.Goals as goal
 
 pub returns-then-loses : goal.returns-then-loses
@@ -22,4 +22,4 @@ returns-then-loses g c =
     rw (← c.self.view_is)
     (λ line. on-ok c.push_requests.result (rw (← c.self.view_is) at c.push_requests.ensures) (λ grown.
     lost-grows g.D.Disc.told w c.self.invariant p c.args.primary line old new (rw (← c.self.view_is) at c.requires) lost
-    (subst (λ (s : List Seat). Grows w.keep.system (λ a. list_any (λ t. asks_at kept t a) (map (λ (x : Seat). x.terminal) s)) old new) seats grown)))
+    (subst (λ (s : List BackupSeat). Grows w.keep.system (λ a. list_any (λ t. asks_at kept t a) (map (λ (x : BackupSeat). x.terminal) s)) old new) seats grown)))

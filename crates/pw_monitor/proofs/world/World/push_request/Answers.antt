@@ -1,7 +1,7 @@
 use Rattle.std.proofs.Common.{◌∙◌, Some, ap, is_some, sym}
 use Rattle.pw_base.proofs.Plain.{on-ok}
 use Rattle.pw_class.specs.Book.{IsAt}
-use Rattle.pw_class.specs.declared.request.Place.TheVariants.{Busy, Waiting}
+use Rattle.pw_class.specs.declared.request.RequestPlace.TheVariants.{Busy, Waiting}
 use Rattle.pw_monitor.proofs.ShownValues.{if-some}
 use Rattle.pw_monitor.proofs.Touching.{request-grows, request-nowhere}
 use Rattle.pw_monitor.specs.States.{WorldState}

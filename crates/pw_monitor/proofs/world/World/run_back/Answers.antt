@@ -8,7 +8,7 @@ use Rattle.pw_monitor_world.proofs.Steps.{placed}
 use Rattle.pw_monitor_world.specs.Seen.{Seen}
 use Rattle.pw_roster.specs.Places.{notes_in}
 use Rattle.pw_roster.specs.declared.actor.Actor.{Actor}
-use Rattle.pw_roster.specs.declared.roster.Note.{Note}
+use Rattle.pw_roster.specs.declared.roster.ActorNote.{ActorNote}
 use Rattle.pw_monitor.proofs.world.World.run_back.Goals as goal
 
 pub put_back-requires-clause-program : goal.put_back-requires-clause-program
@@ -34,7 +34,7 @@ invariant_of-self g c =
     (marked-monitor told w l c.self.invariant rest notes) (rw (← c.self.view_is) at c.requires.actor)
     (subst (λ (world : Seen). RanFrom ran.0 world c.args.actor c.args.given) (sym (marked-seen told w l rest notes)) ran.1)
     (λ other known.
-    ap (λ (n : Actor → Note). (n other).marked) notes ∙ all-mark (notes_in w.ledger.notes) other (placed w.keep.system c.self.invariant.valid other known))
+    ap (λ (n : Actor → ActorNote). (n other).marked) notes ∙ all-mark (notes_in w.ledger.notes) other (placed w.keep.system c.self.invariant.valid other known))
     c.put_back.ensures
 
 pub returns : goal.returns

@@ -3,7 +3,7 @@ use Rattle.pw_monitor.proofs.Noting.{noted-monitor, noted-seen, out-mark, out-ou
 use Rattle.pw_monitor.specs.States.{WorldState}
 use Rattle.pw_roster.specs.Places.{notes_in}
 use Rattle.pw_roster.specs.declared.actor.Actor.{Actor}
-use Rattle.pw_roster.specs.declared.roster.Note.{Note}
+use Rattle.pw_roster.specs.declared.roster.ActorNote.{ActorNote}
 use Rattle.pw_monitor.proofs.world.World.set_out.Goals as goal
 
 pub invariant_of-self : goal.invariant_of-self
@@ -13,7 +13,7 @@ invariant_of-self g c =
     noted-monitor g.D.Disc.told w c.set_out.new.self c.self.invariant c.set_out.ensures.rest
     (ap stamps_of c.set_out.ensures.notes ∙ out-stamp notes c.args.actor c.args.out)
     (λ actor known may.
-    ap (λ (n : Actor → Note). (n actor).marked) c.set_out.ensures.notes
+    ap (λ (n : Actor → ActorNote). (n actor).marked) c.set_out.ensures.notes
     ∙ (ap (λ (m : Actor → Bool). m actor) (out-mark notes c.args.actor c.args.out) ∙ c.self.invariant.books.marked actor known may))
 
 pub returns : goal.returns

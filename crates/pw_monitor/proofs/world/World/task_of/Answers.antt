@@ -6,7 +6,7 @@ use Rattle.pw_monitor_world.specs.Seen.{sys_of, work_of}
 use Rattle.pw_monitor_world.specs.Stamps.{IsStamp}
 use Rattle.pw_monitor.specs.Ledgers.{books_of}
 use Rattle.pw_monitor.specs.States.{WorldState, seen}
-use Rattle.pw_roster.specs.declared.roster.Note.{Note}
+use Rattle.pw_roster.specs.declared.roster.ActorNote.{ActorNote}
 use Rattle.pw_monitor.proofs.world.World.task_of.Goals as goal
 
 pub returns-in-Some : goal.returns-in-Some
@@ -24,7 +24,7 @@ returns-in-Some g c =
       actor_is = refl;
       may = inr (own, work);
       stamp =
-          subst (λ (n : Note). IsStamp (sys_of world) world.log actor n.stamp) (sym c.note-stamp.ensures)
+          subst (λ (n : ActorNote). IsStamp (sys_of world) world.log actor n.stamp) (sym c.note-stamp.ensures)
           (c.self.invariant.books.stamps actor known);
       work = ap Some c.in_ok-duplicate.ensures ∙ sym work;
       sound = λ x is.

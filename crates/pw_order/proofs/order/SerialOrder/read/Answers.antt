@@ -1,7 +1,7 @@
 use Rattle.std.proofs.Common.{◌≡◌, ◌++◌, subst, sym}
 use Rattle.std.specs.Prelude.{OnOk}
 use Rattle.pw_event.specs.declared.event.Event.{Event}
-use Rattle.pw_order.specs.Entries.{given, shadow_behind}
+use Rattle.pw_order.specs.Entries.{blocks_given, shadow_behind}
 use Rattle.pw_order.proofs.order.SerialOrder.read.Goals as goal
 
 pub returns-in-FailTcp-clause-kept : goal.returns-in-FailTcp-clause-kept
@@ -10,4 +10,4 @@ returns-in-FailTcp-clause-kept c =
 
 pub returns-in-FailTcp-clause-order : goal.returns-in-FailTcp-clause-order
 returns-in-FailTcp-clause-order c =
-    subst (λ (e : Event). OnOk c.fail.result (c.fail.new.order.items ≡ c.args.order.now.items ++ given c.args.self.now e)) (sym c.in-FailTcp.is) c.fail.ensures.order
+    subst (λ (e : Event). OnOk c.fail.result (c.fail.new.order.items ≡ c.args.order.now.items ++ blocks_given c.args.self.now e)) (sym c.in-FailTcp.is) c.fail.ensures.order

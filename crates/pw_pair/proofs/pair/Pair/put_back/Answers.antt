@@ -6,11 +6,11 @@ use Rattle.pw_pair.specs.Rooms.{is_used}
 use Rattle.pw_pair.specs.Seats.{put_each, without_backup}
 use Rattle.pw_pair.specs.declared.backup.Held.{Held}
 use Rattle.pw_pair.specs.declared.mode.Mode.TheVariants.{Down}
-use Rattle.pw_pair.specs.declared.seat.Seat.{Seat}
+use Rattle.pw_pair.specs.declared.seat.BackupSeat.{BackupSeat}
 use Rattle.pw_pair.proofs.Moving.{put-twice, unused}
 use Rattle.pw_pair.proofs.pair.Pair.put_back.Goals as goal
 
-abbrev down : List Seat → SeenPair
+abbrev down : List BackupSeat → SeenPair
 down seats = record { mode = Down; seats = seats }
 
 pub put_all-requires-clause-room : goal.put_all-requires-clause-room

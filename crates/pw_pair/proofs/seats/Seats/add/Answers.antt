@@ -8,7 +8,7 @@ use Rattle.std.specs.Option.{is_some}
 use Rattle.pw_base.proofs.Plain.{is_some-None}
 use Rattle.pw_pair.specs.Places.{AreSeats}
 use Rattle.pw_pair.specs.Seats.{is_seat_of, new_seat}
-use Rattle.pw_pair.specs.declared.seat.Seat.{Seat}
+use Rattle.pw_pair.specs.declared.seat.BackupSeat.{BackupSeat}
 use Rattle.pw_pair.proofs.Adding.{added, same-places}
 use Rattle.pw_pair.proofs.At.{has-terminal}
 use Rattle.pw_pair.proofs.seats.Seats.add.Goals as goal
@@ -22,7 +22,7 @@ returns-then-contains_key-clause-ok c =
 
 pub invariant_of-self-in_err-insert : goal.invariant_of-self-in_err-insert
 invariant_of-self-in_err-insert c =
-    let P : List Seat → Type 0 = λ l. AreSeats l c.insert.new.self c.self.inside.lacking in
+    let P : List BackupSeat → Type 0 = λ l. AreSeats l c.insert.new.self c.self.inside.lacking in
     subst P (sym c.in_ok-reserve.ensures.items)
     (record {
       places_are = same-places c.self.inside.places c.insert.new.self _ c.in_err-insert.ensures.err c.self.invariant.places_are;

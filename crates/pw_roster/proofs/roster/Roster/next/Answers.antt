@@ -2,12 +2,12 @@ use Rattle.std.proofs.Common.{◌≡◌, ◌-◌, List, Option, ℕ, ap, arith, 
 use Rattle.std.specs.Prelude.{position}
 use Rattle.std.proofs.lemmas.List.{take_all}
 use Rattle.pw_roster.specs.Places.{is_waiting}
-use Rattle.pw_roster.specs.declared.roster.Note.{Note}
+use Rattle.pw_roster.specs.declared.roster.ActorNote.{ActorNote}
 use Rattle.pw_roster.proofs.Placing.{none-waits, one-waits, starts-ahead, starts-at-end}
 use Rattle.pw_roster.proofs.roster.Roster.next.Goals as goal
 
 -- what is found is the first of the notes from a place on
-is-first : (items read : List Note) (from : ℕ) (result : Option ℕ) → read ≡ items
+is-first : (items read : List ActorNote) (from : ℕ) (result : Option ℕ) → read ≡ items
     → result ≡ position is_waiting (take (length read - from) (drop from read)) → position is_waiting (drop from items) ≡ result
 is-first items read from result is found =
     let whole = take_all (length read - from) (drop from read) (omega (arith, length-drop from read)) in

@@ -7,7 +7,7 @@ use Rattle.pw_monitor.specs.States.{seen}
 use Rattle.pw_monitor_world.proofs.Steps.{there}
 use Rattle.pw_paired.specs.Step.{Legal}
 use Rattle.pw_tmf.specs.Tmf.{told_of}
-use Rattle.pw_watch.specs.Watching.{Pushes, WatchState, state_in, sys_in, watched}
+use Rattle.pw_watch.specs.Watching.{PushesToWatch, WatchState, state_in, sys_in, watched}
 use Rattle.pw_watch.proofs.watch.Watch.push.Goals as goal
 
 pub returns-then-not-is_there : goal.returns-then-not-is_there
@@ -30,4 +30,4 @@ enter-requires-clause-there c =
 
 pub returns : goal.returns
 returns c =
-    subst (λ (v : WatchState). Pushes v c.args.event c.enter.result (watched c.enter.new.world)) c.self.view_is c.enter.ensures.pushes
+    subst (λ (v : WatchState). PushesToWatch v c.args.event c.enter.result (watched c.enter.new.world)) c.self.view_is c.enter.ensures.pushes
