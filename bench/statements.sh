@@ -12,7 +12,7 @@ program="$work/crates/bench_statements/out/bench_statements"
 build() {
     mkdir -p "$work"
     (cd "$here/.." && tar c --exclude=out crates crates.txt HANDLES) | tar x -C "$work"
-    echo "bench_statements: anyhow pw_base pw_code pw_exec pw_machine pw_whole" >> "$work/crates.txt"
+    echo "bench_statements: anyhow pw_base pw_code pw_code_meaning pw_machine pw_compiled_deck" >> "$work/crates.txt"
     (cd "$here/statements" && find . -name '*.txt') | while read -r file; do
         install -D -m 644 "$here/statements/$file" "$work/crates/bench_statements/${file%.txt}"
     done

@@ -1,12 +1,12 @@
 -- What inputs, texts and calls come to.
 use Rattle.std.proofs.Common.{◌≡◌, refl, inl, inr, ℕ, Bool, true, false, List, [], Option, None, Some, ◌∙◌, append-nil}
 use Rattle.std.specs.Io.KnownBytes.{Appends, Keeps}
-use Rattle.pw_call.specs.Outputs.{EndsWriting}
-use Rattle.pw_call.specs.declared.status.Status.{Status}
-use Rattle.pw_call.specs.declared.status.Status.TheVariants as status
-use Rattle.pw_command.specs.declared.words.Command.{Command}
-use Rattle.pw_command.specs.declared.words.Command.TheVariants as command
-use Rattle.pw_command.specs.declared.words.Words.{Words}
+use Rattle.pw_input_output.specs.Outputs.{EndsWriting}
+use Rattle.pw_input_output.specs.declared.status.Status.{Status}
+use Rattle.pw_input_output.specs.declared.status.Status.TheVariants as status
+use Rattle.pw_command_line.specs.declared.words.Command.{Command}
+use Rattle.pw_command_line.specs.declared.words.Command.TheVariants as command
+use Rattle.pw_command_line.specs.declared.words.Words.{Words}
 use Rattle.pw_expand.specs.declared.expand.ScheduleEnding.{ScheduleEnding}
 use Rattle.pw_expand.specs.declared.expand.ScheduleEnding.TheVariants as ending
 use Rattle.pathway.specs.Commands.{said, reads_source, usage_line}

@@ -5,11 +5,11 @@ use Rattle.pw_base.specs.declared.fault_code.FaultCode.TheVariants.{InputTooLong
 use Rattle.pw_base.specs.declared.memory.Memory.{Memory}
 use Rattle.pw_base.specs.Limits.{longest_input}
 use Rattle.pw_base.specs.declared.fault.Fault.{Fault}
-use Rattle.pw_call.specs.Inputs.{IsInput}
-use Rattle.pw_call.specs.declared.status.Status.{Status}
-use Rattle.pw_call.specs.declared.status.Status.TheVariants as status
+use Rattle.pw_input_output.specs.Inputs.{IsInput}
+use Rattle.pw_input_output.specs.declared.status.Status.{Status}
+use Rattle.pw_input_output.specs.declared.status.Status.TheVariants as status
 use Rattle.pw_deck.specs.Deck.{deck_of}
-use Rattle.pw_desk.specs.disc.PairRuns.{pair_deck_of}
+use Rattle.pw_deck_runs.specs.disc.PairRuns.{pair_deck_of}
 use Rattle.pathway.specs.declared.decks.DeckCommand.{DeckCommand}
 use Rattle.pathway.specs.declared.decks.DeckCommand.TheVariants as asked
 use Rattle.pathway.specs.declared.runs.RunCommand.{RunCommand}

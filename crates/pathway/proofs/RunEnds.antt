@@ -1,13 +1,13 @@
 -- What is printed of a run that ended so is defined by the status of its end.
 use Rattle.std.proofs.Common.{ℕ, List}
 use Rattle.pathway.specs.Decks.{PairRuns, RunsDeck, Trials}
-use Rattle.pw_desk.specs.Headline.{Reports}
-use Rattle.pw_desk.specs.Trials.{Tries}
-use Rattle.pw_desk.specs.disc.PairRuns.{IsPairRun}
-use Rattle.pw_desk.specs.declared.disc.ending.PairRan.TheVariants.{Ended as PairEnded}
-use Rattle.pw_run.specs.Endings.{status_of}
-use Rattle.pw_run.specs.declared.ending.LogEnding.{LogEnding}
-use Rattle.pw_run.specs.declared.ending.LogEnding.TheVariants.{Regular, Irregular, Full}
+use Rattle.pw_deck_runs.specs.Headline.{Reports}
+use Rattle.pw_deck_runs.specs.Trials.{Tries}
+use Rattle.pw_deck_runs.specs.disc.PairRuns.{IsPairRun}
+use Rattle.pw_deck_runs.specs.declared.disc.ending.PairRan.TheVariants.{Ended as PairEnded}
+use Rattle.pw_workers.specs.Endings.{status_of}
+use Rattle.pw_workers.specs.declared.ending.LogEnding.{LogEnding}
+use Rattle.pw_workers.specs.declared.ending.LogEnding.TheVariants.{Regular, Irregular, Full}
 
 pub runs : (ended : LogEnding) (events : ℕ) (bytes text : List ℕ) → Reports bytes events ended text
     → RunsDeck events (status_of ended) bytes text

@@ -3,10 +3,10 @@ use Rattle.std.specs.Prelude.{ℕ, List, [], ◌∷◌, ◌++◌, Bool, true, fa
 use Rattle.std.specs.Fmt.{decimal}
 use Rattle.pw_base.specs.declared.fault.Fault.{Fault}
 use Rattle.pw_base.specs.FaultCodes.{number, text}
-use Rattle.pw_command.specs.CommandLine.{command_of}
-use Rattle.pw_command.specs.declared.words.Command.{Command}
-use Rattle.pw_command.specs.declared.words.Command.TheVariants as command
-use Rattle.pw_command.specs.declared.words.Words.{Words}
+use Rattle.pw_command_line.specs.CommandLine.{command_of}
+use Rattle.pw_command_line.specs.declared.words.Command.{Command}
+use Rattle.pw_command_line.specs.declared.words.Command.TheVariants as command
+use Rattle.pw_command_line.specs.declared.words.Words.{Words}
 
 -- the commands that the program does: each
 abbrev pub is_for_program : Command → Bool

@@ -6,24 +6,24 @@ use Rattle.pathway.specs.declared.decks.DeckCommand.TheVariants as asked
 use Rattle.pathway.specs.declared.runs.RunCommand.{RunCommand}
 use Rattle.pathway.specs.declared.runs.RunCommand.TheVariants as ask
 use Rattle.pw_base.specs.declared.fault.Fault.{Fault}
-use Rattle.pw_call.specs.declared.status.Status.{Status}
-use Rattle.pw_call.specs.declared.status.Status.TheVariants as status
+use Rattle.pw_input_output.specs.declared.status.Status.{Status}
+use Rattle.pw_input_output.specs.declared.status.Status.TheVariants as status
 use Rattle.pw_deck.specs.Deck.{deck_of}
 use Rattle.pw_deck.specs.declared.deck.ParsedDeck.{ParsedDeck}
-use Rattle.pw_desk.specs.Headline.{Reports}
-use Rattle.pw_desk.specs.Replays.{Verifies}
-use Rattle.pw_desk.specs.Trials.{Tries}
-use Rattle.pw_desk.specs.declared.verify.Verified.{Verified}
-use Rattle.pw_desk.specs.declared.verify.Verified.TheVariants as verified
-use Rattle.pw_desk.specs.disc.PairRuns.{IsPairRun, pair_deck_of}
-use Rattle.pw_desk.specs.declared.disc.ending.PairRan.TheVariants as pair
-use Rattle.pw_desk.specs.recovery.Headline.{Recovers}
-use Rattle.pw_desk.specs.declared.recovery.ending.Recovered.{Recovered}
-use Rattle.pw_desk.specs.declared.recovery.ending.Recovered.TheVariants as recovered
-use Rattle.pw_run.specs.declared.ending.LogEnding.TheVariants as ran
-use Rattle.pw_watch.specs.Status.{IsStatusOf}
-use Rattle.pw_watch.specs.declared.status.Counted.{Counted}
-use Rattle.pw_watch.specs.declared.status.Counted.TheVariants as counted
+use Rattle.pw_deck_runs.specs.Headline.{Reports}
+use Rattle.pw_deck_runs.specs.Replays.{Verifies}
+use Rattle.pw_deck_runs.specs.Trials.{Tries}
+use Rattle.pw_deck_runs.specs.declared.verify.Verified.{Verified}
+use Rattle.pw_deck_runs.specs.declared.verify.Verified.TheVariants as verified
+use Rattle.pw_deck_runs.specs.disc.PairRuns.{IsPairRun, pair_deck_of}
+use Rattle.pw_deck_runs.specs.declared.disc.ending.PairRan.TheVariants as pair
+use Rattle.pw_deck_runs.specs.recovery.Headline.{Recovers}
+use Rattle.pw_deck_runs.specs.declared.recovery.ending.Recovered.{Recovered}
+use Rattle.pw_deck_runs.specs.declared.recovery.ending.Recovered.TheVariants as recovered
+use Rattle.pw_workers.specs.declared.ending.LogEnding.TheVariants as ran
+use Rattle.pw_status.specs.Status.{IsStatusOf}
+use Rattle.pw_status.specs.declared.status.Counted.{Counted}
+use Rattle.pw_status.specs.declared.status.Counted.TheVariants as counted
 
 -- a run has at most 500,000 entries
 abbrev pub IsRunInRange : RunCommand → Type 0

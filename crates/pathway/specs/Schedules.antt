@@ -3,8 +3,8 @@ use Rattle.std.specs.Prelude.{◌≡◌, ℕ, List, Option}
 use Rattle.pw_expand.specs.Answers.{IsAnswered}
 use Rattle.pw_expand.specs.declared.expand.ScheduleEnding.{ScheduleEnding}
 use Rattle.pw_expand.specs.declared.expand.ScheduleEnding.TheVariants as ending
-use Rattle.pw_call.specs.declared.status.Status.{Status}
-use Rattle.pw_call.specs.declared.status.Status.TheVariants.{Finished, Refused}
+use Rattle.pw_input_output.specs.declared.status.Status.{Status}
+use Rattle.pw_input_output.specs.declared.status.Status.TheVariants.{Finished, Refused}
 
 -- the status of a schedule that is answered so
 abbrev pub status_by : ScheduleEnding → Status

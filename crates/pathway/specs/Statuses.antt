@@ -2,12 +2,12 @@
 use Rattle.std.specs.Prelude.{◌≡◌, ℕ, ◌<◌, List, length, take, Bool, true, Option, None, Some, IfSome}
 use Rattle.std.specs.Io.KnownBytes.{Appends, Keeps}
 use Rattle.pw_base.specs.Outside.{Rose}
-use Rattle.pw_call.specs.Numbers.{status_number}
-use Rattle.pw_call.specs.declared.status.Status.{Status}
-use Rattle.pw_call.specs.declared.status.Status.TheVariants.{DiscFault, Finished, Irregular, Limit, Memory, NotAStep, ReadFault, Refused, Usage, WriteFault}
-use Rattle.pw_command.specs.declared.words.Command.{Command}
-use Rattle.pw_command.specs.declared.words.Command.TheVariants as command
-use Rattle.pw_command.specs.declared.words.Words.{Words}
+use Rattle.pw_input_output.specs.Numbers.{status_number}
+use Rattle.pw_input_output.specs.declared.status.Status.{Status}
+use Rattle.pw_input_output.specs.declared.status.Status.TheVariants.{DiscFault, Finished, Irregular, Limit, Memory, NotAStep, ReadFault, Refused, Usage, WriteFault}
+use Rattle.pw_command_line.specs.declared.words.Command.{Command}
+use Rattle.pw_command_line.specs.declared.words.Command.TheVariants as command
+use Rattle.pw_command_line.specs.declared.words.Words.{Words}
 use Rattle.pw_gen.specs.Generated.{generated}
 use Rattle.pathway.specs.Commands.{said, usage_line, reads_source}
 use Rattle.pathway.specs.Decks.{Checks, PairRuns, ReplaysDeck, RunsDeck, StatusCounts, TrailRuns, Trials}

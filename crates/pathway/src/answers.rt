@@ -7,7 +7,7 @@ use pw_base::bytes::Bytes;
 use pw_base::fault::Fault;
 use pw_base::fault_code::FaultCode;
 use pw_base::memory::Memory;
-use pw_call::status::Status;
+use pw_input_output::status::Status;
 use pw_words::texts::refusal_text;
 use std::alloc::Global;
 

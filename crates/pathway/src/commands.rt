@@ -2,11 +2,11 @@
 
 ghost use Rattle.std.specs.Prelude.{◌≡◌, IfOk, IfSome, map, string_bytes};
 ghost use Rattle.pathway.specs.Commands.{is_for_program, is_for_desk, said};
-ghost use Rattle.pw_command.specs.CommandLine.{AreOptionsInRange};
+ghost use Rattle.pw_command_line.specs.CommandLine.{AreOptionsInRange};
 
 use pw_base::memory::Memory;
-use pw_command::read::read_words;
-use pw_command::words::{Command, Words, WordsFault};
+use pw_command_line::read::read_words;
+use pw_command_line::words::{Command, Words, WordsFault};
 use std::alloc::Global;
 
 /// What the words say; None exactly where they are not those of a command.

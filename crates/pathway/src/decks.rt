@@ -4,22 +4,22 @@ ghost use Rattle.std.specs.Prelude.{◌≡◌, ◌≤◌, IfErr, IfOk, List, OnO
 ghost use Rattle.pathway.specs.Decks.{Checks, DefinesBy, ReplaysDeck, StatusCounts, status_after, status_at};
 ghost use Rattle.pathway.specs.Statuses.{OfBytes};
 ghost use Rattle.pw_base.specs.First.{Refuses};
-ghost use Rattle.pw_call.specs.Inputs.{GivesUp};
+ghost use Rattle.pw_input_output.specs.Inputs.{GivesUp};
 ghost use Rattle.pw_deck.specs.Deck.{deck_of};
-ghost use Rattle.pw_desk.specs.Replays.{Verifies};
-ghost use Rattle.pw_watch.specs.Status.{IsStatusOf};
+ghost use Rattle.pw_deck_runs.specs.Replays.{Verifies};
+ghost use Rattle.pw_status.specs.Status.{IsStatusOf};
 
 use crate::answers::{TOO_LONG, deck_ok, refused};
 use pw_base::bytes::Bytes;
 use pw_base::fault::{Fault, Refusal};
 use pw_base::memory::Memory;
 use pw_base::source::Source;
-use pw_call::input::read_input;
-use pw_call::output::or_memory;
-use pw_call::status::Status;
 use pw_deck::deck::check_deck;
-use pw_desk::verify::{Verified, verify};
-use pw_watch::status::{Counted, status};
+use pw_deck_runs::verify::{Verified, verify};
+use pw_input_output::input::read_input;
+use pw_input_output::output::or_memory;
+use pw_input_output::status::Status;
+use pw_status::status::{Counted, status};
 use std::alloc::Global;
 
 /// What is asked of a deck that is not run (docs/COMMANDS.md).

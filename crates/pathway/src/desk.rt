@@ -10,8 +10,8 @@ use crate::output::desk_output;
 use pw_base::memory::Memory;
 use pw_base::sink::Sink;
 use pw_base::source::Source;
-use pw_call::output::written;
-use pw_call::status::Status;
+use pw_input_output::output::written;
+use pw_input_output::status::Status;
 use std::alloc::Global;
 
 /// The program as far as it waits for no thread: it says whether a deck of the source has a fault, replays its

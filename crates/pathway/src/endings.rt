@@ -2,14 +2,14 @@
 
 ghost use Rattle.std.specs.Prelude.{◌≡◌, List, ℕ};
 ghost use Rattle.pathway.specs.Decks.{PairRuns, RunsDeck, Trials};
-ghost use Rattle.pw_desk.specs.Headline.{Reports};
-ghost use Rattle.pw_desk.specs.Trials.{Tries};
-ghost use Rattle.pw_desk.specs.disc.PairRuns.{IsPairRun};
-ghost use Rattle.pw_desk.specs.declared.disc.ending.PairRan.TheVariants.{Ended as PairEnded};
-ghost use Rattle.pw_run.specs.Endings.{status_of};
+ghost use Rattle.pw_deck_runs.specs.Headline.{Reports};
+ghost use Rattle.pw_deck_runs.specs.Trials.{Tries};
+ghost use Rattle.pw_deck_runs.specs.disc.PairRuns.{IsPairRun};
+ghost use Rattle.pw_deck_runs.specs.declared.disc.ending.PairRan.TheVariants.{Ended as PairEnded};
+ghost use Rattle.pw_workers.specs.Endings.{status_of};
 
-use pw_call::status::Status;
-use pw_run::ending::LogEnding;
+use pw_input_output::status::Status;
+use pw_workers::ending::LogEnding;
 
 /// The status of a run that ended so: over a disc that does not fail, over a disc pair, or of a generated deck.
 pub fn status_of(ended: LogEnding) -> Status

@@ -3,8 +3,8 @@
 ghost use Rattle.std.specs.Prelude.{◌≡◌, ◌≤◌, false, true, IfErr, IfOk, OnOk};
 ghost use Rattle.pathway.specs.Commands.{is_for_desk, reads_source};
 ghost use Rattle.pathway.specs.Statuses.{OutputBy};
-ghost use Rattle.pw_call.specs.Inputs.{GivesUp};
-ghost use Rattle.pw_command.specs.CommandLine.{AreOptionsInRange};
+ghost use Rattle.pw_input_output.specs.Inputs.{GivesUp};
+ghost use Rattle.pw_command_line.specs.CommandLine.{AreOptionsInRange};
 
 use crate::decks::{DeckCommand, deck_output};
 use crate::runs::{RunCommand, run_output};
@@ -12,10 +12,10 @@ use crate::schedule::schedule_output;
 use crate::seeds::{generated, tried};
 use pw_base::bytes::Bytes;
 use pw_base::source::Source;
-use pw_call::output::or_memory;
-use pw_call::status::Status;
-use pw_command::words::{Command, Words};
-use pw_run::gate::Gate;
+use pw_command_line::words::{Command, Words};
+use pw_input_output::output::or_memory;
+use pw_input_output::status::Status;
+use pw_workers::gate::Gate;
 use std::alloc::Global;
 use std::sync::Wait;
 use std::thread::Threads;

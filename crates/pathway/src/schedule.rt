@@ -1,12 +1,12 @@
 ghost use Rattle.std.specs.Prelude.{◌≡◌, ◌≤◌, IfOk, IfErr, OnOk};
 ghost use Rattle.pathway.specs.Schedules.{OfSchedule, status_by};
-ghost use Rattle.pw_call.specs.Inputs.{GivesUp};
+ghost use Rattle.pw_input_output.specs.Inputs.{GivesUp};
 
 use pw_base::bytes::Bytes;
 use pw_base::read_all::ReadFault;
 use pw_base::source::Source;
-use pw_call::status::Status;
 use pw_expand::expand::{ScheduleEnding, answer_source};
+use pw_input_output::status::Status;
 use std::alloc::Global;
 
 /// Reads the schedule of the source: the status and the text that answer it (docs/EXPAND.md), or the

@@ -5,7 +5,7 @@ use crate::desk::desk;
 use crate::top::pathway;
 use pw_base::mem_sink::MemSink;
 use pw_base::mem_source::MemSource;
-use pw_run::gate::NoGate;
+use pw_workers::gate::NoGate;
 use std::alloc::Global;
 use std::sync::Wait;
 use std::test::Fail;

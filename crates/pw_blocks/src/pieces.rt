@@ -64,7 +64,11 @@ pub fn rest(alloc: Global, before: &[u8], behind: &[u8]) -> Result<Vec<DataBlock
 }
 
 /// The first key of each block.
-pub fn first_keys(alloc: Global, blocks: &[DataBlock], key_length: usize) -> Result<Vec<Bytes>, Memory>
+pub fn first_keys(
+    alloc: Global,
+    blocks: &[DataBlock],
+    key_length: usize,
+) -> Result<Vec<Bytes>, Memory>
     ensures { IfOk result (λ keys. keys.items ≡ map (first_key key_length) blocks.now) }
 {
     let mut keys = Vec::new(alloc);

@@ -5,7 +5,7 @@ ghost use Rattle.pw_code.specs.Valid.{IsValid};
 use crate::classes::{cancel_all, place_of, take_next};
 use crate::places::RequestPlaces;
 use crate::queue::Queue;
-use crate::request::{RequestPlace, Request, Taken};
+use crate::request::{Request, RequestPlace, Taken};
 use pw_base::memory::Memory;
 use pw_code::system::System;
 use std::alloc::Global;
@@ -73,7 +73,8 @@ impl ClassBook {
         let terminal = request.terminal;
         self.places.reserve(terminal)?;
         self.classes[class as usize].put(request)?;
-        self.places.set(terminal, Some(RequestPlace::Waiting { class }));
+        self.places
+            .set(terminal, Some(RequestPlace::Waiting { class }));
         Ok(())
     }
 
@@ -120,8 +121,10 @@ impl ClassBook {
         let taken = take_next(&mut self.classes, class);
         if let Taken::Got { process, request } = &taken {
             let process = *process;
-            self.places
-                .set(request.terminal, Some(RequestPlace::Busy { class, process }));
+            self.places.set(
+                request.terminal,
+                Some(RequestPlace::Busy { class, process }),
+            );
         }
         taken
     }

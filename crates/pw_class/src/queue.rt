@@ -2,7 +2,7 @@ ghost use Rattle.std.specs.Prelude.{◌≡◌, ◌<◌, ◌^◌, ◌++◌, [], l
 ghost use Rattle.std.specs.List.{list_any};
 ghost use Rattle.std.specs.Option.{option_copied};
 
-use crate::request::{RequestPlace, Request, Taken};
+use crate::request::{Request, RequestPlace, Taken};
 use crate::twin::Twin;
 use crate::work::{any_for, end_all_for, free_place, place_for, put_at, take_at};
 use pw_base::memory::Memory;

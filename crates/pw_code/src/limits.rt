@@ -3,7 +3,10 @@ ghost use Rattle.pw_code.specs.Limits.{most_programs, most_servers, most_classes
 
 use crate::entry::{MAX_KEY, MAX_PAIRS};
 use crate::screen::{CELLS, COLUMNS, ROWS};
-use crate::system::{MAX_CLASSES, MAX_ENTRY_LINES, MAX_FILES, MAX_PROCESSES, MAX_PROGRAMS, MAX_RESTARTS, MAX_SERVERS, MAX_TCPS, MAX_TERMINALS};
+use crate::system::{
+    MAX_CLASSES, MAX_ENTRY_LINES, MAX_FILES, MAX_PROCESSES, MAX_PROGRAMS, MAX_RESTARTS,
+    MAX_SERVERS, MAX_TCPS, MAX_TERMINALS,
+};
 
 /// The constants are the numbers of the table of limits (docs/LIMITS.md), and a screen has 24 rows of 80 cells.
 pub fn limit_laws()

@@ -1,5 +1,5 @@
 use crate::copies::Duplicate;
-use crate::place::{StoragePlace, Register};
+use crate::place::{Register, StoragePlace};
 use pw_base::bytes::Bytes;
 use pw_base::memory::Memory;
 use pw_number::scaled::Scaled;

@@ -5,7 +5,7 @@ ghost use Rattle.pw_compile.specs.Conditions.{operation_of, receiver_by, arithme
 use crate::operands::{operand_of, place_in};
 use pw_base::list::List;
 use pw_base::memory::Memory;
-use pw_code::cond::{Comparison as Test, Cond as Tests, ComparisonOperator as Sign};
+use pw_code::cond::{Comparison as Test, ComparisonOperator as Sign, Cond as Tests};
 use pw_code::instr::{Arithmetic as Computed, ArithmeticOperation as Action};
 use pw_data::layout::Layout;
 use pw_forms::cond::{ComparisonForm, ConditionForm, Operator};
@@ -27,7 +27,11 @@ fn operator_of(operator: Operator) -> Sign
 }
 
 /// A comparison.
-fn comparison_of(alloc: Global, layout: &Layout, comparison: &ComparisonForm) -> Result<Test, Memory>
+fn comparison_of(
+    alloc: Global,
+    layout: &Layout,
+    comparison: &ComparisonForm,
+) -> Result<Test, Memory>
     ensures { IfOk result (λ test. test ≡ comparison_of layout.now comparison.now) }
 {
     match comparison {
@@ -57,7 +61,11 @@ fn comparison_of(alloc: Global, layout: &Layout, comparison: &ComparisonForm) ->
 }
 
 /// Comparisons of which each must hold.
-fn comparisons_of(alloc: Global, layout: &Layout, all: &[ComparisonForm]) -> Result<List<Test>, Memory>
+fn comparisons_of(
+    alloc: Global,
+    layout: &Layout,
+    all: &[ComparisonForm],
+) -> Result<List<Test>, Memory>
     ensures { IfOk result (λ tests. tests ≡ map (comparison_of layout.now) all.now) }
 {
     let mut tests = List::new(alloc);

@@ -7,7 +7,7 @@ use crate::numbers::{number_in, value_of};
 use pw_base::list::List;
 use pw_base::memory::Memory;
 use pw_code::operand::InstructionOperand as Coded;
-use pw_code::place::{Kind, StoragePlace, Register, PlaceSubscript as Index, PlaceTable};
+use pw_code::place::{Kind, PlaceSubscript as Index, PlaceTable, Register, StoragePlace};
 use pw_data::item::Place as Item;
 use pw_data::layout::Layout;
 use pw_forms::operand::{Operand, Subscript};

@@ -11,7 +11,7 @@ use pw_code::instr::Turn;
 use pw_code::links::Links;
 use pw_data::layout::Layout;
 use pw_forms::statement::Paragraph;
-use pw_index::index::{Index, index_of, number_of};
+use pw_operands::index::{Index, index_of, number_of};
 use std::alloc::Global;
 use std::marker::Model;
 
@@ -32,7 +32,7 @@ pub struct Plan<'a> {
 
 impl<'a> Model for Plan<'a> {
     ghost use Rattle.pw_compile.specs.Plan.{Plan};
-    ghost use Rattle.pw_index.specs.Index.{IsIndexOf};
+    ghost use Rattle.pw_operands.specs.Index.{IsIndexOf};
     ghost use Rattle.pw_forms.specs.contracts.statement.Statement as statement;
     ghost use Rattle.std.specs.Coded.{codes};
 

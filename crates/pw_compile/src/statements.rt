@@ -13,9 +13,9 @@ use pw_base::bytes::Bytes;
 use pw_base::list::List;
 use pw_base::memory::Memory;
 use pw_code::instr::{Instr, ReplyCode, Turn};
-use pw_code::place::{StoragePlace, PlaceSubscript, PlaceTable};
+use pw_code::place::{PlaceSubscript, PlaceTable, StoragePlace};
 use pw_forms::cond::ConditionForm;
-use pw_forms::lists::{SendCode, Keys};
+use pw_forms::lists::{Keys, SendCode};
 use pw_forms::operand::Operand;
 use std::alloc::Global;
 
@@ -69,7 +69,12 @@ impl<'a> Plan<'a> {
     }
 
     /// The test of PERFORM UNTIL.
-    pub fn until(&self, alloc: Global, paragraph: &Bytes, cond: &ConditionForm) -> Result<Instr, Memory>
+    pub fn until(
+        &self,
+        alloc: Global,
+        paragraph: &Bytes,
+        cond: &ConditionForm,
+    ) -> Result<Instr, Memory>
         ensures { IfOk result (λ one. one ≡ instr.Until (turn_of self.now paragraph.now)
             (cond_of self.now.layout cond.now)) }
     {

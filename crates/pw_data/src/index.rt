@@ -16,7 +16,12 @@ use std::alloc::Global;
 pub type ItemIndex = IndexMap<Vec<u8>, usize>;
 
 /// Puts the number of a name, unless the name is there.
-fn put_number(alloc: Global, name: &[u8], number: usize, index: &mut ItemIndex) -> Result<(), Memory>
+fn put_number(
+    alloc: Global,
+    name: &[u8],
+    number: usize,
+    index: &mut ItemIndex,
+) -> Result<(), Memory>
     ensures { OnOk result ((word : List ℕ) → indexed_item_number index.new word
         ≡ option_or (indexed_item_number index.old word) (if same_word name.now word then Some number else None)) }
 {

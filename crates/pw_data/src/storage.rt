@@ -71,7 +71,11 @@ fn number_chars(alloc: Global, picture: &Picture, number: Scaled) -> Result<Byte
 }
 
 /// The characters with which an item of a kind begins.
-fn initial_by(alloc: Global, value: &Option<Literal>, kind: Option<ItemKind>) -> Result<Bytes, Memory>
+fn initial_by(
+    alloc: Global,
+    value: &Option<Literal>,
+    kind: Option<ItemKind>,
+) -> Result<Bytes, Memory>
     requires { ForSome kind IsKind }
     ensures { IfOk result (λ chars. chars ≡ initial_by value.now (option_map picture_of_kind kind)) }
 {

@@ -16,9 +16,9 @@ use Rattle.pw_code.specs.Limits.{most_programs, most_servers}
 use Rattle.pw_code.specs.declared.lock.LockRule.TheVariants.{ReadersShare}
 use Rattle.pw_code.specs.declared.system.System.{System}
 use Rattle.pw_code.specs.declared.system.TermInfo.{TermInfo}
-use Rattle.pw_lines.specs.Lines.{lines}
-use Rattle.pw_lines.specs.Steps.{◌>>=◌, refused, or_refused}
-use Rattle.pw_lines.specs.Words.{words}
+use Rattle.pw_sections.specs.Lines.{lines}
+use Rattle.pw_sections.specs.Steps.{◌>>=◌, refused, or_refused}
+use Rattle.pw_sections.specs.Words.{words}
 use Rattle.pw_names.specs.Names.{names_of}
 use Rattle.pw_pathcom.specs.Objects.{unknown, unknown_terminal, unknown_class}
 use Rattle.pw_pathcom.specs.declared.commands.Started.{Started}
@@ -30,15 +30,15 @@ use Rattle.pw_sections.specs.declared.heading.Heading.{Heading}
 use Rattle.pw_sections.specs.declared.heading.Heading.TheVariants as heading
 use Rattle.pw_server.specs.Servers.{server_of}
 use Rattle.pw_server.specs.declared.server.Server.{Server}
-use Rattle.pw_tables.proofs.Commands.{and_then, Any, any_of}
-use Rattle.pw_tables.proofs.Good.{good_names, good_few}
-use Rattle.pw_tables.specs.Objects.{section_admitted}
-use Rattle.pw_tables.specs.Pieces.{section_line, section_text}
-use Rattle.pw_tables.specs.Tables.{with_entries}
-use Rattle.pw_tables.specs.Unknown.{tables_of, all_unknown, known, startable, fails_of, log_of, told_of}
-use Rattle.pw_tables.specs.declared.objects.Objects.{Objects}
-use Rattle.pw_tables.specs.declared.objects.TermEntries.{TermEntries}
-use Rattle.pw_tables.specs.declared.told.DeckTables.{DeckTables}
+use Rattle.pw_deck_tables.proofs.Commands.{and_then, Any, any_of}
+use Rattle.pw_deck_tables.proofs.Good.{good_names, good_few}
+use Rattle.pw_deck_tables.specs.Objects.{section_admitted}
+use Rattle.pw_deck_tables.specs.Pieces.{section_line, section_text}
+use Rattle.pw_deck_tables.specs.Tables.{with_entries}
+use Rattle.pw_deck_tables.specs.Unknown.{tables_of, all_unknown, known, startable, fails_of, log_of, told_of}
+use Rattle.pw_deck_tables.specs.declared.objects.Objects.{Objects}
+use Rattle.pw_deck_tables.specs.declared.objects.TermEntries.{TermEntries}
+use Rattle.pw_deck_tables.specs.declared.told.DeckTables.{DeckTables}
 use Rattle.pw_words.specs.Words.{Word}
 use Rattle.pw_deck.specs.Deck.{sized, end_found, links_of, deck_in, deck_of}
 use Rattle.pw_deck.specs.Parts.{no_parts, has_requester, has_server, requester_section, server_section, with_objects, section_of, section_read, sections_read, front_read, parts_of, program_names, server_names}

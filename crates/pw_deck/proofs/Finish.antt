@@ -5,14 +5,14 @@ use Rattle.pw_base.specs.First.{Refuses}
 use Rattle.pw_base.specs.declared.fault.Fault.{Fault}
 use Rattle.pw_base.specs.declared.fault.Refusal.{Refusal}
 use Rattle.pw_code.specs.declared.links.Links.{Links}
-use Rattle.pw_lines.specs.Steps.{◌>>=◌}
-use Rattle.pw_lines.proofs.Steps.{refuses_on}
+use Rattle.pw_sections.specs.Steps.{◌>>=◌}
+use Rattle.pw_sections.proofs.Steps.{refuses_on}
 use Rattle.pw_names.specs.Names.{names_of}
 use Rattle.pw_scobol.specs.declared.requester.Requester.{Requester}
 use Rattle.pw_server.specs.declared.server.Server.{Server}
-use Rattle.pw_tables.specs.Tables.{class_names}
-use Rattle.pw_tables.specs.Unknown.{told_of}
-use Rattle.pw_tables.specs.declared.told.DeckTables.{DeckTables}
+use Rattle.pw_deck_tables.specs.Tables.{class_names}
+use Rattle.pw_deck_tables.specs.Unknown.{told_of}
+use Rattle.pw_deck_tables.specs.declared.told.DeckTables.{DeckTables}
 use Rattle.pw_words.specs.Words.{Word}
 use Rattle.pw_deck.specs.Deck.{end_found, links_of, deck_in}
 use Rattle.pw_deck.specs.Parts.{program_names, server_names, parts_of}

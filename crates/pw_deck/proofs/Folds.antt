@@ -3,9 +3,9 @@ use Rattle.std.proofs.Common.{◌≡◌, ℕ, ◌+◌, true, false, cond, List, 
 use Rattle.pw_base.specs.declared.fault.Fault.{Fault}
 use Rattle.pw_base.specs.declared.fault.Refusal.{Refusal}
 use Rattle.pw_base.specs.First.{Refuses}
-use Rattle.pw_lines.specs.Lines.{lines}
-use Rattle.pw_lines.specs.Steps.{◌>>=◌}
-use Rattle.pw_lines.proofs.Steps.{refuses_on}
+use Rattle.pw_sections.specs.Lines.{lines}
+use Rattle.pw_sections.specs.Steps.{◌>>=◌}
+use Rattle.pw_sections.proofs.Steps.{refuses_on}
 use Rattle.pw_deck.specs.Parts.{section_read, sections_read}
 use Rattle.pw_deck.specs.declared.parts.Parts.{Parts}
 

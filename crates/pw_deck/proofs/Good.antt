@@ -8,20 +8,20 @@ use Rattle.pw_base.specs.declared.fault.Fault.{Fault}
 use Rattle.pw_base.specs.declared.fault_code.FaultCode.TheVariants.{BadSection}
 use Rattle.pw_code.specs.Limits.{most_programs, most_servers}
 use Rattle.pw_code.specs.Names.{IsName, may_name}
-use Rattle.pw_lines.specs.Lines.{lines}
-use Rattle.pw_lines.specs.Steps.{or_refused}
-use Rattle.pw_lines.specs.Words.{words, name_in, word_number}
+use Rattle.pw_sections.specs.Lines.{lines}
+use Rattle.pw_sections.specs.Steps.{or_refused}
+use Rattle.pw_sections.specs.Words.{words, name_in, word_number}
 use Rattle.pw_scobol.specs.Requesters.{requester_of}
 use Rattle.pw_sections.specs.Headings.{plain_heading, named_heading, keyed_heading, file_heading, heading_by, heading_of}
 use Rattle.pw_sections.specs.Parts.{front, sections}
 use Rattle.pw_sections.specs.declared.heading.Heading.{Heading}
 use Rattle.pw_sections.specs.declared.heading.Heading.TheVariants as heading
 use Rattle.pw_server.specs.Servers.{server_of}
-use Rattle.pw_tables.proofs.Commands.{and_then, Any, any_of, more_few}
-use Rattle.pw_tables.proofs.Good.{IsGood, no_objects_good, IsOneMore, one_more_is, pathcom_good, file_good, entries_good, fail_good, log_good}
-use Rattle.pw_tables.specs.Objects.{section_admitted}
-use Rattle.pw_tables.specs.Pieces.{section_line, section_text}
-use Rattle.pw_tables.specs.declared.objects.Objects.{Objects}
+use Rattle.pw_deck_tables.proofs.Commands.{and_then, Any, any_of, more_few}
+use Rattle.pw_deck_tables.proofs.Good.{IsGood, no_objects_good, IsOneMore, one_more_is, pathcom_good, file_good, entries_good, fail_good, log_good}
+use Rattle.pw_deck_tables.specs.Objects.{section_admitted}
+use Rattle.pw_deck_tables.specs.Pieces.{section_line, section_text}
+use Rattle.pw_deck_tables.specs.declared.objects.Objects.{Objects}
 use Rattle.pw_words.specs.Words.{Word, same_word}
 use Rattle.pw_deck.specs.Parts.{no_parts, has_requester, has_server, requester_section, server_section, with_objects, section_of, section_read, sections_read, front_read, parts_of}
 use Rattle.pw_deck.specs.declared.parts.Parts.{Parts}

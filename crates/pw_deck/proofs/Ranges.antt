@@ -16,9 +16,9 @@ use Rattle.pw_base.proofs.Plain.{all-last}
 use Rattle.pw_code.specs.Entry.{EntryLineModel}
 use Rattle.pw_code.specs.Limits.{most_tcps, most_classes, most_terminals, most_restarts, most_processes, most_entry_lines, last_key}
 use Rattle.pw_code.specs.Valid.{HasFunctionKey}
-use Rattle.pw_lines.specs.Lines.{lines}
-use Rattle.pw_lines.specs.Steps.{◌>>=◌, refused, or_refused, is_blank, line_taken, each_line}
-use Rattle.pw_lines.specs.Words.{words, word_number}
+use Rattle.pw_sections.specs.Lines.{lines}
+use Rattle.pw_sections.specs.Steps.{◌>>=◌, refused, or_refused, is_blank, line_taken, each_line}
+use Rattle.pw_sections.specs.Words.{words, word_number}
 use Rattle.pw_pathcom.specs.Reading.{starting, named, checked, ranged, admitted, has_tcp, has_class, has_terminal, added, first_start, start_tcp, start_class, start_terminal, started, command_taken, taken_if, is_comment, is_none, line_read, lines_read, commands_of}
 use Rattle.pw_pathcom.specs.Verbs.{command_of}
 use Rattle.pw_pathcom.specs.declared.commands.ClassCommand.{ClassCommand}
@@ -33,7 +33,7 @@ use Rattle.pw_sections.specs.Entries.{keys, key_of, pairs_of, NameValue, entry_w
 use Rattle.pw_sections.specs.Keys.{is_seen}
 use Rattle.pw_sections.specs.Records.{is_bad_record, record_read, records_of_text}
 use Rattle.pw_words.specs.Words.{Word}
-use Rattle.pw_tables.proofs.Commands.{and_then, Any, any_of}
+use Rattle.pw_deck_tables.proofs.Commands.{and_then, Any, any_of}
 
 -- a unit of a terminal restarts not too often, and a class has a process and not too many
 abbrev pub FewRestarts : TermCommand → Type 0

@@ -9,18 +9,18 @@ use Rattle.pw_base.specs.declared.fault.Fault.{Fault}
 use Rattle.pw_base.proofs.Plain.{all-last}
 use Rattle.pw_code.specs.Limits.{most_files}
 use Rattle.pw_code.specs.declared.file.FileInfo.{FileInfo}
-use Rattle.pw_lines.specs.Steps.{◌>>=◌}
+use Rattle.pw_sections.specs.Steps.{◌>>=◌}
 use Rattle.pw_pathcom.specs.Reading.{no_commands, commands_of}
-use Rattle.pw_script.specs.Fail.{failures_counted}
-use Rattle.pw_script.specs.Log.{entries_counted}
+use Rattle.pw_log_lines.specs.Fail.{failures_counted}
+use Rattle.pw_log_lines.specs.Log.{entries_counted}
 use Rattle.pw_sections.specs.Entries.{entries_of}
 use Rattle.pw_sections.specs.Records.{printable, records_of_text}
 use Rattle.pw_words.specs.Names.{has_name}
 use Rattle.pw_words.specs.Words.{Word}
-use Rattle.pw_tables.proofs.Commands.{and_then, Any, any_of}
-use Rattle.pw_tables.specs.Objects.{no_objects, has_file, once, section_admitted, pathcom_section, file_section, entries_section, fail_section, log_section}
-use Rattle.pw_tables.specs.declared.objects.Objects.{Objects}
-use Rattle.pw_tables.specs.declared.objects.TermEntries.{TermEntries}
+use Rattle.pw_deck_tables.proofs.Commands.{and_then, Any, any_of}
+use Rattle.pw_deck_tables.specs.Objects.{no_objects, has_file, once, section_admitted, pathcom_section, file_section, entries_section, fail_section, log_section}
+use Rattle.pw_deck_tables.specs.declared.objects.Objects.{Objects}
+use Rattle.pw_deck_tables.specs.declared.objects.TermEntries.{TermEntries}
 use Rattle.pw_deck.proofs.Ranges.{InRange, commands_in_range, AreRecords, records_kept, AreEntries, entries_kept}
 
 -- a file whose key and records have their lengths, and no key twice

@@ -21,15 +21,15 @@ use Rattle.pw_code.specs.declared.lock.LockRule.TheVariants.{ReadersShare}
 use Rattle.pw_code.specs.declared.system.ClassInfo.{ClassInfo}
 use Rattle.pw_code.specs.declared.system.System.{System}
 use Rattle.pw_code.specs.declared.system.TermInfo.{TermInfo}
-use Rattle.pw_lines.specs.Steps.{◌>>=◌, only_if, fault_at}
+use Rattle.pw_sections.specs.Steps.{◌>>=◌, only_if, fault_at}
 use Rattle.pw_pathcom.specs.Objects.{is_known, is_added_before, unknown_terminal, unknown_class, unknown}
 use Rattle.pw_pathcom.specs.declared.commands.ClassCommand.{ClassCommand}
 use Rattle.pw_pathcom.specs.declared.commands.Commands.{Commands}
 use Rattle.pw_pathcom.specs.declared.commands.Started.{Started}
 use Rattle.pw_pathcom.specs.declared.commands.TermCommand.{TermCommand}
 use Rattle.pw_words.specs.Words.{Word}
-use Rattle.pw_tables.specs.Tables.{tcp_names, is_started, or_first, number_among_names, class_from_command, terminal_of, entries_for, with_entries}
-use Rattle.pw_tables.specs.declared.objects.TermEntries.{TermEntries}
+use Rattle.pw_deck_tables.specs.Tables.{tcp_names, is_started, or_first, number_among_names, class_from_command, terminal_of, entries_for, with_entries}
+use Rattle.pw_deck_tables.specs.declared.objects.TermEntries.{TermEntries}
 use Rattle.pw_deck.proofs.Ranges.{InRange, FewRestarts, FewProcesses, AreEntries}
 use Rattle.pw_deck.proofs.Sound.{HasEntries, IsGoodFile}
 

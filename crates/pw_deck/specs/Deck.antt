@@ -4,11 +4,11 @@ use Rattle.pw_base.specs.Limits.{longest_input}
 use Rattle.pw_base.specs.declared.fault.Fault.{Fault}
 use Rattle.pw_base.specs.declared.fault_code.FaultCode.TheVariants.{InputTooLong, EndMissing}
 use Rattle.pw_code.specs.declared.links.Links.{Links}
-use Rattle.pw_lines.specs.Lines.{lines}
-use Rattle.pw_lines.specs.Steps.{◌>>=◌, refused}
+use Rattle.pw_sections.specs.Lines.{lines}
+use Rattle.pw_sections.specs.Steps.{◌>>=◌, refused}
 use Rattle.pw_names.specs.Names.{names_of}
-use Rattle.pw_tables.specs.Tables.{class_names}
-use Rattle.pw_tables.specs.Unknown.{told_of}
+use Rattle.pw_deck_tables.specs.Tables.{class_names}
+use Rattle.pw_deck_tables.specs.Unknown.{told_of}
 use Rattle.pw_deck.specs.Parts.{parts_of, program_names, server_names}
 use Rattle.pw_deck.specs.declared.deck.ParsedDeck.{ParsedDeck}
 use Rattle.pw_deck.specs.declared.parts.Parts.{Parts}

@@ -5,17 +5,17 @@ use Rattle.std.specs.Str.{bytes_eq}
 use Rattle.pw_base.specs.declared.fault.Fault.{Fault}
 use Rattle.pw_base.specs.declared.fault_code.FaultCode.TheVariants.{BadSection}
 use Rattle.pw_code.specs.Limits.{most_programs, most_servers}
-use Rattle.pw_lines.specs.Lines.{lines}
-use Rattle.pw_lines.specs.Steps.{◌>>=◌, refused, or_refused, each_line}
+use Rattle.pw_sections.specs.Lines.{lines}
+use Rattle.pw_sections.specs.Steps.{◌>>=◌, refused, or_refused, each_line}
 use Rattle.pw_scobol.specs.Requesters.{requester_of}
 use Rattle.pw_sections.specs.Headings.{heading_of}
 use Rattle.pw_sections.specs.Parts.{front, sections}
 use Rattle.pw_sections.specs.declared.heading.Heading.{Heading}
 use Rattle.pw_sections.specs.declared.heading.Heading.TheVariants as heading
 use Rattle.pw_server.specs.Servers.{server_of}
-use Rattle.pw_tables.specs.Objects.{no_objects, section_admitted, pathcom_section, file_section, entries_section, fail_section, log_section}
-use Rattle.pw_tables.specs.Pieces.{section_line, section_text}
-use Rattle.pw_tables.specs.declared.objects.Objects.{Objects}
+use Rattle.pw_deck_tables.specs.Objects.{no_objects, section_admitted, pathcom_section, file_section, entries_section, fail_section, log_section}
+use Rattle.pw_deck_tables.specs.Pieces.{section_line, section_text}
+use Rattle.pw_deck_tables.specs.declared.objects.Objects.{Objects}
 use Rattle.pw_words.specs.Words.{Word}
 use Rattle.pw_deck.specs.declared.parts.Parts.{Parts}
 

@@ -14,12 +14,12 @@ use pw_base::fault_code::FaultCode;
 use pw_base::list::List;
 use pw_base::read_all::MAX_INPUT;
 use pw_code::links::Links;
+use pw_deck_tables::piece::line_count;
+use pw_deck_tables::tables::class_names;
+use pw_deck_tables::told::{DeckTables, tell};
 use pw_names::names::names;
 use pw_scobol::requester::Requester;
 use pw_server::server::Server;
-use pw_tables::piece::line_count;
-use pw_tables::tables::class_names;
-use pw_tables::told::{DeckTables, tell};
 use std::alloc::Global;
 
 /// What a deck says. Its programs are trees yet, and stand beside the tables of the system.

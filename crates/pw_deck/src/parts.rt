@@ -8,13 +8,13 @@ use pw_base::fault::Refusal;
 use pw_base::fault_code::FaultCode;
 use pw_base::list::List;
 use pw_code::system::{MAX_PROGRAMS, MAX_SERVERS};
+use pw_deck_tables::objects::{Objects, one_more};
+use pw_deck_tables::piece::{section_line, section_text};
 use pw_scobol::read::requester;
 use pw_scobol::requester::Requester;
 use pw_sections::heading::{Heading, heading_of};
 use pw_server::read::server;
 use pw_server::server::Server;
-use pw_tables::objects::{Objects, one_more};
-use pw_tables::piece::{section_line, section_text};
 use std::alloc::Global;
 
 /// What the sections of a deck say so far.

@@ -1,17 +1,17 @@
 ghost use Rattle.std.specs.Prelude.{◌≡◌, ◌+◌, ◌≤◌, length};
 ghost use Rattle.pw_base.specs.First.{Gives};
 ghost use Rattle.pw_base.specs.Limits.{longest_input};
-ghost use Rattle.pw_lines.specs.Steps.{line_taken};
+ghost use Rattle.pw_sections.specs.Steps.{line_taken};
 ghost use Rattle.pw_sections.specs.Parts.{sections, IsAtSection};
 ghost use Rattle.pw_deck.specs.Parts.{front_line, front_read, sections_read, no_parts, parts_of};
 
 use crate::parts::Parts;
 use pw_base::fault::Refusal;
 use pw_base::fault_code::FaultCode;
-use pw_lines::line::next_line;
-use pw_lines::word::is_blank;
+use pw_deck_tables::piece::line_count;
+use pw_sections::line::next_line;
 use pw_sections::part::{next_section, split_front};
-use pw_tables::piece::line_count;
+use pw_sections::word::is_blank;
 use std::alloc::Global;
 
 /// Refuses a line in front of the first section, if a word stands on it.

@@ -9,7 +9,7 @@ use Rattle.pw_disc.specs.Pair.{AfterCall, AfterOperation, RanOutOfMemory, PairSt
 use Rattle.pw_disc.specs.declared.standing.DiscPairState.{DiscPairState}
 use Rattle.pw_disc.specs.declared.standing.DiscPairState.TheVariants.{Two, One, Lost}
 use Rattle.pw_disc.proofs.LineLemmas.{not_lost, some_less}
-use Rattle.pw_disc_call.specs.declared.script.DiscLine.{DiscLine}
+use Rattle.pw_disc.specs.declared.script.DiscLine.{DiscLine}
 use Rattle.pw_tmf.specs.Answers.{Operates}
 use Rattle.pw_tmf.specs.Told.{Told}
 use Rattle.pw_tmf.specs.Units.{all_backed_out, backed_out}

@@ -1,7 +1,7 @@
 -- Scripts that lose no pair.
 use Rattle.std.proofs.Common.{◌≡◌, ◌≢◌, ℕ, zero, suc, ◌+◌, refl, sym, ap, ◌∙◌, cond, Bool, true, false, ◌&&◌, ◌||◌, not, List, [], ◌∷◌, drop, take, inl, inr, arith}
 use Rattle.std.specs.List.{list_any, prefix_len}
-use Rattle.pw_disc_call.specs.declared.script.DiscLine.{DiscLine}
+use Rattle.pw_disc.specs.declared.script.DiscLine.{DiscLine}
 use Rattle.pw_disc.specs.Lines.{acting, acts_first, begins_with_primary, is_due, is_held, is_primary, lose_pair, may_lose}
 use Rattle.pw_disc.specs.Pair.{IsLost, PairState}
 use Rattle.pw_disc.specs.declared.standing.DiscPairState.TheVariants.{Lost}

@@ -2,8 +2,8 @@
 use Rattle.std.proofs.Common.{◌≡◌, ◌⊎◌, ℕ, ◌<◌, refl, sym, ap, subst, ◌∙◌, cond, Bool, true, false, List, [], length, Option, inl, inr, arith}
 use Rattle.pw_code.specs.declared.file.FileCall.{FileCall}
 use Rattle.pw_code.specs.declared.unit.Unit as unit
-use Rattle.pw_disc_call.specs.declared.call.DiscCall.{DiscCall}
-use Rattle.pw_disc_call.specs.declared.call.DiscCall.TheVariants.{Begin, Operate, Commit, BackOut}
+use Rattle.pw_disc.specs.declared.call.DiscCall.{DiscCall}
+use Rattle.pw_disc.specs.declared.call.DiscCall.TheVariants.{Begin, Operate, Commit, BackOut}
 use Rattle.pw_locks.specs.Conflicts.{holders}
 use Rattle.pw_locks.specs.Oldest.{IsOldest}
 use Rattle.pw_tmf.specs.Answers.{Operates}

@@ -5,10 +5,10 @@ use Rattle.pw_base.specs.Outside.{counted}
 use Rattle.pw_base.specs.declared.memory.Memory.{Memory}
 use Rattle.pw_code.specs.declared.file.FileCall.{FileCall}
 use Rattle.pw_code.specs.declared.unit.Unit as unit
-use Rattle.pw_disc_call.specs.declared.call.DiscCall.{DiscCall}
-use Rattle.pw_disc_call.specs.declared.call.DiscCall.TheVariants.{Begin, Operate, Commit, BackOut}
+use Rattle.pw_disc.specs.declared.call.DiscCall.{DiscCall}
+use Rattle.pw_disc.specs.declared.call.DiscCall.TheVariants.{Begin, Operate, Commit, BackOut}
 use Rattle.pw_tmf.specs.Answers.{OnlyFaultsRose, Leaves, Operates}
-use Rattle.pw_disc_call.specs.Format.{IsMessageOf}
+use Rattle.pw_disc.specs.Format.{IsMessageOf}
 use Rattle.pw_tmf.specs.Tmf.{TmfState, told_of}
 use Rattle.pw_tmf.specs.Told.{Told}
 use Rattle.pw_tmf.specs.Units.{all_backed_out, begun, ended}

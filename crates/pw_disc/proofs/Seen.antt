@@ -2,7 +2,7 @@
 use Rattle.std.proofs.Common.{◌≡◌, ℕ, ◌+◌, refl, sym, ap, ◌∙◌, cond, Bool, true, false, List, drop, Option, Some, None}
 use Rattle.std.proofs.lemmas.List.{drop-drop}
 use Rattle.pw_base.specs.Outside.{counted}
-use Rattle.pw_disc_call.specs.declared.script.DiscLine.{DiscLine}
+use Rattle.pw_disc.specs.declared.script.DiscLine.{DiscLine}
 use Rattle.pw_tmf.specs.Faulty.{with_faults}
 use Rattle.pw_tmf.specs.Tmf.{TmfState, told_of}
 use Rattle.pw_tmf.specs.Told.{Told}

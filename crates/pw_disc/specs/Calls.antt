@@ -1,8 +1,8 @@
 -- The calls of a disc, each as one value, and what they come to.
 use Rattle.std.specs.Prelude.{◌≡◌, ◌≢◌, ℕ, Bool, true, false, List, [], All, Result, Ok, Err}
-use Rattle.pw_disc_call.specs.declared.call.DiscCall.{DiscCall}
-use Rattle.pw_disc_call.specs.declared.call.DiscCall.TheVariants.{Begin, Operate, Commit, BackOut}
-use Rattle.pw_disc_call.specs.Format.{IsMessageOf}
+use Rattle.pw_disc.specs.declared.call.DiscCall.{DiscCall}
+use Rattle.pw_disc.specs.declared.call.DiscCall.TheVariants.{Begin, Operate, Commit, BackOut}
+use Rattle.pw_disc.specs.Format.{IsMessageOf}
 use Rattle.pw_tmf.specs.Answers.{Operates}
 use Rattle.pw_base.specs.declared.memory.Memory.{Memory}
 use Rattle.pw_tmf.specs.declared.answer.DiscFault.{DiscFault}

@@ -1,4 +1,9 @@
 pub mod Calls
+pub mod Format
 pub mod Lasting
 pub mod Lines
+pub mod Message
 pub mod Pair
+pub mod Reading
+pub mod Script
+pub mod Values

@@ -1,8 +1,8 @@
 -- Which lines of a disc script act at a call, by how many calls were done before it.
 use Rattle.std.specs.Prelude.{ℕ, ◌&&◌, Bool, true, false, not, List, [], ◌∷◌, length, drop, take_while, nat_le, if◌then◌else◌}
 use Rattle.std.specs.List.{list_any}
-use Rattle.pw_disc_call.specs.declared.script.DiscLine.{DiscLine}
-use Rattle.pw_disc_call.specs.declared.script.DiscLine.TheVariants.{Primary, Held, Backup}
+use Rattle.pw_disc.specs.declared.script.DiscLine.{DiscLine}
+use Rattle.pw_disc.specs.declared.script.DiscLine.TheVariants.{Primary, Held, Backup}
 
 -- a line is due behind so many calls
 abbrev pub is_due : ℕ → DiscLine → Bool

@@ -2,7 +2,7 @@ ghost use Rattle.std.specs.Prelude.{◌≡◌, ◌≤◌, length};
 ghost use Rattle.std.specs.List.{list_any};
 ghost use Rattle.pw_disc.specs.Lines.{acting, acts_first, is_held_at_front, is_due, is_held, begins_with_primary, is_primary, lose_pair, may_lose};
 
-use pw_disc_call::script::DiscLine;
+use crate::script::DiscLine;
 
 /// Whether a line is due behind so many calls.
 fn is_due(done: u64, line: DiscLine) -> bool

@@ -1,13 +1,13 @@
 ghost use Rattle.std.specs.Prelude.{◌≡◌, IfOk, OnErr};
 ghost use Rattle.pw_disc.specs.Calls.{IsMessageFor, Makes};
 ghost use Rattle.pw_tmf.specs.Tmf.{told_of};
-ghost use Rattle.pw_disc_call.specs.Format.{IsMessageOf};
-ghost use Rattle.pw_disc_call.specs.declared.call.DiscCall.{DiscCall};
+ghost use Rattle.pw_disc.specs.Format.{IsMessageOf};
+ghost use Rattle.pw_disc.specs.declared.call.DiscCall.{DiscCall};
 
+use crate::decode::decode_call;
+use crate::fault::CallFault;
 use crate::outcome::{DiscOutcome, make};
 use pw_base::memory::Memory;
-use pw_disc_call::decode::decode_call;
-use pw_disc_call::fault::CallFault;
 use pw_tmf::tmf::Tmf;
 use std::alloc::Global;
 use std::marker::Model;

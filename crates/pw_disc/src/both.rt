@@ -4,10 +4,10 @@ ghost use Rattle.pw_disc.specs.Calls.{CanMake, Makes, is_done};
 ghost use Rattle.pw_disc.specs.Pair.{AreEqual};
 
 use crate::backup::DiscBackup;
+use crate::call::DiscCall;
+use crate::encode::encode_call;
 use crate::outcome::{DiscOutcome, make};
 use pw_base::memory::Memory;
-use pw_disc_call::call::DiscCall;
-use pw_disc_call::encode::encode_call;
 use pw_tmf::tmf::Tmf;
 use std::alloc::Global;
 

@@ -9,12 +9,12 @@ ghost use Rattle.pw_disc.specs.declared.standing.DiscPairState.TheVariants.{Two}
 ghost use Rattle.pw_tmf.specs.Starting.{told_at_start};
 
 use crate::pair::DiscPair;
+use crate::script::DiscScript;
 use pw_base::bytes::Bytes;
 use pw_base::memory::Memory;
 use pw_code::file::FileCall;
 use pw_code::system::System;
 use pw_code::unit::Unit;
-use pw_disc_call::script::DiscScript;
 use pw_tmf::answer::{DiscFault, Ended, FileAnswer, Foreseen};
 use pw_tmf::disc::Disc;
 use std::alloc::Global;

@@ -2,7 +2,7 @@ ghost use Rattle.std.specs.Prelude.{◌≡◌, ◌≢◌, ℕ, List, drop, false
 ghost use Rattle.pw_disc.specs.Lines.{disc_lines_behind, may_lose};
 ghost use Rattle.pw_disc.specs.Pair.{IsLost, PairState};
 ghost use Rattle.pw_disc.specs.declared.standing.DiscPairState.TheVariants.{Lost};
-ghost use Rattle.pw_disc_call.specs.declared.script.DiscLine.{DiscLine};
+ghost use Rattle.pw_disc.specs.declared.script.DiscLine.{DiscLine};
 
 /// A pair whose script has no PRIMARY AFTER line directly behind a PRIMARY AFTER or BACKUP AFTER line is never lost: its
 /// next call does not lose it, and neither do the lines that are left behind that.

@@ -3,7 +3,7 @@ ghost use Rattle.pw_tmf.specs.Tmf.{told_of};
 ghost use Rattle.pw_disc.specs.Pair.{AreEqual};
 
 use crate::backup::DiscBackup;
-use pw_disc_call::script::DiscLine;
+use crate::script::DiscLine;
 use pw_tmf::tmf::Tmf;
 
 /// The primary fails, and its backup, if there is one, takes over.

@@ -2,10 +2,10 @@ ghost use Rattle.std.specs.Prelude.{◌≡◌, true, IfOk, OnErr};
 ghost use Rattle.pw_tmf.specs.Tmf.{told_of};
 ghost use Rattle.pw_disc.specs.Calls.{CanMake, IsAnswer, Makes, came_of, came_of_operation, is_done, is_operation};
 
+use crate::call::DiscCall;
 use pw_base::bytes::Bytes;
 use pw_base::memory::Memory;
 use pw_code::unit::Unit;
-use pw_disc_call::call::DiscCall;
 use pw_tmf::answer::{DiscFault, FileAnswer};
 use pw_tmf::disc::Disc;
 use pw_tmf::tmf::Tmf;

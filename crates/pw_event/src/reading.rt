@@ -7,7 +7,10 @@ use crate::causes::{end, restart};
 use crate::event::Event;
 use crate::fault::EventFault;
 use crate::keyword::Keyword;
-use crate::kinds::{applied, begin, check, fail, file_line, raise, reply, send, show, taken, takeover, terminal_and_number};
+use crate::kinds::{
+    applied, begin, check, fail, file_line, raise, reply, send, show, taken, takeover,
+    terminal_and_number,
+};
 use crate::system_names::SystemNames;
 use crate::words::words;
 use pw_code::system::System;

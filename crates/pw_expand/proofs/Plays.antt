@@ -1,9 +1,9 @@
 -- Lines that are played one after the other.
 use Rattle.std.proofs.Common.{◌≡◌, ◌≢◌, ◌⊎◌, inl, inr, ℕ, zero, suc, ◌+◌, ◌-◌, ◌≤◌, cond, List, [], ◌∷◌, Option, Some, None, Result, Ok, Err, refl, sym, ap, ◌∙◌, subst, arith}
 use Rattle.std.proofs.lemmas.Bool.{cases_eq}
-use Rattle.pw_lines.specs.Steps.{is_empty}
-use Rattle.pw_lines.specs.Words.{words}
-use Rattle.pw_lines.proofs.Folds.{some_word}
+use Rattle.pw_sections.specs.Steps.{is_empty}
+use Rattle.pw_sections.specs.Words.{words}
+use Rattle.pw_sections.proofs.Folds.{some_word}
 use Rattle.pw_net.specs.Member.{Member, replied, own_id, standing_of, start, restart, turned}
 use Rattle.pw_net.specs.Rules.{Reply, on_word, on_refuse, on_wait, on_end}
 use Rattle.pw_net.specs.World.{NetWorld, NetEvent, Start, Refuse, Ask, GiveUp, Restart, Deliver, with_member, done, delivered, effect, message_at}

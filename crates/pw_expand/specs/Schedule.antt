@@ -2,8 +2,8 @@
 use Rattle.std.specs.Prelude.{ℕ, zero, suc, ◌+◌, ◌-◌, List, [], ◌∷◌, ◌&&◌, nat_le, nat_lt, length, codes, Option, Some, None, Result, Ok, Err, if◌then◌else◌}
 use Rattle.std.specs.Str.{bytes_eq}
 use Rattle.pw_base.specs.Limits.{longest_input}
-use Rattle.pw_lines.specs.Lines.{lines}
-use Rattle.pw_lines.specs.Steps.{is_blank}
+use Rattle.pw_sections.specs.Lines.{lines}
+use Rattle.pw_sections.specs.Steps.{is_blank}
 use Rattle.pw_net.specs.World.{NetEvent}
 use Rattle.pw_expand.specs.Numbers.{counts_in}
 use Rattle.pw_expand.specs.Events.{words_of, event_in}

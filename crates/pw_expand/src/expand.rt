@@ -47,7 +47,10 @@ pub fn answer(alloc: Global, bytes: &[u8]) -> Result<(ScheduleEnding, Bytes), Me
 /// How the schedule that a source has left is answered, and what is written then. An input over the
 /// limit is refused as any schedule with a fault. Nothing is answered only where the source failed,
 /// which its count tells, or memory ran out.
-pub fn answer_source<S: Source>(alloc: Global, source: &mut S) -> Result<(ScheduleEnding, Bytes), ReadFault>
+pub fn answer_source<S: Source>(
+    alloc: Global,
+    source: &mut S,
+) -> Result<(ScheduleEnding, Bytes), ReadFault>
     ensures ok { IfOk result (λ answer. IsAnswered (S.left source.old) answer.0 answer.1) }
     ensures err { IfErr result (λ fault. GivesUpSchedule fault (S.faults source.old) (S.faults source.new)) }
     ensures kept { OnOk result (S.faults source.new ≡ S.faults source.old) }

@@ -3,7 +3,7 @@ ghost use Rattle.std.specs.Option.{option_map};
 ghost use Rattle.pw_expand.specs.Numbers.{is_count, count_in, counts_in};
 
 use pw_base::memory::Memory;
-use pw_lines::word::{are_digits, value_of};
+use pw_sections::word::{are_digits, value_of};
 use std::alloc::Global;
 
 /// The most digits of a number.

@@ -1,7 +1,7 @@
 ghost use Rattle.std.specs.Prelude.{◌≡◌, ◌+◌, ◌-◌, ◌∷◌, ◌≤◌, ◌<◌, ◌^◌, length, IfErr, IfOk, Ok};
 ghost use Rattle.pw_base.specs.Limits.{longest_input};
 ghost use Rattle.pw_net.specs.World.{first_world};
-ghost use Rattle.pw_lines.specs.Lines.{lines};
+ghost use Rattle.pw_sections.specs.Lines.{lines};
 ghost use Rattle.pw_expand.specs.Events.{event_in};
 ghost use Rattle.pw_expand.specs.Schedule.{schedule_begun, events_from, most_events, schedule_from, schedule_of, systems_in};
 ghost use Rattle.pw_expand.specs.Systems.{SchedulePlaysTo, ScheduleGoesOn, HasBegun, IsFaultOf, PlaysTo, NetStepsTo, played, schedule_played, world_of};
@@ -10,8 +10,8 @@ use crate::fault::ScheduleFault;
 use crate::line::{event_in, systems_in};
 use crate::systems::Systems;
 use pw_base::read_all::MAX_INPUT;
-use pw_lines::line::next_line;
-use pw_lines::word::is_blank;
+use pw_sections::line::next_line;
+use pw_sections::word::is_blank;
 use std::alloc::Global;
 
 /// The most lines of events.

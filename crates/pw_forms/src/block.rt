@@ -6,7 +6,7 @@ ghost use Rattle.pw_forms.specs.Blocks.{finished_head, branches, stands};
 ghost use Rattle.pw_forms.specs.declared.form.Head.TheVariants as heads;
 ghost use Rattle.pw_forms.specs.declared.piece.Piece.TheVariants as pieces;
 
-use crate::branch::{OpenParagraph, Open};
+use crate::branch::{Open, OpenParagraph};
 use crate::form::Head;
 use crate::statement::{ArithmeticForm, Statement};
 use pw_base::list::List;

@@ -8,8 +8,8 @@ use crate::cursor::FormCursor;
 use crate::file_forms::file_form;
 use crate::form::{Form, Head};
 use crate::lack::Lack;
-use crate::lists::{SendCode, Codes, Keys, MAX_LISTED};
-use crate::mark::{TerminalVerb, TransactionVerb, StatementVerb};
+use crate::lists::{Codes, Keys, MAX_LISTED, SendCode};
+use crate::mark::{StatementVerb, TerminalVerb, TransactionVerb};
 use crate::operand::Operand;
 use crate::operands::{code, key, name, operand, program_name};
 use crate::statement::{ArithmeticForm, Operation, Statement};
@@ -399,7 +399,11 @@ fn transaction(verb: TransactionVerb, line: u32) -> Statement
 
 /// The form of a verb of transactions, which has nothing behind it.
 #[tactic(auto, unfolding(crate::specs::Forms::transaction_form))]
-fn transaction_form(verb: TransactionVerb, line: u32, rest: &mut FormCursor<'_>) -> Result<Form, Lack>
+fn transaction_form(
+    verb: TransactionVerb,
+    line: u32,
+    rest: &mut FormCursor<'_>,
+) -> Result<Form, Lack>
     ensures { ReadsForm (spec.transaction_form verb line rest.old) result rest.new }
 {
     rest.ends()?;
@@ -426,7 +430,12 @@ fn terminal_form(
 
 /// The form of a verb, which reads the piece behind it to its end.
 #[tactic(auto, unfolding(crate::specs::Forms::form))]
-pub fn form(alloc: Global, verb: StatementVerb, line: u32, rest: &mut FormCursor<'_>) -> Result<Form, Lack>
+pub fn form(
+    alloc: Global,
+    verb: StatementVerb,
+    line: u32,
+    rest: &mut FormCursor<'_>,
+) -> Result<Form, Lack>
     ensures { ReadsForm (spec.form verb line rest.old) result rest.new }
 {
     match verb {

@@ -6,7 +6,7 @@ use crate::cursor::FormCursor;
 use crate::form::Form;
 use crate::forms::form;
 use crate::lack::Lack;
-use crate::mark::{TokenMark, StatementVerb};
+use crate::mark::{StatementVerb, TokenMark};
 use crate::piece::{Piece, Placed};
 use crate::words::{begins_piece, is_receive, is_table_word, mark_of, name_in};
 use pw_base::fault_code::FaultCode;

@@ -1,7 +1,7 @@
 ghost use Rattle.std.specs.Prelude.{◌≡◌, IfOk};
 ghost use Rattle.pw_forms.specs.Words.{table_place, is_table_word, mark_in, mark_at, mark_of, begins_piece, is_receive, is_name_token, is_register, is_item_name, token_name};
 
-use crate::mark::{FileVerb, TokenMark, TerminalVerb, TransactionVerb, StatementVerb};
+use crate::mark::{FileVerb, StatementVerb, TerminalVerb, TokenMark, TransactionVerb};
 use crate::statement::Operation;
 use pw_base::bytes::Bytes;
 use pw_base::memory::Memory;

@@ -1,1 +1,10 @@
+pub mod Commands
+pub mod DeckTexts
+pub mod Entries
+pub mod Law
+pub mod Pieces
+pub mod Programs
+pub mod Reading
+pub mod Tests
 pub mod Texts
+pub mod Whole

@@ -7,12 +7,12 @@ use Rattle.pw_code.specs.declared.instr.Arithmetic.{Arithmetic}
 use Rattle.pw_code.specs.declared.instr.Instr.{Instr}
 use Rattle.pw_code.specs.declared.instr.Instr.TheVariants.{Jump, JumpUnless, ParagraphEnd, Move, Compute, OnSizeError, Perform, PerformTimes, Until, PerformOneOf, Exit, ExitProgram, StopRun, DisplayScreen, Display, Accept, Call, Send, NoCode, Begin, End, Abort, Restart, Receive, Reply, Read, ReadNext, Write, Rewrite, Delete}
 use Rattle.pw_code.specs.declared.system.System.{System}
-use Rattle.pw_source.specs.Values.{Value, as_it_stands}
-use Rattle.pw_exec.specs.Config.{Config, code_statement_counted, faults, most_counted, on, over, with_storage, with_taken}
-use Rattle.pw_exec.specs.Moves.{Operands, operands_of, result_of}
-use Rattle.pw_exec.specs.Reading.{registers_of}
-use Rattle.pw_exec.specs.Sound.{IsSound}
-use Rattle.pw_exec.specs.Steps.{act, computes, does, or_else, shows}
+use Rattle.pw_tree_meaning.specs.Values.{Value, as_it_stands}
+use Rattle.pw_code_meaning.specs.Config.{Config, code_statement_counted, faults, most_counted, on, over, with_storage, with_taken}
+use Rattle.pw_code_meaning.specs.Moves.{Operands, operands_of, result_of}
+use Rattle.pw_code_meaning.specs.Reading.{registers_of}
+use Rattle.pw_code_meaning.specs.Sound.{IsSound}
+use Rattle.pw_code_meaning.specs.Steps.{act, computes, does, or_else, shows}
 use Rattle.pw_machine.specs.Config.{config_of}
 use Rattle.pw_machine.specs.Stack.{StaysAt, is_control}
 use Rattle.pw_machine.specs.declared.top.Top.{Top}

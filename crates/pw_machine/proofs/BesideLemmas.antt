@@ -10,8 +10,8 @@ use Rattle.std.specs.declared.cmp.Ordering.TheVariants.{Less, Equal, Greater}
 use Rattle.std.proofs.lemmas.List.{get_or_past, length-replicate}
 use Rattle.pw_picture.specs.Text.{fitted}
 use Rattle.pw_terminal.proofs.Written.{length-fitted, fitted-same}
-use Rattle.pw_exec.specs.Conditions.{text_order, beside, length_of}
-use Rattle.pw_source.specs.Values.{Value, Chars, Register, Number', Text', Spaces', Zeros', operand_text}
+use Rattle.pw_code_meaning.specs.Conditions.{text_order, beside, length_of}
+use Rattle.pw_tree_meaning.specs.Values.{Value, Chars, Register, Number', Text', Spaces', Zeros', operand_text}
 use Rattle.pw_machine.specs.Beside.{char_beside, size_beside}
 use Rattle.pw_machine.proofs.TextLemmas.{split}
 

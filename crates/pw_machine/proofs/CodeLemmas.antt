@@ -6,8 +6,8 @@ use Rattle.std.proofs.lemmas.List.{get_or_default}
 use Rattle.pw_code.specs.Instrs.{no_code, program_at}
 use Rattle.pw_code.specs.declared.code.Code.{Code}
 use Rattle.pw_code.specs.declared.system.System.{System}
-use Rattle.pw_exec.specs.Config.{code_at}
-use Rattle.pw_exec.proofs.Sizes.{code-is}
+use Rattle.pw_code_meaning.specs.Config.{code_at}
+use Rattle.pw_code_meaning.proofs.Sizes.{code-is}
 
 pub program_read : (system : System) (codes : List Code) (program : ℕ) (code : Code) → codes ≡ system.programs → code ≡ get_or codes program code → program < length system.programs
     → code ≡ code_at system program

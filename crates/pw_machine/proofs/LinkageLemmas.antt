@@ -5,7 +5,7 @@ use Rattle.std.specs.Prelude.{All, option_map}
 use Rattle.pw_code.specs.declared.place.StoragePlace.{StoragePlace}
 use Rattle.std.proofs.lemmas.List.{append-nil, get_or-map, length-map}
 use Rattle.pw_code.specs.Valid.{IsLinked}
-use Rattle.pw_exec.specs.Reading.{Registers, Spot, at_this_moment, one_more, spot_at, spot_of, spots_of}
+use Rattle.pw_code_meaning.specs.Reading.{Registers, Spot, at_this_moment, one_more, spot_at, spot_of, spots_of}
 use Rattle.pw_machine.specs.Views.{IsSpot, spot_by}
 use Rattle.pw_machine.specs.declared.spot.MachineSpot as own
 use Rattle.pw_machine.proofs.StatementLemmas.{in_front}

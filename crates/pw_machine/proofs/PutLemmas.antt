@@ -5,8 +5,8 @@ use Rattle.pw_code.specs.declared.field.ScreenTable.{ScreenTable}
 use Rattle.pw_code.specs.declared.place.StoragePlace.{StoragePlace}
 use Rattle.pw_code.specs.declared.verb.Answer.{Answer}
 use Rattle.pw_code.specs.declared.verb.Answer.TheVariants as answer
-use Rattle.pw_exec.specs.Answers.{begin_put, entry_put, file_passed, file_put, passed, read_put}
-use Rattle.pw_exec.specs.Config.{Config}
+use Rattle.pw_code_meaning.specs.Answers.{begin_put, entry_put, file_passed, file_put, passed, read_put}
+use Rattle.pw_code_meaning.specs.Config.{Config}
 
 pub file_else : (a : Answer) (c : Config) → ((x : ℕ) → (y : Option (List ℕ)) → a ≡ answer.FileDone x y → ⊥) → file_passed c ≡ file_put a c
 file_else answer.Shown c h = refl

@@ -26,8 +26,8 @@ use Rattle.pw_code.specs.declared.place.PlaceSubscript.{PlaceSubscript}
 use Rattle.pw_code.specs.declared.place.PlaceSubscript.TheVariants as subscript
 use Rattle.pw_code.specs.declared.place.PlaceTable.{PlaceTable}
 use Rattle.pw_code.specs.declared.system.System.{System}
-use Rattle.pw_exec.specs.Config.{code_at}
-use Rattle.pw_exec.specs.Sound.{IsFrame}
+use Rattle.pw_code_meaning.specs.Config.{code_at}
+use Rattle.pw_code_meaning.specs.Sound.{IsFrame}
 use Rattle.pw_machine.specs.Stack.{CanDoInstr}
 
 -- ---- what lies in a storage lies in a larger one

@@ -4,10 +4,10 @@ use Rattle.std.specs.Prelude.{option_and_then, option_map, if◌then◌else◌}
 use Rattle.pw_code.specs.declared.context.Context.{Context}
 use Rattle.pw_code.specs.declared.context.Frame.{Frame}
 use Rattle.pw_code.specs.declared.instr.ReplyCode.{ReplyCode}
-use Rattle.pw_exec.specs.Answers.{answered, place_among, code_after_reply, reply_taken, spot_among, unit_ended, yielded}
-use Rattle.pw_exec.specs.Config.{Config, over, with_storage}
-use Rattle.pw_exec.specs.Moves.{move_text}
-use Rattle.pw_exec.specs.Reading.{Spot}
+use Rattle.pw_code_meaning.specs.Answers.{answered, place_among, code_after_reply, reply_taken, spot_among, unit_ended, yielded}
+use Rattle.pw_code_meaning.specs.Config.{Config, over, with_storage}
+use Rattle.pw_code_meaning.specs.Moves.{move_text}
+use Rattle.pw_code_meaning.specs.Reading.{Spot}
 use Rattle.pw_machine.specs.Config.{config_with}
 use Rattle.pw_machine.specs.Replies.{seen_at, yielded_at}
 use Rattle.pw_machine.specs.Views.{spot_by}

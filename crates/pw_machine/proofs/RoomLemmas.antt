@@ -15,12 +15,12 @@ use Rattle.pw_code.specs.declared.place.StoragePlace.{StoragePlace}
 use Rattle.pw_code.specs.declared.system.System.{System}
 use Rattle.pw_code.specs.declared.verb.Answer.{Answer}
 use Rattle.pw_code.specs.declared.verb.Answer.TheVariants as answer
-use Rattle.pw_exec.proofs.CountSteps.{Counts, counts_in, step_same}
-use Rattle.pw_exec.specs.Answers.{answered, answered_by, begin_put, entry_checked, entry_put, file_put, put, read_put, reply_put, reply_taken, unit_ended, yielded}
-use Rattle.pw_exec.specs.Config.{Config, code_of, has_fault, starting, starting_server}
-use Rattle.pw_exec.specs.Reading.{Spot}
-use Rattle.pw_exec.specs.Runs.{Run, run, StandsFrom}
-use Rattle.pw_exec.specs.Steps.{step}
+use Rattle.pw_code_meaning.proofs.CountSteps.{Counts, counts_in, step_same}
+use Rattle.pw_code_meaning.specs.Answers.{answered, answered_by, begin_put, entry_checked, entry_put, file_put, put, read_put, reply_put, reply_taken, unit_ended, yielded}
+use Rattle.pw_code_meaning.specs.Config.{Config, code_of, has_fault, starting, starting_server}
+use Rattle.pw_code_meaning.specs.Reading.{Spot}
+use Rattle.pw_code_meaning.specs.Runs.{Run, run, StandsFrom}
+use Rattle.pw_code_meaning.specs.Steps.{step}
 use Rattle.pw_machine.specs.Stack.{HasRoom}
 
 -- ---- an answer raises each by at most one

@@ -3,12 +3,12 @@ use Rattle.std.proofs.Common.{◌≡◌, ◌≢◌, ◌⊎◌, inl, inr, ℕ, �
 use Rattle.std.specs.Prelude.{nat_eq, if◌then◌else◌}
 use Rattle.std.proofs.lemmas.Bool.Decides.{nat_tests}
 use Rattle.pw_code.specs.declared.system.System.{System}
-use Rattle.pw_exec.specs.Answers.{put}
-use Rattle.pw_exec.specs.Config.{Config, most_counted}
-use Rattle.pw_exec.specs.Runs.{Comes, at_verb}
-use Rattle.pw_exec.specs.Steps.{step}
-use Rattle.pw_exec.proofs.Progress.{hops, step_progress}
-use Rattle.pw_exec.proofs.RunLemmas.{goes_on}
+use Rattle.pw_code_meaning.specs.Answers.{put}
+use Rattle.pw_code_meaning.specs.Config.{Config, most_counted}
+use Rattle.pw_code_meaning.specs.Runs.{Comes, at_verb}
+use Rattle.pw_code_meaning.specs.Steps.{step}
+use Rattle.pw_code_meaning.proofs.Progress.{hops, step_progress}
+use Rattle.pw_code_meaning.proofs.RunLemmas.{goes_on}
 
 -- the count from a turn of the outer loop on
 pub record CountsFrom (before : ℕ) (d : Config) : Type 0 where

@@ -11,7 +11,7 @@ use Rattle.pw_code.specs.Places.{picture_of}
 use Rattle.pw_code.specs.declared.place.Kind.{Kind}
 use Rattle.pw_code.specs.declared.place.Kind.TheVariants.{Number}
 use Rattle.pw_picture.specs.Stored.{digit_of, value_of, is_negative, read_of, number_of_chars}
-use Rattle.pw_source.specs.Values.{whole_part}
+use Rattle.pw_tree_meaning.specs.Values.{whole_part}
 
 -- a digit is below ten
 digit_of-below : (char : ℕ) → digit_of char ≤ 9

@@ -12,11 +12,11 @@ use Rattle.pw_code.specs.declared.context.Frame.{Frame}
 use Rattle.pw_code.specs.declared.instr.Instr.TheVariants.{Call}
 use Rattle.pw_code.specs.declared.place.StoragePlace.{StoragePlace}
 use Rattle.pw_code.specs.declared.system.System.{System}
-use Rattle.pw_exec.specs.Calls.{most_calls}
-use Rattle.pw_exec.specs.Config.{Config, code_at}
-use Rattle.pw_exec.specs.Turns.{last_behind, split_last}
-use Rattle.pw_exec.specs.Sound.{AreWaiting, IsFrame, IsSound, Waits, kept_size}
-use Rattle.pw_exec.proofs.Sizes.{waits-same, code-is}
+use Rattle.pw_code_meaning.specs.Calls.{most_calls}
+use Rattle.pw_code_meaning.specs.Config.{Config, code_at}
+use Rattle.pw_code_meaning.specs.Turns.{last_behind, split_last}
+use Rattle.pw_code_meaning.specs.Sound.{AreWaiting, IsFrame, IsSound, Waits, kept_size}
+use Rattle.pw_code_meaning.proofs.Sizes.{waits-same, code-is}
 use Rattle.pw_machine.specs.Stack.{AreKnown, StaysAt, popped}
 use Rattle.pw_machine.proofs.RangeLemmas.{can_do}
 

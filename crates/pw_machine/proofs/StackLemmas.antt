@@ -4,8 +4,8 @@ use Rattle.std.specs.Prelude.{sum_by}
 use Rattle.std.proofs.lemmas.List.Sums.{sum_by_more}
 use Rattle.pw_code.specs.declared.context.Frame.{Frame}
 use Rattle.pw_code.specs.declared.system.System.{System}
-use Rattle.pw_exec.specs.Calls.{items_of}
-use Rattle.pw_exec.specs.Config.{code_at}
+use Rattle.pw_code_meaning.specs.Calls.{items_of}
+use Rattle.pw_code_meaning.specs.Config.{code_at}
 
 pub total_more : (system : System) (frames items : List Frame) (i : ℕ) (frame : Frame) (total : ℕ) → items ≡ frames → i < length items → frame ≡ get_or items i frame
     → total ≡ sum_by (items_of system) (take i frames)

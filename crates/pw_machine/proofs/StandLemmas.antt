@@ -6,8 +6,8 @@ use Rattle.pw_code.specs.Valid.{IsValid}
 use Rattle.pw_code.specs.declared.context.Frame.{Frame}
 use Rattle.pw_code.specs.declared.instr.Instr.{Instr}
 use Rattle.pw_code.specs.declared.system.System.{System}
-use Rattle.pw_exec.specs.Config.{code_at}
-use Rattle.pw_exec.specs.Sound.{IsFrame}
+use Rattle.pw_code_meaning.specs.Config.{code_at}
+use Rattle.pw_code_meaning.specs.Sound.{IsFrame}
 use Rattle.pw_machine.specs.Stack.{CanDoInstr}
 use Rattle.pw_machine.proofs.RangeLemmas.{can_do}
 

@@ -1,6 +1,6 @@
 -- Spots that are taken one after the other.
 use Rattle.std.proofs.Common.{◌≡◌, List, [], ◌∷◌, ◌++◌, Option, Some, None, refl, ap, append_assoc}
-use Rattle.pw_exec.specs.Reading.{Spot, one_more}
+use Rattle.pw_code_meaning.specs.Reading.{Spot, one_more}
 
 -- some spots in front of others, if there are any
 abbrev pub in_front : List Spot → Option (List Spot) → Option (List Spot)

@@ -5,11 +5,11 @@ use Rattle.pw_code.specs.declared.context.Context.{Context}
 use Rattle.pw_code.specs.declared.context.Frame.{Frame}
 use Rattle.pw_code.specs.declared.system.System.{System}
 use Rattle.pw_code.specs.declared.verb.Answer.{Answer}
-use Rattle.pw_exec.specs.Answers.{put}
-use Rattle.pw_exec.specs.Config.{Config, closed, fresh, frame_at}
-use Rattle.pw_exec.specs.Contexts.{PutsAnswer}
-use Rattle.pw_exec.specs.Sound.{IsFrame, IsSound, IsSoundContext}
-use Rattle.pw_exec.specs.Turns.{split_last}
+use Rattle.pw_code_meaning.specs.Answers.{put}
+use Rattle.pw_code_meaning.specs.Config.{Config, closed, fresh, frame_at}
+use Rattle.pw_code_meaning.specs.Contexts.{PutsAnswer}
+use Rattle.pw_code_meaning.specs.Sound.{IsFrame, IsSound, IsSoundContext}
+use Rattle.pw_code_meaning.specs.Turns.{split_last}
 use Rattle.pw_machine.specs.Config.{config_with, frame_of}
 use Rattle.pw_machine.specs.Stack.{popped}
 use Rattle.pw_machine.specs.declared.top.Top.{Top}

@@ -5,8 +5,8 @@ use Rattle.std.proofs.lemmas.Bool.Decides.{nat_tests}
 use Rattle.pw_code.specs.declared.context.Context.{Context}
 use Rattle.pw_code.specs.declared.context.Frame.{Frame}
 use Rattle.pw_code.specs.declared.context.Return.{Return}
-use Rattle.pw_exec.specs.Config.{Config, most_counted}
-use Rattle.pw_exec.specs.Turns.{split_last, last_behind, comes_back}
+use Rattle.pw_code_meaning.specs.Config.{Config, most_counted}
+use Rattle.pw_code_meaning.specs.Turns.{split_last, last_behind, comes_back}
 
 -- a list without its last item, and that item
 pub split_last-is : (items : List Return) (d : Return) → 0 < length items → split_last items ≡ Some (take (length items - 1) items, get_or items (length items - 1) d)

@@ -1,6 +1,6 @@
 -- Operands beside another, character by character.
 use Rattle.std.specs.Prelude.{ℕ, max, slice_index_or, length, Option, Some, None}
-use Rattle.pw_source.specs.Values.{Value, Spaces', Zeros', operand_text}
+use Rattle.pw_tree_meaning.specs.Values.{Value, Spaces', Zeros', operand_text}
 
 -- the character that fills, of SPACES and ZEROS
 abbrev pub fill_of : Value → Option ℕ

@@ -2,7 +2,7 @@
 use Rattle.std.specs.Prelude.{List}
 use Rattle.pw_code.specs.declared.context.Context.{Context}
 use Rattle.pw_code.specs.declared.context.Frame.{Frame}
-use Rattle.pw_exec.specs.Config.{Config}
+use Rattle.pw_code_meaning.specs.Config.{Config}
 use Rattle.pw_machine.specs.declared.top.Top.{Top}
 
 -- the frame of a program at work

@@ -1,8 +1,8 @@
 -- Where a reply goes.
 use Rattle.std.specs.Prelude.{ℕ, List}
-use Rattle.pw_exec.specs.Config.{Config, over, with_storage}
-use Rattle.pw_exec.specs.Moves.{move_text}
-use Rattle.pw_exec.specs.Reading.{Spot}
+use Rattle.pw_code_meaning.specs.Config.{Config, over, with_storage}
+use Rattle.pw_code_meaning.specs.Moves.{move_text}
+use Rattle.pw_code_meaning.specs.Reading.{Spot}
 use Rattle.pw_machine.specs.Views.{spot_by}
 use Rattle.pw_machine.specs.declared.spot.MachineSpot as spots
 

@@ -6,7 +6,7 @@ use Rattle.pw_code.specs.declared.context.Frame.{Frame}
 use Rattle.pw_code.specs.declared.instr.Instr.{Instr}
 use Rattle.pw_code.specs.declared.instr.Instr.TheVariants.{Call, ExitProgram, Jump, NoCode, ParagraphEnd, Until}
 use Rattle.pw_code.specs.declared.system.System.{System}
-use Rattle.pw_exec.specs.Config.{Config, code_at}
+use Rattle.pw_code_meaning.specs.Config.{Config, code_at}
 
 -- the programs are the system's
 abbrev pub AreKnown : System → List Frame → Type 0

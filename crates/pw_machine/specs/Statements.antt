@@ -3,8 +3,8 @@ use Rattle.std.specs.Prelude.{ℕ, List, Option, Some, None, option_map}
 use Rattle.pw_code.specs.declared.operand.InstructionOperand.{InstructionOperand}
 use Rattle.pw_code.specs.declared.place.StoragePlace.{StoragePlace}
 use Rattle.pw_code.specs.declared.instr.Arithmetic.{Arithmetic}
-use Rattle.pw_exec.specs.Moves.{moves, operands_of, result_of}
-use Rattle.pw_exec.specs.Reading.{Registers, Spot, ResolvedOperand, code_operand_taken, spots_of}
+use Rattle.pw_code_meaning.specs.Moves.{moves, operands_of, result_of}
+use Rattle.pw_code_meaning.specs.Reading.{Registers, Spot, ResolvedOperand, code_operand_taken, spots_of}
 
 -- the storage behind moves to spots; none where a subscript is outside
 abbrev pub moved_by : Option ResolvedOperand → Option (List Spot) → List ℕ → Option (List ℕ)

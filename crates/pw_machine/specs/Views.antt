@@ -4,9 +4,9 @@ use Rattle.pw_picture.specs.Grammar.{IsPicture, size_of}
 use Rattle.pw_code.specs.Places.{picture_of}
 use Rattle.pw_code.specs.declared.operand.InstructionOperand.{InstructionOperand}
 use Rattle.pw_code.specs.declared.operand.InstructionOperand.TheVariants as operand
-use Rattle.pw_exec.specs.Reading.{Registers, Spot}
-use Rattle.pw_exec.specs.Reading as reading
-use Rattle.pw_source.specs.Values.{Register, Number', Text', Spaces', Zeros'}
+use Rattle.pw_code_meaning.specs.Reading.{Registers, Spot}
+use Rattle.pw_code_meaning.specs.Reading as reading
+use Rattle.pw_tree_meaning.specs.Values.{Register, Number', Text', Spaces', Zeros'}
 use Rattle.pw_machine.specs.declared.registers.MachineRegisters as own
 use Rattle.pw_machine.specs.declared.spot.MachineSpot as spots
 use Rattle.pw_machine.specs.declared.spot.MachineOperand as takens

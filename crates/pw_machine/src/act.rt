@@ -2,9 +2,9 @@
 
 ghost use Rattle.std.specs.Prelude.{◌≡◌, true, false, Some, slice_get, IfOk};
 ghost use Rattle.pw_code.specs.Valid.{IsValid};
-ghost use Rattle.pw_exec.specs.Config.{code_at};
-ghost use Rattle.pw_exec.specs.Sound.{IsSound};
-ghost use Rattle.pw_exec.specs.Steps as steps;
+ghost use Rattle.pw_code_meaning.specs.Config.{code_at};
+ghost use Rattle.pw_code_meaning.specs.Sound.{IsSound};
+ghost use Rattle.pw_code_meaning.specs.Steps as steps;
 ghost use Rattle.pw_machine.specs.Config.{config_of, frame_of};
 ghost use Rattle.pw_machine.specs.Stack.{CanDoInstr, StaysAt, is_control, stays_at_work};
 

@@ -1,7 +1,7 @@
 ghost use Rattle.std.specs.Prelude.{◌≡◌, ℕ, ◌≤◌, ◌<◌, ◌+◌, ◌^◌, Some, None, length, unsigned_abs, if◌then◌else◌};
 ghost use Rattle.std.specs.Bool.{OnFalse};
 ghost use Rattle.pw_code.specs.Places.{picture_of};
-ghost use Rattle.pw_exec.specs.Moves.{operated, receiver_decimals, stored_in, stored_by};
+ghost use Rattle.pw_code_meaning.specs.Moves.{operated, receiver_decimals, stored_in, stored_by};
 ghost use Rattle.pw_machine.specs.Views.{spot_by, IsSpot};
 
 use crate::spot::MachineSpot;

@@ -3,10 +3,10 @@
 ghost use Rattle.std.specs.Prelude.{◌≡◌, ◌≤◌, ◌<◌, ◌+◌, ◌^◌, length, option_map, All, IfOk, IfSome};
 ghost use Rattle.pw_code.specs.Instrs.{IsArithmetic};
 ghost use Rattle.pw_code.specs.Places.{IsOperand, IsPlace, IsCond};
-ghost use Rattle.pw_source.specs.Values.{whole_part, number_of};
-ghost use Rattle.pw_exec.specs.Config.{with_taken, over as goes_over};
-ghost use Rattle.pw_exec.specs.Steps as steps;
-ghost use Rattle.pw_exec.specs.Turns as paragraphs;
+ghost use Rattle.pw_tree_meaning.specs.Values.{whole_part, number_of};
+ghost use Rattle.pw_code_meaning.specs.Config.{with_taken, over as goes_over};
+ghost use Rattle.pw_code_meaning.specs.Steps as steps;
+ghost use Rattle.pw_code_meaning.specs.Turns as paragraphs;
 ghost use Rattle.pw_machine.specs.Config.{config_of};
 ghost use Rattle.pw_machine.specs.Stack.{StaysAt};
 

@@ -3,8 +3,8 @@
 ghost use Rattle.std.specs.Prelude.{◌≡◌, Some, length, IfOk};
 ghost use Rattle.pw_code.specs.Places.{IsOperand};
 ghost use Rattle.pw_code.specs.Valid.{IsValid};
-ghost use Rattle.pw_exec.specs.Sound.{IsSound};
-ghost use Rattle.pw_exec.specs.Steps as steps;
+ghost use Rattle.pw_code_meaning.specs.Sound.{IsSound};
+ghost use Rattle.pw_code_meaning.specs.Steps as steps;
 ghost use Rattle.pw_machine.specs.Config.{config_of, frame_of};
 ghost use Rattle.pw_machine.specs.Stack.{CanDoInstr};
 

@@ -3,12 +3,12 @@
 ghost use Rattle.std.specs.Prelude.{◌≡◌, ◌≤◌, ◌<◌, ◌+◌, ◌^◌, true, length, map, is_some, All, IfOk};
 ghost use Rattle.pw_code.specs.Instrs.{IsScreen, IsReplyCode, screen_at};
 ghost use Rattle.pw_code.specs.Places.{IsOperand, IsPlace};
-ghost use Rattle.pw_source.specs.Values.{as_it_stands};
+ghost use Rattle.pw_tree_meaning.specs.Values.{as_it_stands};
 ghost use Rattle.pw_terminal.specs.Screen.{with_message};
 ghost use Rattle.pw_terminal.specs.Shown.{with_screen};
-ghost use Rattle.pw_exec.specs.Config.{with_taken, code_at};
-ghost use Rattle.pw_exec.specs.Reading.{spots_of};
-ghost use Rattle.pw_exec.specs.Steps as steps;
+ghost use Rattle.pw_code_meaning.specs.Config.{with_taken, code_at};
+ghost use Rattle.pw_code_meaning.specs.Reading.{spots_of};
+ghost use Rattle.pw_code_meaning.specs.Steps as steps;
 ghost use Rattle.pw_machine.specs.Config.{config_of};
 ghost use Rattle.pw_machine.specs.Stack.{StaysAt};
 ghost use Rattle.pw_machine.specs.Views.{registers_by};
@@ -17,7 +17,7 @@ use crate::chars::read_chars;
 use crate::moves::move_value;
 use crate::reading::{spot_of, taken};
 use crate::registers::MachineRegisters;
-use crate::spot::{MachineSpot, MachineOperand};
+use crate::spot::{MachineOperand, MachineSpot};
 use crate::stack::code_at;
 use crate::top::Top;
 use crate::turns::{fault, go_over};
@@ -114,7 +114,13 @@ pub fn operate(top: &Top, context: &mut Context, operand: &InstructionOperand)
     ensures config { config_of top.now context.new ≡ steps.operates operand.now (config_of top.now context.old) }
     ensures stays { StaysAt (config_of top.now context.old) (config_of top.now context.new) }
 {
-    if taken(MachineRegisters::of(context), top.storage.as_slice(), operand).is_some() {
+    if taken(
+        MachineRegisters::of(context),
+        top.storage.as_slice(),
+        operand,
+    )
+    .is_some()
+    {
         ask(context);
     } else {
         fault(context, 203);
@@ -140,7 +146,12 @@ pub fn receive(system: &System, top: &mut Top, context: &mut Context, into: Stor
                 size,
                 kind: Kind::Group,
             };
-            move_value(storage, &InstructionOperand::Spaces, MachineOperand::Stored(message), spot);
+            move_value(
+                storage,
+                &InstructionOperand::Spaces,
+                MachineOperand::Stored(message),
+                spot,
+            );
             go_over(top, 0);
         }
         None => fault(context, 203),

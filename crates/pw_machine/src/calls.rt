@@ -6,12 +6,12 @@ ghost use Rattle.pw_code.specs.Places.{IsPlace};
 ghost use Rattle.pw_code.specs.Instrs as instrs;
 ghost use Rattle.pw_code.specs.Valid.{IsValid};
 ghost use Rattle.pw_code.specs.declared.instr.Instr.TheVariants.{Call};
-ghost use Rattle.pw_exec.specs.Calls as programs;
-ghost use Rattle.pw_exec.specs.Config.{with_taken};
-ghost use Rattle.pw_exec.specs.Config as config;
-ghost use Rattle.pw_exec.specs.Reading.{registers_of, chars_at};
-ghost use Rattle.pw_exec.specs.Sound.{IsFrame, IsSound, Waits, kept_size};
-ghost use Rattle.pw_exec.specs.Steps as steps;
+ghost use Rattle.pw_code_meaning.specs.Calls as programs;
+ghost use Rattle.pw_code_meaning.specs.Config.{with_taken};
+ghost use Rattle.pw_code_meaning.specs.Config as config;
+ghost use Rattle.pw_code_meaning.specs.Reading.{registers_of, chars_at};
+ghost use Rattle.pw_code_meaning.specs.Sound.{IsFrame, IsSound, Waits, kept_size};
+ghost use Rattle.pw_code_meaning.specs.Steps as steps;
 ghost use Rattle.pw_machine.specs.Config.{config_of, frame_of};
 ghost use Rattle.pw_machine.specs.Views.{registers_by, spot_by, IsSpot};
 
@@ -152,7 +152,12 @@ pub fn call(
 }
 
 /// The registers by which the subscripts of a CALL's arguments go when they are copied back.
-fn registers_at_call(system: &System, callee: &Top, context: &Context, keeps: bool) -> MachineRegisters
+fn registers_at_call(
+    system: &System,
+    callee: &Top,
+    context: &Context,
+    keeps: bool,
+) -> MachineRegisters
     requires known { callee.now.program < length system.now.programs + length system.now.servers }
     requires size { length callee.now.storage.items ≡ length (config.code_at system.now callee.now.program).storage + kept_size keeps }
     ensures { registers_by result

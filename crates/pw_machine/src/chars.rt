@@ -1,8 +1,8 @@
 ghost use Rattle.std.specs.Prelude.{◌≡◌, ◌≤◌, length, option_map, IfOk};
 ghost use Rattle.pw_picture.specs.Stored.{digits_of};
 ghost use Rattle.pw_code.specs.Places.{IsOperand};
-ghost use Rattle.pw_source.specs.Values.{as_it_stands};
-ghost use Rattle.pw_exec.specs.Reading.{value_in, read};
+ghost use Rattle.pw_tree_meaning.specs.Values.{as_it_stands};
+ghost use Rattle.pw_code_meaning.specs.Reading.{value_in, read};
 ghost use Rattle.pw_machine.specs.Views.{registers_by, taken_by, IsTaken};
 
 use crate::numbers::chars_at;
@@ -29,12 +29,20 @@ pub fn digits_text(alloc: Global, digits: u8, value: u32) -> Result<Bytes, Memor
 }
 
 /// The characters of an operand that was taken, as it is stored or written.
-fn chars_of(alloc: Global, storage: &[u8], operand: &InstructionOperand, found: MachineOperand) -> Result<Bytes, Memory>
+fn chars_of(
+    alloc: Global,
+    storage: &[u8],
+    operand: &InstructionOperand,
+    found: MachineOperand,
+) -> Result<Bytes, Memory>
     requires { IsTaken (length storage.now) found }
     ensures { IfOk result (λ chars. chars ≡ as_it_stands (value_in storage.now (taken_by operand.now found))) }
 {
     match found {
-        MachineOperand::Stored(spot) => Bytes::from_slice(alloc, chars_at(storage, spot.at, spot.size)),
+        MachineOperand::Stored(spot) => Bytes::from_slice(
+            alloc,
+            chars_at(storage, spot.at, spot.size),
+        ),
         MachineOperand::Register { digits, value } => digits_text(alloc, digits, value),
         MachineOperand::Fixed => match operand {
             InstructionOperand::Number { spelling, .. } => spelling.copy(alloc),

@@ -1,8 +1,8 @@
 ghost use Rattle.std.specs.Prelude.{◌≡◌, ◌≤◌, ◌<◌, ◌+◌, ◌&&◌, ◌||◌, List, ℕ, length};
 ghost use Rattle.pw_code.specs.Places.{IsOperand};
-ghost use Rattle.pw_exec.specs.Conditions.{are_numbers, is_zeros, compared, text_order, beside};
-ghost use Rattle.pw_exec.specs.Reading.{value_in};
-ghost use Rattle.pw_source.specs.Values.{is_number_operand};
+ghost use Rattle.pw_code_meaning.specs.Conditions.{are_numbers, is_zeros, compared, text_order, beside};
+ghost use Rattle.pw_code_meaning.specs.Reading.{value_in};
+ghost use Rattle.pw_tree_meaning.specs.Values.{is_number_operand};
 ghost use Rattle.pw_machine.specs.Beside.{fill_of, char_beside, size_beside};
 ghost use Rattle.pw_machine.specs.Views.{taken_by, IsTaken};
 
@@ -28,7 +28,12 @@ pub fn fill_of(operand: &InstructionOperand, found: MachineOperand) -> Option<u8
 }
 
 /// The character at a place of an operand beside another.
-fn char_beside(storage: &[u8], operand: &InstructionOperand, found: MachineOperand, place: usize) -> u8
+fn char_beside(
+    storage: &[u8],
+    operand: &InstructionOperand,
+    found: MachineOperand,
+    place: usize,
+) -> u8
     requires { IsTaken (length storage.now) found }
     ensures { result ≡ char_beside (value_in storage.now (taken_by operand.now found)) place }
 {
@@ -39,7 +44,13 @@ fn char_beside(storage: &[u8], operand: &InstructionOperand, found: MachineOpera
 }
 
 /// As many characters as two operands have beside each other.
-fn size_beside(storage: &[u8], left: &InstructionOperand, a: MachineOperand, right: &InstructionOperand, b: MachineOperand) -> usize
+fn size_beside(
+    storage: &[u8],
+    left: &InstructionOperand,
+    a: MachineOperand,
+    right: &InstructionOperand,
+    b: MachineOperand,
+) -> usize
     requires left { IsTaken (length storage.now) a }
     requires right { IsTaken (length storage.now) b }
     ensures { result ≡ size_beside (value_in storage.now (taken_by left.now a)) (value_in storage.now (taken_by right.now b)) }
@@ -53,7 +64,13 @@ fn size_beside(storage: &[u8], left: &InstructionOperand, a: MachineOperand, rig
 }
 
 /// How two operands compare as texts, by their bytes.
-fn text_order(storage: &[u8], left: &InstructionOperand, a: MachineOperand, right: &InstructionOperand, b: MachineOperand) -> Ordering
+fn text_order(
+    storage: &[u8],
+    left: &InstructionOperand,
+    a: MachineOperand,
+    right: &InstructionOperand,
+    b: MachineOperand,
+) -> Ordering
     requires left { IsTaken (length storage.now) a }
     requires right { IsTaken (length storage.now) b }
     ensures { let one = value_in storage.now (taken_by left.now a) in let two = value_in storage.now (taken_by right.now b) in
@@ -89,7 +106,13 @@ fn is_zeros(operand: &InstructionOperand, found: MachineOperand) -> bool
 }
 
 /// How two operands compare: numbers by value, all else as texts.
-pub fn compared(storage: &[u8], left: &InstructionOperand, a: MachineOperand, right: &InstructionOperand, b: MachineOperand) -> Ordering
+pub fn compared(
+    storage: &[u8],
+    left: &InstructionOperand,
+    a: MachineOperand,
+    right: &InstructionOperand,
+    b: MachineOperand,
+) -> Ordering
     requires left { IsTaken (length storage.now) a }
     requires right { IsTaken (length storage.now) b }
     requires one { IsOperand (length storage.now) left.now }

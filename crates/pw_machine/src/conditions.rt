@@ -2,8 +2,8 @@ ghost use Rattle.std.specs.Prelude.{◌≡◌, ◌≤◌, ◌<◌, Some, length,
 ghost use Rattle.std.specs.Char.{is_ascii_digit};
 ghost use Rattle.std.specs.List.{list_all};
 ghost use Rattle.pw_code.specs.Places.{IsOperand, IsComparison, IsCond, picture_of};
-ghost use Rattle.pw_exec.specs.Conditions.{holds_by, is_numeric, is_numeric_item, are_signed_digits, comparison_holds, all_hold, any_holds, code_condition_holds};
-ghost use Rattle.pw_exec.specs.Reading.{value_in};
+ghost use Rattle.pw_code_meaning.specs.Conditions.{holds_by, is_numeric, is_numeric_item, are_signed_digits, comparison_holds, all_hold, any_holds, code_condition_holds};
+ghost use Rattle.pw_code_meaning.specs.Reading.{value_in};
 ghost use Rattle.pw_machine.specs.Views.{registers_by, taken_by, IsTaken};
 
 use crate::compare::compared;
@@ -12,7 +12,7 @@ use crate::reading::taken;
 use crate::registers::MachineRegisters;
 use crate::spot::MachineOperand;
 use pw_base::list::List;
-use pw_code::cond::{Comparison, Cond, ComparisonOperator};
+use pw_code::cond::{Comparison, ComparisonOperator, Cond};
 use pw_code::operand::InstructionOperand;
 use pw_code::place::Kind;
 use std::cmp::Ordering;
@@ -63,7 +63,10 @@ fn is_numeric(storage: &[u8], operand: &InstructionOperand, found: MachineOperan
     ensures { result ≡ is_numeric (value_in storage.now (taken_by operand.now found)) }
 {
     match found {
-        MachineOperand::Stored(spot) => is_numeric_item(spot.kind, chars_at(storage, spot.at, spot.size)),
+        MachineOperand::Stored(spot) => is_numeric_item(
+            spot.kind,
+            chars_at(storage, spot.at, spot.size),
+        ),
         MachineOperand::Register { .. } => true,
         MachineOperand::Fixed => match operand {
             InstructionOperand::Number { .. } | InstructionOperand::Zeros => true,
@@ -112,7 +115,11 @@ fn all_hold(registers: MachineRegisters, storage: &[u8], all: &[Comparison]) -> 
 }
 
 /// Whether in one of the lists each comparison holds, None exactly where a subscript is outside.
-fn any_holds(registers: MachineRegisters, storage: &[u8], lists: &[List<Comparison>]) -> Option<bool>
+fn any_holds(
+    registers: MachineRegisters,
+    storage: &[u8],
+    lists: &[List<Comparison>],
+) -> Option<bool>
     requires { All (All (IsComparison (length storage.now))) lists.now }
     ensures { result ≡ any_holds (registers_by registers) storage.now lists.now }
 {

@@ -11,8 +11,8 @@ ghost use Rattle.pw_code.specs.Instrs.{IsScreen, screen_at};
 ghost use Rattle.pw_code.specs.declared.context.Frame.{Frame};
 ghost use Rattle.pw_terminal.specs.Entries.{is_entry_field, check};
 ghost use Rattle.pw_terminal.specs.Shown.{written};
-ghost use Rattle.pw_exec.specs.Answers as answers;
-ghost use Rattle.pw_exec.specs.Entries as items;
+ghost use Rattle.pw_code_meaning.specs.Answers as answers;
+ghost use Rattle.pw_code_meaning.specs.Entries as items;
 ghost use Rattle.pw_machine.specs.Config.{config_with};
 ghost use Rattle.pw_machine.specs.Stack.{HasRoom};
 

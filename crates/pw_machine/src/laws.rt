@@ -2,7 +2,7 @@ ghost use Rattle.std.specs.Prelude.{◌<◌, ℕ, List, length};
 ghost use Rattle.pw_code.specs.declared.context.Context.{Context};
 ghost use Rattle.pw_code.specs.declared.system.System.{System};
 ghost use Rattle.pw_code.specs.declared.verb.Answer.{Answer};
-ghost use Rattle.pw_exec.specs.Runs.{StandsFor, StandsForFiles};
+ghost use Rattle.pw_code_meaning.specs.Runs.{StandsFor, StandsForFiles};
 ghost use Rattle.pw_machine.specs.Stack.{HasRoom};
 
 /// A context that stands for fewer than a million answers has room for one more.

@@ -1,7 +1,7 @@
 ghost use Rattle.std.specs.Prelude.{◌≡◌, ◌≤◌, ◌+◌, length, map, All};
 ghost use Rattle.pw_code.specs.Valid.{IsLinked};
-ghost use Rattle.pw_exec.specs.Calls.{put_linkage, put_all, linkage_chars};
-ghost use Rattle.pw_exec.specs.Reading as reading;
+ghost use Rattle.pw_code_meaning.specs.Calls.{put_linkage, put_all, linkage_chars};
+ghost use Rattle.pw_code_meaning.specs.Reading as reading;
 ghost use Rattle.pw_terminal.specs.Shown.{written};
 ghost use Rattle.pw_machine.specs.Views.{spot_by, IsSpot};
 

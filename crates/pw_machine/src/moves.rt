@@ -3,13 +3,13 @@ ghost use Rattle.pw_picture.specs.Stored.{moved};
 ghost use Rattle.pw_picture.specs.Text.{fitted};
 ghost use Rattle.pw_code.specs.Places.{IsOperand, picture_of};
 ghost use Rattle.pw_terminal.specs.Shown.{written};
-ghost use Rattle.pw_exec.specs.Moves.{move_value, move_text};
-ghost use Rattle.pw_exec.specs.Reading.{value_in};
-ghost use Rattle.pw_source.specs.Values.{text_in, operand_text, without_sign};
+ghost use Rattle.pw_code_meaning.specs.Moves.{move_value, move_text};
+ghost use Rattle.pw_code_meaning.specs.Reading.{value_in};
+ghost use Rattle.pw_tree_meaning.specs.Values.{text_in, operand_text, without_sign};
 ghost use Rattle.pw_machine.specs.Views.{spot_by, taken_by, IsSpot, IsTaken};
 
 use crate::compare::fill_of;
-use crate::spot::{MachineSpot, MachineOperand};
+use crate::spot::{MachineOperand, MachineSpot};
 use crate::texts::{sign_of, text_char};
 use crate::value::{number_of, number_of_text};
 use pw_code::operand::InstructionOperand;
@@ -95,7 +95,12 @@ fn item_to(storage: &mut [u8], from: MachineSpot, to: MachineSpot)
 }
 
 /// Writes an operand that is no item as a text, character by character.
-fn spelled_to(storage: &mut [u8], operand: &InstructionOperand, found: MachineOperand, to: MachineSpot)
+fn spelled_to(
+    storage: &mut [u8],
+    operand: &InstructionOperand,
+    found: MachineOperand,
+    to: MachineSpot,
+)
     requires found { IsTaken 0 found }
     requires to { IsSpot (length storage.old) to }
     ensures { storage.new ≡ written to.at (fitted to.size (operand_text (value_in [] (taken_by operand.now found)))) storage.old }
@@ -106,7 +111,12 @@ fn spelled_to(storage: &mut [u8], operand: &InstructionOperand, found: MachineOp
 }
 
 /// Moves an operand to the spot of a text.
-fn text_value_to(storage: &mut [u8], operand: &InstructionOperand, found: MachineOperand, to: MachineSpot)
+fn text_value_to(
+    storage: &mut [u8],
+    operand: &InstructionOperand,
+    found: MachineOperand,
+    to: MachineSpot,
+)
     requires found { IsTaken (length storage.old) found }
     requires to { IsSpot (length storage.old) to }
     ensures { storage.new ≡ written to.at (text_in to.size (value_in storage.old (taken_by operand.now found))) storage.old }
@@ -121,7 +131,12 @@ fn text_value_to(storage: &mut [u8], operand: &InstructionOperand, found: Machin
 }
 
 /// Moves an operand to a spot. The two may overlap.
-pub fn move_value(storage: &mut [u8], operand: &InstructionOperand, found: MachineOperand, to: MachineSpot)
+pub fn move_value(
+    storage: &mut [u8],
+    operand: &InstructionOperand,
+    found: MachineOperand,
+    to: MachineSpot,
+)
     requires operand { IsOperand (length storage.old) operand.now }
     requires found { IsTaken (length storage.old) found }
     requires to { IsSpot (length storage.old) to }

@@ -1,7 +1,7 @@
 ghost use Rattle.std.specs.Prelude.{◌≡◌, ◌≤◌, ◌<◌, ◌+◌, ◌^◌, false, length, take, drop, unsigned_abs, IsTrue};
 ghost use Rattle.pw_picture.specs.Grammar.{IsPicture, size_of};
 ghost use Rattle.pw_picture.specs.Stored.{read_of};
-ghost use Rattle.pw_source.specs.Values.{whole_part, number_of_text};
+ghost use Rattle.pw_tree_meaning.specs.Values.{whole_part, number_of_text};
 
 use pw_number::power::power_of_ten;
 use pw_number::scaled::Scaled;

@@ -3,15 +3,15 @@ ghost use Rattle.pw_picture.specs.Stored.{read_of};
 ghost use Rattle.pw_code.specs.Places.{HasDigits, IsSubscriptInStorage, IsTableAt, IsPlace, IsOperand};
 ghost use Rattle.pw_code.specs.Instrs.{digits_of_register};
 ghost use Rattle.pw_code.specs.declared.operand.InstructionOperand.{InstructionOperand};
-ghost use Rattle.pw_exec.specs.Reading.{Fixed, register_value, subscript_of, occurrence_at, at_this_moment, spot_of, code_operand_taken};
-ghost use Rattle.pw_source.specs.Values as values;
+ghost use Rattle.pw_code_meaning.specs.Reading.{Fixed, register_value, subscript_of, occurrence_at, at_this_moment, spot_of, code_operand_taken};
+ghost use Rattle.pw_tree_meaning.specs.Values as values;
 ghost use Rattle.pw_machine.specs.Views.{registers_by, spot_by, taken_by, IsSpot, IsTaken};
 
 use crate::numbers::{chars_at, digits_in, whole_part};
 use crate::registers::MachineRegisters;
-use crate::spot::{MachineSpot, MachineOperand};
+use crate::spot::{MachineOperand, MachineSpot};
 use pw_code::operand::InstructionOperand;
-use pw_code::place::{StoragePlace, Register, PlaceSubscript, PlaceTable};
+use pw_code::place::{PlaceSubscript, PlaceTable, Register, StoragePlace};
 
 /// The value of a subscript.
 fn subscript_of(registers: MachineRegisters, storage: &[u8], subscript: PlaceSubscript) -> u128
@@ -56,7 +56,11 @@ fn at_this_moment(registers: MachineRegisters, storage: &[u8], place: StoragePla
 }
 
 /// The spot of a place, None exactly where its subscript is outside.
-pub fn spot_of(registers: MachineRegisters, storage: &[u8], place: StoragePlace) -> Option<MachineSpot>
+pub fn spot_of(
+    registers: MachineRegisters,
+    storage: &[u8],
+    place: StoragePlace,
+) -> Option<MachineSpot>
     requires { IsPlace (length storage.now) place }
     ensures spot { option_map spot_by result ≡ spot_of (registers_by registers) storage.now place }
     ensures inside { IfSome result (IsSpot (length storage.now)) }
@@ -84,13 +88,19 @@ fn register_taken(registers: MachineRegisters, register: Register) -> MachineOpe
 }
 
 /// An operand at this moment, None exactly where its subscript is outside.
-pub fn taken(registers: MachineRegisters, storage: &[u8], operand: &InstructionOperand) -> Option<MachineOperand>
+pub fn taken(
+    registers: MachineRegisters,
+    storage: &[u8],
+    operand: &InstructionOperand,
+) -> Option<MachineOperand>
     requires { IsOperand (length storage.now) operand.now }
     ensures taken { option_map (taken_by operand.now) result ≡ code_operand_taken (registers_by registers) storage.now operand.now }
     ensures inside { IfSome result (IsTaken (length storage.now)) }
 {
     match operand {
-        InstructionOperand::Item(place) => Some(MachineOperand::Stored(spot_of(registers, storage, *place)?)),
+        InstructionOperand::Item(place) => Some(MachineOperand::Stored(spot_of(
+            registers, storage, *place,
+        )?)),
         InstructionOperand::Register(register) => Some(register_taken(registers, *register)),
         _ => Some(MachineOperand::Fixed),
     }

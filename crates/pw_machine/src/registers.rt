@@ -1,5 +1,5 @@
 ghost use Rattle.std.specs.Prelude.{◌≡◌};
-ghost use Rattle.pw_exec.specs.Reading.{registers_of, register_value};
+ghost use Rattle.pw_code_meaning.specs.Reading.{registers_of, register_value};
 
 use pw_code::context::Context;
 use pw_code::place::Register;

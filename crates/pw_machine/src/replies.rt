@@ -3,10 +3,10 @@
 ghost use Rattle.std.specs.Prelude.{◌≡◌, ◌==◌, ◌<◌, ◌≤◌, ◌+◌, ◌^◌, List, length, position, option_and_then, option_map, All, IfSome};
 ghost use Rattle.pw_code.specs.Instrs.{IsReplyCode};
 ghost use Rattle.pw_code.specs.declared.context.Frame.{Frame};
-ghost use Rattle.pw_source.specs.Sends.{code_in_reply};
-ghost use Rattle.pw_exec.specs.Answers as answers;
-ghost use Rattle.pw_exec.specs.Config.{Config};
-ghost use Rattle.pw_exec.specs.Reading.{registers_of};
+ghost use Rattle.pw_tree_meaning.specs.Sends.{code_in_reply};
+ghost use Rattle.pw_code_meaning.specs.Answers as answers;
+ghost use Rattle.pw_code_meaning.specs.Config.{Config};
+ghost use Rattle.pw_code_meaning.specs.Reading.{registers_of};
 ghost use Rattle.pw_machine.specs.Config.{config_with};
 ghost use Rattle.pw_machine.specs.Replies.{seen_at, yielded_at};
 ghost use Rattle.pw_machine.specs.Views.{registers_by, spot_by, IsSpot};

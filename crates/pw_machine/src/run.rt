@@ -2,11 +2,11 @@
 
 ghost use Rattle.std.specs.Prelude.{◌≡◌, ◌<◌, length, IfOk, IsOk};
 ghost use Rattle.pw_code.specs.Valid.{IsValid};
-ghost use Rattle.pw_exec.specs.Config.{starting, starting_server, closed};
-ghost use Rattle.pw_exec.specs.Config as config;
-ghost use Rattle.pw_exec.specs.Contexts.{RunsOn, PutsAnswer};
-ghost use Rattle.pw_exec.specs.Runs.{Reaches};
-ghost use Rattle.pw_exec.specs.Sound.{IsSound, IsSoundContext};
+ghost use Rattle.pw_code_meaning.specs.Config.{starting, starting_server, closed};
+ghost use Rattle.pw_code_meaning.specs.Config as config;
+ghost use Rattle.pw_code_meaning.specs.Contexts.{RunsOn, PutsAnswer};
+ghost use Rattle.pw_code_meaning.specs.Runs.{Reaches};
+ghost use Rattle.pw_code_meaning.specs.Sound.{IsSound, IsSoundContext};
 ghost use Rattle.pw_machine.specs.Config.{config_of};
 ghost use Rattle.pw_machine.specs.Stack.{HasRoom};
 

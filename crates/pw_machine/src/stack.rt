@@ -1,10 +1,10 @@
 ghost use Rattle.std.specs.Prelude.{◌≡◌, ◌≤◌, ◌<◌, ◌+◌, ◌*◌, ◌^◌, ◌++◌, [], length, slice_get, IfSome, Some};
 ghost use Rattle.std.specs.Option.{option_copied, option_to_list};
 ghost use Rattle.pw_code.specs.Valid.{IsValid};
-ghost use Rattle.pw_exec.specs.Calls as programs;
-ghost use Rattle.pw_exec.specs.Config.{code_at};
-ghost use Rattle.pw_exec.specs.Sound.{IsFrame};
-ghost use Rattle.pw_exec.specs.Turns.{split_last};
+ghost use Rattle.pw_code_meaning.specs.Calls as programs;
+ghost use Rattle.pw_code_meaning.specs.Config.{code_at};
+ghost use Rattle.pw_code_meaning.specs.Sound.{IsFrame};
+ghost use Rattle.pw_code_meaning.specs.Turns.{split_last};
 ghost use Rattle.pw_machine.specs.Config.{config_of, frame_of};
 ghost use Rattle.pw_machine.specs.Stack.{AreKnown, CanDoInstr, popped};
 

@@ -1,8 +1,8 @@
 ghost use Rattle.std.specs.Prelude.{◌≡◌, ◌≢◌, true, ◌≤◌, ◌+◌, Some, None, [], ◌∷◌, map, length, All, IfOk, IfSome, option_map, if◌then◌else◌};
 ghost use Rattle.std.specs.Bool.{OnFalse};
 ghost use Rattle.pw_code.specs.Places.{IsOperand, IsPlace};
-ghost use Rattle.pw_exec.specs.Moves.{moves};
-ghost use Rattle.pw_exec.specs.Reading.{spots_of};
+ghost use Rattle.pw_code_meaning.specs.Moves.{moves};
+ghost use Rattle.pw_code_meaning.specs.Reading.{spots_of};
 ghost use Rattle.pw_code.specs.Instrs.{IsArithmetic};
 ghost use Rattle.pw_machine.specs.Statements.{moved_all, computed_all};
 ghost use Rattle.pw_machine.specs.Views.{registers_by, spot_by, taken_by, IsSpot, IsTaken};
@@ -11,7 +11,7 @@ use crate::arithmetic::computed;
 use crate::moves::move_value;
 use crate::reading::{spot_of, taken};
 use crate::registers::MachineRegisters;
-use crate::spot::{MachineSpot, MachineOperand};
+use crate::spot::{MachineOperand, MachineSpot};
 use crate::value::number_of;
 use pw_base::memory::Memory;
 use pw_code::instr::Arithmetic;
@@ -42,7 +42,12 @@ pub fn spots_of(
 }
 
 /// Moves to each of the spots, from left to right.
-fn move_to_each(storage: &mut [u8], from: &InstructionOperand, source: MachineOperand, targets: &[MachineSpot])
+fn move_to_each(
+    storage: &mut [u8],
+    from: &InstructionOperand,
+    source: MachineOperand,
+    targets: &[MachineSpot],
+)
     requires operand { IsOperand (length storage.old) from.now }
     requires source { IsTaken (length storage.old) source }
     requires targets { All (IsSpot (length storage.old)) targets.now }
@@ -54,7 +59,12 @@ fn move_to_each(storage: &mut [u8], from: &InstructionOperand, source: MachineOp
 }
 
 /// MOVE to one place. It is false exactly where a subscript is outside, and then nothing is moved. It takes no memory.
-fn move_one(registers: MachineRegisters, storage: &mut [u8], from: &InstructionOperand, to: StoragePlace) -> bool
+fn move_one(
+    registers: MachineRegisters,
+    storage: &mut [u8],
+    from: &InstructionOperand,
+    to: StoragePlace,
+) -> bool
     requires from { IsOperand (length storage.old) from.now }
     requires to { IsPlace (length storage.old) to }
     ensures moved { (if result then Some storage.new else None) ≡ moved_all (registers_by registers) storage.old from.now (to ∷ []) }
@@ -99,7 +109,11 @@ pub fn move_all(
 
 /// Arithmetic: both operands and the receiver are taken first, None exactly where a subscript is outside. It is
 /// false on a size error. Nothing is stored then.
-pub fn compute(registers: MachineRegisters, storage: &mut [u8], arithmetic: &Arithmetic) -> Option<bool>
+pub fn compute(
+    registers: MachineRegisters,
+    storage: &mut [u8],
+    arithmetic: &Arithmetic,
+) -> Option<bool>
     requires { IsArithmetic (length storage.old) arithmetic.now }
     ensures stored { option_map (λ done. (if done then Some storage.new else None)) result ≡ computed_all (registers_by registers) storage.old arithmetic.now }
     ensures same { result ≢ Some true → storage.new ≡ storage.old }

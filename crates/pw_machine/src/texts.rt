@@ -2,11 +2,11 @@ ghost use Rattle.std.specs.Prelude.{◌≡◌, ◌≤◌, ◌<◌, ◌+◌, ◌-
 ghost use Rattle.std.specs.Char.{is_ascii_digit};
 ghost use Rattle.pw_picture.specs.Stored.{digits_of};
 ghost use Rattle.pw_code.specs.Places.{IsOperand, picture_of};
-ghost use Rattle.pw_exec.specs.Reading.{value_in};
-ghost use Rattle.pw_source.specs.Values.{operand_text, without_sign};
+ghost use Rattle.pw_code_meaning.specs.Reading.{value_in};
+ghost use Rattle.pw_tree_meaning.specs.Values.{operand_text, without_sign};
 ghost use Rattle.pw_machine.specs.Views.{taken_by, IsSpot, IsTaken};
 
-use crate::spot::{MachineSpot, MachineOperand};
+use crate::spot::{MachineOperand, MachineSpot};
 use pw_code::operand::InstructionOperand;
 use pw_code::place::Kind;
 use pw_number::power::power_of_ten;
@@ -100,7 +100,12 @@ fn char_of(text: &[u8], place: usize) -> u8
 }
 
 /// The character at a place of an operand as a text, and a space past the last.
-pub fn text_char(storage: &[u8], operand: &InstructionOperand, found: MachineOperand, place: usize) -> u8
+pub fn text_char(
+    storage: &[u8],
+    operand: &InstructionOperand,
+    found: MachineOperand,
+    place: usize,
+) -> u8
     requires { IsTaken (length storage.now) found }
     ensures { result ≡ slice_index_or (operand_text (value_in storage.now (taken_by operand.now found))) place 32 }
 {
@@ -108,7 +113,10 @@ pub fn text_char(storage: &[u8], operand: &InstructionOperand, found: MachineOpe
         MachineOperand::Stored(spot) => char_at(storage, spot, place),
         MachineOperand::Register { digits, value } => digit_of_value(digits, value, place),
         MachineOperand::Fixed => match operand {
-            InstructionOperand::Number { spelling, .. } => digit_of_spelling(spelling.as_slice(), place),
+            InstructionOperand::Number { spelling, .. } => digit_of_spelling(
+                spelling.as_slice(),
+                place,
+            ),
             InstructionOperand::Text(chars) => char_of(chars.as_slice(), place),
             InstructionOperand::Zeros => char_of(b"0", place),
             _ => b' ',

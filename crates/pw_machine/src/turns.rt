@@ -1,7 +1,7 @@
 ghost use Rattle.std.specs.Prelude.{◌≡◌, ◌≤◌, ◌<◌, ◌+◌, ◌-◌, ◌^◌, true, length, take, nat_lt, option_map, IfOk, if◌then◌else◌};
-ghost use Rattle.pw_exec.specs.Config.{most_counted};
-ghost use Rattle.pw_exec.specs.Config as config;
-ghost use Rattle.pw_exec.specs.Turns as paragraphs;
+ghost use Rattle.pw_code_meaning.specs.Config.{most_counted};
+ghost use Rattle.pw_code_meaning.specs.Config as config;
+ghost use Rattle.pw_code_meaning.specs.Turns as paragraphs;
 ghost use Rattle.pw_machine.specs.Config.{config_of};
 ghost use Rattle.pw_machine.specs.Stack.{StaysAt};
 

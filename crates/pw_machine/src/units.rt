@@ -1,8 +1,8 @@
 //! What answers do to the counts of a path.
 
 ghost use Rattle.std.specs.Prelude.{◌≡◌, ◌<◌, ◌+◌};
-ghost use Rattle.pw_exec.specs.Answers as answers;
-ghost use Rattle.pw_exec.specs.Config.{has_fault};
+ghost use Rattle.pw_code_meaning.specs.Answers as answers;
+ghost use Rattle.pw_code_meaning.specs.Config.{has_fault};
 ghost use Rattle.pw_machine.specs.Stack.{HasRoom};
 
 use pw_code::context::Context;

@@ -1,12 +1,12 @@
 ghost use Rattle.std.specs.Prelude.{◌≡◌, ◌≤◌, ◌<◌, ◌+◌, ◌-◌, ◌^◌, pos, length, take, drop, unsigned_abs, slice_get};
 ghost use Rattle.pw_number.specs.Number.{number};
 ghost use Rattle.pw_code.specs.Places.{IsOperand, picture_of};
-ghost use Rattle.pw_exec.specs.Reading.{value_in, chars_at};
-ghost use Rattle.pw_source.specs.Values.{number_of, number_of_text, number_of_item, operand_text};
+ghost use Rattle.pw_code_meaning.specs.Reading.{value_in, chars_at};
+ghost use Rattle.pw_tree_meaning.specs.Values.{number_of, number_of_text, number_of_item, operand_text};
 ghost use Rattle.pw_machine.specs.Views.{spot_by, taken_by, IsSpot, IsTaken};
 
 use crate::numbers::{chars_at, digits_in};
-use crate::spot::{MachineSpot, MachineOperand};
+use crate::spot::{MachineOperand, MachineSpot};
 use pw_code::operand::InstructionOperand;
 use pw_code::place::Kind;
 use pw_number::scaled::Scaled;

@@ -1,6 +1,6 @@
 ghost use Rattle.std.specs.Prelude.{◌≡◌, ◌≤◌, ◌<◌, ◌+◌, ◌^◌, true, nat_lt, length, if◌then◌else◌};
-ghost use Rattle.pw_exec.specs.Calls as programs;
-ghost use Rattle.pw_exec.specs.Config as config;
+ghost use Rattle.pw_code_meaning.specs.Calls as programs;
+ghost use Rattle.pw_code_meaning.specs.Config as config;
 ghost use Rattle.pw_machine.specs.Config.{config_of};
 ghost use Rattle.pw_machine.specs.Stack.{StaysAt};
 

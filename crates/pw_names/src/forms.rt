@@ -174,7 +174,12 @@ impl<'a> NameScope<'a> {
     }
 
     /// A comparison.
-    fn comparison(&self, line: u32, comparison: &ComparisonForm, known: Option<Fault>) -> Option<Fault>
+    fn comparison(
+        &self,
+        line: u32,
+        comparison: &ComparisonForm,
+        known: Option<Fault>,
+    ) -> Option<Fault>
         ensures { result ≡ noted known line
             (flaws_of self.now.scope (comparison_uses comparison.now)) }
     {

@@ -6,7 +6,7 @@ use pw_base::list::List;
 use pw_base::memory::Memory;
 use pw_code::file::FileInfo;
 use pw_code::links::Links;
-use pw_index::index::{Index, index_of, number_of};
+use pw_operands::index::{Index, index_of, number_of};
 use std::alloc::Global;
 use std::marker::Model;
 
@@ -25,7 +25,7 @@ pub struct Outside<'a> {
 }
 
 impl<'a> Model for Outside<'a> {
-    ghost use Rattle.pw_index.specs.Index.{IsIndexOf};
+    ghost use Rattle.pw_operands.specs.Index.{IsIndexOf};
     ghost use Rattle.pw_names.specs.Outer.{Outer};
 
     ghost Value = { Outer };

@@ -8,7 +8,7 @@ use pw_code::field::ScreenTable;
 use pw_code::file::FileInfo;
 use pw_data::layout::Layout;
 use pw_forms::statement::Paragraph;
-use pw_index::index::{Index, index_of, number_of};
+use pw_operands::index::{Index, index_of, number_of};
 use pw_operands::variable::{Variable, variable_of};
 use std::alloc::Global;
 use std::marker::Model;
@@ -27,7 +27,7 @@ pub struct NameScope<'a> {
 }
 
 impl<'a> Model for NameScope<'a> {
-    ghost use Rattle.pw_index.specs.Index.{IsIndexOf};
+    ghost use Rattle.pw_operands.specs.Index.{IsIndexOf};
     ghost use Rattle.pw_names.specs.Calls.{CallScope};
     ghost use Rattle.pw_forms.specs.contracts.statement.Statement as statement;
     ghost use Rattle.std.specs.Coded.{codes};

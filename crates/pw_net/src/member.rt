@@ -61,7 +61,11 @@ impl Member {
     }
 
     /// How the member stands to a transaction, None exactly where that has no mark.
-    fn standing<'a>(&'a self, id: NetId, aborted: &'a TransactionState) -> Option<&'a TransactionState>
+    fn standing<'a>(
+        &'a self,
+        id: NetId,
+        aborted: &'a TransactionState,
+    ) -> Option<&'a TransactionState>
         requires { aborted.now ≡ Aborted }
         ensures { option_copied result ≡ standing_of self.now id }
     {
@@ -134,7 +138,8 @@ impl Member {
         };
         let messages = told_each(self.alloc, self.system, id, NetWord::Prepare, others)?;
         let ballot = Ballot::new(others.to_vec(self.alloc)?, others.to_vec(self.alloc)?);
-        self.standings.insert(id, TransactionState::Collecting(ballot))?;
+        self.standings
+            .insert(id, TransactionState::Collecting(ballot))?;
         self.last += 1;
         Ok(messages)
     }

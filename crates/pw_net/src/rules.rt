@@ -50,7 +50,10 @@ fn counted(
         });
     }
     let others = ballot.others().to_vec(alloc)?;
-    Ok(becomes(alloc, TransactionState::Collecting(Ballot::new(others, left))))
+    Ok(becomes(
+        alloc,
+        TransactionState::Collecting(Ballot::new(others, left)),
+    ))
 }
 
 /// Counts the vote, or tells how the transaction ended.
@@ -85,9 +88,10 @@ pub fn on_end(
             turns: Some(TransactionState::Aborted),
             messages: told_each(alloc, own, id, NetWord::Abort, ballot.others())?,
         }),
-        Some(TransactionState::Prepared) | Some(TransactionState::Committed) | Some(TransactionState::Aborted) | None => {
-            Ok(silence(alloc))
-        }
+        Some(TransactionState::Prepared)
+        | Some(TransactionState::Committed)
+        | Some(TransactionState::Aborted)
+        | None => { Ok(silence(alloc)) }
     }
 }
 
@@ -110,8 +114,9 @@ fn on_abort(alloc: Global, standing: Option<&TransactionState>) -> Reply
 {
     match standing {
         Some(TransactionState::Prepared) | None => becomes(alloc, TransactionState::Aborted),
-        Some(TransactionState::Collecting(_)) | Some(TransactionState::Committed) | Some(TransactionState::Aborted) =>
-            silence(alloc),
+        Some(TransactionState::Collecting(_))
+        | Some(TransactionState::Committed)
+        | Some(TransactionState::Aborted) => silence(alloc),
     }
 }
 
@@ -128,7 +133,9 @@ fn on_ask(
     match standing {
         Some(TransactionState::Committed) => says(alloc, own, id, NetWord::Commit, system),
         Some(TransactionState::Aborted) => says(alloc, own, id, NetWord::Abort, system),
-        Some(TransactionState::Collecting(_)) | Some(TransactionState::Prepared) | None => Ok(silence(alloc)),
+        Some(TransactionState::Collecting(_)) | Some(TransactionState::Prepared) | None => Ok(
+            silence(alloc),
+        ),
     }
 }
 

@@ -30,7 +30,12 @@ impl TransactionState {
 
     /// What stands since the last restart, where votes for numbers up to one are lost: then it is
     /// `aborted`.
-    pub fn since<'a>(&'a self, aborted: &'a TransactionState, lost: u32, number: u32) -> &'a TransactionState
+    pub fn since<'a>(
+        &'a self,
+        aborted: &'a TransactionState,
+        lost: u32,
+        number: u32,
+    ) -> &'a TransactionState
         requires { aborted.now ≡ Aborted }
         ensures { result.now ≡ since lost number self.now }
     {

@@ -1,4 +1,5 @@
-pub mod Variables
+pub mod Index
+pub mod Resolved
 pub mod Scope
 pub mod Uses
-pub mod Resolved
+pub mod Variables

@@ -1,6 +1,7 @@
-//! What the names of a program stand for, and what may stand for each operand of each form.
+//! What the names of a program stand for, things by their names, and what may stand for each operand of each form.
 //! docs/NAMES.md has the rules.
 #![tactic(auto)]
 
+pub mod index;
 pub mod register;
 pub mod variable;

@@ -6,10 +6,10 @@ use Rattle.pw_base.specs.declared.fault.Fault.{Fault}
 use Rattle.pw_base.specs.declared.fault.Refusal.{Refusal}
 use Rattle.pw_base.specs.First.{least, unless, Refuses}
 use Rattle.pw_base.proofs.FirstFault.{least-append}
-use Rattle.pw_lines.specs.Lines.{lines}
-use Rattle.pw_lines.specs.Steps.{◌>>=◌}
-use Rattle.pw_lines.specs.Words.{words}
-use Rattle.pw_lines.proofs.Steps.{refuses_on}
+use Rattle.pw_sections.specs.Lines.{lines}
+use Rattle.pw_sections.specs.Steps.{◌>>=◌}
+use Rattle.pw_sections.specs.Words.{words}
+use Rattle.pw_sections.proofs.Steps.{refuses_on}
 use Rattle.pw_words.specs.Words.{Word}
 use Rattle.pw_pathcom.specs.declared.commands.Commands.{Commands}
 use Rattle.pw_pathcom.specs.Objects.{unknown_terminal, unknown_class, unknown, bad_start_in, bad_starts, objects_of}

@@ -5,9 +5,9 @@ use Rattle.std.specs.Str.{bytes_eq}
 use Rattle.pw_base.specs.declared.fault.Fault.{Fault}
 use Rattle.pw_base.specs.declared.fault_code.FaultCode.TheVariants.{UnknownObject, BadStart}
 use Rattle.pw_base.specs.First.{least, unless}
-use Rattle.pw_lines.specs.Lines.{lines}
-use Rattle.pw_lines.specs.Steps.{◌>>=◌, fault_at, only_if}
-use Rattle.pw_lines.specs.Words.{words, name_in}
+use Rattle.pw_sections.specs.Lines.{lines}
+use Rattle.pw_sections.specs.Steps.{◌>>=◌, fault_at, only_if}
+use Rattle.pw_sections.specs.Words.{words, name_in}
 use Rattle.pw_words.specs.Words.{Word}
 use Rattle.pw_pathcom.specs.declared.commands.ClassCommand.{ClassCommand}
 use Rattle.pw_pathcom.specs.declared.commands.Commands.{Commands}

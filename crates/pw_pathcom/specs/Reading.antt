@@ -5,9 +5,9 @@ use Rattle.std.specs.Str.{bytes_eq}
 use Rattle.pw_base.specs.declared.fault.Fault.{Fault}
 use Rattle.pw_base.specs.declared.fault_code.FaultCode.TheVariants.{BadCommand, AddedTwice, OutOfRange}
 use Rattle.pw_code.specs.Limits.{most_tcps, most_classes, most_terminals, most_processes, most_restarts}
-use Rattle.pw_lines.specs.Lines.{lines}
-use Rattle.pw_lines.specs.Steps.{◌>>=◌, refused, or_refused}
-use Rattle.pw_lines.specs.Words.{words, name_in, word_number}
+use Rattle.pw_sections.specs.Lines.{lines}
+use Rattle.pw_sections.specs.Steps.{◌>>=◌, refused, or_refused}
+use Rattle.pw_sections.specs.Words.{words, name_in, word_number}
 use Rattle.pw_words.specs.Words.{Word}
 use Rattle.pw_pathcom.specs.declared.commands.ClassCommand.{ClassCommand}
 use Rattle.pw_pathcom.specs.declared.commands.Commands.{Commands}

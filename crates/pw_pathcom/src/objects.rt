@@ -1,19 +1,19 @@
 ghost use Rattle.std.specs.Prelude.{◌≡◌, ◌+◌, ◌≤◌, None, length, flat_map, IfOk};
 ghost use Rattle.pw_base.specs.First.{Gives, least, unless};
 ghost use Rattle.pw_base.specs.Limits.{longest_input};
-ghost use Rattle.pw_lines.specs.Lines.{lines};
-ghost use Rattle.pw_lines.specs.Words.{words, name_in};
+ghost use Rattle.pw_sections.specs.Lines.{lines};
+ghost use Rattle.pw_sections.specs.Words.{words, name_in};
 ghost use Rattle.pw_pathcom.specs.Verbs.{command_of};
 ghost use Rattle.pw_pathcom.specs.Objects.{is_known, is_added_before, unknown_terminal, unknown_class, unknown, is_before, waits, runs_before, may_start, bad_start, bad_start_in, bad_starts, objects_of};
 
 use crate::commands::{ClassCommand, Commands, TermCommand};
-use crate::verb::{Object, CommandVerb, command_of};
+use crate::verb::{CommandVerb, Object, command_of};
 use pw_base::bytes::Bytes;
 use pw_base::fault::{Fault, Refusal, noted};
 use pw_base::fault_code::FaultCode;
 use pw_base::memory::Memory;
-use pw_lines::line::next_line;
-use pw_lines::word::name_in;
+use pw_sections::line::next_line;
+use pw_sections::word::name_in;
 use std::alloc::Global;
 
 /// Whether a name is one of some names.

@@ -6,7 +6,7 @@ ghost use Rattle.pw_pathcom.specs.Reading.{commands_of};
 use crate::commands::Commands;
 use crate::reading::CommandReading;
 use pw_base::fault::Refusal;
-use pw_lines::line::next_line;
+use pw_sections::line::next_line;
 use std::alloc::Global;
 
 /// The commands of a text whose first line has the number `first_line` (docs/DECK.md).

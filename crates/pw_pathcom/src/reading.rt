@@ -4,13 +4,13 @@ ghost use Rattle.pw_pathcom.specs.declared.verb.Object.TheVariants.{Tcp, Term, S
 ghost use Rattle.pw_pathcom.specs.Reading.{named, checked, ranged, admitted, has_tcp, has_class, has_terminal, added, first_start, start_tcp, start_class, start_terminal, started, command_taken, is_comment, line_read, starting};
 
 use crate::commands::{ClassCommand, Commands, Started, TermCommand};
-use crate::verb::{Object, CommandVerb, command_of};
+use crate::verb::{CommandVerb, Object, command_of};
 use pw_base::bytes::Bytes;
 use pw_base::fault::Refusal;
 use pw_base::fault_code::FaultCode;
 use pw_base::list::List;
 use pw_code::system::{MAX_CLASSES, MAX_PROCESSES, MAX_RESTARTS, MAX_TCPS, MAX_TERMINALS};
-use pw_lines::word::{expect_name, is_blank, number_in};
+use pw_sections::word::{expect_name, is_blank, number_in};
 use std::alloc::Global;
 use std::mem::replace;
 
@@ -296,7 +296,13 @@ impl CommandReading {
     }
 
     /// Takes a command.
-    fn take(&mut self, alloc: Global, line: u32, verb: CommandVerb, operand: &[u8]) -> Result<(), Refusal>
+    fn take(
+        &mut self,
+        alloc: Global,
+        line: u32,
+        verb: CommandVerb,
+        operand: &[u8],
+    ) -> Result<(), Refusal>
         ensures { Gives (λ done. self.new) result (command_taken line self.old verb operand.now) }
     {
         match verb {

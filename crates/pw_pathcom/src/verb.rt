@@ -1,8 +1,8 @@
 ghost use Rattle.std.specs.Prelude.{◌≡◌, option_map};
-ghost use Rattle.pw_lines.specs.Words.{words};
+ghost use Rattle.pw_sections.specs.Words.{words};
 ghost use Rattle.pw_pathcom.specs.Verbs.{keyword, object_of, deed, set_for_terminals, set_for_servers, set_for, setting, with_operand, command_of};
 
-use pw_lines::word::{is_blank, next_word};
+use pw_sections::word::{is_blank, next_word};
 use pw_words::texts::pathcom_words;
 
 /// A word of the commands, or another word.
@@ -125,7 +125,11 @@ fn set_for(kind: CommandKeyword, attribute: CommandKeyword) -> Option<CommandVer
 }
 
 /// SET of an attribute of a kind of object.
-fn setting(set: CommandKeyword, kind: CommandKeyword, attribute: CommandKeyword) -> Option<CommandVerb>
+fn setting(
+    set: CommandKeyword,
+    kind: CommandKeyword,
+    attribute: CommandKeyword,
+) -> Option<CommandVerb>
     ensures { result ≡ setting set kind attribute }
 {
     match set {
@@ -148,6 +152,10 @@ pub fn command_of(line: &[u8]) -> Option<(CommandVerb, &[u8])>
     if !is_blank(rest) {
         return None;
     }
-    let verb = setting(CommandKeyword::of(first), CommandKeyword::of(second), CommandKeyword::of(third))?;
+    let verb = setting(
+        CommandKeyword::of(first),
+        CommandKeyword::of(second),
+        CommandKeyword::of(third),
+    )?;
     Some((verb, fourth))
 }

@@ -48,7 +48,12 @@ impl ScreensTaken {
     }
 
     /// Reads an entry behind those so far.
-    fn read(&mut self, alloc: Global, layout: &Layout, part: &Cursor<'_>) -> Result<ScreenEntry, Memory>
+    fn read(
+        &mut self,
+        alloc: Global,
+        layout: &Layout,
+        part: &Cursor<'_>,
+    ) -> Result<ScreenEntry, Memory>
         ensures entry { IfOk result (λ found.
             found ≡ screen_entry_of layout.now (before_of layout.now self.old) part.now) }
         ensures after { IfOk result (λ found.

@@ -1,4 +1,9 @@
+pub mod Cut
 pub mod Cuts
+pub mod Folds
 pub mod Named
+pub mod Numbers
+pub mod Runs
 pub mod Seen
 pub mod Spans
+pub mod Steps

@@ -1,7 +1,7 @@
 -- The parts of a line.
 use Rattle.std.proofs.Common.{◌≡◌, ℕ, suc, ◌+◌, ◌<◌, ◌≤◌, Bool, true, false, cond, not, ◌&&◌, eqb, List, [], ◌∷◌, ◌++◌, length, get_or, take, drop, Option, None, Some, refl, sym, ap, append_assoc, ◌∙◌, arith}
 use Rattle.std.proofs.lemmas.List.{drop_more, drop_all, append-nil}
-use Rattle.pw_lines.specs.Lines.{in_front}
+use Rattle.pw_sections.specs.Lines.{in_front}
 use Rattle.std.specs.Option.{option_map, option_and_then}
 use Rattle.std.specs.Str.{bytes_eq}
 use Rattle.pw_sections.specs.Entries.{parts, part_size, quoted, next_quoted, NameValue, name_value_pair, with_pair, pairs_of}

@@ -6,9 +6,9 @@ use Rattle.pw_base.specs.declared.fault.Fault.{Fault}
 use Rattle.pw_base.specs.declared.fault_code.FaultCode.TheVariants.{BadEntry, TooMany}
 use Rattle.pw_code.specs.Entry.{EntryLineModel}
 use Rattle.pw_code.specs.Limits.{most_entry_lines, most_pairs}
-use Rattle.pw_lines.specs.Lines.{lines, in_front}
-use Rattle.pw_lines.specs.Steps.{refused, or_refused, ◌>>=◌, each_line}
-use Rattle.pw_lines.specs.Words.{name_in}
+use Rattle.pw_sections.specs.Lines.{lines, in_front}
+use Rattle.pw_sections.specs.Steps.{refused, or_refused, ◌>>=◌, each_line}
+use Rattle.pw_sections.specs.Words.{name_in}
 
 -- the keys, F1 to F16 and SF1 to SF16
 abbrev pub keys : List (List ℕ)

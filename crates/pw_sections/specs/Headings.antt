@@ -1,6 +1,6 @@
 -- The section lines.
 use Rattle.std.specs.Prelude.{ℕ, List, [], ◌∷◌, Bool, true, ◌&&◌, nat_le, codes, Option, None, Some, if◌then◌else◌}
-use Rattle.pw_lines.specs.Words.{words, name_in, word_number}
+use Rattle.pw_sections.specs.Words.{words, name_in, word_number}
 use Rattle.pw_words.specs.Words.{Word, same_word}
 use Rattle.pw_sections.specs.declared.heading.Heading.{Heading}
 use Rattle.pw_sections.specs.declared.heading.Heading.TheVariants as heading

@@ -1,6 +1,9 @@
 pub mod Entries
 pub mod Headings
 pub mod Keys
+pub mod Lines
 pub mod Pairs
 pub mod Parts
 pub mod Records
+pub mod Steps
+pub mod Words

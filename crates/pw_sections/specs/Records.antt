@@ -4,8 +4,8 @@ use Rattle.std.specs.List.{list_all}
 use Rattle.pw_base.specs.Limits.{most_content}
 use Rattle.pw_base.specs.declared.fault.Fault.{Fault}
 use Rattle.pw_base.specs.declared.fault_code.FaultCode.TheVariants.{BadCharacter, BadRecord}
-use Rattle.pw_lines.specs.Lines.{lines}
-use Rattle.pw_lines.specs.Steps.{refused, each_line}
+use Rattle.pw_sections.specs.Lines.{lines}
+use Rattle.pw_sections.specs.Steps.{refused, each_line}
 use Rattle.pw_sections.specs.Keys.{is_seen}
 
 -- 0x20 to 0x7E

@@ -5,10 +5,12 @@ ghost use Rattle.std.specs.Str.{bytes_eq};
 ghost use Rattle.pw_base.specs.First.{Gives};
 ghost use Rattle.pw_base.specs.Limits.{longest_input};
 ghost use Rattle.pw_code.specs.Limits.{most_pairs};
-ghost use Rattle.pw_lines.specs.Steps.{line_taken};
+ghost use Rattle.pw_sections.specs.Steps.{line_taken};
 ghost use Rattle.pw_sections.specs.Entries.{keys, key_of, parts, part_size, parts_behind, quoted, next_quoted, value_of, name_value_pair, with_pair, pairs_of, entry_of, with_entry, entry_read, entries_of};
 
+use crate::line::next_line;
 use crate::pairs::Pairs;
+use crate::word::{is_blank, name_in};
 use pw_base::bytes::Bytes;
 use pw_base::fault::Refusal;
 use pw_base::fault_code::FaultCode;
@@ -16,8 +18,6 @@ use pw_base::list::List;
 use pw_base::memory::Memory;
 use pw_code::entry::EntryLine;
 use pw_code::system::MAX_ENTRY_LINES;
-use pw_lines::line::next_line;
-use pw_lines::word::{is_blank, name_in};
 use std::alloc::Global;
 
 /// The keys, in the order of their numbers.

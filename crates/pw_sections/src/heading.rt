@@ -1,11 +1,11 @@
 ghost use Rattle.std.specs.Prelude.{◌≡◌, IfOk};
 ghost use Rattle.std.specs.Option.{option_map};
-ghost use Rattle.pw_lines.specs.Words.{words};
+ghost use Rattle.pw_sections.specs.Words.{words};
 ghost use Rattle.pw_sections.specs.Headings.{plain_heading, named_heading, keyed_heading, file_heading, heading_by, heading_of};
 
+use crate::word::{is_blank, name_in, next_word, number_in};
 use pw_base::bytes::Bytes;
 use pw_base::memory::Memory;
-use pw_lines::word::{is_blank, name_in, next_word, number_in};
 use pw_words::table::is_same_word;
 use std::alloc::Global;
 

@@ -2,17 +2,17 @@ ghost use Rattle.std.specs.Prelude.{◌≡◌, ◌+◌, ◌*◌, ◌≤◌, leng
 ghost use Rattle.std.specs.List.{list_all};
 ghost use Rattle.pw_base.specs.First.{Gives};
 ghost use Rattle.pw_base.specs.Limits.{longest_input};
-ghost use Rattle.pw_lines.specs.Steps.{line_taken};
+ghost use Rattle.pw_sections.specs.Steps.{line_taken};
 ghost use Rattle.pw_sections.specs.Records.{is_printable, printable_line, printable, record_read, records_of_text};
 
 use crate::key::add_key;
+use crate::line::next_line;
+use crate::word::is_blank;
 use indexmap::IndexSet;
 use pw_base::bytes::Bytes;
 use pw_base::fault::Refusal;
 use pw_base::fault_code::FaultCode;
 use pw_base::list::List;
-use pw_lines::line::next_line;
-use pw_lines::word::is_blank;
 use std::alloc::Global;
 
 /// The most bytes of a record.

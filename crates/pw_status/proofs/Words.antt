@@ -2,9 +2,9 @@
 use Rattle.std.proofs.Common.{◌≡◌, ℕ, List, [], ◌∷◌, ap, ◌∙◌}
 use Rattle.std.specs.Fmt.{decimal}
 use Rattle.std.specs.Prelude.{codes}
-use Rattle.pw_counts.specs.declared.counts.UnitCounts.{UnitCounts}
+use Rattle.pw_status.specs.declared.counts.UnitCounts.{UnitCounts}
 use Rattle.pw_event.specs.Line.{sentence}
-use Rattle.pw_listing.specs.Lines.{line}
+use Rattle.pw_report_text.specs.Lines.{line}
 use Rattle.pw_status.specs.Text.{units_line}
 
 abbrev words_line : List ℕ → List ℕ → List ℕ → List ℕ → List ℕ → List ℕ → List ℕ → List ℕ → List ℕ

@@ -6,16 +6,16 @@ use Rattle.pw_event.specs.Line.{class_name, ending_text, file_name, pair_name, s
 use Rattle.pw_event.specs.declared.event.Ending.{Ending}
 use Rattle.pw_event.specs.declared.event.Event.{Event}
 use Rattle.pw_pair.specs.Follows.{mode_as}
-use Rattle.pw_listing.specs.Lines.{line}
+use Rattle.pw_report_text.specs.Lines.{line}
 use Rattle.pw_onecopy.specs.Behaviour.{Behaviour}
 use Rattle.pw_pair.specs.declared.mode.Mode.{Mode}
 use Rattle.pw_pair.specs.declared.mode.Mode.TheVariants.{Alone, Raising, Paired, Down, Gone}
 use Rattle.pw_paired.specs.Step.{after}
-use Rattle.pw_counts.specs.Counts.{class_counts, file_counts, terminal_counts, unit_counts}
-use Rattle.pw_counts.specs.declared.counts.ClassCounts.{ClassCounts}
-use Rattle.pw_counts.specs.declared.counts.FileCounts.{FileCounts}
-use Rattle.pw_counts.specs.declared.counts.TerminalCounts.{TerminalCounts}
-use Rattle.pw_counts.specs.declared.counts.UnitCounts.{UnitCounts}
+use Rattle.pw_status.specs.Counts.{class_counts, file_counts, terminal_counts, unit_counts}
+use Rattle.pw_status.specs.declared.counts.ClassCounts.{ClassCounts}
+use Rattle.pw_status.specs.declared.counts.FileCounts.{FileCounts}
+use Rattle.pw_status.specs.declared.counts.TerminalCounts.{TerminalCounts}
+use Rattle.pw_status.specs.declared.counts.UnitCounts.{UnitCounts}
 
 -- the word of a mode
 abbrev pub mode_word : Mode → List ℕ

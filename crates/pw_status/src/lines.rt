@@ -2,13 +2,13 @@ ghost use Rattle.std.specs.Prelude.{◌≡◌, ◌<◌, ◌++◌, IfOk, IfSome, 
 ghost use Rattle.std.specs.Fmt.{decimal};
 ghost use Rattle.std.specs.List.{AllByRecursion};
 ghost use Rattle.pw_event.specs.Line.{IsWordOfSystem, ending_words, sentence};
-ghost use Rattle.pw_listing.specs.Lines.{line};
+ghost use Rattle.pw_report_text.specs.Lines.{line};
 ghost use Rattle.pw_status.specs.Text.{class_line, ending_or_running, entries_line, file_line, mode_word, pair_line, terminal_line, units_line};
 
+use crate::counts::{ClassCounts, FileCounts, TerminalCounts, UnitCounts};
 use pw_base::bytes::Bytes;
 use pw_base::memory::Memory;
 use pw_code::system::System;
-use pw_counts::counts::{ClassCounts, FileCounts, TerminalCounts, UnitCounts};
 use pw_event::event::Ending;
 use pw_event::names::{class_name, file_name, pair_name, terminal_name};
 use pw_event::printing::print_ending;

@@ -1,7 +1,7 @@
 -- Registers that count what a path counts are those of where it stands.
 use Rattle.std.proofs.Common.{◌≡◌, ℕ, ◌+◌, List, Option, Some, None, refl, ap, ◌∙◌, arith}
 use Rattle.pw_code.specs.declared.context.Context.{Context}
-use Rattle.pw_exec.specs.Counts.{CountsOf}
+use Rattle.pw_code_meaning.specs.Counts.{CountsOf}
 use Rattle.pw_onecopy.specs.Path.{PathAnswer, RefreshNumber, Standing, number_at, standing}
 use Rattle.pw_tcp.specs.Refreshes.{StandsAt}
 

@@ -1,5 +1,5 @@
 //! A terminal's work in its control process: which step comes next for a program at its verb. It is the plain
-//! form of the rule: the program takes its steps by `pw_steps`.
+//! form of the rule: the program takes its steps by `pw_entry_tests`.
 //! docs/PAIRS.md has the rules.
 #![tactic(auto)]
 

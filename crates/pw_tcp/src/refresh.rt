@@ -1,6 +1,6 @@
 ghost use Rattle.std.specs.Prelude.{◌≡◌, ◌+◌, ◌-◌, ◌<◌, ◌^◌, List, min};
 ghost use Rattle.pw_code.specs.declared.context.Context.{Context as SeenContext};
-ghost use Rattle.pw_exec.specs.Counts.{CountsOf};
+ghost use Rattle.pw_code_meaning.specs.Counts.{CountsOf};
 ghost use Rattle.pw_onecopy.specs.Path.{PathAnswer, next_number, standing};
 ghost use Rattle.pw_tcp.specs.Refreshes.{StandsAt};
 

@@ -2,8 +2,10 @@ ghost use Rattle.std.specs.Prelude.{◌≡◌, ◌<◌, ◌≤◌, ◌+◌, ◌^
 ghost use Rattle.pw_text.specs.Bytes.{is_digit, run};
 ghost use Rattle.pw_text.specs.Items.{quote_size, quotes, token, fault, gap, text_item, quoted, is_pic, word_at, word_item, dollar_item, places_at, number_token, number_item, or_equal, mark_item, number_or_mark, line_item, without_period, picture_of, picture_item, is_is, item_by, behind_space, item_at, FitsBytes};
 
-use crate::bytes::{digit_count, is_digit, is_letter, is_separator, is_signed, line_size, picture_at, word_at};
-use crate::item::{TextItem, TextPiece, LinePlace};
+use crate::bytes::{
+    digit_count, is_digit, is_letter, is_separator, is_signed, line_size, picture_at, word_at,
+};
+use crate::item::{LinePlace, TextItem, TextPiece};
 use crate::quoted::quoted;
 use crate::token::{MAX_DIGITS, MAX_WORD, TokenKind};
 use pw_base::fault_code::FaultCode;

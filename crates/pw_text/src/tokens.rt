@@ -5,7 +5,7 @@ ghost use Rattle.pw_text.specs.Items.{quote_size};
 ghost use Rattle.pw_text.specs.Tokens.{token_of, tokens_at, faults_at, line_after, tokens_of, LieBetween, StandsOn};
 
 use crate::bytes::first_bad_byte;
-use crate::item::{TextPiece, LinePlace};
+use crate::item::{LinePlace, TextPiece};
 use crate::items::item_at;
 use crate::token::{Token, TokenKind};
 use pw_base::fault::{Fault, Refusal, better};

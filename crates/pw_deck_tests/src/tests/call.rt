@@ -2,9 +2,9 @@ use pw_base::bytes::Bytes;
 use pw_base::mem_sink::MemSink;
 use pw_base::mem_source::MemSource;
 use pw_base::memory::Memory;
-use pw_call::input::read_input;
-use pw_call::output::{or_memory, written};
-use pw_call::status::Status;
+use pw_input_output::input::read_input;
+use pw_input_output::output::{or_memory, written};
+use pw_input_output::status::Status;
 use std::test::Fail;
 
 /// The report of a deck without terminals.

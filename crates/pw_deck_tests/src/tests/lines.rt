@@ -1,5 +1,5 @@
-use pw_lines::line::next_line;
-use pw_lines::word::{is_blank, name_in, next_word, number_in};
+use pw_sections::line::next_line;
+use pw_sections::word::{is_blank, name_in, next_word, number_in};
 use std::test::Fail;
 
 /// Whether the lines of a text are these.

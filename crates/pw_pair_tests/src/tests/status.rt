@@ -6,10 +6,12 @@ use pw_base::memory::Memory;
 use pw_code::file::FileInfo;
 use pw_code::lock::LockRule;
 use pw_code::system::{ClassInfo, System, TermInfo};
-use pw_counts::counts::{ClassCounts, FileCounts, TerminalCounts, UnitCounts};
 use pw_event::event::{Cause, Ending};
 use pw_pair::mode::Mode;
-use pw_status::lines::{print_class, print_entries, print_file, print_pair, print_terminal, print_units};
+use pw_status::counts::{ClassCounts, FileCounts, TerminalCounts, UnitCounts};
+use pw_status::lines::{
+    print_class, print_entries, print_file, print_pair, print_terminal, print_units,
+};
 use std::alloc::Global;
 use std::process::Abort;
 use std::test::Fail;

@@ -7,7 +7,7 @@ use pw_base::list::List;
 use pw_base::memory::Memory;
 use pw_class::book::ClassBook;
 use pw_class::laws::take_laws;
-use pw_class::request::{RequestPlace, Request, Taken};
+use pw_class::request::{Request, RequestPlace, Taken};
 use pw_code::code::Code;
 use pw_code::lock::LockRule;
 use pw_code::system::{ClassInfo, System};

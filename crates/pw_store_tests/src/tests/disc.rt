@@ -3,13 +3,15 @@ ghost use Rattle.pw_disc.specs.Pair.{state_of};
 ghost use Rattle.pw_tmf.specs.TwoUnits.{AreBoth, IsFresh, IsTestCall};
 
 use crate::tests::fresh::system;
-use crate::tests::units::{OLDER, begin_both, by_key, expect_records, older_does, writing, younger_does};
+use crate::tests::units::{
+    OLDER, begin_both, by_key, expect_records, older_does, writing, younger_does,
+};
 use pw_base::list::List;
 use pw_base::memory::Memory;
 use pw_code::file::{FileCall, FileOp};
 use pw_disc::pair::DiscPair;
+use pw_disc::script::{DiscLine, DiscScript};
 use pw_disc::standing::DiscPairState;
-use pw_disc_call::script::{DiscLine, DiscScript};
 use pw_tmf::answer::FileAnswer;
 use pw_tmf::disc::Disc;
 use std::alloc::Global;

@@ -4,7 +4,9 @@ ghost use Rattle.pw_tmf.specs.Tmf.{told_of};
 ghost use Rattle.pw_tmf.specs.TwoUnits.{AreBoth, IsFresh, IsTestCall};
 
 use crate::tests::fresh::{bytes, started};
-use crate::tests::units::{OLDER, YOUNGER, begin_both, by_key, commit, expect_records, older_does, writing, younger_does};
+use crate::tests::units::{
+    OLDER, YOUNGER, begin_both, by_key, commit, expect_records, older_does, writing, younger_does,
+};
 use pw_base::bytes::Bytes;
 use pw_base::memory::Memory;
 use pw_code::file::{FileCall, FileOp};

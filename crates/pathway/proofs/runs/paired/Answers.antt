@@ -1,4 +1,4 @@
-use Rattle.pw_desk.specs.disc.PairRuns.{pair_deck_of}
+use Rattle.pw_deck_runs.specs.disc.PairRuns.{pair_deck_of}
 use Rattle.pathway.specs.Decks.{PairRuns}
 use Rattle.pathway.proofs.Inputs.{refuses}
 use Rattle.pathway.proofs.runs.paired.Goals as goal

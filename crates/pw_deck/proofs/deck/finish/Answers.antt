@@ -4,7 +4,7 @@ use Rattle.pw_code.specs.declared.links.Links.{Links}
 use Rattle.pw_pathcom.specs.declared.commands.ClassCommand.{ClassCommand}
 use Rattle.pw_scobol.specs.declared.requester.Requester.{Requester}
 use Rattle.pw_server.specs.declared.server.Server.{Server}
-use Rattle.pw_tables.proofs.Good.{good_names, good_few}
+use Rattle.pw_deck_tables.proofs.Good.{good_names, good_few}
 use Rattle.pw_deck.specs.Deck.{deck_in}
 use Rattle.pw_deck.specs.Parts.{program_names, server_names}
 use Rattle.pw_deck.proofs.Finish.{Looked, names_refused, told_refused, deck_told, few_programs}

@@ -1,6 +1,6 @@
 use Rattle.std.proofs.Common.{arith, rules, sym, ◌∙◌}
 use Rattle.pw_base.specs.First.{Refuses}
-use Rattle.pw_lines.proofs.Folds.{no_lines, none_taken, one_taken, one_refused}
+use Rattle.pw_sections.proofs.Folds.{no_lines, none_taken, one_taken, one_refused}
 use Rattle.pw_deck.specs.Parts.{front_line, front_read}
 use Rattle.pw_deck.proofs.sections.read_front.Goals as goal
 

@@ -1,6 +1,6 @@
 -- Both members came to the same.
 use Rattle.std.proofs.Common.{sym, subst, List, ℕ}
-use Rattle.pw_disc_call.specs.Format.{IsMessageOf}
+use Rattle.pw_disc.specs.Format.{IsMessageOf}
 use Rattle.pw_tmf.specs.Tmf.{told_of}
 use Rattle.pw_tmf.specs.Told.{Told}
 use Rattle.pw_disc.specs.Calls.{Makes}

@@ -2,7 +2,7 @@ use Rattle.std.proofs.Common.{◌≡◌, List, subst}
 use Rattle.std.specs.Prelude.{OnOk}
 use Rattle.pw_code.specs.declared.unit.Unit as unit
 use Rattle.pw_tmf.specs.Units.{all_backed_out}
-use Rattle.pw_disc_call.specs.declared.call.DiscCall.TheVariants.{Begin, Operate, Commit, BackOut}
+use Rattle.pw_disc.specs.declared.call.DiscCall.TheVariants.{Begin, Operate, Commit, BackOut}
 use Rattle.pw_tmf.specs.Tmf.{told_of}
 use Rattle.pw_disc.proofs.OneMember.{backed_out_ok, begun_ok, ended_ok, of_call, operated_err, operated_ok, plain_err}
 use Rattle.pw_disc.proofs.outcome.make.Goals as goal

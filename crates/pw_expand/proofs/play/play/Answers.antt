@@ -1,5 +1,5 @@
 use Rattle.std.proofs.Common.{arith, sym, ◌∙◌}
-use Rattle.pw_lines.proofs.Folds.{no_lines}
+use Rattle.pw_sections.proofs.Folds.{no_lines}
 use Rattle.pw_expand.proofs.Plays.{none-front, blank-more, first-there}
 use Rattle.pw_expand.proofs.play.play.Goals as goal
 

@@ -1,5 +1,5 @@
 use Rattle.std.proofs.Common.{◌≡◌, ◌+◌, ◌≤◌, length}
-use Rattle.pw_lines.specs.Lines.{lines}
+use Rattle.pw_sections.specs.Lines.{lines}
 use Rattle.pw_expand.specs.Schedule.{schedule_from}
 use Rattle.pw_expand.specs.Systems.{HasBegun, schedule_played, world_of}
 use Rattle.pw_expand.proofs.play.play.Given as goal

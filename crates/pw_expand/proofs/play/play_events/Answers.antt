@@ -1,5 +1,5 @@
 use Rattle.std.proofs.Common.{sym, ◌∙◌}
-use Rattle.pw_lines.proofs.Folds.{no_lines}
+use Rattle.pw_sections.proofs.Folds.{no_lines}
 use Rattle.pw_expand.proofs.Plays.{none-played}
 use Rattle.pw_expand.proofs.play.play_events.Goals as goal
 

@@ -1,6 +1,6 @@
 -- A statement that has begun is done.
 use Rattle.std.proofs.Common.{sym, ◌∙◌}
-use Rattle.pw_exec.specs.Steps as steps
+use Rattle.pw_code_meaning.specs.Steps as steps
 use Rattle.pw_machine.specs.Config.{config_of}
 use Rattle.pw_machine.proofs.ActLemmas.{act_counted, count_on}
 use Rattle.pw_machine.proofs.act.begin_statement.Goals as goal

@@ -1,7 +1,7 @@
 -- Arithmetic goes on behind its instruction.
 use Rattle.std.proofs.Common.{sym, ap, ◌∙◌}
 use Rattle.pw_code.specs.declared.instr.Instr.{Instr}
-use Rattle.pw_exec.specs.Steps as steps
+use Rattle.pw_code_meaning.specs.Steps as steps
 use Rattle.pw_machine.specs.Config.{config_of}
 use Rattle.pw_machine.proofs.ActLemmas.{computes_guarded, computes_sure}
 use Rattle.pw_machine.proofs.act.does_here.Goals as goal

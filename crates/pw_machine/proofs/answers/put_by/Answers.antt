@@ -1,7 +1,7 @@
 -- What each instruction makes of an answer.
 use Rattle.std.proofs.Common.{Some, sym, ap, ◌∙◌}
 use Rattle.pw_code.specs.declared.instr.Instr.{Instr}
-use Rattle.pw_exec.specs.Answers as answers
+use Rattle.pw_code_meaning.specs.Answers as answers
 use Rattle.pw_machine.specs.Config.{config_with}
 use Rattle.pw_machine.proofs.answers.put_by.Goals as goal
 

@@ -1,7 +1,7 @@
 -- The status, or what else goes on.
 use Rattle.std.proofs.Common.{sym, ap, ◌∙◌}
 use Rattle.pw_code.specs.declared.verb.Answer.{Answer}
-use Rattle.pw_exec.specs.Answers as answers
+use Rattle.pw_code_meaning.specs.Answers as answers
 use Rattle.pw_machine.specs.Config.{config_with}
 use Rattle.pw_machine.proofs.PutLemmas.{file_else}
 use Rattle.pw_machine.proofs.answers.put_file.Goals as goal

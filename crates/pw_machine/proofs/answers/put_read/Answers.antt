@@ -2,8 +2,8 @@
 use Rattle.std.proofs.Common.{None, sym, ap, ◌∙◌}
 use Rattle.pw_code.specs.declared.context.Frame.{Frame}
 use Rattle.pw_code.specs.declared.verb.Answer.{Answer}
-use Rattle.pw_exec.specs.Answers as answers
-use Rattle.pw_exec.specs.Reading.{Registers, spot_of}
+use Rattle.pw_code_meaning.specs.Answers as answers
+use Rattle.pw_code_meaning.specs.Reading.{Registers, spot_of}
 use Rattle.pw_machine.specs.Config.{config_with, frame_of}
 use Rattle.pw_machine.proofs.PutLemmas.{read_else}
 use Rattle.pw_machine.proofs.answers.put_read.Goals as goal

@@ -1,7 +1,7 @@
 -- A reply goes to the item of its code.
 use Rattle.std.proofs.Common.{ℕ, List, sym, ap, ◌∙◌}
 use Rattle.pw_code.specs.declared.verb.Answer.{Answer}
-use Rattle.pw_exec.specs.Answers as answers
+use Rattle.pw_code_meaning.specs.Answers as answers
 use Rattle.pw_machine.specs.Config.{config_with}
 use Rattle.pw_machine.proofs.answers.put_reply.Goals as goal
 

@@ -1,7 +1,7 @@
 -- What is left decides.
 use Rattle.std.proofs.Common.{◌≡◌, map, drop}
 use Rattle.std.specs.Prelude.{is_some}
-use Rattle.pw_exec.specs.Reading.{spots_of}
+use Rattle.pw_code_meaning.specs.Reading.{spots_of}
 use Rattle.pw_machine.specs.Views.{registers_by}
 use Rattle.pw_machine.proofs.asks.are_inside.Given as goal
 

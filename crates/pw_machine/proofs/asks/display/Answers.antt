@@ -1,9 +1,9 @@
 -- The operand is shown as it was read.
 use Rattle.std.proofs.Common.{◌≡◌, ℕ, List, Some, true, sym, ap, ◌∙◌}
 use Rattle.std.specs.Prelude.{option_map}
-use Rattle.pw_source.specs.Values.{as_it_stands}
-use Rattle.pw_exec.specs.Reading.{Registers, read, registers_of}
-use Rattle.pw_exec.specs.Steps as steps
+use Rattle.pw_tree_meaning.specs.Values.{as_it_stands}
+use Rattle.pw_code_meaning.specs.Reading.{Registers, read, registers_of}
+use Rattle.pw_code_meaning.specs.Steps as steps
 use Rattle.pw_code.specs.declared.context.Context.{Context}
 use Rattle.pw_terminal.specs.Screen.{with_message}
 use Rattle.pw_machine.specs.Config.{config_of}

@@ -1,6 +1,6 @@
 -- The first characters that differ decide.
 use Rattle.std.proofs.Common.{◌<◌, ◌≤◌, sym, ◌∙◌, arith}
-use Rattle.pw_exec.specs.Reading.{value_in}
+use Rattle.pw_code_meaning.specs.Reading.{value_in}
 use Rattle.pw_machine.specs.Beside.{size_beside}
 use Rattle.pw_machine.specs.Views.{taken_by}
 use Rattle.pw_machine.proofs.BesideLemmas.{order_start, order_differs, order_goes_on, order_end}

@@ -1,6 +1,6 @@
 -- Up to the place the characters are equal, so the rest decides.
 use Rattle.std.proofs.Common.{◌≡◌}
-use Rattle.pw_exec.specs.Reading.{value_in}
+use Rattle.pw_code_meaning.specs.Reading.{value_in}
 use Rattle.pw_machine.specs.Views.{taken_by}
 use Rattle.pw_machine.proofs.BesideLemmas.{order_from}
 use Rattle.pw_machine.proofs.compare.text_order.Given as goal

@@ -1,7 +1,7 @@
 -- What was found so far, with those that are left, is what all give.
 use Rattle.std.proofs.Common.{◌≡◌, Some, drop}
 use Rattle.std.specs.Prelude.{◌&&◌}
-use Rattle.pw_exec.specs.Conditions.{all_hold, of_both}
+use Rattle.pw_code_meaning.specs.Conditions.{all_hold, of_both}
 use Rattle.pw_machine.specs.Views.{registers_by}
 use Rattle.pw_machine.proofs.conditions.all_hold.Given as goal
 

@@ -1,7 +1,7 @@
 -- What was found so far, with those that are left, is what all give.
 use Rattle.std.proofs.Common.{◌≡◌, Some, drop}
 use Rattle.std.specs.Prelude.{◌||◌}
-use Rattle.pw_exec.specs.Conditions.{any_holds, of_both}
+use Rattle.pw_code_meaning.specs.Conditions.{any_holds, of_both}
 use Rattle.pw_machine.specs.Views.{registers_by}
 use Rattle.pw_machine.proofs.conditions.any_holds.Given as goal
 

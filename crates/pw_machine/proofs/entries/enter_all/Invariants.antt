@@ -1,6 +1,6 @@
 -- The pairs that are left, on the storage now, give what all give.
 use Rattle.std.proofs.Common.{◌≡◌, drop}
-use Rattle.pw_exec.specs.Entries.{storage_entered}
+use Rattle.pw_code_meaning.specs.Entries.{storage_entered}
 use Rattle.pw_machine.proofs.entries.enter_all.Given as goal
 
 abbrev pub invariant-loop-name : goal.invariant-loop-name

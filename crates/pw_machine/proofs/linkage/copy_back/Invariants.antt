@@ -1,6 +1,6 @@
 -- What is left to copy, on the storage now, gives what all give.
 use Rattle.std.proofs.Common.{◌≡◌, map, drop}
-use Rattle.pw_exec.specs.Calls.{put_all, linkage_chars}
+use Rattle.pw_code_meaning.specs.Calls.{put_all, linkage_chars}
 use Rattle.pw_machine.specs.Views.{spot_by}
 use Rattle.pw_machine.proofs.linkage.copy_back.Given as goal
 

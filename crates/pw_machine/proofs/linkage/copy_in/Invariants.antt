@@ -1,7 +1,7 @@
 -- What is left to copy, on the storage now, gives what all give.
 use Rattle.std.proofs.Common.{◌≡◌, map, drop}
-use Rattle.pw_exec.specs.Calls.{put_linkage}
-use Rattle.pw_exec.specs.Reading.{chars_at}
+use Rattle.pw_code_meaning.specs.Calls.{put_linkage}
+use Rattle.pw_code_meaning.specs.Reading.{chars_at}
 use Rattle.pw_machine.specs.Views.{spot_by}
 use Rattle.pw_machine.proofs.linkage.copy_in.Given as goal
 

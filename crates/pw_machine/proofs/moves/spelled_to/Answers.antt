@@ -2,8 +2,8 @@
 use Rattle.std.proofs.Common.{◌≡◌, ◌<◌, length, [], sym, ◌∙◌, arith}
 use Rattle.pw_picture.specs.Text.{fitted}
 use Rattle.pw_terminal.proofs.Written.{length-fitted}
-use Rattle.pw_exec.specs.Reading.{value_in}
-use Rattle.pw_source.specs.Values.{operand_text}
+use Rattle.pw_code_meaning.specs.Reading.{value_in}
+use Rattle.pw_tree_meaning.specs.Values.{operand_text}
 use Rattle.pw_machine.specs.Views.{taken_by}
 use Rattle.pw_machine.proofs.BesideLemmas.{get_or-fitted}
 use Rattle.pw_machine.proofs.MoveLemmas.{written-more}

@@ -2,8 +2,8 @@
 use Rattle.std.proofs.Common.{◌≡◌, take, []}
 use Rattle.pw_picture.specs.Text.{fitted}
 use Rattle.pw_terminal.specs.Shown.{written}
-use Rattle.pw_exec.specs.Reading.{value_in}
-use Rattle.pw_source.specs.Values.{operand_text}
+use Rattle.pw_code_meaning.specs.Reading.{value_in}
+use Rattle.pw_tree_meaning.specs.Values.{operand_text}
 use Rattle.pw_machine.specs.Views.{taken_by}
 use Rattle.pw_machine.proofs.moves.spelled_to.Given as goal
 

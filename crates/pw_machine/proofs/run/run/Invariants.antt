@@ -1,7 +1,7 @@
 -- Steps have led here, and they count from a turn of the outer loop on.
 use Rattle.std.proofs.Common.{[]}
-use Rattle.pw_exec.specs.Runs.{Comes}
-use Rattle.pw_exec.specs.Sound.{IsSound}
+use Rattle.pw_code_meaning.specs.Runs.{Comes}
+use Rattle.pw_code_meaning.specs.Sound.{IsSound}
 use Rattle.pw_machine.specs.Config.{config_of}
 use Rattle.pw_machine.proofs.RunSteps.{CountsFrom, inner, outer}
 use Rattle.pw_machine.proofs.run.run.Given as goal

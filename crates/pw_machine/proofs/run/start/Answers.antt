@@ -1,7 +1,7 @@
 -- The storage of the program is that of its code.
 use Rattle.std.proofs.Common.{◌≤◌, ℕ, length, ap, arith}
 use Rattle.pw_code.specs.declared.code.Code.{Code}
-use Rattle.pw_exec.specs.Config.{code_at}
+use Rattle.pw_code_meaning.specs.Config.{code_at}
 use Rattle.pw_machine.proofs.CodeLemmas.{program_read}
 use Rattle.pw_machine.proofs.TopLemmas.{fresh_sound}
 use Rattle.pw_machine.proofs.run.start.Goals as goal

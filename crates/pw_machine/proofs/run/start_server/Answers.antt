@@ -1,7 +1,7 @@
 -- The storage of the server is that of its code, with the message behind it.
 use Rattle.std.proofs.Common.{◌≡◌, ◌+◌, ◌≤◌, ℕ, length, length-append, ap, ◌∙◌, arith}
 use Rattle.pw_code.specs.declared.code.Code.{Code}
-use Rattle.pw_exec.specs.Config.{code_at}
+use Rattle.pw_code_meaning.specs.Config.{code_at}
 use Rattle.pw_machine.proofs.CodeLemmas.{server_read}
 use Rattle.pw_machine.proofs.TopLemmas.{fresh_sound}
 use Rattle.pw_machine.proofs.run.start_server.Goals as goal

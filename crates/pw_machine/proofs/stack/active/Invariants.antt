@@ -1,7 +1,7 @@
 -- The characters of the items of the programs so far.
 use Rattle.std.proofs.Common.{◌≡◌, ◌≤◌, ◌*◌, ◌^◌, take}
 use Rattle.std.specs.Prelude.{sum_by}
-use Rattle.pw_exec.specs.Calls.{items_of}
+use Rattle.pw_code_meaning.specs.Calls.{items_of}
 use Rattle.pw_machine.proofs.stack.active.Given as goal
 
 abbrev pub invariant-loop-frame : goal.invariant-loop-frame

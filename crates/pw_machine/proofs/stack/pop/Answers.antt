@@ -2,7 +2,7 @@
 use Rattle.std.proofs.Common.{◌≡◌, ◌++◌, List, None, length, ap, ◌∙◌, sym, subst, arith}
 use Rattle.std.specs.Option.{option_to_list}
 use Rattle.pw_code.specs.declared.context.Frame.{Frame}
-use Rattle.pw_exec.specs.Turns.{split_last}
+use Rattle.pw_code_meaning.specs.Turns.{split_last}
 use Rattle.pw_machine.specs.Stack.{popped}
 use Rattle.pw_machine.proofs.SoundLemmas.{last_popped, none_case}
 use Rattle.pw_machine.proofs.stack.pop.Goals as goal

@@ -1,6 +1,6 @@
 -- The moves that are left, on the storage now, give what all give.
 use Rattle.std.proofs.Common.{◌≡◌, map, drop}
-use Rattle.pw_exec.specs.Moves.{moves}
+use Rattle.pw_code_meaning.specs.Moves.{moves}
 use Rattle.pw_machine.specs.Views.{spot_by, taken_by}
 use Rattle.pw_machine.proofs.statements.move_to_each.Given as goal
 

@@ -1,6 +1,6 @@
 use Rattle.std.proofs.Common.{◌≡◌, ◌+◌, ◌≤◌, None, length}
 use Rattle.pw_base.specs.First.{least}
-use Rattle.pw_lines.specs.Lines.{lines}
+use Rattle.pw_sections.specs.Lines.{lines}
 use Rattle.pw_pathcom.specs.Objects.{bad_starts}
 use Rattle.pw_pathcom.proofs.objects.first_bad_start.Given as goal
 

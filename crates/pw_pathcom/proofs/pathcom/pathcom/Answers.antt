@@ -1,7 +1,7 @@
 use Rattle.std.proofs.Common.{Ok, arith, rules, sym, ap, ◌∙◌}
 use Rattle.pw_base.specs.First.{Refuses}
 use Rattle.pw_pathcom.specs.Reading.{commands_of}
-use Rattle.pw_lines.specs.Steps.{◌>>=◌}
+use Rattle.pw_sections.specs.Steps.{◌>>=◌}
 use Rattle.pw_pathcom.proofs.Orders.{one_more, none_left, refused_line, no_lines}
 use Rattle.pw_pathcom.proofs.pathcom.pathcom.Goals as goal
 

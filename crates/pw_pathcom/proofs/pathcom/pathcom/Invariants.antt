@@ -1,5 +1,5 @@
 use Rattle.std.proofs.Common.{◌≡◌, ◌+◌, ◌≤◌, length}
-use Rattle.pw_lines.specs.Lines.{lines}
+use Rattle.pw_sections.specs.Lines.{lines}
 use Rattle.pw_pathcom.specs.Reading.{lines_read, starting}
 use Rattle.pw_pathcom.proofs.pathcom.pathcom.Given as goal
 

@@ -1,6 +1,6 @@
 use Rattle.std.proofs.Common.{◌≡◌, ◌+◌, ◌≤◌, length}
-use Rattle.pw_lines.specs.Lines.{lines}
-use Rattle.pw_lines.specs.Steps.{each_line}
+use Rattle.pw_sections.specs.Lines.{lines}
+use Rattle.pw_sections.specs.Steps.{each_line}
 use Rattle.pw_sections.specs.Entries.{entry_read, entries_of}
 use Rattle.pw_sections.proofs.entry.entries.Given as goal
 

@@ -1,6 +1,6 @@
 use Rattle.std.proofs.Common.{◌≡◌, ◌+◌, ◌≤◌, length}
-use Rattle.pw_lines.specs.Lines.{lines}
-use Rattle.pw_lines.specs.Steps.{each_line}
+use Rattle.pw_sections.specs.Lines.{lines}
+use Rattle.pw_sections.specs.Steps.{each_line}
 use Rattle.pw_sections.specs.Records.{printable_line, printable}
 use Rattle.pw_sections.proofs.record.printable.Given as goal
 

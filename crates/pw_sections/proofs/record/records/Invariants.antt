@@ -1,6 +1,6 @@
 use Rattle.std.proofs.Common.{◌≡◌, ◌+◌, ◌≤◌, length, map, take}
-use Rattle.pw_lines.specs.Lines.{lines}
-use Rattle.pw_lines.specs.Steps.{each_line}
+use Rattle.pw_sections.specs.Lines.{lines}
+use Rattle.pw_sections.specs.Steps.{each_line}
 use Rattle.pw_sections.specs.Records.{record_read, records_of_text}
 use Rattle.pw_sections.proofs.record.records.Given as goal
 

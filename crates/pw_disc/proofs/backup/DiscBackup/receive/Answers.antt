@@ -1,7 +1,7 @@
 -- The message's own call is made.
 use Rattle.std.proofs.Common.{◌≡◌, sym, subst}
 use Rattle.std.specs.Prelude.{IfOk}
-use Rattle.pw_disc_call.specs.declared.call.DiscCall.{DiscCall}
+use Rattle.pw_disc.specs.declared.call.DiscCall.{DiscCall}
 use Rattle.pw_tmf.specs.Tmf.{TmfState, told_of}
 use Rattle.pw_disc.specs.Calls.{CanMake, Makes}
 use Rattle.pw_disc.proofs.OneMember.{of_message}

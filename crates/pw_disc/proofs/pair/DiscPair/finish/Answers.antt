@@ -1,7 +1,7 @@
 use Rattle.std.proofs.Common.{◌≡◌, ◌∙◌, ◌+◌, ℕ, List, Option, None, true, drop, ap, sym, arith}
 use Rattle.std.proofs.lemmas.List.{take_rest}
 use Rattle.pw_base.specs.Outside.{counted}
-use Rattle.pw_disc_call.specs.declared.script.DiscLine.{DiscLine}
+use Rattle.pw_disc.specs.declared.script.DiscLine.{DiscLine}
 use Rattle.pw_tmf.specs.Tmf.{TmfState}
 use Rattle.pw_disc.specs.Lines.{is_held_at_front}
 use Rattle.pw_disc.specs.Pair.{seen, state_of}

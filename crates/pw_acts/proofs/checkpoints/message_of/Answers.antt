@@ -1,5 +1,0 @@
-use Rattle.pw_acts.proofs.Carrying.{image-sound}
-use Rattle.pw_acts.proofs.checkpoints.message_of.Goals as goal
-
-pub returns-clause-image : goal.returns-clause-image
-returns-clause-image c = image-sound c.in_ok-image.image c.args.context.now c.in_ok-image.ensures.format

@@ -1,8 +1,0 @@
--- Those so far are changed.
-use Rattle.std.proofs.Common.{◌≡◌, ◌++◌, take, drop, map}
-use Rattle.pw_counts.specs.Attempts.{stopped_of}
-use Rattle.pw_counts.proofs.attempts.stop_pair.Given as goal
-
-abbrev pub invariant-loop-seat : goal.invariant-loop-seat
-invariant-loop-seat l =
-    l.seat-items ≡ map (stopped_of l.tcp) (take l.seat-index l.initial.seat-items) ++ drop l.seat-index l.initial.seat-items

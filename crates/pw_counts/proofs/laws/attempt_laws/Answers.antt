@@ -1,5 +1,0 @@
-use Rattle.pw_counts.proofs.Attempting.{first-attempts, next-attempts}
-use Rattle.pw_counts.proofs.laws.attempt_laws.Goals as goal
-
-pub returns : goal.returns
-returns c = record { start = first-attempts; next = next-attempts }

@@ -1,5 +1,0 @@
-use Rattle.pw_counts.proofs.Tallying.{first-tally, next-tally, roomy-tally, tally-sized}
-use Rattle.pw_counts.proofs.laws.tally_laws.Goals as goal
-
-pub returns : goal.returns
-returns c = record { first = first-tally; next = next-tally; room = roomy-tally; sized = tally-sized }

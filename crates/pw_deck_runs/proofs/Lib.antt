@@ -1,0 +1,12 @@
+mod Calling
+mod Comings
+mod Counting
+mod DiscRuns
+mod Finding
+mod Left
+mod Lifting
+pub mod Lifts
+mod Outcomes
+pub mod Runs
+mod Starts
+mod WrittenRuns

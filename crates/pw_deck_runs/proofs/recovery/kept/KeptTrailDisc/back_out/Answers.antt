@@ -1,0 +1,15 @@
+use Rattle.std.proofs.Common.{ap}
+use Rattle.pw_deck_runs.specs.recovery.Kept.{trail_state}
+use Rattle.pw_deck_runs.proofs.Calling.{keeps-other}
+use Rattle.pw_deck_runs.proofs.recovery.kept.KeptTrailDisc.back_out.Goals as goal
+
+pub invariant_of-self : goal.invariant_of-self
+invariant_of-self g c =
+    let old = c.self.inside.trail in
+    let new = c.back_out.new.self in
+    keeps-other g.N.Naming.files g.N.Naming.life
+    (trail_state old.log.files old.log.disk old.log.is_broken old.faults old.tmf)
+    (trail_state new.log.files new.log.disk new.log.is_broken new.faults new.tmf)
+    c.self.invariant (ap (λ log. log.files) c.back_out.ensures.log) (ap (λ log. log.disk) c.back_out.ensures.log)
+    (ap (λ log. log.is_broken) c.back_out.ensures.log)
+    c.back_out.ensures.steady

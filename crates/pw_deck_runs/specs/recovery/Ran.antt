@@ -1,0 +1,40 @@
+-- What a run over a trail that knows which it is comes to.
+use Rattle.std.specs.Prelude.{◌≡◌, ℕ, ◌<◌, false, List, length}
+use Rattle.pw_code.specs.declared.file.FileInfo.{FileInfo}
+use Rattle.pw_event.specs.declared.event.Event.{Event}
+use Rattle.pw_onecopy.specs.Behaviour.{Behaviour}
+use Rattle.pw_paired.specs.Step.{IsRun, after, is_finished}
+use Rattle.pw_paired.specs.Units.{committed_files}
+use Rattle.pw_deck_runs.specs.recovery.Commits.{commits}
+use Rattle.pw_deck_runs.specs.recovery.Kept.{EndsBehind}
+use Rattle.pw_deck_runs.specs.recovery.Runs.{AreAfter}
+use Rattle.pw_deck_runs.specs.declared.recovery.ending.Recovered.{Recovered}
+use Rattle.pw_deck_runs.specs.declared.recovery.ending.Recovered.TheVariants.{Full, Irregular, Regular, Stopped}
+use Rattle.pw_workers.specs.Endings.{EndsAs}
+use Rattle.pw_workers.specs.declared.ending.LogEnding.TheVariants as ended
+use Rattle.pw_volume.specs.Life.{Life}
+
+-- The disk has failed: the log goes on no more, `fit` units of it commit, and the committed records are those behind so
+-- many units as its life has four calls for.
+pub record StopsOver (life : Life) (fit : ℕ) (files : List FileInfo) (events : ℕ) (sys : Behaviour) (log : List Event) : Type 0 where
+  pub unfinished : is_finished sys (after sys log) ≡ false
+  pub room : length log < events
+  pub commit : commits sys log ≡ fit
+  pub count : ℕ
+  pub ends : EndsBehind count life
+  pub records : AreAfter count files (committed_files sys (after sys log))
+
+-- the run has ended as its log says, or by a fault of the disk
+abbrev pub EndsOver : Recovered → Life → ℕ → List FileInfo → ℕ → Behaviour → List Event → Type 0
+EndsOver Regular life fit files events sys log = EndsAs ended.Regular events sys log
+EndsOver Irregular life fit files events sys log = EndsAs ended.Irregular events sys log
+EndsOver Full life fit files events sys log = EndsAs ended.Full events sys log
+EndsOver Stopped life fit files events sys log = StopsOver life fit files events sys log
+
+-- a run over a trail of these files, on a disk with this life, which tells these records as committed
+pub record RanOverTrail (files : List FileInfo) (life : Life) (fit : ℕ) (sys : Behaviour) (events : ℕ) (recovered : Recovered)
+    (records : ℕ → List (List ℕ)) : Type 0 where
+  pub log : List Event
+  pub run : IsRun sys log
+  pub ends : EndsOver recovered life fit files events sys log
+  pub are : records ≡ committed_files sys (after sys log)

@@ -1,0 +1,70 @@
+ghost use Rattle.std.specs.Prelude.{◌≡◌, ◌-◌, ◌<◌, ◌≤◌, ◌^◌, All, IfOk, length};
+ghost use Rattle.pw_code.specs.Valid.{IsValid};
+ghost use Rattle.pw_deck_runs.specs.Trials.{Tries, TriesSystem};
+ghost use Rattle.pw_code_meaning.specs.OfSystem.{behaviour};
+ghost use Rattle.pw_world_state.specs.May.{IsLineThere};
+ghost use Rattle.pw_onecopy.specs.IsBehaviour.{IsBehaviour};
+
+use crate::over_tmf::run_over_tmf;
+use pw_base::bytes::Bytes;
+use pw_base::fault::Refusal;
+use pw_base::memory::Memory;
+use pw_code::system::System;
+use pw_compiled_deck::deck::{Deck, read};
+use pw_event::script::Script;
+use pw_gen::generate::generate;
+use pw_gen::laws::generated_laws;
+use pw_report::taken::files_of;
+use pw_workers::ending::LogEnding;
+use pw_workers::gate::Gate;
+use pw_world::replay::MAX_ENTRIES;
+use std::alloc::Global;
+use std::sync::Wait;
+use std::thread::Threads;
+
+/// Runs the deck that is generated of a seed for 1 to 64 terminals, with from 1 to 16 workers, for at
+/// most 500,000 entries (docs/DESK.md): how the run ended, and the FILES part of its report. The deck has
+/// no fault, so it is not refused. It may wait for a thread.
+pub fn trial<G: Gate, R: Threads + Wait + Sync>(
+    rt: &R,
+    alloc: Global,
+    seed: u32,
+    terminals: u32,
+    workers: u8,
+    gate: &G,
+) -> Result<(LogEnding, Bytes), Memory>
+    requires terminals { (1 ≤ terminals) × (terminals ≤ 64) }
+    requires workers { (1 ≤ workers) × (workers ≤ 16) }
+    ensures { IfOk result (λ output. Tries seed terminals output.0 output.1) }
+{
+    generated_laws();
+    let bytes = generate(alloc, seed, terminals)?;
+    let deck = match read(alloc, bytes.as_slice()) {
+        Ok(deck) => deck,
+        Err(Refusal::Memory) => return Err(Memory),
+        Err(Refusal::At { .. }) => unreachable!(),
+    };
+    let Deck { system, script, .. } = deck;
+    try_system(rt, alloc, system, script, workers, gate)
+}
+
+/// Runs a system: how the run ended, and the FILES part of its report.
+fn try_system<G: Gate, R: Threads + Wait + Sync>(
+    rt: &R,
+    alloc: Global,
+    system: System,
+    script: Script,
+    workers: u8,
+    gate: &G,
+) -> Result<(LogEnding, Bytes), Memory>
+    requires valid { IsValid system }
+    requires deck { IsBehaviour (behaviour script.lines system) }
+    requires lines { All (IsLineThere system) script.lines }
+    requires few { length script.lines < 2 ^ 32 - 1 }
+    requires workers { (1 ≤ workers) × (workers ≤ 16) }
+    ensures { IfOk result (λ output. TriesSystem (behaviour script.lines system) system output.0 output.1) }
+{
+    let (ended, world) = run_over_tmf(rt, alloc, system, script, workers, MAX_ENTRIES, gate)?;
+    let text = files_of(alloc, world)?;
+    Ok((ended, text))
+}

@@ -1,0 +1,92 @@
+ghost use Rattle.std.specs.Prelude.{◌≡◌, ◌-◌, ◌<◌, ◌≤◌, ◌^◌, All, IfErr, IfOk, length};
+ghost use Rattle.pw_base.specs.First.{Refuses};
+ghost use Rattle.pw_code.specs.Limits.{most_log_lines};
+ghost use Rattle.pw_code.specs.Valid.{IsValid};
+ghost use Rattle.pw_deck.specs.Deck.{deck_of};
+ghost use Rattle.pw_deck_runs.specs.Replays.{Replays, Verifies};
+ghost use Rattle.pw_code_meaning.specs.OfSystem.{behaviour};
+ghost use Rattle.pw_world_state.specs.May.{IsLineThere};
+ghost use Rattle.pw_onecopy.specs.IsBehaviour.{IsBehaviour};
+
+use pw_base::bytes::Bytes;
+use pw_base::fault::Refusal;
+use pw_base::memory::Memory;
+use pw_code::system::System;
+use pw_compiled_deck::deck::{Deck, read};
+use pw_event::event::Event;
+use pw_event::script::Script;
+use pw_laws::runs::laws::ending_laws;
+use pw_laws::serial::laws::runs_are_serializable;
+use pw_log_lines::log::rule_of;
+use pw_read_back::laws::decks_are_read_back;
+use pw_report::no_step::no_step_line;
+use pw_report::taken::{let_go, report_of};
+use pw_tmf::tmf::Tmf;
+use pw_world::replay::ReplayFault;
+use pw_world::world::World;
+use std::alloc::Global;
+
+/// What the replay of a log comes to (docs/DESK.md).
+#[derive(Clone, Copy, Debug, PartialEq, Eq)]
+pub enum Verified {
+    /// Each entry is a step.
+    Run,
+    /// An entry is no step.
+    NotAStep,
+}
+
+/// Replays the log of the deck of these bytes under the rule of its version (docs/DESK.md): the report of
+/// it, or the line of its first entry that is no step. It refuses exactly with the deck's first fault.
+pub fn verify(alloc: Global, bytes: &[u8]) -> Result<(Verified, Bytes), Refusal>
+    ensures ok { IfOk result (λ output. Verifies bytes.now output.0 output.1) }
+    ensures fault { IfErr result (λ refusal. Refuses refusal (deck_of bytes.now)) }
+{
+    runs_are_serializable();
+    ending_laws();
+    decks_are_read_back();
+    let deck = match read(alloc, bytes) {
+        Ok(deck) => deck,
+        Err(refusal) => return Err(refusal),
+    };
+    let Deck {
+        system,
+        script,
+        log,
+        version,
+    } = deck;
+    let system = System {
+        rule: rule_of(version),
+        ..system
+    };
+    Ok(replay(alloc, system, script, log.as_slice())?)
+}
+
+/// Replays a log of a system.
+fn replay(
+    alloc: Global,
+    system: System,
+    script: Script,
+    log: &[Event],
+) -> Result<(Verified, Bytes), Memory>
+    requires valid { IsValid system }
+    requires deck { IsBehaviour (behaviour script.lines system) }
+    requires lines { All (IsLineThere system) script.lines }
+    requires few { length script.lines < 2 ^ 32 - 1 }
+    requires log { length log.now ≤ most_log_lines }
+    ensures { IfOk result (λ output. Replays (behaviour script.lines system) system log.now output.0
+        output.1) }
+{
+    let Ok(disc) = Tmf::new(alloc, &system) else {
+        let_go(system);
+        return Err(Memory);
+    };
+    match World::replay(alloc, system, script, disc, log) {
+        Ok(world) => Ok((Verified::Run, report_of(alloc, world)?)),
+        Err(ReplayFault::NotAStep(number)) => Ok((
+            Verified::NotAStep,
+            no_step_line(alloc, number)?,
+        )),
+        Err(ReplayFault::DiscFault(_)) => unreachable!(),
+        Err(ReplayFault::Memory) => Err(Memory),
+    }
+}

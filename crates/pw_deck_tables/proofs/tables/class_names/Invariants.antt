@@ -1,0 +1,5 @@
+use Rattle.std.proofs.Common.{◌≡◌, map, take}
+use Rattle.pw_deck_tables.proofs.tables.class_names.Given as goal
+
+abbrev pub invariant-loop-class : goal.invariant-loop-class
+invariant-loop-class l = l.names ≡ map (λ class. class.name) (take l.class-index l.classes)

@@ -1,0 +1,62 @@
+ghost use Rattle.std.specs.Prelude.{◌≡◌, ◌+◌, ◌≤◌, length};
+ghost use Rattle.pw_base.specs.Limits.{longest_input};
+ghost use Rattle.pw_sections.specs.Lines.{lines};
+ghost use Rattle.pw_deck_tables.specs.Pieces.{section_line, section_text};
+
+use pw_sections::line::{line_end, next_line};
+use std::marker::Model;
+
+/// A piece of a deck, and the number of its first line. A deck is not too long, so a piece has no line
+/// above its length.
+#[derive(Debug, Drop)]
+pub struct DeckPiece<'a> {
+    pub bytes: &'a [u8],
+    pub first_line: u32,
+}
+
+impl<'a> Model for DeckPiece<'a> {
+    ghost use Rattle.pw_deck_tables.specs.Pieces.{DeckPieceModel as PieceOf, IsPiece};
+
+    ghost Value = { PieceOf };
+
+    ghost view = { λ piece. record { bytes = piece.bytes.now; first_line = piece.first_line } };
+
+    ghost invariant = { λ piece. IsPiece (record { bytes = piece.bytes.now; first_line = piece.first_line }) };
+}
+
+/// The section line of a section.
+pub fn section_line(section: &[u8]) -> &[u8]
+    ensures { result.now ≡ section_line section.now }
+{
+    match next_line(section) {
+        Some((line, _)) => line,
+        None => &[],
+    }
+}
+
+/// What stands behind the section line of a section.
+pub fn section_text(section: &[u8]) -> &[u8]
+    requires { 1 ≤ length section.now }
+    ensures text { result.now ≡ section_text section.now }
+    ensures shorter { length result.now + 1 ≤ length section.now }
+{
+    match line_end(section) {
+        Some(end) => section.split_at(end + 1).1,
+        None => &[],
+    }
+}
+
+/// How many lines a text has.
+pub fn line_count(text: &[u8]) -> u32
+    requires { length text.now ≤ longest_input }
+    ensures value { result ≡ length (lines text.now) }
+    ensures bound { result ≤ length text.now }
+{
+    let mut count = 0;
+    let mut rest = text;
+    while let Some((_, behind)) = next_line(rest) {
+        count += 1;
+        rest = behind;
+    }
+    count
+}

@@ -1,6 +1,0 @@
--- Which trail it is.
-use Rattle.pw_volume.specs.MemDisk.{life_by}
-use Rattle.pw_desk.proofs.recovery.recover.run_beside.Given as goal
-
-abbrev pub ghosts-run_known : goal.ghosts-run_known
-ghosts-run_known g a = record { files = a.trail.log.files; life = life_by a.trail.log.disk.left }

@@ -1,6 +1,0 @@
-pub mod Headline
-pub mod Meaning
-pub mod Replays
-pub mod Trials
-pub mod disc
-pub mod recovery

@@ -1,3 +1,0 @@
-mod CallForms
-mod Loop
-mod ScriptLemmas

@@ -1,5 +1,0 @@
-pub mod Format
-pub mod Message
-pub mod Reading
-pub mod Script
-pub mod Values

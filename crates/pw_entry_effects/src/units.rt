@@ -1,0 +1,69 @@
+//! BEGIN, COMMIT and BACK: the units of a terminal.
+
+ghost use Rattle.std.specs.Prelude.{◌≡◌, ◌<◌, IfErr, IfOk, OnOk, Some, length};
+ghost use Rattle.pw_entry_effects.specs.Can.{CanBack, CanBeginAt, CanCommit};
+ghost use Rattle.pw_code.specs.Valid.{IsValid};
+ghost use Rattle.pw_world_store.specs.Keeps.{IsChanged, IsRefused, kept_in};
+ghost use Rattle.pw_world_state.specs.Entered.{entered_back, entered_begin, entered_commit};
+
+use crate::verbs::{begins, behind};
+use pw_base::memory::Memory;
+use pw_code::context::Context;
+use pw_code::verb::Answer;
+use pw_tmf::answer::DiscFault;
+use pw_tmf::disc::Disc;
+use pw_world_store::keep::Keep;
+
+/// A copy of the context of a terminal at its last answer.
+fn start_of<D: Disc>(keep: &Keep<D>, terminal: u32, unit: u32) -> Result<Context, Memory>
+    requires { CanBeginAt keep.now.system (kept_in D.told keep.now) terminal unit }
+    ensures { IfOk result (λ start. ((kept_in D.told keep.now).terminals terminal).context ≡ Some start) }
+{
+    match &keep.seat(terminal).context {
+        Some(context) => context.duplicate(),
+        None => unreachable!(),
+    }
+}
+
+/// BEGIN: an attempt of the unit runs.
+pub fn begin<D: Disc>(
+    keep: &mut Keep<D>,
+    terminal: u32,
+    unit: u32,
+    restarts: u32,
+) -> Result<(), DiscFault>
+    requires valid { IsValid keep.old.system }
+    requires can { CanBeginAt keep.old.system (kept_in D.told keep.old) terminal unit }
+    ensures ok { OnOk result (IsChanged D.told (entered_begin keep.old.system terminal unit restarts) keep.old keep.new) }
+    ensures err { IfErr result (λ fault. IsRefused D.told fault keep.old keep.new) }
+{
+    let start = start_of(keep, terminal, unit)?;
+    if begins(keep, terminal) {
+        let next = behind(keep, terminal, Answer::Begun(restarts))?;
+        keep.begin(terminal, unit, start, next)
+    } else {
+        keep.begin_send(terminal, unit, start)
+    }
+}
+
+/// COMMIT: the unit ends with its changes.
+pub fn commit<D: Disc>(keep: &mut Keep<D>, terminal: u32, unit: u32) -> Result<(), DiscFault>
+    requires valid { IsValid keep.old.system }
+    requires can { CanCommit keep.old.system (kept_in D.told keep.old) terminal unit }
+    ensures ok { OnOk result (IsChanged D.told (entered_commit keep.old.system terminal unit) keep.old keep.new) }
+    ensures err { IfErr result (λ fault. IsRefused D.told fault keep.old keep.new) }
+{
+    let next = behind(keep, terminal, Answer::Ended)?;
+    keep.commit(terminal, unit, next)
+}
+
+/// BACK: the unit is backed out and ends.
+pub fn back<D: Disc>(keep: &mut Keep<D>, terminal: u32, unit: u32) -> Result<(), DiscFault>
+    requires valid { IsValid keep.old.system }
+    requires can { CanBack keep.old.system (kept_in D.told keep.old) terminal unit }
+    ensures ok { OnOk result (IsChanged D.told (entered_back keep.old.system terminal unit) keep.old keep.new) }
+    ensures err { IfErr result (λ fault. IsRefused D.told fault keep.old keep.new) }
+{
+    let next = behind(keep, terminal, Answer::Dropped)?;
+    keep.back(terminal, unit, next)
+}

@@ -1,9 +1,0 @@
-pub mod Commands
-pub mod Entries
-pub mod Law
-pub mod Pieces
-pub mod Programs
-pub mod Reading
-pub mod Tests
-pub mod Texts
-pub mod Whole

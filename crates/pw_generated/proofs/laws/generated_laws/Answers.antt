@@ -1,5 +1,0 @@
-use Rattle.pw_generated.proofs.Law.{all_faultless}
-use Rattle.pw_generated.proofs.laws.generated_laws.Goals as goal
-
-pub returns : goal.returns
-returns c = record { faultless = all_faultless }

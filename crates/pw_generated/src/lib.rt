@@ -1,5 +1,0 @@
-//! That the generated decks have no fault.
-//! docs/COMMANDS.md has the rules.
-#![tactic(auto)]
-
-pub mod laws;

@@ -1,4 +1,0 @@
-use Rattle.pw_keep.proofs.keep.Keep.known_parts.Goals as goal
-
-pub returns : goal.returns
-returns g c = rw (← c.self.view_is) c.self.invariant

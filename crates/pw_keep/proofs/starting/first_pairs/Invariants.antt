@@ -1,5 +1,0 @@
-use Rattle.pw_keep.specs.Starting.{AreFirstPairs}
-use Rattle.pw_keep.proofs.starting.first_pairs.Given as goal
-
-abbrev pub invariant-loop-tcp : goal.invariant-loop-tcp
-invariant-loop-tcp l = AreFirstPairs l.system l.tcp l.pairs.items

@@ -1,7 +1,0 @@
--- What is left to be looked at leads to all.
-use Rattle.std.proofs.Common.{◌≡◌, ◌++◌, drop}
-use Rattle.pw_kept.specs.Members.{members_from}
-use Rattle.pw_keep.proofs.starting.members.Given as goal
-
-abbrev pub invariant-loop-place : goal.invariant-loop-place
-invariant-loop-place l = l.members.items ++ members_from l.tcp l.place (drop l.place l.terminals) ≡ members_from l.tcp 0 l.terminals

@@ -1,4 +1,0 @@
-pub mod Calls
-pub mod Each
-pub mod Keeps
-pub mod Starting

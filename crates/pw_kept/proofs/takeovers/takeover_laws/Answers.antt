@@ -1,8 +1,0 @@
-use Rattle.pw_kept.proofs.TakenOver.{takeover-stands}
-use Rattle.pw_kept.proofs.takeovers.takeover_laws.Goals as goal
-
-pub returns : goal.returns
-returns c = record {
-  takeover = λ system script state kept p terminals stands legal few are whole.
-      takeover-stands system script state kept p terminals stands legal.down few are whole;
-}

@@ -1,8 +1,0 @@
-use Rattle.std.proofs.Common.{◌≡◌, ◌++◌, drop}
-use Rattle.pw_listing.specs.Lines.{block_lines}
-use Rattle.pw_listing.proofs.parts.print_blocks.Given as goal
-
--- the text so far, and the lines of the blocks that are left
-abbrev pub invariant-loop-block : goal.invariant-loop-block
-invariant-loop-block l =
-    l.text ++ block_lines l.system (drop l.block-index l.order) ≡ l.initial.text ++ block_lines l.system l.order

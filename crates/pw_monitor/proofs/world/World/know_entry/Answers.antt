@@ -1,8 +1,0 @@
-use Rattle.std.proofs.Common.{sym, subst}
-use Rattle.pw_keep.specs.Keeps.{kept_in}
-use Rattle.pw_kept.specs.Read.{AreValued}
-use Rattle.pw_monitor.proofs.world.World.know_entry.Goals as goal
-
-pub returns-in-Begin : goal.returns-in-Begin
-returns-in-Begin g c =
-    subst (AreValued c.args.self.now.keep.system (kept_in g.D.Disc.told c.args.self.now.keep)) (sym c.in-Begin.is) c.know_own-in-Begin.ensures

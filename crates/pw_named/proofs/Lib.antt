@@ -1,3 +1,0 @@
-pub mod Pendings
-pub mod Naming
-pub mod Ordering

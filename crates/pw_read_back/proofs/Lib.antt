@@ -1,0 +1,11 @@
+pub mod Causes
+pub mod Decks
+pub mod FailureLines
+pub mod Faults
+pub mod NamedLines
+pub mod Ordering
+pub mod Paths
+pub mod Pendings
+pub mod Ranges
+pub mod Reading
+pub mod Units

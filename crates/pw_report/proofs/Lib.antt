@@ -1,0 +1,3 @@
+pub mod Committing
+mod Printing
+mod Reading

@@ -1,0 +1,2 @@
+pub mod NoStep
+pub mod Read

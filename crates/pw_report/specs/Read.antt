@@ -1,0 +1,13 @@
+-- The first entries of a log are read for its serial order.
+use Rattle.std.specs.Prelude.{◌≡◌, ℕ, List, take}
+use Rattle.pw_event.specs.declared.event.Event.{Event}
+use Rattle.pw_onecopy.specs.Behaviour.{Behaviour}
+use Rattle.pw_serial_order.specs.Entries.{Shadow}
+use Rattle.pw_serial_order.specs.Order.{entry_order}
+use Rattle.pw_serial_order.specs.Shadow.{ShadowStands}
+use Rattle.pw_serial_order.specs.declared.block.Block.{Block}
+
+-- what the reading keeps stands behind the first n entries, and these are their blocks
+pub record IsReadTo (sys : Behaviour) (log : List Event) (n : ℕ) (reading : Shadow) (order : List Block) : Type 0 where
+  pub stands : ShadowStands sys (take n log) reading
+  pub blocks : order ≡ entry_order sys (take n log)

@@ -1,5 +1,0 @@
-use Rattle.pw_run.specs.Turns.{CanDo}
-use Rattle.pw_run.proofs.workers.one.Given as goal
-
-abbrev pub invariant-loop : goal.invariant-loop
-invariant-loop g l = CanDo g.N.Naming.system l.turn

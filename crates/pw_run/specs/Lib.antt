@@ -1,9 +1,0 @@
-pub mod Endings
-pub mod Ends
-pub mod Lanes
-pub mod Locked
-pub mod NoStep
-pub mod Over
-pub mod Read
-pub mod Runs
-pub mod Turns

@@ -1,5 +1,0 @@
-use Rattle.pw_sound.proofs.Serves.{behaves-same, is-behaviour}
-use Rattle.pw_sound.proofs.laws.behaviour_laws.Goals as goal
-
-pub returns : goal.returns
-returns c = record { same = behaves-same; behaves = is-behaviour }

@@ -1,5 +1,0 @@
-use Rattle.pw_sound.proofs.Behaves.{requester-answers, server-answers}
-use Rattle.pw_sound.proofs.laws.program_laws.Goals as goal
-
-pub returns : goal.returns
-returns c = record { terminals = requester-answers; servers = server-answers }

@@ -1,9 +1,0 @@
-use Rattle.std.proofs.Common.{refl}
-use Rattle.pw_source.proofs.examples.counts.counts.Goals as goal
-
-pub returns : goal.returns
-returns c = record {
-  last = λ next s. refl;
-  one_more = λ next s. refl;
-  from_zero = λ verb next s answer. refl;
-}

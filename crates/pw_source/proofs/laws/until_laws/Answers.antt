@@ -1,5 +1,0 @@
-use Rattle.pw_source.proofs.Budget.{enough-requester, enough-server}
-use Rattle.pw_source.proofs.laws.until_laws.Goals as goal
-
-pub returns : goal.returns
-returns c = record { requesters = enough-requester; servers = enough-server }

@@ -1,0 +1,71 @@
+//! The rounds of a world on one thread.
+
+use pw_base::memory::Memory;
+use pw_pair::link::build;
+use pw_tmf::disc::Disc;
+use pw_world::task::run_task;
+use pw_world::world::World;
+use pw_world_model::answers::{Applied, Claim};
+use std::alloc::Global;
+
+/// How many rounds a scene may take.
+const ROUNDS: u32 = 100_000;
+
+/// Why rounds stop.
+#[derive(Clone, Copy, Debug, PartialEq, Eq)]
+pub enum Stop {
+    /// The log is finished.
+    Finished,
+    /// Every actor that may work is out.
+    Idle,
+    /// An outcome was answered so, and neither pushed nor held.
+    Answered(Applied),
+    /// Memory ran out.
+    Memory,
+    /// There were too many.
+    Rounds,
+}
+
+/// Hands out one task, runs it and applies what came of it. An `Err` stops the rounds.
+fn round<D: Disc>(world: &mut World<D>) -> Result<(), Stop> {
+    let task = match world.claim() {
+        Ok(Claim::Work(task)) => task,
+        Ok(Claim::Idle) => return Err(Stop::Idle),
+        Ok(Claim::Finished) => return Err(Stop::Finished),
+        Err(Memory) => return Err(Stop::Memory),
+    };
+    let Ok(outcome) = run_task(world.system(), task) else {
+        return Err(Stop::Memory);
+    };
+    match world.apply(outcome) {
+        Applied::Done | Applied::Held => Ok(()),
+        answer => Err(Stop::Answered(answer)),
+    }
+}
+
+/// Builds and files the image of the first message that waits for one at the first pair: whether it did.
+pub fn build_image<D: Disc>(alloc: Global, world: &mut World<D>) -> bool {
+    if world.system().tcps.is_empty() {
+        return false;
+    }
+    let Ok(Some(task)) = world.lend(0) else {
+        return false;
+    };
+    match build(alloc, task) {
+        Ok(done) => world.give_back(done),
+        Err(Memory) => false,
+    }
+}
+
+/// Goes round until something stops that. Where it builds, an image that is not built stops it no more.
+pub fn go_round<D: Disc>(alloc: Global, world: &mut World<D>, builds: bool) -> Stop {
+    for _ in 0..ROUNDS {
+        if let Err(stop) = round(world) {
+            let waits = stop == Stop::Answered(Applied::Unbuilt);
+            if !(builds && waits && build_image(alloc, world)) {
+                return stop;
+            }
+        }
+    }
+    Stop::Rounds
+}

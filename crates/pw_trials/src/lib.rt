@@ -1,5 +1,0 @@
-//! Programs of whole decks, compiled and run against answers by hand.
-#![tactic(auto)]
-
-#[cfg(test)]
-mod tests;

@@ -1,7 +1,0 @@
-mod Beginning
-mod Counted
-mod Counting
-mod Decks
-mod Endings
-mod Pushing
-mod Telling

@@ -1,0 +1,3 @@
+mod Claimed
+mod Crossing
+pub mod Starts

@@ -1,0 +1,15 @@
+//! Workers over one locked world, each of which claims a task, runs it outside the lock and applies what came of it, and how their
+//! run ends.
+//! docs/WORKERS.md has the rules.
+#![tactic(auto)]
+
+mod calls;
+pub mod end;
+pub mod ending;
+pub mod gate;
+mod lane;
+pub mod over;
+mod places;
+mod shared;
+mod turn;
+pub mod workers;

@@ -1,0 +1,24 @@
+use Rattle.std.proofs.Common.{◌≡◌, ◌∙◌, Some, ap, sym}
+use Rattle.std.specs.Option.{option_copied}
+use Rattle.std.specs.Prelude.{find}
+use Rattle.pw_pair.specs.Pairs.{passes}
+use Rattle.pw_pair.specs.Seats.{is_waiting}
+use Rattle.pw_pair.specs.Tasks.{task_at}
+use Rattle.pw_world.proofs.Lending.{own-seat, waits}
+use Rattle.pw_world.proofs.lend.first_task.Goals as goal
+
+pub lend-requires : goal.lend-requires
+lend-requires c =
+    let seats = c.args.pair.now.seats in
+    let seat = c.in-Some.seat.now in
+    let found : find is_waiting seats ≡ Some seat =
+    ap (find is_waiting) (sym c.seats.ensures) ∙ sym c.first_waiting.ensures ∙ ap option_copied c.in-Some.is in
+    ap (passes is_waiting) (own-seat is_waiting seats seat c.requires found) ∙ waits seats seat found
+
+pub returns-in_ok-lend-in-Some : goal.returns-in_ok-lend-in-Some
+returns-in_ok-lend-in-Some c =
+    let seats = c.args.pair.now.seats in
+    let seat = c.in-Some.seat.now in
+    let found : find is_waiting seats ≡ Some seat =
+    ap (find is_waiting) (sym c.seats.ensures) ∙ sym c.first_waiting.ensures ∙ ap option_copied c.in-Some.is in
+    sym (ap task_at found ∙ sym (ap task_at (own-seat is_waiting seats seat c.requires found)) ∙ c.in_ok-lend-in-Some.ensures)

@@ -1,0 +1,63 @@
+//! The images of messages in flight, which are built outside the world.
+
+ghost use Rattle.std.specs.Prelude.{◌≡◌, ◌<◌, ◌==◌, IfOk, find, length};
+ghost use Rattle.std.specs.List.{IsDistinct};
+ghost use Rattle.std.specs.Option.{option_copied};
+ghost use Rattle.pw_world_store.specs.Keeps.{kept_in, terminals_in};
+ghost use Rattle.pw_world.specs.States.{seen};
+ghost use Rattle.pw_world_model.specs.Calls.{GivesBack, lent};
+ghost use Rattle.pw_pair.specs.Seats.{is_waiting};
+
+use crate::actors::{is_actor, tcp_of};
+use crate::world::World;
+use pw_actor_queue::actor::Actor;
+use pw_base::memory::Memory;
+use pw_pair::link::{LinkDone, LinkTask};
+use pw_pair::pair::Pair;
+use pw_pair::seat::BackupSeat;
+use pw_tmf::disc::Disc;
+
+impl<D: Disc> World<D> {
+    /// The task of the pair's first terminal whose message is in flight and not built, None exactly
+    /// where there is none.
+    pub fn lend(&self, tcp: u32) -> Result<Option<LinkTask>, Memory>
+        requires { tcp < length self.now.keep.system.tcps }
+        ensures { IfOk result (λ task. task ≡ lent ((kept_in D.told self.now.keep).pairs tcp)) }
+    {
+        first_task(self.keep.pair(tcp))
+    }
+
+    /// Files the image of a task that is done, and says whether it did: exactly where the message in
+    /// flight and the start image that is held are those of the task, and it is not built.
+    pub fn give_back(&mut self, done: LinkDone) -> bool
+        ensures { GivesBack (seen D.told self.old) done result (seen D.told self.new) }
+    {
+        let system = self.keep.system();
+        let tcp = tcp_of(system, done.terminal());
+        if !is_actor(system, Actor::Pair(tcp)) {
+            self.keep.known_parts();
+            return false;
+        }
+        let filed = self.keep.give_back(tcp, done);
+        self.ledger.mark_all();
+        filed
+    }
+}
+
+/// The task of a pair's first terminal whose message is in flight and not built.
+fn first_task(pair: &Pair) -> Result<Option<LinkTask>, Memory>
+    requires { IsDistinct (λ a b. a == b) (terminals_in pair.now) }
+    ensures { IfOk result (λ task. task ≡ lent pair.now) }
+{
+    match first_waiting(pair.seats()) {
+        Some(seat) => Ok(Some(pair.lend(seat.terminal)?)),
+        None => Ok(None),
+    }
+}
+
+/// The first seat whose message is in flight and not built.
+fn first_waiting(seats: &[BackupSeat]) -> Option<&BackupSeat>
+    ensures { option_copied result ≡ find is_waiting seats.now }
+{
+    seats.iter().find(|seat| seat.is_waiting())
+}

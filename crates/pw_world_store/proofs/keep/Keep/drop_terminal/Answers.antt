@@ -1,0 +1,18 @@
+use Rattle.std.proofs.Common.{◌<◌, ◌∙◌, ap, refl, length}
+use Rattle.pw_pair.specs.Pairs.{after_drop}
+use Rattle.pw_pair.specs.Seats.{dropped}
+use Rattle.pw_world_store.specs.Keeps.{terminals_in}
+use Rattle.pw_world_store.proofs.Pairing.{keep-pair, pair-step, pair-there, terminals-at}
+use Rattle.pw_world_store.proofs.keep.Keep.drop_terminal.Goals as goal
+
+pub invariant_of-self : goal.invariant_of-self
+invariant_of-self g c =
+    let lt : c.args.tcp < length c.self.inside.pairs.items = pair-there c.args.tcp c.self.invariant (rw (← c.self.view_is) at c.requires.known) in
+    keep-pair c.self.inside.system c.self.inside.seats.items (g.D.Disc.told c.self.inside.disc) c.self.inside.classes c.self.inside.jobs.items c.self.inside.pairs.items c.args.tcp c.index_mut.result.now c.drop_terminal.new.self c.self.invariant lt c.index_mut.ensures.value
+    (ap terminals_in c.drop_terminal.ensures ∙ terminals-at c.args.terminal dropped (λ s. refl) c.index_mut.result.now)
+
+pub returns : goal.returns
+returns g c =
+    let lt : c.args.tcp < length c.self.inside.pairs.items = pair-there c.args.tcp c.self.invariant (rw (← c.self.view_is) at c.requires.known) in
+    rw (← c.self.view_is)
+    (pair-step g.D.Disc.told (after_drop c.args.terminal) (record { system = c.self.inside.system; seats = c.self.inside.seats.items; disc = c.self.inside.disc; book = c.self.inside.classes; jobs = c.self.inside.jobs.items; pairs = c.self.inside.pairs.items; births = c.self.inside.births }) c.args.tcp c.index_mut.result.now c.drop_terminal.new.self lt c.index_mut.ensures.value c.drop_terminal.ensures)

@@ -1,0 +1,140 @@
+//! Failures of pairs, takeovers and endings.
+
+ghost use Rattle.std.specs.Prelude.{◌≡◌, ◌<◌, All, IfErr, IfOk, OnErr, OnOk, length, map};
+ghost use Rattle.pw_world_store.specs.Calls.{members_in};
+ghost use Rattle.pw_world_store.specs.Each.{goings_of, lost, resumption_at};
+ghost use Rattle.pw_world_store.specs.Keeps.{IsChanged, IsRefused, kept_in};
+ghost use Rattle.pw_world_store.specs.declared.pieces.TerminalLoss.TheVariants as Loss;
+ghost use Rattle.pw_world_state.specs.Changes.{kept_end, kept_fail_tcp, kept_takeover, leave_at};
+ghost use Rattle.pw_world_state.specs.Entered.{tcp_of};
+ghost use Rattle.pw_pair.specs.declared.mode.Mode.TheVariants as Mode;
+
+use crate::each::go_on_each;
+use crate::keep::Keep;
+use crate::pieces::{Going, TerminalLoss, is_left, loss_in};
+use pw_base::memory::Memory;
+use pw_event::event::Ending;
+use pw_tmf::answer::DiscFault;
+use pw_tmf::disc::Disc;
+
+impl<D: Disc> Keep<D> {
+    /// The terminals of a pair lose their requests and their paths.
+    fn lose_programs(&mut self, tcp: u32) -> Result<(), DiscFault>
+        requires known { tcp < length self.old.system.tcps }
+        ensures ok { OnOk result (IsChanged D.told (lost TerminalLoss.Paths (members_in (kept_in D.told self.old) tcp)) self.old self.new) }
+        ensures err { IfErr result (λ fault. IsRefused D.told fault self.old self.new) }
+    {
+        let terminals = self.members(tcp)?;
+        self.cancel(&terminals);
+        self.lose_paths(&terminals);
+        Ok(())
+    }
+
+    /// The terminals of a pair lose these and their open units.
+    fn lose_units(&mut self, tcp: u32) -> Result<(), DiscFault>
+        requires known { tcp < length self.old.system.tcps }
+        ensures ok { OnOk result (IsChanged D.told (lost TerminalLoss.Units (members_in (kept_in D.told self.old) tcp)) self.old self.new) }
+        ensures err { IfErr result (λ fault. IsRefused D.told fault self.old self.new) }
+    {
+        let terminals = self.members(tcp)?;
+        self.leave(&terminals)?;
+        self.lose_paths(&terminals);
+        Ok(())
+    }
+
+    /// The terminals of a pair lose this.
+    fn lose(&mut self, tcp: u32, loss: TerminalLoss) -> Result<(), DiscFault>
+        requires known { tcp < length self.old.system.tcps }
+        ensures ok { OnOk result (IsChanged D.told (lost loss (members_in (kept_in D.told self.old) tcp)) self.old self.new) }
+        ensures err { IfErr result (λ fault. IsRefused D.told fault self.old self.new) }
+    {
+        match loss {
+            TerminalLoss::Nothing => Ok(()),
+            TerminalLoss::Paths => self.lose_programs(tcp),
+            TerminalLoss::Units => self.lose_units(tcp),
+        }
+    }
+
+    /// FAIL TCP: a member of a pair fails. Where no member is left, the open units of its terminals are left and their
+    /// paths are gone; where a primary with a whole backup fails, their requests are cancelled and their paths are gone.
+    pub fn fail_tcp(&mut self, tcp: u32, primary: bool) -> Result<(), DiscFault>
+        requires known { tcp < length self.old.system.tcps }
+        ensures ok { OnOk result (IsChanged D.told (kept_fail_tcp tcp primary (members_in (kept_in D.told self.old) tcp)) self.old self.new) }
+        ensures err { IfErr result (λ fault. IsRefused D.told fault self.old self.new) }
+    {
+        let loss = loss_in(self.pair(tcp).mode(), primary);
+        self.lose(tcp, loss)?;
+        self.fail_member(tcp, primary);
+        Ok(())
+    }
+
+    /// How each of these terminals of a pair goes on behind its takeover.
+    fn goings(&self, tcp: u32, terminals: &[u32]) -> Result<Vec<Going>, Memory>
+        requires known { tcp < length self.now.system.tcps }
+        requires terminals { All (λ t. t < length self.now.system.terminals) terminals.now }
+        ensures { IfOk result (λ goings. map goings_of goings.items
+            ≡ map (λ t. (t, resumption_at ((kept_in D.told self.now).pairs tcp) (kept_in D.told self.now).disc t)) terminals.now) }
+    {
+        let mut goings = Vec::new(self.alloc);
+        for terminal in terminals {
+            goings.push(self.going(tcp, *terminal)?)?;
+        }
+        Ok(goings)
+    }
+
+    /// How a terminal of a pair goes on behind its takeover.
+    fn going(&self, tcp: u32, terminal: u32) -> Result<Going, Memory>
+        requires known { tcp < length self.now.system.tcps }
+        requires terminal { terminal < length self.now.system.terminals }
+        ensures { IfOk result (λ going. goings_of going
+            ≡ (terminal, resumption_at ((kept_in D.told self.now).pairs tcp) (kept_in D.told self.now).disc terminal)) }
+    {
+        let last = match self.ended(terminal) {
+            Some(ended) => ended.number,
+            None => 0,
+        };
+        let resumed = self.pair(tcp).resumption(terminal, last)?;
+        Ok(Going { terminal, resumed })
+    }
+
+    /// TAKEOVER: the live terminals of a pair go on with the contexts whose images its backup held, and the memory
+    /// leaves. An `Err` leaves all as it was.
+    pub fn takeover(&mut self, tcp: u32) -> Result<(), Memory>
+        requires known { tcp < length self.old.system.tcps }
+        requires down { ((kept_in D.told self.old).pairs tcp).mode ≡ Mode.Down }
+        ensures ok { OnOk result (IsChanged D.told (kept_takeover tcp (members_in (kept_in D.told self.old) tcp)) self.old self.new) }
+        ensures err { OnErr result (self.new ≡ self.old) }
+    {
+        let terminals = self.members(tcp)?;
+        let goings = self.goings(tcp, &terminals)?;
+        go_on_each(&mut self.seats, tcp, goings);
+        self.pairs[tcp as usize].take_backup();
+        Ok(())
+    }
+
+    /// The open unit of a terminal is left at this ending, but at STOPPED and LOST.
+    fn leave_at(&mut self, terminal: u32, ending: Ending) -> Result<(), DiscFault>
+        requires known { terminal < length self.old.system.terminals }
+        ensures ok { OnOk result (IsChanged D.told (leave_at terminal ending) self.old self.new) }
+        ensures err { IfErr result (λ fault. IsRefused D.told fault self.old self.new) }
+    {
+        if !is_left(&ending) {
+            return Ok(());
+        }
+        self.leave(&[terminal])?;
+        Ok(())
+    }
+
+    /// END: a terminal has its ending, its open unit is left but at STOPPED and LOST, and its pair drops it.
+    pub fn end(&mut self, terminal: u32, ending: Ending) -> Result<(), DiscFault>
+        requires known { terminal < length self.old.system.terminals }
+        ensures ok { OnOk result (IsChanged D.told (kept_end (tcp_of self.old.system terminal) terminal ending) self.old self.new) }
+        ensures err { IfErr result (λ fault. IsRefused D.told fault self.old self.new) }
+    {
+        self.leave_at(terminal, ending)?;
+        self.close(terminal, ending);
+        let tcp = self.pair_of(terminal);
+        self.drop_terminal(tcp, terminal);
+        Ok(())
+    }
+}
