@@ -8,7 +8,7 @@ use Rattle.pw_code.specs.declared.lock.LockRule.TheVariants.{ReadersShare}
 use Rattle.pw_deck.specs.Deck.{deck_of}
 use Rattle.pw_deck.specs.declared.deck.ParsedDeck as trees
 use Rattle.pw_compiled_deck.proofs.Decks.{IsOf}
-use Rattle.pw_deck_runs.proofs.Lifts.{AreOnce, AreRead, AreSerial, reports}
+use Rattle.pw_deck_runs.proofs.Lifts.{AreLawful, AreRead, reports}
 use Rattle.pw_code.specs.declared.system.System.{System}
 use Rattle.pw_deck_runs.specs.Meaning.{meaning, named}
 use Rattle.pw_disc.specs.Pair.{PairKept}
@@ -35,7 +35,7 @@ both-say : (bytes : List ℕ) (deck : trees.ParsedDeck) (lines : List DiscLine) 
 both-say bytes deck lines says is = rw says is
 
 -- what the run of a deck's system over a pair comes to is what the deck does
-module _ (serial : AreSerial) (once : AreOnce) (read : AreRead) (bytes : List ℕ) (whole : Deck) (of : IsOf bytes whole)
+module _ (lawful : AreLawful) (read : AreRead) (bytes : List ℕ) (whole : Deck) (of : IsOf bytes whole)
     (small : IsSmall whole.system)
     (behaves : IsBehaviour (behaviour whole.script.lines whole.system))
     (same : behaviour whole.script.lines whole.system ≡ meaning ReadersShare of.deck)
@@ -51,7 +51,7 @@ module _ (serial : AreSerial) (once : AreOnce) (read : AreRead) (bytes : List �
   comes (Ended ended) text runs = record {
     lines = lines;
     says = both-say bytes of.deck lines of.says is;
-    ends = reports serial once read bytes whole of small (behaviour whole.script.lines whole.system) behaves same events few
+    ends = reports lawful read bytes whole of small (behaviour whole.script.lines whole.system) behaves same events few
         ended text runs;
   }
   comes (Lost pair) text runs = record {

@@ -17,8 +17,8 @@ use Rattle.pw_event.specs.declared.event.Event.{Event}
 use Rattle.pw_code_meaning.specs.OfSystem as code
 use Rattle.pw_onecopy.specs.Behaviour.{Behaviour}
 use Rattle.pw_onecopy.specs.IsBehaviour.{IsBehaviour}
-use Rattle.pw_paired.specs.Headline.{EndsOnce, IsSerializable}
 use Rattle.pw_paired.specs.Step.{IsRun}
+use Rattle.pw_laws.specs.serial.Promises.{KeepsPromises}
 use Rattle.pw_report_text.specs.Meaning.{report_text}
 use Rattle.pw_workers.specs.Endings.{IsReportOfRun}
 use Rattle.pw_workers.specs.declared.ending.LogEnding.{LogEnding}
@@ -29,12 +29,9 @@ use Rattle.pw_compiled_deck.specs.Whole.{compiled}
 use Rattle.pw_compiled_deck.specs.declared.deck.Deck.{Deck}
 use Rattle.pw_compiled_deck.proofs.Rules.{log-few, ruled-behaves, ruled-same, ruled-valid}
 
--- the laws of every run
-abbrev pub AreSerial : Type 0
-AreSerial = (sys : Behaviour) → IsBehaviour sys → (log : List Event) → IsRun sys log → IsSerializable sys log
-
-abbrev pub AreOnce : Type 0
-AreOnce = (sys : Behaviour) → IsBehaviour sys → (log : List Event) → IsRun sys log → EndsOnce sys log
+-- every run keeps what is promised
+abbrev pub AreLawful : Type 0
+AreLawful = (sys : Behaviour) → IsBehaviour sys → (log : List Event) → IsRun sys log → KeepsPromises sys log
 
 -- the report of a run of so many entries is read back as it
 abbrev pub AreRead : Type 0
@@ -48,24 +45,22 @@ small-tree : (bytes : List ℕ) (whole : Deck) (of : IsOf bytes whole) → IsSma
 small-tree bytes whole of small = subst (λ (w : Deck). IsSmall w.system) of.is small
 
 -- a run is printed
-prints : AreSerial → AreOnce → AreRead → (rule : LockRule) (bytes : List ℕ) (deck : trees.ParsedDeck) → deck_of bytes ≡ Ok deck
+prints : AreLawful → AreRead → (rule : LockRule) (bytes : List ℕ) (deck : trees.ParsedDeck) → deck_of bytes ≡ Ok deck
     → IsSmall (compiled deck).system → IsBehaviour (meaning rule deck) → (log : List Event) → IsRun (meaning rule deck) log
     → length log ≤ most_log_lines → (text : List ℕ) → text ≡ report_text (named rule deck) (meaning rule deck) log
     → Prints rule deck log text
-prints serial once read rule bytes deck says small behaves log run few text is = record {
-  run = run;
-  serial = serial (meaning rule deck) behaves log run;
-  once = once (meaning rule deck) behaves log run;
+prints lawful read rule bytes deck says small behaves log run few text is = record {
+  promises = lawful (meaning rule deck) behaves log run;
   is = is;
   read = subst (λ (t : List ℕ). IsReadFrom (named rule deck) t log) (sym is) (read rule bytes deck says small log run few);
 }
 
 -- a run of a system
-pub reports : AreSerial → AreOnce → AreRead → (bytes : List ℕ) (whole : Deck) (of : IsOf bytes whole)
+pub reports : AreLawful → AreRead → (bytes : List ℕ) (whole : Deck) (of : IsOf bytes whole)
     → IsSmall whole.system → (sys : Behaviour) → IsBehaviour sys → sys ≡ meaning ReadersShare of.deck
     → (events : ℕ) → events ≤ most_log_lines → (ran : LogEnding) (text : List ℕ)
     → IsReportOfRun sys whole.system events ran text → Reports bytes events ran text
-reports serial once read bytes whole of small sys behaves same events few ran text runs =
+reports lawful read bytes whole of small sys behaves same events few ran text runs =
     let system : whole.system ≡ named ReadersShare of.deck = ap (λ (w : Deck). w.system) of.is in
     let to : IsReportOfRun (meaning ReadersShare of.deck) (named ReadersShare of.deck) events ran text =
     subst (λ (s : System). IsReportOfRun (meaning ReadersShare of.deck) s events ran text) system
@@ -74,29 +69,29 @@ reports serial once read bytes whole of small sys behaves same events few ran te
       deck = of.deck;
       says = of.says;
       log = to.log;
-      prints = prints serial once read ReadersShare bytes of.deck of.says (small-tree bytes whole of small)
+      prints = prints lawful read ReadersShare bytes of.deck of.says (small-tree bytes whole of small)
           (subst IsBehaviour same behaves) to.log to.run (omega (arith, to.ends.room, few)) text to.is;
       ended = to.ends;
     }
 
 -- the replay of a log
-answers : AreSerial → AreOnce → AreRead → (rule : LockRule) (bytes : List ℕ) (deck : trees.ParsedDeck) → deck_of bytes ≡ Ok deck
+answers : AreLawful → AreRead → (rule : LockRule) (bytes : List ℕ) (deck : trees.ParsedDeck) → deck_of bytes ≡ Ok deck
     → IsSmall (compiled deck).system → IsBehaviour (meaning rule deck) → length deck.told.log ≤ most_log_lines
     → (verified : Verified) (text : List ℕ) → Replays (meaning rule deck) (named rule deck) deck.told.log verified text
     → Answers rule deck verified text
-answers serial once read rule bytes deck says small behaves few Run text to =
-    prints serial once read rule bytes deck says small behaves deck.told.log to.0 few text to.1
-answers serial once read rule bytes deck says small behaves few NotAStep text to = to
+answers lawful read rule bytes deck says small behaves few Run text to =
+    prints lawful read rule bytes deck says small behaves deck.told.log to.0 few text to.1
+answers lawful read rule bytes deck says small behaves few NotAStep text to = to
 
 -- the system of a deck that was read, under the rule of its log
 abbrev pub ruled : Deck → System
 ruled whole = record whole.system { rule = rule_of whole.version }
 
-pub verifies : AreSerial → AreOnce → AreRead → (bytes : List ℕ) (whole : Deck) (of : IsOf bytes whole)
+pub verifies : AreLawful → AreRead → (bytes : List ℕ) (whole : Deck) (of : IsOf bytes whole)
     → IsSmall whole.system → (sys : Behaviour) → IsBehaviour (meaning (rule_of of.deck.told.version) of.deck)
     → sys ≡ meaning (rule_of of.deck.told.version) of.deck → (verified : Verified) (text : List ℕ)
     → Replays sys (ruled whole) whole.log verified text → Verifies bytes verified text
-verifies serial once read bytes whole of small sys behaves same verified text replays =
+verifies lawful read bytes whole of small sys behaves same verified text replays =
     let deck : trees.ParsedDeck = of.deck in
     let rule : LockRule = rule_of deck.told.version in
     let meant : Replays (meaning rule deck) (ruled whole) whole.log verified text =
@@ -106,7 +101,7 @@ verifies serial once read bytes whole of small sys behaves same verified text re
     record {
       deck = deck;
       says = of.says;
-      answers = answers serial once read rule bytes deck of.says (small-tree bytes whole of small) behaves
+      answers = answers lawful read rule bytes deck of.says (small-tree bytes whole of small) behaves
           (log-few rule bytes deck of.says) verified text to;
     }
 
@@ -136,17 +131,17 @@ module _ (bytes : List ℕ) (whole : Deck) (of : IsOf bytes whole) (small : IsSm
   pub whole-log : length whole.log ≤ most_log_lines
   whole-log = subst (λ (w : Deck). length w.log ≤ most_log_lines) (sym of.is) (log-few tree-rule bytes of.deck of.says)
 
-  pub verifies-from : AreSerial → AreOnce → AreRead → (rule : LockRule) → rule ≡ rule_of whole.version
+  pub verifies-from : AreLawful → AreRead → (rule : LockRule) → rule ≡ rule_of whole.version
       → (log : List Event) → log ≡ whole.log → (verified : Verified) (text : List ℕ)
       → Replays (code.behaviour whole.script.lines (record whole.system { rule = rule })) (record whole.system { rule = rule })
       log verified text
       → Verifies bytes verified text
-  verifies-from serial once read rule is log same verified text replays =
+  verifies-from lawful read rule is log same verified text replays =
       let at-rule : Replays (code.behaviour whole.script.lines (ruled whole)) (ruled whole) log verified text =
       subst (λ (r : LockRule). Replays (code.behaviour whole.script.lines (record whole.system { rule = r }))
       (record whole.system { rule = r }) log verified text) is replays in
       let at-log : Replays (code.behaviour whole.script.lines (ruled whole)) (ruled whole) whole.log verified text =
       subst (λ (l : List Event). Replays (code.behaviour whole.script.lines (ruled whole)) (ruled whole) l verified text)
       same at-rule in
-      verifies serial once read bytes whole of small (code.behaviour whole.script.lines (ruled whole))
+      verifies lawful read bytes whole of small (code.behaviour whole.script.lines (ruled whole))
       (ruled-behaves tree-rule bytes of.deck of.says) (whole-same (rule_of whole.version) refl) verified text at-log

@@ -10,6 +10,7 @@ use Rattle.pw_code.specs.declared.lock.LockRule.TheVariants.{ReadersShare}
 use Rattle.pw_code.specs.declared.system.System.{System}
 use Rattle.pw_deck.specs.Deck.{deck_of}
 use Rattle.pw_compiled_deck.proofs.Decks.{IsOf, refuses}
+use Rattle.pw_deck_runs.proofs.Lifts.{AreLawful}
 use Rattle.pw_deck_runs.specs.Meaning.{meaning, named}
 use Rattle.pw_deck_runs.specs.Trials.{Tries, TriesSystem}
 use Rattle.pw_event.specs.declared.event.Event.{Event}
@@ -19,6 +20,7 @@ use Rattle.pw_gen.specs.Generated.{generated}
 use Rattle.pw_gen.specs.Faultless.{IsFaultless}
 use Rattle.pw_report_text.specs.Meaning.{files_text, report_text}
 use Rattle.pw_onecopy.specs.Behaviour.{Behaviour}
+use Rattle.pw_onecopy.specs.IsBehaviour.{IsBehaviour}
 use Rattle.pw_paired.specs.Step.{IsRun}
 use Rattle.pw_workers.specs.Endings.{EndsAs, IsReportOfRun}
 use Rattle.pw_workers.specs.declared.ending.LogEnding.{LogEnding}
@@ -54,25 +56,28 @@ tries-to system own script lines log ended text same written run ends is = recor
 }
 
 -- what is said of the system of a generated deck is said of the deck
-pub tries : (seed terminals : ℕ) (bytes : List ℕ) → bytes ≡ generated seed terminals → (whole : Deck)
-    (of : IsOf bytes whole) (sys : Behaviour) → sys ≡ meaning ReadersShare of.deck → (ended : LogEnding) (text : List ℕ)
-    → TriesSystem sys whole.system ended text → Tries seed terminals ended text
-tries seed terminals bytes are whole of sys same ended text to =
+pub tries : AreLawful → (seed terminals : ℕ) (bytes : List ℕ) → bytes ≡ generated seed terminals → (whole : Deck)
+    (of : IsOf bytes whole) (sys : Behaviour) → IsBehaviour sys → sys ≡ meaning ReadersShare of.deck
+    → (ended : LogEnding) (text : List ℕ) → TriesSystem sys whole.system ended text → Tries seed terminals ended text
+tries lawful seed terminals bytes are whole of sys behaves same ended text to =
     let system : whole.system ≡ named ReadersShare of.deck = ap (λ (w : Deck). w.system) of.is in
+    let meant : TriesSystem (meaning ReadersShare of.deck) (named ReadersShare of.deck) ended text =
+    subst (λ (s : System). TriesSystem (meaning ReadersShare of.deck) s ended text) system
+    (subst (λ (b : Behaviour). TriesSystem b whole.system ended text) same to) in
     record {
       deck = of.deck;
       says = ap deck_of (sym are) ∙ of.says;
-      tries = subst (λ (s : System). TriesSystem (meaning ReadersShare of.deck) s ended text) system
-          (subst (λ (b : Behaviour). TriesSystem b whole.system ended text) same to);
+      tries = meant;
+      promises = lawful (meaning ReadersShare of.deck) (subst IsBehaviour same behaves) meant.log meant.run;
     }
 
-pub tried : {E : Type 0} (seed terminals : ℕ) (bytes : List ℕ) → bytes ≡ generated seed terminals → (whole : Deck)
-    (of : IsOf bytes whole) (sys : Behaviour) → sys ≡ meaning ReadersShare of.deck
+pub tried : {E : Type 0} → AreLawful → (seed terminals : ℕ) (bytes : List ℕ) → bytes ≡ generated seed terminals
+    → (whole : Deck) (of : IsOf bytes whole) (sys : Behaviour) → IsBehaviour sys → sys ≡ meaning ReadersShare of.deck
     → (result : Result (LogEnding × List ℕ) E) → IfOk result (λ output. TriesSystem sys whole.system output.0 output.1)
     → IfOk result (λ output. Tries seed terminals output.0 output.1)
-tried seed terminals bytes are whole of sys same (Ok output) to =
-    tries seed terminals bytes are whole of sys same output.0 output.1 to
-tried seed terminals bytes are whole of sys same (Err fault) to = tt
+tried lawful seed terminals bytes are whole of sys behaves same (Ok output) to =
+    tries lawful seed terminals bytes are whole of sys behaves same output.0 output.1 to
+tried lawful seed terminals bytes are whole of sys behaves same (Err fault) to = tt
 
 -- a deck without a fault is not refused
 pub not-refused : (bytes : List ℕ) (line : ℕ) (code : FaultCode) (refusal : Refusal) → refusal ≡ At line code

@@ -6,20 +6,16 @@ use Rattle.pw_deck.specs.Deck.{deck_of}
 use Rattle.pw_deck.specs.declared.deck.ParsedDeck.{ParsedDeck}
 use Rattle.pw_deck_runs.specs.Meaning.{meaning, named}
 use Rattle.pw_event.specs.declared.event.Event.{Event}
+use Rattle.pw_laws.specs.serial.Promises.{KeepsPromises}
 use Rattle.pw_report_text.specs.Meaning.{report_text}
-use Rattle.pw_paired.specs.Headline.{EndsOnce, IsSerializable}
-use Rattle.pw_paired.specs.Step.{IsRun}
 use Rattle.pw_workers.specs.Endings.{EndsAs}
 use Rattle.pw_workers.specs.declared.ending.LogEnding.{LogEnding}
 use Rattle.pw_read_back.specs.ReadFrom.{IsReadFrom}
 
--- The log is a run of the deck. The one-copy machine runs its serial order, where units run one at a time, with these
--- screens, each numbered refresh counted once, and these records; each unit number ends at most once; the text is the
--- report of the log; and the log is the one that is read back from the text.
+-- The log keeps what is promised of logs of the deck; the text is its report; and it is the log that is read back from
+-- the text.
 pub record Prints (rule : LockRule) (deck : ParsedDeck) (log : List Event) (text : List ℕ) : Type 0 where
-  pub run : IsRun (meaning rule deck) log
-  pub serial : IsSerializable (meaning rule deck) log
-  pub once : EndsOnce (meaning rule deck) log
+  pub promises : KeepsPromises (meaning rule deck) log
   pub is : text ≡ report_text (named rule deck) (meaning rule deck) log
   pub read : IsReadFrom (named rule deck) text log
 

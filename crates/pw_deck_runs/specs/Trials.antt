@@ -5,6 +5,7 @@ use Rattle.pw_code.specs.declared.lock.LockRule.TheVariants.{ReadersShare}
 use Rattle.pw_code.specs.declared.system.System.{System}
 use Rattle.pw_deck.specs.Deck.{deck_of}
 use Rattle.pw_deck.specs.declared.deck.ParsedDeck.{ParsedDeck}
+use Rattle.pw_laws.specs.serial.Promises.{KeepsPromises}
 use Rattle.pw_deck_runs.specs.Meaning.{meaning, named}
 use Rattle.pw_event.specs.declared.event.Event.{Event}
 use Rattle.pw_gen.specs.Generated.{generated}
@@ -21,8 +22,9 @@ pub record TriesSystem (sys : Behaviour) (system : System) (ended : LogEnding) (
   pub ends : EndsAs ended most_log_lines sys log
   pub is : text ≡ files_text system sys log
 
--- the generated deck has no fault, and the text is that of a run of it
+-- the generated deck has no fault, and the text is that of a run of it, which keeps what is promised
 pub record Tries (seed terminals : ℕ) (ended : LogEnding) (text : List ℕ) : Type 0 where
   pub deck : ParsedDeck
   pub says : deck_of (generated seed terminals) ≡ Ok deck
   pub tries : TriesSystem (meaning ReadersShare deck) (named ReadersShare deck) ended text
+  pub promises : KeepsPromises (meaning ReadersShare deck) tries.log

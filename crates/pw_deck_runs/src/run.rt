@@ -16,8 +16,7 @@ use pw_base::memory::Memory;
 use pw_code::system::System;
 use pw_compiled_deck::deck::{Deck, read};
 use pw_event::script::Script;
-use pw_laws::runs::laws::ending_laws;
-use pw_laws::serial::laws::runs_are_serializable;
+use pw_laws::serial::laws::runs_keep_their_promises;
 use pw_read_back::laws::decks_are_read_back;
 use pw_report::taken::report_of;
 use pw_workers::ending::LogEnding;
@@ -30,9 +29,10 @@ use std::thread::Threads;
 /// how the run ended, and the report of its log. It refuses exactly with the deck's first fault. It may
 /// wait for a thread.
 ///
-/// The log is a run of the deck, by the trees of its programs. Its screens and records are those of the
-/// one-copy machine on its serial order, and each unit number ends at most once. It is the log that is read
-/// back from the report.
+/// The log is a run of the deck, by the trees of its programs, and keeps what is promised of logs
+/// (docs/PROMISES.md): its screens and records are those of the one-copy machine on its serial order; each
+/// unit number ends at most once; a pair is lost only by failures, and its terminals, and no others, end as
+/// Lost; and a terminal is suspended only after its restarts. It is the log that is read back from the report.
 pub fn run<G: Gate, R: Threads + Wait + Sync>(
     rt: &R,
     alloc: Global,
@@ -46,8 +46,7 @@ pub fn run<G: Gate, R: Threads + Wait + Sync>(
     ensures ok { IfOk result (λ output. Reports bytes.now events output.0 output.1) }
     ensures fault { IfErr result (λ refusal. Refuses refusal (deck_of bytes.now)) }
 {
-    runs_are_serializable();
-    ending_laws();
+    runs_keep_their_promises();
     decks_are_read_back();
     let deck = match read(alloc, bytes) {
         Ok(deck) => deck,

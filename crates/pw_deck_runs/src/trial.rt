@@ -14,6 +14,7 @@ use pw_compiled_deck::deck::{Deck, read};
 use pw_event::script::Script;
 use pw_gen::generate::generate;
 use pw_gen::laws::generated_laws;
+use pw_laws::serial::laws::runs_keep_their_promises;
 use pw_report::taken::files_of;
 use pw_workers::ending::LogEnding;
 use pw_workers::gate::Gate;
@@ -38,6 +39,7 @@ pub fn trial<G: Gate, R: Threads + Wait + Sync>(
     ensures { IfOk result (λ output. Tries seed terminals output.0 output.1) }
 {
     generated_laws();
+    runs_keep_their_promises();
     let bytes = generate(alloc, seed, terminals)?;
     let deck = match read(alloc, bytes.as_slice()) {
         Ok(deck) => deck,

@@ -15,8 +15,7 @@ use pw_code::system::System;
 use pw_compiled_deck::deck::{Deck, read};
 use pw_event::event::Event;
 use pw_event::script::Script;
-use pw_laws::runs::laws::ending_laws;
-use pw_laws::serial::laws::runs_are_serializable;
+use pw_laws::serial::laws::runs_keep_their_promises;
 use pw_log_lines::log::rule_of;
 use pw_read_back::laws::decks_are_read_back;
 use pw_report::no_step::no_step_line;
@@ -41,8 +40,7 @@ pub fn verify(alloc: Global, bytes: &[u8]) -> Result<(Verified, Bytes), Refusal>
     ensures ok { IfOk result (λ output. Verifies bytes.now output.0 output.1) }
     ensures fault { IfErr result (λ refusal. Refuses refusal (deck_of bytes.now)) }
 {
-    runs_are_serializable();
-    ending_laws();
+    runs_keep_their_promises();
     decks_are_read_back();
     let deck = match read(alloc, bytes) {
         Ok(deck) => deck,

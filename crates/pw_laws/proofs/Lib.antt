@@ -11,6 +11,7 @@ pub mod OpenThen
 pub mod PairSteps
 pub mod Paths
 pub mod Pending
+mod Promises
 pub mod Releasing
 pub mod RunSteps
 pub mod Tests

@@ -1,3 +1,4 @@
 pub mod Actors
 pub mod Guarded
+pub mod Promises
 pub mod Restarts

@@ -8,10 +8,13 @@ use Rattle.pw_event.specs.declared.event.Event.{Event}
 use Rattle.pw_code_meaning.specs.OfSystem as code
 use Rattle.pw_onecopy.specs.Behaviour.{Behaviour}
 use Rattle.pw_onecopy.specs.IsBehaviour.{IsBehaviour}
+use Rattle.pw_laws.specs.serial.Promises.{KeepsPromises}
 use Rattle.pw_log_lines.specs.Log.{rule_of}
+use Rattle.pw_paired.specs.Step.{IsRun}
 use Rattle.pw_tree_meaning.specs.OfDeck as tree
 use Rattle.pw_status.specs.Status.{TellsStatus, IsStatusOf}
 use Rattle.pw_status.specs.declared.status.Counted.{Counted}
+use Rattle.pw_status.specs.declared.status.Counted.TheVariants.{NotAStep, Run}
 use Rattle.pw_compiled_deck.proofs.Decks.{IsOf}
 use Rattle.pw_compiled_deck.proofs.Rules.{log-few, ruled-behaves, ruled-same, ruled-valid}
 use Rattle.pw_compiled_deck.specs.Short.{IsSmall}
@@ -20,6 +23,12 @@ use Rattle.pw_compiled_deck.specs.declared.deck.Deck.{Deck}
 
 small-tree : (bytes : List ℕ) (whole : Deck) (of : IsOf bytes whole) → IsSmall whole.system → IsSmall (compiled of.deck).system
 small-tree bytes whole of small = subst (λ (w : Deck). IsSmall w.system) of.is small
+
+-- a log that is counted to its end is a run
+counted-run : (sys : Behaviour) (system : System) (log : List Event) (counted : Counted) (text : List ℕ)
+    → TellsStatus sys system log counted text → counted ≡ Run → IsRun sys log
+counted-run sys system log Run text counts is = counts.0
+counted-run sys system log NotAStep text counts is = absurd cc
 
 module _ (bytes : List ℕ) (whole : Deck) (of : IsOf bytes whole) (small : IsSmall whole.system) where
   abbrev tree-rule : LockRule
@@ -47,19 +56,24 @@ module _ (bytes : List ℕ) (whole : Deck) (of : IsOf bytes whole) (small : IsSm
   whole-log = subst (λ (w : Deck). length w.log ≤ most_log_lines) (sym of.is) (log-few tree-rule bytes of.deck of.says)
 
   -- what is said of the first entries is said of the deck
-  pub status-of : (rule : LockRule) → rule ≡ rule_of whole.version → (at : ℕ) (log : List Event) → log ≡ take at whole.log → (counted : Counted) (text : List ℕ)
+  pub status-of : ((sys : Behaviour) → IsBehaviour sys → (log : List Event) → IsRun sys log → KeepsPromises sys log)
+      → (rule : LockRule) → rule ≡ rule_of whole.version → (at : ℕ) (log : List Event) → log ≡ take at whole.log → (counted : Counted) (text : List ℕ)
       → TellsStatus (code.behaviour whole.script.lines (ruled rule)) (ruled rule) log counted text → IsStatusOf bytes at counted text
-  status-of rule is at log same counted text counts =
+  status-of lawful rule is at log same counted text counts =
       let by-trees : TellsStatus (tree.behaviour tree-rule (trees_of of.deck)) (ruled rule) log counted text =
       subst (λ (b : Behaviour). TellsStatus b (ruled rule) log counted text) (whole-same rule is) counts in
       let by-rule : TellsStatus (tree.behaviour tree-rule (trees_of of.deck)) (record whole.system { rule = rule_of whole.version }) log counted text =
       subst (λ (r : LockRule). TellsStatus (tree.behaviour tree-rule (trees_of of.deck)) (ruled r) log counted text) is by-trees in
       let by-log : TellsStatus (tree.behaviour tree-rule (trees_of of.deck)) (record whole.system { rule = rule_of whole.version }) (take at whole.log) counted text =
       subst (λ (l : List Event). TellsStatus (tree.behaviour tree-rule (trees_of of.deck)) (record whole.system { rule = rule_of whole.version }) l counted text) same by-rule in
+      let by-deck : TellsStatus (tree.behaviour tree-rule (trees_of of.deck)) (record (compiled of.deck).system { rule = rule_of (compiled of.deck).version }) (take at (compiled of.deck).log) counted text =
+      subst (λ (w : Deck). TellsStatus (tree.behaviour tree-rule (trees_of of.deck)) (record w.system { rule = rule_of w.version }) (take at w.log) counted text) of.is by-log in
       record {
         deck = of.deck;
         says = of.says;
-        counts = subst (λ (w : Deck). TellsStatus (tree.behaviour tree-rule (trees_of of.deck)) (record w.system { rule = rule_of w.version }) (take at w.log) counted text) of.is by-log;
+        counts = by-deck;
+        promises = λ run. lawful (tree.behaviour tree-rule (trees_of of.deck)) (ruled-behaves tree-rule bytes of.deck of.says) (take at of.deck.told.log)
+            (counted-run (tree.behaviour tree-rule (trees_of of.deck)) (record (compiled of.deck).system { rule = rule_of (compiled of.deck).version }) (take at of.deck.told.log) counted text by-deck run);
       }
 
 -- the first of a list are no more than all

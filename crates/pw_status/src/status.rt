@@ -19,6 +19,7 @@ use pw_code::system::System;
 use pw_compiled_deck::deck::{Deck, read};
 use pw_event::event::Event;
 use pw_event::script::Script;
+use pw_laws::serial::laws::runs_keep_their_promises;
 use pw_log_lines::log::rule_of;
 use pw_report::no_step::no_step_line;
 use std::alloc::Global;
@@ -34,11 +35,13 @@ pub enum Counted {
 
 /// Counts the first `at` entries of the log of the deck of these bytes, or all where there are fewer, under
 /// the rule of the log's version (docs/STATUS.md): their status text, or the line of the first of them that
-/// is no step. It refuses exactly with the deck's first fault.
+/// is no step. Entries that are all steps keep what is promised of logs (docs/PROMISES.md). It refuses exactly
+/// with the deck's first fault.
 pub fn status(alloc: Global, bytes: &[u8], at: u32) -> Result<(Counted, Bytes), Refusal>
     ensures ok { IfOk result (λ output. IsStatusOf bytes.now at output.0 output.1) }
     ensures fault { IfErr result (λ refusal. Refuses refusal (deck_of bytes.now)) }
 {
+    runs_keep_their_promises();
     let deck = match read(alloc, bytes) {
         Ok(deck) => deck,
         Err(refusal) => return Err(refusal),

@@ -11,8 +11,7 @@ use pw_base::bytes::Bytes;
 use pw_base::fault::Refusal;
 use pw_compiled_deck::deck::{Deck, read};
 use pw_disc::read_script::read_disc_script;
-use pw_laws::runs::laws::ending_laws;
-use pw_laws::serial::laws::runs_are_serializable;
+use pw_laws::serial::laws::runs_keep_their_promises;
 use pw_read_back::laws::decks_are_read_back;
 use pw_report::taken::let_go;
 use pw_workers::gate::Gate;
@@ -40,8 +39,7 @@ pub fn run<G: Gate, R: Threads + Wait + Sync>(
     ensures ok { IfOk result (λ output. IsPairRun bytes.now events output.0 output.1) }
     ensures fault { IfErr result (λ refusal. Refuses refusal (pair_deck_of bytes.now)) }
 {
-    runs_are_serializable();
-    ending_laws();
+    runs_keep_their_promises();
     decks_are_read_back();
     let deck = match read(alloc, bytes) {
         Ok(deck) => deck,

@@ -22,8 +22,7 @@ use pw_code::copies::Duplicate;
 use pw_code::system::System;
 use pw_compiled_deck::deck::{Deck, read};
 use pw_event::script::Script;
-use pw_laws::runs::laws::ending_laws;
-use pw_laws::serial::laws::runs_are_serializable;
+use pw_laws::serial::laws::runs_keep_their_promises;
 use pw_report::taken::let_go;
 use pw_report_text::laws::printed_is_the_report;
 use pw_workers::gate::Gate;
@@ -55,8 +54,7 @@ pub fn trail<G: Gate, R: Threads + Wait + Sync>(
     ensures ok { IfOk result (λ output. Recovers bytes.now events at output.0 output.1) }
     ensures fault { IfErr result (λ refusal. Refuses refusal (deck_of bytes.now)) }
 {
-    runs_are_serializable();
-    ending_laws();
+    runs_keep_their_promises();
     let Deck { system, script, .. } = match read(alloc, bytes) {
         Ok(deck) => deck,
         Err(refusal) => return Err(refusal),

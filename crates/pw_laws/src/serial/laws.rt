@@ -17,6 +17,7 @@ ghost use Rattle.pw_paired.specs.Step.{IsRun, after, change, is_finished};
 ghost use Rattle.pw_paired.specs.Terminal.{path_of};
 ghost use Rattle.pw_paired.specs.Units.{committed_files};
 ghost use Rattle.pw_laws.specs.serial.Actors.{StepActor, ActorSteps};
+ghost use Rattle.pw_laws.specs.serial.Promises.{KeepsPromises};
 ghost use Rattle.pw_laws.specs.serial.Restarts.{older_restarts_in};
 ghost use Rattle.pw_laws.specs.serial.Guarded.{HasEndedOnce, IsGuarded, NoneCommits, is_fail};
 
@@ -27,6 +28,12 @@ ghost use Rattle.pw_laws.specs.serial.Guarded.{HasEndedOnce, IsGuarded, NoneComm
 pub fn runs_are_serializable()
     ensures { (sys : Behaviour) → IsBehaviour sys → (log : List Event) → IsRun sys log
         → IsSerializable sys log }
+{}
+
+/// Every run of a deck keeps what is promised of logs, whatever fails (docs/PROMISES.md).
+pub fn runs_keep_their_promises()
+    ensures { (sys : Behaviour) → IsBehaviour sys → (log : List Event) → IsRun sys log
+        → KeepsPromises sys log }
 {}
 
 /// In a run of a deck two refreshes of one terminal with the same number show the same screen.

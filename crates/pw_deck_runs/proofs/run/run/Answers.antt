@@ -17,6 +17,6 @@ returns-clause-ok g c =
     let whole = c.in-Ok.deck in
     let of = whole-is c.args.bytes.now whole c.in-Ok.ensures.gives in
     let output = c.in_ok-run_system.field-0 in
-    reports c.runs_are_serializable.ensures c.ending_laws.ensures.once c.decks_are_read_back.ensures c.args.bytes.now whole of
+    reports c.runs_keep_their_promises.ensures c.decks_are_read_back.ensures c.args.bytes.now whole of
     c.in-Ok.ensures.small (behaviour whole.script.lines whole.system) c.in-Ok.ensures.behaves
     (c.in-Ok.ensures.same of.deck of.says) c.args.events c.requires.events output.0 output.1 c.in_ok-run_system.ensures

@@ -24,5 +24,5 @@ returns g c =
     let are : c.as_slice.result.now ≡ generated c.args.seed c.args.terminals = c.as_slice.ensures ∙ c.in_ok-bytes.ensures in
     let whole = c.in-Ok.deck in
     let of = whole-is c.as_slice.result.now whole c.in-Ok.ensures.gives in
-    tried c.args.seed c.args.terminals c.as_slice.result.now are whole of (behaviour whole.script.lines whole.system)
-    (c.in-Ok.ensures.same of.deck of.says) c.try_system.result c.try_system.ensures
+    tried c.runs_keep_their_promises.ensures c.args.seed c.args.terminals c.as_slice.result.now are whole of (behaviour whole.script.lines whole.system)
+    c.in-Ok.ensures.behaves (c.in-Ok.ensures.same of.deck of.says) c.try_system.result c.try_system.ensures

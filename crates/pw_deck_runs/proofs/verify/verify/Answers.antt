@@ -35,6 +35,5 @@ returns-clause-ok c =
     let of = whole-is c.args.bytes.now c.in-Ok.deck c.in-Ok.ensures.gives in
     let same : c.as_slice.result.now ≡ c.in-Ok.deck.log = cc in
     let output = c.in_ok-replay.field-0 in
-    verifies-from c.args.bytes.now c.in-Ok.deck of c.in-Ok.ensures.small c.runs_are_serializable.ensures
-    c.ending_laws.ensures.once c.decks_are_read_back.ensures c.rule_of.result c.rule_of.ensures c.as_slice.result.now same output.0 output.1
+    verifies-from c.args.bytes.now c.in-Ok.deck of c.in-Ok.ensures.small c.runs_keep_their_promises.ensures c.decks_are_read_back.ensures c.rule_of.result c.rule_of.ensures c.as_slice.result.now same output.0 output.1
     c.in_ok-replay.ensures

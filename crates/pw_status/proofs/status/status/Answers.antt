@@ -37,5 +37,5 @@ returns-clause-ok c =
     let of = whole-is c.args.bytes.now c.in-Ok.deck c.in-Ok.ensures.gives in
     let same : c.as_slice.result.now ≡ c.in-Ok.deck.log = cc in
     let output = c.in_ok-count.field-0 in
-    status-of c.args.bytes.now c.in-Ok.deck of c.in-Ok.ensures.small c.rule_of.result c.rule_of.ensures c.args.at c.first.result.now
+    status-of c.args.bytes.now c.in-Ok.deck of c.in-Ok.ensures.small c.runs_keep_their_promises.ensures c.rule_of.result c.rule_of.ensures c.args.at c.first.result.now
     (c.first.ensures ∙ ap (λ log. take c.args.at log) same) output.0 output.1 c.in_ok-count.ensures

@@ -18,6 +18,6 @@ returns-clause-ok g c =
     let whole = c.in-Ok.deck in
     let of = whole-is c.args.bytes.now whole c.in-Ok.ensures.gives in
     let output = c.in_ok-run_pair.field-0 in
-    comes c.runs_are_serializable.ensures c.ending_laws.ensures.once c.decks_are_read_back.ensures c.args.bytes.now whole of
+    comes c.runs_keep_their_promises.ensures c.decks_are_read_back.ensures c.args.bytes.now whole of
     c.in-Ok.ensures.small c.in-Ok.ensures.behaves (c.in-Ok.ensures.same of.deck of.says)
     c.in-Ok-read_disc_script.failures.lines c.in-Ok-read_disc_script.ensures c.args.events c.requires.events output.0 output.1 c.in_ok-run_pair.ensures

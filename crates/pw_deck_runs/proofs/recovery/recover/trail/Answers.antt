@@ -17,6 +17,6 @@ returns-clause-ok g c =
     let whole = c.in-Ok.deck in
     let of = whole-is c.args.bytes.now whole c.in-Ok.ensures.gives in
     let output = c.in_ok-run_and_recover.field-0 in
-    recovers c.runs_are_serializable.ensures c.ending_laws.ensures.once c.args.bytes.now whole of
+    recovers c.runs_keep_their_promises.ensures c.args.bytes.now whole of
     (behaviour whole.script.lines whole.system) c.in-Ok.ensures.behaves (c.in-Ok.ensures.same of.deck of.says)
     c.args.events c.args.at output.0 output.1 c.in_ok-run_and_recover.ensures
