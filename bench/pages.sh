@@ -2,13 +2,16 @@
 # Whether the pages name what is there: each file and link of README.md and docs/ exists, each name that has a file beside it
 # stands in that file, each contract that carries a claim stands in one of the files of the claim, and each other name of code is
 # one of the sources. A row of a table that begins with crates is about these, and so is what stands below a heading of crates:
-# its files are theirs. It prints what is not so, and then fails.
+# its files are theirs. Each word of docs/GLOSSARY.md has a name with its file, and the words are in order.
+#
+# And whether each name with a capital is that of one crate alone: no two crates define a proposition, a record or a type of one
+# name, but for those that are listed here. It prints what is not so, and then fails.
 #
 #     bench/pages.sh
 set -eu
 cd "$(dirname "$0")/.."
 exec python3 - << 'END'
-import os, re, subprocess, sys
+import collections, os, re, subprocess, sys
 
 FILES = subprocess.run(["git", "ls-files"], capture_output=True, text=True, check=True).stdout.split()
 ENDS = {}
@@ -20,6 +23,13 @@ SOURCES = {file: open(file).read() for file in FILES if file.endswith((".rt", ".
 WORDS = {word for text in SOURCES.values() for word in re.findall(r"\w+", text)}
 KNOWN = WORDS | {os.path.splitext(part)[0] for file in FILES for part in file.split("/")}
 CRATES = {file.split("/")[1] for file in FILES if file.startswith("crates/")}
+# What defines a name with a capital: propositions, records and types in specs, types in code.
+DEFINITIONS = {
+    "specs": r"^ *(?:unfoldable |abbrev )*pub (?:record |data )?([A-Z]\w*)",
+    "src": r"^(?:pub(?:\(\w+\))? )?(?:struct|enum|trait|type) ([A-Z]\w*)",
+}
+# The names with a capital that two crates rightly have, each with its reason in a comment beside it; there is none today.
+SHARED = set()
 # Names that stand for any name, and words that are no names of code.
 FREE = {"CRATE", "FILE", "LegalKIND", "do_kind", "ISX", "perf", "ENTERED"}
 PATH = r"[\w/-]*\w\.(?:rt|antt|md|deck|out|sh|py|edit|html|schedule)\b"
@@ -108,8 +118,37 @@ def faults(page):
                 yield whole[: found.start()].count("\n") + 1, f"no name {found[1]}"
 
 
+def glossary_faults(page):
+    """The words of the glossary that have no name with its file, or are not in their order."""
+    rows = [(number, line) for number, line in enumerate(open(page).read().split("\n"), 1) if line.startswith("| ")][1:]
+    before = ""
+    for number, line in rows:
+        word = line[2:].split(" | ")[0]
+        if not BESIDE.search(line):
+            yield number, f"no name with its file for {word}"
+        if before.lower() >= word.lower():
+            yield number, f"{word} stands behind {before}"
+        before = word
+
+
+def shared_names():
+    """Each definition of a name with a capital that another crate has too, but for those that are listed."""
+    found = collections.defaultdict(list)
+    for file, text in SOURCES.items():
+        if file.startswith("crates/") and (form := DEFINITIONS.get(file.split("/")[2])):
+            for it in re.finditer(form, text, flags=re.M):
+                found[it[1]].append((file, text[: it.start()].count("\n") + 1))
+    for name, places in found.items():
+        crates = sorted({file.split("/")[1] for file, _ in places})
+        if len(crates) > 1 and name not in SHARED:
+            yield from ((*place, f"{name} is defined in {' and '.join(crates)}") for place in places)
+
+
 told = sorted({(page, *fault) for page in [it for it in FILES if re.fullmatch(r"README\.md|docs/\w+\.md", it)] for fault in faults(page)})
+told += [("docs/GLOSSARY.md", *fault) for fault in glossary_faults("docs/GLOSSARY.md")] + sorted(shared_names())
 for page, number, fault in told:
-    print(f"{page}:{number}: {fault}")
-sys.exit(bool(told))
+    print(f"{page}:{number}: {fault}", flush=True)
+# And whether the tables of docs/MAP.md are those of crates.txt.
+has_other_map = subprocess.run(["docs/map", "--check"]).returncode
+sys.exit(bool(told or has_other_map))
 END

@@ -1,4 +1,4 @@
--- FollowsTokenStep over tokens that have to stand there: each goes on behind what it took, or stops in front of the first token
+-- Steps over tokens that have to stand there: each goes on behind what it took, or stops in front of the first token
 -- that may not stand where it is.
 use Rattle.std.specs.Prelude.{◌≡◌, ℕ, ◌+◌, ◌-◌, List, [], ◌∷◌, length, take, Bool, Option, MatchOption, Result, Ok, Err, if◌then◌else◌}
 use Rattle.pw_words.specs.Words.{Word}

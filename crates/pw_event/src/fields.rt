@@ -67,7 +67,7 @@ pub fn number(word: &[u8], limit: u32) -> Result<u32, EventFault>
 }
 
 /// A number from 1.
-#[tactic(auto, unfolding(crate::specs::Parsing::counted))]
+#[tactic(auto, unfolding(crate::specs::Parsing::positive_count_read))]
 pub fn counted(word: &[u8]) -> Result<u32, EventFault>
     ensures { result ≡ positive_count_read word.now }
 {
@@ -161,7 +161,7 @@ pub fn member(word: &[u8]) -> Result<bool, EventFault>
 }
 
 /// Refuses a word other than AFTER.
-#[tactic(auto, unfolding(crate::specs::Parsing::after))]
+#[tactic(auto, unfolding(crate::specs::Parsing::after_keyword_read))]
 pub fn after(word: &[u8]) -> Result<(), EventFault>
     ensures { result ≡ after_keyword_read word.now }
 {

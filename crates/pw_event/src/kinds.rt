@@ -114,7 +114,7 @@ pub fn send(names: &SystemNames, words: &[&[u8]]) -> Result<Event, EventFault>
 }
 
 /// TAKE c i t.
-#[tactic(auto, unfolding(crate::specs::Parsing::taken))]
+#[tactic(auto, unfolding(crate::specs::Parsing::take_line_event))]
 pub fn taken(names: &SystemNames, words: &[&[u8]]) -> Result<Event, EventFault>
     ensures { result ≡ take_line_event names.now (map (λ word. word.now) words.now) }
 {

@@ -17,7 +17,7 @@ use std::mem;
 /// The most branches that may be open at once.
 const MAX_OPEN: usize = 64;
 
-/// ArithmeticForm with ON SIZE ERROR and its two branches.
+/// Arithmetic with ON SIZE ERROR and its two branches.
 fn on_size_error(
     line: u32,
     arithmetic: ArithmeticForm,

@@ -78,7 +78,7 @@ impl<'a> FormCursor<'a> {
     }
 
     /// Passes over the next token.
-    #[tactic(auto, unfolding(crate::specs::Readers::behind))]
+    #[tactic(auto, unfolding(crate::specs::Readers::form_rest_behind))]
     fn skip(&mut self)
         ensures { self.new ≡ form_rest_behind self.old }
     {

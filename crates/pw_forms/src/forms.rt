@@ -68,7 +68,7 @@ fn on_size_error(rest: &mut FormCursor<'_>) -> Result<bool, Lack>
     }
 }
 
-/// ArithmeticForm, which `ON SIZE ERROR` makes one that opens a branch.
+/// Arithmetic, which `ON SIZE ERROR` makes one that opens a branch.
 fn arithmetic_by(line: u32, opens: bool, arithmetic: ArithmeticForm) -> Form
     ensures { result ≡ spec.arithmetic_by line opens arithmetic }
 {

@@ -35,12 +35,12 @@ pub enum Statement {
         from: Operand,
         to: List<Operand>,
     },
-    /// ArithmeticForm without ON SIZE ERROR.
+    /// Arithmetic without ON SIZE ERROR.
     Arithmetic {
         line: u32,
         arithmetic: ArithmeticForm,
     },
-    /// ArithmeticForm with ON SIZE ERROR: `first` is done on a size error, else `second`.
+    /// Arithmetic with ON SIZE ERROR: `first` is done on a size error, else `second`.
     OnSizeError {
         line: u32,
         arithmetic: ArithmeticForm,

@@ -12,7 +12,7 @@ use pw_sections::line::next_line;
 use std::alloc::Global;
 
 /// What lines are that count: with which names they are read, which of them count, and how many there may be.
-pub trait Counted {
+pub trait CountedLines {
     ghost use Rattle.std.specs.Prelude.{ℕ, List, Result};
     ghost use Rattle.pw_base.specs.declared.fault.Fault.{Fault};
     ghost use Rattle.pw_code.specs.declared.system.System.{System};
@@ -38,7 +38,7 @@ pub trait Counted {
 }
 
 /// How many lines of a text count, the first of which has the number `first_line`.
-pub fn count_lines<C: Counted>(
+pub fn count_lines<C: CountedLines>(
     alloc: Global,
     names: &SystemNames,
     text: &[u8],

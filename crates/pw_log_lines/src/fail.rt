@@ -8,7 +8,7 @@ ghost use Rattle.pw_sections.specs.Steps.{line_taken};
 ghost use Rattle.pw_log_lines.specs.Grammar.{nobody, is_bad};
 ghost use Rattle.pw_log_lines.specs.Fail.{failure_counted, failures_counted, failure_read, failures_of};
 
-use crate::count::{Counted, count_lines};
+use crate::count::{CountedLines, count_lines};
 use crate::nobody::nobody;
 use pw_base::fault::Refusal;
 use pw_base::fault_code::FaultCode;
@@ -38,7 +38,7 @@ fn is_bad(alloc: Global, names: &SystemNames, line: &[u8]) -> Result<bool, Memor
 /// Failure lines, read with the names of a system without a name.
 struct FailureLines;
 
-impl Counted for FailureLines {
+impl CountedLines for FailureLines {
     ghost use Rattle.std.specs.Prelude.{◌≡◌};
     ghost use Rattle.pw_code.specs.Limits.{most_fail_lines};
     ghost use Rattle.pw_code.specs.declared.lock.LockRule.TheVariants.{ReadersShare};

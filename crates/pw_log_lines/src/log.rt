@@ -11,7 +11,7 @@ ghost use Rattle.pw_sections.specs.Words.{words};
 ghost use Rattle.pw_log_lines.specs.Grammar.{nobody, is_bad};
 ghost use Rattle.pw_log_lines.specs.Log.{opened, header, rule_of, behind_number, entry_behind, numbered_entry, entry_counted, entries_counted, version_of, event_read, events_of};
 
-use crate::count::{Counted, count_lines};
+use crate::count::{CountedLines, count_lines};
 use crate::nobody::nobody;
 use pw_base::bytes::Bytes;
 use pw_base::fault::Refusal;
@@ -172,7 +172,7 @@ fn is_bad(alloc: Global, names: &SystemNames, n: u32, line: &[u8]) -> Result<boo
 /// Log lines, read with the names of a system without a name.
 struct LogLines;
 
-impl Counted for LogLines {
+impl CountedLines for LogLines {
     ghost use Rattle.std.specs.Prelude.{◌≡◌};
     ghost use Rattle.pw_code.specs.Limits.{most_log_lines};
     ghost use Rattle.pw_log_lines.specs.Grammar.{nobody};

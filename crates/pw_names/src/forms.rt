@@ -159,7 +159,7 @@ impl<'a> NameScope<'a> {
         }
     }
 
-    /// ArithmeticForm.
+    /// Arithmetic.
     pub fn arithmetic(
         &self,
         line: u32,

@@ -1,4 +1,4 @@
--- CallsLeadTo of calls of a disc over a trail, and what they leave on its disk.
+-- Runs of calls of a disc over a trail, and what they leave on its disk.
 use Rattle.std.specs.Prelude.{◌≡◌, ◌⊎◌, ℕ, ◌+◌, ◌≤◌, Bool, true, false, List, [], ◌∷◌, ◌++◌, length, Result, Ok, Err}
 use Rattle.pw_code.specs.declared.file.FileInfo.{FileInfo}
 use Rattle.pw_code.specs.declared.system.System.{System}

@@ -109,7 +109,7 @@ impl<D: Disc, N: Naming> Shared<D, N> {
         }
     }
 
-    /// WorkerCalls a worker that waits, where tasks are worth it and there is more to do: an image to build, or a task, which is
+    /// Calls a worker that waits, where tasks are worth it and there is more to do: an image to build, or a task, which is
     /// claimed for it here.
     pub fn calls_another(&mut self) -> bool {
         if self.end.is_some() || !self.calls.is_worth() {

@@ -17,7 +17,7 @@ enum BlockFileCall {
     Remove,
 }
 
-use Call::{Insert, Remove, Replace};
+use BlockFileCall::{Insert, Remove, Replace};
 
 /// Each call with a key and how many bytes the content has behind it. The table is gone through several times, each time
 /// with other keys.

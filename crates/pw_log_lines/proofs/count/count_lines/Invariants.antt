@@ -5,8 +5,8 @@ use Rattle.pw_log_lines.proofs.count.count_lines.Given as goal
 
 abbrev pub invariant-loop-line : goal.invariant-loop-line
 invariant-loop-line g l = record {
-  so_far : each_line (g.C.Counted.counted l.names) l.number l.count (lines l.rest) ≡ each_line (g.C.Counted.counted l.names) l.first_line 0 (lines l.text);
-  count : l.count ≤ g.C.Counted.most;
+  so_far : each_line (g.C.CountedLines.counted l.names) l.number l.count (lines l.rest) ≡ each_line (g.C.CountedLines.counted l.names) l.first_line 0 (lines l.text);
+  count : l.count ≤ g.C.CountedLines.most;
   number : l.number + length l.rest ≤ l.first_line + length l.text;
 }
 

@@ -6,5 +6,5 @@ use Rattle.pw_operands.proofs.index.index_of.Given as goal
 abbrev pub invariant-loop-thing : goal.invariant-loop-thing
 invariant-loop-thing g l = record {
   number : l.number ≡ l.thing-index;
-  so_far : Leads g.T.Named.name_of l.things l.thing-index l.index;
+  so_far : Leads g.T.IndexedByName.name_of l.things l.thing-index l.index;
 }

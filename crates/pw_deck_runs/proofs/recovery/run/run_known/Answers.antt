@@ -22,9 +22,9 @@ returns-in-Ended g c =
     record {
       ran =
           subst
-          (λ (r : Recovered). RanOverTrail g.N.Naming.files g.N.Naming.life c.args.fit (behaviour c.args.script.lines c.args.system) c.args.events r records)
+          (λ (r : Recovered). RanOverTrail g.N.TrailNaming.files g.N.TrailNaming.life c.args.fit (behaviour c.args.script.lines c.args.system) c.args.events r records)
           (sym c.of_ended.ensures)
-          (ran-ended g.N.Naming.files g.N.Naming.life c.args.fit c.args.system c.args.script.lines c.args.events
+          (ran-ended g.N.TrailNaming.files g.N.TrailNaming.life c.args.fit c.args.system c.args.script.lines c.args.events
           (told_in c.of-disc.result).faults (seen told_in c.in-Ended.world) records leaves.0 last.run last.committed
           c.in-Ended.ended leaves.1);
       files = last.kept.files_are;
@@ -40,7 +40,7 @@ returns-else-count-fit g c =
     let count = rw c.in_ok-count-in-Failed.was at c.commits-counted.ensures in
     record {
       ran =
-          ran-stopped g.N.Naming.files g.N.Naming.life c.args.fit c.args.system c.args.script.lines c.args.events
+          ran-stopped g.N.TrailNaming.files g.N.TrailNaming.life c.args.fit c.args.system c.args.script.lines c.args.events
           (told_in c.of-disc.result).faults (seen told_in c.in-Failed.world) records leaves.0 last.run last.committed
           (trail_state left.log.files left.log.disk left.log.is_broken left.faults left.tmf) last.kept last.told refl
           left.settled (omega (arith, counts, c.requires.faults)) leaves.1.0 leaves.1.1 last.room

@@ -18,7 +18,7 @@ returns g c =
     let tells = c.holds.ensures.stands.disc in
     let there = images-there sys (state_of world) world.kept.disc tells knows c.holds.ensures.terminals in
     record {
-      kept = subst (IsKept g.N.Naming.files g.N.Naming.life) (sym c.into_trail.ensures.is) c.into_trail.ensures.keeps;
+      kept = subst (IsKept g.N.TrailNaming.files g.N.TrailNaming.life) (sym c.into_trail.ensures.is) c.into_trail.ensures.keeps;
       told = told;
       committed =
           ap (λ (t : Told). committed t) told

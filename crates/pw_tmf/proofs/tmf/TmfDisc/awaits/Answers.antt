@@ -21,7 +21,7 @@ returns c =
     let within : call.file < length state.files = subst (λ (s : TmfState). call.file < length s.files) (sym c.self.view_is) c.requires.call.file in
     let lock : lock_now (told_of state) u call ≡ lock_of u call.file span mode =
     lock-is state c.index.result.now u call span mode (ap reverse nothing) within c.index.ensures c.in_ok-span.ensures.span c.mode_of-mode.ensures in
-    c.blocks.ensures
+    c.blocks-2.ensures
     ∙ (blocks-conflict u holder call.file span mode state.locks c.requires.apart
     ∙ (ap (λ (l : Lock). list_any (λ held. is_same_unit held.unit holder && conflict l held) state.locks) (sym lock)
     ∙ ap (λ (s : TmfState). awaits (told_of s) u call holder) c.self.view_is))

@@ -7,7 +7,7 @@ pub invariant_of-self : goal.invariant_of-self
 invariant_of-self g c =
     let old = c.self.inside.trail in
     let new = c.begin.new.self in
-    keeps-other g.N.Naming.files g.N.Naming.life
+    keeps-other g.N.TrailNaming.files g.N.TrailNaming.life
     (trail_state old.log.files old.log.disk old.log.is_broken old.faults old.tmf)
     (trail_state new.log.files new.log.disk new.log.is_broken new.faults new.tmf)
     c.self.invariant (ap (λ log. log.files) c.begin.ensures.log) (ap (λ log. log.disk) c.begin.ensures.log)

@@ -10,7 +10,7 @@ pub invariant_of-self : goal.invariant_of-self
 invariant_of-self g c =
     let old = c.self.inside.trail in
     let new = c.commit.new.self in
-    keeps-commit g.N.Naming.files g.N.Naming.life
+    keeps-commit g.N.TrailNaming.files g.N.TrailNaming.life
     (trail_state old.log.files old.log.disk old.log.is_broken old.faults old.tmf)
     (trail_state new.log.files new.log.disk new.log.is_broken new.faults new.tmf)
     c.self.invariant (record_of (told_of old.tmf) c.args.unit.now) c.commit.result c.commit.ensures.commits
