@@ -1,6 +1,7 @@
 -- What inputs, texts and calls come to.
-use Rattle.std.proofs.Common.{◌≡◌, refl, inl, inr, ℕ, Bool, true, false, List, [], Option, None, Some, ◌∙◌, append-nil}
+use Rattle.std.proofs.Common.{◌≡◌, refl, sym, subst, inl, inr, ℕ, Bool, true, false, List, [], Option, None, Some, ◌∙◌, append-nil}
 use Rattle.std.specs.Io.KnownBytes.{Appends, Keeps}
+use Rattle.pw_input_output.specs.Numbers.{status_number}
 use Rattle.pw_input_output.specs.Outputs.{EndsWriting}
 use Rattle.pw_input_output.specs.declared.status.Status.{Status}
 use Rattle.pw_input_output.specs.declared.status.Status.TheVariants as status
@@ -11,7 +12,7 @@ use Rattle.pw_expand.specs.declared.expand.ScheduleEnding.{ScheduleEnding}
 use Rattle.pw_expand.specs.declared.expand.ScheduleEnding.TheVariants as ending
 use Rattle.pathway.specs.Commands.{said, reads_source, usage_line}
 use Rattle.pathway.specs.Schedules.{status_by}
-use Rattle.pathway.specs.Statuses.{AsksSource, CommandCall, FaultCountsGoOn, EndsWith, HasText, IsCutOff, Means, OutputBy}
+use Rattle.pathway.specs.Statuses.{AsksSource, CommandCall, Ends, FaultCountsGoOn, EndsWith, HasText, IsCutOff, Means, OutputBy}
 
 -- ---- texts
 
@@ -200,3 +201,19 @@ ends-usage call result text none line read (inr cut) =
       begun = cut.1.begun;
     } in
     rw cut.0 (means, (read, cut.1.rose))
+
+-- what is there is kept where it is as it was
+keeps-same : (before now : Option (List ℕ)) → now ≡ before → Keeps before now
+keeps-same None now same = tt
+keeps-same (Some had) now same = rw same refl
+
+-- a call without memory for its words, by its answer
+pub ends-memory : (call : CommandCall) (answer : ℕ) → answer ≡ status_number status.Memory → call.written_then ≡ call.written
+    → call.read_faults_then ≡ call.read_faults → call.write_faults_then ≡ call.write_faults → Ends call answer
+ends-memory call answer is same read write =
+    (status.Memory, is, (keeps-same call.written call.written_then same, (read, write)))
+
+-- a call with the words that are told, and with this answer
+pub ends-same : (call : CommandCall) (words : List (List ℕ)) (answer result : ℕ) → words ≡ call.words → result ≡ answer → Ends (record call { words = words }) answer → Ends call result
+ends-same call words answer result same is ends =
+    subst (λ ws. Ends (record call { words = ws }) result) same (subst (Ends (record call { words = words })) (sym is) ends)

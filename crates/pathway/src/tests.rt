@@ -1,4 +1,5 @@
 mod orders;
+mod processes;
 mod trials;
 
 use crate::desk::desk;
