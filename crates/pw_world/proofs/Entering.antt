@@ -1,5 +1,5 @@
 -- Which entries are steps, and what `enter` leaves.
-use Rattle.std.proofs.Common.{◌≡◌, ◌∙◌, ◌↔◌, ℕ, ◌<◌, ◌++◌, [], ◌∷◌, Bool, true, Option, Some, None, ap, length, refl, subst, sym}
+use Rattle.std.proofs.Common.{◌≡◌, ◌⊎◌, ◌∙◌, ◌↔◌, ⊎_elim, inl, inr, ℕ, ◌<◌, ◌++◌, [], ◌∷◌, Bool, true, Option, Some, None, ap, length, refl, subst, sym}
 use Rattle.std.proofs.Math.Dec.{eqb}
 use Rattle.std.proofs.lemmas.Bool.{eq-eqb, eqb-true}
 use Rattle.std.specs.Option.{option_eq}
@@ -16,10 +16,18 @@ use Rattle.pw_world_model.proofs.Idle.{reply-read}
 use Rattle.pw_world_model.proofs.Steps.{due-same, is-legal, passes, there}
 use Rattle.pw_world_model.specs.Answers.{FailsOnly, IsSameWorld, LeavesEntered}
 use Rattle.pw_world_model.specs.Pushed.{CanPush, pushed}
-use Rattle.pw_world_model.specs.Seen.{Seen, state_of, sys_of}
+use Rattle.pw_world_model.specs.Seen.{Seen, at_answer, context_of, state_of, sys_of, work_of}
+use Rattle.pw_world_model.specs.Stamps.{state_in}
 use Rattle.pw_world_model.specs.Worlds.{Books, IsWorld}
 use Rattle.pw_world_model.specs.declared.answers.Entered.TheVariants as enter
-use Rattle.pw_paired.specs.Step.{Legal}
+use Rattle.pw_paired.specs.State.{starting}
+use Rattle.pw_paired.specs.Step.{Legal, effect}
+use Rattle.pw_actor_queue.specs.declared.actor.Actor.{Actor}
+use Rattle.pw_actor_queue.specs.declared.actor.Actor.TheVariants as actor
+use Rattle.pw_laws.proofs.RunSteps.{after_from-append}
+use Rattle.pw_unrun.specs.Between.{KeepsWork}
+use Rattle.pw_unrun.proofs.KeptContext.{context-stays}
+use Rattle.pw_world_model.specs.Actors.{IsActor}
 
 -- ---- steps
 
@@ -151,3 +159,42 @@ leaves-so world books entry w failed = (
   record { system = refl; script = refl; limit = refl; out = λ actor. refl; faults = refl },
   (refl, (failed, w.failed failed)),
 )
+
+-- ---- the work of actors
+
+-- where programs ran on alone each actor has its work, or none
+pub works-on : (world new : Seen) → HasRunOn world new → KeepsWork world new
+works-on world new ran actor of same = ran.works actor
+
+-- work is that of terminals and jobs
+work-in : (one two : Seen) → one.kept.terminals ≡ two.kept.terminals → one.kept.jobs ≡ two.kept.jobs
+    → (a : Actor) → work_of one a ≡ work_of two a
+work-in one two terminals jobs (actor.Terminal t) = ap (λ f. at_answer (context_of (f t))) terminals
+work-in one two terminals jobs (actor.Process c i) = ap (λ f. at_answer (f c i)) jobs
+work-in one two terminals jobs (actor.Pair p) = refl
+work-in one two terminals jobs (actor.Class c) = refl
+
+pub works-failed : (world mid new : Seen) → HasRunOn world mid → FailsOnly mid new → KeepsWork world new
+works-failed world mid new ran fails a of same =
+    let is : work_of new a ≡ work_of mid a =
+    work-in new mid (ap (λ (s : Seen). s.kept.terminals) fails.rest) (ap (λ (s : Seen). s.kept.jobs) fails.rest) a in
+    ⊎_elim (λ old. inl (is ∙ old)) (λ none. inr (is ∙ none)) (ran.works a)
+
+pub works-done : (world mid new : Seen) (books : Books) (entry : Event) → HasRunOn world mid → IsWorld mid books
+    → Legal (sys_of mid) (state_of mid) entry → new ≡ pushed mid entry → KeepsWork world new
+works-done world mid new books entry ran w legal is a of same =
+    let system : mid.system ≡ world.system = ap (λ (s : Seen). s.system) ran.rest in
+    let before : state_in (sys_of mid) (state_of mid) a ≡ state_in (sys_of world) (state_of world) a =
+    ap (λ (s : Seen). state_in (sys_of s) (state_of s) a) ran.rest in
+    let behind : state_in (sys_of new) (state_of new) a
+    ≡ state_in (sys_of mid) (effect (sys_of mid) (state_of mid) entry) a =
+    ap (λ (s : Seen). state_in (sys_of s) (state_of s) a) is
+    ∙ ap (λ s. state_in (sys_of mid) s a)
+    (after_from-append (sys_of mid) (starting (sys_of mid)) mid.log (entry ∷ [])) in
+    let work : work_of new a ≡ work_of (pushed mid entry) a = ap (λ (s : Seen). work_of s a) is in
+    ⊎_elim
+    (λ stays. let old = work ∙ ap at_answer stays in
+    ⊎_elim (λ first. inl (old ∙ first)) (λ none. inr (old ∙ none)) (ran.works a))
+    (λ gone. inr (work ∙ ap at_answer gone))
+    (context-stays mid books w entry legal mid.kept a (subst (λ s. IsActor s a) (sym system) of)
+    (before ∙ (same ∙ behind)))

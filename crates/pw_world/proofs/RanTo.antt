@@ -1,5 +1,5 @@
 -- A world in which a program has run on to its next verb.
-use Rattle.std.proofs.Common.{◌≡◌, ◌∙◌, ℕ, ◌<◌, ◌≤◌, Bool, true, false, Option, Some, None, ap, length, refl, subst, sym, arith}
+use Rattle.std.proofs.Common.{◌≡◌, ◌⊎◌, ◌∙◌, ⊎_elim, inl, inr, ℕ, ◌<◌, ◌≤◌, Bool, true, false, Option, Some, None, ap, length, refl, subst, sym, arith}
 use Rattle.std.proofs.lemmas.Option.{slice_get_within}
 use Rattle.std.specs.Prelude.{if◌then◌else◌, slice_get}
 use Rattle.pw_code.specs.declared.context.Context.{Context}
@@ -73,7 +73,8 @@ server-read kept c i read = by (kept.jobs c i) refl
 -- ---- programs have run on
 
 pub ran-none : (world : Seen) → HasRunOn world world
-ran-none world = record { rest = refl; contexts = refl; stay = λ actor none. none }
+ran-none world =
+    record { rest = refl; contexts = refl; stay = λ actor none. none; works = λ actor. inl refl }
 
 pub ran-both : (one two three : Seen) → HasRunOn one two → HasRunOn two three → HasRunOn one three
 ran-both one two three first second = record {
@@ -82,6 +83,9 @@ ran-both one two three first second = record {
       ∙ ap (λ (kept : Kept). record kept { terminals = three.kept.terminals; jobs = three.kept.jobs })
       first.contexts;
   stay = λ actor none. second.stay actor (first.stay actor none);
+  works = λ actor. ⊎_elim
+      (λ same. ⊎_elim (λ old. inl (same ∙ old)) (λ none. inr (same ∙ none)) (first.works actor))
+      (λ none. inr none) (second.works actor);
 }
 
 -- where the context of one actor stands at a verb, each other stands where it stood
@@ -109,6 +113,36 @@ stay-process kept c i work (actor.Terminal t) stands none = none
 stay-process kept c i work (actor.Pair p) stands none = none
 stay-process kept c i work (actor.Class e) stands none = none
 
+-- each other has the work that it had
+abbrev WorksIn : Kept → Kept → Actor → Type 0
+WorksIn kept new a = (at_answer (kept_context new a) ≡ at_answer (kept_context kept a))
+    ⊎ (at_answer (kept_context new a) ≡ None)
+
+works-terminal : (kept : Kept) (t : ℕ) (work : Context) (a : Actor) → work.at_verb ≡ true
+    → WorksIn kept (run_on (actor.Terminal t) (Some work) kept) a
+works-terminal kept t work (actor.Terminal u) stands =
+    upd_elim kept.terminals t (with_ready work (kept.terminals t)) u
+    (λ (own : KeptTerminal). (at_answer (context_of own) ≡ at_answer (context_of (kept.terminals u)))
+    ⊎ (at_answer (context_of own) ≡ None))
+    (λ same. inr (verb-none work stands)) (λ differ. inl refl)
+works-terminal kept t work (actor.Process c i) stands = inl refl
+works-terminal kept t work (actor.Pair p) stands = inl refl
+works-terminal kept t work (actor.Class c) stands = inl refl
+
+works-process : (kept : Kept) (c i : ℕ) (work : Context) (a : Actor) → work.at_verb ≡ true
+    → WorksIn kept (run_on (actor.Process c i) (Some work) kept) a
+works-process kept c i work (actor.Process d j) stands =
+    upd_elim kept.jobs c _ d
+    (λ (jobs : ℕ → Option Context). (at_answer (jobs j) ≡ at_answer (kept.jobs d j)) ⊎ (at_answer (jobs j) ≡ None))
+    (λ same. upd_elim (kept.jobs c) i (Some work) j
+    (λ o. (at_answer o ≡ at_answer (kept.jobs d j)) ⊎ (at_answer o ≡ None))
+    (λ here. inr (verb-none work stands))
+    (λ differ. inl (ap (λ e. at_answer (kept.jobs e j)) (sym same))))
+    (λ differ. inl refl)
+works-process kept c i work (actor.Terminal t) stands = inl refl
+works-process kept c i work (actor.Pair p) stands = inl refl
+works-process kept c i work (actor.Class e) stands = inl refl
+
 pub ran-on : (world : Seen) (a : Actor) (work : Context) → work.at_verb ≡ true
     → HasRunOn world (ran_to a work world)
 ran-on world (actor.Terminal t) work stands =
@@ -116,12 +150,14 @@ ran-on world (actor.Terminal t) work stands =
       rest = refl;
       contexts = refl;
       stay = λ other none. stay-terminal world.kept t work other stands none;
+      works = λ other. works-terminal world.kept t work other stands;
     }
 ran-on world (actor.Process c i) work stands =
     record {
       rest = refl;
       contexts = refl;
       stay = λ other none. stay-process world.kept c i work other stands none;
+      works = λ other. works-process world.kept c i work other stands;
     }
 ran-on world (actor.Pair p) work stands = ran-none world
 ran-on world (actor.Class c) work stands = ran-none world

@@ -1,5 +1,5 @@
 -- The kept context of an actor runs on to its next verb.
-use Rattle.std.specs.Prelude.{◌≡◌, ℕ, ◌<◌, IsSome, Some, None, length}
+use Rattle.std.specs.Prelude.{◌≡◌, ◌⊎◌, ℕ, ◌<◌, IsSome, Some, None, length}
 use Rattle.pw_class.specs.Queue.{at_process}
 use Rattle.pw_class.specs.declared.request.Request.{Request}
 use Rattle.pw_code.specs.declared.context.Context.{Context}
@@ -36,11 +36,13 @@ ran_to actor work world = record world { kept = run_on actor (Some work) world.k
 -- ---- some actors
 
 -- Programs have run on to their next verbs: nothing but contexts of terminals and processes has
--- changed, and whoever stood at a verb still does.
+-- changed, whoever stood at a verb still does, and each actor has the work that it had, or none.
 pub record HasRunOn (world new : Seen) : Type 0 where
   pub rest : new ≡ record world { kept = new.kept }
   pub contexts : new.kept ≡ record world.kept { terminals = new.kept.terminals; jobs = new.kept.jobs }
   pub stay : (actor : Actor) → work_of world actor ≡ None → work_of new actor ≡ None
+  pub works : (actor : Actor)
+      → (work_of new actor ≡ work_of world actor) ⊎ (work_of new actor ≡ None)
 
 -- the server that works for a terminal, if one does, stands at its verb
 abbrev pub IsWorkRead : System → Kept → ℕ → Type 0

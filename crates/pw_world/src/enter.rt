@@ -1,6 +1,7 @@
 //! `enter`: one given entry.
 
 ghost use Rattle.std.specs.Prelude.{◌≡◌, ◌↔◌, ◌<◌, IfOk, IsTrue, OnOk, length};
+ghost use Rattle.pw_unrun.specs.Between.{KeepsWork};
 ghost use Rattle.pw_world_store.specs.Keeps.{kept_in};
 ghost use Rattle.pw_world_state.specs.May.{IsThere};
 ghost use Rattle.pw_world_state.specs.Read.{IsEntryRead};
@@ -31,6 +32,7 @@ impl<D: Disc> World<D> {
         requires { length self.old.ledger.log < self.old.limit }
         ensures comes { EnterComes (seen D.told self.old) event.now result }
         ensures leaves { LeavesEntered (seen D.told self.old) event.now result (seen D.told self.new) }
+        ensures works { KeepsWork (seen D.told self.old) (seen D.told self.new) }
     {
         if self.failed {
             return Entered::DiscFault;
@@ -40,6 +42,7 @@ impl<D: Disc> World<D> {
             Ok(false) => return Entered::NotAStep,
             Err(_) => return Entered::Memory,
         }
+        self.holds();
         match self.push(event) {
             Ok(()) => Entered::Done,
             Err(DiscFault::Failed) => Entered::DiscFault,
