@@ -18,7 +18,7 @@ use Rattle.pw_world_state.specs.Kept.{Kept, KeptTerminal}
 use Rattle.pw_world_state.proofs.Behind.{takes-one}
 use Rattle.pw_onecopy.specs.Update.{upd}
 use Rattle.pw_tmf.specs.Told.{Told}
-use Rattle.pw_tmf.specs.Units.{backed_out, ended}
+use Rattle.pw_tmf.specs.Units.{after_commit, backed_out}
 
 -- an answer that was put into a sound context
 pub takes-is : (system : System) (a : Answer) (old new : Context) → IsSoundContext system old
@@ -54,7 +54,7 @@ pub commit-is : (system : System) (t n : ℕ) (next : Context) (kept : Kept)
     → option_map (answered_with system answer.Ended) (kept.terminals t).ready ≡ Some next
     → kept_commit t n next kept ≡ entered_commit system t n kept
 commit-is system t n next kept e =
-    last-is system t answer.Ended next kept e (ended kept.disc (unit_at kept t n) None)
+    last-is system t answer.Ended next kept e (after_commit kept.disc (unit_at kept t n) None)
 
 pub back-is : (system : System) (t n : ℕ) (next : Context) (kept : Kept)
     → option_map (answered_with system answer.Dropped) (kept.terminals t).ready ≡ Some next
@@ -86,7 +86,7 @@ pub end-send-is : (system : System) (c i t n : ℕ) (reply : List ℕ) (next : C
     → free_process c i (kept_commit_reply t n reply next kept) ≡ replies_last system c i t n reply kept
 end-send-is system c i t n reply next kept e =
     ap (free_process c i)
-    (last-is system t (answer.Replied reply) next kept e (ended kept.disc (unit_at kept t n) (Some reply)))
+    (last-is system t (answer.Replied reply) next kept e (after_commit kept.disc (unit_at kept t n) (Some reply)))
 
 -- which of the two a reply is: outside a transaction it ends the unit
 last-by : (last : ℕ → Kept) (on : Kept) (inside : Bool) (u n : ℕ)

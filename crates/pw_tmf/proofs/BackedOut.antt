@@ -1,5 +1,5 @@
 -- Units that are backed out one after the other.
-use Rattle.std.proofs.Common.{◌≡◌, ◌≢◌, ◌∙◌, sym, ap, subst, Bool, List, [], ◌∷◌, filter}
+use Rattle.std.proofs.Common.{◌≡◌, ◌≢◌, ℕ, ◌∙◌, sym, ap, subst, Bool, List, [], ◌∷◌, filter}
 use Rattle.std.specs.Prelude.{All, slice_set}
 use Rattle.std.proofs.lemmas.List.Elements.{All-head, All-tail, All-nil, All-cons}
 use Rattle.pw_blocks.specs.Blocks.{BlocksState}
@@ -34,13 +34,13 @@ next-open ends goal state u rest units is b = can-open ends (told_of state) u (A
 -- one more is backed out
 pub one-more : (ends : Bool) (goal : Told) (state next : TmfState) (u : unit.Unit) (rest units : List unit.Unit) → units ≡ u ∷ rest → IsBackingOut ends goal state units
     → next.rule ≡ state.rule → next.files ≡ state.files → next.pending ≡ with_images state.pending (unit_at state.slots u.terminal) → next.locks ≡ filter (others u) state.locks
-    → next.slots ≡ slice_set state.slots u.terminal (backed_out_slot ends (slot_at state.slots u.terminal))
+    → next.slots ≡ slice_set state.slots u.terminal (backed_out_slot ends (slot_at state.slots u.terminal)) → next.commits ≡ state.commits
     → IsBackingOut ends goal next rest
-one-more ends goal state next u rest units is b rule files pending locks slots =
+one-more ends goal state next u rest units is b rule files pending locks slots commits =
     let open_u : IsOpen (told_of state) u = next-open ends goal state u rest units is b in
     let apart : HaveDistinctTerminals (u ∷ rest) = subst HaveDistinctTerminals is b.apart in
     let can : All (CanBackOut ends (told_of state)) (u ∷ rest) = subst (All (CanBackOut ends (told_of state))) is b.can in
-    let next_is : next ≡ backing state u open_u.open_unit open_u.here open_u.number open_u.terminal b.ok ends = state-is next state.rule state.files _ _ _ rule files pending locks slots in
+    let next_is : next ≡ backing state u open_u.open_unit open_u.here open_u.number open_u.terminal b.ok ends = state-is next state.rule state.files _ _ _ state.commits rule files pending locks slots commits in
     let told_is : told_of next ≡ backed_out ends (told_of state) u = ap told_of next_is ∙ told-backed_out state u open_u.open_unit open_u.here open_u.number open_u.terminal b.ok ends in
     record {
       told = ap (λ (t : Told). all_backed_out ends t rest) told_is ∙ (ap (all_backed_out ends (told_of state)) (sym is) ∙ b.told);
@@ -51,11 +51,12 @@ one-more ends goal state next u rest units is b rule files pending locks slots =
           (All-tail (CanBackOut ends (told_of state)) u rest can));
     }
   where
-    state-is : (s : TmfState) (rule : LockRule) (files : List BlocksState) (pending : List (List BeforeImage)) (locks : List Lock) (slots : List SlotState)
-        → s.rule ≡ rule → s.files ≡ files → s.pending ≡ pending → s.locks ≡ locks → s.slots ≡ slots → s ≡ record { rule = rule; files = files; pending = pending; locks = locks; slots = slots }
-    state-is s rule files pending locks slots a b c d e =
+    state-is : (s : TmfState) (rule : LockRule) (files : List BlocksState) (pending : List (List BeforeImage)) (locks : List Lock) (slots : List SlotState) (commits : ℕ)
+        → s.rule ≡ rule → s.files ≡ files → s.pending ≡ pending → s.locks ≡ locks → s.slots ≡ slots → s.commits ≡ commits → s ≡ record { rule = rule; files = files; pending = pending; locks = locks; slots = slots; commits = commits }
+    state-is s rule files pending locks slots commits a b c d e f =
         ap (λ x. record s { rule = x }) a
         ∙ (ap (λ x. record s { rule = rule; files = x }) b
         ∙ (ap (λ x. record s { rule = rule; files = files; pending = x }) c
         ∙ (ap (λ x. record s { rule = rule; files = files; pending = pending; locks = x }) d
-        ∙ ap (λ x. record { rule = rule; files = files; pending = pending; locks = locks; slots = x }) e)))
+        ∙ (ap (λ x. record s { rule = rule; files = files; pending = pending; locks = locks; slots = x }) e
+        ∙ ap (λ x. record { rule = rule; files = files; pending = pending; locks = locks; slots = slots; commits = x }) f))))

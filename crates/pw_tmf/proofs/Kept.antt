@@ -27,7 +27,7 @@ taken-back locks lock after is =
 module _ (state : TmfState) (files' : List BlocksState) (pending' : List (List BeforeImage)) (keys : key_lengths files' ≡ key_lengths state.files) (count : length files' ≡ length state.files) where
   -- the state with other files, and other images that are still to be put back
   abbrev pub kept : TmfState
-  kept = record { rule = state.rule; files = files'; pending = pending'; locks = state.locks; slots = state.slots }
+  kept = record { rule = state.rule; files = files'; pending = pending'; locks = state.locks; slots = state.slots; commits = state.commits }
 
   pub told-kept : files_of files' pending' ≡ files_of state.files state.pending → told_of kept ≡ told_of state
   told-kept same = told-is (told_of state) _ _ _ _ _ _ _ refl count keys same refl refl refl

@@ -29,21 +29,21 @@ use Rattle.pw_tmf.specs.Told.{Told, ToldUnit}
 use Rattle.pw_tmf.proofs.Stored.{file-is, get-set, upd-itself}
 
 -- all that is told, by its parts
-abbrev pub told_with : LockRule → ℕ → ℕ → (ℕ → ℕ) → (ℕ → List (List ℕ)) → List Lock → (ℕ → Option ToldUnit) → (ℕ → LastEnded) → ℕ → Told
-told_with rule t c k f l u e z = record { rule = rule; terminals = t; file_count = c; key_length = k; files = f; locks = l; units = u; ended = e; faults = z }
+abbrev pub told_with : LockRule → ℕ → ℕ → (ℕ → ℕ) → (ℕ → List (List ℕ)) → List Lock → (ℕ → Option ToldUnit) → (ℕ → LastEnded) → ℕ → ℕ → Told
+told_with rule t c k f l u e z n = record { rule = rule; terminals = t; file_count = c; key_length = k; files = f; locks = l; units = u; ended = e; faults = z; commits = n }
 
 -- all is told the same where each part is
 pub told-is : (told : Told) (t : ℕ) (c : ℕ) (k : ℕ → ℕ) (f : ℕ → List (List ℕ)) (l : List Lock) (u : ℕ → Option ToldUnit) (e : ℕ → LastEnded)
     → t ≡ told.terminals → c ≡ told.file_count → k ≡ told.key_length → f ≡ told.files → l ≡ told.locks → u ≡ told.units → e ≡ told.ended
-    → told_with told.rule t c k f l u e told.faults ≡ told
+    → told_with told.rule t c k f l u e told.faults told.commits ≡ told
 told-is told t c k f l u e t_is c_is k_is f_is l_is u_is e_is =
-    ap (λ x. told_with told.rule x c k f l u e told.faults) t_is
-    ∙ (ap (λ x. told_with told.rule told.terminals x k f l u e told.faults) c_is
-    ∙ (ap (λ x. told_with told.rule told.terminals told.file_count x f l u e told.faults) k_is
-    ∙ (ap (λ x. told_with told.rule told.terminals told.file_count told.key_length x l u e told.faults) f_is
-    ∙ (ap (λ x. told_with told.rule told.terminals told.file_count told.key_length told.files x u e told.faults) l_is
-    ∙ (ap (λ x. told_with told.rule told.terminals told.file_count told.key_length told.files told.locks x e told.faults) u_is
-    ∙ ap (λ x. told_with told.rule told.terminals told.file_count told.key_length told.files told.locks told.units x told.faults) e_is)))))
+    ap (λ x. told_with told.rule x c k f l u e told.faults told.commits) t_is
+    ∙ (ap (λ x. told_with told.rule told.terminals x k f l u e told.faults told.commits) c_is
+    ∙ (ap (λ x. told_with told.rule told.terminals told.file_count x f l u e told.faults told.commits) k_is
+    ∙ (ap (λ x. told_with told.rule told.terminals told.file_count told.key_length x l u e told.faults told.commits) f_is
+    ∙ (ap (λ x. told_with told.rule told.terminals told.file_count told.key_length told.files x u e told.faults told.commits) l_is
+    ∙ (ap (λ x. told_with told.rule told.terminals told.file_count told.key_length told.files told.locks x e told.faults told.commits) u_is
+    ∙ ap (λ x. told_with told.rule told.terminals told.file_count told.key_length told.files told.locks told.units x told.faults told.commits) e_is)))))
 
 -- where nothing is to be put back, the files are as they are stored
 pub settled-files : (files : List BlocksState) (pending : List (List BeforeImage)) → pending ≡ [] → files_of files pending ≡ stored files
@@ -74,7 +74,7 @@ module _ (state : TmfState) (u : unit.Unit) (call : FileCall) (files' : List Blo
     (lt : u.terminal < length state.slots) (noted : slot' ≡ with_unit (with_image (key_lengths state.files call.file) (stored state.files call.file) u.terminal call) (slot_at state.slots u.terminal)) where
   -- the state behind it
   abbrev pub behind : TmfState
-  behind = record { rule = state.rule; files = files'; pending = state.pending; locks = state.locks ++ lock ∷ []; slots = slice_set state.slots u.terminal slot' }
+  behind = record { rule = state.rule; files = files'; pending = state.pending; locks = state.locks ++ lock ∷ []; slots = slice_set state.slots u.terminal slot'; commits = state.commits }
 
   pub operated-told : stored files' ≡ upd (stored state.files) call.file (records_behind (key_lengths state.files call.file) (stored state.files call.file) call)
       → lock_now (told_of state) u call ≡ lock → told_of behind ≡ after_operation (told_of state) u call

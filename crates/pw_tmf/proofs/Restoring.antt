@@ -22,7 +22,7 @@ module _ (state : TmfState) (settled : state.pending ≡ []) where
   pub restored-told : (files' : List BlocksState) (f : ℕ) (key : List ℕ) (content : Option (List ℕ))
       → key_lengths files' ≡ key_lengths state.files → length files' ≡ length state.files
       → stored files' ≡ upd (stored state.files) f (put_back (key_lengths state.files f) (stored state.files f) key content)
-      → told_of (record { rule = state.rule; files = files'; pending = state.pending; locks = state.locks; slots = state.slots }) ≡ restored (told_of state) f key content
+      → told_of (record { rule = state.rule; files = files'; pending = state.pending; locks = state.locks; slots = state.slots; commits = state.commits }) ≡ restored (told_of state) f key content
   restored-told files' f key content keys count put =
       told-is (restored (told_of state) f key content) _ _ _ _ _ _ _ refl count keys
       (settled-files files' state.pending settled

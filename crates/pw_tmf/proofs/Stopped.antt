@@ -67,9 +67,9 @@ module _ (state : TmfState) (u : unit.Unit) (own : ToldUnit) (here : unit_at sta
         subst (λ (g : ℕ → Option ToldUnit). HasNumber held.unit.number (g held.unit.terminal)) (sym (get-set (λ (x : SlotState). x.open_unit) state.slots u.terminal slot' no_slot lt))
         (subst (HasNumber held.unit.number) (sym (upd-other (unit_at state.slots) u.terminal slot'.open_unit held.unit.terminal apart)) h)
 
-    pub IsTmf-stopped : images_of slot'.open_unit ≡ [] → (pending' : List (List BeforeImage)) → All (AreImages (key_lengths state.files) (length state.files)) pending'
-        → IsTmf (record { rule = state.rule; files = state.files; pending = pending'; locks = filter (others u) state.locks; slots = slice_set state.slots u.terminal slot' })
-    IsTmf-stopped none pending' fit =
+    pub IsTmf-stopped : images_of slot'.open_unit ≡ [] → (pending' : List (List BeforeImage)) (commits : ℕ) → All (AreImages (key_lengths state.files) (length state.files)) pending'
+        → IsTmf (record { rule = state.rule; files = state.files; pending = pending'; locks = filter (others u) state.locks; slots = slice_set state.slots u.terminal slot'; commits = commits })
+    IsTmf-stopped none pending' commits fit =
         let Q : SlotState → Type 0 = λ x. AreImages (key_lengths state.files) (length state.files) (images_of x.open_unit) in
         record {
           locks = All-passed (IsLockOfOpenUnit state.slots) (IsLockOfOpenUnit (slice_set state.slots u.terminal slot')) (others u) held-stays state.locks ok.locks;
@@ -78,12 +78,12 @@ module _ (state : TmfState) (u : unit.Unit) (own : ToldUnit) (here : unit_at sta
         }
 
   -- the unit ends
-  pub told-ended : (reply : Option (List ℕ)) (pending' : List (List BeforeImage)) (told : Told) → told.rule ≡ state.rule → told.terminals ≡ length state.slots → told.file_count ≡ length state.files
+  pub told-ended : (reply : Option (List ℕ)) (pending' : List (List BeforeImage)) (commits : ℕ) (told : Told) → told.rule ≡ state.rule → told.terminals ≡ length state.slots → told.file_count ≡ length state.files
       → told.key_length ≡ key_lengths state.files → told.files ≡ files_of state.files pending' → told.locks ≡ state.locks → told.units ≡ unit_at state.slots → told.ended ≡ (λ t. (slot_at state.slots t).ended)
-      → told_of (record { rule = told.rule; files = state.files; pending = pending'; locks = filter (others u) state.locks; slots = slice_set state.slots u.terminal (ended_slot reply (slot_at state.slots u.terminal)) })
-      ≡ record (ended told u reply) { faults = 0 }
-  told-ended reply pending' told rule terminals count keys files locks units last =
-      told-is (record (ended told u reply) { faults = 0 }) _ _ _ _ _ _ _
+      → told_of (record { rule = told.rule; files = state.files; pending = pending'; locks = filter (others u) state.locks; slots = slice_set state.slots u.terminal (ended_slot reply (slot_at state.slots u.terminal)); commits = commits })
+      ≡ record (ended told u reply) { faults = 0; commits = commits }
+  told-ended reply pending' commits told rule terminals count keys files locks units last =
+      told-is (record (ended told u reply) { faults = 0; commits = commits }) _ _ _ _ _ _ _
       (length-set state.slots u.terminal (ended_slot reply (slot_at state.slots u.terminal)) ∙ sym terminals)
       (sym count) (sym keys) (sym files)
       (same-locks ∙ ap (without_locks (only u.terminal)) (sym locks))
@@ -96,7 +96,7 @@ module _ (state : TmfState) (u : unit.Unit) (own : ToldUnit) (here : unit_at sta
   -- its attempt is over
   pub told-over : (pending' : List (List BeforeImage)) (told : Told) → told.rule ≡ state.rule → told.terminals ≡ length state.slots → told.file_count ≡ length state.files
       → told.key_length ≡ key_lengths state.files → told.files ≡ files_of state.files pending' → told.locks ≡ state.locks → told.units ≡ unit_at state.slots → told.ended ≡ (λ t. (slot_at state.slots t).ended)
-      → told_of (record { rule = told.rule; files = state.files; pending = pending'; locks = filter (others u) state.locks; slots = slice_set state.slots u.terminal (backed_out_slot false (slot_at state.slots u.terminal)) })
+      → told_of (record { rule = told.rule; files = state.files; pending = pending'; locks = filter (others u) state.locks; slots = slice_set state.slots u.terminal (backed_out_slot false (slot_at state.slots u.terminal)); commits = told.commits })
       ≡ record (attempt_over told u) { faults = 0 }
   told-over pending' told rule terminals count keys files locks units last =
       told-is (record (attempt_over told u) { faults = 0 }) _ _ _ _ _ _ _
@@ -124,10 +124,11 @@ module _ (state : TmfState) (u : unit.Unit) (own : ToldUnit) (here : unit_at sta
     pending = with_images state.pending (unit_at state.slots u.terminal);
     locks = filter (others u) state.locks;
     slots = slice_set state.slots u.terminal (backed_out_slot ends (slot_at state.slots u.terminal));
+    commits = state.commits;
   }
 
   pub told-backed_out : (ends : Bool) → told_of (backing ends) ≡ backed_out ends (told_of state) u
-  told-backed_out true = told-ended None (with_images state.pending (unit_at state.slots u.terminal)) (undone (told_of state) u) refl refl refl refl (sym files-undone) refl refl refl
+  told-backed_out true = told-ended None (with_images state.pending (unit_at state.slots u.terminal)) state.commits (undone (told_of state) u) refl refl refl refl (sym files-undone) refl refl refl
   told-backed_out false = told-over (with_images state.pending (unit_at state.slots u.terminal)) (undone (told_of state) u) refl refl refl refl (sym files-undone) refl refl refl
 
   no-images : (ends : Bool) → images_of (backed_out_slot ends (slot_at state.slots u.terminal)).open_unit ≡ []
@@ -139,7 +140,7 @@ module _ (state : TmfState) (u : unit.Unit) (own : ToldUnit) (here : unit_at sta
       let P : List BeforeImage → Type 0 = AreImages (key_lengths state.files) (length state.files) in
       let Q : SlotState → Type 0 = λ x. P (images_of x.open_unit) in
       let own_fit : P own.before = subst (λ (o : Option ToldUnit). P (images_of o)) here (All-get_or Q state.slots u.terminal no_slot lt ok.images) in
-      IsTmf-stopped (backed_out_slot ends (slot_at state.slots u.terminal)) (no-images ends) (with_images state.pending (unit_at state.slots u.terminal))
+      IsTmf-stopped (backed_out_slot ends (slot_at state.slots u.terminal)) (no-images ends) (with_images state.pending (unit_at state.slots u.terminal)) state.commits
       (subst (λ (o : Option ToldUnit). All P (with_images state.pending o)) (sym here) (All-push P state.pending own.before ok.pending own_fit))
 
 -- another unit may be backed out as before

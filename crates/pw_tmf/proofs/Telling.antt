@@ -23,7 +23,7 @@ use Rattle.pw_tmf.specs.Committed.{images_of}
 use Rattle.pw_tmf.specs.Operation.{after_operation, with_image}
 use Rattle.pw_tmf.specs.Tells.{Tells, as_told, begun_as, images_by, unit_begun}
 use Rattle.pw_tmf.specs.Told.{ToldUnit, Told}
-use Rattle.pw_tmf.specs.Units.{backed_out, begun, ended, opened, stopped}
+use Rattle.pw_tmf.specs.Units.{after_commit, backed_out, begun, opened, stopped}
 
 pub only-same : (t : ℕ) → only t t ≡ true
 only-same t = grind (arith, nat_tests)
@@ -186,7 +186,7 @@ left-idle sys state told t h b u =
     (λ other none. others-left t u state.before other ∙ h.idle u none)
 
 pub tells-commit : (sys : Behaviour) (state : State) (told : Told) (unit : unit.Unit) (reply : Option (List ℕ)) → Tells sys state told
-    → Tells sys (commit_unit unit.terminal unit.number reply state) (ended told unit reply)
+    → Tells sys (commit_unit unit.terminal unit.number reply state) (after_commit told unit reply)
 tells-commit sys state told unit reply h = record {
   rule = h.rule;
   keys = h.keys;

@@ -41,6 +41,7 @@ told_at_start system = record {
   units = λ t. None;
   ended = λ t. record { number = 0; reply = None };
   faults = 0;
+  commits = 0;
 }
 
 -- the same of a file in blocks

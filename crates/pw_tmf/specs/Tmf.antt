@@ -12,13 +12,15 @@ use Rattle.pw_tmf.specs.Slots.{SlotState}
 use Rattle.pw_tmf.specs.Told.{ToldUnit, Told}
 
 -- The files as they lie in their blocks, and the before-images that are still to be put back there, in
--- lists one after another; the locks in the order in which they were added; the units of each terminal.
+-- lists one after another; the locks in the order in which they were added; the units of each terminal; how many have
+-- committed.
 pub record TmfState : Type 0 where
   pub rule : LockRule
   pub files : List BlocksState
   pub pending : List (List BeforeImage)
   pub locks : List Lock
   pub slots : List SlotState
+  pub commits : ℕ
 
 -- a terminal and a file that are not there
 abbrev pub no_slot : SlotState
@@ -68,6 +70,7 @@ told_of state = record {
   units = unit_at state.slots;
   ended = λ t. (slot_at state.slots t).ended;
   faults = 0;
+  commits = state.commits;
 }
 
 -- the lists with the before-images of an open unit behind them

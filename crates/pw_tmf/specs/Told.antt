@@ -29,3 +29,5 @@ pub record Told : Type 0 where
   pub ended : ℕ → LastEnded
   -- the faults so far
   pub faults : ℕ
+  -- how many units have committed
+  pub commits : ℕ

@@ -1,6 +1,7 @@
 -- How units begin, end and are backed out.
 use Rattle.std.specs.Prelude.{◌≡◌, ◌≢◌, ℕ, ◌≤◌, ◌<◌, Bool, true, false, List, [], ◌∷◌, All, Option, Some, None}
 use Rattle.std.specs.Option.{option_map}
+use Rattle.pw_base.specs.Outside.{counted}
 use Rattle.pw_code.specs.declared.unit.Unit as unit
 use Rattle.pw_onecopy.specs.Update.{upd}
 use Rattle.pw_paired.specs.Units.{only, restored_files, without_locks}
@@ -49,6 +50,10 @@ ended told unit reply = record told {
   units = upd told.units unit.terminal None;
   ended = upd told.ended unit.terminal (record { number = unit.number; reply = reply });
 }
+
+-- a unit commits: it ends, and is counted
+abbrev pub after_commit : Told → unit.Unit → Option (List ℕ) → Told
+after_commit told unit reply = record (ended told unit reply) { commits = counted told.commits }
 
 -- a unit between two attempts
 abbrev pub stopped : ToldUnit → ToldUnit

@@ -4,7 +4,7 @@ ghost use Rattle.pw_tmf.specs.Answers.{Foresees, Leaves, Operates, ended_unit};
 ghost use Rattle.pw_tmf.specs.Committed.{committed};
 ghost use Rattle.pw_tmf.specs.Operation.{IsCall, awaits};
 ghost use Rattle.pw_tmf.specs.Told.{Told};
-ghost use Rattle.pw_tmf.specs.Units.{HaveDistinctTerminals, CanBackOut, CanBegin, IsOpen, IsRunning, all_backed_out, begun, ended};
+ghost use Rattle.pw_tmf.specs.Units.{HaveDistinctTerminals, CanBackOut, CanBegin, IsOpen, IsRunning, after_commit, all_backed_out, begun};
 
 use crate::answer::{DiscFault, Ended, FileAnswer, Foreseen};
 use pw_base::bytes::Bytes;
@@ -32,10 +32,10 @@ pub trait Disc: Send + Drop {
         requires call { IsCall (told self.old) call.now }
         ensures { Operates result (told self.old) unit.now call.now (told self.new) };
 
-    /// Ends a unit with its changes, and keeps its reply, if there is one.
+    /// Ends a unit with its changes, counts it, and keeps its reply, if there is one.
     fn commit(&mut self, unit: &Unit, reply: Option<Bytes>) -> Result<(), DiscFault>
         requires { IsRunning (told self.old) unit.now }
-        ensures ok { OnOk result (told self.new ≡ ended (told self.old) unit.now reply) }
+        ensures ok { OnOk result (told self.new ≡ after_commit (told self.old) unit.now reply) }
         ensures err { IfErr result (λ fault. Leaves fault (told self.old) (told self.new)) };
 
     /// Puts back the changes of units, all of them or none, and releases their locks. The units end where `ends` says

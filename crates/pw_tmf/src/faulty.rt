@@ -2,7 +2,7 @@ ghost use Rattle.std.specs.Prelude.{◌≡◌, ◌≢◌, [], true, All, Err, If
 ghost use Rattle.pw_tmf.specs.Answers.{Leaves, Operates};
 ghost use Rattle.pw_tmf.specs.Faulty.{call_counted, fails_next, told_by};
 ghost use Rattle.pw_tmf.specs.Operation.{IsCall};
-ghost use Rattle.pw_tmf.specs.Units.{HaveDistinctTerminals, CanBackOut, CanBegin, IsRunning, all_backed_out, begun, ended};
+ghost use Rattle.pw_tmf.specs.Units.{HaveDistinctTerminals, CanBackOut, CanBegin, IsRunning, after_commit, all_backed_out, begun};
 
 use crate::answer::{DiscFault, Ended, FileAnswer, Foreseen};
 use crate::disc::Disc;
@@ -97,7 +97,7 @@ impl<D: Disc> Disc for Faulty<D> {
 
     fn commit(&mut self, unit: &Unit, reply: Option<Bytes>) -> Result<(), DiscFault>
         requires { IsRunning (told_by D.told self.old) unit.now }
-        ensures ok { OnOk result (told_by D.told self.new ≡ ended (told_by D.told self.old) unit.now reply) }
+        ensures ok { OnOk result (told_by D.told self.new ≡ after_commit (told_by D.told self.old) unit.now reply) }
         ensures err { IfErr result (λ fault. Leaves fault (told_by D.told self.old) (told_by D.told self.new)) }
         ensures calls { self.new.calls ≡ call_counted self.old.calls }
         ensures failed { fails_next self.old.calls ≡ true

@@ -15,7 +15,7 @@ ghost use Rattle.pw_tmf.specs.Leaving.{AreSingle, CanLeave, HaveOpen, IsKeyed, o
 ghost use Rattle.pw_tmf.specs.Operation.{after_operation};
 ghost use Rattle.pw_tmf.specs.Tells.{Tells, begun_as, unit_begun};
 ghost use Rattle.pw_tmf.specs.Told.{Told};
-ghost use Rattle.pw_tmf.specs.Units.{HaveDistinctTerminals, CanBackOut, all_backed_out, backed_out, begun, ended};
+ghost use Rattle.pw_tmf.specs.Units.{HaveDistinctTerminals, CanBackOut, after_commit, all_backed_out, backed_out, begun};
 
 /// A disc that tells the files, locks and units of a state of the paired system tells them behind an entry too, once the
 /// entry's call is made: BEGIN begins the unit, FILE operates, COMMIT and the REPLY that ends one SEND commit, BACK
@@ -30,7 +30,7 @@ pub fn told_laws()
         → Tells sys (do_operation sys c i job call state) (after_operation told (unit_of state job.request) call) }
     ensures commits { (sys : Behaviour) (state : State) (told : Told) (unit : Unit) (reply : Option (List ℕ))
         → Tells sys state told
-        → Tells sys (commit_unit unit.terminal unit.number reply state) (ended told unit reply) }
+        → Tells sys (commit_unit unit.terminal unit.number reply state) (after_commit told unit reply) }
     ensures drops { (sys : Behaviour) (state : State) (told : Told) (unit : Unit) → Tells sys state told
         → Tells sys (drop_unit sys unit.terminal unit.number state) (backed_out true told unit) }
     ensures restarts { (sys : Behaviour) (state : State) (told : Told) (unit : Unit) (cause : Cause) → Tells sys state told

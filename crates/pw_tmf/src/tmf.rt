@@ -6,7 +6,7 @@ ghost use Rattle.pw_tmf.specs.Operation.{IsCall};
 ghost use Rattle.pw_tmf.specs.Restored.{changes_of, restored};
 ghost use Rattle.pw_tmf.specs.Starting.{told_at_start};
 ghost use Rattle.pw_tmf.specs.Tmf.{IsImage, told_of};
-ghost use Rattle.pw_tmf.specs.Units.{HaveDistinctTerminals, CanBackOut, IsRunning, all_backed_out, ended};
+ghost use Rattle.pw_tmf.specs.Units.{HaveDistinctTerminals, CanBackOut, IsRunning, after_commit, all_backed_out};
 
 use crate::answer::{ChangedKey, DiscFault, Ended, FileAnswer, Foreseen};
 use crate::committed::put_all_back;
@@ -43,6 +43,8 @@ pub struct Tmf {
     pending: Vec<Images>,
     book: LockBook,
     slots: Vec<Slot>,
+    /// How many units have committed. The count stands still at `u64::MAX`.
+    commits: u64,
 }
 
 impl Model for Tmf {
@@ -57,6 +59,7 @@ impl Model for Tmf {
       pending = reverse tmf.pending.items;
       locks = tmf.book;
       slots = tmf.slots.items;
+      commits = tmf.commits;
     } };
 
     ghost invariant = { λ tmf. IsTmf (record {
@@ -65,6 +68,7 @@ impl Model for Tmf {
       pending = reverse tmf.pending.items;
       locks = tmf.book;
       slots = tmf.slots.items;
+      commits = tmf.commits;
     }) };
 }
 
@@ -80,6 +84,7 @@ impl Tmf {
             pending: Vec::new(alloc),
             book: LockBook::new(alloc)?,
             slots: slots_of(alloc, system.terminals.len())?,
+            commits: 0,
         })
     }
 
@@ -190,6 +195,7 @@ impl Tmf {
             pending: copy_lists(alloc, &self.pending)?,
             book: self.book.copy(alloc)?,
             slots: copy_slots(alloc, &self.slots)?,
+            commits: self.commits,
         })
     }
 
@@ -225,11 +231,12 @@ impl Disc for Tmf {
     fn commit(&mut self, unit: &Unit, reply: Option<Bytes>) -> Result<(), DiscFault>
         requires { IsRunning (told_of self.old) unit.now }
         ensures answer { result ≡ Ok tt }
-        ensures ok { OnOk result (told_of self.new ≡ ended (told_of self.old) unit.now reply) }
+        ensures ok { OnOk result (told_of self.new ≡ after_commit (told_of self.old) unit.now reply) }
         ensures err { IfErr result (λ fault. Leaves fault (told_of self.old) (told_of self.new)) }
     {
         self.book.release(unit);
         self.slots[unit.terminal as usize].end(reply);
+        self.commits = self.commits.saturating_add(1);
         Ok(())
     }
 

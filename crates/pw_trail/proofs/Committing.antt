@@ -26,7 +26,7 @@ use Rattle.pw_tmf.specs.Restored.{changed_in, changes_of}
 use Rattle.pw_tmf.specs.Starting.{key_of_file}
 use Rattle.pw_tmf.specs.Tells.{images_by}
 use Rattle.pw_tmf.specs.Told.{Told}
-use Rattle.pw_tmf.specs.Units.{ended}
+use Rattle.pw_tmf.specs.Units.{after_commit}
 use Rattle.pw_tmf.proofs.Reversed.{All-reverse, list_any-reverse}
 use Rattle.pw_tmf.proofs.Together.{images-told}
 use Rattle.pw_trail.specs.Body.{fits}
@@ -191,7 +191,7 @@ module _ (told : Told) (o : IsOrderly told) (t : ℕ) where
       ∙ ap (λ (g : ℕ → List (List ℕ)). changes-to k g mine) o.tells.files
 
   -- a unit of the terminal commits: its changes lead to the committed records behind it
-  pub leads-on : (u : unit.Unit) (reply : Option (List ℕ)) → u.terminal ≡ t → with_changes told.key_length (committed told) (map change_to (changes_of told t)) ≡ committed (ended told u reply)
+  pub leads-on : (u : unit.Unit) (reply : Option (List ℕ)) → u.terminal ≡ t → with_changes told.key_length (committed told) (map change_to (changes_of told t)) ≡ committed (after_commit told u reply)
   leads-on u reply is =
       ap (λ (cs : List Change). with_changes told.key_length (committed told) cs) changes-are
       ∙ ap (λ (l : ℕ → ℕ). with_changes l (committed told) (changes-to k now mine)) o.tells.keys
@@ -211,10 +211,10 @@ read-more files (Ok units) own before after is made =
 
 module _ (files : List FileInfo) (told : Told) (of : HasFiles files told) (o : IsOrderly told) (u : unit.Unit) (reply : Option (List ℕ)) (bytes : List ℕ) (leads : LeadsTo files told bytes) where
   -- with the record of the unit
-  pub with-record : (image : List ℕ) → units_in files image ≡ with_last (units_in files bytes) (record_of told u) → LeadsTo files (ended told u reply) image
+  pub with-record : (image : List ℕ) → units_in files image ≡ with_last (units_in files bytes) (record_of told u) → LeadsTo files (after_commit told u reply) image
   with-record image is =
       ap (files_read files) is
-      ∙ read-more files (units_in files bytes) (record_of told u) (committed told) (committed (ended told u reply)) leads
+      ∙ read-more files (units_in files bytes) (record_of told u) (committed told) (committed (after_commit told u reply)) leads
       (ap (λ (l : ℕ → ℕ). with_changes l (committed told) (record_of told u).changes) (sym of.keys) ∙ leads-on told o u.terminal u reply refl)
 
 -- ---- each change is of one of the files

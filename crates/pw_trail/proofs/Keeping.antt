@@ -13,7 +13,7 @@ use Rattle.pw_tmf.specs.Faulty.{with_faults}
 use Rattle.pw_tmf.specs.Operation.{IsCall, after_operation}
 use Rattle.pw_tmf.specs.Restored.{changes_of}
 use Rattle.pw_tmf.specs.Told.{Told}
-use Rattle.pw_tmf.specs.Units.{CanBegin, IsRunning, all_backed_out, backed_out, begun, ended}
+use Rattle.pw_tmf.specs.Units.{CanBegin, IsRunning, after_commit, all_backed_out, backed_out, begun}
 use Rattle.pw_tmf.specs.declared.answer.ChangedKey.{ChangedKey}
 use Rattle.pw_tmf.specs.declared.answer.DiscFault.{DiscFault}
 use Rattle.pw_tmf.specs.declared.answer.DiscFault.TheVariants as fault
@@ -101,10 +101,10 @@ keeps-operate answer.Failed told next u call o running is_call none done = nothi
 keeps-operate answer.Memory told next u call o running is_call none done = nothing told next o done
 
 -- a commit
-pub keeps-commit : (told next : Told) (u : unit.Unit) (reply : Option (List ℕ)) → Orderly told → next ≡ ended told u reply → Orderly next
+pub keeps-commit : (told next : Told) (u : unit.Unit) (reply : Option (List ℕ)) → Orderly told → next ≡ after_commit told u reply → Orderly next
 keeps-commit told next u reply o is = subst Orderly (sym is) (∥∥₁_map o (λ own. ends told own u reply))
 
-pub commit-files : (fs : List FileInfo) (told next : Told) (u : unit.Unit) (reply : Option (List ℕ)) → HasFiles fs told → next ≡ ended told u reply → HasFiles fs next
+pub commit-files : (fs : List FileInfo) (told next : Told) (u : unit.Unit) (reply : Option (List ℕ)) → HasFiles fs told → next ≡ after_commit told u reply → HasFiles fs next
 commit-files fs told next u reply h is = subst (HasFiles fs) (sym is) (record { count = h.count; keys = h.keys })
 
 pub record-fits : (files : List FileInfo) (told : Told) → HasFiles files told → Orderly told → (t : ℕ) → All (λ change. fits files change ≡ true) (map change_to (changes_of told t))
@@ -117,9 +117,9 @@ record-is told u made changed is changes = is ∙ ap (λ cs. record { terminal =
 
 module _ (files : List FileInfo) (told : Told) (of : HasFiles files told) (o : Orderly told) (u : unit.Unit) (reply : Option (List ℕ)) (bytes : List ℕ) (leads : LeadsTo files told bytes)
     (made : UnitChanges) (made_is : made ≡ record_of told u) where
-  pub recorded : (image : List ℕ) → units_in files image ≡ with_last (units_in files bytes) made → LeadsTo files (ended told u reply) image
+  pub recorded : (image : List ℕ) → units_in files image ≡ with_last (units_in files bytes) made → LeadsTo files (after_commit told u reply) image
   recorded image is =
-      ∥∥₁_elim o (leads-prop (trail_files files image) (Ok (committed (ended told u reply))))
+      ∥∥₁_elim o (leads-prop (trail_files files image) (Ok (committed (after_commit told u reply))))
       (λ own. with-record files told of own u reply bytes leads image (is ∙ ap (with_last (units_in files bytes)) made_is))
 
   pub recorded-or-not : (image : List ℕ) → (units_in files image ≡ units_in files bytes) ⊎ (units_in files image ≡ with_last (units_in files bytes) made) → LeadsToEither files told u reply image

@@ -31,7 +31,7 @@ use Rattle.pw_tmf.specs.Leaving.{HasKey, IsKeyed}
 use Rattle.pw_tmf.specs.Operation.{IsCall, after_operation, lock_now}
 use Rattle.pw_tmf.specs.Tells.{Tells, as_told, begun_as, images_by, unit_begun}
 use Rattle.pw_tmf.specs.Told.{Told, ToldUnit}
-use Rattle.pw_tmf.specs.Units.{CanBegin, IsRunning, MayBegin, all_backed_out, backed_out, begun, ended}
+use Rattle.pw_tmf.specs.Units.{CanBegin, IsRunning, MayBegin, after_commit, all_backed_out, backed_out, begun}
 use Rattle.pw_tmf.proofs.Telling.{tells-begin, tells-commit, tells-drop, tells-operate, tells-restart}
 use Rattle.pw_tmf.proofs.Together.{committed-told}
 use Rattle.pw_laws.proofs.Tests.{all-filter}
@@ -228,7 +228,7 @@ module _ (told : Told) (o : IsOrderly told) where
   places-left t = all-filter (IsImagePlaced told.terminals told.file_count o.sys.key_length) (λ image. not (only t image.terminal)) o.state.before o.places
 
   -- a unit commits
-  pub ends : (u : unit.Unit) (reply : Option (List ℕ)) → IsOrderly (ended told u reply)
+  pub ends : (u : unit.Unit) (reply : Option (List ℕ)) → IsOrderly (after_commit told u reply)
   ends u reply =
       let next : State = commit_unit u.terminal u.number reply o.state in
       let ok : RecordsOk o.sys next.files next.before next.locks = ended-ok o.sys o.state.files o.state.before o.state.locks (in-order told o) (only u.terminal) in
@@ -245,9 +245,9 @@ module _ (told : Told) (o : IsOrderly told) where
 
   -- what is committed then
   pub ended-committed : (u : unit.Unit) (reply : Option (List ℕ))
-      → restored_files o.sys.key_length (filter (λ image. not (only u.terminal image.terminal)) o.state.before) o.state.files ≡ committed (ended told u reply)
+      → restored_files o.sys.key_length (filter (λ image. not (only u.terminal image.terminal)) o.state.before) o.state.files ≡ committed (after_commit told u reply)
   unfolding ends
-  ended-committed u reply = sym (committed-are (ended told u reply) (ends u reply))
+  ended-committed u reply = sym (committed-are (after_commit told u reply) (ends u reply))
 
   -- a unit is backed out
   pub backs-out : (leaves : Bool) (u : unit.Unit) → Stays told (backed_out leaves told u)

@@ -5,7 +5,7 @@ use Rattle.pw_code.specs.declared.unit.Unit as unit
 use Rattle.pw_tmf.specs.Committed.{committed}
 use Rattle.pw_tmf.specs.Restored.{changes_of}
 use Rattle.pw_tmf.specs.Told.{Told}
-use Rattle.pw_tmf.specs.Units.{ended}
+use Rattle.pw_tmf.specs.Units.{after_commit}
 use Rattle.pw_tmf.specs.declared.answer.ChangedKey.{ChangedKey}
 use Rattle.pw_trail.specs.Files.{trail_files}
 use Rattle.pw_trail.specs.declared.changes.Change.{Change}
@@ -35,4 +35,4 @@ LeadsTo files told bytes = trail_files files bytes ≡ Ok (committed told)
 
 -- The bytes lead to the committed records from before a unit commits, or to those behind it.
 abbrev pub LeadsToEither : List FileInfo → Told → unit.Unit → Option (List ℕ) → List ℕ → Type 0
-LeadsToEither files told own reply bytes = LeadsTo files told bytes ⊎ LeadsTo files (ended told own reply) bytes
+LeadsToEither files told own reply bytes = LeadsTo files told bytes ⊎ LeadsTo files (after_commit told own reply) bytes

@@ -7,7 +7,7 @@ ghost use Rattle.pw_tmf.specs.Committed.{committed};
 ghost use Rattle.pw_tmf.specs.Faulty.{with_faults};
 ghost use Rattle.pw_tmf.specs.Operation.{IsCall};
 ghost use Rattle.pw_tmf.specs.Tmf.{told_of};
-ghost use Rattle.pw_tmf.specs.Units.{HaveDistinctTerminals, CanBackOut, CanBegin, IsRunning, all_backed_out, begun, ended};
+ghost use Rattle.pw_tmf.specs.Units.{HaveDistinctTerminals, CanBackOut, CanBegin, IsRunning, after_commit, all_backed_out, begun};
 ghost use Rattle.pw_trail.specs.Calls.{Commits, DiskHoldsUnits, moment};
 ghost use Rattle.pw_trail.specs.Committing.{LeadsTo, LeadsToEither, change_to, record_of};
 ghost use Rattle.pw_trail.specs.Format.{units_in};
@@ -180,13 +180,13 @@ impl<S: Synced + Send> Disc for Trail<S> {
     fn commit(&mut self, unit: &Unit, reply: Option<Bytes>) -> Result<(), DiscFault>
         requires { IsRunning (with_faults self.old.faults (told_of self.old.tmf)) unit.now }
         ensures ok { OnOk result (with_faults self.new.faults (told_of self.new.tmf)
-            ≡ ended (with_faults self.old.faults (told_of self.old.tmf)) unit.now reply) }
+            ≡ after_commit (with_faults self.old.faults (told_of self.old.tmf)) unit.now reply) }
         ensures err { IfErr result (λ fault. Leaves fault (with_faults self.old.faults (told_of self.old.tmf))
             (with_faults self.new.faults (told_of self.new.tmf))) }
         ensures images { self.old.log.is_broken ≡ false → (image : List ℕ) → S.images self.new.log.disk image
             → LeadsToEither self.old.log.files (told_of self.old.tmf) unit.now reply image }
         ensures stored { OnOk result ((image : List ℕ) → S.images self.new.log.disk image
-            → LeadsTo self.old.log.files (ended (told_of self.old.tmf) unit.now reply) image) }
+            → LeadsTo self.old.log.files (after_commit (told_of self.old.tmf) unit.now reply) image) }
         ensures commits { Commits S.held S.images
             (moment self.old.log.files self.old.log.disk self.old.log.is_broken)
             (record_of (told_of self.old.tmf) unit.now) result

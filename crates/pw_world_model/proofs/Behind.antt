@@ -2,7 +2,7 @@
 use Rattle.std.proofs.Common.{◌≡◌, ℕ, ◌+◌, ◌<◌, ◌≤◌, List, [], ◌∷◌, ◌++◌, map, length, None, Bool, true, false, refl, sym, ap, subst, ◌∙◌, ◌==◌, ◌&&◌, ⊎_elim, length-append, arith}
 use Rattle.std.specs.Prelude.{◌-◌, ◌^◌, IsSome, min, if◌then◌else◌}
 use Rattle.std.proofs.lemmas.Bool.{cases_eq, ne_eqb}
-use Rattle.pw_base.specs.Outside.{Rose}
+use Rattle.pw_base.specs.Outside.{Rose, counted}
 use Rattle.pw_class.specs.Queue.{works_for}
 use Rattle.pw_event.specs.declared.event.Ending.{Ending}
 use Rattle.pw_event.specs.declared.event.Ending.TheVariants.{Stopped, NoEntries, Fault, Suspended, Lost}
@@ -22,6 +22,7 @@ use Rattle.pw_world_state.proofs.Needed as needed
 use Rattle.pw_world_state.proofs.Readings as readings
 use Rattle.pw_world_model.specs.Actors.{IsActor}
 use Rattle.pw_world_state.specs.Members.{members_of}
+use Rattle.pw_world_model.specs.Commits.{commits_in}
 use Rattle.pw_world_model.specs.OneSends.{begins_one_send}
 use Rattle.pw_world_model.specs.Pushed.{AreMarked, CanPush, booked, live_behind, pushed}
 use Rattle.pw_world_model.specs.Seen.{Seen, state_of, sys_of}
@@ -29,13 +30,14 @@ use Rattle.pw_world_model.specs.Stamps.{IsStamp}
 use Rattle.pw_world_model.specs.Touches.{leaves, stamped}
 use Rattle.pw_world_model.specs.Worlds.{Books, IsWorld, live_below}
 use Rattle.pw_world_model.proofs.Books.{screens-more, sends-more}
+use Rattle.pw_world_model.proofs.Counted.{commits-more, commits-same, commits-within, counted-one}
 use Rattle.pw_world_model.proofs.Dues.{next-is}
 use Rattle.pw_world_model.proofs.Endings.{live-more, same-live}
 use Rattle.pw_world_state.proofs.Members.{members-are}
 use Rattle.pw_world_model.proofs.Outs.{out-same}
 use Rattle.pw_world_model.proofs.Readies.{ready-stays}
 use Rattle.pw_world_model.proofs.Placed as placed
-use Rattle.pw_world_model.proofs.Shapes.{IsSameShape, entered-shape}
+use Rattle.pw_world_model.proofs.Shapes.{IsSameShape, commits-kept, entered-shape}
 use Rattle.pw_world_model.proofs.Steps.{owner, there}
 use Rattle.pw_onecopy.specs.Behaviour.{Behaviour}
 use Rattle.pw_onecopy.specs.declared.refresh.Refresh.{Refresh}
@@ -50,6 +52,7 @@ use Rattle.pw_laws.proofs.RunSteps.{IsRunFrom-append, after_from-append}
 use Rattle.pw_laws.proofs.induction.Runs.{kept}
 use Rattle.pw_laws.proofs.kept.Kept.{Inv}
 use Rattle.pw_laws.proofs.steps.Living.{live-ok}
+use Rattle.pw_laws.specs.locking.Records.{commits_at}
 
 module _ (world : Seen) (books : Books) (w : IsWorld world books) (entry : Event) (can : CanPush world entry) where
   abbrev sys : Behaviour
@@ -107,8 +110,17 @@ module _ (world : Seen) (books : Books) (w : IsWorld world books) (entry : Event
   pub then-is : after sys (world.log ++ entry ∷ []) ≡ effect sys state entry
   then-is = after_from-append sys (starting sys) world.log (entry ∷ [])
 
-  shape : IsSameShape world.kept next
+  shape : IsSameShape (commits-kept world.kept entry) world.kept next
   shape = entered-shape world.system (members_of world.system) entry world.kept
+
+  -- the disc has counted those that commit in the log
+  counts : next.disc.commits ≡ commits_in sys (world.log ++ entry ∷ [])
+  counts =
+      let within = commits-within sys (starting sys) world.log in
+      shape.commits
+      ∙ (ap (λ (b : Bool). if b then counted world.kept.disc.commits else world.kept.disc.commits) (commits-same world.system world.script state world.kept entry needs)
+      ∙ (counted-one (commits_at state entry) world.kept.disc.commits (commits_in sys world.log) w.commits (omega (arith, within, w.room, w.few))
+      ∙ sym (commits-more sys (starting sys) world.log entry)))
 
   inv : Inv sys state
   inv = kept sys w.deck world.log w.run
@@ -212,6 +224,7 @@ module _ (world : Seen) (books : Books) (w : IsWorld world books) (entry : Event
     members = λ p few. shape.seats p ∙ w.members p few;
     terminals = shape.terminals ∙ w.terminals;
     files = shape.files ∙ w.files;
+    commits = counts;
     lines = w.lines;
     few_lines = w.few_lines;
     asking = asking;

@@ -60,6 +60,7 @@ first-world system script contexts disc limit valid b few lines few_lines of pat
   members = λ p low. seats-are system p;
   terminals = of.terminals;
   files = of.files;
+  commits = of.commits;
   lines = lines;
   few_lines = few_lines;
   asking = λ t low out. absurd (cc (out, not-out t));

@@ -4,6 +4,7 @@ pub mod Books
 pub mod Cancelled
 pub mod Cancels
 pub mod Classes
+pub mod Counted
 pub mod Dues
 pub mod Endings
 pub mod Failures

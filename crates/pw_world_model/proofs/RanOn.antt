@@ -35,6 +35,7 @@ module _ (world : Seen) (books : Books) (w : IsWorld world books) where
     members = λ p few. ap (λ f. map (λ (seat : BackupSeat). seat.terminal) (f p).seats) pairs ∙ w.members p few;
     terminals = ap (λ (d : Told). d.terminals) disc ∙ w.terminals;
     files = ap (λ (d : Told). d.file_count) disc ∙ w.files;
+    commits = ap (λ (d : Told). d.commits) disc ∙ w.commits;
     lines = w.lines;
     few_lines = w.few_lines;
     asking = asking;

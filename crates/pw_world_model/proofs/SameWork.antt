@@ -97,9 +97,9 @@ module _ (world : Seen) (kept : Kept) (failed : Bool) (out : Actor → Bool) (te
 
   module _ (books : Books) (w : IsWorld world books) (queues : kept.queues ≡ world.kept.queues) (stands : Stands world.system world.script (state_of world) kept) where
     pub changed : ((p : ℕ) → map (λ (seat : BackupSeat). seat.terminal) (kept.pairs p).seats ≡ map (λ (seat : BackupSeat). seat.terminal) (world.kept.pairs p).seats)
-        → kept.disc.terminals ≡ world.kept.disc.terminals → kept.disc.file_count ≡ world.kept.disc.file_count → min world.faults (2 ^ 64 - 1) ≤ kept.disc.faults → (failed ≡ true → Rose world.faults kept.disc.faults)
+        → kept.disc.terminals ≡ world.kept.disc.terminals → kept.disc.file_count ≡ world.kept.disc.file_count → kept.disc.commits ≡ world.kept.disc.commits → min world.faults (2 ^ 64 - 1) ≤ kept.disc.faults → (failed ≡ true → Rose world.faults kept.disc.faults)
         → (marked : Actor → Bool) → AreMarked world marked → IsWorld beside (record books { marked = marked })
-    changed seats sizes files count rose marked are = record {
+    changed seats sizes files commits count rose marked are = record {
       valid = w.valid;
       deck = w.deck;
       run = w.run;
@@ -109,6 +109,7 @@ module _ (world : Seen) (kept : Kept) (failed : Bool) (out : Actor → Bool) (te
       members = λ p few. seats p ∙ w.members p few;
       terminals = sizes ∙ w.terminals;
       files = files ∙ w.files;
+      commits = commits ∙ w.commits;
       lines = w.lines;
       few_lines = w.few_lines;
       asking = λ t low is.
@@ -150,20 +151,20 @@ module _ (world : Seen) (books : Books) (w : IsWorld world books) where
   -- the disc has failed
   pub has-failed : (n : ℕ) → Rose world.faults n → IsWorld (record world { failed = true; kept = record world.kept { disc = record world.kept.disc { faults = n } } }) books
   has-failed n rose =
-      changed world (record world.kept { disc = record world.kept.disc { faults = n } }) true world.out refl refl books w refl (faulted-stands n) (λ p. refl) refl refl (omega (arith, rose)) (λ e. rose) books.marked w.books.marked
+      changed world (record world.kept { disc = record world.kept.disc { faults = n } }) true world.out refl refl books w refl (faulted-stands n) (λ p. refl) refl refl refl (omega (arith, rose)) (λ e. rose) books.marked w.books.marked
 
   -- other actors are marked, and out
   pub marked-so : (marked : Actor → Bool) → AreMarked world marked → IsWorld world (record books { marked = marked })
-  marked-so marked are = changed world world.kept world.failed world.out refl refl books w refl w.stands (λ p. refl) refl refl w.count w.failed marked are
+  marked-so marked are = changed world world.kept world.failed world.out refl refl books w refl w.stands (λ p. refl) refl refl refl w.count w.failed marked are
 
   pub out-so : (out : Actor → Bool) → IsWorld (record world { out = out }) books
-  out-so out = changed world world.kept world.failed out refl refl books w refl w.stands (λ p. refl) refl refl w.count w.failed books.marked w.books.marked
+  out-so out = changed world world.kept world.failed out refl refl books w refl w.stands (λ p. refl) refl refl refl w.count w.failed books.marked w.books.marked
 
   -- a message is built
   pub built-so : (p t : ℕ) (marked : Actor → Bool) → AreMarked world marked → IsWorld (record world { kept = at_pair p (changed_at t built) world.kept }) (record books { marked = marked })
   built-so p t marked are =
       changed world (at_pair p (changed_at t built) world.kept) world.failed world.out refl refl books w refl (built-stands world.system world.script (state_of world) world.kept p t w.stands)
-      seats refl refl w.count w.failed marked are
+      seats refl refl refl w.count w.failed marked are
     where
       seats : (q : ℕ) → map (λ (seat : BackupSeat). seat.terminal) ((at_pair p (changed_at t built) world.kept).pairs q).seats ≡ map (λ (seat : BackupSeat). seat.terminal) (world.kept.pairs q).seats
       seats q = upd_elim world.kept.pairs p (changed_at t built (world.kept.pairs p)) q (λ (pair : SeenPair). map (λ (seat : BackupSeat). seat.terminal) pair.seats ≡ map (λ (seat : BackupSeat). seat.terminal) (world.kept.pairs q).seats)

@@ -1,6 +1,7 @@
 pub mod Actors
 pub mod Answers
 pub mod Calls
+pub mod Commits
 pub mod Dues
 pub mod Enabled
 pub mod Failures

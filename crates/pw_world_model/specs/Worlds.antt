@@ -11,6 +11,7 @@ use Rattle.pw_world_state.specs.Stands.{Stands}
 use Rattle.pw_world_state.specs.TerminalTests.{is_out}
 use Rattle.pw_world_model.specs.Actors.{IsActor}
 use Rattle.pw_world_state.specs.Members.{members_of}
+use Rattle.pw_world_model.specs.Commits.{commits_in}
 use Rattle.pw_world_model.specs.Dues.{DueBook, IsBookOf}
 use Rattle.pw_world_model.specs.Enabled.{MayWork}
 use Rattle.pw_world_model.specs.OneSends.{one_sends}
@@ -27,10 +28,11 @@ use Rattle.pw_tmf.specs.Told.{Told}
 
 -- ---- before the first entry
 
--- the disc is one of the system: it has its terminals, files and rule, no unit is open there, and none has ended
+-- the disc is one of the system: it has its terminals, files and rule, no unit is open there, and none has ended or committed
 pub record IsDiscOf (system : System) (script : List FailLine) (disc : Told) : Type 0 where
   pub terminals : disc.terminals ≡ length system.terminals
   pub files : disc.file_count ≡ length system.files
+  pub commits : disc.commits ≡ 0
   pub starts : Tells (behaviour script system) (starting (behaviour script system)) disc
 
 -- a world of this system, script, disc and limit in which nothing has happened: no actor is out, and every context
@@ -91,6 +93,8 @@ pub record IsWorld (world : Seen) (beside : Books) : Type 0 where
       → map (λ seat. seat.terminal) (world.kept.pairs p).seats ≡ members_of world.system p
   pub terminals : world.kept.disc.terminals ≡ length world.system.terminals
   pub files : world.kept.disc.file_count ≡ length world.system.files
+  -- the disc has counted the units that commit in the log
+  pub commits : world.kept.disc.commits ≡ commits_in (sys_of world) world.log
   -- the failure lines name what is there, and their numbers fit
   pub lines : All (IsLineThere world.system) world.script
   pub few_lines : length world.script < 2 ^ 32 - 1

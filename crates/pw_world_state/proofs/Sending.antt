@@ -30,7 +30,7 @@ use Rattle.pw_paired.specs.Raising.{LegalCheckCopy, copied_path, do_check_copy}
 use Rattle.pw_paired.specs.State.{Copy, End, OpenUnit, Start, State}
 use Rattle.pw_paired.specs.Terminal.{LegalBegin, LegalCheckEnd, LegalCheckStart, LegalSend, closed_path, closing_answer, do_back, do_begin, do_check_end, do_check_start, do_commit, do_send, message_of, next_verb, path_of, path_with}
 use Rattle.pw_paired.specs.Units.{attempt_of}
-use Rattle.pw_tmf.specs.Units.{backed_out, begun, ended}
+use Rattle.pw_tmf.specs.Units.{after_commit, backed_out, begun}
 
 -- ---- images
 
@@ -137,7 +137,7 @@ module _ (system : System) (script : List FailLine) (state : State) (kept : Kept
 
     pub commit-enters : (n : ℕ) → Stands system script (do_commit t n state) (entered_commit system t n kept)
     commit-enters n =
-        subst (λ own. Stands system script (do_commit t n state) (record kept { terminals = upd kept.terminals t (without_unit own); disc = ended kept.disc (unit_at kept t n) None }))
+        subst (λ own. Stands system script (do_commit t n state) (record kept { terminals = upd kept.terminals t (without_unit own); disc = after_commit kept.disc (unit_at kept t n) None }))
         (sym (answering-is system script state kept t stands asking answer.Ended))
         (ends-stands system script state kept t n info Ended None _ stands asking.placed.here (behind system script state kept t stands asking Ended))
 

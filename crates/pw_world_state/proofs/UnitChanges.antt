@@ -26,7 +26,7 @@ use Rattle.pw_paired.specs.State.{BeforeImage, PairMode, OpenUnit, State, Term}
 use Rattle.pw_paired.specs.Terminal.{CanStep, IsIdle, awaited_of, begun_path, births_after, do_back, do_begin, do_send, message_of, next_verb, path_of, unit_with_attempt, with_request}
 use Rattle.pw_paired.specs.Units.{give_answer, commit_unit, drop_unit, restarts_of}
 use Rattle.pw_tmf.specs.Tells.{Tells, as_told, images_by, unit_begun}
-use Rattle.pw_tmf.specs.Units.{begun, ended}
+use Rattle.pw_tmf.specs.Units.{after_commit, begun}
 use Rattle.pw_tmf.proofs.Telling.{tells-begin, tells-commit, tells-drop}
 
 -- a terminal goes on with an answer, and its unit has ended
@@ -49,7 +49,7 @@ unit-over system modes terms units kept t terminal answer new stands there path 
 -- a unit ends committed with an answer, and TMF keeps this reply
 pub ends-stands : (system : System) (script : List FailLine) (state : State) (kept : Kept) (t n : ℕ) (terminal : TermInfo) (answer : PathAnswer) (reply : Option (List ℕ)) (new : Context) → Stands system script state kept → slice_get system.terminals t ≡ Some terminal
     → StandsForPath system terminal (path_of state t ++ answer ∷ []) new
-    → Stands system script (give_answer t answer (commit_unit t n reply state)) (record (at_terminal t (λ own. without_unit (with_context new own)) kept) { disc = ended kept.disc (unit_at kept t n) reply })
+    → Stands system script (give_answer t answer (commit_unit t n reply state)) (record (at_terminal t (λ own. without_unit (with_context new own)) kept) { disc = after_commit kept.disc (unit_at kept t n) reply })
 ends-stands system script state kept t n terminal answer reply new stands there path = record {
   terminals = unit-over system state.modes state.terms state.units kept.terminals t terminal answer new stands.terminals there path;
   disc = tells-same (behaviour script system) (commit_unit t n reply state) (give_answer t answer (commit_unit t n reply state)) _ refl refl refl refl refl (tells-commit (behaviour script system) state kept.disc (unit_at kept t n) reply stands.disc);

@@ -37,7 +37,7 @@ use Rattle.pw_paired.specs.Server as paired
 use Rattle.pw_paired.specs.Server.{LegalFile, LegalTake, do_file, do_reply, do_take, reply_at, reply_of, server_verb, with_answer}
 use Rattle.pw_paired.specs.State.{Job, State}
 use Rattle.pw_paired.specs.Terminal.{path_of}
-use Rattle.pw_tmf.specs.Units.{ended}
+use Rattle.pw_tmf.specs.Units.{after_commit}
 
 -- a server goes on with an answer
 goes-on : (system : System) (info : ClassInfo) (job : Job) (context : Context) (found : FileResult) → StandsForJob system info job context → context.at_verb ≡ true
@@ -110,7 +110,7 @@ module _ (system : System) (script : List FailLine) (state : State) (kept : Kept
       last-enters : (reply : List ℕ) → reply ≡ reply_at (behaviour script system) c ((state.classes c).busy i) → is_outside (path_of state t) ≡ true
           → Stands system script (do_reply (behaviour script system) c i t None state) (replies_last system c i t (unit_number (path_of state t)) reply kept)
       last-enters reply is outside =
-          subst (λ own. Stands system script (do_reply (behaviour script system) c i t None state) (record (free_process c i kept) { terminals = upd kept.terminals t (without_unit own); disc = ended kept.disc (unit_at kept t (unit_number (path_of state t))) (Some reply) })) (sym (answering-is system script state kept t stands asking (answer.Replied reply)))
+          subst (λ own. Stands system script (do_reply (behaviour script system) c i t None state) (record (free_process c i kept) { terminals = upd kept.terminals t (without_unit own); disc = after_commit kept.disc (unit_at kept t (unit_number (path_of state t))) (Some reply) })) (sym (answering-is system script state kept t stands asking (answer.Replied reply)))
           (replied-last system script state kept c i serving.info serving.job stands serving.here serving.works t asking.placed.info asking.placed.here _ reply outside is (behind system script state kept t stands asking (Replied reply)))
 
       pub reply-enters : Stands system script (do_reply (behaviour script system) c i t None state) (entered_reply system c i t None kept)

@@ -28,7 +28,7 @@ use Rattle.pw_paired.specs.Failure.{awaited_after}
 use Rattle.pw_tmf.specs.Leaving.{is_among, open_units}
 use Rattle.pw_tmf.specs.Operation.{after_operation}
 use Rattle.pw_tmf.specs.Told.{Told, ToldUnit}
-use Rattle.pw_tmf.specs.Units.{all_backed_out, backed_out, begun, ended}
+use Rattle.pw_tmf.specs.Units.{after_commit, all_backed_out, backed_out, begun}
 
 -- ---- places
 
@@ -169,7 +169,7 @@ kept_again t new kept = at_terminal t (with_context new) kept
 -- COMMIT: the unit ends
 abbrev pub kept_commit : ℕ → ℕ → Context → Kept → Kept
 kept_commit t n new kept = record (at_terminal t (λ own. without_unit (with_context new own)) kept) {
-  disc = ended kept.disc (unit_at kept t n) None;
+  disc = after_commit kept.disc (unit_at kept t n) None;
 }
 
 -- BACK: the unit is backed out and ends
@@ -203,7 +203,7 @@ kept_reply c i t new kept = at_terminal t (with_context new) (free_process c i k
 abbrev pub kept_reply_ends : ℕ → ℕ → ℕ → ℕ → List ℕ → Context → Kept → Kept
 kept_reply_ends c i t n reply new kept =
     record (at_terminal t (λ own. without_unit (with_context new own)) (free_process c i kept)) {
-      disc = ended kept.disc (unit_at kept t n) (Some reply);
+      disc = after_commit kept.disc (unit_at kept t n) (Some reply);
     }
 
 -- ---- restarts and failures

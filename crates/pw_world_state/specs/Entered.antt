@@ -27,7 +27,7 @@ use Rattle.pw_pair.specs.declared.message.CheckKind.TheVariants as kind
 use Rattle.pw_pair.specs.declared.message.CheckMessage.{CheckMessage}
 use Rattle.pw_paired.specs.Server.{reply_of}
 use Rattle.pw_paired.specs.Terminal.{kept_reply}
-use Rattle.pw_tmf.specs.Units.{backed_out, ended}
+use Rattle.pw_tmf.specs.Units.{after_commit, backed_out}
 
 -- ---- a terminal
 
@@ -136,7 +136,7 @@ entered_send system t n c kept =
 abbrev pub entered_commit : System → ℕ → ℕ → Kept → Kept
 entered_commit system t n kept =
     record (at_terminal t (λ own. without_unit (answering system answer.Ended own)) kept) {
-      disc = ended kept.disc (unit_at kept t n) None;
+      disc = after_commit kept.disc (unit_at kept t n) None;
     }
 
 -- BACK: the unit is backed out and ends, and the program takes Dropped
@@ -204,7 +204,7 @@ abbrev pub replies_last : System → ℕ → ℕ → ℕ → ℕ → List ℕ �
 replies_last system c i t n reply kept =
     record (at_terminal t (λ own. without_unit (answering system (answer.Replied reply) own))
     (free_process c i kept)) {
-      disc = ended kept.disc (unit_at kept t n) (Some reply);
+      disc = after_commit kept.disc (unit_at kept t n) (Some reply);
     }
 
 -- REPLY: with a reply, or with the run fault of the server

@@ -140,12 +140,12 @@ ended-own disc unit reply t is = upd-same disc.units unit.terminal None t (sym i
 
 -- each part is right where the unit of a terminal has ended
 pub keep-ended : (system : System) (seats : List Seat) (disc undone new_disc : Told) (book : List Queue) (jobs : List (List (Option ProcessJob))) (pairs : List SeenPair)
-    (t : ℕ) (unit : Unit) (reply : Option (List ℕ)) (next : Context) (seat new : Seat)
+    (t : ℕ) (unit : Unit) (reply : Option (List ℕ)) (commits : ℕ) (next : Context) (seat new : Seat)
     → IsKeep system seats disc book jobs pairs → t < length seats → unit.terminal ≡ t → new ≡ seat_unit_over (seat_answered next seat)
     → undone.terminals ≡ disc.terminals → undone.file_count ≡ disc.file_count → undone.units ≡ disc.units
-    → new_disc ≡ ended undone unit reply
+    → new_disc ≡ record (ended undone unit reply) { commits = commits }
     → IsKeep system (slice_set seats t new) new_disc book jobs pairs
-keep-ended system seats disc undone new_disc book jobs pairs t unit reply next seat new old lt own made terminals files units is =
+keep-ended system seats disc undone new_disc book jobs pairs t unit reply commits next seat new old lt own made terminals files units is =
     keep-seat system seats disc new_disc book jobs pairs t new old lt
     (subst (HasVerb system) (sym made) tt)
     (ap (λ (d : Told). d.terminals) is ∙ terminals)

@@ -17,7 +17,7 @@ use Rattle.pw_world_store.specs.declared.job.ProcessJob.{ProcessJob}
 use Rattle.pw_tmf.specs.Answers.{Operates}
 use Rattle.pw_tmf.specs.Operation.{IsCall}
 use Rattle.pw_tmf.specs.Told.{Told}
-use Rattle.pw_tmf.specs.Units.{IsRunning, ended}
+use Rattle.pw_tmf.specs.Units.{IsRunning, after_commit}
 use Rattle.pw_tmf.specs.declared.answer.FileAnswer.{FileAnswer}
 
 -- a request waits and a process is free
@@ -53,7 +53,7 @@ given_to (Some process) (Some request) = Some (process, request.terminal)
 abbrev pub kept_commit_reply : ℕ → ℕ → List ℕ → Context → Kept → Kept
 kept_commit_reply t n reply new kept =
     record (at_terminal t (λ own. without_unit (with_context new own)) kept) {
-      disc = ended kept.disc (unit_at kept t n) (Some reply);
+      disc = after_commit kept.disc (unit_at kept t n) (Some reply);
     }
 
 -- ---- FILE

@@ -15,7 +15,7 @@ pub record IsStopping (ends : Bool) (final : Told) (state : TmfState) (rest : Li
 abbrev pub invariant-loop-unit : goal.invariant-loop-unit
 invariant-loop-unit l =
     IsStopping l.ends (all_backed_out l.ends (told_of l.fn.self) l.fn.units)
-    (record { rule = l.self-inside.rule; files = l.self-inside.files.items; pending = l.lists.items; locks = l.self-inside.book; slots = l.self-inside.slots.items })
+    (record { rule = l.self-inside.rule; files = l.self-inside.files.items; pending = l.lists.items; locks = l.self-inside.book; slots = l.self-inside.slots.items; commits = l.self-inside.commits })
     l.left (vec_len l.lists) (vec_capacity l.lists)
 
 abbrev pub decreases-loop-unit : goal.decreases-loop-unit

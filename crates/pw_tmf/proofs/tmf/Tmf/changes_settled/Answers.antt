@@ -10,7 +10,7 @@ use Rattle.pw_tmf.proofs.tmf.Tmf.changes_settled.Goals as goal
 
 pub changes_in-requires : goal.changes_in-requires
 changes_in-requires c =
-    let state : TmfState = record { rule = c.self.inside.rule; files = c.self.inside.files.items; pending = reverse c.self.inside.pending.items; locks = c.self.inside.book; slots = c.self.inside.slots.items } in
+    let state : TmfState = record { rule = c.self.inside.rule; files = c.self.inside.files.items; pending = reverse c.self.inside.pending.items; locks = c.self.inside.book; slots = c.self.inside.slots.items; commits = c.self.inside.commits } in
     let settled : state.pending ≡ [] = ap (λ (s : TmfState). s.pending) c.self.view_is ∙ c.requires.settled in
     let lt : c.args.terminal < length state.slots = subst (λ (s : TmfState). c.args.terminal < length s.slots) (sym c.self.view_is) c.requires.terminal in
     subst (λ (fs : List BlocksState). AreImages (key_lengths fs) (length fs) (images_of c.index.result.now.open_unit)) (sym c.deref.ensures.value)
@@ -18,7 +18,7 @@ changes_in-requires c =
 
 pub returns : goal.returns
 returns c =
-    let state : TmfState = record { rule = c.self.inside.rule; files = c.self.inside.files.items; pending = reverse c.self.inside.pending.items; locks = c.self.inside.book; slots = c.self.inside.slots.items } in
+    let state : TmfState = record { rule = c.self.inside.rule; files = c.self.inside.files.items; pending = reverse c.self.inside.pending.items; locks = c.self.inside.book; slots = c.self.inside.slots.items; commits = c.self.inside.commits } in
     let settled : state.pending ≡ [] = ap (λ (s : TmfState). s.pending) c.self.view_is ∙ c.requires.settled in
     let lt : c.args.terminal < length state.slots = subst (λ (s : TmfState). c.args.terminal < length s.slots) (sym c.self.view_is) c.requires.terminal in
     subst (λ (xs : List ChangedKey). IfOk c.changes_in.result (λ changes. changes.items ≡ xs))

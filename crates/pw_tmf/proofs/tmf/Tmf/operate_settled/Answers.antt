@@ -16,7 +16,7 @@ use Rattle.pw_tmf.proofs.tmf.Tmf.operate_settled.Goals as goal
 
 pub returns-in-Some-clause-ok : goal.returns-in-Some-clause-ok
 returns-in-Some-clause-ok c =
-    let state : TmfState = record { rule = c.self.inside.rule; files = c.self.inside.files.items; pending = reverse c.self.inside.pending.items; locks = c.self.inside.book; slots = c.self.inside.slots.items } in
+    let state : TmfState = record { rule = c.self.inside.rule; files = c.self.inside.files.items; pending = reverse c.self.inside.pending.items; locks = c.self.inside.book; slots = c.self.inside.slots.items; commits = c.self.inside.commits } in
     let u = c.args.unit.now in
     let call = c.args.call.now in
     let settled : state.pending ≡ [] = ap (λ (s : TmfState). s.pending) c.self.view_is ∙ c.requires.settled in
@@ -30,7 +30,7 @@ returns-in-Some-clause-ok c =
 
 pub invariant_of-self-in-Ok : goal.invariant_of-self-in-Ok
 invariant_of-self-in-Ok c =
-    let state : TmfState = record { rule = c.self.inside.rule; files = c.self.inside.files.items; pending = reverse c.self.inside.pending.items; locks = c.self.inside.book; slots = c.self.inside.slots.items } in
+    let state : TmfState = record { rule = c.self.inside.rule; files = c.self.inside.files.items; pending = reverse c.self.inside.pending.items; locks = c.self.inside.book; slots = c.self.inside.slots.items; commits = c.self.inside.commits } in
     let u = c.args.unit.now in
     let call = c.args.call.now in
     let file = c.index.result.now in
@@ -48,12 +48,12 @@ invariant_of-self-in-Ok c =
     subst (λ (s : BlocksState). IsFile s.key (records_of s.blocks)) (sym (file-is state.files call.file file within c.index.ensures)) c.in_ok-span.ensures.file in
     let own : HasNumber u.number (unit_at state.slots u.terminal) =
     subst (λ (s : TmfState). HasNumber u.number (unit_at s.slots u.terminal)) (sym c.self.view_is) (subst (HasNumber u.number) (sym c.requires.unit.is_open.here) c.requires.unit.is_open.number) in
-    subst (λ (ls : List Lock). IsTmf (record { rule = state.rule; files = files'; pending = state.pending; locks = ls; slots = slice_set state.slots u.terminal slot' })) (sym c.in_ok-add.ensures.ok)
+    subst (λ (ls : List Lock). IsTmf (record { rule = state.rule; files = files'; pending = state.pending; locks = ls; slots = slice_set state.slots u.terminal slot'; commits = state.commits })) (sym c.in_ok-add.ensures.ok)
     (IsTmf-behind state u call files' slot' lock settled c.perform.ensures.keys c.perform.ensures.count lt noted c.self.invariant file_ok within own)
 
 pub invariant_of-self-in-Err : goal.invariant_of-self-in-Err
 invariant_of-self-in-Err c =
-    let state : TmfState = record { rule = c.self.inside.rule; files = c.self.inside.files.items; pending = reverse c.self.inside.pending.items; locks = c.self.inside.book; slots = c.self.inside.slots.items } in
+    let state : TmfState = record { rule = c.self.inside.rule; files = c.self.inside.files.items; pending = reverse c.self.inside.pending.items; locks = c.self.inside.book; slots = c.self.inside.slots.items; commits = c.self.inside.commits } in
     let u = c.args.unit.now in
     let slot = c.index_mut-slot.result.now in
     let files' = c.perform.new.files.items in
@@ -61,13 +61,13 @@ invariant_of-self-in-Err c =
     let lock : Lock = lock_of u c.args.call.now.file c.in_ok-span.span c.mode_of-mode.result in
     let locks_are : c.take_back.new.self ≡ state.locks = c.take_back.ensures ∙ taken-back state.locks lock c.add.new.self c.in_ok-add.ensures.ok in
     let slots_are : slice_set state.slots u.terminal slot' ≡ state.slots = ap (slice_set state.slots u.terminal) c.in-Err.ensures.forgotten ∙ slot-stays state.slots u.terminal slot c.index_mut-slot.ensures.value in
-    subst (λ (ls : List Lock). IsTmf (record { rule = state.rule; files = files'; pending = state.pending; locks = ls; slots = slice_set state.slots u.terminal slot' })) (sym locks_are)
-    (subst (λ (ss : List SlotState). IsTmf (record { rule = state.rule; files = files'; pending = state.pending; locks = state.locks; slots = ss })) (sym slots_are)
+    subst (λ (ls : List Lock). IsTmf (record { rule = state.rule; files = files'; pending = state.pending; locks = ls; slots = slice_set state.slots u.terminal slot'; commits = state.commits })) (sym locks_are)
+    (subst (λ (ss : List SlotState). IsTmf (record { rule = state.rule; files = files'; pending = state.pending; locks = state.locks; slots = ss; commits = state.commits })) (sym slots_are)
     (IsTmf-kept state files' state.pending c.perform.ensures.keys c.perform.ensures.count c.self.invariant c.self.invariant.pending))
 
 pub returns-in-Ok-clause-ok : goal.returns-in-Ok-clause-ok
 returns-in-Ok-clause-ok c =
-    let state : TmfState = record { rule = c.self.inside.rule; files = c.self.inside.files.items; pending = reverse c.self.inside.pending.items; locks = c.self.inside.book; slots = c.self.inside.slots.items } in
+    let state : TmfState = record { rule = c.self.inside.rule; files = c.self.inside.files.items; pending = reverse c.self.inside.pending.items; locks = c.self.inside.book; slots = c.self.inside.slots.items; commits = c.self.inside.commits } in
     let u = c.args.unit.now in
     let call = c.args.call.now in
     let file = c.index.result.now in
@@ -86,7 +86,7 @@ returns-in-Ok-clause-ok c =
       subst (λ (s : TmfState). holders (lock_now (told_of s) u call) s.locks ≡ []) c.self.view_is (ap (λ l. holders l state.locks) lock_eq ∙ c.conflict.ensures.none.0 (subst IsNone (sym c.in_default.is) refl)),
       subst (λ (s : TmfState). answer_with c.in-Ok.status c.in-Ok.content ≡ answer_of (key_lengths s.files call.file) (files_of s.files s.pending call.file) call.op call) c.self.view_is
           (c.in-Ok.ensures.answer ∙ sym (ap (λ (g : ℕ → List (List ℕ)). answer_of (key_lengths state.files call.file) (g call.file) call.op call) (settled-files state.files state.pending settled))),
-      ap (λ (ls : List Lock). told_of (record { rule = state.rule; files = files'; pending = state.pending; locks = ls; slots = slice_set state.slots u.terminal slot' })) c.in_ok-add.ensures.ok
+      ap (λ (ls : List Lock). told_of (record { rule = state.rule; files = files'; pending = state.pending; locks = ls; slots = slice_set state.slots u.terminal slot'; commits = state.commits })) c.in_ok-add.ensures.ok
           ∙ (operated-told state u call files' slot' lock settled c.perform.ensures.keys c.perform.ensures.count lt noted c.in-Ok.ensures.ok lock_eq
           ∙ ap (λ (s : TmfState). after_operation (told_of s) u call) c.self.view_is),
     )

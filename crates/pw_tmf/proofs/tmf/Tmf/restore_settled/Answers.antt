@@ -15,12 +15,12 @@ put_back_in-requires c = subst (λ (s : TmfState). IsImage (key_lengths s.files)
 
 pub invariant_of-self : goal.invariant_of-self
 invariant_of-self c =
-    let state : TmfState = record { rule = c.self.inside.rule; files = c.self.inside.files.items; pending = reverse c.self.inside.pending.items; locks = c.self.inside.book; slots = c.self.inside.slots.items } in
+    let state : TmfState = record { rule = c.self.inside.rule; files = c.self.inside.files.items; pending = reverse c.self.inside.pending.items; locks = c.self.inside.book; slots = c.self.inside.slots.items; commits = c.self.inside.commits } in
     IsTmf-kept state c.put_back_in.new.files.items state.pending c.put_back_in.ensures.keys c.put_back_in.ensures.count c.self.invariant c.self.invariant.pending
 
 pub returns-clause-ok : goal.returns-clause-ok
 returns-clause-ok c =
-    let state : TmfState = record { rule = c.self.inside.rule; files = c.self.inside.files.items; pending = reverse c.self.inside.pending.items; locks = c.self.inside.book; slots = c.self.inside.slots.items } in
+    let state : TmfState = record { rule = c.self.inside.rule; files = c.self.inside.files.items; pending = reverse c.self.inside.pending.items; locks = c.self.inside.book; slots = c.self.inside.slots.items; commits = c.self.inside.commits } in
     let image = c.args.image.now in
     let settled : state.pending ≡ [] = ap (λ (s : TmfState). s.pending) c.self.view_is ∙ c.requires.settled in
     on-ok-more c.put_back_in.result (stored c.put_back_in.new.files.items ≡ upd (stored state.files) image.file (put_back (key_lengths state.files image.file) (stored state.files image.file) image.key image.content)) _
@@ -31,7 +31,7 @@ returns-clause-ok c =
 
 pub returns-clause-err : goal.returns-clause-err
 returns-clause-err c =
-    let state : TmfState = record { rule = c.self.inside.rule; files = c.self.inside.files.items; pending = reverse c.self.inside.pending.items; locks = c.self.inside.book; slots = c.self.inside.slots.items } in
+    let state : TmfState = record { rule = c.self.inside.rule; files = c.self.inside.files.items; pending = reverse c.self.inside.pending.items; locks = c.self.inside.book; slots = c.self.inside.slots.items; commits = c.self.inside.commits } in
     let settled : state.pending ≡ [] = ap (λ (s : TmfState). s.pending) c.self.view_is ∙ c.requires.settled in
     on-err-more c.put_back_in.result (stored c.put_back_in.new.files.items ≡ stored state.files) _
     (λ same.

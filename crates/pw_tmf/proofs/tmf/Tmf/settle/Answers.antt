@@ -14,6 +14,6 @@ settle-requires c =
 
 pub invariant_of-self : goal.invariant_of-self
 invariant_of-self c =
-    let state : TmfState = record { rule = c.self.inside.rule; files = c.self.inside.files.items; pending = reverse c.self.inside.pending.items; locks = c.self.inside.book; slots = c.self.inside.slots.items } in
+    let state : TmfState = record { rule = c.self.inside.rule; files = c.self.inside.files.items; pending = reverse c.self.inside.pending.items; locks = c.self.inside.book; slots = c.self.inside.slots.items; commits = c.self.inside.commits } in
     let P : List BeforeImage → Type 0 = AreImages (key_lengths c.self.inside.files.items) (length c.self.inside.files.items) in
     IsTmf-kept state c.settle.new.files.items (reverse c.settle.new.pending.items) c.settle.ensures.keys c.settle.ensures.count c.self.invariant (All-reverse P c.settle.new.pending.items c.settle.ensures.images)

@@ -11,7 +11,7 @@ use Rattle.pw_tmf.proofs.tmf.TmfDisc.awaits.Goals as goal
 
 pub returns : goal.returns
 returns c =
-    let state : TmfState = record { rule = c.self.inside.rule; files = c.self.inside.files.items; pending = reverse c.self.inside.pending.items; locks = c.self.inside.book; slots = c.self.inside.slots.items } in
+    let state : TmfState = record { rule = c.self.inside.rule; files = c.self.inside.files.items; pending = reverse c.self.inside.pending.items; locks = c.self.inside.book; slots = c.self.inside.slots.items; commits = c.self.inside.commits } in
     let u = c.args.unit.now in
     let holder = c.args.holder.now in
     let call = c.args.call.now in

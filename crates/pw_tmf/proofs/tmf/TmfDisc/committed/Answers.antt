@@ -13,7 +13,7 @@ use Rattle.pw_tmf.proofs.tmf.TmfDisc.committed.Goals as goal
 
 pub returns : goal.returns
 returns c =
-    let state : TmfState = record { rule = c.self.inside.rule; files = c.self.inside.files.items; pending = reverse c.self.inside.pending.items; locks = c.self.inside.book; slots = c.self.inside.slots.items } in
+    let state : TmfState = record { rule = c.self.inside.rule; files = c.self.inside.files.items; pending = reverse c.self.inside.pending.items; locks = c.self.inside.book; slots = c.self.inside.slots.items; commits = c.self.inside.commits } in
     let file = c.args.file in
     let copy = c.in_ok-copy.copy in
     let nothing : c.self.inside.pending.items ≡ [] = sym c.deref.ensures.value ∙ c.is_settled.ensures.0 c.if-not-is_settled.false in

@@ -10,7 +10,7 @@ use Rattle.pw_tmf.proofs.tmf.TmfDisc.foresee.Goals as goal
 
 pub returns-in-Some : goal.returns-in-Some
 returns-in-Some c =
-    let state : TmfState = record { rule = c.self.inside.rule; files = c.self.inside.files.items; pending = reverse c.self.inside.pending.items; locks = c.self.inside.book; slots = c.self.inside.slots.items } in
+    let state : TmfState = record { rule = c.self.inside.rule; files = c.self.inside.files.items; pending = reverse c.self.inside.pending.items; locks = c.self.inside.book; slots = c.self.inside.slots.items; commits = c.self.inside.commits } in
     let u = c.args.unit.now in
     let call = c.args.call.now in
     let span = c.in_ok-span.span in
@@ -24,7 +24,7 @@ returns-in-Some c =
 
 pub returns : goal.returns
 returns c =
-    let state : TmfState = record { rule = c.self.inside.rule; files = c.self.inside.files.items; pending = reverse c.self.inside.pending.items; locks = c.self.inside.book; slots = c.self.inside.slots.items } in
+    let state : TmfState = record { rule = c.self.inside.rule; files = c.self.inside.files.items; pending = reverse c.self.inside.pending.items; locks = c.self.inside.book; slots = c.self.inside.slots.items; commits = c.self.inside.commits } in
     let u = c.args.unit.now in
     let call = c.args.call.now in
     let file = c.index-file.result.now in

@@ -3,7 +3,7 @@ use Rattle.std.specs.Prelude.{All, OnOk}
 use Rattle.pw_code.specs.declared.file.FileInfo.{FileInfo}
 use Rattle.pw_tmf.specs.Tmf.{told_of}
 use Rattle.pw_tmf.specs.Told.{Told}
-use Rattle.pw_tmf.specs.Units.{IsRunning, ended}
+use Rattle.pw_tmf.specs.Units.{IsRunning, after_commit}
 use Rattle.pw_tmf.proofs.WithFaults.{running-inside}
 use Rattle.pw_trail.specs.Body.{fits}
 use Rattle.pw_trail.specs.Committing.{LeadsTo, record_of}
@@ -32,8 +32,8 @@ invariant_of-self-in-Ok g c =
     let told : Told = told_of old.tmf in
     let next : Told = told_of c.commit.new.self in
     let made : c.in_ok-made.made ≡ record_of told u = record-is told u c.in_ok-made.made c.in_ok-changed.changed.items c.in_ok-made.ensures c.in_ok-changed.ensures.changes in
-    let done : OnOk c.commit.result (next ≡ ended (told_of c.changes.new.self) u reply) = c.commit.ensures.ok in
-    let is : next ≡ ended told u reply = subst (λ r. OnOk r (next ≡ ended (told_of c.changes.new.self) u reply)) c.commit.ensures.answer done ∙ ap (λ (t : Told). ended t u reply) c.changes.ensures.told in
+    let done : OnOk c.commit.result (next ≡ after_commit (told_of c.changes.new.self) u reply) = c.commit.ensures.ok in
+    let is : next ≡ after_commit told u reply = subst (λ r. OnOk r (next ≡ after_commit (told_of c.changes.new.self) u reply)) c.commit.ensures.answer done ∙ ap (λ (t : Told). after_commit t u reply) c.changes.ensures.told in
     let files : c.append.new.self.files ≡ old.log.files = c.append.ensures.files in
     record {
       of = subst (λ (fs : List FileInfo). HasFiles fs next) (sym files) (commit-files old.log.files told next u reply old.of is);

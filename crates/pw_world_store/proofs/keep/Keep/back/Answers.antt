@@ -15,7 +15,7 @@ invariant_of-self-2 g c =
     let unit = c.unit_at.result in
     let lt : t < length c.self.inside.seats.items = seat-there t c.self.invariant (rw (← c.self.view_is) at c.requires.known) in
     keep-ended c.self.inside.system c.self.inside.seats.items disc (undone disc unit) (g.D.Disc.told c.back_out.new.self) c.self.inside.classes c.self.inside.jobs.items c.self.inside.pairs.items
-    t unit None c.args.next c.index_mut-seat.result.now c.end_unit.new.self c.self.invariant lt (ap (λ (u : Unit). u.terminal) c.unit_at.ensures)
+    t unit None disc.commits c.args.next c.index_mut-seat.result.now c.end_unit.new.self c.self.invariant lt (ap (λ (u : Unit). u.terminal) c.unit_at.ensures)
     (c.end_unit.ensures ∙ ap seat_unit_over c.answer.ensures) refl refl refl c.in_ok-back_out.ensures.ok
 
 pub returns-clause-ok : goal.returns-clause-ok
