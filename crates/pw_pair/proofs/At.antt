@@ -197,7 +197,7 @@ any-count test (seat ∷ seats) =
     counted false seats h = ap (λ n. nat_lt 0 n) (zero-add (count_by test seats)) ∙ h
 
 -- the map has a terminal exactly where it has a seat
-nowhere-any : (t : ℕ) (seats : List BackupSeat) (d : BackupSeat) → IsNowhere t seats d → list_any (is_seat_of t) seats ≡ false
+pub nowhere-any : (t : ℕ) (seats : List BackupSeat) (d : BackupSeat) → IsNowhere t seats d → list_any (is_seat_of t) seats ≡ false
 nowhere-any t [] d h = refl
 nowhere-any t (seat ∷ seats) d h =
     let own : is_seat_of t seat ≡ false = not-seat t seat (h zero (omega arith)) (is_seat_of t seat) refl in

@@ -5,6 +5,7 @@ pub mod Calling
 pub mod Following
 pub mod Images
 pub mod Moving
+pub mod Restoring
 pub mod Room
 pub mod Seating
 pub mod Sound

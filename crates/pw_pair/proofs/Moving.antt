@@ -1,10 +1,10 @@
 -- The memory of one seat after the other is moved.
-use Rattle.std.proofs.Common.{◌≡◌, ℕ, zero, suc, ◌+◌, ◌<◌, ◌≤◌, ◌==◌, ◌&&◌, Bool, true, cond, List, [], ◌∷◌, ◌++◌, length, get_or, take, drop, map, Option, Some, None, refl, sym, ap, subst, ◌∙◌, arith}
+use Rattle.std.proofs.Common.{◌≡◌, ℕ, suc, ◌+◌, ◌<◌, ◌==◌, ◌&&◌, Bool, true, cond, List, [], ◌∷◌, ◌++◌, length, get_or, take, drop, map, Option, Some, None, refl, sym, ap, ◌∙◌, arith}
 use Rattle.std.specs.Prelude.{option_to_list, count_by}
 use Rattle.std.specs.List.{filter_map, list_all}
 use Rattle.std.proofs.Math.Seq.{drop-cons, get_or-append_seam}
 use Rattle.std.proofs.lemmas.Bool.{and_parts}
-use Rattle.std.proofs.lemmas.List.{append-nil, length-map, length-take-le, take_more}
+use Rattle.std.proofs.lemmas.List.{length-map, length-take-le, take_more}
 use Rattle.std.proofs.lemmas.List.Elements.{filter_map-append}
 use Rattle.std.proofs.lemmas.List.Folds.{list_all-append}
 use Rattle.std.proofs.lemmas.List.Sums.{sum_by-cons}
@@ -50,7 +50,7 @@ held-of terminal None rest h k = k
 held-of terminal (Some held) rest h k =
     let own : held_is_sound held ≡ true = (and_parts (held.terminal == terminal) (held_is_sound held) h).1 in rw own k
 
-memory-first : (seat : BackupSeat) (seats : List BackupSeat) (memory : Option Held) → seat.memory ≡ memory → option_to_list memory ++ memory_of seats ≡ memory_of (seat ∷ seats)
+pub memory-first : (seat : BackupSeat) (seats : List BackupSeat) (memory : Option Held) → seat.memory ≡ memory → option_to_list memory ++ memory_of seats ≡ memory_of (seat ∷ seats)
 memory-first seat seats None e = rw e refl
 memory-first seat seats (Some held) e = rw e refl
 
@@ -100,3 +100,9 @@ unused (seat ∷ seats) = sum_by-cons (λ s. cond (is_used s) 1 0) (without_back
 pub put-twice : (images : List Held) (seats : List BackupSeat) → map (put_each images) (map without_backup seats) ≡ map (λ seat. put_each images (without_backup seat)) seats
 put-twice images [] = refl
 put-twice images (seat ∷ seats) = ap (λ l. put_each images (without_backup seat) ∷ l) (put-twice images seats)
+
+-- a seat without a backup stays so
+pub bare-twice : (images : List Held) (seats : List BackupSeat)
+    → map (λ seat. put_each images (without_backup seat)) (map without_backup seats) ≡ map (put_each images) (map without_backup seats)
+bare-twice images [] = refl
+bare-twice images (seat ∷ seats) = ap (λ l. put_each images (without_backup seat) ∷ l) (bare-twice images seats)

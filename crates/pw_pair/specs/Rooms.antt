@@ -1,6 +1,8 @@
 -- Room for the memory of a pair when it leaves.
 use Rattle.std.specs.Global.{Vec}
-use Rattle.std.specs.Prelude.{◌≡◌, ◌≤◌, ℕ, ◌||◌, Bool, is_some, List, [], length, count_by, vec_capacity}
+use Rattle.std.specs.List.{list_any}
+use Rattle.std.specs.Prelude.{◌≡◌, ◌≤◌, ℕ, ◌||◌, Bool, false, is_some, List, [], length, count_by, vec_capacity}
+use Rattle.pw_pair.specs.Seats.{is_flying}
 use Rattle.pw_pair.specs.declared.backup.Held.{Held}
 use Rattle.pw_pair.specs.declared.message.CheckKind.{CheckKind}
 use Rattle.pw_pair.specs.declared.message.CheckKind.TheVariants.{Start, End, Copy}
@@ -33,7 +35,16 @@ NeedsNoRoom Alone = Unit {0}
 NeedsNoRoom Gone = Unit {0}
 NeedsNoRoom _ = ⊥
 
--- there is room, and nothing is in it
+-- where the memory waits to be taken, nothing is in flight
+abbrev pub IsStill : Mode → List BackupSeat → Type 0
+IsStill Raising seats = Unit {0}
+IsStill Paired seats = Unit {0}
+IsStill Down seats = list_any is_flying seats ≡ false
+IsStill Alone seats = Unit {0}
+IsStill Gone seats = Unit {0}
+
+-- there is room, nothing is in it, and nothing is in flight where the memory waits to be taken
 pub record HasEmptyRoom (mode : Mode) (seats : List BackupSeat) (room : Vec Held) : Type 0 where
   pub empty : room.items ≡ []
   pub fits : FitsIn mode seats (vec_capacity room)
+  pub still : IsStill mode seats

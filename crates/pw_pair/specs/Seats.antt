@@ -4,12 +4,10 @@ use Rattle.std.specs.List.{list_any}
 use Rattle.std.specs.Str.{bytes_eq}
 use Rattle.pw_pair.specs.Bodies.{body_of, fits_held, image_in, is_image, is_whole}
 use Rattle.pw_pair.specs.declared.backup.Held.{Held}
-use Rattle.pw_pair.specs.declared.message.Body.{Body}
 use Rattle.pw_pair.specs.declared.message.Body.TheVariants.{Whole}
 use Rattle.pw_pair.specs.declared.message.Carried.{Carried}
 use Rattle.pw_pair.specs.declared.message.CheckKind.{CheckKind}
 use Rattle.pw_pair.specs.declared.message.CheckKind.TheVariants.{Start, End, Copy}
-use Rattle.pw_pair.specs.declared.message.CheckMessage.{CheckMessage}
 use Rattle.pw_pair.specs.declared.seat.Flight.{Flight}
 use Rattle.pw_pair.specs.declared.seat.BackupSeat.{BackupSeat}
 
@@ -208,6 +206,10 @@ flight_is_sound start (Some flight) =
     fits_held start flight.message.body
     && (is_image (image_in start flight.message.body)
     && (if flight.built then is_whole flight.message.body else true))
+
+-- what is held of the terminal, if anything is, names it and is in the image format
+abbrev pub has_own_memory : BackupSeat → Bool
+has_own_memory seat = memory_is_sound seat.terminal seat.memory
 
 -- what a seat keeps: its memory and its message in flight are sound
 abbrev pub is_sound : BackupSeat → Bool

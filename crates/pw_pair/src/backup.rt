@@ -76,7 +76,7 @@ fn resume_all(alloc: Global, images: &[Held], ended: &[(u32, u32)]) -> Result<Ve
 }
 
 /// A terminal goes on at what is held of it, where this is TMF's last ended unit.
-pub fn resume(alloc: Global, held: &Held, last: u32) -> Result<Resumed, Memory>
+fn resume(alloc: Global, held: &Held, last: u32) -> Result<Resumed, Memory>
     requires { held_is_sound held.now ≡ true }
     ensures { IfOk result (λ resumed. resumption_of resumed ≡ resumption_at held.now last) }
 {

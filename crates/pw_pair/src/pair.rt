@@ -1,13 +1,13 @@
-ghost use Rattle.std.specs.Prelude.{◌≡◌, ◌&&◌, ◌<◌, ◌≤◌, [], find, length, true, false, not, Some, None, IfOk, IfSome, IsTrue, ◌↔◌, OnOk, OnErr, is_some, is_none, option_map};
+ghost use Rattle.std.specs.Prelude.{◌≡◌, ◌&&◌, ◌<◌, ◌≤◌, [], find, length, true, false, not, Some, None, IfOk, IfSome, IsTrue, ◌↔◌, OnOk, OnErr, is_some, is_none};
+ghost use Rattle.std.specs.List.{list_all};
 ghost use Rattle.std.specs.Option.{option_copied};
 ghost use Rattle.pw_pair.specs.Bodies.{is_image};
-ghost use Rattle.pw_pair.specs.Seats.{built, has_memory, holds_end, holds_start, is_built, is_flying, is_waiting, seats_with, without_backup};
+ghost use Rattle.pw_pair.specs.Seats.{built, has_memory, has_own_memory, holds_end, holds_start, is_built, is_flying, is_waiting, seats_with, without_backup};
 
 use crate::backup::{Backup, Held};
 use crate::link::{LinkDone, LinkTask};
 use crate::message::CheckMessage;
 use crate::mode::Mode;
-use crate::resumed::Resumed;
 use crate::seat::BackupSeat;
 use crate::seats::Seats;
 use pw_base::memory::Memory;
@@ -39,7 +39,6 @@ impl Model for Pair {
 impl Pair {
     ghost use Rattle.pw_pair.specs.Pairs.{after_applied, after_drop, after_put_back, after_raise, after_send, after_take, backup_fails, changed_at, in_mode, memory_of, primary_fails, passes, seat_of, settled};
     ghost use Rattle.pw_pair.specs.Rooms.{MaySend, NeedsNoRoom};
-    ghost use Rattle.pw_pair.specs.Takeover.{resumption_in, resumption_of};
     ghost use Rattle.pw_pair.specs.Tasks.{waiting_task};
 
     /// A pair in Alone with these terminals, none of which has ended.
@@ -80,19 +79,6 @@ impl Pair {
         ensures { option_copied result ≡ seat_of terminal self.now }
     {
         self.seats.get(terminal)
-    }
-
-    /// How a terminal goes on behind a takeover, where this is the number of TMF's last ended unit of it, 0 for none.
-    /// None exactly where nothing is held of it.
-    pub fn resumption(&self, terminal: u32, last: u32) -> Result<Option<Resumed>, Memory>
-        ensures { IfOk result (λ resumed. option_map resumption_of resumed
-            ≡ resumption_in (seat_of terminal self.now) last) }
-    {
-        let alloc = *self.room.allocator();
-        match self.seats.get(terminal) {
-            Some(seat) => seat.resumption(alloc, last),
-            None => Ok(None),
-        }
     }
 
     /// Makes a new backup, which holds nothing. An `Err` leaves the pair as it was.
@@ -279,11 +265,13 @@ impl Pair {
         }
     }
 
-    /// The whole memory, each terminal once, which leaves the pair. It takes no memory.
+    /// The whole memory, each terminal once, which leaves the pair; put back, it leaves what was. It takes no memory.
     pub fn take_backup(&mut self) -> Backup
         requires { self.old.mode ≡ Mode.Down }
         ensures after { self.new ≡ after_take self.old }
         ensures images { result ≡ memory_of self.old.seats }
+        ensures own { list_all has_own_memory self.old.seats ≡ true }
+        ensures back { after_put_back result self.new ≡ self.old }
     {
         let alloc = *self.room.allocator();
         let mut images = mem::replace(&mut self.room, Vec::new(alloc));

@@ -1,13 +1,11 @@
-ghost use Rattle.std.specs.Prelude.{◌≡◌, ◌↔◌, true, Some, IfOk, IsTrue, option_map};
+ghost use Rattle.std.specs.Prelude.{◌≡◌, ◌↔◌, true, Some, IfOk, IsTrue};
 ghost use Rattle.std.specs.Option.{option_copied};
 ghost use Rattle.pw_pair.specs.Seats.{applied, built, dropped, flies_whole, holds_end, holds_start, is_built, is_lacking, is_sound, is_waiting, new_seat, stands_for, start_of, with_carried, with_held, with_kind, without_backup, without_flight};
-ghost use Rattle.pw_pair.specs.Takeover.{resumption_in, resumption_of};
 ghost use Rattle.pw_pair.specs.Tasks.{task_of};
 
-use crate::backup::{Held, resume};
+use crate::backup::Held;
 use crate::link::LinkTask;
 use crate::message::{Body, Carried, CheckKind};
-use crate::resumed::Resumed;
 use pw_base::bytes::Bytes;
 use pw_base::memory::Memory;
 use pw_code::copies::Duplicate;
@@ -43,19 +41,6 @@ impl BackupSeat {
             dropped: false,
             memory: None,
             flight: None,
-        }
-    }
-
-    /// How the terminal goes on behind a takeover, where this is TMF's last ended unit: None exactly where nothing is
-    /// held of it.
-    pub fn resumption(&self, alloc: Global, last: u32) -> Result<Option<Resumed>, Memory>
-        requires { is_sound self.now ≡ true }
-        ensures { IfOk result (λ resumed. option_map resumption_of resumed
-            ≡ resumption_in (Some self.now) last) }
-    {
-        match &self.memory {
-            Some(held) => Ok(Some(resume(alloc, held, last)?)),
-            None => Ok(None),
         }
     }
 

@@ -52,7 +52,7 @@ fn recount(lacking: usize, before: bool, after: bool) -> usize
 }
 
 impl Seats {
-    ghost use Rattle.pw_pair.specs.Seats.{applied, at_terminal, built, dropped, held_is_sound, is_built, is_flying, is_seat_of, is_sound, is_waiting, put_each, put_held, seats_with, stands_for, with_message, with_terminal};
+    ghost use Rattle.pw_pair.specs.Seats.{applied, at_terminal, built, dropped, has_own_memory, held_is_sound, is_built, is_flying, is_seat_of, is_sound, is_waiting, put_each, put_held, seats_with, stands_for, with_message, with_terminal};
     ghost use Rattle.pw_pair.specs.Bodies.{is_image};
     ghost use Rattle.pw_pair.specs.Pairs.{passes};
     ghost use Rattle.pw_pair.specs.Tasks.{task_at};
@@ -252,12 +252,15 @@ impl Seats {
     }
 
     /// Moves the memory of each terminal behind the images, in the order of the seats, and drops what is in flight. It
-    /// takes no memory, since there is room.
+    /// takes no memory, since there is room. Where nothing was in flight, the memory that is put in again leaves what was.
     pub fn move_memory(&mut self, images: &mut Vec<Held>)
         requires room { vec_len images.old + count_by is_used self.old ≤ vec_capacity images.old }
         ensures after { self.new ≡ map without_backup self.old }
         ensures images { images.new.items ≡ images.old.items ++ memory_of self.old }
         ensures sound { list_all held_is_sound (memory_of self.old) ≡ true }
+        ensures own { list_all has_own_memory self.old ≡ true }
+        ensures back { list_any is_flying self.old ≡ false
+            → map (put_each (memory_of self.old)) self.new ≡ self.old }
     {
         move_memory(&mut self.seats, images);
         self.lacking = lacking_in(self.seats.as_slice());
