@@ -1,10 +1,9 @@
 -- What is done to the seats of some terminals, and to what is kept of them.
-use Rattle.std.specs.Prelude.{ℕ, Bool, true, false, List, [], ◌∷◌, Option, Some, None, is_none, slice_set, option_map, if◌then◌else◌}
+use Rattle.std.specs.Prelude.{ℕ, Bool, true, false, List, [], ◌∷◌, Option, Some, None, is_none, slice_set, if◌then◌else◌}
 use Rattle.pw_event.specs.declared.event.Cause.TheVariants.{Takeover}
 use Rattle.pw_event.specs.declared.event.Ending.{Ending}
 use Rattle.pw_event.specs.declared.event.Ending.TheVariants.{Stopped, NoEntries, Fault, Suspended, Lost}
 use Rattle.pw_world_store.specs.Keeps.{seat_at}
-use Rattle.pw_world_store.specs.declared.pieces.Going.{Going}
 use Rattle.pw_world_store.specs.declared.pieces.TerminalLoss.{TerminalLoss}
 use Rattle.pw_world_store.specs.declared.pieces.TerminalLoss.TheVariants.{Nothing, Paths, Units}
 use Rattle.pw_world_state.specs.Changes.{at_each, cancel, leave, without_path, without_unit}
@@ -13,6 +12,7 @@ use Rattle.pw_pair.specs.Pairs.{SeenPair, seat_of}
 use Rattle.pw_pair.specs.Takeover.{Resumption, resumption_in, resumption_of}
 use Rattle.pw_pair.specs.declared.mode.Mode.{Mode}
 use Rattle.pw_pair.specs.declared.mode.Mode.TheVariants.{Alone, Raising, Paired, Down, Gone}
+use Rattle.pw_pair.specs.declared.resumed.Resumed.{Resumed}
 use Rattle.pw_world_store.specs.Seats.{runs_unit}
 use Rattle.pw_world_store.specs.declared.seat.Seat.{Seat}
 use Rattle.pw_tmf.specs.Leaving.{open_units}
@@ -87,13 +87,9 @@ gone_on p (Some (t, (unit, context))) seat =
     else seat
 
 -- each of them goes on so, the last one first
-abbrev pub gone_each : ℕ → List Going → List Seat → List Seat
+abbrev pub gone_each : ℕ → List Resumed → List Seat → List Seat
 gone_each p [] seats = seats
-gone_each p (going ∷ goings) seats =
-    let others = gone_each p goings seats in
-    slice_set others going.terminal
-    (gone_on p (option_map resumption_of going.resumed) (seat_at others going.terminal))
-
--- who goes on, and how
-abbrev pub goings_of : Going → ℕ × Option Resumption
-goings_of going = (going.terminal, option_map resumption_of going.resumed)
+gone_each p (one ∷ resumed) seats =
+    let others = gone_each p resumed seats in
+    slice_set others one.terminal
+    (gone_on p (Some (resumption_of one)) (seat_at others one.terminal))

@@ -1,11 +1,10 @@
 //! What is done to the seats of some terminals.
 
-ghost use Rattle.std.specs.Prelude.{◌≡◌, ◌<◌, All, length, option_map};
+ghost use Rattle.std.specs.Prelude.{◌≡◌, ◌<◌, All, Some, length};
 ghost use Rattle.pw_world_store.specs.Each.{changed_each, gone_each, gone_on};
 ghost use Rattle.pw_pair.specs.Takeover.{resumption_of};
 ghost use Rattle.pw_world_store.specs.Seats.{seat_unit_over, without_path};
 
-use crate::pieces::Going;
 use crate::seat::Seat;
 use pw_event::event::Cause;
 use pw_pair::resumed::Resumed;
@@ -31,10 +30,10 @@ pub fn lose_paths(seats: &mut Vec<Seat>, terminals: &[u32])
 }
 
 /// A terminal goes on so behind a takeover of its pair.
-fn go_on(seat: &mut Seat, tcp: u32, resumed: Option<Resumed>)
-    ensures { seat.new ≡ gone_on tcp (option_map resumption_of resumed) seat.old }
+fn go_on(seat: &mut Seat, tcp: u32, resumed: Resumed)
+    ensures { seat.new ≡ gone_on tcp (Some (resumption_of resumed)) seat.old }
 {
-    if let (Some(resumed), None) = (resumed, seat.ending) {
+    if seat.ending.is_none() {
         let cause = if seat.runs_unit(resumed.unit) {
             Some(Cause::Takeover(tcp))
         } else {
@@ -44,12 +43,12 @@ fn go_on(seat: &mut Seat, tcp: u32, resumed: Option<Resumed>)
     }
 }
 
-/// These terminals go on so behind a takeover of their pair.
-pub fn go_on_each(seats: &mut Vec<Seat>, tcp: u32, mut goings: Vec<Going>)
-    requires { All (λ going. going.terminal < length seats.old.items) goings.items }
-    ensures { seats.new.items ≡ gone_each tcp goings.items seats.old.items }
+/// Terminals go on so behind a takeover of their pair.
+pub fn go_on_each(seats: &mut Vec<Seat>, tcp: u32, mut resumed: Vec<Resumed>)
+    requires { All (λ one. one.terminal < length seats.old.items) resumed.items }
+    ensures { seats.new.items ≡ gone_each tcp resumed.items seats.old.items }
 {
-    while let Some(going) = goings.pop() {
-        go_on(&mut seats[going.terminal as usize], tcp, going.resumed);
+    while let Some(one) = resumed.pop() {
+        go_on(&mut seats[one.terminal as usize], tcp, one);
     }
 }

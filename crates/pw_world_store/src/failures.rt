@@ -2,7 +2,7 @@
 
 ghost use Rattle.std.specs.Prelude.{◌≡◌, ◌<◌, All, IfErr, IfOk, OnErr, OnOk, length, map};
 ghost use Rattle.pw_world_store.specs.Calls.{members_in};
-ghost use Rattle.pw_world_store.specs.Each.{goings_of, lost, resumption_at};
+ghost use Rattle.pw_world_store.specs.Each.{lost};
 ghost use Rattle.pw_world_store.specs.Keeps.{IsChanged, IsRefused, kept_in};
 ghost use Rattle.pw_world_store.specs.declared.pieces.TerminalLoss.TheVariants as Loss;
 ghost use Rattle.pw_world_state.specs.Changes.{kept_end, kept_fail_tcp, kept_takeover, leave_at};
@@ -11,7 +11,7 @@ ghost use Rattle.pw_pair.specs.declared.mode.Mode.TheVariants as Mode;
 
 use crate::each::go_on_each;
 use crate::keep::Keep;
-use crate::pieces::{Going, TerminalLoss, is_left, loss_in};
+use crate::pieces::{TerminalLoss, is_left, loss_in};
 use pw_base::memory::Memory;
 use pw_event::event::Ending;
 use pw_tmf::answer::DiscFault;
@@ -68,37 +68,32 @@ impl<D: Disc> Keep<D> {
         Ok(())
     }
 
-    /// How each of these terminals of a pair goes on behind its takeover.
-    fn goings(&self, tcp: u32, terminals: &[u32]) -> Result<Vec<Going>, Memory>
-        requires known { tcp < length self.now.system.tcps }
-        requires terminals { All (λ t. t < length self.now.system.terminals) terminals.now }
-        ensures { IfOk result (λ goings. map goings_of goings.items
-            ≡ map (λ t. (t, resumption_at ((kept_in D.told self.now).pairs tcp) (kept_in D.told self.now).disc t)) terminals.now) }
+    /// TMF's last ended unit of each of these terminals, by its number, 0 where none has ended.
+    fn last_ended(&self, terminals: &[u32]) -> Result<Vec<(u32, u32)>, Memory>
+        requires { All (λ t. t < length self.now.system.terminals) terminals.now }
+        ensures { IfOk result (λ ended. ended.items
+            ≡ map (λ t. (t, ((kept_in D.told self.now).disc.ended t).number)) terminals.now) }
     {
-        let mut goings = Vec::new(self.alloc);
+        let mut ended = Vec::new(self.alloc);
         for terminal in terminals {
-            goings.push(self.going(tcp, *terminal)?)?;
+            ended.push((*terminal, self.number_ended(*terminal)))?;
         }
-        Ok(goings)
+        Ok(ended)
     }
 
-    /// How a terminal of a pair goes on behind its takeover.
-    fn going(&self, tcp: u32, terminal: u32) -> Result<Going, Memory>
-        requires known { tcp < length self.now.system.tcps }
-        requires terminal { terminal < length self.now.system.terminals }
-        ensures { IfOk result (λ going. goings_of going
-            ≡ (terminal, resumption_at ((kept_in D.told self.now).pairs tcp) (kept_in D.told self.now).disc terminal)) }
+    /// The number of TMF's last ended unit of a terminal, 0 where none has ended.
+    fn number_ended(&self, terminal: u32) -> u32
+        requires { terminal < length self.now.system.terminals }
+        ensures { result ≡ ((kept_in D.told self.now).disc.ended terminal).number }
     {
-        let last = match self.ended(terminal) {
+        match self.ended(terminal) {
             Some(ended) => ended.number,
             None => 0,
-        };
-        let resumed = self.pair(tcp).resumption(terminal, last)?;
-        Ok(Going { terminal, resumed })
+        }
     }
 
-    /// TAKEOVER: the live terminals of a pair go on with the contexts whose images its backup held, and the memory
-    /// leaves. An `Err` leaves all as it was.
+    /// TAKEOVER: the live terminals of a pair go on with the contexts whose images its backup held. They are made from
+    /// these images and TMF's last ended units alone, and the backup is used up. An `Err` leaves all as it was.
     pub fn takeover(&mut self, tcp: u32) -> Result<(), Memory>
         requires known { tcp < length self.old.system.tcps }
         requires down { ((kept_in D.told self.old).pairs tcp).mode ≡ Mode.Down }
@@ -106,10 +101,18 @@ impl<D: Disc> Keep<D> {
         ensures err { OnErr result (self.new ≡ self.old) }
     {
         let terminals = self.members(tcp)?;
-        let goings = self.goings(tcp, &terminals)?;
-        go_on_each(&mut self.seats, tcp, goings);
-        self.pairs[tcp as usize].take_backup();
-        Ok(())
+        let ended = self.last_ended(&terminals)?;
+        let backup = self.pairs[tcp as usize].take_backup();
+        match backup.takeover(self.alloc, &ended) {
+            Ok(resumed) => {
+                go_on_each(&mut self.seats, tcp, resumed);
+                Ok(())
+            }
+            Err((backup, memory)) => {
+                self.pairs[tcp as usize].put_back(backup);
+                Err(memory)
+            }
+        }
     }
 
     /// The open unit of a terminal is left at this ending, but at STOPPED and LOST.

@@ -19,7 +19,6 @@ use pw_code::verb::Verb;
 use pw_event::event::Ending;
 use pw_pair::mode::Mode;
 use pw_pair::pair::Pair;
-use pw_pair::resumed::Resumed;
 use pw_tmf::answer::DiscFault;
 use pw_tmf::disc::Disc;
 use std::alloc::Global;
@@ -87,13 +86,6 @@ pub enum TerminalLoss {
     Paths,
     /// These and their open units.
     Units,
-}
-
-/// How a terminal goes on behind a takeover: not at all where nothing is held of it.
-#[derive(Drop)]
-pub struct Going {
-    pub terminal: u32,
-    pub resumed: Option<Resumed>,
 }
 
 /// Units are backed out and end, if there are any.
