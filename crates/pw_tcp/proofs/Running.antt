@@ -119,7 +119,7 @@ module _ (sys : Behaviour) (b : IsBehaviour sys) (log : List Event) (run : IsRun
   by-takeover P taken calm =
       ⊎_elim (λ is. taken (stopped is)) (λ is. calm (calm-path is)) (cases_Bool (is_takeover (s.terms t).pending))
 
-  is-path : IsPath sys t path
+  pub is-path : IsPath sys t path
   is-path = by-takeover (IsPath sys t path) (λ x. x.taken.0.is_path) (λ h. checks.path_ok-is last (s.units t) h)
 
   -- the next unit to end

@@ -116,6 +116,34 @@ step_of_verb terminal asked in_unit note =
     if lacks_check terminal asked in_unit note
     then check_of asked else held_step terminal asked in_unit note
 
+-- What the step looks at.
+
+-- the verb ends the transaction
+abbrev pub ends_unit : Verb → Bool
+ends_unit verb.End = true
+ends_unit verb.Drop = true
+ends_unit _ = false
+
+-- the pair is Paired, and no cause is pending
+abbrev pub is_calm : Terminal → Note → Bool
+is_calm terminal note = note.paired && not (is_pending terminal.pending)
+
+-- the step depends on whether the start is held
+abbrev pub needs_start : Terminal → Verb → Bool → Note → Bool
+needs_start terminal asked in_unit note = is_calm terminal note && is_to_begin terminal asked in_unit note
+
+-- the step depends on whether the end is held
+abbrev pub needs_end : Terminal → Verb → Note → Bool
+needs_end terminal asked note = is_calm terminal note && ends_unit asked
+
+-- the other note says what this one says, as far as the step depends on it
+pub record SaysEnough (terminal : Terminal) (asked : Verb) (in_unit : Bool) (note other : Note) : Type 0 where
+  pub paired : other.paired ≡ note.paired
+  pub in_flight : other.in_flight ≡ note.in_flight
+  pub ended : other.ended ≡ note.ended
+  pub start : needs_start terminal asked in_unit note ≡ true → other.start_held ≡ note.start_held
+  pub end : needs_end terminal asked note ≡ true → other.end_held ≡ note.end_held
+
 -- the next step
 abbrev pub next_step_of : Terminal → Verb → Bool → Note → ℕ → TcpStep
 next_step_of terminal asked in_unit note max =

@@ -1,4 +1,4 @@
-ghost use Rattle.std.specs.Prelude.{◌≡◌, ℕ, List, Some, true, IfSome};
+ghost use Rattle.std.specs.Prelude.{◌≡◌, ℕ, Bool, List, Some, true, IfSome};
 ghost use Rattle.pw_event.specs.declared.event.Event.{Event};
 ghost use Rattle.pw_onecopy.specs.Behaviour.{Behaviour};
 ghost use Rattle.pw_onecopy.specs.IsBehaviour.{IsBehaviour};
@@ -7,7 +7,11 @@ ghost use Rattle.pw_paired.specs.Step.{Fits, IsRun, after};
 ghost use Rattle.pw_paired.specs.Terminal.{IsLive};
 ghost use Rattle.pw_tcp.specs.Entries.{step_entry, makes_way, stepper_of};
 ghost use Rattle.pw_tcp.specs.InState.{FitsTogether, HasMember, MayStep, next_step_in};
+ghost use Rattle.pw_tcp.specs.NextStep.{SaysEnough, next_step_of};
 ghost use Rattle.pw_tcp.specs.declared.step.TcpStep.TheVariants.{Wait};
+ghost use Rattle.pw_tcp.specs.declared.terminal.Note.{Note};
+ghost use Rattle.pw_tcp.specs.declared.terminal.Terminal.{Terminal};
+ghost use Rattle.pw_code.specs.declared.verb.Verb.{Verb};
 
 /// In a state in which a live terminal may be asked for its next step, the entry that the step names fits its kind;
 /// and where the terminal waits, no entry of its own fits but a restart or a suspension for an older unit, and the
@@ -48,4 +52,11 @@ pub fn run_laws()
         → ¬ HasMember (state.modes (sys.pair_of t))
         → (entry : Event) → stepper_of entry ≡ Some t → Fits sys state entry
         → makes_way entry ≡ true }
+{}
+
+/// The next step is the same where a note says enough: of what the backup holds only what the step depends on.
+pub fn note_laws()
+    ensures { (terminal : Terminal) (asked : Verb) (in_unit : Bool) (note other : Note) (max : ℕ)
+        → SaysEnough terminal asked in_unit note other
+        → next_step_of terminal asked in_unit other max ≡ next_step_of terminal asked in_unit note max }
 {}

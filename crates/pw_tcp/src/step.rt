@@ -1,5 +1,5 @@
 ghost use Rattle.std.specs.Prelude.{◌≡◌, ◌≢◌, ◌≤◌, true, false};
-ghost use Rattle.pw_tcp.specs.NextStep.{next_step_of, is_restarting, restart_of, is_waiting, lacks_check, is_to_begin, step_of_verb, check_of, MayAsk, RunsWhere, BeginsAnew};
+ghost use Rattle.pw_tcp.specs.NextStep.{next_step_of, is_restarting, restart_of, is_waiting, lacks_check, is_to_begin, is_calm, needs_start, needs_end, step_of_verb, check_of, MayAsk, RunsWhere, BeginsAnew};
 
 use crate::terminal::{Note, Pending, Terminal};
 use pw_code::verb::Verb;
@@ -55,6 +55,28 @@ pub fn next_step(terminal: &Terminal, verb: &Verb, in_unit: bool, note: &Note, m
         return TcpStep::Wait;
     }
     step_of_verb(terminal, verb, in_unit, note)
+}
+
+/// Whether the next step depends on whether the backup holds the start, so that it has to be looked up. What the note
+/// says of that plays no part.
+pub fn needs_start(terminal: &Terminal, verb: &Verb, in_unit: bool, note: &Note) -> bool
+    ensures { result ≡ needs_start terminal.now verb.now in_unit note.now }
+{
+    is_calm(terminal, note) && is_to_begin(terminal, verb, in_unit, note)
+}
+
+/// Whether the next step depends on whether the backup holds the end.
+pub fn needs_end(terminal: &Terminal, verb: &Verb, note: &Note) -> bool
+    ensures { result ≡ needs_end terminal.now verb.now note.now }
+{
+    is_calm(terminal, note) && matches!(verb, Verb::End | Verb::Drop)
+}
+
+/// Whether the pair is Paired and no cause is pending.
+fn is_calm(terminal: &Terminal, note: &Note) -> bool
+    ensures { result ≡ is_calm terminal.now note.now }
+{
+    note.paired && matches!(terminal.pending, Pending::Nothing)
 }
 
 /// Whether a restart is due.
