@@ -8,7 +8,7 @@ ghost use Rattle.pw_entry_tests.specs.Known.{IsKnown};
 ghost use Rattle.pw_entry_tests.specs.Steps.{IsFoundOr};
 ghost use Rattle.pw_entry_tests.specs.Verbs.{HasNoAgain, HasNoBegin, HasNoDrop, HasNoEnd, HasNoKey, HasNoSend, HasNoVerbStep, HasNoneAt, StandsAtVerb};
 
-use crate::terminals::{may_again, may_end_entries, may_key, may_send, stepping};
+use crate::terminals::{may_again, may_end_entries, may_key, may_send, refresh_of, stepping};
 use crate::units::{may_back, may_begin, may_check_end, may_check_start, may_commit};
 use pw_code::verb::Verb;
 use pw_event::event::{Ending, Event};
@@ -38,12 +38,15 @@ fn step_at<D: Disc>(keep: &Keep<D>, terminal: u32, at: &Ready) -> Option<Event>
         (HasNoneAt keep.now.system (kept_in D.told keep.now) terminal at.now.verb) result }
 {
     match &at.verb {
-        Verb::Show => Some(Event::Show {
-            terminal,
-            phase: at.context.phase,
-            attempt: at.context.attempt,
-            k: at.context.shown + 1,
-        }),
+        Verb::Show => {
+            let (phase, attempt, k) = refresh_of(&at.context);
+            Some(Event::Show {
+                terminal,
+                phase,
+                attempt,
+                k,
+            })
+        }
         Verb::Accept(_) => accept_step(keep, terminal, at),
         Verb::Begin => begin_step(keep, terminal, at),
         Verb::Send { class, .. } => send_step(keep, terminal, at, *class),

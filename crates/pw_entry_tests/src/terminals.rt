@@ -23,6 +23,7 @@ use pw_code::context::Context;
 use pw_code::system::System;
 use pw_pair::mode::Mode;
 use pw_pair::pair::Pair;
+use pw_tcp::refresh::refresh;
 use pw_tmf::disc::Disc;
 use pw_world_store::keep::Keep;
 use pw_world_store::seat::{AwaitedUnit, Ready};
@@ -192,15 +193,24 @@ fn is_refresh(context: &Context, phase: u32, attempt: u32, k: u32) -> bool
     ensures { result ≡ is_same_refresh (next_refresh_number context.now)
         (record { phase = phase; attempt = attempt; k = k }) }
 {
-    context.phase == phase && is_shown_next(context, attempt, k)
+    let (next_phase, next_attempt, next) = refresh_of(context);
+    next_phase == phase && is_shown_as(next_attempt, next, attempt, k)
 }
 
-/// Whether the next refresh has this attempt, and this number in it.
-fn is_shown_next(context: &Context, attempt: u32, k: u32) -> bool
-    requires { IsFewCounted context.now }
-    ensures { result ≡ (context.now.attempt == attempt && context.now.shown + 1 == k) }
+/// Whether these are one attempt and one number in it.
+fn is_shown_as(own_attempt: u32, own: u32, attempt: u32, k: u32) -> bool
+    ensures { result ≡ (own_attempt == attempt && own == k) }
 {
-    context.attempt == attempt && context.shown + 1 == k
+    own_attempt == attempt && own == k
+}
+
+/// The number of the next refresh: phase, attempt and the number in them.
+pub fn refresh_of(context: &Context) -> (u32, u32, u32)
+    requires { IsFewCounted context.now }
+    ensures { record { phase = result.0; attempt = result.1; k = result.2 }
+        ≡ next_refresh_number context.now }
+{
+    refresh(context)
 }
 
 /// KEY: the program takes its next entry line, and that is there.
