@@ -166,7 +166,7 @@ module _ (system : System) (script : List FailLine) (state : State) (own : Kept)
         ∙ (ap (λ u. seats.has_start u (image_of behind) seat.0.memory) asking.says.counts.unit
         ∙ held-start system state t info (unit_number (path_of state t)) (path_of state t) behind (state.memory t) seat.0.memory refl tells seat.2))
 
-    held-where : legal.can_step sys state t ≡ true → kept.begins_unit (verb_in system context) (not context.in_unit) ≡ true
+    pub held-where : legal.can_step sys state t ≡ true → kept.begins_unit (verb_in system context) (not context.in_unit) ≡ true
         → start_held system own t (unit_in context) ≡ holds_start (state.memory t) (unit_number (path_of state t)) (path_of state t)
     held-where can starts = by (own.terminals t).context refl
       where
@@ -216,13 +216,13 @@ module _ (system : System) (script : List FailLine) (state : State) (own : Kept)
     abbrev pub at : IsAsking system script state own t
     at = ask.asking
 
-    ends-held : verb_in system at.context ≡ verb.End → end_held system own t answer.Ended at.context ≡ holds_end (state.memory t) (path_of state t ++ Ended ∷ [])
+    pub ends-held : verb_in system at.context ≡ verb.End → end_held system own t answer.Ended at.context ≡ holds_end (state.memory t) (path_of state t ++ Ended ∷ [])
     ends-held is =
         let seat = seat-held system script state own stands t at.placed in
         ap (passes (seats.holds_end (image_of (answered_with system answer.Ended at.context)))) seat.1
         ∙ held-end system state t at.placed.info (path_of state t ++ Ended ∷ []) (answered_with system answer.Ended at.context) (state.memory t) seat.0.memory refl (ask.ends is) seat.2
 
-    drops-held : verb_in system at.context ≡ verb.Drop → end_held system own t answer.Dropped at.context ≡ holds_end (state.memory t) (path_of state t ++ Dropped ∷ [])
+    pub drops-held : verb_in system at.context ≡ verb.Drop → end_held system own t answer.Dropped at.context ≡ holds_end (state.memory t) (path_of state t ++ Dropped ∷ [])
     drops-held is =
         let seat = seat-held system script state own stands t at.placed in
         ap (passes (seats.holds_end (image_of (answered_with system answer.Dropped at.context)))) seat.1

@@ -25,6 +25,7 @@ pub mod Mays
 pub mod Meeting
 pub mod Members
 pub mod Needed
+pub mod NextSteps
 pub mod OfRuns
 pub mod PathLengths
 pub mod Raised

@@ -133,7 +133,7 @@ module _ (system : System) (script : List FailLine) (valid : IsValid system) (b 
     abbrev can : Bool
     can = legal.can_step sys state t
 
-    can-is : kept.can_step system own t ≡ legal.can_step sys state t
+    pub can-is : kept.can_step system own t ≡ legal.can_step sys state t
     can-is = can-same system script state own stands t (placed t low)
 
     can-of : legal.can_step sys state t ≡ true → CanStep sys state t
@@ -159,7 +159,7 @@ module _ (system : System) (script : List FailLine) (valid : IsValid system) (b 
     pub begins-sound : IsPath sys t (path_of state t) → BeginsUnit (next_verb sys state t) (path_of state t) → ends_failed (path_of state t) ≡ false
     begins-sound is_path begins = sound-at sys b t (path_of state t) is_path (λ x fault. subst (λ v. BeginsUnit v (path_of state t)) fault begins)
 
-    asking-start : IsRead system own t → OwnValues own t → legal.can_step sys state t ≡ true → IsAskingStart system script state own t
+    pub asking-start : IsRead system own t → OwnValues own t → legal.can_step sys state t ≡ true → IsAskingStart system script state own t
     asking-start read fit e = record {
       asking = asking read e;
       tells = λ context is begins.

@@ -86,7 +86,7 @@ any-same zero f g same = refl
 any-same (suc n) f g same = ap₂ (λ a b. a || b) (any-same n f g (λ j low. same j (omega (arith, low)))) (same n (omega arith))
 
 -- there is one on both sides, or none
-same-there : {A B : Type 0} (R : A → B → Type 0) (a : Option A) (b : Option B) → StandsIfAny R a b → is_some b ≡ is_some a
+pub same-there : {A B : Type 0} (R : A → B → Type 0) (a : Option A) (b : Option B) → StandsIfAny R a b → is_some b ≡ is_some a
 same-there R None None h = refl
 same-there R (Some a) (Some b) h = refl
 same-there R None (Some b) h = absurd h
@@ -187,7 +187,7 @@ module _ (system : System) (script : List FailLine) (state : State) (own : Kept)
 
   -- ---- a terminal at its verb
 
-  out-same : (t : ℕ) → kept.is_out system own t ≡ units.is_out (behaviour script system) state t
+  pub out-same : (t : ℕ) → kept.is_out system own t ≡ units.is_out (behaviour script system) state t
   out-same t = any-same (length system.classes) _ _ (λ c low.
       let info = there-is system.classes c low in
       let old : StandsForClass system info.0 (state.classes c) (own.queues c) (own.jobs c) = stands.classes c info.0 info.1 in

@@ -9,6 +9,7 @@ pub mod May
 pub mod Meeting
 pub mod Members
 pub mod Needs
+pub mod NextSteps
 pub mod PairTests
 pub mod Read
 pub mod Stands

@@ -9,6 +9,7 @@ pub mod failures;
 pub mod laws;
 pub mod legality;
 pub mod lengths;
+pub mod next;
 pub mod pairs;
 pub mod restarts;
 pub mod running;
