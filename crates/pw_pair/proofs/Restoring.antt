@@ -23,9 +23,10 @@ AreApart (seat ∷ seats) = (list_any (is_seat_of seat.terminal) seats ≡ false
 apart-from : (seats : List BackupSeat) (d : BackupSeat)
     → ((j k : ℕ) → j < length seats → k < length seats → (get_or seats j d).terminal ≡ (get_or seats k d).terminal → j ≡ k) → AreApart seats
 apart-from [] d h = tt
-apart-from (seat ∷ seats) d h =
-    (nowhere-any seat.terminal seats d (λ j lt same. let e : suc j ≡ zero = h (suc j) zero (omega arith) (omega arith) same in omega (arith, e)),
-    apart-from seats d (λ j k first second same. let e : suc j ≡ suc k = h (suc j) (suc k) (omega arith) (omega arith) same in omega (arith, e)))
+apart-from (seat ∷ seats) d h = (
+  nowhere-any seat.terminal seats d (λ j lt same. let e : suc j ≡ zero = h (suc j) zero (omega arith) (omega arith) same in omega (arith, e)),
+  apart-from seats d (λ j k first second same. let e : suc j ≡ suc k = h (suc j) (suc k) (omega arith) (omega arith) same in omega (arith, e)),
+)
 
 pub places-apart : (places : BTreeMap ℕ ℕ) (seats : List BackupSeat) → ArePlaces places (terminals_of seats) → AreApart seats
 places-apart places seats are =
