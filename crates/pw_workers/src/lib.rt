@@ -3,6 +3,7 @@
 //! docs/WORKERS.md has the rules.
 #![tactic(auto)]
 
+pub mod bounds;
 mod calls;
 pub mod end;
 pub mod ending;

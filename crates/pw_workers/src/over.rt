@@ -1,24 +1,19 @@
 //! A run of a system over a disc that may fail.
 
-ghost use Rattle.std.specs.Prelude.{◌≡◌, ◌-◌, ◌<◌, ◌≤◌, ◌^◌, All, IfOk, length, true};
-ghost use Rattle.pw_code.specs.Limits.{most_log_lines};
-ghost use Rattle.pw_code.specs.Valid.{IsValid};
-ghost use Rattle.pw_code_meaning.specs.OfSystem.{behaviour};
-ghost use Rattle.pw_world_state.specs.May.{IsLineThere};
+ghost use Rattle.std.specs.Prelude.{◌≡◌, IfOk, true};
 ghost use Rattle.pw_world.specs.States.{seen};
 ghost use Rattle.pw_world_model.specs.Seen.{finished, sys_of};
 ghost use Rattle.pw_world_model.specs.Worlds.{IsDiscOf};
-ghost use Rattle.pw_onecopy.specs.IsBehaviour.{IsBehaviour};
 ghost use Rattle.pw_workers.specs.Endings.{EndsAs};
 ghost use Rattle.pw_workers.specs.Over.{LeavesWorld};
 
+use crate::bounds::RunBounds;
 use crate::end::RunEnd;
 use crate::ending::{LogEnding, are_regular};
 use crate::gate::Gate;
 use crate::workers::run_workers;
 use pw_base::memory::Memory;
-use pw_code::system::System;
-use pw_event::script::Script;
+use pw_setup::setup::Setup;
 use pw_tmf::disc::Disc;
 use pw_world::world::World;
 use std::alloc::Global;
@@ -34,30 +29,22 @@ pub enum RunEnding<D: Disc> {
     Failed(World<D>),
 }
 
-/// Runs a system over a disc of it with from 1 to 16 workers, for at most so many entries
-/// (docs/DESK.md): the world of this system, script and limit over this disc, whose log has ended so or
-/// whose disc has failed. It may wait for a thread.
+/// Runs a setup over a disc of its system within bounds (docs/DESK.md): the world of this system, script
+/// and limit over this disc, whose log has ended so or whose disc has failed. It may wait for a thread.
 pub fn run_over<D: Disc, G: Gate, R: Threads + Wait + Sync>(
     rt: &R,
     alloc: Global,
-    system: System,
-    script: Script,
+    setup: Setup,
     disc: D,
-    workers: u8,
-    events: u32,
+    bounds: RunBounds,
     gate: &G,
 ) -> Result<RunEnding<D>, Memory>
-    requires valid { IsValid system }
-    requires deck { IsBehaviour (behaviour script.lines system) }
-    requires lines { All (IsLineThere system) script.lines }
-    requires few { length script.lines < 2 ^ 32 - 1 }
-    requires disc { IsDiscOf system script.lines (D.told disc) }
-    requires workers { (1 ≤ workers) × (workers ≤ 16) }
-    requires events { events ≤ most_log_lines }
-    ensures { IfOk result (LeavesWorld D.told system script.lines events disc) }
+    requires { IsDiscOf setup.system setup.script (D.told disc) }
+    ensures { IfOk result (LeavesWorld D.told setup.system setup.script bounds.events disc) }
 {
-    let first = World::new(alloc, system, script, disc, events)?;
-    let (world, end) = run_workers(rt, alloc, first, workers, gate);
+    let (system, script) = setup.into_parts();
+    let first = World::new(alloc, system, script, disc, bounds.events)?;
+    let (world, end) = run_workers(rt, alloc, first, bounds.workers, gate);
     match end {
         RunEnd::Finished => {
             let ended = ended_as(&world);
