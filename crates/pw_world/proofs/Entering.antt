@@ -25,8 +25,8 @@ use Rattle.pw_paired.specs.Step.{Legal, effect}
 use Rattle.pw_actor_queue.specs.declared.actor.Actor.{Actor}
 use Rattle.pw_actor_queue.specs.declared.actor.Actor.TheVariants as actor
 use Rattle.pw_laws.proofs.RunSteps.{after_from-append}
-use Rattle.pw_unrun.specs.Between.{KeepsWork}
-use Rattle.pw_unrun.proofs.KeptContext.{context-stays}
+use Rattle.pw_world_model.specs.Between.{KeepsWork}
+use Rattle.pw_world_model.proofs.KeptContext.{context-stays}
 use Rattle.pw_world_model.specs.Actors.{IsActor}
 
 -- ---- steps

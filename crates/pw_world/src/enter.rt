@@ -1,7 +1,7 @@
 //! `enter`: one given entry.
 
 ghost use Rattle.std.specs.Prelude.{◌≡◌, ◌↔◌, ◌<◌, IfOk, IsTrue, OnOk, length};
-ghost use Rattle.pw_unrun.specs.Between.{KeepsWork};
+ghost use Rattle.pw_world_model.specs.Between.{KeepsWork};
 ghost use Rattle.pw_world_store.specs.Keeps.{kept_in};
 ghost use Rattle.pw_world_state.specs.May.{IsThere};
 ghost use Rattle.pw_world_state.specs.Read.{IsEntryRead};

@@ -9,8 +9,13 @@ pub mod Dues
 pub mod Endings
 pub mod Failures
 pub mod First
+pub mod Following
 pub mod HeldBirths
 pub mod Idle
+pub mod KeptContext
+pub mod KeptJob
+pub mod KeptTerminal
+pub mod Never
 pub mod OfUnits
 pub mod Outcomes
 pub mod Outs
@@ -18,6 +23,7 @@ pub mod Pairs
 pub mod Paths
 pub mod Placed
 pub mod Queues
+pub mod RanAway
 pub mod RanOn
 pub mod Readies
 pub mod Rooms

@@ -1,5 +1,6 @@
 pub mod Actors
 pub mod Answers
+pub mod Between
 pub mod Calls
 pub mod Commits
 pub mod Dues

@@ -16,3 +16,4 @@ pub mod requests;
 pub mod stepping;
 pub mod task;
 pub mod touching;
+pub mod unrun;

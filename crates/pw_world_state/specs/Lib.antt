@@ -12,6 +12,7 @@ pub mod Needs
 pub mod NextSteps
 pub mod PairTests
 pub mod Read
+pub mod Setups
 pub mod Stands
 pub mod TerminalTests
 pub mod Tested

@@ -15,6 +15,7 @@ pub mod restarts;
 pub mod running;
 pub mod runs;
 pub mod servers;
+pub mod setup;
 pub mod sound;
 pub mod starts;
 pub mod steps;

@@ -25,7 +25,7 @@ use Rattle.pw_pair.specs.declared.mode.Mode as pair
 use Rattle.pw_pair.specs.declared.mode.Mode.TheVariants as mode
 use Rattle.pw_paired.specs.State.{State}
 use Rattle.pw_world_model.proofs.Classes as class
-use Rattle.pw_unrun.proofs.KeptTerminal.{Stays}
+use Rattle.pw_world_model.proofs.KeptTerminal.{Stays}
 
 both : (a b : Bool) → a ≡ true → b ≡ true → (a && b) ≡ true
 both a b x y = ap₂ (λ p q. p && q) x y

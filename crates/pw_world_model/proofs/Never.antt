@@ -9,8 +9,8 @@ use Rattle.pw_world_model.specs.declared.answers.Claim.TheVariants as claim
 use Rattle.pw_world_model.specs.declared.task.Outcome.{Outcome}
 use Rattle.pw_world_model.specs.declared.task.Task.{Task}
 use Rattle.pw_world_model.proofs.SameWork.{out-so}
-use Rattle.pw_unrun.specs.Between.{AreCalls, HasBooks, IsOfTask}
-use Rattle.pw_unrun.proofs.Following.{Follows, all-called}
+use Rattle.pw_world_model.specs.Between.{AreCalls, HasBooks, IsOfTask}
+use Rattle.pw_world_model.proofs.Following.{Follows, all-called}
 
 pub never-unrun : (world claimed last : Seen) (between : List Seen) (task : Task) (outcome : Outcome) → HasBooks world → Claims world (Ok (claim.Work task)) claimed
     → AreCalls claimed between last → IsOfTask task outcome → ¬ AnswersApply last outcome applied.Unrun

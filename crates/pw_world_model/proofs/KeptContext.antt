@@ -28,8 +28,8 @@ use Rattle.pw_world_model.specs.Stamps.{state_in}
 use Rattle.pw_world_model.specs.Worlds.{Books, IsWorld}
 use Rattle.pw_world_model.proofs.Alike.{job_in, mode_in, own-differs}
 use Rattle.pw_world_model.proofs.Classes.{process-differs}
-use Rattle.pw_unrun.proofs.KeptJob.{job-stays}
-use Rattle.pw_unrun.proofs.KeptTerminal.{Stays, terminal-stays}
+use Rattle.pw_world_model.proofs.KeptJob.{job-stays}
+use Rattle.pw_world_model.proofs.KeptTerminal.{Stays, terminal-stays}
 
 module _ (world : Seen) (books : Books) (w : IsWorld world books) (entry : Event) (legal : Legal (sys_of world) (state_of world) entry) where
   abbrev sys : Behaviour

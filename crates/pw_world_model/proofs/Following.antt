@@ -29,9 +29,9 @@ use Rattle.pw_world_model.specs.declared.answers.Claim.{Claim}
 use Rattle.pw_world_model.specs.declared.answers.Entered.{Entered}
 use Rattle.pw_world_model.specs.declared.answers.Entered.TheVariants as enter
 use Rattle.pw_world_model.specs.declared.answers.Claim.TheVariants as claim
-use Rattle.pw_unrun.specs.Between.{AreCalls, IsApply, IsCall, IsEnter, IsGiveBack}
-use Rattle.pw_unrun.proofs.KeptContext.{context-stays}
-use Rattle.pw_unrun.proofs.RanAway.{ran-read}
+use Rattle.pw_world_model.specs.Between.{AreCalls, IsApply, IsCall, IsEnter, IsGiveBack}
+use Rattle.pw_world_model.proofs.KeptContext.{context-stays}
+use Rattle.pw_world_model.proofs.RanAway.{ran-read}
 
 -- ---- stamps, before an entry
 

@@ -2,7 +2,7 @@ ghost use Rattle.std.specs.Prelude.{◌≡◌, ◌-◌, ◌<◌, ◌^◌, All, l
 ghost use Rattle.pw_code.specs.Valid.{IsValid};
 ghost use Rattle.pw_code_meaning.specs.OfSystem.{behaviour};
 ghost use Rattle.pw_onecopy.specs.IsBehaviour.{IsBehaviour};
-ghost use Rattle.pw_setup.specs.Setups.{IsSetup};
+ghost use Rattle.pw_world_state.specs.Setups.{IsSetup};
 ghost use Rattle.pw_world_state.specs.May.{IsLineThere};
 
 use pw_code::system::System;
@@ -18,7 +18,7 @@ pub struct Setup {
 }
 
 impl Model for Setup {
-    ghost use Rattle.pw_setup.specs.Setups.{IsSetup as CanRun, SetupState};
+    ghost use Rattle.pw_world_state.specs.Setups.{IsSetup as CanRun, SetupState};
 
     ghost Value = { SetupState };
 

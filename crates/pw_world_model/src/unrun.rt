@@ -1,7 +1,7 @@
 ghost use Rattle.std.specs.Prelude.{◌≡◌, ◌⊎◌, List, None, Ok};
 ghost use Rattle.pw_event.specs.declared.event.Event.{Event};
 ghost use Rattle.pw_paired.specs.Step.{Legal, effect};
-ghost use Rattle.pw_unrun.specs.Between.{AreCalls, HasBooks, IsOfTask};
+ghost use Rattle.pw_world_model.specs.Between.{AreCalls, HasBooks, IsOfTask};
 ghost use Rattle.pw_world_model.specs.Actors.{IsActor};
 ghost use Rattle.pw_world_model.specs.Answers.{AnswersApply, Claims};
 ghost use Rattle.pw_world_model.specs.Seen.{Seen, kept_context, state_of, sys_of};
