@@ -56,13 +56,6 @@ impl<'a> SystemNames<'a> {
         })
     }
 
-    /// The system.
-    pub fn system(&self) -> &System
-        ensures { result.now ≡ self.now }
-    {
-        self.system
-    }
-
     /// The system's rule of locking.
     pub(crate) fn rule(&self) -> LockRule
         ensures { result ≡ self.now.rule }

@@ -1,11 +1,9 @@
-ghost use Rattle.std.specs.Prelude.{◌≡◌, IfOk};
+ghost use Rattle.std.specs.Prelude.{◌≡◌};
 ghost use Rattle.pw_locks.specs.Conflicts.{is_same_unit, are_both_shared, exclude};
 
 use crate::span::Span;
-use pw_base::memory::Memory;
 use pw_code::lock::LockMode;
 use pw_code::unit::Unit;
-use std::alloc::Global;
 
 /// A lock that a unit holds.
 #[derive(Debug, Drop)]
@@ -37,17 +35,5 @@ impl Lock {
         ensures { result ≡ exclude file span.now mode self.now }
     {
         file == self.file && (span.overlaps(&self.span) && !are_both_shared(mode, self.mode))
-    }
-
-    /// An equal value.
-    pub fn copy(&self, alloc: Global) -> Result<Lock, Memory>
-        ensures { IfOk result (λ lock. lock ≡ self.now) }
-    {
-        Ok(Lock {
-            unit: self.unit,
-            file: self.file,
-            span: self.span.copy(alloc)?,
-            mode: self.mode,
-        })
     }
 }

@@ -1,5 +1,5 @@
 -- Which attempts begin and are over at an entry.
-use Rattle.std.specs.Prelude.{ℕ, ◌==◌, ◌&&◌, Bool, true, false, is_none, List, slice_index_or, Option, Some, None, if◌then◌else◌}
+use Rattle.std.specs.Prelude.{ℕ, ◌==◌, ◌&&◌, Bool, true, false, is_none, Option, Some, None, if◌then◌else◌}
 use Rattle.pw_status.specs.declared.over.Over.{Over}
 use Rattle.pw_status.specs.declared.over.Whose.{Whose}
 use Rattle.pw_status.specs.declared.over.Whose.TheVariants.{One, Pair}
@@ -18,10 +18,6 @@ use Rattle.pw_paired.specs.Terminal.{path_of}
 abbrev pub theirs_by : (ℕ → ℕ) → Whose → ℕ → Bool
 theirs_by pair_of (One own) t = t == own
 theirs_by pair_of (Pair p) t = pair_of t == p
-
--- the same by a list of the pairs
-abbrev pub is_theirs : List ℕ → Whose → ℕ → Bool
-is_theirs pairs = theirs_by (λ t. slice_index_or pairs t 0)
 
 -- the terminal of which an entry begins an attempt
 abbrev pub begun_terminal : Event → Option ℕ

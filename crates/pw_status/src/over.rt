@@ -1,5 +1,5 @@
-ghost use Rattle.std.specs.Prelude.{◌≡◌, ◌<◌, length};
-ghost use Rattle.pw_status.specs.Over.{begun_terminal, is_theirs, left_at, over_at, over_if};
+ghost use Rattle.std.specs.Prelude.{◌≡◌};
+ghost use Rattle.pw_status.specs.Over.{begun_terminal, left_at, over_at, over_if};
 
 use pw_event::event::Event;
 use pw_serial_order::block::How;
@@ -10,19 +10,6 @@ use pw_serial_order::entry::leaves;
 pub enum Whose {
     One(u32),
     Pair(u32),
-}
-
-impl Whose {
-    /// Whether a terminal is one of them, by the pair of each terminal.
-    pub fn has(self, pairs: &[u32], terminal: u32) -> bool
-        requires { terminal < length pairs.now }
-        ensures { result ≡ is_theirs pairs.now self terminal }
-    {
-        match self {
-            Whose::One(own) => terminal == own,
-            Whose::Pair(tcp) => pairs[terminal as usize] == tcp,
-        }
-    }
 }
 
 /// The attempts of these terminals are over, and how.

@@ -57,13 +57,6 @@ impl<D: Disc> Keep<D> {
         self.disc.committed(alloc, file)
     }
 
-    /// How many units have begun.
-    pub fn births(&self) -> u64
-        ensures { result ≡ (kept_in D.told self.now).births }
-    {
-        self.births
-    }
-
     /// Whether a request of the terminal waits, or a process works on it.
     pub fn is_out(&self, terminal: u32) -> bool
         ensures { result ≡ is_out self.now.system (kept_in D.told self.now) terminal }
