@@ -1,6 +1,7 @@
 -- How a run over a trail has ended.
 use Rattle.std.proofs.Common.{◌≡◌, ◌≢◌, ℕ, zero, suc, ◌-◌, ◌/◌, ◌<◌, ◌≤◌, Bool, true, false, List, [], length, refl, sym, ◌∙◌, ap, subst, arith}
 use Rattle.std.specs.Prelude.{Ok}
+use Rattle.pw_code.specs.Limits.{most_log_lines}
 use Rattle.pw_code.specs.declared.file.FileInfo.{FileInfo}
 use Rattle.pw_code.specs.declared.system.System.{System}
 use Rattle.pw_event.specs.declared.event.Event.{Event}
@@ -8,11 +9,15 @@ use Rattle.pw_event.specs.declared.script.FailLine.{FailLine}
 use Rattle.pw_code_meaning.specs.OfSystem.{behaviour}
 use Rattle.pw_report_text.specs.Listing.{files_part}
 use Rattle.pw_report_text.specs.Meaning.{files_text}
+use Rattle.pw_world_model.proofs.Counted.{commits-within}
 use Rattle.pw_world_model.specs.Answers.{HasFailed}
+use Rattle.pw_world_model.specs.Commits.{commits_in}
 use Rattle.pw_world_model.specs.Seen.{Seen, state_of, sys_of}
 use Rattle.pw_onecopy.specs.Behaviour.{Behaviour}
+use Rattle.pw_paired.specs.State.{starting}
 use Rattle.pw_paired.specs.Step.{IsRun, after, is_finished}
 use Rattle.pw_paired.specs.Units.{committed_files}
+use Rattle.pw_deck_runs.proofs.Counting.{commits-are}
 use Rattle.pw_deck_runs.specs.recovery.Commits.{commits}
 use Rattle.pw_deck_runs.specs.recovery.Kept.{EndsBehind, HasStopped, IsKept, TrailState, life_to, told_in, units_of}
 use Rattle.pw_deck_runs.specs.recovery.Ran.{EndsOver, RanOverTrail}
@@ -30,13 +35,13 @@ use Rattle.pw_trail.specs.declared.changes.UnitChanges.{UnitChanges}
 use Rattle.pw_volume.specs.Life.{Life}
 use Rattle.pw_workers.specs.Ends.{RunGoesOn, IsFor}
 
-over : (files : List FileInfo) (life : Life) (fit events : ℕ) (sys : Behaviour) (log : List Event) (ended : LogEnding)
-    → EndsAs ended events sys log → EndsOver (as_recovered ended) life fit files events sys log
-over files life fit events sys log ended.Regular h = h
-over files life fit events sys log ended.Irregular h = h
-over files life fit events sys log ended.Full h = h
+over : (files : List FileInfo) (life : Life) (events : ℕ) (sys : Behaviour) (log : List Event) (ended : LogEnding)
+    → EndsAs ended events sys log → EndsOver (as_recovered ended) life files events sys log
+over files life events sys log ended.Regular h = h
+over files life events sys log ended.Irregular h = h
+over files life events sys log ended.Full h = h
 
-module _ (files : List FileInfo) (life : Life) (fit : ℕ) (system : System) (lines : List FailLine) (events faults : ℕ)
+module _ (files : List FileInfo) (life : Life) (system : System) (lines : List FailLine) (events faults : ℕ)
     (world : Seen) (records : ℕ → List (List ℕ)) (same : IsFor system lines [] events faults world)
     (run : IsRun (sys_of world) world.log)
     (are : records ≡ committed_files (sys_of world) (state_of world)) where
@@ -56,11 +61,11 @@ module _ (files : List FileInfo) (life : Life) (fit : ℕ) (system : System) (li
 
   -- as its log says
   pub ran-ended : (ended : LogEnding) → EndsAs ended events sys world.log
-      → RanOverTrail files life fit sys events (as_recovered ended) records
+      → RanOverTrail files life sys events (as_recovered ended) records
   ran-ended ended ends = record {
     log = world.log;
     run = is-run;
-    ends = over files life fit events sys world.log ended ends;
+    ends = over files life events sys world.log ended ends;
     are = are-committed;
   }
 
@@ -87,10 +92,12 @@ module _ (files : List FileInfo) (life : Life) (fit : ℕ) (system : System) (li
           are = sym are-committed ∙ (is ∙ (own ∙ ap (λ (fs : List FileInfo). files_after fs units) kept.files_are));
         }
 
-    pub ran-stopped : faults ≡ 0 → HasFailed world → RunGoesOn world → length world.log ≤ world.limit
-        → commits (sys_of world) world.log ≡ fit → RanOverTrail files life fit sys events Stopped records
-    ran-stopped none failed on room counts =
+    pub ran-stopped : faults ≡ 0 → HasFailed world → RunGoesOn world → length world.log ≤ world.limit → events ≤ most_log_lines
+        → world.kept.disc.commits ≡ commits_in (sys_of world) world.log → RanOverTrail files life sys events Stopped records
+    ran-stopped none failed on room few counts =
         let stop : HasStopped life (units_of trail) trail = kept.stopped (has-failed none failed) in
+        let within : commits_in (sys_of world) world.log ≤ length world.log = commits-within (sys_of world) (starting (sys_of world)) world.log in
+        let told : trail.tmf.commits ≡ commits_in (sys_of world) world.log = ap (λ (t : Told). t.commits) tells ∙ counts in
         let open_end : length world.log ≢ world.limit = λ full. on.room (full, on.unfinished) in
         record {
           log = world.log;
@@ -98,8 +105,10 @@ module _ (files : List FileInfo) (life : Life) (fit : ℕ) (system : System) (li
           ends = record {
             unfinished = ap (λ (b : Behaviour). is_finished b (after b world.log)) (sym of-system) ∙ on.unfinished;
             room = omega (arith, room, same.limit_is, open_end);
-            commit = ap (λ (b : Behaviour). commits b world.log) (sym of-system) ∙ counts;
             count = length (units_of trail);
+            commit =
+                ap (λ (b : Behaviour). commits b world.log) (sym of-system)
+                ∙ (commits-are (sys_of world) world.log ∙ omega (arith, told, kept.counts, within, room, same.limit_is, few));
             ends = stop.ends;
             records = are-after (units_of trail) stop;
           };
@@ -113,7 +122,7 @@ ends-so n zero ends = absurd ends
 ends-so n (suc calls) ends = (omega arith, omega (arith, ends.0, ends.1))
 
 pub so : (recovered : Recovered) (at : ℕ) (files : List FileInfo) (events : ℕ) (deck : Behaviour) (log : List Event)
-    → EndsOver recovered (life_to at) ((at - 1) / 4) files events deck log → EndsRecoveredRun recovered at files events deck log
+    → EndsOver recovered (life_to at) files events deck log → EndsRecoveredRun recovered at files events deck log
 so Regular at files events deck log h = h
 so Irregular at files events deck log h = h
 so Full at files events deck log h = h
@@ -123,23 +132,22 @@ so Stopped at files events deck log h =
       some = e.0;
       unfinished = h.unfinished;
       room = h.room;
-      commit = h.commit;
+      commit = h.commit ∙ e.1;
       records = subst (λ (n : ℕ). AreAfter n files (committed_files deck (after deck log))) e.1 h.records;
     }
 
 -- what a run over a trail comes to, whose records are listed
-pub recovers-to : (system : System) (sys : Behaviour) (events at fit : ℕ) (life : Life) (files : List FileInfo)
+pub recovers-to : (system : System) (sys : Behaviour) (events at : ℕ) (life : Life) (files : List FileInfo)
     (recovered : Recovered) (records : ℕ → List (List ℕ)) (text : List ℕ)
     → ((log : List Event) → IsRun sys log → files_part system (committed_files sys (after sys log)) ≡ files_text system sys log)
-    → life ≡ life_to at → fit ≡ (at - 1) / 4 → files ≡ system.files → RanOverTrail files life fit sys events recovered records
+    → life ≡ life_to at → files ≡ system.files → RanOverTrail files life sys events recovered records
     → text ≡ files_part system records → RecoversTo sys system events at recovered text
-recovers-to system sys events at fit life files recovered records text printed lives fits own ran is = record {
+recovers-to system sys events at life files recovered records text printed lives own ran is = record {
   log = ran.log;
   run = ran.run;
   ends =
       so recovered at system.files events sys ran.log
-      (subst (λ (fs : List FileInfo). EndsOver recovered (life_to at) ((at - 1) / 4) fs events sys ran.log) own
-      (subst (λ (n : ℕ). EndsOver recovered (life_to at) n files events sys ran.log) fits
-      (subst (λ (l : Life). EndsOver recovered l fit files events sys ran.log) lives ran.ends)));
+      (subst (λ (fs : List FileInfo). EndsOver recovered (life_to at) fs events sys ran.log) own
+      (subst (λ (l : Life). EndsOver recovered l files events sys ran.log) lives ran.ends));
   is = is ∙ (ap (files_part system) ran.are ∙ printed ran.log ran.run);
 }

@@ -55,11 +55,11 @@ stands-stopping files other disk now broken next calls read same_files same_disk
 -- what it keeps
 pub first-kept : (trail : TrailState) (files : List FileInfo) (bytes : List ℕ) → bytes ≡ 0 ∷ []
     → DiskHoldsUnits held MayLeave (moment trail.files trail.disk trail.is_broken) (units_in files bytes)
-    → trail.faults ≡ 0 → IsKept trail.files (life_by trail.disk.left) trail
-first-kept trail files bytes is stands none =
+    → trail.faults ≡ 0 → trail.tmf.commits ≡ 0 → IsKept trail.files (life_by trail.disk.left) trail
+first-kept trail files bytes is stands none new =
     starts trail
     (subst (λ (r : Result (List UnitChanges) ℕ). DiskHoldsUnits held MayLeave (moment trail.files trail.disk trail.is_broken) r)
-    (no-unit files bytes is) stands) none
+    (no-unit files bytes is) stands) none new
 
 -- ---- the life of its disk
 

@@ -1,6 +1,5 @@
 //! The run of a deck over a trail on a disk in memory, which is crashed and recovered.
 
-mod commits;
 pub mod ending;
 mod found;
 mod kept;

@@ -10,7 +10,7 @@ use Rattle.pw_tmf.specs.Answers.{Operates}
 use Rattle.pw_tmf.specs.Faulty.{with_faults}
 use Rattle.pw_tmf.specs.Operation.{IsCall, after_operation, lock_now}
 use Rattle.pw_tmf.specs.Told.{Told}
-use Rattle.pw_tmf.specs.Units.{CanBegin, all_backed_out, begun, ended}
+use Rattle.pw_tmf.specs.Units.{CanBegin, after_commit, all_backed_out, begun}
 use Rattle.pw_tmf.specs.declared.answer.FileAnswer.{FileAnswer}
 use Rattle.pw_tmf.proofs.WithFaults.{all-inside, faults-backed_out, running-inside}
 use Rattle.pw_disc.specs.Calls.{CanMake, IsAnswer, Makes, is_done, is_operation}
@@ -55,7 +55,7 @@ same_kind (Conflict holder) (Conflict other) told new_a new_b call one two = ref
 abbrev told_behind : Bool → Told → DiscCall → Told
 told_behind done told (Begin u) = begun told u
 told_behind done told (Operate u call) = cond done (after_operation told u call) told
-told_behind done told (Commit u reply) = ended told u reply
+told_behind done told (Commit u reply) = after_commit told u reply
 told_behind done told (BackOut units ends) = all_backed_out ends told units
 
 made_is : (a : DiscOutcome) (told new : Told) (call : DiscCall) → Makes a told call new → new ≡ told_behind (is_done a) told call

@@ -11,7 +11,7 @@ use Rattle.pw_tmf.specs.Answers.{OnlyFaultsRose, Leaves, Operates}
 use Rattle.pw_disc.specs.Format.{IsMessageOf}
 use Rattle.pw_tmf.specs.Tmf.{TmfState, told_of}
 use Rattle.pw_tmf.specs.Told.{Told}
-use Rattle.pw_tmf.specs.Units.{all_backed_out, begun, ended}
+use Rattle.pw_tmf.specs.Units.{after_commit, all_backed_out, begun}
 use Rattle.pw_tmf.specs.declared.answer.DiscFault.{DiscFault}
 use Rattle.pw_tmf.specs.declared.answer.DiscFault.TheVariants as fault
 use Rattle.pw_tmf.specs.declared.answer.FileAnswer.{FileAnswer}
@@ -50,7 +50,7 @@ module _ (old new : TmfState) where
   begun_ok u (Err of) r is made = subst (λ (s : Result DiscOutcome Memory). IfOk s (λ outcome. Makes outcome (told_of old) (Begin u) (told_of new))) (sym is) tt
 
   pub ended_ok : (u : unit.Unit) (reply : Option (List ℕ)) (a : Result (Unit {0}) DiscFault) (r : Result DiscOutcome Memory) → r ≡ came_of a
-      → OnOk a (told_of new ≡ ended (told_of old) u reply) → IfOk r (λ outcome. Makes outcome (told_of old) (Commit u reply) (told_of new))
+      → OnOk a (told_of new ≡ after_commit (told_of old) u reply) → IfOk r (λ outcome. Makes outcome (told_of old) (Commit u reply) (told_of new))
   ended_ok u reply (Ok x) r is made = subst (λ (s : Result DiscOutcome Memory). IfOk s (λ outcome. Makes outcome (told_of old) (Commit u reply) (told_of new))) (sym is) made
   ended_ok u reply (Err of) r is made = subst (λ (s : Result DiscOutcome Memory). IfOk s (λ outcome. Makes outcome (told_of old) (Commit u reply) (told_of new))) (sym is) tt
 

@@ -10,7 +10,7 @@ use Rattle.pw_tmf.specs.declared.answer.FileAnswer.{FileAnswer}
 use Rattle.pw_tmf.specs.declared.answer.FileAnswer.TheVariants as answer
 use Rattle.pw_tmf.specs.Operation.{IsCall}
 use Rattle.pw_tmf.specs.Told.{Told}
-use Rattle.pw_tmf.specs.Units.{HaveDistinctTerminals, CanBackOut, CanBegin, IsRunning, all_backed_out, begun, ended}
+use Rattle.pw_tmf.specs.Units.{HaveDistinctTerminals, CanBackOut, CanBegin, IsRunning, after_commit, all_backed_out, begun}
 use Rattle.pw_disc.specs.declared.outcome.DiscOutcome.{DiscOutcome}
 use Rattle.pw_disc.specs.declared.outcome.DiscOutcome.TheVariants as outcome
 
@@ -31,7 +31,7 @@ pub record IsMessageFor (told : Told) (message : List ℕ) : Type 0 where
 abbrev pub Makes : DiscOutcome → Told → DiscCall → Told → Type 0
 Makes outcome.Done old (Begin unit) new = new ≡ begun old unit
 Makes outcome.Done old (Operate unit call) new = ⊥
-Makes outcome.Done old (Commit unit reply) new = new ≡ ended old unit reply
+Makes outcome.Done old (Commit unit reply) new = new ≡ after_commit old unit reply
 Makes outcome.Done old (BackOut units ends) new = new ≡ all_backed_out ends old units
 Makes (outcome.Operated status content) old (Operate unit call) new = Operates (answer.Done status content) old unit call new
 Makes (outcome.Operated status content) old _ new = ⊥

@@ -3,7 +3,7 @@ ghost use Rattle.pw_code.specs.Valid.{IsValid};
 ghost use Rattle.pw_tmf.specs.Answers.{Leaves, Operates};
 ghost use Rattle.pw_tmf.specs.Operation.{IsCall};
 ghost use Rattle.pw_tmf.specs.Starting.{told_at_start};
-ghost use Rattle.pw_tmf.specs.Units.{HaveDistinctTerminals, CanBackOut, CanBegin, IsRunning, all_backed_out, begun, ended};
+ghost use Rattle.pw_tmf.specs.Units.{HaveDistinctTerminals, CanBackOut, CanBegin, IsRunning, after_commit, all_backed_out, begun};
 ghost use Rattle.pw_disc.specs.Calls.{CanMake, Makes, is_done};
 ghost use Rattle.pw_disc.specs.Lines.{is_held_at_front};
 ghost use Rattle.pw_disc.specs.Pair.{AfterCall, AfterOperation, IsLost, RanOutOfMemory, IsUnmade, Lasts, acted, after_lines, after_outcome, finished, lost, prepared, state_of};
@@ -287,7 +287,7 @@ impl Disc for DiscPair {
 
     fn commit(&mut self, unit: &Unit, reply: Option<Bytes>) -> Result<(), DiscFault>
         requires { IsRunning (state_of self.old).told unit.now }
-        ensures ok { OnOk result ((state_of self.new).told ≡ ended (state_of self.old).told unit.now reply) }
+        ensures ok { OnOk result ((state_of self.new).told ≡ after_commit (state_of self.old).told unit.now reply) }
         ensures err { IfErr result (λ fault. Leaves fault (state_of self.old).told (state_of self.new).told) }
         ensures pair { AfterCall result (state_of self.old) (state_of self.new) }
     {

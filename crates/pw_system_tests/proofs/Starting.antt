@@ -16,6 +16,7 @@ counting : (system : System) (script : List FailLine) (n : ℕ) (told : Told)
 counting system script n told is = record {
   terminals = is.terminals;
   files = is.files;
+  commits = is.commits;
   starts = record {
     rule = is.starts.rule;
     keys = is.starts.keys;

@@ -26,6 +26,7 @@ pub starts : (system : System) (script : List FailLine) → IsDiscOf system scri
 starts system script = record {
   terminals = refl;
   files = refl;
+  commits = refl;
   starts = record {
     rule = refl;
     keys = λ i f. key-same (slice_get system.files f) i;

@@ -103,6 +103,7 @@ restamped world books own w same = record {
   members = w.members;
   terminals = w.terminals;
   files = w.files;
+  commits = w.commits;
   lines = w.lines;
   few_lines = w.few_lines;
   asking = w.asking;

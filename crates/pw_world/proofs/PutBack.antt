@@ -71,6 +71,7 @@ faulted-world world books kept failed n own marked w other are = record {
   members = w.members;
   terminals = w.terminals;
   files = w.files;
+  commits = w.commits;
   lines = w.lines;
   few_lines = w.few_lines;
   asking = w.asking;

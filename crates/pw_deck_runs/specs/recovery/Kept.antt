@@ -1,5 +1,5 @@
 -- What a trail on a disk in memory keeps through a run.
-use Rattle.std.specs.Prelude.{◌≡◌, ℕ, zero, suc, ◌+◌, ◌*◌, ◌<◌, ◌≤◌, Bool, true, false, List, length, Ok}
+use Rattle.std.specs.Prelude.{◌≡◌, ℕ, zero, suc, ◌+◌, ◌-◌, ◌*◌, ◌^◌, ◌<◌, ◌≤◌, Bool, true, false, List, length, min, Ok}
 use Rattle.pw_code.specs.declared.file.FileInfo.{FileInfo}
 use Rattle.pw_tmf.specs.Faulty.{with_faults}
 use Rattle.pw_tmf.specs.Tmf.{TmfState, told_of}
@@ -57,8 +57,10 @@ pub record HasStopped (life : Life) (units : List UnitChanges) (trail : TrailSta
 abbrev pub units_of : TrailState → List UnitChanges
 units_of trail = those (units_in trail.files trail.disk.synced)
 
--- it has these files, and began without a unit on a disk with this life
+-- It has these files, and began without a unit on a disk with this life; and a commit was counted for each unit that the last
+-- sync has left, up to the end of the count.
 pub record IsKept (files : List FileInfo) (life : Life) (trail : TrailState) : Type 0 where
   pub files_are : trail.files ≡ files
+  pub counts : min (length (units_of trail)) (2 ^ 64 - 1) ≡ trail.tmf.commits
   pub goes : trail.is_broken ≡ false → Goes life (units_of trail) trail
   pub stopped : trail.is_broken ≡ true → HasStopped life (units_of trail) trail

@@ -120,9 +120,8 @@ fn run_beside<G: Gate, R: Threads + Wait + Sync>(
         let_go(system);
         return Err(Memory);
     };
-    let fit = (at.saturating_sub(1) / 4) as usize;
     let (recovered, last) = run_known::<Brand, G, R>(
-        rt, alloc, system, script, first, fit, workers, events, gate,
+        rt, alloc, system, script, first, workers, events, gate,
     )?;
     let text = found(alloc, own, last)?;
     Ok((recovered, text))

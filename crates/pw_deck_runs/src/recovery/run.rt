@@ -6,6 +6,7 @@ ghost use Rattle.pw_code.specs.Valid.{IsValid};
 ghost use Rattle.pw_code_meaning.specs.OfSystem.{behaviour};
 ghost use Rattle.pw_world_state.specs.May.{IsLineThere};
 ghost use Rattle.pw_world.specs.States.{seen};
+ghost use Rattle.pw_world_model.specs.Commits.{commits_in};
 ghost use Rattle.pw_world_model.specs.Seen.{state_of, sys_of};
 ghost use Rattle.pw_world_model.specs.Worlds.{IsDiscOf};
 ghost use Rattle.pw_onecopy.specs.IsBehaviour.{IsBehaviour};
@@ -17,7 +18,6 @@ ghost use Rattle.pw_tmf.specs.Committed.{committed};
 ghost use Rattle.pw_tmf.specs.Faulty.{with_faults};
 ghost use Rattle.pw_tmf.specs.Tmf.{told_of};
 
-use crate::recovery::commits::commits;
 use crate::recovery::ending::{Recovered, of_ended};
 use crate::recovery::kept::{KeptTrail, TrailNaming};
 use pw_base::memory::Memory;
@@ -34,7 +34,8 @@ use std::alloc::Global;
 use std::sync::Wait;
 use std::thread::Threads;
 
-/// The trail of a world. What it tells as committed are the committed records behind the log.
+/// The trail of a world. What it tells as committed are the committed records behind the log, and it has
+/// counted the units that commit in the log.
 fn trail_of<N: TrailNaming>(world: World<KeptTrail<N>>) -> Trail<MemDisk>
     ensures kept { IsKept N.files N.life (trail_state result.log.files result.log.disk
         result.log.is_broken result.faults result.tmf) }
@@ -43,6 +44,8 @@ fn trail_of<N: TrailNaming>(world: World<KeptTrail<N>>) -> Trail<MemDisk>
         ≡ committed_files (sys_of (seen told_in world)) (state_of (seen told_in world)) }
     ensures run { IsRun (sys_of (seen told_in world)) (seen told_in world).log }
     ensures room { length (seen told_in world).log ≤ (seen told_in world).limit }
+    ensures commits { (seen told_in world).kept.disc.commits
+        ≡ commits_in (sys_of (seen told_in world)) (seen told_in world).log }
 {
     world.holds();
     run_laws();
@@ -51,15 +54,14 @@ fn trail_of<N: TrailNaming>(world: World<KeptTrail<N>>) -> Trail<MemDisk>
 }
 
 /// Runs a system over a trail with so many workers, for at most so many entries: how the run ended, and
-/// the trail as it left it. Where the disk has failed, `fit` units of the log commit: they are counted,
-/// and another number would be want of memory.
+/// the trail as it left it. Where the disk has failed, as many units of the log commit as its life has four
+/// calls for.
 pub fn run_known<N: TrailNaming, G: Gate, R: Threads + Wait + Sync>(
     rt: &R,
     alloc: Global,
     system: System,
     script: Script,
     trail: Trail<MemDisk>,
-    fit: usize,
     workers: u8,
     events: u32,
     gate: &G,
@@ -74,7 +76,7 @@ pub fn run_known<N: TrailNaming, G: Gate, R: Threads + Wait + Sync>(
         trail.log.is_broken trail.faults trail.tmf) }
     requires workers { (1 ≤ workers) × (workers ≤ 16) }
     requires events { events ≤ most_log_lines }
-    ensures ran { IfOk result (λ ran. RanOverTrail N.files N.life fit (behaviour script.lines system) events ran.0
+    ensures ran { IfOk result (λ ran. RanOverTrail N.files N.life (behaviour script.lines system) events ran.0
         (committed (told_of ran.1.tmf))) }
     ensures files { IfOk result (λ ran. ran.1.log.files ≡ N.files) }
 {
@@ -82,14 +84,6 @@ pub fn run_known<N: TrailNaming, G: Gate, R: Threads + Wait + Sync>(
     let over = run_over(rt, alloc, system, script, disc, workers, events, gate)?;
     match over {
         RunEnding::Ended(ended, world) => Ok((of_ended(ended), trail_of(world))),
-        RunEnding::Failed(world) => {
-            let counted = commits(alloc, &world);
-            let left = trail_of(world);
-            let count = counted?;
-            if count != fit {
-                return Err(Memory);
-            }
-            Ok((Recovered::Stopped, left))
-        }
+        RunEnding::Failed(world) => Ok((Recovered::Stopped, trail_of(world))),
     }
 }

@@ -31,5 +31,5 @@ returns g c =
     recovers-to system (behaviour c.args.script.lines system) c.args.events c.args.at _ (life_by first.log.disk.left)
     first.log.files c.in_ok-recovered.recovered records c.in_ok-text.text
     (c.printed_is_the_report.ensures.files system (behaviour c.args.script.lines system) c.requires.deck)
-    c.in-Ok.ensures.life (ap (λ (n : ℕ). n / 4) c.saturating_sub.ensures) files c.in_ok-recovered.ensures.ran
+    c.in-Ok.ensures.life files c.in_ok-recovered.ensures.ran
     (c.in_ok-text.ensures ∙ ap (λ (s : System). files_part s records) own)

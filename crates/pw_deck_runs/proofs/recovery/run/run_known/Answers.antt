@@ -22,28 +22,26 @@ returns-in-Ended g c =
     record {
       ran =
           subst
-          (λ (r : Recovered). RanOverTrail g.N.TrailNaming.files g.N.TrailNaming.life c.args.fit (behaviour c.args.script.lines c.args.system) c.args.events r records)
+          (λ (r : Recovered). RanOverTrail g.N.TrailNaming.files g.N.TrailNaming.life (behaviour c.args.script.lines c.args.system) c.args.events r records)
           (sym c.of_ended.ensures)
-          (ran-ended g.N.TrailNaming.files g.N.TrailNaming.life c.args.fit c.args.system c.args.script.lines c.args.events
+          (ran-ended g.N.TrailNaming.files g.N.TrailNaming.life c.args.system c.args.script.lines c.args.events
           (told_in c.of-disc.result).faults (seen told_in c.in-Ended.world) records leaves.0 last.run last.committed
           c.in-Ended.ended leaves.1);
       files = last.kept.files_are;
     }
 
-pub returns-else-count-fit : goal.returns-else-count-fit
-returns-else-count-fit g c =
+pub returns-in-Failed : goal.returns-in-Failed
+returns-in-Failed g c =
     let leaves = rw c.in-Failed.is at c.in_ok-over.ensures in
-    let last = c.trail_of-left.ensures in
-    let left = c.trail_of-left.result in
+    let last = c.trail_of-2.ensures in
+    let left = c.trail_of-2.result in
     let records = committed (told_of left.tmf) in
     let counts = ap (λ (s : TrailState). (told_in s).faults) c.of-disc.ensures in
-    let count = rw c.in_ok-count-in-Failed.was at c.commits-counted.ensures in
     record {
       ran =
-          ran-stopped g.N.TrailNaming.files g.N.TrailNaming.life c.args.fit c.args.system c.args.script.lines c.args.events
+          ran-stopped g.N.TrailNaming.files g.N.TrailNaming.life c.args.system c.args.script.lines c.args.events
           (told_in c.of-disc.result).faults (seen told_in c.in-Failed.world) records leaves.0 last.run last.committed
           (trail_state left.log.files left.log.disk left.log.is_broken left.faults left.tmf) last.kept last.told refl
-          left.settled (omega (arith, counts, c.requires.faults)) leaves.1.0 leaves.1.1 last.room
-          (sym count ∙ c.if-count-fit.false);
+          left.settled (omega (arith, counts, c.requires.faults)) leaves.1.0 leaves.1.1 last.room c.requires.events last.commits;
       files = last.kept.files_are;
     }

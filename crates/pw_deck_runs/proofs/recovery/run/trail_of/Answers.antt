@@ -25,4 +25,5 @@ returns g c =
           ∙ c.committed_laws.ensures sys (state_of world) world.kept.disc tells leaves.keyed leaves.single there;
       run = c.holds.ensures.run;
       room = c.holds.ensures.room;
+      commits = c.holds.ensures.commits;
     }

@@ -14,5 +14,6 @@ invariant_of-self g c =
     (trail_state old.log.files old.log.disk old.log.is_broken old.faults old.tmf)
     (trail_state new.log.files new.log.disk new.log.is_broken new.faults new.tmf)
     c.self.invariant (record_of (told_of old.tmf) c.args.unit.now) c.commit.result c.commit.ensures.commits
-    (on-ok c.commit.result c.commit.ensures.ok (λ is. omega (arith, ap (λ (t : Told). t.faults) is))) c.commit.ensures.err
+    (on-ok c.commit.result c.commit.ensures.ok (λ is. omega (arith, ap (λ (t : Told). t.faults) is)))
+    (on-ok c.commit.result c.commit.ensures.ok (λ is. ap (λ (t : Told). t.commits) is)) c.commit.ensures.err
     c.commit.ensures.unsettled c.commit.ensures.passes c.commit.ensures.fails c.commit.ensures.uncounted
