@@ -29,7 +29,7 @@ use Rattle.pw_world_model.specs.declared.answers.Claim.{Claim}
 use Rattle.pw_world_model.specs.declared.answers.Entered.{Entered}
 use Rattle.pw_world_model.specs.declared.answers.Entered.TheVariants as enter
 use Rattle.pw_world_model.specs.declared.answers.Claim.TheVariants as claim
-use Rattle.pw_world_model.specs.Between.{AreCalls, IsApply, IsCall, IsEnter, IsGiveBack}
+use Rattle.pw_world_model.specs.Between.{AreCalls, IsApply, IsWorldCall, IsEnter, IsGiveBack}
 use Rattle.pw_world_model.proofs.KeptContext.{context-stays}
 use Rattle.pw_world_model.proofs.RanAway.{ran-read}
 
@@ -193,7 +193,7 @@ module _ (a : Actor) (world : Seen) (books : Books) (w : IsWorld world books) (o
       by enter.DiscFault leaves = unlogged leaves.0 leaves.1.0
       by enter.Memory leaves = unlogged leaves.0 leaves.1.0
 
-  called : (new : Seen) → IsCall world new → Follows a world new
+  called : (new : Seen) → IsWorldCall world new → Follows a world new
   called new call = ⊎_elim (λ claim. claimed claim.answer new claim.claims)
       (λ other. ⊎_elim (λ apply. applied-so new apply) (λ more. ⊎_elim (λ back. given-back new back) (λ one. entered-so new one) more) other) call
 

@@ -55,13 +55,13 @@ pub record IsEnter (world new : Seen) : Type 0 where
   pub works : KeepsWork world new
 
 -- one call that changes a world; the others change none
-abbrev pub IsCall : Seen → Seen → Type 0
-IsCall world new = IsClaim world new ⊎ (IsApply world new ⊎ (IsGiveBack world new ⊎ IsEnter world new))
+abbrev pub IsWorldCall : Seen → Seen → Type 0
+IsWorldCall world new = IsClaim world new ⊎ (IsApply world new ⊎ (IsGiveBack world new ⊎ IsEnter world new))
 
 -- such calls, each in the world that the one before it left, lead through these worlds to the last one
 abbrev pub AreCalls : Seen → List Seen → Seen → Type 0
 AreCalls world [] last = last ≡ world
-AreCalls world (next ∷ others) last = HasBooks next × (IsCall world next × AreCalls next others last)
+AreCalls world (next ∷ others) last = HasBooks next × (IsWorldCall world next × AreCalls next others last)
 
 -- what `run_task` makes of a task has its actor, its stamp and its work
 pub record IsOfTask (task : Task) (outcome : Outcome) : Type 0 where
