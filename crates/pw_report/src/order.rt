@@ -3,7 +3,7 @@ ghost use Rattle.pw_world.specs.States.{seen};
 ghost use Rattle.pw_world_model.specs.Seen.{sys_of};
 ghost use Rattle.pw_serial_order.specs.Order.{told};
 ghost use Rattle.pw_paired.specs.Serial.{blocks};
-ghost use Rattle.pw_report.specs.Read.{IsReadTo};
+ghost use Rattle.pw_report.specs.Read.{IsWorldReadTo};
 
 use pw_base::memory::Memory;
 use pw_event::event::Event;
@@ -30,10 +30,8 @@ fn read<D: Disc>(
     order: &mut Vec<Block>,
 ) -> Result<(), Memory>
     requires place { place < length (seen D.told world.now).log }
-    requires read { IsReadTo (sys_of (seen D.told world.now)) (seen D.told world.now).log
-        place reading.old order.old.items }
-    ensures { OnOk result (IsReadTo (sys_of (seen D.told world.now)) (seen D.told world.now).log
-        (place + 1) reading.new order.new.items) }
+    requires read { IsWorldReadTo D.told world.now place reading.old order.old.items }
+    ensures { OnOk result (IsWorldReadTo D.told world.now (place + 1) reading.new order.new.items) }
 {
     world.holds();
     let entry = entry_at(world.log(), place);

@@ -15,8 +15,10 @@ loop-place-init g c =
     let world = seen g.D.Disc.told c.args.world.now in
     let sys : Behaviour = sys_of world in
     record {
-      stands = c.in_ok-reading.ensures sys (subst (λ (s : System). IsOfSystem s sys) (sym c.system.ensures.system) (is-of world.system world.script));
-      blocks = c.new-order.ensures.items;
+      read = record {
+        stands = c.in_ok-reading.ensures sys (subst (λ (s : System). IsOfSystem s sys) (sym c.system.ensures.system) (is-of world.system world.script));
+        blocks = c.new-order.ensures.items;
+      };
     }
 
 pub read-requires-clause-read : goal.read-requires-clause-read
@@ -31,6 +33,6 @@ returns g c =
     let log : List Event = c.args.world.now.ledger.log in
     let all : length log ≤ c.loop-place.place =
     subst (λ (l : List Event). length l ≤ c.loop-place.place) c.log-place-end.ensures.log c.loop-place-test.false in
-    let read = read-all sys log c.loop-place.place c.loop-place.reading c.loop-place.order.items c.loop-place.invariant all in
+    let read = read-all sys log c.loop-place.place c.loop-place.reading c.loop-place.order.items c.loop-place.invariant.read all in
     c.in_ok-end.ensures.ends sys log read.0
     ∙ (ap (λ (order : List Block). order ++ last_order sys log) read.1 ∙ c.orders_are_whole.ensures.whole sys log)
