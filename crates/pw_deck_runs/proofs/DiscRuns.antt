@@ -12,7 +12,7 @@ use Rattle.pw_code_meaning.specs.OfSystem.{behaviour}
 use Rattle.pw_world.specs.States.{WorldState, seen}
 use Rattle.pw_world_model.specs.Worlds.{Books, IsDiscOf, IsWorld}
 use Rattle.pw_deck_runs.proofs.Left.{failed, left-is}
-use Rattle.pw_workers.proofs.Starts.{starts}
+use Rattle.pw_world_model.proofs.Starts.{starts}
 use Rattle.pw_workers.specs.Over.{LeavesWorld}
 use Rattle.pw_deck_runs.specs.WrittenRuns.{IsLeft, Writing}
 use Rattle.pw_workers.specs.declared.over.RunEnding.TheVariants as come

@@ -1,4 +1,4 @@
-ghost use Rattle.std.specs.Prelude.{◌≡◌, ◌↔◌, ◌++◌, ◌∷◌, [], not, ◌&&◌, ◌-◌, filter, length, take, IfOk, IfSome, IsNone, OnOk, OnErr};
+ghost use Rattle.std.specs.Prelude.{◌≡◌, ◌↔◌, ◌++◌, ◌∷◌, [], not, ◌&&◌, ◌-◌, ◌==◌, count_by, filter, length, take, IfOk, IfSome, IsNone, OnOk, OnErr};
 ghost use Rattle.std.specs.List.{list_any};
 ghost use Rattle.pw_locks.specs.Oldest.{IsOldest};
 
@@ -121,6 +121,13 @@ impl LockBook {
         ensures { self.new ≡ filter (λ held. not (is_same_unit held.unit unit.now)) self.old }
     {
         release(&mut self.locks, &mut self.register, unit);
+    }
+
+    /// How many locks there are on a file. It looks at each lock.
+    pub fn count_on(&self, file: u32) -> usize
+        ensures { result ≡ count_by (λ held. held.file == file) self.now }
+    {
+        self.locks.values().filter(|held| held.file == file).count()
     }
 
     /// An equal value.

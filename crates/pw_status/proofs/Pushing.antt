@@ -10,12 +10,12 @@ use Rattle.pw_code.specs.declared.system.System.{System}
 use Rattle.pw_code.specs.declared.system.TermInfo.{TermInfo}
 use Rattle.pw_status.proofs.Known.{job-here}
 use Rattle.pw_status.proofs.Numbering.{forgotten, noted, same-shown, seen-again}
-use Rattle.pw_status.proofs.Tallying.{next-tally, roomy-tally, tally-sized}
+use Rattle.pw_status.proofs.Tallying.{next-tally}
 use Rattle.pw_status.specs.Counts.{waiting}
 use Rattle.pw_status.specs.Longest.{sent_to}
 use Rattle.pw_status.specs.Over.{ends_at}
 use Rattle.pw_status.specs.Shown.{AreShownOf, IsSameAs, numbers_of}
-use Rattle.pw_status.specs.Tally.{AreSized, EntryMeets, IsNotedIn, IsSameTally, IsTallyOf, TallyState, worker_for}
+use Rattle.pw_status.specs.Tally.{EntryMeets, IsNotedIn, IsTallyOf, TallyState}
 use Rattle.pw_status.specs.declared.tally.Met.{Met}
 use Rattle.pw_event.specs.Line.{no_terminal}
 use Rattle.pw_event.specs.declared.event.Event.{Event}
@@ -111,10 +111,9 @@ module _ (sys : Behaviour) (log : List Event) (entry : Event) where
   next = after sys (log ++ entry ∷ [])
 
   -- of what the world tells
-  pub meets : (before met : Met) → before.terminal ≡ worker_for state entry → before.ends ≡ may_end state entry
+  pub meets : (before met : Met) → before.ends ≡ may_end state entry
       → met ≡ record before { ends = ends_then next entry before.ends; waiting = waits_then next entry } → EntryMeets sys log entry met
-  meets before met terminal ends is = record {
-    terminal = ap (λ (m : Met). m.terminal) is ∙ terminal;
+  meets before met ends is = record {
     ends = ap (λ (m : Met). m.ends) is ∙ (ap (ends_then next entry) ends ∙ (ap (λ (s : State). ends_then s entry (may_end state entry)) (after-more sys log entry) ∙ ends-are sys state entry));
     waiting = λ c sent. ap (λ (m : Met). m.waiting) is ∙ waits-are next entry c sent;
   }
@@ -147,17 +146,6 @@ module _ (old new : WorldState TmfState) (same : watched new ≡ watched old) (l
     shown = subst (λ (v : WatchState). AreShownOf (refreshes (sys_in v) v.log) numbers) (sym same) w.shown;
   }
 
--- with more room
-pub watch-roomy : (world : WorldState TmfState) (terminal : Option ℕ) (old new : TallyState) (numbers : List (BTreeSet ListedRefreshNumber)) → IsSameTally terminal old new
-    → IsWatch world old numbers → IsWatch world new numbers
-watch-roomy world terminal old new numbers same w = record {
-  limit = w.limit;
-  sound = w.sound;
-  counted = roomy-tally world.keep.system (sys_in (watched world)) world.ledger.log terminal old new same w.counted;
-  count = w.count;
-  shown = w.shown;
-}
-
 -- with the same numbers
 pub watch-numbers : (world : WorldState TmfState) (tally : TallyState) (old new : List (BTreeSet ListedRefreshNumber)) → IsSameAs old new → IsWatch world tally old → IsWatch world tally new
 watch-numbers world tally old new same w = record {
@@ -184,15 +172,15 @@ module _ (old new : WorldState TmfState) (stays : Stays old new) where
   stays-seen = seen-same old new stays.0 old.ledger.log stays.1.0
 
   -- an entry is refused
-  pub watch-refused : (tally roomy : TallyState) (first mid last : List (BTreeSet ListedRefreshNumber)) (terminal : Option ℕ) (shown : Option (ℕ × ListedRefreshNumber)) (fresh : Bool)
-      → IsWatch old tally first → IsSameTally terminal tally roomy → HasKeptNumbers shown first → Notes shown fresh first mid → Forgets shown fresh mid last → IsWatch new roomy last
-  watch-refused tally roomy first mid last terminal shown fresh w same low is gone =
+  pub watch-refused : (tally : TallyState) (first mid last : List (BTreeSet ListedRefreshNumber)) (shown : Option (ℕ × ListedRefreshNumber)) (fresh : Bool)
+      → IsWatch old tally first → HasKeptNumbers shown first → Notes shown fresh first mid → Forgets shown fresh mid last → IsWatch new tally last
+  watch-refused tally first mid last shown fresh w low is gone =
       let back = undone (refreshes (sys_in (watched old)) old.ledger.log) shown fresh first mid last low is gone w.shown in
-      watch-same old new stays-seen stays.0.limit stays.1.1 roomy last
+      watch-same old new stays-seen stays.0.limit stays.1.1 tally last
       (record {
         limit = w.limit;
         sound = w.sound;
-        counted = roomy-tally old.keep.system (sys_in (watched old)) old.ledger.log terminal tally roomy same w.counted;
+        counted = w.counted;
         count = back.1 ∙ w.count;
         shown = back.0;
       })
@@ -206,13 +194,12 @@ module _ (old new : WorldState TmfState) (entry : Event) (world : IsWorld (seen 
   few : length old.keep.system.terminals ≤ 128
   few = world.valid.few.terminals
 
-  pub watch-more : (tally roomy behind : TallyState) (first mid : List (BTreeSet ListedRefreshNumber)) (terminal : Option ℕ) (fresh : Bool) (before met : Met) → length old.ledger.log < most_log_lines
-      → IsWatch old tally first → IsSameTally terminal tally roomy → HasKeptNumbers (shown_in entry) first → Notes (shown_in entry) fresh first mid
-      → before.terminal ≡ worker_for (state_of (seen told_of old)) entry
+  pub watch-more : (tally behind : TallyState) (first mid : List (BTreeSet ListedRefreshNumber)) (fresh : Bool) (before met : Met) → length old.ledger.log < most_log_lines
+      → IsWatch old tally first → HasKeptNumbers (shown_in entry) first → Notes (shown_in entry) fresh first mid
       → before.ends ≡ may_end (state_of (seen told_of old)) entry
       → met ≡ record before { ends = ends_then (state_of (seen told_of new)) entry before.ends; waiting = waits_then (state_of (seen told_of new)) entry }
-      → IsNotedIn entry met roomy behind → IsWatch new behind mid
-  watch-more tally roomy behind first mid terminal fresh before met short w same low is from_terminal from_ends met_is noted_in =
+      → IsNotedIn entry met tally behind → IsWatch new behind mid
+  watch-more tally behind first mid fresh before met short w low is from_ends met_is noted_in =
       let sys : Behaviour = sys_in (watched old) in
       let log = old.ledger.log in
       let later : List Event = log ++ entry ∷ [] in
@@ -220,9 +207,8 @@ module _ (old new : WorldState TmfState) (entry : Event) (world : IsWorld (seen 
       let met-so : met ≡ record before { ends = ends_then (after sys later) entry before.ends; waiting = waits_then (after sys later) entry } =
       met_is ∙ ap (λ (s : State). record before { ends = ends_then s entry before.ends; waiting = waits_then s entry }) state-is in
       let counted : IsTallyOf old.keep.system sys later behind =
-      next-tally old.keep.system sys (is-of old.keep.system old.script) world.deck few log world.run short entry legal met
-      (meets sys log entry before met from_terminal from_ends met-so) roomy behind
-      (roomy-tally old.keep.system sys log terminal tally roomy same w.counted) noted_in in
+      next-tally old.keep.system sys world.deck few log world.run short entry met (meets sys log entry before met from_ends met-so) tally behind w.counted
+      noted_in in
       let shows : AreShownOf (refreshes sys later) mid =
       subst (λ (l : List Refresh). AreShownOf l mid) (sym (screens-more sys (starting sys) log entry))
       (shown-more sys (after sys log) (refreshes sys log) entry fresh first mid low is w.shown) in
@@ -233,11 +219,6 @@ module _ (old new : WorldState TmfState) (entry : Event) (world : IsWorld (seen 
         count = noted-count (shown_in entry) fresh first mid is ∙ (w.count ∙ sym (ap (λ (v : WatchState). length v.system.terminals) pushed-seen));
         shown = subst (λ (v : WatchState). AreShownOf (refreshes (sys_in v) v.log) mid) (sym pushed-seen) shows;
       }
-
-  pub roomy-sized : (tally roomy : TallyState) (first : List (BTreeSet ListedRefreshNumber)) (terminal : Option ℕ) → IsWatch old tally first → IsSameTally terminal tally roomy → AreSized roomy
-  roomy-sized tally roomy first terminal w same =
-      tally-sized old.keep.system (sys_in (watched old)) old.ledger.log roomy (is-of old.keep.system old.script) few
-      (roomy-tally old.keep.system (sys_in (watched old)) old.ledger.log terminal tally roomy same w.counted)
 
 -- the disc never fails
 pub never-fails : (old new : WorldState TmfState) (entry : Event) → LeavesEntered (seen told_of old) entry enter.DiscFault (seen told_of new) → ⊥

@@ -1,8 +1,8 @@
 -- What a watch tells, and the lines that are printed of it, are those of its log.
-use Rattle.std.proofs.Common.{◌≡◌, ◌∙◌, ℕ, ◌<◌, List, [], ◌++◌, length, get_or, Option, refl, sym, ap, append_assoc, arith}
+use Rattle.std.proofs.Common.{◌≡◌, ◌∙◌, ◌==◌, ℕ, ◌<◌, List, [], ◌++◌, length, get_or, Option, refl, sym, ap, append_assoc, arith}
 use Rattle.std.specs.BTreeSet.{BTreeSet, btree_set_len}
 use Rattle.std.proofs.lemmas.Option.{slice_get-get_or}
-use Rattle.std.specs.Prelude.{slice_get, slice_index_or}
+use Rattle.std.specs.Prelude.{count_by, slice_get, slice_index_or}
 use Rattle.pw_code.specs.declared.system.ClassInfo.{ClassInfo}
 use Rattle.pw_code.specs.declared.system.System.{System}
 use Rattle.pw_status.specs.Counts.{busy_to, class_counts, file_counts, terminal_counts, unit_counts, waiting}
@@ -17,7 +17,9 @@ use Rattle.pw_code_meaning.specs.OfSystem.{processes_by}
 use Rattle.pw_pair.specs.Follows.{mode_as}
 use Rattle.pw_report_text.specs.Listing.{refreshes_counted_once}
 use Rattle.pw_report_text.specs.declared.numbers.ListedRefreshNumber.{ListedRefreshNumber}
-use Rattle.pw_world.specs.States.{WorldState}
+use Rattle.pw_locks.specs.declared.lock.Lock.{Lock}
+use Rattle.pw_world.specs.States.{WorldState, seen}
+use Rattle.pw_world_model.specs.Worlds.{Books, IsWorld}
 use Rattle.pw_onecopy.specs.Behaviour.{Behaviour}
 use Rattle.pw_onecopy.specs.Path.{entries_on}
 use Rattle.pw_pair.specs.declared.mode.Mode.{Mode}
@@ -25,7 +27,7 @@ use Rattle.pw_paired.specs.Shown.{refreshes}
 use Rattle.pw_paired.specs.Step.{after}
 use Rattle.pw_paired.specs.Terminal.{path_of}
 use Rattle.pw_status.specs.Text.{class_line, file_line, pair_line, terminal_line}
-use Rattle.pw_tmf.specs.Tmf.{TmfState}
+use Rattle.pw_tmf.specs.Tmf.{TmfState, told_of}
 use Rattle.pw_status.specs.Lines.{class_watch_line, file_of, pair_watch_line, terminal_of}
 use Rattle.pw_status.specs.Watching.{IsWatch, WatchState, state_in, sys_in, watched}
 
@@ -75,14 +77,6 @@ module _ (system : System) (sys : Behaviour) (log : List Event) (tally : TallySt
       ∙ (ap (λ (n : ℕ). record { waiting = same.waiting; busy = same.busy; taken = n; longest = counts.longest }) taken
       ∙ ap (λ (n : ℕ). record { waiting = same.waiting; busy = same.busy; taken = same.taken; longest = n }) longest))
 
-  pub file-counts : (f : ℕ) (counts : FileCounts) → f < length system.files → counts.records ≡ slice_index_or tally.records.files f 0 → counts.locks ≡ slice_index_or tally.locks.files f 0
-      → counts ≡ file_counts sys log f
-  file-counts f counts low so_many so_locked =
-      let records = so_many ∙ of.records.files f (omega (arith, of.record_files, low)) in
-      let locks = so_locked ∙ of.locks.files f (omega (arith, of.lock_files, low)) in
-      let same : FileCounts = file_counts sys log f in
-      ap (λ (n : ℕ). record { records = n; locks = counts.locks }) records ∙ ap (λ (n : ℕ). record { records = same.records; locks = n }) locks
-
   pub units-told : units_in tally ≡ unit_counts sys log
   units-told =
       let c = of.counters in
@@ -110,3 +104,13 @@ module _ (world : WorldState TmfState) (tally : TallyState) (numbers : List (BTr
       ∙ (ap (λ (n : ℕ). record { units = same.units; restarts = n; entries = counts.entries; shown = counts.shown }) restarts
       ∙ (ap (λ (n : ℕ). record { units = same.units; restarts = same.restarts; entries = n; shown = counts.shown }) entries
       ∙ ap (λ (n : ℕ). record { units = same.units; restarts = same.restarts; entries = same.entries; shown = n }) shown))
+
+-- the records and locks of a file, as the disc tells them
+pub file-counts : (world : WorldState TmfState) (books : Books) → IsWorld (seen told_of world) books → (f : ℕ) (counts : FileCounts)
+    → counts.records ≡ length ((told_of world.keep.disc).files f) → counts.locks ≡ count_by (λ held. held.file == f) (told_of world.keep.disc).locks
+    → counts ≡ file_counts (sys_in (watched world)) world.ledger.log f
+file-counts world books is f counts so_many so_locked =
+    let told = is.stands.disc in
+    let same : FileCounts = file_counts (sys_in (watched world)) world.ledger.log f in
+    ap (λ (n : ℕ). record { records = n; locks = counts.locks }) (so_many ∙ ap (λ (files : ℕ → List (List ℕ)). length (files f)) told.files)
+    ∙ ap (λ (n : ℕ). record { records = same.records; locks = n }) (so_locked ∙ ap (count_by (λ (held : Lock). held.file == f)) told.locks)

@@ -1,15 +1,11 @@
 pub mod Attempts
 pub mod Counters
 pub mod Counts
-pub mod Kept
 pub mod Lines
-pub mod Locks
 pub mod Longest
 pub mod Meeting
 pub mod Noting
 pub mod Over
-pub mod Records
-pub mod Settled
 pub mod Shown
 pub mod Status
 pub mod Tally

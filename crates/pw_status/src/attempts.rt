@@ -114,13 +114,6 @@ impl Attempts {
         }
     }
 
-    /// Of each terminal its pair, and whether an attempt of it runs.
-    pub fn seats(&self) -> &[AttemptSeat]
-        ensures { result.now ≡ self.now.seats }
-    {
-        self.seats.as_slice()
-    }
-
     /// How many attempts have committed.
     pub fn committed(&self) -> u32
         ensures { result ≡ self.now.committed }

@@ -30,7 +30,7 @@ pub struct FileCounts {
     /// Its records, with open changes.
     pub records: u64,
     /// The locks on it: each FILE entry of an attempt that still runs has one.
-    pub locks: u32,
+    pub locks: u64,
 }
 
 /// What is counted of units.

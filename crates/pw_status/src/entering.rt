@@ -15,8 +15,8 @@ use pw_tmf::tmf::Tmf;
 use pw_world::world::World;
 use pw_world_model::answers::Entered;
 
-/// Enters an entry that names what is there, and counts it if it is a step. What takes memory for its
-/// counts is done before, and what was noted is forgotten where it is none.
+/// Enters an entry that names what is there, and counts it if it is a step. Its refresh number is noted before, which takes
+/// memory, and forgotten where the entry is none.
 pub(crate) fn enter(
     world: &mut World<Tmf>,
     tally: &mut Tally,
@@ -32,7 +32,6 @@ pub(crate) fn enter(
     world.holds();
     let shown = shown_in(event);
     let before = met_before(world, event);
-    tally.make_room(before.terminal)?;
     let fresh = note(numbers, shown)?;
     match world.enter(event) {
         Entered::Done => {

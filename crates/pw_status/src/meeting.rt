@@ -4,7 +4,6 @@ ghost use Rattle.std.specs.Prelude.{◌≡◌, ◌<◌, false, length};
 ghost use Rattle.std.specs.Option.{IfSome};
 ghost use Rattle.pw_status.specs.Counts.{waiting};
 ghost use Rattle.pw_status.specs.Longest.{sent_to};
-ghost use Rattle.pw_status.specs.Tally.{worker_for};
 ghost use Rattle.pw_world_state.specs.May.{IsThere};
 ghost use Rattle.pw_world.specs.States.{seen};
 ghost use Rattle.pw_world_model.specs.Seen.{state_of};
@@ -23,12 +22,10 @@ use pw_world::world::World;
 /// What an entry that names what is there meets before it.
 pub(crate) fn met_before(world: &World<Tmf>, entry: &Event) -> Met
     requires { IsThere world.now.keep.system entry.now }
-    ensures terminal { result.terminal ≡ worker_for (state_of (seen told_of world.now)) entry.now }
-    ensures ends { IfSome (replied_terminal entry.now) (λ t. t < length world.now.keep.system.terminals)
+    ensures { IfSome (replied_terminal entry.now) (λ t. t < length world.now.keep.system.terminals)
         → result.ends ≡ may_end (state_of (seen told_of world.now)) entry.now }
 {
     Met {
-        terminal: worker_for(world, entry),
         ends: may_end(world, entry),
         waiting: 0,
     }
@@ -47,17 +44,6 @@ pub(crate) fn met_behind(world: &World<Tmf>, entry: &Event, before: Met) -> Met
         ends: ends_then(world, entry, before.ends),
         waiting: waits_then(world, entry),
         ..before
-    }
-}
-
-/// The terminal for which the process of a FILE works.
-fn worker_for(world: &World<Tmf>, entry: &Event) -> Option<u32>
-    requires { IsThere world.now.keep.system entry.now }
-    ensures { result ≡ worker_for (state_of (seen told_of world.now)) entry.now }
-{
-    match *entry {
-        Event::File { class, process, .. } => world.worker(class, process),
-        _ => None,
     }
 }
 

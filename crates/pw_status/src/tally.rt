@@ -1,19 +1,10 @@
-ghost use Rattle.std.specs.Prelude.{◌≡◌, ◌<◌, IfOk, OnOk, Some, length, slice_index_or};
-ghost use Rattle.pw_status.specs.Attempts.{attempts_behind};
-ghost use Rattle.pw_status.specs.Counters.{counters_behind};
-ghost use Rattle.pw_status.specs.Longest.{longest_with, sent_to};
-ghost use Rattle.pw_status.specs.Over.{over_at};
-ghost use Rattle.pw_status.specs.Records.{file_in};
-ghost use Rattle.pw_status.specs.Tally.{AreSized, HasTallyRoom, HasRoomFor, IsFirstTally, IsNotedIn, IsSameTally, IsSameTallyBut, LocksAdded, LocksBehind, RecordsAdded, RecordsBehind, units_in};
+ghost use Rattle.std.specs.Prelude.{◌≡◌, ◌<◌, IfOk, length, slice_index_or};
+ghost use Rattle.pw_status.specs.Tally.{IsFirstTally, IsNotedIn, units_in};
 
 use crate::attempts::Attempts;
 use crate::counters::Counters;
 use crate::counts::UnitCounts;
-use crate::locks::Locks;
 use crate::longest::Longest;
-use crate::over::{Over, over_at};
-use crate::records::{FileEntryOperation, Records, file_in};
-use crate::settle::{settle_locks, settle_records};
 use pw_base::memory::Memory;
 use pw_code::system::System;
 use pw_event::event::Event;
@@ -23,8 +14,6 @@ use std::marker::Model;
 /// What an entry meets, beside its own words.
 #[derive(Clone, Copy, Debug, PartialEq, Eq)]
 pub struct Met {
-    /// The terminal for which the process of a FILE works.
-    pub terminal: Option<u32>,
     /// Whether a REPLY OK commits its unit, and whether a FAIL TCP loses its pair.
     pub ends: bool,
     /// How many requests wait for the class of a SEND behind it.
@@ -37,8 +26,6 @@ pub struct Tally {
     counters: Counters,
     longest: Longest,
     attempts: Attempts,
-    locks: Locks,
-    records: Records,
 }
 
 impl Model for Tally {
@@ -50,8 +37,6 @@ impl Model for Tally {
       counters = tally.counters;
       longest = tally.longest;
       attempts = tally.attempts;
-      locks = tally.locks;
-      records = tally.records;
     } };
 }
 
@@ -66,86 +51,16 @@ impl Tally {
             counters: Counters::new(alloc, terminals, classes)?,
             longest: Longest::new(alloc, classes)?,
             attempts: Attempts::new(alloc, system)?,
-            locks: Locks::new(alloc, system.files.len(), terminals)?,
-            records: Records::new(alloc, system)?,
         })
     }
 
-    /// Makes room for one more FILE of a terminal, if there is one. It changes nothing but that.
-    pub fn make_room(&mut self, terminal: Option<u32>) -> Result<(), Memory>
-        ensures same { IsSameTally terminal self.old self.new }
-        ensures ok { OnOk result (HasTallyRoom terminal self.new) }
-    {
-        match terminal {
-            Some(terminal) => self.reserve(terminal),
-            None => Ok(()),
-        }
-    }
-
-    /// Makes room for one more FILE of a terminal.
-    fn reserve(&mut self, terminal: u32) -> Result<(), Memory>
-        ensures same { IsSameTallyBut terminal self.old self.new }
-        ensures ok { OnOk result (HasRoomFor self.new terminal) }
-    {
-        self.locks.reserve(terminal)?;
-        self.records.reserve(terminal)
-    }
-
-    /// Takes one more entry in, for which there is room. It takes no memory.
+    /// Takes one more entry in. It takes no memory.
     pub fn note(&mut self, entry: &Event, met: &Met)
-        requires sized { AreSized self.old }
-        requires room { HasTallyRoom met.now.terminal self.old }
         ensures { IsNotedIn entry.now met.now self.old self.new }
     {
-        let over = over_at(entry, met.ends);
-        self.hold(met.terminal, file_in(entry), over);
         self.longest.push(entry, met.waiting);
         self.attempts.push(entry, met.ends);
         self.counters.push(entry);
-    }
-
-    /// A FILE adds a lock and may change a number of records; else the locks and the changes of attempts
-    /// that are over are settled.
-    fn hold(
-        &mut self,
-        terminal: Option<u32>,
-        operation: Option<FileEntryOperation>,
-        over: Option<Over>,
-    )
-        requires sized { AreSized self.old }
-        requires room { HasTallyRoom terminal self.old }
-        ensures counters { self.new.counters ≡ self.old.counters }
-        ensures longest { self.new.longest ≡ self.old.longest }
-        ensures attempts { self.new.attempts ≡ self.old.attempts }
-        ensures locks { LocksBehind self.old.attempts.seats terminal operation over self.old.locks self.new.locks }
-        ensures records { RecordsBehind self.old.attempts.seats terminal operation over self.old.records
-            self.new.records }
-    {
-        match operation {
-            Some(operation) => self.operate(terminal, operation),
-            None => {
-                settle_locks(&mut self.locks, self.attempts.seats(), over);
-                settle_records(&mut self.records, self.attempts.seats(), over);
-            }
-        }
-    }
-
-    /// An operation for a terminal adds a lock, and may change a number of records.
-    fn operate(&mut self, terminal: Option<u32>, operation: FileEntryOperation)
-        requires room { HasTallyRoom terminal self.old }
-        ensures counters { self.new.counters ≡ self.old.counters }
-        ensures longest { self.new.longest ≡ self.old.longest }
-        ensures attempts { self.new.attempts ≡ self.old.attempts }
-        ensures locks { LocksAdded terminal operation.file self.old.locks self.new.locks }
-        ensures records { RecordsAdded terminal operation self.old.records self.new.records }
-    {
-        match terminal {
-            Some(terminal) => {
-                self.locks.add(terminal, operation.file);
-                self.records.operate(terminal, operation);
-            }
-            None => (),
-        }
     }
 
     /// How many RESTART entries a terminal has.
@@ -170,22 +85,6 @@ impl Tally {
         ensures { result ≡ slice_index_or self.now.longest class 0 }
     {
         self.longest.of(class)
-    }
-
-    /// How many records a file has.
-    pub fn records(&self, file: u32) -> u64
-        requires { file < length self.now.records.files }
-        ensures { result ≡ slice_index_or self.now.records.files file 0 }
-    {
-        self.records.of(file)
-    }
-
-    /// How many locks are on a file.
-    pub fn locks(&self, file: u32) -> u32
-        requires { file < length self.now.locks.files }
-        ensures { result ≡ slice_index_or self.now.locks.files file 0 }
-    {
-        self.locks.on(file)
     }
 
     /// What is counted of units.

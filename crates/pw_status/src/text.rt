@@ -1,7 +1,7 @@
 //! The status text of what is watched.
 
 ghost use Rattle.std.specs.Prelude.{◌≡◌, ◌+◌, ◌-◌, ◌<◌, ◌^◌, ◌++◌, IfOk, OnOk, if◌then◌else◌, length};
-ghost use Rattle.pw_status.specs.Counts.{busy_to, class_counts, terminal_counts};
+ghost use Rattle.pw_status.specs.Counts.{busy_to, class_counts, file_counts, terminal_counts};
 ghost use Rattle.pw_status.specs.Tally.{IsTallyOf};
 ghost use Rattle.pw_status.specs.Text.{lines_to, status_text};
 ghost use Rattle.pw_status.specs.Lines.{class_watch_line, file_of, pair_watch_line, terminal_of};
@@ -37,7 +37,7 @@ pub(crate) fn text_of(
     print_pairs(&mut text, world)?;
     print_terminals(&mut text, world, tally, numbers)?;
     print_classes(&mut text, world, tally)?;
-    print_files(&mut text, world, tally)?;
+    print_files(&mut text, alloc, world)?;
     print_units(&mut text, &tally.units())?;
     Ok(text)
 }
@@ -151,19 +151,29 @@ fn with_one(count: u32, one: bool) -> u32
 }
 
 /// Puts the lines of the files behind the text.
-fn print_files(text: &mut Bytes, world: &World<Tmf>, tally: &Tally) -> Result<(), Memory>
-    requires { IsTallyOf world.now.keep.system (sys_in (watched world.now)) world.now.ledger.log tally.now }
+fn print_files(text: &mut Bytes, alloc: Global, world: &World<Tmf>) -> Result<(), Memory>
     ensures { OnOk result (text.new ≡ text.old
         ++ lines_to (file_of (watched world.now)) (length world.now.keep.system.files)) }
 {
     world.holds();
     let system = world.system();
     for file in 0..system.files.len() as u32 {
-        let counts = FileCounts {
-            records: tally.records(file),
-            locks: tally.locks(file),
-        };
-        print_file(text, system, file, &counts)?;
+        print_file(text, system, file, &count_file(alloc, world, file)?)?;
     }
     Ok(())
+}
+
+/// What is counted of a file: its records and locks, as the disc has them.
+fn count_file(alloc: Global, world: &World<Tmf>, file: u32) -> Result<FileCounts, Memory>
+    requires { file < length world.now.keep.system.files }
+    ensures { IfOk result (λ counts. counts
+        ≡ file_counts (sys_in (watched world.now)) world.now.ledger.log file) }
+{
+    world.holds();
+    let disc = world.disc();
+    let records = disc.record_count(alloc, file)?;
+    Ok(FileCounts {
+        records: records as u64,
+        locks: disc.lock_count(file) as u64,
+    })
 }

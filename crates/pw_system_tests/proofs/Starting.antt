@@ -4,7 +4,7 @@ use Rattle.std.specs.Prelude.{IfOk}
 use Rattle.pw_code.specs.declared.system.System.{System}
 use Rattle.pw_event.specs.declared.script.FailLine.{FailLine}
 use Rattle.pw_world_model.specs.Worlds.{IsDiscOf}
-use Rattle.pw_workers.proofs.Starts.{starts}
+use Rattle.pw_world_model.proofs.Starts.{starts}
 use Rattle.pw_tmf.specs.Faulty.{with_faults}
 use Rattle.pw_tmf.specs.Starting.{told_at_start}
 use Rattle.pw_tmf.specs.Tmf.{TmfState, told_of}

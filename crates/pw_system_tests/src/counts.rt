@@ -10,9 +10,7 @@ use pw_event::event::{Cause, Event};
 use pw_report_text::numbers::ListedRefreshNumber;
 use pw_status::attempts::Attempts;
 use pw_status::counters::Counters;
-use pw_status::locks::Locks;
 use pw_status::longest::Longest;
-use pw_status::records::Records;
 use pw_status::shown::Numbers;
 use std::alloc::Global;
 use std::process::Abort;
@@ -144,21 +142,6 @@ fn a_log_is_counted(rt: HostRuntime) -> Result<(), Fail> {
     expect_ended(&rt)
 }
 
-/// There is room for the records of each file and of each terminal.
-fn expect_room_for_records(alloc: Global) -> Result<(), Fail> {
-    let system = system(alloc)?;
-    let mut records = Records::new(alloc, &system)?;
-    records.reserve(1)?;
-    Ok(())
-}
-
-/// There is room for the locks of one file and of two terminals.
-fn expect_room_for_locks(alloc: Global) -> Result<(), Fail> {
-    let mut locks = Locks::new(alloc, 1, 2)?;
-    locks.reserve(1)?;
-    Ok(())
-}
-
 /// The first refresh of the second terminal is a new one.
 fn is_new_number(alloc: Global) -> Result<bool, Fail> {
     let mut numbers = Numbers::new(alloc, 2)?;
@@ -175,8 +158,6 @@ fn there_is_room_for_each_count(rt: HostRuntime) -> Result<(), Fail> {
     let alloc = rt.alloc();
     let mut longest = Longest::new(alloc, 1)?;
     longest.push(&BEGUN, 0);
-    expect_room_for_records(alloc)?;
-    expect_room_for_locks(alloc)?;
     assert!(rt; is_new_number(alloc)?);
     Ok(())
 }

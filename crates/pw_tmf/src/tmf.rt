@@ -1,4 +1,4 @@
-ghost use Rattle.std.specs.Prelude.{◌≡◌, ◌<◌, [], All, IfErr, IfOk, IfSome, Ok, OnErr, OnOk};
+ghost use Rattle.std.specs.Prelude.{◌≡◌, ◌<◌, ◌==◌, [], All, IfErr, IfOk, IfSome, Ok, OnErr, OnOk, count_by, length};
 ghost use Rattle.pw_code.specs.Valid.{IsValid};
 ghost use Rattle.pw_tmf.specs.Answers.{Leaves, Operates};
 ghost use Rattle.pw_files.specs.Records.{IsContent};
@@ -183,6 +183,24 @@ impl Tmf {
         lists.reverse();
         self.pending = lists;
         Ok(())
+    }
+
+    /// How many records a file has, with what open units have changed. It makes a copy of the file's records.
+    pub fn record_count(&self, alloc: Global, file: u32) -> Result<usize, Memory>
+        requires { file < (told_of self.now).file_count }
+        ensures { IfOk result (λ count. count ≡ length ((told_of self.now).files file)) }
+    {
+        if !is_settled(&self.pending) {
+            return Err(Memory);
+        }
+        Ok(self.files[file as usize].records(alloc)?.len())
+    }
+
+    /// How many locks units hold on a file.
+    pub fn lock_count(&self, file: u32) -> usize
+        ensures { result ≡ count_by (λ held. held.file == file) (told_of self.now).locks }
+    {
+        self.book.count_on(file)
     }
 
     /// An equal value.

@@ -1,3 +1,2 @@
 mod Claimed
 mod Crossing
-pub mod Starts

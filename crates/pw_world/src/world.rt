@@ -91,7 +91,14 @@ impl<D: Disc> World<D> {
         })
     }
 
-    /// The disc, as the calls left it. It takes no memory.
+    /// The disc, as the calls left it.
+    pub fn disc(&self) -> &D
+        ensures { result.now ≡ self.now.keep.disc }
+    {
+        self.keep.disc()
+    }
+
+    /// The same disc, where nothing else is wanted any more. It takes no memory.
     pub fn into_disc(self) -> D
         ensures { result ≡ self.keep.disc }
     {

@@ -30,6 +30,7 @@ pub mod Rooms
 pub mod SameWork
 pub mod Shapes
 pub mod Stamped
+pub mod Starts
 pub mod Steps
 pub mod Touched
 pub mod Unlike

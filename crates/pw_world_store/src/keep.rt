@@ -95,6 +95,13 @@ impl<D: Disc> Keep<D> {
     }
 
     /// The disc, as the calls left it.
+    pub fn disc(&self) -> &D
+        ensures { result.now ≡ self.now.disc }
+    {
+        &self.disc
+    }
+
+    /// The same disc, where nothing else is wanted any more.
     pub fn into_disc(self) -> D
         ensures { result ≡ self.disc }
     {

@@ -1,7 +1,7 @@
 use Rattle.std.proofs.Common.{Err, ap, subst, sym}
 use Rattle.pw_deck_runs.proofs.verify.replay.Goals as goal
 use Rattle.pw_world_model.specs.Worlds.{IsDiscOf}
-use Rattle.pw_workers.proofs.Starts.{starts}
+use Rattle.pw_world_model.proofs.Starts.{starts}
 
 pub replay-requires-clause-disc : goal.replay-requires-clause-disc
 replay-requires-clause-disc c κs =

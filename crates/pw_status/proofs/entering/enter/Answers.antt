@@ -6,18 +6,13 @@ use Rattle.pw_status.specs.Longest.{sent_to}
 use Rattle.pw_world.specs.Ledgers.{books_of}
 use Rattle.pw_world.specs.States.{seen}
 use Rattle.pw_tmf.specs.Tmf.{told_of}
-use Rattle.pw_status.proofs.Pushing.{replied-there, sent-there, shown-kept, watch-more, watch-numbers, watch-refused, watch-roomy}
+use Rattle.pw_status.proofs.Pushing.{replied-there, sent-there, shown-kept, watch-more, watch-numbers, watch-refused}
 use Rattle.pw_status.specs.Noting.{HasKeptNumbers, Notes}
 use Rattle.pw_status.proofs.entering.enter.Goals as goal
 
-pub returns-in_err-make_room-clause-watch : goal.returns-in_err-make_room-clause-watch
-returns-in_err-make_room-clause-watch c =
-    watch-roomy c.args.world.now c.met_before-before.result.terminal c.args.tally.now c.make_room.new.self c.args.numbers.now c.make_room.ensures.same c.requires.watch
-
 pub returns-in_err-fresh-clause-watch : goal.returns-in_err-fresh-clause-watch
 returns-in_err-fresh-clause-watch c =
-    watch-numbers c.args.world.now c.make_room.new.self c.args.numbers.now c.note.new.numbers c.in_err-fresh.ensures.err
-    (watch-roomy c.args.world.now c.met_before-before.result.terminal c.args.tally.now c.make_room.new.self c.args.numbers.now c.make_room.ensures.same c.requires.watch)
+    watch-numbers c.args.world.now c.args.tally.now c.args.numbers.now c.note.new.numbers c.in_err-fresh.ensures.err c.requires.watch
 
 pub met_behind-requires-clause-class : goal.met_behind-requires-clause-class
 met_behind-requires-clause-class c =
@@ -29,25 +24,23 @@ returns-in-Done-clause-watch c =
     let old = c.args.world.now in
     let entry = c.args.event.now in
     let legal = c.in-Done.ensures.comes.1 in
-    watch-more old c.enter.new.self entry c.holds.ensures c.in-Done.ensures.leaves legal c.args.tally.now c.make_room.new.self c.note-in-Done.new.self c.args.numbers.now
-    c.note.new.numbers c.met_before-before.result.terminal c.in_ok-fresh.fresh c.met_before-before.result c.met_behind.result c.requires.room c.requires.watch
-    c.make_room.ensures.same (shown-kept old.keep.system entry c.args.numbers.now c.requires.watch.count c.requires.there)
+    watch-more old c.enter.new.self entry c.holds.ensures c.in-Done.ensures.leaves legal c.args.tally.now c.note-in-Done.new.self c.args.numbers.now
+    c.note.new.numbers c.in_ok-fresh.fresh c.met_before-before.result c.met_behind.result c.requires.room c.requires.watch (shown-kept old.keep.system entry c.args.numbers.now c.requires.watch.count c.requires.there)
     (subst (λ shown. Notes shown c.in_ok-fresh.fresh c.args.numbers.now c.note.new.numbers) c.shown_in-shown.ensures c.in_ok-fresh.ensures.ok)
-    c.met_before-before.ensures.terminal
-    (c.met_before-before.ensures.ends (replied-there (seen told_of old) (books_of old.ledger) c.holds.ensures entry legal)) c.met_behind.ensures c.note-in-Done.ensures
+    (c.met_before-before.ensures (replied-there (seen told_of old) (books_of old.ledger) c.holds.ensures entry legal)) c.met_behind.ensures c.note-in-Done.ensures
 
 pub returns-in-NotAStep-clause-watch : goal.returns-in-NotAStep-clause-watch
 returns-in-NotAStep-clause-watch c =
     let old = c.args.world.now in
     let low = shown-kept old.keep.system c.args.event.now c.args.numbers.now c.requires.watch.count c.requires.there in
-    watch-refused old c.enter.new.self c.in-NotAStep.ensures.leaves c.args.tally.now c.make_room.new.self c.args.numbers.now c.note.new.numbers c.forget.new.numbers
-    c.met_before-before.result.terminal c.shown_in-shown.result c.in_ok-fresh.fresh c.requires.watch c.make_room.ensures.same
+    watch-refused old c.enter.new.self c.in-NotAStep.ensures.leaves c.args.tally.now c.args.numbers.now c.note.new.numbers c.forget.new.numbers
+    c.shown_in-shown.result c.in_ok-fresh.fresh c.requires.watch
     (subst (λ shown. HasKeptNumbers shown c.args.numbers.now) (sym c.shown_in-shown.ensures) low) c.in_ok-fresh.ensures.ok c.forget.ensures
 
 pub returns-in-Memory-clause-watch : goal.returns-in-Memory-clause-watch
 returns-in-Memory-clause-watch c =
     let old = c.args.world.now in
     let low = shown-kept old.keep.system c.args.event.now c.args.numbers.now c.requires.watch.count c.requires.there in
-    watch-refused old c.enter.new.self c.in-Memory.ensures.leaves c.args.tally.now c.make_room.new.self c.args.numbers.now c.note.new.numbers c.forget-in-Memory.new.numbers
-    c.met_before-before.result.terminal c.shown_in-shown.result c.in_ok-fresh.fresh c.requires.watch c.make_room.ensures.same
+    watch-refused old c.enter.new.self c.in-Memory.ensures.leaves c.args.tally.now c.args.numbers.now c.note.new.numbers c.forget-in-Memory.new.numbers
+    c.shown_in-shown.result c.in_ok-fresh.fresh c.requires.watch
     (subst (λ shown. HasKeptNumbers shown c.args.numbers.now) (sym c.shown_in-shown.ensures) low) c.in_ok-fresh.ensures.ok c.forget-in-Memory.ensures

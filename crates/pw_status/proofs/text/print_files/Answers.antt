@@ -1,21 +1,24 @@
-use Rattle.std.proofs.Common.{◌≡◌, ◌∙◌, ℕ, ◌<◌, List, ◌++◌, ap, arith, length, subst}
+use Rattle.std.proofs.Common.{◌≡◌, ◌∙◌, ℕ, List, ◌++◌, ap, arith, length, subst}
 use Rattle.pw_code.specs.declared.system.System.{System}
 use Rattle.pw_status.specs.Text.{lines_to}
 use Rattle.pw_status.proofs.Counted.{lines-more}
-use Rattle.pw_status.proofs.Telling.{file-counts, file-told}
+use Rattle.pw_status.proofs.Telling.{file-told}
 use Rattle.pw_status.specs.Lines.{file_of}
-use Rattle.pw_status.specs.Watching.{sys_in, watched}
+use Rattle.pw_status.specs.Watching.{watched}
 use Rattle.pw_status.proofs.text.print_files.Goals as goal
 
 pub loop-file-preserved : goal.loop-file-preserved
 loop-file-preserved c =
     let w = c.args.world.now in
     let watch = watched w in
-    let low : c.loop-file.file < length w.keep.system.files = omega (arith, ap (λ (s : System). length s.files) c.system-system.ensures.system, c.len-file-end.ensures, c.loop-file-test.true) in
-    let counts = file-counts w.keep.system (sys_in watch) w.ledger.log c.args.tally.now c.requires c.loop-file.file (record { records = c.records.result; locks = c.locks.result }) low c.records.ensures c.locks.ensures in
+    let counts = c.in_ok-count_file.ensures in
     lines-more (file_of watch) c.loop-file.file c.args.text.now c.loop-file.text _ c.loop-file.invariant
     (c.in_ok-print_file.ensures ∙ ap (λ (line : List ℕ). c.loop-file.text ++ line)
     (file-told watch c.system-system.result.now c.system-system.ensures.system c.loop-file.file _ counts))
+
+pub count_file-requires : goal.count_file-requires
+count_file-requires c =
+    let system = ap (λ (s : System). length s.files) c.system-system.ensures.system in omega (arith, system, c.len-file-end.ensures, c.loop-file-test.true)
 
 pub returns : goal.returns
 returns c =

@@ -4,7 +4,7 @@ use Rattle.pw_code_meaning.specs.OfSystem.{behaviour}
 use Rattle.pw_report_text.specs.Listing.{files_part}
 use Rattle.pw_world_model.specs.Worlds.{IsDiscOf}
 use Rattle.pw_deck_runs.proofs.Outcomes.{recovers-to}
-use Rattle.pw_workers.proofs.Starts.{starts}
+use Rattle.pw_world_model.proofs.Starts.{starts}
 use Rattle.pw_tmf.specs.Committed.{committed}
 use Rattle.pw_tmf.specs.Starting.{told_at_start}
 use Rattle.pw_tmf.specs.Tmf.{told_of}

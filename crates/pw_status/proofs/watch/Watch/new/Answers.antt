@@ -1,6 +1,6 @@
 use Rattle.std.proofs.Common.{subst, sym}
 use Rattle.pw_world_model.specs.Worlds.{IsDiscOf}
-use Rattle.pw_workers.proofs.Starts.{starts}
+use Rattle.pw_world_model.proofs.Starts.{starts}
 use Rattle.pw_status.proofs.Beginning.{begun-seen, watch-begun}
 use Rattle.pw_status.proofs.watch.Watch.new.Goals as goal
 
@@ -10,7 +10,7 @@ new-requires-clause-disc c κs =
 
 pub invariant_of-result : goal.invariant_of-result
 invariant_of-result c =
-    watch-begun c.in_ok-world.world c.args.system c.args.script.lines _ c.in_ok-world.ensures c.requires.valid _ _
+    watch-begun c.in_ok-world.world c.args.system c.args.script.lines _ c.in_ok-world.ensures _ _
     c.in-Ok.ensures.tally c.in-Ok.ensures.count c.in-Ok.ensures.none
 
 pub returns : goal.returns
