@@ -1,5 +1,5 @@
 -- The tests of the end of a transaction, by the context behind it.
-use Rattle.std.proofs.Common.{◌≡◌, ℕ, ◌==◌, ◌&&◌, Bool, not, is_some, refl, ap, sym, ◌∙◌}
+use Rattle.std.proofs.Common.{◌≡◌, ℕ, ◌==◌, ◌&&◌, Bool, true, false, not, is_some, refl, ap, sym, ◌∙◌}
 use Rattle.pw_code.specs.declared.context.Context.{Context}
 use Rattle.pw_code.specs.declared.system.System.{System}
 use Rattle.pw_code.specs.declared.verb.Answer.{Answer}
@@ -9,13 +9,20 @@ use Rattle.pw_code.specs.declared.verb.Verb.TheVariants as verb
 use Rattle.pw_image.specs.Image.{image_of}
 use Rattle.pw_world_state.specs.Asked.{unit_in, verb_in}
 use Rattle.pw_world_state.specs.Kept.{Kept}
+use Rattle.pw_world_state.specs.NextSteps.{closed_held}
 use Rattle.pw_world_state.specs.TerminalTests.{closing, end_held, flies, seat_at}
 use Rattle.pw_laws.specs.legal.Values.{some_with}
 use Rattle.pw_laws.specs.legal.Verbs.{asks_drop, asks_end}
 use Rattle.pw_pair.specs.Pairs.{passes}
 use Rattle.pw_pair.specs.Seats.{holds_end}
+use Rattle.pw_tcp.specs.NextStep.{ends_unit}
 use Rattle.pw_entry_tests.specs.Images.{behind_end}
 use Rattle.pw_entry_tests.proofs.Ends.{drop-behind, end-behind}
+
+-- where a test fails
+shut : (calm a b : Bool) → ((calm && false) && a) ≡ ((calm && false) && b)
+shut true a b = refl
+shut false a b = refl
 
 module _ (system : System) (kept : Kept) (t : ℕ) (context : Context) where
   -- the backup holds the context behind the end
@@ -49,6 +56,29 @@ module _ (system : System) (kept : Kept) (t : ℕ) (context : Context) where
       → (is_some (closing v) && (not (passes (holds_end (image_of (behind_end context))) (seat_at system kept t)) && not (flies system kept t)))
       ≡ some_with (λ a. not (end_held system kept t a context) && not (flies system kept t)) (closing (verb_in system context))
   check-end-same v e = check-at v (sym e) ∙ ap (λ w. some_with wanted (closing w)) e
+
+  -- the end that the step depends on
+  module _ (calm : Bool) where
+    abbrev closed : Verb → Bool
+    closed v = some_with (λ a. end_held system kept t a context) (closing v)
+
+    closed-at : (v : Verb) → verb_in system context ≡ v → ((calm && ends_unit v) && held) ≡ ((calm && ends_unit v) && closed v)
+    closed-at verb.End e = ap (λ b. (calm && true) && b) (end-held e)
+    closed-at verb.Drop e = ap (λ b. (calm && true) && b) (drop-held e)
+    closed-at verb.Show e = shut calm _ _
+    closed-at (verb.Accept screen) e = shut calm _ _
+    closed-at verb.Begin e = shut calm _ _
+    closed-at (verb.Send class message) e = shut calm _ _
+    closed-at verb.Redo e = shut calm _ _
+    closed-at verb.Stop e = shut calm _ _
+    closed-at (verb.Fault code) e = shut calm _ _
+    closed-at (verb.File call) e = shut calm _ _
+    closed-at (verb.Reply reply) e = shut calm _ _
+
+    pub closed-same : (v : Verb) → v ≡ verb_in system context
+        → ((calm && ends_unit v) && passes (holds_end (image_of (behind_end context))) (seat_at system kept t))
+        ≡ ((calm && ends_unit v) && closed_held system kept t context)
+    closed-same v e = closed-at v (sym e) ∙ ap (λ w. (calm && ends_unit v) && closed w) e
 
   module _ (n : ℕ) where
     commit-at : (v : Verb) → verb_in system context ≡ v

@@ -24,7 +24,7 @@ use Rattle.pw_entry_tests.proofs.Opened.{IsRun}
 use Rattle.pw_entry_tests.proofs.Runs.{restart-is, suspend-is}
 use Rattle.pw_entry_tests.specs.Causes.{HoldsFor, IsCauseFound}
 use Rattle.pw_entry_tests.specs.Steps.{HasNoCausedStep, IsFoundOr, IsStepFound, IsStepOf}
-use Rattle.pw_entry_tests.specs.Verbs.{HasNoVerbStep}
+use Rattle.pw_world_state.specs.NextSteps.{HasNoVerbStep}
 use Rattle.pw_tmf.specs.Told.{ToldUnit}
 
 -- what passes a test is there

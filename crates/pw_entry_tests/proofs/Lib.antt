@@ -16,7 +16,7 @@ pub mod NoStep
 pub mod OfPair
 pub mod OlderFound
 pub mod OlderTest
-pub mod Once
 pub mod Opened
+pub mod OwnSteps
 pub mod Runs
 pub mod Working

@@ -18,7 +18,7 @@ use Rattle.pw_laws.specs.legal.Pairs.{is_legal_fail_tcp}
 use Rattle.pw_actor_queue.specs.declared.actor.Actor.TheVariants.{Terminal, Process, Pair}
 use Rattle.pw_entry_tests.specs.Members.{IsMember}
 use Rattle.pw_entry_tests.specs.Steps.{HasNoCausedStep, IsStepOf}
-use Rattle.pw_entry_tests.specs.Verbs.{HasNoVerbStep}
+use Rattle.pw_world_state.specs.NextSteps.{HasNoVerbStep}
 
 -- no line of an empty script
 no-tcp-line : (system : System) (p : ℕ) (primary : Bool) (k : ℕ) → is_legal_fail_tcp (behaviour [] system) p primary k ≡ false

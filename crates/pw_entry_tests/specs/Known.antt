@@ -1,5 +1,6 @@
 -- What the tests of entries take of what is kept. It holds in every run.
 use Rattle.std.specs.Prelude.{◌≡◌, ℕ, ◌<◌, true, length, All, Option, Some, None, if◌then◌else◌}
+use Rattle.std.specs.Option.{ForSome}
 use Rattle.pw_class.specs.Queue.{at_process}
 use Rattle.pw_class.specs.declared.request.Request.{Request}
 use Rattle.pw_code.specs.Valid.{IsValid}
@@ -10,7 +11,11 @@ use Rattle.pw_code.specs.declared.verb.Verb.TheVariants as verb
 use Rattle.pw_world_state.specs.Asked.{verb_in}
 use Rattle.pw_world_state.specs.Changes.{unit_at}
 use Rattle.pw_world_state.specs.Kept.{Kept}
+use Rattle.pw_world_state.specs.NextSteps.{MayStepAt, standing}
 use Rattle.pw_world_state.specs.TerminalTests.{can_step}
+use Rattle.pw_world_store.specs.declared.seat.Ready.{Ready}
+use Rattle.pw_actor_queue.specs.declared.actor.Actor.{Actor}
+use Rattle.pw_actor_queue.specs.declared.actor.Actor.TheVariants.{Terminal}
 use Rattle.pw_paired.specs.State.{Awaited}
 use Rattle.pw_tmf.specs.Operation.{IsCall}
 use Rattle.pw_tmf.specs.Told.{ToldUnit}
@@ -42,3 +47,14 @@ pub record IsKnown (system : System) (kept : Kept) : Type 0 where
 -- the program of a terminal at its verb, where the terminal can step
 abbrev pub stepping : System → Kept → ℕ → Option Context
 stepping system kept t = if can_step system kept t then (kept.terminals t).ready else None
+
+-- what the next step of a terminal takes of what is kept, where its program stands at its verb; it holds in every run
+abbrev pub IsNextKnown : System → Kept → Actor → Type 0
+IsNextKnown system kept (Terminal t) = ForSome (standing system kept t) (MayStepAt system kept t)
+IsNextKnown system kept _ = Unit {0}
+
+-- the terminal is live, its pair has a member at work, and its program stands so at this verb
+pub record StandsThere (system : System) (kept : Kept) (t : ℕ) (at : Ready) : Type 0 where
+  pub stands : standing system kept t ≡ Some at.context
+  pub verb : at.verb ≡ verb_in system at.context
+  pub counts : IsFewCounted at.context

@@ -5,4 +5,3 @@ pub mod Images
 pub mod Known
 pub mod Members
 pub mod Steps
-pub mod Verbs

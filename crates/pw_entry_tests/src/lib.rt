@@ -3,13 +3,13 @@
 //! docs/WORLD.md has the rules.
 #![tactic(auto)]
 
-mod at_verb;
 mod causes;
 mod classes;
 mod images;
 pub mod may;
 mod members;
 mod older;
+mod own;
 mod pairs;
 pub mod step;
 mod terminals;

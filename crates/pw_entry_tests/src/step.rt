@@ -1,15 +1,17 @@
 //! A step of each actor that has one.
 
 ghost use Rattle.std.specs.Prelude.{◌<◌, IfOk, length};
+ghost use Rattle.std.specs.Option.{ForSome};
+ghost use Rattle.pw_world_state.specs.NextSteps.{MayStepAt, standing};
 ghost use Rattle.pw_world_store.specs.Keeps.{kept_in};
 ghost use Rattle.pw_actor_queue.specs.declared.actor.Actor.TheVariants.{Class, Terminal};
 ghost use Rattle.pw_entry_tests.specs.Actors.{IsActorIn};
-ghost use Rattle.pw_entry_tests.specs.Known.{IsKnown};
+ghost use Rattle.pw_entry_tests.specs.Known.{IsKnown, IsNextKnown};
 ghost use Rattle.pw_entry_tests.specs.Steps.{HasNoCausedStep, IsFoundOr, IsStepFound};
 
-use crate::at_verb::verb_step;
 use crate::causes::{find_cause, most_restarts, running};
 use crate::members::pair_step;
+use crate::own::own_step;
 use crate::pairs::may_lose;
 use crate::works::process_step;
 use pw_actor_queue::actor::Actor;
@@ -24,6 +26,7 @@ use pw_world_store::keep::Keep;
 pub fn step<D: Disc>(keep: &Keep<D>, actor: Actor) -> Result<Option<Event>, Memory>
     requires actor { IsActorIn keep.now.system actor }
     requires known { IsKnown keep.now.system (kept_in D.told keep.now) }
+    requires next { IsNextKnown keep.now.system (kept_in D.told keep.now) actor }
     ensures { IfOk result (IsStepFound keep.now.system (kept_in D.told keep.now) actor) }
 {
     match actor {
@@ -38,10 +41,12 @@ pub fn step<D: Disc>(keep: &Keep<D>, actor: Actor) -> Result<Option<Event>, Memo
 fn terminal_step<D: Disc>(keep: &Keep<D>, terminal: u32) -> Result<Option<Event>, Memory>
     requires there { terminal < length keep.now.system.terminals }
     requires known { IsKnown keep.now.system (kept_in D.told keep.now) }
+    requires next { ForSome (standing keep.now.system (kept_in D.told keep.now) terminal)
+        (MayStepAt keep.now.system (kept_in D.told keep.now) terminal) }
     ensures { IfOk result
         (IsStepFound keep.now.system (kept_in D.told keep.now) (Terminal terminal)) }
 {
-    if let Some(entry) = verb_step(keep, terminal) {
+    if let Some(entry) = own_step(keep, terminal) {
         return Ok(Some(entry));
     }
     if may_lose(keep, terminal) {

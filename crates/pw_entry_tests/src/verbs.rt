@@ -7,11 +7,15 @@ ghost use Rattle.pw_laws.specs.legal.Values.{is_server_by, is_takeover_by, some_
 ghost use Rattle.pw_laws.specs.legal.Verbs.{asks_accept, asks_drop, asks_end, asks_fault, asks_redo, asks_send, asks_send_to, asks_show, asks_stop, replies};
 ghost use Rattle.pw_onecopy.specs.Operation.{plain_op};
 ghost use Rattle.pw_paired.specs.Raising.{is_takeover};
+ghost use Rattle.pw_tcp.specs.Entries.{class_of_send};
+ghost use Rattle.pw_tcp.specs.InState.{pending_of};
+ghost use Rattle.pw_world_state.specs.NextSteps.{has_member};
 
 use pw_code::file::FileOp;
 use pw_code::verb::Verb;
 use pw_event::event::Cause;
 use pw_pair::mode::Mode;
+use pw_tcp::terminal::Pending;
 
 /// Whether the verb begins a unit, by whether it stands outside a transaction.
 pub fn begins_unit(verb: &Verb, outside: bool) -> bool
@@ -59,6 +63,16 @@ pub fn asks_send_to(verb: &Verb, to: u32) -> bool
     match verb {
         Verb::Send { class, .. } => *class == to,
         _ => false,
+    }
+}
+
+/// The class that the verb sends to.
+pub fn class_of(verb: &Verb) -> u32
+    ensures { result ≡ class_of_send verb.now }
+{
+    match verb {
+        Verb::Send { class, .. } => *class,
+        _ => 0,
     }
 }
 
@@ -127,6 +141,24 @@ pub fn is_sending(mode: Mode) -> bool
     ensures { result ≡ is_sending mode }
 {
     matches!(mode, Mode::Raising | Mode::Paired)
+}
+
+/// Whether a member of the pair works in this mode.
+pub fn has_member(mode: Mode) -> bool
+    ensures { result ≡ has_member mode }
+{
+    !matches!(mode, Mode::Down | Mode::Gone)
+}
+
+/// A pending cause, as the next step is told it.
+pub fn pending_of(cause: Option<Cause>) -> Pending
+    ensures { result ≡ pending_of cause }
+{
+    match cause {
+        None => Pending::Nothing,
+        Some(Cause::Takeover(_)) => Pending::Takeover,
+        Some(_) => Pending::Server,
+    }
 }
 
 /// Whether the cause, if there is one, is a takeover.
