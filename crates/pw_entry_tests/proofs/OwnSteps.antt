@@ -1,5 +1,5 @@
 -- The entry that a terminal's next step names is a step, and where it waits none at its verb is.
-use Rattle.std.proofs.Common.{◌≡◌, ℕ, ◌<◌, ◌&&◌, [], Option, Some, None, Bool, true, false, cond, length, is_some, refl, sym, ap, ap₂, subst, ◌∙◌}
+use Rattle.std.proofs.Common.{◌≡◌, ℕ, ◌<◌, ◌&&◌, [], Option, None, Bool, true, false, cond, length, is_some, refl, sym, ap, ap₂, subst, ◌∙◌}
 use Rattle.std.specs.Option.{IfSome}
 use Rattle.pw_base.proofs.Plain.{cond_passed}
 use Rattle.pw_code.specs.declared.context.Context.{Context}
@@ -13,12 +13,11 @@ use Rattle.pw_pair.specs.Pairs.{passes}
 use Rattle.pw_pair.specs.Seats.{holds_end}
 use Rattle.pw_pair.specs.declared.mode.Mode.{Mode}
 use Rattle.pw_pair.specs.declared.mode.Mode.TheVariants.{Alone, Raising, Paired, Down, Gone}
-use Rattle.pw_tcp.specs.NextStep.{BeginsAnew, MayAsk, RunsWhere, is_calm, needs_end, needs_start, next_step_of}
+use Rattle.pw_tcp.specs.NextStep.{is_calm, needs_end, needs_start, next_step_of}
 use Rattle.pw_tcp.specs.declared.step.TcpStep.{TcpStep}
 use Rattle.pw_tcp.specs.declared.step.TcpStep.TheVariants as step
 use Rattle.pw_tcp.specs.declared.terminal.Note.{Note}
 use Rattle.pw_tcp.specs.declared.terminal.Terminal.{Terminal}
-use Rattle.pw_world_state.specs.Asked.{verb_in}
 use Rattle.pw_world_state.specs.CauseTests.{most_restarts}
 use Rattle.pw_world_state.specs.Kept.{Kept}
 use Rattle.pw_world_state.specs.May.{may}
@@ -107,20 +106,6 @@ module _ (system : System) (kept : Kept) (t : ℕ) (low : t < length system.term
         }
 
     module _ (note : Note) (note-is : note ≡ note_at system kept t context) (asked : MayStepAt system kept t context) where
-      pub asks : MayAsk at.verb
-      asks = subst MayAsk (sym stands.verb) asked.asks
-
-      pub runs : RunsWhere own at.verb context.in_unit
-      runs =
-          subst (λ (o : Terminal). RunsWhere o at.verb context.in_unit) (sym own-is)
-          (subst (λ (v : Verb). RunsWhere (terminal_at system kept t context) v context.in_unit) (sym stands.verb) asked.runs)
-
-      pub begins : BeginsAnew own at.verb note
-      begins =
-          subst (λ (n : Note). BeginsAnew own at.verb n) (sym note-is)
-          (subst (λ (o : Terminal). BeginsAnew o at.verb (note_at system kept t context)) (sym own-is)
-          (subst (λ (v : Verb). BeginsAnew (terminal_at system kept t context) v (note_at system kept t context)) (sym stands.verb) asked.begins))
-
       -- what it names is found, and where it waits there is nothing
       pub found : (most : ℕ) → most ≡ most_restarts system t → (s : TcpStep) → s ≡ next_step_of own at.verb context.in_unit note most → (entry : Option Event)
           → entry ≡ entry_at system kept t context s → IsFoundOr system kept t (HasNoVerbStep system kept t) entry
