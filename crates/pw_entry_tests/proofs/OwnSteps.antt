@@ -1,6 +1,6 @@
 -- The entry that a terminal's next step names is a step, and where it waits none at its verb is.
-use Rattle.std.proofs.Common.{◌≡◌, ℕ, ◌<◌, ◌&&◌, [], Option, None, Bool, true, false, cond, length, is_some, refl, sym, ap, ap₂, subst, ◌∙◌}
-use Rattle.std.specs.Option.{IfSome}
+use Rattle.std.proofs.Common.{◌≡◌, ℕ, ◌<◌, ◌&&◌, [], Option, None, Some, Bool, true, false, cond, length, is_some, refl, sym, ap, ap₂, subst, ◌∙◌}
+use Rattle.std.specs.Option.{ForSome, IfSome}
 use Rattle.pw_base.proofs.Plain.{cond_passed}
 use Rattle.pw_code.specs.declared.context.Context.{Context}
 use Rattle.pw_code.specs.declared.system.System.{System}
@@ -29,7 +29,15 @@ use Rattle.pw_world_store.specs.declared.seat.Ready.{Ready}
 use Rattle.pw_entry_tests.proofs.EndTests.{closed-same}
 use Rattle.pw_entry_tests.specs.Images.{behind_end}
 use Rattle.pw_entry_tests.specs.Known.{StandsThere, stepping}
-use Rattle.pw_entry_tests.specs.Steps.{IsFoundOr}
+use Rattle.pw_entry_tests.specs.Steps.{IsFoundOr, next_entry_at}
+
+-- ---- what holds of the one value, and of none
+
+pub for-one : (o : Option Context) (P : Context → Type 0) (at : Context) → o ≡ Some at → P at → ForSome o P
+for-one o P at is h context found = let same : at ≡ context = cc (sym is ∙ found) in subst P same h
+
+pub for-none : (o : Option Context) (P : Context → Type 0) → o ≡ None → ForSome o P
+for-none o P is context found = absurd (cc (sym is ∙ found))
 
 -- ---- where a terminal stands nowhere it cannot step
 
@@ -88,6 +96,12 @@ module _ (system : System) (kept : Kept) (t : ℕ) (low : t < length system.term
   named (step.Fault code) p waits = record { own = refl; there = low; read = read; passes = p }
   named step.Wait p waits = waits refl
 
+  -- it is a step, and where the terminal waits there is none
+  pub found : MayStepAt system kept t context → (entry : Option Event) → entry ≡ next_entry_at system kept t context
+      → IsFoundOr system kept t (HasNoVerbStep system kept t) entry
+  found asked entry is =
+      subst (IsFoundOr system kept t (HasNoVerbStep system kept t)) (sym is) (named (next_step_at system kept t context) asked.passes asked.waits)
+
   -- ---- what the step is told
 
   module _ (own : Terminal) (own-is : own ≡ terminal_at system kept t context) where
@@ -105,15 +119,12 @@ module _ (system : System) (kept : Kept) (t : ℕ) (low : t < length system.term
           end_held = needs_end o v p && closed_held system kept t context;
         }
 
-    module _ (note : Note) (note-is : note ≡ note_at system kept t context) (asked : MayStepAt system kept t context) where
-      -- what it names is found, and where it waits there is nothing
-      pub found : (most : ℕ) → most ≡ most_restarts system t → (s : TcpStep) → s ≡ next_step_of own at.verb context.in_unit note most → (entry : Option Event)
-          → entry ≡ entry_at system kept t context s → IsFoundOr system kept t (HasNoVerbStep system kept t) entry
-      found most most-is s s-is entry entry-is =
-          let told : s ≡ next_step_at system kept t context =
-          s-is
-          ∙ (ap₂ (λ o n. next_step_of o at.verb context.in_unit n most) own-is note-is
-          ∙ ap₂ (λ v m. next_step_of (terminal_at system kept t context) v context.in_unit (note_at system kept t context) m) stands.verb most-is)
-          in
-          subst (IsFoundOr system kept t (HasNoVerbStep system kept t)) (sym (entry-is ∙ ap (entry_at system kept t context) told))
-          (named (next_step_at system kept t context) asked.passes asked.waits)
+    -- the entry that is named is that of the next step
+    pub told : (note : Note) → note ≡ note_at system kept t context → (most : ℕ) → most ≡ most_restarts system t → (s : TcpStep)
+        → s ≡ next_step_of own at.verb context.in_unit note most → (entry : Option Event) → entry ≡ entry_at system kept t context s → entry ≡ next_entry_at system kept t context
+    told note note-is most most-is s s-is entry entry-is =
+        entry-is
+        ∙ ap (entry_at system kept t context)
+        (s-is
+        ∙ (ap₂ (λ o n. next_step_of o at.verb context.in_unit n most) own-is note-is
+        ∙ ap₂ (λ v m. next_step_of (terminal_at system kept t context) v context.in_unit (note_at system kept t context) m) stands.verb most-is))

@@ -1,11 +1,13 @@
 -- The steps of an actor that show in what is kept.
 use Rattle.std.specs.Prelude.{◌≡◌, ℕ, true, false, [], Option, Some, None}
+use Rattle.pw_code.specs.declared.context.Context.{Context}
 use Rattle.pw_code.specs.declared.system.System.{System}
 use Rattle.pw_event.specs.declared.event.Event.{Event}
 use Rattle.pw_event.specs.declared.event.Event.TheVariants as event
 use Rattle.pw_world_state.specs.Kept.{Kept}
 use Rattle.pw_world_state.specs.May.{IsThere, may}
 use Rattle.pw_world_state.specs.Meeting.{IsStepRead}
+use Rattle.pw_world_state.specs.NextSteps.{entry_at, next_step_at}
 use Rattle.pw_world_state.specs.TerminalTests.{seat_at}
 use Rattle.pw_pair.specs.Pairs.{passes}
 use Rattle.pw_pair.specs.Seats.{is_waiting}
@@ -40,6 +42,10 @@ IsStepFound system kept actor (Some entry) =
 abbrev pub IsFoundOr : System → Kept → ℕ → Type 0 → Option Event → Type 0
 IsFoundOr system kept t none None = none
 IsFoundOr system kept t none (Some entry) = IsStepOf system kept (Terminal t) entry
+
+-- the entry of the next step of a terminal whose program stands so at its verb
+abbrev pub next_entry_at : System → Kept → ℕ → Context → Option Event
+next_entry_at system kept t context = entry_at system kept t context (next_step_at system kept t context)
 
 -- neither RESTART nor END SUSPENDED
 pub record HasNoCausedStep (system : System) (kept : Kept) (t : ℕ) : Type 0 where

@@ -13,7 +13,7 @@ ghost use Rattle.pw_world_store.specs.Keeps.{kept_in};
 ghost use Rattle.pw_world_store.specs.declared.seat.Ready.{Ready as SeenReady};
 ghost use Rattle.pw_entry_tests.specs.Images.{behind_end};
 ghost use Rattle.pw_entry_tests.specs.Known.{IsFewCounted, IsKnown, StandsThere};
-ghost use Rattle.pw_entry_tests.specs.Steps.{IsFoundOr};
+ghost use Rattle.pw_entry_tests.specs.Steps.{IsFoundOr, next_entry_at};
 
 use crate::causes::most_restarts;
 use crate::terminals::{
@@ -28,13 +28,16 @@ use pw_tmf::disc::Disc;
 use pw_world_store::keep::Keep;
 use pw_world_store::seat::Ready;
 
-/// The entry of a terminal's own next step. None comes only where none of the entries at its verb is a step.
+/// The entry of the next step of a terminal whose program stands at its verb. None comes only where none of the entries
+/// at its verb is a step.
 pub fn own_step<D: Disc>(keep: &Keep<D>, terminal: u32) -> Option<Event>
     requires there { terminal < length keep.now.system.terminals }
     requires known { IsKnown keep.now.system (kept_in D.told keep.now) }
     requires next { ForSome (standing keep.now.system (kept_in D.told keep.now) terminal)
         (MayStepAt keep.now.system (kept_in D.told keep.now) terminal) }
-    ensures { IsFoundOr keep.now.system (kept_in D.told keep.now) terminal
+    ensures named { ForSome (standing keep.now.system (kept_in D.told keep.now) terminal)
+        (λ context. result ≡ next_entry_at keep.now.system (kept_in D.told keep.now) terminal context) }
+    ensures found { IsFoundOr keep.now.system (kept_in D.told keep.now) terminal
         (HasNoVerbStep keep.now.system (kept_in D.told keep.now) terminal) result }
 {
     match standing(keep, terminal) {
@@ -75,8 +78,7 @@ fn step_at<D: Disc>(keep: &Keep<D>, terminal: u32, at: &Ready) -> Option<Event>
     requires known { IsKnown keep.now.system (kept_in D.told keep.now) }
     requires at { StandsThere keep.now.system (kept_in D.told keep.now) terminal at.now }
     requires next { MayStepAt keep.now.system (kept_in D.told keep.now) terminal at.now.context }
-    ensures { IsFoundOr keep.now.system (kept_in D.told keep.now) terminal
-        (HasNoVerbStep keep.now.system (kept_in D.told keep.now) terminal) result }
+    ensures { result ≡ next_entry_at keep.now.system (kept_in D.told keep.now) terminal at.now.context }
 {
     let own = terminal_at(keep, terminal, at);
     let note = note_at(keep, terminal, at, &own);

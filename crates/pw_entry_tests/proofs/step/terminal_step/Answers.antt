@@ -15,7 +15,7 @@ returns g c =
     let kept = kept_in g.D.Disc.told c.args.keep.now in
     let t = c.args.terminal in
     let none : HasNoVerbStep system kept t =
-    subst (IsFoundOr system kept t (HasNoVerbStep system kept t)) (none-if c.own_step.result c.in_default.not-Some) c.own_step.ensures
+    subst (IsFoundOr system kept t (HasNoVerbStep system kept t)) (none-if c.own_step.result c.in_default.not-Some) c.own_step.ensures.found
     in
     IfOk-weaker c.caused_step.result (IsFoundOr system kept t (HasNoCausedStep system kept t)) (IsStepFound system kept (Terminal t))
     (λ entry h. forced system kept t none (sym c.may_lose.ensures ∙ c.if-may_lose.false) entry h) c.caused_step.ensures
