@@ -1,2 +1,4 @@
+mod Asked
 mod Claimed
 mod Crossing
+mod Taken

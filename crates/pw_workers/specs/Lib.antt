@@ -1,6 +1,10 @@
+pub mod Applies
+pub mod Calls
+pub mod Claims
 pub mod Endings
 pub mod Ends
 pub mod Lanes
 pub mod Locked
 pub mod Over
+pub mod Places
 pub mod Turns

@@ -5,7 +5,7 @@ ghost use Rattle.pw_workers.specs.Lanes.{waiting_in};
 
 use pw_base::memory::Memory;
 use pw_link::{BackupEnd, PrimaryEnd, Receipt, lane};
-use pw_pair::link::LinkTask;
+use pw_pair::link::{LinkDone, LinkTask, build};
 use std::alloc::Global;
 use std::mem;
 use std::sync::Wait;
@@ -62,5 +62,15 @@ impl LinkLane {
             Some(receipt) => self.backup.take(rt, receipt),
             None => unreachable!(),
         }
+    }
+
+    /// Takes the task that waits and builds its image. For want of memory the task is spent.
+    pub fn build<R: Wait>(&mut self, rt: &R, alloc: Global) -> Result<LinkDone, Memory>
+        requires { IsSome self.old.waiting }
+        ensures task { IfOk result (λ done. waiting_in self.old.waiting ≡ Some done.task) }
+        ensures none { self.new.waiting ≡ None }
+    {
+        let task = self.take(rt);
+        build(alloc, task)
     }
 }

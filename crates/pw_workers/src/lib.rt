@@ -10,6 +10,7 @@ pub mod ending;
 pub mod gate;
 mod lane;
 pub mod over;
+mod parts;
 mod places;
 mod shared;
 mod turn;

@@ -1,13 +1,14 @@
 //! The workers of a run.
 
-ghost use Rattle.std.specs.Prelude.{◌≡◌, ◌≤◌, IfOk, length};
+ghost use Rattle.std.specs.Prelude.{◌≡◌, ◌≤◌, All, IfOk, length};
 ghost use Rattle.std.specs.Thread.{IsSend, IsSync};
 ghost use Rattle.pw_code.specs.Valid.{IsValid};
 ghost use Rattle.pw_world.specs.States.{seen};
 ghost use Rattle.pw_workers.specs.Ends.{EndsSo, IsFor};
+ghost use Rattle.pw_workers.specs.Places.{IsFreeAt};
 ghost use Rattle.pw_workers.specs.Turns.{CanBuild, CanDo, CanRun};
 
-use crate::calls::WorkerCalls;
+use crate::calls::WorkerCall;
 use crate::end::{RunEnd, end_of};
 use crate::gate::{Gate, Step};
 use crate::lane::LinkLane;
@@ -16,13 +17,12 @@ use crate::turn::WorkerTurn;
 use pw_base::memory::Memory;
 use pw_code::copies::Duplicate;
 use pw_code::system::System;
-use pw_pair::link::build;
 use pw_tmf::disc::Disc;
 use pw_world::task::run_task;
 use pw_world::world::World;
 use pw_world_model::task::Task;
 use std::alloc::Global;
-use std::marker::{Brand, PhantomData};
+use std::marker::Brand;
 use std::sync::{Condvar, Mutex, MutexGuard, Wait};
 use std::thread::{Threads, join};
 
@@ -47,28 +47,32 @@ impl<D: Disc, N: Naming> RunLock<D, N> {
         ensures { CanDo N.system result }
     {
         let turn = shared.next();
-        match &turn {
-            WorkerTurn::Wait => return self.wait(rt, shared),
-            WorkerTurn::Stop => self.more.notify_all(),
-            WorkerTurn::Build { .. } | WorkerTurn::Run(_) => {
-                let calls = shared.calls_another();
-                drop(shared);
-                if calls {
-                    self.more.notify_one();
-                }
-            }
+        if matches!(&turn, WorkerTurn::Wait) {
+            return self.wait(rt, shared);
         }
+        let call = shared.calls_behind(&turn);
+        drop(shared);
+        self.tell(call);
         turn
+    }
+
+    /// Wakes those that are called.
+    fn tell(&self, call: WorkerCall) {
+        match call {
+            WorkerCall::Nobody => (),
+            WorkerCall::One => self.more.notify_one(),
+            WorkerCall::All => self.more.notify_all(),
+        }
     }
 
     /// Waits until another worker calls or the run has ended, and gives what the worker does then.
     fn wait<R: Wait>(&self, rt: &R, mut shared: MutexGuard<'_, Shared<D, N>>) -> WorkerTurn
         ensures { CanDo N.system result }
     {
-        shared.calls.wait();
-        let mut called = self.more.wait_while(rt, shared, |shared| {
-            !shared.calls.is_open() && shared.end.is_none()
-        });
+        shared.wait();
+        let mut called = self
+            .more
+            .wait_while(rt, shared, |shared| shared.goes_on_waiting());
         let turn = called.called();
         if matches!(&turn, WorkerTurn::Stop) {
             self.more.notify_all();
@@ -92,7 +96,7 @@ impl<D: Disc, N: Naming> RunLock<D, N> {
                 gate.pass(step);
                 let statements = outcome.work.as_ref().map_or(0, |work| work.count);
                 let mut shared = self.shared.lock(rt);
-                shared.calls.ran(statements);
+                shared.ran(statements);
                 shared.apply(rt, outcome);
                 self.leave(rt, shared)
             }
@@ -105,7 +109,7 @@ impl<D: Disc, N: Naming> RunLock<D, N> {
         requires { CanBuild N.system tcp lane }
         ensures { CanDo N.system result }
     {
-        match build(alloc, lane.take(rt)) {
+        match lane.build(rt, alloc) {
             Ok(done) => {
                 let mut shared = self.shared.lock(rt);
                 shared.give_back(tcp, lane, done);
@@ -211,7 +215,8 @@ fn until_end<D: Disc, N: Naming, G: Gate, R: Threads + Wait + Sync>(
 
 /// A lane for each pair, in its place.
 fn lanes(alloc: Global, count: usize) -> Result<Vec<Option<LinkLane>>, Memory>
-    ensures { IfOk result (λ lanes. length lanes.items ≡ count) }
+    ensures each { IfOk result (λ lanes. length lanes.items ≡ count) }
+    ensures free { IfOk result (λ lanes. All IsFreeAt lanes.items) }
 {
     let mut lanes = Vec::new(alloc);
     for _ in 0..count {
@@ -225,6 +230,7 @@ fn lanes(alloc: Global, count: usize) -> Result<Vec<Option<LinkLane>>, Memory>
 fn prepare(alloc: Global, system: &System) -> Result<(System, Vec<Option<LinkLane>>), Memory>
     ensures system { IfOk result (λ made. made.0 ≡ system.now) }
     ensures lanes { IfOk result (λ made. length made.1.items ≡ length system.now.tcps) }
+    ensures free { IfOk result (λ made. All IsFreeAt made.1.items) }
 {
     let copy = system.copy(alloc)?;
     let lanes = lanes(alloc, copy.tcps.len())?;
@@ -247,14 +253,7 @@ fn run_named<D: Disc, N: Naming, G: Gate, R: Threads + Wait + Sync>(
         let end = end_of(&world);
         return (world, end);
     };
-    let shared: Shared<D, N> = Shared {
-        world,
-        lanes,
-        ready: None,
-        end: None,
-        calls: WorkerCalls::new(),
-        of: PhantomData,
-    };
+    let shared: Shared<D, N> = Shared::new(world, lanes);
     until_end(rt, alloc, shared, &system, count, gate)
 }
 

@@ -202,6 +202,28 @@ FILE ORDERFILE
 |0301BOLT030
 ";
 
+/// The records that the 128 entries of the generated deck of seed 1 and 16 terminals leave: each adds 1 to one of ten.
+pub const ADDED: &[u8] = b"FILES
+FILE STOCK
+|A00011
+|A10014
+|A20011
+|A30016
+|A40015
+|A50012
+|A60016
+|A70011
+|A80011
+|A90011
+";
+
+/// How many parts of a text are this one.
+pub fn count(text: &[u8], part: &[u8]) -> usize {
+    text.windows(part.len().max(1))
+        .filter(|piece| *piece == part)
+        .count()
+}
+
 /// Whether a part of a text is this one.
 pub fn has(text: &[u8], part: &[u8]) -> bool {
     text.windows(part.len().max(1)).any(|piece| piece == part)
