@@ -20,6 +20,7 @@ use pw_deck_runs::run::run;
 use pw_input_output::input::read_input;
 use pw_input_output::output::or_memory;
 use pw_input_output::status::Status;
+use pw_workers::bounds::RunBounds;
 use pw_workers::gate::Gate;
 use std::alloc::Global;
 use std::sync::Wait;
@@ -74,9 +75,18 @@ fn answer<G: Gate, R: Threads + Wait + Sync>(
     ensures { IfOk result (λ output. RunsBy command output.0 bytes.now output.1) }
 {
     match command {
-        RunCommand::Run { events } => reported(rt, alloc, bytes, workers, events, gate),
-        RunCommand::Disc { events } => paired(rt, alloc, bytes, workers, events, gate),
-        RunCommand::Trail { events, at } => recovered(rt, alloc, bytes, workers, events, at, gate),
+        RunCommand::Run { events } => {
+            let bounds = RunBounds { workers, events };
+            reported(rt, alloc, bytes, bounds, gate)
+        }
+        RunCommand::Disc { events } => {
+            let bounds = RunBounds { workers, events };
+            paired(rt, alloc, bytes, bounds, gate)
+        }
+        RunCommand::Trail { events, at } => {
+            let bounds = RunBounds { workers, events };
+            recovered(rt, alloc, bytes, bounds, at, gate)
+        }
     }
 }
 
@@ -85,15 +95,12 @@ fn reported<G: Gate, R: Threads + Wait + Sync>(
     rt: &R,
     alloc: Global,
     bytes: &[u8],
-    workers: u8,
-    events: u32,
+    bounds: RunBounds,
     gate: &G,
 ) -> Result<(Status, Bytes), Memory>
-    requires workers { (1 ≤ workers) × (workers ≤ 16) }
-    requires events { events ≤ 500000 }
-    ensures { IfOk result (λ output. RunsDeck events output.0 bytes.now output.1) }
+    ensures { IfOk result (λ output. RunsDeck bounds.events output.0 bytes.now output.1) }
 {
-    match run(rt, alloc, bytes, workers, events, gate) {
+    match run(rt, alloc, bytes, bounds, gate) {
         Ok((ended, text)) => Ok((status_of(ended), text)),
         Err(Refusal::At { line, code }) => refused(alloc, Fault { line, code }),
         Err(Refusal::Memory) => Err(Memory),
@@ -105,15 +112,12 @@ fn paired<G: Gate, R: Threads + Wait + Sync>(
     rt: &R,
     alloc: Global,
     bytes: &[u8],
-    workers: u8,
-    events: u32,
+    bounds: RunBounds,
     gate: &G,
 ) -> Result<(Status, Bytes), Memory>
-    requires workers { (1 ≤ workers) × (workers ≤ 16) }
-    requires events { events ≤ 500000 }
-    ensures { IfOk result (λ output. PairRuns events output.0 bytes.now output.1) }
+    ensures { IfOk result (λ output. PairRuns bounds.events output.0 bytes.now output.1) }
 {
-    match run_pair(rt, alloc, bytes, workers, events, gate) {
+    match run_pair(rt, alloc, bytes, bounds, gate) {
         Ok((ran, text)) => match ran {
             PairRan::Ended(ended) => Ok((status_of(ended), text)),
             PairRan::Lost(pair) => {
@@ -131,16 +135,13 @@ fn recovered<G: Gate, R: Threads + Wait + Sync>(
     rt: &R,
     alloc: Global,
     bytes: &[u8],
-    workers: u8,
-    events: u32,
+    bounds: RunBounds,
     at: u32,
     gate: &G,
 ) -> Result<(Status, Bytes), Memory>
-    requires workers { (1 ≤ workers) × (workers ≤ 16) }
-    requires events { events ≤ 500000 }
-    ensures { IfOk result (λ output. TrailRuns events at output.0 bytes.now output.1) }
+    ensures { IfOk result (λ output. TrailRuns bounds.events at output.0 bytes.now output.1) }
 {
-    match trail(rt, alloc, bytes, workers, events, at, gate) {
+    match trail(rt, alloc, bytes, bounds, at, gate) {
         Ok((recovered, text)) => Ok((status_behind(recovered), text)),
         Err(Refusal::At { line, code }) => refused(alloc, Fault { line, code }),
         Err(Refusal::Memory) => Err(Memory),

@@ -1,6 +1,6 @@
 -- The units that commit in a log: the blocks of its serial order, and its entries.
-use Rattle.std.proofs.Common.{◌≡◌, ◌∙◌, ℕ, zero, suc, ◌+◌, ◌++◌, Bool, true, false, cond, List, [], ◌∷◌, Option, Some, None, refl, ap, arith}
-use Rattle.std.specs.Prelude.{count_by, is_none, if◌then◌else◌}
+use Rattle.std.proofs.Common.{◌≡◌, ℕ, zero, suc, ◌+◌, ◌++◌, Bool, true, false, cond, List, [], ◌∷◌, Option, Some, None, refl, arith}
+use Rattle.std.specs.Prelude.{count_by, is_none}
 use Rattle.std.proofs.lemmas.List.Sums.{sum_by-cons}
 use Rattle.pw_event.specs.declared.event.Event.{Event}
 use Rattle.pw_event.specs.declared.event.Event.TheVariants.{Show, Key, CheckStart, CheckEnd, CheckCopy, Applied, Begin, Send, Take, File, Reply, Again, Commit, Back, Restart, FailTcp, FailServer, Takeover, Raise, End}
@@ -8,7 +8,7 @@ use Rattle.pw_onecopy.specs.Behaviour.{Behaviour}
 use Rattle.pw_onecopy.specs.Blocks.{Attempted, SerialBlock, Committed, Done, Left, Out}
 use Rattle.pw_onecopy.specs.Path.{is_outside, unit_number}
 use Rattle.pw_paired.specs.Failure.{is_of_pair}
-use Rattle.pw_paired.specs.Serial.{Reading, blocks_of, entry_blocks_from, last_blocks_from, left_block, left_blocks, makes_gone, out_block, read_on, reading_starts}
+use Rattle.pw_paired.specs.Serial.{Reading, blocks_of, entry_blocks_from, last_blocks_from, left_block, left_blocks, makes_gone, read_on, reading_starts}
 use Rattle.pw_paired.specs.State.{OpenUnit, State, starting}
 use Rattle.pw_paired.specs.Step.{effect}
 use Rattle.pw_paired.specs.Terminal.{path_of}

@@ -9,4 +9,5 @@ pub mod Lifts
 mod Outcomes
 pub mod Runs
 mod Starts
+mod Stopping
 mod WrittenRuns

@@ -6,7 +6,9 @@
 pub mod disc;
 mod over_tmf;
 pub mod recovery;
+mod reported;
 pub mod run;
+pub mod setups;
 pub mod trial;
 pub mod verify;
 pub mod written;

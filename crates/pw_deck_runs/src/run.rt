@@ -1,33 +1,29 @@
-ghost use Rattle.std.specs.Prelude.{◌≡◌, ◌-◌, ◌<◌, ◌≤◌, ◌^◌, All, IfErr, IfOk, length};
+ghost use Rattle.std.specs.Prelude.{IfErr, IfOk};
 ghost use Rattle.pw_base.specs.First.{Refuses};
-ghost use Rattle.pw_code.specs.Limits.{most_log_lines};
-ghost use Rattle.pw_code.specs.Valid.{IsValid};
 ghost use Rattle.pw_deck.specs.Deck.{deck_of};
 ghost use Rattle.pw_deck_runs.specs.Headline.{Reports};
 ghost use Rattle.pw_code_meaning.specs.OfSystem.{behaviour};
-ghost use Rattle.pw_world_state.specs.May.{IsLineThere};
-ghost use Rattle.pw_onecopy.specs.IsBehaviour.{IsBehaviour};
 ghost use Rattle.pw_workers.specs.Endings.{IsReportOfRun};
 
 use crate::over_tmf::run_over_tmf;
+use crate::setups::setup_of;
 use pw_base::bytes::Bytes;
 use pw_base::fault::Refusal;
 use pw_base::memory::Memory;
-use pw_code::system::System;
 use pw_compiled_deck::deck::{Deck, read};
-use pw_event::script::Script;
 use pw_laws::serial::laws::runs_keep_their_promises;
 use pw_read_back::laws::decks_are_read_back;
 use pw_report::taken::report_of;
+use pw_workers::bounds::RunBounds;
 use pw_workers::ending::LogEnding;
 use pw_workers::gate::Gate;
+use pw_world_state::setup::Setup;
 use std::alloc::Global;
 use std::sync::Wait;
 use std::thread::Threads;
 
-/// Runs the deck of these bytes with from 1 to 16 workers, for at most so many entries (docs/DESK.md):
-/// how the run ended, and the report of its log. It refuses exactly with the deck's first fault. It may
-/// wait for a thread.
+/// Runs the deck of these bytes within bounds (docs/DESK.md): how the run ended, and the report of its
+/// log. It refuses exactly with the deck's first fault. It may wait for a thread.
 ///
 /// The log is a run of the deck, by the trees of its programs, and keeps what is promised of logs
 /// (docs/PROMISES.md): its screens and records are those of the one-copy machine on its serial order; each
@@ -37,13 +33,10 @@ pub fn run<G: Gate, R: Threads + Wait + Sync>(
     rt: &R,
     alloc: Global,
     bytes: &[u8],
-    workers: u8,
-    events: u32,
+    bounds: RunBounds,
     gate: &G,
 ) -> Result<(LogEnding, Bytes), Refusal>
-    requires workers { (1 ≤ workers) × (workers ≤ 16) }
-    requires events { events ≤ most_log_lines }
-    ensures ok { IfOk result (λ output. Reports bytes.now events output.0 output.1) }
+    ensures ok { IfOk result (λ output. Reports bytes.now bounds.events output.0 output.1) }
     ensures fault { IfErr result (λ refusal. Refuses refusal (deck_of bytes.now)) }
 {
     runs_keep_their_promises();
@@ -53,29 +46,22 @@ pub fn run<G: Gate, R: Threads + Wait + Sync>(
         Err(refusal) => return Err(refusal),
     };
     let Deck { system, script, .. } = deck;
-    Ok(run_system(rt, alloc, system, script, workers, events, gate)?)
+    let setup = setup_of(system, script);
+    Ok(run_setup(rt, alloc, setup, bounds, gate)?)
 }
 
-/// Runs a system: how the run ended, and the report of its log.
-fn run_system<G: Gate, R: Threads + Wait + Sync>(
+/// Runs a setup: how the run ended, and the report of its log.
+fn run_setup<G: Gate, R: Threads + Wait + Sync>(
     rt: &R,
     alloc: Global,
-    system: System,
-    script: Script,
-    workers: u8,
-    events: u32,
+    setup: Setup,
+    bounds: RunBounds,
     gate: &G,
 ) -> Result<(LogEnding, Bytes), Memory>
-    requires valid { IsValid system }
-    requires deck { IsBehaviour (behaviour script.lines system) }
-    requires lines { All (IsLineThere system) script.lines }
-    requires few { length script.lines < 2 ^ 32 - 1 }
-    requires workers { (1 ≤ workers) × (workers ≤ 16) }
-    requires events { events ≤ most_log_lines }
-    ensures { IfOk result (λ output. IsReportOfRun (behaviour script.lines system) system events output.0
-        output.1) }
+    ensures { IfOk result (λ output. IsReportOfRun (behaviour setup.script setup.system) setup.system
+        bounds.events output.0 output.1) }
 {
-    let (ended, world) = run_over_tmf(rt, alloc, system, script, workers, events, gate)?;
+    let (ended, world) = run_over_tmf(rt, alloc, setup, bounds, gate)?;
     let text = report_of(alloc, world)?;
     Ok((ended, text))
 }

@@ -1,24 +1,22 @@
-ghost use Rattle.std.specs.Prelude.{◌≡◌, ◌-◌, ◌<◌, ◌≤◌, ◌^◌, All, IfOk, length};
-ghost use Rattle.pw_code.specs.Valid.{IsValid};
+ghost use Rattle.std.specs.Prelude.{◌≤◌, IfOk};
 ghost use Rattle.pw_deck_runs.specs.Trials.{Tries, TriesSystem};
 ghost use Rattle.pw_code_meaning.specs.OfSystem.{behaviour};
-ghost use Rattle.pw_world_state.specs.May.{IsLineThere};
-ghost use Rattle.pw_onecopy.specs.IsBehaviour.{IsBehaviour};
 
 use crate::over_tmf::run_over_tmf;
+use crate::setups::setup_of;
 use pw_base::bytes::Bytes;
 use pw_base::fault::Refusal;
 use pw_base::memory::Memory;
-use pw_code::system::System;
 use pw_compiled_deck::deck::{Deck, read};
-use pw_event::script::Script;
 use pw_gen::generate::generate;
 use pw_gen::laws::generated_laws;
 use pw_laws::serial::laws::runs_keep_their_promises;
 use pw_report::taken::files_of;
+use pw_workers::bounds::RunBounds;
 use pw_workers::ending::LogEnding;
 use pw_workers::gate::Gate;
 use pw_world::replay::MAX_ENTRIES;
+use pw_world_state::setup::Setup;
 use std::alloc::Global;
 use std::sync::Wait;
 use std::thread::Threads;
@@ -47,26 +45,27 @@ pub fn trial<G: Gate, R: Threads + Wait + Sync>(
         Err(Refusal::At { .. }) => unreachable!(),
     };
     let Deck { system, script, .. } = deck;
-    try_system(rt, alloc, system, script, workers, gate)
+    let setup = setup_of(system, script);
+    try_setup(rt, alloc, setup, workers, gate)
 }
 
-/// Runs a system: how the run ended, and the FILES part of its report.
-fn try_system<G: Gate, R: Threads + Wait + Sync>(
+/// Runs a setup: how the run ended, and the FILES part of its report.
+fn try_setup<G: Gate, R: Threads + Wait + Sync>(
     rt: &R,
     alloc: Global,
-    system: System,
-    script: Script,
+    setup: Setup,
     workers: u8,
     gate: &G,
 ) -> Result<(LogEnding, Bytes), Memory>
-    requires valid { IsValid system }
-    requires deck { IsBehaviour (behaviour script.lines system) }
-    requires lines { All (IsLineThere system) script.lines }
-    requires few { length script.lines < 2 ^ 32 - 1 }
-    requires workers { (1 ≤ workers) × (workers ≤ 16) }
-    ensures { IfOk result (λ output. TriesSystem (behaviour script.lines system) system output.0 output.1) }
+    requires { (1 ≤ workers) × (workers ≤ 16) }
+    ensures { IfOk result (λ output. TriesSystem (behaviour setup.script setup.system) setup.system output.0
+        output.1) }
 {
-    let (ended, world) = run_over_tmf(rt, alloc, system, script, workers, MAX_ENTRIES, gate)?;
+    let bounds = RunBounds {
+        workers,
+        events: MAX_ENTRIES,
+    };
+    let (ended, world) = run_over_tmf(rt, alloc, setup, bounds, gate)?;
     let text = files_of(alloc, world)?;
     Ok((ended, text))
 }

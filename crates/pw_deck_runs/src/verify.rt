@@ -1,12 +1,9 @@
-ghost use Rattle.std.specs.Prelude.{◌≡◌, ◌-◌, ◌<◌, ◌≤◌, ◌^◌, All, IfErr, IfOk, length};
+ghost use Rattle.std.specs.Prelude.{◌≤◌, IfErr, IfOk, length};
 ghost use Rattle.pw_base.specs.First.{Refuses};
 ghost use Rattle.pw_code.specs.Limits.{most_log_lines};
-ghost use Rattle.pw_code.specs.Valid.{IsValid};
 ghost use Rattle.pw_deck.specs.Deck.{deck_of};
 ghost use Rattle.pw_deck_runs.specs.Replays.{Replays, Verifies};
 ghost use Rattle.pw_code_meaning.specs.OfSystem.{behaviour};
-ghost use Rattle.pw_world_state.specs.May.{IsLineThere};
-ghost use Rattle.pw_onecopy.specs.IsBehaviour.{IsBehaviour};
 
 use pw_base::bytes::Bytes;
 use pw_base::fault::Refusal;
@@ -14,15 +11,15 @@ use pw_base::memory::Memory;
 use pw_code::system::System;
 use pw_compiled_deck::deck::{Deck, read};
 use pw_event::event::Event;
-use pw_event::script::Script;
 use pw_laws::serial::laws::runs_keep_their_promises;
 use pw_log_lines::log::rule_of;
 use pw_read_back::laws::decks_are_read_back;
 use pw_report::no_step::no_step_line;
-use pw_report::taken::{let_go, report_of};
+use pw_report::taken::report_of;
 use pw_tmf::tmf::Tmf;
 use pw_world::replay::ReplayFault;
 use pw_world::world::World;
+use pw_world_state::setup::Setup;
 use std::alloc::Global;
 
 /// What the replay of a log comes to (docs/DESK.md).
@@ -56,28 +53,21 @@ pub fn verify(alloc: Global, bytes: &[u8]) -> Result<(Verified, Bytes), Refusal>
         rule: rule_of(version),
         ..system
     };
-    Ok(replay(alloc, system, script, log.as_slice())?)
+    let setup = Setup::new(system, script);
+    Ok(replay(alloc, setup, log.as_slice())?)
 }
 
-/// Replays a log of a system.
-fn replay(
-    alloc: Global,
-    system: System,
-    script: Script,
-    log: &[Event],
-) -> Result<(Verified, Bytes), Memory>
-    requires valid { IsValid system }
-    requires deck { IsBehaviour (behaviour script.lines system) }
-    requires lines { All (IsLineThere system) script.lines }
-    requires few { length script.lines < 2 ^ 32 - 1 }
-    requires log { length log.now ≤ most_log_lines }
-    ensures { IfOk result (λ output. Replays (behaviour script.lines system) system log.now output.0
+/// Replays a log of a setup.
+fn replay(alloc: Global, setup: Setup, log: &[Event]) -> Result<(Verified, Bytes), Memory>
+    requires { length log.now ≤ most_log_lines }
+    ensures { IfOk result (λ output. Replays (behaviour setup.script setup.system) setup.system log.now output.0
         output.1) }
 {
-    let Ok(disc) = Tmf::new(alloc, &system) else {
-        let_go(system);
+    let Ok(disc) = Tmf::new(alloc, setup.system()) else {
+        setup.let_go();
         return Err(Memory);
     };
+    let (system, script) = setup.into_parts();
     match World::replay(alloc, system, script, disc, log) {
         Ok(world) => Ok((Verified::Run, report_of(alloc, world)?)),
         Err(ReplayFault::NotAStep(number)) => Ok((

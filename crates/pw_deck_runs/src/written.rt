@@ -18,8 +18,10 @@ use pw_input_output::output::written;
 use pw_input_output::status::Status;
 use pw_report::report::report;
 use pw_tmf::disc::Disc;
+use pw_workers::bounds::RunBounds;
 use pw_workers::gate::Gate;
 use pw_workers::over::{RunEnding, run_over};
+use pw_world_state::setup::Setup;
 use std::alloc::Global;
 use std::sync::Wait;
 use std::thread::Threads;
@@ -68,7 +70,9 @@ pub fn run_with<D: Disc, K: Sink, G: Gate, R: Threads + Wait + Sync>(
       faults_then = K.faults sink.new;
     }) }
 {
-    let over = match run_over(rt, alloc, system, script, disc, workers, events, gate) {
+    let setup = Setup::new(system, script);
+    let bounds = RunBounds { workers, events };
+    let over = match run_over(rt, alloc, setup, disc, bounds, gate) {
         Ok(over) => over,
         Err(Memory) => return Ran::of(Status::Memory, None),
     };

@@ -25,11 +25,8 @@ use std::test::Fail;
 
 /// A new world of a deck over a disc whose calls of these numbers fail.
 fn world_of(alloc: Global, bytes: &[u8], fail_at: &[u64]) -> Result<World<Faulty<Tmf>>, Fail> {
-    let OpenedDeck {
-        system,
-        script,
-        disc,
-    } = open(alloc, bytes, fail_at)?;
+    let OpenedDeck { setup, disc } = open(alloc, bytes, fail_at)?;
+    let (system, script) = setup.into_parts();
     Ok(World::new(alloc, system, script, disc, MAX_ENTRIES)?)
 }
 

@@ -1,15 +1,11 @@
 //! The run of a system over a trail that knows which it is.
 
-ghost use Rattle.std.specs.Prelude.{◌≡◌, ◌-◌, ◌<◌, ◌≤◌, ◌^◌, All, IfOk, length};
-ghost use Rattle.pw_code.specs.Limits.{most_log_lines};
-ghost use Rattle.pw_code.specs.Valid.{IsValid};
+ghost use Rattle.std.specs.Prelude.{◌≡◌, ◌≤◌, IfOk, length};
 ghost use Rattle.pw_code_meaning.specs.OfSystem.{behaviour};
-ghost use Rattle.pw_world_state.specs.May.{IsLineThere};
 ghost use Rattle.pw_world.specs.States.{seen};
 ghost use Rattle.pw_world_model.specs.Commits.{commits_in};
 ghost use Rattle.pw_world_model.specs.Seen.{state_of, sys_of};
 ghost use Rattle.pw_world_model.specs.Worlds.{IsDiscOf};
-ghost use Rattle.pw_onecopy.specs.IsBehaviour.{IsBehaviour};
 ghost use Rattle.pw_paired.specs.Step.{IsRun};
 ghost use Rattle.pw_paired.specs.Units.{committed_files};
 ghost use Rattle.pw_deck_runs.specs.recovery.Kept.{IsKept, told_in, trail_state};
@@ -21,15 +17,15 @@ ghost use Rattle.pw_tmf.specs.Tmf.{told_of};
 use crate::recovery::ending::{Recovered, of_ended};
 use crate::recovery::kept::{KeptTrail, TrailNaming};
 use pw_base::memory::Memory;
-use pw_code::system::System;
-use pw_event::script::Script;
 use pw_tmf::laws::committed_laws;
 use pw_trail::trail::Trail;
 use pw_volume::mem_disk::MemDisk;
+use pw_workers::bounds::RunBounds;
 use pw_workers::gate::Gate;
 use pw_workers::over::{RunEnding, run_over};
 use pw_world::world::World;
 use pw_world_state::runs::run_laws;
+use pw_world_state::setup::Setup;
 use std::alloc::Global;
 use std::sync::Wait;
 use std::thread::Threads;
@@ -53,35 +49,26 @@ fn trail_of<N: TrailNaming>(world: World<KeptTrail<N>>) -> Trail<MemDisk>
     world.into_disc().into_trail()
 }
 
-/// Runs a system over a trail with so many workers, for at most so many entries: how the run ended, and
-/// the trail as it left it. Where the disk has failed, as many units of the log commit as its life has four
-/// calls for.
+/// Runs a setup within bounds over a trail: how the run ended, and the trail as it left it. Where the disk
+/// has failed, as many units of the log commit as its life has four calls for.
 pub fn run_known<N: TrailNaming, G: Gate, R: Threads + Wait + Sync>(
     rt: &R,
     alloc: Global,
-    system: System,
-    script: Script,
+    setup: Setup,
     trail: Trail<MemDisk>,
-    workers: u8,
-    events: u32,
+    bounds: RunBounds,
     gate: &G,
 ) -> Result<(Recovered, Trail<MemDisk>), Memory>
-    requires valid { IsValid system }
-    requires deck { IsBehaviour (behaviour script.lines system) }
-    requires lines { All (IsLineThere system) script.lines }
-    requires few { length script.lines < 2 ^ 32 - 1 }
-    requires disc { IsDiscOf system script.lines (with_faults trail.faults (told_of trail.tmf)) }
+    requires disc { IsDiscOf setup.system setup.script (with_faults trail.faults (told_of trail.tmf)) }
     requires faults { trail.faults ≡ 0 }
     requires kept { IsKept N.files N.life (trail_state trail.log.files trail.log.disk
         trail.log.is_broken trail.faults trail.tmf) }
-    requires workers { (1 ≤ workers) × (workers ≤ 16) }
-    requires events { events ≤ most_log_lines }
-    ensures ran { IfOk result (λ ran. RanOverTrail N.files N.life (behaviour script.lines system) events ran.0
-        (committed (told_of ran.1.tmf))) }
+    ensures ran { IfOk result (λ ran. RanOverTrail N.files N.life (behaviour setup.script setup.system)
+        bounds.events ran.0 (committed (told_of ran.1.tmf))) }
     ensures files { IfOk result (λ ran. ran.1.log.files ≡ N.files) }
 {
     let disc: KeptTrail<N> = KeptTrail::of(trail);
-    let over = run_over(rt, alloc, system, script, disc, workers, events, gate)?;
+    let over = run_over(rt, alloc, setup, disc, bounds, gate)?;
     match over {
         RunEnding::Ended(ended, world) => Ok((of_ended(ended), trail_of(world))),
         RunEnding::Failed(world) => Ok((Recovered::Stopped, trail_of(world))),

@@ -37,11 +37,8 @@ fn run_deck<G: Gate, R: Threads + Wait + Sync>(
     requires { (1 ≤ workers) × (workers ≤ 16) }
 {
     let mut sink = MemSink::new(alloc, 100_000, 1_000, &[])?;
-    let OpenedDeck {
-        system,
-        script,
-        disc,
-    } = open(alloc, bytes, fail_at)?;
+    let OpenedDeck { setup, disc } = open(alloc, bytes, fail_at)?;
+    let (system, script) = setup.into_parts();
     let Ran { status, disc } = run_with(
         rt,
         alloc,

@@ -7,4 +7,4 @@ pub returns-in-Err-At : goal.returns-in-Err-At
 returns-in-Err-At g c =
     let fault = rw c.in-Err-At.field-0-is at c.in-Err-At.ensures.fault in
     let bytes = c.args.bytes.now in
-    refuses (λ status text. PairRuns c.args.events status bytes text) (pair_deck_of bytes) _ c.refused.result (λ text has. has) fault c.refused.ensures
+    refuses (λ status text. PairRuns c.args.bounds.events status bytes text) (pair_deck_of bytes) _ c.refused.result (λ text has. has) fault c.refused.ensures

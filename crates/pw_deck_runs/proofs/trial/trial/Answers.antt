@@ -1,11 +1,13 @@
-use Rattle.std.proofs.Common.{◌≡◌, ◌∙◌, refl, subst, sym}
-use Rattle.pw_read_back.proofs.FailureLines.{lines-like}
+use Rattle.std.proofs.Common.{◌≡◌, ◌∙◌, subst, sym}
+use Rattle.std.specs.Prelude.{IfOk}
 use Rattle.pw_compiled_deck.proofs.Decks.{whole-is}
 use Rattle.pw_deck_runs.proofs.Runs.{not-refused, tried}
 use Rattle.pw_deck_runs.proofs.trial.trial.Goals as goal
 use Rattle.pw_code_meaning.specs.OfSystem.{behaviour}
 use Rattle.pw_gen.specs.Generated.{generated}
 use Rattle.pw_gen.specs.Faultless.{IsFaultless}
+use Rattle.pw_deck_runs.specs.Trials.{TriesSystem}
+use Rattle.pw_world_state.specs.Setups.{SetupState}
 
 pub unreachable-requires : goal.unreachable-requires
 unreachable-requires g c =
@@ -15,14 +17,12 @@ unreachable-requires g c =
     (subst IsFaultless (sym are) (c.generated_laws.ensures.faultless c.args.seed c.args.terminals
     c.requires.terminals.0 c.requires.terminals.1))
 
-pub try_system-requires-clause-lines : goal.try_system-requires-clause-lines
-try_system-requires-clause-lines g c κs within =
-    lines-like c.in-Ok.deck.system c.in-Ok.deck.system refl refl c.in-Ok.deck.script.lines c.in-Ok.ensures.lines
-
 pub returns : goal.returns
 returns g c =
     let are : c.as_slice.result.now ≡ generated c.args.seed c.args.terminals = c.as_slice.ensures ∙ c.in_ok-bytes.ensures in
     let whole = c.in-Ok.deck in
     let of = whole-is c.as_slice.result.now whole c.in-Ok.ensures.gives in
     tried c.runs_keep_their_promises.ensures c.args.seed c.args.terminals c.as_slice.result.now are whole of (behaviour whole.script.lines whole.system)
-    c.in-Ok.ensures.behaves (c.in-Ok.ensures.same of.deck of.says) c.try_system.result c.try_system.ensures
+    c.in-Ok.ensures.behaves (c.in-Ok.ensures.same of.deck of.says) c.try_setup.result
+    (subst (λ (s : SetupState). IfOk c.try_setup.result (λ output. TriesSystem (behaviour s.script s.system) s.system output.0 output.1))
+    c.setup_of-setup.ensures c.try_setup.ensures)

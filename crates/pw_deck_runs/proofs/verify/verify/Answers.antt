@@ -1,5 +1,8 @@
 use Rattle.std.proofs.Common.{◌≡◌, ◌≤◌, length, refl, subst, sym}
 use Rattle.pw_code.specs.Limits.{most_log_lines}
+use Rattle.pw_code_meaning.specs.OfSystem.{behaviour}
+use Rattle.pw_deck_runs.specs.Replays.{Replays}
+use Rattle.pw_world_state.specs.Setups.{SetupState}
 use Rattle.pw_read_back.proofs.FailureLines.{lines-like}
 use Rattle.pw_compiled_deck.proofs.Decks.{refuses, whole-is}
 use Rattle.pw_deck_runs.proofs.Lifts.{verifies-from, whole-behaves, whole-log, whole-valid}
@@ -8,23 +11,23 @@ use Rattle.pw_deck_runs.proofs.verify.verify.Goals as goal
 pub returns-in-Err-clause-fault : goal.returns-in-Err-clause-fault
 returns-in-Err-clause-fault c = refuses c.args.bytes.now c.in-Err.refusal c.in-Err.ensures.gives
 
-pub replay-requires-clause-valid : goal.replay-requires-clause-valid
-replay-requires-clause-valid c =
+pub new-setup-requires-clause-valid : goal.new-setup-requires-clause-valid
+new-setup-requires-clause-valid c =
     let of = whole-is c.args.bytes.now c.in-Ok.deck c.in-Ok.ensures.gives in
     whole-valid c.args.bytes.now c.in-Ok.deck of c.in-Ok.ensures.small c.rule_of.result c.rule_of.ensures
 
-pub replay-requires-clause-deck : goal.replay-requires-clause-deck
-replay-requires-clause-deck c =
+pub new-setup-requires-clause-deck : goal.new-setup-requires-clause-deck
+new-setup-requires-clause-deck c =
     let of = whole-is c.args.bytes.now c.in-Ok.deck c.in-Ok.ensures.gives in
     whole-behaves c.args.bytes.now c.in-Ok.deck of c.in-Ok.ensures.small c.rule_of.result c.rule_of.ensures
 
-pub replay-requires-clause-lines : goal.replay-requires-clause-lines
-replay-requires-clause-lines c =
+pub new-setup-requires-clause-lines : goal.new-setup-requires-clause-lines
+new-setup-requires-clause-lines c =
     lines-like c.in-Ok.deck.system (record c.in-Ok.deck.system { rule = c.rule_of.result }) refl refl
     c.in-Ok.deck.script.lines c.in-Ok.ensures.lines
 
-pub replay-requires-clause-log : goal.replay-requires-clause-log
-replay-requires-clause-log c =
+pub replay-requires : goal.replay-requires
+replay-requires c =
     let of = whole-is c.args.bytes.now c.in-Ok.deck c.in-Ok.ensures.gives in
     let same : c.as_slice.result.now ≡ c.in-Ok.deck.log = cc in
     subst (λ log. length log ≤ most_log_lines) (sym same)
@@ -36,4 +39,5 @@ returns-clause-ok c =
     let same : c.as_slice.result.now ≡ c.in-Ok.deck.log = cc in
     let output = c.in_ok-replay.field-0 in
     verifies-from c.args.bytes.now c.in-Ok.deck of c.in-Ok.ensures.small c.runs_keep_their_promises.ensures c.decks_are_read_back.ensures c.rule_of.result c.rule_of.ensures c.as_slice.result.now same output.0 output.1
-    c.in_ok-replay.ensures
+    (subst (λ (s : SetupState). Replays (behaviour s.script s.system) s.system c.as_slice.result.now output.0 output.1)
+    c.new-setup.ensures c.in_ok-replay.ensures)

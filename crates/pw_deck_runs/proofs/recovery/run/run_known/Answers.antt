@@ -1,4 +1,4 @@
-use Rattle.std.proofs.Common.{◌∙◌, ap, arith, refl, sym, subst}
+use Rattle.std.proofs.Common.{ap, arith, refl, sym, subst}
 use Rattle.pw_code_meaning.specs.OfSystem.{behaviour}
 use Rattle.pw_world.specs.States.{seen}
 use Rattle.pw_world_model.specs.Worlds.{IsDiscOf}
@@ -10,9 +10,9 @@ use Rattle.pw_tmf.specs.Committed.{committed}
 use Rattle.pw_tmf.specs.Tmf.{told_of}
 use Rattle.pw_deck_runs.proofs.recovery.run.run_known.Goals as goal
 
-pub run_over-requires-clause-disc : goal.run_over-requires-clause-disc
-run_over-requires-clause-disc g c κs within =
-    subst (IsDiscOf c.args.system c.args.script.lines) (sym (ap told_in c.of-disc.ensures)) c.requires.disc
+pub run_over-requires-after_bounds : goal.run_over-requires-after_bounds
+run_over-requires-after_bounds g c κs within =
+    subst (IsDiscOf c.args.setup.system c.args.setup.script) (sym (ap told_in c.of-disc.ensures)) c.requires.disc
 
 pub returns-in-Ended : goal.returns-in-Ended
 returns-in-Ended g c =
@@ -22,9 +22,9 @@ returns-in-Ended g c =
     record {
       ran =
           subst
-          (λ (r : Recovered). RanOverTrail g.N.TrailNaming.files g.N.TrailNaming.life (behaviour c.args.script.lines c.args.system) c.args.events r records)
+          (λ (r : Recovered). RanOverTrail g.N.TrailNaming.files g.N.TrailNaming.life (behaviour c.args.setup.script c.args.setup.system) c.args.bounds.events r records)
           (sym c.of_ended.ensures)
-          (ran-ended g.N.TrailNaming.files g.N.TrailNaming.life c.args.system c.args.script.lines c.args.events
+          (ran-ended g.N.TrailNaming.files g.N.TrailNaming.life c.args.setup.system c.args.setup.script c.args.bounds.events
           (told_in c.of-disc.result).faults (seen told_in c.in-Ended.world) records leaves.0 last.run last.committed
           c.in-Ended.ended leaves.1);
       files = last.kept.files_are;
@@ -33,15 +33,15 @@ returns-in-Ended g c =
 pub returns-in-Failed : goal.returns-in-Failed
 returns-in-Failed g c =
     let leaves = rw c.in-Failed.is at c.in_ok-over.ensures in
-    let last = c.trail_of-2.ensures in
-    let left = c.trail_of-2.result in
+    let last = c.trail_of-in-Failed.ensures in
+    let left = c.trail_of-in-Failed.result in
     let records = committed (told_of left.tmf) in
     let counts = ap (λ (s : TrailState). (told_in s).faults) c.of-disc.ensures in
     record {
       ran =
-          ran-stopped g.N.TrailNaming.files g.N.TrailNaming.life c.args.system c.args.script.lines c.args.events
+          ran-stopped g.N.TrailNaming.files g.N.TrailNaming.life c.args.setup.system c.args.setup.script c.args.bounds.events
           (told_in c.of-disc.result).faults (seen told_in c.in-Failed.world) records leaves.0 last.run last.committed
           (trail_state left.log.files left.log.disk left.log.is_broken left.faults left.tmf) last.kept last.told refl
-          left.settled (omega (arith, counts, c.requires.faults)) leaves.1.0 leaves.1.1 last.room c.requires.events last.commits;
+          left.settled (omega (arith, counts, c.requires.faults)) leaves.1.0 leaves.1.1 last.room c.args.bounds.room last.commits;
       files = last.kept.files_are;
     }
