@@ -1,13 +1,10 @@
 //! The status text of the first entries of a deck's log.
 
-ghost use Rattle.std.specs.Prelude.{◌≡◌, ◌-◌, ◌<◌, ◌≤◌, ◌^◌, [], All, IfErr, IfOk, length, take};
+ghost use Rattle.std.specs.Prelude.{◌≡◌, ◌≤◌, [], IfErr, IfOk, length, take};
 ghost use Rattle.pw_base.specs.First.{Refuses};
 ghost use Rattle.pw_code.specs.Limits.{most_log_lines};
-ghost use Rattle.pw_code.specs.Valid.{IsValid};
 ghost use Rattle.pw_deck.specs.Deck.{deck_of};
 ghost use Rattle.pw_code_meaning.specs.OfSystem.{behaviour};
-ghost use Rattle.pw_world_state.specs.May.{IsLineThere};
-ghost use Rattle.pw_onecopy.specs.IsBehaviour.{IsBehaviour};
 ghost use Rattle.pw_status.specs.Status.{TellsStatus, IsStatusOf};
 ghost use Rattle.pw_status.specs.Watching.{sys_in};
 
@@ -18,10 +15,10 @@ use pw_base::memory::Memory;
 use pw_code::system::System;
 use pw_compiled_deck::deck::{Deck, read};
 use pw_event::event::Event;
-use pw_event::script::Script;
 use pw_laws::serial::laws::runs_keep_their_promises;
 use pw_log_lines::log::rule_of;
 use pw_report::no_step::no_step_line;
+use pw_world_state::setup::Setup;
 use std::alloc::Global;
 
 /// What the first entries of a log come to (docs/STATUS.md).
@@ -56,7 +53,8 @@ pub fn status(alloc: Global, bytes: &[u8], at: u32) -> Result<(Counted, Bytes), 
         rule: rule_of(version),
         ..system
     };
-    Ok(count(alloc, system, script, first(log.as_slice(), at))?)
+    let setup = Setup::new(system, script);
+    Ok(count(alloc, setup, first(log.as_slice(), at))?)
 }
 
 /// The first `at` entries of a log, or all where there are fewer.
@@ -67,22 +65,13 @@ fn first(log: &[Event], at: u32) -> &[Event]
     if at < log.len() { &log[..at] } else { log }
 }
 
-/// Counts a log of a system.
-fn count(
-    alloc: Global,
-    system: System,
-    script: Script,
-    log: &[Event],
-) -> Result<(Counted, Bytes), Memory>
-    requires valid { IsValid system }
-    requires deck { IsBehaviour (behaviour script.lines system) }
-    requires lines { All (IsLineThere system) script.lines }
-    requires few { length script.lines < 2 ^ 32 - 1 }
-    requires log { length log.now ≤ most_log_lines }
-    ensures { IfOk result (λ output. TellsStatus (behaviour script.lines system) system log.now output.0
-        output.1) }
+/// Counts a log of a setup.
+fn count(alloc: Global, setup: Setup, log: &[Event]) -> Result<(Counted, Bytes), Memory>
+    requires { length log.now ≤ most_log_lines }
+    ensures { IfOk result (λ output. TellsStatus (behaviour setup.script setup.system) setup.system log.now
+        output.0 output.1) }
 {
-    let mut watch = Watch::new(alloc, system, script)?;
+    let mut watch = Watch::new(alloc, setup)?;
     let output = count_over(alloc, &mut watch, log);
     watch.let_go();
     output

@@ -1,11 +1,8 @@
-ghost use Rattle.std.specs.Prelude.{◌≡◌, ◌-◌, ◌<◌, ◌^◌, [], All, IfOk, length};
+ghost use Rattle.std.specs.Prelude.{◌≡◌, ◌<◌, [], IfOk, length};
 ghost use Rattle.pw_code.specs.Limits.{most_log_lines};
 ghost use Rattle.pw_code.specs.Valid.{IsValid};
 ghost use Rattle.pw_status.specs.Shown.{AreShownOf};
 ghost use Rattle.pw_status.specs.Tally.{IsFirstTally};
-ghost use Rattle.pw_code_meaning.specs.OfSystem.{behaviour};
-ghost use Rattle.pw_world_state.specs.May.{IsLineThere};
-ghost use Rattle.pw_onecopy.specs.IsBehaviour.{IsBehaviour};
 ghost use Rattle.pw_status.specs.Text.{status_text};
 ghost use Rattle.pw_tmf.specs.Starting.{told_at_start};
 ghost use Rattle.pw_tmf.specs.Tmf.{told_of};
@@ -20,11 +17,10 @@ use pw_base::memory::Memory;
 use pw_code::system::System;
 use pw_entry_tests::there::is_there;
 use pw_event::event::Event;
-use pw_event::script::Script;
-use pw_report::taken::let_go;
 use pw_tmf::tmf::Tmf;
 use pw_world::replay::MAX_ENTRIES;
 use pw_world::world::World;
+use pw_world_state::setup::Setup;
 use std::alloc::Global;
 use std::marker::Model;
 use thiserror::Error;
@@ -70,17 +66,13 @@ impl Model for Watch {
 }
 
 impl Watch {
-    /// A watch over the empty log of a system, whose failure lines name what it has.
-    pub fn new(alloc: Global, system: System, script: Script) -> Result<Watch, Memory>
-        requires valid { IsValid system }
-        requires deck { IsBehaviour (behaviour script.lines system) }
-        requires lines { All (IsLineThere system) script.lines }
-        requires few { length script.lines < 2 ^ 32 - 1 }
+    /// A watch over the empty log of a setup.
+    pub fn new(alloc: Global, setup: Setup) -> Result<Watch, Memory>
         ensures { IfOk result (λ watch. watch
-            ≡ record { system = system; script = script.lines; log = [] }) }
+            ≡ record { system = setup.system; script = setup.script; log = [] }) }
     {
-        let Ok(parts) = first_parts(alloc, &system) else {
-            let_go(system);
+        let Ok(parts) = first_parts(alloc, setup.system()) else {
+            setup.let_go();
             return Err(Memory);
         };
         let WatchParts {
@@ -88,6 +80,7 @@ impl Watch {
             numbers,
             disc,
         } = parts;
+        let (system, script) = setup.into_parts();
         let world = World::new(alloc, system, script, disc, MAX_ENTRIES)?;
         Ok(Watch {
             world,
