@@ -1,6 +1,6 @@
 ghost use Rattle.std.specs.Prelude.{◌≤◌, length};
 
-use crate::language::rows::{lines_of, refusal_shown};
+use crate::language::rows::lines_of;
 use pw_base::fault::Refusal;
 use pw_base::read_all::MAX_INPUT;
 use pw_data::item::Place;
@@ -53,107 +53,6 @@ LINKAGE SECTION. 01 B. 05 C PIC 9 OCCURS 2.|00|
 01 LINKAGE PIC X.| |
 01 WITH PIC X. 01 LOCK PIC 9.| 0|"#;
 
-/// The line and the code with which a text of another form is refused, and the text.
-const ANOTHER_FORM: &str = r#"1 121|.
-1 121|01 A PIC X
-2 121|01 A PIC X./01 B PIC X
-1 121|01 A PIC X/LINKAGE SECTION./01 B PIC X.
-1 121|01 A PIC X VALUE/WORKING-STORAGE SECTION.
-1 121|A PIC X.
-1 121|01 "A" PIC X.
-1 121|01.
-1 121|01 PIC X.
-1 121|01 $RECEIVE PIC X.
-1 121|01 A PIC X PIC X.
-1 121|01 A VALUE "A" VALUE "B" PIC XX.
-2 121|01 A./05 B PIC X OCCURS 2 OCCURS 2.
-1 121|01 A PIC X FOO.
-1 121|01 A PIC/X.
-1 121|01 A VALUE SPACES PIC X.
-1 121|01 A PIC 9 VALUE ZEROS.
-1 121|01 A PIC X VALUE IS IS "A".
-2 121|01 A./05 B PIC X OCCURS TWO.
-2 121|01 A./05 B PIC X OCCURS 2 TIMES TIMES.
-1 121|+1 A PIC X.
-1 121|1.5 A PIC X.
-1 121|0 A PIC X.
-1 121|01 A./50 B PIC X.
-2 121|01 C PIC X./76 B PIC X.
-1 121|78 A PIC X.
-1 121|100000000000000001 A PIC X."#;
-
-/// The same of entries that stand where they may not.
-const MISPLACED: &str = r#"1 121|05 A PIC X.
-2 121|77 A PIC X./05 B PIC X.
-4 121|01 A./05 B PIC X./77 C PIC X./05 D PIC X.
-5 121|WORKING-STORAGE SECTION./01 A./05 B PIC X./LINKAGE SECTION./05 C PIC X.
-1 121|01 A PIC X./05 B PIC X.
-1 121|01 A VALUE "A"./05 B PIC X.
-1 121|01 A.
-1 121|01 A./01 B PIC X.
-1 121|77 A./05 B PIC X.
-2 121|01 A./05 B./05 C PIC X.
-2 121|01 A./10 B./05 C PIC X.
-1 121|01 A VALUE "A".
-1 121|01 A./LINKAGE SECTION./05 B PIC X.
-1 121|01 A PIC X OCCURS 2.
-1 121|77 A PIC X OCCURS 2.
-3 121|01 A./05 B OCCURS 2./10 C PIC X OCCURS 2.
-4 121|01 A./05 B OCCURS 2./10 C./15 D PIC X OCCURS 2.
-2 121|01 A./05 B PIC X OCCURS 0.
-2 121|01 A./05 B PIC X OCCURS 1001.
-2 121|01 A./05 B PIC X OCCURS 1.5.
-2 121|01 A./05 B PIC X OCCURS -3.
-2 121|01 A./05 B PIC X OCCURS +3.
-1 121|01 A PIC Z9.
-1 121|01 A PIC 9.9."#;
-
-/// The same of values.
-const VALUES: &str = r#"2 121|01 A./05 B PIC X OCCURS 2 VALUE "A".
-3 121|01 A./05 B OCCURS 2./10 C PIC X VALUE "A".
-2 121|LINKAGE SECTION./01 A PIC X VALUE "A".
-1 121|01 A PIC X VALUE "AB".
-1 121|01 A PIC X(2) VALUE "A""B".
-1 121|01 A PIC 9 VALUE 1.5.
-1 121|01 A PIC 9 VALUE 10.
-1 121|01 A PIC V9 VALUE 1.
-1 121|01 A PIC 9(3) VALUE -5.
-1 121|01 A PIC X VALUE 5.
-1 121|01 A PIC 9(3) VALUE "123"."#;
-
-/// The same of what is refused with other codes.
-const OTHER_CODES: &str = r#"1 111|01 A PIC Q.
-1 111|01 A PIC x(3).
-1 111|01 A PIC X(0).
-1 111|01 IF PIC Q FOO.
-1 111|01 A PIC X, VALUE "A".
-1 111|01 A PIC IS IS X.
-1 121|01 A./01 B PIC Q.
-1 111|01 A PIC X. 01 A PIC Q.
-1 121|01 A PIC X. 01 A FOO.
-2 122|01 A PIC X./01 A PIC X.
-2 122|01 a PIC X./01 A PIC X.
-4 122|01 A PIC X./01 B PIC X./01 C PIC X./01 B PIC X.
-4 122|01 G./05 A PIC X./01 H./05 A PIC X.
-2 122|01 A./05 A PIC X.
-3 122|01 A PIC X./LINKAGE SECTION./01 A PIC X.
-1 122|01 IF PIC X.
-1 122|01 Base PIC X.
-2 124|01 A PIC X(32000)./01 B PIC X.
-2 124|01 A PIC X(20000)./01 B PIC X(12001).
-3 124|01 A PIC X(20000)./LINKAGE SECTION./01 B PIC X(20000).
-1 124|01 A./05 B PIC X(20000)./05 C PIC X(20000).
-2 124|01 A PIC X(30000)./01 B./05 C PIC X(3) OCCURS 1000.
-1 124|01 A./05 B PIC X(32000) OCCURS 1000./01 C PIC X.
-3 121|01 A PIC X(32000)./01 B PIC X./01 C.
-3 122|01 A PIC X(32000)./01 B PIC X./01 A PIC X."#;
-
-/// The same of servers.
-const SERVERS: &str = r#"1 122|01 WITH PIC X.
-2 122|01 A PIC X./01 Lock PIC X.
-1 122|01 $RECEIVE PIC X.
-2 122|01 BASE PIC X./01 NEXT PIC X."#;
-
 /// Texts, and where their items lie: the name of each, its place, size, OCCURS and step.
 const PLACES: &str =
     r#"01 A. 05 B. 10 C PIC X(2). 03 D PIC 9. 77 E PIC S9(2).|A 0 3 0 0, B 0 2 0 0, C 0 2 0 0, D 2 1 0 0, E 3 3 0 0
@@ -166,38 +65,6 @@ fn read(alloc: Global, text: &[u8], server: bool) -> Result<Layout, Refusal>
     requires { length text.now ≤ MAX_INPUT }
 {
     layout(alloc, text, &tokens(alloc, text, 1)?, server)
-}
-
-/// Asserts that the text of a row is refused as the row says.
-fn expect_refused(rt: &(impl Abort + AllocGlobal), server: bool, row: &str) -> Result<(), Fail> {
-    let (wanted, text) = row.split_once('|').ok_or("no text")?;
-    let lines = lines_of(rt.alloc(), text)?;
-    let text = lines.as_bytes();
-    assert!(rt; text.len() <= MAX_INPUT);
-    let refusal = read(rt.alloc(), text, server).err();
-    assert_eq!(rt;
-        refusal_shown(rt.alloc(), refusal)?.as_str(),
-        wanted,
-        "{row}"
-    );
-    Ok(())
-}
-
-/// Asserts that each text of a table is refused as its row says.
-fn expect_all_refused(
-    rt: &(impl Abort + AllocGlobal),
-    server: bool,
-    rows: &str,
-) -> Result<(), Fail> {
-    for row in rows.split('\n') {
-        expect_refused(rt, server, row)?;
-    }
-    Ok(())
-}
-
-#[test]
-fn value_too_long_for_picture(rt: HostRuntime) -> Result<(), Fail> {
-    expect_refused(&rt, false, "1 121|01 A PIC 9(2) VALUE 123.")
 }
 
 /// Asserts with which characters the storage of a text begins.
@@ -226,8 +93,7 @@ fn storage_begins_with_values(rt: HostRuntime) -> Result<(), Fail> {
 
 #[test]
 fn servers_have_words_of_their_own(rt: HostRuntime) -> Result<(), Fail> {
-    expect_storage(&rt, true, "01 BASE PIC 9. 01 CODE PIC X.", "0 ")?;
-    expect_all_refused(&rt, true, SERVERS)
+    expect_storage(&rt, true, "01 BASE PIC 9. 01 CODE PIC X.", "0 ")
 }
 
 /// Asserts where an item lies.
@@ -340,12 +206,4 @@ fn storage_has_at_most_32000_characters(rt: HostRuntime) -> Result<(), Fail> {
         "01 A PIC X(20000)./LINKAGE SECTION./01 B PIC X(12000).",
     )?;
     expect_blanks(&rt, "01 A./05 B PIC X(32) OCCURS 1000.")
-}
-
-#[test]
-fn entries_that_are_refused(rt: HostRuntime) -> Result<(), Fail> {
-    expect_all_refused(&rt, false, ANOTHER_FORM)?;
-    expect_all_refused(&rt, false, MISPLACED)?;
-    expect_all_refused(&rt, false, VALUES)?;
-    expect_all_refused(&rt, false, OTHER_CODES)
 }

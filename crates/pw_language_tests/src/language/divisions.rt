@@ -1,7 +1,4 @@
-ghost use Rattle.std.specs.Prelude.{◌≤◌, length};
-
-use crate::language::rows::{lines_of, refusal_shown};
-use pw_base::fault::Refusal;
+use crate::language::rows::lines_of;
 use pw_base::read_all::MAX_INPUT;
 use pw_divisions::divisions::divide;
 use pw_text::token::Token;
@@ -30,150 +27,11 @@ DATA DIVISION. LINKAGE SECTION. 01 L. 02 M PIC X. 1 n. 01 M. PROCEDURE DIVISION 
 DATA DIVISION. LINKAGE SECTION. 01 L PIC Q FOO. 01 IF. PROCEDURE DIVISION USING L IF.|LINKAGE 12, - 0, L 2, - 0
 PROCEDURE DIVISION. PROCEDURE DIVISION USING X.|- 0, - 0, - 0, PROCEDURE 5";
 
-/// The line and the code with which a requester is refused, and what stands behind its identification
-/// division.
-const REQUESTERS: &str = "2 151|
-2 151|//* NOTHING
-3 151|PROCEDURE
-4 151|PROCEDURE/DIVISION
-3 151|PROCEDURE.
-4 151|PROCEDURE DIVISION/MAIN.
-4 151|PROCEDURE DIVISION USING/.
-4 151|PROCEDURE DIVISION/USING
-4 151|PROCEDURE DIVISION USING/L.
-3 151|AUTHOR. ME./PROCEDURE DIVISION.
-3 151|MAIN.
-3 151|.
-4 151|ENVIRONMENT/.
-4 151|ENVIRONMENT DIVISION/PROCEDURE DIVISION.
-4 151|ENVIRONMENT DIVISION./ANY TEXT.
-5 151|ENVIRONMENT DIVISION./X/INPUT-OUTPUT/DIVISION.
-4 151|ENVIRONMENT DIVISION./ENVIRONMENT DIVISION.
-4 151|ENVIRONMENT DIVISION./\"X\" DIVISION.
-4 151|ENVIRONMENT DIVISION. PROCEDURE DIVISION/X.
-4 151|DATA DIVISION./ENVIRONMENT DIVISION./PROCEDURE DIVISION.
-4 151|DATA DIVISION./FILE SECTION.
-4 151|DATA DIVISION./01 A PIC X.
-3 151|DATA DIVISION.
-4 151|DATA DIVISION/WORKING-STORAGE SECTION.
-4 151|DATA DIVISION./DATA DIVISION.
-5 151|DATA DIVISION. WORKING-STORAGE/SECTION/01 A PIC X.
-4 151|DATA DIVISION. WORKING-STORAGE/01 A PIC X.
-4 151|DATA DIVISION. WORKING-STORAGE SECTION./01 A PIC X.//
-4 151|DATA DIVISION. WORKING-STORAGE SECTION./WORKING-STORAGE SECTION.
-5 151|DATA DIVISION. LINKAGE SECTION./01 L./WORKING-STORAGE SECTION.
-4 151|DATA DIVISION. LINKAGE SECTION./LINKAGE SECTION.
-5 151|DATA DIVISION. SCREEN SECTION./01 S./LINKAGE SECTION.
-5 151|DATA DIVISION. SCREEN SECTION./01 S/SCREEN SECTION.
-4 151|DATA DIVISION. SCREEN SECTION. 01 S./FOO/DIVISION.
-4 151|DATA DIVISION. SCREEN SECTION. 01 S./DATA DIVISION.
-5 151|DATA DIVISION. WORKING-STORAGE SECTION. 01 A./LINKAGE/DIVISION.
-5 151|DATA DIVISION. WORKING-STORAGE SECTION. 01 A./PROCEDURE DIVISION USING/A.
-5 151|DATA DIVISION. LINKAGE SECTION. 01 L. 02 M./PROCEDURE DIVISION USING L/M.
-5 151|DATA DIVISION. LINKAGE SECTION. 01 FILLER./PROCEDURE DIVISION/USING FILLER.
-5 151|DATA DIVISION. LINKAGE SECTION. 77 L./PROCEDURE DIVISION/USING L.
-5 151|DATA DIVISION. LINKAGE SECTION. 01 L./PROCEDURE DIVISION USING L/\"L\".
-5 151|DATA DIVISION. LINKAGE SECTION. 01 L./PROCEDURE DIVISION USING L/USING L.
-4 151|DATA DIVISION. LINKAGE SECTION. 01 L./PROCEDURE DIVISION USING L";
-
-/// The same of servers.
-const SERVERS: &str = "2 151|
-4 151|PROCEDURE DIVISION/USING A.
-4 151|DATA DIVISION./LINKAGE SECTION.
-4 151|DATA DIVISION./SCREEN SECTION.
-4 151|DATA DIVISION. WORKING-STORAGE SECTION. 01 A/LINKAGE SECTION.
-4 151|DATA DIVISION. WORKING-STORAGE SECTION. 01 A./SCREEN SECTION.";
-
-/// The same of whole texts, whose first line is 5.
-const BEGINNINGS: &str = "5 151|
-5 151|//
-5 151|* A COMMENT/* ANOTHER
-7 151|//IDENTIFICATION
-5 151|ID DIVISION.
-5 151|PROGRAM-ID. P.
-6 151|IDENTIFICATION/DIVISION
-6 151|IDENTIFICATION DIVISION/PROGRAM-ID. P.
-6 151|IDENTIFICATION DIVISION./PROCEDURE DIVISION.
-6 151|IDENTIFICATION DIVISION./PROGRAM-ID P.
-5 151|IDENTIFICATION DIVISION. PROGRAM-ID.//* LATER
-6 151|IDENTIFICATION DIVISION. PROGRAM-ID./Q.
-6 151|IDENTIFICATION DIVISION. PROGRAM-ID./\"P\".
-6 151|IDENTIFICATION DIVISION. PROGRAM-ID./PP.
-6 151|IDENTIFICATION DIVISION. PROGRAM-ID. P/PROCEDURE DIVISION.";
-
-/// With what a text is refused, if it is.
-fn refusal_of(
-    alloc: Global,
-    server: bool,
-    text: &[u8],
-    first_line: u32,
-) -> Result<Option<Refusal>, Refusal>
-    requires size { length text.now ≤ MAX_INPUT }
-    requires line { (1 ≤ first_line) × (first_line ≤ 5) }
-{
-    let tokens = tokens(alloc, text, first_line)?;
-    Ok(divide(alloc, server, b"P", text, &tokens, first_line).err())
-}
-
 /// A text of a row behind its identification division.
 fn identified(alloc: Global, text: &str) -> Result<String, AllocError> {
     let mut whole = lines_of(alloc, IDENTIFICATION)?;
     whole.push_str(lines_of(alloc, text)?.as_str())?;
     Ok(whole)
-}
-
-/// Asserts that the text of a row is refused behind its identification division.
-fn expect_refused(rt: &(impl Abort + AllocGlobal), server: bool, row: &str) -> Result<(), Fail> {
-    let (wanted, text) = row.split_once('|').ok_or("no text")?;
-    let whole = identified(rt.alloc(), text)?;
-    let text = whole.as_bytes();
-    assert!(rt; text.len() <= MAX_INPUT);
-    let refusal = refusal_of(rt.alloc(), server, text, 1)?;
-    assert_eq!(rt;
-        refusal_shown(rt.alloc(), refusal)?.as_str(),
-        wanted,
-        "{row}"
-    );
-    Ok(())
-}
-
-#[test]
-fn divisions_that_are_refused(rt: HostRuntime) -> Result<(), Fail> {
-    for row in REQUESTERS.split('\n') {
-        expect_refused(&rt, false, row)?;
-    }
-    for row in SERVERS.split('\n') {
-        expect_refused(&rt, true, row)?;
-    }
-    Ok(())
-}
-
-/// Asserts that the text of a row is refused from line 5 on.
-fn expect_no_beginning(
-    rt: &(impl Abort + AllocGlobal),
-    server: bool,
-    row: &str,
-) -> Result<(), Fail> {
-    let (wanted, text) = row.split_once('|').ok_or("no text")?;
-    let lines = lines_of(rt.alloc(), text)?;
-    let text = lines.as_bytes();
-    assert!(rt; text.len() <= MAX_INPUT);
-    let refusal = refusal_of(rt.alloc(), server, text, 5)?;
-    assert_eq!(rt;
-        refusal_shown(rt.alloc(), refusal)?.as_str(),
-        wanted,
-        "{row}"
-    );
-    Ok(())
-}
-
-#[test]
-fn beginnings_that_are_refused(rt: HostRuntime) -> Result<(), Fail> {
-    for row in BEGINNINGS.split('\n') {
-        expect_no_beginning(&rt, false, row)?;
-        expect_no_beginning(&rt, true, row)?;
-    }
-    Ok(())
 }
 
 /// Asserts how a part begins, and how many tokens it has.

@@ -1,10 +1,7 @@
 ghost use Rattle.std.specs.Prelude.{◌≤◌, length};
 
-use crate::language::forms_rows::{
-    REQUESTER, REQUESTER_NO_FORM, REQUESTER_REFUSED, SERVER, SERVER_BARRED, SERVER_NO_FORM,
-    SERVER_REFUSED, TEXTS,
-};
-use crate::language::rows::{lines_of, refusal_shown};
+use crate::language::forms_rows::{REQUESTER, SERVER, TEXTS};
+use crate::language::rows::lines_of;
 use pw_base::bytes::Bytes;
 use pw_base::fault::Refusal;
 use pw_base::memory::Memory;
@@ -124,25 +121,6 @@ fn expect_tree(
     Ok(())
 }
 
-/// Asserts on which line and with what code a text is refused.
-fn expect_refused(
-    rt: &(impl Abort + AllocGlobal),
-    server: bool,
-    text: &str,
-    wanted: &str,
-) -> Result<(), Fail> {
-    let lines = lines_of(rt.alloc(), text)?;
-    let text = lines.as_bytes();
-    assert!(rt; text.len() <= MAX_INPUT);
-    let refusal = read(rt.alloc(), text, server).err();
-    assert_eq!(rt;
-        refusal_shown(rt.alloc(), refusal)?.as_str(),
-        wanted,
-        "{lines}"
-    );
-    Ok(())
-}
-
 /// A procedure with one piece in its paragraph, from line 2 on.
 fn around(alloc: Global, piece: &str) -> Result<String, AllocError> {
     format!(in alloc; "P./{piece}./")
@@ -164,43 +142,14 @@ fn expect_forms(rt: &(impl Abort + AllocGlobal), server: bool, rows: &str) -> Re
     Ok(())
 }
 
-/// Asserts that each piece of a table is refused with a code.
-fn expect_no_forms(
-    rt: &(impl Abort + AllocGlobal),
-    server: bool,
-    pieces: &str,
-    wanted: &str,
-) -> Result<(), Fail> {
-    for piece in pieces.split('\n') {
-        expect_refused(rt, server, around(rt.alloc(), piece)?.as_str(), wanted)?;
-    }
-    Ok(())
-}
-
-/// Asserts that each text of a table is refused as its row says.
-fn expect_all_refused(
-    rt: &(impl Abort + AllocGlobal),
-    server: bool,
-    rows: &str,
-) -> Result<(), Fail> {
-    for row in rows.split('\n') {
-        let (wanted, text) = row.split_once('|').ok_or("no text")?;
-        expect_refused(rt, server, text, wanted)?;
-    }
-    Ok(())
-}
-
 #[test]
 fn forms_of_requesters(rt: HostRuntime) -> Result<(), Fail> {
-    expect_forms(&rt, false, REQUESTER)?;
-    expect_no_forms(&rt, false, REQUESTER_NO_FORM, "2 131")
+    expect_forms(&rt, false, REQUESTER)
 }
 
 #[test]
 fn forms_of_servers(rt: HostRuntime) -> Result<(), Fail> {
-    expect_forms(&rt, true, SERVER)?;
-    expect_no_forms(&rt, true, SERVER_NO_FORM, "2 131")?;
-    expect_no_forms(&rt, true, SERVER_BARRED, "2 152")
+    expect_forms(&rt, true, SERVER)
 }
 
 #[test]
@@ -210,44 +159,5 @@ fn branches_and_paragraphs(rt: HostRuntime) -> Result<(), Fail> {
         let (text, wanted) = row.split_once(" => ").ok_or("no tree")?;
         expect_tree(&rt, false, text, wanted)?;
     }
-    expect_all_refused(&rt, false, REQUESTER_REFUSED)?;
-    expect_all_refused(&rt, true, SERVER_REFUSED)
-}
-
-#[test]
-fn unknown_statement_line(rt: HostRuntime) -> Result<(), Fail> {
-    expect_refused(&rt, false, "MAIN./ACCEPT S./STOP RUN./", "2 131")
-}
-
-/// Asserts what becomes of so many branches, each open inside the one before.
-fn expect_branches(
-    rt: &(impl Abort + AllocGlobal),
-    count: usize,
-    wanted: &str,
-) -> Result<(), Fail> {
-    let branches = "IF A = 1/".repeat(rt.alloc(), count)?;
-    let text = format!(in rt.alloc(); "MAIN./{branches}DISPLAY \"X\"./")?;
-    expect_refused(rt, false, text.as_str(), wanted)
-}
-
-#[test]
-fn sixty_five_open_branches(rt: HostRuntime) -> Result<(), Fail> {
-    expect_branches(&rt, 64, "not refused")?;
-    expect_branches(&rt, 65, "66 131")
-}
-
-/// Asserts that a statement may have a piece 9,999 times behind its front, and not once more.
-fn expect_most(rt: &(impl Abort + AllocGlobal), front: &str, piece: &str) -> Result<(), Fail> {
-    for (times, wanted) in [(9_999, "not refused"), (10_000, "2 131")] {
-        let pieces = piece.repeat(rt.alloc(), times)?;
-        let text = format!(in rt.alloc(); "P./{front}{pieces}")?;
-        expect_refused(rt, false, text.as_str(), wanted)?;
-    }
     Ok(())
-}
-
-#[test]
-fn at_most_9999_keys_and_codes(rt: HostRuntime) -> Result<(), Fail> {
-    expect_most(&rt, "ACCEPT S UNTIL", " SF16")?;
-    expect_most(&rt, "SEND A TO B REPLY", " CODE 0 YIELDS A")
 }

@@ -1,4 +1,4 @@
-use crate::language::rows::{lines_of, refusal_shown};
+use crate::language::rows::lines_of;
 use pw_base::bytes::Bytes;
 use pw_base::fault::Refusal;
 use pw_base::fault_code::FaultCode;
@@ -55,36 +55,6 @@ EPIC X~Word 1 EPIC~Word 1 X~
 < <= > >=~Less 1 <~LessEqual 1 <=~Greater 1 >~GreaterEqual 1 >=~
 =<>=~Equal 1 =~Less 1 <~GreaterEqual 1 >=~";
 
-/// Texts, each with the line and the code of its refusal.
-const REFUSED: &str = "1 101|#
-2 101|A/#
-1 101|- 5
-1 101|+A
-1 101|$REC
-1 101|$RECEIVEX
-1 101|A $ B
-1 101| * A
-1 101|?END
-1 101|A\tB
-1 101|*\x1f
-2 101|A/*\x7f
-1 101|PIC X\x7f
-1 101|A\rB
-1 101|A\r
-1 101|A\r\r/
-1 102|\"AB
-1 102|\"AB\r/C\"
-1 102|\"\"\"
-1 103|ABCDEFGHIJKLMNOPQRSTUVWXYZ-1234
-1 104|1234567890123456789
-1 104|1234567890.123456789
-1 102|ABCDEFGHIJKLMNOPQRSTUVWXYZ-1234 \"A
-1 101|ABCDEFGHIJKLMNOPQRSTUVWXYZ-1234 #
-1 103|1234567890123456789 ABCDEFGHIJKLMNOPQRSTUVWXYZ-1234
-1 101|\"A\x01
-2 102|A/\"A/#
-1 104|1234567890123456789/#";
-
 /// The tokens of a text, as a row has them.
 fn shown(rt: &(impl Abort + AllocGlobal), text: &[u8], tokens: &[Token]) -> Result<Bytes, Fail> {
     let mut shown = Bytes::new(rt.alloc());
@@ -126,27 +96,6 @@ fn texts_and_their_tokens(rt: HostRuntime) -> Result<(), Fail> {
         expect_tokens(&rt, row)?;
     }
     Ok(())
-}
-
-/// Asserts on which line and with what code a text is refused.
-fn expect_refused(rt: &(impl Abort + AllocGlobal), text: &[u8], wanted: &str) -> Result<(), Fail> {
-    assert!(rt; text.len() <= MAX_INPUT);
-    let refusal = tokens(rt.alloc(), text, 1).err();
-    assert_eq!(rt;
-        refusal_shown(rt.alloc(), refusal)?.as_str(),
-        wanted,
-        "{text:?}"
-    );
-    Ok(())
-}
-
-#[test]
-fn texts_and_their_refusals(rt: HostRuntime) -> Result<(), Fail> {
-    for row in REFUSED.split('\n') {
-        let (wanted, text) = row.split_once('|').ok_or("no text")?;
-        expect_refused(&rt, lines_of(rt.alloc(), text)?.as_bytes(), wanted)?;
-    }
-    expect_refused(&rt, b"\"\xff\"", "1 101")
 }
 
 #[test]

@@ -104,12 +104,3 @@ pub fn file_named(alloc: Global, name: &str, key: u16) -> Result<FileInfo, Memor
         records: List::new(alloc),
     })
 }
-
-/// The text of a row, in which each `/` is the end of a line.
-pub fn lines_of(alloc: Global, row: &str) -> Result<Bytes, Memory> {
-    let mut text = Bytes::new(alloc);
-    for byte in row.bytes() {
-        text.push(if byte == b'/' { b'\n' } else { byte })?;
-    }
-    Ok(text)
-}
