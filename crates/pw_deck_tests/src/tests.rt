@@ -4,8 +4,6 @@ mod disc_call;
 mod event;
 mod event_due;
 mod event_line;
-mod event_malformed;
-mod generated;
 mod lines;
 mod pathcom;
 mod rows;

@@ -44,6 +44,18 @@ fn sink_fails_at_each_call(rt: HostRuntime) -> Result<(), Fail> {
 }
 
 #[test]
+fn usage_source_and_sink_faults(rt: HostRuntime) -> Result<(), Fail> {
+    let mut failing = MemSource::new(rt.alloc(), b"?END", &[1])?;
+    let status = read_input(rt.alloc(), &mut failing).err();
+    assert_eq!(rt; status.ok_or("read")?.number(), 4);
+    let mut failing = MemSink::new(rt.alloc(), 100, 3, &[2])?;
+    let status = written(&mut failing, Status::Finished, REPORT);
+    assert_eq!(rt; status.number(), 5);
+    assert_eq!(rt; failing.written(), b"SER".as_slice());
+    Ok(())
+}
+
+#[test]
 fn want_of_memory_is_a_status(rt: HostRuntime) -> Result<(), Fail> {
     let text = Bytes::from_slice(rt.alloc(), b"DECK OK\n")?;
     let output = or_memory(Ok((Status::Finished, text)));

@@ -1,4 +1,3 @@
-use crate::tests::rows::{case_of, numbers_of};
 use pw_base::bytes::Bytes;
 use pw_code::file::{FileCall, FileOp};
 use pw_code::unit::Unit;
@@ -51,27 +50,6 @@ const BAD: &str = "0 UNIT
 3 UNIT 2 0 0 0 0
 4 UNIT 2 0 0 0 0
 4 UNIT 1 255 255 255 255";
-
-/// Disc scripts, and the line and the number of their fault; 0 and the number of their lines where there is none.
-const SCRIPTS: &str = r"|0 0
-DISC PRIMARY SOON\n?END|0 0
-DISC PRIMARY AFTER 1\n ?END\nFLY|0 0
-?END\n|0 0
-?end  \r\n\n  \nDISC PRIMARY AFTER 0\r\n|0 1
-A\n?END\nDISC PRIMARY HELD 2\nDISC BACKUP AFTER 500000|0 2
-A\n?END\nDISC PRIMARY SOON|3 172
-?END\nDISC PRIMARY AFTER 500001|2 172
-?END\nDISC PRIMARY AFTER 010|2 172
-?END\nDISC PRIMARY AFTER |2 172
-?END\nDISC PRIMARY AFTER 1 |2 172
-?END\nDISC PRIMARY  AFTER 1|2 172
-?END\n DISC PRIMARY AFTER 1|2 172
-?END\ndisc PRIMARY AFTER 1|2 172
-?END\nDISC BACKUP HELD 1|2 172
-?END\nDISC PRIMARY AFTER +1|2 172
-?END\nDISC PRIMARY AFTER 1\xff|2 172
-?END\n* DISC PRIMARY AFTER 1|2 172
-?END\nDISC PRIMARY AFTER 1\n?END|3 172";
 
 /// A message as a row writes it: a number for each byte, and `UNIT` for the bytes of the unit.
 fn message(alloc: Global, row: &str) -> Result<Vec<u8>, Fail> {
@@ -184,23 +162,6 @@ fn bytes_of_no_message(rt: HostRuntime) -> Result<(), Fail> {
     Ok(())
 }
 
-/// The line and the number of the code of a script's refusal; 0 and the number of its lines where there is none.
-fn outcome_of(alloc: Global, text: &[u8]) -> (u32, usize) {
-    match read_disc_script(alloc, text) {
-        Ok(script) => (0, script.lines.len()),
-        Err(refusal) => numbers_of(refusal),
-    }
-}
-
-#[test]
-fn scripts_by_hand(rt: HostRuntime) -> Result<(), Fail> {
-    for row in SCRIPTS.split('\n') {
-        let (text, wanted) = case_of(rt.alloc(), row)?;
-        assert_eq!(rt; outcome_of(rt.alloc(), &text), wanted, "{row}");
-    }
-    Ok(())
-}
-
 #[test]
 fn lines_of_a_script(rt: HostRuntime) -> Result<(), Fail> {
     let text = b"?END\nDISC PRIMARY AFTER 3\nDISC PRIMARY HELD 20\nDISC BACKUP AFTER 0";
@@ -211,24 +172,9 @@ fn lines_of_a_script(rt: HostRuntime) -> Result<(), Fail> {
         DiscLine::Backup(0),
     ];
     assert!(rt; script.lines.as_slice() == wanted.as_slice());
-    Ok(())
-}
-
-/// The outcome of a script of 64 lines and what stands behind them.
-fn outcome_behind(alloc: Global, behind: &[u8]) -> Result<(u32, usize), Fail> {
-    let mut text = Vec::from_slice(alloc, b"?END\n")?;
-    for _ in 0..64 {
-        text.extend_from_slice(b"DISC BACKUP AFTER 1\n")?;
+    for text in "|DISC PRIMARY SOON\n?END|DISC PRIMARY AFTER 1\n ?END\nFLY".split('|') {
+        let script = read_disc_script(rt.alloc(), text.as_bytes())?;
+        assert!(rt; script.lines.is_empty(), "at {text}");
     }
-    text.extend_from_slice(behind)?;
-    Ok(outcome_of(alloc, &text))
-}
-
-#[test]
-fn sixty_five_lines(rt: HostRuntime) -> Result<(), Fail> {
-    let alloc = rt.alloc();
-    assert_eq!(rt; outcome_behind(alloc, b"")?, (0, 64));
-    assert_eq!(rt; outcome_behind(alloc, b"\nDISC BACKUP AFTER 1")?, (67, 196));
-    assert_eq!(rt; outcome_behind(alloc, b"\nFLY")?, (67, 196));
     Ok(())
 }

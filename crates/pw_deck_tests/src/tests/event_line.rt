@@ -4,6 +4,7 @@ use crate::tests::event::system_under;
 use pw_code::lock::LockRule;
 use pw_code::system::System;
 use pw_event::event::{Cause, Ending, Event};
+use pw_event::laws::{fail_line_laws, limit_laws, line_laws};
 use pw_event::printing::{print_ending, print_event};
 use pw_event::reading::read_event;
 use std::process::Abort;
@@ -119,5 +120,8 @@ fn a_line_and_an_ending_alone(rt: HostRuntime) -> Result<(), Fail> {
     assert_eq!(rt; raise, Event::Raise { tcp: 1 });
     let text = print_ending(rt.alloc(), &system, Ending::Suspended(Cause::Server(3)))?;
     assert_eq!(rt; text.as_slice(), b"SUSPENDED SERVER 3".as_slice());
+    limit_laws();
+    line_laws();
+    fail_line_laws();
     Ok(())
 }

@@ -32,35 +32,6 @@ pub(crate) fn unescaped(alloc: Global, written: &str) -> Result<Vec<u8>, Fail> {
     Ok(bytes)
 }
 
-/// Two numbers with a space between them.
-fn numbers(written: &str) -> Result<(u32, usize), Fail> {
-    let (first, second) = written.split_once(' ').ok_or("no two numbers")?;
-    Ok((first.parse::<u32>()?, second.parse::<usize>()?))
-}
-
-/// The text of a row and, behind its last bar, the line and the number of the fault that it has: 0 twice for none.
-pub(crate) fn case_of(alloc: Global, row: &str) -> Result<(Vec<u8>, (u32, usize)), Fail> {
-    let (text, fault) = row.rsplit_once('|').ok_or("no fault")?;
-    let fault = numbers(fault)?;
-    Ok((unescaped(alloc, text)?, fault))
-}
-
-/// The line and the number of a refusal.
-pub(crate) fn numbers_of(refusal: Refusal) -> (u32, usize) {
-    match refusal {
-        Refusal::At { line, code } => (line, usize::from(code.number())),
-        Refusal::Memory => (0, 1_000),
-    }
-}
-
-/// The line and the number of the refusal, and 0 twice where there is none.
-pub(crate) fn fault_of<T: Drop>(outcome: Result<T, Refusal>) -> (u32, usize) {
-    match outcome {
-        Ok(_) => (0, 0),
-        Err(refusal) => numbers_of(refusal),
-    }
-}
-
 /// Refuses a long text.
 pub(crate) fn short(text: &[u8]) -> Result<(), Refusal>
     ensures { OnOk result (length text.now ≤ 100000) }
