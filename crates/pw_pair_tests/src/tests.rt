@@ -1,5 +1,3 @@
-mod listing;
 mod net;
-mod order;
 mod pair;
 mod tcp;

@@ -145,87 +145,6 @@ fn each_word_at_each_mark(rt: HostRuntime) -> Result<(), Fail> {
     Ok(())
 }
 
-/// The home of a transaction that it begins with others.
-fn home_with(rt: &(impl Abort + AllocGlobal), others: &[u32], sends: &str) -> Result<Member, Fail> {
-    let mut home = Member::new(rt.alloc(), 1)?;
-    let sent = home.start(others)?;
-    expect_sent(rt, sent.as_slice(), sends)?;
-    Ok(home)
-}
-
-/// Hands a message to a member, and asserts what it sends.
-fn expect_at(
-    rt: &(impl Abort + AllocGlobal),
-    member: &mut Member,
-    message: &str,
-    sends: &str,
-) -> Result<(), Fail> {
-    let sent = member.handle(&message_of(message)?)?;
-    expect_sent(rt, sent.as_slice(), sends)
-}
-
-/// Both members vote yes, and the home commits.
-fn expect_votes(
-    rt: &(impl Abort + AllocGlobal),
-    home: &mut Member,
-    second: &mut Member,
-    third: &mut Member,
-) -> Result<(), Fail> {
-    expect_at(rt, second, "1>2 Prepare", "2>1 Yes")?;
-    expect_at(rt, third, "1>3 Prepare", "3>1 Yes")?;
-    expect_at(rt, home, "2>1 Yes", "")?;
-    // a vote counts once
-    expect_at(rt, home, "2>1 Yes", "")?;
-    expect_at(rt, home, "3>1 Yes", "1>2 Commit, 1>3 Commit")
-}
-
-/// A prepared member that restarts stays so, and asks its home.
-fn expect_asked(rt: &(impl Abort + AllocGlobal), member: &mut Member) -> Result<(), Fail> {
-    member.restart();
-    expect_sent(rt, member.refuse(FIRST)?.as_slice(), "")?;
-    assert_eq!(rt; member.mark(FIRST), Some(Mark::Prepared));
-    expect_sent(rt, member.ask(FIRST)?.as_slice(), "2>1 Ask")
-}
-
-#[test]
-fn prepared_member_asks(rt: HostRuntime) -> Result<(), Fail> {
-    let mut home = home_with(&rt, &[2, 3], "1>2 Prepare, 1>3 Prepare")?;
-    let mut second = Member::new(rt.alloc(), 2)?;
-    let mut third = Member::new(rt.alloc(), 3)?;
-    expect_votes(&rt, &mut home, &mut second, &mut third)?;
-    expect_asked(&rt, &mut second)?;
-    expect_at(&rt, &mut home, "2>1 Ask", "1>2 Commit")?;
-    assert_eq!(rt; home.mark(FIRST), Some(Mark::Committed));
-    assert_eq!(rt; third.mark(FIRST), Some(Mark::Prepared));
-    Ok(())
-}
-
-/// A home that restarts before a vote comes aborts.
-fn expect_aborted(
-    rt: &(impl Abort + AllocGlobal),
-    home: &mut Member,
-    second: &mut Member,
-) -> Result<(), Fail> {
-    expect_at(rt, second, "1>2 Prepare", "2>1 Yes")?;
-    home.restart();
-    expect_at(rt, home, "2>1 Yes", "1>2 Abort")?;
-    expect_at(rt, second, "1>2 Abort", "")?;
-    assert_eq!(rt; home.mark(FIRST), Some(Mark::Aborted));
-    assert_eq!(rt; second.mark(FIRST), Some(Mark::Aborted));
-    Ok(())
-}
-
-#[test]
-fn restarted_home_aborts(rt: HostRuntime) -> Result<(), Fail> {
-    let mut home = home_with(&rt, &[2], "1>2 Prepare")?;
-    let mut second = Member::new(rt.alloc(), 2)?;
-    expect_aborted(&rt, &mut home, &mut second)?;
-    let next = NetId { home: 1, number: 2 };
-    expect_sent(&rt, home.refuse(next)?.as_slice(), "")?;
-    assert_eq!(rt; home.mark(next), None, "no home refuses its own");
-    Ok(())
-}
-
 /// The home gives its transaction of this number up, and sends the messages of a text.
 fn expect_given_up(
     rt: &(impl Abort + AllocGlobal),
@@ -234,6 +153,15 @@ fn expect_given_up(
     sends: &str,
 ) -> Result<(), Fail> {
     expect_sent(rt, home.give_up(number)?.as_slice(), sends)
+}
+
+/// A home refuses none of its own.
+fn expect_unmarked(rt: &(impl Abort + AllocGlobal)) -> Result<(), Fail> {
+    let mut home = Member::new(rt.alloc(), 1)?;
+    let next = NetId { home: 1, number: 2 };
+    expect_sent(rt, home.refuse(next)?.as_slice(), "")?;
+    assert_eq!(rt; home.mark(next), None);
+    Ok(())
 }
 
 /// A home gives its first transaction up once, and no other.
@@ -258,7 +186,8 @@ fn home_gives_up(rt: HostRuntime) -> Result<(), Fail> {
     assert_eq!(rt; home.give_up(1)?.len(), 0, "nothing is begun");
     home.start(&[3, 2])?;
     expect_abandoned(&rt, &mut home)?;
-    expect_kept(&rt)
+    expect_kept(&rt)?;
+    expect_unmarked(&rt)
 }
 
 /// A member of system 2 that refused a transaction of system 3, lost its own first one at a restart, began a second one
