@@ -7,6 +7,5 @@ mod image;
 mod locks;
 mod tmf;
 mod trail;
-mod trail_disc;
 mod units;
 mod volume;

@@ -1,35 +1,14 @@
-use crate::tests::rows::unescaped;
 use pw_sections::line::next_line;
 use pw_sections::word::{is_blank, next_word};
-use std::process::Abort;
-use std::str::from_utf8;
-use std::test::Fail;
-
-/// Texts, and their lines, with a semicolon behind each.
-const LINES: &str = r"|
-\n|;
-A|A;
-A\nB\n|A;B;
-A\r\n\r\nB\r|A;;B\r;
-\r\r\nA|\r;A;
-A\rB\n|A\rB;
- \n | ; ;";
-
-/// Lines, and their words, with a semicolon behind each.
-const WORDS: &str = r"|
-   |
-ADD TCP A|ADD;TCP;A;
-  ADD   TCP |ADD;TCP;
-A\tB,C|A\tB,C;";
 
 /// Whether the lines of a text are these.
-fn lines_are(text: &[u8], wanted: &str) -> bool {
+fn lines_are(text: &[u8], wanted: &[&[u8]]) -> bool {
     let mut rest = text;
-    for line in wanted.split_terminator(';') {
+    for line in wanted {
         let Some((found, behind)) = next_line(rest) else {
             return false;
         };
-        if found != line.as_bytes() {
+        if found != *line {
             return false;
         }
         rest = behind;
@@ -38,13 +17,13 @@ fn lines_are(text: &[u8], wanted: &str) -> bool {
 }
 
 /// Whether the words of a line are these.
-fn words_are(line: &[u8], wanted: &str) -> bool {
+fn words_are(line: &[u8], wanted: &[&[u8]]) -> bool {
     let mut rest = line;
-    for word in wanted.split_terminator(';') {
+    for word in wanted {
         let Some((found, behind)) = next_word(rest) else {
             return false;
         };
-        if found != word.as_bytes() {
+        if found != *word {
             return false;
         }
         rest = behind;
@@ -52,32 +31,33 @@ fn words_are(line: &[u8], wanted: &str) -> bool {
     is_blank(rest)
 }
 
-/// Asserts the lines or the words of the text in a row.
-fn expect_parts(rt: &(impl Abort + AllocGlobal), row: &str, words: bool) -> Result<(), Fail> {
-    let bytes = unescaped(rt.alloc(), row)?;
-    let (text, wanted) = from_utf8(&bytes)?.split_once('|').ok_or("no parts")?;
-    let text = text.as_bytes();
-    let same = if words {
-        words_are(text, wanted)
-    } else {
-        lines_are(text, wanted)
-    };
-    assert!(rt; same, "at {row}");
-    Ok(())
+#[test]
+fn lines_by_hand(rt: HostRuntime) {
+    let cases: [(&[u8], &[&[u8]]); 8] = [
+        (b"", &[]),
+        (b"\n", &[b""]),
+        (b"A", &[b"A"]),
+        (b"A\nB\n", &[b"A", b"B"]),
+        (b"A\r\n\r\nB\r", &[b"A", b"", b"B\r"]),
+        (b"\r\r\nA", &[b"\r", b"A"]),
+        (b"A\rB\n", &[b"A\rB"]),
+        (b" \n ", &[b" ", b" "]),
+    ];
+    for (text, wanted) in cases {
+        assert!(rt; lines_are(text, wanted));
+    }
 }
 
 #[test]
-fn lines_by_hand(rt: HostRuntime) -> Result<(), Fail> {
-    for row in LINES.split('\n') {
-        expect_parts(&rt, row, false)?;
+fn words_by_hand(rt: HostRuntime) {
+    let cases: [(&[u8], &[&[u8]]); 5] = [
+        (b"", &[]),
+        (b"   ", &[]),
+        (b"ADD TCP A", &[b"ADD", b"TCP", b"A"]),
+        (b"  ADD   TCP ", &[b"ADD", b"TCP"]),
+        (b"A\tB,C", &[b"A\tB,C"]),
+    ];
+    for (line, wanted) in cases {
+        assert!(rt; words_are(line, wanted));
     }
-    Ok(())
-}
-
-#[test]
-fn words_by_hand(rt: HostRuntime) -> Result<(), Fail> {
-    for row in WORDS.split('\n') {
-        expect_parts(&rt, row, true)?;
-    }
-    Ok(())
 }

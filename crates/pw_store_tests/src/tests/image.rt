@@ -220,27 +220,6 @@ fn contexts_come_back(rt: HostRuntime) -> Result<(), Fail> {
     Ok(())
 }
 
-/// Whether the context of these numbers has an image.
-fn has_image_of(alloc: Global, numbers: &str) -> Result<bool, Fail> {
-    let context = context_of(alloc, numbers)?;
-    Ok(has_image(&context))
-}
-
-/// Asserts of each of these contexts whether it has an image.
-fn expect_images(rt: &impl Abort, alloc: Global, contexts: &str, has: bool) -> Result<(), Fail> {
-    for numbers in contexts.split(',') {
-        let found = has_image_of(alloc, numbers)?;
-        assert_eq!(rt; found, has, "{numbers}");
-    }
-    Ok(())
-}
-
-#[test]
-fn contexts_without_an_image(rt: HostRuntime) -> Result<(), Fail> {
-    expect_images(&rt, rt.alloc(), "1 64000 64,9 0 0", true)?;
-    expect_images(&rt, rt.alloc(), "0 0 0,1 64001 0,1 0 65,10 0 0", false)
-}
-
 #[test]
 fn one_changed_record(rt: HostRuntime) -> Result<(), Fail> {
     let old = [0u8; 130];

@@ -6,12 +6,12 @@ use pw_code::lock::LockMode;
 use pw_code::unit::Unit;
 use pw_locks::book::LockBook;
 use pw_locks::laws::{conflict_laws, span_laws};
-use pw_locks::lock::{Lock, is_same_unit};
+use pw_locks::lock::Lock;
 use pw_locks::span::Span;
 use std::alloc::Global;
 use std::process::Abort;
 use std::test::Fail;
-use tables::{MIXED, POINTS, POINTS_AND_SPANS, SPANS};
+use tables::{POINTS, POINTS_AND_SPANS, SPANS};
 
 fn key(alloc: Global, text: &str) -> Result<Bytes, Memory> {
     Bytes::from_slice(alloc, text.as_bytes())
@@ -87,44 +87,6 @@ fn add_all(alloc: Global, book: &mut LockBook, locks: &str) -> Result<(), Fail> 
 /// Who holds a lock that conflicts with this one.
 fn holder_for(book: &LockBook, asked: &Lock) -> Option<Unit> {
     book.conflict(&asked.unit, asked.file, &asked.span, asked.mode)
-}
-
-/// The same as a plain list of locks has it.
-fn holder_in(locks: &[Lock], asked: &Lock) -> Option<Unit> {
-    let mut oldest: Option<Unit> = None;
-    for held in locks {
-        if is_same_unit(&held.unit, &asked.unit)
-            || !held.excludes(asked.file, &asked.span, asked.mode)
-        {
-            continue;
-        }
-        match oldest {
-            Some(unit) if unit.birth <= held.unit.birth => {}
-            _ => oldest = Some(held.unit),
-        }
-    }
-    oldest
-}
-
-/// The book gives the holder of the list for a lock.
-fn expect_same_holder(rt: &impl Abort, book: &LockBook, locks: &[Lock], asked: &Lock) {
-    let holder = holder_for(book, asked);
-    assert_eq!(rt; holder, holder_in(locks, asked), "{asked:?}");
-}
-
-/// The book gives the holders of the list for each lock of the rows.
-fn expect_same(
-    rt: &impl Abort,
-    alloc: Global,
-    book: &LockBook,
-    locks: &[Lock],
-) -> Result<(), Fail> {
-    for row in POINTS_AND_SPANS.split('\n').chain(SPANS.split('\n')) {
-        let (first, second, _) = pair_of(alloc, row)?;
-        expect_same_holder(rt, book, locks, &first);
-        expect_same_holder(rt, book, locks, &second);
-    }
-    Ok(())
 }
 
 /// Whether a lock conflicts with the only lock of a book.
@@ -211,60 +173,6 @@ fn oldest_other_holder_is_given(rt: HostRuntime) -> Result<(), Fail> {
     assert!(rt; blocks(alloc, &book, "7,0,B,X")?);
     assert!(rt; !blocks(alloc, &book, "7,0,D,X")?);
     assert!(rt; !blocks(alloc, &book, "2,0,B,X")?);
-    Ok(())
-}
-
-/// Releases the locks of a terminal's unit from a book and a list, which are the same then too.
-fn expect_released(
-    rt: &impl Abort,
-    alloc: Global,
-    book: &mut LockBook,
-    list: &mut Vec<Lock>,
-    terminal: u32,
-) -> Result<(), Fail> {
-    let unit = unit_of(terminal);
-    book.release(&unit);
-    list.retain(|held| !is_same_unit(&held.unit, &unit));
-    expect_same(rt, alloc, book, list)
-}
-
-#[test]
-fn book_answers_as_a_list_does(rt: HostRuntime) -> Result<(), Fail> {
-    let alloc = rt.alloc();
-    let mut book = LockBook::new(alloc)?;
-    let mut list = Vec::new(alloc);
-    for row in POINTS_AND_SPANS.split('\n') {
-        let (first, second, _) = pair_of(alloc, row)?;
-        add(alloc, &mut book, &first)?;
-        add(alloc, &mut book, &second)?;
-        list.push(first)?;
-        list.push(second)?;
-    }
-    expect_same(&rt, alloc, &book, &list)?;
-    for terminal in 1..3 {
-        expect_released(&rt, alloc, &mut book, &mut list, terminal)?;
-    }
-    Ok(())
-}
-
-#[test]
-fn spans_in_mixed_order_are_found(rt: HostRuntime) -> Result<(), Fail> {
-    let alloc = rt.alloc();
-    let mut book = LockBook::new(alloc)?;
-    let mut list = Vec::new(alloc);
-    for text in MIXED.split('\n') {
-        let lock = lock_of(alloc, text)?;
-        add(alloc, &mut book, &lock)?;
-        list.push(lock)?;
-        expect_same(&rt, alloc, &book, &list)?;
-    }
-    book.take_back();
-    list.pop();
-    expect_same(&rt, alloc, &book, &list)?;
-    for terminal in 3..7 {
-        expect_released(&rt, alloc, &mut book, &mut list, terminal)?;
-    }
-    assert!(rt; list.is_empty());
     Ok(())
 }
 

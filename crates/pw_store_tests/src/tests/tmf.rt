@@ -1,6 +1,5 @@
 ghost use Rattle.std.specs.Prelude.{◌≡◌, ◌<◌, true, false, IfOk, OnOk};
 ghost use Rattle.pw_onecopy.specs.IsBehaviour.{is_written};
-ghost use Rattle.pw_tmf.specs.Tmf.{told_of};
 ghost use Rattle.pw_tmf.specs.TwoUnits.{AreBoth, IsFresh, IsTestCall};
 
 use crate::tests::fresh::{bytes, started};
@@ -13,8 +12,6 @@ use pw_code::file::{FileCall, FileOp};
 use pw_code::unit::Unit;
 use pw_tmf::answer::{DiscFault, FileAnswer, Foreseen};
 use pw_tmf::disc::Disc;
-use pw_tmf::faulty::Faulty;
-use pw_tmf::tmf::Tmf;
 use std::alloc::{AllocError, Global};
 use std::process::Abort;
 use std::test::Fail;
@@ -331,68 +328,6 @@ fn expect_three<D: Disc>(rt: &impl Abort, alloc: Global, disc: &mut D) -> Result
     Ok(())
 }
 
-/// Whether a WRITE of the younger unit fails.
-fn write_fails<D: Disc>(alloc: Global, disc: &mut D) -> Result<bool, Memory>
-    requires { AreBoth (D.told disc.old) }
-    ensures { AreBoth (D.told disc.new) }
-{
-    let write = writing(alloc, FileOp::Write, b"BB two")?;
-    Ok(matches!(younger_does(disc, &write), FileAnswer::Failed))
-}
-
-/// Whether a commit of the younger unit fails, or else that both are backed out.
-fn end_fails<D: Disc>(alloc: Global, disc: &mut D, commits: bool) -> Result<bool, Memory>
-    requires { AreBoth (D.told disc.old) }
-{
-    if !commits {
-        return Ok(back_out_both(disc).is_err());
-    }
-    let reply = bytes(alloc, b"0000")?;
-    Ok(commit(disc, Some(reply)).is_err())
-}
-
-/// Which of these is the first to fail: that the units begin, the operation, the end, or none.
-fn first_failure<D: Disc>(
-    alloc: Global,
-    disc: &mut D,
-    commits: bool,
-) -> Result<&'static str, Memory>
-    requires { IsFresh (D.told disc.old) }
-{
-    if begin_both(disc).is_err() {
-        return Ok("begin");
-    }
-    if write_fails(alloc, disc)? {
-        return Ok("operation");
-    }
-    Ok(if end_fails(alloc, disc, commits)? {
-        "end"
-    } else {
-        "none"
-    })
-}
-
-/// The call of a faulty disc that fails, how the unit ends, and what is the first to fail.
-const FAILURES: &str = "1|commit|begin
-2|commit|begin
-3|commit|operation
-4|commit|end
-4|back out|end
-5|commit|none
-5|back out|none";
-
-/// Asserts what a row of that table tells.
-fn expect_failure(rt: &impl Abort, alloc: Global, tmf: &Tmf, row: &str) -> Result<(), Fail>
-    requires { IsFresh (told_of tmf.now) }
-{
-    let (call, rest) = row.split_once('|').ok_or("no end")?;
-    let (end, wanted) = rest.split_once('|').ok_or("no failure")?;
-    let mut faulty = Faulty::new(alloc, tmf.copy(alloc)?, &[call.parse()?])?;
-    let found = first_failure(alloc, &mut faulty, end == "commit")?;
-    assert_eq!(rt; found, wanted, "{row}");
-    Ok(())
-}
-
 /// Each row of the table of modes comes to what it tells.
 fn expect_modes<D: Disc>(rt: &impl Abort, alloc: Global, disc: &mut D) -> Result<(), Fail>
     requires { IsFresh (D.told disc.old) }
@@ -441,14 +376,4 @@ fn unit_restarts_and_writes_again(rt: HostRuntime) -> Result<(), Fail> {
     let alloc = rt.alloc();
     let mut tmf = started(alloc)?;
     expect_restart(&rt, alloc, &mut tmf)
-}
-
-#[test]
-fn a_faulty_disc_fails_at_each_call(rt: HostRuntime) -> Result<(), Fail> {
-    let alloc = rt.alloc();
-    let tmf = started(alloc)?;
-    for row in FAILURES.split('\n') {
-        expect_failure(&rt, alloc, &tmf, row)?;
-    }
-    Ok(())
 }

@@ -174,7 +174,7 @@ fn unit(alloc: Global, number: u32) -> Result<UnitChanges, Memory> {
 }
 
 /// A disk with an empty trail that stops once it has been opened and so many calls more have passed.
-pub fn stopping_disk(alloc: Global, calls: u64) -> Result<MemDisk, Fail> {
+fn stopping_disk(alloc: Global, calls: u64) -> Result<MemDisk, Fail> {
     let mut disk = MemDisk::new(alloc)?;
     format(&mut disk)?;
     // To open it takes three of them.

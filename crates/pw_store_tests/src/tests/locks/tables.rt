@@ -75,22 +75,3 @@ pub const SPANS: &str = "1,0,A..C,X|2,0,B..D,X|true
 1,0,A..,S|2,0,Z..,X|true
 1,0,A..,X|2,1,Z..,X|false
 1,0,A..,X|1,0,Z..,X|false";
-
-/// Locks on spans that come in falling order, around others, within others, from one low end, and with no key at all.
-pub const MIXED: &str = "3,0,C..D,S
-4,0,B..C,X
-5,0,A..B,S
-6,0,..A,X
-3,0,A..D,S
-4,0,AA..C,S
-5,0,C..,X
-6,0,CA..D,S
-3,0,D..B,X
-4,0,BA..BB,X
-5,0,B..BZ,S
-6,0,B..D,S
-3,0,B..BZ,X
-4,1,A..Z,X
-5,0,B..,S
-6,0,..,S
-3,0,..B,X";
