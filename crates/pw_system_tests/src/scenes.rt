@@ -6,7 +6,6 @@ mod opening;
 mod reports;
 mod rounds;
 mod runs;
-mod statuses;
 
 use opening::{OpenedDeck, open};
 use pw_actor_queue::actor::Actor;

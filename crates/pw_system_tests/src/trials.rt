@@ -14,7 +14,7 @@ use pw_code::entry::EntryLine;
 use pw_code::file::FileOp;
 use pw_code::system::System;
 use pw_code::verb::{Answer, Verb};
-use pw_compiled_deck::deck::{Deck, read};
+use pw_compiled_deck::deck::Deck;
 use pw_machine::run::{answer, start, start_server, verb};
 use pw_terminal::printing::refresh_text;
 use std::alloc::Global;
@@ -34,47 +34,10 @@ enum TrialStep {
     End,
     Drop,
     Redo,
-    Stop,
-    Fault(u16),
     /// An operation on the first file, with its key and its content, which ends with this status and
     /// reads this record.
     File(FileOp, &'static [u8], &'static [u8], u16, &'static [u8]),
     Reply(&'static [u8]),
-}
-
-/// The requester HELLO up to its data, behind the commands of one terminal.
-const HEAD: &[u8] = b"?PATHCOM
-ADD TCP TCP-1
-START TCP TCP-1
-SET TERM TCP TCP-1
-SET TERM INITIAL HELLO
-ADD TERM T1
-START TERM T1
-?SCREEN-COBOL HELLO
-IDENTIFICATION DIVISION.
-PROGRAM-ID. HELLO.
-";
-
-/// A deck of the requester HELLO with these data, this procedure and these entries.
-fn hello(
-    rt: &(impl Abort + AllocGlobal),
-    data: &[u8],
-    procedure: &[u8],
-    entries: &[u8],
-) -> Result<Deck, Fail>
-    ensures { IfOk result (λ deck. IsValid deck.system) }
-{
-    let text = [
-        HEAD,
-        data,
-        b"PROCEDURE DIVISION.\n",
-        procedure,
-        b"?ENTRIES T1\n",
-        entries,
-        b"?END\n",
-    ]
-    .concat(rt.alloc())?;
-    Ok(read(rt.alloc(), text.as_slice())?)
 }
 
 /// The rows of the screen are these.
@@ -95,7 +58,6 @@ fn is_asked(
         (Verb::Send { class, message }, TrialStep::Send(to, wanted, _)) => {
             Ok(*class == to && message.as_slice() == wanted)
         }
-        (Verb::Fault(code), TrialStep::Fault(wanted)) => Ok(*code == wanted),
         (Verb::File(call), TrialStep::File(op, key, content, _, _)) => Ok(
             call.file == 0
                 && call.op == op
@@ -107,8 +69,7 @@ fn is_asked(
         | (Verb::Begin, TrialStep::Begin)
         | (Verb::End, TrialStep::End)
         | (Verb::Drop, TrialStep::Drop)
-        | (Verb::Redo, TrialStep::Redo)
-        | (Verb::Stop, TrialStep::Stop) => Ok(true),
+        | (Verb::Redo, TrialStep::Redo) => Ok(true),
         _ => Ok(false),
     }
 }
@@ -138,7 +99,7 @@ fn answer_to(
             };
             Ok(Some(Answer::FileDone { status, content }))
         }
-        TrialStep::Redo | TrialStep::Stop | TrialStep::Fault(_) | TrialStep::Reply(_) => Ok(None),
+        TrialStep::Redo | TrialStep::Reply(_) => Ok(None),
     }
 }
 
@@ -209,98 +170,4 @@ fn server_runs(
     };
     let mut context = start_server(rt.alloc(), system, 0, message)?;
     runs(rt, system, &mut context, &[], steps)
-}
-
-/// Data, a procedure, entries, and what the program asks.
-type Trial = (
-    &'static [u8],
-    &'static [u8],
-    &'static [u8],
-    &'static [TrialStep],
-);
-
-const KEYS: &[u8] = b"DATA DIVISION.
-WORKING-STORAGE SECTION.
-01 A PIC X(3).
-01 B PIC X(5).
-SCREEN SECTION.
-01 S.
-  02 F AT 2, 1 PIC X(3) USING A.
-";
-
-const TAKE: &[u8] = b"MAIN. ACCEPT S UNTIL F1. MOVE A TO B. DISPLAY B. STOP RUN.\n";
-
-const COUNT: &[u8] = b"DATA DIVISION.\nWORKING-STORAGE SECTION.\n01 X PIC 9(5) VALUE 0.\n";
-
-const TRIALS: &[Trial] = &[
-    (
-        b"",
-        b"MAIN.\nDISPLAY \"HELLO\".\nSTOP RUN.\n",
-        b"",
-        &[TrialStep::Show(b"24|HELLO\n"), TrialStep::Stop],
-    ),
-    (
-        KEYS,
-        TAKE,
-        b"F2\nF1 F=AB\n",
-        &[
-            TrialStep::Accept,
-            TrialStep::Show(b"24|INVALID KEY\n"),
-            TrialStep::Accept,
-            TrialStep::Show(b"24|AB\n"),
-            TrialStep::Stop,
-        ],
-    ),
-    (
-        KEYS,
-        TAKE,
-        b"F2\n",
-        &[
-            TrialStep::Accept,
-            TrialStep::Show(b"24|INVALID KEY\n"),
-            TrialStep::Accept,
-        ],
-    ),
-    (
-        b"DATA DIVISION.\nWORKING-STORAGE SECTION.\n01 A PIC 9(18) VALUE 999999999999999999.\n",
-        b"MAIN. ADD 1 TO A ON SIZE ERROR DISPLAY \"SIZE\" ELSE DISPLAY \"FITS\". DISPLAY A. STOP RUN.\n",
-        b"",
-        &[
-            TrialStep::Show(b"24|SIZE\n"),
-            TrialStep::Show(b"24|999999999999999999\n"),
-            TrialStep::Stop,
-        ],
-    ),
-    (
-        COUNT,
-        b"P1. PERFORM P2 49999 TIMES. STOP RUN. P2. ADD 1 TO X.\n",
-        b"",
-        &[TrialStep::Stop],
-    ),
-    (
-        COUNT,
-        b"P1. PERFORM P2 49999 TIMES. ADD 1 TO X. STOP RUN. P2. ADD 1 TO X.\n",
-        b"",
-        &[TrialStep::Fault(201)],
-    ),
-];
-
-/// HELLO by compiled code, `accept_wrong_then_right_key`, `accept_without_more_entries`,
-/// `size_error_branches` and `statement_limit`.
-#[test]
-fn programs_ask_what_they_say(rt: HostRuntime) -> Result<(), Fail> {
-    for (data, procedure, entries, steps) in TRIALS {
-        let deck = hello(&rt, data, procedure, entries)?;
-        requester_runs(&rt, &deck, steps)?;
-    }
-    Ok(())
-}
-
-/// The first paragraph performs itself: 64 times, and the 65th is a run fault.
-#[test]
-fn perform_depth_limit(rt: HostRuntime) -> Result<(), Fail> {
-    let deck = hello(&rt, b"", b"P1.\nDISPLAY \"X\".\nPERFORM P1.\n", b"")?;
-    let mut steps = [TrialStep::Show(b"24|X\n"); 66];
-    steps[65] = TrialStep::Fault(202);
-    requester_runs(&rt, &deck, &steps)
 }
