@@ -1,6 +1,6 @@
 //! The program by its arguments.
 
-use super::{TWO_DISPLAYS, USAGE, deck, words};
+use super::{USAGE, words};
 use crate::process::process;
 use pw_base::mem_sink::MemSink;
 use pw_base::mem_source::MemSource;
@@ -14,15 +14,14 @@ use std::sync::Wait;
 use std::test::Fail;
 use std::thread::Threads;
 
-/// The exit status of a process with these arguments and a deck at its source, and what was written.
+/// The exit status of a process with these arguments and an empty deck at its source, and what was written.
 fn ending<R: Threads + Wait + Sync>(
     rt: &R,
     alloc: Global,
     arguments: io::Result<Args>,
 ) -> Result<(ExitCode, Vec<u8>), Fail> {
-    let deck = deck(alloc, TWO_DISPLAYS)?;
-    let mut source = MemSource::new(alloc, deck.as_slice(), &[])?;
-    let mut sink = MemSink::new(alloc, 10_000, 1_000, &[])?;
+    let mut source = MemSource::new(alloc, b"?END", &[])?;
+    let mut sink = MemSink::new(alloc, 1_000, 1_000, &[])?;
     let code = process(rt, alloc, arguments, &mut source, &mut sink, &NoGate);
     Ok((code, sink.written().to_vec(alloc)?))
 }
