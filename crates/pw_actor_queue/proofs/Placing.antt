@@ -1,5 +1,5 @@
 -- Each actor has a place of its own, so what is noted of one is noted of no other.
-use Rattle.std.proofs.Common.{◌≡◌, ◌≢◌, ℕ, ◌+◌, ◌-◌, ◌<◌, ◌≤◌, Bool, true, false, List, length, Some, None, ⊎_elim, rules, subst, sym, ap, ◌∙◌, arith}
+use Rattle.std.proofs.Common.{◌≡◌, ◌≢◌, ℕ, ◌+◌, ◌-◌, ◌<◌, ◌≤◌, Bool, true, false, List, length, Some, None, ⊎_elim, rules, subst, sym, ap, ap₂, ◌∙◌, arith}
 use Rattle.std.specs.Prelude.{slice_set, slice_index_or}
 use Rattle.std.proofs.Math.Path.{fun_ext}
 use Rattle.std.proofs.lemmas.Bool.{cases_Bool, cond-true, cond-false}
@@ -11,12 +11,13 @@ use Rattle.std.proofs.lemmas.Bool.{cases_lt}
 use Rattle.std.proofs.lemmas.List.{get_or-drop, get_or-replicate, get_or_past, length-drop, length-replicate}
 use Rattle.std.proofs.lemmas.List.Quantifiers.{position-Some}
 use Rattle.std.proofs.lemmas.List.Sums.{fails_before_first}
-use Rattle.std.specs.Prelude.{if◌then◌else◌, drop, take, ◌++◌}
+use Rattle.std.specs.Prelude.{IfSome, Option, if◌then◌else◌, drop, nat_le, take, ◌++◌}
 use Rattle.std.specs.List.{sum_by}
 use Rattle.std.proofs.lemmas.List.{take-append-le, take_all}
 use Rattle.std.proofs.lemmas.List.Sums.{sum_by-set}
 use Rattle.pw_base.proofs.Plain.{cond_none}
-use Rattle.pw_actor_queue.specs.Places.{NoneBelow, StartsAt, all_marked, blank, is_waiting, is_placed, is_same_actor, actor_noted, notes_in, actor_place, waiting, with_mark}
+use Rattle.pw_actor_queue.specs.Line.{Comes, IsNearest, IsTurn, RosterState, first_in_line, line_behind, steps_ahead, waits_at}
+use Rattle.pw_actor_queue.specs.Places.{all_marked, blank, is_waiting, is_placed, is_same_actor, actor_noted, notes_in, actor_place, waiting, with_mark}
 use Rattle.pw_actor_queue.specs.declared.actor.Actor.{Actor}
 use Rattle.pw_actor_queue.specs.declared.actor.Actor.TheVariants.{Terminal, Process, Pair, Class}
 use Rattle.pw_actor_queue.specs.declared.roster.ActorNote.{ActorNote}
@@ -123,58 +124,163 @@ place-low (Process c i) e = grind arith
 place-low (Pair p) e = grind arith
 place-low (Class c) e = grind arith
 
--- where none below a place waits, nor any of so many from it on, none below the place behind those waits
-none-ahead : (notes : List ActorNote) (from ahead : ℕ) → NoneBelow from notes → NoneBelow ahead (drop from notes) → NoneBelow (from + ahead) notes
-none-ahead notes from ahead below next k lt =
+-- ---- the nearest in the round
+
+-- the search from where the round stands is one of all behind it
+pub from-round : (notes : List ActorNote) (round : ℕ) (result : Option ℕ) → result ≡ position is_waiting (take (length notes - round) (drop round notes))
+    → position is_waiting (drop round notes) ≡ result
+from-round notes round result found =
+    let whole = take_all (length notes - round) (drop round notes) (omega (arith, length-drop round notes)) in
+    ap (position is_waiting) (sym whole) ∙ sym found
+
+-- where no note waits from a place on, one that waits is before it
+before : (notes : List ActorNote) (round k : ℕ) → position is_waiting (drop round notes) ≡ None → waits_at notes k ≡ true → k < length notes → k < round
+before notes round k none waits lt =
     ⊎_elim
-    (λ low. below k low)
+    (λ low. low)
     (λ high.
-    let at : from + (k - from) ≡ k = omega arith in
-    let near : k - from < ahead = omega arith in
-    ap (λ n. is_waiting (slice_index_or notes n blank)) (sym at)
-    ∙ (ap is_waiting (sym (get_or-drop from notes (k - from) blank)) ∙ next (k - from) near))
-    (cases_lt k from)
-
--- the place that is found is where work is looked for from
-pub starts-ahead : (notes : List ActorNote) (from ahead : ℕ) → StartsAt from notes → position is_waiting (drop from notes) ≡ Some ahead
-    → StartsAt (from + ahead) notes
-starts-ahead notes from ahead starts e =
-    let first = position-Some is_waiting (drop from notes) ahead blank e in
-    let near : ahead < length (drop from notes) = first.0 in record {
-      size = starts.size;
-      within = omega (arith, near, length-drop from notes, starts.size, starts.within);
-      below = none-ahead notes from ahead starts.below first.2;
-    }
-
--- where none is found, nobody waits
-pub starts-at-end : (notes : List ActorNote) (from : ℕ) → StartsAt from notes → position is_waiting (drop from notes) ≡ None → StartsAt 408 notes
-starts-at-end notes from starts e =
-    let rest = drop from notes in
-    let past = cond_none _ _ e in
+    let at : round + (k - round) ≡ k = omega (arith, high) in
+    let rest = drop round notes in
+    let past = cond_none _ _ none in
     let all : length rest ≤ position_or_len is_waiting rest = grind (arith, nat_tests, past) in
-    let whole : from + length rest ≡ 408 = omega (arith, length-drop from notes, starts.size, starts.within) in
-    let none : NoneBelow (length rest) rest = λ k lt. fails_before_first is_waiting rest k blank (omega (arith, all, lt)) in record {
-      size = starts.size;
-      within = omega arith;
-      below = subst (λ n. NoneBelow n notes) whole (none-ahead notes from (length rest) starts.below none);
-    }
+    let near : k - round < position_or_len is_waiting rest = omega (arith, all, high, lt, length-drop round notes) in
+    let rests : waits_at notes k ≡ false =
+    ap (λ n. is_waiting (slice_index_or notes n blank)) (sym at)
+    ∙ (ap is_waiting (sym (get_or-drop round notes (k - round) blank)) ∙ fails_before_first is_waiting rest (k - round) blank near) in
+    absurd (cc (waits, rests)))
+    (cases_lt k round)
 
--- where work is looked for from the end on, no actor waits
-pub none-waits : (notes : List ActorNote) → StartsAt 408 notes → (a : Actor) → is_waiting (notes_in notes a) ≡ false
-none-waits notes starts a =
+-- nobody waits where the search finds nobody
+pub nobody-waits : (notes : List ActorNote) (k : ℕ) → position is_waiting notes ≡ None → waits_at notes k ≡ false
+nobody-waits notes k none =
+    let past = cond_none _ _ none in
+    let all : length notes ≤ position_or_len is_waiting notes = grind (arith, nat_tests, past) in
     ⊎_elim
-    (λ there. ap is_waiting (notes-at notes a there) ∙ starts.below (actor_place a) (place-low a there))
-    (λ missing. ap is_waiting (cond-false (is_placed a) _ _ missing))
+    (λ low. fails_before_first is_waiting notes k blank (omega (arith, all, low)))
+    (λ high. ap is_waiting (get_or_past notes k blank high))
+    (cases_lt k (length notes))
+
+-- how far ahead a place is that is not below where the round stands, and one that is
+steps-over : (round place : ℕ) → round ≤ place → steps_ahead round place ≡ place - round
+steps-over round place high =
+    let test : nat_le round place ≡ true = grind (arith, nat_tests, high) in
+    cond-true (nat_le round place) (place - round) (place + 408 - round) test
+
+steps-under : (round place : ℕ) → place < round → steps_ahead round place ≡ place + 408 - round
+steps-under round place low =
+    let test : nat_le round place ≡ false = grind (arith, nat_tests, low) in
+    cond-false (nat_le round place) (place - round) (place + 408 - round) test
+
+-- what is found from where the round stands waits
+pub waits-ahead : (notes : List ActorNote) (round ahead : ℕ) → position is_waiting (drop round notes) ≡ Some ahead
+    → (ahead < length (drop round notes)) × (waits_at notes (round + ahead) ≡ true)
+waits-ahead notes round ahead e =
+    let first = position-Some is_waiting (drop round notes) ahead blank e in
+    (first.0, ap is_waiting (sym (get_or-drop round notes ahead blank)) ∙ first.1)
+
+-- and is the nearest
+pub nearest-ahead : (notes : List ActorNote) (round ahead : ℕ) → length notes ≡ 408
+    → position is_waiting (drop round notes) ≡ Some ahead → IsNearest notes round (round + ahead)
+nearest-ahead notes round ahead size e other lt waits =
+    let first = position-Some is_waiting (drop round notes) ahead blank e in
+    let own : steps_ahead round (round + ahead) ≡ round + ahead - round = steps-over round (round + ahead) (omega arith) in
+    ⊎_elim
+    (λ low.
+    let steps : steps_ahead round other ≡ other + 408 - round = steps-under round other low in
+    let within : ahead < length (drop round notes) = first.0 in
+    let long : length (drop round notes) ≡ length notes - round = length-drop round notes in
+    omega (arith, own, steps, within, long, size))
+    (λ high.
+    let steps : steps_ahead round other ≡ other - round = steps-over round other high in
+    let le : ahead ≤ other - round =
+    ⊎_elim
+    (λ less.
+    let at : round + (other - round) ≡ other = omega (arith, high) in
+    let rests : waits_at notes other ≡ false =
+    ap (λ n. is_waiting (slice_index_or notes n blank)) (sym at)
+    ∙ (ap is_waiting (sym (get_or-drop round notes (other - round) blank)) ∙ first.2 (other - round) less) in
+    absurd (cc (waits, rests)))
+    (λ more. more)
+    (cases_lt (other - round) ahead) in
+    omega (arith, own, steps, le))
+    (cases_lt other round)
+
+-- the first of all waits, and is the nearest where none waits from where the round stands
+pub waits-first : (notes : List ActorNote) (place : ℕ) → position is_waiting notes ≡ Some place
+    → (place < length notes) × (waits_at notes place ≡ true)
+waits-first notes place e =
+    let first = position-Some is_waiting notes place blank e in
+    (first.0, first.1)
+
+pub nearest-first : (notes : List ActorNote) (round place : ℕ) → length notes ≡ 408 → position is_waiting (drop round notes) ≡ None
+    → position is_waiting notes ≡ Some place → IsNearest notes round place
+nearest-first notes round place size none e other lt waits =
+    let first = position-Some is_waiting notes place blank e in
+    let own-low : place < round = before notes round place none first.1 first.0 in
+    let low : other < round = before notes round other none waits (omega (arith, size, lt)) in
+    let own : steps_ahead round place ≡ place + 408 - round = steps-under round place own-low in
+    let steps : steps_ahead round other ≡ other + 408 - round = steps-under round other low in
+    let le : place ≤ other =
+    ⊎_elim (λ less. let rests : waits_at notes other ≡ false = first.2 other less in absurd (cc (waits, rests))) (λ more. more) (cases_lt other place) in
+    omega (arith, own, steps, le)
+
+-- the same of what the search finds, if it finds one
+pub found-waits : (notes : List ActorNote) (result : Option ℕ) → result ≡ position is_waiting notes → IfSome result (λ place. waits_at notes place ≡ true)
+found-waits notes None is = tt
+found-waits notes (Some place) is = (waits-first notes place (sym is)).1
+
+pub found-nearest : (notes : List ActorNote) (round : ℕ) (result : Option ℕ) → length notes ≡ 408 → position is_waiting (drop round notes) ≡ None
+    → result ≡ position is_waiting notes → IfSome result (IsNearest notes round)
+found-nearest notes round None size none is = tt
+found-nearest notes round (Some place) size none is = nearest-first notes round place size none (sym is)
+
+-- ---- who comes
+
+-- where no place waits, no actor does
+pub none-waits : (notes : List ActorNote) → ((place : ℕ) → waits_at notes place ≡ false) → (a : Actor) → is_waiting (notes_in notes a) ≡ false
+none-waits notes none a =
+    ⊎_elim
+    (λ there. ap is_waiting (notes-at notes a there) ∙ none (actor_place a))
+    (λ missing. ap is_waiting (cond-false (is_placed a) (slice_index_or notes (actor_place a) blank) blank missing))
     (cases_Bool (is_placed a))
 
--- the actor of the place that is found waits
-pub one-waits : (notes : List ActorNote) (a : Actor) (from ahead : ℕ) → position is_waiting (drop from notes) ≡ Some ahead → is_placed a ≡ true
-    → actor_place a ≡ from + ahead → is_waiting (notes_in notes a) ≡ true
-one-waits notes a from ahead e placed at =
-    ap is_waiting
-    (notes-at notes a placed
-    ∙ (ap (λ k. slice_index_or notes k blank) at ∙ sym (get_or-drop from notes ahead blank)))
-    ∙ (position-Some is_waiting (drop from notes) ahead blank e).1
+-- the actor of a place that waits does
+pub one-waits : (notes : List ActorNote) (a : Actor) (place : ℕ) → waits_at notes place ≡ true → is_placed a ≡ true → actor_place a ≡ place
+    → is_waiting (notes_in notes a) ≡ true
+one-waits notes a place waits placed at = ap is_waiting (notes-at notes a placed ∙ ap (λ k. slice_index_or notes k blank) at) ∙ waits
+
+pub turn-of-line : (old : RosterState) (a : Actor) (place : ℕ) (line : List ℕ) → first_in_line old ≡ Some place → line ≡ line_behind old → actor_place a ≡ place
+    → IsTurn old (Some a) (record old { line = line; passed = old.passed + 1 })
+turn-of-line old a place line first behind at =
+    subst (λ o. Comes o old (Some a) (record old { line = line; passed = old.passed + 1 })) (sym first)
+    (at, ap (λ l. record old { line = l; passed = old.passed + 1 }) behind)
+
+pub turn-of-round : (old : RosterState) (a : Actor) (place : ℕ) (line : List ℕ) → first_in_line old ≡ None → line ≡ line_behind old → actor_place a ≡ place
+    → IsNearest old.notes old.round place → IsTurn old (Some a) (record old { line = line; round = place + 1; passed = 0 })
+turn-of-round old a place line first behind at nearest =
+    subst (λ o. Comes o old (Some a) (record old { line = line; round = place + 1; passed = 0 })) (sym first) (
+      subst (IsNearest old.notes old.round) (sym at) nearest,
+      ap₂ (λ l n. record old { line = l; round = n + 1; passed = 0 }) behind (sym at),
+    )
+
+pub turn-of-none : (old : RosterState) (line : List ℕ) → first_in_line old ≡ None → line ≡ line_behind old
+    → IsTurn old None (record old { line = line; passed = 0 })
+turn-of-none old line first behind =
+    subst (λ o. Comes o old None (record old { line = line; passed = 0 })) (sym first)
+    (ap (λ l. record old { line = l; passed = 0 }) behind)
+
+-- where each note is marked, marking them all changes none
+pub marked-already : (notes : List ActorNote) → ((k : ℕ) → k < 408 → (slice_index_or notes k blank).marked ≡ true)
+    → notes_in notes ≡ all_marked (notes_in notes)
+marked-already notes marks = fun_ext (λ a.
+    ⊎_elim
+    (λ there.
+    let own = marks (actor_place a) (place-low a there) in
+    let is : (notes_in notes a).marked ≡ true = ap (λ (n : ActorNote). n.marked) (notes-at notes a there) ∙ own in
+    ap (λ b. record (notes_in notes a) { marked = b }) is
+    ∙ sym (cond-true (is_placed a) (with_mark true (notes_in notes a)) (notes_in notes a) there))
+    (λ missing. sym (cond-false (is_placed a) (with_mark true (notes_in notes a)) (notes_in notes a) missing))
+    (cases_Bool (is_placed a)))
 
 -- ---- marks
 

@@ -1,5 +1,5 @@
 -- The place of each actor in one flat list, and what is noted of it there.
-use Rattle.std.specs.Prelude.{◌≡◌, ◌<◌, ◌≤◌, length, ℕ, ◌+◌, ◌-◌, ◌*◌, ◌==◌, ◌&&◌, nat_lt, nat_le, Bool, true, false, not, List, Option, Some, None, slice_index_or, if◌then◌else◌}
+use Rattle.std.specs.Prelude.{◌≡◌, ℕ, ◌+◌, ◌-◌, ◌*◌, ◌==◌, ◌&&◌, nat_lt, nat_le, Bool, true, false, not, List, Option, Some, None, slice_index_or, if◌then◌else◌}
 use Rattle.std.specs.List.{sum_by}
 use Rattle.pw_actor_queue.specs.declared.roster.ActorNote.{ActorNote}
 use Rattle.pw_actor_queue.specs.declared.actor.Actor.{Actor}
@@ -68,13 +68,3 @@ waiting notes = sum_by (λ note. if is_waiting note then 1 else 0) notes
 abbrev pub IsNext : (Actor → ActorNote) → Option Actor → Type 0
 IsNext notes None = (actor : Actor) → is_waiting (notes actor) ≡ false
 IsNext notes (Some actor) = (is_placed actor ≡ true) × (is_waiting (notes actor) ≡ true)
-
--- no actor below a place is marked and not out
-abbrev pub NoneBelow : ℕ → List ActorNote → Type 0
-NoneBelow from notes = (k : ℕ) → k < from → is_waiting (slice_index_or notes k blank) ≡ false
-
--- there is a note at each place, and whoever waits has a place from this one on
-pub record StartsAt (from : ℕ) (notes : List ActorNote) : Type 0 where
-  pub size : length notes ≡ 408
-  pub within : from ≤ 408
-  pub below : NoneBelow from notes

@@ -1,6 +1,8 @@
-//! Who acts in a system, and what a world notes of each actor.
+//! Who acts in a system, what a world notes of each actor, and who comes next of them.
 //! docs/WORLD.md has the rules.
 #![tactic(auto)]
 
 pub mod actor;
+mod line;
+mod places;
 pub mod roster;

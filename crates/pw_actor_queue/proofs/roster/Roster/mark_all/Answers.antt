@@ -4,8 +4,8 @@ use Rattle.pw_actor_queue.specs.Places.{all_marked, blank, notes_in, with_mark}
 use Rattle.pw_actor_queue.proofs.Placing.{marked-everywhere, written-whole}
 use Rattle.pw_actor_queue.proofs.roster.Roster.mark_all.Goals as goal
 
-pub returns : goal.returns
-returns c =
+pub returns-clause-notes : goal.returns-clause-notes
+returns-clause-notes c =
     let items = c.self.inside.notes.items in
     let new = c.mark_each.new.notes in
     let was = c.deref_mut.ensures.value in

@@ -3,12 +3,7 @@ use Rattle.pw_actor_queue.specs.Places.{with_out}
 use Rattle.pw_actor_queue.proofs.Placing.{note-changed}
 use Rattle.pw_actor_queue.proofs.roster.Roster.set_out.Goals as goal
 
-pub returns-then-not-out : goal.returns-then-not-out
-returns-then-not-out c =
-    rw (← c.self.view_is) (note-changed (with_out c.args.out) c.self.inside.notes.items c.args.actor c.place_of-place.result c.index_mut.result.now _ c.self.invariant.size c.requires
-    c.place_of-place.ensures.place c.place_of-place.ensures.within c.index_mut.ensures.value refl)
-
-pub returns-else-not-out : goal.returns-else-not-out
-returns-else-not-out c =
-    rw (← c.self.view_is) (note-changed (with_out c.args.out) c.self.inside.notes.items c.args.actor c.place_of-place.result c.index_mut.result.now _ c.self.invariant.size c.requires
-    c.place_of-place.ensures.place c.place_of-place.ensures.within c.index_mut.ensures.value refl)
+pub returns-clause-notes : goal.returns-clause-notes
+returns-clause-notes c =
+    rw (← c.self.view_is) (note-changed (with_out c.args.out) c.self.inside.notes.items c.args.actor c.place_of.result c.index_mut.result.now _ c.self.invariant.size c.requires
+    c.place_of.ensures.place c.place_of.ensures.within c.index_mut.ensures.value refl)
