@@ -9,7 +9,7 @@ use Rattle.std.proofs.lemmas.List.{get_or-replicate, get_or-set_other, get_or-se
 use Rattle.std.proofs.lemmas.List.Folds.{list_any-append}
 use Rattle.std.proofs.lemmas.Map.Keys.{IsDistinct-head, IsDistinct-push, IsDistinct-tail}
 use Rattle.std.proofs.lemmas.Map.Steps.{length-le_from_distinct_below}
-use Rattle.pw_actor_queue.specs.Line.{IsLine}
+use Rattle.pw_actor_queue.specs.Line.{IsPlaceLine}
 
 -- a place stands in line
 abbrev is_in : ℕ → List ℕ → Bool
@@ -20,7 +20,7 @@ unfolding IsDistinct
 nobody = tt
 
 -- nobody stands in line at first
-pub line-first : (capacity : ℕ) (stands : List Bool) → 408 ≤ capacity → stands ≡ replicate 408 false → IsLine capacity stands []
+pub line-first : (capacity : ℕ) (stands : List Bool) → 408 ≤ capacity → stands ≡ replicate 408 false → IsPlaceLine capacity stands []
 line-first capacity stands room is = record {
   room = room;
   size = ap length is ∙ length-replicate 408 false;
@@ -31,7 +31,7 @@ line-first capacity stands room is = record {
 
 -- ---- one more
 
-module _ (capacity : ℕ) (stands : List Bool) (line : List ℕ) (is : IsLine capacity stands line) (place : ℕ) (low : place < 408)
+module _ (capacity : ℕ) (stands : List Bool) (line : List ℕ) (is : IsPlaceLine capacity stands line) (place : ℕ) (low : place < 408)
     (absent : slice_index_or stands place false ≡ false) where
   -- it does not stand in line yet
   outside : is_in place line ≡ false
@@ -75,7 +75,7 @@ module _ (capacity : ℕ) (stands : List Bool) (line : List ℕ) (is : IsLine ca
       get_or-set_other stands place q true false apart ∙ (is.stands_if q lt ∙ sym (others q differ)))
       (cases_Bool (q == place))
 
-  pub line-more : (room : ℕ) → capacity ≤ room → IsLine room (slice_set stands place true) (line ++ place ∷ [])
+  pub line-more : (room : ℕ) → capacity ≤ room → IsPlaceLine room (slice_set stands place true) (line ++ place ∷ [])
   line-more room more = record {
     room = let r = is.room in omega (arith, r, more);
     size = length-set stands place true ∙ is.size;
@@ -91,7 +91,7 @@ none-of : (place : ℕ) (line : List ℕ) → AllByRecursion (λ other. (place =
 none-of place [] all = refl
 none-of place (other ∷ line) all = ap₂ (λ a b. a || b) all.0 (none-of place line all.1)
 
-module _ (capacity : ℕ) (stands : List Bool) (place : ℕ) (line : List ℕ) (is : IsLine capacity stands (place ∷ line)) where
+module _ (capacity : ℕ) (stands : List Bool) (place : ℕ) (line : List ℕ) (is : IsPlaceLine capacity stands (place ∷ line)) where
   pub first-low : place < 408
   first-low =
       let same : (place == place) ≡ true = eq-eqb place place refl in
@@ -114,7 +114,7 @@ module _ (capacity : ℕ) (stands : List Bool) (place : ℕ) (line : List ℕ) (
       ∙ (is.stands_if q lt ∙ ap (λ b. b || is_in q line) differ))
       (cases_Bool (q == place))
 
-  pub line-less : (room : ℕ) → room ≡ capacity → IsLine room (slice_set stands place false) line
+  pub line-less : (room : ℕ) → room ≡ capacity → IsPlaceLine room (slice_set stands place false) line
   line-less room same = record {
     room = let r = is.room in omega (arith, r, same);
     size = length-set stands place false ∙ is.size;

@@ -16,7 +16,7 @@ use Rattle.std.specs.List.{sum_by}
 use Rattle.std.proofs.lemmas.List.{take-append-le, take_all}
 use Rattle.std.proofs.lemmas.List.Sums.{sum_by-set}
 use Rattle.pw_base.proofs.Plain.{cond_none}
-use Rattle.pw_actor_queue.specs.Line.{Comes, IsNearest, IsTurn, RosterState, first_in_line, line_behind, steps_ahead, waits_at}
+use Rattle.pw_actor_queue.specs.Line.{ComesNext, IsNearest, TakesTurn, RosterState, first_in_line, line_behind, steps_ahead, waits_at}
 use Rattle.pw_actor_queue.specs.Places.{all_marked, blank, is_waiting, is_placed, is_same_actor, actor_noted, notes_in, actor_place, waiting, with_mark}
 use Rattle.pw_actor_queue.specs.declared.actor.Actor.{Actor}
 use Rattle.pw_actor_queue.specs.declared.actor.Actor.TheVariants.{Terminal, Process, Pair, Class}
@@ -250,23 +250,23 @@ pub one-waits : (notes : List ActorNote) (a : Actor) (place : ℕ) → waits_at 
 one-waits notes a place waits placed at = ap is_waiting (notes-at notes a placed ∙ ap (λ k. slice_index_or notes k blank) at) ∙ waits
 
 pub turn-of-line : (old : RosterState) (a : Actor) (place : ℕ) (line : List ℕ) → first_in_line old ≡ Some place → line ≡ line_behind old → actor_place a ≡ place
-    → IsTurn old (Some a) (record old { line = line; passed = old.passed + 1 })
+    → TakesTurn old (Some a) (record old { line = line; passed = old.passed + 1 })
 turn-of-line old a place line first behind at =
-    subst (λ o. Comes o old (Some a) (record old { line = line; passed = old.passed + 1 })) (sym first)
+    subst (λ o. ComesNext o old (Some a) (record old { line = line; passed = old.passed + 1 })) (sym first)
     (at, ap (λ l. record old { line = l; passed = old.passed + 1 }) behind)
 
 pub turn-of-round : (old : RosterState) (a : Actor) (place : ℕ) (line : List ℕ) → first_in_line old ≡ None → line ≡ line_behind old → actor_place a ≡ place
-    → IsNearest old.notes old.round place → IsTurn old (Some a) (record old { line = line; round = place + 1; passed = 0 })
+    → IsNearest old.notes old.round place → TakesTurn old (Some a) (record old { line = line; round = place + 1; passed = 0 })
 turn-of-round old a place line first behind at nearest =
-    subst (λ o. Comes o old (Some a) (record old { line = line; round = place + 1; passed = 0 })) (sym first) (
+    subst (λ o. ComesNext o old (Some a) (record old { line = line; round = place + 1; passed = 0 })) (sym first) (
       subst (IsNearest old.notes old.round) (sym at) nearest,
       ap₂ (λ l n. record old { line = l; round = n + 1; passed = 0 }) behind (sym at),
     )
 
 pub turn-of-none : (old : RosterState) (line : List ℕ) → first_in_line old ≡ None → line ≡ line_behind old
-    → IsTurn old None (record old { line = line; passed = 0 })
+    → TakesTurn old None (record old { line = line; passed = 0 })
 turn-of-none old line first behind =
-    subst (λ o. Comes o old None (record old { line = line; passed = 0 })) (sym first)
+    subst (λ o. ComesNext o old None (record old { line = line; passed = 0 })) (sym first)
     (ap (λ l. record old { line = l; passed = 0 }) behind)
 
 -- where each note is marked, marking them all changes none

@@ -67,23 +67,23 @@ IsNearest notes round place = (other : ℕ) → other < 408 → waits_at notes o
 -- From the line comes the first who waits. By the round comes the nearest who waits, and is last in the round then, so that
 -- whoever was passed over comes before whoever was not: it is their turn where nobody in line waits, and behind so many
 -- from the line.
-abbrev pub Comes : Option ℕ → RosterState → Option Actor → RosterState → Type 0
-Comes (Some place) old None new = ⊥
-Comes (Some place) old (Some actor) new =
+abbrev pub ComesNext : Option ℕ → RosterState → Option Actor → RosterState → Type 0
+ComesNext (Some place) old None new = ⊥
+ComesNext (Some place) old (Some actor) new =
     (actor_place actor ≡ place) × (new ≡ record old { line = line_behind old; passed = old.passed + 1 })
-Comes None old None new = new ≡ record old { line = line_behind old; passed = 0 }
-Comes None old (Some actor) new =
+ComesNext None old None new = new ≡ record old { line = line_behind old; passed = 0 }
+ComesNext None old (Some actor) new =
     IsNearest old.notes old.round (actor_place actor)
     × (new ≡ record old { line = line_behind old; round = actor_place actor + 1; passed = 0 })
 
 -- it was the turn of who came
-abbrev pub IsTurn : RosterState → Option Actor → RosterState → Type 0
-IsTurn old result new = Comes (first_in_line old) old result new
+abbrev pub TakesTurn : RosterState → Option Actor → RosterState → Type 0
+TakesTurn old result new = ComesNext (first_in_line old) old result new
 
 -- ---- kept
 
 -- a line of places, each once, for which there is room, beside whether each place stands in line
-pub record IsLine (capacity : ℕ) (stands : List Bool) (line : List ℕ) : Type 0 where
+pub record IsPlaceLine (capacity : ℕ) (stands : List Bool) (line : List ℕ) : Type 0 where
   pub room : 408 ≤ capacity
   pub size : length stands ≡ 408
   pub low : (place : ℕ) → list_any (λ other. place == other) line ≡ true → place < 408

@@ -21,13 +21,13 @@ pub struct PlaceLine {
 impl Model for PlaceLine {
     ghost use Rattle.std.specs.Prelude.{ℕ, List};
     ghost use Rattle.std.specs.VecDeque.{deque_capacity};
-    ghost use Rattle.pw_actor_queue.specs.Line.{IsLine};
+    ghost use Rattle.pw_actor_queue.specs.Line.{IsPlaceLine};
 
     ghost Value = { List ℕ };
 
     ghost view = { λ line. line.waiting.items };
 
-    ghost invariant = { λ line. IsLine (deque_capacity line.waiting) line.stands.items line.waiting.items };
+    ghost invariant = { λ line. IsPlaceLine (deque_capacity line.waiting) line.stands.items line.waiting.items };
 }
 
 impl PlaceLine {

@@ -1,5 +1,5 @@
 ghost use Rattle.std.specs.Prelude.{◌≡◌, ◌<◌, ◌≤◌, ℕ, true, IfOk, IfSome, None, find, if◌then◌else◌, nat_lt, position, false, length, slice_index_or};
-ghost use Rattle.pw_actor_queue.specs.Line.{IsNearest, IsRenoted, IsTurn, behind_first, line_called, most_passed, waits_at};
+ghost use Rattle.pw_actor_queue.specs.Line.{IsNearest, IsRenoted, TakesTurn, behind_first, line_called, most_passed, waits_at};
 ghost use Rattle.pw_actor_queue.specs.Places.{IsNext, all_marked, blank, is_placed, is_waiting, actor_noted, notes_in, stamped, waiting, with_mark, with_out};
 
 use crate::actor::Actor;
@@ -135,7 +135,8 @@ impl Roster {
     /// line.
     pub fn next(&mut self) -> Option<Actor>
         ensures next { IsNext (notes_in self.old.notes) result }
-        ensures turn { IsTurn self.old result self.new }
+        ensures turn { TakesTurn self.old result self.new }
+        ensures notes { self.new.notes ≡ self.old.notes }
     {
         if let Some(place) = from_line(&mut self.line, &self.notes, self.passed) {
             self.passed += 1;

@@ -2,7 +2,7 @@ use Rattle.std.proofs.Common.{◌≡◌, ◌∙◌, ◌<◌, arith, false, lengt
 use Rattle.std.specs.Prelude.{slice_index_or, slice_set}
 use Rattle.std.specs.VecDeque.{deque_capacity}
 use Rattle.std.proofs.lemmas.List.{get_or_default}
-use Rattle.pw_actor_queue.specs.Line.{IsLine}
+use Rattle.pw_actor_queue.specs.Line.{IsPlaceLine}
 use Rattle.pw_actor_queue.proofs.Lining.{line-more, room-more}
 use Rattle.pw_actor_queue.proofs.line.PlaceLine.call.Goals as goal
 
@@ -26,6 +26,6 @@ invariant_of-self c =
     let within : c.args.place < length stands = omega (arith, c.requires, c.self.invariant.size) in
     let absent : slice_index_or stands c.args.place false ≡ false =
     sym (get_or_default stands c.args.place c.index.result.now false within) ∙ (sym c.index.ensures ∙ c.if-index.false) in
-    subst (IsLine (deque_capacity c.push_back.new.self) (slice_set stands c.args.place true)) (sym c.in-Ok.ensures.items)
+    subst (IsPlaceLine (deque_capacity c.push_back.new.self) (slice_set stands c.args.place true)) (sym c.in-Ok.ensures.items)
     (line-more (deque_capacity c.self.inside.waiting) stands line c.self.invariant c.args.place c.requires absent
     (deque_capacity c.push_back.new.self) c.in-Ok.ensures.capacity)
