@@ -9,16 +9,22 @@ use Rattle.pw_code.specs.declared.verb.Verb.TheVariants as verb
 use Rattle.pw_world_state.specs.Asked.{verb_in}
 use Rattle.pw_world_state.specs.Changes.{unit_at}
 use Rattle.pw_world_state.proofs.Agreeing.{there-is}
+use Rattle.pw_world_state.proofs.NextSteps.{may-step-at}
 use Rattle.pw_machine.specs.Stack.{HasRoom}
+use Rattle.pw_world_model.specs.Actors.{IsActor}
 use Rattle.pw_world_model.specs.Seen.{Seen}
 use Rattle.pw_world_model.specs.Worlds.{Books, IsWorld}
 use Rattle.pw_world_model.proofs.OfUnits as units
 use Rattle.pw_world_model.proofs.Rooms as rooms
 use Rattle.pw_paired.specs.State.{Awaited}
-use Rattle.pw_entry_tests.specs.Known.{IsFewCounted, IsKnown}
+use Rattle.pw_actor_queue.specs.declared.actor.Actor.{Actor}
+use Rattle.pw_actor_queue.specs.declared.actor.Actor.TheVariants.{Terminal, Process, Pair, Class}
+use Rattle.pw_entry_tests.specs.Known.{IsFewCounted, IsKnown, IsNextKnown}
 use Rattle.pw_tmf.specs.Operation.{IsCall}
 use Rattle.pw_tmf.specs.Units.{IsRunning}
+use Rattle.pw_world.proofs.Testing.{closed}
 use Rattle.pw_world.specs.Bare.{IsBare}
+use Rattle.pw_world.specs.OwnValues.{HasOwnValues}
 
 module _ (world : Seen) (books : Books) (w : IsWorld world books) (bare : IsBare world.system world.kept) where
   few : (context : Context) → HasRoom context → IsFewCounted context
@@ -51,3 +57,13 @@ module _ (world : Seen) (books : Books) (w : IsWorld world books) (bare : IsBare
     calls = calls;
     counts = counts;
   }
+
+-- what the next step of an actor takes of what is kept
+pub next-known : (world : Seen) (books : Books) → IsWorld world books → (actor : Actor) → IsActor world.system actor → HasOwnValues world.kept actor
+    → IsNextKnown world.system world.kept actor
+next-known world books w (Terminal t) low values =
+    λ context is.
+    may-step-at world.system world.script w.valid w.deck world.log w.run world.kept w.stands t context is values.behind (closed world books w t low values.ready)
+next-known world books w (Process c i) low values = tt
+next-known world books w (Pair p) low values = tt
+next-known world books w (Class c) low values = tt

@@ -55,7 +55,7 @@ copy-of (End t ending) e = absurd (cc e)
 
 module _ (world : Seen) (books : Books) (w : IsWorld world books) where
   -- behind the answer that ends a transaction at the verb of a terminal
-  closed : (t : ℕ) → t < length world.system.terminals → ((context : Context) → (world.kept.terminals t).ready ≡ Some context → HasValues context) → ClosedValues world.system world.kept t
+  pub closed : (t : ℕ) → t < length world.system.terminals → ((context : Context) → (world.kept.terminals t).ready ≡ Some context → HasValues context) → ClosedValues world.system world.kept t
   closed t low values context a is closes =
       let found = there-is world.system.terminals t low in
       let both = rooms.ready world books w t found.0 context found.1 is in
