@@ -35,6 +35,7 @@ impl<D: Disc> World<D> {
         let actor = outcome.actor;
         let answer = self.answer_to(outcome);
         self.set_out(actor, false);
+        self.call_again(answer, actor);
         answer
     }
 

@@ -40,6 +40,7 @@ impl<D: Disc> World<D> {
                 return Ok(Claim::Work(task));
             }
             self.unmark(actor);
+            self.call_for(actor);
         }
         Ok(Claim::Idle)
     }

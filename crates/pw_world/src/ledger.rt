@@ -7,7 +7,7 @@ ghost use Rattle.pw_actor_queue.specs.Places.{IsNext, all_marked, is_placed, is_
 use pw_actor_queue::actor::Actor;
 use pw_actor_queue::roster::{ActorNote, Roster};
 use pw_base::memory::Memory;
-use pw_code::system::System;
+use pw_code::system::{MAX_CLASSES, MAX_TCPS, System};
 use pw_event::event::Event;
 use pw_event::script::{Owner, Script};
 use pw_onecopy::refresh::Refresh;
@@ -38,7 +38,7 @@ impl Model for Ledger {
       one_sends = ledger.one_sends.items;
       due = ledger.due;
       live = ledger.live;
-      notes = ledger.roster;
+      notes = ledger.roster.notes;
       spare =
           nat_lt (vec_len ledger.log) (vec_capacity ledger.log)
           && (nat_lt (vec_len ledger.refreshes) (vec_capacity ledger.refreshes)
@@ -55,6 +55,7 @@ impl Ledger {
     {
         let mut roster = Roster::new(alloc)?;
         roster.mark_all();
+        call_first(&mut roster, system);
         let due = DueLines::new(alloc, system.tcps.len(), system.classes.len(), script)?;
         Ok(Ledger {
             log: Vec::new(alloc),
@@ -110,12 +111,20 @@ impl Ledger {
         self.roster.get(actor)
     }
 
-    /// An actor that is marked and not out, None exactly where there is none.
+    /// An actor that is marked and not out, None exactly where there is none. Who is called comes first,
+    /// and whoever was passed over comes by the round.
     pub fn next(&mut self) -> Option<Actor>
         ensures next { IsNext (notes_in self.old.notes) result }
         ensures same { self.new ≡ self.old }
     {
         self.roster.next()
+    }
+
+    /// The actor stands in line for the looks at actors, if it has a place.
+    pub fn call(&mut self, actor: Actor)
+        ensures { self.new ≡ self.old }
+    {
+        self.roster.call(actor);
     }
 
     /// The actor is out from now on, or no more.
@@ -135,7 +144,7 @@ impl Ledger {
             → waiting self.new.notes < waiting self.old.notes }
         ensures rest { IsNoted self.old self.new }
     {
-        self.roster.mark(actor, false);
+        self.roster.unmark(actor);
     }
 
     /// The actor's state changes by the last entry.
@@ -146,6 +155,26 @@ impl Ledger {
         ensures rest { IsNoted self.old self.new }
     {
         self.roster.stamp(actor, self.log.len() as u64);
+    }
+
+    /// The actor's state changes by the last entry, and it stands in line.
+    pub fn stamp_called(&mut self, actor: Actor)
+        requires { is_placed actor ≡ true }
+        ensures notes { notes_in self.new.notes
+            ≡ actor_noted actor (stamped (length self.old.log)) (notes_in self.old.notes) }
+        ensures rest { IsNoted self.old self.new }
+    {
+        self.roster.call(actor);
+        self.stamp(actor);
+    }
+
+    /// Every actor is looked at for work, and this one stands in line.
+    pub fn wake(&mut self, actor: Actor)
+        ensures notes { notes_in self.new.notes ≡ all_marked (notes_in self.old.notes) }
+        ensures rest { IsNoted self.old self.new }
+    {
+        self.roster.call(actor);
+        self.mark_all();
     }
 
     /// Every actor is looked at for work.
@@ -189,6 +218,18 @@ impl Ledger {
         }
         self.due.push(owner, entry);
         self.live = live_behind(entry, self.live);
+    }
+}
+
+/// The pairs and classes of a system stand in line: no terminal can step before its pair has.
+fn call_first(roster: &mut Roster, system: &System)
+    ensures { roster.new.notes ≡ roster.old.notes }
+{
+    for tcp in 0..system.tcps.len().min(MAX_TCPS as usize) as u32 {
+        roster.call(Actor::Pair(tcp));
+    }
+    for class in 0..system.classes.len().min(MAX_CLASSES as usize) as u32 {
+        roster.call(Actor::Class(class));
     }
 }
 

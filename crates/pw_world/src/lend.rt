@@ -39,7 +39,7 @@ impl<D: Disc> World<D> {
             return false;
         }
         let filed = self.keep.give_back(tcp, done);
-        self.ledger.mark_all();
+        self.ledger.wake(Actor::Pair(tcp));
         filed
     }
 }

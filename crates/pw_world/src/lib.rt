@@ -5,6 +5,7 @@
 mod actors;
 pub mod apply;
 mod booking;
+mod calling;
 pub mod claim;
 mod contexts;
 pub mod counts;

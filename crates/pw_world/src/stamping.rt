@@ -10,6 +10,7 @@ ghost use Rattle.pw_actor_queue.specs.Places.{is_placed, notes_in};
 ghost use Rattle.pw_actor_queue.specs.declared.actor.Actor.TheVariants as actor;
 
 use crate::booking::Booking;
+use crate::calling::call_behind;
 use crate::ledger::Ledger;
 use pw_actor_queue::actor::Actor;
 use pw_event::event::Event;
@@ -42,6 +43,7 @@ pub fn book<D: Disc>(ledger: &mut Ledger, keep: &Keep<D>, entry: &Event, booking
     ledger.push(entry, owner, one_send, refresh);
     stamp_each(ledger, &touched);
     stamp_turned(ledger, keep, owner, mode);
+    call_behind(ledger, keep, entry, &touched);
     ledger.mark_all();
 }
 
@@ -89,7 +91,7 @@ fn stamp_pair(ledger: &mut Ledger, tcp: u32, pair: &Pair, mode: Mode)
     ensures rest { IsNoted ledger.old ledger.new }
 {
     if !is_same_mode(mode, pair.mode()) {
-        ledger.stamp(Actor::Pair(tcp));
+        ledger.stamp_called(Actor::Pair(tcp));
         stamp_members(ledger, pair.seats());
     }
 }
@@ -103,7 +105,7 @@ fn stamp_members(ledger: &mut Ledger, seats: &[BackupSeat])
     ensures rest { IsNoted ledger.old ledger.new }
 {
     for seat in seats {
-        ledger.stamp(Actor::Terminal(seat.terminal));
+        ledger.stamp_called(Actor::Terminal(seat.terminal));
     }
 }
 

@@ -10,10 +10,10 @@ loop-seat-preserved c =
     let old = c.loop-seat.ledger in
     record {
       leads =
-          stamp-member c.args.seats.now c.loop-seat.seat-index c.seat-item.result (length c.args.ledger.now.log) (length old.log) (notes_in old.notes) (notes_in c.stamp.new.self.notes)
-          c.loop-seat-test.true c.seat-item.is (ap length (noted-log c.args.ledger.now old c.loop-seat.invariant.rest)) c.stamp.ensures.notes
+          stamp-member c.args.seats.now c.loop-seat.seat-index c.seat-item.result (length c.args.ledger.now.log) (length old.log) (notes_in old.notes) (notes_in c.stamp_called.new.self.notes)
+          c.loop-seat-test.true c.seat-item.is (ap length (noted-log c.args.ledger.now old c.loop-seat.invariant.rest)) c.stamp_called.ensures.notes
           ∙ c.loop-seat.invariant.leads;
-      rest = noted-then c.args.ledger.now old c.stamp.new.self c.loop-seat.invariant.rest c.stamp.ensures.rest;
+      rest = noted-then c.args.ledger.now old c.stamp_called.new.self c.loop-seat.invariant.rest c.stamp_called.ensures.rest;
     }
 
 pub returns-clause-notes : goal.returns-clause-notes

@@ -9,9 +9,9 @@ pub invariant_of-self : goal.invariant_of-self
 invariant_of-self g c =
     let w : WorldState g.row.D.Denot = record { keep = c.self.inside.keep; first = c.self.inside.first.value; script = c.self.inside.script.lines; limit = c.self.inside.limit; failed = c.self.inside.failed; ledger = c.self.inside.ledger } in
     let k = c.give_back-filed.new.self in
-    marked-monitor g.D.Disc.told (record w { keep = k }) c.mark_all.new.self
+    marked-monitor g.D.Disc.told (record w { keep = k }) c.wake.new.self
     (filed-monitor g.D.Disc.told w k c.tcp_of-tcp.result c.args.done.task.terminal c.give_back-filed.result c.give_back-filed.ensures.filed c.give_back-filed.ensures.late c.self.invariant)
-    c.mark_all.ensures.rest c.mark_all.ensures.notes
+    c.wake.ensures.rest c.wake.ensures.notes
 
 pub returns-then-not-is_actor : goal.returns-then-not-is_actor
 returns-then-not-is_actor g c =
@@ -32,6 +32,6 @@ returns g c =
     let own : p ≡ tcp_of w.keep.system c.args.done.task.terminal =
     c.tcp_of-tcp.ensures ∙ ap (λ s. tcp_of s c.terminal.result) c.system-system.ensures ∙ ap (tcp_of w.keep.system) c.terminal.ensures in
     rw (← c.self.view_is)
-    (gives-back g.D.Disc.told w k (seen g.D.Disc.told (record w { keep = k; ledger = c.mark_all.new.self })) p c.args.done c.give_back-filed.result own
+    (gives-back g.D.Disc.told w k (seen g.D.Disc.told (record w { keep = k; ledger = c.wake.new.self })) p c.args.done c.give_back-filed.result own
     c.give_back-filed.ensures.files c.give_back-filed.ensures.filed c.give_back-filed.ensures.late
-    (marked-seen g.D.Disc.told (record w { keep = k }) c.mark_all.new.self c.mark_all.ensures.rest c.mark_all.ensures.notes))
+    (marked-seen g.D.Disc.told (record w { keep = k }) c.wake.new.self c.wake.ensures.rest c.wake.ensures.notes))
