@@ -24,7 +24,7 @@ pub fn layout_of(alloc: Global, text: &[u8], server: bool) -> Result<Layout, Ref
 }
 
 /// The procedure that a text is, whose first line has this number.
-pub fn procedure_of(
+fn procedure_of(
     alloc: Global,
     text: &[u8],
     line: u32,
