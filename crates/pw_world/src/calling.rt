@@ -8,6 +8,7 @@ use crate::actors::{is_actor, owner_of_actor, processes_of, tcp_of};
 use crate::ledger::Ledger;
 use crate::world::World;
 use pw_actor_queue::actor::Actor;
+use pw_code::system::{MAX_CLASSES, MAX_TERMINALS};
 use pw_event::event::Event;
 use pw_event::script::Owner;
 use pw_pair::mode::Mode;
@@ -208,7 +209,7 @@ fn call_ended<D: Disc>(ledger: &mut Ledger, keep: &Keep<D>, terminal: u32)
     ensures { ledger.new ≡ ledger.old }
 {
     call_working(ledger, keep);
-    for other in 0..keep.system().terminals.len() as u32 {
+    for other in 0..keep.system().terminals.len().min(MAX_TERMINALS as usize) as u32 {
         call_awaiting(ledger, keep, other, terminal);
     }
 }
@@ -231,7 +232,7 @@ fn call_awaiting<D: Disc>(ledger: &mut Ledger, keep: &Keep<D>, other: u32, termi
 fn call_working<D: Disc>(ledger: &mut Ledger, keep: &Keep<D>)
     ensures { ledger.new ≡ ledger.old }
 {
-    for class in 0..keep.system().classes.len() as u32 {
+    for class in 0..keep.system().classes.len().min(MAX_CLASSES as usize) as u32 {
         call_processes(ledger, keep, class);
     }
 }

@@ -43,8 +43,8 @@ pub fn book<D: Disc>(ledger: &mut Ledger, keep: &Keep<D>, entry: &Event, booking
     ledger.push(entry, owner, one_send, refresh);
     stamp_each(ledger, &touched);
     stamp_turned(ledger, keep, owner, mode);
-    call_behind(ledger, keep, entry, &touched);
     ledger.mark_all();
+    call_behind(ledger, keep, entry, &touched);
 }
 
 /// The state of each of these actors changes by the last entry.
