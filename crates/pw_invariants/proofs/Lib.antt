@@ -1,0 +1,4 @@
+pub mod Machines
+pub mod Measures
+pub mod Runs
+pub mod Servers

@@ -1,0 +1,45 @@
+ghost use Rattle.std.specs.Prelude.{◌≡◌, List, [], ◌++◌};
+ghost use Rattle.pw_event.specs.declared.event.Event.{Event};
+ghost use Rattle.pw_invariants.specs.Invariants.{KeepsHistory, StepsBy, stepped};
+ghost use Rattle.pw_invariants.specs.Units.{CommittedUnit, FileRecords, committed_units};
+ghost use Rattle.pw_onecopy.specs.Behaviour.{Behaviour};
+ghost use Rattle.pw_onecopy.specs.IsBehaviour.{IsBehaviour};
+ghost use Rattle.pw_onecopy.specs.OneCopy.{one_copy};
+ghost use Rattle.pw_paired.specs.Serial.{blocks};
+ghost use Rattle.pw_paired.specs.Step.{IsRun, after};
+ghost use Rattle.pw_paired.specs.Units.{committed_files};
+
+use pw_laws::serial::laws::runs_are_serializable;
+
+/// An invariant of an application's records beside the units that have committed so far.
+pub trait HistoryInvariant {
+    ghost holds: { List CommittedUnit → FileRecords → Type 0 };
+}
+
+/// The same of records beside the units that have committed: what holds of the deck's records and no unit, and is kept by each
+/// unit that runs alone, holds behind each entry of every run, of the committed records and the units that the log has committed,
+/// in its serial order.
+pub fn histories_hold_in_every_run<H: HistoryInvariant>()
+    ensures committed { (sys : Behaviour) → IsBehaviour sys → H.holds [] sys.records → KeepsHistory sys H.holds
+        → (log : List Event) → IsRun sys log → H.holds (committed_units sys log) (committed_files sys (after sys log)) }
+    ensures throughout { (sys : Behaviour) → IsBehaviour sys → H.holds [] sys.records → KeepsHistory sys H.holds
+        → (log more : List Event) → IsRun sys (log ++ more)
+        → H.holds (committed_units sys log) (committed_files sys (after sys log)) }
+    ensures reported { (sys : Behaviour) → IsBehaviour sys → H.holds [] sys.records → KeepsHistory sys H.holds
+        → (log : List Event) → IsRun sys log → H.holds (committed_units sys log) (one_copy sys (blocks sys log)).files }
+{
+    runs_are_serializable();
+}
+
+/// What is measured of the records, as a sum of balances, is behind each entry of every run what it was at first, changed by the
+/// step of each unit that has committed, in the serial order: where each unit that runs alone changes it by its step.
+pub fn measures_step_by_units<A>()
+    ensures committed { (sys : Behaviour) → IsBehaviour sys → (measure : FileRecords → A) (step : A → CommittedUnit → A)
+        → StepsBy sys measure step → (log : List Event) → IsRun sys log
+        → measure (committed_files sys (after sys log)) ≡ stepped step (measure sys.records) (committed_units sys log) }
+    ensures reported { (sys : Behaviour) → IsBehaviour sys → (measure : FileRecords → A) (step : A → CommittedUnit → A)
+        → StepsBy sys measure step → (log : List Event) → IsRun sys log
+        → measure (one_copy sys (blocks sys log)).files ≡ stepped step (measure sys.records) (committed_units sys log) }
+{
+    runs_are_serializable();
+}

@@ -1,0 +1,7 @@
+//! Laws alone: what each unit of an application keeps while it runs alone holds in every run of it, whatever the schedule and
+//! whatever fails.
+//! docs/INVARIANTS.md has the rules.
+#![tactic(auto)]
+
+pub mod histories;
+pub mod invariants;
