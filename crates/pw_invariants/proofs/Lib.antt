@@ -2,3 +2,4 @@ pub mod Machines
 pub mod Measures
 pub mod Runs
 pub mod Servers
+pub mod Turns

@@ -2,8 +2,8 @@
 use Rattle.std.proofs.Common.{◌≡◌, List, [], ◌∷◌, ◌++◌, refl, sym, subst, append-nil, append_assoc}
 use Rattle.pw_event.specs.declared.event.Event.{Event}
 use Rattle.pw_invariants.proofs.Machines.{MachineOk, begins-ok, block-ok}
-use Rattle.pw_invariants.specs.Invariants.{KeepsHistory}
-use Rattle.pw_invariants.specs.Units.{CommittedUnit, FileRecords, committed_units, unit_in, units_in}
+use Rattle.pw_invariants.specs.Invariants.{KeepsHistory, KeepsInvariant}
+use Rattle.pw_invariants.specs.Units.{CommittedUnit, FileRecords, RunInTurn, committed_units, unit_in, units_in}
 use Rattle.pw_laws.proofs.RunSteps.{run-parts}
 use Rattle.pw_onecopy.specs.Attempt.{Attempt}
 use Rattle.pw_onecopy.specs.Behaviour.{Behaviour}
@@ -67,3 +67,9 @@ module _ (sys : Behaviour) (b : IsBehaviour sys) (holds : List CommittedUnit →
   history-committed first log serial =
       let same : committed_files sys (after sys log) ≡ (one_copy sys (blocks sys log)).files = λ i f. serial.records f i in
       subst (holds (committed_units sys log)) (sym same) (history-reported first log serial)
+
+-- what each unit alone keeps is kept by units that run in turn
+pub turn-keeps : (sys : Behaviour) (holds : FileRecords → Type 0) → KeepsInvariant sys holds → (records left : FileRecords) (units : List CommittedUnit)
+    → RunInTurn sys records units left → holds records → holds left
+turn-keeps sys holds keeps records left [] turn now = subst holds (sym turn) now
+turn-keeps sys holds keeps records left (unit ∷ units) turn now = turn-keeps sys holds keeps turn.0 left units turn.2 (keeps unit records turn.0 turn.1 now)

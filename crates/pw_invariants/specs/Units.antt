@@ -7,8 +7,10 @@ use Rattle.pw_onecopy.specs.Behaviour.{Behaviour}
 use Rattle.pw_onecopy.specs.Blocks.{SerialBlock, Attempted, Committed}
 use Rattle.pw_onecopy.specs.IsBehaviour.{IsPath}
 use Rattle.pw_onecopy.specs.OneCopy.{EndsCommitted, Machine, beginning, next_attempt, run_block}
-use Rattle.pw_onecopy.specs.Path.{PathAnswer}
+use Rattle.pw_onecopy.specs.Path.{PathAnswer, unit_number}
 use Rattle.pw_paired.specs.Serial.{blocks}
+use Rattle.pw_paired.specs.Step.{after}
+use Rattle.pw_paired.specs.Units.{committed_files}
 
 -- the records of each file, by its number
 abbrev pub FileRecords : Type 0
@@ -52,3 +54,24 @@ units_in sys machine (block ∷ rest) =
 -- the units that a log has committed, in its serial order
 abbrev pub committed_units : Behaviour → List Event → List CommittedUnit
 committed_units sys log = units_in sys (beginning sys) (blocks sys log)
+
+-- the units run one after the other, each alone on the records that the one before it left: from these records to those
+abbrev pub RunInTurn : Behaviour → FileRecords → List CommittedUnit → FileRecords → Type 0
+RunInTurn sys records [] left = left ≡ records
+RunInTurn sys records (unit ∷ units) left =
+    (next : FileRecords) × RunsAlone sys unit records next × RunInTurn sys next units left
+
+-- what has committed between two moments of a run: these units behind those of before, and they run in turn from the
+-- committed records of the first moment to those of the second
+pub record CommitsBetween (sys : Behaviour) (log more : List Event) : Type 0 where
+  pub units : List CommittedUnit
+  pub added : committed_units sys (log ++ more) ≡ committed_units sys log ++ units
+  pub in_turn : RunInTurn sys (committed_files sys (after sys log)) units
+      (committed_files sys (after sys (log ++ more)))
+
+-- the entry commits unit n of the terminal, and no other
+pub record CommitsNext (sys : Behaviour) (log : List Event) (entry : Event) (t n : ℕ) : Type 0 where
+  pub unit : CommittedUnit
+  pub added : committed_units sys (log ++ entry ∷ []) ≡ committed_units sys log ++ unit ∷ []
+  pub terminal : unit.terminal ≡ t
+  pub number : unit_number unit.start ≡ n

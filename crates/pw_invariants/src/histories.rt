@@ -1,7 +1,7 @@
 ghost use Rattle.std.specs.Prelude.{◌≡◌, List, [], ◌++◌};
 ghost use Rattle.pw_event.specs.declared.event.Event.{Event};
 ghost use Rattle.pw_invariants.specs.Invariants.{KeepsHistory, StepsBy, stepped};
-ghost use Rattle.pw_invariants.specs.Units.{CommittedUnit, FileRecords, committed_units};
+ghost use Rattle.pw_invariants.specs.Units.{CommitsBetween, CommittedUnit, FileRecords, RunInTurn, committed_units};
 ghost use Rattle.pw_onecopy.specs.Behaviour.{Behaviour};
 ghost use Rattle.pw_onecopy.specs.IsBehaviour.{IsBehaviour};
 ghost use Rattle.pw_onecopy.specs.OneCopy.{one_copy};
@@ -10,6 +10,17 @@ ghost use Rattle.pw_paired.specs.Step.{IsRun, after};
 ghost use Rattle.pw_paired.specs.Units.{committed_files};
 
 use pw_laws::serial::laws::runs_are_serializable;
+
+/// In every run of a deck, whatever fails, the units that have committed run one after the other, each alone on the records that
+/// the one before it left: from the deck's records to the committed ones, and between any two moments.
+pub fn committed_units_run_in_turn()
+    ensures whole { (sys : Behaviour) → IsBehaviour sys → (log : List Event) → IsRun sys log
+        → RunInTurn sys sys.records (committed_units sys log) (committed_files sys (after sys log)) }
+    ensures between { (sys : Behaviour) → IsBehaviour sys → (log more : List Event) → IsRun sys (log ++ more)
+        → CommitsBetween sys log more }
+{
+    runs_are_serializable();
+}
 
 /// An invariant of an application's records beside the units that have committed so far.
 pub trait HistoryInvariant {

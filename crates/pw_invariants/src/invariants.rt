@@ -19,12 +19,15 @@ pub trait Invariant {
 
 /// An invariant that the deck's records meet, and that each unit keeps while it runs alone, holds in every run of the deck,
 /// whatever the schedule and whatever fails: behind each entry the committed records meet it, and so do the records of the
-/// one-copy machine, which a report prints as its FILES.
+/// one-copy machine, which a report prints as its FILES. And from any moment at which it holds, it holds on.
 pub fn invariants_hold_in_every_run<I: Invariant>()
     ensures committed { (sys : Behaviour) → IsBehaviour sys → I.holds sys.records → KeepsInvariant sys I.holds
         → (log : List Event) → IsRun sys log → I.holds (committed_files sys (after sys log)) }
     ensures throughout { (sys : Behaviour) → IsBehaviour sys → I.holds sys.records → KeepsInvariant sys I.holds
         → (log more : List Event) → IsRun sys (log ++ more) → I.holds (committed_files sys (after sys log)) }
+    ensures onwards { (sys : Behaviour) → IsBehaviour sys → KeepsInvariant sys I.holds
+        → (log more : List Event) → IsRun sys (log ++ more) → I.holds (committed_files sys (after sys log))
+        → I.holds (committed_files sys (after sys (log ++ more))) }
     ensures reported { (sys : Behaviour) → IsBehaviour sys → I.holds sys.records → KeepsInvariant sys I.holds
         → (log : List Event) → IsRun sys log → I.holds (one_copy sys (blocks sys log)).files }
 {

@@ -1,5 +1,9 @@
-use Rattle.pw_invariants.proofs.Runs.{history-committed, history-reported, throughout}
+use Rattle.std.proofs.Common.{◌++◌}
+use Rattle.pw_invariants.proofs.Runs.{history-committed, history-reported, throughout, turn-keeps}
+use Rattle.pw_invariants.proofs.Turns.{between}
 use Rattle.pw_invariants.proofs.invariants.invariants_hold_in_every_run.Goals as goal
+use Rattle.pw_paired.specs.Step.{after}
+use Rattle.pw_paired.specs.Units.{committed_files}
 
 pub returns-clause-committed : goal.returns-clause-committed
 returns-clause-committed g c = λ sys b first keeps log run.
@@ -13,3 +17,8 @@ returns-clause-throughout g c = λ sys b first keeps log more run.
 pub returns-clause-reported : goal.returns-clause-reported
 returns-clause-reported g c = λ sys b first keeps log run.
     history-reported sys b (λ done records. g.I.Invariant.holds records) (λ done. keeps) first log (c.runs_are_serializable.ensures sys b log run)
+
+pub returns-clause-onwards : goal.returns-clause-onwards
+returns-clause-onwards g c = λ sys b keeps log more run now.
+    let since = between sys b log more (c.runs_are_serializable.ensures sys b log (throughout sys log more run)) (c.runs_are_serializable.ensures sys b (log ++ more) run) in
+    turn-keeps sys g.I.Invariant.holds keeps (committed_files sys (after sys log)) (committed_files sys (after sys (log ++ more))) since.units since.in_turn now
