@@ -1,3 +1,4 @@
+pub mod Entries
 pub mod Machines
 pub mod Measures
 pub mod Runs

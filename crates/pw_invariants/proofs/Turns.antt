@@ -1,19 +1,18 @@
 -- The units that a log has committed run in turn, from the deck's records and between any two moments.
-use Rattle.std.proofs.Common.{◌≡◌, ℕ, zero, suc, Bool, true, false, List, [], ◌∷◌, ◌++◌, Option, Some, None, is_none, if◌then◌else◌, refl, ap, ap₂, sym, subst, subst₂, append-nil, append_assoc, ◌∙◌}
+use Rattle.std.proofs.Common.{◌≡◌, ℕ, zero, suc, Bool, true, false, List, [], ◌∷◌, ◌++◌, Option, Some, None, is_none, if◌then◌else◌, refl, ap, sym, subst, subst₂, append-nil, append_assoc, ◌∙◌}
 use Rattle.pw_event.specs.declared.event.Event.{Event}
 use Rattle.pw_invariants.proofs.Machines.{MachineOk, begins-ok, block-ok}
-use Rattle.pw_invariants.specs.Units.{CommitsBetween, CommittedUnit, FileRecords, RunInTurn, RunsAlone, committed_units, unit_in, units_in}
+use Rattle.pw_invariants.specs.Units.{CommitsBetween, CommittedUnit, FileRecords, RunInTurn, committed_units, unit_in, units_in}
 use Rattle.pw_laws.proofs.blocks.Fold.{Fold, fold_after, fold_on, fold_starts, fold-blocks, fold-order-from, run_blocks-append}
 use Rattle.pw_laws.proofs.induction.Runs.{carried_from-append}
-use Rattle.pw_onecopy.specs.Attempt.{Attempt}
 use Rattle.pw_onecopy.specs.Behaviour.{Behaviour}
 use Rattle.pw_onecopy.specs.Blocks.{SerialBlock, Out, Attempted, Done, Committed, Aborted, Restarted, Left}
 use Rattle.pw_onecopy.specs.IsBehaviour.{IsBehaviour}
-use Rattle.pw_onecopy.specs.OneCopy.{IsSerialFrom, LegalBlock, Machine, Single, beginning, next_attempt, one_copy, run_block, run_blocks}
+use Rattle.pw_onecopy.specs.OneCopy.{IsSerialFrom, Machine, Single, beginning, one_copy, run_block, run_blocks}
 use Rattle.pw_paired.specs.Headline.{IsSerializable}
 use Rattle.pw_paired.specs.Serial.{Reading, blocks, entry_blocks_from, left_block, left_blocks}
 use Rattle.pw_paired.specs.State.{OpenUnit, State, starting}
-use Rattle.pw_paired.specs.Step.{after, after_from}
+use Rattle.pw_paired.specs.Step.{after}
 use Rattle.pw_paired.specs.Units.{committed_files}
 
 -- no block commits a unit
@@ -99,8 +98,7 @@ module _ (sys : Behaviour) where
     turn-blocks machine (Out t ∷ rest) serial ok = turn-blocks (run_block sys machine (Out t)) rest serial.1 (block-ok sys b machine (Out t) serial.0 ok)
     turn-blocks machine (Attempted t n Committed j ∷ rest) serial ok =
         let block : SerialBlock = Attempted t n Committed j in
-        let single : Single = machine.terms t in
-        (
+        let single : Single = machine.terms t in (
           (run_block sys machine block).files,
           record {
             is_path = (ok.terms t).is_path serial.0.live.known;
@@ -175,25 +173,36 @@ module _ (sys : Behaviour) where
         ap (λ (f : Fold). f.order) (carried_from-append sys (fold_on sys) (starting sys) fold_starts log more)
         ∙ fold-order-from sys (after sys log) (fold_after sys log) more
 
+    -- the units of more entries
+    abbrev pub more_blocks : List Event → List Event → List SerialBlock
+    more_blocks log more = entry_blocks_from sys (after sys log) (fold_after sys log).reading more
+
+    pub added-more : (log more : List Event) (first : IsSerializable sys log) (serial : IsSerializable sys (log ++ more))
+        → committed_units sys (log ++ more) ≡ committed_units sys log ++ units_in sys (machine_entered log first) (more_blocks log more)
+    added-more log more first serial =
+        entered-units (log ++ more) serial
+        ∙ (ap (units_in sys (beginning sys)) (entered-more log more)
+        ∙ (units-append (beginning sys) (entered log first) (more_blocks log more)
+        ∙ ap (λ (units : List CommittedUnit). units ++ units_in sys (machine_entered log first) (more_blocks log more)) (sym (entered-units log first))))
+
+    -- they are legal behind those of before
+    pub legal-more : (log more : List Event) (first : IsSerializable sys log) → IsSerializable sys (log ++ more) → IsSerialFrom sys (machine_entered log first) (more_blocks log more)
+    legal-more log more first serial =
+        (serial-split (beginning sys) (entered log first) (more_blocks log more)
+        (subst (IsSerialFrom sys (beginning sys)) (entered-more log more) (entered-serial (log ++ more) serial))).1
+
     -- between two moments
     pub between : (log more : List Event) → IsSerializable sys log → IsSerializable sys (log ++ more) → CommitsBetween sys log more
     between log more first serial =
         let machine : Machine = machine_entered log first in
-        let rest : List SerialBlock = entry_blocks_from sys (after sys log) (fold_after sys log).reading more in
-        let whole : entered (log ++ more) serial ≡ entered log first ++ rest = entered-more log more in
-        let legal : IsSerialFrom sys (beginning sys) (entered log first ++ rest) = subst (IsSerialFrom sys (beginning sys)) whole (entered-serial (log ++ more) serial) in
-        let parted = serial-split (beginning sys) (entered log first) rest legal in
+        let rest : List SerialBlock = more_blocks log more in
         let files : (run_blocks sys machine rest).files ≡ committed_files sys (after sys (log ++ more)) =
-            ap (λ (m : Machine). m.files) (sym (run_blocks-append sys (beginning sys) (entered log first) rest))
-            ∙ (ap (λ (order : List SerialBlock). (run_blocks sys (beginning sys) order).files) (sym whole) ∙ sym (entered-files (log ++ more) serial)) in
+        ap (λ (m : Machine). m.files) (sym (run_blocks-append sys (beginning sys) (entered log first) rest))
+        ∙ (ap (λ (order : List SerialBlock). (run_blocks sys (beginning sys) order).files) (sym (entered-more log more)) ∙ sym (entered-files (log ++ more) serial)) in
         record {
           units = units_in sys machine rest;
-          added =
-              entered-units (log ++ more) serial
-              ∙ (ap (units_in sys (beginning sys)) whole
-              ∙ (units-append (beginning sys) (entered log first) rest
-              ∙ ap (λ (units : List CommittedUnit). units ++ units_in sys machine rest) (sym (entered-units log first))));
+          added = added-more log more first serial;
           in_turn =
               subst₂ (λ (records left : FileRecords). RunInTurn sys records (units_in sys machine rest) left) (sym (entered-files log first)) files
-              (turn-blocks machine rest parted.1 (entered-ok log first));
+              (turn-blocks machine rest (legal-more log more first serial) (entered-ok log first));
         }

@@ -1,12 +1,16 @@
-ghost use Rattle.std.specs.Prelude.{◌≡◌, List, [], ◌++◌};
+ghost use Rattle.std.specs.Prelude.{◌≡◌, ℕ, List, [], ◌∷◌, ◌++◌, None, true, false};
 ghost use Rattle.pw_event.specs.declared.event.Event.{Event};
+ghost use Rattle.pw_event.specs.declared.event.Event.TheVariants.{Commit, Reply};
 ghost use Rattle.pw_invariants.specs.Invariants.{KeepsHistory, StepsBy, stepped};
-ghost use Rattle.pw_invariants.specs.Units.{CommitsBetween, CommittedUnit, FileRecords, RunInTurn, committed_units};
+ghost use Rattle.pw_invariants.specs.Units.{CommitsBetween, CommitsNext, CommittedUnit, FileRecords, RunInTurn, committed_units};
+ghost use Rattle.pw_laws.specs.locking.Records.{commits_at};
 ghost use Rattle.pw_onecopy.specs.Behaviour.{Behaviour};
 ghost use Rattle.pw_onecopy.specs.IsBehaviour.{IsBehaviour};
 ghost use Rattle.pw_onecopy.specs.OneCopy.{one_copy};
+ghost use Rattle.pw_onecopy.specs.Path.{is_outside, unit_number};
 ghost use Rattle.pw_paired.specs.Serial.{blocks};
 ghost use Rattle.pw_paired.specs.Step.{IsRun, after};
+ghost use Rattle.pw_paired.specs.Terminal.{path_of};
 ghost use Rattle.pw_paired.specs.Units.{committed_files};
 
 use pw_laws::serial::laws::runs_are_serializable;
@@ -18,6 +22,21 @@ pub fn committed_units_run_in_turn()
         → RunInTurn sys sys.records (committed_units sys log) (committed_files sys (after sys log)) }
     ensures between { (sys : Behaviour) → IsBehaviour sys → (log more : List Event) → IsRun sys (log ++ more)
         → CommitsBetween sys log more }
+{
+    runs_are_serializable();
+}
+
+/// In every run of a deck each entry that commits adds its unit to those that the log has committed, as the last one: COMMIT, and
+/// the REPLY of a unit that is one SEND. No other entry adds any.
+pub fn committed_units_are_those_of_the_entries()
+    ensures commit { (sys : Behaviour) → IsBehaviour sys → (log : List Event) (t n : ℕ)
+        → IsRun sys (log ++ Commit t n ∷ []) → CommitsNext sys log (Commit t n) t n }
+    ensures send { (sys : Behaviour) → IsBehaviour sys → (log : List Event) (c i t : ℕ)
+        → IsRun sys (log ++ Reply c i t None ∷ []) → is_outside (path_of (after sys log) t) ≡ true
+        → CommitsNext sys log (Reply c i t None) t (unit_number (path_of (after sys log) t)) }
+    ensures stay { (sys : Behaviour) → IsBehaviour sys → (log : List Event) (entry : Event)
+        → IsRun sys (log ++ entry ∷ []) → commits_at (after sys log) entry ≡ false
+        → committed_units sys (log ++ entry ∷ []) ≡ committed_units sys log }
 {
     runs_are_serializable();
 }
