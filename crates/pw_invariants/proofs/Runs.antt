@@ -2,6 +2,7 @@
 use Rattle.std.proofs.Common.{◌≡◌, List, [], ◌∷◌, ◌++◌, refl, sym, subst, append-nil, append_assoc}
 use Rattle.pw_event.specs.declared.event.Event.{Event}
 use Rattle.pw_invariants.proofs.Machines.{MachineOk, begins-ok, block-ok}
+use Rattle.pw_invariants.proofs.Turns.{between}
 use Rattle.pw_invariants.specs.Invariants.{KeepsHistory, KeepsInvariant}
 use Rattle.pw_invariants.specs.Units.{CommittedUnit, FileRecords, RunInTurn, committed_units, unit_in, units_in}
 use Rattle.pw_laws.proofs.RunSteps.{run-parts}
@@ -73,3 +74,10 @@ pub turn-keeps : (sys : Behaviour) (holds : FileRecords → Type 0) → KeepsInv
     → RunInTurn sys records units left → holds records → holds left
 turn-keeps sys holds keeps records left [] turn now = subst holds (sym turn) now
 turn-keeps sys holds keeps records left (unit ∷ units) turn now = turn-keeps sys holds keeps turn.0 left units turn.2 (keeps unit records turn.0 turn.1 now)
+
+-- from any moment of a run on
+pub kept-between : (sys : Behaviour) → IsBehaviour sys → (holds : FileRecords → Type 0) → KeepsInvariant sys holds → (log more : List Event)
+    → IsSerializable sys log → IsSerializable sys (log ++ more) → holds (committed_files sys (after sys log)) → holds (committed_files sys (after sys (log ++ more)))
+kept-between sys b holds keeps log more first serial now =
+    let since = between sys b log more first serial in
+    turn-keeps sys holds keeps (committed_files sys (after sys log)) (committed_files sys (after sys (log ++ more))) since.units since.in_turn now

@@ -1,3 +1,4 @@
 pub mod Invariants
+pub mod Operations
 pub mod Servers
 pub mod Units

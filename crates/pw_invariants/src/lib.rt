@@ -3,5 +3,6 @@
 //! docs/INVARIANTS.md has the rules.
 #![tactic(auto)]
 
+pub mod files;
 pub mod histories;
 pub mod invariants;

@@ -1,9 +1,6 @@
 use Rattle.std.proofs.Common.{◌++◌}
-use Rattle.pw_invariants.proofs.Runs.{history-committed, history-reported, throughout, turn-keeps}
-use Rattle.pw_invariants.proofs.Turns.{between}
+use Rattle.pw_invariants.proofs.Runs.{history-committed, history-reported, kept-between, throughout}
 use Rattle.pw_invariants.proofs.invariants.invariants_hold_in_every_run.Goals as goal
-use Rattle.pw_paired.specs.Step.{after}
-use Rattle.pw_paired.specs.Units.{committed_files}
 
 pub returns-clause-committed : goal.returns-clause-committed
 returns-clause-committed g c = λ sys b first keeps log run.
@@ -20,5 +17,5 @@ returns-clause-reported g c = λ sys b first keeps log run.
 
 pub returns-clause-onwards : goal.returns-clause-onwards
 returns-clause-onwards g c = λ sys b keeps log more run now.
-    let since = between sys b log more (c.runs_are_serializable.ensures sys b log (throughout sys log more run)) (c.runs_are_serializable.ensures sys b (log ++ more) run) in
-    turn-keeps sys g.I.Invariant.holds keeps (committed_files sys (after sys log)) (committed_files sys (after sys (log ++ more))) since.units since.in_turn now
+    kept-between sys b g.I.Invariant.holds keeps log more
+    (c.runs_are_serializable.ensures sys b log (throughout sys log more run)) (c.runs_are_serializable.ensures sys b (log ++ more) run) now
