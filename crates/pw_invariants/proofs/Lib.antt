@@ -2,6 +2,7 @@ pub mod Changes
 pub mod Entries
 pub mod Machines
 pub mod Measures
+pub mod Requests
 pub mod Runs
 pub mod Servers
 pub mod Statements

@@ -21,7 +21,7 @@ StepsBy sys measure step =
     (unit : CommittedUnit) (records left : FileRecords) → RunsAlone sys unit records left
     → measure left ≡ step (measure records) unit
 
--- a value behind the steps of some units
-abbrev pub stepped : {A : Type 0} → (A → CommittedUnit → A) → A → List CommittedUnit → A
+-- a value behind the steps of a list
+abbrev pub stepped : {A B : Type 0} → (A → B → A) → A → List B → A
 stepped step value [] = value
-stepped step value (unit ∷ units) = stepped step (step value unit) units
+stepped step value (one ∷ rest) = stepped step (step value one) rest

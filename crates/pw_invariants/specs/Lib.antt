@@ -1,4 +1,5 @@
 pub mod Invariants
 pub mod Operations
+pub mod Requests
 pub mod Servers
 pub mod Units

@@ -2,6 +2,7 @@ ghost use Rattle.std.specs.Prelude.{◌≡◌, ℕ, List, [], ◌∷◌, ◌++�
 ghost use Rattle.pw_event.specs.declared.event.Event.{Event};
 ghost use Rattle.pw_event.specs.declared.event.Event.TheVariants.{Commit, Reply};
 ghost use Rattle.pw_invariants.specs.Invariants.{KeepsHistory, StepsBy, stepped};
+ghost use Rattle.pw_invariants.specs.Requests.{RepliedRequest, ServersStep, UnitsBalance, requests_of};
 ghost use Rattle.pw_invariants.specs.Units.{CommitsBetween, CommitsNext, CommittedUnit, FileRecords, RunInTurn, committed_units};
 ghost use Rattle.pw_laws.specs.locking.Records.{commits_at};
 ghost use Rattle.pw_onecopy.specs.Behaviour.{Behaviour};
@@ -70,6 +71,19 @@ pub fn measures_step_by_units<A>()
     ensures reported { (sys : Behaviour) → IsBehaviour sys → (measure : FileRecords → A) (step : A → CommittedUnit → A)
         → StepsBy sys measure step → (log : List Event) → IsRun sys log
         → measure (one_copy sys (blocks sys log)).files ≡ stepped step (measure sys.records) (committed_units sys log) }
+{
+    runs_are_serializable();
+}
+
+/// What is measured of the records steps by the requests of the units that have committed, where it steps so by each server that
+/// replies, run by itself. So where the requests of each unit balance, as a debit and its credit do, it is behind each entry of
+/// every run what it was at first: of the servers this asks for one run each, and of the requesters for no files.
+pub fn measures_step_by_requests<A>()
+    ensures units { (sys : Behaviour) → IsBehaviour sys → (measure : FileRecords → A) (step : A → RepliedRequest → A)
+        → ServersStep sys measure step → StepsBy sys measure (λ value unit. stepped step value (requests_of sys unit)) }
+    ensures balanced { (sys : Behaviour) → IsBehaviour sys → (measure : FileRecords → A) (step : A → RepliedRequest → A)
+        → ServersStep sys measure step → UnitsBalance sys step
+        → (log : List Event) → IsRun sys log → measure (committed_files sys (after sys log)) ≡ measure sys.records }
 {
     runs_are_serializable();
 }
