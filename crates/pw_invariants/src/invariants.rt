@@ -1,12 +1,12 @@
 ghost use Rattle.std.specs.Prelude.{List, ◌++◌};
+ghost use Rattle.pw_code.specs.declared.system.System.{System};
 ghost use Rattle.pw_event.specs.declared.event.Event.{Event};
 ghost use Rattle.pw_invariants.specs.Invariants.{KeepsInvariant};
+ghost use Rattle.pw_invariants.specs.Reports.{PrintsMeeting};
 ghost use Rattle.pw_invariants.specs.Servers.{OperationsKeep, ServersKeep};
 ghost use Rattle.pw_invariants.specs.Units.{FileRecords};
 ghost use Rattle.pw_onecopy.specs.Behaviour.{Behaviour};
 ghost use Rattle.pw_onecopy.specs.IsBehaviour.{IsBehaviour};
-ghost use Rattle.pw_onecopy.specs.OneCopy.{one_copy};
-ghost use Rattle.pw_paired.specs.Serial.{blocks};
 ghost use Rattle.pw_paired.specs.Step.{IsRun, after};
 ghost use Rattle.pw_paired.specs.Units.{committed_files};
 
@@ -18,8 +18,8 @@ pub trait Invariant {
 }
 
 /// An invariant that the deck's records meet, and that each unit keeps while it runs alone, holds in every run of the deck,
-/// whatever the schedule and whatever fails: behind each entry the committed records meet it, and so do the records of the
-/// one-copy machine, which a report prints as its FILES. And from any moment at which it holds, it holds on.
+/// whatever the schedule and whatever fails: behind each entry the committed records meet it, and so do those that a
+/// report prints as its FILES. And from any moment at which it holds, it holds on.
 pub fn invariants_hold_in_every_run<I: Invariant>()
     ensures committed { (sys : Behaviour) → IsBehaviour sys → I.holds sys.records → KeepsInvariant sys I.holds
         → (log : List Event) → IsRun sys log → I.holds (committed_files sys (after sys log)) }
@@ -29,7 +29,7 @@ pub fn invariants_hold_in_every_run<I: Invariant>()
         → (log more : List Event) → IsRun sys (log ++ more) → I.holds (committed_files sys (after sys log))
         → I.holds (committed_files sys (after sys (log ++ more))) }
     ensures reported { (sys : Behaviour) → IsBehaviour sys → I.holds sys.records → KeepsInvariant sys I.holds
-        → (log : List Event) → IsRun sys log → I.holds (one_copy sys (blocks sys log)).files }
+        → (log : List Event) → IsRun sys log → (system : System) → PrintsMeeting I.holds system sys log }
 {
     runs_are_serializable();
 }
