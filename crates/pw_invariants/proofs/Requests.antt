@@ -1,11 +1,13 @@
 -- What is measured of the records steps by the requests of the units that have committed.
-use Rattle.std.proofs.Common.{◌≡◌, ℕ, zero, suc, ◌+◌, ◌<◌, List, [], ◌∷◌, ◌++◌, length, drop, refl, ap, ap₂, sym, append-nil, append_assoc, arith, ◌∙◌}
+use Rattle.std.proofs.Common.{◌≡◌, ℕ, zero, suc, ◌+◌, ◌<◌, List, [], ◌∷◌, ◌++◌, length, drop, refl, ap, ap₂, sym, subst, append-nil, append_assoc, arith, ◌∙◌}
 use Rattle.std.proofs.Math.Seq.{drop-append_seam}
 use Rattle.pw_code.specs.declared.verb.Verb.{Verb}
 use Rattle.pw_code.specs.declared.verb.Verb.TheVariants as verb
 use Rattle.pw_invariants.proofs.Measures.{stepped-append}
+use Rattle.pw_invariants.proofs.Servers.{servers-keep}
 use Rattle.pw_invariants.specs.Invariants.{KeepsInvariant, StepsBy, stepped}
 use Rattle.pw_invariants.specs.Requests.{RepliedRequest, ServersStep, UnitsBalance, request_by, requests_of, requests_on}
+use Rattle.pw_invariants.specs.Servers.{ServersKeep}
 use Rattle.pw_invariants.specs.Units.{FileRecords}
 use Rattle.pw_laws.proofs.AttemptFiles.{attempt-fine}
 use Rattle.pw_laws.proofs.Paths.{Dropped-closing, closing-number}
@@ -34,23 +36,26 @@ module _ (sys : Behaviour) (t : ℕ) where
       ∙ ap (λ (p : List PathAnswer). requests_on sys t longer answers ++ request_by (sys.ask t p) answer) (append_assoc path (first ∷ []) answers))
       ∙ sym (append_assoc (request_by (sys.ask t path) first) (requests_on sys t longer answers) (request_by (sys.ask t (path ++ first ∷ answers)) answer))
 
-module _ {A : Type 0} (sys : Behaviour) (b : IsBehaviour sys) (measure : FileRecords → A) (step : A → RepliedRequest → A) (servers : ServersStep sys measure step) where
-  module _ (t r : ℕ) (start : List PathAnswer) (records : FileRecords) where
+module _ {A : Type 0} (sys : Behaviour) (b : IsBehaviour sys) (holds : FileRecords → Type 0) (keep : ServersKeep sys holds)
+    (measure : FileRecords → A) (step : A → RepliedRequest → A) (servers : ServersStep sys holds measure step) where
+  module _ (t r : ℕ) (start : List PathAnswer) (records : FileRecords) (first : holds records) where
     -- the files of an attempt measure what the steps of its requests so far have made of the records
     record Measured (at : Attempt) : Type 0 where
       answers : List PathAnswer
       path : at.path ≡ start ++ answers
+      meet : holds at.files
       measured : measure at.files ≡ stepped step (measure records) (requests_on sys t start answers)
 
     measured-starts : Measured (attempt sys t start records r 0)
-    measured-starts = record { answers = []; path = sym (append-nil start); measured = refl }
+    measured-starts = record { answers = []; path = sym (append-nil start); meet = first; measured = refl }
 
     -- with one answer more
     measured-more : (at next : Attempt) (answer : PathAnswer) → next.path ≡ at.path ++ answer ∷ []
-        → measure next.files ≡ stepped step (measure at.files) (request_by (sys.ask t at.path) answer) → Measured at → Measured next
-    measured-more at next answer path stepping now = record {
+        → measure next.files ≡ stepped step (measure at.files) (request_by (sys.ask t at.path) answer) → holds next.files → Measured at → Measured next
+    measured-more at next answer path stepping meet now = record {
       answers = now.answers ++ answer ∷ [];
       path = path ∙ (ap (λ (p : List PathAnswer). p ++ answer ∷ []) now.path ∙ append_assoc start now.answers (answer ∷ []));
+      meet = meet;
       measured =
           stepping
           ∙ (ap₂ (λ (value : A) (p : List PathAnswer). stepped step value (request_by (sys.ask t p) answer)) now.measured now.path
@@ -62,15 +67,16 @@ module _ {A : Type 0} (sys : Behaviour) (b : IsBehaviour sys) (measure : FileRec
     measured-plain : (at next : Attempt) (answer : PathAnswer) → next.path ≡ at.path ++ answer ∷ [] → next.files ≡ at.files
         → request_by (sys.ask t at.path) answer ≡ [] → Measured at → Measured next
     measured-plain at next answer path files none now =
-        measured-more at next answer path (ap measure files ∙ ap (stepped step (measure at.files)) (sym none)) now
+        measured-more at next answer path (ap measure files ∙ ap (stepped step (measure at.files)) (sym none)) (subst holds (sym files) now.meet) now
 
     -- a SEND
     measured-sent : (at : Attempt) (c : ℕ) (message : List ℕ) (sv : Served) → sys.serve c message at.files ≡ sv → sys.ask t at.path ≡ verb.Send c message → c < sys.classes → AreFiles sys at.files
         → Measured at → Measured (attempt_with_served sv at)
     measured-sent at c message (Reply reply left) serves asks known are now =
         measured-more at (attempt_with_served (Reply reply left) at) (Replied reply) refl
-        (servers c message reply at.files left known are serves
+        (servers c message reply at.files left known are serves now.meet
         ∙ ap (λ (v : Verb). stepped step (measure at.files) (request_by v (Replied reply))) (sym asks))
+        (keep c message reply at.files left known are serves now.meet)
         now
     measured-sent at c message (Fault x) serves asks known are now =
         measured-plain at (attempt_with_served (Fault x) at) (Failed x) refl refl (ap (λ (v : Verb). request_by v (Failed x)) asks) now
@@ -144,16 +150,18 @@ module _ {A : Type 0} (sys : Behaviour) (b : IsBehaviour sys) (measure : FileRec
           measured-next j is (commit-plain (sys.ask t start) at (sys.ask t at.path) ends) (measured-along j is)
 
   -- a unit steps by its requests
-  pub units-step : StepsBy sys measure (λ value unit. stepped step value (requests_of sys unit))
-  units-step unit records left alone =
+  pub units-step : StepsBy sys holds measure (λ value unit. stepped step value (requests_of sys unit))
+  units-step unit records left alone first =
       let t : ℕ = unit.terminal in
-      let at : Attempt = attempt sys t unit.start records alone.restarts alone.answers in
-      let now = measured-committed t alone.restarts unit.start records alone.is_path alone.are_files alone.answers alone.is_attempt alone.commits in
+      let now = measured-committed t alone.restarts unit.start records first alone.is_path alone.are_files alone.answers alone.is_attempt alone.commits in
       let own : drop (length unit.start) unit.path ≡ now.answers =
-      ap (λ (p : List PathAnswer). drop (length unit.start) p) (alone.path ∙ now.path) ∙ drop-append_seam unit.start now.answers in
+          ap (λ (p : List PathAnswer). drop (length unit.start) p) (alone.path ∙ now.path) ∙ drop-append_seam unit.start now.answers in
       ap measure alone.leaves
       ∙ (now.measured ∙ ap (λ (answers : List PathAnswer). stepped step (measure records) (requests_on sys t unit.start answers)) (sym own))
 
-  -- where the requests of units balance, what is measured stays
-  pub balance-keeps : UnitsBalance sys step → (value : A) → KeepsInvariant sys (λ records. measure records ≡ value)
-  balance-keeps balance value unit records left alone now = units-step unit records left alone ∙ (balance unit records left alone (measure records) ∙ now)
+  -- where the requests of units balance, the invariant holds, and what is measured stays
+  pub balance-keeps : UnitsBalance sys holds step → (value : A) → KeepsInvariant sys (λ records. holds records × (measure records ≡ value))
+  balance-keeps balance value unit records left alone now = (
+    servers-keep sys b holds keep unit records left alone now.0,
+    units-step unit records left alone now.0 ∙ (balance unit records left alone now.0 (measure records) ∙ now.1),
+  )

@@ -15,11 +15,12 @@ KeepsHistory sys holds =
     (done : List CommittedUnit) (unit : CommittedUnit) (records left : FileRecords)
     → RunsAlone sys unit records left → holds done records → holds (done ++ unit ∷ []) left
 
--- what is measured of the records changes by a unit's step where the unit runs alone and commits
-abbrev pub StepsBy : {A : Type 0} → Behaviour → (FileRecords → A) → (A → CommittedUnit → A) → Type 0
-StepsBy sys measure step =
+-- what is measured of records that meet the invariant changes by a unit's step where the unit runs alone and commits
+abbrev pub StepsBy : {A : Type 0} → Behaviour → (FileRecords → Type 0) → (FileRecords → A)
+    → (A → CommittedUnit → A) → Type 0
+StepsBy sys holds measure step =
     (unit : CommittedUnit) (records left : FileRecords) → RunsAlone sys unit records left
-    → measure left ≡ step (measure records) unit
+    → holds records → measure left ≡ step (measure records) unit
 
 -- a value behind the steps of a list
 abbrev pub stepped : {A B : Type 0} → (A → B → A) → A → List B → A

@@ -31,17 +31,19 @@ abbrev pub requests_of : Behaviour → CommittedUnit → List RepliedRequest
 requests_of sys unit =
     requests_on sys unit.terminal unit.start (drop (length unit.start) unit.path)
 
--- what is measured of the records changes by a request's step where a server, run by itself, replies to it
-abbrev pub ServersStep : {A : Type 0} → Behaviour → (FileRecords → A) → (A → RepliedRequest → A)
-    → Type 0
-ServersStep sys measure step =
+-- what is measured of records that meet the invariant changes by a request's step where a server, run by itself, replies to it
+abbrev pub ServersStep : {A : Type 0} → Behaviour → (FileRecords → Type 0) → (FileRecords → A)
+    → (A → RepliedRequest → A) → Type 0
+ServersStep sys holds measure step =
     (c : ℕ) (message reply : List ℕ) (records left : FileRecords) → c < sys.classes
-    → AreFiles sys records → sys.serve c message records ≡ Reply reply left
+    → AreFiles sys records → sys.serve c message records ≡ Reply reply left → holds records
     → measure left
     ≡ step (measure records) (record { class = c; message = message; reply = reply })
 
--- the requests of each unit that runs alone and commits bring every value back to itself, as a debit and its credit do
-abbrev pub UnitsBalance : {A : Type 0} → Behaviour → (A → RepliedRequest → A) → Type 0
-UnitsBalance {A} sys step =
+-- the requests of each unit that runs alone from such records and commits bring every value back to itself, as a debit and its
+-- credit do
+abbrev pub UnitsBalance : {A : Type 0} → Behaviour → (FileRecords → Type 0)
+    → (A → RepliedRequest → A) → Type 0
+UnitsBalance {A} sys holds step =
     (unit : CommittedUnit) (records left : FileRecords) → RunsAlone sys unit records left
-    → (value : A) → stepped step value (requests_of sys unit) ≡ value
+    → holds records → (value : A) → stepped step value (requests_of sys unit) ≡ value

@@ -1,8 +1,9 @@
 ghost use Rattle.std.specs.Prelude.{◌≡◌, ℕ, List, [], ◌∷◌, ◌++◌, None, true, false};
 ghost use Rattle.pw_event.specs.declared.event.Event.{Event};
 ghost use Rattle.pw_event.specs.declared.event.Event.TheVariants.{Commit, Reply};
-ghost use Rattle.pw_invariants.specs.Invariants.{KeepsHistory, StepsBy, stepped};
+ghost use Rattle.pw_invariants.specs.Invariants.{KeepsHistory, KeepsInvariant, StepsBy, stepped};
 ghost use Rattle.pw_invariants.specs.Requests.{RepliedRequest, ServersStep, UnitsBalance, requests_of};
+ghost use Rattle.pw_invariants.specs.Servers.{ServersKeep};
 ghost use Rattle.pw_invariants.specs.Units.{CommitsBetween, CommitsNext, CommittedUnit, FileRecords, RunInTurn, committed_units};
 ghost use Rattle.pw_laws.specs.locking.Records.{commits_at};
 ghost use Rattle.pw_onecopy.specs.Behaviour.{Behaviour};
@@ -15,6 +16,8 @@ ghost use Rattle.pw_paired.specs.Terminal.{path_of};
 ghost use Rattle.pw_paired.specs.Units.{committed_files};
 
 use pw_laws::serial::laws::runs_are_serializable;
+
+use crate::invariants::Invariant;
 
 /// In every run of a deck, whatever fails, the units that have committed run one after the other, each alone on the records that
 /// the one before it left: from the deck's records to the committed ones, and between any two moments.
@@ -63,26 +66,32 @@ pub fn histories_hold_in_every_run<H: HistoryInvariant>()
 }
 
 /// What is measured of the records, as a sum of balances, is behind each entry of every run what it was at first, changed by the
-/// step of each unit that has committed, in the serial order: where each unit that runs alone changes it by its step.
-pub fn measures_step_by_units<A>()
-    ensures committed { (sys : Behaviour) → IsBehaviour sys → (measure : FileRecords → A) (step : A → CommittedUnit → A)
-        → StepsBy sys measure step → (log : List Event) → IsRun sys log
+/// step of each unit that has committed, in the serial order: where each unit that runs alone from records that meet an invariant
+/// changes it by its step, and keeps the invariant.
+pub fn measures_step_by_units<I: Invariant, A>()
+    ensures committed { (sys : Behaviour) → IsBehaviour sys → I.holds sys.records → KeepsInvariant sys I.holds
+        → (measure : FileRecords → A) (step : A → CommittedUnit → A) → StepsBy sys I.holds measure step
+        → (log : List Event) → IsRun sys log
         → measure (committed_files sys (after sys log)) ≡ stepped step (measure sys.records) (committed_units sys log) }
-    ensures reported { (sys : Behaviour) → IsBehaviour sys → (measure : FileRecords → A) (step : A → CommittedUnit → A)
-        → StepsBy sys measure step → (log : List Event) → IsRun sys log
+    ensures reported { (sys : Behaviour) → IsBehaviour sys → I.holds sys.records → KeepsInvariant sys I.holds
+        → (measure : FileRecords → A) (step : A → CommittedUnit → A) → StepsBy sys I.holds measure step
+        → (log : List Event) → IsRun sys log
         → measure (one_copy sys (blocks sys log)).files ≡ stepped step (measure sys.records) (committed_units sys log) }
 {
     runs_are_serializable();
 }
 
 /// What is measured of the records steps by the requests of the units that have committed, where it steps so by each server that
-/// replies, run by itself. So where the requests of each unit balance, as a debit and its credit do, it is behind each entry of
-/// every run what it was at first: of the servers this asks for one run each, and of the requesters for no files.
-pub fn measures_step_by_requests<A>()
-    ensures units { (sys : Behaviour) → IsBehaviour sys → (measure : FileRecords → A) (step : A → RepliedRequest → A)
-        → ServersStep sys measure step → StepsBy sys measure (λ value unit. stepped step value (requests_of sys unit)) }
-    ensures balanced { (sys : Behaviour) → IsBehaviour sys → (measure : FileRecords → A) (step : A → RepliedRequest → A)
-        → ServersStep sys measure step → UnitsBalance sys step
+/// replies, run by itself on records that meet an invariant, which it keeps. So where the requests of each unit balance, as a
+/// debit and its credit do, it is behind each entry of every run what it was at first: of the servers this asks for one run each,
+/// and of the requesters for what they send.
+pub fn measures_step_by_requests<I: Invariant, A>()
+    ensures units { (sys : Behaviour) → IsBehaviour sys → ServersKeep sys I.holds
+        → (measure : FileRecords → A) (step : A → RepliedRequest → A) → ServersStep sys I.holds measure step
+        → StepsBy sys I.holds measure (λ value unit. stepped step value (requests_of sys unit)) }
+    ensures balanced { (sys : Behaviour) → IsBehaviour sys → I.holds sys.records → ServersKeep sys I.holds
+        → (measure : FileRecords → A) (step : A → RepliedRequest → A) → ServersStep sys I.holds measure step
+        → UnitsBalance sys I.holds step
         → (log : List Event) → IsRun sys log → measure (committed_files sys (after sys log)) ≡ measure sys.records }
 {
     runs_are_serializable();
