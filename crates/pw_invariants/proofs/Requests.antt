@@ -155,7 +155,7 @@ module _ {A : Type 0} (sys : Behaviour) (b : IsBehaviour sys) (holds : FileRecor
       let t : ℕ = unit.terminal in
       let now = measured-committed t alone.restarts unit.start records first alone.is_path alone.are_files alone.answers alone.is_attempt alone.commits in
       let own : drop (length unit.start) unit.path ≡ now.answers =
-          ap (λ (p : List PathAnswer). drop (length unit.start) p) (alone.path ∙ now.path) ∙ drop-append_seam unit.start now.answers in
+      ap (λ (p : List PathAnswer). drop (length unit.start) p) (alone.path ∙ now.path) ∙ drop-append_seam unit.start now.answers in
       ap measure alone.leaves
       ∙ (now.measured ∙ ap (λ (answers : List PathAnswer). stepped step (measure records) (requests_on sys t unit.start answers)) (sym own))
 

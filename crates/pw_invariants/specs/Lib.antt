@@ -1,3 +1,4 @@
+pub mod Bank
 pub mod Invariants
 pub mod Operations
 pub mod Reports

@@ -15,9 +15,8 @@ ghost use Rattle.pw_paired.specs.Step.{IsRun, after};
 ghost use Rattle.pw_paired.specs.Terminal.{path_of};
 ghost use Rattle.pw_paired.specs.Units.{committed_files};
 
-use pw_laws::serial::laws::runs_are_serializable;
-
 use crate::invariants::Invariant;
+use pw_laws::serial::laws::runs_are_serializable;
 
 /// In every run of a deck, whatever fails, the units that have committed run one after the other, each alone on the records that
 /// the one before it left: from the deck's records to the committed ones, and between any two moments.

@@ -17,6 +17,13 @@ pub trait Invariant {
     ghost holds: { FileRecords → Type 0 };
 }
 
+/// What holds of all records: for laws that take an invariant and need none.
+pub struct AnyRecords;
+
+impl Invariant for AnyRecords {
+    ghost holds = { λ records. Unit {0} };
+}
+
 /// An invariant that the deck's records meet, and that each unit keeps while it runs alone, holds in every run of the deck,
 /// whatever the schedule and whatever fails: behind each entry the committed records meet it, and so do those that a
 /// report prints as its FILES. And from any moment at which it holds, it holds on.

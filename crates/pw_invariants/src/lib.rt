@@ -3,6 +3,7 @@
 //! docs/INVARIANTS.md has the rules.
 #![tactic(auto)]
 
+pub mod bank;
 pub mod files;
 pub mod histories;
 pub mod invariants;
