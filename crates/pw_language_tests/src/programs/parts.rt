@@ -24,12 +24,7 @@ pub fn layout_of(alloc: Global, text: &[u8], server: bool) -> Result<Layout, Ref
 }
 
 /// The procedure that a text is, whose first line has this number.
-fn procedure_of(
-    alloc: Global,
-    text: &[u8],
-    line: u32,
-    server: bool,
-) -> Result<Procedure, Refusal>
+fn procedure_of(alloc: Global, text: &[u8], line: u32, server: bool) -> Result<Procedure, Refusal>
     requires text { length text.now ≤ MAX_INPUT }
     requires first { 1 ≤ line }
     requires last { line ≤ MAX_INPUT }
