@@ -33,7 +33,11 @@ fn world_of(alloc: Global, bytes: &[u8], fail_at: &[u64]) -> Result<World<Faulty
 #[test]
 fn unrun_outcome(rt: HostRuntime) -> Result<(), Fail> {
     let mut world = world_of(rt.alloc(), decks::HELLO, &[])?;
-    assert!(rt; !world.system().terminals.is_empty());
+    let terminals = world.system().terminals.len();
+    if terminals == 0 {
+        world.into_disc();
+        return Err(Fail::new("HELLO has no terminal"));
+    }
     let task = Task {
         actor: Actor::Terminal(0),
         stamp: 0,
