@@ -1,3 +1,4 @@
+pub mod Powers
 pub mod Quotients
 pub mod Scales
 pub mod Sizes

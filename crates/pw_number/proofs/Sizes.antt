@@ -1,8 +1,9 @@
 -- How large sums and differences are, of which a part is out of the type's range.
-use Rattle.std.proofs.Common.{◌≡◌, ℕ, ◌+◌, ◌-◌, ◌*◌, ◌^◌, ◌<◌, ◌≤◌, ◌⊎◌, inl, inr, ⊎_elim, false, Option, Some, None, ℤ, pos, ◌+ℤ◌, ◌-ℤ◌, FitsSigned, unsigned_abs, nat_lt, sym, ap, subst, ◌∙◌, arith, IfNone}
+use Rattle.std.proofs.Common.{◌≡◌, ℕ, ◌+◌, ◌-◌, ◌^◌, ◌<◌, ◌≤◌, ◌⊎◌, inl, inr, ⊎_elim, false, Option, Some, None, ℤ, pos, ◌+ℤ◌, ◌-ℤ◌, ◌*ℤ◌, FitsSigned, unsigned_abs, nat_lt, sym, ap, subst, ◌∙◌, arith, IfNone}
 use Rattle.std.specs.Int.{w128}
 use Rattle.std.specs.Option.{SomeIff, option_zip}
-use Rattle.std.proofs.lemmas.Int.{ints, unsigned_abs-mul, fits_signed_from_abs}
+use Rattle.std.proofs.lemmas.Int.{ints, fits_signed_from_abs}
+use Rattle.std.proofs.Math.IntN.{*ℤ-one}
 use Rattle.std.proofs.lemmas.Bool.{le-ltb, cases_lt}
 use Rattle.std.proofs.Math.Nat.{max-eq_left, max-eq_right, le_of_lt}
 use Rattle.pw_number.specs.Number.{Number}
@@ -26,11 +27,14 @@ large : (z : ℤ) → ¬ FitsSigned w128 z → 2 ^ 127 ≤ unsigned_abs z
 large z not = let small : unsigned_abs z < 2 ^ 127 → ⊥ = λ h. not (fits_signed_from_abs w128 z h) in omega (arith, small)
 
 -- at its own places a number keeps its units
-pub abs-raised_own : (n : Number) (p : ℕ) → p ≡ n.places → unsigned_abs (raised p n) ≡ unsigned_abs n.units
-abs-raised_own n p is =
+raised_own : (n : Number) (p : ℕ) → p ≡ n.places → raised p n ≡ n.units
+unfolding lib.IntN.one
+raised_own n p is =
     let none : p - n.places ≡ 0 = omega arith in
-    let one : 10 ^ (p - n.places) ≡ 1 = ap (λ e. 10 ^ e) none in
-    unsigned_abs-mul n.units (pos (10 ^ (p - n.places))) ∙ ap (λ e. unsigned_abs n.units * e) one ∙ omega arith
+    ap (λ e. n.units *ℤ pos (10 ^ e)) none ∙ *ℤ-one n.units
+
+pub abs-raised_own : (n : Number) (p : ℕ) → p ≡ n.places → unsigned_abs (raised p n) ≡ unsigned_abs n.units
+abs-raised_own n p is = ap unsigned_abs (raised_own n p is)
 
 -- of two short numbers one is short at the larger of their places
 pub one_short : (a b : Number) → unsigned_abs a.units < 10 ^ 30 → unsigned_abs b.units < 10 ^ 30
@@ -61,6 +65,13 @@ long_right x y not short = record {
 -- a short number fits
 fits_short : (z : ℤ) → unsigned_abs z < 10 ^ 30 → FitsSigned w128 z
 fits_short z h = fits_signed_from_abs w128 z (omega arith)
+
+-- at its own places a short number fits
+pub raised_there : (n : Number) (p own : ℕ) (units : ℤ) → units ≡ n.units → own ≡ n.places → p ≡ own → unsigned_abs n.units < 10 ^ 30
+    → SomeIff (Some units) (FitsSigned w128 (raised p n)) (raised p n)
+raised_there n p own units units_is own_is at short =
+    let same : raised p n ≡ n.units = raised_own n p (at ∙ own_is) in
+    (subst (FitsSigned w128) (sym same) (fits_short n.units short), units_is ∙ sym same)
 
 long_where_none : (x y : ℤ) (left right : Option ℤ) → (unsigned_abs x < 10 ^ 30) ⊎ (unsigned_abs y < 10 ^ 30)
     → SomeIff left (FitsSigned w128 x) x → SomeIff right (FitsSigned w128 y) y → IfNone (option_zip left right) (BothLong x y)

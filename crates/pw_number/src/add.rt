@@ -9,6 +9,7 @@ use crate::scaled::{MAX_PLACES, Scaled};
 use crate::size_error::SizeError;
 
 /// The number with these units and places, where the units have at most 30 digits.
+#[inline(always)]
 pub(crate) fn sized(units: i128, places: u8) -> Result<Scaled, SizeError>
     requires { places ≤ 18 }
     ensures { result ≡ sized (number units places) }
@@ -17,15 +18,30 @@ pub(crate) fn sized(units: i128, places: u8) -> Result<Scaled, SizeError>
 }
 
 impl Scaled {
-    /// The units of the same value at more places, where they fit.
+    /// The units of the same value with zeros behind them, at more places, where they fit.
+    #[inline(never)]
+    fn with_zeros(self, places: u8) -> Option<i128>
+        requires more { self.places ≤ places }
+        requires few { places ≤ 18 }
+        ensures { SomeIff result (FitsSigned w128 (raised places self)) (raised places self) }
+    {
+        self.units()
+            .checked_mul(power_of_ten(places - self.places()) as i128)
+    }
+
+    /// The units of the same value at its own places or at more, where they fit.
+    #[inline(always)]
     pub(crate) fn raised(self, places: u8) -> Option<i128>
         requires more { self.places ≤ places }
         requires few { places ≤ 18 }
         ensures units { SomeIff result (FitsSigned w128 (raised places self)) (raised places self) }
         ensures bound { unsigned_abs self.units < 10 ^ 30 }
     {
-        self.units()
-            .checked_mul(power_of_ten(places - self.places()) as i128)
+        if places == self.places() {
+            Some(self.units())
+        } else {
+            self.with_zeros(places)
+        }
     }
 
     /// The larger of the places of two numbers.
@@ -38,6 +54,7 @@ impl Scaled {
 
     /// The units of two numbers at the larger of their places, where both fit. Where one does not,
     /// it is too large for the other to make up for.
+    #[inline(always)]
     fn aligned(self, other: Scaled) -> Option<(i128, i128)>
         ensures units { IfSome result (λ pair. (pair.0 ≡ raised (common self other) self) × (pair.1 ≡ raised (common self other) other)) }
         ensures sum { IfNone result (is_short (sum self other) ≡ false) }
@@ -51,6 +68,7 @@ impl Scaled {
 
     /// The exact sum, at the larger of the two places. It is SizeError exactly where the sum has
     /// more than 30 digits.
+    #[inline(always)]
     pub fn add(self, other: Scaled) -> Result<Scaled, SizeError>
         ensures { result ≡ sized (sum self other) }
     {
@@ -61,6 +79,7 @@ impl Scaled {
 
     /// The exact difference, at the larger of the two places. It is SizeError exactly where the
     /// difference has more than 30 digits.
+    #[inline(always)]
     pub fn subtract(self, other: Scaled) -> Result<Scaled, SizeError>
         ensures { result ≡ sized (difference self other) }
     {

@@ -22,9 +22,11 @@ fn long_quotient(size: u128, divisor: u128, zeros: u8) -> Option<u128>
     requires zeros { zeros ≤ 36 }
     ensures { SomeIff result (size * 10 ^ zeros / divisor < 2 ^ 128) (size * 10 ^ zeros / divisor) }
 {
-    let first = zeros.min(MAX_PLACES);
-    let raised = size * power_of_ten(first);
-    let second = power_of_ten(zeros - first);
+    if zeros <= MAX_PLACES {
+        return Some(size * power_of_ten(zeros) / divisor);
+    }
+    let raised = size * power_of_ten(MAX_PLACES);
+    let second = power_of_ten(zeros - MAX_PLACES);
     let front = (raised / divisor).checked_mul(second)?;
     front.checked_add(raised % divisor * second / divisor)
 }

@@ -11,7 +11,11 @@ fn without_digits(units: i128, digits: u8) -> i128
     requires { digits ≤ 38 }
     ensures { result ≡ int_div units (pos (10 ^ digits)) }
 {
-    units / power_of_ten(digits) as i128
+    if digits == 0 {
+        units
+    } else {
+        units / power_of_ten(digits) as i128
+    }
 }
 
 impl Scaled {

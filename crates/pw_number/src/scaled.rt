@@ -35,6 +35,7 @@ impl Model for Scaled {
 impl Scaled {
     /// The number with these units and places. It is None exactly where the units have more than
     /// 30 digits, or the places are more than `MAX_PLACES`.
+    #[inline(always)]
     pub fn new(units: i128, places: u8) -> Option<Scaled>
         ensures { result ≡ held (number units places) }
     {
@@ -46,6 +47,7 @@ impl Scaled {
     }
 
     /// The value times ten to the power of the places: a whole number of at most 30 digits.
+    #[inline(always)]
     pub fn units(self) -> i128
         ensures units { result ≡ self.units }
         ensures bound { unsigned_abs result < 10 ^ 30 }
@@ -54,6 +56,7 @@ impl Scaled {
     }
 
     /// How many digits are behind the point, at most `MAX_PLACES`.
+    #[inline(always)]
     pub fn places(self) -> u8
         ensures places { result ≡ self.places }
         ensures bound { result ≤ 18 }

@@ -1,4 +1,4 @@
--- The quotient is found in two steps.
+-- The quotient is found in one step, or in two.
 use Rattle.std.proofs.Common.{◌≡◌, ℕ, ◌+◌, ◌*◌, ◌/◌, ◌%◌, ◌^◌, ◌<◌, ◌∙◌, sym, ap, subst, Option, None, arith}
 use Rattle.std.specs.Option.{SomeIff}
 use Rattle.pw_number.proofs.Quotients.{in_two_steps}
@@ -10,11 +10,11 @@ front_long result front back whole limit none parts long = subst (λ r. SomeIff 
 
 pub returns-in_err-front : goal.returns-in_err-front
 returns-in_err-front c = front_long c.from_residual.result _ _ _ _ c.from_residual.ensures
-    (in_two_steps c.args.size c.args.zeros c.min-first.result c.args.divisor c.power_of_ten.result c.power_of_ten-second.result (omega arith) (omega arith) c.power_of_ten.ensures.value c.power_of_ten-second.ensures.value)
+    (in_two_steps c.args.size c.args.zeros 18 c.args.divisor c.power_of_ten-2.result c.power_of_ten-second.result (omega arith) (omega arith) c.power_of_ten-2.ensures.value c.power_of_ten-second.ensures.value)
     c.in_err-front.ensures
 
 pub returns : goal.returns
 returns c =
-    let whole = in_two_steps c.args.size c.args.zeros c.min-first.result c.args.divisor c.power_of_ten.result c.power_of_ten-second.result (omega arith) (omega arith) c.power_of_ten.ensures.value c.power_of_ten-second.ensures.value in
-    let back : ℕ = c.args.size * c.power_of_ten.result % c.args.divisor * c.power_of_ten-second.result / c.args.divisor in
+    let whole = in_two_steps c.args.size c.args.zeros 18 c.args.divisor c.power_of_ten-2.result c.power_of_ten-second.result (omega arith) (omega arith) c.power_of_ten-2.ensures.value c.power_of_ten-second.ensures.value in
+    let back : ℕ = c.args.size * c.power_of_ten-2.result % c.args.divisor * c.power_of_ten-second.result / c.args.divisor in
     subst (λ n. SomeIff c.checked_add.result (n < 2 ^ 128) n) (ap (λ m. m + back) c.in_ok-front.ensures.1 ∙ whole) c.checked_add.ensures
