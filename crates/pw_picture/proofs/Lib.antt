@@ -3,3 +3,4 @@ pub mod DigitSymbols
 pub mod Digits
 pub mod Reading
 pub mod RunLemmas
+pub mod Tables

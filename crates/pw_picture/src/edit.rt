@@ -46,7 +46,7 @@ fn shown(nine: bool, negative: bool, size: u64, weight: u8, symbol: u8) -> u8
     requires { weight ≤ 18 }
     ensures { result ≡ shown nine negative size weight symbol }
 {
-    let front = size as u128 / power_of_ten(weight);
+    let front = size / power_of_ten(weight) as u64;
     let digit = b'0' + (front % 10) as u8;
     match symbol {
         b'9' => digit,

@@ -7,19 +7,29 @@ ghost use Rattle.pw_picture.specs.Stored.{digit_of, value_of, number_of_chars, i
 use crate::picture::Picture;
 use pw_number::scaled::Scaled;
 
+/// Each character as a digit.
+static DIGITS: [u8; 256] = [
+    0, 0, 0, 0, 0, 0, 0, 0, 0, 0, 0, 0, 0, 0, 0, 0, 0, 0, 0, 0, 0, 0, 0, 0, 0, 0, 0, 0, 0, 0, 0, 0,
+    0, 0, 0, 0, 0, 0, 0, 0, 0, 0, 0, 0, 0, 0, 0, 0, 0, 1, 2, 3, 4, 5, 6, 7, 8, 9, 0, 0, 0, 0, 0, 0,
+    0, 0, 0, 0, 0, 0, 0, 0, 0, 0, 0, 0, 0, 0, 0, 0, 0, 0, 0, 0, 0, 0, 0, 0, 0, 0, 0, 0, 0, 0, 0, 0,
+    0, 0, 0, 0, 0, 0, 0, 0, 0, 0, 0, 0, 0, 0, 0, 0, 0, 0, 0, 0, 0, 0, 0, 0, 0, 0, 0, 0, 0, 0, 0, 0,
+    0, 0, 0, 0, 0, 0, 0, 0, 0, 0, 0, 0, 0, 0, 0, 0, 0, 0, 0, 0, 0, 0, 0, 0, 0, 0, 0, 0, 0, 0, 0, 0,
+    0, 0, 0, 0, 0, 0, 0, 0, 0, 0, 0, 0, 0, 0, 0, 0, 0, 0, 0, 0, 0, 0, 0, 0, 0, 0, 0, 0, 0, 0, 0, 0,
+    0, 0, 0, 0, 0, 0, 0, 0, 0, 0, 0, 0, 0, 0, 0, 0, 0, 0, 0, 0, 0, 0, 0, 0, 0, 0, 0, 0, 0, 0, 0, 0,
+    0, 0, 0, 0, 0, 0, 0, 0, 0, 0, 0, 0, 0, 0, 0, 0, 0, 0, 0, 0, 0, 0, 0, 0, 0, 0, 0, 0, 0, 0, 0, 0,
+];
+
 /// A character as a digit. One that is none counts as 0.
+#[inline(always)]
 fn digit_of(char: u8) -> u8
     ensures digit { result ≡ digit_of char }
     ensures bound { result < 10 }
 {
-    if char.is_ascii_digit() {
-        char - b'0'
-    } else {
-        0
-    }
+    DIGITS[char as usize]
 }
 
 /// The value of at most 18 characters as digits.
+#[inline]
 fn value_of(chars: &[u8]) -> u64
     requires { length chars.now ≤ 18 }
     ensures value { result ≡ value_of 0 chars.now }
@@ -33,6 +43,7 @@ fn value_of(chars: &[u8]) -> u64
 }
 
 /// The number of this sign and size, with so many of its digits behind the point (docs/NUMBERS.md).
+#[inline(always)]
 pub fn number_with(negative: bool, size: u64, places: u8) -> Scaled
     requires size { size < 10 ^ 18 }
     requires places { places ≤ 18 }
@@ -44,6 +55,7 @@ pub fn number_with(negative: bool, size: u64, places: u8) -> Scaled
 }
 
 /// The number of so many places that characters are.
+#[inline(always)]
 fn number_of_chars(places: u8, sign: bool, chars: &[u8]) -> Scaled
     requires places { places ≤ 18 }
     requires few { length chars.now ≤ (if sign then 19 else 18) }
@@ -62,6 +74,7 @@ impl Picture {
     ///
     /// A character that is no digit counts as 0, and the number is negative exactly where the
     /// picture is signed and the first character is `-`.
+    #[inline(always)]
     pub fn read_number(&self, chars: &[u8]) -> Scaled
         requires picture { IsPicture self.now }
         requires number { IsTrue (is_numeric_picture self.now) }

@@ -8,8 +8,9 @@ use pw_number::power::power_of_ten;
 use pw_number::scaled::Scaled;
 use pw_number::size_error::SizeError;
 
-/// The digits of a number at these places, without a point, where they fit.
-fn size_at(value: Scaled, places: u8) -> Option<u128>
+/// The digits of a number at other places than its own, without a point, where they fit.
+#[inline(never)]
+fn size_elsewhere(value: Scaled, places: u8) -> Option<u128>
     requires { places ≤ 18 }
     ensures { SomeIff result (size_at places value < 2 ^ 128) (size_at places value) }
 {
@@ -21,8 +22,22 @@ fn size_at(value: Scaled, places: u8) -> Option<u128>
     }
 }
 
-/// The low digits of a number at these places, without a point.
-pub fn low_digits(value: Scaled, places: u8, digits: u8) -> u64
+/// The digits of a number at these places, without a point, where they fit.
+#[inline(always)]
+fn size_at(value: Scaled, places: u8) -> Option<u128>
+    requires { places ≤ 18 }
+    ensures { SomeIff result (size_at places value < 2 ^ 128) (size_at places value) }
+{
+    if value.places() == places {
+        Some(value.units().unsigned_abs())
+    } else {
+        size_elsewhere(value, places)
+    }
+}
+
+/// The low digits of a number at other places than its own, without a point.
+#[inline(never)]
+fn low_digits_elsewhere(value: Scaled, places: u8, digits: u8) -> u64
     requires places { places ≤ 18 }
     requires digits { digits ≤ 18 }
     ensures { result ≡ size_at places value % 10 ^ digits }
@@ -37,6 +52,30 @@ pub fn low_digits(value: Scaled, places: u8, digits: u8) -> u64
     (low % end) as u64
 }
 
+/// The remainder of a number by another, which is itself where it is smaller.
+#[inline(always)]
+fn remainder(number: u128, by: u128) -> u128
+    requires { 0 < by }
+    ensures value { result ≡ number % by }
+    ensures below { result < by }
+{
+    if number < by { number } else { number % by }
+}
+
+/// The low digits of a number at these places, without a point.
+#[inline]
+pub fn low_digits(value: Scaled, places: u8, digits: u8) -> u64
+    requires places { places ≤ 18 }
+    requires digits { digits ≤ 18 }
+    ensures { result ≡ size_at places value % 10 ^ digits }
+{
+    if value.places() == places {
+        remainder(value.units().unsigned_abs(), power_of_ten(digits)) as u64
+    } else {
+        low_digits_elsewhere(value, places, digits)
+    }
+}
+
 /// The sign of a number that shows these digits.
 fn sign_of(negative: bool, size: u64) -> u8
     ensures { result ≡ sign_of negative size }
@@ -44,20 +83,32 @@ fn sign_of(negative: bool, size: u64) -> u8
     if negative && size != 0 { b'-' } else { b'+' }
 }
 
-/// Writes the low digits of a value.
+/// The two digits of each number below 100.
+static PAIRS: [u8; 200] =
+    *b"00010203040506070809101112131415161718192021222324252627282930313233343536373839404142434445464748495051525354555657585960616263646566676869707172737475767778798081828384858687888990919293949596979899";
+
+/// Writes the low digits of a value, two at a time.
+#[inline]
 fn write_digits(size: u64, into: &mut [u8])
     ensures { into.new ≡ digits_of (length into.old) size }
 {
     let mut rest = size;
     let mut at = into.len();
-    while at > 0 {
-        at -= 1;
-        into[at] = b'0' + (rest % 10) as u8;
-        rest /= 10;
+    while at > 1 {
+        at -= 2;
+        let pair = (rest % 100) as usize * 2;
+        let (tens, ones) = (PAIRS[pair], PAIRS[pair + 1]);
+        into[at + 1] = ones;
+        into[at] = tens;
+        rest /= 100;
+    }
+    if at == 1 {
+        into[0] = b'0' + (rest % 10) as u8;
     }
 }
 
 /// Writes the low digits of a value, with a sign in front where there is one.
+#[inline]
 fn write_chars(digits: u8, sign: bool, negative: bool, size: u64, into: &mut [u8])
     requires { length into.old ≡ (if sign then digits + 1 else digits) }
     ensures { into.new ≡ chars_of digits sign negative size }
@@ -71,28 +122,25 @@ fn write_chars(digits: u8, sign: bool, negative: bool, size: u64, into: &mut [u8
     }
 }
 
-impl Picture {
-    /// Whether `store` takes a value: no integer digit is lost, and a negative value meets a sign.
-    fn keeps(&self, value: Scaled) -> bool
-        requires { IsPicture self.now }
-        ensures { result ≡ is_kept self.now value }
-    {
-        let Picture::Number {
-            digits,
-            places,
-            signed,
-        } = self
-        else {
-            return false;
-        };
-        match size_at(value, *places) {
-            Some(size) => size < power_of_ten(*digits) && (*signed || value.units() >= 0),
-            None => false,
-        }
+/// The digits of a number as `store` keeps it: none where an integer digit would be lost, or a negative value meets no sign.
+#[inline(always)]
+fn kept(digits: u8, places: u8, signed: bool, value: Scaled) -> Option<u64>
+    requires digits { digits ≤ 18 }
+    requires places { places ≤ 18 }
+    ensures { SomeIff result (IsTrue (is_kept (Picture.Number digits places signed) value)) (size_at places value % 10 ^ digits) }
+{
+    let size = size_at(value, places)?;
+    if size < power_of_ten(digits) && (signed || value.units() >= 0) {
+        Some(size as u64)
+    } else {
+        None
     }
+}
 
+impl Picture {
     /// Moves a number into an item: decimals beyond the picture's are cut, high digits are dropped,
     /// and the sign where there is none. The picture is a Number.
+    #[inline]
     pub fn move_to(&self, value: Scaled, into: &mut [u8])
         requires picture { IsPicture self.now }
         requires number { IsTrue (is_numeric_picture self.now) }
@@ -114,6 +162,7 @@ impl Picture {
     ///
     /// It is SizeError exactly where an integer digit would be lost, or a negative value meets no
     /// sign. Then nothing is stored.
+    #[inline(always)]
     pub fn store(&self, value: Scaled, into: &mut [u8]) -> Result<(), SizeError>
         requires picture { IsPicture self.now }
         requires number { IsTrue (is_numeric_picture self.now) }
@@ -121,10 +170,16 @@ impl Picture {
         ensures succeeds { IsOk result ↔ IsTrue (is_kept self.now value) }
         ensures chars { into.new ≡ stored self.now value into.old }
     {
-        if !self.keeps(value) {
+        let Picture::Number {
+            digits,
+            places,
+            signed,
+        } = self
+        else {
             return Err(SizeError);
-        }
-        self.move_to(value, into);
+        };
+        let size = kept(*digits, *places, *signed, value).ok_or(SizeError)?;
+        write_chars(*digits, *signed, value.units() < 0, size, into);
         Ok(())
     }
 }

@@ -1,23 +1,14 @@
--- High digits may be dropped before zeros follow.
-use Rattle.std.proofs.Common.{◌≡◌, ◌%◌, ◌∙◌, ap, FitsSigned, unsigned_abs, rules, arith, to_z-of_z}
+-- At its own places a number's digits are those of its units.
+use Rattle.std.proofs.Common.{◌≡◌, ◌%◌, ◌∙◌, ap, FitsSigned, unsigned_abs, rules, to_z-of_z}
 use Rattle.std.specs.Int.{w128}
-use Rattle.std.proofs.lemmas.Nat.{mul-mod_first}
 use Rattle.pw_picture.specs.Stored.{size_at}
-use Rattle.pw_picture.proofs.Digits.{size_at-cut, size_at-raised}
+use Rattle.pw_picture.proofs.Digits.{size_at-own}
 use Rattle.pw_picture.proofs.store.low_digits.Goals as goal
-use Rattle.pw_picture.proofs.store.low_digits.Goals.{then-places, else-places}
 
-pub returns : goal.returns
-returns c =
+pub returns-then-places : goal.returns-then-places
+returns-then-places c =
     let fits : FitsSigned w128 c.units.result = search rules in
-    let size_is : c.unsigned_abs-size.result ≡ unsigned_abs c.args.value.units = rw c.units.ensures.units at (simp to_z-of_z at c.unsigned_abs-size.ensures.value) in
-    let end_is = c.power_of_ten-end.ensures.value in
-    let low : c.if-places.low % c.power_of_ten-end.result ≡ size_at c.args.places c.args.value % c.power_of_ten-end.result =
-    elim c.if-places.branch [
-      | then-places w ↦ ap (λ m. m % c.power_of_ten-end.result)
-          (w.low-is ∙ size_at-cut c.args.value c.args.places c.unsigned_abs-size.result w.places-then-places.result w.power_of_ten.result size_is w.places-then-places.ensures.places (omega arith) w.power_of_ten.ensures.value)
-      | else-places w ↦ ap (λ m. m % c.power_of_ten-end.result) w.low-is
-          ∙ mul-mod_first c.unsigned_abs-size.result w.power_of_ten-else-places.result c.power_of_ten-end.result
-          ∙ ap (λ m. m % c.power_of_ten-end.result) (size_at-raised c.args.value c.args.places c.unsigned_abs-size.result w.places-else-places.result w.power_of_ten-else-places.result size_is w.places-else-places.ensures.places (omega arith) w.power_of_ten-else-places.ensures.value)
-    ] in
-    low ∙ ap (λ e. size_at c.args.places c.args.value % e) end_is
+    let size_is : c.unsigned_abs.result ≡ unsigned_abs c.args.value.units = rw c.units.ensures.units at (simp to_z-of_z at c.unsigned_abs.ensures.value) in
+    let own : c.unsigned_abs.result ≡ size_at c.args.places c.args.value =
+    size_at-own c.args.value c.args.places c.unsigned_abs.result c.places.result size_is c.places.ensures.places c.if-places.true in
+    c.remainder.ensures.value ∙ ap (λ m. m % c.power_of_ten.result) own ∙ ap (λ e. size_at c.args.places c.args.value % e) c.power_of_ten.ensures.value
