@@ -1,4 +1,4 @@
-ghost use Rattle.std.specs.Prelude.{◌≡◌, ◌<◌, ◌≤◌, ◌^◌, Bool, false, FitsSigned, IfSome, IfNone, unsigned_abs};
+ghost use Rattle.std.specs.Prelude.{◌≡◌, ◌<◌, ◌≤◌, ◌^◌, ◌*ℤ◌, pos, Bool, false, FitsSigned, IfSome, IfNone, unsigned_abs};
 ghost use Rattle.std.specs.Int.{w128};
 ghost use Rattle.std.specs.Option.{SomeIff};
 ghost use Rattle.pw_number.specs.Number.{number, is_short};
@@ -17,18 +17,16 @@ pub(crate) fn sized(units: i128, places: u8) -> Result<Scaled, SizeError>
     Scaled::new(units, places).ok_or(SizeError)
 }
 
-impl Scaled {
-    /// The units of the same value with zeros behind them, at more places, where they fit.
-    #[inline(never)]
-    fn with_zeros(self, places: u8) -> Option<i128>
-        requires more { self.places ≤ places }
-        requires few { places ≤ 18 }
-        ensures { SomeIff result (FitsSigned w128 (raised places self)) (raised places self) }
-    {
-        self.units()
-            .checked_mul(power_of_ten(places - self.places()) as i128)
-    }
+/// Units with so many zeros behind them, where they fit.
+#[inline(never)]
+fn with_zeros(units: i128, zeros: u8) -> Option<i128>
+    requires { zeros ≤ 18 }
+    ensures { SomeIff result (FitsSigned w128 (units *ℤ pos (10 ^ zeros))) (units *ℤ pos (10 ^ zeros)) }
+{
+    units.checked_mul(power_of_ten(zeros) as i128)
+}
 
+impl Scaled {
     /// The units of the same value at its own places or at more, where they fit.
     #[inline(always)]
     pub(crate) fn raised(self, places: u8) -> Option<i128>
@@ -40,7 +38,7 @@ impl Scaled {
         if places == self.places() {
             Some(self.units())
         } else {
-            self.with_zeros(places)
+            with_zeros(self.units(), places - self.places())
         }
     }
 
