@@ -3,6 +3,4 @@
 #![tactic(auto)]
 
 pub mod read;
-#[cfg(test)]
-mod tests;
 pub mod words;

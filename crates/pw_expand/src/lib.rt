@@ -12,5 +12,3 @@ mod number;
 pub mod play;
 pub mod print;
 pub mod systems;
-#[cfg(test)]
-mod tests;

@@ -4,8 +4,6 @@
 
 mod ends;
 mod rule;
-#[cfg(test)]
-mod tests;
 mod types;
 
 pub use ends::lane;

@@ -1,7 +1,9 @@
 //! Tests of whole systems: programs of whole decks against answers by hand, worlds that go round by claim, run_task and apply,
-//! and runs with workers.
+//! runs with workers, and a lane.
 #![tactic(auto)]
 
+#[cfg(test)]
+mod lanes;
 #[cfg(test)]
 mod scenes;
 #[cfg(test)]

@@ -7,6 +7,4 @@ pub mod images;
 pub mod laws;
 pub mod printing;
 pub mod show;
-#[cfg(test)]
-mod tests;
 mod values;

@@ -1,4 +1,6 @@
-use crate::lane;
+//! A lane between a primary and its backup.
+
+use pw_link::lane;
 use std::test::Fail;
 
 #[test]
