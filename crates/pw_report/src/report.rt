@@ -11,7 +11,7 @@ use pw_base::list::List;
 use pw_base::memory::Memory;
 use pw_read_back::naming::naming_laws;
 use pw_report_text::laws::printed_is_the_report;
-use pw_report_text::listing;
+use pw_report_text::listing::{self, ReportParts};
 use pw_tmf::disc::Disc;
 use pw_tmf::laws::committed_laws;
 use pw_world::world::World;
@@ -46,15 +46,14 @@ pub fn report<D: Disc>(alloc: Global, world: &World<D>) -> Result<Bytes, Memory>
     printed_is_the_report();
     let order = blocks(alloc, world)?;
     let files = files(alloc, world)?;
-    listing::report(
-        alloc,
-        world.system(),
-        order.as_slice(),
-        world.screens(),
-        files.as_slice(),
-        world.log(),
-        world.finished(),
-    )
+    let parts = ReportParts {
+        order: order.as_slice(),
+        refreshes: world.screens(),
+        files: files.as_slice(),
+        log: world.log(),
+        finished: world.finished(),
+    };
+    listing::report(alloc, world.system(), parts)
 }
 
 /// The FILES part of that report.
