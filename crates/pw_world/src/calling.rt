@@ -77,8 +77,7 @@ pub fn call_behind<D: Disc>(ledger: &mut Ledger, keep: &Keep<D>, entry: &Event, 
             ledger.call(Actor::Pair(tcp_of(keep.system(), terminal)));
         }
         Event::Applied { terminal } => {
-            ledger.call(Actor::Terminal(terminal));
-            call_pair(ledger, keep, tcp_of(keep.system(), terminal));
+            call_applied(ledger, keep, tcp_of(keep.system(), terminal));
         }
         Event::Send { class, .. } => ledger.call(Actor::Class(class)),
         Event::Take { class, process, .. } => {
@@ -156,12 +155,18 @@ fn call_class<D: Disc>(ledger: &mut Ledger, keep: &Keep<D>, class: u32)
     }
 }
 
-/// A pair is called where it raises a backup, or a message is in flight.
-fn call_pair<D: Disc>(ledger: &mut Ledger, keep: &Keep<D>, tcp: u32)
+/// A pair is called where it raises a backup, or a message is in flight; and once it has taken all messages in,
+/// its terminals are. So those that it takes in last are not passed over by those that it takes in first.
+fn call_applied<D: Disc>(ledger: &mut Ledger, keep: &Keep<D>, tcp: u32)
     ensures { ledger.new ≡ ledger.old }
 {
-    if is_actor(keep.system(), Actor::Pair(tcp)) && is_at_work(keep.pair(tcp)) {
+    if !is_actor(keep.system(), Actor::Pair(tcp)) {
+        return;
+    }
+    if is_at_work(keep.pair(tcp)) {
         ledger.call(Actor::Pair(tcp));
+    } else {
+        call_seats(ledger, keep.pair(tcp).seats());
     }
 }
 
