@@ -1,3 +1,5 @@
+pub mod Blank
+pub mod Digits
 pub mod Filed
 pub mod OneLines
 pub mod Printed

@@ -1,36 +1,19 @@
 ghost use Rattle.std.specs.Prelude.{◌≡◌, ◌<◌, ◌++◌, ◌∷◌, [], length, if◌then◌else◌, codes, OnOk};
 ghost use Rattle.std.specs.Fmt.{decimal};
-ghost use Rattle.pw_event.specs.Line.{IsNamed, sentence};
+ghost use Rattle.pw_event.specs.Line.{sentence};
 ghost use Rattle.pw_report_text.specs.Blocks.{IsBlockOf};
-ghost use Rattle.pw_report_text.specs.Lines.{block_line, entry_line, header, how_text, last_line, line, record_line, refresh_part};
+ghost use Rattle.pw_report_text.specs.Lines.{block_line, header, how_text, last_line, line, record_line, refresh_part};
 
+use crate::rows::print_rows;
+use crate::words::{print_last_word, print_number, print_refresh_number, print_word};
 use pw_base::bytes::Bytes;
 use pw_base::memory::Memory;
 use pw_code::lock::LockRule;
 use pw_code::system::System;
-use pw_event::event::Event;
 use pw_event::names::terminal_name;
-use pw_event::printing::{print_ending, print_event, print_number};
+use pw_event::printing::print_ending;
 use pw_onecopy::refresh::Refresh;
 use pw_serial_order::block::{Block, How};
-use pw_terminal::printing::refresh_text;
-
-/// Puts a word and the space after it behind the text. An `Err` of this and of the other calls may
-/// leave a part of the line there.
-fn print_word(text: &mut Bytes, word: &[u8]) -> Result<(), Memory>
-    ensures { OnOk result (text.new ≡ text.old ++ (word.now ++ 32 ∷ [])) }
-{
-    text.extend(word)?;
-    text.push(b' ')
-}
-
-/// Puts the last word of a line and the line's end behind the text.
-pub fn print_last_word(text: &mut Bytes, word: &[u8]) -> Result<(), Memory>
-    ensures { OnOk result (text.new ≡ text.old ++ line word.now) }
-{
-    text.extend(word)?;
-    text.push(b'\n')
-}
 
 /// Puts the line of a block behind the text.
 pub fn print_block(text: &mut Bytes, system: &System, block: &Block) -> Result<(), Memory>
@@ -61,10 +44,9 @@ fn print_unit(text: &mut Bytes, name: &[u8], unit: u32, how: How) -> Result<(), 
     ensures { OnOk result (text.new ≡ text.old
         ++ line (sentence (codes "UNIT" ∷ name.now ∷ decimal unit ∷ how_text how ∷ []))) }
 {
-    let alloc = text.allocator();
     print_word(text, b"UNIT")?;
     print_word(text, name)?;
-    print_word(text, format!(in alloc; "{unit}")?.as_bytes())?;
+    print_number(text, unit.into())?;
     print_last_word(text, how_text(how))
 }
 
@@ -85,13 +67,10 @@ pub fn print_refresh(text: &mut Bytes, system: &System, refresh: &Refresh) -> Re
     requires { refresh.now.terminal < length system.now.terminals }
     ensures { OnOk result (text.new ≡ text.old ++ refresh_part system.now refresh.now) }
 {
-    let alloc = text.allocator();
-    let number = print_number(alloc, refresh.phase, refresh.attempt, refresh.k)?;
-    let rows = refresh_text(alloc, &refresh.image)?;
     print_word(text, b"SCREEN")?;
     print_word(text, terminal_name(system, refresh.terminal))?;
-    print_last_word(text, number.as_bytes())?;
-    text.extend(rows.as_slice())
+    print_refresh_number(text, refresh.phase, refresh.attempt, refresh.k)?;
+    print_rows(text, &refresh.image)
 }
 
 /// Puts the line of a record behind the text.
@@ -108,22 +87,6 @@ pub fn print_file_name(text: &mut Bytes, name: &[u8]) -> Result<(), Memory>
 {
     print_word(text, b"FILE")?;
     print_last_word(text, name)
-}
-
-/// Puts the line of an entry behind the text: its number in the log, and its words.
-pub fn print_entry(
-    text: &mut Bytes,
-    system: &System,
-    number: usize,
-    entry: &Event,
-) -> Result<(), Memory>
-    requires { IsNamed system.now entry.now }
-    ensures { OnOk result (text.new ≡ text.old ++ entry_line system.now number entry.now) }
-{
-    let alloc = text.allocator();
-    let words = print_event(alloc, system, entry)?;
-    print_word(text, format!(in alloc; "{number}")?.as_bytes())?;
-    print_last_word(text, words.as_slice())
 }
 
 /// The header of a log under this rule.
