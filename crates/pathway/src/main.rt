@@ -13,8 +13,6 @@ mod process;
 mod runs;
 mod schedule;
 mod seeds;
-#[cfg(test)]
-mod tests;
 mod top;
 
 use crate::process::process;
