@@ -1,8 +1,6 @@
-//! Tests of the language and of programs: bytes and lists, numbers and pictures, words and texts, data and forms; sources,
-//! screens, names and code, and what they are compiled to. They stand beside their crates, since a crate with tests is proved twice.
+//! Tests of the tables of words and of the texts of refusals. They stand beside their crates, since a crate with tests is proved
+//! twice; what the language's sources come to stands in tests/tables.
 #![tactic(auto)]
 
 #[cfg(test)]
-mod language;
-#[cfg(test)]
-mod programs;
+mod words;

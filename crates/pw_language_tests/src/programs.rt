@@ -1,6 +1,0 @@
-mod code;
-mod compile;
-mod parts;
-mod scobol;
-mod screen;
-mod server;
