@@ -1,3 +1,0 @@
-mod net;
-mod pair;
-mod tcp;
