@@ -1,4 +1,5 @@
-//! Tests of decks: their sections, entries, lines of the log and disc scripts, decks that are generated, and how the program is called. They stand beside their crates, since a crate with tests is proved twice.
+//! Tests of the calls between the members of a disc pair, byte by byte, and of the input and output of a call. They stand beside
+//! their crates, since a crate with tests is proved twice.
 #![tactic(auto)]
 
 #[cfg(test)]

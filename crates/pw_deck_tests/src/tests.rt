@@ -1,11 +1,2 @@
 mod call;
-mod deck;
 mod disc_call;
-mod event;
-mod event_due;
-mod event_line;
-mod lines;
-mod pathcom;
-mod rows;
-mod script;
-mod sections;

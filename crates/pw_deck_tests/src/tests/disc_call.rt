@@ -1,44 +1,29 @@
-use pw_base::bytes::Bytes;
-use pw_code::file::{FileCall, FileOp};
-use pw_code::unit::Unit;
 use pw_disc::call::DiscCall;
 use pw_disc::decode::decode_call;
 use pw_disc::encode::encode_call;
 use pw_disc::fault::CallFault;
-use pw_disc::read_script::read_disc_script;
-use pw_disc::script::DiscLine;
-use pw_disc::units::Units;
 use std::alloc::Global;
 use std::process::Abort;
 use std::test::Fail;
 
-/// The unit of the calls below, and another one.
-const OWN: Unit = Unit {
-    terminal: 1,
-    number: 2,
-    birth: 0x0304_0506_0708_090a,
-};
+/// The bytes of a unit, and the unit as it prints.
+const UNIT_BYTES: &str = "0 0 0 1 0 0 0 2 3 4 5 6 7 8 9 10";
 
-const OTHER: Unit = Unit {
-    terminal: 0x0b0c_0d0e,
-    number: 255,
-    birth: 16,
-};
+const UNIT: &str = "Unit { terminal: 1, number: 2, birth: 217304205466536202 }";
 
-/// The bytes of the unit.
-const UNIT: &str = "0 0 0 1 0 0 0 2 3 4 5 6 7 8 9 10";
-
-/// Calls, and the bytes of their messages.
-const MESSAGES: &str = "begin|1 UNIT
-rewrite AB|2 UNIT 0 0 0 6 3 0 0 0 0 0 0 0 2 65 66
-next and lock K|2 UNIT 0 0 0 6 6 0 0 0 1 75 0 0 0 0
-commit|3 UNIT 0
-commit OK|3 UNIT 1 0 0 0 2 79 75
-back out|4 UNIT 0 0 0 0 0
-back out both and end|4 UNIT 1 0 0 0 1 11 12 13 14 0 0 0 255 0 0 0 0 0 0 0 16";
-
-/// The operations by their number.
-const OPERATIONS: &str = "read,next,write,rewrite,delete,read and lock,next and lock";
+/// The bytes of messages, and the calls that they are, as they print.
+const MESSAGES: &str = "1 UNIT|Begin(UNIT)
+2 UNIT 0 0 0 6 0 0 0 0 0 0 0 0 0|Operate(UNIT, FileCall { file: 6, op: Read, key: Bytes { bytes: [] }, content: Bytes { bytes: [] } })
+2 UNIT 0 0 0 6 1 0 0 0 0 0 0 0 0|Operate(UNIT, FileCall { file: 6, op: Next, key: Bytes { bytes: [] }, content: Bytes { bytes: [] } })
+2 UNIT 0 0 0 6 2 0 0 0 0 0 0 0 0|Operate(UNIT, FileCall { file: 6, op: Write, key: Bytes { bytes: [] }, content: Bytes { bytes: [] } })
+2 UNIT 0 0 0 6 3 0 0 0 0 0 0 0 2 65 66|Operate(UNIT, FileCall { file: 6, op: Rewrite, key: Bytes { bytes: [] }, content: Bytes { bytes: [65, 66] } })
+2 UNIT 0 0 0 6 4 0 0 0 0 0 0 0 0|Operate(UNIT, FileCall { file: 6, op: Delete, key: Bytes { bytes: [] }, content: Bytes { bytes: [] } })
+2 UNIT 0 0 0 6 5 0 0 0 0 0 0 0 0|Operate(UNIT, FileCall { file: 6, op: ReadLock, key: Bytes { bytes: [] }, content: Bytes { bytes: [] } })
+2 UNIT 0 0 0 6 6 0 0 0 1 75 0 0 0 0|Operate(UNIT, FileCall { file: 6, op: NextLock, key: Bytes { bytes: [75] }, content: Bytes { bytes: [] } })
+3 UNIT 0|Commit(UNIT, None)
+3 UNIT 1 0 0 0 2 79 75|Commit(UNIT, Some(Bytes { bytes: [79, 75] }))
+4 UNIT 0 0 0 0 0|BackOut(Units { units: [UNIT] }, false)
+4 UNIT 1 0 0 0 1 11 12 13 14 0 0 0 255 0 0 0 0 0 0 0 16|BackOut(Units { units: [UNIT, Unit { terminal: 185339150, number: 255, birth: 16 }] }, true)";
 
 /// Bytes that are no message.
 const BAD: &str = "0 UNIT
@@ -53,53 +38,12 @@ const BAD: &str = "0 UNIT
 
 /// A message as a row writes it: a number for each byte, and `UNIT` for the bytes of the unit.
 fn message(alloc: Global, row: &str) -> Result<Vec<u8>, Fail> {
-    let row = row.replace(alloc, "UNIT", UNIT)?;
+    let row = row.replace(alloc, "UNIT", UNIT_BYTES)?;
     let mut bytes = Vec::new(alloc);
     for byte in row.as_str().split(' ') {
         bytes.push(byte.parse::<u8>()?)?;
     }
     Ok(bytes)
-}
-
-/// The operation of a name.
-fn operation_of(name: &str) -> Option<FileOp> {
-    match name {
-        "read" => Some(FileOp::Read),
-        "next" => Some(FileOp::Next),
-        "write" => Some(FileOp::Write),
-        "rewrite" => Some(FileOp::Rewrite),
-        "delete" => Some(FileOp::Delete),
-        "read and lock" => Some(FileOp::ReadLock),
-        "next and lock" => Some(FileOp::NextLock),
-        _ => None,
-    }
-}
-
-/// A READ, or the like, of a key, or a writing of a content.
-fn operation(alloc: Global, op: FileOp, key: &[u8], content: &[u8]) -> Result<DiscCall, Fail> {
-    let call = FileCall {
-        file: 6,
-        op,
-        key: Bytes::from_slice(alloc, key)?,
-        content: Bytes::from_slice(alloc, content)?,
-    };
-    Ok(DiscCall::Operate(OWN, call))
-}
-
-/// The call of a name.
-fn call_of(alloc: Global, name: &str) -> Result<DiscCall, Fail> {
-    match name {
-        "begin" => Ok(DiscCall::Begin(OWN)),
-        "rewrite AB" => operation(alloc, FileOp::Rewrite, b"", b"AB"),
-        "next and lock K" => operation(alloc, FileOp::NextLock, b"K", b""),
-        "commit" => Ok(DiscCall::Commit(OWN, None)),
-        "commit OK" => Ok(DiscCall::Commit(OWN, Some(Bytes::from_slice(alloc, b"OK")?))),
-        "back out" => Ok(DiscCall::BackOut(Units::new(alloc, OWN, &[])?, false)),
-        "back out both and end" => {
-            Ok(DiscCall::BackOut(Units::new(alloc, OWN, &[OTHER])?, true))
-        }
-        _ => Err(Fail::new("no call")),
-    }
 }
 
 /// Whether bytes are no message.
@@ -118,63 +62,44 @@ fn expect_no_part(rt: &impl Abort, alloc: Global, bytes: &[u8]) -> Result<(), Fa
     Ok(())
 }
 
-/// Asserts that a call has this message and no part of it, and comes back from it.
-fn expect_message(
-    rt: &impl Abort,
-    alloc: Global,
-    call: &DiscCall,
-    bytes: &[u8],
-) -> Result<(), Fail> {
-    assert_eq!(rt; encode_call(alloc, call)?.as_slice(), bytes);
-    let read = decode_call(alloc, bytes)?;
-    assert_eq!(rt; encode_call(alloc, &read)?.as_slice(), bytes);
-    expect_no_part(rt, alloc, bytes)
+/// Asserts how a call prints.
+fn expect_text(rt: &impl Abort, alloc: Global, call: &DiscCall, wanted: &str) -> Result<(), Fail> {
+    let wanted = wanted.replace(alloc, "UNIT", UNIT)?;
+    let found = format!(in alloc; "{call:?}")?;
+    assert!(rt; found.as_str() == wanted.as_str(), "{found}");
+    Ok(())
+}
+
+/// Asserts which bytes the message of a call has.
+fn expect_bytes(rt: &impl Abort, alloc: Global, call: &DiscCall, bytes: &[u8]) -> Result<(), Fail> {
+    let message = encode_call(alloc, call)?;
+    assert!(rt; message.as_slice() == bytes);
+    Ok(())
+}
+
+/// Asserts that the bytes of a row are the message of its call, and no part of them is one.
+fn expect_message(rt: &impl Abort, alloc: Global, row: &str) -> Result<(), Fail> {
+    let (bytes, wanted) = row.split_once('|').ok_or("no call")?;
+    let bytes = message(alloc, bytes)?;
+    let call = decode_call(alloc, &bytes)?;
+    expect_text(rt, alloc, &call, wanted)?;
+    expect_bytes(rt, alloc, &call, &bytes)?;
+    expect_no_part(rt, alloc, &bytes)
 }
 
 #[test]
 fn messages_by_hand(rt: HostRuntime) -> Result<(), Fail> {
-    let alloc = rt.alloc();
     for row in MESSAGES.split('\n') {
-        let (name, bytes) = row.split_once('|').ok_or("no message")?;
-        expect_message(&rt, alloc, &call_of(alloc, name)?, &message(alloc, bytes)?)?;
-    }
-    Ok(())
-}
-
-#[test]
-fn operations_by_number(rt: HostRuntime) -> Result<(), Fail> {
-    let alloc = rt.alloc();
-    for (number, name) in OPERATIONS.split(',').enumerate() {
-        let op = operation_of(name).ok_or("no operation")?;
-        let call = operation(alloc, op, b"", b"")?;
-        let bytes = format!(in alloc; "2 UNIT 0 0 0 6 {number} 0 0 0 0 0 0 0 0")?;
-        expect_message(&rt, alloc, &call, &message(alloc, bytes.as_str())?)?;
+        expect_message(&rt, rt.alloc(), row)?;
     }
     Ok(())
 }
 
 #[test]
 fn bytes_of_no_message(rt: HostRuntime) -> Result<(), Fail> {
-    let alloc = rt.alloc();
     for row in BAD.split('\n') {
-        assert!(rt; is_bad(alloc, &message(alloc, row)?), "{row}");
-    }
-    Ok(())
-}
-
-#[test]
-fn lines_of_a_script(rt: HostRuntime) -> Result<(), Fail> {
-    let text = b"?END\nDISC PRIMARY AFTER 3\nDISC PRIMARY HELD 20\nDISC BACKUP AFTER 0";
-    let script = read_disc_script(rt.alloc(), text)?;
-    let wanted = [
-        DiscLine::Primary(3),
-        DiscLine::Held(20),
-        DiscLine::Backup(0),
-    ];
-    assert!(rt; script.lines.as_slice() == wanted.as_slice());
-    for text in "|DISC PRIMARY SOON\n?END|DISC PRIMARY AFTER 1\n ?END\nFLY".split('|') {
-        let script = read_disc_script(rt.alloc(), text.as_bytes())?;
-        assert!(rt; script.lines.is_empty(), "at {text}");
+        let bytes = message(rt.alloc(), row)?;
+        assert!(rt; is_bad(rt.alloc(), &bytes), "{row}");
     }
     Ok(())
 }
