@@ -1,0 +1,103 @@
+-- What is read of a store and put into it, by the sizes of its items.
+use Rattle.std.proofs.Common.{◌≡◌, ℕ, ◌+◌, ◌-◌, ◌≤◌, Bool, true, false, List, [], ◌∷◌, ◌++◌, length, map, take, drop, if◌then◌else◌, refl, sym, ap, ◌∙◌, subst, arith}
+use Rattle.std.proofs.lemmas.List.{append-nil, length-append, length-take, length-replicate}
+use Rattle.pw_data.specs.Store.{Cell}
+use Rattle.pw_picture.specs.Text.{fitted}
+use Rattle.pw_program_steps.specs.Texts.{HaveSizes, dealt_from, one_text, said, text_at, texts_from, texts_in, with_moved, with_moves, with_text}
+use Rattle.pw_tree_meaning.specs.Moves.{moved_chars, moves}
+use Rattle.pw_tree_meaning.specs.Operands.{ResolvedOperand, Fixed, Stored, value_in}
+use Rattle.pw_tree_meaning.specs.Store.{Spot, Store, chars_at, chars_from, lies_in, put_at, put_from}
+use Rattle.pw_tree_meaning.specs.Values.{Chars}
+
+pub length-fitted : (size : ℕ) (text : List ℕ) → length (fitted size text) ≡ size
+length-fitted size text = simp (length-append, length-take, length-replicate) (omega arith)
+
+-- ---- reading
+
+text-first : (text : List ℕ) (texts : List (List ℕ)) → text ++ one_text texts ≡ one_text (text ∷ texts)
+text-first text [] = append-nil text
+text-first text (next ∷ texts) = refl
+
+text-by : (b : Bool) (text chars : List ℕ) (texts : List (List ℕ)) → chars ≡ one_text texts
+    → (if b then text else []) ++ chars ≡ one_text (if b then text ∷ texts else texts)
+text-by true text chars texts e = ap (λ c. text ++ c) e ∙ text-first text texts
+text-by false text chars texts e = e
+
+chars_from-texts : (spot : Spot) (place : ℕ) (sizes : List ℕ) (store : Store) → HaveSizes sizes (texts_in store)
+    → chars_from spot place store ≡ one_text (texts_from spot place sizes (texts_in store))
+chars_from-texts spot place [] [] sized = refl
+chars_from-texts spot place [] (cell ∷ cells) sized = absurd sized
+chars_from-texts spot place (size ∷ sizes) [] sized = absurd sized
+chars_from-texts spot place (size ∷ sizes) (cell ∷ cells) sized =
+    let P : ℕ → Type 0 = λ n. chars_from spot place (cell ∷ cells) ≡ one_text (texts_from spot place (n ∷ sizes) (texts_in (cell ∷ cells))) in
+    subst P sized.0
+    (text-by (lies_in spot place) cell.chars _ _ (chars_from-texts spot (place + length cell.chars) sizes cells sized.1))
+
+-- what an item says
+pub chars_at-texts : (spot : Spot) (sizes : List ℕ) (store : Store) (texts : List (List ℕ)) → texts_in store ≡ texts → HaveSizes sizes texts
+    → chars_at spot store ≡ text_at spot sizes texts
+chars_at-texts spot sizes store texts is sized =
+    let P : List (List ℕ) → Type 0 = HaveSizes sizes in
+    chars_from-texts spot 0 sizes store (subst P (sym is) sized) ∙ ap (text_at spot sizes) is
+
+pub value_in-texts : (found : ResolvedOperand) (sizes : List ℕ) (store : Store) (texts : List (List ℕ)) → texts_in store ≡ texts → HaveSizes sizes texts
+    → value_in found store ≡ said sizes texts found
+value_in-texts (Stored spot) sizes store texts is sized = ap (Chars spot.picture) (chars_at-texts spot sizes store texts is sized)
+value_in-texts (Fixed value) sizes store texts is sized = refl
+
+-- ---- writing
+
+put-by : (b : Bool) (cell : Cell) (chars : List ℕ) (one other : Store) (ones others : List (List ℕ)) → texts_in one ≡ ones → texts_in other ≡ others
+    → texts_in (if b then record cell { chars = chars } ∷ one else cell ∷ other) ≡ (if b then chars ∷ ones else cell.chars ∷ others)
+put-by true cell chars one other ones others e1 e2 = ap (λ xs. chars ∷ xs) e1
+put-by false cell chars one other ones others e1 e2 = ap (λ xs. cell.chars ∷ xs) e2
+
+put_from-texts : (spot : Spot) (chars : List ℕ) (place : ℕ) (sizes : List ℕ) (store : Store) → HaveSizes sizes (texts_in store)
+    → texts_in (put_from spot chars place store) ≡ dealt_from spot chars place sizes (texts_in store)
+put_from-texts spot chars place [] [] sized = refl
+put_from-texts spot chars place [] (cell ∷ cells) sized = absurd sized
+put_from-texts spot chars place (size ∷ sizes) [] sized = absurd sized
+put_from-texts spot chars place (size ∷ sizes) (cell ∷ cells) sized =
+    let P : ℕ → Type 0 = λ n. texts_in (put_from spot chars place (cell ∷ cells)) ≡ dealt_from spot chars place (n ∷ sizes) (texts_in (cell ∷ cells)) in
+    subst P sized.0
+    (put-by (lies_in spot place) cell _ _ _ _ _
+    (put_from-texts spot (drop (length cell.chars) chars) (place + length cell.chars) sizes cells sized.1)
+    (put_from-texts spot chars (place + length cell.chars) sizes cells sized.1))
+
+pub put_at-texts : (spot : Spot) (chars : List ℕ) (sizes : List ℕ) (store : Store) (texts : List (List ℕ)) → texts_in store ≡ texts → HaveSizes sizes texts
+    → texts_in (put_at spot chars store) ≡ with_text spot chars sizes texts
+put_at-texts spot chars sizes store texts is sized =
+    let P : List (List ℕ) → Type 0 = HaveSizes sizes in
+    put_from-texts spot chars 0 sizes store (subst P (sym is) sized) ∙ ap (with_text spot chars sizes) is
+
+dealt-by : (b : Bool) (size : ℕ) (sizes chars text : List ℕ) (ones others : List (List ℕ)) → length text ≡ size → HaveSizes sizes ones → HaveSizes sizes others
+    → HaveSizes (size ∷ sizes) (if b then fitted size chars ∷ ones else text ∷ others)
+dealt-by true size sizes chars text ones others own e1 e2 = (length-fitted size chars, e1)
+dealt-by false size sizes chars text ones others own e1 e2 = (own, e2)
+
+-- the sizes stay
+pub dealt-sized : (spot : Spot) (chars : List ℕ) (place : ℕ) (sizes : List ℕ) (texts : List (List ℕ)) → HaveSizes sizes texts
+    → HaveSizes sizes (dealt_from spot chars place sizes texts)
+dealt-sized spot chars place [] [] sized = sized
+dealt-sized spot chars place [] (text ∷ texts) sized = absurd sized
+dealt-sized spot chars place (size ∷ sizes) [] sized = absurd sized
+dealt-sized spot chars place (size ∷ sizes) (text ∷ texts) sized =
+    dealt-by (lies_in spot place) size sizes chars text _ _ sized.0
+    (dealt-sized spot (drop size chars) (place + size) sizes texts sized.1)
+    (dealt-sized spot chars (place + size) sizes texts sized.1)
+
+-- ---- moves
+
+pub moves-sized : (source : ResolvedOperand) (spots : List Spot) (sizes : List ℕ) (texts : List (List ℕ)) → HaveSizes sizes texts
+    → HaveSizes sizes (with_moves source spots sizes texts)
+moves-sized source [] sizes texts sized = sized
+moves-sized source (spot ∷ spots) sizes texts sized = moves-sized source spots sizes _ (dealt-sized spot _ 0 sizes texts sized)
+
+pub moves-texts : (source : ResolvedOperand) (spots : List Spot) (sizes : List ℕ) (store : Store) (texts : List (List ℕ)) → texts_in store ≡ texts → HaveSizes sizes texts
+    → texts_in (moves source spots store) ≡ with_moves source spots sizes texts
+moves-texts source [] sizes store texts is sized = is
+moves-texts source (spot ∷ spots) sizes store texts is sized =
+    moves-texts source spots sizes _ (with_moved (said sizes texts source) spot sizes texts)
+    (put_at-texts spot _ sizes store texts is sized
+    ∙ ap (λ value. with_moved value spot sizes texts) (value_in-texts source sizes store texts is sized))
+    (dealt-sized spot _ 0 sizes texts sized)

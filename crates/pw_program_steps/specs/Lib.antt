@@ -1,0 +1,4 @@
+pub mod Known
+pub mod Meets
+pub mod Texts
+pub mod Totals
