@@ -1,3 +1,7 @@
 mod Sums
 mod Singles
 mod Machines
+mod Requester
+mod Paths
+mod Server
+mod Redo

@@ -1,6 +1,6 @@
 -- What a deck asks and does whose terminals have every entry counted: for each entry of a key one SEND, to whose server the
 -- key's record is the number of its requests so far.
-use Rattle.std.specs.Prelude.{◌≡◌, ℕ, ◌+◌, ◌<◌, ◌≤◌, ◌==◌, List, [], ◌∷◌, ◌++◌, length, slice_get, codes, Option, Some, None, if◌then◌else◌}
+use Rattle.std.specs.Prelude.{◌≡◌, ℕ, zero, suc, ◌+◌, ◌<◌, ◌≤◌, List, [], ◌∷◌, ◌++◌, length, slice_get, codes, Option, Some, None}
 use Rattle.std.specs.List.{AllByRecursion}
 use Rattle.pw_code.specs.declared.verb.Verb.{Verb}
 use Rattle.pw_code.specs.declared.verb.Verb.TheVariants as verb
@@ -32,7 +32,8 @@ rounds replies = rounds_from 1 replies
 -- what is asked behind a reply: to show it, or the run fault of a code that is not foreseen
 abbrev pub asked_behind : Option ℕ → Verb
 asked_behind None = verb.Fault 204
-asked_behind (Some code) = if code == 0 then verb.Show else verb.Fault 204
+asked_behind (Some zero) = verb.Show
+asked_behind (Some (suc code)) = verb.Fault 204
 
 -- The terminal runs in rounds, one for each entry, where all replies so far have code 0: it awaits an entry, sends that entry's
 -- key, and shows the reply.
