@@ -1,0 +1,9 @@
+mod Filed
+mod Fitting
+mod More
+mod Paths
+mod Places
+mod Sameness
+mod Served
+mod Told
+mod Valids
