@@ -1,0 +1,7 @@
+pub mod Follows
+pub mod Runs
+pub mod Forms
+pub mod Screens
+pub mod Statements
+pub mod Programs
+pub mod Units
