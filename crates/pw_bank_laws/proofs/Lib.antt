@@ -1,7 +1,12 @@
 pub mod Trees
+pub mod Tellers
 pub mod Read
 pub mod Numbers
+pub mod Amounts
+pub mod Codes
 pub mod Account
 pub mod Total
 pub mod Posts
 pub mod Steps
+pub mod Teller
+pub mod Units

@@ -42,7 +42,7 @@ drop-first n xs ys long = drop-append-le n xs ys (omega (arith, long)) ∙ ap (�
 
 -- ---- numbers
 
-length-digits : (count size : ℕ) → length (digits_of count size) ≡ count
+pub length-digits : (count size : ℕ) → length (digits_of count size) ≡ count
 length-digits zero size = refl
 length-digits (suc count) size = omega (arith, length-digits count size)
 

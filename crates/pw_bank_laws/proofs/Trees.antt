@@ -21,10 +21,10 @@ use Rattle.pw_tree_meaning.specs.Program.{Program}
 -- ---- items
 
 -- an elementary item outside OCCURS, a group, and what a text and a number hold
-abbrev elementary : ℕ → List ℕ → ItemKind → ℕ → ℕ → Item
+abbrev pub elementary : ℕ → List ℕ → ItemKind → ℕ → ℕ → Item
 elementary level name k at size = record { name = Some name; level = level; linked = false; kind = Some k; at = at; size = size; occurs = 0; step = 0 }
 
-abbrev group : ℕ → List ℕ → ℕ → ℕ → Item
+abbrev pub group : ℕ → List ℕ → ℕ → ℕ → Item
 group level name at size = record { name = Some name; level = level; linked = false; kind = None; at = at; size = size; occurs = 0; step = 0 }
 
 abbrev account_items : List Item
@@ -73,19 +73,19 @@ total_storage = codes "               00000000000000000000000"
 
 -- ---- statements, all of line 1
 
-abbrev own : List ℕ → Operand
+abbrev pub own : List ℕ → Operand
 own name = operands.Item name None
 
-abbrev move : Operand → List ℕ → Statement
+abbrev pub move : Operand → List ℕ → Statement
 move from to = form.Move 1 from (own to ∷ [])
 
-abbrev add : Operand → List ℕ → arithmetic.ArithmeticForm
+abbrev pub add : Operand → List ℕ → arithmetic.ArithmeticForm
 add first second = record { operation = operation.Add; first = first; second = own second; giving = None }
 
-abbrev compare : List ℕ → Bool → Operator → Operand → ConditionForm
+abbrev pub compare : List ℕ → Bool → Operator → Operand → ConditionForm
 compare left negated op right = record { any = (comparison.Compare (own left) negated op right ∷ []) ∷ [] }
 
-abbrev paragraph : List ℕ → List Statement → Paragraph
+abbrev pub paragraph : List ℕ → List Statement → Paragraph
 paragraph name body = record { name = name; line = 1; body = body }
 
 -- what MAIN of ACCOUNT-P does behind the work: it replies

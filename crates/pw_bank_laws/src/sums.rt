@@ -1,6 +1,8 @@
 ghost use Rattle.std.specs.Prelude.{◌≡◌, List};
 ghost use Rattle.pw_bank_laws.specs.Balances.{posted, sum_of_balances};
 ghost use Rattle.pw_bank_laws.specs.Servers.{BankChoices, whole_bank};
+ghost use Rattle.pw_bank_laws.specs.Teller.{teller_bank};
+ghost use Rattle.pw_code.specs.declared.field.ScreenTable.{ScreenTable};
 ghost use Rattle.pw_code.specs.declared.lock.LockRule.{LockRule};
 ghost use Rattle.pw_event.specs.declared.event.Event.{Event};
 ghost use Rattle.pw_invariants.specs.Invariants.{stepped};
@@ -49,4 +51,30 @@ pub fn bank_sums_are_as_posted()
     measures_step_by_requests::<AnyRecords, i64>();
     measures_step_by_units::<AnyRecords, i64>();
     deck_laws();
+}
+
+/// The requests of each unit of TELLER that runs alone and commits bring every sum back to itself: a transfer commits only where
+/// both its postings have code 0, and these are of an amount and of its negative; an inquiry and a total post nothing.
+pub fn bank_units_balance()
+    ensures { (rule : LockRule) (screens : List ScreenTable) (bank : BankChoices) → IsSoundDeck (teller_bank screens bank)
+        → UnitsBalance (behaviour rule (teller_bank screens bank)) (λ records. Unit {0}) posted }
+{
+    deck_laws();
+}
+
+/// The bank of decks/applications/bank.deck, with any number of terminals that run TELLER, any screens and entries, any records and
+/// any failures: in every run, behind each entry, the sum of all balances is the initial one; so is that of the balances that a
+/// report prints.
+pub fn bank_sum_stays()
+    ensures committed { (rule : LockRule) (screens : List ScreenTable) (bank : BankChoices) → IsSoundDeck (teller_bank screens bank)
+        → let sys : Behaviour = behaviour rule (teller_bank screens bank) in
+        (log : List Event) → IsRun sys log
+        → sum_of_balances (committed_files sys (after sys log)) ≡ sum_of_balances sys.records }
+    ensures reported { (rule : LockRule) (screens : List ScreenTable) (bank : BankChoices) → IsSoundDeck (teller_bank screens bank)
+        → let sys : Behaviour = behaviour rule (teller_bank screens bank) in
+        (log : List Event) → IsRun sys log
+        → sum_of_balances (one_copy sys (blocks sys log)).files ≡ sum_of_balances sys.records }
+{
+    bank_sums_are_as_posted();
+    bank_units_balance();
 }
