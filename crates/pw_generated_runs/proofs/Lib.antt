@@ -5,3 +5,10 @@ mod Requester
 mod Paths
 mod Server
 mod Redo
+mod Texts
+mod Tables
+mod Sections
+mod Generated
+mod Raised
+mod Failing
+mod Finished

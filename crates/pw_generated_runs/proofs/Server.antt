@@ -99,7 +99,7 @@ is-stored n few s =
 -- ---- the records
 
 -- what holds of each of the ten digits holds of all
-ten : (P : ℕ → Type 0) → P 0 → P 1 → P 2 → P 3 → P 4 → P 5 → P 6 → P 7 → P 8 → P 9 → (d : ℕ) → d < 10 → P d
+pub ten : (P : ℕ → Type 0) → P 0 → P 1 → P 2 → P 3 → P 4 → P 5 → P 6 → P 7 → P 8 → P 9 → (d : ℕ) → d < 10 → P d
 ten P a b c e f g h i j k zero lt = a
 ten P a b c e f g h i j k (suc zero) lt = b
 ten P a b c e f g h i j k (suc (suc zero)) lt = c

@@ -14,7 +14,7 @@ abbrev pub hit : ℕ → ℕ → ℕ
 hit digit d = if digit == d then 1 else 0
 
 -- sums of functions that agree
-sum-same : (n : ℕ) (f g : ℕ → ℕ) → ((j : ℕ) → j < n → f j ≡ g j) → sum_below n f ≡ sum_below n g
+pub sum-same : (n : ℕ) (f g : ℕ → ℕ) → ((j : ℕ) → j < n → f j ≡ g j) → sum_below n f ≡ sum_below n g
 sum-same zero f g same = refl
 sum-same (suc n) f g same = omega (arith, sum-same n f g (λ j lt. same j (omega (arith, lt))), same n (omega arith))
 
@@ -34,7 +34,7 @@ sum-grows (suc n) f g t more lt others grown = go (eqb n t) refl (λ less. sum-g
         omega (arith, others n other, before less)
 
 -- numbers that are nowhere larger
-sum-most : (n : ℕ) (f g : ℕ → ℕ) → ((j : ℕ) → f j ≤ g j) → sum_below n f ≤ sum_below n g
+pub sum-most : (n : ℕ) (f g : ℕ → ℕ) → ((j : ℕ) → f j ≤ g j) → sum_below n f ≤ sum_below n g
 sum-most zero f g most = omega arith
 sum-most (suc n) f g most = omega (arith, sum-most n f g most, most n)
 
