@@ -1,6 +1,6 @@
-mod Calling
+pub mod Calling
 mod Comings
-mod Counting
+pub mod Counting
 mod DiscRuns
 mod Finding
 mod Left

@@ -1,5 +1,5 @@
 -- How a run over a trail has ended.
-use Rattle.std.proofs.Common.{◌≡◌, ◌≢◌, ℕ, zero, suc, ◌-◌, ◌/◌, ◌<◌, ◌≤◌, Bool, true, false, List, [], length, refl, sym, ◌∙◌, ap, subst, arith}
+use Rattle.std.proofs.Common.{◌≡◌, ◌≢◌, ℕ, zero, suc, ◌-◌, ◌/◌, ◌<◌, ◌≤◌, Bool, true, false, List, [], ◌++◌, length, refl, sym, ◌∙◌, ap, subst, arith}
 use Rattle.std.specs.Prelude.{Ok}
 use Rattle.pw_code.specs.Limits.{most_log_lines}
 use Rattle.pw_code.specs.declared.file.FileInfo.{FileInfo}
@@ -19,7 +19,7 @@ use Rattle.pw_paired.specs.Step.{IsRun, after, is_finished}
 use Rattle.pw_paired.specs.Units.{committed_files}
 use Rattle.pw_deck_runs.proofs.Counting.{commits-are}
 use Rattle.pw_deck_runs.specs.recovery.Commits.{commits}
-use Rattle.pw_deck_runs.specs.recovery.Kept.{EndsBehind, HasStopped, IsKept, TrailState, life_to, told_in, units_of}
+use Rattle.pw_deck_runs.specs.recovery.Kept.{EndsBehind, HasStopped, IsKept, TrailState, life_to, told_in, units_since}
 use Rattle.pw_deck_runs.specs.recovery.Ran.{EndsOver, RanOverTrail}
 use Rattle.pw_deck_runs.specs.recovery.Runs.{AreAfter, EndsRecoveredRun, RecoversTo, as_recovered}
 use Rattle.pw_deck_runs.specs.declared.recovery.ending.Recovered.{Recovered}
@@ -35,13 +35,13 @@ use Rattle.pw_trail.specs.declared.changes.UnitChanges.{UnitChanges}
 use Rattle.pw_volume.specs.Life.{Life}
 use Rattle.pw_workers.specs.Ends.{RunGoesOn, IsFor}
 
-over : (files : List FileInfo) (life : Life) (events : ℕ) (sys : Behaviour) (log : List Event) (ended : LogEnding)
-    → EndsAs ended events sys log → EndsOver (as_recovered ended) life files events sys log
-over files life events sys log ended.Regular h = h
-over files life events sys log ended.Irregular h = h
-over files life events sys log ended.Full h = h
+over : (files : List FileInfo) (before : List UnitChanges) (life : Life) (events : ℕ) (sys : Behaviour) (log : List Event)
+    (ended : LogEnding) → EndsAs ended events sys log → EndsOver (as_recovered ended) before life files events sys log
+over files before life events sys log ended.Regular h = h
+over files before life events sys log ended.Irregular h = h
+over files before life events sys log ended.Full h = h
 
-module _ (files : List FileInfo) (life : Life) (system : System) (lines : List FailLine) (events faults : ℕ)
+module _ (files : List FileInfo) (before : List UnitChanges) (life : Life) (system : System) (lines : List FailLine) (events faults : ℕ)
     (world : Seen) (records : ℕ → List (List ℕ)) (same : IsFor system lines [] events faults world)
     (run : IsRun (sys_of world) world.log)
     (are : records ≡ committed_files (sys_of world) (state_of world)) where
@@ -61,17 +61,19 @@ module _ (files : List FileInfo) (life : Life) (system : System) (lines : List F
 
   -- as its log says
   pub ran-ended : (ended : LogEnding) → EndsAs ended events sys world.log
-      → RanOverTrail files life sys events (as_recovered ended) records
+      → RanOverTrail files before life sys events (as_recovered ended) records
   ran-ended ended ends = record {
     log = world.log;
     run = is-run;
-    ends = over files life events sys world.log ended ends;
+    ends = over files before life events sys world.log ended ends;
     are = are-committed;
   }
 
   -- by a fault of the disk
-  module _ (trail : TrailState) (kept : IsKept files life trail) (tells : told_in trail ≡ world.kept.disc)
-      (is : records ≡ committed (told_in trail)) (leads : LeadsTo trail.files (told_in trail) trail.disk.synced) where
+  module _ {S : Type 0} (held : S → List ℕ) (images : S → List ℕ → Type 0) (settled : S → List ℕ) (lasts : S → Life)
+      (trail : TrailState S) (kept : IsKept held images settled lasts files before life trail)
+      (tells : told_in trail ≡ world.kept.disc) (is : records ≡ committed (told_in trail))
+      (leads : LeadsTo trail.files (told_in trail) (settled trail.disk)) where
     has-failed : faults ≡ 0 → HasFailed world → trail.is_broken ≡ true
     has-failed none failed = by trail.is_broken refl
       where
@@ -80,22 +82,23 @@ module _ (files : List FileInfo) (life : Life) (system : System) (lines : List F
         by false goes =
             absurd (omega (arith, (kept.goes goes).faults, ap (λ (t : Told). t.faults) tells, failed.1, same.count, none))
 
-    are-after : (units : List UnitChanges) → HasStopped life units trail
-        → AreAfter (length units) files (committed_files sys (after sys world.log))
+    are-after : (units : List UnitChanges) → HasStopped images settled before life units trail
+        → AreAfter before (length units) files (committed_files sys (after sys world.log))
     are-after units stop =
-        let read : files_read trail.files (Ok units) ≡ Ok (committed (told_in trail)) =
-        ap (files_read trail.files) (sym stop.settled) ∙ leads in
-        let own : committed (told_in trail) ≡ files_after trail.files units = cc in
+        let read : files_read trail.files (Ok (before ++ units)) ≡ Ok (committed (told_in trail)) =
+        ap (files_read trail.files) (sym stop.synced) ∙ leads in
+        let own : committed (told_in trail) ≡ files_after trail.files (before ++ units) = cc in
         record {
           units = units;
           many = refl;
-          are = sym are-committed ∙ (is ∙ (own ∙ ap (λ (fs : List FileInfo). files_after fs units) kept.files_are));
+          are = sym are-committed ∙ (is ∙ (own ∙ ap (λ (fs : List FileInfo). files_after fs (before ++ units)) kept.files_are));
         }
 
     pub ran-stopped : faults ≡ 0 → HasFailed world → RunGoesOn world → length world.log ≤ world.limit → events ≤ most_log_lines
-        → world.kept.disc.commits ≡ commits_in (sys_of world) world.log → RanOverTrail files life sys events Stopped records
+        → world.kept.disc.commits ≡ commits_in (sys_of world) world.log → RanOverTrail files before life sys events Stopped records
     ran-stopped none failed on room few counts =
-        let stop : HasStopped life (units_of trail) trail = kept.stopped (has-failed none failed) in
+        let units : List UnitChanges = units_since settled before trail in
+        let stop : HasStopped images settled before life units trail = kept.stopped (has-failed none failed) in
         let within : commits_in (sys_of world) world.log ≤ length world.log = commits-within (sys_of world) (starting (sys_of world)) world.log in
         let told : trail.tmf.commits ≡ commits_in (sys_of world) world.log = ap (λ (t : Told). t.commits) tells ∙ counts in
         let open_end : length world.log ≢ world.limit = λ full. on.room (full, on.unfinished) in
@@ -105,12 +108,12 @@ module _ (files : List FileInfo) (life : Life) (system : System) (lines : List F
           ends = record {
             unfinished = ap (λ (b : Behaviour). is_finished b (after b world.log)) (sym of-system) ∙ on.unfinished;
             room = omega (arith, room, same.limit_is, open_end);
-            count = length (units_of trail);
+            count = length units;
             commit =
                 ap (λ (b : Behaviour). commits b world.log) (sym of-system)
                 ∙ (commits-are (sys_of world) world.log ∙ omega (arith, told, kept.counts, within, room, same.limit_is, few));
             ends = stop.ends;
-            records = are-after (units_of trail) stop;
+            records = are-after units stop;
           };
           are = are-committed;
         }
@@ -122,7 +125,7 @@ ends-so n zero ends = absurd ends
 ends-so n (suc calls) ends = (omega arith, omega (arith, ends.0, ends.1))
 
 pub so : (recovered : Recovered) (at : ℕ) (files : List FileInfo) (events : ℕ) (deck : Behaviour) (log : List Event)
-    → EndsOver recovered (life_to at) files events deck log → EndsRecoveredRun recovered at files events deck log
+    → EndsOver recovered [] (life_to at) files events deck log → EndsRecoveredRun recovered at files events deck log
 so Regular at files events deck log h = h
 so Irregular at files events deck log h = h
 so Full at files events deck log h = h
@@ -133,21 +136,21 @@ so Stopped at files events deck log h =
       unfinished = h.unfinished;
       room = h.room;
       commit = h.commit ∙ e.1;
-      records = subst (λ (n : ℕ). AreAfter n files (committed_files deck (after deck log))) e.1 h.records;
+      records = subst (λ (n : ℕ). AreAfter [] n files (committed_files deck (after deck log))) e.1 h.records;
     }
 
 -- what a run over a trail comes to, whose records are listed
 pub recovers-to : (system : System) (sys : Behaviour) (events at : ℕ) (life : Life) (files : List FileInfo)
     (recovered : Recovered) (records : ℕ → List (List ℕ)) (text : List ℕ)
     → ((log : List Event) → IsRun sys log → files_part system (committed_files sys (after sys log)) ≡ files_text system sys log)
-    → life ≡ life_to at → files ≡ system.files → RanOverTrail files life sys events recovered records
+    → life ≡ life_to at → files ≡ system.files → RanOverTrail files [] life sys events recovered records
     → text ≡ files_part system records → RecoversTo sys system events at recovered text
 recovers-to system sys events at life files recovered records text printed lives own ran is = record {
   log = ran.log;
   run = ran.run;
   ends =
       so recovered at system.files events sys ran.log
-      (subst (λ (fs : List FileInfo). EndsOver recovered (life_to at) fs events sys ran.log) own
-      (subst (λ (l : Life). EndsOver recovered l files events sys ran.log) lives ran.ends));
+      (subst (λ (fs : List FileInfo). EndsOver recovered [] (life_to at) fs events sys ran.log) own
+      (subst (λ (l : Life). EndsOver recovered [] l files events sys ran.log) lives ran.ends));
   is = is ∙ (ap (files_part system) ran.are ∙ printed ran.log ran.run);
 }

@@ -1,10 +1,11 @@
 -- A trail that was formatted.
-use Rattle.std.proofs.Common.{◌≡◌, ◌≢◌, ℕ, zero, suc, ◌-◌, Bool, List, [], ◌∷◌, Option, None, Some, refl, sym, ◌∙◌, ap, subst, arith}
+use Rattle.std.proofs.Common.{◌≡◌, ◌≢◌, inr, ℕ, zero, suc, ◌-◌, Bool, List, [], ◌∷◌, Option, None, Some, refl, sym, ◌∙◌, ap, subst, arith}
 use Rattle.std.specs.Prelude.{Result, Ok, Err}
 use Rattle.pw_code.specs.declared.file.FileInfo.{FileInfo}
 use Rattle.pw_code.specs.declared.system.System.{System}
 use Rattle.pw_deck_runs.proofs.Calling.{starts}
-use Rattle.pw_deck_runs.specs.recovery.Kept.{IsKept, TrailState, held, life_to}
+use Rattle.pw_deck_runs.specs.recovery.InMemory.{held, lives, synced}
+use Rattle.pw_deck_runs.specs.recovery.Kept.{IsKept, TrailState, life_to}
 use Rattle.pw_tmf.specs.Faulty.{with_faults}
 use Rattle.pw_tmf.specs.Starting.{told_at_start}
 use Rattle.pw_tmf.specs.Told.{Told}
@@ -53,11 +54,11 @@ stands-stopping files other disk now broken next calls read same_files same_disk
     (record { goes = stands.goes; holds = stands.holds; leaves = stands.leaves })))
 
 -- what it keeps
-pub first-kept : (trail : TrailState) (files : List FileInfo) (bytes : List ℕ) → bytes ≡ 0 ∷ []
+pub first-kept : (trail : TrailState MemDiskState) (files : List FileInfo) (bytes : List ℕ) → bytes ≡ 0 ∷ []
     → DiskHoldsUnits held MayLeave (moment trail.files trail.disk trail.is_broken) (units_in files bytes)
-    → trail.faults ≡ 0 → trail.tmf.commits ≡ 0 → IsKept trail.files (life_by trail.disk.left) trail
+    → trail.faults ≡ 0 → trail.tmf.commits ≡ 0 → IsKept held MayLeave synced lives trail.files [] (lives trail.disk) trail
 first-kept trail files bytes is stands none new =
-    starts trail
+    starts held MayLeave synced lives [] trail (inr refl)
     (subst (λ (r : Result (List UnitChanges) ℕ). DiskHoldsUnits held MayLeave (moment trail.files trail.disk trail.is_broken) r)
     (no-unit files bytes is) stands) none new
 

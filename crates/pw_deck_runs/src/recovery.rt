@@ -2,8 +2,8 @@
 
 pub mod ending;
 mod found;
-mod kept;
+pub mod kept;
 mod opened;
 pub mod recover;
-mod run;
+pub mod run;
 mod start;

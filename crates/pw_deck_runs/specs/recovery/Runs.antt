@@ -1,5 +1,5 @@
 -- What the run of a system over a trail comes to that is crashed and recovered.
-use Rattle.std.specs.Prelude.{◌≡◌, ℕ, ◌-◌, ◌/◌, ◌<◌, false, List, length}
+use Rattle.std.specs.Prelude.{◌≡◌, ℕ, ◌-◌, ◌/◌, ◌<◌, false, List, [], ◌++◌, length}
 use Rattle.pw_code.specs.declared.file.FileInfo.{FileInfo}
 use Rattle.pw_code.specs.declared.system.System.{System}
 use Rattle.pw_event.specs.declared.event.Event.{Event}
@@ -22,11 +22,11 @@ as_recovered ended.Regular = Regular
 as_recovered ended.Irregular = Irregular
 as_recovered ended.Full = Full
 
--- the records are the deck's after the changes of so many units, one after the other
-pub record AreAfter (count : ℕ) (files : List FileInfo) (records : ℕ → List (List ℕ)) : Type 0 where
+-- the records are the deck's after the changes of the units from before and of so many more, one after the other
+pub record AreAfter (before : List UnitChanges) (count : ℕ) (files : List FileInfo) (records : ℕ → List (List ℕ)) : Type 0 where
   pub units : List UnitChanges
   pub many : length units ≡ count
-  pub are : records ≡ files_after files units
+  pub are : records ≡ files_after files (before ++ units)
 
 -- The disk has failed, whose call number `at` and each later one fail: that comes only where `at` is above 0. The log
 -- goes on no more, (at - 1) / 4 units of it commit, each by four calls, and the records are those behind so many.
@@ -35,7 +35,7 @@ pub record StopsAt (at : ℕ) (files : List FileInfo) (events : ℕ) (sys : Beha
   pub unfinished : is_finished sys (after sys log) ≡ false
   pub room : length log < events
   pub commit : commits sys log ≡ (at - 1) / 4
-  pub records : AreAfter ((at - 1) / 4) files (committed_files sys (after sys log))
+  pub records : AreAfter [] ((at - 1) / 4) files (committed_files sys (after sys log))
 
 -- the run has ended as its log says, or by a fault of the disk
 abbrev pub EndsRecoveredRun : Recovered → ℕ → List FileInfo → ℕ → Behaviour → List Event → Type 0

@@ -1,4 +1,4 @@
-//! A trail through a run, which knows with which files it began, and with how long a life of its disk.
+//! A trail through a run, which knows with which files and units it began, and with how long a life of its disk.
 
 ghost use Rattle.std.specs.Prelude.{◌≡◌};
 ghost use Rattle.pw_deck_runs.specs.recovery.Kept.{IsKept, trail_state};
@@ -9,8 +9,8 @@ use pw_code::file::FileCall;
 use pw_code::unit::Unit;
 use pw_tmf::answer::{DiscFault, Ended, FileAnswer, Foreseen};
 use pw_tmf::disc::Disc;
+use pw_trail::synced::Synced;
 use pw_trail::trail::Trail;
-use pw_volume::mem_disk::MemDisk;
 use std::alloc::Global;
 use std::marker::{Brand, Model, PhantomData};
 
@@ -18,10 +18,14 @@ use std::marker::{Brand, Model, PhantomData};
 pub trait TrailNaming: Send + Sync {
     ghost use Rattle.std.specs.Prelude.{List};
     ghost use Rattle.pw_code.specs.declared.file.FileInfo.{FileInfo};
+    ghost use Rattle.pw_trail.specs.declared.changes.UnitChanges.{UnitChanges};
     ghost use Rattle.pw_volume.specs.Life.{Life};
 
     /// The files whose changes it keeps.
     ghost files: { List FileInfo };
+
+    /// The units that it had at the start.
+    ghost before: { List UnitChanges };
 
     /// How long its disk lives from the start on.
     ghost life: { Life };
@@ -33,33 +37,35 @@ impl TrailNaming for Brand {
 
     ghost files = { [] };
 
+    ghost before = { [] };
+
     ghost life = { Endless };
 }
 
-/// A trail on a disk in memory, through a run. Contracts see its files, its disk, and what it tells.
+/// A trail on a disk, through a run. Contracts see its files, its disk, and what it tells.
 #[derive(Drop)]
-pub struct KeptTrail<N: TrailNaming> {
-    trail: Trail<MemDisk>,
+pub struct KeptTrail<S: Synced, N: TrailNaming> {
+    trail: Trail<S>,
     of: PhantomData<N>,
 }
 
-impl<N: TrailNaming> Model for KeptTrail<N> {
+impl<S: Synced, N: TrailNaming> Model for KeptTrail<S, N> {
     ghost use Rattle.pw_deck_runs.specs.recovery.Kept.{IsKept as Keeps, TrailState, trail_state as state};
 
-    ghost Value = { TrailState };
+    ghost Value = { TrailState S };
 
     ghost view = { λ kept. state kept.trail.log.files kept.trail.log.disk kept.trail.log.is_broken
         kept.trail.faults kept.trail.tmf };
 
-    ghost invariant = { λ kept. Keeps N.files N.life (state kept.trail.log.files kept.trail.log.disk
-        kept.trail.log.is_broken kept.trail.faults kept.trail.tmf) };
+    ghost invariant = { λ kept. Keeps S.held S.images S.settled S.lasts N.files N.before N.life
+        (state kept.trail.log.files kept.trail.log.disk kept.trail.log.is_broken kept.trail.faults kept.trail.tmf) };
 }
 
-impl<N: TrailNaming> KeptTrail<N> {
+impl<S: Synced, N: TrailNaming> KeptTrail<S, N> {
     /// The trail that it is.
-    pub fn of(trail: Trail<MemDisk>) -> KeptTrail<N>
-        requires { IsKept N.files N.life (trail_state trail.log.files trail.log.disk trail.log.is_broken
-            trail.faults trail.tmf) }
+    pub fn of(trail: Trail<S>) -> KeptTrail<S, N>
+        requires { IsKept S.held S.images S.settled S.lasts N.files N.before N.life (trail_state trail.log.files
+            trail.log.disk trail.log.is_broken trail.faults trail.tmf) }
         ensures { result ≡ trail_state trail.log.files trail.log.disk trail.log.is_broken
             trail.faults trail.tmf }
     {
@@ -70,17 +76,17 @@ impl<N: TrailNaming> KeptTrail<N> {
     }
 
     /// The trail, as the calls left it.
-    pub fn into_trail(self) -> Trail<MemDisk>
+    pub fn into_trail(self) -> Trail<S>
         ensures is { trail_state result.log.files result.log.disk result.log.is_broken
             result.faults result.tmf ≡ self }
-        ensures keeps { IsKept N.files N.life self }
+        ensures keeps { IsKept S.held S.images S.settled S.lasts N.files N.before N.life self }
     {
         let KeptTrail { trail, .. } = self;
         trail
     }
 }
 
-impl<N: TrailNaming> Disc for KeptTrail<N> {
+impl<S: Synced + Send, N: TrailNaming> Disc for KeptTrail<S, N> {
     ghost use Rattle.pw_deck_runs.specs.recovery.Kept.{told_in};
 
     ghost told = { told_in };

@@ -2,7 +2,7 @@
 
 ghost use Rattle.std.specs.Prelude.{◌≡◌, ℕ, Err, None, IfOk};
 ghost use Rattle.pw_code.specs.Valid.{IsValid};
-ghost use Rattle.pw_deck_runs.specs.recovery.Kept.{held};
+ghost use Rattle.pw_deck_runs.specs.recovery.InMemory.{held};
 ghost use Rattle.pw_tmf.specs.Tmf.{told_of};
 ghost use Rattle.pw_trail.specs.Calls.{DiskHoldsUnits, moment};
 ghost use Rattle.pw_trail.specs.Format.{units_in};

@@ -21,6 +21,7 @@ use pw_compiled_deck::deck::{Deck, read};
 use pw_laws::serial::laws::runs_keep_their_promises;
 use pw_report::taken::let_go;
 use pw_report_text::laws::printed_is_the_report;
+use pw_volume::mem_disk::MemDisk;
 use pw_workers::bounds::RunBounds;
 use pw_workers::gate::Gate;
 use pw_world_state::setup::Setup;
@@ -100,7 +101,9 @@ fn run_beside<G: Gate, R: Threads + Wait + Sync>(
         setup.let_go();
         return Err(Memory);
     };
-    let (recovered, last) = run_known::<Brand, G, R>(rt, alloc, setup, first, bounds, gate)?;
+    let (recovered, last) = run_known::<MemDisk, Brand, G, R>(
+        rt, alloc, setup, first, bounds, gate,
+    )?;
     let text = found(alloc, own, last)?;
     Ok((recovered, text))
 }

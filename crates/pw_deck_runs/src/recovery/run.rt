@@ -18,8 +18,8 @@ use crate::recovery::ending::{Recovered, of_ended};
 use crate::recovery::kept::{KeptTrail, TrailNaming};
 use pw_base::memory::Memory;
 use pw_tmf::laws::committed_laws;
+use pw_trail::synced::Synced;
 use pw_trail::trail::Trail;
-use pw_volume::mem_disk::MemDisk;
 use pw_workers::bounds::RunBounds;
 use pw_workers::gate::Gate;
 use pw_workers::over::{RunEnding, run_over};
@@ -32,9 +32,9 @@ use std::thread::Threads;
 
 /// The trail of a world. What it tells as committed are the committed records behind the log, and it has
 /// counted the units that commit in the log.
-fn trail_of<N: TrailNaming>(world: World<KeptTrail<N>>) -> Trail<MemDisk>
-    ensures kept { IsKept N.files N.life (trail_state result.log.files result.log.disk
-        result.log.is_broken result.faults result.tmf) }
+pub fn trail_of<S: Synced + Send, N: TrailNaming>(world: World<KeptTrail<S, N>>) -> Trail<S>
+    ensures kept { IsKept S.held S.images S.settled S.lasts N.files N.before N.life (trail_state result.log.files
+        result.log.disk result.log.is_broken result.faults result.tmf) }
     ensures told { with_faults result.faults (told_of result.tmf) ≡ (seen told_in world).kept.disc }
     ensures committed { committed (told_of result.tmf)
         ≡ committed_files (sys_of (seen told_in world)) (state_of (seen told_in world)) }
@@ -51,23 +51,23 @@ fn trail_of<N: TrailNaming>(world: World<KeptTrail<N>>) -> Trail<MemDisk>
 
 /// Runs a setup within bounds over a trail: how the run ended, and the trail as it left it. Where the disk
 /// has failed, as many units of the log commit as its life has four calls for.
-pub fn run_known<N: TrailNaming, G: Gate, R: Threads + Wait + Sync>(
+pub fn run_known<S: Synced + Send, N: TrailNaming, G: Gate, R: Threads + Wait + Sync>(
     rt: &R,
     alloc: Global,
     setup: Setup,
-    trail: Trail<MemDisk>,
+    trail: Trail<S>,
     bounds: RunBounds,
     gate: &G,
-) -> Result<(Recovered, Trail<MemDisk>), Memory>
+) -> Result<(Recovered, Trail<S>), Memory>
     requires disc { IsDiscOf setup.system setup.script (with_faults trail.faults (told_of trail.tmf)) }
     requires faults { trail.faults ≡ 0 }
-    requires kept { IsKept N.files N.life (trail_state trail.log.files trail.log.disk
-        trail.log.is_broken trail.faults trail.tmf) }
-    ensures ran { IfOk result (λ ran. RanOverTrail N.files N.life (behaviour setup.script setup.system)
+    requires kept { IsKept S.held S.images S.settled S.lasts N.files N.before N.life (trail_state trail.log.files
+        trail.log.disk trail.log.is_broken trail.faults trail.tmf) }
+    ensures ran { IfOk result (λ ran. RanOverTrail N.files N.before N.life (behaviour setup.script setup.system)
         bounds.events ran.0 (committed (told_of ran.1.tmf))) }
     ensures files { IfOk result (λ ran. ran.1.log.files ≡ N.files) }
 {
-    let disc: KeptTrail<N> = KeptTrail::of(trail);
+    let disc: KeptTrail<S, N> = KeptTrail::of(trail);
     let over = run_over(rt, alloc, setup, disc, bounds, gate)?;
     match over {
         RunEnding::Ended(ended, world) => Ok((of_ended(ended), trail_of(world))),

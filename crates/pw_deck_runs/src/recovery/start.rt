@@ -2,11 +2,12 @@
 
 ghost use Rattle.std.specs.Prelude.{◌≡◌, [], ◌∷◌, None, Some, IfOk};
 ghost use Rattle.pw_code.specs.Valid.{IsValid};
+ghost use Rattle.pw_deck_runs.specs.recovery.InMemory.{held, lives, synced};
 ghost use Rattle.pw_deck_runs.specs.recovery.Kept.{IsKept, life_to, trail_state};
 ghost use Rattle.pw_tmf.specs.Faulty.{with_faults};
 ghost use Rattle.pw_tmf.specs.Starting.{told_at_start};
 ghost use Rattle.pw_tmf.specs.Tmf.{told_of};
-ghost use Rattle.pw_volume.specs.MemDisk.{life_by};
+ghost use Rattle.pw_volume.specs.MemDisk.{MayLeave, life_by};
 
 use crate::recovery::opened::opened;
 use pw_base::memory::Memory;
@@ -74,7 +75,7 @@ pub fn start(alloc: Global, system: &System, at: u32) -> Result<Trail<MemDisk>, 
     ensures told { IfOk result (λ trail. with_faults trail.faults (told_of trail.tmf) ≡ told_at_start system.now) }
     ensures files { IfOk result (λ trail. trail.log.files ≡ system.now.files) }
     ensures life { IfOk result (λ trail. life_by trail.log.disk.left ≡ life_to at) }
-    ensures kept { IfOk result (λ trail. IsKept trail.log.files (life_by trail.log.disk.left)
+    ensures kept { IfOk result (λ trail. IsKept held MayLeave synced lives trail.log.files [] (lives trail.log.disk)
         (trail_state trail.log.files trail.log.disk trail.log.is_broken trail.faults trail.tmf)) }
 {
     let disk = formatted(alloc)?;

@@ -2,7 +2,7 @@ use Rattle.std.proofs.Common.{◌≡◌, ap, sym, subst, List, ℕ}
 use Rattle.std.specs.Prelude.{IfOk}
 use Rattle.pw_report_text.specs.Listing.{files_part}
 use Rattle.pw_deck_runs.proofs.Finding.{found-same, whole}
-use Rattle.pw_deck_runs.specs.recovery.Kept.{held}
+use Rattle.pw_deck_runs.specs.recovery.InMemory.{held}
 use Rattle.pw_tmf.specs.Committed.{committed}
 use Rattle.pw_tmf.specs.Tmf.{told_of}
 use Rattle.pw_tmf.specs.Told.{Told}

@@ -22,9 +22,9 @@ returns-in-Ended g c =
     record {
       ran =
           subst
-          (λ (r : Recovered). RanOverTrail g.N.TrailNaming.files g.N.TrailNaming.life (behaviour c.args.setup.script c.args.setup.system) c.args.bounds.events r records)
+          (λ (r : Recovered). RanOverTrail g.N.TrailNaming.files g.N.TrailNaming.before g.N.TrailNaming.life (behaviour c.args.setup.script c.args.setup.system) c.args.bounds.events r records)
           (sym c.of_ended.ensures)
-          (ran-ended g.N.TrailNaming.files g.N.TrailNaming.life c.args.setup.system c.args.setup.script c.args.bounds.events
+          (ran-ended g.N.TrailNaming.files g.N.TrailNaming.before g.N.TrailNaming.life c.args.setup.system c.args.setup.script c.args.bounds.events
           (told_in c.of-disc.result).faults (seen told_in c.in-Ended.world) records leaves.0 last.run last.committed
           c.in-Ended.ended leaves.1);
       files = last.kept.files_are;
@@ -36,12 +36,12 @@ returns-in-Failed g c =
     let last = c.trail_of-in-Failed.ensures in
     let left = c.trail_of-in-Failed.result in
     let records = committed (told_of left.tmf) in
-    let counts = ap (λ (s : TrailState). (told_in s).faults) c.of-disc.ensures in
+    let counts = ap (λ (s : TrailState _). (told_in s).faults) c.of-disc.ensures in
     record {
       ran =
-          ran-stopped g.N.TrailNaming.files g.N.TrailNaming.life c.args.setup.system c.args.setup.script c.args.bounds.events
+          ran-stopped g.N.TrailNaming.files g.N.TrailNaming.before g.N.TrailNaming.life c.args.setup.system c.args.setup.script c.args.bounds.events
           (told_in c.of-disc.result).faults (seen told_in c.in-Failed.world) records leaves.0 last.run last.committed
-          (trail_state left.log.files left.log.disk left.log.is_broken left.faults left.tmf) last.kept last.told refl
+          g.S.Synced.held g.S.Synced.images g.S.Synced.settled g.S.Synced.lasts (trail_state left.log.files left.log.disk left.log.is_broken left.faults left.tmf) last.kept last.told refl
           left.settled (omega (arith, counts, c.requires.faults)) leaves.1.0 leaves.1.1 last.room c.args.bounds.room last.commits;
       files = last.kept.files_are;
     }

@@ -11,14 +11,15 @@ pub returns : goal.returns
 returns g c =
     let world = seen told_in c.args.world in
     let sys = sys_of world in
-    let state : TrailState = c.into_disc.result in
+    let state : TrailState g.row.S.Denot = c.into_disc.result in
     let told = ap told_in c.into_trail.ensures.is ∙ ap told_in c.into_disc.ensures in
     let leaves = c.run_laws.ensures.leaves sys c.holds.ensures.deck world.log c.holds.ensures.run in
     let knows = c.run_laws.ensures.knows sys c.holds.ensures.deck world.log c.holds.ensures.run in
     let tells = c.holds.ensures.stands.disc in
     let there = images-there sys (state_of world) world.kept.disc tells knows c.holds.ensures.terminals in
     record {
-      kept = subst (IsKept g.N.TrailNaming.files g.N.TrailNaming.life) (sym c.into_trail.ensures.is) c.into_trail.ensures.keeps;
+      kept = subst (IsKept g.S.Synced.held g.S.Synced.images g.S.Synced.settled g.S.Synced.lasts g.N.TrailNaming.files
+          g.N.TrailNaming.before g.N.TrailNaming.life) (sym c.into_trail.ensures.is) c.into_trail.ensures.keeps;
       told = told;
       committed =
           ap (λ (t : Told). committed t) told

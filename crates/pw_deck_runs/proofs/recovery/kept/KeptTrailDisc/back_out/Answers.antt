@@ -10,8 +10,9 @@ invariant_of-self g c =
     let new = c.back_out.new.self in
     let o = trail_state old.log.files old.log.disk old.log.is_broken old.faults old.tmf in
     let n = trail_state new.log.files new.log.disk new.log.is_broken new.faults new.tmf in
-    keeps-other g.N.TrailNaming.files g.N.TrailNaming.life
-    o n
+    keeps-other g.S.Synced.held g.S.Synced.images g.S.Synced.settled g.S.Synced.lasts
+    g.N.TrailNaming.files g.N.TrailNaming.before g.N.TrailNaming.life
+    o n (g.met.S.Synced.settled_may_stay new.log.disk)
     c.self.invariant (ap (λ log. log.files) c.back_out.ensures.log) (ap (λ log. log.disk) c.back_out.ensures.log)
     (ap (λ log. log.is_broken) c.back_out.ensures.log)
     c.back_out.ensures.steady
