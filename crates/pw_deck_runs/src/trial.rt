@@ -10,6 +10,7 @@ use pw_base::memory::Memory;
 use pw_compiled_deck::deck::{Deck, read};
 use pw_gen::generate::generate;
 use pw_gen::laws::generated_laws;
+use pw_generated_runs::laws::generated_runs_leave_counts;
 use pw_laws::serial::laws::runs_keep_their_promises;
 use pw_report::taken::files_of;
 use pw_workers::bounds::RunBounds;
@@ -23,7 +24,8 @@ use std::thread::Threads;
 
 /// Runs the deck that is generated of a seed for 1 to 64 terminals, with from 1 to 16 workers, for at
 /// most 500,000 entries (docs/DESK.md): how the run ended, and the FILES part of its report. The deck has
-/// no fault, so it is not refused. It may wait for a thread.
+/// no fault, so it is not refused. A run that is finished has ended regularly, and its text is the same at
+/// each call: it tells of each key how many entries have it. It may wait for a thread.
 pub fn trial<G: Gate, R: Threads + Wait + Sync>(
     rt: &R,
     alloc: Global,
@@ -37,6 +39,7 @@ pub fn trial<G: Gate, R: Threads + Wait + Sync>(
     ensures { IfOk result (λ output. Tries seed terminals output.0 output.1) }
 {
     generated_laws();
+    generated_runs_leave_counts();
     runs_keep_their_promises();
     let bytes = generate(alloc, seed, terminals)?;
     let deck = match read(alloc, bytes.as_slice()) {
