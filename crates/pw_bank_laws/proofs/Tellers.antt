@@ -1,5 +1,5 @@
 -- TELLER as it is read.
-use Rattle.std.proofs.Common.{◌≡◌, ℕ, Bool, true, false, List, [], ◌∷◌, Option, Some, None, refl}
+use Rattle.std.proofs.Common.{ℕ, true, false, List, [], ◌∷◌, Some}
 use Rattle.std.specs.Prelude.{codes}
 use Rattle.pw_bank_laws.proofs.Trees.{compare, elementary, group, move, own, paragraph}
 use Rattle.pw_code.specs.declared.field.ScreenTable.{ScreenTable}
@@ -7,9 +7,7 @@ use Rattle.pw_data.specs.declared.item.Item.{Item}
 use Rattle.pw_data.specs.declared.item.ItemKind.TheVariants as kind
 use Rattle.pw_forms.specs.declared.cond.Operator.TheVariants as operator
 use Rattle.pw_forms.specs.declared.lists.SendCode.{SendCode}
-use Rattle.pw_forms.specs.declared.operand.Operand.{Operand}
 use Rattle.pw_forms.specs.declared.operand.Operand.TheVariants as operands
-use Rattle.pw_forms.specs.declared.statement.ArithmeticForm as arithmetic
 use Rattle.pw_forms.specs.declared.statement.Operation.TheVariants as operation
 use Rattle.pw_forms.specs.declared.statement.Paragraph.{Paragraph}
 use Rattle.pw_forms.specs.declared.statement.Statement.{Statement}

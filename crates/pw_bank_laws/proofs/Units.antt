@@ -1,12 +1,12 @@
 -- The requests of each unit of TELLER balance.
-use Rattle.std.proofs.Common.{◌≡◌, ℕ, zero, suc, ◌<◌, List, [], ◌∷◌, length, false, refl, sym, ap, ◌∙◌, subst, arith}
+use Rattle.std.proofs.Common.{◌≡◌, ℕ, zero, suc, ◌<◌, List, length, false, refl, sym, ap, ◌∙◌, subst, arith}
 use Rattle.pw_bank_laws.proofs.Amounts.{Balance}
 use Rattle.pw_bank_laws.proofs.Read.{teller-items, teller-paragraphs}
 use Rattle.pw_bank_laws.proofs.Teller.{teller-meets, teller_sizes}
 use Rattle.pw_bank_laws.proofs.Tellers.{teller_program}
 use Rattle.pw_bank_laws.specs.Balances.{posted}
 use Rattle.pw_bank_laws.specs.Servers.{BankChoices}
-use Rattle.pw_bank_laws.specs.Teller.{teller, teller_bank, teller_data, teller_text}
+use Rattle.pw_bank_laws.specs.Teller.{teller, teller_bank, teller_text}
 use Rattle.pw_code.specs.declared.field.ScreenTable.{ScreenTable}
 use Rattle.pw_code.specs.declared.lock.LockRule.{LockRule}
 use Rattle.pw_data.specs.Layouts.{Laid}

@@ -6,7 +6,7 @@ use Rattle.pw_forms.specs.declared.cond.ComparisonForm.TheVariants as comparison
 use Rattle.pw_forms.specs.declared.operand.Operand.{Operand}
 use Rattle.pw_forms.specs.declared.operand.Operand.TheVariants as operands
 use Rattle.pw_program_steps.proofs.Texts.{value_in-texts}
-use Rattle.pw_program_steps.specs.Known.{IsKnown, KnownMoment}
+use Rattle.pw_program_steps.specs.Known.{IsKnownAt, KnownMoment}
 use Rattle.pw_program_steps.specs.Meets.{AllMeet, AnyMeets, ComparisonMeets, WithAllKnown, WithKnown}
 use Rattle.pw_program_steps.specs.Texts.{said}
 use Rattle.pw_tree_meaning.specs.Conditions.{any_holds, all_hold, compared, comparison_holds, condition_turned, holds_by, is_numeric, of_both, of_one, of_two}
@@ -54,7 +54,7 @@ or-false : (b : Bool) → (b || false) ≡ b
 or-false true = refl
 or-false false = refl
 
-module _ (program : Program) (sizes : List ℕ) (k : KnownMoment) (s : ProgramState) (known : IsKnown sizes k s) where
+module _ (program : Program) (sizes : List ℕ) (k : KnownMoment) (s : ProgramState) (known : IsKnownAt sizes k s) where
   -- a comparison holds as it is known to
   comparison-known : (c : ComparisonForm) (P : Bool → Type 0) → ComparisonMeets program sizes k c P
       → (b : Bool) × (comparison_holds program s c ≡ Some b) × P b

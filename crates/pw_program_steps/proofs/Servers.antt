@@ -5,7 +5,7 @@ use Rattle.pw_onecopy.specs.Behaviour.{Reply}
 use Rattle.pw_onecopy.specs.Behaviour as served
 use Rattle.pw_program_steps.proofs.Ends.{AsksWell, EndsWell, then-well}
 use Rattle.pw_program_steps.proofs.Statements.{Follows, alone_setting, body-well}
-use Rattle.pw_program_steps.specs.Known.{IsKnown, KnownMoment, RecordsByFile, known_start}
+use Rattle.pw_program_steps.specs.Known.{IsKnownAt, KnownMoment, RecordsByFile, known_start}
 use Rattle.pw_program_steps.specs.Meets.{BodyMeets, FlowMeets, PerformMeets, ServerMeets}
 use Rattle.pw_program_steps.specs.Texts.{HaveSizes, texts_in}
 use Rattle.pw_code.specs.declared.verb.Verb.{Verb}
@@ -23,7 +23,7 @@ module _ (deck : DeckModel) (program : Program) (sizes message : List ℕ) (repl
 
   -- a turn of a paragraph
   performed-well : (d : ℕ) (name : Word) (next : KnownMoment → Type 0) (k : KnownMoment) → PerformMeets deck program sizes message replies d name next k
-      → (s : ProgramState) → IsKnown sizes k s → EndsWell replies (Follows deck program sizes message replies next) (performed d (alone_setting deck program sizes message replies) none_called name s)
+      → (s : ProgramState) → IsKnownAt sizes k s → EndsWell replies (Follows deck program sizes message replies next) (performed d (alone_setting deck program sizes message replies) none_called name s)
   performed-well zero name next k now s known = tt
   performed-well (suc d) name next k now s known =
       body-well deck program sizes message replies (performed d (alone_setting deck program sizes message replies) none_called) (PerformMeets deck program sizes message replies d)
@@ -31,7 +31,7 @@ module _ (deck : DeckModel) (program : Program) (sizes message : List ℕ) (repl
 
   -- the paragraphs, of which the last is left without a reply
   flow-well : (paragraphs : List Paragraph) (k : KnownMoment) → FlowMeets deck program sizes message replies (PerformMeets deck program sizes message replies most_performs) paragraphs k
-      → (s : ProgramState) → IsKnown sizes k s
+      → (s : ProgramState) → IsKnownAt sizes k s
       → EndsWell replies (λ t. Unit {0}) (flow (alone_setting deck program sizes message replies) (performed most_performs (alone_setting deck program sizes message replies) none_called) none_called paragraphs s)
   flow-well [] k now s known = tt
   flow-well (paragraph ∷ paragraphs) k now s known =

@@ -23,8 +23,8 @@ use Rattle.pw_picture.specs.Stored.{is_kept, moved}
 use Rattle.pw_program_steps.proofs.Ends.{AsksWell, EndsWell, counted-well, taken-well, then-well}
 use Rattle.pw_program_steps.proofs.Operands.{all-taken, any-known, known-taken}
 use Rattle.pw_program_steps.proofs.Texts.{dealt-sized, moves-sized, moves-texts, put_at-texts, value_in-texts}
-use Rattle.pw_program_steps.specs.Known.{IsKnown, KnownMoment, RecordsByFile, with_status}
-use Rattle.pw_program_steps.specs.Meets.{AnyMeets, ArithmeticMeets, BodyMeets, BranchesOn, Changes, Finds, LoopMeets, Meets, RowMeets, WithAllKnown, WithKnown, moved_text, received}
+use Rattle.pw_program_steps.specs.Known.{IsKnownAt, KnownMoment, RecordsByFile, with_status}
+use Rattle.pw_program_steps.specs.Meets.{AnyMeets, ArithmeticMeets, BodyMeets, BranchesOn, ChangeMeets, FindMeets, LoopMeets, StatementMeets, RowMeets, WithAllKnown, WithKnown, moved_text, received}
 use Rattle.pw_program_steps.specs.Texts.{HaveSizes, said, with_moved, with_moves, with_text}
 use Rattle.pw_tree_meaning.specs.Arithmetic.{arithmetic_on, computed, operated, or_else, receiver_decimals, receiver_of, stored_by, stored_in}
 use Rattle.pw_tree_meaning.specs.Conditions.{holds}
@@ -43,11 +43,11 @@ use Rattle.pw_words.specs.Words.{Word}
 
 -- ---- what is known stays known
 
-module _ (sizes : List ℕ) (k : KnownMoment) (s : ProgramState) (known : IsKnown sizes k s) where
-  pub known-counted : IsKnown sizes k (record s { count = s.count + 1 })
+module _ (sizes : List ℕ) (k : KnownMoment) (s : ProgramState) (known : IsKnownAt sizes k s) where
+  pub known-counted : IsKnownAt sizes k (record s { count = s.count + 1 })
   known-counted = record { texts = known.texts; sized = known.sized; registers = known.registers; files = known.files }
 
-  known-put : (spot : Spot) (chars : List ℕ) → IsKnown sizes (record k { texts = with_text spot chars sizes k.texts }) (record s { store = put_at spot chars s.store })
+  known-put : (spot : Spot) (chars : List ℕ) → IsKnownAt sizes (record k { texts = with_text spot chars sizes k.texts }) (record s { store = put_at spot chars s.store })
   known-put spot chars = record {
     texts = put_at-texts spot chars sizes s.store k.texts known.texts known.sized;
     sized = dealt-sized spot chars 0 sizes k.texts known.sized;
@@ -56,7 +56,7 @@ module _ (sizes : List ℕ) (k : KnownMoment) (s : ProgramState) (known : IsKnow
   }
 
   known-moves : (source : ResolvedOperand) (spots : List Spot)
-      → IsKnown sizes (record k { texts = with_moves source spots sizes k.texts }) (record s { store = moves source spots s.store })
+      → IsKnownAt sizes (record k { texts = with_moves source spots sizes k.texts }) (record s { store = moves source spots s.store })
   known-moves source spots = record {
     texts = moves-texts source spots sizes s.store k.texts known.texts known.sized;
     sized = moves-sized source spots sizes k.texts known.sized;
@@ -66,7 +66,7 @@ module _ (sizes : List ℕ) (k : KnownMoment) (s : ProgramState) (known : IsKnow
 
   -- behind a file operation
   known-done : (status : ℕ) (files : RecordsByFile) (now : RecordsByFile) → now ≡ files
-      → IsKnown sizes (with_status status (record k { files = files })) (record s { files = now; registers = record s.registers { file_status = status } })
+      → IsKnownAt sizes (with_status status (record k { files = files })) (record s { files = now; registers = record s.registers { file_status = status } })
   known-done status files now is = record {
     texts = known.texts;
     sized = known.sized;
@@ -85,7 +85,7 @@ module _ (deck : DeckModel) (program : Program) (sizes message : List ℕ) (repl
 
   -- something is known of the state, and what follows is met
   abbrev pub Follows : (KnownMoment → Type 0) → ProgramState → Type 0
-  Follows next s = (k : KnownMoment) × IsKnown sizes k s × next k
+  Follows next s = (k : KnownMoment) × IsKnownAt sizes k s × next k
 
   -- ---- arithmetic
 
@@ -110,10 +110,10 @@ module _ (deck : DeckModel) (program : Program) (sizes message : List ℕ) (repl
       subst P (sym is) (kept-ends (is_kept p n) next spot p n s on_error else' one other)
 
   arithmetic-ends : (a : arithmetic.ArithmeticForm) (fails goes next : KnownMoment → Type 0) (on_error else' : ProgramState → Out)
-      → ((k : KnownMoment) (s : ProgramState) → IsKnown sizes k s → fails k → EndsWell replies (Follows next) (on_error s))
-      → ((k : KnownMoment) (s : ProgramState) → IsKnown sizes k s → goes k → EndsWell replies (Follows next) (else' s))
+      → ((k : KnownMoment) (s : ProgramState) → IsKnownAt sizes k s → fails k → EndsWell replies (Follows next) (on_error s))
+      → ((k : KnownMoment) (s : ProgramState) → IsKnownAt sizes k s → goes k → EndsWell replies (Follows next) (else' s))
       → (k : KnownMoment) → ArithmeticMeets deck program sizes message replies a fails goes k
-      → (s : ProgramState) → IsKnown sizes k s → EndsWell replies (Follows next) (arithmetic_on program a on_error else' s)
+      → (s : ProgramState) → IsKnownAt sizes k s → EndsWell replies (Follows next) (arithmetic_on program a on_error else' s)
   arithmetic-ends a fails goes next on_error else' failing going k now s known =
       let x = known-taken program k.registers a.first _ now in
       let y = known-taken program k.registers a.second _ x.2 in
@@ -148,7 +148,7 @@ module _ (deck : DeckModel) (program : Program) (sizes message : List ℕ) (repl
   -- ---- files
 
   finds-ends : (missing : ℕ) (o found : Option (List ℕ)) (spot : Spot) (f : ℕ) (next : KnownMoment → Type 0) (k : KnownMoment) (s : ProgramState)
-      → IsKnown sizes k s → o ≡ found → Finds deck program sizes message replies missing found spot next k
+      → IsKnownAt sizes k s → o ≡ found → FindMeets deck program sizes message replies missing found spot next k
       → EndsWell replies (Follows next)
       (file_done (Some spot) (read_answer missing o).status (read_answer missing o).content (record s { files = upd s.files f (s.files f) }))
   finds-ends missing None found spot f next k s known is now =
@@ -161,7 +161,7 @@ module _ (deck : DeckModel) (program : Program) (sizes message : List ℕ) (repl
       )
 
   changes-ends : (refused : ℕ) (may known_may : Bool) (f : ℕ) (after known_after : List (List ℕ)) (next : KnownMoment → Type 0) (k : KnownMoment) (s : ProgramState)
-      → (refused == 0) ≡ false → IsKnown sizes k s → may ≡ known_may → after ≡ known_after → Changes deck program sizes message replies refused known_may f known_after next k
+      → (refused == 0) ≡ false → IsKnownAt sizes k s → may ≡ known_may → after ≡ known_after → ChangeMeets deck program sizes message replies refused known_may f known_after next k
       → EndsWell replies (Follows next)
       (file_done None (change_answer refused may).status (change_answer refused may).content
       (record s { files = upd s.files f (if (change_answer refused may).status == 0 then after else s.files f) }))
@@ -178,7 +178,7 @@ module _ (deck : DeckModel) (program : Program) (sizes message : List ℕ) (repl
   )
 
   -- the characters of an operand
-  chars-known : (found : ResolvedOperand) (k : KnownMoment) (s : ProgramState) → IsKnown sizes k s
+  chars-known : (found : ResolvedOperand) (k : KnownMoment) (s : ProgramState) → IsKnownAt sizes k s
       → chars_in found s.store ≡ as_it_stands (said sizes k.texts found)
   chars-known found k s known = ap as_it_stands (value_in-texts found sizes s.store k.texts known.texts known.sized)
 
@@ -186,7 +186,7 @@ module _ (deck : DeckModel) (program : Program) (sizes message : List ℕ) (repl
   abbrev At : {A : Type 0} → (List (List ℕ) → List ℕ → A) → ℕ → ResolvedOperand → KnownMoment → ProgramState → Type 0
   At of f found k s = of (s.files f) (chars_in found s.store) ≡ of (k.files f) (as_it_stands (said sizes k.texts found))
 
-  at-known : {A : Type 0} (of : List (List ℕ) → List ℕ → A) (f : ℕ) (found : ResolvedOperand) (k : KnownMoment) (s : ProgramState) → IsKnown sizes k s → At of f found k s
+  at-known : {A : Type 0} (of : List (List ℕ) → List ℕ → A) (f : ℕ) (found : ResolvedOperand) (k : KnownMoment) (s : ProgramState) → IsKnownAt sizes k s → At of f found k s
   at-known of f found k s known =
       ap (λ (files : RecordsByFile). of (files f) (chars_in found s.store)) known.files ∙ ap (of (k.files f)) (chars-known found k s known)
 
@@ -195,8 +195,8 @@ module _ (deck : DeckModel) (program : Program) (sizes message : List ℕ) (repl
       → ((n : ℕ) (records : List (List ℕ)) (own : List ℕ) → records_behind n records (call_by_key alone_setting op file own) ≡ records)
       → (next : KnownMoment → Type 0) (k : KnownMoment)
       → WithKnown program k.registers key (λ found. WithKnown program k.registers into (λ item.
-      Finds deck program sizes message replies missing (look (key_length deck (file_number deck file)) (k.files (file_number deck file)) (as_it_stands (said sizes k.texts found))) (spot_in item) next k))
-      → (s : ProgramState) → IsKnown sizes k s → EndsWell replies (Follows next) (read_by alone_setting op file key into s)
+      FindMeets deck program sizes message replies missing (look (key_length deck (file_number deck file)) (k.files (file_number deck file)) (as_it_stands (said sizes k.texts found))) (spot_in item) next k))
+      → (s : ProgramState) → IsKnownAt sizes k s → EndsWell replies (Follows next) (read_by alone_setting op file key into s)
   reads-end op missing look file key into answers stay next k now s known =
       let x = known-taken program k.registers key _ now in
       let z = known-taken program k.registers into _ x.2 in
@@ -216,7 +216,7 @@ module _ (deck : DeckModel) (program : Program) (sizes message : List ℕ) (repl
 
   module _ (perform : Word → ProgramState → Out) (performs : Word → (KnownMoment → Type 0) → KnownMoment → Type 0)
       (performs-well : (name : Word) (next : KnownMoment → Type 0) (k : KnownMoment) → performs name next k
-      → (s : ProgramState) → IsKnown sizes k s → EndsWell replies (Follows next) (perform name s))
+      → (s : ProgramState) → IsKnownAt sizes k s → EndsWell replies (Follows next) (perform name s))
       (call : ℕ → List (List ℕ) → ProgramState → Out) where
     abbrev Stays : KnownMoment → KnownMoment → Type 0
     Stays k after = after.files ≡ k.files
@@ -224,9 +224,9 @@ module _ (deck : DeckModel) (program : Program) (sizes message : List ℕ) (repl
     -- one turn more of a loop whose turns leave the files
     loop-turn : (paragraph : Word) (cond : ConditionForm) (next : KnownMoment → Type 0) (k : KnownMoment)
         → LoopMeets deck program sizes message replies performs paragraph next k → (n : ℕ)
-        → ((texts : List (List ℕ)) (registers : Registers) (s : ProgramState) → IsKnown sizes (record k { texts = texts; registers = registers }) s
+        → ((texts : List (List ℕ)) (registers : Registers) (s : ProgramState) → IsKnownAt sizes (record k { texts = texts; registers = registers }) s
         → EndsWell replies (Follows next) (turns_until n (λ t. holds program t cond) (perform paragraph) s))
-        → (texts : List (List ℕ)) (registers : Registers) (s : ProgramState) → IsKnown sizes (record k { texts = texts; registers = registers }) s
+        → (texts : List (List ℕ)) (registers : Registers) (s : ProgramState) → IsKnownAt sizes (record k { texts = texts; registers = registers }) s
         → (o : Option Bool)
         → EndsWell replies (Follows next) (tested o (λ t. then_do (statement_counted (perform paragraph) t) (turns_until n (λ t. holds program t cond) (perform paragraph))) s)
     loop-turn paragraph cond next k now n on texts registers s known None = tt
@@ -242,7 +242,7 @@ module _ (deck : DeckModel) (program : Program) (sizes message : List ℕ) (repl
 
     loop-ends : (paragraph : Word) (cond : ConditionForm) (next : KnownMoment → Type 0) (k : KnownMoment)
         → LoopMeets deck program sizes message replies performs paragraph next k
-        → (n : ℕ) (texts : List (List ℕ)) (registers : Registers) (s : ProgramState) → IsKnown sizes (record k { texts = texts; registers = registers }) s
+        → (n : ℕ) (texts : List (List ℕ)) (registers : Registers) (s : ProgramState) → IsKnownAt sizes (record k { texts = texts; registers = registers }) s
         → EndsWell replies (Follows next) (turns_until n (λ t. holds program t cond) (perform paragraph) s)
     loop-ends paragraph cond next k now zero texts registers s known = by (holds program s cond)
       where
@@ -254,7 +254,7 @@ module _ (deck : DeckModel) (program : Program) (sizes message : List ℕ) (repl
         loop-turn paragraph cond next k now n (loop-ends paragraph cond next k now n) texts registers s known (holds program s cond)
 
     abbrev Well : (ProgramState → Out) → (KnownMoment → Type 0) → KnownMoment → Type 0
-    Well run next k = (s : ProgramState) → IsKnown sizes k s → EndsWell replies (Follows next) (run s)
+    Well run next k = (s : ProgramState) → IsKnownAt sizes k s → EndsWell replies (Follows next) (run s)
 
     -- behind the count
     counted : (run : ProgramState → Out) (next : KnownMoment → Type 0) (k : KnownMoment) → Well run next k → Well (statement_counted run) next k
@@ -274,7 +274,7 @@ module _ (deck : DeckModel) (program : Program) (sizes message : List ℕ) (repl
         (record k { texts = with_moves x.0 (map spot_in xs.0) sizes k.texts }, known-moves sizes k s known x.0 (map spot_in xs.0), xs.2))
 
     mutual
-      pub statement-well : (one : Statement) (next : KnownMoment → Type 0) (k : KnownMoment) → Meets deck program sizes message replies performs one next k
+      pub statement-well : (one : Statement) (next : KnownMoment → Type 0) (k : KnownMoment) → StatementMeets deck program sizes message replies performs one next k
           → Well (statement alone_setting perform call one) next k
       statement-well (form.Move line from to) next k now = counted (move_all alone_setting from to) next k (move-well from to next k now)
       statement-well (form.Arithmetic line a) next k now =

@@ -16,7 +16,7 @@ pub record KnownMoment : Type 0 where
   pub files : RecordsByFile
 
 -- a state of items of these sizes of which this is known
-pub record IsKnown (sizes : List ℕ) (k : KnownMoment) (s : ProgramState) : Type 0 where
+pub record IsKnownAt (sizes : List ℕ) (k : KnownMoment) (s : ProgramState) : Type 0 where
   pub texts : texts_in s.store ≡ k.texts
   pub sized : HaveSizes sizes k.texts
   pub registers : s.registers ≡ k.registers

@@ -90,14 +90,14 @@ module _ (deck : DeckModel) (program : Program) (sizes message : List ℕ) (repl
   moved_text chars spot k = record k { texts = with_moved (Text' chars) spot sizes k.texts }
 
   -- behind a read: nothing is found, or a record, which is moved to an item
-  abbrev pub Finds : ℕ → Option (List ℕ) → Spot → (KnownMoment → Type 0) → KnownMoment → Type 0
-  Finds missing found spot next k =
+  abbrev pub FindMeets : ℕ → Option (List ℕ) → Spot → (KnownMoment → Type 0) → KnownMoment → Type 0
+  FindMeets missing found spot next k =
       (found ≡ None → next (with_status missing k))
       × ((content : List ℕ) → found ≡ Some content → next (moved_text content spot (with_status 0 k)))
 
   -- behind a change of a file: it is refused, or done
-  abbrev pub Changes : ℕ → Bool → ℕ → List (List ℕ) → (KnownMoment → Type 0) → KnownMoment → Type 0
-  Changes refused may f after next k =
+  abbrev pub ChangeMeets : ℕ → Bool → ℕ → List (List ℕ) → (KnownMoment → Type 0) → KnownMoment → Type 0
+  ChangeMeets refused may f after next k =
       BranchesOn may (next (with_status 0 (record k { files = upd k.files f after }))) (next (with_status refused k))
 
   -- behind arithmetic: a size error, or the receiver has its characters
@@ -124,61 +124,61 @@ module _ (deck : DeckModel) (program : Program) (sizes message : List ℕ) (repl
 
     abbrev mutual
       -- what follows has to be met behind the statement; of statements that are not spoken of nothing can be shown
-      pub Meets : Statement → (KnownMoment → Type 0) → KnownMoment → Type 0
-      Meets (form.Move line from to) next k =
+      pub StatementMeets : Statement → (KnownMoment → Type 0) → KnownMoment → Type 0
+      StatementMeets (form.Move line from to) next k =
           WithKnown program k.registers from (λ source. WithAllKnown program k.registers to (λ targets.
           next (record k { texts = with_moves source (map spot_in targets) sizes k.texts })))
-      Meets (form.Arithmetic line a) next k = ArithmeticMeets a next next k
-      Meets (form.OnSizeError' line a n first m second) next k =
+      StatementMeets (form.Arithmetic line a) next k = ArithmeticMeets a next next k
+      StatementMeets (form.OnSizeError' line a n first m second) next k =
           ArithmeticMeets a (RowMeets first next) (RowMeets second next) k
-      Meets (form.If' line cond n first m second) next k =
+      StatementMeets (form.If' line cond n first m second) next k =
           AnyMeets program sizes k cond.any (λ b. BranchesOn b (RowMeets first next k) (RowMeets second next k))
-      Meets (form.Perform line paragraph) next k = performs paragraph next k
-      Meets (form.PerformUntil line paragraph cond) next k = LoopMeets paragraph next k
-      Meets (form.Exit line) next k = next k
-      Meets (form.ExitProgram line) next k = Unit {0}
-      Meets (form.StopRun line) next k = Unit {0}
-      Meets (form.Receive line into) next k =
+      StatementMeets (form.Perform line paragraph) next k = performs paragraph next k
+      StatementMeets (form.PerformUntil line paragraph cond) next k = LoopMeets paragraph next k
+      StatementMeets (form.Exit line) next k = next k
+      StatementMeets (form.ExitProgram line) next k = Unit {0}
+      StatementMeets (form.StopRun line) next k = Unit {0}
+      StatementMeets (form.Receive line into) next k =
           WithKnown program k.registers into (λ item. next (moved_text message (spot_in item) k))
-      Meets (form.Reply line from) next k =
+      StatementMeets (form.Reply line from) next k =
           WithKnown program k.registers from (λ found. replies (as_it_stands (said sizes k.texts found)) k.files)
-      Meets (form.Read line file locking key into) next k =
+      StatementMeets (form.Read line file locking key into) next k =
           WithKnown program k.registers key (λ found. WithKnown program k.registers into (λ item.
           let f = file_number deck file in
-          Finds 11 (record_at (key_length deck f) (k.files f) (as_it_stands (said sizes k.texts found))) (spot_in item) next k))
-      Meets (form.ReadNext line file locking after into) next k =
+          FindMeets 11 (record_at (key_length deck f) (k.files f) (as_it_stands (said sizes k.texts found))) (spot_in item) next k))
+      StatementMeets (form.ReadNext line file locking after into) next k =
           WithKnown program k.registers after (λ found. WithKnown program k.registers into (λ item.
           let f = file_number deck file in
-          Finds 1 (record_after (key_length deck f) (k.files f) (as_it_stands (said sizes k.texts found))) (spot_in item) next k))
-      Meets (form.Write line file from) next k =
+          FindMeets 1 (record_after (key_length deck f) (k.files f) (as_it_stands (said sizes k.texts found))) (spot_in item) next k))
+      StatementMeets (form.Write line file from) next k =
           WithKnown program k.registers from (λ found.
           let f = file_number deck file in
           let n = key_length deck f in
           let content = as_it_stands (said sizes k.texts found) in
-          Changes 10 (if has_key n (k.files f) (take n content) then false else true) f (with_record n (k.files f) content) next k)
-      Meets (form.Rewrite line file from) next k =
+          ChangeMeets 10 (if has_key n (k.files f) (take n content) then false else true) f (with_record n (k.files f) content) next k)
+      StatementMeets (form.Rewrite line file from) next k =
           WithKnown program k.registers from (λ found.
           let f = file_number deck file in
           let n = key_length deck f in
           let content = as_it_stands (said sizes k.texts found) in
-          Changes 11 (has_key n (k.files f) (take n content)) f (with_record n (k.files f) content) next k)
-      Meets (form.Delete line file key) next k =
+          ChangeMeets 11 (has_key n (k.files f) (take n content)) f (with_record n (k.files f) content) next k)
+      StatementMeets (form.Delete line file key) next k =
           WithKnown program k.registers key (λ found.
           let f = file_number deck file in
           let n = key_length deck f in
           let own = as_it_stands (said sizes k.texts found) in
-          Changes 11 (has_key n (k.files f) own) f (without_key n (k.files f) own) next k)
-      Meets _ next k = ⊥
+          ChangeMeets 11 (has_key n (k.files f) own) f (without_key n (k.files f) own) next k)
+      StatementMeets _ next k = ⊥
 
       -- the statements of a branch
       pub RowMeets : {n : _} → Row_of-Statement n → (KnownMoment → Type 0) → KnownMoment → Type 0
       RowMeets end_of-Statement next k = next k
-      RowMeets (more_of-Statement one rest) next k = Meets one (RowMeets rest next) k
+      RowMeets (more_of-Statement one rest) next k = StatementMeets one (RowMeets rest next) k
 
     -- the statements of a paragraph
     abbrev pub BodyMeets : List Statement → (KnownMoment → Type 0) → KnownMoment → Type 0
     BodyMeets [] next k = next k
-    BodyMeets (one ∷ rest) next k = Meets one (BodyMeets rest next) k
+    BodyMeets (one ∷ rest) next k = StatementMeets one (BodyMeets rest next) k
 
     -- the paragraphs from one on, of which each runs on into the next
     abbrev pub FlowMeets : List Paragraph → KnownMoment → Type 0

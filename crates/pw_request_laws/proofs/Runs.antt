@@ -7,7 +7,7 @@ use Rattle.pw_code.specs.declared.verb.Verb.{Verb}
 use Rattle.pw_invariants.specs.Requests.{RepliedRequest}
 use Rattle.pw_onecopy.specs.Path.{PathAnswer}
 use Rattle.pw_program_steps.proofs.Texts.{dealt-sized, moves-sized, moves-texts, put_at-texts}
-use Rattle.pw_program_steps.specs.Known.{IsKnown}
+use Rattle.pw_program_steps.specs.Known.{IsKnownAt}
 use Rattle.pw_program_steps.specs.Texts.{with_moves, with_text}
 use Rattle.pw_request_laws.proofs.Follows.{Answers, Commits, Follows, Safe, answered, follows-none, follows-same, open_after, sent_after}
 use Rattle.pw_request_laws.specs.Requests.{RequesterMoment, as_known}
@@ -27,7 +27,7 @@ then-assoc (Asks v s) f g = refl
 
 -- a state that a moment is known of
 pub record Stands (sizes : List ℕ) (k : RequesterMoment) (s : ProgramState) : Type 0 where
-  pub known : IsKnown sizes (as_known k) s
+  pub known : IsKnownAt sizes (as_known k) s
   pub in_unit : s.in_unit ≡ k.inside
 
 module _ (sizes : List ℕ) (k : RequesterMoment) (s : ProgramState) (stands : Stands sizes k s) where

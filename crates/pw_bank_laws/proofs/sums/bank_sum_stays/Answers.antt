@@ -1,4 +1,4 @@
-use Rattle.std.proofs.Common.{◌≡◌, List, [], ◌∷◌, sym, ◌∙◌}
+use Rattle.std.proofs.Common.{List, [], ◌∷◌, sym, ◌∙◌}
 use Rattle.pw_bank_laws.proofs.sums.bank_sum_stays.Goals as goal
 use Rattle.pw_bank_laws.specs.Servers.{BankChoices}
 use Rattle.pw_bank_laws.specs.Teller.{teller}
