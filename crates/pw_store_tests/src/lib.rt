@@ -1,4 +1,5 @@
-//! Tests of the stores: records and blocks, classes, images, disks, files under TMF, the trail and the disc pair. They stand beside their crates, since a crate with tests is proved twice.
+//! Tests of the stores: how records lie in blocks, and the bytes of images and trails. They stand beside their crates, since a
+//! crate with tests is proved twice.
 #![tactic(auto)]
 
 #[cfg(test)]

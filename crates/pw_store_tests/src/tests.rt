@@ -1,11 +1,3 @@
 mod blocks;
-mod class;
-mod disc;
-mod files;
-mod fresh;
 mod image;
-mod locks;
-mod tmf;
 mod trail;
-mod units;
-mod volume;

@@ -10,15 +10,6 @@ use std::alloc::Global;
 use std::process::Abort;
 use std::test::Fail;
 
-#[derive(Clone, Copy)]
-enum BlockFileCall {
-    Insert,
-    Replace,
-    Remove,
-}
-
-use BlockFileCall::{Insert, Remove, Replace};
-
 /// Each call with a key and how many bytes the content has behind it. The table is gone through several times, each time
 /// with other keys.
 const CALLS: &str = "insert 40 100
@@ -46,25 +37,12 @@ remove 20 0
 remove 700 0
 insert 305 60";
 
-/// The call of a row, its key and how many bytes the content has behind it.
-fn call_of(row: &str) -> Result<(BlockFileCall, u16, usize), Fail> {
-    let (call, rest) = row.split_once(' ').ok_or("no key")?;
-    let (key, more) = rest.split_once(' ').ok_or("no size")?;
-    let call = match call {
-        "insert" => Insert,
-        "replace" => Replace,
-        "remove" => Remove,
-        _ => return Err("no call".into()),
-    };
-    Ok((call, key.parse()?, more.parse()?))
-}
-
-/// A content whose key has the two bytes of a number, with more bytes behind it.
-fn content(alloc: Global, key: u16, more: usize) -> Result<Bytes, Memory>
+/// A content whose key has two bytes, with more bytes behind it.
+fn content(alloc: Global, key: [u8; 2], more: usize) -> Result<Bytes, Memory>
     requires { more ≤ 3998 }
     ensures { IfOk result (λ content. IsContent 2 content) }
 {
-    let mut content = Bytes::from_slice(alloc, &key.to_be_bytes())?;
+    let mut content = Bytes::from_slice(alloc, &key)?;
     let filling = vec![in alloc; b'x'; more]?;
     content.extend(&filling)?;
     Ok(content)
@@ -74,66 +52,94 @@ fn content(alloc: Global, key: u16, more: usize) -> Result<Bytes, Memory>
 fn answer_of<F: RecordFile>(
     alloc: Global,
     file: &mut F,
-    call: BlockFileCall,
-    key: u16,
+    call: &str,
+    key: [u8; 2],
     more: usize,
-) -> Result<bool, Memory>
-    requires key { F.key_length file.old ≡ 2 }
-    requires size { more ≤ 3998 }
+) -> Result<bool, Fail>
+    requires { F.key_length file.old ≡ 2 }
     ensures { F.key_length file.new ≡ 2 }
 {
+    let more = more % 3999;
     match call {
-        Insert => file.insert(content(alloc, key, more)?),
-        Replace => file.replace(content(alloc, key, more)?),
-        Remove => file.remove(&key.to_be_bytes()),
+        "insert" => Ok(file.insert(content(alloc, key, more)?)?),
+        "replace" => Ok(file.replace(content(alloc, key, more)?)?),
+        "remove" => Ok(file.remove(&key)?),
+        _ => Err("no call".into()),
     }
 }
 
-/// Asserts that two files find the same at a key, behind it, and first.
-fn expect_found<F: RecordFile, G: RecordFile>(rt: &impl Abort, file: &F, plain: &G, key: u16) {
-    let bytes = key.to_be_bytes();
-    assert_eq!(rt; file.find(&bytes), plain.find(&bytes), "found at {key}");
-    assert_eq!(rt; file.next(&bytes), plain.next(&bytes), "next after {key}");
-    assert_eq!(rt; file.next(b""), plain.next(b""), "first");
+/// Makes the call of a row, with a key that is so much larger, and gives the answer and the key.
+fn answer_of_row<F: RecordFile>(
+    alloc: Global,
+    file: &mut F,
+    shift: u16,
+    row: &str,
+) -> Result<(bool, [u8; 2]), Fail>
+    requires { F.key_length file.old ≡ 2 }
+    ensures { F.key_length file.new ≡ 2 }
+{
+    let (call, rest) = row.split_once(' ').ok_or("no key")?;
+    let (key, more) = rest.split_once(' ').ok_or("no size")?;
+    let key = key.parse::<u16>()?.wrapping_add(shift).to_be_bytes();
+    let answer = answer_of(alloc, file, call, key, more.parse()?)?;
+    Ok((answer, key))
+}
+
+/// What a file finds at a key, behind it and first.
+fn found<F: RecordFile>(alloc: Global, file: &F, key: [u8; 2]) -> Result<String, Fail> {
+    let (at, behind, first) = (file.find(&key), file.next(&key), file.next(b""));
+    Ok(format!(in alloc; "{at:?} {behind:?} {first:?}")?)
+}
+
+/// Makes the call of a row, and tells what it answers and what the file finds then.
+fn told<F: RecordFile>(
+    alloc: Global,
+    file: &mut F,
+    shift: u16,
+    row: &str,
+) -> Result<(bool, String), Fail>
+    requires { F.key_length file.old ≡ 2 }
+    ensures { F.key_length file.new ≡ 2 }
+{
+    let (answer, key) = answer_of_row(alloc, file, shift, row)?;
+    Ok((answer, found(alloc, file, key)?))
 }
 
 /// Makes the call of a row of two files, and asserts that they answer alike.
-fn expect_alike<F: RecordFile, G: RecordFile>(
+fn expect_alike(
     rt: &impl Abort,
     alloc: Global,
-    file: &mut F,
-    plain: &mut G,
+    file: &mut BlockFile,
+    plain: &mut SortedFile,
     shift: u16,
     row: &str,
 ) -> Result<(), Fail>
-    requires file { F.key_length file.old ≡ 2 }
-    requires plain { G.key_length plain.old ≡ 2 }
-    requires shift { shift ≤ 1000 }
-    ensures file { F.key_length file.new ≡ 2 }
-    ensures plain { G.key_length plain.new ≡ 2 }
+    requires file { file.old.key ≡ 2 }
+    requires plain { plain.old.key ≡ 2 }
+    ensures file { file.new.key ≡ 2 }
+    ensures plain { plain.new.key ≡ 2 }
 {
-    let (call, key, more) = call_of(row)?;
-    let (key, more) = (key % 1000 + shift, more % 3999);
-    let answer = answer_of(alloc, file, call, key, more)?;
-    let wanted = answer_of(alloc, plain, call, key, more)?;
-    assert_eq!(rt; answer, wanted, "at {key}");
-    expect_found(rt, file, plain, key);
+    let (answer, found) = told(alloc, file, shift, row)?;
+    let (wanted, plainly) = told(alloc, plain, shift, row)?;
+    assert!(rt;
+        answer == wanted && found.as_str() == plainly.as_str(),
+        "{row} {shift}"
+    );
     Ok(())
 }
 
 /// Makes all calls of the table of two files, and asserts that they answer alike.
-fn expect_same<F: RecordFile, G: RecordFile>(
+fn expect_same(
     rt: &impl Abort,
     alloc: Global,
-    file: &mut F,
-    plain: &mut G,
+    file: &mut BlockFile,
+    plain: &mut SortedFile,
     shift: u16,
 ) -> Result<(), Fail>
-    requires file { F.key_length file.old ≡ 2 }
-    requires plain { G.key_length plain.old ≡ 2 }
-    requires shift { shift ≤ 1000 }
-    ensures file { F.key_length file.new ≡ 2 }
-    ensures plain { G.key_length plain.new ≡ 2 }
+    requires file { file.old.key ≡ 2 }
+    requires plain { plain.old.key ≡ 2 }
+    ensures file { file.new.key ≡ 2 }
+    ensures plain { plain.new.key ≡ 2 }
 {
     for row in CALLS.split('\n') {
         expect_alike(rt, alloc, file, plain, shift, row)?;
@@ -141,36 +147,24 @@ fn expect_same<F: RecordFile, G: RecordFile>(
     Ok(())
 }
 
-/// Asserts that two lists have the same records.
+/// Asserts that two lists have the same 73 records.
 fn expect_equal(rt: &impl Abort, records: &[Bytes], expected: &[Bytes]) {
-    assert_eq!(rt; records.len(), expected.len());
-    for (place, record) in records.iter().enumerate() {
-        let wanted = expected.get(place).map(|wanted| wanted.as_slice());
-        assert_eq!(rt; Some(record.as_slice()), wanted);
+    assert!(rt; records.len() == 73 && expected.len() == 73);
+    for (record, wanted) in records.iter().zip(expected.iter()) {
+        assert!(rt; record.as_slice() == wanted.as_slice());
     }
 }
 
-/// Removes each of its records from a file, which is empty then.
-fn expect_emptied(rt: &impl Abort, file: &mut BlockFile, records: &[Bytes]) {
-    for record in records {
-        let key = record.as_slice().get(..2).unwrap_or(b"");
-        assert_eq!(rt; file.remove(key), Ok(true));
-    }
-    assert_eq!(rt; file.blocks(), 0);
-    assert_eq!(rt; file.next(b""), None);
-}
-
-/// Asserts that two files have the same records, and that the first is empty without them.
+/// Asserts that two files have the same records.
 fn expect_same_records(
     rt: &impl Abort,
     alloc: Global,
-    file: &mut BlockFile,
+    file: &BlockFile,
     plain: &SortedFile,
 ) -> Result<(), Fail> {
     let records = file.copy(alloc)?.records(alloc)?;
-    let expected = plain.records(alloc)?;
+    let expected = plain.copy(alloc)?.records(alloc)?;
     expect_equal(rt, records.as_slice(), expected.as_slice());
-    expect_emptied(rt, file, records.as_slice());
     Ok(())
 }
 
@@ -182,7 +176,7 @@ fn block_file_equals_sorted_file(rt: HostRuntime) -> Result<(), Fail> {
     for shift in [0, 3, 500, 250, 1, 301, 0, 999, 17, 2] {
         expect_same(&rt, alloc, &mut file, &mut plain, shift)?;
     }
-    expect_same_records(&rt, alloc, &mut file, &plain)
+    expect_same_records(&rt, alloc, &file, &plain)
 }
 
 /// Calls, and how many blocks the file has behind each. Two records of 2,046 bytes, each with the 2 of its length, fill a
@@ -193,7 +187,10 @@ insert 30 2044|1
 insert 20 2045|3
 remove 20 0|2
 insert 20 0|2
-replace 20 2045|3";
+replace 20 2045|3
+remove 10 0|2
+remove 20 0|1
+remove 30 0|0";
 
 /// Makes the call of a row, and asserts how many blocks there are then.
 fn expect_blocks(
@@ -206,9 +203,8 @@ fn expect_blocks(
     ensures { file.new.key ≡ 2 }
 {
     let (call, blocks) = row.split_once('|').ok_or("no blocks")?;
-    let blocks: usize = blocks.parse()?;
-    let (call, key, more) = call_of(call)?;
-    let done = answer_of(alloc, file, call, key, more % 3999)?;
+    let blocks = blocks.parse::<usize>()?;
+    let (done, _key) = answer_of_row(alloc, file, 0, call)?;
     assert!(rt; done && file.blocks() == blocks, "{row}");
     Ok(())
 }
@@ -216,7 +212,7 @@ fn expect_blocks(
 #[test]
 fn block_split_counts(rt: HostRuntime) -> Result<(), Fail> {
     let mut file = BlockFile::new(rt.alloc(), 2)?;
-    assert_eq!(rt; file.blocks(), 0);
+    assert!(rt; file.blocks() == 0);
     for row in BLOCKS.split('\n') {
         expect_blocks(&rt, rt.alloc(), &mut file, row)?;
     }

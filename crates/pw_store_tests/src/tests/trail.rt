@@ -5,8 +5,7 @@ use pw_base::bytes::Bytes;
 use pw_base::list::List;
 use pw_base::memory::Memory;
 use pw_code::file::FileInfo;
-use pw_trail::append::format;
-use pw_trail::changes::{Change, ChangeKind, UnitChanges};
+use pw_trail::changes::UnitChanges;
 use pw_trail::fault::OpenFault;
 use pw_trail::log::TrailLog;
 use pw_trail::recover::Recovery;
@@ -129,7 +128,7 @@ fn row(rows: &'static str, number: usize) -> Result<&'static str, Fail> {
 /// Asserts how bytes are read.
 fn expect_reading(rt: &impl Abort, alloc: Global, bytes: &[u8], wanted: &str) -> Result<(), Fail> {
     let found = reading(alloc, bytes)?;
-    assert_eq!(rt; found.as_str(), wanted);
+    assert!(rt; found.as_str() == wanted, "{found}");
     Ok(())
 }
 
@@ -156,68 +155,4 @@ fn trail_with_each_byte_changed(rt: HostRuntime) -> Result<(), Fail> {
 fn open_damaged_trail(rt: HostRuntime) -> Result<(), Fail> {
     expect_reading(&rt, rt.alloc(), &[1, 0, 0, 0, 1, 0], "damaged at 0")?;
     expect_reading(&rt, rt.alloc(), &[0], "units 0 0")
-}
-
-/// What unit `number` of the first terminal has changed: it puts a record.
-fn unit(alloc: Global, number: u32) -> Result<UnitChanges, Memory> {
-    let mut changes = List::new(alloc);
-    changes.push(Change {
-        file: 0,
-        kind: ChangeKind::Put,
-        bytes: Bytes::from_slice(alloc, b"AAx")?,
-    })?;
-    Ok(UnitChanges {
-        terminal: 0,
-        unit: number,
-        changes,
-    })
-}
-
-/// A disk with an empty trail that stops once it has been opened and so many calls more have passed.
-fn stopping_disk(alloc: Global, calls: u64) -> Result<MemDisk, Fail> {
-    let mut disk = MemDisk::new(alloc)?;
-    format(&mut disk)?;
-    // To open it takes three of them.
-    disk.stop_after(calls.saturating_add(3));
-    Ok(disk)
-}
-
-/// Whether the log takes the unit.
-fn takes(alloc: Global, log: &mut TrailLog<MemDisk>, number: u32) -> Result<bool, Fail> {
-    let unit = unit(alloc, number)?;
-    Ok(log.fits(&unit) && log.append(alloc, &unit).is_ok())
-}
-
-/// Appends three units. Gives the disk, and how many were acknowledged.
-fn appended(alloc: Global, disk: MemDisk) -> Result<(MemDisk, usize), Fail> {
-    let (mut log, _none) = opened(alloc, disk)?;
-    let mut acknowledged = 0usize;
-    for number in 1..4 {
-        if takes(alloc, &mut log, number)? {
-            acknowledged = acknowledged.saturating_add(1);
-        }
-    }
-    Ok((log.close(), acknowledged))
-}
-
-/// How many of three units are there behind a crash, where so many calls of the disk pass before it stops, and how many
-/// were acknowledged.
-fn recovered(alloc: Global, calls: u64, keep: bool) -> Result<(usize, usize), Fail> {
-    let (disk, acknowledged) = appended(alloc, stopping_disk(alloc, calls)?)?;
-    let disk = disk.crash(alloc, keep).ok().ok_or("no memory")?;
-    let (_log, numbers) = opened(alloc, disk)?;
-    Ok((numbers.len(), acknowledged))
-}
-
-#[test]
-fn stop_at_each_call_leaves_a_prefix(rt: HostRuntime) -> Result<(), Fail> {
-    let alloc = rt.alloc();
-    for calls in 0..14u64 {
-        // Each commit is 4 calls, of which the third writes the gate: a crash may keep that without its sync.
-        let whole = (calls / 4).min(3) as usize;
-        let kept = ((calls + 1) / 4).min(3) as usize;
-        assert_eq!(rt; recovered(alloc, calls, false)?, (whole, whole));
-        assert_eq!(rt; recovered(alloc, calls, true)?, (kept, whole));
-    }
-    Ok(())
 }
