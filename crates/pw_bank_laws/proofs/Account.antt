@@ -1,9 +1,9 @@
 -- What ACCOUNT-P's statements have to meet, and that they do.
-use Rattle.std.proofs.Common.{◌≡◌, ℕ, Bool, true, false, List, [], ◌∷◌, ◌++◌, take, drop, Some, refl}
+use Rattle.std.proofs.Common.{◌≡◌, ℕ, Bool, true, false, List, [], ◌∷◌, ◌++◌, take, drop, if◌then◌else◌, Some, refl}
 use Rattle.std.specs.Prelude.{bytes_eq, codes}
 use Rattle.std.specs.Ordering.{is_eq}
 use Rattle.std.proofs.lemmas.Bool.{false≢true, true≢false}
-use Rattle.pw_bank_laws.proofs.Numbers.{nine, seven}
+use Rattle.pw_bank_laws.proofs.Numbers.{nine, seven, three}
 use Rattle.pw_bank_laws.proofs.Trees.{account_behind, account_open, account_program, account_work}
 use Rattle.pw_bank_laws.specs.Servers.{BankChoices, whole_bank}
 use Rattle.pw_files.specs.Records.{has_key, record_at, with_record}
@@ -12,7 +12,7 @@ use Rattle.pw_invariants.specs.Units.{FileRecords}
 use Rattle.pw_number.specs.Arithmetic.{sized, sum}
 use Rattle.pw_onecopy.specs.Update.{upd}
 use Rattle.pw_picture.specs.declared.picture.Picture.TheVariants.{Text as TextPicture}
-use Rattle.pw_picture.specs.Stored.{read_of}
+use Rattle.pw_picture.specs.Stored.{moved, read_of}
 use Rattle.pw_picture.specs.Text.{fitted}
 use Rattle.pw_program_steps.specs.Known.{KnownMoment}
 use Rattle.pw_program_steps.specs.Meets.{BodyMeets, FlowMeets, PerformMeets, ServerMeets, received}
@@ -59,11 +59,21 @@ lines_in content = fitted 3 (drop 9 (drop 11 (drop 4 (fitted 27 content))))
 abbrev pub record_with : List ℕ → List ℕ → List ℕ → List ℕ
 record_with content chars lines = who_in content ++ (owner_in content ++ (fitted 9 chars ++ fitted 3 lines))
 
+-- the line of a statement that tells a posting, with so many lines before it
+abbrev pub line_with : List ℕ → List ℕ → List ℕ → List ℕ → List ℕ
+line_with content lines other amount =
+    fitted 4 (fitted 4 (who_in content))
+    ++ (fitted 3 (moved three (read_of three (fitted 3 lines))) ++ (fitted 4 (fitted 4 other) ++ fitted 8 (moved seven (read_of seven amount))))
+
 -- the files with a line and then a record
 abbrev pub files_with : FileRecords → List (List ℕ) → List ℕ → FileRecords
 files_with files lines content =
     let written = upd files 1 lines in
     upd written 0 (with_record 4 (written 0) content)
+
+not-there : (b : Bool) → (if b then false else true) ≡ true → b ≡ false
+not-there true e = absurd (false≢true e)
+not-there false e = refl
 
 module _ (bank : BankChoices) (message : List ℕ) (replies : List ℕ → FileRecords → Type 0) where
   -- statements of MAIN, and what is behind it, have to be met
@@ -77,9 +87,11 @@ module _ (bank : BankChoices) (message : List ℕ) (replies : List ℕ → FileR
       (skip : is_p op ≡ false → (reply : List ℕ) → replies reply files)
       (there : (lines : List (List ℕ)) (content chars more : List ℕ) → record_at 4 (files 0) account ≡ Some content
       → has_key 4 (upd files 1 lines 0) (take 4 (record_with content chars more)) ≡ false → ⊥)
-      (post : (lines : List (List ℕ)) (content chars more reply : List ℕ) → is_p op ≡ true → record_at 4 (files 0) account ≡ Some content
+      (post : (content chars more reply : List ℕ) → is_p op ≡ true → record_at 4 (files 0) account ≡ Some content
       → received (Some nine) (sized (sum (read_of nine (digits_in content)) (read_of seven amount))) ≡ Some chars
-      → take 4 reply ≡ codes "0000" → replies reply (files_with files lines (record_with content chars more)))
+      → has_key 7 (files 1) (take 7 (line_with content more other amount)) ≡ false
+      → take 4 reply ≡ codes "0000"
+      → replies reply (files_with files (with_record 7 (files 1) (line_with content more other amount)) (record_with content chars more)))
       (i j k l n o p : List ℕ) where
     -- no record of the account
     work-missing : (e f g h : List ℕ)
@@ -118,7 +130,7 @@ module _ (bank : BankChoices) (message : List ℕ) (replies : List ℕ → FileR
               λ u. (
                 λ w. (
                   λ v. (
-                    λ h. post _ content chars more _ yes_p is e refl,
+                    λ h. post content chars more _ yes_p is e (not-there _ w) refl,
                     λ h. absurd (there _ content chars more is h),
                   ),
                   λ v. absurd (true≢false v),
@@ -153,9 +165,12 @@ module _ (bank : BankChoices) (message : List ℕ) (replies : List ℕ → FileR
       → (is_p (message_op message) ≡ false → (reply : List ℕ) → replies reply files)
       → ((lines : List (List ℕ)) (content chars more : List ℕ) → record_at 4 (files 0) (message_account message) ≡ Some content
       → has_key 4 (upd files 1 lines 0) (take 4 (record_with content chars more)) ≡ false → ⊥)
-      → ((lines : List (List ℕ)) (content chars more reply : List ℕ) → is_p (message_op message) ≡ true → record_at 4 (files 0) (message_account message) ≡ Some content
+      → ((content chars more reply : List ℕ) → is_p (message_op message) ≡ true → record_at 4 (files 0) (message_account message) ≡ Some content
       → received (Some nine) (sized (sum (read_of nine (digits_in content)) (read_of seven (message_amount message)))) ≡ Some chars
-      → take 4 reply ≡ codes "0000" → replies reply (files_with files lines (record_with content chars more)))
+      → has_key 7 (files 1) (take 7 (line_with content more (message_other message) (message_amount message))) ≡ false
+      → take 4 reply ≡ codes "0000"
+      → replies reply
+      (files_with files (with_record 7 (files 1) (line_with content more (message_other message) (message_amount message))) (record_with content chars more)))
       → ServerMeets (whole_bank bank) account_program account_sizes message replies files
   account-meets refuse skip there post =
       account-known bank message replies files (message_op message) (message_account message) (message_other message) (message_amount message) refuse skip there post

@@ -7,6 +7,7 @@ pub mod Codes
 pub mod Account
 pub mod Total
 pub mod Posts
+pub mod Told
 pub mod Steps
 pub mod Teller
 pub mod Units

@@ -53,6 +53,10 @@ nine = NumberPicture 9 2 false
 abbrev pub seven : Picture
 seven = NumberPicture 7 2 true
 
+-- and three of a number of lines
+abbrev pub three : Picture
+three = NumberPicture 3 0 false
+
 not-negative : (test negative : Bool) → (test && (false || not negative)) ≡ true → negative ≡ false
 not-negative true false e = refl
 not-negative true true e = absurd cc

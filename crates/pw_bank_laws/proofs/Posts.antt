@@ -54,7 +54,7 @@ amount-chars message =
 -- ---- the record
 
 -- R-BALANCE is the balance
-digits-chars : (content : List ℕ) → digits_in content ≡ take 9 (drop 15 (fitted 27 content))
+pub digits-chars : (content : List ℕ) → digits_in content ≡ take 9 (drop 15 (fitted 27 content))
 digits-chars content =
     let whole : List ℕ = fitted 27 content in
     let long : length whole ≡ 27 = length-fitted 27 content in
@@ -62,7 +62,7 @@ digits-chars content =
     ap (fitted 9) once ∙ fitted-within 9 (drop 15 whole) (omega (arith, long, length-drop 15 whole))
 
 -- the balance of the new record
-balance-with : (content chars more : List ℕ) → length chars ≡ 9 → balance_in (record_with content chars more) ≡ value_of 0 chars
+pub balance-with : (content chars more : List ℕ) → length chars ≡ 9 → balance_in (record_with content chars more) ≡ value_of 0 chars
 balance-with content chars more long =
     let who : List ℕ = who_in content in
     let owner : List ℕ = owner_in content in
@@ -88,7 +88,7 @@ balance-with content chars more long =
     ∙ ap (value_of 0) own
 
 -- it has the key of the old one
-key-with : (records : List (List ℕ)) (account content chars more : List ℕ) → length account ≡ 4 → record_at 4 records account ≡ Some content
+pub key-with : (records : List (List ℕ)) (account content chars more : List ℕ) → length account ≡ 4 → record_at 4 records account ≡ Some content
     → take 4 (record_with content chars more) ≡ account
 key-with records account content chars more long is =
     let own : take 4 content ≡ account = (record_at-found 4 records account content is).1 in
@@ -108,7 +108,7 @@ key-with records account content chars more long is =
 
 -- ---- what each reply says
 
-not-zero : ◌≢◌ {A = ℕ} 0 1
+pub not-zero : ◌≢◌ {A = ℕ} 0 1
 not-zero e = absurd cc
 
 module _ (message : List ℕ) (files : FileRecords) where

@@ -1,3 +1,4 @@
 pub mod Balances
 pub mod Servers
+pub mod Statements
 pub mod Teller
