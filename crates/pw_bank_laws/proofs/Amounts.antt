@@ -5,7 +5,7 @@ use Rattle.std.proofs.lemmas.Bool.Decides.{nat_tests}
 use Rattle.std.proofs.lemmas.Bool.{lt-ltb}
 use Rattle.std.proofs.lemmas.Int.{ints}
 use Rattle.std.proofs.lemmas.List.{length-append, take_all}
-use Rattle.pw_bank_laws.proofs.Numbers.{drop-first, fitted-whole, length-digits, seven}
+use Rattle.pw_bank_laws.proofs.Numbers.{seven}
 use Rattle.pw_bank_laws.specs.Balances.{amount_in, posted}
 use Rattle.pw_invariants.specs.Invariants.{stepped}
 use Rattle.pw_invariants.specs.Requests.{RepliedRequest}
@@ -17,6 +17,7 @@ use Rattle.pw_picture.proofs.Reading.{read-moved}
 use Rattle.pw_picture.specs.Stored.{digit_of, is_kept, is_negative, moved, read_of, size_at, value_of}
 use Rattle.pw_picture.specs.Symbols.{begins_with}
 use Rattle.pw_picture.specs.Text.{fitted}
+use Rattle.pw_program_steps.proofs.Parts.{drop-first, fitted-whole, length-digits}
 use Rattle.pw_program_steps.specs.Meets.{received}
 
 -- the units of an amount with a sign

@@ -1,8 +1,7 @@
--- The parts of a record, and numbers in them.
-use Rattle.std.proofs.Common.{◌≡◌, ℕ, zero, suc, ◌+◌, ◌-◌, ◌%◌, ◌^◌, ◌≤◌, Bool, true, false, not, ◌&&◌, ◌||◌, List, [], ◌∷◌, ◌++◌, length, take, drop, replicate, if◌then◌else◌, nat_lt, Some, None, Ok, Err, ℤ, pos, negsuc, ◌+ℤ◌, ◌*ℤ◌, unsigned_abs, refl, sym, ap, ◌∙◌, subst, arith, IsTrue}
+-- Numbers in the items of the bank.
+use Rattle.std.proofs.Common.{◌≡◌, ℕ, ◌+◌, ◌%◌, ◌^◌, Bool, true, false, not, ◌&&◌, ◌||◌, List, length, drop, if◌then◌else◌, nat_lt, Some, None, Ok, Err, ℤ, pos, negsuc, ◌+ℤ◌, ◌*ℤ◌, unsigned_abs, refl, sym, ap, ◌∙◌, arith, IsTrue}
 use Rattle.std.specs.Prelude.{int_lt}
 use Rattle.std.proofs.lemmas.Int.{ints}
-use Rattle.std.proofs.lemmas.List.{append-nil, take_all, take-append-le, drop-append-le}
 use Rattle.pw_number.specs.Arithmetic.{sized, sum}
 use Rattle.pw_number.specs.Number.{Number, is_short, number}
 use Rattle.pw_number.specs.Sign.{signed}
@@ -11,40 +10,10 @@ use Rattle.pw_picture.proofs.Digits.{size_at-own}
 use Rattle.pw_picture.proofs.Reading.{read-moved}
 use Rattle.pw_picture.specs.declared.picture.Picture.{Picture}
 use Rattle.pw_picture.specs.declared.picture.Picture.TheVariants.{Number as NumberPicture}
-use Rattle.pw_picture.specs.Stored.{digits_of, is_kept, is_negative, moved, read_of, size_at, value_of}
+use Rattle.pw_picture.specs.Stored.{is_kept, is_negative, moved, read_of, size_at, value_of}
 use Rattle.pw_picture.specs.Symbols.{begins_with}
-use Rattle.pw_picture.specs.Text.{fitted}
+use Rattle.pw_program_steps.proofs.Parts.{length-digits}
 use Rattle.pw_program_steps.specs.Meets.{kept_by, received}
-
--- ---- parts
-
-pub fitted-within : (n : ℕ) (xs : List ℕ) → n ≤ length xs → fitted n xs ≡ take n xs
-fitted-within n xs within =
-    let none : n - length xs ≡ 0 = omega (arith, within) in
-    ap (λ m. take n xs ++ replicate m 32) none ∙ append-nil (take n xs)
-
-pub fitted-whole : (n : ℕ) (xs : List ℕ) → length xs ≡ n → fitted n xs ≡ xs
-fitted-whole n xs long = fitted-within n xs (omega (arith, long)) ∙ take_all n xs (omega (arith, long))
-
--- the first of texts one behind the other
-pub take-first : (n : ℕ) (xs ys : List ℕ) → length xs ≡ n → take n (xs ++ ys) ≡ xs
-take-first n xs ys long = take-append-le n xs ys (omega (arith, long)) ∙ take_all n xs (omega (arith, long))
-
-drop-whole : (n : ℕ) (xs : List ℕ) → length xs ≡ n → drop n xs ≡ []
-drop-whole n xs long = subst (λ m. drop m xs ≡ []) long (drop-own xs)
-  where
-    drop-own : (xs : List ℕ) → drop (length xs) xs ≡ []
-    drop-own [] = refl
-    drop-own (x ∷ xs) = drop-own xs
-
-pub drop-first : (n : ℕ) (xs ys : List ℕ) → length xs ≡ n → drop n (xs ++ ys) ≡ ys
-drop-first n xs ys long = drop-append-le n xs ys (omega (arith, long)) ∙ ap (λ zs. zs ++ ys) (drop-whole n xs long)
-
--- ---- numbers
-
-pub length-digits : (count size : ℕ) → length (digits_of count size) ≡ count
-length-digits zero size = refl
-length-digits (suc count) size = omega (arith, length-digits count size)
 
 -- nine digits with two places, and seven of an amount with a sign
 abbrev pub nine : Picture

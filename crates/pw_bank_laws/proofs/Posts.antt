@@ -5,7 +5,7 @@ use Rattle.std.proofs.lemmas.Bool.{true≢false}
 use Rattle.std.proofs.lemmas.List.{drop-drop, length-append, length-drop, length-take, take-append-le}
 use Rattle.std.proofs.lemmas.Map.Text.{is_eq-slice_cmp}
 use Rattle.pw_bank_laws.proofs.Account.{digits_in, files_with, is_p, message_account, message_amount, message_op, owner_in, record_with, who_in}
-use Rattle.pw_bank_laws.proofs.Numbers.{added-balance, drop-first, fitted-whole, fitted-within, nine, seven, sum-follows, take-first}
+use Rattle.pw_bank_laws.proofs.Numbers.{added-balance, nine, seven, sum-follows}
 use Rattle.pw_bank_laws.specs.Balances.{amount_in, balance_in, posted, sum_of_balances}
 use Rattle.pw_files.proofs.Lookups.{record_at-found}
 use Rattle.pw_files.specs.Records.{IsFile, has_key, record_at, with_record}
@@ -17,6 +17,7 @@ use Rattle.pw_onecopy.specs.Update.{upd}
 use Rattle.pw_picture.specs.Stored.{read_of, value_of}
 use Rattle.pw_picture.specs.Symbols.{begins_with}
 use Rattle.pw_picture.specs.Text.{fitted}
+use Rattle.pw_program_steps.proofs.Parts.{drop-first, fitted-whole, fitted-within, take-first}
 use Rattle.pw_program_steps.proofs.Texts.{length-fitted}
 use Rattle.pw_program_steps.proofs.Totals.{total-with_record}
 use Rattle.pw_program_steps.specs.Meets.{received}

@@ -7,7 +7,7 @@ use Rattle.pw_bank_laws.proofs.Amounts.{Balance, Posted, amount_of, asked_of, cr
 use Rattle.pw_bank_laws.proofs.Codes.{sent-cases}
 use Rattle.pw_bank_laws.proofs.Numbers.{seven}
 use Rattle.pw_bank_laws.proofs.Tellers.{money_moved, money_settled, next_shown, next_taken, post_answered, teller_program}
-use Rattle.pw_bank_laws.proofs.Trees.{move, own}
+use Rattle.pw_program_steps.proofs.Trees.{move, own}
 use Rattle.pw_bank_laws.specs.Servers.{BankChoices}
 use Rattle.pw_bank_laws.specs.Teller.{teller_bank}
 use Rattle.pw_code.specs.declared.field.ScreenTable.{ScreenTable}

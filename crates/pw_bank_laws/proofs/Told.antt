@@ -6,19 +6,15 @@ use Rattle.std.specs.declared.cmp.Ordering.{Ordering}
 use Rattle.std.specs.declared.cmp.Ordering.TheVariants.{Less, Equal, Greater}
 use Rattle.std.proofs.lemmas.Int.{ints}
 use Rattle.std.proofs.lemmas.List.{drop-drop, take_all}
-use Rattle.std.proofs.lemmas.Map.Lookups.{exact_bytes}
-use Rattle.std.proofs.lemmas.Map.Text.{is_eq-slice_cmp}
-use Rattle.std.proofs.lemmas.Cmp.{nat_list_cmp_total, tied_itself}
 use Rattle.std.proofs.lemmas.Bool.{true≢false}
-use Rattle.pw_base.proofs.Plain.{is_eq-Equal}
 use Rattle.pw_bank_laws.proofs.Account.{digits_in, files_with, line_with, message_account, message_amount, message_other, record_with, who_in}
 use Rattle.pw_bank_laws.proofs.Amounts.{seven-digits, seven-long, seven-units, units_in}
-use Rattle.pw_bank_laws.proofs.Numbers.{added-balance, drop-first, fitted-whole, nine, seven, take-first, three}
+use Rattle.pw_bank_laws.proofs.Numbers.{added-balance, nine, seven, three}
 use Rattle.pw_bank_laws.proofs.Posts.{balance-with, digits-chars, key-with, not-zero}
 use Rattle.pw_bank_laws.specs.Balances.{balance_in}
 use Rattle.pw_bank_laws.specs.Statements.{amount_told, amounts_told, balance_of, untold}
 use Rattle.pw_files.proofs.Lookups.{record_at-with_other, record_at-with_record}
-use Rattle.pw_files.specs.Records.{above, below, compared, has_key, key_cmp, record_at, with_record}
+use Rattle.pw_files.specs.Records.{above, below, compared, has_key, record_at, with_record}
 use Rattle.pw_invariants.specs.Units.{FileRecords}
 use Rattle.pw_number.specs.Arithmetic.{sized, sum}
 use Rattle.pw_number.specs.Number.{Number}
@@ -28,6 +24,7 @@ use Rattle.pw_onecopy.specs.Update.{upd}
 use Rattle.pw_picture.specs.Stored.{moved, read_of, value_of}
 use Rattle.pw_picture.specs.Symbols.{begins_with}
 use Rattle.pw_picture.specs.Text.{fitted}
+use Rattle.pw_program_steps.proofs.Parts.{bytes-same, bytes-self, drop-first, fitted-whole, take-first}
 use Rattle.pw_program_steps.proofs.Texts.{length-fitted}
 use Rattle.pw_program_steps.specs.Meets.{received}
 use Rattle.pw_program_steps.specs.Totals.{counted_of}
@@ -124,14 +121,6 @@ line-amount content number other amount long =
     ∙ ap units_in (take_all 8 last (omega (arith, length-fitted 8 (moved seven n))))
     ∙ ap units_in (fitted-whole 8 (moved seven n) (seven-long n refl small))
     ∙ seven-units n refl small
-
--- ---- one text and another
-
-bytes-same : (xs ys : List ℕ) → bytes_eq xs ys ≡ true → xs ≡ ys
-bytes-same xs ys e = exact_bytes xs ys (is_eq-Equal (key_cmp xs ys) (is_eq-slice_cmp xs ys ∙ e))
-
-bytes-self : (xs : List ℕ) → bytes_eq xs xs ≡ true
-bytes-self xs = sym (is_eq-slice_cmp xs xs) ∙ ap is_eq (tied_itself nat_list_cmp_total xs)
 
 -- ---- what a posting leaves untold
 

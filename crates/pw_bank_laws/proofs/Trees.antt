@@ -1,31 +1,18 @@
 -- The programs of the bank's servers as they are read.
-use Rattle.std.proofs.Common.{ℕ, Bool, true, false, List, [], ◌∷◌, Some, None}
+use Rattle.std.proofs.Common.{ℕ, true, false, List, [], ◌∷◌}
 use Rattle.std.specs.Prelude.{codes}
 use Rattle.pw_data.specs.declared.item.Item.{Item}
-use Rattle.pw_data.specs.declared.item.ItemKind.{ItemKind}
 use Rattle.pw_data.specs.declared.item.ItemKind.TheVariants as kind
-use Rattle.pw_forms.specs.declared.cond.ComparisonForm.TheVariants as comparison
-use Rattle.pw_forms.specs.declared.cond.ConditionForm.{ConditionForm}
-use Rattle.pw_forms.specs.declared.cond.Operator.{Operator}
 use Rattle.pw_forms.specs.declared.cond.Operator.TheVariants as operator
-use Rattle.pw_forms.specs.declared.operand.Operand.{Operand}
 use Rattle.pw_forms.specs.declared.operand.Operand.TheVariants as operands
-use Rattle.pw_forms.specs.declared.statement.ArithmeticForm as arithmetic
-use Rattle.pw_forms.specs.declared.statement.Operation.TheVariants as operation
 use Rattle.pw_forms.specs.declared.statement.Paragraph.{Paragraph}
 use Rattle.pw_forms.specs.declared.statement.Statement.{Statement}
 use Rattle.pw_forms.specs.declared.statement.Statement as form
 use Rattle.pw_forms.specs.declared.statement.Statement.{Row_of-Statement, end_of-Statement, more_of-Statement}
+use Rattle.pw_program_steps.proofs.Trees.{add, compare, elementary, group, move, own, paragraph}
 use Rattle.pw_tree_meaning.specs.Program.{Program}
 
 -- ---- items
-
--- an elementary item outside OCCURS, a group, and what a text and a number hold
-abbrev pub elementary : ℕ → List ℕ → ItemKind → ℕ → ℕ → Item
-elementary level name k at size = record { name = Some name; level = level; linked = false; kind = Some k; at = at; size = size; occurs = 0; step = 0 }
-
-abbrev pub group : ℕ → List ℕ → ℕ → ℕ → Item
-group level name at size = record { name = Some name; level = level; linked = false; kind = None; at = at; size = size; occurs = 0; step = 0 }
 
 abbrev account_items : List Item
 account_items =
@@ -71,22 +58,7 @@ total_items =
 abbrev total_storage : List ℕ
 total_storage = codes "               00000000000000000000000"
 
--- ---- statements, all of line 1
-
-abbrev pub own : List ℕ → Operand
-own name = operands.Item name None
-
-abbrev pub move : Operand → List ℕ → Statement
-move from to = form.Move 1 from (own to ∷ [])
-
-abbrev pub add : Operand → List ℕ → arithmetic.ArithmeticForm
-add first second = record { operation = operation.Add; first = first; second = own second; giving = None }
-
-abbrev pub compare : List ℕ → Bool → Operator → Operand → ConditionForm
-compare left negated op right = record { any = (comparison.Compare (own left) negated op right ∷ []) ∷ [] }
-
-abbrev pub paragraph : List ℕ → List Statement → Paragraph
-paragraph name body = record { name = name; line = 1; body = body }
+-- ---- statements
 
 -- what MAIN of ACCOUNT-P does behind the work: it replies
 abbrev pub account_tail : List Statement

@@ -16,7 +16,7 @@ use Rattle.pw_number.specs.Arithmetic.{sized}
 use Rattle.pw_onecopy.proofs.Update.{upd-other, upd-same}
 use Rattle.pw_onecopy.specs.Behaviour.{Reply}
 use Rattle.pw_onecopy.specs.Update.{upd}
-use Rattle.pw_order_laws.proofs.Numbers.{control-key, control-number, control_with, four, moved-again, next-kept, next_of, read-number, take-first}
+use Rattle.pw_order_laws.proofs.Numbers.{control-key, control-number, control_with, four, moved-again, next-kept, next_of, read-number}
 use Rattle.pw_order_laws.proofs.Order.{control_digits, files_with, order-meets, order_sizes, order_with}
 use Rattle.pw_order_laws.proofs.Read.{order-is, stock-is}
 use Rattle.pw_order_laws.proofs.Stock.{stock-meets, stock_sizes}
@@ -25,6 +25,7 @@ use Rattle.pw_order_laws.specs.Numbered.{IsNumbered, last_number, number_in_cont
 use Rattle.pw_order_laws.specs.Servers.{OrderChoices, order_data, order_deck, order_text, stock_data, stock_text}
 use Rattle.pw_picture.specs.Stored.{digits_of, moved, read_of, value_of}
 use Rattle.pw_picture.specs.Text.{fitted}
+use Rattle.pw_program_steps.proofs.Parts.{bytes-same, bytes-self, take-first}
 use Rattle.pw_program_steps.proofs.Servers.{program-replies}
 use Rattle.pw_program_steps.proofs.Texts.{length-fitted}
 use Rattle.pw_program_steps.specs.Meets.{ServerMeets, received}
@@ -59,8 +60,8 @@ one-or-other : (xs ys : List ℕ) → (xs ≡ ys) ⊎ (xs ≡ ys → ⊥)
 one-or-other xs ys = by (bytes_eq xs ys) refl
   where
     by : (b : Bool) → bytes_eq xs ys ≡ b → (xs ≡ ys) ⊎ (xs ≡ ys → ⊥)
-    by true e = inl (exact_bytes xs ys (is_eq-Equal (key_cmp xs ys) (is_eq-slice_cmp xs ys ∙ e)))
-    by false e = inr (λ same. true≢false (sym (ap is_eq (tied_itself nat_list_cmp_total xs)) ∙ is_eq-slice_cmp xs xs ∙ ap (bytes_eq xs) same ∙ e))
+    by true e = inl (bytes-same xs ys e)
+    by false e = inr (λ same. true≢false (sym (bytes-self xs) ∙ ap (bytes_eq xs) same ∙ e))
 
 module _ (records : FileRecords) (now : IsNumbered records) (content number message : List ℕ) (is : record_at 4 (records 1) (codes "LAST") ≡ Some content)
     (kept : received (Some four) (sized (next_of (control_digits content))) ≡ Some number) where

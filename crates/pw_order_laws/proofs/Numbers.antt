@@ -16,24 +16,13 @@ use Rattle.pw_picture.specs.declared.picture.Picture.{Picture}
 use Rattle.pw_picture.specs.declared.picture.Picture.TheVariants.{Number as NumberPicture}
 use Rattle.pw_picture.specs.Stored.{digits_of, is_kept, is_negative, moved, read_of, size_at, value_of}
 use Rattle.pw_picture.specs.Text.{fitted}
+use Rattle.pw_program_steps.proofs.Parts.{fitted-whole, length-digits, take-first}
 use Rattle.pw_program_steps.proofs.Texts.{length-fitted}
 use Rattle.pw_program_steps.specs.Meets.{kept_by, received}
 
 -- four digits
 abbrev pub four : Picture
 four = NumberPicture 4 0 false
-
-fitted-whole : (n : ℕ) (xs : List ℕ) → length xs ≡ n → fitted n xs ≡ xs
-fitted-whole n xs long =
-    let none : n - length xs ≡ 0 = omega (arith, long) in
-    ap (λ m. take n xs ++ replicate m 32) none ∙ append-nil (take n xs) ∙ take_all n xs (omega (arith, long))
-
-pub take-first : (n : ℕ) (xs ys : List ℕ) → length xs ≡ n → take n (xs ++ ys) ≡ xs
-take-first n xs ys long = take-append-le n xs ys (omega (arith, long)) ∙ take_all n xs (omega (arith, long))
-
-length-digits : (count size : ℕ) → length (digits_of count size) ≡ count
-length-digits zero size = refl
-length-digits (suc count) size = omega (arith, length-digits count size)
 
 -- ---- one more
 

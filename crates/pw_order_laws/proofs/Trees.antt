@@ -17,67 +17,51 @@ use Rattle.pw_forms.specs.declared.statement.Paragraph.{Paragraph}
 use Rattle.pw_forms.specs.declared.statement.Statement.{Statement}
 use Rattle.pw_forms.specs.declared.statement.Statement as form
 use Rattle.pw_forms.specs.declared.statement.Statement.{Row_of-Statement, end_of-Statement, more_of-Statement}
+use Rattle.pw_program_steps.proofs.Trees.{add, compare, elementary, group, move, own, paragraph}
 use Rattle.pw_tree_meaning.specs.Program.{Program}
-
-abbrev elementary : ℕ → List ℕ → ItemKind → ℕ → ℕ → Item
-elementary level name k at size = record { name = Some name; level = level; linked = false; kind = Some k; at = at; size = size; occurs = 0; step = 0 }
-
-abbrev group : List ℕ → ℕ → ℕ → Item
-group name at size = record { name = Some name; level = 1; linked = false; kind = None; at = at; size = size; occurs = 0; step = 0 }
 
 abbrev stock_items : List Item
 stock_items =
-    group (codes "STOCK-MSG") 0 8
+    group 1 (codes "STOCK-MSG") 0 8
     ∷ elementary 2 (codes "K-ITEM") (kind.Text 4) 0 4
     ∷ elementary 2 (codes "K-CHANGE") (kind.Number 3 0 true) 4 4
-    ∷ group (codes "STOCK-REC") 8 20
+    ∷ group 1 (codes "STOCK-REC") 8 20
     ∷ elementary 2 (codes "S-ITEM") (kind.Text 4) 8 4
     ∷ elementary 2 (codes "S-PRICE") (kind.Number 6 2 false) 12 6
     ∷ elementary 2 (codes "S-QTY") (kind.Number 5 0 false) 18 5
     ∷ elementary 2 (codes "S-DELIVERED") (kind.Number 5 0 false) 23 5
-    ∷ group (codes "STOCK-REPLY") 28 10
+    ∷ group 1 (codes "STOCK-REPLY") 28 10
     ∷ elementary 2 (codes "K-CODE") (kind.Number 4 0 false) 28 4
     ∷ elementary 2 (codes "K-PRICE") (kind.Number 6 2 false) 32 6
     ∷ []
 
 abbrev order_items : List Item
 order_items =
-    group (codes "ORDER-REC") 0 34
+    group 1 (codes "ORDER-REC") 0 34
     ∷ elementary 2 (codes "O-NUMBER") (kind.Number 4 0 false) 0 4
     ∷ elementary 2 (codes "O-REST") (kind.Text 30) 4 30
-    ∷ group (codes "CONTROL-REC") 34 8
+    ∷ group 1 (codes "CONTROL-REC") 34 8
     ∷ elementary 2 (codes "C-KEY") (kind.Text 4) 34 4
     ∷ elementary 2 (codes "C-NUMBER") (kind.Number 4 0 false) 38 4
-    ∷ group (codes "ORDER-REPLY") 42 8
+    ∷ group 1 (codes "ORDER-REPLY") 42 8
     ∷ elementary 2 (codes "N-CODE") (kind.Number 4 0 false) 42 4
     ∷ elementary 2 (codes "N-NUMBER") (kind.Number 4 0 false) 46 4
     ∷ []
 
--- ---- statements, all of line 1
+-- ---- statements
 
-abbrev own : List ℕ → Operand
-own name = operands.Item name None
-
-abbrev move : Operand → List ℕ → Statement
-move from to = form.Move 1 from (own to ∷ [])
-
-abbrev add : Operand → List ℕ → arithmetic.ArithmeticForm
-add first second = record { operation = operation.Add; first = first; second = own second; giving = None }
-
-abbrev compare : List ℕ → Bool → Operator → List ℕ → ConditionForm
-compare left negated op right = record { any = (comparison.Compare (own left) negated op (operands.Number right) ∷ []) ∷ [] }
+-- a comparison with a number
+abbrev against : List ℕ → Bool → Operator → List ℕ → ConditionForm
+against left negated op right = compare left negated op (operands.Number right)
 
 abbrev no_number : List ℕ → List ComparisonForm
 no_number name = comparison.Numeric (own name) true ∷ []
-
-abbrev paragraph : List ℕ → List Statement → Paragraph
-paragraph name body = record { name = name; line = 1; body = body }
 
 abbrev stock_main : List Statement
 stock_main =
     form.Receive 1 (own (codes "STOCK-MSG"))
     ∷ form.Read 1 (codes "STOCK") true (own (codes "K-ITEM")) (own (codes "STOCK-REC"))
-    ∷ form.If' 1 (compare (codes "FILE-STATUS") true operator.Equal (codes "0")) (tt ∷ [])
+    ∷ form.If' 1 (against (codes "FILE-STATUS") true operator.Equal (codes "0")) (tt ∷ [])
     (more_of-Statement (move (operands.Number (codes "1")) (codes "K-CODE")) end_of-Statement) (tt ∷ [])
     (more_of-Statement
     (form.If' 1 (record { any = no_number (codes "S-PRICE") ∷ no_number (codes "S-QTY") ∷ no_number (codes "S-DELIVERED") ∷ [] }) (tt ∷ [])
@@ -90,11 +74,11 @@ abbrev change_stock : List Statement
 change_stock =
     form.OnSizeError' 1 (add (own (codes "K-CHANGE")) (codes "S-QTY")) (tt ∷ [])
     (more_of-Statement (move (operands.Number (codes "2")) (codes "K-CODE")) end_of-Statement) [] end_of-Statement
-    ∷ form.If' 1 (compare (codes "K-CHANGE") false operator.Greater (codes "0")) (tt ∷ [])
+    ∷ form.If' 1 (against (codes "K-CHANGE") false operator.Greater (codes "0")) (tt ∷ [])
     (more_of-Statement
     (form.OnSizeError' 1 (add (own (codes "K-CHANGE")) (codes "S-DELIVERED")) (tt ∷ [])
     (more_of-Statement (move (operands.Number (codes "2")) (codes "K-CODE")) end_of-Statement) [] end_of-Statement) end_of-Statement) [] end_of-Statement
-    ∷ form.If' 1 (compare (codes "K-CODE") false operator.Equal (codes "0")) (tt ∷ [])
+    ∷ form.If' 1 (against (codes "K-CODE") false operator.Equal (codes "0")) (tt ∷ [])
     (more_of-Statement (form.Rewrite 1 (codes "STOCK") (own (codes "STOCK-REC"))) end_of-Statement) [] end_of-Statement
     ∷ move (own (codes "S-PRICE")) (codes "K-PRICE")
     ∷ []
@@ -112,11 +96,11 @@ abbrev order_main : List Statement
 order_main =
     form.Receive 1 (own (codes "O-REST"))
     ∷ form.Read 1 (codes "CONTROL") true (own (codes "C-KEY")) (own (codes "CONTROL-REC"))
-    ∷ form.If' 1 (compare (codes "FILE-STATUS") true operator.Equal (codes "0")) (tt ∷ [])
+    ∷ form.If' 1 (against (codes "FILE-STATUS") true operator.Equal (codes "0")) (tt ∷ [])
     (more_of-Statement (move (operands.Number (codes "1")) (codes "N-CODE")) end_of-Statement) [] end_of-Statement
     ∷ form.OnSizeError' 1 (add (operands.Number (codes "1")) (codes "C-NUMBER")) (tt ∷ [])
     (more_of-Statement (move (operands.Number (codes "1")) (codes "N-CODE")) end_of-Statement) [] end_of-Statement
-    ∷ form.If' 1 (compare (codes "N-CODE") false operator.Equal (codes "0")) (tt ∷ [])
+    ∷ form.If' 1 (against (codes "N-CODE") false operator.Equal (codes "0")) (tt ∷ [])
     (more_of-Statement (form.Perform 1 (codes "NUMBER-IT")) end_of-Statement) [] end_of-Statement
     ∷ form.Reply 1 (own (codes "ORDER-REPLY"))
     ∷ []
@@ -125,7 +109,7 @@ abbrev number_it : List Statement
 number_it =
     form.Move 1 (own (codes "C-NUMBER")) (own (codes "O-NUMBER") ∷ own (codes "N-NUMBER") ∷ [])
     ∷ form.Write 1 (codes "ORDERS") (own (codes "ORDER-REC"))
-    ∷ form.If' 1 (compare (codes "FILE-STATUS") false operator.Equal (codes "0")) (tt ∷ [])
+    ∷ form.If' 1 (against (codes "FILE-STATUS") false operator.Equal (codes "0")) (tt ∷ [])
     (more_of-Statement (form.Rewrite 1 (codes "CONTROL") (own (codes "CONTROL-REC"))) end_of-Statement) (tt ∷ [])
     (more_of-Statement (move (operands.Number (codes "1")) (codes "N-CODE")) end_of-Statement)
     ∷ []

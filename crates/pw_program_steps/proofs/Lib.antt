@@ -1,5 +1,7 @@
+pub mod Parts
 pub mod Texts
 pub mod Totals
+pub mod Trees
 pub mod Ends
 pub mod Operands
 pub mod Statements
