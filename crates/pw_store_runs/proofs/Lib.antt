@@ -1,0 +1,5 @@
+mod Beginning
+mod Leaving
+mod Refusing
+mod Reporting
+mod Setting

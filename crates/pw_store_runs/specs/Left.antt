@@ -1,0 +1,49 @@
+-- What the run of a system over a store leaves of it.
+use Rattle.std.specs.Prelude.{◌≡◌, ◌++◌, ℕ, List, length}
+use Rattle.pw_code.specs.declared.file.FileInfo.{FileInfo}
+use Rattle.pw_code.specs.declared.system.System.{System}
+use Rattle.pw_deck_runs.specs.recovery.Commits.{commits}
+use Rattle.pw_deck_runs.specs.recovery.Kept.{HasOrOneMore}
+use Rattle.pw_event.specs.declared.event.Event.{Event}
+use Rattle.pw_onecopy.specs.Behaviour.{Behaviour}
+use Rattle.pw_paired.specs.Step.{IsRun, after}
+use Rattle.pw_paired.specs.Units.{committed_files}
+use Rattle.pw_report_text.specs.Meaning.{report_text}
+use Rattle.pw_store_runs.specs.declared.ending.Stored.{Stored}
+use Rattle.pw_store_runs.specs.declared.ending.Stored.TheVariants.{Ended, Failed}
+use Rattle.pw_trail.specs.Files.{files_after}
+use Rattle.pw_trail.specs.declared.changes.UnitChanges.{UnitChanges}
+use Rattle.pw_workers.specs.Endings.{EndsAs}
+use Rattle.pw_workers.specs.declared.ending.LogEnding.{LogEnding}
+
+-- The trail has the units from before, and behind them one for each unit that commits in the log; they lead to the records
+-- behind the log; and each image that a crash may leave has them all, and at most one more.
+pub record HasCommitted (files : List FileInfo) (before : List UnitChanges) (sys : Behaviour) (log : List Event)
+    (images : List ℕ → Type 0) : Type 0 where
+  pub units : List UnitChanges
+  pub many : length units ≡ commits sys log
+  pub lead : files_after files (before ++ units) ≡ committed_files sys (after sys log)
+  pub leaves : (image : List ℕ) → images image → HasOrOneMore files (before ++ units) image
+
+-- the run has ended so, the text is the report of its log, and its commits are there
+pub record RanStored (files : List FileInfo) (before : List UnitChanges) (sys : Behaviour) (system : System) (events : ℕ)
+    (ended : LogEnding) (text : List ℕ) (images : List ℕ → Type 0) : Type 0 where
+  pub log : List Event
+  pub run : IsRun sys log
+  pub ends : EndsAs ended events sys log
+  pub is : text ≡ report_text system sys log
+  pub left : HasCommitted files before sys log images
+
+-- the disk has failed in a run, whose commits are there
+pub record StoppedStored (files : List FileInfo) (before : List UnitChanges) (sys : Behaviour) (images : List ℕ → Type 0)
+    : Type 0 where
+  pub log : List Event
+  pub run : IsRun sys log
+  pub left : HasCommitted files before sys log images
+
+-- one or the other
+abbrev pub RunsStored : {S : Type 0} → (S → List ℕ → Type 0) → List FileInfo → List UnitChanges → Behaviour → System → ℕ
+    → Stored S → Type 0
+RunsStored images files before sys system events (Ended ended text disk) =
+    RanStored files before sys system events ended text (images disk)
+RunsStored images files before sys system events (Failed disk) = StoppedStored files before sys (images disk)

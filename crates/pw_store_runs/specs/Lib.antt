@@ -1,0 +1,4 @@
+pub mod Left
+pub mod Refusals
+pub mod Stores
+pub mod Systems

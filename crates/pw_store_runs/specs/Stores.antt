@@ -1,0 +1,112 @@
+-- What the run of a deck over a store comes to.
+use Rattle.std.specs.Prelude.{◌≡◌, ℕ, List, All, Ok, Err}
+use Rattle.pw_base.specs.declared.fault.Fault.{Fault}
+use Rattle.pw_base.specs.declared.fault.Refusal.{Refusal}
+use Rattle.pw_base.specs.declared.fault.Refusal.TheVariants.{At}
+use Rattle.pw_base.specs.declared.fault.Refusal.TheVariants as refusal
+use Rattle.pw_code.specs.Valid.{IsDeckFile}
+use Rattle.pw_code.specs.declared.file.FileInfo.{FileInfo}
+use Rattle.pw_code.specs.declared.lock.LockRule.TheVariants.{ReadersShare}
+use Rattle.pw_code.specs.declared.system.System.{System}
+use Rattle.pw_deck.specs.Deck.{deck_of}
+use Rattle.pw_deck.specs.declared.deck.ParsedDeck.{ParsedDeck}
+use Rattle.pw_deck_runs.specs.Meaning.{meaning, named}
+use Rattle.pw_event.specs.declared.event.Event.{Event}
+use Rattle.pw_laws.specs.serial.Promises.{KeepsPromises}
+use Rattle.pw_onecopy.specs.Behaviour.{Behaviour}
+use Rattle.pw_read_back.specs.ReadFrom.{IsReadFrom}
+use Rattle.pw_records.specs.Records.{AreAlike, over_records, with_records}
+use Rattle.pw_report_text.specs.Meaning.{report_text}
+use Rattle.pw_store_runs.specs.Left.{HasCommitted}
+use Rattle.pw_store_runs.specs.declared.ending.StoreFault.{StoreFault}
+use Rattle.pw_store_runs.specs.declared.ending.StoreFault.TheVariants as fault
+use Rattle.pw_store_runs.specs.declared.ending.Stored.{Stored}
+use Rattle.pw_store_runs.specs.declared.ending.Stored.TheVariants.{Ended, Failed}
+use Rattle.pw_trail.specs.Files.{files_after}
+use Rattle.pw_trail.specs.Format.{units_in}
+use Rattle.pw_trail.specs.declared.changes.UnitChanges.{UnitChanges}
+use Rattle.pw_workers.specs.Endings.{EndsAs}
+use Rattle.pw_workers.specs.declared.ending.LogEnding.{LogEnding}
+
+-- what the terminals of a deck ask and show and its servers do, over these records
+abbrev pub meaning_over : ParsedDeck → (ℕ → List (List ℕ)) → Behaviour
+meaning_over deck records = over_records (meaning ReadersShare deck) records
+
+-- its system with these records
+abbrev pub named_over : ParsedDeck → (ℕ → List (List ℕ)) → System
+named_over deck records = with_records (named ReadersShare deck) records
+
+-- The log keeps what is promised of logs of the deck over these records; the text is its report; and it is the log that is
+-- read back from the text.
+pub record PrintsOver (deck : ParsedDeck) (records : ℕ → List (List ℕ)) (log : List Event) (text : List ℕ) : Type 0 where
+  pub promises : KeepsPromises (meaning_over deck records) log
+  pub is : text ≡ report_text (named_over deck records) (meaning_over deck records) log
+  pub read : IsReadFrom (named_over deck records) text log
+
+-- a store: the deck with which it began, and the units of its trail, whose files are that deck's
+pub record IsStore (first trail : List ℕ) (base : ParsedDeck) (units : List UnitChanges) : Type 0 where
+  pub began : deck_of first ≡ Ok base
+  pub has : units_in base.told.system.files trail ≡ Ok units
+
+-- The deck has run over the records of the store, and has ended so with this report; and the store has its commits.
+pub record ReportsOver (files : List FileInfo) (units : List UnitChanges) (deck : ParsedDeck) (events : ℕ) (ended : LogEnding)
+    (text : List ℕ) (images : List ℕ → Type 0) : Type 0 where
+  pub log : List Event
+  pub prints : PrintsOver deck (files_after files units) log text
+  pub ends : EndsAs ended events (meaning_over deck (files_after files units)) log
+  pub left : HasCommitted files units (meaning_over deck (files_after files units)) log images
+
+-- the disk has failed in such a run, and the store has its commits
+pub record StopsInStore (files : List FileInfo) (units : List UnitChanges) (deck : ParsedDeck) (images : List ℕ → Type 0)
+    : Type 0 where
+  pub log : List Event
+  pub promises : KeepsPromises (meaning_over deck (files_after files units)) log
+  pub left : HasCommitted files units (meaning_over deck (files_after files units)) log images
+
+-- one or the other
+abbrev pub EndsInStore : {S : Type 0} → (S → List ℕ → Type 0) → List FileInfo → List UnitChanges → ParsedDeck → ℕ → Stored S
+    → Type 0
+EndsInStore images files units deck events (Ended ended text disk) = ReportsOver files units deck events ended text (images disk)
+EndsInStore images files units deck events (Failed disk) = StopsInStore files units deck (images disk)
+
+-- The bytes are a deck whose files have the names and keys of the store's; it has run over the store's records, which are
+-- those of the first deck after the changes of the units.
+pub record StoreRuns {S : Type 0} (images : S → List ℕ → Type 0) (first trail bytes : List ℕ) (events : ℕ)
+    (stored : Stored S) : Type 0 where
+  pub base : ParsedDeck
+  pub units : List UnitChanges
+  pub store : IsStore first trail base units
+  pub deck : ParsedDeck
+  pub says : deck_of bytes ≡ Ok deck
+  pub alike : AreAlike base.told.system.files deck.told.system.files
+  pub ends : EndsInStore images base.told.system.files units deck events stored
+
+-- ---- refusals
+
+-- the files are those of the deck of the bytes, which may be a system's
+pub record AreFilesOf (bytes : List ℕ) (files : List FileInfo) : Type 0 where
+  pub deck : ParsedDeck
+  pub says : deck_of bytes ≡ Ok deck
+  pub are : files ≡ deck.told.system.files
+  pub each : All IsDeckFile files
+
+-- the fault where the deck is refused, and where the store's first deck is
+abbrev pub deck_refused : Refusal → StoreFault
+deck_refused (At line code) = fault.Refused (record { line = line; code = code })
+deck_refused refusal.Memory = fault.Memory
+
+abbrev pub first_refused : Refusal → StoreFault
+first_refused (At line code) = fault.NoStore
+first_refused refusal.Memory = fault.Memory
+
+-- the deck has this first fault, or the store's first deck has one; their files differ; or the trail is damaged at a place
+abbrev pub RefusesStore : List ℕ → List ℕ → List ℕ → StoreFault → Type 0
+RefusesStore first trail bytes (fault.Refused own) = deck_of bytes ≡ Err own
+RefusesStore first trail bytes fault.NoStore = (own : Fault) × (deck_of first ≡ Err own)
+RefusesStore first trail bytes fault.OtherFiles =
+    (base : ParsedDeck) × (deck : ParsedDeck) × (deck_of first ≡ Ok base) × (deck_of bytes ≡ Ok deck)
+    × (AreAlike base.told.system.files deck.told.system.files → ⊥)
+RefusesStore first trail bytes (fault.Damaged at) =
+    (base : ParsedDeck) × (deck_of first ≡ Ok base) × (units_in base.told.system.files trail ≡ Err at)
+RefusesStore first trail bytes fault.Failed = Unit {0}
+RefusesStore first trail bytes fault.Memory = Unit {0}
