@@ -1,0 +1,118 @@
+//! A call over the folder of a store.
+
+use crate::answers::{fault_line, of_fault, of_opening};
+use pw_base::bytes::Bytes;
+use pw_base::fault::{Fault, Refusal};
+use pw_base::fault_code::FaultCode;
+use pw_base::memory::Memory;
+use pw_base::source::Source;
+use pw_compiled_deck::deck::read;
+use pw_file_disk::fault::OpenFailed;
+use pw_file_disk::open::open;
+use pw_input_output::input::read_input;
+use pw_input_output::status::Status;
+use pw_store_runs::ending::{StoreFault, Stored};
+use pw_store_runs::store::run_stored;
+use pw_volume::disk::Disk;
+use pw_workers::bounds::RunBounds;
+use pw_workers::gate::NoGate;
+use std::alloc::Global;
+use std::sync::Wait;
+use std::thread::Threads;
+
+/// Why a call has no text of its own.
+#[derive(Drop)]
+enum StoreCallFault {
+    /// The source failed, or memory ran out.
+    Status(Status),
+    /// A file of the store was not opened.
+    Opening(OpenFailed),
+    /// The deck was not run.
+    Store(StoreFault),
+}
+
+/// Runs the deck of the source over the store in a folder: the exit status and the text. It may wait for a thread.
+pub fn run_in_folder<S: Source, R: Threads + Wait + Sync>(
+    rt: &R,
+    host: &HostRuntime,
+    folder: &str,
+    bounds: RunBounds,
+    source: &mut S,
+) -> (u8, Bytes) {
+    let alloc = host.alloc();
+    let told = match run_deck(rt, host, alloc, folder, bounds, source) {
+        Ok(told) => Ok(told),
+        Err(StoreCallFault::Status(status)) => Ok((status.number(), Bytes::new(alloc))),
+        Err(StoreCallFault::Opening(failed)) => of_opening(alloc, failed),
+        Err(StoreCallFault::Store(fault)) => of_fault(alloc, fault),
+    };
+    match told {
+        Ok(told) => told,
+        Err(Memory) => (Status::Memory.number(), Bytes::new(alloc)),
+    }
+}
+
+/// The same, or why there is no report.
+fn run_deck<S: Source, R: Threads + Wait + Sync>(
+    rt: &R,
+    host: &HostRuntime,
+    alloc: Global,
+    folder: &str,
+    bounds: RunBounds,
+    source: &mut S,
+) -> Result<(u8, Bytes), StoreCallFault> {
+    let deck = deck_of(alloc, source)?;
+    let first = first_deck(host, alloc, folder, deck.as_slice())?;
+    let disk = open(host, alloc, folder, "trail", &[0]).map_err(StoreCallFault::Opening)?;
+    match run_stored(
+        rt,
+        alloc,
+        first.as_slice(),
+        deck.as_slice(),
+        disk,
+        bounds,
+        &NoGate,
+    ) {
+        Ok(Stored::Ended(ended, text, _disk)) => Ok((ended.status().number(), text)),
+        Ok(Stored::Failed(_disk)) => Err(StoreCallFault::Store(StoreFault::Failed)),
+        Err(fault) => Err(StoreCallFault::Store(fault)),
+    }
+}
+
+/// The bytes of the source, which are a deck without a fault.
+fn deck_of<S: Source>(alloc: Global, source: &mut S) -> Result<Bytes, StoreCallFault> {
+    let Some(bytes) = read_input(alloc, source).map_err(StoreCallFault::Status)? else {
+        return Err(StoreCallFault::Store(StoreFault::Refused(Fault {
+            line: 0,
+            code: FaultCode::InputTooLong,
+        })));
+    };
+    match read(alloc, bytes.as_slice()) {
+        Ok(_deck) => Ok(bytes),
+        Err(Refusal::At { line, code }) => Err(StoreCallFault::Store(StoreFault::Refused(Fault {
+            line,
+            code,
+        }))),
+        Err(Refusal::Memory) => Err(StoreCallFault::Status(Status::Memory)),
+    }
+}
+
+/// The bytes of the deck with which the store began, which is this one where the folder has none.
+fn first_deck(
+    host: &HostRuntime,
+    alloc: Global,
+    folder: &str,
+    deck: &[u8],
+) -> Result<Vec<u8>, StoreCallFault> {
+    let mut disk = open(host, alloc, folder, "deck", deck).map_err(StoreCallFault::Opening)?;
+    let Ok(length) = disk.length() else {
+        return Err(StoreCallFault::Store(StoreFault::Failed));
+    };
+    let Ok(mut bytes) = vec![in alloc; 0u8; length as usize] else {
+        return Err(StoreCallFault::Status(Status::Memory));
+    };
+    match disk.read(0, bytes.as_mut_slice()) {
+        Ok(()) => Ok(bytes),
+        Err(_) => Err(StoreCallFault::Store(StoreFault::Failed)),
+    }
+}
