@@ -1,5 +1,5 @@
 -- What ACCOUNT-P's statements have to meet, and that they do.
-use Rattle.std.proofs.Common.{◌≡◌, ℕ, Bool, true, false, List, [], ◌∷◌, ◌++◌, take, drop, if◌then◌else◌, Some, refl}
+use Rattle.std.proofs.Common.{◌≡◌, ℕ, Bool, true, false, List, [], ◌∷◌, ◌++◌, take, drop, if◌then◌else◌, Some, refl, pos}
 use Rattle.std.specs.Prelude.{bytes_eq, codes}
 use Rattle.std.specs.Ordering.{is_eq}
 use Rattle.std.proofs.lemmas.Bool.{false≢true, true≢false}
@@ -10,6 +10,7 @@ use Rattle.pw_files.specs.Records.{has_key, record_at, with_record}
 use Rattle.pw_forms.specs.declared.statement.Statement.{Statement}
 use Rattle.pw_invariants.specs.Units.{FileRecords}
 use Rattle.pw_number.specs.Arithmetic.{sized, sum}
+use Rattle.pw_number.specs.Number.{number}
 use Rattle.pw_onecopy.specs.Update.{upd}
 use Rattle.pw_picture.specs.declared.picture.Picture.TheVariants.{Text as TextPicture}
 use Rattle.pw_picture.specs.Stored.{moved, read_of}
@@ -89,6 +90,7 @@ module _ (bank : BankChoices) (message : List ℕ) (replies : List ℕ → FileR
       → has_key 4 (upd files 1 lines 0) (take 4 (record_with content chars more)) ≡ false → ⊥)
       (post : (content chars more reply : List ℕ) → is_p op ≡ true → record_at 4 (files 0) account ≡ Some content
       → received (Some nine) (sized (sum (read_of nine (digits_in content)) (read_of seven amount))) ≡ Some chars
+      → received (Some three) (sized (sum (read_of three (lines_in content)) (number (pos 1) 0))) ≡ Some more
       → has_key 7 (files 1) (take 7 (line_with content more other amount)) ≡ false
       → take 4 reply ≡ codes "0000"
       → replies reply (files_with files (with_record 7 (files 1) (line_with content more other amount)) (record_with content chars more)))
@@ -130,7 +132,7 @@ module _ (bank : BankChoices) (message : List ℕ) (replies : List ℕ → FileR
               λ u. (
                 λ w. (
                   λ v. (
-                    λ h. post content chars more _ yes_p is e (not-there _ w) refl,
+                    λ h. post content chars more _ yes_p is e g (not-there _ w) refl,
                     λ h. absurd (there _ content chars more is h),
                   ),
                   λ v. absurd (true≢false v),
@@ -167,6 +169,7 @@ module _ (bank : BankChoices) (message : List ℕ) (replies : List ℕ → FileR
       → has_key 4 (upd files 1 lines 0) (take 4 (record_with content chars more)) ≡ false → ⊥)
       → ((content chars more reply : List ℕ) → is_p (message_op message) ≡ true → record_at 4 (files 0) (message_account message) ≡ Some content
       → received (Some nine) (sized (sum (read_of nine (digits_in content)) (read_of seven (message_amount message)))) ≡ Some chars
+      → received (Some three) (sized (sum (read_of three (lines_in content)) (number (pos 1) 0))) ≡ Some more
       → has_key 7 (files 1) (take 7 (line_with content more (message_other message) (message_amount message))) ≡ false
       → take 4 reply ≡ codes "0000"
       → replies reply

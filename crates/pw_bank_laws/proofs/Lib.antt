@@ -8,6 +8,7 @@ pub mod Account
 pub mod Total
 pub mod Posts
 pub mod Told
+pub mod Formed
 pub mod Steps
 pub mod Teller
 pub mod Units

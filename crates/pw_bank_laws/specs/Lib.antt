@@ -1,3 +1,4 @@
+pub mod Accounts
 pub mod Balances
 pub mod Servers
 pub mod Statements

@@ -1,15 +1,10 @@
 -- Each server of the order entry leaves the orders numbered without a gap.
 use Rattle.std.proofs.Common.{◌≡◌, ◌≢◌, ℕ, zero, suc, ◌+◌, ◌<◌, ◌≤◌, ◌^◌, Bool, true, false, List, [], take, Some, is_some, ◌⊎◌, inl, inr, ⊎_elim, refl, sym, ap, ◌∙◌, subst, arith}
 use Rattle.std.specs.Prelude.{bytes_eq, codes}
-use Rattle.std.specs.Ordering.{is_eq}
 use Rattle.std.proofs.lemmas.Bool.{cases_lt, true≢false}
-use Rattle.std.proofs.lemmas.Cmp.{nat_list_cmp_total, tied_itself}
-use Rattle.std.proofs.lemmas.Map.Lookups.{exact_bytes}
-use Rattle.std.proofs.lemmas.Map.Text.{is_eq-slice_cmp}
-use Rattle.pw_base.proofs.Plain.{is_eq-Equal}
 use Rattle.pw_code.specs.declared.lock.LockRule.{LockRule}
 use Rattle.pw_files.proofs.Lookups.{record_at-with_other, record_at-with_record}
-use Rattle.pw_files.specs.Records.{has_key, key_cmp, record_at, with_record}
+use Rattle.pw_files.specs.Records.{has_key, record_at, with_record}
 use Rattle.pw_invariants.specs.Servers.{ServersKeep}
 use Rattle.pw_invariants.specs.Units.{FileRecords}
 use Rattle.pw_number.specs.Arithmetic.{sized}

@@ -1,9 +1,9 @@
 -- The number of an order, and the number in CONTROL.
-use Rattle.std.proofs.Common.{◌≡◌, ℕ, zero, suc, ◌+◌, ◌-◌, ◌%◌, ◌^◌, ◌<◌, Bool, true, false, not, ◌||◌, List, [], ◌∷◌, ◌++◌, length, take, drop, replicate, if◌then◌else◌, nat_lt, Some, None, Ok, Err, pos, unsigned_abs, refl, sym, ap, ◌∙◌, arith}
+use Rattle.std.proofs.Common.{◌≡◌, ℕ, ◌+◌, ◌-◌, ◌%◌, ◌^◌, ◌<◌, Bool, true, false, not, ◌||◌, List, [], ◌∷◌, ◌++◌, length, take, drop, replicate, if◌then◌else◌, nat_lt, Some, None, Ok, Err, pos, unsigned_abs, refl, sym, ap, ◌∙◌, arith}
 use Rattle.std.proofs.Math.Nat.{mod-eq_of_lt}
 use Rattle.std.proofs.lemmas.Bool.{and_parts, ltb-true}
 use Rattle.std.proofs.lemmas.Int.{ints}
-use Rattle.std.proofs.lemmas.List.{append-nil, length-append, take-append-le, take_all}
+use Rattle.std.proofs.lemmas.List.{length-append, take_all}
 use Rattle.pw_files.proofs.Lookups.{record_at-found}
 use Rattle.pw_files.specs.Records.{record_at}
 use Rattle.pw_number.specs.Arithmetic.{sized, sum}

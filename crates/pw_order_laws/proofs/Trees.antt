@@ -1,19 +1,14 @@
 -- The servers of the order entry as they are read.
-use Rattle.std.proofs.Common.{ℕ, Bool, true, false, List, [], ◌∷◌, Some, None}
+use Rattle.std.proofs.Common.{ℕ, Bool, true, false, List, [], ◌∷◌}
 use Rattle.std.specs.Prelude.{codes}
 use Rattle.pw_data.specs.declared.item.Item.{Item}
-use Rattle.pw_data.specs.declared.item.ItemKind.{ItemKind}
 use Rattle.pw_data.specs.declared.item.ItemKind.TheVariants as kind
 use Rattle.pw_forms.specs.declared.cond.ComparisonForm.{ComparisonForm}
 use Rattle.pw_forms.specs.declared.cond.ComparisonForm.TheVariants as comparison
 use Rattle.pw_forms.specs.declared.cond.ConditionForm.{ConditionForm}
 use Rattle.pw_forms.specs.declared.cond.Operator.{Operator}
 use Rattle.pw_forms.specs.declared.cond.Operator.TheVariants as operator
-use Rattle.pw_forms.specs.declared.operand.Operand.{Operand}
 use Rattle.pw_forms.specs.declared.operand.Operand.TheVariants as operands
-use Rattle.pw_forms.specs.declared.statement.ArithmeticForm as arithmetic
-use Rattle.pw_forms.specs.declared.statement.Operation.TheVariants as operation
-use Rattle.pw_forms.specs.declared.statement.Paragraph.{Paragraph}
 use Rattle.pw_forms.specs.declared.statement.Statement.{Statement}
 use Rattle.pw_forms.specs.declared.statement.Statement as form
 use Rattle.pw_forms.specs.declared.statement.Statement.{Row_of-Statement, end_of-Statement, more_of-Statement}
