@@ -57,14 +57,11 @@ pub fn build_image<D: Disc>(alloc: Global, world: &mut World<D>) -> bool {
     }
 }
 
-/// Goes round until something stops that. Where it builds, an image that is not built stops it no more.
-pub fn go_round<D: Disc>(alloc: Global, world: &mut World<D>, builds: bool) -> Stop {
+/// Goes round until something stops that.
+pub fn go_round<D: Disc>(world: &mut World<D>) -> Stop {
     for _ in 0..ROUNDS {
         if let Err(stop) = round(world) {
-            let waits = stop == Stop::Answered(Applied::Unbuilt);
-            if !(builds && waits && build_image(alloc, world)) {
-                return stop;
-            }
+            return stop;
         }
     }
     Stop::Rounds

@@ -7,7 +7,6 @@ use super::opening::{OpenedDeck, open};
 use super::{decks, reports};
 use pw_base::mem_sink::MemSink;
 use pw_deck_runs::written::{Ran, run_with};
-use pw_gen::generate::generate;
 use pw_tmf::faulty::Calls;
 use pw_workers::gate::{Gate, NoGate};
 use pw_world::replay::MAX_ENTRIES;
@@ -58,43 +57,6 @@ fn run_deck<G: Gate, R: Threads + Wait + Sync>(
         written: sink.written().to_vec(alloc)?,
         calls: disc.calls,
     })
-}
-
-/// The log is the same with one worker and with more.
-#[test]
-fn takeover_same_with_four_workers(rt: HostRuntime) -> Result<(), Fail> {
-    let deck = decks::stocks(rt.alloc(), b"", decks::TAKEOVER_RESTARTS)?;
-    for workers in 1..5 {
-        let left = run_deck(&rt, rt.alloc(), deck.as_slice(), &[], workers, &NoGate)?;
-        assert_eq!(rt; left.status, 0);
-        assert_eq!(rt; left.written.as_slice(), reports::TAKEOVER_RESTARTS);
-    }
-    Ok(())
-}
-
-/// The screens and the records are those of every schedule.
-#[test]
-fn orders_with_four_workers(rt: HostRuntime) -> Result<(), Fail> {
-    for _ in 0..8 {
-        let left = run_deck(&rt, rt.alloc(), decks::ORDERS, &[], 4, &NoGate)?;
-        assert_eq!(rt; left.status, 0);
-        assert!(rt; reports::has(left.written.as_slice(), reports::ORDERS));
-    }
-    Ok(())
-}
-
-/// Four workers build the images of more than 100 checkpoints of two pairs, of which the first loses its primary: the run
-/// ends, and each entry has added 1 to its record.
-#[test]
-fn checkpoints_of_two_pairs_with_four_workers(rt: HostRuntime) -> Result<(), Fail> {
-    let deck = generate(rt.alloc(), 1, 16)?;
-    for _ in 0..2 {
-        let left = run_deck(&rt, rt.alloc(), deck.as_slice(), &[], 4, &NoGate)?;
-        assert_eq!(rt; left.status, 0);
-        assert!(rt; reports::count(left.written.as_slice(), b" CHECK ") > 100);
-        assert!(rt; reports::has(left.written.as_slice(), reports::ADDED));
-    }
-    Ok(())
 }
 
 /// A worker is held until another carries the other terminal.
