@@ -26,7 +26,7 @@ use std::thread::Threads;
 ///
 /// The log is a run of the deck, by the trees of its programs, over the records of the store in place of its own, and keeps
 /// what is promised of logs (docs/PROMISES.md). The store then has a unit for each that commits in the log, behind those
-/// from before, and so has what a crash leaves of it, but for one more at most where the disk has failed.
+/// from before, and so has what a crash leaves of it, with at most one more.
 pub fn run_stored<D: Disk, G: Gate, R: Threads + Wait + Sync>(
     rt: &R,
     alloc: Global,
