@@ -1,0 +1,9 @@
+pub mod Parts
+pub mod Rows
+pub mod Turns
+pub mod Trees
+pub mod Held
+pub mod Sale
+pub mod Map
+pub mod Read
+pub mod Steps
