@@ -186,10 +186,19 @@ def counts_of_page():
     return {name: int(count.replace(",", "")) for name, count in found}
 
 
+def behind_launcher(program):
+    """The program that `./pathway` runs, where that is named: the instructions of a launcher are none of its own."""
+    if program != TOP / "pathway":
+        return program
+    told = subprocess.run(["bash", "-c", '. release/state.sh; is_built && echo "$built" || echo "$released"'], cwd=TOP,
+        env={**os.environ, "here": str(TOP)}, stdout=subprocess.PIPE, text=True, check=True)
+    return pathlib.Path(told.stdout.strip())
+
+
 def main(words):
     compares = "--compare" in words
     words = [it for it in words if it != "--compare"]
-    program = pathlib.Path(words[0] if words else TOP / "pathway").resolve()
+    program = behind_launcher(pathlib.Path(words[0] if words else TOP / "pathway").resolve())
     if not shutil.which("valgrind"):
         print("valgrind is not installed here")
         return 77
