@@ -9,11 +9,7 @@ set -eu
 here=$(cd "$(dirname "$0")" && pwd)
 program=${1:-$here/../pathway}
 work=$(mktemp -d)
-server=
-finish() {
-    [ -z "$server" ] || as_owner "$bin/pg_ctl" -D "$work/base" -m immediate stop > "$work/stop.log" 2>&1 || true
-    rm -rf "$work"
-}
+. "$here/postgres.sh"
 trap finish EXIT
 
 terminals=64
@@ -118,33 +114,6 @@ line() {
         END { printf "%s %.0f %.0f %.0f %.2f %.2f\n", name, rate[1], rate[2], rate[3], rate[2] / rate[1], rate[3] / rate[1] }'
 }
 
-# PostgreSQL refuses to run as root.
-as_owner() {
-    if [ "$(id -u)" -eq 0 ]; then runuser -u postgres -- "$@"; else "$@"; fi
-}
-
-# Where the programs of PostgreSQL are, none where it isn't installed.
-programs() {
-    local folder
-    for folder in "$(pg_config --bindir 2> /dev/null || true)" /usr/lib/postgresql/*/bin; do
-        if [ -x "$folder/initdb" ] && [ -x "$folder/pgbench" ]; then echo "$folder"; return; fi
-    done
-}
-
-start_server() {
-    bin=$(programs)
-    [ -n "$bin" ] || return 1
-    mkdir "$work/socket"
-    if [ "$(id -u)" -eq 0 ]; then chmod 755 "$work"; install -d -o postgres "$work/base"; chown postgres "$work/socket"; fi
-    as_owner "$bin/initdb" -A trust -D "$work/base" > "$work/initdb.log" 2>&1 || { cat "$work/initdb.log" >&2; return 1; }
-    as_owner "$bin/pg_ctl" -w -D "$work/base" -l "$work/socket/log" \
-        -o "-k $work/socket -c listen_addresses='' -c fsync=off -c synchronous_commit=off -c max_connections=100" start \
-        > "$work/start.log" 2>&1 || { cat "$work/start.log" >&2; return 1; }
-    server=yes
-}
-
-query() { as_owner "$bin/psql" -q -h "$work/socket" -d postgres -c "$1"; }
-
 # The transactions a second of 64 clients, each of so many that add one to a record of so many, by 1, 2 and 4 threads.
 peer() {
     local name=$1 keys=$2 threads
@@ -167,7 +136,7 @@ for turns in 100 10000; do
     computing "$turns" no > "$work/deck"
     line "computing-$turns-apart" run
 done
-if start_server; then
+if start_server off; then
     peer pgbench-shared 10
     peer pgbench-apart "$terminals"
 else
