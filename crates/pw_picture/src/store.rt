@@ -1,4 +1,4 @@
-ghost use Rattle.std.specs.Prelude.{◌≡◌, ◌%◌, ◌<◌, ◌≤◌, ◌^◌, ◌↔◌, length, IsTrue, IsOk, if◌then◌else◌, ◌+◌};
+ghost use Rattle.std.specs.Prelude.{◌≡◌, ◌*◌, ◌/◌, ◌%◌, ◌<◌, ◌≤◌, ◌^◌, ◌↔◌, length, IsTrue, IsOk, if◌then◌else◌, ◌+◌};
 ghost use Rattle.std.specs.Option.{SomeIff};
 ghost use Rattle.pw_picture.specs.Grammar.{IsPicture, size_of};
 ghost use Rattle.pw_picture.specs.Stored.{is_numeric_picture, size_at, sign_of, digits_of, chars_of, is_negative, moved, is_kept, stored};
@@ -8,17 +8,17 @@ use pw_number::power::power_of_ten;
 use pw_number::scaled::Scaled;
 use pw_number::size_error::SizeError;
 
-/// The digits of a number at other places than its own, without a point, where they fit.
+/// Digits of which so many are decimals, with another number of decimals, where they fit.
 #[inline(never)]
-fn size_elsewhere(value: Scaled, places: u8) -> Option<u128>
-    requires { places ≤ 18 }
-    ensures { SomeIff result (size_at places value < 2 ^ 128) (size_at places value) }
+fn at_places(size: u128, own: u8, places: u8) -> Option<u128>
+    requires own { own ≤ 18 }
+    requires places { places ≤ 18 }
+    ensures { SomeIff result (size * 10 ^ places / 10 ^ own < 2 ^ 128) (size * 10 ^ places / 10 ^ own) }
 {
-    let size = value.units().unsigned_abs();
-    if value.places() >= places {
-        Some(size / power_of_ten(value.places() - places))
+    if own >= places {
+        Some(size / power_of_ten(own - places))
     } else {
-        size.checked_mul(power_of_ten(places - value.places()))
+        size.checked_mul(power_of_ten(places - own))
     }
 }
 
@@ -31,23 +31,23 @@ fn size_at(value: Scaled, places: u8) -> Option<u128>
     if value.places() == places {
         Some(value.units().unsigned_abs())
     } else {
-        size_elsewhere(value, places)
+        at_places(value.units().unsigned_abs(), value.places(), places)
     }
 }
 
-/// The low digits of a number at other places than its own, without a point.
+/// Digits of which so many are decimals, with another number of decimals, without the high ones.
 #[inline(never)]
-fn low_digits_elsewhere(value: Scaled, places: u8, digits: u8) -> u64
+fn low_at_places(size: u128, own: u8, places: u8, digits: u8) -> u64
+    requires own { own ≤ 18 }
     requires places { places ≤ 18 }
     requires digits { digits ≤ 18 }
-    ensures { result ≡ size_at places value % 10 ^ digits }
+    ensures { result ≡ size * 10 ^ places / 10 ^ own % 10 ^ digits }
 {
-    let size = value.units().unsigned_abs();
     let end = power_of_ten(digits);
-    let low = if value.places() >= places {
-        size / power_of_ten(value.places() - places)
+    let low = if own >= places {
+        size / power_of_ten(own - places)
     } else {
-        size % end * power_of_ten(places - value.places())
+        size % end * power_of_ten(places - own)
     };
     (low % end) as u64
 }
@@ -72,7 +72,7 @@ pub fn low_digits(value: Scaled, places: u8, digits: u8) -> u64
     if value.places() == places {
         remainder(value.units().unsigned_abs(), power_of_ten(digits)) as u64
     } else {
-        low_digits_elsewhere(value, places, digits)
+        low_at_places(value.units().unsigned_abs(), value.places(), places, digits)
     }
 }
 
