@@ -14,20 +14,20 @@ use Rattle.pw_code_meaning.specs.Reading.{registers_of}
 use Rattle.pw_code_meaning.specs.Sound.{IsSound}
 use Rattle.pw_code_meaning.specs.Steps.{act, computes, does, or_else, shows}
 use Rattle.pw_machine.specs.Config.{config_of}
-use Rattle.pw_machine.specs.Stack.{StaysAt, is_control}
+use Rattle.pw_machine.specs.Stack.{StaysAt, is_at_once}
 use Rattle.pw_machine.specs.declared.top.Top.{Top}
 use Rattle.pw_machine.proofs.SoundLemmas.{stays_sound}
 
 -- a statement counts
-pub act_counted : (system : System) (i : Instr) (c : Config) → is_control i ≡ false → act system (Some i) c ≡ code_statement_counted (does system i) c
+pub act_counted : (system : System) (i : Instr) (c : Config) → is_at_once i ≡ false → act system (Some i) c ≡ code_statement_counted (does system i) c
 act_counted system (Jump n) c e = absurd (cc)
 act_counted system (ParagraphEnd start) c e = absurd (cc)
 act_counted system (Until paragraph cond) c e = absurd (cc)
 act_counted system NoCode c e = absurd (cc)
-act_counted system (JumpUnless cond n) c e = refl
-act_counted system (Move from to) c e = refl
-act_counted system (Compute a) c e = refl
-act_counted system (OnSizeError a n) c e = refl
+act_counted system (JumpUnless cond n) c e = absurd (cc)
+act_counted system (Move from to) c e = absurd (cc)
+act_counted system (Compute a) c e = absurd (cc)
+act_counted system (OnSizeError a n) c e = absurd (cc)
 act_counted system (Perform paragraph) c e = refl
 act_counted system (PerformTimes paragraph times) c e = refl
 act_counted system (PerformOneOf paragraphs position) c e = refl

@@ -1,6 +1,8 @@
 pub mod ActLemmas
 pub mod BesideLemmas
 pub mod CodeLemmas
+pub mod CountingLemmas
+pub mod DigitLemmas
 pub mod EntryLemmas
 pub mod KeyedLemmas
 pub mod LinkageLemmas

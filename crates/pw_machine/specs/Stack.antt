@@ -4,7 +4,7 @@ use Rattle.pw_code.specs.Instrs.{HasRanges}
 use Rattle.pw_code.specs.declared.context.Context.{Context}
 use Rattle.pw_code.specs.declared.context.Frame.{Frame}
 use Rattle.pw_code.specs.declared.instr.Instr.{Instr}
-use Rattle.pw_code.specs.declared.instr.Instr.TheVariants.{Call, ExitProgram, Jump, NoCode, ParagraphEnd, Until}
+use Rattle.pw_code.specs.declared.instr.Instr.TheVariants.{Call, Compute, ExitProgram, Jump, JumpUnless, Move, NoCode, OnSizeError, ParagraphEnd, Until}
 use Rattle.pw_code.specs.declared.system.System.{System}
 use Rattle.pw_code_meaning.specs.Config.{Config, code_at}
 
@@ -44,10 +44,14 @@ stays_at_work (Call program arguments keeps) = false
 stays_at_work ExitProgram = false
 stays_at_work _ = true
 
--- the instruction is one of control, which counts as no statement
-abbrev pub is_control : Instr → Bool
-is_control (Jump n) = true
-is_control (ParagraphEnd start) = true
-is_control (Until paragraph cond) = true
-is_control NoCode = true
-is_control _ = false
+-- the instruction is done at once: one of control, which counts as no statement, IF, MOVE or arithmetic
+abbrev pub is_at_once : Instr → Bool
+is_at_once (Jump n) = true
+is_at_once (ParagraphEnd start) = true
+is_at_once (Until paragraph cond) = true
+is_at_once NoCode = true
+is_at_once (JumpUnless cond n) = true
+is_at_once (Move from to) = true
+is_at_once (Compute a) = true
+is_at_once (OnSizeError a n) = true
+is_at_once _ = false

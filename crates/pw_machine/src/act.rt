@@ -6,9 +6,11 @@ ghost use Rattle.pw_code_meaning.specs.Config.{code_at};
 ghost use Rattle.pw_code_meaning.specs.Sound.{IsSound};
 ghost use Rattle.pw_code_meaning.specs.Steps as steps;
 ghost use Rattle.pw_machine.specs.Config.{config_of, frame_of};
-ghost use Rattle.pw_machine.specs.Stack.{CanDoInstr, StaysAt, is_control, stays_at_work};
+ghost use Rattle.pw_machine.specs.Stack.{CanDoInstr, StaysAt, is_at_once, stays_at_work};
 
-use crate::arms::{branch, calculate, move_to, perform_one_of, perform_times};
+use crate::arms::{
+    begin_arithmetic, begin_branch, begin_guarded, begin_move, perform_one_of, perform_times,
+};
 use crate::asks::{display, display_screen, operate, read_record, receive, send};
 use crate::calls::{call, leave};
 use crate::conditions::holds;
@@ -30,16 +32,13 @@ fn does_here(
     context: &mut Context,
 ) -> Result<(), Memory>
     requires stays { stays_at_work instr.now ≡ true }
+    requires statement { is_at_once instr.now ≡ false }
     requires sound { IsSound system.now (config_of top.old context.old) }
     requires can { CanDoInstr system.now (frame_of top.old) instr.now }
     ensures config { IfOk result (λ _. config_of top.new context.new ≡ steps.does system.now instr.now (config_of top.old context.old)) }
     ensures stays { IfOk result (λ _. StaysAt (config_of top.old context.old) (config_of top.new context.new)) }
 {
     match instr {
-        Instr::JumpUnless(cond, over) => branch(top, context, cond, *over),
-        Instr::Move { from, to } => move_to(top, context, from, to.as_slice())?,
-        Instr::Compute(arithmetic) => calculate(top, context, arithmetic, 0),
-        Instr::OnSizeError { arithmetic, over } => calculate(top, context, arithmetic, *over),
         Instr::Perform(paragraph) => turn(top, context, top.at + 1, *paragraph, 0)?,
         Instr::PerformTimes { turn, times } => perform_times(top, context, *turn, times)?,
         Instr::PerformOneOf { turns, position } => {
@@ -63,9 +62,13 @@ fn does_here(
         }
         Instr::Delete { key, .. } => operate(top, context, key),
         Instr::Jump(_)
+        | Instr::JumpUnless(..)
         | Instr::ParagraphEnd(_)
         | Instr::Until { .. }
         | Instr::NoCode
+        | Instr::Move { .. }
+        | Instr::Compute(_)
+        | Instr::OnSizeError { .. }
         | Instr::Call { .. }
         | Instr::ExitProgram => {}
     }
@@ -77,6 +80,7 @@ fn does(system: &System, instr: &Instr, top: &mut Top, context: &mut Context) ->
     requires valid { IsValid system.now }
     requires sound { IsSound system.now (config_of top.old context.old) }
     requires at { slice_get (code_at system.now top.old.program).instrs top.old.at ≡ Some instr.now }
+    requires statement { is_at_once instr.now ≡ false }
     requires can { CanDoInstr system.now (frame_of top.old) instr.now }
     ensures config { IfOk result (λ _. config_of top.new context.new ≡ steps.does system.now instr.now (config_of top.old context.old)) }
     ensures sound { IfOk result (λ _. IsSound system.now (config_of top.new context.new)) }
@@ -93,6 +97,7 @@ fn does(system: &System, instr: &Instr, top: &mut Top, context: &mut Context) ->
 }
 
 /// A statement begins, and is done where not too many have begun.
+#[inline(never)]
 fn begin_statement(
     system: &System,
     instr: &Instr,
@@ -103,7 +108,7 @@ fn begin_statement(
     requires sound { IsSound system.now (config_of top.old context.old) }
     requires at { slice_get (code_at system.now top.old.program).instrs top.old.at ≡ Some instr.now }
     requires can { CanDoInstr system.now (frame_of top.old) instr.now }
-    requires statement { is_control instr.now ≡ false }
+    requires statement { is_at_once instr.now ≡ false }
     ensures config { IfOk result (λ _. config_of top.new context.new ≡ steps.act system.now (Some instr.now) (config_of top.old context.old)) }
     ensures sound { IfOk result (λ _. IsSound system.now (config_of top.new context.new)) }
 {
@@ -130,6 +135,12 @@ fn act(system: &System, instr: &Instr, top: &mut Top, context: &mut Context) -> 
             tested(top, context, *turn, found)?;
         }
         Instr::NoCode => fault(context, 204),
+        Instr::JumpUnless(cond, over) => begin_branch(top, context, cond, *over),
+        Instr::Move { from, to } => begin_move(top, context, from, to.as_slice())?,
+        Instr::Compute(arithmetic) => begin_arithmetic(top, context, arithmetic),
+        Instr::OnSizeError { arithmetic, over } => {
+            begin_guarded(top, context, arithmetic, *over)
+        }
         _ => begin_statement(system, instr, top, context)?,
     }
     Ok(())

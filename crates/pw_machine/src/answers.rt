@@ -160,7 +160,7 @@ fn move_into(
     requires { IsPlace (length storage.old) into }
     ensures { storage.new ≡ answers.moved_into (reading.spot_of (registers_by registers) storage.old into) status content.now storage.old }
 {
-    let Some(spot) = spot_of(registers, storage, into) else {
+    let Some(spot) = spot_of(registers, storage, &into) else {
         return;
     };
     match content {

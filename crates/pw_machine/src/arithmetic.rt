@@ -12,6 +12,7 @@ use pw_number::size_error::SizeError;
 use pw_picture::picture::Picture;
 
 /// The result of an operation of the first operand on the second. A quotient has these places.
+#[inline(always)]
 fn operated(
     operation: ArithmeticOperation,
     places: u8,
@@ -42,6 +43,7 @@ fn places_of(kind: Kind) -> u8
 }
 
 /// Stores a number in a spot. It is false exactly on a size error, which leaves all as it is.
+#[inline(always)]
 fn stored_by(storage: &mut [u8], spot: MachineSpot, value: Scaled) -> bool
     requires { IsSpot (length storage.old) spot }
     ensures stored { (if result then Some storage.new else None) ≡ stored_by (picture_of spot.kind spot.size) (spot_by spot) value storage.old }
@@ -67,6 +69,7 @@ fn stored_by(storage: &mut [u8], spot: MachineSpot, value: Scaled) -> bool
 
 /// Does an operation, whose result a spot receives. It is false exactly on a size error, which leaves all as it is; a
 /// divisor of zero is one (docs/NUMBERS.md).
+#[inline(always)]
 pub fn computed(
     storage: &mut [u8],
     operation: ArithmeticOperation,

@@ -4,7 +4,7 @@ ghost use Rattle.std.specs.Prelude.{◌≡◌, ◌≤◌, ◌<◌, ◌+◌, ◌^
 ghost use Rattle.pw_code.specs.Instrs.{IsArithmetic};
 ghost use Rattle.pw_code.specs.Places.{IsOperand, IsPlace, IsCond};
 ghost use Rattle.pw_tree_meaning.specs.Values.{whole_part, number_of};
-ghost use Rattle.pw_code_meaning.specs.Config.{with_taken, over as goes_over};
+ghost use Rattle.pw_code_meaning.specs.Config.{code_statement_counted, with_taken, on as goes_on, over as goes_over};
 ghost use Rattle.pw_code_meaning.specs.Steps as steps;
 ghost use Rattle.pw_code_meaning.specs.Turns as paragraphs;
 ghost use Rattle.pw_machine.specs.Config.{config_of};
@@ -16,7 +16,7 @@ use crate::reading::taken;
 use crate::registers::MachineRegisters;
 use crate::statements::{compute, move_all};
 use crate::top::Top;
-use crate::turns::{chosen, fault, go_over, turns};
+use crate::turns::{chosen, count, fault, go_over, turns};
 use crate::value::number_of;
 use pw_base::memory::Memory;
 use pw_code::cond::Cond;
@@ -26,7 +26,8 @@ use pw_code::operand::InstructionOperand;
 use pw_code::place::StoragePlace;
 
 /// IF: goes on where the condition holds, and else behind so many instructions.
-pub fn branch(top: &mut Top, context: &mut Context, cond: &Cond, over: u32)
+#[inline(always)]
+fn branch(top: &mut Top, context: &mut Context, cond: &Cond, over: u32)
     requires cond { IsCond (length top.old.storage.items) cond.now }
     requires place { top.old.at + 1 + over < 2 ^ 32 }
     ensures config { config_of top.new context.new
@@ -40,8 +41,24 @@ pub fn branch(top: &mut Top, context: &mut Context, cond: &Cond, over: u32)
     }
 }
 
+/// IF counts, and is done where not too many statements have begun.
+#[inline(always)]
+pub fn begin_branch(top: &mut Top, context: &mut Context, cond: &Cond, over: u32)
+    requires cond { IsCond (length top.old.storage.items) cond.now }
+    requires place { top.old.at + 1 + over < 2 ^ 32 }
+    ensures config { config_of top.new context.new
+        ≡ code_statement_counted (λ c. with_taken (steps.holds_here c cond.now) (steps.branch over) c) (config_of top.old context.old) }
+    ensures stays { StaysAt (config_of top.old context.old) (config_of top.new context.new) }
+{
+    if !count(context) {
+        return;
+    }
+    branch(top, context, cond, over);
+}
+
 /// MOVE.
-pub fn move_to(
+#[inline(always)]
+fn move_to(
     top: &mut Top,
     context: &mut Context,
     from: &InstructionOperand,
@@ -63,8 +80,29 @@ pub fn move_to(
     Ok(())
 }
 
+/// MOVE counts, and is done where not too many statements have begun.
+#[inline(always)]
+pub fn begin_move(
+    top: &mut Top,
+    context: &mut Context,
+    from: &InstructionOperand,
+    to: &[StoragePlace],
+) -> Result<(), Memory>
+    requires from { IsOperand (length top.old.storage.items) from.now }
+    requires to { All (IsPlace (length top.old.storage.items)) to.now }
+    requires place { top.old.at + 1 < 2 ^ 32 }
+    ensures config { IfOk result (λ _. config_of top.new context.new
+        ≡ code_statement_counted (steps.move_all from.now to.now) (config_of top.old context.old)) }
+    ensures stays { StaysAt (config_of top.old context.old) (config_of top.new context.new) }
+{
+    if !count(context) {
+        return Ok(());
+    }
+    move_to(top, context, from, to)
+}
+
 /// Arithmetic: goes on with the next instruction on a size error, and else behind so many.
-pub fn calculate(top: &mut Top, context: &mut Context, arithmetic: &Arithmetic, over: u32)
+fn calculate(top: &mut Top, context: &mut Context, arithmetic: &Arithmetic, over: u32)
     requires arithmetic { IsArithmetic (length top.old.storage.items) arithmetic.now }
     requires place { top.old.at + 1 + over < 2 ^ 32 }
     ensures config { config_of top.new context.new
@@ -77,6 +115,36 @@ pub fn calculate(top: &mut Top, context: &mut Context, arithmetic: &Arithmetic, 
         Some(false) => go_over(top, 0),
         None => fault(context, 203),
     }
+}
+
+/// Arithmetic without ON SIZE ERROR counts, and is done where not too many statements have begun.
+#[inline(always)]
+pub fn begin_arithmetic(top: &mut Top, context: &mut Context, arithmetic: &Arithmetic)
+    requires arithmetic { IsArithmetic (length top.old.storage.items) arithmetic.now }
+    requires place { top.old.at + 1 < 2 ^ 32 }
+    ensures config { config_of top.new context.new
+        ≡ code_statement_counted (steps.computes arithmetic.now goes_on goes_on) (config_of top.old context.old) }
+    ensures stays { StaysAt (config_of top.old context.old) (config_of top.new context.new) }
+{
+    if !count(context) {
+        return;
+    }
+    calculate(top, context, arithmetic, 0);
+}
+
+/// Arithmetic with ON SIZE ERROR counts, and is done where not too many statements have begun.
+#[inline(always)]
+pub fn begin_guarded(top: &mut Top, context: &mut Context, arithmetic: &Arithmetic, over: u32)
+    requires arithmetic { IsArithmetic (length top.old.storage.items) arithmetic.now }
+    requires place { top.old.at + 1 + over < 2 ^ 32 }
+    ensures config { config_of top.new context.new
+        ≡ code_statement_counted (steps.computes arithmetic.now goes_on (goes_over over)) (config_of top.old context.old) }
+    ensures stays { StaysAt (config_of top.old context.old) (config_of top.new context.new) }
+{
+    if !count(context) {
+        return;
+    }
+    calculate(top, context, arithmetic, over);
 }
 
 /// The whole part of an operand's number, None exactly where its subscript is outside.

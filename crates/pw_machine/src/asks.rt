@@ -69,7 +69,7 @@ fn are_inside(registers: MachineRegisters, storage: &[u8], codes: &[ReplyCode]) 
     ensures { result ≡ is_some (spots_of (registers_by registers) storage.now (map (λ code. code.yields) codes.now)) }
 {
     for code in codes {
-        if spot_of(registers, storage, code.yields).is_none() {
+        if spot_of(registers, storage, &code.yields).is_none() {
             return false;
         }
     }
@@ -101,7 +101,7 @@ pub fn read_record(top: &Top, context: &mut Context, key: &InstructionOperand, i
 {
     let registers = MachineRegisters::of(context);
     let storage = top.storage.as_slice();
-    if taken(registers, storage, key).is_some() && spot_of(registers, storage, into).is_some() {
+    if taken(registers, storage, key).is_some() && spot_of(registers, storage, &into).is_some() {
         ask(context);
     } else {
         fault(context, 203);
@@ -137,7 +137,7 @@ pub fn receive(system: &System, top: &mut Top, context: &mut Context, into: Stor
     ensures stays { StaysAt (config_of top.old context.old) (config_of top.new context.new) }
 {
     let storage = top.storage.as_mut_slice();
-    match spot_of(MachineRegisters::of(context), storage, into) {
+    match spot_of(MachineRegisters::of(context), storage, &into) {
         Some(spot) => {
             let at = code_at(system, top.program).storage.len();
             let size = storage.len() - at;

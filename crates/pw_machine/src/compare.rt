@@ -1,13 +1,14 @@
-ghost use Rattle.std.specs.Prelude.{◌≡◌, ◌≤◌, ◌<◌, ◌+◌, ◌&&◌, ◌||◌, List, ℕ, length};
+ghost use Rattle.std.specs.Prelude.{◌≡◌, ◌≤◌, ◌<◌, ◌+◌, ◌&&◌, ◌||◌, List, ℕ, length, IfSome};
 ghost use Rattle.pw_code.specs.Places.{IsOperand};
 ghost use Rattle.pw_code_meaning.specs.Conditions.{are_numbers, is_zeros, compared, text_order, beside};
 ghost use Rattle.pw_code_meaning.specs.Reading.{value_in};
-ghost use Rattle.pw_tree_meaning.specs.Values.{is_number_operand};
+ghost use Rattle.pw_tree_meaning.specs.Values.{Value, is_number_operand};
 ghost use Rattle.pw_machine.specs.Beside.{fill_of, char_beside, size_beside};
 ghost use Rattle.pw_machine.specs.Views.{taken_by, IsTaken};
 
+use crate::numbers::chars_at;
 use crate::spot::MachineOperand;
-use crate::texts::{text_char, text_len};
+use crate::texts::{sign_of, text_char, text_len};
 use crate::value::number_of;
 use pw_code::operand::InstructionOperand;
 use pw_code::place::Kind;
@@ -63,8 +64,52 @@ fn size_beside(
     }
 }
 
-/// How two operands compare as texts, by their bytes.
+/// The characters of an item or of a text, as they are compared.
+#[inline(always)]
+fn piece_of<'a>(
+    storage: &'a [u8],
+    operand: &'a InstructionOperand,
+    found: MachineOperand,
+) -> Option<&'a [u8]>
+    requires { IsTaken (length storage.now) found }
+    ensures { IfSome result (λ piece. (other : Value) → beside (value_in storage.now (taken_by operand.now found)) other ≡ piece.now) }
+{
+    match found {
+        MachineOperand::Stored(spot) => {
+            let chars = chars_at(storage, spot.at, spot.size);
+            let (_, text) = chars.split_at(sign_of(spot.kind).min(chars.len()));
+            Some(text)
+        }
+        MachineOperand::Register { .. } => None,
+        MachineOperand::Fixed => match operand {
+            InstructionOperand::Text(chars) => Some(chars.as_slice()),
+            _ => None,
+        },
+    }
+}
+
+/// How two operands compare as texts, by their bytes: at once where both are one piece, and these are equally long.
 fn text_order(
+    storage: &[u8],
+    left: &InstructionOperand,
+    a: MachineOperand,
+    right: &InstructionOperand,
+    b: MachineOperand,
+) -> Ordering
+    requires left { IsTaken (length storage.now) a }
+    requires right { IsTaken (length storage.now) b }
+    ensures { let one = value_in storage.now (taken_by left.now a) in let two = value_in storage.now (taken_by right.now b) in
+        result ≡ text_order (beside one two) (beside two one) }
+{
+    match (piece_of(storage, left, a), piece_of(storage, right, b)) {
+        (Some(one), Some(two)) if one.len() == two.len() => one.cmp(two),
+        _ => order_by_chars(storage, left, a, right, b),
+    }
+}
+
+/// How two operands compare as texts, character by character.
+#[inline(never)]
+fn order_by_chars(
     storage: &[u8],
     left: &InstructionOperand,
     a: MachineOperand,

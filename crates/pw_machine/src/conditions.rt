@@ -1,9 +1,10 @@
-ghost use Rattle.std.specs.Prelude.{◌≡◌, ◌≤◌, ◌<◌, Some, length, All, List, ℕ};
+ghost use Rattle.std.specs.Prelude.{◌≡◌, ◌≤◌, ◌<◌, Some, length, All, IfSome, List, ℕ};
 ghost use Rattle.std.specs.Char.{is_ascii_digit};
 ghost use Rattle.std.specs.List.{list_all};
 ghost use Rattle.pw_code.specs.Places.{IsOperand, IsComparison, IsCond, picture_of};
-ghost use Rattle.pw_code_meaning.specs.Conditions.{holds_by, is_numeric, is_numeric_item, are_signed_digits, comparison_holds, all_hold, any_holds, code_condition_holds};
-ghost use Rattle.pw_code_meaning.specs.Reading.{value_in};
+ghost use Rattle.pw_code_meaning.specs.Conditions.{holds_by, compared, of_two, is_numeric, is_numeric_item, are_signed_digits, comparison_holds, all_hold, any_holds, code_condition_holds};
+ghost use Rattle.pw_code_meaning.specs.Reading.{Registers, value_in, read};
+ghost use Rattle.pw_tree_meaning.specs.Values.{is_number_operand};
 ghost use Rattle.pw_machine.specs.Views.{registers_by, taken_by, IsTaken};
 
 use crate::compare::compared;
@@ -11,6 +12,7 @@ use crate::numbers::chars_at;
 use crate::reading::taken;
 use crate::registers::MachineRegisters;
 use crate::spot::MachineOperand;
+use crate::value::number_now;
 use pw_base::list::List;
 use pw_code::cond::{Comparison, ComparisonOperator, Cond};
 use pw_code::operand::InstructionOperand;
@@ -31,7 +33,7 @@ fn holds_by(operator: ComparisonOperator, found: Ordering) -> bool
 }
 
 /// Whether all characters are digits.
-fn are_digits(chars: &[u8]) -> bool
+pub fn are_digits(chars: &[u8]) -> bool
     ensures { result ≡ list_all is_ascii_digit chars.now }
 {
     chars.iter().all(|char| char.is_ascii_digit())
@@ -76,7 +78,42 @@ fn is_numeric(storage: &[u8], operand: &InstructionOperand, found: MachineOperan
     }
 }
 
+/// Whether an operand is a number, whatever it says at this moment.
+#[inline(always)]
+fn is_number(operand: &InstructionOperand) -> bool
+    ensures { (registers : Registers) (storage : List ℕ) → IfSome (read registers storage operand.now) (λ value. is_number_operand value ≡ result) }
+{
+    match operand {
+        InstructionOperand::Item(place) => matches!(place.kind, Kind::Number { .. }),
+        InstructionOperand::Register(_) | InstructionOperand::Number { .. } => true,
+        _ => false,
+    }
+}
+
+/// How two operands compare at this moment, None exactly where a subscript is outside: two numbers at once.
+#[inline(always)]
+fn order_of(
+    registers: MachineRegisters,
+    storage: &[u8],
+    left: &InstructionOperand,
+    right: &InstructionOperand,
+) -> Option<Ordering>
+    requires left { IsOperand (length storage.now) left.now }
+    requires right { IsOperand (length storage.now) right.now }
+    ensures { result ≡ of_two compared (read (registers_by registers) storage.now left.now) (read (registers_by registers) storage.now right.now) }
+{
+    if is_number(left) && is_number(right) {
+        let one = number_now(registers, storage, left)?;
+        let two = number_now(registers, storage, right)?;
+        return Some(one.compare(&two));
+    }
+    let a = taken(registers, storage, left)?;
+    let b = taken(registers, storage, right)?;
+    Some(compared(storage, left, a, right, b))
+}
+
 /// Whether a comparison holds at this moment, None exactly where a subscript is outside.
+#[inline(always)]
 fn comparison_holds(registers: MachineRegisters, storage: &[u8], one: &Comparison) -> Option<bool>
     requires { IsComparison (length storage.now) one.now }
     ensures { result ≡ comparison_holds (registers_by registers) storage.now one.now }
@@ -88,9 +125,7 @@ fn comparison_holds(registers: MachineRegisters, storage: &[u8], one: &Compariso
             operator,
             right,
         } => {
-            let a = taken(registers, storage, left)?;
-            let b = taken(registers, storage, right)?;
-            let found = compared(storage, left, a, right, b);
+            let found = order_of(registers, storage, left, right)?;
             Some(holds_by(*operator, found) != *negated)
         }
         Comparison::Numeric { operand, negated } => {

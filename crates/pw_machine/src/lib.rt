@@ -12,6 +12,7 @@ mod calls;
 mod chars;
 mod compare;
 mod conditions;
+mod counting;
 mod entries;
 mod keyed;
 pub mod laws;

@@ -19,6 +19,7 @@ use pw_picture::picture::Picture;
 use pw_picture::text::move_text as fit_text;
 
 /// Moves a number into the spot of a Number item.
+#[inline(always)]
 pub fn number_to(
     storage: &mut [u8],
     spot: MachineSpot,
@@ -74,6 +75,7 @@ fn fill_with(storage: &mut [u8], at: usize, size: usize, char: u8)
 }
 
 /// Copies so many characters to another place. The two may overlap.
+#[inline(always)]
 fn copy_to(storage: &mut [u8], from: usize, count: usize, to: usize)
     requires from { from + count ≤ length storage.old }
     requires to { to + count ≤ length storage.old }
@@ -83,6 +85,7 @@ fn copy_to(storage: &mut [u8], from: usize, count: usize, to: usize)
 }
 
 /// Moves an item, without its sign, to the spot of a text. The two may overlap.
+#[inline(always)]
 fn item_to(storage: &mut [u8], from: MachineSpot, to: MachineSpot)
     requires from { IsSpot (length storage.old) from }
     requires to { IsSpot (length storage.old) to }
@@ -95,6 +98,7 @@ fn item_to(storage: &mut [u8], from: MachineSpot, to: MachineSpot)
 }
 
 /// Writes an operand that is no item as a text, character by character.
+#[inline(never)]
 fn spelled_to(
     storage: &mut [u8],
     operand: &InstructionOperand,
@@ -111,7 +115,8 @@ fn spelled_to(
 }
 
 /// Moves an operand to the spot of a text.
-fn text_value_to(
+#[inline(always)]
+pub fn text_value_to(
     storage: &mut [u8],
     operand: &InstructionOperand,
     found: MachineOperand,

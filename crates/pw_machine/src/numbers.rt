@@ -14,6 +14,8 @@ pub fn whole_part(number: Scaled) -> u128
     let units = number.units();
     if units < 0 {
         0
+    } else if number.places() == 0 {
+        units.unsigned_abs()
     } else {
         units.unsigned_abs() / power_of_ten(number.places())
     }

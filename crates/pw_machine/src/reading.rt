@@ -14,24 +14,24 @@ use pw_code::operand::InstructionOperand;
 use pw_code::place::{PlaceSubscript, PlaceTable, Register, StoragePlace};
 
 /// The value of a subscript.
-fn subscript_of(registers: MachineRegisters, storage: &[u8], subscript: PlaceSubscript) -> u128
-    requires { IsSubscriptInStorage (length storage.now) subscript }
-    ensures { result ≡ subscript_of (registers_by registers) storage.now subscript }
+fn subscript_of(registers: MachineRegisters, storage: &[u8], subscript: &PlaceSubscript) -> u128
+    requires { IsSubscriptInStorage (length storage.now) subscript.now }
+    ensures { result ≡ subscript_of (registers_by registers) storage.now subscript.now }
 {
     match subscript {
-        PlaceSubscript::Number(number) => number as u128,
+        PlaceSubscript::Number(number) => *number as u128,
         PlaceSubscript::Item { at, digits, places } => {
-            let chars = chars_at(storage, at as usize, digits as usize);
-            whole_part(digits_in(chars, places))
+            let chars = chars_at(storage, *at as usize, *digits as usize);
+            whole_part(digits_in(chars, *places))
         }
-        PlaceSubscript::Register(register) => registers.value(register) as u128,
+        PlaceSubscript::Register(register) => registers.value(*register) as u128,
     }
 }
 
 /// Where the k-th occurrence of an item begins, None exactly outside 1 to OCCURS.
-fn occurrence_at(at: usize, table: PlaceTable, k: u128) -> Option<usize>
-    requires { at + (table.occurs - 1) * table.step < 2 ^ 63 }
-    ensures { result ≡ occurrence_at at table k }
+fn occurrence_at(at: usize, table: &PlaceTable, k: u128) -> Option<usize>
+    requires { at + (table.now.occurs - 1) * table.now.step < 2 ^ 63 }
+    ensures { result ≡ occurrence_at at table.now k }
 {
     if k >= 1 && k <= table.occurs as u128 {
         Some(at + (k as usize - 1) * table.step as usize)
@@ -41,28 +41,34 @@ fn occurrence_at(at: usize, table: PlaceTable, k: u128) -> Option<usize>
 }
 
 /// Where the occurrence begins that is meant at this moment.
-fn at_this_moment(registers: MachineRegisters, storage: &[u8], place: StoragePlace) -> Option<usize>
-    requires { IsPlace (length storage.now) place }
-    ensures at { result ≡ at_this_moment (registers_by registers) storage.now place.at place.table }
-    ensures inside { IfSome result (λ at. at + place.size ≤ length storage.now) }
+#[inline(always)]
+fn at_this_moment(
+    registers: MachineRegisters,
+    storage: &[u8],
+    place: &StoragePlace,
+) -> Option<usize>
+    requires { IsPlace (length storage.now) place.now }
+    ensures at { result ≡ at_this_moment (registers_by registers) storage.now place.now.at place.now.table }
+    ensures inside { IfSome result (λ at. at + place.now.size ≤ length storage.now) }
 {
-    match place.table {
+    match &place.table {
         None => Some(place.at as usize),
         Some(table) => {
-            let k = subscript_of(registers, storage, table.subscript);
+            let k = subscript_of(registers, storage, &table.subscript);
             occurrence_at(place.at as usize, table, k)
         }
     }
 }
 
 /// The spot of a place, None exactly where its subscript is outside.
+#[inline(always)]
 pub fn spot_of(
     registers: MachineRegisters,
     storage: &[u8],
-    place: StoragePlace,
+    place: &StoragePlace,
 ) -> Option<MachineSpot>
-    requires { IsPlace (length storage.now) place }
-    ensures spot { option_map spot_by result ≡ spot_of (registers_by registers) storage.now place }
+    requires { IsPlace (length storage.now) place.now }
+    ensures spot { option_map spot_by result ≡ spot_of (registers_by registers) storage.now place.now }
     ensures inside { IfSome result (IsSpot (length storage.now)) }
 {
     let at = at_this_moment(registers, storage, place)?;
@@ -88,6 +94,7 @@ fn register_taken(registers: MachineRegisters, register: Register) -> MachineOpe
 }
 
 /// An operand at this moment, None exactly where its subscript is outside.
+#[inline(always)]
 pub fn taken(
     registers: MachineRegisters,
     storage: &[u8],
@@ -99,7 +106,7 @@ pub fn taken(
 {
     match operand {
         InstructionOperand::Item(place) => Some(MachineOperand::Stored(spot_of(
-            registers, storage, *place,
+            registers, storage, place,
         )?)),
         InstructionOperand::Register(register) => Some(register_taken(registers, *register)),
         _ => Some(MachineOperand::Fixed),

@@ -69,7 +69,7 @@ fn spot_among(
     ensures inside { IfSome result (λ found. IsSpot (length storage.now) found.1) }
 {
     let place = place_among(codes, reply)?;
-    let spot = spot_of(registers, storage, codes[place].yields)?;
+    let spot = spot_of(registers, storage, &codes[place].yields)?;
     Some((place, spot))
 }
 

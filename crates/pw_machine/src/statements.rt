@@ -8,15 +8,16 @@ ghost use Rattle.pw_machine.specs.Statements.{moved_all, computed_all};
 ghost use Rattle.pw_machine.specs.Views.{registers_by, spot_by, taken_by, IsSpot, IsTaken};
 
 use crate::arithmetic::computed;
-use crate::moves::move_value;
+use crate::counting::counted;
+use crate::moves::{move_value, number_to, text_value_to};
 use crate::reading::{spot_of, taken};
 use crate::registers::MachineRegisters;
 use crate::spot::{MachineOperand, MachineSpot};
-use crate::value::number_of;
+use crate::value::number_now;
 use pw_base::memory::Memory;
 use pw_code::instr::Arithmetic;
 use pw_code::operand::InstructionOperand;
-use pw_code::place::StoragePlace;
+use pw_code::place::{Kind, StoragePlace};
 use std::alloc::Global;
 
 /// The spots of places, None exactly where the subscript of one is outside.
@@ -33,7 +34,7 @@ pub fn spots_of(
 {
     let mut spots = Vec::new(alloc);
     for place in places {
-        let Some(spot) = spot_of(registers, storage, *place) else {
+        let Some(spot) = spot_of(registers, storage, place) else {
             return Ok(None);
         };
         spots.push(spot)?;
@@ -59,29 +60,66 @@ fn move_to_each(
 }
 
 /// MOVE to one place. It is false exactly where a subscript is outside, and then nothing is moved. It takes no memory.
+#[inline(always)]
 fn move_one(
     registers: MachineRegisters,
     storage: &mut [u8],
     from: &InstructionOperand,
-    to: StoragePlace,
+    to: &StoragePlace,
 ) -> bool
     requires from { IsOperand (length storage.old) from.now }
-    requires to { IsPlace (length storage.old) to }
-    ensures moved { (if result then Some storage.new else None) ≡ moved_all (registers_by registers) storage.old from.now (to ∷ []) }
+    requires to { IsPlace (length storage.old) to.now }
+    ensures moved { (if result then Some storage.new else None) ≡ moved_all (registers_by registers) storage.old from.now (to.now ∷ []) }
     ensures same { OnFalse result (storage.new ≡ storage.old) }
 {
-    let Some(source) = taken(registers, storage, from) else {
-        return false;
-    };
     let Some(target) = spot_of(registers, storage, to) else {
         return false;
     };
-    move_value(storage, from, source, target);
+    if let Kind::Number {
+        digits,
+        places,
+        signed,
+    } = target.kind
+    {
+        let Some(value) = number_now(registers, storage, from) else {
+            return false;
+        };
+        number_to(storage, target, digits, places, signed, value);
+    } else {
+        let Some(source) = taken(registers, storage, from) else {
+            return false;
+        };
+        text_value_to(storage, from, source, target);
+    }
     true
+}
+
+/// MOVE to any number of places.
+fn move_to_all(
+    alloc: Global,
+    registers: MachineRegisters,
+    storage: &mut [u8],
+    from: &InstructionOperand,
+    to: &[StoragePlace],
+) -> Result<bool, Memory>
+    requires from { IsOperand (length storage.old) from.now }
+    requires to { All (IsPlace (length storage.old)) to.now }
+    ensures moved { IfOk result (λ done. (if done then Some storage.new else None) ≡ moved_all (registers_by registers) storage.old from.now to.now) }
+    ensures same { IfOk result (λ done. OnFalse done (storage.new ≡ storage.old)) }
+{
+    let Some(source) = taken(registers, storage, from) else {
+        return Ok(false);
+    };
+    let Some(targets) = spots_of(alloc, registers, storage, to)? else {
+        return Ok(false);
+    };
+    move_to_each(storage, from, source, targets.as_slice());
+    Ok(true)
 }
 
 /// MOVE: the source and all the targets are taken first. It is false exactly where a subscript is outside, and then
 /// nothing is moved. It takes memory only for more than one target.
+#[inline(always)]
 pub fn move_all(
     alloc: Global,
     registers: MachineRegisters,
@@ -94,21 +132,15 @@ pub fn move_all(
     ensures moved { IfOk result (λ done. (if done then Some storage.new else None) ≡ moved_all (registers_by registers) storage.old from.now to.now) }
     ensures same { IfOk result (λ done. OnFalse done (storage.new ≡ storage.old)) }
 {
-    if let [target] = to {
-        return Ok(move_one(registers, storage, from, *target));
+    match to {
+        [target] => Ok(move_one(registers, storage, from, target)),
+        _ => move_to_all(alloc, registers, storage, from, to),
     }
-    let Some(source) = taken(registers, storage, from) else {
-        return Ok(false);
-    };
-    let Some(targets) = spots_of(alloc, registers, storage, to)? else {
-        return Ok(false);
-    };
-    move_to_each(storage, from, source, targets.as_slice());
-    Ok(true)
 }
 
 /// Arithmetic: both operands and the receiver are taken first, None exactly where a subscript is outside. It is
 /// false on a size error. Nothing is stored then.
+#[inline(always)]
 pub fn compute(
     registers: MachineRegisters,
     storage: &mut [u8],
@@ -118,10 +150,11 @@ pub fn compute(
     ensures stored { option_map (λ done. (if done then Some storage.new else None)) result ≡ computed_all (registers_by registers) storage.old arithmetic.now }
     ensures same { result ≢ Some true → storage.new ≡ storage.old }
 {
-    let first = taken(registers, storage, &arithmetic.first)?;
-    let second = taken(registers, storage, &arithmetic.second)?;
-    let receiver = spot_of(registers, storage, arithmetic.receiver)?;
-    let one = number_of(storage, &arithmetic.first, first);
-    let two = number_of(storage, &arithmetic.second, second);
-    Some(computed(storage, arithmetic.operation, one, two, receiver))
+    let receiver = spot_of(registers, storage, &arithmetic.receiver)?;
+    if counted(registers, storage, arithmetic, receiver) {
+        return Some(true);
+    }
+    let first = number_now(registers, storage, &arithmetic.first)?;
+    let second = number_now(registers, storage, &arithmetic.second)?;
+    Some(computed(storage, arithmetic.operation, first, second, receiver))
 }

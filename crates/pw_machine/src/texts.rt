@@ -12,6 +12,7 @@ use pw_code::place::Kind;
 use pw_number::power::power_of_ten;
 
 /// How many characters in front of an item's others are its sign, which a text leaves out.
+#[inline(always)]
 pub fn sign_of(kind: Kind) -> usize
     ensures bound { result ≤ 1 }
     ensures sign { (size : ℕ) (chars : List ℕ) → without_sign (picture_of kind size) chars ≡ drop result chars }

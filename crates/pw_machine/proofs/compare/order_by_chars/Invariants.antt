@@ -3,7 +3,7 @@ use Rattle.std.proofs.Common.{◌≡◌}
 use Rattle.pw_code_meaning.specs.Reading.{value_in}
 use Rattle.pw_machine.specs.Views.{taken_by}
 use Rattle.pw_machine.proofs.BesideLemmas.{order_from}
-use Rattle.pw_machine.proofs.compare.text_order.Given as goal
+use Rattle.pw_machine.proofs.compare.order_by_chars.Given as goal
 
 abbrev pub invariant-loop-place : goal.invariant-loop-place
 invariant-loop-place l =

@@ -4,7 +4,7 @@ use Rattle.pw_code_meaning.specs.Reading.{value_in}
 use Rattle.pw_machine.specs.Beside.{size_beside}
 use Rattle.pw_machine.specs.Views.{taken_by}
 use Rattle.pw_machine.proofs.BesideLemmas.{order_start, order_differs, order_goes_on, order_end}
-use Rattle.pw_machine.proofs.compare.text_order.Goals as goal
+use Rattle.pw_machine.proofs.compare.order_by_chars.Goals as goal
 
 pub returns-then-one-two : goal.returns-then-one-two
 returns-then-one-two c =

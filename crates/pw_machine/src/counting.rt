@@ -1,0 +1,104 @@
+//! Counting: a few units are added to an unsigned item where it stands.
+
+ghost use Rattle.std.specs.Prelude.{◌≡◌, ◌≤◌, ◌<◌, ◌+◌, ◌^◌, true, pos, Some, List, ℕ, length, take, drop, option_map, IfSome, if◌then◌else◌};
+ghost use Rattle.std.specs.Bool.{OnFalse};
+ghost use Rattle.pw_picture.specs.Stored.{value_of, digits_of};
+ghost use Rattle.pw_number.specs.Number.{number};
+ghost use Rattle.pw_terminal.specs.Shown.{written};
+ghost use Rattle.pw_code.specs.Instrs.{IsArithmetic};
+ghost use Rattle.pw_code.specs.Places.{IsOperand};
+ghost use Rattle.pw_code_meaning.specs.Reading.{Registers, read, spot_of};
+ghost use Rattle.pw_tree_meaning.specs.Values.{number_of};
+ghost use Rattle.pw_machine.specs.Statements.{computed_all};
+ghost use Rattle.pw_machine.specs.Views.{registers_by, spot_by, IsSpot};
+
+use crate::conditions::are_digits;
+use crate::reading::spot_of;
+use crate::registers::MachineRegisters;
+use crate::spot::MachineSpot;
+use pw_code::instr::{Arithmetic, ArithmeticOperation};
+use pw_code::operand::InstructionOperand;
+use pw_code::place::Kind;
+
+/// Adds so many to the number that digits are, where that changes the last digit alone. It is false, and all stays as it is,
+/// where another digit would change too, or a character is no digit.
+#[inline(always)]
+fn count_up(digits: &mut [u8], more: u8) -> bool
+    requires some { 1 ≤ length digits.old }
+    requires few { more ≤ 9 }
+    ensures sum { digits.new ≡ (if result then digits_of (length digits.old) (value_of 0 digits.old + more) else digits.old) }
+    ensures fits { result ≡ true → value_of 0 digits.old + more < 10 ^ length digits.old }
+{
+    let last = digits.len() - 1;
+    let digit = digits[last];
+    if digit > b'9' - more || !are_digits(digits) {
+        return false;
+    }
+    digits[last] = digit + more;
+    true
+}
+
+/// Adds so many to the number in a spot, where that changes its last digit alone. It is false, and all stays as it is, where it
+/// cannot.
+#[inline(always)]
+fn count_in(storage: &mut [u8], spot: MachineSpot, more: u8) -> bool
+    requires inside { spot.at + spot.size ≤ length storage.old }
+    requires some { 1 ≤ spot.size }
+    requires few { more ≤ 9 }
+    ensures sum { storage.new ≡ (if result
+        then written spot.at (digits_of spot.size (value_of 0 (take spot.size (drop spot.at storage.old)) + more)) storage.old
+        else storage.old) }
+    ensures fits { result ≡ true → value_of 0 (take spot.size (drop spot.at storage.old)) + more < 10 ^ spot.size }
+{
+    let digits = &mut storage[spot.at..spot.at + spot.size];
+    count_up(digits, more)
+}
+
+/// The units of a number as it is written, where they are at most 9 at these places.
+#[inline(always)]
+fn few_units(operand: &InstructionOperand, places: u8) -> Option<u8>
+    ensures few { IfSome result (λ units. units ≤ 9) }
+    ensures number { IfSome result (λ units. (size : ℕ) (registers : Registers) (storage : List ℕ) → IsOperand size operand.now
+        → Some (number (pos units) places) ≡ option_map number_of (read registers storage operand.now)) }
+{
+    match operand {
+        InstructionOperand::Number { value, .. }
+            if value.places() == places && value.units() >= 0 && value.units() <= 9 => {
+            Some(value.units() as u8)
+        }
+        _ => None,
+    }
+}
+
+/// Adds a few units to the receiver where it is their second operand and this changes its last digit alone. It is false, and all
+/// stays as it is, where it cannot.
+#[inline(always)]
+pub fn counted(
+    registers: MachineRegisters,
+    storage: &mut [u8],
+    arithmetic: &Arithmetic,
+    receiver: MachineSpot,
+) -> bool
+    requires arithmetic { IsArithmetic (length storage.old) arithmetic.now }
+    requires receiver { IsSpot (length storage.old) receiver }
+    requires there { Some (spot_by receiver) ≡ spot_of (registers_by registers) storage.old arithmetic.now.receiver }
+    ensures sum { result ≡ true → Some (Some storage.new) ≡ computed_all (registers_by registers) storage.old arithmetic.now }
+    ensures same { OnFalse result (storage.new ≡ storage.old) }
+{
+    let (ArithmeticOperation::Add, InstructionOperand::Item(place)) = (
+        arithmetic.operation,
+        &arithmetic.second,
+    ) else {
+        return false;
+    };
+    let Kind::Number { places, signed, .. } = receiver.kind else {
+        return false;
+    };
+    let Some(units) = few_units(&arithmetic.first, places) else {
+        return false;
+    };
+    match spot_of(registers, storage, place) {
+        Some(second) if second == receiver && !signed => count_in(storage, receiver, units),
+        _ => false,
+    }
+}
