@@ -1,5 +1,6 @@
 mod Endings
 mod Examples
+mod Plain
 mod Quotes
 mod Runs
 mod Spans

@@ -1,4 +1,4 @@
-ghost use Rattle.std.specs.Prelude.{◌≡◌, ◌<◌, ◌≤◌, ◌+◌, ◌^◌, None, length, take_while};
+ghost use Rattle.std.specs.Prelude.{◌≡◌, ◌==◌, ◌||◌, ◌&&◌, ◌<◌, ◌≤◌, ◌+◌, ◌^◌, ℕ, [], None, true, nat_le, length, take_while};
 ghost use Rattle.pw_base.specs.First.{least};
 ghost use Rattle.pw_text.specs.Bytes.{is_letter, is_digit, is_sign, is_signed, is_word_byte, is_separator, is_picture_byte, is_line_byte, run, begins_with, is_bad, line_behind, bad_bytes};
 
@@ -132,11 +132,34 @@ fn line_behind(byte: u8, line: u32) -> u32
     if byte == b'\n' { line + 1 } else { line }
 }
 
+/// Whether a byte may stand anywhere in a line, or ends one: 0x20 to 0x7E, and LF.
+fn is_plain(byte: u8) -> bool
+    ensures { result ≡ (byte == 10 || (nat_le 32 byte && nat_le byte 126)) }
+{
+    byte == b'\n' || (byte >= b' ' && byte <= b'~')
+}
+
+/// Whether each byte may stand anywhere in a line, or ends one. Then none is bad.
+fn are_plain(text: &[u8]) -> bool
+    ensures { result ≡ true → (line : ℕ) → bad_bytes line text.now ≡ [] }
+{
+    let mut plain = true;
+    let mut rest = text;
+    while let Some((byte, behind)) = rest.split_first() {
+        plain = plain & is_plain(*byte);
+        rest = behind;
+    }
+    plain
+}
+
 /// The first fault of the bytes that may not stand in their lines.
 pub fn first_bad_byte(text: &[u8], first_line: u32) -> Option<Fault>
     requires { first_line + length text.now < 2 ^ 32 }
     ensures { result ≡ least None (bad_bytes first_line text.now) }
 {
+    if are_plain(text) {
+        return None;
+    }
     let mut known = None;
     let mut line = first_line;
     let mut rest = text;
