@@ -1,4 +1,5 @@
-ghost use Rattle.std.specs.Prelude.{◌≡◌, ◌<◌, ◌≤◌, List, ℕ, Some, IfSome, IsTrue, find, length, map, slice_get};
+ghost use Rattle.std.specs.Prelude.{◌≡◌, ◌==◌, ◌<◌, ◌≤◌, List, ℕ, Some, IfSome, IsTrue, find, length, map, slice_get};
+ghost use Rattle.std.specs.Char.{to_ascii_lowercase};
 ghost use Rattle.std.specs.Str.{str_to_ascii_lowercase};
 ghost use Rattle.pw_words.specs.Words.{all_apart, word_place, same_word};
 ghost use Rattle.pw_words.specs.Index.{letter_number, first_letter, word_index_places, is_row, finds_all};
@@ -100,9 +101,24 @@ fn place_among(rows: &[&[u8]], places: &[u8], word: &[u8]) -> Option<usize>
     None
 }
 
+/// Whether two bytes are the same, where the case of a letter does not count.
+fn is_same_letter(a: u8, b: u8) -> bool
+    ensures { result ≡ (to_ascii_lowercase a == to_ascii_lowercase b) }
+{
+    a == b || a.to_ascii_lowercase() == b.to_ascii_lowercase()
+}
+
 /// Whether the two are one word, in either case.
 pub fn is_same_word(a: &[u8], b: &[u8]) -> bool
     ensures { result ≡ same_word a.now b.now }
 {
-    a.eq_ignore_ascii_case(b)
+    if a.len() != b.len() {
+        return false;
+    }
+    for i in 0..a.len() {
+        if !is_same_letter(a[i], b[i]) {
+            return false;
+        }
+    }
+    true
 }
