@@ -9,7 +9,7 @@ use Rattle.pw_text.specs.Items.{quotes}
 use Rattle.pw_text.specs.Tokens.{token_of, tokens_at, LieBetween, StandsOn}
 
 -- room behind the last token
-LieBetween-longer : (tokens : List Token) (from at to : ℕ) → LieBetween from tokens at → at ≤ to → LieBetween from tokens to
+pub LieBetween-longer : (tokens : List Token) (from at to : ℕ) → LieBetween from tokens at → at ≤ to → LieBetween from tokens to
 LieBetween-longer [] from at to lie le = omega arith
 LieBetween-longer (token ∷ tokens) from at to lie le = (lie.0, lie.1, LieBetween-longer tokens token.end at to lie.2 le)
 

@@ -66,6 +66,14 @@ fn picture_size(bytes: &[u8]) -> usize
         .count()
 }
 
+/// How many spaces stand in front.
+pub fn space_count(bytes: &[u8]) -> usize
+    ensures value { result ≡ run (λ byte. byte == 32) bytes.now }
+    ensures bound { result ≤ length bytes.now }
+{
+    bytes.iter().take_while(|byte| **byte == b' ').count()
+}
+
 /// The letters, digits and hyphens in front.
 pub fn word_at(bytes: &[u8]) -> &[u8]
     ensures { result.now ≡ take_while is_word_byte bytes.now }

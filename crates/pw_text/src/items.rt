@@ -307,7 +307,7 @@ fn item_by(place: LinePlace, bytes: &[u8]) -> TextItem
 }
 
 /// The place behind a space.
-fn behind_space(place: LinePlace) -> LinePlace
+pub fn behind_space(place: LinePlace) -> LinePlace
     ensures { result ≡ behind_space place }
 {
     match place {

@@ -1,12 +1,12 @@
-ghost use Rattle.std.specs.Prelude.{◌≡◌, ◌<◌, ◌≤◌, ◌+◌, ◌-◌, ◌^◌, ◌++◌, All, OnOk, IfOk, length};
+ghost use Rattle.std.specs.Prelude.{◌≡◌, ◌==◌, if◌then◌else◌, ◌<◌, ◌≤◌, ◌+◌, ◌-◌, ◌^◌, ◌++◌, All, OnOk, IfOk, length};
 ghost use Rattle.pw_base.specs.First.{Gives, least};
 ghost use Rattle.pw_base.specs.Limits.{longest_input};
-ghost use Rattle.pw_text.specs.Items.{quote_size};
+ghost use Rattle.pw_text.specs.Items.{quote_size, behind_space};
 ghost use Rattle.pw_text.specs.Tokens.{token_of, tokens_at, faults_at, line_after, tokens_of, LieBetween, StandsOn};
 
-use crate::bytes::first_bad_byte;
+use crate::bytes::{first_bad_byte, space_count};
 use crate::item::{LinePlace, TextPiece};
-use crate::items::item_at;
+use crate::items::{behind_space, item_at};
 use crate::token::{Token, TokenKind};
 use pw_base::fault::{Fault, Refusal, better};
 use pw_base::memory::Memory;
@@ -80,6 +80,17 @@ fn line_after(piece: TextPiece, line: u32) -> u32
     }
 }
 
+/// The place behind so many spaces.
+fn behind_spaces(place: LinePlace, count: usize) -> LinePlace
+    ensures { result ≡ (if count == 0 then place else behind_space place) }
+{
+    if count == 0 {
+        place
+    } else {
+        behind_space(place)
+    }
+}
+
 /// The tokens of a text whose first line has the number `first_line`.
 ///
 /// It refuses exactly with the first fault, by line and on one line by code: 101 for a byte outside
@@ -96,19 +107,21 @@ pub fn tokens(alloc: Global, text: &[u8], first_line: u32) -> Result<Vec<Token>,
 {
     let mut tokens = Vec::new(alloc);
     let mut known = first_bad_byte(text, first_line);
-    let mut place = LinePlace::LineStart;
     let mut line = first_line;
-    let mut at = 0;
-    let mut rest = text;
+    let mut at = space_count(text);
+    let mut place = behind_spaces(LinePlace::LineStart, at);
+    let mut rest = text.split_at(at).1;
     while !rest.is_empty() {
         let item = item_at(place, rest);
         let end = at + item.size;
         push_token(&mut tokens, item.piece, line, at as u32, end as u32)?;
         known = noted_piece(known, item.piece, line);
         line = line_after(item.piece, line);
-        place = item.next;
-        at = end;
-        rest = rest.split_at(item.size).1;
+        let behind = rest.split_at(item.size).1;
+        let spaces = space_count(behind);
+        place = behind_spaces(item.next, spaces);
+        at = end + spaces;
+        rest = behind.split_at(spaces).1;
     }
     match known {
         None => Ok(tokens),
