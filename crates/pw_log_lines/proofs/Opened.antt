@@ -1,7 +1,6 @@
 -- A log is opened.
 use Rattle.std.proofs.Common.{◌≡◌, ◌≢◌, ℕ, ◌+◌, Bool, true, false, cond, List, [], ◌∷◌, sym, ap, ◌∙◌}
 use Rattle.std.specs.Str.{bytes_eq}
-use Rattle.pw_sections.specs.Lines.{lines}
 use Rattle.pw_sections.specs.Steps.{is_empty, is_blank}
 use Rattle.pw_sections.specs.Words.{words}
 use Rattle.pw_sections.proofs.Folds.{some_word}

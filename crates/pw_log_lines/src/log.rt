@@ -1,6 +1,7 @@
 ghost use Rattle.std.specs.Prelude.{◌≡◌, ◌==◌, ◌-◌, ◌+◌, ◌*◌, ◌≢◌, ◌∷◌, [], ◌^◌, ◌<◌, ◌≤◌, length, position, IfSome, IfOk, OnOk};
 ghost use Rattle.std.specs.Option.{option_map};
 ghost use Rattle.std.specs.Fmt.{decimal};
+ghost use Rattle.std.specs.Str.{bytes_eq};
 ghost use Rattle.pw_base.specs.First.{Gives};
 ghost use Rattle.pw_base.specs.Limits.{longest_input};
 ghost use Rattle.pw_code.specs.Valid.{HasNames};
@@ -13,7 +14,6 @@ ghost use Rattle.pw_log_lines.specs.Log.{opened, header, rule_of, behind_number,
 
 use crate::count::{CountedLines, count_lines};
 use crate::nobody::nobody;
-use pw_base::bytes::Bytes;
 use pw_base::fault::Refusal;
 use pw_base::fault_code::FaultCode;
 use pw_base::list::List;
@@ -120,25 +120,28 @@ fn space_place(line: &[u8]) -> Option<usize>
     line.iter().position(|byte| *byte == b' ')
 }
 
-/// The digits of a number.
-fn digits(alloc: Global, n: u32) -> Result<Bytes, Memory>
-    ensures { IfOk result (λ text. text ≡ decimal n) }
+/// Whether a word is the digits of a number.
+fn is_number(word: &[u8], n: u32) -> bool
+    ensures { result ≡ bytes_eq word.now (decimal n) }
 {
-    let text = format!(in alloc; "{n}")?;
-    Bytes::from_slice(alloc, text.as_bytes())
+    let Some((last, front)) = word.split_last() else {
+        return false;
+    };
+    if n < 10 {
+        return front.is_empty() && *last == b'0' + n as u8;
+    }
+    *last == b'0' + (n % 10) as u8 && is_number(front, n / 10)
 }
 
 /// What stands behind a number and a space; None exactly where they do not stand in front.
-fn behind_number<'a>(alloc: Global, n: u32, line: &'a [u8]) -> Result<Option<&'a [u8]>, Memory>
-    ensures { IfOk result (λ rest. option_map (λ rest. rest.now) rest ≡ behind_number n line.now) }
+fn behind_number(n: u32, line: &[u8]) -> Option<&[u8]>
+    ensures { option_map (λ rest. rest.now) result ≡ behind_number n line.now }
 {
-    let Some(place) = space_place(line) else {
-        return Ok(None);
-    };
-    if line.split_at(place).0 == digits(alloc, n)?.as_slice() {
-        Ok(Some(line.split_at(place + 1).1))
+    let place = space_place(line)?;
+    if is_number(line.split_at(place).0, n) {
+        Some(line.split_at(place + 1).1)
     } else {
-        Ok(None)
+        None
     }
 }
 
@@ -151,7 +154,7 @@ fn numbered_entry(
 ) -> Result<Event, EventFault>
     ensures { GivesUnlessMemory result (numbered_entry names.now n line.now) }
 {
-    match behind_number(alloc, n, line)? {
+    match behind_number(n, line) {
         Some(rest) => names.read_event(alloc, rest),
         None => Err(EventFault::Bad),
     }
