@@ -9,10 +9,20 @@ ghost use Rattle.pw_image.specs.Values.{AreBytes, CountsHaveValues, FrameHasValu
 use pw_base::bytes::Bytes;
 use pw_base::memory::Memory;
 use pw_code::context::{Context, Frame, Return};
+use pw_code::screen::CELLS;
 use std::alloc::Global;
 
 /// The first bytes of each image.
 const MARK: [u8; 3] = [0x50, 0x57, 0x01];
+
+/// The bytes in front of an image's programs: its mark, its numbers, the screen and the number of programs.
+const FRONT: usize = 3 + 28 + CELLS + 1;
+
+/// The bytes of an active program beside its characters and its active PERFORMs.
+const FRAME: usize = 11;
+
+/// The bytes of an active PERFORM.
+const RETURN: usize = 16;
 
 /// The image of a context that has one: of a requester that stands at an answer, without a count, a fault or a file
 /// status. docs/IMAGE.md has the format.
@@ -21,7 +31,8 @@ pub fn encode(alloc: Global, context: &Context) -> Result<Bytes, Memory>
     ensures image { IfOk result (λ image. image ≡ image_of context.now) }
     ensures format { IfOk result (λ image. IsImageOf image context.now) }
 {
-    let mut image = Bytes::from_slice(alloc, &MARK)?;
+    let mut image = Bytes::from_vec(Vec::with_capacity(alloc, room_for(context))?);
+    image.extend(&MARK)?;
     put_counts(&mut image, context)?;
     image.push(context.in_unit as u8)?;
     image.push(context.mode)?;
@@ -29,6 +40,17 @@ pub fn encode(alloc: Global, context: &Context) -> Result<Bytes, Memory>
     image.push(context.frames.len() as u8)?;
     put_frames(&mut image, context.frames.as_slice())?;
     Ok(image)
+}
+
+/// The room that is taken at once for an image, for its bytes; with less, more would be taken as they come.
+fn room_for(context: &Context) -> usize {
+    let mut room = FRONT;
+    for frame in context.frames.as_slice() {
+        let returns = frame.returns.len().saturating_mul(RETURN);
+        let program = frame.storage.len().saturating_add(returns);
+        room = room.saturating_add(program).saturating_add(FRAME);
+    }
+    room
 }
 
 /// Puts the numbers that begin an image behind its mark.
