@@ -15,40 +15,30 @@ asked-at task place lane new (Ok u) is asked =
     subst (λ (p : Option LinkLane). IsAskedAt task p (Some new)) (sym is) (new, (refl, asked))
 asked-at task place lane new (Err memory) is asked = tt
 
-module _ (first now : List (Option LinkLane)) (n : ℕ) (gone new : Option LinkLane) where
-  -- what is in a place after its lane was taken and put back
-  here : n < length now → lane_at (slice_set (slice_set now n gone) n new) n ≡ new
-  here within =
-      let inside : n < length (slice_set now n gone) = subst (λ (k : ℕ). n < k) (sym (length-set now n gone)) within in
-      get_or-set_same (slice_set now n gone) n new None inside
-
-  elsewhere : (p : ℕ) → p ≢ n → lane_at (slice_set (slice_set now n gone) n new) p ≡ lane_at now p
-  elsewhere p differ =
-      get_or-set_other (slice_set now n gone) n p new None differ ∙ get_or-set_other now n p gone None differ
-
+module _ (first now : List (Option LinkLane)) (n : ℕ) (new : Option LinkLane) where
   -- pair n is asked behind those before it
   pub one-more : (task : ℕ → Option SeenTask) (old d : Option LinkLane) → n < length now → old ≡ slice_index_or now n d
       → ((p : ℕ) → p < n → IsAskedAt (task p) (lane_at first p) (lane_at now p)) → lane_at now n ≡ lane_at first n
       → IsAskedAt (task n) old new
-      → (p : ℕ) → p < n + 1 → IsAskedAt (task p) (lane_at first p) (lane_at (slice_set (slice_set now n gone) n new) p)
+      → (p : ℕ) → p < n + 1 → IsAskedAt (task p) (lane_at first p) (lane_at (slice_set now n new) p)
   one-more task old d within is done same asked p below =
-      let then = slice_set (slice_set now n gone) n new in
+      let then = slice_set now n new in
       let was : old ≡ lane_at first n = is ∙ (get_or_default now n d None within ∙ same) in
       let at_n : IsAskedAt (task n) (lane_at first n) (lane_at then n) =
-      subst (λ (lane : Option LinkLane). IsAskedAt (task n) (lane_at first n) lane) (sym (here within))
+      subst (λ (lane : Option LinkLane). IsAskedAt (task n) (lane_at first n) lane) (sym (get_or-set_same now n new None within))
       (subst (λ (lane : Option LinkLane). IsAskedAt (task n) lane new) was asked)
       in
       ⊎_elim
       (λ same_p. subst (λ (k : ℕ). IsAskedAt (task k) (lane_at first k) (lane_at then k)) (sym same_p) at_n)
       (λ differ.
-      subst (λ (lane : Option LinkLane). IsAskedAt (task p) (lane_at first p) lane) (sym (elsewhere p differ)) (done p (omega arith)))
+      subst (λ (lane : Option LinkLane). IsAskedAt (task p) (lane_at first p) lane) (sym (get_or-set_other now n p new None differ)) (done p (omega arith)))
       (cases_eq p n)
 
   -- those behind it are as they were
   pub rest-left : ((p : ℕ) → n ≤ p → lane_at now p ≡ lane_at first p)
-      → (p : ℕ) → n + 1 ≤ p → lane_at (slice_set (slice_set now n gone) n new) p ≡ lane_at first p
+      → (p : ℕ) → n + 1 ≤ p → lane_at (slice_set now n new) p ≡ lane_at first p
   rest-left left p above =
-      let differ : p ≢ n = λ is. omega arith in elsewhere p differ ∙ left p (omega arith)
+      let differ : p ≢ n = λ is. omega arith in get_or-set_other now n p new None differ ∙ left p (omega arith)
 
-  pub as-many : length now ≡ length first → length (slice_set (slice_set now n gone) n new) ≡ length first
-  as-many same = length-set (slice_set now n gone) n new ∙ (length-set now n gone ∙ same)
+  pub as-many : length now ≡ length first → length (slice_set now n new) ≡ length first
+  as-many same = length-set now n new ∙ same

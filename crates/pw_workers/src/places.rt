@@ -63,29 +63,25 @@ pub fn lend_down<D: Disc, R: Wait>(
 {
     let system = world.system();
     for tcp in 0..system.tcps.len() {
-        let (place, sent) = lend_at(rt, world, tcp as u32, mem::take(&mut places[tcp]));
-        places[tcp] = place;
-        sent?;
+        lend_at(rt, world, tcp as u32, &mut places[tcp])?;
     }
     Ok(())
 }
 
-/// Sends the work of building an image that a pair has down the lane of its place, where this is there and free, and gives
-/// back what is in the place then.
+/// Sends the work of building an image that a pair has down the lane of its place, where this is there and free.
 fn lend_at<D: Disc, R: Wait>(
     rt: &R,
     world: &World<D>,
     tcp: u32,
-    place: Option<LinkLane>,
-) -> (Option<LinkLane>, Result<(), Memory>)
+    place: &mut Option<LinkLane>,
+) -> Result<(), Memory>
     requires { tcp < length world.now.keep.system.tcps }
-    ensures { IfOk result.1 (λ u. IsAskedAt (lent ((seen D.told world.now).kept.pairs tcp)) place result.0) }
+    ensures { IfOk result (λ u. IsAskedAt (lent ((seen D.told world.now).kept.pairs tcp)) place.old place.new) }
 {
-    let Some(mut lane) = place else {
-        return (None, Ok(()));
-    };
-    let sent = lend_one(rt, world, tcp, &mut lane);
-    (Some(lane), sent)
+    match place {
+        Some(lane) => lend_one(rt, world, tcp, lane),
+        None => Ok(()),
+    }
 }
 
 /// Sends the work of building an image that a pair has down its lane, where this is free.
