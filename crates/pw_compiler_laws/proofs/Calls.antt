@@ -29,7 +29,7 @@ use Rattle.pw_compiler_laws.proofs.Flat.{drop-front}
 use Rattle.pw_compiler_laws.proofs.Ground.{Ground}
 use Rattle.pw_compiler_laws.proofs.Operands.{Known}
 use Rattle.pw_compiler_laws.proofs.Readings.{Sits, TakenSits, spot-sits, all-sit, spots-same}
-use Rattle.pw_compiler_laws.proofs.Leading.{Env, Marks, mach, Leads, Does, Finishes, taken_does}
+use Rattle.pw_compiler_laws.proofs.Leading.{Env, Marks, mach, Leads, Does, DoesFrom, Finishes, taken_does}
 use Rattle.pw_compiler_laws.proofs.Statements.{split-end}
 use Rattle.pw_compiler_laws.specs.Premises.{AreItems}
 use Rattle.pw_compiler_laws.proofs.Suits.{IsFew, IsKeptPlace, CallSuits}
@@ -146,15 +146,13 @@ module _ (system : System) (setting : Setting) (e : Env) where
         → (at : ℕ) (rs : List Return) (s : ProgramState) (m : Marks) → Ground setting.program s.store
         → slice_get (code_at system e.program).instrs at
         ≡ Some (instr.Call number (map (code.place_in setting.program.layout) arguments) (keeps (map (code.place_in setting.program.layout) arguments)))
-        → Does system setting.program e (budget s)
-        (with_taken (spots_of s.registers (joined s.store ++ e.tail) (map (code.place_in setting.program.layout) arguments))
-        (calls.calls system number (keeps (map (code.place_in setting.program.layout) arguments))) (mach e at rs s m))
-        s.answers (at + 1) rs (tree.call_program setting call name arguments s)
+        → DoesFrom system setting.program e s (with_taken (spots_of s.registers (joined s.store ++ e.tail) (map (code.place_in setting.program.layout) arguments))
+        (calls.calls system number (keeps (map (code.place_in setting.program.layout) arguments))) (mach e at rs s m)) (at + 1) rs (tree.call_program setting call name arguments s)
     call_does call does name arguments number same suits callee at rs s m ground h =
         let q = program_number setting.deck name in
         let places : List StoragePlace = map (code.place_in setting.program.layout) arguments in
         let spots_are = spots-same setting.is_server setting.deck setting.program known s e.tail ground arguments suits.own in
-        subst (λ n. Does system setting.program e (budget s) (with_taken (spots_of s.registers (joined s.store ++ e.tail) places) (calls.calls system n (keeps places)) (mach e at rs s m)) s.answers (at + 1) rs (tree.call_program setting call name arguments s)) (sym same)
+        subst (λ n. DoesFrom system setting.program e s (with_taken (spots_of s.registers (joined s.store ++ e.tail) places) (calls.calls system n (keeps places)) (mach e at rs s m)) (at + 1) rs (tree.call_program setting call name arguments s)) (sym same)
         (taken_does system setting.program e (map spot_in) (operands.taken_all setting.program s arguments) _ (budget s) at rs s m (at + 1) rs
         (calls.calls system q (keeps places)) (λ found. tree.call_at setting.deck call q (map spot_in found) s) spots_are
         (λ found found_is.

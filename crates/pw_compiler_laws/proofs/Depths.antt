@@ -17,7 +17,7 @@ use Rattle.pw_code_meaning.specs.Turns as turning
 use Rattle.pw_compile.specs.Plan.{turn_of}
 use Rattle.pw_compiler_laws.specs.Systems.{plan_in}
 use Rattle.pw_compiler_laws.proofs.Ground.{Ground}
-use Rattle.pw_compiler_laws.proofs.Leading.{Env, Marks, mach, Does, ends_at}
+use Rattle.pw_compiler_laws.proofs.Leading.{Env, Marks, mach, DoesFrom, ends_at}
 use Rattle.pw_compiler_laws.proofs.Suits.{Suits, Performed}
 use Rattle.pw_compiler_laws.proofs.Calls.{CallDoes}
 use Rattle.pw_compiler_laws.proofs.Whole.{IsSet, StandsIn, body_does}
@@ -31,8 +31,7 @@ module _ (system : System) (setting : Setting) (e : Env) (set : IsSet system set
 
   abbrev pub Inside : ℕ → Type 0
   Inside d = (name : Word) → Performed system setting name → (rs : List Return) (r : Return) (t : ProgramState) (m : Marks) → length rs + d ≡ turning.most_performs → nat_lt (length rs) turning.most_performs ≡ true → Ground setting.program t.store
-      → Does system setting.program e (budget t)
-      (mach e (turn_of (plan_in setting) name).start (rs ++ r ∷ []) t m) t.answers
+      → DoesFrom system setting.program e t (mach e (turn_of (plan_in setting) name).start (rs ++ r ∷ []) t m)
       (turn_of (plan_in setting) name).end (rs ++ r ∷ []) (performed d setting call name t)
 
   pub full_at : (d : ℕ) → Full d

@@ -15,7 +15,7 @@ use Rattle.pw_code_meaning.specs.Turns as turning
 use Rattle.pw_compile.specs.Emitted.{procedure_code}
 use Rattle.pw_compile.specs.Sizes.{body_size}
 use Rattle.pw_compiler_laws.proofs.Ground.{Ground}
-use Rattle.pw_compiler_laws.proofs.Leading.{Env, Marks, mach, Does, Finishes, finishes_after, one}
+use Rattle.pw_compiler_laws.proofs.Leading.{Env, Marks, mach, DoesFrom, Finishes, finishes_after, one}
 use Rattle.pw_compiler_laws.specs.Systems.{plan_in}
 use Rattle.pw_compiler_laws.proofs.Suits.{Suits, Performed}
 use Rattle.pw_compiler_laws.proofs.Calls.{CallDoes}
@@ -44,7 +44,7 @@ module _ (system : System) (setting : Setting) (e : Env) (set : IsSet system set
       start = omega (arith, all)
 
       by : ((t : ProgramState) (n : Marks) → Ground setting.program t.store → Finishes system setting.program e (budget t) (mach e (at + body_size paragraph.body + 1) [] t n) t.answers (flow setting (performed d setting call) call rest t))
-          → (o : Out) → Does system setting.program e (budget s) (mach e at [] s m) s.answers (at + body_size paragraph.body) [] o
+          → (o : Out) → DoesFrom system setting.program e s (mach e at [] s m) (at + body_size paragraph.body) [] o
           → Finishes system setting.program e (budget s) (mach e at [] s m) s.answers (then_do o (flow setting (performed d setting call) call rest))
       by next (Goes t) r =
           let ends = one system e (at + body_size paragraph.body) [] t r.marks t.answers (Some (instr.ParagraphEnd at)) has.1 in

@@ -114,6 +114,10 @@ module _ (system : System) where
     Does b c p to rs (Leaves t) = Left b c p t
     Does b c p to rs (Asks v t) = Ends c p v t.screen
 
+    -- it does so from a configuration with the answers of a state of the tree, within what that state leaves to count
+    abbrev pub DoesFrom : ProgramState → Config → ℕ → List Return → Out → Type 0
+    DoesFrom s c to rs o = Does (budget s) c s.answers to rs o
+
     -- the code comes to the end of the program, or to this verb
     abbrev pub Finishes : ℕ → Config → List Answer → Out → Type 0
     Finishes b c p (Goes t) = Left b c p t
@@ -162,7 +166,7 @@ module _ (system : System) where
     weaker a b c p to rs (Asks v t) le r = r
 
     pub seq : (b : ℕ) (c : Config) (p : List Answer) (mid to : ℕ) (rs rs' : List Return) (o : Out) (next : ProgramState → Out) → Does b c p mid rs o
-        → ((t : ProgramState) (m : Marks) → budget t ≤ b → Ground program t.store → Does (budget t) (mach e mid rs t m) t.answers to rs' (next t)) → Does b c p to rs' (then_do o next)
+        → ((t : ProgramState) (m : Marks) → budget t ≤ b → Ground program t.store → DoesFrom t (mach e mid rs t m) to rs' (next t)) → Does b c p to rs' (then_do o next)
     seq b c p mid to rs rs' (Goes t) next r h =
         weaker (budget t) b c p to rs' (next t) r.less (after (budget t) c (mach e mid rs t r.marks) p t.answers to rs' (next t) r.leads (h t r.marks r.less r.ground))
     seq b c p mid to rs rs' (Leaves t) next r h = r
@@ -188,21 +192,21 @@ module _ (system : System) where
 
     -- a statement or a turn begins
     pub ticks : (at : ℕ) (rs : List Return) (s : ProgramState) (m : Marks) (to : ℕ) (rs' : List Return) (f : Config → Config) (next : ProgramState → Out)
-        → ((t : ProgramState) → budget t < budget s → t.store ≡ s.store → Does (budget t) (f (mach e at rs t m)) t.answers to rs' (next t))
-        → Does (budget s) (code_statement_counted f (mach e at rs s m)) s.answers to rs' (source.statement_counted next s)
+        → ((t : ProgramState) → budget t < budget s → t.store ≡ s.store → DoesFrom t (f (mach e at rs t m)) to rs' (next t))
+        → DoesFrom s (code_statement_counted f (mach e at rs s m)) to rs' (source.statement_counted next s)
     ticks at rs s m to rs' f next h =
-        count_cases s (λ b. Does (budget s) (if b then f (mach e at rs (record s { count = s.count + 1 }) m) else faults 201 (mach e at rs s m)) s.answers to rs' (if b then next (record s { count = s.count + 1 }) else source.faults 201 s))
+        count_cases s (λ b. DoesFrom s (if b then f (mach e at rs (record s { count = s.count + 1 }) m) else faults 201 (mach e at rs s m)) to rs' (if b then next (record s { count = s.count + 1 }) else source.faults 201 s))
         (λ lt. let t = record s { count = s.count + 1 } in let less : budget t < budget s = omega (arith, lt) in weaker (budget t) (budget s) _ s.answers to rs' (next t) (omega (arith, less)) (h t less refl))
         (λ ge. fault_ends (mach e at rs s m) s.answers 201 refl)
 
     -- a statement by its instruction
     pub begins : (at : ℕ) (rs : List Return) (s : ProgramState) (m : Marks) (to : ℕ) (rs' : List Return) (i : Instr) (next : ProgramState → Out) → slice_get (code_at system e.program).instrs at ≡ Some i
         → act system (Some i) ≡ code_statement_counted (does system i)
-        → ((t : ProgramState) → t.store ≡ s.store → Does (budget t) (does system i (mach e at rs t m)) t.answers to rs' (next t))
-        → Does (budget s) (mach e at rs s m) s.answers to rs' (source.statement_counted next s)
+        → ((t : ProgramState) → t.store ≡ s.store → DoesFrom t (does system i (mach e at rs t m)) to rs' (next t))
+        → DoesFrom s (mach e at rs s m) to rs' (source.statement_counted next s)
     begins at rs s m to rs' i next h is r =
         after (budget s) _ _ s.answers s.answers to rs' (source.statement_counted next s) (one e at rs s m s.answers (Some i) h)
-        (subst (λ f. Does (budget s) (f (mach e at rs s m)) s.answers to rs' (source.statement_counted next s)) (sym is) (ticks at rs s m to rs' (does system i) next (λ t lt same. r t same)))
+        (subst (λ f. DoesFrom s (f (mach e at rs s m)) to rs' (source.statement_counted next s)) (sym is) (ticks at rs s m to rs' (does system i) next (λ t lt same. r t same)))
 
     -- operands whose subscripts were taken, or SUBSCRIPT
     pub taken_does : {A B : Type 0} (f : A → B) (o : Option A) (o' : Option B) (b at : ℕ) (rs : List Return) (s : ProgramState) (m : Marks) (to : ℕ) (rs' : List Return)
@@ -218,8 +222,8 @@ module _ (system : System) where
     pub verb_does : (at : ℕ) (rs : List Return) (s : ProgramState) (m : Marks) (to : ℕ) (rs' : List Return) (i : Instr) (v : Verb) (next : Answer → ProgramState → Out)
         → slice_get (code_at system e.program).instrs at ≡ Some i → asked_by (Some i) (asks (mach e at rs s m)) ≡ v
         → ((a : Answer) (answers : List Answer) → let t : ProgramState = record s { count = 0; answers = answers } in
-        Does (budget t) (answered_by system (Some i) a (asks (mach e at rs s m))) answers to rs' (next a t))
-        → Does (budget s) (asks (mach e at rs s m)) s.answers to rs' (source.asks v next s)
+        DoesFrom t (answered_by system (Some i) a (asks (mach e at rs s m))) to rs' (next a t))
+        → DoesFrom s (asks (mach e at rs s m)) to rs' (source.asks v next s)
     verb_does at rs s m to rs' i v next h is r = by s.answers refl
       where
         by : (answers : List Answer) → s.answers ≡ answers → Does (budget s) (asks (mach e at rs s m)) answers to rs' (source.asked v next answers s)

@@ -34,7 +34,7 @@ use Rattle.pw_compiler_laws.specs.Systems.{code_in, plan_in}
 use Rattle.pw_compiler_laws.proofs.Ground.{Ground}
 use Rattle.pw_compiler_laws.proofs.Operands.{Known}
 use Rattle.pw_compiler_laws.proofs.Readings.{Sits}
-use Rattle.pw_compiler_laws.proofs.Leading.{Env, Marks, mach, Leads, Ends, Left, Does, Finishes, fault_ends}
+use Rattle.pw_compiler_laws.proofs.Leading.{Env, Marks, mach, Leads, Ends, Left, Does, DoesFrom, Finishes, fault_ends}
 use Rattle.pw_compiler_laws.proofs.Statements.{stop_does}
 use Rattle.pw_compiler_laws.proofs.Suits.{Suits}
 use Rattle.pw_compiler_laws.specs.Premises.{AreItems}
@@ -183,7 +183,7 @@ module _ (system : System) (setting : Setting) (e : Env) (set : IsSet system set
       (stopped setting.is_server t.in_unit (calls.stops system at_end) t.answers (budget t) l.at l.returns t (by l.quiet)))
     where
       by : (slice_get (code_at system e.program).instrs l.at ≡ None) ⊎ (slice_get (code_at system e.program).instrs l.at ≡ Some instr.ExitProgram)
-          → Does system setting.program e (budget t) (calls.stops system (mach e l.at l.returns t l.marks)) t.answers l.at l.returns (sends.stop setting t)
+          → DoesFrom system setting.program e t (calls.stops system (mach e l.at l.returns t l.marks)) l.at l.returns (sends.stop setting t)
       by (inl none) = stop_does system setting set.known e (plan_in setting) (is_plan_in setting) set.kind l.at l.at l.returns l.returns t l.marks None none refl (λ a. refl)
       by (inr exit) = stop_does system setting set.known e (plan_in setting) (is_plan_in setting) set.kind l.at l.at l.returns l.returns t l.marks (Some instr.ExitProgram) exit refl (λ a. refl)
 

@@ -34,7 +34,7 @@ use Rattle.pw_compile.specs.Operands as code
 use Rattle.pw_compiler_laws.proofs.Ground.{Ground}
 use Rattle.pw_compiler_laws.proofs.Operands.{Known, Indexed}
 use Rattle.pw_compiler_laws.proofs.Readings.{read-same}
-use Rattle.pw_compiler_laws.proofs.Leading.{Env, Marks, mach, Leads, Does, stays, after, weaker, taken_does, verb_does}
+use Rattle.pw_compiler_laws.proofs.Leading.{Env, Marks, mach, Leads, Does, DoesFrom, stays, after, weaker, taken_does, verb_does}
 use Rattle.pw_compiler_laws.specs.Premises.{IsShownOf}
 use Rattle.pw_compiler_laws.proofs.Fields.{fields-sit, shown-same, entered-same, entered-ground}
 
@@ -46,32 +46,32 @@ module _ (system : System) (setting : Setting) (known : Known setting.is_server 
       → slice_get (code_at system e.program).instrs at ≡ Some i
       → steps.asked_by (Some i) (asks (mach e at rs (record s { screen = cells }) m)) ≡ verb.Show
       → ((a : Answer) → puts.answered_by system (Some i) a (asks (mach e at rs (record s { screen = cells }) m)) ≡ on (puts.shown (asks (mach e at rs (record s { screen = cells }) m))))
-      → Does system setting.program e (budget s) (steps.shows cells (mach e at rs s m)) s.answers (at + 1) rs (screens.shows cells s)
+      → DoesFrom system setting.program e s (steps.shows cells (mach e at rs s m)) (at + 1) rs (screens.shows cells s)
   cells_do at rs s m i cells ground h is same =
       let u : ProgramState = record s { screen = cells } in
       verb_does system setting.program e at rs u m (at + 1) rs i verb.Show (λ a t. Goes t) h is
       (λ a given.
       let t : ProgramState = record u { count = 0; answers = given } in
-      subst (λ c. Does system setting.program e (budget t) c given (at + 1) rs (Goes t)) (sym (same a))
+      subst (λ c. DoesFrom system setting.program e t c (at + 1) rs (Goes t)) (sym (same a))
       (record { marks = record m { shown = m.shown + 1 }; ground = ground; less = omega arith; leads = stays system _ given }))
 
   -- a screen
   pub screen_does : (base : Bool) (n : ℕ) (table : ScreenTable) (at : ℕ) (rs : List Return) (s : ProgramState) (m : Marks) → Ground setting.program s.store
       → screen_at system n ≡ table → Each (λ (field : Field). IsShownOf setting.program.layout field.shown) table.fields
       → slice_get (code_at system e.program).instrs at ≡ Some (instr.DisplayScreen n base)
-      → Does system setting.program e (budget s) (steps.does system (instr.DisplayScreen n base) (mach e at rs s m)) s.answers (at + 1) rs (screens.display_table base (Some table) s)
+      → DoesFrom system setting.program e s (steps.does system (instr.DisplayScreen n base) (mach e at rs s m)) (at + 1) rs (screens.display_table base (Some table) s)
   screen_does base n table at rs s m ground is each h =
       let sits = fields-sit setting.program s.store table.fields known.fits ground each in
       let same : with_screen base (joined s.store ++ e.tail) (screen_at system n) s.screen ≡ with_screen base (joined s.store) table s.screen =
       ap (λ (one : ScreenTable). with_screen base (joined s.store ++ e.tail) one s.screen) is
       ∙ shown-same base s.store e.tail table.fields _ sits in
-      subst (λ (cells : List ℕ). Does system setting.program e (budget s) (steps.shows cells (mach e at rs s m)) s.answers (at + 1) rs (screens.display_table base (Some table) s)) (sym same)
+      subst (λ (cells : List ℕ). DoesFrom system setting.program e s (steps.shows cells (mach e at rs s m)) (at + 1) rs (screens.display_table base (Some table) s)) (sym same)
       (cells_do at rs s m (instr.DisplayScreen n base) (with_screen base (joined s.store) table s.screen) ground h refl (λ a. refl))
 
   -- an operand
   pub operand_shown : (one : Operand) → Indexed setting.is_server setting.deck setting.program one → (at : ℕ) (rs : List Return) (s : ProgramState) (m : Marks) → Ground setting.program s.store
       → slice_get (code_at system e.program).instrs at ≡ Some (instr.Display (code.operand_of setting.program.layout one))
-      → Does system setting.program e (budget s) (steps.does system (instr.Display (code.operand_of setting.program.layout one)) (mach e at rs s m)) s.answers (at + 1) rs
+      → DoesFrom system setting.program e s (steps.does system (instr.Display (code.operand_of setting.program.layout one)) (mach e at rs s m)) (at + 1) rs
       (operands.with_operand setting.program one s (λ found. screens.shows (with_message (operands.chars_in found s.store) s.screen) s))
   operand_shown one own at rs s m ground h =
       taken_does system setting.program e (λ found. operands.value_in found s.store) (operands.operand_taken setting.program s one) _ (budget s) at rs s m (at + 1) rs
@@ -174,7 +174,7 @@ module _ (system : System) (setting : Setting) (known : Known setting.is_server 
           (awaited_does answers 1 t k ground))
 
     pub accept_does : (s : ProgramState) (m : Marks) → Ground setting.program s.store
-        → Does system setting.program e (budget s) (asks (mach e at rs s m)) s.answers (at + 1) rs (screens.awaited table keys (verb.Accept n) s.answers s)
+        → DoesFrom system setting.program e s (asks (mach e at rs s m)) (at + 1) rs (screens.awaited table keys (verb.Accept n) s.answers s)
     accept_does s m ground =
         weaker system setting.program e (most_counted * length s.answers) (budget s) (asks (mach e at rs s m)) s.answers (at + 1) rs (screens.awaited table keys (verb.Accept n) s.answers s) (omega arith)
         (awaited_does s.answers s.count s m ground)

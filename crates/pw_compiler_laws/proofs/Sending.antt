@@ -45,7 +45,7 @@ use Rattle.pw_compiler_laws.specs.Systems.{plan_in}
 use Rattle.pw_compiler_laws.proofs.Ground.{Ground, ground-kept}
 use Rattle.pw_compiler_laws.proofs.Operands.{Known, Indexed, taken-same}
 use Rattle.pw_compiler_laws.proofs.Readings.{Sits, TakenSits, spot-sits, taken-sits, all-sit, read-same, spot-same, spots-same, move-same}
-use Rattle.pw_compiler_laws.proofs.Leading.{Env, Marks, mach, Does, stays, one, after, weaker, fault_ends, taken_does, verb_does}
+use Rattle.pw_compiler_laws.proofs.Leading.{Env, Marks, mach, Does, DoesFrom, stays, one, after, weaker, fault_ends, taken_does, verb_does}
 use Rattle.pw_compiler_laws.proofs.Arguments.{one-some, no-one}
 
 -- ---- lists
@@ -159,11 +159,11 @@ module _ (system : System) (setting : Setting) (known : Known setting.is_server 
 
     yielded_does : (reply : List ℕ) (given : List Answer) (o : Option (ℕ × Spot)) → ((found : ℕ × Spot) → o ≡ Some found → Sits t.store found.1)
         → let u : ProgramState = record t { count = 0; answers = given } in
-        Does system setting.program e (budget u) (puts.yielded o reply at_send) given (at + 1 + 1) rs (sends.yielded o reply u)
+        DoesFrom system setting.program e u (puts.yielded o reply at_send) (at + 1 + 1) rs (sends.yielded o reply u)
     yielded_does reply given None sits =
         let u : ProgramState = record t { count = 0; answers = given } in
         let r = replied-by at rs t m t.in_unit refl in
-        subst (λ (rest : Context). Does system setting.program e (budget u) (on (record at_send { rest = rest })) given (at + 1 + 1) rs (source.faults 204 u)) (sym r.is)
+        subst (λ (rest : Context). DoesFrom system setting.program e u (on (record at_send { rest = rest })) (at + 1 + 1) rs (source.faults 204 u)) (sym r.is)
         (after system setting.program e (budget u) (mach e (at + 1) rs u r.marks) (faults 204 (mach e (at + 1) rs u r.marks)) given given (at + 1 + 1) rs (source.faults 204 u)
         (one system e (at + 1) rs u r.marks given (Some instr.NoCode) behind) (fault_ends system setting.program e (mach e (at + 1) rs u r.marks) given 204 refl))
     yielded_does reply given (Some found) sits =
@@ -171,8 +171,8 @@ module _ (system : System) (setting : Setting) (known : Known setting.is_server 
         let v : ProgramState = moving.move_text reply found.1 (record u { registers = record u.registers { termination = found.0 + 1 } }) in
         let r = replied-by at rs t m t.in_unit refl in
         let c : List ℕ → Context → Config = λ storage rest. over 1 (record (with_storage storage at_send) { rest = record rest { termination = found.0 + 1 } }) in
-        subst (λ (rest : Context). Does system setting.program e (budget u) (c (moves.move_text reply found.1 (joined t.store ++ e.tail)) rest) given (at + 1 + 1) rs (Goes v)) (sym r.is)
-        (subst (λ (storage : List ℕ). Does system setting.program e (budget u) (c storage (mach e at rs u r.marks).rest) given (at + 1 + 1) rs (Goes v))
+        subst (λ (rest : Context). DoesFrom system setting.program e u (c (moves.move_text reply found.1 (joined t.store ++ e.tail)) rest) (at + 1 + 1) rs (Goes v)) (sym r.is)
+        (subst (λ (storage : List ℕ). DoesFrom system setting.program e u (c storage (mach e at rs u r.marks).rest) (at + 1 + 1) rs (Goes v))
         (sym (move-same (Text' reply) found.1 t.store e.tail (sits found refl)))
         (record {
           marks = r.marks;
@@ -182,14 +182,14 @@ module _ (system : System) (setting : Setting) (known : Known setting.is_server 
         }))
 
     passes : (given : List Answer) → let u : ProgramState = record t { count = 0; answers = given } in
-        Does system setting.program e (budget u) (over 1 (record at_send { rest = puts.answered at_send.rest })) given (at + 1 + 1) rs (Goes u)
+        DoesFrom system setting.program e u (over 1 (record at_send { rest = puts.answered at_send.rest })) (at + 1 + 1) rs (Goes u)
     passes given = record { marks = m; ground = ground; less = omega arith; leads = stays system _ given }
 
     reply_does : (a : Answer) (given : List Answer) → let u : ProgramState = record t { count = 0; answers = given } in
-        Does system setting.program e (budget u) (puts.reply_put ones a at_send) given (at + 1 + 1) rs (sends.after_send_answer codes items a u)
+        DoesFrom system setting.program e u (puts.reply_put ones a at_send) (at + 1 + 1) rs (sends.after_send_answer codes items a u)
     reply_does (answer.Replied reply) given =
         let u : ProgramState = record t { count = 0; answers = given } in
-        subst (λ o. Does system setting.program e (budget u) (puts.yielded o reply at_send) given (at + 1 + 1) rs (sends.yielded (sends.found_by codes items reply) reply u)) (sym (found-same reply))
+        subst (λ o. DoesFrom system setting.program e u (puts.yielded o reply at_send) (at + 1 + 1) rs (sends.yielded (sends.found_by codes items reply) reply u)) (sym (found-same reply))
         (yielded_does reply given (sends.found_by codes items reply)
         (λ found is. found-sits (option_and_then (sends.reply_code_place codes) (sends.code_in_reply reply)) found is))
     reply_does (answer.Failed x) given =
@@ -211,7 +211,7 @@ module _ (system : System) (setting : Setting) (known : Known setting.is_server 
       → slice_get (code_at system e.program).instrs at
       ≡ Some (instr.Send number (code.operand_of setting.program.layout message) (map (reply_code (plan_in setting)) codes))
       → slice_get (code_at system e.program).instrs (at + 1) ≡ Some instr.NoCode
-      → Does system setting.program e (budget t) (steps.sends (code.operand_of setting.program.layout message) (map (reply_code (plan_in setting)) codes) (mach e at rs t m)) t.answers (at + 1 + 1) rs
+      → DoesFrom system setting.program e t (steps.sends (code.operand_of setting.program.layout message) (map (reply_code (plan_in setting)) codes) (mach e at rs t m)) (at + 1 + 1) rs
       (sends.send setting message class codes t)
   send_does message class number codes same own all at rs t m ground h behind =
       let i : Instr = instr.Send number (code.operand_of setting.program.layout message) (map (reply_code (plan_in setting)) codes) in
@@ -246,10 +246,10 @@ module _ (system : System) (setting : Setting) (known : Known setting.is_server 
     pub operation_asked : (i : Instr) (into : Option Spot) (call : FileCall) (at : ℕ) (rs : List Return) (t : ProgramState) (m : Marks)
         → slice_get (code_at system e.program).instrs at ≡ Some i → steps.asked_by (Some i) (asks (mach e at rs t m)) ≡ verb.File call
         → ((a : Answer) (given : List Answer) → let u : ProgramState = record t { answers = given } in
-        Does system setting.program e (budget u) (puts.answered_by system (Some i) a (asks (mach e at rs t m))) given (at + 1) rs (files.file_answered into a u))
-        → Does system setting.program e (budget t) (asks (mach e at rs t m)) t.answers (at + 1) rs (files.operates setting call into t)
+        DoesFrom system setting.program e u (puts.answered_by system (Some i) a (asks (mach e at rs t m))) (at + 1) rs (files.file_answered into a u))
+        → DoesFrom system setting.program e t (asks (mach e at rs t m)) (at + 1) rs (files.operates setting call into t)
     operation_asked i into call at rs t m h v next =
-        subst (λ b. Does system setting.program e (budget t) (asks (mach e at rs t m)) t.answers (at + 1) rs (if b then files.operation_done setting.deck call into t else files.operation_asked call into t.answers t)) (sym not_alone)
+        subst (λ b. DoesFrom system setting.program e t (asks (mach e at rs t m)) (at + 1) rs (if b then files.operation_done setting.deck call into t else files.operation_asked call into t.answers t)) (sym not_alone)
         (by t.answers refl)
       where
         by : (given : List Answer) → t.answers ≡ given → Does system setting.program e (budget t) (asks (mach e at rs t m)) given (at + 1) rs (files.operation_asked call into given t)
@@ -266,19 +266,17 @@ module _ (system : System) (setting : Setting) (known : Known setting.is_server 
     read_answered : (at : ℕ) (rs : List Return) (t : ProgramState) (m : Marks) (place : StoragePlace) (into : Spot) → Ground setting.program t.store → Sits t.store into
         → spot_of t.registers (joined t.store ++ e.tail) place ≡ Some into → (a : Answer) (given : List Answer)
         → let u : ProgramState = record t { answers = given } in
-        Does system setting.program e (budget u) (puts.read_put place a (asks (mach e at rs t m))) given (at + 1) rs (files.file_answered (Some into) a u)
+        DoesFrom system setting.program e u (puts.read_put place a (asks (mach e at rs t m))) (at + 1) rs (files.file_answered (Some into) a u)
     read_answered at rs t m place into ground sits is (answer.FileDone status content) given =
         let u : ProgramState = record t { answers = given } in
-        subst (λ o. Does system setting.program e (budget u) (puts.file_done o status content (asks (mach e at rs t m))) given (at + 1) rs (files.file_done (Some into) status content u)) (sym is)
+        subst (λ o. DoesFrom system setting.program e u (puts.file_done o status content (asks (mach e at rs t m))) (at + 1) rs (files.file_done (Some into) status content u)) (sym is)
         (by-content content)
       where
         by-status : (b : Bool) (chars : List ℕ) → let u : ProgramState = record t { answers = given; registers = record t.registers { file_status = status } } in
-            Does system setting.program e (budget u)
-            (on (record (with_storage (if b then moves.move_text chars into (joined t.store ++ e.tail) else joined t.store ++ e.tail) (asks (mach e at rs t m))) { rest = record (asks (mach e at rs t m)).rest { at_verb = false; file_status = status } }))
-            given (at + 1) rs (Goes (if b then moving.move_text chars into u else u))
+            DoesFrom system setting.program e u (on (record (with_storage (if b then moves.move_text chars into (joined t.store ++ e.tail) else joined t.store ++ e.tail) (asks (mach e at rs t m))) { rest = record (asks (mach e at rs t m)).rest { at_verb = false; file_status = status } })) (at + 1) rs (Goes (if b then moving.move_text chars into u else u))
         by-status true chars =
             let u : ProgramState = record t { answers = given; registers = record t.registers { file_status = status } } in
-            subst (λ (storage : List ℕ). Does system setting.program e (budget u) (on (record (with_storage storage (asks (mach e at rs t m))) { rest = record (asks (mach e at rs t m)).rest { at_verb = false; file_status = status } })) given (at + 1) rs (Goes (moving.move_text chars into u)))
+            subst (λ (storage : List ℕ). DoesFrom system setting.program e u (on (record (with_storage storage (asks (mach e at rs t m))) { rest = record (asks (mach e at rs t m)).rest { at_verb = false; file_status = status } })) (at + 1) rs (Goes (moving.move_text chars into u)))
             (sym (move-same (Text' chars) into t.store e.tail sits))
             (record {
               marks = m;
@@ -289,7 +287,7 @@ module _ (system : System) (setting : Setting) (known : Known setting.is_server 
         by-status false chars = record { marks = m; ground = ground; less = omega arith; leads = stays system _ given }
 
         by-content : (o : Option (List ℕ)) → let u : ProgramState = record t { answers = given } in
-            Does system setting.program e (budget u) (puts.file_done (Some into) status o (asks (mach e at rs t m))) given (at + 1) rs (files.file_done (Some into) status o u)
+            DoesFrom system setting.program e u (puts.file_done (Some into) status o (asks (mach e at rs t m))) (at + 1) rs (files.file_done (Some into) status o u)
         by-content None = record { marks = m; ground = ground; less = omega arith; leads = stays system _ given }
         by-content (Some chars) = by-status (status == 0) chars
     read_answered at rs t m place into ground sits is answer.Shown given = record { marks = m; ground = ground; less = omega arith; leads = stays system _ given }
@@ -305,7 +303,7 @@ module _ (system : System) (setting : Setting) (known : Known setting.is_server 
         → ((found : ResolvedOperand) → steps.read_here (asks (mach e at rs t m)) (code.operand_of setting.program.layout key) ≡ Some (operands.value_in found t.store)
         → steps.asked_by (Some i) (asks (mach e at rs t m)) ≡ verb.File (call_of (operands.chars_in found t.store)))
         → ((a : Answer) → puts.answered_by system (Some i) a (asks (mach e at rs t m)) ≡ puts.read_put (code.place_in setting.program.layout into) a (asks (mach e at rs t m)))
-        → Does system setting.program e (budget t) (steps.reads (code.operand_of setting.program.layout key) (code.place_in setting.program.layout into) (mach e at rs t m)) t.answers (at + 1) rs
+        → DoesFrom system setting.program e t (steps.reads (code.operand_of setting.program.layout key) (code.place_in setting.program.layout into) (mach e at rs t m)) (at + 1) rs
         (operands.with_operand setting.program key t (λ found. operands.with_operand setting.program into t (λ item.
         files.operates setting (call_of (operands.chars_in found t.store)) (Some (spot_in item)) t)))
     read_does key into own own_into at rs t m ground i h call_of asked same =
@@ -322,7 +320,7 @@ module _ (system : System) (setting : Setting) (known : Known setting.is_server 
         (asked found (read-same setting.is_server setting.deck setting.program known t e.tail ground key own ∙ ap (option_map (λ x. operands.value_in x t.store)) taken_is))
         (λ a given.
         let u : ProgramState = record t { answers = given } in
-        subst (λ c. Does system setting.program e (budget u) c given (at + 1) rs (files.file_answered (Some (spot_in item)) a u)) (sym (same a))
+        subst (λ c. DoesFrom system setting.program e u c (at + 1) rs (files.file_answered (Some (spot_in item)) a u)) (sym (same a))
         (read_answered at rs t m (code.place_in setting.program.layout into) (spot_in item) ground
         (spot-sits t.store item (taken-sits setting.is_server setting.deck setting.program known t e.tail ground into item item_is))
         (spot-same setting.is_server setting.deck setting.program known t e.tail ground into own_into ∙ ap (option_map spot_in) item_is) a given))))

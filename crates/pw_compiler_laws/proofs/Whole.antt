@@ -63,7 +63,7 @@ use Rattle.pw_compiler_laws.proofs.Operands.{Known, Indexed, taken-same}
 use Rattle.std.proofs.lemmas.Bool.{eqb-true}
 use Rattle.std.proofs.lemmas.Option.{slice_get-map}
 use Rattle.pw_compiler_laws.proofs.Readings.{read-same, spot-same, spot-sits, taken-sits, move-same, holds-same, Computed}
-use Rattle.pw_compiler_laws.proofs.Leading.{Env, Marks, mach, Leads, Does, stays, one, seq, ends_at, fault_ends, begins, taken_does, stop_ends}
+use Rattle.pw_compiler_laws.proofs.Leading.{Env, Marks, mach, Leads, Does, DoesFrom, stays, one, seq, ends_at, fault_ends, begins, taken_does, stop_ends}
 use Rattle.pw_compile.proofs.Lengths.{statement_length, row_length}
 use Rattle.pw_compiler_laws.proofs.Statements.{HasAt, has_front, has_back, IsPlan, Stands, move_does, arithmetic_does, begin_does, unit_end_does, restart_does, stop_does, perform_does, times_does, until_does}
 
@@ -144,12 +144,12 @@ module _ (system : System) (setting : Setting) (e : Env) (set : IsSet system set
       (stands : (name : Word) → Performed name → StandsIn system setting e set name)
       (full : (name : Word) (rs : List Return) (t : ProgramState) → length rs + d ≡ turning.most_performs → nat_lt (length rs) turning.most_performs ≡ false → perform name t ≡ source.faults 202 t)
       (inside : (name : Word) → Performed name → (rs : List Return) (r : Return) (t : ProgramState) (m : Marks) → length rs + d ≡ turning.most_performs → nat_lt (length rs) turning.most_performs ≡ true → Ground setting.program t.store
-      → Does system setting.program e (budget t) (mach e (turn_of (plan_in setting) name).start (rs ++ r ∷ []) t m) t.answers (turn_of (plan_in setting) name).end (rs ++ r ∷ []) (perform name t))
+      → DoesFrom system setting.program e t (mach e (turn_of (plan_in setting) name).start (rs ++ r ∷ []) t m) (turn_of (plan_in setting) name).end (rs ++ r ∷ []) (perform name t))
       (calling : setting.is_server ≡ false → CallDoes system setting e call) where
     -- a statement does what it does
     abbrev pub IsDone : Statement → Type 0
     IsDone one = (at : ℕ) (rs : List Return) (s : ProgramState) (m : Marks) → length rs + d ≡ turning.most_performs → Ground setting.program s.store → HasAt instrs at (statement_code plan one)
-        → Does system setting.program e (budget s) (mach e at rs s m) s.answers (at + size one) rs (statement setting perform call one s)
+        → DoesFrom system setting.program e s (mach e at rs s m) (at + size one) rs (statement setting perform call one s)
 
     abbrev Own : Operand → Type 0
     Own one = Indexed setting.is_server setting.deck setting.program one
@@ -157,13 +157,13 @@ module _ (system : System) (setting : Setting) (e : Env) (set : IsSet system set
     -- a screen, or an operand
     display_does : (shown : Operand) → suits.Shows system setting shown → (at : ℕ) (rs : List Return) (t : ProgramState) (m : Marks) → Ground setting.program t.store
         → slice_get instrs at ≡ Some (display_of plan shown)
-        → Does system setting.program e (budget t) (steps.does system (display_of plan shown) (mach e at rs t m)) t.answers (at + 1) rs (screens.display setting shown t)
+        → DoesFrom system setting.program e t (steps.does system (display_of plan shown) (mach e at rs t m)) (at + 1) rs (screens.display setting shown t)
     display_does (operands'.Item name None) fit at rs t m fine h =
         by (screen_named setting.program name) fit (has_screen plan.screens name) (screen-by (λ screen. bytes_eq screen.name name) setting.program.screens) h
       where
         by : (o : Option ScreenTable) → suits.ShownBy system setting o name → (b : Bool) → b ≡ is_some o
             → slice_get instrs at ≡ Some (display_by plan b name (operands'.Item name None))
-            → Does system setting.program e (budget t) (steps.does system (display_by plan b name (operands'.Item name None)) (mach e at rs t m)) t.answers (at + 1) rs (screens.display_by o setting (operands'.Item name None) t)
+            → DoesFrom system setting.program e t (steps.does system (display_by plan b name (operands'.Item name None)) (mach e at rs t m)) (at + 1) rs (screens.display_by o setting (operands'.Item name None) t)
         by None fit true is h' = absurd cc
         by None fit false is h' = operand_shown system setting set.known e (operands'.Item name None) fit at rs t m fine h'
         by (Some table) fit true is h' = screen_does system setting set.known e false (planned_screen plan name) table at rs t m fine fit.coded fit.shown h'
@@ -175,8 +175,8 @@ module _ (system : System) (setting : Setting) (e : Env) (set : IsSet system set
     display_does operands'.Zeros fit at rs t m fine h = operand_shown system setting set.known e operands'.Zeros fit at rs t m fine h
 
     branch_does : (o : Option Bool) (n at to : ℕ) (rs : List Return) (s : ProgramState) (m : Marks) (on_true on_false : ProgramState → Out)
-        → Does system setting.program e (budget s) (mach e (at + 1) rs s m) s.answers to rs (on_true s) → Does system setting.program e (budget s) (mach e (at + 1 + n) rs s m) s.answers to rs (on_false s)
-        → Does system setting.program e (budget s) (with_taken o (steps.branch n) (mach e at rs s m)) s.answers to rs (branch o on_true on_false s)
+        → DoesFrom system setting.program e s (mach e (at + 1) rs s m) to rs (on_true s) → DoesFrom system setting.program e s (mach e (at + 1 + n) rs s m) to rs (on_false s)
+        → DoesFrom system setting.program e s (with_taken o (steps.branch n) (mach e at rs s m)) to rs (branch o on_true on_false s)
     branch_does None n at to rs s m on_true on_false h g = fault_ends system setting.program e (mach e at rs s m) s.answers 203 refl
     branch_does (Some true) n at to rs s m on_true on_false h g = h
     branch_does (Some false) n at to rs s m on_true on_false h g = g
@@ -187,14 +187,14 @@ module _ (system : System) (setting : Setting) (e : Env) (set : IsSet system set
     then_goes c p b to rs (Asks v t) r = r
 
     chosen_does : (o : Option Word) → ((name : Word) → o ≡ Some name → Performed name) → (at : ℕ) (rs : List Return) (t : ProgramState) (m : Marks) → length rs + d ≡ turning.most_performs → Ground setting.program t.store
-        → Does system setting.program e (budget t) (turning.chosen (option_map (turn_of plan) o) (mach e at rs t m)) t.answers (at + 1) rs (performs.perform_chosen perform o t)
+        → DoesFrom system setting.program e t (turning.chosen (option_map (turn_of plan) o) (mach e at rs t m)) (at + 1) rs (performs.perform_chosen perform o t)
     chosen_does None each at rs t m is ground = record { marks = m; ground = ground; less = omega arith; leads = stays system (mach e (at + 1) rs t m) t.answers }
     chosen_does (Some name) each at rs t m is ground =
         perform_does system setting set.known e plan is_plan perform d name (turn_of plan name) (stands name (each name refl)).end (full name) (inside name (each name refl)) at rs t m is ground
 
     -- a reply
     reply_does : (from : Operand) → Own from → (at : ℕ) (rs : List Return) (t : ProgramState) (m : Marks) → Ground setting.program t.store → slice_get instrs at ≡ Some (instr.Reply (code.operand_of setting.program.layout from))
-        → Does system setting.program e (budget t) (steps.operates (code.operand_of setting.program.layout from) (mach e at rs t m)) t.answers (at + 1) rs (files.reply setting from t)
+        → DoesFrom system setting.program e t (steps.operates (code.operand_of setting.program.layout from) (mach e at rs t m)) (at + 1) rs (files.reply setting from t)
     reply_does from fit at rs t m fine h =
         taken_does system setting.program e (λ found. found) (operands.operand_taken setting.program t from) _ (budget t) at rs t m (at + 1) rs (λ found. asks) (λ found. Asks (verb.Reply (operands.chars_in found t.store)) t)
         (taken-same setting.is_server setting.deck setting.program set.known t e.tail fine from fit ∙ same-map (operands.operand_taken setting.program t from))
@@ -207,7 +207,7 @@ module _ (system : System) (setting : Setting) (e : Env) (set : IsSet system set
     -- what follows an operation that reads no record
     file_answered : (at : ℕ) (rs : List Return) (t : ProgramState) (m : Marks) → Ground setting.program t.store → (a : Answer) (given : List Answer)
         → let u : ProgramState = record t { answers = given } in
-        Does system setting.program e (budget u) (puts.file_put a (asks (mach e at rs t m))) given (at + 1) rs (files.file_answered None a u)
+        DoesFrom system setting.program e u (puts.file_put a (asks (mach e at rs t m))) (at + 1) rs (files.file_answered None a u)
     file_answered at rs t m fine (answer.FileDone status content) given = record { marks = m; ground = fine; less = omega arith; leads = stays system _ given }
     file_answered at rs t m fine answer.Shown given = record { marks = m; ground = fine; less = omega arith; leads = stays system _ given }
     file_answered at rs t m fine (answer.Entry line) given = record { marks = m; ground = fine; less = omega arith; leads = stays system _ given }
@@ -222,22 +222,22 @@ module _ (system : System) (setting : Setting) (e : Env) (set : IsSet system set
         → steps.does system i ≡ steps.operates (code.operand_of setting.program.layout one)
         → ((found : ResolvedOperand) → steps.read_here (asks (mach e at rs t m)) (code.operand_of setting.program.layout one) ≡ Some (operands.value_in found t.store) → steps.asked_by (Some i) (asks (mach e at rs t m)) ≡ verb.File (call_of (operands.chars_in found t.store)))
         → ((a : Answer) → puts.answered_by system (Some i) a (asks (mach e at rs t m)) ≡ puts.file_put a (asks (mach e at rs t m)))
-        → Does system setting.program e (budget t) (steps.does system i (mach e at rs t m)) t.answers (at + 1) rs
+        → DoesFrom system setting.program e t (steps.does system i (mach e at rs t m)) (at + 1) rs
         (operands.with_operand setting.program one t (λ found. files.operates setting (call_of (operands.chars_in found t.store)) None t))
     operation_does one_operand fit at rs t m fine i h call_of is asked same =
-        subst (λ f. Does system setting.program e (budget t) (f (mach e at rs t m)) t.answers (at + 1) rs (operands.with_operand setting.program one_operand t (λ found. files.operates setting (call_of (operands.chars_in found t.store)) None t))) (sym is)
+        subst (λ f. DoesFrom system setting.program e t (f (mach e at rs t m)) (at + 1) rs (operands.with_operand setting.program one_operand t (λ found. files.operates setting (call_of (operands.chars_in found t.store)) None t))) (sym is)
         (taken_does system setting.program e (λ found. found) (operands.operand_taken setting.program t one_operand) _ (budget t) at rs t m (at + 1) rs (λ found. asks) (λ found. files.operates setting (call_of (operands.chars_in found t.store)) None t)
         (taken-same setting.is_server setting.deck setting.program set.known t e.tail fine one_operand fit ∙ same-map (operands.operand_taken setting.program t one_operand))
         (λ found taken_is.
         operation_asked system setting set.known e set.not_alone i None (call_of (operands.chars_in found t.store)) at rs t m h
         (asked found (read-same setting.is_server setting.deck setting.program set.known t e.tail fine one_operand fit ∙ ap (option_map (λ x. operands.value_in x t.store)) taken_is))
-        (λ a given. subst (λ c. Does system setting.program e (budget (record t { answers = given })) c given (at + 1) rs (files.file_answered None a (record t { answers = given }))) (sym (same a))
+        (λ a given. subst (λ c. DoesFrom system setting.program e (record t { answers = given }) c (at + 1) rs (files.file_answered None a (record t { answers = given }))) (sym (same a))
         (file_answered at rs t m fine a given))))
 
     -- the message is moved
     receive_does : (into : Operand) → Own into → e.tail ≡ setting.message → length (code_at system e.program).storage ≡ length setting.program.layout.storage
         → (at : ℕ) (rs : List Return) (t : ProgramState) (m : Marks) → Ground setting.program t.store
-        → Does system setting.program e (budget t) (steps.receives system (code.place_in setting.program.layout into) (mach e at rs t m)) t.answers (at + 1) rs (files.receive setting into t)
+        → DoesFrom system setting.program e t (steps.receives system (code.place_in setting.program.layout into) (mach e at rs t m)) (at + 1) rs (files.receive setting into t)
     receive_does into fit told long at rs t m fine =
         taken_does system setting.program e spot_in (operands.operand_taken setting.program t into) _ (budget t) at rs t m (at + 1) rs
         (λ item d. on (with_storage (moves.move_text (drop (length (code_at system d.top.program).storage) d.top.storage) item d.top.storage) d)) (λ item. Goes (moving.move_text setting.message (spot_in item) t))
@@ -256,16 +256,16 @@ module _ (system : System) (setting : Setting) (e : Env) (set : IsSet system set
         })
 
     goes_on : (at : ℕ) (rs : List Return) (t : ProgramState) (m : Marks) (u : ProgramState) → Computed setting.program t u
-        → Does system setting.program e (budget t) (on (with_storage (joined u.store ++ e.tail) (mach e at rs t m))) t.answers (at + 1) rs (Goes u)
+        → DoesFrom system setting.program e t (on (with_storage (joined u.store ++ e.tail) (mach e at rs t m))) (at + 1) rs (Goes u)
     goes_on at rs t m u made =
-        subst (λ (w : ProgramState). Does system setting.program e (budget t) (on (with_storage (joined w.store ++ e.tail) (mach e at rs t m))) t.answers (at + 1) rs (Goes w)) (sym made.is)
+        subst (λ (w : ProgramState). DoesFrom system setting.program e t (on (with_storage (joined w.store ++ e.tail) (mach e at rs t m))) (at + 1) rs (Goes w)) (sym made.is)
         (record { marks = m; ground = made.ground; less = omega arith; leads = stays system (mach e (at + 1) rs (record t { store = made.store }) m) t.answers })
 
     -- the first branch, and the jump over the second
     first_does : {n : _} (k at : ℕ) (rs : List Return) (t : ProgramState) (m : Marks) (row : Row_of-Statement n)
-        → Does system setting.program e (budget t) (mach e (at + 1) rs t m) t.answers (at + 1 + row_size row) rs (branch_row setting perform call row t)
+        → DoesFrom system setting.program e t (mach e (at + 1) rs t m) (at + 1 + row_size row) rs (branch_row setting perform call row t)
         → slice_get instrs (at + 1 + row_size row) ≡ Some (instr.Jump k)
-        → Does system setting.program e (budget t) (mach e (at + 1) rs t m) t.answers (at + 1 + row_size row + 1 + k) rs (branch_row setting perform call row t)
+        → DoesFrom system setting.program e t (mach e (at + 1) rs t m) (at + 1 + row_size row + 1 + k) rs (branch_row setting perform call row t)
     first_does k at rs t m row done jump =
         let mid = at + 1 + row_size row in
         then_goes _ t.answers (budget t) (mid + 1 + k) rs (branch_row setting perform call row t)
@@ -274,13 +274,13 @@ module _ (system : System) (setting : Setting) (e : Env) (set : IsSet system set
 
     -- the second branch, behind arithmetic
     other_does : {n : _} (at k : ℕ) (rs : List Return) (t : ProgramState) (m : Marks) (u : ProgramState) → (made : Computed setting.program t u) → (row : Row_of-Statement n)
-        → Does system setting.program e (budget t) (mach e (at + 1 + k + 1) rs (record t { store = made.store }) m) t.answers (at + 1 + k + 1 + row_size row) rs (branch_row setting perform call row (record t { store = made.store }))
-        → Does system setting.program e (budget t) (over (k + 1) (with_storage (joined u.store ++ e.tail) (mach e at rs t m))) t.answers (at + 1 + k + 1 + row_size row) rs (branch_row setting perform call row u)
+        → DoesFrom system setting.program e t (mach e (at + 1 + k + 1) rs (record t { store = made.store }) m) (at + 1 + k + 1 + row_size row) rs (branch_row setting perform call row (record t { store = made.store }))
+        → DoesFrom system setting.program e t (over (k + 1) (with_storage (joined u.store ++ e.tail) (mach e at rs t m))) (at + 1 + k + 1 + row_size row) rs (branch_row setting perform call row u)
     other_does at k rs t m u made row done =
         let passed : at + 1 + k + 1 ≡ at + 1 + (k + 1) = omega arith in
         let w : ProgramState = record t { store = made.store } in
-        subst (λ (v : ProgramState). Does system setting.program e (budget t) (over (k + 1) (with_storage (joined v.store ++ e.tail) (mach e at rs t m))) t.answers (at + 1 + k + 1 + row_size row) rs (branch_row setting perform call row v)) (sym made.is)
-        (subst (λ j. Does system setting.program e (budget t) (mach e j rs w m) t.answers (at + 1 + k + 1 + row_size row) rs (branch_row setting perform call row w)) passed done)
+        subst (λ (v : ProgramState). DoesFrom system setting.program e t (over (k + 1) (with_storage (joined v.store ++ e.tail) (mach e at rs t m))) (at + 1 + k + 1 + row_size row) rs (branch_row setting perform call row v)) (sym made.is)
+        (subst (λ j. DoesFrom system setting.program e t (mach e j rs w m) (at + 1 + k + 1 + row_size row) rs (branch_row setting perform call row w)) passed done)
 
     -- DISPLAY is a statement, whatever it shows
     display-counts : (shown : Operand) → steps.act system (Some (display_of plan shown)) ≡ code_statement_counted (steps.does system (display_of plan shown))
@@ -330,12 +330,12 @@ module _ (system : System) (setting : Setting) (e : Env) (set : IsSet system set
           (begins system setting.program e at rs s m finish rs _ _ h.0 refl
           (λ t same.
           let fine = subst (Ground setting.program) (sym same) ground in
-          subst (λ o. Does system setting.program e (budget t) (with_taken o (steps.branch (row_size first + 1)) (mach e at rs t m)) t.answers finish rs (branch (conditions.holds setting.program t cond) (branch_row setting perform call first) (branch_row setting perform call second) t))
+          subst (λ o. DoesFrom system setting.program e t (with_taken o (steps.branch (row_size first + 1)) (mach e at rs t m)) finish rs (branch (conditions.holds setting.program t cond) (branch_row setting perform call first) (branch_row setting perform call second) t))
           (sym (holds-same setting.is_server setting.deck setting.program set.known t e.tail fine cond fit.0))
           (branch_does (conditions.holds setting.program t cond) (row_size first + 1) at finish rs t m (branch_row setting perform call first) (branch_row setting perform call second)
           (first_does (row_size second) at rs t m first (row_does first (at + 1) rs t m is fine fit.1 front) back.0)
           (let passed : at + 1 + (row_size first + 1) ≡ mid + 1 = omega arith in
-          subst (λ k. Does system setting.program e (budget t) (mach e k rs t m) t.answers finish rs (branch_row setting perform call second t)) (sym passed) (row_does second (mid + 1) rs t m is fine fit.2 back.1)))))
+          subst (λ k. DoesFrom system setting.program e t (mach e k rs t m) finish rs (branch_row setting perform call second t)) (sym passed) (row_does second (mid + 1) rs t m is fine fit.2 back.1)))))
       statement_does (form.Perform line name) fit at rs s m is ground h =
           begins system setting.program e at rs s m (at + 1) rs _ _ h.0 refl
           (λ t same. perform_does system setting set.known e plan is_plan perform d name (turn_of plan name) (stands name fit).end (full name) (inside name fit) at rs t m is (subst (Ground setting.program) (sym same) ground))
@@ -382,12 +382,12 @@ module _ (system : System) (setting : Setting) (e : Env) (set : IsSet system set
           (read-same setting.is_server setting.deck setting.program set.known t e.tail fine position fit.1)
           (λ found taken_is.
           let n = whole_part (number_of (operands.value_in found t.store)) in
-          subst (λ o. Does system setting.program e (budget t) (turning.chosen o (mach e at rs t m)) t.answers (at + 1) rs (performs.perform_chosen perform (performs.at_position names n) t)) (sym (position-same (turn_of plan) names n))
+          subst (λ o. DoesFrom system setting.program e t (turning.chosen o (mach e at rs t m)) (at + 1) rs (performs.perform_chosen perform (performs.at_position names n) t)) (sym (position-same (turn_of plan) names n))
           (chosen_does (performs.at_position names n) (λ name named. position-each Performed names n name fit.0 named) at rs t m is fine)))
       statement_does (form.DisplayBase line screen) fit at rs s m is ground h =
           begins system setting.program e at rs s m (at + 1) rs (instr.DisplayScreen (planned_screen plan screen) true) (screens.display_table true (screen_named setting.program screen)) h.0 refl
           (λ t same.
-          subst (λ o. Does system setting.program e (budget t) (steps.does system (instr.DisplayScreen (planned_screen plan screen) true) (mach e at rs t m)) t.answers (at + 1) rs (screens.display_table true o t)) (sym fit.is)
+          subst (λ o. DoesFrom system setting.program e t (steps.does system (instr.DisplayScreen (planned_screen plan screen) true) (mach e at rs t m)) (at + 1) rs (screens.display_table true o t)) (sym fit.is)
           (screen_does system setting set.known e true (planned_screen plan screen) fit.table at rs t m (subst (Ground setting.program) (sym same) ground) fit.of.coded fit.of.shown h.0))
       statement_does (form.Display line shown) fit at rs s m is ground h =
           begins system setting.program e at rs s m (at + 1) rs (display_of plan shown) (screens.display setting shown) h.0 (display-counts shown)
@@ -395,7 +395,7 @@ module _ (system : System) (setting : Setting) (e : Env) (set : IsSet system set
       statement_does (form.Accept line screen keys) fit at rs s m is ground h =
           begins system setting.program e at rs s m (at + 1) rs (instr.Accept (planned_screen plan screen) keys) (screens.accept setting screen keys) h.0 refl
           (λ t same.
-          subst (λ o. Does system setting.program e (budget t) (asks (mach e at rs t m)) t.answers (at + 1) rs (screens.accept_by o keys (planned_screen plan screen) t)) (sym fit.is)
+          subst (λ o. DoesFrom system setting.program e t (asks (mach e at rs t m)) (at + 1) rs (screens.accept_by o keys (planned_screen plan screen) t)) (sym fit.is)
           (accept_does system setting set.known e at rs (planned_screen plan screen) keys fit.table fit.of.coded fit.of.shown h.0 t m (subst (Ground setting.program) (sym same) ground)))
       statement_does (form.Call line called arguments) fit at rs s m is ground h =
           begins system setting.program e at rs s m (at + 1) rs (call_of plan called arguments) (performs.call_program setting call called arguments) h.0 refl
@@ -449,7 +449,7 @@ module _ (system : System) (setting : Setting) (e : Env) (set : IsSet system set
           (λ a. refl))
 
       row_does : {n : _} (row : Row_of-Statement n) (at : ℕ) (rs : List Return) (s : ProgramState) (m : Marks) → length rs + d ≡ turning.most_performs → Ground setting.program s.store → suits.RowSuits system setting row → HasAt instrs at (row_code plan row)
-          → Does system setting.program e (budget s) (mach e at rs s m) s.answers (at + row_size row) rs (branch_row setting perform call row s)
+          → DoesFrom system setting.program e s (mach e at rs s m) (at + row_size row) rs (branch_row setting perform call row s)
       row_does end_of-Statement at rs s m is ground fit h =
           let same : at ≡ at + 0 = omega arith in
           ends_at system setting.program e (budget s) _ s.answers at _ rs (Goes s) same (record { marks = m; ground = ground; less = omega arith; leads = stays system (mach e at rs s m) s.answers })
@@ -462,7 +462,7 @@ module _ (system : System) (setting : Setting) (e : Env) (set : IsSet system set
 
     -- the statements of a paragraph
     pub body_does : (ones : List Statement) (at : ℕ) (rs : List Return) (s : ProgramState) (m : Marks) → length rs + d ≡ turning.most_performs → Ground setting.program s.store → Each (suits.Suits system setting) ones → HasAt instrs at (body_code plan ones)
-        → Does system setting.program e (budget s) (mach e at rs s m) s.answers (at + body_size ones) rs (body setting perform call ones s)
+        → DoesFrom system setting.program e s (mach e at rs s m) (at + body_size ones) rs (body setting perform call ones s)
     body_does [] at rs s m is ground fit h =
         let same : at ≡ at + 0 = omega arith in
         ends_at system setting.program e (budget s) _ s.answers at _ rs (Goes s) same (record { marks = m; ground = ground; less = omega arith; leads = stays system (mach e at rs s m) s.answers })
