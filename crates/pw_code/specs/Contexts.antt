@@ -19,7 +19,6 @@ pub record HasSameCounts (a b : Context) : Type 0 where
 -- the two stand alike
 pub record StandsSame (a b : Context) : Type 0 where
   pub in_unit : a.in_unit ≡ b.in_unit
-  pub mode : a.mode ≡ b.mode
-  pub fault : a.fault ≡ b.fault
+  pub course : a.course ≡ b.course
   pub at_verb : a.at_verb ≡ b.at_verb
   pub count : a.count ≡ b.count

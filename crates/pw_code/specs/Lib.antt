@@ -1,4 +1,5 @@
 pub mod Contexts
+pub mod Courses
 pub mod Entry
 pub mod Fields
 pub mod Instrs

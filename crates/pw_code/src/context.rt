@@ -1,4 +1,5 @@
 ghost use Rattle.std.specs.Prelude.{◌≡◌, ◌↔◌, IfOk, IsTrue};
+ghost use Rattle.pw_code.specs.Courses.{is_advisory};
 
 use crate::copies::Duplicate;
 use crate::same::Same;
@@ -31,6 +32,17 @@ pub struct Frame {
     pub returns: List<Return>,
 }
 
+/// How programs at work go on.
+#[derive(Clone, Copy, Debug, PartialEq, Eq)]
+pub enum Course {
+    /// With the next instruction.
+    Instruction,
+    /// With an advisory, which is shown before the same entry is awaited again.
+    Advisory,
+    /// Not at all: they stand at a run fault of this code, or are to tell that of a server.
+    Fault(u16),
+}
+
 /// The programs of a terminal or of a server at work. It stands at an answer, from where it can run on, or
 /// at the verb that it asks next.
 #[derive(Debug, Drop)]
@@ -53,11 +65,8 @@ pub struct Context {
     pub units: u32,
     /// Whether a transaction is open.
     pub in_unit: bool,
-    /// 0; 1 where an advisory is to be shown, before the same entry is awaited again; 2 where a server's run
-    /// fault is to be told.
-    pub mode: u8,
-    /// The run fault that it stands at or that is to be told, and else 0.
-    pub fault: u16,
+    /// How it goes on.
+    pub course: Course,
     /// Whether it stands at its next verb.
     pub at_verb: bool,
     /// The statements and turns that were counted.
@@ -101,6 +110,15 @@ impl Same for Frame {
     }
 }
 
+impl Course {
+    /// Whether it is an advisory that is to be shown.
+    pub fn is_advisory(self) -> bool
+        ensures { result ≡ is_advisory self }
+    {
+        matches!(self, Course::Advisory)
+    }
+}
+
 impl Context {
     ghost use Rattle.pw_code.specs.Contexts.{HasSameRegisters, HasSameCounts, StandsSame};
 
@@ -120,8 +138,7 @@ impl Context {
             entries: self.entries,
             units: self.units,
             in_unit: self.in_unit,
-            mode: self.mode,
-            fault: self.fault,
+            course: self.course,
             at_verb: self.at_verb,
             count: self.count,
             screen,
@@ -161,8 +178,7 @@ impl Context {
         ensures { IsTrue result ↔ StandsSame self.now other.now }
     {
         self.in_unit == other.in_unit
-            && self.mode == other.mode
-            && self.fault == other.fault
+            && self.course == other.course
             && self.at_verb == other.at_verb
             && self.count == other.count
     }

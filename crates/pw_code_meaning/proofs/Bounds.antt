@@ -1,6 +1,6 @@
 -- Fewer steps than `most_steps` come before a verb, so the verb that follows answers is the one to which the code comes.
 use Rattle.std.proofs.Common.{◌≡◌, ◌⊎◌, inl, inr, ℕ, zero, suc, ◌+◌, ◌-◌, ◌*◌, ◌^◌, ◌<◌, ◌≤◌, Bool, true, false, List, [], ◌∷◌, length, get_or, Option, Some, None, refl, sym, ap, ◌∙◌, subst, arith}
-use Rattle.std.specs.Prelude.{All, ◌==◌, nat_lt, slice_get, if◌then◌else◌}
+use Rattle.std.specs.Prelude.{All, nat_lt, slice_get, if◌then◌else◌}
 use Rattle.std.proofs.Math.ListN.{get_or-eq_default}
 use Rattle.std.proofs.Math.Nat.{mul-le-mul_left, mul-le-mul_right}
 use Rattle.std.proofs.lemmas.Bool.{cases_lt}
@@ -9,6 +9,7 @@ use Rattle.std.proofs.lemmas.Nat.{mul-le}
 use Rattle.pw_terminal.specs.Entries.{check}
 use Rattle.pw_terminal.specs.declared.entries.EntryAnswer.{EntryAnswer}
 use Rattle.pw_terminal.specs.declared.entries.EntryAnswer.TheVariants.{Valid, BadKey, BadField}
+use Rattle.pw_code.proofs.CourseLemmas.{course-holds}
 use Rattle.pw_code.specs.Entry.{EntryLineModel}
 use Rattle.pw_code.specs.Instrs.{no_code, program_at, screen_at}
 use Rattle.pw_code.specs.Valid.{IsCode, IsValid}
@@ -26,7 +27,7 @@ use Rattle.pw_code.specs.declared.verb.Answer.{Answer}
 use Rattle.pw_code.specs.declared.verb.Answer.TheVariants as answer
 use Rattle.pw_code_meaning.specs.Answers.{answered, answered_by, begin_put, entry_checked, entry_put, file_put, put, read_put, code_after_reply, reply_put, reply_taken, shown, unit_ended, yielded}
 use Rattle.pw_code_meaning.specs.Calls.{most_calls}
-use Rattle.pw_code_meaning.specs.Config.{Config, code_at, code_of, has_fault, most_counted, starting, starting_server}
+use Rattle.pw_code_meaning.specs.Config.{Config, code_at, code_of, most_counted, starting, starting_server}
 use Rattle.pw_code_meaning.specs.Reading.{Spot}
 use Rattle.pw_code_meaning.specs.Runs.{Comes, Run, config_after_answers, at_verb, most_steps, run, runs}
 use Rattle.pw_code_meaning.specs.Steps.{step}
@@ -145,8 +146,8 @@ answered_kept system (Some (Reply from)) a c = same c _ refl refl
 
 put_kept : (system : System) (a : Answer) (c : Config) → Kept c (put system a c)
 put_kept system a c =
-    by_test c _ _ (has_fault c.rest) (same c c refl refl)
-    (by_test c _ _ (c.rest.mode == 1) (same c (shown c) refl refl) (answered_kept system (slice_get (code_of system c).instrs c.top.at) a c))
+    course-holds (Kept c) c.rest.course _ _ _ (answered_kept system (slice_get (code_of system c).instrs c.top.at) a c) (same c (shown c) refl refl)
+    (λ code. same c c refl refl)
 
 pub put_shallow : (system : System) (a : Answer) (c : Config) → Shallow c → Shallow (put system a c)
 put_shallow system a c s =

@@ -1,6 +1,7 @@
--- Steps leave the counts of a context, its file status and its mode.
+-- Steps leave the counts of a context and its file status.
 use Rattle.std.proofs.Common.{◌≡◌, ℕ, ◌+◌, ◌-◌, Bool, true, false, List, [], ◌∷◌, ◌++◌, length, Option, Some, None, refl}
 use Rattle.std.specs.Prelude.{map, nat_lt, ◌==◌, if◌then◌else◌}
+use Rattle.pw_code.proofs.CourseLemmas.{course-holds}
 use Rattle.pw_code.specs.declared.context.Context.{Context}
 use Rattle.pw_code.specs.declared.context.Frame.{Frame}
 use Rattle.pw_code.specs.declared.context.Return.{Return}
@@ -27,7 +28,6 @@ pub record Counts : Type 0 where
   pub shown : ℕ
   pub entries : ℕ
   pub file_status : ℕ
-  pub mode : ℕ
 
 abbrev pub counts_in : Context → Counts
 counts_in context = record {
@@ -39,7 +39,6 @@ counts_in context = record {
   shown = context.shown;
   entries = context.entries;
   file_status = context.file_status;
-  mode = context.mode;
 }
 
 -- they are the same
@@ -191,4 +190,4 @@ act_same system (Some (Rewrite file from)) c = ticked system (Rewrite file from)
 act_same system (Some (Delete file key)) c = ticked system (Delete file key) c
 
 pub step_same : (system : System) (c : Config) → counts_in (step system c).rest ≡ counts_in c.rest
-step_same system c = by_test c _ _ (c.rest.mode == 0) (act_same system (instr_of system c) c) refl
+step_same system c = course-holds (Same c) c.rest.course _ _ _ (act_same system (instr_of system c) c) refl (λ code. refl)

@@ -1,11 +1,13 @@
 -- A context counts what its path counts.
-use Rattle.std.proofs.Common.{◌≡◌, ◌≢◌, ℕ, zero, suc, ◌+◌, ◌*◌, ◌≤◌, ◌<◌, Bool, true, false, not, ◌||◌, is_some, is_none, List, [], ◌∷◌, ◌++◌, length, Option, Some, None, refl, sym, ap, ◌∙◌, subst, append-nil, append_assoc, arith}
-use Rattle.std.specs.Prelude.{map, slice_get, ◌==◌, if◌then◌else◌}
-use Rattle.std.proofs.lemmas.Bool.{eqb-true, eqb-false}
+use Rattle.std.proofs.Common.{◌≡◌, ℕ, zero, suc, ◌+◌, ◌*◌, ◌<◌, Bool, true, false, not, is_some, is_none, List, [], ◌∷◌, ◌++◌, length, Option, Some, None, refl, sym, ap, ◌∙◌, subst, append-nil, append_assoc, arith}
+use Rattle.std.specs.Prelude.{map, slice_get, if◌then◌else◌}
 use Rattle.pw_tree_meaning.proofs.Terminals.{standing_from-append}
 use Rattle.pw_terminal.specs.Entries.{check}
 use Rattle.pw_terminal.specs.declared.entries.EntryAnswer.{EntryAnswer}
 use Rattle.pw_terminal.specs.declared.entries.EntryAnswer.TheVariants.{Valid, BadKey, BadField}
+use Rattle.pw_code.specs.Courses.{by_course, is_run_fault}
+use Rattle.pw_code.specs.declared.context.Course.{Course}
+use Rattle.pw_code.specs.declared.context.Course.TheVariants as course
 use Rattle.pw_code.specs.Entry.{EntryLineModel}
 use Rattle.pw_code.specs.Instrs.{screen_at}
 use Rattle.pw_code.specs.Valid.{IsValid}
@@ -21,7 +23,7 @@ use Rattle.pw_code.specs.declared.verb.Verb.{Verb}
 use Rattle.pw_code.specs.declared.verb.Verb.TheVariants as verb
 use Rattle.pw_event.specs.declared.script.FailLine.{FailLine}
 use Rattle.pw_code_meaning.specs.Answers.{answered, answered_by, entry_checked, put, reply_taken, code_after_reply, shown, unit_begun, unit_ended, yielded, place_among, spot_among}
-use Rattle.pw_code_meaning.specs.Config.{Config, closed, has_fault, starting}
+use Rattle.pw_code_meaning.specs.Config.{Config, closed, starting}
 use Rattle.pw_code_meaning.specs.Counts.{CountsOf}
 use Rattle.pw_code_meaning.specs.OfSystem.{asked_of, behaviour, entry_at, told}
 use Rattle.pw_code_meaning.specs.Reading.{Spot}
@@ -101,7 +103,6 @@ pub record HasCounts (at : Standing) (entries restarts : ℕ) (k : Counts) : Typ
   pub entries_are : k.entries ≡ entries
   pub restarts_are : k.restarts ≡ restarts
   pub status : k.file_status ≡ 0
-  pub mode : k.mode ≤ 2
 
 abbrev pub HasCountsOf : List PathAnswer → Context → Type 0
 HasCountsOf p context = HasCounts (standing p) (entries_on p) (begun_from 0 p) (counts_in context)
@@ -111,19 +112,23 @@ abbrev pub is_failed : PathAnswer → Bool
 is_failed (Failed code) = true
 is_failed _ = false
 
+-- no run fault stands
+abbrev pub Calm : Context → Type 0
+Calm rest = is_run_fault rest.course ≡ false
+
 -- a context behind an answer
 pub record IsBehind (at : Standing) (entries restarts : ℕ) (a : PathAnswer) (rest : Context) : Type 0 where
   pub counts : HasCounts (standing_after_answer at a) (entries_after entries a) (begun_after restarts a) (counts_in rest)
   pub at_answer : rest.at_verb ≡ false
   pub count : rest.count ≡ 0
-  pub calm : is_failed a ≡ false → (rest.fault ≡ 0) × (rest.mode ≤ 1)
+  pub calm : is_failed a ≡ false → Calm rest
 
 module _ (at : Standing) (entries restarts : ℕ) where
   abbrev Old : Context → Type 0
   Old rest = HasCounts at entries restarts (counts_in rest)
 
-  shows : (c : Config) → Old c.rest → c.rest.fault ≡ 0 → IsBehind at entries restarts Shown (shown c).rest
-  shows c h calm = record {
+  shows : (c : Config) → Old c.rest → IsBehind at entries restarts Shown (shown c).rest
+  shows c h = record {
     counts = record {
       units = h.units;
       in_unit = h.in_unit;
@@ -133,17 +138,16 @@ module _ (at : Standing) (entries restarts : ℕ) where
       entries_are = h.entries_are;
       restarts_are = h.restarts_are;
       status = h.status;
-      mode = omega arith;
     };
     at_answer = refl;
     count = refl;
-    calm = λ _. (calm, omega arith);
+    calm = λ _. refl;
   }
 
   -- an entry is counted, be it right or wrong
-  entered : (k : ℕ) (rest new : Context) → Old rest → counts_in new ≡ record (counts_in rest) { entries = rest.entries + 1; mode = new.mode } → new.at_verb ≡ false
-      → new.count ≡ 0 → new.fault ≡ 0 → new.mode ≤ 1 → IsBehind at entries restarts (path.Entry k) new
-  entered k rest new h is stands count fault mode = record {
+  entered : (k : ℕ) (rest new : Context) → Old rest → counts_in new ≡ record (counts_in rest) { entries = rest.entries + 1 } → new.at_verb ≡ false
+      → new.count ≡ 0 → Calm new → IsBehind at entries restarts (path.Entry k) new
+  entered k rest new h is stands count calm = record {
     counts = rw is (record {
       units = h.units;
       in_unit = h.in_unit;
@@ -153,21 +157,20 @@ module _ (at : Standing) (entries restarts : ℕ) where
       entries_are = ap (λ n. n + 1) h.entries_are;
       restarts_are = h.restarts_are;
       status = h.status;
-      mode = omega (arith, mode);
     });
     at_answer = stands;
     count = count;
-    calm = λ _. (fault, mode);
+    calm = λ _. calm;
   }
 
-  checks : (k : ℕ) (table : ScreenTable) (line : EntryLineModel) (found : EntryAnswer) (c : Config) → Old c.rest → c.rest.fault ≡ 0 → c.rest.mode ≤ 1
+  checks : (k : ℕ) (table : ScreenTable) (line : EntryLineModel) (found : EntryAnswer) (c : Config) → Old c.rest → Calm c.rest
       → IsBehind at entries restarts (path.Entry k) (entry_checked table line found c).rest
-  checks k table line (Valid place) c h calm mode = entered k c.rest _ h refl refl refl calm mode
-  checks k table line BadKey c h calm mode = entered k c.rest _ h refl refl refl calm (omega arith)
-  checks k table line (BadField place) c h calm mode = entered k c.rest _ h refl refl refl calm (omega arith)
+  checks k table line (Valid place) c h calm = entered k c.rest _ h refl refl refl calm
+  checks k table line BadKey c h calm = entered k c.rest _ h refl refl refl refl
+  checks k table line (BadField place) c h calm = entered k c.rest _ h refl refl refl refl
 
-  begins : (r : ℕ) (rest : Context) → Old rest → rest.fault ≡ 0 → rest.mode ≤ 1 → IsBehind at entries restarts (Begun r) (unit_begun r rest)
-  begins r rest h calm mode = record {
+  begins : (r : ℕ) (rest : Context) → Old rest → Calm rest → IsBehind at entries restarts (Begun r) (unit_begun r rest)
+  begins r rest h calm = record {
     counts = record {
       units = h.units;
       in_unit = refl;
@@ -177,11 +180,10 @@ module _ (at : Standing) (entries restarts : ℕ) where
       entries_are = h.entries_are;
       restarts_are = refl;
       status = h.status;
-      mode = h.mode;
     };
     at_answer = refl;
     count = refl;
-    calm = λ _. (calm, mode);
+    calm = λ _. calm;
   }
 
   -- the counts behind the end of a unit
@@ -195,14 +197,13 @@ module _ (at : Standing) (entries restarts : ℕ) where
     entries_are = h.entries_are;
     restarts_are = h.restarts_are;
     status = h.status;
-    mode = h.mode;
   }
 
-  ends : (rest : Context) → Old rest → rest.fault ≡ 0 → rest.mode ≤ 1 → IsBehind at entries restarts Ended (unit_ended rest)
-  ends rest h calm mode = record { counts = over rest h; at_answer = refl; count = refl; calm = λ _. (calm, mode) }
+  ends : (rest : Context) → Old rest → Calm rest → IsBehind at entries restarts Ended (unit_ended rest)
+  ends rest h calm = record { counts = over rest h; at_answer = refl; count = refl; calm = λ _. calm }
 
-  drops : (rest : Context) → Old rest → rest.fault ≡ 0 → rest.mode ≤ 1 → IsBehind at entries restarts Dropped (unit_ended rest)
-  drops rest h calm mode = record { counts = over rest h; at_answer = refl; count = refl; calm = λ _. (calm, mode) }
+  drops : (rest : Context) → Old rest → Calm rest → IsBehind at entries restarts Dropped (unit_ended rest)
+  drops rest h calm = record { counts = over rest h; at_answer = refl; count = refl; calm = λ _. calm }
 
   -- a reply ends a unit outside a transaction
   reply-counts : (rest : Context) (b : Bool) (w : Option ℕ) → rest.in_unit ≡ b → at.within ≡ w → Old rest
@@ -212,22 +213,22 @@ module _ (at : Standing) (entries restarts : ℕ) where
   reply-counts rest true None in_it within h = absurd (cc (sym in_it ∙ h.in_unit ∙ ap is_some within))
   reply-counts rest false (Some r) in_it within h = absurd (cc (sym in_it ∙ h.in_unit ∙ ap is_some within))
 
-  reply-calm : (rest : Context) (b : Bool) → rest.fault ≡ 0 → rest.mode ≤ 1
+  reply-calm : (rest : Context) (b : Bool) → Calm rest
       → ((if b then answered rest else unit_ended rest).at_verb ≡ false) × ((if b then answered rest else unit_ended rest).count ≡ 0)
-      × ((if b then answered rest else unit_ended rest).fault ≡ 0) × ((if b then answered rest else unit_ended rest).mode ≤ 1)
-  reply-calm rest true calm mode = (refl, refl, calm, mode)
-  reply-calm rest false calm mode = (refl, refl, calm, mode)
+      × Calm (if b then answered rest else unit_ended rest)
+  reply-calm rest true calm = (refl, refl, calm)
+  reply-calm rest false calm = (refl, refl, calm)
 
-  replies : (o : Option (ℕ × Spot)) (reply : List ℕ) (c : Config) → Old c.rest → c.rest.fault ≡ 0 → c.rest.mode ≤ 1
+  replies : (o : Option (ℕ × Spot)) (reply : List ℕ) (c : Config) → Old c.rest → Calm c.rest
       → IsBehind at entries restarts (Replied reply) (yielded o reply c).rest
-  replies None reply c h calm mode =
-      let out = reply-calm c.rest c.rest.in_unit calm mode in
-      record { counts = reply-counts c.rest c.rest.in_unit at.within refl refl h; at_answer = out.0; count = out.1; calm = λ _. (out.2, out.3) }
-  replies (Some found) reply c h calm mode =
-      let out = reply-calm c.rest c.rest.in_unit calm mode in
-      record { counts = reply-counts c.rest c.rest.in_unit at.within refl refl h; at_answer = out.0; count = out.1; calm = λ _. (out.2, out.3) }
+  replies None reply c h calm =
+      let out = reply-calm c.rest c.rest.in_unit calm in
+      record { counts = reply-counts c.rest c.rest.in_unit at.within refl refl h; at_answer = out.0; count = out.1; calm = λ _. out.2 }
+  replies (Some found) reply c h calm =
+      let out = reply-calm c.rest c.rest.in_unit calm in
+      record { counts = reply-counts c.rest c.rest.in_unit at.within refl refl h; at_answer = out.0; count = out.1; calm = λ _. out.2 }
 
-  fails : (code : ℕ) (c : Config) → Old c.rest → IsBehind at entries restarts (Failed code) (record (answered c.rest) { fault = code; mode = 2 })
+  fails : (code : ℕ) (c : Config) → Old c.rest → IsBehind at entries restarts (Failed code) (record (answered c.rest) { course = course.Fault code })
   fails code c h = record {
     counts = record {
       units = h.units;
@@ -238,18 +239,11 @@ module _ (at : Standing) (entries restarts : ℕ) where
       entries_are = h.entries_are;
       restarts_are = h.restarts_are;
       status = h.status;
-      mode = omega arith;
     };
     at_answer = refl;
     count = refl;
     calm = λ plain. absurd (cc plain);
   }
-
--- what stands at a verb has no fault where an answer suits it
-calm-of : (x y : Bool) → (not x || y) ≡ false → (x ≡ true) × (y ≡ false)
-calm-of true false e = (refl, refl)
-calm-of true true e = absurd (cc e)
-calm-of false y e = absurd (cc e)
 
 module _ (system : System) (script : List FailLine) (t : ℕ) (lines : List EntryLineModel) (before : List PathAnswer) (c : Config)
     (h : HasCountsOf before c.rest) where
@@ -259,66 +253,62 @@ module _ (system : System) (script : List FailLine) (t : ℕ) (lines : List Entr
   abbrev Answers : Verb → PathAnswer → Type 0
   Answers v a = Suits (behaviour script system) t before v a
 
-  by-instr : (o : Option Instr) (a : PathAnswer) → Answers (asked_by o c) a → c.rest.fault ≡ 0 → c.rest.mode ≤ 1 → Behind a (answered_by system o (told lines a) c)
-  by-instr (Some (DisplayScreen screen base)) Shown suits calm mode = shows _ _ _ c h calm
-  by-instr (Some (DisplayScreen screen base)) a suits calm mode = absurd suits
-  by-instr (Some (Display one)) Shown suits calm mode = shows _ _ _ c h calm
-  by-instr (Some (Display one)) a suits calm mode = absurd suits
-  by-instr (Some (Accept screen keys)) (path.Entry k) suits calm mode =
-      checks _ _ _ k (screen_at system screen) (entry_at lines k) (check (screen_at system screen) keys (entry_at lines k)) c h calm mode
-  by-instr (Some (Accept screen keys)) a suits calm mode = absurd suits
-  by-instr (Some (Send class message codes)) (Replied reply) suits calm mode = replies _ _ _ _ reply c h calm mode
-  by-instr (Some (Send class message codes)) (Failed code) suits calm mode = fails _ _ _ code c h
-  by-instr (Some (Send class message codes)) a suits calm mode = absurd suits
-  by-instr (Some Begin) (Begun r) suits calm mode = begins _ _ _ r c.rest h calm mode
-  by-instr (Some Begin) a suits calm mode = absurd suits
-  by-instr (Some End) Ended suits calm mode = ends _ _ _ c.rest h calm mode
-  by-instr (Some End) a suits calm mode = absurd suits
-  by-instr (Some Abort) Dropped suits calm mode = drops _ _ _ c.rest h calm mode
-  by-instr (Some Abort) a suits calm mode = absurd suits
-  by-instr (Some Restart) a suits calm mode = absurd suits
-  by-instr (Some (Reply from)) a suits calm mode = absurd suits
-  by-instr (Some (Read file locking key into)) a suits calm mode = absurd suits
-  by-instr (Some (ReadNext file locking after into)) a suits calm mode = absurd suits
-  by-instr (Some (Write file from)) a suits calm mode = absurd suits
-  by-instr (Some (Rewrite file from)) a suits calm mode = absurd suits
-  by-instr (Some (Delete file key)) a suits calm mode = absurd suits
-  by-instr (Some (Jump n)) a suits calm mode = absurd suits
-  by-instr (Some (JumpUnless cond n)) a suits calm mode = absurd suits
-  by-instr (Some (ParagraphEnd start)) a suits calm mode = absurd suits
-  by-instr (Some (Move from to)) a suits calm mode = absurd suits
-  by-instr (Some (Compute one)) a suits calm mode = absurd suits
-  by-instr (Some (OnSizeError one n)) a suits calm mode = absurd suits
-  by-instr (Some (Perform paragraph)) a suits calm mode = absurd suits
-  by-instr (Some (PerformTimes paragraph times)) a suits calm mode = absurd suits
-  by-instr (Some (Until paragraph cond)) a suits calm mode = absurd suits
-  by-instr (Some (PerformOneOf paragraphs position)) a suits calm mode = absurd suits
-  by-instr (Some Exit) a suits calm mode = absurd suits
-  by-instr (Some ExitProgram) a suits calm mode = absurd suits
-  by-instr (Some StopRun) a suits calm mode = absurd suits
-  by-instr (Some (Call program arguments keeps)) a suits calm mode = absurd suits
-  by-instr (Some NoCode) a suits calm mode = absurd suits
-  by-instr (Some (Receive into)) a suits calm mode = absurd suits
-  by-instr None a suits calm mode = absurd suits
+  by-instr : (o : Option Instr) (a : PathAnswer) → Answers (asked_by o c) a → Calm c.rest → Behind a (answered_by system o (told lines a) c)
+  by-instr (Some (DisplayScreen screen base)) Shown suits calm = shows _ _ _ c h
+  by-instr (Some (DisplayScreen screen base)) a suits calm = absurd suits
+  by-instr (Some (Display one)) Shown suits calm = shows _ _ _ c h
+  by-instr (Some (Display one)) a suits calm = absurd suits
+  by-instr (Some (Accept screen keys)) (path.Entry k) suits calm =
+      checks _ _ _ k (screen_at system screen) (entry_at lines k) (check (screen_at system screen) keys (entry_at lines k)) c h calm
+  by-instr (Some (Accept screen keys)) a suits calm = absurd suits
+  by-instr (Some (Send class message codes)) (Replied reply) suits calm = replies _ _ _ _ reply c h calm
+  by-instr (Some (Send class message codes)) (Failed code) suits calm = fails _ _ _ code c h
+  by-instr (Some (Send class message codes)) a suits calm = absurd suits
+  by-instr (Some Begin) (Begun r) suits calm = begins _ _ _ r c.rest h calm
+  by-instr (Some Begin) a suits calm = absurd suits
+  by-instr (Some End) Ended suits calm = ends _ _ _ c.rest h calm
+  by-instr (Some End) a suits calm = absurd suits
+  by-instr (Some Abort) Dropped suits calm = drops _ _ _ c.rest h calm
+  by-instr (Some Abort) a suits calm = absurd suits
+  by-instr (Some Restart) a suits calm = absurd suits
+  by-instr (Some (Reply from)) a suits calm = absurd suits
+  by-instr (Some (Read file locking key into)) a suits calm = absurd suits
+  by-instr (Some (ReadNext file locking after into)) a suits calm = absurd suits
+  by-instr (Some (Write file from)) a suits calm = absurd suits
+  by-instr (Some (Rewrite file from)) a suits calm = absurd suits
+  by-instr (Some (Delete file key)) a suits calm = absurd suits
+  by-instr (Some (Jump n)) a suits calm = absurd suits
+  by-instr (Some (JumpUnless cond n)) a suits calm = absurd suits
+  by-instr (Some (ParagraphEnd start)) a suits calm = absurd suits
+  by-instr (Some (Move from to)) a suits calm = absurd suits
+  by-instr (Some (Compute one)) a suits calm = absurd suits
+  by-instr (Some (OnSizeError one n)) a suits calm = absurd suits
+  by-instr (Some (Perform paragraph)) a suits calm = absurd suits
+  by-instr (Some (PerformTimes paragraph times)) a suits calm = absurd suits
+  by-instr (Some (Until paragraph cond)) a suits calm = absurd suits
+  by-instr (Some (PerformOneOf paragraphs position)) a suits calm = absurd suits
+  by-instr (Some Exit) a suits calm = absurd suits
+  by-instr (Some ExitProgram) a suits calm = absurd suits
+  by-instr (Some StopRun) a suits calm = absurd suits
+  by-instr (Some (Call program arguments keeps)) a suits calm = absurd suits
+  by-instr (Some NoCode) a suits calm = absurd suits
+  by-instr (Some (Receive into)) a suits calm = absurd suits
+  by-instr None a suits calm = absurd suits
 
-  by-shown : (a : PathAnswer) → Answers verb.Show a → c.rest.fault ≡ 0 → Behind a (shown c)
-  by-shown Shown suits calm = shows _ _ _ c h calm
-  by-shown a suits calm = absurd suits
+  by-shown : (a : PathAnswer) → Answers verb.Show a → Behind a (shown c)
+  by-shown Shown suits = shows _ _ _ c h
+  by-shown a suits = absurd suits
 
-  by-mode : (f m : Bool) (a : PathAnswer) → has_fault c.rest ≡ f
-      → Answers (if f then verb.Fault c.rest.fault else if m then verb.Show else asked_by (instr_of system c) c) a
-      → Behind a (if f then c else if m then shown c else answered_by system (instr_of system c) (told lines a) c)
-  by-mode true m a is suits = absurd suits
-  by-mode false true a is suits = by-shown a suits (eqb-true c.rest.fault 0 (calm-of (c.rest.fault == 0) (c.rest.mode == 2) is).0)
-  by-mode false false a is suits =
-      let calm = calm-of (c.rest.fault == 0) (c.rest.mode == 2) is in
-      let other : c.rest.mode ≢ 2 = eqb-false c.rest.mode 2 calm.1 in
-      let low : c.rest.mode ≤ 2 = h.mode in
-      by-instr (instr_of system c) a suits (eqb-true c.rest.fault 0 calm.0) (omega (arith, other, low))
+  by-way : (way : Course) (a : PathAnswer) → c.rest.course ≡ way
+      → Answers (by_course way (asked_by (instr_of system c) c) verb.Show verb.Fault) a
+      → Behind a (by_course way (answered_by system (instr_of system c) (told lines a) c) (shown c) (λ code. c))
+  by-way (course.Fault code) a is suits = absurd suits
+  by-way course.Advisory a is suits = by-shown a suits
+  by-way course.Instruction a is suits = by-instr (instr_of system c) a suits (ap is_run_fault is)
 
   -- an answer that suits its verb is put in
   pub put-behind : (a : PathAnswer) → Answers (verb_of system c) a → Behind a (put system (told lines a) c)
-  put-behind a suits = by-mode (has_fault c.rest) (c.rest.mode == 1) a refl suits
+  put-behind a suits = by-way c.rest.course a refl suits
 
 -- ---- along a path
 
@@ -384,7 +374,6 @@ module _ (system : System) (script : List FailLine) (t : ℕ) (terminal : TermIn
       entries_are = refl;
       restarts_are = refl;
       status = refl;
-      mode = omega arith;
     };
     shallow = start_shallow system terminal.program;
   }

@@ -6,6 +6,7 @@ use Rattle.std.proofs.Math.ListN.{get_or-append}
 use Rattle.std.proofs.Math.Seq.{get_or-append_seam}
 use Rattle.std.proofs.lemmas.List.Elements.{All-append, All-cons, All-nil}
 use Rattle.std.proofs.lemmas.Option.{slice_get_within, same_Some}
+use Rattle.pw_code.proofs.CourseLemmas.{course-holds}
 use Rattle.pw_code.specs.declared.cond.Cond.{Cond}
 use Rattle.pw_code.specs.declared.context.Context.{Context}
 use Rattle.pw_code.specs.declared.context.Frame.{Frame}
@@ -376,12 +377,10 @@ act_progress system (Rewrite file from) c lt = ticked system (does system (Rewri
 act_progress system (Delete file key) c lt = ticked system (does system (Delete file key)) c (does_grows system (Delete file key) (more c))
 
 pub step_progress : (system : System) (c : Config) → Progress system c (step system c)
-step_progress system c = by_mode (c.rest.mode == 0)
+step_progress system c =
+    course-holds (Progress system c) c.rest.course _ _ _ (by_instr (instr_of system c) refl) (asking system c (asks c) refl refl refl refl)
+    (λ code. asking system c (asks c) refl refl refl refl)
   where
     by_instr : (o : Option Instr) → instr_of system c ≡ o → Progress system c (act system o c)
     by_instr None e = left system (split_last c.rest.frames) c refl
     by_instr (Some i) e = act_progress system i c (slice_get_within (code_of system c).instrs c.top.at i e)
-
-    by_mode : (b : Bool) → Progress system c (if b then act system (instr_of system c) c else asks c)
-    by_mode true = by_instr (instr_of system c) refl
-    by_mode false = asking system c (asks c) refl refl refl refl

@@ -1,6 +1,6 @@
 -- The programs at work of a terminal are sound, and their storages keep their sizes.
 use Rattle.std.proofs.Common.{◌≡◌, ℕ, zero, suc, ◌+◌, ◌-◌, ◌≤◌, ◌<◌, Bool, true, false, List, [], ◌∷◌, ◌++◌, length, length-append, Option, Some, None, refl, sym, ap, ◌∙◌, subst, arith}
-use Rattle.std.specs.Prelude.{All, option_and_then, option_map, map, slice_get, slice_index_or, nat_lt, ◌==◌, if◌then◌else◌}
+use Rattle.std.specs.Prelude.{All, option_and_then, option_map, map, slice_get, slice_index_or, nat_lt, if◌then◌else◌}
 use Rattle.std.proofs.lemmas.Bool.{lt-ltb, ltb-true}
 use Rattle.std.proofs.lemmas.Option.{get_or_from_slice_get, slice_get_within}
 use Rattle.std.proofs.lemmas.List.Elements.{All-cons, All-nil}
@@ -11,6 +11,7 @@ use Rattle.pw_terminal.specs.Entries.{check}
 use Rattle.pw_terminal.specs.declared.entries.EntryAnswer.{EntryAnswer}
 use Rattle.pw_terminal.specs.declared.entries.EntryAnswer.TheVariants.{Valid, BadKey, BadField}
 use Rattle.pw_terminal.proofs.Cells.{length-digits_of}
+use Rattle.pw_code.proofs.CourseLemmas.{course-holds}
 use Rattle.pw_code.specs.Entry.{EntryLineModel}
 use Rattle.pw_code.specs.Fields.{IsField}
 use Rattle.pw_code.specs.Instrs.{AreInstrs, IsProgramCall, IsInstr, IsReplyCode, no_code, program_at, screen_at}
@@ -30,7 +31,7 @@ use Rattle.pw_code.specs.declared.verb.Answer.TheVariants as answer
 use Rattle.pw_tree_meaning.specs.Values.{Text'}
 use Rattle.pw_code_meaning.specs.Answers.{answered, answered_by, begin_put, entry_checked, entry_put, place_among, put, reply_put, shown, spot_among, unit_ended, yielded}
 use Rattle.pw_code_meaning.specs.Calls.{active, called_frame, calls, copied_back, kept, leaves_by, linkage_chars, most_active, most_calls, registers_at_call, returned, stops, storage_behind}
-use Rattle.pw_code_meaning.specs.Config.{Config, closed, code_at, code_of, code_statement_counted, faults, has_fault, most_counted, on, starting, with_taken}
+use Rattle.pw_code_meaning.specs.Config.{Config, asks, closed, code_at, code_of, code_statement_counted, faults, most_counted, on, starting, with_taken}
 use Rattle.pw_code_meaning.specs.Reading.{Registers, Spot, registers_of, spot_of, spots_of}
 use Rattle.pw_code_meaning.specs.Runs.{Run, StandsFor, at_verb, runs}
 use Rattle.pw_code_meaning.specs.Sound.{AreWaiting, IsSound, IsSoundContext, Waits, kept_size}
@@ -38,7 +39,7 @@ use Rattle.pw_code_meaning.specs.Steps.{act, does, holds_here, instr_of, spots_h
 use Rattle.pw_code_meaning.specs.Turns.{split_last}
 use Rattle.pw_code_meaning.proofs.Progress.{seam}
 use Rattle.pw_code_meaning.proofs.Written.{AreSpots, Sits, called-size, copied-back-size, entered-size, move-size, spot-is, spots-are}
-use Rattle.pw_code_meaning.proofs.Plain.{Plain, by_test, does_plain, ends_plain, is_inner, more, same, stops_plain, test_plain}
+use Rattle.pw_code_meaning.proofs.Plain.{Plain, does_plain, ends_plain, is_inner, more, same, stops_plain, test_plain}
 
 -- ---- the programs at work
 
@@ -272,11 +273,9 @@ module _ (system : System) (valid : IsValid system) where
       act-sized i found.0 c at found.1 s
 
   pub step-sized : (c : Config) → Sized system c → Sized system (step system c)
-  step-sized c s = by (c.rest.mode == 0)
-    where
-      by : (b : Bool) → Sized system (if b then act system (instr_of system c) c else record c { rest = record c.rest { at_verb = true } })
-      by true = by-instr (instr_of system c) c refl s
-      by false = plain-sized system c _ (same c _ refl refl refl) s
+  step-sized c s =
+      let asked = plain-sized system c (asks c) (same c _ refl refl refl) s in
+      course-holds (Sized system) c.rest.course _ _ _ (by-instr (instr_of system c) c refl s) asked (λ code. asked)
 
   -- ---- answers
 
@@ -391,7 +390,7 @@ module _ (system : System) (valid : IsValid system) where
   pub put-sized : (a : Answer) (c : Config) → Sized system c → Sized system (put system a c)
   put-sized a c s =
       plain-sized system c (put system a c)
-      (by_test c _ _ (has_fault c.rest) (same c c refl refl refl) (by_test c _ _ (c.rest.mode == 1) (same c (shown c) refl refl refl) (put-by c (instr_of system c) a refl s))) s
+      (course-holds (Plain c) c.rest.course _ _ _ (put-by c (instr_of system c) a refl s) (same c (shown c) refl refl refl) (λ code. same c c refl refl refl)) s
 
   -- ---- runs
 

@@ -9,6 +9,7 @@ use Rattle.pw_number.specs.declared.size_error.SizeError.{SizeError}
 use Rattle.pw_picture.specs.Stored.{is_kept, moved}
 use Rattle.pw_picture.specs.declared.picture.Picture.{Picture}
 use Rattle.pw_terminal.specs.Shown.{written}
+use Rattle.pw_code.proofs.CourseLemmas.{course-holds}
 use Rattle.pw_code.specs.Instrs.{AreInstrs, IsInstr, is_for, no_code, program_at}
 use Rattle.pw_code.specs.Valid.{IsCode, IsValid}
 use Rattle.pw_code.specs.declared.code.Code.{Code}
@@ -27,7 +28,7 @@ use Rattle.pw_code.specs.declared.verb.Answer.TheVariants as answer
 use Rattle.pw_tree_meaning.specs.Values.{Text', Value, number_of, whole_part}
 use Rattle.pw_code_meaning.specs.Answers.{answered_by, file_done, file_put, moved_into, put, read_put, shown}
 use Rattle.pw_code_meaning.specs.Calls.{leaves_by, stops}
-use Rattle.pw_code_meaning.specs.Config.{Config, closed, code_at, code_of, code_statement_counted, faults, has_fault, is_server, most_counted, on, over, starting_server, with_storage, with_taken}
+use Rattle.pw_code_meaning.specs.Config.{Config, closed, code_at, code_of, code_statement_counted, faults, is_server, most_counted, on, over, starting_server, with_storage, with_taken}
 use Rattle.pw_code_meaning.specs.Moves.{computed, move_value, moved_chars, moves, operands_of, operated, receiver_decimals, result_of, stored_by, stored_in}
 use Rattle.pw_code_meaning.specs.Reading.{Spot, ResolvedOperand, put_at, registers_of, spot_of, value_in}
 use Rattle.pw_code_meaning.specs.Runs.{Comes, Run, StandsForFiles, at_verb, runs}
@@ -324,7 +325,7 @@ module _ (system : System) (valid : IsValid system) (server : ℕ) (known : serv
   by-instr (Some i) c s at = act-grows i c s (instr-is c i s at)
 
   step-serves : (c : Config) → Serves c → Serves (step system c)
-  step-serves c s = grown c (step system c) (by_test c _ _ (c.rest.mode == 0) (by-instr (instr_of system c) c s refl) (same c _ refl refl refl)) s
+  step-serves c s = grown c (step system c) (course-holds (Grows c) c.rest.course _ _ _ (by-instr (instr_of system c) c s refl) (same c _ refl refl refl) (λ code. same c _ refl refl refl)) s
 
   put-by : (o : Option Instr) (a : Answer) (c : Config) → Serves c → instr_of system c ≡ o → Grows c (answered_by system o a c)
   put-by None a c s at = same c _ refl refl refl
@@ -333,7 +334,7 @@ module _ (system : System) (valid : IsValid system) (server : ℕ) (known : serv
   put-serves : (a : Answer) (c : Config) → Serves c → Serves (put system a c)
   put-serves a c s =
       grown c (put system a c)
-      (by_test c _ _ (has_fault c.rest) (same c c refl refl refl) (by_test c _ _ (c.rest.mode == 1) (same c (shown c) refl refl refl) (put-by (instr_of system c) a c s refl))) s
+      (course-holds (Grows c) c.rest.course _ _ _ (put-by (instr_of system c) a c s refl) (same c (shown c) refl refl refl) (λ code. same c c refl refl refl)) s
 
   start-serves : (message : List ℕ) → Serves (starting_server system server message)
   start-serves message = record {

@@ -6,7 +6,9 @@ use Rattle.pw_terminal.specs.declared.entries.EntryAnswer.{EntryAnswer}
 use Rattle.pw_terminal.specs.declared.entries.EntryAnswer.TheVariants.{Valid}
 use Rattle.pw_code.specs.Entry.{EntryLineModel}
 use Rattle.pw_code.specs.Instrs.{screen_at}
+use Rattle.pw_code.specs.Courses.{by_course}
 use Rattle.pw_code.specs.declared.context.Context.{Context}
+use Rattle.pw_code.specs.declared.context.Course.TheVariants.{Instruction, Advisory, Fault}
 use Rattle.pw_code.specs.declared.field.ScreenTable.{ScreenTable}
 use Rattle.pw_code.specs.declared.instr.Instr.{Instr}
 use Rattle.pw_code.specs.declared.instr.Instr.TheVariants.{DisplayScreen, Display, Accept, Send, Begin, End, Abort, Read, ReadNext, Write, Rewrite, Delete}
@@ -15,7 +17,7 @@ use Rattle.pw_code.specs.declared.place.StoragePlace.{StoragePlace}
 use Rattle.pw_code.specs.declared.system.System.{System}
 use Rattle.pw_code.specs.declared.verb.Answer.{Answer}
 use Rattle.pw_code.specs.declared.verb.Answer.TheVariants as answer
-use Rattle.pw_code_meaning.specs.Config.{Config, on, over, with_storage, code_of, has_fault}
+use Rattle.pw_code_meaning.specs.Config.{Config, on, over, with_storage, code_of}
 use Rattle.pw_code_meaning.specs.Entries.{storage_entered}
 use Rattle.pw_code_meaning.specs.Moves.{move_text}
 use Rattle.pw_code_meaning.specs.Reading.{Spot, registers_of, spot_of}
@@ -26,7 +28,7 @@ answered rest = record rest { at_verb = false; count = 0 }
 
 -- the screen was shown: one refresh more, and no advisory
 abbrev pub shown : Config → Config
-shown c = record c { rest = record (answered c.rest) { shown = c.rest.shown + 1; mode = 0 } }
+shown c = record c { rest = record (answered c.rest) { shown = c.rest.shown + 1; course = Instruction } }
 
 -- ---- an entry
 
@@ -43,7 +45,7 @@ entry_checked table line found c =
       rest = record (answered c.rest) {
         entries = c.rest.entries + 1;
         screen = with_advice found line c.rest.screen;
-        mode = 1;
+        course = Advisory;
       };
     }
 
@@ -106,7 +108,7 @@ code_after_reply codes reply c =
 
 -- a server's run fault is to be told
 abbrev pub failed : ℕ → Config → Config
-failed code c = record c { rest = record (answered c.rest) { fault = code; mode = 2 } }
+failed code c = record c { rest = record (answered c.rest) { course = Fault code } }
 
 -- ---- a file answer: the count goes on, since a server's run counts as a whole
 
@@ -189,6 +191,5 @@ answered_by system _ a c = c
 -- is taken
 abbrev pub put : System → Answer → Config → Config
 put system a c =
-    if has_fault c.rest then c
-    else if c.rest.mode == 1 then shown c
-    else answered_by system (slice_get (code_of system c).instrs c.top.at) a c
+    by_course c.rest.course (answered_by system (slice_get (code_of system c).instrs c.top.at) a c)
+    (shown c) (λ code. c)

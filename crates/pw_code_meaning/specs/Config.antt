@@ -1,10 +1,11 @@
 -- Where a run of compiled code stands, and how it goes on from there.
 pub use Rattle.pw_tree_meaning.specs.State.{most_counted}
-use Rattle.std.specs.Prelude.{ℕ, ◌+◌, ◌-◌, ◌==◌, ◌||◌, not, nat_lt, Bool, true, false, List, [], ◌∷◌, ◌++◌, length, Option, Some, None, slice_index_or, if◌then◌else◌}
+use Rattle.std.specs.Prelude.{ℕ, ◌+◌, ◌-◌, nat_lt, Bool, true, false, List, [], ◌∷◌, ◌++◌, length, Option, Some, None, slice_index_or, if◌then◌else◌}
 use Rattle.pw_terminal.specs.Screen.{blank_cells}
 use Rattle.pw_code.specs.Instrs.{no_code, program_at}
 use Rattle.pw_code.specs.declared.code.Code.{Code}
 use Rattle.pw_code.specs.declared.context.Context.{Context}
+use Rattle.pw_code.specs.declared.context.Course.TheVariants.{Instruction, Fault}
 use Rattle.pw_code.specs.declared.context.Frame.{Frame}
 use Rattle.pw_code.specs.declared.system.System.{System}
 
@@ -48,8 +49,7 @@ fresh = record {
   entries = 0;
   units = 0;
   in_unit = false;
-  mode = 0;
-  fault = 0;
+  course = Instruction;
   at_verb = false;
   count = 0;
   screen = blank_cells;
@@ -79,11 +79,7 @@ asks c = record c { rest = record c.rest { at_verb = true } }
 
 -- at a run fault
 abbrev pub faults : ℕ → Config → Config
-faults code c = record c { rest = record c.rest { fault = code; at_verb = true } }
-
--- a run fault is its own, or one of a server that is to be told
-abbrev pub has_fault : Context → Bool
-has_fault context = not (context.fault == 0) || context.mode == 2
+faults code c = record c { rest = record c.rest { course = Fault code; at_verb = true } }
 
 -- a statement or a turn begins: it counts one, and where it would be number 100,001 it is LOOP
 abbrev pub code_statement_counted : (Config → Config) → Config → Config

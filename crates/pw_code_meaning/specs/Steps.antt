@@ -1,7 +1,8 @@
 -- What each instruction does, and what the code asks.
-use Rattle.std.specs.Prelude.{ℕ, ◌+◌, ◌==◌, Bool, true, false, List, [], length, drop, map, slice_get, Option, Some, None, if◌then◌else◌}
+use Rattle.std.specs.Prelude.{ℕ, ◌+◌, Bool, true, false, List, [], length, drop, map, slice_get, Option, Some, None, if◌then◌else◌}
 use Rattle.pw_terminal.specs.Screen.{with_message}
 use Rattle.pw_terminal.specs.Shown.{with_screen}
+use Rattle.pw_code.specs.Courses.{by_course}
 use Rattle.pw_code.specs.Instrs.{screen_at}
 use Rattle.pw_code.specs.declared.cond.Cond.{Cond}
 use Rattle.pw_code.specs.declared.file.FileOp.{FileOp}
@@ -17,7 +18,7 @@ use Rattle.pw_code.specs.declared.verb.Verb.{Verb}
 use Rattle.pw_code.specs.declared.verb.Verb.TheVariants as verb
 use Rattle.pw_code_meaning.specs.Calls.{calls, leaves, stops}
 use Rattle.pw_code_meaning.specs.Conditions.{code_condition_holds}
-use Rattle.pw_code_meaning.specs.Config.{Config, code_of, has_fault, asks, faults, code_statement_counted, on, over, with_storage, with_taken}
+use Rattle.pw_code_meaning.specs.Config.{Config, code_of, asks, faults, code_statement_counted, on, over, with_storage, with_taken}
 use Rattle.pw_code_meaning.specs.Moves.{operands_of, result_of, moves, move_text}
 use Rattle.pw_code_meaning.specs.Reading.{Spot, ResolvedOperand, registers_of, spot_of, spots_of, code_operand_taken, read}
 use Rattle.pw_code_meaning.specs.Turns.{turn, turns, tested, chosen, at_position, ends}
@@ -156,7 +157,7 @@ instr_of system c = slice_get (code_of system c).instrs c.top.at
 
 -- one step: an advisory is shown and a server's run fault told before the program goes on
 abbrev pub step : System → Config → Config
-step system c = if c.rest.mode == 0 then act system (instr_of system c) c else asks c
+step system c = by_course c.rest.course (act system (instr_of system c) c) (asks c) (λ code. asks c)
 
 -- ---- the verb of a configuration that stands at one
 
@@ -202,6 +203,4 @@ asked_by _ c = verb.Stop
 -- the verb
 abbrev pub verb_of : System → Config → Verb
 verb_of system c =
-    if has_fault c.rest then verb.Fault c.rest.fault
-    else if c.rest.mode == 1 then verb.Show
-    else asked_by (instr_of system c) c
+    by_course c.rest.course (asked_by (instr_of system c) c) verb.Show verb.Fault

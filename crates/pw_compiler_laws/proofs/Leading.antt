@@ -1,9 +1,10 @@
 -- How runs of the code lead from one configuration to another.
 use Rattle.std.proofs.Common.{◌≡◌, ℕ, suc, ◌+◌, ◌<◌, ◌≤◌, Bool, true, false, List, [], ◌∷◌, ◌++◌, length, Option, Some, None, if◌then◌else◌, ◌⊎◌, refl, sym, ap, ◌∙◌, subst, arith}
-use Rattle.std.specs.Prelude.{nat_lt, ◌==◌, slice_get, option_map}
+use Rattle.std.specs.Prelude.{nat_lt, slice_get, option_map}
 use Rattle.std.proofs.lemmas.Bool.{ltb-true, ltb-false}
 use Rattle.pw_data.specs.Store.{joined}
 use Rattle.pw_code.specs.declared.context.Frame.{Frame}
+use Rattle.pw_code.specs.declared.context.Course.TheVariants.{Instruction}
 use Rattle.pw_code.specs.declared.context.Return.{Return}
 use Rattle.pw_code.specs.declared.instr.Instr.{Instr}
 use Rattle.pw_code.specs.declared.instr.Instr.TheVariants as instr
@@ -18,9 +19,9 @@ use Rattle.pw_tree_meaning.specs.Operands as operands
 use Rattle.pw_tree_meaning.specs.Performs.{budget}
 use Rattle.pw_code_meaning.specs.Answers.{put, shown, answered_by}
 use Rattle.pw_code_meaning.specs.Calls.{leaves}
-use Rattle.pw_code_meaning.specs.Config.{Config, code_at, code_of, has_fault, asks, faults, code_statement_counted, with_taken}
+use Rattle.pw_code_meaning.specs.Config.{Config, code_at, asks, faults, code_statement_counted, with_taken}
 use Rattle.pw_code_meaning.specs.Runs.{Run, run, at_verb}
-use Rattle.pw_code_meaning.specs.Steps.{instr_of, act, does, step, verb_of, asked_by}
+use Rattle.pw_code_meaning.specs.Steps.{act, does, step, verb_of, asked_by}
 use Rattle.pw_compiler_laws.proofs.Ground.{Ground}
 
 -- the program at work by its number, those that wait for it, and what lies behind its items
@@ -51,8 +52,7 @@ mach e at rs s m = record {
     entries = m.entries;
     units = m.units;
     in_unit = s.in_unit;
-    mode = 0;
-    fault = 0;
+    course = Instruction;
     at_verb = false;
     count = s.count;
     screen = s.screen;
@@ -185,10 +185,10 @@ module _ (system : System) where
         )
 
     -- a run fault
-    pub fault_ends : (c : Config) (p : List Answer) (x : ℕ) → has_fault (faults x c).rest ≡ true → Ends (faults x c) p (verb.Fault x) c.rest.screen
-    fault_ends c p x has =
-        let r = frozen (faults x c) p refl (λ a. ap (λ b. if b then faults x c else (if c.rest.mode == 1 then shown (faults x c) else answered_by system (slice_get (code_of system c).instrs c.top.at) a (faults x c))) has) in
-        record { steps = r.0; last = faults x c; comes = r.1; stands = refl; asks_it = ap (λ b. if b then verb.Fault x else (if c.rest.mode == 1 then verb.Show else asked_by (instr_of system c) (faults x c))) has; shows = refl }
+    pub fault_ends : (c : Config) (p : List Answer) (x : ℕ) → Ends (faults x c) p (verb.Fault x) c.rest.screen
+    fault_ends c p x =
+        let r = frozen (faults x c) p refl (λ a. refl) in
+        record { steps = r.0; last = faults x c; comes = r.1; stands = refl; asks_it = refl; shows = refl }
 
     -- a statement or a turn begins
     pub ticks : (at : ℕ) (rs : List Return) (s : ProgramState) (m : Marks) (to : ℕ) (rs' : List Return) (f : Config → Config) (next : ProgramState → Out)
@@ -197,7 +197,7 @@ module _ (system : System) where
     ticks at rs s m to rs' f next h =
         count_cases s (λ b. DoesFrom s (if b then f (mach e at rs (record s { count = s.count + 1 }) m) else faults 201 (mach e at rs s m)) to rs' (if b then next (record s { count = s.count + 1 }) else source.faults 201 s))
         (λ lt. let t = record s { count = s.count + 1 } in let less : budget t < budget s = omega (arith, lt) in weaker (budget t) (budget s) _ s.answers to rs' (next t) (omega (arith, less)) (h t less refl))
-        (λ ge. fault_ends (mach e at rs s m) s.answers 201 refl)
+        (λ ge. fault_ends (mach e at rs s m) s.answers 201)
 
     -- a statement by its instruction
     pub begins : (at : ℕ) (rs : List Return) (s : ProgramState) (m : Marks) (to : ℕ) (rs' : List Return) (i : Instr) (next : ProgramState → Out) → slice_get (code_at system e.program).instrs at ≡ Some i
@@ -214,7 +214,7 @@ module _ (system : System) where
         → ((x : A) → o ≡ Some x → Does b (next (f x) (mach e at rs s m)) s.answers to rs' (goes x))
         → Does b (with_taken o' next (mach e at rs s m)) s.answers to rs' (operands.with_taken o s goes)
     taken_does f None o' b at rs s m to rs' next goes is h =
-        subst (λ o. Does b (with_taken o next (mach e at rs s m)) s.answers to rs' (source.faults 203 s)) (sym is) (fault_ends (mach e at rs s m) s.answers 203 refl)
+        subst (λ o. Does b (with_taken o next (mach e at rs s m)) s.answers to rs' (source.faults 203 s)) (sym is) (fault_ends (mach e at rs s m) s.answers 203)
     taken_does f (Some x) o' b at rs s m to rs' next goes is h =
         subst (λ o. Does b (with_taken o next (mach e at rs s m)) s.answers to rs' (goes x)) (sym is) (h x refl)
 

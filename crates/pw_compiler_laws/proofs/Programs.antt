@@ -122,7 +122,7 @@ module _ (system : System) (deck : DeckModel) (all : (q : ℕ) → q < length de
         rest = record (mach e at rs s m).rest { frames = callers ++ (mach e at rs s m).top ∷ [] };
       })) else faults 202 (mach e at rs s m))
       s.answers (source.faults 202 s)) (sym full)
-      (fault_ends system (tree.program_at deck.programs p) e (mach e at rs s m) s.answers 202 refl)
+      (fault_ends system (tree.program_at deck.programs p) e (mach e at rs s m) s.answers 202)
   calls_do (suc n) used q lt callers tail depth sum p keeping spots at rs s m below sits sizes =
       let e = env q callers tail in
       let callee = tree.program_at deck.programs p in
@@ -157,7 +157,7 @@ module _ (system : System) (deck : DeckModel) (all : (q : ℕ) → q < length de
       by : (b : Bool) (c : Config) (o : Out)
           → Finishes system (tree.program_at deck.programs p) (inner (env q callers tail) p keeping at rs s) (budget s) c s.answers o
           → Finishes system (tree.program_at deck.programs p) (inner (env q callers tail) p keeping at rs s) (budget s) (if b then faults 208 (mach (env q callers tail) at rs s m) else c) s.answers (if b then source.faults 208 s else o)
-      by true c o run = fault_ends system (tree.program_at deck.programs p) (env q callers tail) (mach (env q callers tail) at rs s m) s.answers 208 refl
+      by true c o run = fault_ends system (tree.program_at deck.programs p) (env q callers tail) (mach (env q callers tail) at rs s m) s.answers 208
       by false c o run = run
 
 -- ---- the end

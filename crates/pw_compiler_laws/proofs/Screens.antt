@@ -6,6 +6,7 @@ use Rattle.pw_forms.specs.declared.operand.Operand.{Operand}
 use Rattle.pw_operands.specs.Resolved.{Each}
 use Rattle.pw_code.specs.Entry.{EntryLineModel}
 use Rattle.pw_code.specs.Instrs.{screen_at}
+use Rattle.pw_code.specs.declared.context.Course.TheVariants.{Advisory}
 use Rattle.pw_code.specs.declared.context.Return.{Return}
 use Rattle.pw_code.specs.declared.field.Field.{Field}
 use Rattle.pw_code.specs.declared.field.ScreenTable.{ScreenTable}
@@ -92,7 +93,7 @@ module _ (system : System) (setting : Setting) (known : Known setting.is_server 
 
     -- behind a wrong entry
     abbrev wrong : ProgramState → Marks → Config
-    wrong s m = record (mach e at rs (record s { count = 0 }) m) { rest = record (mach e at rs (record s { count = 0 }) m).rest { mode = 1 } }
+    wrong s m = record (mach e at rs (record s { count = 0 }) m) { rest = record (mach e at rs (record s { count = 0 }) m).rest { course = Advisory } }
 
     abbrev Awaits : List Answer → Config → Out → Type 0
     Awaits answers c o = Does system setting.program e (most_counted * length answers) c answers (at + 1) rs o

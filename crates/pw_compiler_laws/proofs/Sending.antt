@@ -3,7 +3,6 @@ use Rattle.std.proofs.Common.{◌≡◌, ℕ, zero, suc, ◌+◌, ◌*◌, Bool,
 use Rattle.std.specs.Prelude.{◌==◌, cond, slice_get, option_map, option_and_then, position, ltb}
 use Rattle.std.specs.List.{position_or_len}
 use Rattle.std.proofs.lemmas.Option.{same_Some}
-use Rattle.pw_base.proofs.Plain.{or-true}
 use Rattle.pw_words.specs.Words.{Word}
 use Rattle.pw_data.specs.Store.{joined}
 use Rattle.pw_forms.specs.declared.lists.SendCode.{SendCode}
@@ -165,7 +164,7 @@ module _ (system : System) (setting : Setting) (known : Known setting.is_server 
         let r = replied-by at rs t m t.in_unit refl in
         subst (λ (rest : Context). DoesFrom system setting.program e u (on (record at_send { rest = rest })) (at + 1 + 1) rs (source.faults 204 u)) (sym r.is)
         (after system setting.program e (budget u) (mach e (at + 1) rs u r.marks) (faults 204 (mach e (at + 1) rs u r.marks)) given given (at + 1 + 1) rs (source.faults 204 u)
-        (one system e (at + 1) rs u r.marks given (Some instr.NoCode) behind) (fault_ends system setting.program e (mach e (at + 1) rs u r.marks) given 204 refl))
+        (one system e (at + 1) rs u r.marks given (Some instr.NoCode) behind) (fault_ends system setting.program e (mach e (at + 1) rs u r.marks) given 204))
     yielded_does reply given (Some found) sits =
         let u : ProgramState = record t { count = 0; answers = given } in
         let v : ProgramState = moving.move_text reply found.1 (record u { registers = record u.registers { termination = found.0 + 1 } }) in
@@ -195,9 +194,8 @@ module _ (system : System) (setting : Setting) (known : Known setting.is_server 
     reply_does (answer.Failed x) given =
         let u : ProgramState = record t { count = 0; answers = given } in
         let c : Config = mach e at rs u m in
-        let told : Config = record c { rest = record c.rest { mode = 2 } } in
-        after system setting.program e (budget u) (puts.failed x at_send) (faults x told) given given (at + 1 + 1) rs (source.faults x u)
-        (λ k. (suc k, refl)) (fault_ends system setting.program e told given x (or-true (not (x == 0))))
+        after system setting.program e (budget u) (puts.failed x at_send) (faults x c) given given (at + 1 + 1) rs (source.faults x u)
+        (λ k. (suc k, refl)) (fault_ends system setting.program e c given x)
     reply_does answer.Shown given = passes given
     reply_does (answer.Entry line) given = passes given
     reply_does (answer.Begun r) given = passes given

@@ -126,9 +126,9 @@ module _ (system : System) (setting : Setting) (known : Known setting.is_server 
         (λ found d. steps.or_else (moves.result_of (compiled.operation_of a.operation) found d.top.storage) f g d) (mach e at rs s m)) to rs
         (operands.with_taken o1 s (λ x. operands.with_taken o2 s (λ y. operands.with_taken o3 s (λ z.
         computing.or_else (computing.computed a.operation (operands.value_in x s.store) (operands.value_in y s.store) (spot_in z) s) s on_error else'))))
-    three_does a None o2 o3 sits = fault_ends system setting.program e (mach e at rs s m) s.answers 203 refl
-    three_does a (Some x) None o3 sits = fault_ends system setting.program e (mach e at rs s m) s.answers 203 refl
-    three_does a (Some x) (Some y) None sits = fault_ends system setting.program e (mach e at rs s m) s.answers 203 refl
+    three_does a None o2 o3 sits = fault_ends system setting.program e (mach e at rs s m) s.answers 203
+    three_does a (Some x) None o3 sits = fault_ends system setting.program e (mach e at rs s m) s.answers 203
+    three_does a (Some x) (Some y) None sits = fault_ends system setting.program e (mach e at rs s m) s.answers 203
     three_does a (Some x) (Some y) (Some z) sits =
         let v = operands.value_in x s.store in
         let w = operands.value_in y s.store in
@@ -176,7 +176,7 @@ module _ (system : System) (setting : Setting) (known : Known setting.is_server 
       → DoesFrom system setting.program e s (steps.does system instr.Begin (mach e at rs s m)) (at + 1) rs (sends.begin s)
   begin_does at rs s m ground h =
       if_does s.in_unit (faults 205 (mach e at rs s m)) (asks (mach e at rs s m)) (at + 1) rs s (source.faults 205 s) (source.asks verb.Begin sends.after_begin_answer s)
-      (fault_ends system setting.program e (mach e at rs s m) s.answers 205 refl)
+      (fault_ends system setting.program e (mach e at rs s m) s.answers 205)
       (verb_does system setting.program e at rs s m (at + 1) rs instr.Begin verb.Begin sends.after_begin_answer h refl (λ a answers. begin_answered at rs s m ground a answers))
 
   pub unit_end_does : (at : ℕ) (rs : List Return) (s : ProgramState) (m : Marks) (i : Instr) (v : Verb) → Ground setting.program s.store → slice_get (code_at system e.program).instrs at ≡ Some i
@@ -189,14 +189,14 @@ module _ (system : System) (setting : Setting) (known : Known setting.is_server 
       let n : Marks = record m { units = m.units + 1; phase = 2 * (m.units + 1); attempt = 0; shown = 0 } in
       subst (λ c. DoesFrom system setting.program e t c (at + 1) rs (Goes (record t { in_unit = false }))) (sym (same a))
       (record { marks = n; ground = ground; less = omega arith; leads = stays system _ given })))
-      (fault_ends system setting.program e (mach e at rs s m) s.answers 206 refl)
+      (fault_ends system setting.program e (mach e at rs s m) s.answers 206)
 
   pub restart_does : (at : ℕ) (rs : List Return) (s : ProgramState) (m : Marks) → slice_get (code_at system e.program).instrs at ≡ Some instr.Restart
       → DoesFrom system setting.program e s (steps.does system instr.Restart (mach e at rs s m)) (at + 1) rs (sends.restart s)
   restart_does at rs s m h =
       if_does s.in_unit (asks (mach e at rs s m)) (faults 206 (mach e at rs s m)) (at + 1) rs s (Asks verb.Redo s) (source.faults 206 s)
       (stop_ends system setting.program e at rs s m (Some instr.Restart) verb.Redo h refl (λ a. refl))
-      (fault_ends system setting.program e (mach e at rs s m) s.answers 206 refl)
+      (fault_ends system setting.program e (mach e at rs s m) s.answers 206)
 
   module _ (kind : (if nat_lt e.program (length system.programs) then false else true) ≡ setting.is_server) where
     -- STOP RUN, and the end of a program that no other called
@@ -206,9 +206,9 @@ module _ (system : System) (setting : Setting) (known : Known setting.is_server 
     stop_does at to rs rs' s m i h is same =
         subst (λ b. DoesFrom system setting.program e s (if b then faults 209 (mach e at rs s m) else (if s.in_unit then faults 207 (mach e at rs s m) else asks (mach e at rs s m))) to rs' (sends.stop setting s)) (sym kind)
         (if_does setting.is_server (faults 209 (mach e at rs s m)) (if s.in_unit then faults 207 (mach e at rs s m) else asks (mach e at rs s m)) to rs' s (source.faults 209 s) (if s.in_unit then source.faults 207 s else Asks verb.Stop s)
-        (fault_ends system setting.program e (mach e at rs s m) s.answers 209 refl)
+        (fault_ends system setting.program e (mach e at rs s m) s.answers 209)
         (if_does s.in_unit (faults 207 (mach e at rs s m)) (asks (mach e at rs s m)) to rs' s (source.faults 207 s) (Asks verb.Stop s)
-        (fault_ends system setting.program e (mach e at rs s m) s.answers 207 refl)
+        (fault_ends system setting.program e (mach e at rs s m) s.answers 207)
         (stop_ends system setting.program e at rs s m i verb.Stop h is same)))
 
   -- ---- PERFORM
@@ -255,7 +255,7 @@ module _ (system : System) (setting : Setting) (known : Known setting.is_server 
         by : (b : Bool) → nat_lt (length rs) turning.most_performs ≡ b → (u : ProgramState) → budget u < budget t → u.store ≡ t.store
             → DoesFrom system setting.program e u (if b then mach e turn.start (rs ++ (record { resume = resume; until = turn.end; turns = left }) ∷ []) u m else faults 202 (mach e x rs u m)) to rs (then_do (perform name u) next)
         by false f u less same =
-            subst (λ o. DoesFrom system setting.program e u (faults 202 (mach e x rs u m)) to rs (then_do o next)) (sym (full rs u is f)) (fault_ends system setting.program e (mach e x rs u m) u.answers 202 refl)
+            subst (λ o. DoesFrom system setting.program e u (faults 202 (mach e x rs u m)) to rs (then_do o next)) (sym (full rs u is f)) (fault_ends system setting.program e (mach e x rs u m) u.answers 202)
         by true f u less same =
             let r : Return = record { resume = resume; until = turn.end; turns = left } in
             seq system setting.program e (budget u) (mach e turn.start (rs ++ r ∷ []) u m) u.answers turn.end to (rs ++ r ∷ []) rs (perform name u) next
@@ -341,11 +341,11 @@ module _ (system : System) (setting : Setting) (known : Known setting.is_server 
         (sym (holds-same setting.is_server setting.deck setting.program known t e.tail ground cond fits)) (by full_count (conditions.holds setting.program t cond)))
       where
         by : nat_lt t.count source.most_counted ≡ false → (o : Option Bool) → DoesFrom system setting.program e t (turning.tested turn o (mach e at rs t m)) (at + 1) rs (tested o (source.faults 201) t)
-        by f None = fault_ends system setting.program e (mach e at rs t m) t.answers 203 refl
+        by f None = fault_ends system setting.program e (mach e at rs t m) t.answers 203
         by f (Some true) = record { marks = m; ground = ground; less = omega arith; leads = stays system (mach e (at + 1) rs t m) t.answers }
         by f (Some false) =
             subst (λ b. DoesFrom system setting.program e t (if b then (if nat_lt (length rs) turning.most_performs then mach e turn.start (rs ++ (record { resume = at; until = turn.end; turns = 0 }) ∷ []) (record t { count = t.count + 1 }) m else faults 202 (mach e at rs (record t { count = t.count + 1 }) m)) else faults 201 (mach e at rs t m)) (at + 1) rs (source.faults 201 t))
-            (sym f) (fault_ends system setting.program e (mach e at rs t m) t.answers 201 refl)
+            (sym f) (fault_ends system setting.program e (mach e at rs t m) t.answers 201)
     until_does (suc n) at cond rs t m is ground fits h le =
         let next = turns_until n (λ u. conditions.holds setting.program u cond) (perform name) in
         let again : DoesFrom system setting.program e t (turning.turn at turn 0 (mach e at rs t m)) (at + 1) rs (source.statement_counted (λ u. then_do (perform name u) next) t) =
@@ -356,7 +356,7 @@ module _ (system : System) (setting : Setting) (known : Known setting.is_server 
       where
         by : (o : Option Bool) → DoesFrom system setting.program e t (turning.turn at turn 0 (mach e at rs t m)) (at + 1) rs (source.statement_counted (λ u. then_do (perform name u) (turns_until n (λ w. conditions.holds setting.program w cond) (perform name))) t)
             → DoesFrom system setting.program e t (turning.tested turn o (mach e at rs t m)) (at + 1) rs (tested o (λ u. then_do (source.statement_counted (perform name) u) (turns_until n (λ w. conditions.holds setting.program w cond) (perform name))) t)
-        by None again = fault_ends system setting.program e (mach e at rs t m) t.answers 203 refl
+        by None again = fault_ends system setting.program e (mach e at rs t m) t.answers 203
         by (Some true) again = record { marks = m; ground = ground; less = omega arith; leads = stays system (mach e (at + 1) rs t m) t.answers }
         by (Some false) again = subst (λ o. DoesFrom system setting.program e t (turning.turn at turn 0 (mach e at rs t m)) (at + 1) rs o) (counted-by (nat_lt t.count source.most_counted)) again
           where

@@ -177,7 +177,7 @@ module _ (system : System) (setting : Setting) (e : Env) (set : IsSet system set
     branch_does : (o : Option Bool) (n at to : ℕ) (rs : List Return) (s : ProgramState) (m : Marks) (on_true on_false : ProgramState → Out)
         → DoesFrom system setting.program e s (mach e (at + 1) rs s m) to rs (on_true s) → DoesFrom system setting.program e s (mach e (at + 1 + n) rs s m) to rs (on_false s)
         → DoesFrom system setting.program e s (with_taken o (steps.branch n) (mach e at rs s m)) to rs (branch o on_true on_false s)
-    branch_does None n at to rs s m on_true on_false h g = fault_ends system setting.program e (mach e at rs s m) s.answers 203 refl
+    branch_does None n at to rs s m on_true on_false h g = fault_ends system setting.program e (mach e at rs s m) s.answers 203
     branch_does (Some true) n at to rs s m on_true on_false h g = h
     branch_does (Some false) n at to rs s m on_true on_false h g = g
 

@@ -1,5 +1,8 @@
 -- A server's context behind the answer to a file operation stands at no verb.
-use Rattle.std.proofs.Common.{◌≡◌, ℕ, ◌==◌, Bool, true, false, List, Option, Some, None, if◌then◌else◌, refl}
+use Rattle.std.proofs.Common.{◌≡◌, ℕ, false, List, Option, Some, None, refl}
+use Rattle.pw_code.specs.Courses.{by_course}
+use Rattle.pw_code.specs.declared.context.Course.{Course}
+use Rattle.pw_code.specs.declared.context.Course.TheVariants.{Instruction, Advisory, Fault}
 use Rattle.pw_code.specs.declared.context.Context.{Context}
 use Rattle.pw_code.specs.declared.file.FileCall.{FileCall}
 use Rattle.pw_code.specs.declared.instr.Instr.{Instr}
@@ -9,7 +12,7 @@ use Rattle.pw_code.specs.declared.verb.Answer.TheVariants as answer
 use Rattle.pw_code.specs.declared.verb.Verb.{Verb}
 use Rattle.pw_code.specs.declared.verb.Verb.TheVariants as verb
 use Rattle.pw_code_meaning.specs.Answers.{answered_by, put, shown}
-use Rattle.pw_code_meaning.specs.Config.{Config, has_fault}
+use Rattle.pw_code_meaning.specs.Config.{Config}
 use Rattle.pw_code_meaning.specs.Steps.{asked_by, instr_of, verb_of}
 use Rattle.pw_world_state.specs.Asked.{answered_with, opened, verb_in}
 
@@ -50,19 +53,19 @@ by-instr system (Some (Rewrite file from)) c status content call e = refl
 by-instr system (Some (Delete file key)) c status content call e = refl
 
 -- where no run fault stands and no advisory is shown
-by-put : (faulty showing : Bool) (code : ℕ) (asked : Verb) (c onward behind : Config) (call : FileCall)
-    → (if faulty then verb.Fault code else if showing then verb.Show else asked) ≡ verb.File call
+by-put : (course : Course) (asked : Verb) (c onward behind : Config) (call : FileCall)
+    → by_course course asked verb.Show verb.Fault ≡ verb.File call
     → (asked ≡ verb.File call → behind.rest.at_verb ≡ false)
-    → (if faulty then c else if showing then onward else behind).rest.at_verb ≡ false
-by-put true showing code asked c onward behind call e next = absurd (cc e)
-by-put false true code asked c onward behind call e next = absurd (cc e)
-by-put false false code asked c onward behind call e next = next e
+    → (by_course course behind onward (λ code. c)).rest.at_verb ≡ false
+by-put (Fault code) asked c onward behind call e next = absurd (cc e)
+by-put Advisory asked c onward behind call e next = absurd (cc e)
+by-put Instruction asked c onward behind call e next = next e
 
 behind-file : (system : System) (c : Config) (status : ℕ) (content : Option (List ℕ)) (call : FileCall)
     → verb_of system c ≡ verb.File call
     → (put system (answer.FileDone status content) c).rest.at_verb ≡ false
 behind-file system c status content call e =
-    by-put (has_fault c.rest) (c.rest.mode == 1) c.rest.fault (asked_by (instr_of system c) c) c (shown c)
+    by-put c.rest.course (asked_by (instr_of system c) c) c (shown c)
     (answered_by system (instr_of system c) (answer.FileDone status content) c) call e
     (λ asks. by-instr system (instr_of system c) c status content call asks)
 

@@ -1,5 +1,8 @@
 -- The context behind the end of a transaction.
-use Rattle.std.proofs.Common.{◌≡◌, ◌==◌, Bool, true, false, Option, Some, None, refl, ap, sym, subst, cond}
+use Rattle.std.proofs.Common.{◌≡◌, Option, Some, None, refl, ap, sym, subst, cond}
+use Rattle.pw_code.specs.Courses.{by_course}
+use Rattle.pw_code.specs.declared.context.Course.{Course}
+use Rattle.pw_code.specs.declared.context.Course.TheVariants.{Instruction, Advisory, Fault}
 use Rattle.pw_code.specs.declared.context.Context.{Context}
 use Rattle.pw_code.specs.declared.instr.Instr.{Instr}
 use Rattle.pw_code.specs.declared.instr.Instr.TheVariants.{Jump, JumpUnless, ParagraphEnd, Move, Compute, OnSizeError, Perform, PerformTimes, Until, PerformOneOf, Exit, ExitProgram, StopRun, DisplayScreen, Display, Accept, Call, Send, NoCode, Begin, End, Abort, Restart, Receive, Reply, Read, ReadNext, Write, Rewrite, Delete}
@@ -8,7 +11,7 @@ use Rattle.pw_code.specs.declared.verb.Answer.{Answer}
 use Rattle.pw_code.specs.declared.verb.Verb.{Verb}
 use Rattle.pw_code.specs.declared.verb.Verb.TheVariants as verb
 use Rattle.pw_code_meaning.specs.Answers.{answered_by, put, shown, unit_end_put}
-use Rattle.pw_code_meaning.specs.Config.{Config, closed, has_fault}
+use Rattle.pw_code_meaning.specs.Config.{Config, closed}
 use Rattle.pw_code_meaning.specs.Steps.{asked_by, instr_of, verb_of}
 use Rattle.pw_world_state.specs.Asked.{answered_with, opened, verb_in}
 use Rattle.pw_entry_tests.specs.Images.{behind_end}
@@ -53,16 +56,15 @@ module _ (system : System) (a : Answer) (c : Config) where
   ends (Some (Rewrite file from)) h = absurd h
   ends (Some (Delete file key)) h = absurd h
 
-  by-mode : (f m : Bool) (v : Verb) (d : Config) → (Closes v → d ≡ unit_end_put c)
-      → Closes (cond f (verb.Fault c.rest.fault) (cond m verb.Show v))
-      → cond f c (cond m (shown c) d) ≡ unit_end_put c
-  by-mode true m v d e h = absurd h
-  by-mode false true v d e h = absurd h
-  by-mode false false v d e h = e h
+  by-way : (course : Course) (v : Verb) (d : Config) → (Closes v → d ≡ unit_end_put c)
+      → Closes (by_course course v verb.Show verb.Fault) → by_course course d (shown c) (λ code. c) ≡ unit_end_put c
+  by-way (Fault code) v d e h = absurd h
+  by-way Advisory v d e h = absurd h
+  by-way Instruction v d e h = e h
 
   pub put-ends : Closes (verb_of system c) → put system a c ≡ unit_end_put c
   put-ends h =
-      by-mode (has_fault c.rest) (c.rest.mode == 1) (asked_by (instr_of system c) c) (answered_by system (instr_of system c) a c)
+      by-way c.rest.course (asked_by (instr_of system c) c) (answered_by system (instr_of system c) a c)
       (ends (instr_of system c)) h
 
 module _ (system : System) (context : Context) (a : Answer) where

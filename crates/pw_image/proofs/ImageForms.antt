@@ -1,5 +1,5 @@
 -- The forms of an image, from its parts up.
-use Rattle.std.proofs.Common.{◌≡◌, ℕ, zero, suc, ◌+◌, ◌^◌, ◌<◌, ◌≤◌, Bool, true, false, cond, nat_le, nat_lt, List, [], ◌∷◌, ◌++◌, length, All, take, drop, Option, Some, None, refl, sym, ap, subst, ◌∙◌, arith}
+use Rattle.std.proofs.Common.{◌≡◌, ℕ, zero, suc, ◌+◌, ◌^◌, ◌<◌, ◌≤◌, Bool, true, false, cond, if◌then◌else◌, nat_le, nat_lt, List, [], ◌∷◌, ◌++◌, length, All, take, drop, Option, Some, None, refl, sym, ap, ap₂, subst, ◌∙◌, arith}
 use Rattle.std.specs.Int.{w16, w32, w64, to_be_bytes}
 use Rattle.std.specs.List.{flat_map, AllByRecursion}
 use Rattle.std.proofs.lemmas.Bool.{leb-true, le-leb, and_parts}
@@ -8,15 +8,18 @@ use Rattle.std.proofs.lemmas.List.Elements.{All-from_recursion, recursion_from_A
 use Rattle.std.proofs.lemmas.Slice.Eq.{bytes_eq-Decides}
 use Rattle.std.specs.Str.{bytes_eq}
 use Rattle.pw_base.proofs.Plain.{some_is, cond_passed}
+use Rattle.pw_code.specs.Courses.{is_advisory, is_run_fault}
 use Rattle.pw_code.specs.Limits.{most_active}
 use Rattle.pw_code.specs.Screen.{IsWhole}
 use Rattle.pw_code.specs.declared.context.Context.{Context}
+use Rattle.pw_code.specs.declared.context.Course.{Course}
+use Rattle.pw_code.specs.declared.context.Course.TheVariants.{Instruction, Advisory, Fault}
 use Rattle.pw_code.specs.declared.context.Frame.{Frame}
 use Rattle.pw_code.specs.declared.context.Return.{Return}
 use Rattle.pw_image.proofs.Forms.{AreBytes-drop, IsForm, IsMade, Takes, block, both, byte, counted, made, many, number16, number32, number64}
 use Rattle.pw_image.specs.Format.{IsImageOf}
 use Rattle.pw_image.specs.Image.{FrameFits, HasImage, count_bytes, frame_bytes, image_of, mark, return_bytes, truth}
-use Rattle.pw_image.specs.Reading.{Counts, Front, all_of, block_at, both_at, byte_at, context_at, context_from, context_in, counts_at, frame_at, frame_from, frames_at, is_any, is_frame_count, is_truth, many_at, number_at, return_at, return_from, returns_at, screen_at, storage_at, truth_of}
+use Rattle.pw_image.specs.Reading.{Counts, Front, all_of, block_at, both_at, byte_at, context_at, context_from, context_in, counts_at, course_of, frame_at, frame_from, frames_at, is_any, is_frame_count, is_truth, many_at, number_at, return_at, return_from, returns_at, screen_at, storage_at, truth_of}
 use Rattle.pw_image.specs.Values.{AreBytes, FrameHasValues, HasValues, ReturnHasValues}
 
 -- An active PERFORM.
@@ -105,13 +108,13 @@ counts-form =
 abbrev context_parts : Context → Counts × (ℕ × (ℕ × (List ℕ × List Frame)))
 context_parts c = (
   (c.termination, (c.restarts, (c.phase, (c.attempt, (c.shown, (c.entries, c.units)))))),
-  (truth c.in_unit, (c.mode, (c.screen, c.frames))),
+  (truth c.in_unit, (truth (is_advisory c.course), (c.screen, c.frames))),
 )
 
 -- what stands behind the mark
 abbrev behind_mark : Context → List ℕ
 behind_mark context =
-    count_bytes context ++ (truth context.in_unit ∷ [] ++ (context.mode ∷ [] ++ (context.screen ++ (length context.frames ∷ flat_map frame_bytes context.frames))))
+    count_bytes context ++ (truth context.in_unit ∷ [] ++ (truth (is_advisory context.course) ∷ [] ++ (context.screen ++ (length context.frames ∷ flat_map frame_bytes context.frames))))
 
 abbrev ContextIs : Context → Type 0
 ContextIs context = HasImage context × HasValues context
@@ -129,18 +132,33 @@ pub truth-small : (b : Bool) → (is_truth (truth b) ≡ true) × (truth b < 256
 truth-small false = (refl, omega arith)
 truth-small true = (refl, omega arith)
 
+-- the byte of a course, and the course of a byte
+advisory-again : (b : Bool) → is_advisory (if b then Advisory else Instruction) ≡ b
+advisory-again false = refl
+advisory-again true = refl
+
+course-again : (course : Course) → is_run_fault course ≡ false → course_of (truth (is_advisory course)) ≡ course
+course-again Instruction h = refl
+course-again Advisory h = refl
+course-again (Fault code) h = absurd (cc h)
+
+course-plain : (b : Bool) → is_run_fault (if b then Advisory else Instruction) ≡ false
+course-plain false = refl
+course-plain true = refl
+
 -- a context without count, fault and file status at an answer is made of its parts
-abbrev with_rest : Context → ℕ → Bool → ℕ → Bool → ℕ → Context
-with_rest c file_status in_unit fault at_verb count =
-    record c { file_status = file_status; in_unit = in_unit; fault = fault; at_verb = at_verb; count = count }
+abbrev with_rest : Context → ℕ → Bool → Course → Bool → ℕ → Context
+with_rest c file_status in_unit course at_verb count =
+    record c { file_status = file_status; in_unit = in_unit; course = course; at_verb = at_verb; count = count }
 
 whole-context : (c : Context) → ContextIs c → context_from (context_parts c) ≡ c
 whole-context c fits =
-    ap (λ n. with_rest c n (truth_of (truth c.in_unit)) 0 false 0) (sym fits.0.file_status)
-    ∙ ap (λ b. with_rest c c.file_status b 0 false 0) (truth-of-truth c.in_unit)
-    ∙ ap (λ n. with_rest c c.file_status c.in_unit n false 0) (sym fits.0.fault)
-    ∙ ap (λ b. with_rest c c.file_status c.in_unit c.fault b 0) (sym fits.0.at_answer)
-    ∙ ap (λ n. with_rest c c.file_status c.in_unit c.fault c.at_verb n) (sym fits.0.count)
+    let course = course_of (truth (is_advisory c.course)) in
+    ap (λ n. with_rest c n (truth_of (truth c.in_unit)) course false 0) (sym fits.0.file_status)
+    ∙ ap (λ b. with_rest c c.file_status b course false 0) (truth-of-truth c.in_unit)
+    ∙ ap (λ n. with_rest c c.file_status c.in_unit n false 0) (course-again c.course fits.0.no_fault)
+    ∙ ap (λ b. with_rest c c.file_status c.in_unit c.course b 0) (sym fits.0.at_answer)
+    ∙ ap (λ n. with_rest c c.file_status c.in_unit c.course c.at_verb n) (sym fits.0.count)
 
 frame-count : (n : ℕ) → 1 ≤ n → n ≤ 9 → is_frame_count n ≡ true
 frame-count n one nine = rw (le-leb 1 n one) (le-leb n 9 nine)
@@ -158,18 +176,17 @@ unfolding context_at
 context-form =
     made context_from context_parts _ _ behind_mark _ ContextIs
     (record {
-      spelled = λ x fits. ap (λ n. count_bytes (context_from x) ++ (n ∷ [] ++ (x.1.1.0 ∷ [] ++ (x.1.1.1.0 ++ (length x.1.1.1.1 ∷ flat_map frame_bytes x.1.1.1.1)))))
-          (truth-again x.1.0 fits.1.0.0);
+      spelled = λ x fits. ap₂ (λ n m. count_bytes (context_from x) ++ (n ∷ [] ++ (m ∷ [] ++ (x.1.1.1.0 ++ (length x.1.1.1.1 ∷ flat_map frame_bytes x.1.1.1.1)))))
+          (truth-again x.1.0 fits.1.0.0) (ap truth (advisory-again (truth_of x.1.1.0)) ∙ truth-again x.1.1.0 fits.1.1.0.0);
       fit = λ x fits.
           let frames = fits.1.1.1.1 in
           let count = and_parts _ _ frames.1.0 in
           let each = fit-frames x.1.1.1.1 frames.1.1 in (
             record {
               file_status = refl;
-              fault = refl;
               at_answer = refl;
               count = refl;
-              mode = leb-true _ _ fits.1.1.0.0;
+              no_fault = course-plain (truth_of x.1.1.0);
               some = leb-true _ _ count.0;
               few = leb-true _ _ count.1;
               frames = All-from_recursion FrameFits _ each.0;
@@ -194,13 +211,12 @@ context-form =
           let h = fits.0 in
           let v = fits.1 in
           let few = h.few in
-          let small = h.mode in
           let n = v.counts in (
             (n.termination, (n.restarts, (n.phase, (n.attempt, (n.shown, (n.entries, n.units)))))),
             (
               truth-small c.in_unit,
               (
-                (le-leb _ _ h.mode, omega arith),
+                truth-small (is_advisory c.course),
                 (
                   (v.whole, v.screen),
                   (

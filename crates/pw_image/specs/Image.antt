@@ -2,6 +2,7 @@
 use Rattle.std.specs.Prelude.{◌≡◌, ℕ, ◌<◌, ◌≤◌, ◌^◌, Bool, true, false, List, [], ◌∷◌, ◌++◌, length, All}
 use Rattle.std.specs.Int.{w16, w32, w64, to_be_bytes}
 use Rattle.std.specs.List.{flat_map}
+use Rattle.pw_code.specs.Courses.{is_advisory, is_run_fault}
 use Rattle.pw_code.specs.Limits.{most_active}
 use Rattle.pw_code.specs.Screen.{IsWhole}
 use Rattle.pw_code.specs.declared.context.Context.{Context}
@@ -47,7 +48,7 @@ image_of context =
     mark
     ++ (count_bytes context
     ++ (truth context.in_unit ∷ []
-    ++ (context.mode ∷ []
+    ++ (truth (is_advisory context.course) ∷ []
     ++ (context.screen
     ++ (length context.frames ∷ flat_map frame_bytes context.frames)))))
 
@@ -56,15 +57,13 @@ pub record FrameFits (frame : Frame) : Type 0 where
   pub storage : length frame.storage ≤ most_active
   pub returns : length frame.returns ≤ 64
 
--- The context has an image: it is one of a terminal that stands at an answer, without a count, a fault
--- or a file status, and with a mode of 0 or 1; and it has from 1 to 9 active programs, each of which
--- has room.
+-- The context has an image: it is one of a terminal that stands at an answer, without a count, a run
+-- fault or a file status; and it has from 1 to 9 active programs, each of which has room.
 pub record HasImage (context : Context) : Type 0 where
   pub file_status : context.file_status ≡ 0
-  pub fault : context.fault ≡ 0
   pub at_answer : context.at_verb ≡ false
   pub count : context.count ≡ 0
-  pub mode : context.mode ≤ 1
+  pub no_fault : is_run_fault context.course ≡ false
   pub some : 1 ≤ length context.frames
   pub few : length context.frames ≤ 9
   pub frames : All FrameFits context.frames

@@ -5,6 +5,8 @@ use Rattle.std.specs.Int.{Width, w16, w32, w64, byte_len, from_be_bytes}
 use Rattle.std.specs.Str.{bytes_eq}
 use Rattle.pw_code.specs.Limits.{most_active}
 use Rattle.pw_code.specs.declared.context.Context.{Context}
+use Rattle.pw_code.specs.declared.context.Course.{Course}
+use Rattle.pw_code.specs.declared.context.Course.TheVariants.{Instruction, Advisory}
 use Rattle.pw_code.specs.declared.context.Frame.{Frame}
 use Rattle.pw_code.specs.declared.context.Return.{Return}
 use Rattle.pw_image.specs.declared.fault.ImageFault.{ImageFault}
@@ -82,6 +84,10 @@ is_truth byte = nat_le byte 1
 abbrev pub truth_of : ℕ → Bool
 truth_of byte = byte == 1
 
+-- the course of a context by the byte that says whether an advisory is to be shown
+abbrev pub course_of : ℕ → Course
+course_of byte = if truth_of byte then Advisory else Instruction
+
 -- how many active programs there may be
 abbrev pub is_frame_count : ℕ → Bool
 is_frame_count count = nat_le 1 count && nat_le count 9
@@ -145,8 +151,7 @@ context_from parts = record {
   entries = parts.0.1.1.1.1.1.0;
   units = parts.0.1.1.1.1.1.1;
   in_unit = truth_of parts.1.0;
-  mode = parts.1.1.0;
-  fault = 0;
+  course = course_of parts.1.1.0;
   at_verb = false;
   count = 0;
   screen = parts.1.1.1.0;

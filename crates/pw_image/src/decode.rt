@@ -4,12 +4,12 @@ ghost use Rattle.pw_code.specs.declared.context.Context.{Context};
 ghost use Rattle.pw_image.specs.Format.{IsImageOf};
 ghost use Rattle.pw_image.specs.Image.{mark};
 ghost use Rattle.pw_image.specs.Counts.{seen_counts};
-ghost use Rattle.pw_image.specs.Reading.{GivesImagePart, context_at, context_in, counts_at};
+ghost use Rattle.pw_image.specs.Reading.{GivesImagePart, context_at, context_in, counts_at, course_of};
 
 use crate::counts::Counts;
 use crate::fault::ImageFault;
 use crate::reading::{read_frames, read_screen, read_truth, read_u16, read_u32};
-use pw_code::context::Context;
+use pw_code::context::{Context, Course};
 use std::alloc::Global;
 
 /// The numbers that begin an image, and the rest.
@@ -36,6 +36,17 @@ fn read_counts(bytes: &[u8]) -> Result<(Counts, &[u8]), ImageFault>
     Ok((counts, rest))
 }
 
+/// How a context goes on, by the byte that says whether an advisory is to be shown.
+fn course_of(advisory: u8) -> Course
+    ensures { result ≡ course_of advisory }
+{
+    if advisory == 1 {
+        Course::Advisory
+    } else {
+        Course::Instruction
+    }
+}
+
 /// A context at an answer, and the rest.
 #[tactic(auto, unfolding(crate::specs::Reading::context_at))]
 fn read_context(alloc: Global, bytes: &[u8]) -> Result<(Context, &[u8]), ImageFault>
@@ -43,7 +54,7 @@ fn read_context(alloc: Global, bytes: &[u8]) -> Result<(Context, &[u8]), ImageFa
 {
     let (counts, rest) = read_counts(bytes)?;
     let (in_unit, rest) = read_truth(rest)?;
-    let (mode, rest) = read_truth(rest)?;
+    let (advisory, rest) = read_truth(rest)?;
     let (screen, rest) = read_screen(alloc, rest)?;
     let (frames, rest) = read_frames(alloc, rest)?;
     let context = Context {
@@ -56,8 +67,7 @@ fn read_context(alloc: Global, bytes: &[u8]) -> Result<(Context, &[u8]), ImageFa
         entries: counts.entries,
         units: counts.units,
         in_unit: in_unit == 1,
-        mode,
-        fault: 0,
+        course: course_of(advisory),
         at_verb: false,
         count: 0,
         screen,

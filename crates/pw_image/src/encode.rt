@@ -35,7 +35,7 @@ pub fn encode(alloc: Global, context: &Context) -> Result<Bytes, Memory>
     image.extend(&MARK)?;
     put_counts(&mut image, context)?;
     image.push(context.in_unit as u8)?;
-    image.push(context.mode)?;
+    image.push(context.course.is_advisory() as u8)?;
     put_cells(&mut image, context.screen.cells())?;
     image.push(context.frames.len() as u8)?;
     put_frames(&mut image, context.frames.as_slice())?;

@@ -3,6 +3,7 @@ use Rattle.std.proofs.Common.{◌≡◌, ℕ, ◌+◌, Bool, true, false, List, 
 use Rattle.std.specs.Prelude.{Result, Ok, Err, IfOk, nat_lt, option_map, if◌then◌else◌}
 use Rattle.pw_terminal.specs.Screen.{with_message}
 use Rattle.pw_code.specs.declared.context.Context.{Context}
+use Rattle.pw_code.specs.declared.context.Course.TheVariants.{Fault}
 use Rattle.pw_code.specs.declared.instr.Arithmetic.{Arithmetic}
 use Rattle.pw_code.specs.declared.instr.Instr.{Instr}
 use Rattle.pw_code.specs.declared.instr.Instr.TheVariants.{Jump, JumpUnless, ParagraphEnd, Move, Compute, OnSizeError, Perform, PerformTimes, Until, PerformOneOf, Exit, ExitProgram, StopRun, DisplayScreen, Display, Accept, Call, Send, NoCode, Begin, End, Abort, Restart, Receive, Reply, Read, ReadNext, Write, Rewrite, Delete}
@@ -55,7 +56,7 @@ abbrev one_more : Context → Context
 one_more context = record context { count = context.count + 1 }
 
 abbrev too_many : Context → Context
-too_many context = record context { fault = 201; at_verb = true }
+too_many context = record context { course = Fault 201; at_verb = true }
 
 -- a statement that has begun, and one that is one too many
 pub count_on : (f : Config → Config) (top : Top) (old new : Context) (told : Bool) → told ≡ nat_lt old.count most_counted → told ≡ true

@@ -1,11 +1,12 @@
 -- The counts of a context rise by at most one with each answer.
 use Rattle.std.proofs.Common.{◌≡◌, ℕ, zero, suc, ◌+◌, ◌<◌, ◌≤◌, Bool, true, false, List, [], ◌∷◌, ◌++◌, length, Option, Some, None, refl, sym, ap, subst, arith}
-use Rattle.std.specs.Prelude.{slice_get, ◌==◌, if◌then◌else◌}
+use Rattle.std.specs.Prelude.{slice_get, if◌then◌else◌}
 use Rattle.pw_terminal.specs.Entries.{check}
 use Rattle.pw_terminal.specs.declared.entries.EntryAnswer.{EntryAnswer}
 use Rattle.pw_terminal.specs.declared.entries.EntryAnswer.TheVariants.{Valid, BadKey, BadField}
 use Rattle.pw_code.specs.Entry.{EntryLineModel}
 use Rattle.pw_code.specs.Instrs.{screen_at}
+use Rattle.pw_code.proofs.CourseLemmas.{course-holds}
 use Rattle.pw_code.specs.declared.context.Context.{Context}
 use Rattle.pw_code.specs.declared.field.ScreenTable.{ScreenTable}
 use Rattle.pw_code.specs.declared.instr.Instr.{Instr}
@@ -17,7 +18,7 @@ use Rattle.pw_code.specs.declared.verb.Answer.{Answer}
 use Rattle.pw_code.specs.declared.verb.Answer.TheVariants as answer
 use Rattle.pw_code_meaning.proofs.CountSteps.{Counts, counts_in, step_same}
 use Rattle.pw_code_meaning.specs.Answers.{answered, answered_by, begin_put, entry_checked, entry_put, file_put, put, read_put, reply_put, reply_taken, unit_ended, yielded}
-use Rattle.pw_code_meaning.specs.Config.{Config, code_of, has_fault, starting, starting_server}
+use Rattle.pw_code_meaning.specs.Config.{Config, code_of, starting, starting_server}
 use Rattle.pw_code_meaning.specs.Reading.{Spot}
 use Rattle.pw_code_meaning.specs.Runs.{Run, run, StandsFrom}
 use Rattle.pw_code_meaning.specs.Steps.{step}
@@ -35,10 +36,6 @@ near a b shown entries units = record { shown = shown; entries = entries; units 
 
 stays : (c : Config) → Near c.rest c.rest
 stays c = near _ _ (omega arith) (omega arith) (omega arith)
-
-near_test : (c d e : Config) (b : Bool) → Near c.rest d.rest → Near c.rest e.rest → Near c.rest (if b then d else e).rest
-near_test c d e true g h = g
-near_test c d e false g h = h
 
 checked_near : (table : ScreenTable) (line : EntryLineModel) (found : EntryAnswer) (c : Config) → Near c.rest (entry_checked table line found c).rest
 checked_near table line (Valid place) c = near _ _ (omega arith) (omega arith) (omega arith)
@@ -141,9 +138,8 @@ answered_near system (Some (Reply from)) a c = stays c
 
 put_near : (system : System) (a : Answer) (c : Config) → Near c.rest (put system a c).rest
 put_near system a c =
-    near_test c _ _ (has_fault c.rest) (stays c)
-    (near_test c _ _ (c.rest.mode == 1) (near _ _ (omega arith) (omega arith) (omega arith))
-    (answered_near system (slice_get (code_of system c).instrs c.top.at) a c))
+    course-holds (λ (d : Config). Near c.rest d.rest) c.rest.course _ _ _ (answered_near system (slice_get (code_of system c).instrs c.top.at) a c)
+    (near _ _ (omega arith) (omega arith) (omega arith)) (λ code. stays c)
 
 -- ---- runs
 

@@ -3,6 +3,7 @@ use Rattle.std.proofs.Common.{◌≡◌, ◌≢◌, ◌==◌, nat_lt, cond, Bool
 use Rattle.std.proofs.Math.ListN.{set}
 use Rattle.std.proofs.lemmas.Bool.Decides.{nat_tests}
 use Rattle.pw_code.specs.declared.context.Context.{Context}
+use Rattle.pw_code.specs.declared.context.Course.TheVariants.{Fault}
 use Rattle.pw_code.specs.declared.context.Frame.{Frame}
 use Rattle.pw_code.specs.declared.context.Return.{Return}
 use Rattle.pw_code_meaning.specs.Config.{Config, most_counted}
@@ -38,7 +39,7 @@ by_tests false false back again fault ended there = absurd (cc)
 
 pub again : (start program at : ℕ) (storage : List ℕ) (items now : List Return) (last : Return) (context new : Context) (told : Bool) → 0 < length items → last.turns ≢ 0
     → told ≡ nat_lt context.count most_counted → told ≡ true
-    → new ≡ cond told (record context { count = context.count + 1 }) (record context { fault = 201; at_verb = true })
+    → new ≡ cond told (record context { count = context.count + 1 }) (record context { course = Fault 201; at_verb = true })
     → now ≡ set items (length items - 1) (record last { turns = last.turns - 1 })
     → config (record { program = program; at = start; storage = storage; returns = now }) new
     ≡ comes_back start (take (length items - 1) items) last (config (record { program = program; at = at; storage = storage; returns = items }) context)
@@ -48,10 +49,10 @@ again start program at storage items now last context new told some left told_is
     let ended : (last.turns == 0) ≡ false = grind (arith, nat_tests) in
     let room : nat_lt context.count most_counted ≡ true = sym told_is ∙ counted_on in
     let counted_context : Context = record context { count = context.count + 1 } in
-    let here : new ≡ counted_context = new_is ∙ ap (λ b. cond b counted_context (record context { fault = 201; at_verb = true })) counted_on in
+    let here : new ≡ counted_context = new_is ∙ ap (λ b. cond b counted_context (record context { course = Fault 201; at_verb = true })) counted_on in
     let made : List Return → Context → Config = λ r x. config (record { program = program; at = start; storage = storage; returns = r }) x in
     ap (λ r. made r new) (now_is ∙ set_last items one_less some) ∙ ap (made (before ++ one_less ∷ [])) here
     ∙ sym (by_tests (last.turns == 0) (nat_lt context.count most_counted)
     (config (record { program = program; at = last.resume; storage = storage; returns = before }) context)
     (made (before ++ one_less ∷ []) counted_context)
-    (config (record { program = program; at = at; storage = storage; returns = items }) (record context { fault = 201; at_verb = true })) ended room)
+    (config (record { program = program; at = at; storage = storage; returns = items }) (record context { course = Fault 201; at_verb = true })) ended room)

@@ -20,7 +20,7 @@ use crate::top::Top;
 use crate::turns::{count, end_paragraph, fault, go_over, tested, turn};
 use crate::verbs::{ask, ask_in_unit, begin, stop};
 use pw_base::memory::Memory;
-use pw_code::context::Context;
+use pw_code::context::{Context, Course};
 use pw_code::instr::Instr;
 use pw_code::system::System;
 
@@ -153,12 +153,14 @@ pub fn step(system: &System, top: &mut Top, context: &mut Context) -> Result<(),
     ensures config { IfOk result (λ _. config_of top.new context.new ≡ steps.step system.now (config_of top.old context.old)) }
     ensures sound { IfOk result (λ _. IsSound system.now (config_of top.new context.new)) }
 {
-    if context.mode != 0 {
-        ask(context);
-        return Ok(());
-    }
-    match instr_at(system, top) {
-        Some(instr) => act(system, instr, top, context),
-        None => leave(system, top, context),
+    match context.course {
+        Course::Instruction => match instr_at(system, top) {
+            Some(instr) => act(system, instr, top, context),
+            None => leave(system, top, context),
+        },
+        Course::Advisory | Course::Fault(_) => {
+            ask(context);
+            Ok(())
+        }
     }
 }

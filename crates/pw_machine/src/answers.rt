@@ -21,9 +21,9 @@ use crate::replies::replied;
 use crate::stack::instr_at;
 use crate::top::Top;
 use crate::turns::go_over;
-use crate::units::{answered, has_fault, shown, unit_begun, unit_ended};
+use crate::units::{answered, shown, unit_begun, unit_ended};
 use pw_base::bytes::Bytes;
-use pw_code::context::Context;
+use pw_code::context::{Context, Course};
 use pw_code::instr::{Instr, ReplyCode};
 use pw_code::place::StoragePlace;
 use pw_code::system::System;
@@ -108,8 +108,7 @@ fn put_reply(top: &mut Top, context: &mut Context, codes: &[ReplyCode], answer: 
         Answer::Replied(reply) => replied(top, context, codes, reply.as_slice()),
         Answer::Failed(code) => {
             answered(context);
-            context.fault = *code;
-            context.mode = 2;
+            context.course = Course::Fault(*code);
         }
         _ => {
             answered(context);
@@ -271,13 +270,13 @@ pub fn put(system: &System, top: &mut Top, context: &mut Context, answer: &Answe
     ensures size { length top.new.storage.items ≡ length top.old.storage.items }
     ensures program { top.new.program ≡ top.old.program }
 {
-    if has_fault(context) {
-        return;
-    }
-    if context.mode == 1 {
-        return shown(context);
-    }
-    if let Some(instr) = instr_at(system, top) {
-        put_by(system, instr, top, context, answer);
+    match context.course {
+        Course::Fault(_) => {}
+        Course::Advisory => shown(context),
+        Course::Instruction => {
+            if let Some(instr) = instr_at(system, top) {
+                put_by(system, instr, top, context, answer);
+            }
+        }
     }
 }

@@ -12,10 +12,9 @@ use crate::chars::read_chars;
 use crate::registers::MachineRegisters;
 use crate::stack::instr_at;
 use crate::top::Top;
-use crate::units::has_fault;
 use pw_base::bytes::Bytes;
 use pw_base::memory::Memory;
-use pw_code::context::Context;
+use pw_code::context::{Context, Course};
 use pw_code::file::{FileCall, FileOp};
 use pw_code::instr::Instr;
 use pw_code::operand::InstructionOperand;
@@ -136,14 +135,12 @@ pub fn asked(system: &System, top: &Top, context: &Context) -> Result<Verb, Memo
     requires sound { IsSound system.now (config_of top.now context.now) }
     ensures { IfOk result (λ verb. verb ≡ steps.verb_of system.now (config_of top.now context.now)) }
 {
-    if has_fault(context) {
-        return Ok(Verb::Fault(context.fault));
-    }
-    if context.mode == 1 {
-        return Ok(Verb::Show);
-    }
-    match instr_at(system, top) {
-        Some(instr) => asked_by(system, top, context, instr),
-        None => Ok(Verb::Stop),
+    match context.course {
+        Course::Fault(code) => Ok(Verb::Fault(code)),
+        Course::Advisory => Ok(Verb::Show),
+        Course::Instruction => match instr_at(system, top) {
+            Some(instr) => asked_by(system, top, context, instr),
+            None => Ok(Verb::Stop),
+        },
     }
 }

@@ -23,7 +23,7 @@ use crate::top::Top;
 use crate::turns::go_over;
 use crate::units::answered;
 use pw_base::bytes::Bytes;
-use pw_code::context::Context;
+use pw_code::context::{Context, Course};
 use pw_code::entry::EntryLine;
 use pw_code::field::{Field, FieldKind, ScreenTable};
 use pw_code::place::Kind;
@@ -112,7 +112,7 @@ pub fn entered(
         }
         wrong => {
             advise(wrong, line, &mut context.screen);
-            context.mode = 1;
+            context.course = Course::Advisory;
         }
     }
 }

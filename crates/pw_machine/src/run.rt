@@ -18,7 +18,7 @@ use crate::top::Top;
 use pw_base::bytes::Bytes;
 use pw_base::list::List;
 use pw_base::memory::Memory;
-use pw_code::context::{Context, Frame};
+use pw_code::context::{Context, Course, Frame};
 use pw_code::system::System;
 use pw_code::verb::{Answer, Verb};
 use pw_terminal::images::blank;
@@ -46,8 +46,7 @@ fn fresh(alloc: Global, program: u16, storage: Bytes) -> Result<Context, Memory>
         entries: 0,
         units: 0,
         in_unit: false,
-        mode: 0,
-        fault: 0,
+        course: Course::Instruction,
         at_verb: false,
         count: 0,
         screen,

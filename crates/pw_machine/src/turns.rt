@@ -1,4 +1,5 @@
 ghost use Rattle.std.specs.Prelude.{◌≡◌, ◌≤◌, ◌<◌, ◌+◌, ◌-◌, ◌^◌, true, length, take, nat_lt, option_map, IfOk, if◌then◌else◌};
+ghost use Rattle.pw_code.specs.declared.context.Course.TheVariants.{Fault};
 ghost use Rattle.pw_code_meaning.specs.Config.{most_counted};
 ghost use Rattle.pw_code_meaning.specs.Config as config;
 ghost use Rattle.pw_code_meaning.specs.Turns as paragraphs;
@@ -7,7 +8,7 @@ ghost use Rattle.pw_machine.specs.Stack.{StaysAt};
 
 use crate::top::Top;
 use pw_base::memory::Memory;
-use pw_code::context::{Context, Return};
+use pw_code::context::{Context, Course, Return};
 use pw_code::instr::Turn;
 
 /// The most statements and turns between two answers.
@@ -18,16 +19,16 @@ const MAX_PERFORMS: usize = 64;
 
 /// Stands at a run fault.
 pub fn fault(context: &mut Context, code: u16)
-    ensures { context.new ≡ record context.old { fault = code; at_verb = true } }
+    ensures { context.new ≡ record context.old { course = Fault code; at_verb = true } }
 {
-    context.fault = code;
+    context.course = Course::Fault(code);
     context.at_verb = true;
 }
 
 /// A statement or a turn begins, unless too many have begun.
 pub fn count(context: &mut Context) -> bool
     ensures told { result ≡ nat_lt context.old.count most_counted }
-    ensures context { context.new ≡ (if result then record context.old { count = context.old.count + 1 } else record context.old { fault = 201; at_verb = true }) }
+    ensures context { context.new ≡ (if result then record context.old { count = context.old.count + 1 } else record context.old { course = Fault 201; at_verb = true }) }
 {
     if context.count < MAX_COUNTED {
         context.count += 1;

@@ -2,10 +2,10 @@
 
 ghost use Rattle.std.specs.Prelude.{◌≡◌, ◌<◌, ◌+◌};
 ghost use Rattle.pw_code_meaning.specs.Answers as answers;
-ghost use Rattle.pw_code_meaning.specs.Config.{has_fault};
+ghost use Rattle.pw_code.specs.declared.context.Course.TheVariants.{Instruction};
 ghost use Rattle.pw_machine.specs.Stack.{HasRoom};
 
-use pw_code::context::Context;
+use pw_code::context::{Context, Course};
 
 /// Behind an answer of a terminal the count is 0 again.
 pub fn answered(context: &mut Context)
@@ -18,11 +18,11 @@ pub fn answered(context: &mut Context)
 /// The screen was shown: one refresh more, and no advisory.
 pub fn shown(context: &mut Context)
     requires { context.old.shown < 1000000 }
-    ensures { context.new ≡ record (answers.answered context.old) { shown = context.old.shown + 1; mode = 0 } }
+    ensures { context.new ≡ record (answers.answered context.old) { shown = context.old.shown + 1; course = Instruction } }
 {
     answered(context);
     context.shown += 1;
-    context.mode = 0;
+    context.course = Course::Instruction;
 }
 
 /// A unit's attempt with this number of restarts has begun.
@@ -61,11 +61,4 @@ pub fn reply_taken(context: &mut Context)
     } else {
         unit_ended(context);
     }
-}
-
-/// Whether a run fault is its own, or one of a server that is to be told.
-pub fn has_fault(context: &Context) -> bool
-    ensures { result ≡ has_fault context.now }
-{
-    context.fault != 0 || context.mode == 2
 }

@@ -1,4 +1,5 @@
 ghost use Rattle.std.specs.Prelude.{◌≡◌, ◌≤◌, ◌<◌, ◌+◌, ◌^◌, true, nat_lt, length, if◌then◌else◌};
+ghost use Rattle.pw_code.specs.declared.context.Course.TheVariants.{Fault};
 ghost use Rattle.pw_code_meaning.specs.Calls as programs;
 ghost use Rattle.pw_code_meaning.specs.Config as config;
 ghost use Rattle.pw_machine.specs.Config.{config_of};
@@ -18,7 +19,7 @@ pub fn ask(context: &mut Context)
 
 /// BEGIN-TRANSACTION, which in a transaction is NESTED.
 pub fn begin(context: &mut Context)
-    ensures asked { context.new ≡ (if context.old.in_unit then record context.old { fault = 205; at_verb = true } else record context.old { at_verb = true }) }
+    ensures asked { context.new ≡ (if context.old.in_unit then record context.old { course = Fault 205; at_verb = true } else record context.old { at_verb = true }) }
     ensures frames { context.new.frames ≡ context.old.frames }
 {
     if context.in_unit {
@@ -30,7 +31,7 @@ pub fn begin(context: &mut Context)
 
 /// END-, ABORT- and RESTART-TRANSACTION, each of which outside a transaction is NOUNIT.
 pub fn ask_in_unit(context: &mut Context)
-    ensures asked { context.new ≡ (if context.old.in_unit then record context.old { at_verb = true } else record context.old { fault = 206; at_verb = true }) }
+    ensures asked { context.new ≡ (if context.old.in_unit then record context.old { at_verb = true } else record context.old { course = Fault 206; at_verb = true }) }
     ensures frames { context.new.frames ≡ context.old.frames }
 {
     if context.in_unit {

@@ -5,8 +5,12 @@ use Rattle.std.specs.List.{AllByRecursion}
 use Rattle.pw_terminal.specs.Entries.{check}
 use Rattle.pw_terminal.specs.declared.entries.EntryAnswer.{EntryAnswer}
 use Rattle.pw_terminal.specs.declared.entries.EntryAnswer.TheVariants.{Valid, BadKey, BadField}
+use Rattle.pw_code.proofs.CourseLemmas.{course-holds}
+use Rattle.pw_code.specs.Courses.{by_course}
 use Rattle.pw_code.specs.Entry.{EntryLineModel}
 use Rattle.pw_code.specs.Instrs.{program_at, screen_at}
+use Rattle.pw_code.specs.declared.context.Course.{Course}
+use Rattle.pw_code.specs.declared.context.Course.TheVariants.{Instruction, Advisory, Fault}
 use Rattle.pw_code.specs.declared.context.Frame.{Frame}
 use Rattle.pw_code.specs.declared.context.Return.{Return}
 use Rattle.pw_code.specs.declared.field.ScreenTable.{ScreenTable}
@@ -23,7 +27,7 @@ use Rattle.pw_code.specs.declared.verb.Verb.TheVariants as verb
 use Rattle.pw_tree_meaning.specs.Values.{number_of, whole_part}
 use Rattle.pw_code_meaning.specs.Answers.{answered, answered_by, begin_put, entry_checked, entry_put, file_put, put, read_put, reply_put, unit_ended, yielded}
 use Rattle.pw_code_meaning.specs.Calls.{active, calls, leaves_by, most_active, most_calls, stops}
-use Rattle.pw_code_meaning.specs.Config.{Config, has_fault, faults, code_statement_counted, is_server, most_counted, on, over, with_taken}
+use Rattle.pw_code_meaning.specs.Config.{Config, faults, code_statement_counted, is_server, most_counted, on, over, with_taken}
 use Rattle.pw_code_meaning.specs.Moves.{operands_of, result_of}
 use Rattle.pw_code_meaning.specs.Reading.{Spot, registers_of}
 use Rattle.pw_code_meaning.specs.Runs.{Run, config_after_answers, at_verb, most_steps, run}
@@ -31,8 +35,12 @@ use Rattle.pw_code_meaning.specs.Steps.{act, asked_by, branch, does, holds_here,
 use Rattle.pw_code_meaning.specs.Turns.{at_position, chosen, comes_back, ends_by, most_performs, placed, split_last, tested, turn, turns}
 
 -- the run fault is one of a log line
+abbrev pub IsSmallFault : Course → Type 0
+IsSmallFault (Fault code) = code < 2 ^ 16
+IsSmallFault _ = Unit {0}
+
 abbrev pub IsSmall : Config → Type 0
-IsSmall c = c.rest.fault < 2 ^ 16
+IsSmall c = IsSmallFault c.rest.course
 
 -- so it stays
 abbrev Keeps : Config → Config → Type 0
@@ -215,7 +223,7 @@ act_kept system (Some (Rewrite file from)) c = ticked system (Rewrite file from)
 act_kept system (Some (Delete file key)) c = ticked system (Delete file key) c
 
 step_kept : (system : System) (c : Config) → Keeps c (step system c)
-step_kept system c = by_test c _ _ (c.rest.mode == 0) (act_kept system (instr_of system c) c) (λ s. s)
+step_kept system c = course-holds (Keeps c) c.rest.course _ _ _ (act_kept system (instr_of system c) c) (λ s. s) (λ code s. s)
 
 -- ---- answers
 
@@ -227,18 +235,18 @@ IsTold _ = Unit {0}
 checked : (table : ScreenTable) (line : EntryLineModel) (found : EntryAnswer) (c : Config)
     → Keeps c (entry_checked table line found c)
 checked table line (Valid place) c = λ s. s
-checked table line BadKey c = λ s. s
-checked table line (BadField place) c = λ s. s
+checked table line BadKey c = λ s. tt
+checked table line (BadField place) c = λ s. tt
 
 yields : (o : Option (ℕ × Spot)) (reply : List ℕ) (c : Config) → Keeps c (yielded o reply c)
 yields None reply c = by (c.rest.in_unit)
   where
-    by : (b : Bool) → IsSmall c → (if b then answered c.rest else unit_ended c.rest).fault < 2 ^ 16
+    by : (b : Bool) → IsSmall c → IsSmallFault (if b then answered c.rest else unit_ended c.rest).course
     by true s = s
     by false s = s
 yields (Some found) reply c = by (c.rest.in_unit)
   where
-    by : (b : Bool) → IsSmall c → (if b then answered c.rest else unit_ended c.rest).fault < 2 ^ 16
+    by : (b : Bool) → IsSmall c → IsSmallFault (if b then answered c.rest else unit_ended c.rest).course
     by true s = s
     by false s = s
 
@@ -296,8 +304,8 @@ files answer.Dropped c = λ s. s
 
 by_instr : (system : System) (o : Option Instr) (a : Answer) → IsTold a → (c : Config)
     → Keeps c (answered_by system o a c)
-by_instr system (Some (DisplayScreen screen base)) a told c = λ s. s
-by_instr system (Some (Display one)) a told c = λ s. s
+by_instr system (Some (DisplayScreen screen base)) a told c = λ s. tt
+by_instr system (Some (Display one)) a told c = λ s. tt
 by_instr system (Some (Accept screen keys)) a told c = enters (screen_at system screen) keys a c
 by_instr system (Some (Send class message codes)) a told c = replies codes a told c
 by_instr system (Some Begin) a told c = begins a c
@@ -330,8 +338,7 @@ by_instr system None a told c = λ s. s
 
 put_kept : (system : System) (a : Answer) → IsTold a → (c : Config) → Keeps c (put system a c)
 put_kept system a told c =
-    by_test c _ _ (has_fault c.rest) (λ s. s)
-    (by_test c _ _ (c.rest.mode == 1) (λ s. s) (by_instr system (instr_of system c) a told c))
+    course-holds (Keeps c) c.rest.course _ _ _ (by_instr system (instr_of system c) a told c) (λ s. tt) (λ code s. s)
 
 -- ---- along answers
 
@@ -417,12 +424,12 @@ fault_in _ = 0
 -- a run fault that is asked is that of the configuration
 pub verb_small : (system : System) (c : Config) (x : ℕ) → IsSmall c
     → verb_of system c ≡ verb.Fault x → x < 2 ^ 16
-verb_small system c x s = by (has_fault c.rest) (c.rest.mode == 1)
+verb_small system c x = by c.rest.course
   where
-    by : (f m : Bool)
-        → (if f then verb.Fault c.rest.fault else if m then verb.Show
-        else asked_by (instr_of system c) c) ≡ verb.Fault x → x < 2 ^ 16
-    by true m is = subst (λ n. n < 2 ^ 16) (ap fault_in is) s
-    by false true is = fault-of verb.Show x tt is
-    by false false is = fault-of (asked_by (instr_of system c) c) x
+    by : (course : Course) → IsSmallFault course
+        → by_course course (asked_by (instr_of system c) c) verb.Show verb.Fault ≡ verb.Fault x
+        → x < 2 ^ 16
+    by (Fault code) s is = subst (λ n. n < 2 ^ 16) (ap fault_in is) s
+    by Advisory s is = fault-of verb.Show x tt is
+    by Instruction s is = fault-of (asked_by (instr_of system c) c) x
         (none-asked (instr_of system c) c) is

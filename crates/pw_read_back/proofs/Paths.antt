@@ -75,7 +75,7 @@ module _ (system : System) where
   asked-small (Some terminal) path x fine is =
       faults.verb_small system (terminal_after system terminal path) x
       (faults.after_kept system (config.starting system terminal.program)
-      (map (told terminal.entries) path) (told-small terminal path fine) (omega arith)) is
+      (map (told terminal.entries) path) (told-small terminal path fine) tt) is
 
   served-small : (o : Option ClassInfo) (message : List ℕ) (done : List FileResult) (x : ℕ)
       → operation_of system o message done ≡ verb.Fault x → x < 2 ^ 16
@@ -83,7 +83,7 @@ module _ (system : System) where
   served-small (Some class) message done x is =
       faults.verb_small system (server_after system class message done) x
       (faults.after_kept system (starting_server system class.server message) (map file_told done)
-      (files-told done) (omega arith)) is
+      (files-told done) tt) is
 
 -- a run fault of a terminal's program, and of a server
 pub ask-small : (script : List FailLine) (system : System) (t : ℕ) (path : List PathAnswer) (x : ℕ)

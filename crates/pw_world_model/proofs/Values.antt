@@ -1,9 +1,12 @@
 -- The context behind the answer that ends a transaction has numbers and characters of their types.
-use Rattle.std.proofs.Common.{◌≡◌, ℕ, ◌-◌, ◌<◌, ◌^◌, ◌==◌, List, [], ◌∷◌, ◌++◌, length, Option, Some, None, Bool, true, false, refl, sym, ap, subst, ◌∙◌, arith}
+use Rattle.std.proofs.Common.{◌≡◌, ℕ, ◌-◌, ◌<◌, ◌^◌, List, [], ◌∷◌, ◌++◌, length, Option, Some, None, Bool, true, false, refl, sym, ap, subst, ◌∙◌, arith}
 use Rattle.std.specs.Prelude.{IsSome, get_or, if◌then◌else◌, nat_lt, slice_get}
 use Rattle.std.specs.List.{AllByRecursion}
 use Rattle.std.proofs.lemmas.List.Elements.{All-from_recursion, recursion_from_All}
 use Rattle.std.proofs.lemmas.Option.{slice_get_within}
+use Rattle.pw_code.specs.Courses.{by_course}
+use Rattle.pw_code.specs.declared.context.Course.{Course}
+use Rattle.pw_code.specs.declared.context.Course.TheVariants.{Instruction, Advisory, Fault}
 use Rattle.pw_code.specs.Instrs.{no_code, program_at}
 use Rattle.pw_code.specs.Valid.{IsValid}
 use Rattle.pw_code.specs.declared.code.Code.{Code}
@@ -15,7 +18,7 @@ use Rattle.pw_code.specs.declared.system.System.{System}
 use Rattle.pw_code.specs.declared.verb.Answer.{Answer}
 use Rattle.pw_code.specs.declared.verb.Verb.TheVariants as verb
 use Rattle.pw_code_meaning.specs.Answers.{answered_by, put, shown, unit_end_put}
-use Rattle.pw_code_meaning.specs.Config.{Config, closed, code_at, code_of, has_fault}
+use Rattle.pw_code_meaning.specs.Config.{Config, closed, code_at, code_of}
 use Rattle.pw_code_meaning.specs.Sound.{IsSoundContext}
 use Rattle.pw_code_meaning.specs.Steps.{asked_by, verb_of}
 use Rattle.pw_code_meaning.proofs.Bounds.{at_or}
@@ -81,15 +84,15 @@ module _ (system : System) (valid : IsValid system) (c : Config) (a : Answer) wh
   by-instr (Some (Rewrite file from)) e = absurd (cc e)
   by-instr (Some (Delete file key)) e = absurd (cc e)
 
-  by-mode : (f m : Bool) (i : Option Instr) → closing (if f then verb.Fault c.rest.fault else if m then verb.Show else asked_by i c) ≡ Some a
-      → ((if f then c else if m then shown c else answered_by system i a c) ≡ unit_end_put c) × IsSome i
-  by-mode true m i e = absurd (cc e)
-  by-mode false true i e = absurd (cc e)
-  by-mode false false i e = by-instr i e
+  by-way : (course : Course) (i : Option Instr) → closing (by_course course (asked_by i c) verb.Show verb.Fault) ≡ Some a
+      → (by_course course (answered_by system i a c) (shown c) (λ code. c) ≡ unit_end_put c) × IsSome i
+  by-way (Fault code) i e = absurd (cc e)
+  by-way Advisory i e = absurd (cc e)
+  by-way Instruction i e = by-instr i e
 
   module _ (closes : closing (verb_of system c) ≡ Some a) (values : HasValues (closed c)) (room : HasRoom (closed c)) where
     both : (put system a c ≡ unit_end_put c) × IsSome (slice_get (code_of system c).instrs c.top.at)
-    both = by-mode (has_fault c.rest) (c.rest.mode == 1) (slice_get (code_of system c).instrs c.top.at) closes
+    both = by-way c.rest.course (slice_get (code_of system c).instrs c.top.at) closes
 
     at-low : (o : Option Instr) → slice_get (code_of system c).instrs c.top.at ≡ o → IsSome o → c.top.at < length (code_of system c).instrs
     at-low None none some = absurd (cc some)

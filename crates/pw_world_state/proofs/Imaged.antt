@@ -4,6 +4,7 @@ use Rattle.std.specs.Prelude.{All, slice_get}
 use Rattle.std.proofs.lemmas.List.{map-append}
 use Rattle.std.proofs.lemmas.Option.{get_or_from_slice_get, slice_get_within}
 use Rattle.std.proofs.lemmas.List.Elements.{All-append, All-cons, All-nil}
+use Rattle.pw_code.specs.Courses.{is_run_fault}
 use Rattle.pw_code.specs.Limits.{most_active}
 use Rattle.pw_code.specs.Valid.{IsTerminal, IsValid}
 use Rattle.pw_code.specs.declared.context.Context.{Context}
@@ -71,16 +72,15 @@ module _ (system : System) (script : List FailLine) (t : ℕ) (info : TermInfo) 
       (All-cons (λ (frame : Frame). length frame.returns ≤ most_performs) d.top [] shallow.top (All-nil (λ (frame : Frame). length frame.returns ≤ most_performs))) in
       record { storage = small k other lt; returns = all k other lt }
 
-  image-at : (d : Config) → Shallow d → HasSmallStorage (closed d) → d.rest.file_status ≡ 0 → d.rest.fault ≡ 0 → d.rest.at_verb ≡ false → d.rest.count ≡ 0 → d.rest.mode ≤ 1 → HasImage (closed d)
-  image-at d shallow small status fault answer count mode =
+  image-at : (d : Config) → Shallow d → HasSmallStorage (closed d) → d.rest.file_status ≡ 0 → is_run_fault d.rest.course ≡ false → d.rest.at_verb ≡ false → d.rest.count ≡ 0 → HasImage (closed d)
+  image-at d shallow small status no_fault answer count =
       let long : length (d.rest.frames ++ d.top ∷ []) ≡ length d.rest.frames + 1 = length-append d.rest.frames (d.top ∷ []) in
       let few : length d.rest.frames ≤ 8 = shallow.few in
       record {
         file_status = status;
-        fault = fault;
+        no_fault = no_fault;
         at_answer = answer;
         count = count;
-        mode = mode;
         some = omega (arith, long);
         few = omega (arith, long, few);
         frames = fits d shallow small;
@@ -99,13 +99,13 @@ module _ (system : System) (script : List FailLine) (t : ℕ) (info : TermInfo) 
       let third = follows-answer system script t info valid here path a parts.1 parts.3.1 suits.0 second in
       let calm = behind.calm (sym (fault-failed a) ∙ sound) in
       subst (λ c. HasSmallStorage (closed c) → HasImage (closed c)) parts.4
-      (λ small. image-at (put system (told info.entries a) parts.1) third.shallow small third.counts.status calm.0 behind.at_answer behind.count calm.1) small
+      (λ small. image-at (put system (told info.entries a) parts.1) third.shallow small third.counts.status calm behind.at_answer behind.count) small
 
   image-start : (d : Config) → starting system info.program ≡ d → HasSmallStorage (closed d) → HasImage (closed d)
   image-start d is small =
       let first = follows-start system script t info valid here in
       subst (λ c. HasSmallStorage (closed c) → HasImage (closed c)) is
-      (λ small. image-at (starting system info.program) first.shallow small refl refl refl refl (omega arith)) small
+      (λ small. image-at (starting system info.program) first.shallow small refl refl refl refl) small
 
   -- its program is one of the system
   program-known : info.program < length system.programs
