@@ -80,9 +80,9 @@ added-places old new terminals t are none updates = record {
 
 -- seats with one more
 pub added : (seats new : List BackupSeat) (old map' : BTreeMap ℕ ℕ) (lacking t place : ℕ) → AreSeats seats old lacking → get nat_cmp old t ≡ None → place ≡ length seats
-    → ((q : ℕ) → get nat_cmp map' q ≡ cond (is_at (nat_cmp t) q) (Some place) (get nat_cmp old q)) → place < 4294967295 → new ≡ seats ++ new_seat t ∷ []
+    → ((q : ℕ) → get nat_cmp map' q ≡ cond (is_at (nat_cmp t) q) (Some place) (get nat_cmp old q)) → new ≡ seats ++ new_seat t ∷ []
     → AreSeats new map' (lacking + 1)
-added seats new old map' lacking t place are none at updates few e =
+added seats new old map' lacking t place are none at updates e =
     let terminals : List ℕ = terminals_of seats in
     let own : (q : ℕ) → get nat_cmp map' q ≡ cond (is_at (nat_cmp t) q) (Some (length terminals)) (get nat_cmp old q) =
     λ q. updates q ∙ ap (λ n. cond (is_at (nat_cmp t) q) (Some n) (get nat_cmp old q)) (at ∙ sym (length-map seats (λ seat. seat.terminal))) in
@@ -94,7 +94,6 @@ added seats new old map' lacking t place are none at updates few e =
       lacks =
           let c = are.lacks in
           omega (arith, sum_by-append (λ seat. cond (is_lacking seat) 1 0) seats (new_seat t ∷ []), sum_by-cons (λ seat. cond (is_lacking seat) 1 0) (new_seat t) []);
-      few = omega (arith, length-append seats (new_seat t ∷ []));
     } in
     let Q : List BackupSeat → Type 0 = λ l. AreSeats l map' (lacking + 1) in
     subst Q (sym e) all

@@ -3,8 +3,7 @@ use Rattle.std.proofs.Common.{◌≡◌, ◌≢◌, ℕ, zero, suc, ◌+◌, ◌
 use Rattle.std.proofs.Math.ListN.{set, length-set}
 use Rattle.std.proofs.Math.Seq.{map-set_same}
 use Rattle.std.proofs.lemmas.Bool.{true≢false, false≢true, eqb-true, eq-eqb, lt-ltb, and_parts}
-use Rattle.std.proofs.lemmas.List.{length-map}
-use Rattle.std.proofs.lemmas.List.Sums.{sum_by-cons, sum_by-set}
+use Rattle.std.proofs.lemmas.List.Sums.{count_by-le-length, get_or-le-sum_by, sum_by-cons, sum_by-set}
 use Rattle.std.specs.BTreeMap.{BTreeMap, get}
 use Rattle.std.specs.List.{find, list_all, list_any, count_by}
 use Rattle.std.specs.Ordering.{nat_cmp}
@@ -127,7 +126,6 @@ keeps seats places lacking count k d new are lt same sound e =
       places_are = subst P (sym (map-set_same (λ seat. seat.terminal) seats k new d same)) are.places_are;
       sound = all-set is_sound seats k new are.sound sound;
       lacks = let c = are.lacks in omega (arith, sum_by-set (λ seat. cond (is_lacking seat) 1 0) seats k new d lt);
-      few = let f = are.few in omega (arith, length-set seats k new);
     }
 
 -- What a call that changes one seat owes, in the words of its places.
@@ -171,6 +169,23 @@ module _ (places : BTreeMap ℕ ℕ) (items now : List BackupSeat) (t : ℕ) (vi
       changed-seat change new e =
           ap (λ s. set items k s) (e ∙ ap change is) ∙ only-at t change items k seat (found places items t k seat are place)
           ∙ ap (λ l. at_terminal t change l) view
+
+      -- what is counted again is counted, and is at most the seats
+      pub counted-seat : (lacking : ℕ) → AreSeats items places lacking → cond (is_lacking seat) 1 0 ≤ lacking
+      counted-seat lacking seats =
+          let c = seats.lacks in
+          omega (arith, ap {B = ℕ} (λ s. cond (is_lacking s) 1 0) is, get_or-le-sum_by (λ s. cond (is_lacking s) 1 0) items k seat within-at)
+
+      pub room-seat : (lacking : ℕ) (new : BackupSeat) → AreSeats items places lacking → lacking + cond (is_lacking new) 1 0 ≤ length items + cond (is_lacking seat) 1 0
+      room-seat lacking new seats =
+          let c = seats.lacks in
+          omega (
+            arith,
+            ap {B = ℕ} (λ s. cond (is_lacking s) 1 0) is,
+            sum_by-set (λ s. cond (is_lacking s) 1 0) items k new seat within-at,
+            count_by-le-length is_lacking (set items k new),
+            length-set items k new,
+          )
 
       pub kept-seat : (lacking count : ℕ) (new : BackupSeat) → AreSeats items places lacking → new.terminal ≡ seat.terminal
           → (is_sound seat ≡ true → is_sound new ≡ true) → count ≡ lacking + cond (is_lacking new) 1 0 - cond (is_lacking seat) 1 0
@@ -236,7 +251,6 @@ kept-map change seats new places lacking count same keep are e counted =
       places_are = subst P (sym (terminals-map change same seats) ∙ ap terminals_of (sym e)) are.places_are;
       sound = ap (list_all is_sound) e ∙ sound-map change keep seats are.sound;
       lacks = counted;
-      few = let f = are.few in omega (arith, ap length e, length-map seats change);
     }
 
 -- as many are counted where each counts as before

@@ -1,5 +1,5 @@
 -- Where the seat of each terminal is.
-use Rattle.std.specs.Prelude.{◌≡◌, ℕ, ◌<◌, ◌^◌, ◌+◌, ◌-◌, true, List, map, length, slice_index, count_by, Some, if◌then◌else◌, Bool}
+use Rattle.std.specs.Prelude.{◌≡◌, ℕ, ◌<◌, true, List, map, length, slice_index, count_by, Some}
 use Rattle.std.specs.BTreeMap.{BTreeMap, get}
 use Rattle.std.specs.List.{list_all}
 use Rattle.std.specs.Ordering.{nat_cmp}
@@ -23,4 +23,3 @@ pub record AreSeats (seats : List BackupSeat) (places : BTreeMap ℕ ℕ) (lacki
   pub places_are : ArePlaces places (terminals_of seats)
   pub sound : list_all is_sound seats ≡ true
   pub lacks : lacking ≡ count_by is_lacking seats
-  pub few : length seats < 2 ^ 32

@@ -1,4 +1,4 @@
-ghost use Rattle.std.specs.Prelude.{◌≡◌, ◌↔◌, ◌&&◌, ◌<◌, ◌≤◌, ◌^◌, ◌+◌, ◌-◌, ◌++◌, option_to_list, vec_len, vec_capacity, if◌then◌else◌, [], count_by, find, length, map, slice_index_or, true, false, Some, None, IfOk, IfSome, IfNone, OnOk, OnErr, IsTrue, is_some};
+ghost use Rattle.std.specs.Prelude.{◌≡◌, ◌↔◌, ◌&&◌, ◌<◌, ◌≤◌, ◌+◌, ◌-◌, ◌++◌, option_to_list, vec_len, vec_capacity, if◌then◌else◌, [], count_by, find, length, map, slice_index_or, true, false, Some, None, IfOk, IfSome, IfNone, OnOk, OnErr, IsTrue, is_some};
 ghost use Rattle.std.specs.List.{list_any, list_all};
 ghost use Rattle.std.specs.Option.{option_copied};
 ghost use Rattle.pw_pair.specs.Bodies.{body_of};
@@ -40,15 +40,17 @@ impl Model for Seats {
     ghost invariant = { λ seats. AreSeats seats.seats.items seats.places seats.lacking };
 }
 
-/// More seats than this are more than memory has room for.
-const MAX_SEATS: usize = 0xffff_ffff;
-
-/// A count of seats, where one that was counted or not is counted or not now.
-fn recount(lacking: usize, before: bool, after: bool) -> usize
-    requires { lacking < 2 ^ 32 }
+/// How many of so many seats are lacking, where one that was lacking or not is lacking or not now.
+fn recount(seats: usize, lacking: usize, before: bool, after: bool) -> usize
+    requires counted { (if before then 1 else 0) ≤ lacking }
+    requires room { lacking + (if after then 1 else 0) ≤ seats + (if before then 1 else 0) }
     ensures { result ≡ lacking + (if after then 1 else 0) - (if before then 1 else 0) }
 {
-    (lacking + usize::from(after)).saturating_sub(usize::from(before))
+    match (before, after) {
+        (true, false) => lacking - 1,
+        (false, true) => lacking + 1,
+        _ => lacking,
+    }
 }
 
 impl Seats {
@@ -80,9 +82,6 @@ impl Seats {
         let place = self.seats.len();
         if self.places.contains_key(&terminal) {
             return Ok(());
-        }
-        if place >= MAX_SEATS {
-            return Err(Memory);
         }
         self.seats.reserve(1)?;
         self.places.insert(terminal, place)?;
@@ -135,7 +134,7 @@ impl Seats {
         let before = seat.is_lacking();
         seat.apply();
         let after = seat.is_lacking();
-        self.lacking = recount(self.lacking, before, after);
+        self.lacking = recount(self.seats.len(), self.lacking, before, after);
     }
 
     /// Drops the terminal.
@@ -149,7 +148,7 @@ impl Seats {
         let before = seat.is_lacking();
         seat.drop_terminal();
         let after = seat.is_lacking();
-        self.lacking = recount(self.lacking, before, after);
+        self.lacking = recount(self.seats.len(), self.lacking, before, after);
     }
 
     /// Puts a message in flight for the terminal: its changes against the start image that is held, where that is as
@@ -235,7 +234,7 @@ impl Seats {
         let before = seat.is_lacking();
         seat.put_held(held);
         let after = seat.is_lacking();
-        self.lacking = recount(self.lacking, before, after);
+        self.lacking = recount(self.seats.len(), self.lacking, before, after);
     }
 
     /// Puts what is held of each terminal into its seat. It takes no memory.

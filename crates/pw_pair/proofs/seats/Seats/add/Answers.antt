@@ -1,5 +1,5 @@
 -- One more seat stands behind the others, and the map has its place.
-use Rattle.std.proofs.Common.{◌≡◌, ◌++◌, ◌∷◌, [], true, false, cond, refl, sym, ap, subst, ◌∙◌, arith, Some, None, Option, ℕ, List}
+use Rattle.std.proofs.Common.{◌≡◌, ◌++◌, ◌∷◌, [], true, cond, refl, sym, ap, subst, ◌∙◌, arith, Some, None, Option, ℕ, List}
 use Rattle.std.specs.BTreeMap.{get}
 use Rattle.std.specs.List.{list_any}
 use Rattle.std.specs.Ordering.{nat_cmp}
@@ -28,15 +28,13 @@ invariant_of-self-in_err-insert c =
       places_are = same-places c.self.inside.places c.insert.new.self _ c.in_err-insert.ensures.err c.self.invariant.places_are;
       sound = c.self.invariant.sound;
       lacks = c.self.invariant.lacks;
-      few = c.self.invariant.few;
     })
 
 pub invariant_of-self-2 : goal.invariant_of-self-2
 invariant_of-self-2 c =
-    let few = c.if-place-ge-MAX_SEATS.false in
     let absent = is_some-None (get nat_cmp c.self.inside.places c.args.terminal) (sym c.if-contains_key.ensures) in
     added c.self.inside.seats.items c.push.new.self.items c.self.inside.places c.insert.new.self c.self.inside.lacking c.args.terminal c.len-place.result
-    c.self.invariant absent (let e = c.len-place.ensures in let n = c.self.inside.seats.ok.0 in omega (arith, e, n)) c.in_ok-insert.ensures.updates.0 (omega (arith, few))
+    c.self.invariant absent (let e = c.len-place.ensures in let n = c.self.inside.seats.ok.0 in omega (arith, e, n)) c.in_ok-insert.ensures.updates.0
     (c.push.ensures.items ∙ ap (λ r. cond (is_ok r) (c.reserve.new.self.items ++ c.new.result ∷ []) c.reserve.new.self.items) c.unwrap.ensures
     ∙ ap (λ l. l ++ c.new.result ∷ []) c.in_ok-reserve.ensures.items ∙ ap (λ s. c.self.inside.seats.items ++ s ∷ []) c.new.ensures)
 

@@ -1,8 +1,8 @@
 -- The seat at the terminal's place is changed, and the others stay.
-use Rattle.std.proofs.Common.{◌≡◌, refl, sym, ap, true, cond, ◌+◌, ◌-◌, ◌∙◌, arith}
+use Rattle.std.proofs.Common.{◌≡◌, ℕ, refl, sym, ap, true, cond, ◌+◌, ◌-◌, ◌∙◌, arith}
 use Rattle.pw_pair.specs.Seats.{applied, is_built, is_lacking, is_sound}
 use Rattle.pw_pair.proofs.Sound.{applied-sound, built-whole}
-use Rattle.pw_pair.proofs.At.{changed-seat, default-at, kept-seat, seat-passes, seat-sound, within-at}
+use Rattle.pw_pair.proofs.At.{changed-seat, counted-seat, default-at, kept-seat, seat-passes, room-seat, seat-sound, within-at}
 use Rattle.pw_pair.proofs.seats.Seats.apply.Goals as goal
 
 pub returns-in_default : goal.returns-in_default
@@ -16,6 +16,15 @@ apply-requires c =
     built-whole c.index_mut-seat.result.now
     (seat-sound c.self.inside.places c.self.inside.seats.items c.args.self.now c.args.terminal c.self.view_is c.self.invariant.places_are c.in-Some.place (sym c.get.ensures.value ∙ sym c.copied.ensures ∙ c.in-Some.is) c.index_mut-seat.result.now c.index_mut-seat.ensures.value c.self.inside.lacking c.self.invariant)
     (seat-passes c.self.inside.places c.self.inside.seats.items c.args.self.now c.args.terminal c.self.view_is c.self.invariant.places_are c.in-Some.place (sym c.get.ensures.value ∙ sym c.copied.ensures ∙ c.in-Some.is) c.index_mut-seat.result.now c.index_mut-seat.ensures.value is_built c.requires)
+
+pub recount-self-inside-requires-clause-counted : goal.recount-self-inside-requires-clause-counted
+recount-self-inside-requires-clause-counted c =
+    rw c.is_lacking-before.ensures (counted-seat c.self.inside.places c.self.inside.seats.items c.args.self.now c.args.terminal c.self.view_is c.self.invariant.places_are c.in-Some.place (sym c.get.ensures.value ∙ sym c.copied.ensures ∙ c.in-Some.is) c.index_mut-seat.result.now c.index_mut-seat.ensures.value c.self.inside.lacking c.self.invariant)
+
+pub recount-self-inside-requires-clause-room : goal.recount-self-inside-requires-clause-room
+recount-self-inside-requires-clause-room c =
+    let own = room-seat c.self.inside.places c.self.inside.seats.items c.args.self.now c.args.terminal c.self.view_is c.self.invariant.places_are c.in-Some.place (sym c.get.ensures.value ∙ sym c.copied.ensures ∙ c.in-Some.is) c.index_mut-seat.result.now c.index_mut-seat.ensures.value c.self.inside.lacking c.apply.new.self c.self.invariant in
+    omega (arith, own, ap {B = ℕ} (λ b. cond b 1 0) c.is_lacking-before.ensures, ap {B = ℕ} (λ b. cond b 1 0) c.is_lacking-after.ensures, c.len.ensures, c.self.inside.seats.ok.0)
 
 pub invariant_of-self : goal.invariant_of-self
 invariant_of-self c =

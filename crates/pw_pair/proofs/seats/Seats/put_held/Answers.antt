@@ -1,9 +1,9 @@
 -- The seat at the terminal's place is changed, and the others stay.
-use Rattle.std.proofs.Common.{◌≡◌, refl, sym, ap, true, cond, ◌+◌, ◌-◌, ◌∙◌, arith}
+use Rattle.std.proofs.Common.{◌≡◌, ℕ, refl, sym, ap, true, cond, ◌+◌, ◌-◌, ◌∙◌, arith}
 use Rattle.pw_pair.specs.Seats.{is_lacking, is_sound, with_held}
 use Rattle.pw_pair.proofs.Sound.{held-sound}
 use Rattle.pw_pair.specs.Rooms.{is_used}
-use Rattle.pw_pair.proofs.At.{changed-seat, default-at, kept-seat, one-more, seat-has, seat-terminal, within-at}
+use Rattle.pw_pair.proofs.At.{changed-seat, counted-seat, default-at, kept-seat, one-more, seat-has, room-seat, seat-terminal, within-at}
 use Rattle.pw_pair.proofs.seats.Seats.put_held.Goals as goal
 
 pub returns-in_default-clause-seats : goal.returns-in_default-clause-seats
@@ -11,6 +11,15 @@ returns-in_default-clause-seats c = default-at c.self.inside.places c.self.insid
 
 pub index_mut-seat-requires : goal.index_mut-seat-requires
 index_mut-seat-requires c = let lt = within-at c.self.inside.places c.self.inside.seats.items c.args.self.now c.args.held.terminal c.self.view_is c.self.invariant.places_are c.in-Some.place (sym c.get.ensures.value ∙ sym c.copied.ensures ∙ c.in-Some.is) in omega (arith, lt, c.self.inside.seats.ok.0)
+
+pub recount-self-inside-requires-clause-counted : goal.recount-self-inside-requires-clause-counted
+recount-self-inside-requires-clause-counted c =
+    rw c.is_lacking-before.ensures (counted-seat c.self.inside.places c.self.inside.seats.items c.args.self.now c.args.held.terminal c.self.view_is c.self.invariant.places_are c.in-Some.place (sym c.get.ensures.value ∙ sym c.copied.ensures ∙ c.in-Some.is) c.index_mut-seat.result.now c.index_mut-seat.ensures.value c.self.inside.lacking c.self.invariant)
+
+pub recount-self-inside-requires-clause-room : goal.recount-self-inside-requires-clause-room
+recount-self-inside-requires-clause-room c =
+    let own = room-seat c.self.inside.places c.self.inside.seats.items c.args.self.now c.args.held.terminal c.self.view_is c.self.invariant.places_are c.in-Some.place (sym c.get.ensures.value ∙ sym c.copied.ensures ∙ c.in-Some.is) c.index_mut-seat.result.now c.index_mut-seat.ensures.value c.self.inside.lacking c.put_held.new.self c.self.invariant in
+    omega (arith, own, ap {B = ℕ} (λ b. cond b 1 0) c.is_lacking-before.ensures, ap {B = ℕ} (λ b. cond b 1 0) c.is_lacking-after.ensures, c.len.ensures, c.self.inside.seats.ok.0)
 
 pub invariant_of-self : goal.invariant_of-self
 invariant_of-self c =
