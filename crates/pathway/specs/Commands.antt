@@ -1,6 +1,7 @@
 -- The words of the command line, and the lines that are written where no report is.
 use Rattle.std.specs.Prelude.{ℕ, List, [], ◌∷◌, ◌++◌, Bool, true, false, codes, Option, None, Some, if◌then◌else◌}
 use Rattle.std.specs.Fmt.{decimal}
+use Rattle.pw_base.specs.Characters.{line_feed, space}
 use Rattle.pw_base.specs.declared.fault.Fault.{Fault}
 use Rattle.pw_base.specs.FaultCodes.{number, text}
 use Rattle.pw_command_line.specs.CommandLine.{command_of}
@@ -46,4 +47,4 @@ deck_ok = codes "DECK OK\n"
 
 -- the line of a first fault
 abbrev pub fault_line : Fault → List ℕ
-fault_line fault = codes "DECK FAULT LINE " ++ (decimal fault.line ++ (codes " CODE " ++ (decimal (number fault.code) ++ (32 ∷ text fault.code ++ 10 ∷ []))))
+fault_line fault = codes "DECK FAULT LINE " ++ (decimal fault.line ++ (codes " CODE " ++ (decimal (number fault.code) ++ (space ∷ text fault.code ++ line_feed ∷ []))))

@@ -1,3 +1,4 @@
+pub mod Characters
 pub mod FaultCodes
 pub mod First
 pub mod Lengths

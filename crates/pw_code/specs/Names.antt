@@ -3,10 +3,11 @@ use Rattle.std.specs.Prelude.{ℕ, List, [], ◌∷◌, length, Bool, false, ◌
 use Rattle.std.specs.Char.{is_ascii_digit, is_ascii_uppercase}
 use Rattle.std.specs.List.{list_all, IsDistinct}
 use Rattle.std.specs.Str.{bytes_eq, str_to_ascii_uppercase}
+use Rattle.pw_base.specs.Characters.{hyphen}
 
 -- a letter, a digit or a hyphen, in upper case
 abbrev pub is_name_byte : ℕ → Bool
-is_name_byte b = is_ascii_uppercase b || (is_ascii_digit b || b == 45)
+is_name_byte b = is_ascii_uppercase b || (is_ascii_digit b || b == hyphen)
 
 -- the first byte is a letter
 abbrev pub begins_with_letter : List ℕ → Bool

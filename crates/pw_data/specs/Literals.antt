@@ -4,6 +4,7 @@ use Rattle.std.specs.Prelude.{ℕ, ◌+◌, ◌-◌, min, nat_le, List, ◌++◌
 use Rattle.std.specs.List.{list_all}
 use Rattle.std.specs.Char.{is_ascii_digit}
 use Rattle.std.specs.Ordering.{is_eq}
+use Rattle.pw_base.specs.Characters.{full_stop, hyphen, plus_sign}
 use Rattle.pw_number.specs.Number.{Number}
 use Rattle.pw_number.specs.Order.{order}
 use Rattle.pw_picture.specs.declared.picture.Picture.{Picture}
@@ -24,7 +25,7 @@ whole_number bytes =
 
 -- the bytes in front of a point
 abbrev pub before_point : List ℕ → List ℕ
-before_point bytes = take_while (λ byte. not (byte == 46)) bytes
+before_point bytes = take_while (λ byte. not (byte == full_stop)) bytes
 
 -- the bytes behind a point
 abbrev pub behind_point : List ℕ → List ℕ
@@ -32,7 +33,7 @@ behind_point bytes = drop 1 (drop (length (before_point bytes)) bytes)
 
 -- a sign stands in front
 abbrev pub has_sign : List ℕ → Bool
-has_sign bytes = begins_with 43 bytes || begins_with 45 bytes
+has_sign bytes = begins_with plus_sign bytes || begins_with hyphen bytes
 
 -- the size of a sign
 abbrev pub sign_size : Bool → ℕ

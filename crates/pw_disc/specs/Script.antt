@@ -1,6 +1,7 @@
 -- The disc script of a deck: the lines behind the one that ends it.
 use Rattle.std.specs.Prelude.{ℕ, ◌+◌, List, [], ◌∷◌, ◌++◌, length, take, drop, codes, Bool, true, false, ◌&&◌, ◌==◌, nat_le, Option, None, Some, option_map, Result, Ok, if◌then◌else◌}
 use Rattle.std.specs.Str.{bytes_eq}
+use Rattle.pw_base.specs.Characters.{digit_zero, question_mark}
 use Rattle.pw_base.specs.declared.fault.Fault.{Fault}
 use Rattle.pw_base.specs.declared.fault_code.FaultCode.TheVariants.{BadFailureLine, TooMany}
 use Rattle.pw_code.specs.Limits.{most_after}
@@ -15,7 +16,7 @@ use Rattle.pw_sections.specs.declared.heading.Heading.TheVariants.{End}
 
 -- a zero stands before other digits
 abbrev pub has_leading_zero : List ℕ → Bool
-has_leading_zero (b ∷ (c ∷ rest)) = b == 48
+has_leading_zero (b ∷ (c ∷ rest)) = b == digit_zero
 has_leading_zero _ = false
 
 -- the number, where it is 0 to 500,000
@@ -66,7 +67,7 @@ is_deck_end _ = false
 -- a section line begins with `?`
 abbrev pub begins_section : List ℕ → Bool
 begins_section [] = false
-begins_section (b ∷ rest) = b == 63
+begins_section (b ∷ rest) = b == question_mark
 
 -- the line ends a deck
 unfoldable pub ends_deck : List ℕ → Bool

@@ -2,6 +2,7 @@
 use Rattle.std.specs.Prelude.{◌≡◌, ℕ, ◌<◌, ◌≤◌, ◌^◌, List, [], ◌∷◌, ◌++◌, map, length, codes, slice_index_or, Option, Some, None, Bool, true, false}
 use Rattle.std.specs.Fmt.{decimal}
 use Rattle.std.specs.List.{AllByRecursion, join_with_byte}
+use Rattle.pw_base.specs.Characters.{full_stop, space}
 use Rattle.pw_code.specs.declared.file.FileInfo.{FileInfo}
 use Rattle.pw_code.specs.declared.file.FileOp.{FileOp}
 use Rattle.pw_code.specs.declared.file.FileOp.TheVariants.{Read, Next, Write, Rewrite, Delete, ReadLock, NextLock}
@@ -149,7 +150,7 @@ names_of system = record { terminal = terminal_name system; pair = pair_name sys
 
 -- a refresh number, as phase.attempt.k
 abbrev pub refresh_number : ℕ → ℕ → ℕ → List ℕ
-refresh_number phase attempt k = decimal phase ++ 46 ∷ (decimal attempt ++ 46 ∷ decimal k)
+refresh_number phase attempt k = decimal phase ++ full_stop ∷ (decimal attempt ++ full_stop ∷ decimal k)
 
 -- the spelling of a word
 abbrev pub spelling : NamesByNumber → LineWord → List ℕ
@@ -166,7 +167,7 @@ spelling names (Refresh phase attempt k) = refresh_number phase attempt k
 
 -- words with single spaces between them
 abbrev pub sentence : List (List ℕ) → List ℕ
-sentence = join_with_byte 32
+sentence = join_with_byte space
 
 -- the text of an ending
 abbrev pub ending_text : System → Ending → List ℕ

@@ -5,6 +5,7 @@ use Rattle.std.specs.Str.{bytes_eq, str_to_ascii_uppercase}
 use Rattle.std.specs.Str.Parse.{digits_value}
 use Rattle.std.specs.List.{slice_split}
 use Rattle.std.specs.Option.{option_map}
+use Rattle.pw_base.specs.Characters.{digit_zero, full_stop, plus_sign, space}
 use Rattle.pw_code.specs.Limits.{most_after}
 use Rattle.pw_code.specs.declared.file.FileOp.{FileOp}
 use Rattle.pw_code.specs.declared.file.FileOp.TheVariants.{Read, Next, Write, Rewrite, Delete}
@@ -46,8 +47,8 @@ number limit word = let n = digits_value 10 word in if bytes_eq word (decimal n)
 -- a sign stands in front, or a zero before other digits
 abbrev pub is_odd : List ℕ → Bool
 is_odd [] = false
-is_odd (b ∷ []) = b == 43
-is_odd (b ∷ c ∷ bs) = b == 43 || b == 48
+is_odd (b ∷ []) = b == plus_sign
+is_odd (b ∷ c ∷ bs) = b == plus_sign || b == digit_zero
 
 -- a number from 1
 unfoldable pub positive_count_read : List ℕ → Result ℕ EventFault
@@ -57,7 +58,7 @@ positive_count_read word = do
 
 -- what stands before and behind the first point
 unfoldable pub cut : List ℕ → Option (List ℕ × List ℕ)
-cut word = option_map (λ point. (take point word, drop (point + 1) word)) (position (λ b. b == 46) word)
+cut word = option_map (λ point. (take point word, drop (point + 1) word)) (position (λ b. b == full_stop) word)
 
 -- what is there; Unknown where there is nothing
 abbrev pub or_unknown : {A : Type 0} → Option A → Result A EventFault
@@ -415,8 +416,8 @@ GivesUnlessMemory (Ok value) defined = defined ≡ Ok value
 
 -- the entry that a line of the log says, without its number; Bad outside the grammar, Unknown in it where nothing is so named
 abbrev pub entry_in : System → List ℕ → Result Event EventFault
-entry_in system line = event_of system (slice_split (λ b. b == 32) line)
+entry_in system line = event_of system (slice_split (λ b. b == space) line)
 
 -- what a failure line says
 abbrev pub failure_in : System → List ℕ → Result FailLine EventFault
-failure_in system line = fail_of system (slice_split (λ b. b == 32) line)
+failure_in system line = fail_of system (slice_split (λ b. b == space) line)

@@ -2,6 +2,7 @@
 use Rattle.std.specs.Prelude.{ℕ, ◌==◌, List, [], ◌∷◌, Bool, true, ◌&&◌, not, nat_le, length, codes, Option, Some, None, if◌then◌else◌}
 use Rattle.std.specs.List.{list_all, list_any, slice_split}
 use Rattle.std.specs.Str.{bytes_eq}
+use Rattle.pw_base.specs.Characters.{space}
 use Rattle.pw_net.specs.World.{NetEvent}
 use Rattle.pw_net.specs.World as net
 use Rattle.pw_net.specs.declared.message.NetId.{NetId}
@@ -28,7 +29,7 @@ net_event (event.Call system call) = net_call system call
 
 -- the words of a line: what stands between its spaces, so that two spaces have an empty word between them
 abbrev pub words_of : List ℕ → List (List ℕ)
-words_of line = slice_split (λ byte. byte == 32) line
+words_of line = slice_split (λ byte. byte == space) line
 
 -- the keyword that a word is
 unfoldable pub keyword_in : List ℕ → Option ScheduleKeyword

@@ -3,12 +3,13 @@ use Rattle.std.specs.Prelude.{ℕ, ◌==◌, List, [], ◌∷◌, Bool, false, �
 use Rattle.std.specs.Char.{is_ascii_digit}
 use Rattle.std.specs.List.{list_all}
 use Rattle.std.specs.Str.Parse.{digits_value}
+use Rattle.pw_base.specs.Characters.{digit_zero}
 
 -- 1 to 10 digits, of which the first is no zero
 abbrev pub is_count : List ℕ → Bool
 is_count [] = false
 is_count (b ∷ bs) =
-    not (b == 48) && (nat_le (length (b ∷ bs)) 10 && list_all is_ascii_digit (b ∷ bs))
+    not (b == digit_zero) && (nat_le (length (b ∷ bs)) 10 && list_all is_ascii_digit (b ∷ bs))
 
 -- the number from 1 to 4,294,967,295 that a word is
 unfoldable pub count_in : List ℕ → Option ℕ

@@ -2,6 +2,7 @@
 use Rattle.std.specs.Prelude.{ℕ, zero, suc, ◌+◌, List, [], ◌∷◌, ◌++◌, map, codes, Result, Ok, Err}
 use Rattle.std.specs.Fmt.{decimal}
 use Rattle.std.specs.List.{join_with_byte}
+use Rattle.pw_base.specs.Characters.{line_feed, space}
 use Rattle.pw_net.specs.Member.{Member, mark_in}
 use Rattle.pw_net.specs.World.{NetWorld, net_world_after}
 use Rattle.pw_net.specs.declared.message.Mark.{Mark}
@@ -32,7 +33,7 @@ mark_text mark.Aborted = codes "ABORTED"
 
 -- a line of words
 abbrev pub line : List (List ℕ) → List ℕ
-line words = join_with_byte 32 words ++ 10 ∷ []
+line words = join_with_byte space words ++ line_feed ∷ []
 
 -- the line of the k-th message
 abbrev pub sent_line : ℕ → Net → List ℕ

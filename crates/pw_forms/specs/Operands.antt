@@ -3,6 +3,7 @@ pub use Rattle.pw_text.specs.Literals.{kept, is_first_quote, unquoted}
 use Rattle.std.specs.Prelude.{ℕ, ◌+◌, ◌-◌, ◌*◌, min, nat_le, List, [], ◌∷◌, Bool, true, false, not, ◌&&◌, ◌||◌, codes, Option, Some, None, option_map, if◌then◌else◌}
 use Rattle.std.specs.List.{list_all}
 use Rattle.std.specs.Char.{is_ascii_digit}
+use Rattle.pw_base.specs.Characters.{digit_zero}
 use Rattle.pw_words.specs.Words.{Word, word_place}
 use Rattle.pw_text.specs.declared.token.TokenKind.{TokenKind}
 use Rattle.pw_text.specs.declared.token.TokenKind.TheVariants as kind
@@ -20,7 +21,7 @@ use Rattle.pw_forms.specs.Readers.{Reader, ◌>>=◌, pure, fails, takes, token}
 -- the value of digits behind those of a value, where every value above 9,999 is as 10,000
 abbrev pub value_from : ℕ → List ℕ → ℕ
 value_from value [] = value
-value_from value (digit ∷ digits) = value_from (min (10 * value + (digit - 48)) 10000) digits
+value_from value (digit ∷ digits) = value_from (min (10 * value + (digit - digit_zero)) 10000) digits
 
 -- the value of digits
 abbrev pub value_of : List ℕ → ℕ

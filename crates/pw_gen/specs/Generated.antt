@@ -1,12 +1,13 @@
 -- The generated deck.
 use Rattle.std.specs.Prelude.{ℕ, zero, suc, ◌+◌, ◌*◌, ◌/◌, ◌%◌, ◌==◌, List, [], ◌∷◌, ◌++◌, codes, if◌then◌else◌}
 use Rattle.std.specs.Fmt.{decimal}
+use Rattle.pw_base.specs.Characters.{digit_zero, line_feed}
 use Rattle.pw_gen.specs.Parts.{Line, commands, requester, server, stock, ending}
 
 -- the text of some lines, each with LF at its end
 abbrev pub text_of : List Line → List ℕ
 text_of [] = []
-text_of (line ∷ lines) = line ++ 10 ∷ text_of lines
+text_of (line ∷ lines) = line ++ line_feed ∷ text_of lines
 
 -- the pair of a terminal: the first for odd numbers, the second for even ones
 abbrev pub pair_line : ℕ → Line
@@ -31,7 +32,7 @@ digit_of x = x / 65536 % 10
 
 -- the entry line of x, whose key ends with its digit
 abbrev pub entry_line : ℕ → Line
-entry_line x = codes "F1 F-OP=I F-KEY=A" ++ (48 + digit_of x) ∷ []
+entry_line x = codes "F1 F-OP=I F-KEY=A" ++ (digit_zero + digit_of x) ∷ []
 
 -- so many entry lines, the first of them that of the number after x
 unfoldable pub entry_lines : ℕ → ℕ → List Line

@@ -2,6 +2,7 @@
 use Rattle.std.specs.Prelude.{ℕ, ◌+◌, List, [], ◌∷◌, ◌++◌, length, take, drop, codes, position, nat_le, ◌==◌, Option, None, Some, Result, Ok, Err, if◌then◌else◌}
 use Rattle.std.specs.Fmt.{decimal}
 use Rattle.std.specs.Str.{bytes_eq}
+use Rattle.pw_base.specs.Characters.{space}
 use Rattle.pw_base.specs.declared.fault.Fault.{Fault}
 use Rattle.pw_base.specs.declared.fault_code.FaultCode.TheVariants.{BadLogLine, TooMany}
 use Rattle.pw_code.specs.Limits.{most_log_lines}
@@ -45,7 +46,7 @@ behind_at n line (Some place) = if bytes_eq (take place line) (decimal n) then S
 
 -- what stands behind a number and a space
 abbrev pub behind_number : ℕ → List ℕ → Option (List ℕ)
-behind_number n line = behind_at n line (position (λ b. b == 32) line)
+behind_number n line = behind_at n line (position (λ b. b == space) line)
 
 -- the entry of what stands behind a number, if anything does
 abbrev pub entry_behind : System → Option (List ℕ) → Result Event EventFault

@@ -1,6 +1,7 @@
 -- When every name of a program resolves, and every operand has its kind and length.
 use Rattle.std.specs.Prelude.{◌≡◌, ℕ, ◌<◌, List, [], ◌∷◌, Bool, not, ◌&&◌, ◌==◌, nat_le, IsTrue, IsSome, Option, Some, None}
 use Rattle.std.specs.List.{list_all}
+use Rattle.pw_base.specs.Characters.{full_stop}
 use Rattle.pw_words.specs.Words.{Word}
 use Rattle.pw_code.specs.declared.field.ScreenTable.{ScreenTable}
 use Rattle.pw_code.specs.declared.file.FileInfo.{FileInfo}
@@ -35,7 +36,7 @@ pub record IsVariable (scope : Scope) (test : Variable → Bool) (name : Word) :
 
 -- a number without a point
 abbrev pub is_whole : List ℕ → Bool
-is_whole digits = list_all (λ byte. not (byte == 46)) digits
+is_whole digits = list_all (λ byte. not (byte == full_stop)) digits
 
 -- a subscript: a whole number, or a Number without a sign that stands outside each OCCURS
 abbrev pub IsSubscript : Scope → Subscript → Type 0

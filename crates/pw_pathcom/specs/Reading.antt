@@ -2,6 +2,7 @@
 use Rattle.std.specs.Prelude.{ℕ, ◌+◌, List, [], ◌∷◌, ◌++◌, map, length, Bool, false, true, ◌&&◌, ◌||◌, ◌==◌, nat_le, Option, None, Some, Result, Ok, if◌then◌else◌}
 use Rattle.std.specs.List.{list_any}
 use Rattle.std.specs.Str.{bytes_eq}
+use Rattle.pw_base.specs.Characters.{asterisk}
 use Rattle.pw_base.specs.declared.fault.Fault.{Fault}
 use Rattle.pw_base.specs.declared.fault_code.FaultCode.TheVariants.{BadCommand, AddedTwice, OutOfRange}
 use Rattle.pw_code.specs.Limits.{most_tcps, most_classes, most_terminals, most_processes, most_restarts}
@@ -142,7 +143,7 @@ taken_if line reading (Some command) = command_taken line reading command.0 comm
 -- the line is a comment
 abbrev pub is_comment : List ℕ → Bool
 is_comment [] = false
-is_comment (b ∷ rest) = b == 42
+is_comment (b ∷ rest) = b == asterisk
 
 -- no word is there
 abbrev pub is_none : List Word → Bool

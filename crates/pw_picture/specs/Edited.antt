@@ -1,5 +1,6 @@
 -- What a number shows in an edited picture, position by position.
 use Rattle.std.specs.Prelude.{ℕ, ◌+◌, ◌/◌, ◌%◌, ◌^◌, Bool, true, false, not, ◌&&◌, ◌||◌, ◌==◌, List, [], ◌∷◌, length, drop, take_while, if◌then◌else◌}
+use Rattle.pw_base.specs.Characters.{capital_z, comma, digit_nine, digit_zero, full_stop, hyphen, space}
 use Rattle.pw_number.specs.Number.{Number}
 use Rattle.pw_picture.specs.Grammar.{digit_symbols}
 use Rattle.pw_picture.specs.Stored.{size_at, is_negative}
@@ -14,11 +15,11 @@ is_edited_picture (picture.Edited symbols) = true
 
 -- how many decimals a picture shows: the digits from its point on
 abbrev pub shown_decimals : List ℕ → ℕ
-shown_decimals symbols = digit_symbols (drop (length (take_while (λ symbol. not (symbol == 46)) symbols)) symbols)
+shown_decimals symbols = digit_symbols (drop (length (take_while (λ symbol. not (symbol == full_stop)) symbols)) symbols)
 
 -- the digit of this weight
 abbrev pub digit_at : ℕ → ℕ → ℕ
-digit_at size weight = 48 + size / 10 ^ weight % 10
+digit_at size weight = digit_zero + size / 10 ^ weight % 10
 
 -- the digits down to this weight are zero
 abbrev pub is_blank : ℕ → ℕ → Bool
@@ -28,16 +29,16 @@ is_blank size weight = size / 10 ^ weight == 0
 -- zero stands so far; a comma itself, or a space where no digit is shown yet; a `-` itself where the number is negative
 abbrev pub shown : Bool → Bool → ℕ → ℕ → ℕ → ℕ
 shown nine negative size weight symbol =
-    if symbol == 57 then digit_at size weight
-    else if symbol == 90 then (if is_blank size weight then 32 else digit_at size weight)
-    else if symbol == 44 then (if not nine && is_blank size weight then 32 else 44)
-    else if symbol == 45 then (if negative then 45 else 32)
+    if symbol == digit_nine then digit_at size weight
+    else if symbol == capital_z then (if is_blank size weight then space else digit_at size weight)
+    else if symbol == comma then (if not nine && is_blank size weight then space else comma)
+    else if symbol == hyphen then (if negative then hyphen else space)
     else symbol
 
 -- what the symbols show, of which a 9 may stand in front
 abbrev pub shown_from : Bool → Bool → ℕ → List ℕ → List ℕ
 shown_from nine negative size [] = []
-shown_from nine negative size (symbol ∷ symbols) = shown nine negative size (digit_symbols symbols) symbol ∷ shown_from (nine || symbol == 57) negative size symbols
+shown_from nine negative size (symbol ∷ symbols) = shown nine negative size (digit_symbols symbols) symbol ∷ shown_from (nine || symbol == digit_nine) negative size symbols
 
 -- the digits that a number shows
 abbrev pub shown_size : List ℕ → Number → ℕ

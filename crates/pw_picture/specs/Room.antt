@@ -1,6 +1,7 @@
 -- How much room a picture has for a number.
 use Rattle.std.specs.Prelude.{ℕ, ◌-◌, Bool, false, ◌==◌}
 use Rattle.std.specs.List.{list_any}
+use Rattle.pw_base.specs.Characters.{hyphen}
 use Rattle.pw_picture.specs.Grammar.{digit_symbols}
 use Rattle.pw_picture.specs.Edited.{shown_decimals}
 use Rattle.pw_picture.specs.declared.picture.Picture.{Picture}
@@ -22,4 +23,4 @@ decimals_of (Edited symbols) = shown_decimals symbols
 abbrev pub has_sign : Picture → Bool
 has_sign (Text size) = false
 has_sign (Number digits places signed) = signed
-has_sign (Edited symbols) = list_any (λ symbol. symbol == 45) symbols
+has_sign (Edited symbols) = list_any (λ symbol. symbol == hyphen) symbols

@@ -1,6 +1,7 @@
 -- Numbers as the characters of an item.
 use Rattle.std.specs.Prelude.{ℕ, zero, suc, ◌+◌, ◌-◌, ◌*◌, ◌/◌, ◌%◌, ◌^◌, nat_lt, Bool, true, false, not, ◌&&◌, ◌||◌, ◌==◌, List, [], ◌∷◌, drop, int_lt, pos, unsigned_abs, if◌then◌else◌}
 use Rattle.std.specs.Char.{is_ascii_digit}
+use Rattle.pw_base.specs.Characters.{digit_zero, hyphen, plus_sign}
 use Rattle.pw_number.specs.Number.{Number, number}
 use Rattle.pw_number.specs.Sign.{signed}
 use Rattle.pw_picture.specs.Symbols.{begins_with}
@@ -15,7 +16,7 @@ is_numeric_picture (picture.Edited symbols) = false
 
 -- a character as a digit: one that is none counts as 0
 abbrev pub digit_of : ℕ → ℕ
-digit_of char = if is_ascii_digit char then char - 48 else 0
+digit_of char = if is_ascii_digit char then char - digit_zero else 0
 
 -- the value of characters behind those of a value
 abbrev pub value_of : ℕ → List ℕ → ℕ
@@ -24,7 +25,7 @@ value_of value (char ∷ chars) = value_of (10 * value + digit_of char) chars
 
 -- the number of so many places that characters are
 abbrev pub number_of_chars : ℕ → Bool → List ℕ → Number
-number_of_chars places true chars = number (signed (begins_with 45 chars) (value_of 0 (drop 1 chars))) places
+number_of_chars places true chars = number (signed (begins_with hyphen chars) (value_of 0 (drop 1 chars))) places
 number_of_chars places false chars = number (pos (value_of 0 chars)) places
 
 -- the number that the characters of an item are
@@ -40,11 +41,11 @@ size_at places n = unsigned_abs n.units * 10 ^ places / 10 ^ n.places
 -- so many digits of a value, that of the highest weight first
 abbrev pub digits_of : ℕ → ℕ → List ℕ
 digits_of zero size = []
-digits_of (suc count) size = (48 + size / 10 ^ count % 10) ∷ digits_of count size
+digits_of (suc count) size = (digit_zero + size / 10 ^ count % 10) ∷ digits_of count size
 
 -- the sign of a number that shows these digits: a `-` only where they are not zero
 abbrev pub sign_of : Bool → ℕ → ℕ
-sign_of negative size = if negative && not (size == 0) then 45 else 43
+sign_of negative size = if negative && not (size == 0) then hyphen else plus_sign
 
 -- the characters of digits, with a sign in front where there is one
 abbrev pub chars_of : ℕ → Bool → Bool → ℕ → List ℕ

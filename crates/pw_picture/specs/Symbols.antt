@@ -2,15 +2,16 @@
 use Rattle.std.specs.Prelude.{ℕ, zero, suc, ◌+◌, ◌-◌, ◌*◌, nat_le, Bool, false, ◌&&◌, ◌||◌, ◌==◌, List, [], ◌∷◌, ◌++◌, length, drop, take_while, replicate, Option, Some, None, if◌then◌else◌}
 use Rattle.std.specs.Char.{is_ascii_digit}
 use Rattle.std.specs.Option.{option_and_then, option_map}
+use Rattle.pw_base.specs.Characters.{capital_x, capital_z, digit_nine, digit_zero, left_parenthesis, right_parenthesis}
 
 -- X, 9 and Z may have a count
 abbrev pub may_repeat : ℕ → Bool
-may_repeat symbol = symbol == 88 || (symbol == 57 || symbol == 90)
+may_repeat symbol = symbol == capital_x || (symbol == digit_nine || symbol == capital_z)
 
 -- the value of digits behind those of a value
 abbrev pub value_behind : ℕ → List ℕ → ℕ
 value_behind value [] = value
-value_behind value (digit ∷ digits) = value_behind (10 * value + (digit - 48)) digits
+value_behind value (digit ∷ digits) = value_behind (10 * value + (digit - digit_zero)) digits
 
 -- the first character is this one
 abbrev pub begins_with : ℕ → List ℕ → Bool
@@ -26,12 +27,12 @@ abbrev pub count_in : List ℕ → Option (ℕ × ℕ)
 count_in text =
     let digits = take_while is_ascii_digit text in
     let count = value_behind 0 digits in
-    if nat_le 1 count && begins_with 41 (drop (length digits) text) then Some (count, length digits + 2) else None
+    if nat_le 1 count && begins_with right_parenthesis (drop (length digits) text) then Some (count, length digits + 2) else None
 
 -- the same behind a symbol: once, where no count follows
 abbrev pub count_behind : ℕ → List ℕ → Option (ℕ × ℕ)
 count_behind symbol [] = Some (1, 0)
-count_behind symbol (next ∷ text) = if next == 40 then (if may_repeat symbol then count_in text else None) else Some (1, 0)
+count_behind symbol (next ∷ text) = if next == left_parenthesis then (if may_repeat symbol then count_in text else None) else Some (1, 0)
 
 -- the symbols that are read, with these in front
 abbrev pub with_front : List ℕ → Option (List ℕ) → Option (List ℕ)

@@ -1,6 +1,7 @@
 -- What it is to read a log from a text.
 use Rattle.std.specs.Prelude.{◌≡◌, ℕ, ◌+◌, Bool, List, [], ◌∷◌, ◌++◌, Ok}
 use Rattle.std.specs.Fmt.{decimal}
+use Rattle.pw_base.specs.Characters.{space}
 use Rattle.pw_code.specs.declared.system.System.{System}
 use Rattle.pw_event.specs.Reading.{ReadsEventLine}
 use Rattle.pw_event.specs.declared.event.Event.{Event}
@@ -9,7 +10,7 @@ use Rattle.pw_report_text.specs.ReadBack.{behind_log, header_lines, last_words, 
 -- the line is the number of an entry and a space, and what stands behind them is read as the entry
 pub record IsReadAs (system : System) (n : ℕ) (line : List ℕ) (entry : Event) : Type 0 where
   pub words : List ℕ
-  pub is : line ≡ decimal n ++ 32 ∷ words
+  pub is : line ≡ decimal n ++ space ∷ words
   pub reads : ReadsEventLine system words (Ok entry)
 
 -- the lines are read one by one as the entries, which are numbered from n

@@ -1,6 +1,7 @@
 -- The lines of the report.
 use Rattle.std.specs.Prelude.{ℕ, ◌+◌, List, [], ◌∷◌, ◌++◌, codes, Bool, if◌then◌else◌}
 use Rattle.std.specs.Fmt.{decimal}
+use Rattle.pw_base.specs.Characters.{line_feed, space, vertical_line}
 use Rattle.pw_code.specs.declared.lock.LockRule.{LockRule}
 use Rattle.pw_code.specs.declared.lock.LockRule.TheVariants.{ReadersShare, AllExclusive}
 use Rattle.pw_code.specs.declared.system.System.{System}
@@ -15,7 +16,7 @@ use Rattle.pw_terminal.specs.Screen.{refresh_lines}
 
 -- a line of a text
 abbrev pub line : List ℕ → List ℕ
-line words = words ++ 10 ∷ []
+line words = words ++ line_feed ∷ []
 
 -- the word of how an attempt is over
 abbrev pub how_text : How → List ℕ
@@ -55,7 +56,7 @@ refresh_parts system (r ∷ rest) = refresh_part system r ++ refresh_parts syste
 
 -- the line of a record
 abbrev pub record_line : List ℕ → List ℕ
-record_line content = line (124 ∷ content)
+record_line content = line (vertical_line ∷ content)
 
 -- the lines of a file's records, in order
 abbrev pub record_lines : List (List ℕ) → List ℕ
@@ -69,7 +70,7 @@ file_part system f records =
 
 -- the line of an entry: its number in the log, and its words
 abbrev pub entry_line : System → ℕ → Event → List ℕ
-entry_line system n entry = line (decimal n ++ 32 ∷ event_text system entry)
+entry_line system n entry = line (decimal n ++ space ∷ event_text system entry)
 
 -- the log's lines, which are numbered from n
 abbrev pub entry_lines : System → ℕ → List Event → List ℕ

@@ -3,6 +3,7 @@ use Rattle.std.specs.Prelude.{◌≡◌, ℕ, ◌+◌, ◌<◌, ◌^◌, ◌==�
 use Rattle.std.specs.Fmt.{decimal}
 use Rattle.std.specs.List.{AllByRecursion, list_any}
 use Rattle.std.specs.Str.{bytes_eq}
+use Rattle.pw_base.specs.Characters.{line_feed, space}
 use Rattle.pw_code.specs.declared.lock.LockRule.{LockRule}
 use Rattle.pw_code.specs.declared.lock.LockRule.TheVariants.{ReadersShare, AllExclusive}
 use Rattle.pw_code.specs.declared.system.System.{System}
@@ -11,13 +12,13 @@ use Rattle.pw_event.specs.declared.event.Event.{Event}
 
 -- the words have no line end
 abbrev pub IsOneLine : List ℕ → Type 0
-IsOneLine words = AllByRecursion (λ b. (b == 10) ≡ false) words
+IsOneLine words = AllByRecursion (λ b. (b == line_feed) ≡ false) words
 
 -- the lines of a text, the first of which goes on from these words
 abbrev pub lines_from : List ℕ → List ℕ → List (List ℕ)
 lines_from words [] = []
 lines_from words (b ∷ text) =
-    if b == 10 then words ∷ lines_from [] text else lines_from (words ++ b ∷ []) text
+    if b == line_feed then words ∷ lines_from [] text else lines_from (words ++ b ∷ []) text
 
 -- the lines of a text
 abbrev pub lines_of : List ℕ → List (List ℕ)
@@ -42,7 +43,7 @@ header_lines AllExclusive = []
 abbrev pub numbered_entry_lines : System → ℕ → List Event → List (List ℕ)
 numbered_entry_lines system n [] = []
 numbered_entry_lines system n (entry ∷ log) =
-    (decimal n ++ 32 ∷ event_text system entry) ∷ numbered_entry_lines system (n + 1) log
+    (decimal n ++ space ∷ event_text system entry) ∷ numbered_entry_lines system (n + 1) log
 
 -- the last line
 abbrev pub last_words : Bool → List ℕ

@@ -2,6 +2,7 @@
 use Rattle.std.specs.Prelude.{ℕ, ◌+◌, List, [], ◌∷◌, ◌++◌, length, take, drop, Bool, false, not, ◌&&◌, ◌||◌, ◌==◌, nat_le, codes, position, Option, None, Some, option_map, option_and_then, Result, Ok, if◌then◌else◌}
 use Rattle.std.specs.List.{list_any}
 use Rattle.std.specs.Str.{bytes_eq}
+use Rattle.pw_base.specs.Characters.{equals_sign, quotation_mark, space}
 use Rattle.pw_base.specs.declared.fault.Fault.{Fault}
 use Rattle.pw_base.specs.declared.fault_code.FaultCode.TheVariants.{BadEntry, TooMany}
 use Rattle.pw_code.specs.Entry.{EntryLineModel}
@@ -26,14 +27,14 @@ key_of word = option_map (λ place. place + 1) (position (λ key. bytes_eq key w
 unfoldable pub parts : Bool → List ℕ → List (List ℕ)
 parts in_text [] = [] ∷ []
 parts in_text (b ∷ rest) =
-    if b == 32 && not in_text then [] ∷ parts false rest
-    else in_front b (parts (if b == 34 then not in_text else in_text) rest)
+    if b == space && not in_text then [] ∷ parts false rest
+    else in_front b (parts (if b == quotation_mark then not in_text else in_text) rest)
 
 -- how many bytes stand before the first space that stands in no text
 unfoldable pub part_size : Bool → List ℕ → ℕ
 part_size in_text [] = 0
 part_size in_text (b ∷ rest) =
-    if b == 32 && not in_text then 0 else part_size (if b == 34 then not in_text else in_text) rest + 1
+    if b == space && not in_text then 0 else part_size (if b == quotation_mark then not in_text else in_text) rest + 1
 
 -- the parts of what stands behind a part, if anything does
 abbrev pub parts_behind : Option (List ℕ) → List (List ℕ)
@@ -43,21 +44,21 @@ parts_behind (Some rest) = parts false rest
 -- the value of a text behind its first quote: each doubled quote is one, and the last byte is the quote that ends it
 unfoldable pub quoted : List ℕ → Option (List ℕ)
 quoted [] = None
-quoted (b ∷ []) = if b == 34 then Some [] else None
+quoted (b ∷ []) = if b == quotation_mark then Some [] else None
 quoted (b ∷ c ∷ rest) =
-    if b == 34 then (if c == 34 then option_map (λ text. 34 ∷ text) (quoted rest) else None)
+    if b == quotation_mark then (if c == quotation_mark then option_map (λ text. quotation_mark ∷ text) (quoted rest) else None)
     else option_map (λ text. b ∷ text) (quoted (c ∷ rest))
 
 -- the next byte of such a value, and what is behind it; none at its end
 abbrev pub next_quoted : List ℕ → Option (ℕ × List ℕ)
 next_quoted [] = None
 next_quoted (b ∷ []) = None
-next_quoted (b ∷ c ∷ rest) = if b == 34 then (if c == 34 then Some (34, rest) else None) else Some (b, c ∷ rest)
+next_quoted (b ∷ c ∷ rest) = if b == quotation_mark then (if c == quotation_mark then Some (quotation_mark, rest) else None) else Some (b, c ∷ rest)
 
 -- the value that stands behind a name and `=`: a text in quotes, or bytes without a quote
 abbrev pub value_of : List ℕ → Option (List ℕ)
 value_of [] = Some []
-value_of (b ∷ rest) = if b == 34 then quoted rest else (if list_any (λ c. c == 34) (b ∷ rest) then None else Some (b ∷ rest))
+value_of (b ∷ rest) = if b == quotation_mark then quoted rest else (if list_any (λ c. c == quotation_mark) (b ∷ rest) then None else Some (b ∷ rest))
 
 -- a pair of a name and a value
 abbrev pub NameValue : Type 0
@@ -75,7 +76,7 @@ pair_at part (Some place) = both (name_in (take place part)) (value_of (drop (pl
 
 -- the pair `name=value` that a part is
 abbrev pub name_value_pair : List ℕ → Option NameValue
-name_value_pair part = pair_at part (position (λ b. b == 61) part)
+name_value_pair part = pair_at part (position (λ b. b == equals_sign) part)
 
 -- the name stands already
 abbrev pub has_field : List NameValue → List ℕ → Bool

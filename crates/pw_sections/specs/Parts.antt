@@ -1,5 +1,6 @@
 -- A deck is cut before its section lines.
 use Rattle.std.specs.Prelude.{◌≡◌, ℕ, ◌==◌, List, [], ◌∷◌, Bool, true, ◌&&◌, if◌then◌else◌}
+use Rattle.pw_base.specs.Characters.{line_feed, question_mark}
 
 -- what stands before the first section line, and each section with its line, up to the next section line
 pub record DeckSections : Type 0 where
@@ -15,7 +16,7 @@ with_byte begins b cut =
 -- A text is cut. A section line begins with `?`, at the start of a line.
 unfoldable pub cut : Bool → List ℕ → DeckSections
 cut at_start [] = record { front = []; sections = [] }
-cut at_start (b ∷ rest) = with_byte (at_start && b == 63) b (cut (b == 10) rest)
+cut at_start (b ∷ rest) = with_byte (at_start && b == question_mark) b (cut (b == line_feed) rest)
 
 -- the sections of a text that stands at the start of a line
 abbrev pub sections : List ℕ → List (List ℕ)

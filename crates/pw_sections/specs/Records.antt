@@ -1,6 +1,7 @@
 -- The records of a file, and lines of bytes that may be printed.
 use Rattle.std.specs.Prelude.{ℕ, List, [], ◌∷◌, ◌++◌, map, take, length, Bool, ◌&&◌, ◌||◌, nat_le, nat_lt, Result, Ok, if◌then◌else◌}
 use Rattle.std.specs.List.{list_all}
+use Rattle.pw_base.specs.Characters.{space, tilde}
 use Rattle.pw_base.specs.Limits.{most_content}
 use Rattle.pw_base.specs.declared.fault.Fault.{Fault}
 use Rattle.pw_base.specs.declared.fault_code.FaultCode.TheVariants.{BadCharacter, BadRecord}
@@ -10,7 +11,7 @@ use Rattle.pw_sections.specs.Keys.{is_seen}
 
 -- 0x20 to 0x7E
 abbrev pub is_printable : ℕ → Bool
-is_printable b = nat_le 32 b && nat_le b 126
+is_printable b = nat_le space b && nat_le b tilde
 
 -- a line has such bytes alone
 abbrev pub printable_line : ℕ → Unit {0} → List ℕ → Result (Unit {0}) Fault

@@ -4,19 +4,20 @@ use Rattle.std.specs.Char.{is_ascii_digit}
 use Rattle.std.specs.List.{list_all}
 use Rattle.std.specs.Str.{str_to_ascii_uppercase}
 use Rattle.std.specs.Str.Parse.{digits_value}
+use Rattle.pw_base.specs.Characters.{space}
 use Rattle.pw_code.specs.Names.{may_name}
 use Rattle.pw_sections.specs.Lines.{in_front}
 
 -- no word goes on there: a space stands in front, or nothing does
 abbrev pub ends_word : List ℕ → Bool
 ends_word [] = true
-ends_word (b ∷ rest) = b == 32
+ends_word (b ∷ rest) = b == space
 
 -- the words of a line: the runs of bytes that its spaces leave
 unfoldable pub words : List ℕ → List (List ℕ)
 words [] = []
 words (b ∷ rest) =
-    if b == 32 then words rest
+    if b == space then words rest
     else (if ends_word rest then (b ∷ []) ∷ words rest
     else in_front b (words rest))
 

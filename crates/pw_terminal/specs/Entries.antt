@@ -4,6 +4,7 @@ use Rattle.std.specs.Char.{is_ascii_digit}
 use Rattle.std.specs.List.{list_all, list_any}
 use Rattle.std.specs.Option.{option_map}
 use Rattle.std.specs.Str.{str_eq_ignore_ascii_case}
+use Rattle.pw_base.specs.Characters.{full_stop, hyphen, plus_sign}
 use Rattle.pw_picture.specs.declared.picture.Picture.{Picture}
 use Rattle.pw_picture.specs.Grammar.{size_of}
 use Rattle.pw_picture.specs.Room.{whole_digits, decimals_of, has_sign}
@@ -21,12 +22,12 @@ use Rattle.pw_terminal.specs.declared.entries.EntryAnswer.TheVariants.{Valid, Ba
 -- what is behind a sign in front, where there is one
 abbrev pub behind_sign : List ℕ → List ℕ
 behind_sign [] = []
-behind_sign (first ∷ rest) = if first == 43 || first == 45 then rest else first ∷ rest
+behind_sign (first ∷ rest) = if first == plus_sign || first == hyphen then rest else first ∷ rest
 
 -- how many decimals a number has behind its whole digits: none, or the digits behind a point
 abbrev pub decimals_in : List ℕ → Option ℕ
 decimals_in [] = Some 0
-decimals_in (point ∷ digits) = if point == 46 && list_all is_ascii_digit digits then Some (length digits) else None
+decimals_in (point ∷ digits) = if point == full_stop && list_all is_ascii_digit digits then Some (length digits) else None
 
 -- how many digits a number has before and behind its point: an optional sign, then digits with
 -- an optional point
@@ -44,7 +45,7 @@ has_room picture (Some digits) =
 
 -- a number for a field of this picture, with `-` only where that has a sign
 abbrev pub is_number_for : Picture → List ℕ → Bool
-is_number_for picture value = has_room picture (digits_in value) && (has_sign picture || not (begins_with 45 value))
+is_number_for picture value = has_room picture (digits_in value) && (has_sign picture || not (begins_with hyphen value))
 
 -- a value that a field may be given: not longer than the field, and, where that is no Text,
 -- empty or a number for it

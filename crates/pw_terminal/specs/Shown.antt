@@ -1,5 +1,6 @@
 -- What the fields of a screen leave in its cells.
 use Rattle.std.specs.Prelude.{◌≡◌, ℕ, ◌+◌, ◌-◌, ◌*◌, ◌<◌, ◌≤◌, Bool, true, false, List, [], ◌∷◌, ◌++◌, length, take, drop, replicate, if◌then◌else◌}
+use Rattle.pw_base.specs.Characters.{space}
 use Rattle.pw_picture.specs.declared.picture.Picture.{Picture}
 use Rattle.pw_picture.specs.declared.picture.Picture.TheVariants.{Text, Number, Edited}
 use Rattle.pw_picture.specs.Grammar.{size_of}
@@ -35,7 +36,7 @@ as_shown (Edited symbols) source chars = edited (Edited symbols) (read_of source
 abbrev pub field_text : List ℕ → FieldKind → List ℕ
 field_text storage (Literal text) = text
 field_text storage (Item picture at source true) = as_shown picture source (chars_at at source storage)
-field_text storage (Item picture at source false) = replicate (size_of picture) 32
+field_text storage (Item picture at source false) = replicate (size_of picture) space
 
 -- literals are put with BASE alone
 abbrev pub is_put : Bool → FieldKind → Bool

@@ -1,5 +1,6 @@
 -- What stands at the front of a text: a token, a fault, a gap or the end of a line.
 use Rattle.std.specs.Prelude.{ℕ, ◌+◌, ◌*◌, ◌≤◌, ◌<◌, List, [], ◌∷◌, Bool, true, false, ◌&&◌, ◌||◌, nat_lt, ◌==◌, Option, Some, None, codes, drop, length, take_while, if◌then◌else◌}
+use Rattle.pw_base.specs.Characters.{asterisk, carriage_return, dollar_sign, equals_sign, full_stop, greater_than_sign, left_parenthesis, less_than_sign, line_feed, quotation_mark, right_parenthesis, space}
 use Rattle.pw_base.specs.declared.fault_code.FaultCode.{FaultCode}
 use Rattle.pw_base.specs.declared.fault_code.FaultCode.TheVariants.{BadCharacter, UnclosedLiteral, WordTooLong, NumberTooLong}
 use Rattle.pw_base.specs.Limits.{longest_word, most_digits}
@@ -56,11 +57,11 @@ one_byte_more (Some n) = Some (n + 1)
 -- closed: the byte before was a quote, which is the last one unless another follows it.
 unfoldable pub quoted : Bool → List ℕ → Option ℕ
 quoted true [] = Some 0
-quoted true (b ∷ bs) = if b == 34 then one_byte_more (quoted false bs) else Some 0
+quoted true (b ∷ bs) = if b == quotation_mark then one_byte_more (quoted false bs) else Some 0
 quoted false [] = None
 quoted false (b ∷ bs) =
-    if b == 10 then None
-    else (if b == 34 then one_byte_more (quoted true bs)
+    if b == line_feed then None
+    else (if b == quotation_mark then one_byte_more (quoted true bs)
     else one_byte_more (quoted false bs))
 
 -- a text, or behind a quote that no other closes the rest of its line
@@ -90,7 +91,7 @@ dollar_item word = if same_word word (codes "RECEIVE") then token kind.Word (1 +
 -- how many digits stand behind a point
 abbrev pub places_at : List ℕ → ℕ
 places_at [] = 0
-places_at (b ∷ bs) = if b == 46 then run is_digit bs else 0
+places_at (b ∷ bs) = if b == full_stop then run is_digit bs else 0
 
 -- a number of so many digits before and behind its point, and with a sign of a size
 abbrev pub number_token : ℕ → ℕ → ℕ → TextItem
@@ -104,17 +105,17 @@ number_item sign bytes = let whole = run is_digit bytes in number_token sign who
 
 -- a mark that an = may follow
 abbrev pub or_equal : TokenKind → TokenKind → List ℕ → TextItem
-or_equal alone with_equal behind = if begins_with (λ b. b == 61) behind then token with_equal 2 else token alone 1
+or_equal alone with_equal behind = if begins_with (λ b. b == equals_sign) behind then token with_equal 2 else token alone 1
 
 -- a mark; every other byte is a fault
 abbrev pub mark_item : ℕ → List ℕ → TextItem
 mark_item b behind =
-    if b == 46 then token kind.Period 1
-    else (if b == 40 then token kind.LeftParen 1
-    else (if b == 41 then token kind.RightParen 1
-    else (if b == 61 then token kind.Equal 1
-    else (if b == 60 then or_equal kind.Less kind.LessEqual behind
-    else (if b == 62 then or_equal kind.Greater kind.GreaterEqual behind
+    if b == full_stop then token kind.Period 1
+    else (if b == left_parenthesis then token kind.LeftParen 1
+    else (if b == right_parenthesis then token kind.RightParen 1
+    else (if b == equals_sign then token kind.Equal 1
+    else (if b == less_than_sign then or_equal kind.Less kind.LessEqual behind
+    else (if b == greater_than_sign then or_equal kind.Greater kind.GreaterEqual behind
     else fault BadCharacter 1)))))
 
 -- a number or a mark
@@ -130,15 +131,15 @@ unfoldable pub line_item : List ℕ → TextItem
 line_item [] = gap 1 InLine
 line_item (b ∷ bs) =
     if is_separator b then gap 1 InLine
-    else (if b == 34 then text_item (quoted false bs) bs
+    else (if b == quotation_mark then text_item (quoted false bs) bs
     else (if is_letter b then word_item (word_at (b ∷ bs))
-    else (if b == 36 then dollar_item (word_at bs)
+    else (if b == dollar_sign then dollar_item (word_at bs)
     else number_or_mark (b ∷ bs))))
 
 -- the bytes without a period at their end
 unfoldable pub without_period : List ℕ → List ℕ
 without_period [] = []
-without_period (b ∷ []) = if b == 46 then [] else b ∷ []
+without_period (b ∷ []) = if b == full_stop then [] else b ∷ []
 without_period (b ∷ (c ∷ bs)) = b ∷ without_period (c ∷ bs)
 
 -- a picture of a size, or the period where none is left
@@ -155,7 +156,7 @@ is_is bytes = begins_with is_letter bytes && same_word (word_at bytes) (codes "I
 
 -- what stands at a place of a line, which has neither ended nor goes on with a space
 abbrev pub item_by : LinePlace → List ℕ → TextItem
-item_by LineStart bytes = if begins_with (λ b. b == 42) bytes then gap (run is_line_byte bytes) InLine else line_item bytes
+item_by LineStart bytes = if begins_with (λ b. b == asterisk) bytes then gap (run is_line_byte bytes) InLine else line_item bytes
 item_by InLine bytes = line_item bytes
 item_by BehindPic bytes = if is_is bytes then record (token kind.Word (length (word_at bytes))) { next = BehindIs } else picture_item bytes
 item_by BehindIs bytes = picture_item bytes
@@ -171,8 +172,8 @@ behind_space BehindIs = BehindIs
 unfoldable pub item_at : LinePlace → List ℕ → TextItem
 item_at place [] = gap 1 place
 item_at place (b ∷ bs) =
-    if b == 10 then record { piece = piece.LineEnd; size = 1; next = LineStart }
-    else (if b == 32 || b == 13 then gap 1 (behind_space place)
+    if b == line_feed then record { piece = piece.LineEnd; size = 1; next = LineStart }
+    else (if b == space || b == carriage_return then gap 1 (behind_space place)
     else item_by place (b ∷ bs))
 
 -- An item takes one or more of the bytes, and the quotes at both ends of its token are among them.

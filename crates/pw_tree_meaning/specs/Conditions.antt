@@ -5,6 +5,7 @@ use Rattle.std.specs.List.{list_all}
 use Rattle.std.specs.Ordering.{nat_cmp, is_eq, is_lt, is_gt, is_le, is_ge}
 use Rattle.std.specs.declared.cmp.Ordering.{Ordering}
 use Rattle.std.specs.Cmp.Lexicographic.{slice_cmp}
+use Rattle.pw_base.specs.Characters.{hyphen, plus_sign}
 use Rattle.pw_number.specs.Order.{order}
 use Rattle.pw_picture.specs.declared.picture.Picture.{Picture}
 use Rattle.pw_picture.specs.declared.picture.Picture.TheVariants as picture
@@ -69,7 +70,7 @@ holds_by operator.GreaterEqual found = is_ge found
 
 -- a character is a sign
 abbrev pub is_sign : ℕ → Bool
-is_sign char = char == 43 || char == 45
+is_sign char = char == plus_sign || char == hyphen
 
 -- digits behind a sign
 abbrev pub are_signed_digits : List ℕ → Bool

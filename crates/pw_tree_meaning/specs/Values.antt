@@ -2,6 +2,7 @@
 pub use Rattle.pw_code.specs.Spelling.{number_in}
 use Rattle.std.specs.Prelude.{ℕ, ◌-◌, ◌/◌, ◌^◌, Bool, true, false, pos, List, length, drop, filter, replicate, codes, unsigned_abs, Option, Some, if◌then◌else◌}
 use Rattle.std.specs.Char.{is_ascii_digit}
+use Rattle.pw_base.specs.Characters.{digit_zero, space}
 use Rattle.pw_number.specs.Number.{Number, number}
 use Rattle.pw_picture.specs.declared.picture.Picture.{Picture}
 use Rattle.pw_picture.specs.declared.picture.Picture.TheVariants as picture
@@ -47,8 +48,8 @@ operand_text other = as_it_stands other
 -- the same in so many characters: SPACES and ZEROS fill, a text is cut at its end or has spaces
 -- behind it
 abbrev pub text_in : ℕ → Value → List ℕ
-text_in size Spaces' = replicate size 32
-text_in size Zeros' = replicate size 48
+text_in size Spaces' = replicate size space
+text_in size Zeros' = replicate size digit_zero
 text_in size other = fitted size (operand_text other)
 
 -- ---- numbers
