@@ -7,6 +7,8 @@ pub mod MemSink
 pub mod MemSource
 pub mod Outside
 pub mod ReadSource
+pub mod Readers
 pub mod Reading
+pub mod Steps
 pub mod WriteSink
 pub mod formers

@@ -8,7 +8,7 @@ use Rattle.pw_forms.specs.Procedures.{procedure_of}
 use Rattle.pw_forms.specs.declared.statement.Paragraph.{Paragraph}
 use Rattle.pw_divisions.specs.Names.{upper_name}
 use Rattle.pw_divisions.specs.Divisions.{divisions_of}
-use Rattle.pw_divisions.specs.Passes as passes
+use Rattle.pw_base.specs.Steps as passes
 use Rattle.pw_screen.specs.Screens.{screens_of}
 use Rattle.pw_code.specs.Fields.{IsTable}
 use Rattle.pw_code.specs.declared.field.Field.{Field}

@@ -1,7 +1,6 @@
 mod CallForms
 mod LastingPairs
 mod LineLemmas
-mod Loop
 mod Making
 mod OneMember
 mod ScriptLemmas

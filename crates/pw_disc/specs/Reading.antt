@@ -1,6 +1,6 @@
 -- How a disc message is read: each reader gives what stands at the front of some bytes, and the bytes behind it, or
 -- nothing.
-use Rattle.std.specs.Prelude.{◌≡◌, ℕ, zero, suc, Bool, List, [], ◌∷◌, Option, Some, None, Result, Ok, Err, nat_le}
+use Rattle.std.specs.Prelude.{ℕ, zero, suc, Bool, List, [], ◌∷◌, Option, Some, None, nat_le}
 use Rattle.std.specs.Int.{w32, w64}
 use Rattle.pw_code.specs.declared.file.FileCall.{FileCall}
 use Rattle.pw_code.specs.declared.file.FileOp.{FileOp}
@@ -8,8 +8,6 @@ use Rattle.pw_code.specs.declared.file.FileOp.TheVariants.{Read, Next, Write, Re
 use Rattle.pw_code.specs.declared.unit.Unit as unit
 use Rattle.pw_disc.specs.declared.call.DiscCall.{DiscCall}
 use Rattle.pw_disc.specs.declared.call.DiscCall.TheVariants.{Begin, Operate, Commit, BackOut}
-use Rattle.pw_disc.specs.declared.fault.CallFault.{CallFault}
-use Rattle.pw_disc.specs.declared.fault.CallFault.TheVariants.{Bad, Memory}
 use Rattle.pw_image.specs.Reading.{Front, all_of, block_at, both_at, byte_at, counted_at, is_any, is_truth, made_at, many_at, number_at, truth_of}
 
 -- a unit
@@ -104,13 +102,3 @@ call_at = counted_at (byte_at is_any) is_any call_behind
 -- the call that a message is of, if the bytes are one
 unfoldable pub call_in : List ℕ → Option DiscCall
 call_in bytes = all_of (call_at bytes)
-
--- nothing was read, unless memory ran out
-abbrev pub FailsCallReading : {Y : Type 0} → CallFault → Option Y → Type 0
-FailsCallReading Bad read = read ≡ None
-FailsCallReading Memory read = Unit {0}
-
--- what a call answered, seen by view, is what was read, unless memory ran out
-abbrev pub GivesCallPart : {X Y : Type 0} → (X → Y) → Result X CallFault → Option Y → Type 0
-GivesCallPart view (Ok x) read = read ≡ Some (view x)
-GivesCallPart view (Err fault) read = FailsCallReading fault read

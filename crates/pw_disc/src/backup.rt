@@ -5,9 +5,9 @@ ghost use Rattle.pw_disc.specs.Format.{IsMessageOf};
 ghost use Rattle.pw_disc.specs.declared.call.DiscCall.{DiscCall};
 
 use crate::decode::decode_call;
-use crate::fault::CallFault;
 use crate::outcome::{DiscOutcome, make};
 use pw_base::memory::Memory;
+use pw_image::fault::BytesFault;
 use pw_tmf::tmf::Tmf;
 use std::alloc::Global;
 use std::marker::Model;
@@ -45,8 +45,8 @@ impl DiscBackup {
     {
         match decode_call(alloc, message) {
             Ok(call) => make(&mut self.tmf, call),
-            Err(CallFault::Memory) => Err(Memory),
-            Err(CallFault::Bad) => unreachable!(),
+            Err(BytesFault::Memory) => Err(Memory),
+            Err(BytesFault::Bad) => unreachable!(),
         }
     }
 

@@ -10,7 +10,6 @@ pub mod call;
 mod copies;
 pub mod decode;
 pub mod encode;
-pub mod fault;
 pub mod lasting;
 pub mod laws;
 mod members;

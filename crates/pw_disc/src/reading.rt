@@ -1,20 +1,20 @@
 ghost use Rattle.std.specs.Prelude.{◌≡◌, Some, None, if◌then◌else◌};
 ghost use Rattle.std.specs.Int.{w32, w64};
-ghost use Rattle.pw_image.specs.Reading.{byte_at, is_any, is_truth, made_at, many_at, number_at};
-ghost use Rattle.pw_disc.specs.Reading.{GivesCallPart, file_call_at, is_op, op_of, others_at, piece_at, reply_at, unit_at};
+ghost use Rattle.pw_image.specs.Reading.{GivesPart, byte_at, is_any, is_truth, made_at, many_at, number_at};
+ghost use Rattle.pw_disc.specs.Reading.{file_call_at, is_op, op_of, others_at, piece_at, reply_at, unit_at};
 
-use crate::fault::CallFault;
 use pw_base::bytes::Bytes;
 use pw_code::file::{FileCall, FileOp};
 use pw_code::unit::Unit;
+use pw_image::fault::BytesFault;
 use std::alloc::Global;
 
 /// The number of four bytes at the front, and the rest.
-fn read_u32(bytes: &[u8]) -> Result<(u32, &[u8]), CallFault>
-    ensures { GivesCallPart (λ x. (x.0, x.1.now)) result (number_at w32 bytes.now) }
+fn read_u32(bytes: &[u8]) -> Result<(u32, &[u8]), BytesFault>
+    ensures { GivesPart (λ x. (x.0, x.1.now)) result (number_at w32 bytes.now) }
 {
     if bytes.len() < 4 {
-        return Err(CallFault::Bad);
+        return Err(BytesFault::Bad);
     }
     let (front, rest) = bytes.split_at(4);
     let number = u32::from_be_bytes([front[0], front[1], front[2], front[3]]);
@@ -22,11 +22,11 @@ fn read_u32(bytes: &[u8]) -> Result<(u32, &[u8]), CallFault>
 }
 
 /// The number of eight bytes at the front, and the rest.
-fn read_u64(bytes: &[u8]) -> Result<(u64, &[u8]), CallFault>
-    ensures { GivesCallPart (λ x. (x.0, x.1.now)) result (number_at w64 bytes.now) }
+fn read_u64(bytes: &[u8]) -> Result<(u64, &[u8]), BytesFault>
+    ensures { GivesPart (λ x. (x.0, x.1.now)) result (number_at w64 bytes.now) }
 {
     if bytes.len() < 8 {
-        return Err(CallFault::Bad);
+        return Err(BytesFault::Bad);
     }
     let (front, rest) = bytes.split_at(8);
     let number = u64::from_be_bytes([
@@ -36,29 +36,29 @@ fn read_u64(bytes: &[u8]) -> Result<(u64, &[u8]), CallFault>
 }
 
 /// The byte at the front, and the rest.
-pub fn read_byte(bytes: &[u8]) -> Result<(u8, &[u8]), CallFault>
-    ensures { GivesCallPart (λ x. (x.0, x.1.now)) result (byte_at is_any bytes.now) }
+pub fn read_byte(bytes: &[u8]) -> Result<(u8, &[u8]), BytesFault>
+    ensures { GivesPart (λ x. (x.0, x.1.now)) result (byte_at is_any bytes.now) }
 {
     match bytes {
-        [] => Err(CallFault::Bad),
+        [] => Err(BytesFault::Bad),
         [byte, rest @ ..] => Ok((*byte, rest)),
     }
 }
 
 /// The 0 or 1 at the front, and the rest.
-pub fn read_truth(bytes: &[u8]) -> Result<(u8, &[u8]), CallFault>
-    ensures { GivesCallPart (λ x. (x.0, x.1.now)) result (byte_at is_truth bytes.now) }
+pub fn read_truth(bytes: &[u8]) -> Result<(u8, &[u8]), BytesFault>
+    ensures { GivesPart (λ x. (x.0, x.1.now)) result (byte_at is_truth bytes.now) }
 {
     match bytes {
         [byte, rest @ ..] if *byte <= 1 => Ok((*byte, rest)),
-        _ => Err(CallFault::Bad),
+        _ => Err(BytesFault::Bad),
     }
 }
 
 /// A unit, and the rest.
 #[tactic(auto, unfolding(crate::specs::Reading::unit_at))]
-pub fn read_unit(bytes: &[u8]) -> Result<(Unit, &[u8]), CallFault>
-    ensures { GivesCallPart (λ x. (x.0, x.1.now)) result (unit_at bytes.now) }
+pub fn read_unit(bytes: &[u8]) -> Result<(Unit, &[u8]), BytesFault>
+    ensures { GivesPart (λ x. (x.0, x.1.now)) result (unit_at bytes.now) }
 {
     let (terminal, rest) = read_u32(bytes)?;
     let (number, rest) = read_u32(rest)?;
@@ -75,13 +75,13 @@ pub fn read_unit(bytes: &[u8]) -> Result<(Unit, &[u8]), CallFault>
 
 /// The bytes behind the length at the front, and the rest.
 #[tactic(auto, unfolding(crate::specs::Reading::piece_at))]
-fn read_piece(alloc: Global, bytes: &[u8]) -> Result<(Bytes, &[u8]), CallFault>
-    ensures { GivesCallPart (λ x. (x.0, x.1.now)) result (piece_at bytes.now) }
+fn read_piece(alloc: Global, bytes: &[u8]) -> Result<(Bytes, &[u8]), BytesFault>
+    ensures { GivesPart (λ x. (x.0, x.1.now)) result (piece_at bytes.now) }
 {
     let (size, rest) = read_u32(bytes)?;
     let size = size as usize;
     if rest.len() < size {
-        return Err(CallFault::Bad);
+        return Err(BytesFault::Bad);
     }
     let (front, rest) = rest.split_at(size);
     let piece = Bytes::from_slice(alloc, front)?;
@@ -105,20 +105,20 @@ fn op_of(byte: u8) -> Option<FileOp>
 }
 
 /// The operation at the front, and the rest.
-fn read_op(bytes: &[u8]) -> Result<(FileOp, &[u8]), CallFault>
-    ensures { GivesCallPart (λ x. (x.0, x.1.now)) result (made_at op_of (byte_at is_op) bytes.now) }
+fn read_op(bytes: &[u8]) -> Result<(FileOp, &[u8]), BytesFault>
+    ensures { GivesPart (λ x. (x.0, x.1.now)) result (made_at op_of (byte_at is_op) bytes.now) }
 {
     let (byte, rest) = read_byte(bytes)?;
     match op_of(byte) {
         Some(op) => Ok((op, rest)),
-        None => Err(CallFault::Bad),
+        None => Err(BytesFault::Bad),
     }
 }
 
 /// An operation on a file, and the rest.
 #[tactic(auto, unfolding(crate::specs::Reading::file_call_at))]
-pub fn read_file_call(alloc: Global, bytes: &[u8]) -> Result<(FileCall, &[u8]), CallFault>
-    ensures { GivesCallPart (λ x. (x.0, x.1.now)) result (file_call_at bytes.now) }
+pub fn read_file_call(alloc: Global, bytes: &[u8]) -> Result<(FileCall, &[u8]), BytesFault>
+    ensures { GivesPart (λ x. (x.0, x.1.now)) result (file_call_at bytes.now) }
 {
     let (file, rest) = read_u32(bytes)?;
     let (op, rest) = read_op(rest)?;
@@ -137,8 +137,8 @@ pub fn read_file_call(alloc: Global, bytes: &[u8]) -> Result<(FileCall, &[u8]), 
 
 /// A reply, if there is one, and the rest.
 #[tactic(auto, unfolding(crate::specs::Reading::reply_at))]
-pub fn read_reply(alloc: Global, bytes: &[u8]) -> Result<(Option<Bytes>, &[u8]), CallFault>
-    ensures { GivesCallPart (λ x. (x.0, x.1.now)) result (reply_at bytes.now) }
+pub fn read_reply(alloc: Global, bytes: &[u8]) -> Result<(Option<Bytes>, &[u8]), BytesFault>
+    ensures { GivesPart (λ x. (x.0, x.1.now)) result (reply_at bytes.now) }
 {
     let (there, rest) = read_truth(bytes)?;
     if there == 0 {
@@ -149,8 +149,12 @@ pub fn read_reply(alloc: Global, bytes: &[u8]) -> Result<(Option<Bytes>, &[u8]),
 }
 
 /// So many units, and the rest.
-fn read_many_units(alloc: Global, count: u32, bytes: &[u8]) -> Result<(Vec<Unit>, &[u8]), CallFault>
-    ensures { GivesCallPart (λ x. (x.0.items, x.1.now)) result (many_at unit_at count bytes.now) }
+fn read_many_units(
+    alloc: Global,
+    count: u32,
+    bytes: &[u8],
+) -> Result<(Vec<Unit>, &[u8]), BytesFault>
+    ensures { GivesPart (λ x. (x.0.items, x.1.now)) result (many_at unit_at count bytes.now) }
 {
     let mut units = Vec::new(alloc);
     let mut rest = bytes;
@@ -164,8 +168,8 @@ fn read_many_units(alloc: Global, count: u32, bytes: &[u8]) -> Result<(Vec<Unit>
 
 /// The units behind their number, and the rest.
 #[tactic(auto, unfolding(crate::specs::Reading::others_at))]
-pub fn read_others(alloc: Global, bytes: &[u8]) -> Result<(Vec<Unit>, &[u8]), CallFault>
-    ensures { GivesCallPart (λ x. (x.0.items, x.1.now)) result (others_at bytes.now) }
+pub fn read_others(alloc: Global, bytes: &[u8]) -> Result<(Vec<Unit>, &[u8]), BytesFault>
+    ensures { GivesPart (λ x. (x.0.items, x.1.now)) result (others_at bytes.now) }
 {
     let (count, rest) = read_u32(bytes)?;
     read_many_units(alloc, count, rest)

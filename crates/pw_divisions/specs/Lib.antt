@@ -2,5 +2,4 @@ pub mod Divided
 pub mod Divisions
 pub mod Entries
 pub mod Names
-pub mod Passes
 pub mod Steps

@@ -1,4 +1,5 @@
 -- What the reader makes of the words of a line.
+pub use Rattle.pw_base.specs.Steps.{◌>>=◌}
 use Rattle.std.specs.Prelude.{ℕ, ◌≡◌, ◌+◌, List, [], ◌∷◌, Bool, true, false, ◌&&◌, ◌||◌, nat_le, ◌==◌, Option, Some, None, Result, Ok, Err, position, slice_index_or, take, drop, map, if◌then◌else◌}
 use Rattle.std.specs.Fmt.{decimal}
 use Rattle.std.specs.Str.{bytes_eq, str_to_ascii_uppercase}
@@ -29,12 +30,6 @@ use Rattle.pw_event.specs.declared.script.FailLine.TheVariants as line
 use Rattle.pw_event.specs.Keywords.{or_bad, keyword}
 use Rattle.pw_event.specs.Line.{no_class}
 use Rattle.pw_code.specs.Names.{may_name}
-
--- the next step, where there is no fault yet
-infixl 10 ◌>>=◌
-abbrev pub ◌>>=◌ : {A B : Type 0} → Result A EventFault → (A → Result B EventFault) → Result B EventFault
-(Err fault) >>= next = Err fault
-(Ok value) >>= next = next value
 
 -- a name
 unfoldable pub named : List ℕ → Result (Unit {0}) EventFault

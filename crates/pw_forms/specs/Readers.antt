@@ -1,5 +1,7 @@
 -- Readers of the tokens of a piece, and the steps that every form is made of.
+pub use Rattle.pw_base.specs.Readers.{and_then, ◌>>=◌, ◌>>◌, pure, fails}
 use Rattle.std.specs.Prelude.{◌≡◌, ℕ, zero, suc, ◌==◌, Bool, List, [], ◌∷◌, ◌++◌, length, drop, Option, Some, None, Result, Ok, Err, if◌then◌else◌}
+use Rattle.pw_base.specs.Readers.{ReaderOf}
 use Rattle.pw_words.specs.Words.{Word}
 use Rattle.pw_text.specs.declared.token.TokenKind.{TokenKind}
 use Rattle.pw_text.specs.declared.token.Token.{Token}
@@ -16,30 +18,7 @@ pub record Rest : Type 0 where
 
 -- what a reader gives: a value and what is left, or nothing where no form has what it reads
 abbrev pub Reader : Type 0 → Type 0
-Reader A = Rest → Option (A × Rest)
-
--- what is read behind something that was found
-abbrev pub and_then : {A B : Type 0} → Option (A × Rest) → (A → Reader B) → Option (B × Rest)
-and_then None next = None
-and_then (Some found) next = next found.0 found.1
-
--- reads one thing, and then what that asks for
-infixl 10 ◌>>=◌
-abbrev pub ◌>>=◌ : {A B : Type 0} → Reader A → (A → Reader B) → Reader B
-reader >>= next = λ rest. and_then (reader rest) next
-
--- reads one thing, which is passed over, and then another
-infixl 10 ◌>>◌
-abbrev pub ◌>>◌ : {A B : Type 0} → Reader A → Reader B → Reader B
-reader >> next = reader >>= (λ _. next)
-
--- reads nothing, and gives this
-abbrev pub pure : {A : Type 0} → A → Reader A
-pure value = λ rest. Some (value, rest)
-
--- no form has what stands there
-abbrev pub fails : {A : Type 0} → Reader A
-fails = λ rest. None
+Reader A = ReaderOf Rest A
 
 -- the next token is this word
 abbrev pub is_first_word : List ℕ → List Token → Word → Bool

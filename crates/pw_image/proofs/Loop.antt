@@ -1,9 +1,9 @@
 -- Reading one thing after the other, as a loop does.
 use Rattle.std.proofs.Common.{◌≡◌, ℕ, suc, ◌-◌, ◌+◌, ◌≤◌, ◌<◌, List, [], ◌∷◌, ◌++◌, Option, Some, None, refl, sym, ap, ◌∙◌, append_assoc, arith}
 use Rattle.std.proofs.lemmas.List.{append-nil}
-use Rattle.pw_image.specs.Reading.{FailsImageReading, Front, ◌>>=◌, many_at}
-use Rattle.pw_image.specs.declared.fault.ImageFault.{ImageFault}
-use Rattle.pw_image.specs.declared.fault.ImageFault.TheVariants.{Bad, Memory}
+use Rattle.pw_image.specs.Reading.{FailsPart, Front, ◌>>=◌, many_at}
+use Rattle.pw_image.specs.declared.fault.BytesFault.{BytesFault}
+use Rattle.pw_image.specs.declared.fault.BytesFault.TheVariants.{Bad, Memory}
 
 module _ {A : Type 0} (read : List ℕ → Front A) where
   -- what was read before, and what is still read
@@ -31,8 +31,8 @@ module _ {A : Type 0} (read : List ℕ → Front A) where
       let one : with_front front (many_at read (count - i) bytes) ≡ None = rw (k, h) refl in
       sym so_far ∙ one
 
-  pub fails : (fault : ImageFault) (front : List A) (count i : ℕ) (bytes : List ℕ) (total : Front (List A)) → i < count → FailsImageReading fault (read bytes)
-      → with_front front (many_at read (count - i) bytes) ≡ total → FailsImageReading fault total
+  pub fails : (fault : BytesFault) (front : List A) (count i : ℕ) (bytes : List ℕ) (total : Front (List A)) → i < count → FailsPart fault (read bytes)
+      → with_front front (many_at read (count - i) bytes) ≡ total → FailsPart fault total
   fails Bad front count i bytes total lt h so_far = ends front count i bytes total lt h so_far
   fails Memory front count i bytes total lt h so_far = tt
 

@@ -9,8 +9,8 @@ use Rattle.pw_code.specs.declared.context.Course.{Course}
 use Rattle.pw_code.specs.declared.context.Course.TheVariants.{Instruction, Advisory}
 use Rattle.pw_code.specs.declared.context.Frame.{Frame}
 use Rattle.pw_code.specs.declared.context.Return.{Return}
-use Rattle.pw_image.specs.declared.fault.ImageFault.{ImageFault}
-use Rattle.pw_image.specs.declared.fault.ImageFault.TheVariants.{Bad, Memory}
+use Rattle.pw_image.specs.declared.fault.BytesFault.{BytesFault}
+use Rattle.pw_image.specs.declared.fault.BytesFault.TheVariants.{Bad, Memory}
 use Rattle.pw_image.specs.Image.{mark}
 
 -- what is read from the front, and the rest
@@ -24,14 +24,14 @@ abbrev pub ◌>>=◌ : {A B : Type 0} → Option A → (A → Option B) → Opti
 None >>= step = None
 
 -- nothing was read, unless memory ran out
-abbrev pub FailsImageReading : {Y : Type 0} → ImageFault → Option Y → Type 0
-FailsImageReading Bad read = read ≡ None
-FailsImageReading Memory read = Unit {0}
+abbrev pub FailsPart : {Y : Type 0} → BytesFault → Option Y → Type 0
+FailsPart Bad read = read ≡ None
+FailsPart Memory read = Unit {0}
 
 -- what a call answered, seen by view, is what was read, unless memory ran out
-abbrev pub GivesImagePart : {X Y : Type 0} → (X → Y) → Result X ImageFault → Option Y → Type 0
-GivesImagePart view (Ok x) read = read ≡ Some (view x)
-GivesImagePart view (Err fault) read = FailsImageReading fault read
+abbrev pub GivesPart : {X Y : Type 0} → (X → Y) → Result X BytesFault → Option Y → Type 0
+GivesPart view (Ok x) read = read ≡ Some (view x)
+GivesPart view (Err fault) read = FailsPart fault read
 
 -- a number
 abbrev pub number_at : Width → List ℕ → Front ℕ

@@ -4,18 +4,18 @@ ghost use Rattle.pw_code.specs.declared.context.Context.{Context};
 ghost use Rattle.pw_image.specs.Format.{IsImageOf};
 ghost use Rattle.pw_image.specs.Image.{mark};
 ghost use Rattle.pw_image.specs.Counts.{seen_counts};
-ghost use Rattle.pw_image.specs.Reading.{GivesImagePart, context_at, context_in, counts_at, course_of};
+ghost use Rattle.pw_image.specs.Reading.{GivesPart, context_at, context_in, counts_at, course_of};
 
 use crate::counts::Counts;
-use crate::fault::ImageFault;
+use crate::fault::BytesFault;
 use crate::reading::{read_frames, read_screen, read_truth, read_u16, read_u32};
 use pw_code::context::{Context, Course};
 use std::alloc::Global;
 
 /// The numbers that begin an image, and the rest.
 #[tactic(auto, unfolding(crate::specs::Reading::counts_at))]
-fn read_counts(bytes: &[u8]) -> Result<(Counts, &[u8]), ImageFault>
-    ensures { GivesImagePart (λ x. (seen_counts x.0, x.1.now)) result (counts_at bytes.now) }
+fn read_counts(bytes: &[u8]) -> Result<(Counts, &[u8]), BytesFault>
+    ensures { GivesPart (λ x. (seen_counts x.0, x.1.now)) result (counts_at bytes.now) }
 {
     let (termination, rest) = read_u16(bytes)?;
     let (restarts, rest) = read_u32(rest)?;
@@ -49,8 +49,8 @@ fn course_of(advisory: u8) -> Course
 
 /// A context at an answer, and the rest.
 #[tactic(auto, unfolding(crate::specs::Reading::context_at))]
-fn read_context(alloc: Global, bytes: &[u8]) -> Result<(Context, &[u8]), ImageFault>
-    ensures { GivesImagePart (λ x. (x.0, x.1.now)) result (context_at bytes.now) }
+fn read_context(alloc: Global, bytes: &[u8]) -> Result<(Context, &[u8]), BytesFault>
+    ensures { GivesPart (λ x. (x.0, x.1.now)) result (context_at bytes.now) }
 {
     let (counts, rest) = read_counts(bytes)?;
     let (in_unit, rest) = read_truth(rest)?;
@@ -88,29 +88,29 @@ fn behind_mark(bytes: &[u8]) -> Option<&[u8]>
 
 /// The context that the bytes are read as.
 #[tactic(auto, unfolding(crate::specs::Reading::context_in))]
-fn read_image(alloc: Global, bytes: &[u8]) -> Result<Context, ImageFault>
+fn read_image(alloc: Global, bytes: &[u8]) -> Result<Context, BytesFault>
     ensures context { IfOk result (λ context. context_in bytes.now ≡ Some context) }
-    ensures bad { result ≡ Err ImageFault.Bad → context_in bytes.now ≡ None }
+    ensures bad { result ≡ Err BytesFault.Bad → context_in bytes.now ≡ None }
 {
     let Some(rest) = behind_mark(bytes) else {
-        return Err(ImageFault::Bad);
+        return Err(BytesFault::Bad);
     };
     let (context, rest) = read_context(alloc, rest)?;
     if !rest.is_empty() {
-        return Err(ImageFault::Bad);
+        return Err(BytesFault::Bad);
     }
     Ok(context)
 }
 
 /// The context that an image is of. It is `Bad` exactly where the bytes are no image; docs/IMAGE.md has the format.
-pub fn decode(alloc: Global, bytes: &[u8]) -> Result<Context, ImageFault>
+pub fn decode(alloc: Global, bytes: &[u8]) -> Result<Context, BytesFault>
     // What is read has these bytes as its image.
     ensures image { IfOk result (IsImageOf bytes.now) }
     // Bytes are bad only where they are the image of no context.
-    ensures bad { result ≡ Err ImageFault.Bad → (context : Context) → ¬ IsImageOf bytes.now context }
+    ensures bad { result ≡ Err BytesFault.Bad → (context : Context) → ¬ IsImageOf bytes.now context }
 
     ensures reads { IfOk result (λ context. context_in bytes.now ≡ Some context) }
-    ensures none { result ≡ Err ImageFault.Bad → context_in bytes.now ≡ None }
+    ensures none { result ≡ Err BytesFault.Bad → context_in bytes.now ≡ None }
 {
     read_image(alloc, bytes)
 }

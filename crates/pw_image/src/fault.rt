@@ -4,33 +4,33 @@ use pw_base::memory::Memory;
 use std::alloc::AllocFailed;
 use thiserror::Error;
 
-/// Why bytes gave no context.
+/// Why bytes gave no value, as a context of an image.
 #[derive(Clone, Copy, Debug, PartialEq, Eq, Drop, Error)]
-pub enum ImageFault {
-    /// They are no image.
-    #[error("bad image")]
+pub enum BytesFault {
+    /// They have not the format.
+    #[error("bad bytes")]
     Bad,
     /// Memory ran out.
     #[error("out of memory")]
     Memory,
 }
 
-impl From<Memory> for ImageFault {
-    ghost use Rattle.pw_image.specs.declared.fault.ImageFault.TheVariants.{Memory as OutOfMemory};
+impl From<Memory> for BytesFault {
+    ghost use Rattle.pw_image.specs.declared.fault.BytesFault.TheVariants.{Memory as OutOfMemory};
 
     ghost from_gives = { λ _ fault. fault ≡ OutOfMemory };
 
-    fn from(_memory: Memory) -> ImageFault {
-        ImageFault::Memory
+    fn from(_memory: Memory) -> BytesFault {
+        BytesFault::Memory
     }
 }
 
-impl<T: Drop> From<AllocFailed<T>> for ImageFault {
-    ghost use Rattle.pw_image.specs.declared.fault.ImageFault.TheVariants.{Memory as OutOfMemory};
+impl<T: Drop> From<AllocFailed<T>> for BytesFault {
+    ghost use Rattle.pw_image.specs.declared.fault.BytesFault.TheVariants.{Memory as OutOfMemory};
 
     ghost from_gives = { λ _ fault. fault ≡ OutOfMemory };
 
-    fn from(_error: AllocFailed<T>) -> ImageFault {
-        ImageFault::Memory
+    fn from(_error: AllocFailed<T>) -> BytesFault {
+        BytesFault::Memory
     }
 }

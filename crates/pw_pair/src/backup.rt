@@ -7,7 +7,7 @@ use crate::resumed::Resumed;
 use pw_base::bytes::Bytes;
 use pw_base::memory::Memory;
 use pw_image::decode::decode;
-use pw_image::fault::ImageFault;
+use pw_image::fault::BytesFault;
 use std::alloc::Global;
 use std::marker::Model;
 
@@ -86,8 +86,8 @@ fn resume(alloc: Global, held: &Held, last: u32) -> Result<Resumed, Memory>
             unit: held.unit,
             context,
         }),
-        Err(ImageFault::Memory) => Err(Memory),
-        Err(ImageFault::Bad) => unreachable!(),
+        Err(BytesFault::Memory) => Err(Memory),
+        Err(BytesFault::Bad) => unreachable!(),
     }
 }
 

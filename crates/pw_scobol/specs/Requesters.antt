@@ -1,5 +1,6 @@
 -- A requester, or its first fault.
 use Rattle.std.specs.Prelude.{ℕ, List, map, false, Result, Ok}
+use Rattle.pw_base.specs.Steps.{◌>>=◌}
 use Rattle.pw_base.specs.declared.fault.Fault.{Fault}
 use Rattle.pw_words.specs.Words.{Word}
 use Rattle.pw_text.specs.Tokens.{tokens_of}
@@ -7,7 +8,6 @@ use Rattle.pw_data.specs.Layouts.{layout_of}
 use Rattle.pw_forms.specs.Procedures.{procedure_of}
 use Rattle.pw_divisions.specs.Names.{upper_name}
 use Rattle.pw_divisions.specs.Divisions.{divisions_of}
-use Rattle.pw_divisions.specs.Passes.{◌>>=◌}
 use Rattle.pw_screen.specs.Screens.{screens_of}
 use Rattle.pw_scobol.specs.declared.requester.Requester.{Requester}
 

@@ -1,14 +1,9 @@
 -- Steps of a reading, of which the first that is refused is the fault.
+pub use Rattle.pw_base.specs.Steps.{◌>>=◌}
 use Rattle.std.specs.Prelude.{ℕ, ◌+◌, Bool, true, false, List, [], ◌∷◌, Option, None, Some, Result, Ok, Err, if◌then◌else◌}
 use Rattle.pw_base.specs.declared.fault.Fault.{Fault}
 use Rattle.pw_sections.specs.Words.{words}
 use Rattle.pw_base.specs.declared.fault_code.FaultCode.{FaultCode}
-
--- the next step, where there is no fault yet
-infixl 10 ◌>>=◌
-abbrev pub ◌>>=◌ : {A B : Type 0} → Result A Fault → (A → Result B Fault) → Result B Fault
-(Err fault) >>= next = Err fault
-(Ok value) >>= next = next value
 
 -- the fault of a code on a line
 abbrev pub fault_at : ℕ → FaultCode → Fault

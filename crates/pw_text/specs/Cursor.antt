@@ -1,5 +1,7 @@
 -- A cursor over the tokens of a text, and what its steps read.
+pub use Rattle.pw_base.specs.Readers.{and_then, ◌>>=◌, ◌>>◌, pure}
 use Rattle.std.specs.Prelude.{◌≡◌, ℕ, ◌-◌, ◌==◌, List, [], ◌∷◌, take, drop, Bool, false, ◌&&◌, Option, None, Some, MatchOption, if◌then◌else◌}
+use Rattle.pw_base.specs.Readers.{ReaderOf}
 use Rattle.pw_words.specs.Words.{Word, same_word}
 use Rattle.pw_text.specs.declared.token.TokenKind.{TokenKind}
 use Rattle.pw_text.specs.declared.token.TokenKind.TheVariants as kind
@@ -64,30 +66,7 @@ after_token found left = if found then behind 1 left else left
 
 -- a reader: it gives a value and what is left behind it, or none
 abbrev pub TokenReader : Type 0 → Type 0
-TokenReader A = Left → Option (A × Left)
-
--- behind what was read goes on the reader that the value chooses
-abbrev pub and_then : {A B : Type 0} → Option (A × Left) → (A → TokenReader B) → Option (B × Left)
-and_then None next = None
-and_then (Some found) next = next found.0 found.1
-
--- reads one thing, and then what that asks for
-infixl 10 ◌>>=◌
-abbrev pub ◌>>=◌ : {A B : Type 0} → TokenReader A → (A → TokenReader B) → TokenReader B
-first >>= next = λ left. and_then (first left) next
-
--- reads one thing, which is passed over, and then another
-infixl 10 ◌>>◌
-abbrev pub ◌>>◌ : {A B : Type 0} → TokenReader A → TokenReader B → TokenReader B
-first >> second = first >>= (λ _. second)
-
--- a value, for which nothing is read
-abbrev pub pure : {A : Type 0} → A → TokenReader A
-pure value = λ left. Some (value, left)
-
--- no value
-abbrev pub none : {A : Type 0} → TokenReader A
-none = λ left. None
+TokenReader A = ReaderOf Left A
 
 -- whether the next token is of a kind; then it is taken
 abbrev pub eat : TokenKind → TokenReader Bool

@@ -5,7 +5,6 @@ mod Committing
 mod Framing
 mod Keeping
 mod Logging
-mod Loop
 mod Opening
 mod Orderly
 mod Prefixes

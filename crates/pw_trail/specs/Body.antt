@@ -1,5 +1,5 @@
 -- The body of a record of the trail, which tells what a unit has changed: how it is spelled, and how it is read.
-use Rattle.std.specs.Prelude.{◌≡◌, ℕ, zero, suc, ◌==◌, ◌&&◌, Bool, false, List, [], ◌∷◌, ◌++◌, length, slice_get, Option, Some, None, Result, Ok, Err, nat_le, if◌then◌else◌}
+use Rattle.std.specs.Prelude.{ℕ, zero, suc, ◌==◌, ◌&&◌, Bool, false, List, [], ◌∷◌, ◌++◌, length, slice_get, Option, Some, None, nat_le, if◌then◌else◌}
 use Rattle.std.specs.Int.{w32, to_be_bytes}
 use Rattle.std.specs.List.{flat_map}
 use Rattle.pw_base.specs.Limits.{most_content}
@@ -9,8 +9,6 @@ use Rattle.pw_trail.specs.declared.changes.Change.{Change}
 use Rattle.pw_trail.specs.declared.changes.ChangeKind.{ChangeKind}
 use Rattle.pw_trail.specs.declared.changes.ChangeKind.TheVariants.{Put, Remove}
 use Rattle.pw_trail.specs.declared.changes.UnitChanges.{UnitChanges}
-use Rattle.pw_trail.specs.declared.fault.BodyFault.{BodyFault}
-use Rattle.pw_trail.specs.declared.fault.BodyFault.TheVariants.{Bad, Memory}
 
 -- a kind as a byte
 abbrev pub kind_byte : ChangeKind → ℕ
@@ -80,13 +78,3 @@ unit_at files =
 -- the unit that a body is of, if the bytes are one
 unfoldable pub unit_in : List FileInfo → List ℕ → Option UnitChanges
 unit_in files body = all_of (unit_at files body)
-
--- nothing was read, unless memory ran out
-abbrev pub Fails : {Y : Type 0} → BodyFault → Option Y → Type 0
-Fails Bad read = read ≡ None
-Fails Memory read = Unit {0}
-
--- what a call answered, seen by view, is what was read, unless memory ran out
-abbrev pub GivesBodyPart : {X Y : Type 0} → (X → Y) → Result X BodyFault → Option Y → Type 0
-GivesBodyPart view (Ok x) read = read ≡ Some (view x)
-GivesBodyPart view (Err fault) read = Fails fault read

@@ -5,37 +5,6 @@ use pw_volume::fault::DiskFailed;
 use std::alloc::{AllocError, AllocFailed};
 use thiserror::Error;
 
-/// Why bytes gave no unit.
-#[derive(Clone, Copy, Debug, PartialEq, Eq, Drop, Error)]
-pub enum BodyFault {
-    /// They are no body of a record.
-    #[error("bad record")]
-    Bad,
-    /// Memory ran out.
-    #[error("out of memory")]
-    Memory,
-}
-
-impl From<Memory> for BodyFault {
-    ghost use Rattle.pw_trail.specs.declared.fault.BodyFault.TheVariants.{Memory as OutOfMemory};
-
-    ghost from_gives = { λ _ fault. fault ≡ OutOfMemory };
-
-    fn from(_memory: Memory) -> BodyFault {
-        BodyFault::Memory
-    }
-}
-
-impl<T: Drop> From<AllocFailed<T>> for BodyFault {
-    ghost use Rattle.pw_trail.specs.declared.fault.BodyFault.TheVariants.{Memory as OutOfMemory};
-
-    ghost from_gives = { λ _ fault. fault ≡ OutOfMemory };
-
-    fn from(_error: AllocFailed<T>) -> BodyFault {
-        BodyFault::Memory
-    }
-}
-
 /// Why a trail was not opened.
 #[derive(Clone, Copy, Debug, PartialEq, Eq, Drop, Error)]
 pub enum OpenFault {

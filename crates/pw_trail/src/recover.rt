@@ -9,12 +9,13 @@ ghost use Rattle.pw_trail.specs.Stored.{HasTakenOne, IsTrailRead, IsRecovered};
 ghost use Rattle.pw_trail.specs.declared.changes.UnitChanges.{UnitChanges};
 
 use crate::changes::UnitChanges;
-use crate::fault::{BodyFault, OpenFault};
+use crate::fault::OpenFault;
 use crate::piece::{TrailPiece, read_piece};
 use crate::read::read_unit;
 use crate::synced::Synced;
 use pw_base::memory::Memory;
 use pw_code::file::FileInfo;
+use pw_image::fault::BytesFault;
 use pw_volume::disk::Disk;
 use std::alloc::Global;
 
@@ -54,8 +55,8 @@ fn take_unit<R: Recovery>(
             into.take(&unit)?;
             Ok(())
         }
-        Err(BodyFault::Bad) => Err(OpenFault::Damaged { at }),
-        Err(BodyFault::Memory) => Err(OpenFault::Memory),
+        Err(BytesFault::Bad) => Err(OpenFault::Damaged { at }),
+        Err(BytesFault::Memory) => Err(OpenFault::Memory),
     }
 }
 

@@ -16,7 +16,7 @@ use Rattle.pw_operands.specs.Resolved.{Each}
 use Rattle.pw_screen.specs.Screens.{screens_of}
 use Rattle.pw_divisions.specs.Divided.{Divided}
 use Rattle.pw_divisions.specs.Divisions.{ends_text, identification, environment_text, environment, section_text, section, no_data, stored_sections, sections, data_sections, data_division, parameters, is_parameter, one_or_more, used_names, using_names, begins_procedure, procedure_heading, front, source, divided, divisions_of}
-use Rattle.pw_divisions.specs.Passes as passes
+use Rattle.pw_base.specs.Steps as passes
 use Rattle.pw_divisions.specs.Steps.{TokenStep, and_then, ◌>>=◌, pure, word, period, size_up_to, some_tokens, up_to, between}
 use Rattle.pw_scobol.specs.Requesters.{requester_of}
 use Rattle.pw_scobol.specs.declared.requester.Requester.{Requester}

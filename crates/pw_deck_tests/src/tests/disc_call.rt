@@ -1,7 +1,7 @@
 use pw_disc::call::DiscCall;
 use pw_disc::decode::decode_call;
 use pw_disc::encode::encode_call;
-use pw_disc::fault::CallFault;
+use pw_image::fault::BytesFault;
 use std::alloc::Global;
 use std::process::Abort;
 use std::test::Fail;
@@ -48,7 +48,7 @@ fn message(alloc: Global, row: &str) -> Result<Vec<u8>, Fail> {
 
 /// Whether bytes are no message.
 fn is_bad(alloc: Global, bytes: &[u8]) -> bool {
-    matches!(decode_call(alloc, bytes), Err(CallFault::Bad))
+    matches!(decode_call(alloc, bytes), Err(BytesFault::Bad))
 }
 
 /// Asserts that no part of a message is one, nor the message with a byte more.

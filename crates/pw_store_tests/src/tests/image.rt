@@ -1,7 +1,7 @@
 use pw_code::context::{Context, Frame};
 use pw_image::changes::changes;
 use pw_image::decode::decode;
-use pw_image::fault::ImageFault;
+use pw_image::fault::BytesFault;
 use std::alloc::{AllocError, Global};
 use std::process::Abort;
 use std::test::Fail;
@@ -24,7 +24,7 @@ fn start_image(alloc: Global) -> Result<Vec<u8>, Fail> {
 
 /// Whether bytes are no image.
 fn is_bad(alloc: Global, bytes: &[u8]) -> bool {
-    matches!(decode(alloc, bytes), Err(ImageFault::Bad))
+    matches!(decode(alloc, bytes), Err(BytesFault::Bad))
 }
 
 #[test]
@@ -99,7 +99,7 @@ const NUMBERS: &[u8] =
 /// The numbers of a context, as a text.
 fn numbers_of(alloc: Global, context: &Context) -> Result<String, AllocError> {
     format!(in alloc;
-        "{} {} {} {} {} {} {} {} {}",
+        "{} {} {} {} {} {} {} {} {:?}",
         context.termination,
         context.restarts,
         context.phase,
@@ -108,7 +108,7 @@ fn numbers_of(alloc: Global, context: &Context) -> Result<String, AllocError> {
         context.entries,
         context.units,
         context.in_unit,
-        context.mode
+        context.course
     )
 }
 
@@ -122,7 +122,7 @@ fn numbers_are_read(rt: HostRuntime) -> Result<(), Fail> {
     }
     let context = decode(rt.alloc(), &image)?;
     let found = numbers_of(rt.alloc(), &context)?;
-    assert!(rt; found.as_str() == "258 3 4 5 6 7 8 true 1");
+    assert!(rt; found.as_str() == "258 3 4 5 6 7 8 true Advisory");
     Ok(())
 }
 

@@ -1,10 +1,9 @@
 -- Each turn reads one more.
 use Rattle.std.proofs.Common.{◌≡◌, ◌++◌, ◌∷◌, []}
 use Rattle.std.proofs.lemmas.Result.{err_from_is_err_and}
-use Rattle.pw_image.proofs.Loop.{goes_on, is_done}
+use Rattle.pw_image.proofs.Loop.{fails, goes_on, is_done}
 use Rattle.pw_image.specs.Reading.{many_at}
 use Rattle.pw_disc.specs.Reading.{unit_at}
-use Rattle.pw_disc.proofs.Loop.{fails}
 use Rattle.pw_disc.proofs.reading.read_many_units.Goals as goal
 
 pub returns-in_err-unit : goal.returns-in_err-unit

@@ -5,11 +5,11 @@ use Rattle.pw_code.specs.declared.context.Context.{Context}
 use Rattle.pw_image.specs.Format.{IsImageOf}
 use Rattle.pw_image.specs.Reading.{context_in}
 use Rattle.pw_image.specs.Values.{AreBytes}
-use Rattle.pw_image.specs.declared.fault.ImageFault.{ImageFault}
+use Rattle.pw_image.specs.declared.fault.BytesFault.{BytesFault}
 use Rattle.pw_image.proofs.ImageForms.{is-image, read-again}
 use Rattle.pw_image.proofs.decode.decode.Goals as goal
 
-found : (bytes : List ℕ) (r : Result Context ImageFault) → AreBytes bytes → IfOk r (λ context. context_in bytes ≡ Some context) → IfOk r (IsImageOf bytes)
+found : (bytes : List ℕ) (r : Result Context BytesFault) → AreBytes bytes → IfOk r (λ context. context_in bytes ≡ Some context) → IfOk r (IsImageOf bytes)
 found bytes (Ok context) fits e = is-image bytes context fits e
 found bytes (Err fault) fits e = tt
 

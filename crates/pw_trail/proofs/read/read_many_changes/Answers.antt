@@ -1,10 +1,9 @@
 -- Each turn reads one more.
 use Rattle.std.proofs.Common.{◌≡◌, ◌++◌, ◌∷◌, []}
 use Rattle.std.proofs.lemmas.Result.{err_from_is_err_and}
-use Rattle.pw_image.proofs.Loop.{goes_on, is_done}
+use Rattle.pw_image.proofs.Loop.{fails, goes_on, is_done}
 use Rattle.pw_image.specs.Reading.{many_at}
 use Rattle.pw_trail.specs.Body.{change_at}
-use Rattle.pw_trail.proofs.Loop.{fails}
 use Rattle.pw_trail.proofs.read.read_many_changes.Goals as goal
 
 pub returns-in_err-change : goal.returns-in_err-change
