@@ -122,7 +122,7 @@ fn behind_head<'a>(
     let left = behind(left, &context.entries.to_be_bytes());
     let left = behind(left, &units.to_be_bytes());
     let left = behind(left, &[in_unit as u8]);
-    let left = behind(left, &[context.mode]);
+    let left = behind(left, &[context.course.is_advisory() as u8]);
     behind(left, context.screen.cells())
 }
 
