@@ -1,5 +1,6 @@
 -- What compiled code does is the same over other records.
-use Rattle.std.proofs.Common.{◌≡◌, ℕ, ◌+◌, ◌*◌, List, length, Option, Some, None, refl, ap, ◌==◌, if◌then◌else◌, slice_get}
+use Rattle.std.proofs.Common.{◌≡◌, ℕ, ◌+◌, ◌*◌, List, length, Option, Some, None, refl, ap, slice_get}
+use Rattle.pw_code.specs.Courses.{by_course}
 use Rattle.pw_code.specs.declared.context.Context.{Context}
 use Rattle.pw_code.specs.declared.context.Frame.{Frame}
 use Rattle.pw_code.specs.declared.file.FileInfo.{FileInfo}
@@ -9,7 +10,7 @@ use Rattle.pw_code.specs.declared.system.System.{System}
 use Rattle.pw_code.specs.declared.verb.Answer.{Answer}
 use Rattle.pw_code_meaning.specs.Answers.{answered_by, put, shown}
 use Rattle.pw_code_meaning.specs.Calls.{leaves, leaves_by, returned, storage_behind}
-use Rattle.pw_code_meaning.specs.Config.{Config, asks, code_at, code_of, code_statement_counted, has_fault}
+use Rattle.pw_code_meaning.specs.Config.{Config, asks, code_at, code_of, code_statement_counted}
 use Rattle.pw_code_meaning.specs.Runs.{at_verb, config_after_answers, most_steps, run, runs}
 use Rattle.pw_code_meaning.specs.Steps.{act, does, instr_of, step}
 use Rattle.pw_code_meaning.specs.Turns.{split_last}
@@ -131,7 +132,7 @@ module _ (system : System) (files : List FileInfo) where
   act-same (Some (Delete file key)) = ap code_statement_counted (does-same (Delete file key))
 
   step-same : step other ≡ step system
-  step-same i c = if c.rest.mode == 0 then act-same (instr_of system c) i c else asks c
+  step-same i c = by_course c.rest.course (act-same (instr_of system c) i c) (asks c) (λ code. asks c)
 
   answered-same : (at : Option Instr) (given : Answer) (c : Config) → answered_by other at given c ≡ answered_by system at given c
   answered-same None given c = refl
@@ -168,9 +169,8 @@ module _ (system : System) (files : List FileInfo) where
 
   pub put-same : put other ≡ put system
   put-same i a c =
-      if has_fault c.rest then c
-      else if c.rest.mode == 1 then shown c
-      else answered-same (slice_get (code_of system c).instrs c.top.at) a c i
+      by_course c.rest.course (answered-same (slice_get (code_of system c).instrs c.top.at) a c i)
+      (shown c) (λ code. c)
 
   run-same : run other ≡ run system
   run-same i n c answers = runs at_verb (step-same i) (put-same i) n c answers
