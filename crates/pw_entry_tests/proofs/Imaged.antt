@@ -3,6 +3,7 @@ use Rattle.std.proofs.Common.{◌≡◌, ℕ, ◌+◌, ◌-◌, ◌*◌, false, 
 use Rattle.std.proofs.lemmas.List.{flat_map_more, get_or_push, length-append, take-append-le, take_all}
 use Rattle.std.specs.List.{flat_map}
 use Rattle.std.specs.Str.{bytes_eq}
+use Rattle.pw_code.specs.Courses.{is_advisory}
 use Rattle.pw_code.specs.declared.context.Context.{Context}
 use Rattle.pw_code.specs.declared.context.Frame.{Frame}
 use Rattle.pw_code_meaning.specs.Config.{frame_at}
@@ -15,8 +16,8 @@ pub image-parts : (context : Context) → image_of context ≡ head_bytes contex
 image-parts context =
     ap (λ l. mark ++ l)
     (ap (λ l. count_bytes context ++ l)
-    (ap (λ l. truth context.in_unit ∷ context.mode ∷ l) refl)
-    ∙ sym (append_assoc (count_bytes context) (truth context.in_unit ∷ context.mode ∷ context.screen) (length context.frames ∷ flat_map frame_bytes context.frames)))
+    (ap (λ l. truth context.in_unit ∷ truth (is_advisory context.course) ∷ l) refl)
+    ∙ sym (append_assoc (count_bytes context) (truth context.in_unit ∷ truth (is_advisory context.course) ∷ context.screen) (length context.frames ∷ flat_map frame_bytes context.frames)))
 
 -- bytes are an image where nothing is left of them behind its parts
 pub all-is : (bytes front image : List ℕ) (left : Option (List ℕ)) → left ≡ left_of front (Some bytes) → image ≡ front

@@ -1,5 +1,6 @@
 -- What is left of bytes behind others, and the image behind the answer that ends a transaction.
 use Rattle.std.specs.Prelude.{◌≡◌, ℕ, ◌==◌, Bool, true, false, List, [], ◌∷◌, ◌++◌, Option, Some, None, if◌then◌else◌}
+use Rattle.pw_code.specs.Courses.{is_advisory}
 use Rattle.pw_code.specs.declared.context.Context.{Context}
 use Rattle.pw_code_meaning.specs.Answers.{unit_end_put}
 use Rattle.pw_code_meaning.specs.Config.{closed}
@@ -33,4 +34,4 @@ behind_end context = closed (unit_end_put (opened context))
 -- what stands in an image before the number of its programs
 abbrev pub head_bytes : Context → List ℕ
 head_bytes context =
-    mark ++ (count_bytes context ++ (truth context.in_unit ∷ [] ++ (context.mode ∷ [] ++ context.screen)))
+    mark ++ (count_bytes context ++ (truth context.in_unit ∷ [] ++ (truth (is_advisory context.course) ∷ [] ++ context.screen)))

@@ -1,7 +1,8 @@
 -- Mark, numbers, truths and cells, one behind the other.
-use Rattle.std.proofs.Common.{◌++◌, ◌∷◌, [], List, ℕ, Some}
+use Rattle.std.proofs.Common.{◌++◌, ◌∷◌, [], List, ℕ, Some, ap}
 use Rattle.std.specs.Int.{to_be_bytes, w16, w32}
 use Rattle.std.specs.Option.{option_copied}
+use Rattle.pw_code.specs.Courses.{is_advisory}
 use Rattle.pw_image.specs.Image.{mark, truth}
 use Rattle.pw_entry_tests.proofs.Left.{piece, two}
 use Rattle.pw_entry_tests.proofs.images.behind_head.Goals as goal
@@ -28,9 +29,9 @@ returns c =
     let g : List ℕ = to_be_bytes w32 x.entries in
     let h : List ℕ = to_be_bytes w32 c.args.units in
     let unit : List ℕ = truth c.args.in_unit ∷ [] in
-    let mode : List ℕ = x.mode ∷ [] in
-    two mark ((a ++ (b ++ (d ++ (e ++ (f ++ (g ++ h)))))) ++ (unit ++ (mode ++ x.screen))) (Some c.args.bytes.now) l1 last c.behind-left.ensures
-    (two (a ++ (b ++ (d ++ (e ++ (f ++ (g ++ h)))))) (unit ++ (mode ++ x.screen)) l1 l8 last
+    let advice : List ℕ = truth (is_advisory x.course) ∷ [] in
+    two mark ((a ++ (b ++ (d ++ (e ++ (f ++ (g ++ h)))))) ++ (unit ++ (advice ++ x.screen))) (Some c.args.bytes.now) l1 last c.behind-left.ensures
+    (two (a ++ (b ++ (d ++ (e ++ (f ++ (g ++ h)))))) (unit ++ (advice ++ x.screen)) l1 l8 last
     (two a (b ++ (d ++ (e ++ (f ++ (g ++ h))))) l1 l2 l8
     (piece c.to_be_bytes.result a l1 l2 c.behind-left-2.ensures c.to_be_bytes.ensures)
     (two b (d ++ (e ++ (f ++ (g ++ h)))) l2 l3 l8
@@ -44,7 +45,8 @@ returns c =
     (two g (h) l6 l7 l8
     (piece c.to_be_bytes-6.result g l6 l7 c.behind-left-7.ensures c.to_be_bytes-6.ensures)
     (piece c.to_be_bytes-7.result h l7 l8 c.behind-left-8.ensures c.to_be_bytes-7.ensures)))))))
-    (two unit (mode ++ x.screen) l8 l9 last
+    (two unit (advice ++ x.screen) l8 l9 last
     c.behind-left-9.ensures
-    (two mode x.screen l9 l10 last c.behind-left-10.ensures
+    (two advice x.screen l9 l10 last
+    (piece (truth c.is_advisory.result ∷ []) advice l9 l10 c.behind-left-10.ensures (ap (λ b. truth b ∷ []) c.is_advisory.ensures))
     (piece c.cells.result.now x.screen l10 last c.behind.ensures c.cells.ensures.cells))))
