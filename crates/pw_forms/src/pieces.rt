@@ -14,28 +14,21 @@ use pw_base::memory::Memory;
 use pw_text::token::{Token, TokenKind};
 use std::alloc::Global;
 
-/// Whether a mark is a period.
-fn is_period(mark: TokenMark) -> bool
-    ensures { result ≡ spec.is_period mark }
+/// Whether a token is a period. No word is looked up for it, since none is one.
+fn is_period(server: bool, text: &[u8], token: Token) -> bool
+    ensures { result ≡ spec.is_period (mark_of server text.now token) }
 {
-    matches!(mark, TokenMark::Period)
-}
-
-/// What the first of some tokens begins.
-fn first_mark(server: bool, text: &[u8], tokens: &[Token]) -> TokenMark
-    ensures { result ≡ spec.first_mark server text.now tokens.now }
-{
-    match tokens {
-        [token, ..] => mark_of(server, text, *token),
-        [] => TokenMark::Other,
-    }
+    token.kind.is(TokenKind::Period)
 }
 
 /// Whether a period is the first of some tokens.
 pub fn begins_with_period(server: bool, text: &[u8], tokens: &[Token]) -> bool
     ensures { result ≡ spec.is_period (spec.first_mark server text.now tokens.now) }
 {
-    is_period(first_mark(server, text, tokens))
+    match tokens {
+        [token, ..] => is_period(server, text, *token),
+        [] => false,
+    }
 }
 
 /// How many tokens stand in front of the next that begins a piece.
@@ -59,7 +52,7 @@ pub fn piece_size(server: bool, text: &[u8], tokens: &[Token]) -> usize
 {
     match tokens {
         [first, behind @ ..] => {
-            if is_period(mark_of(server, text, *first)) {
+            if is_period(server, text, *first) {
                 1
             } else {
                 1 + run_size(server, text, behind)
