@@ -24,11 +24,7 @@ pub fn name_of<'a>(text: &'a [u8], entry: Entry) -> Option<&'a [u8]>
 pub fn in_lower_case(alloc: Global, name: &[u8]) -> Result<Vec<u8>, Memory>
     ensures { IfOk result (λ folded. folded.items ≡ str_to_ascii_lowercase name.now) }
 {
-    Ok(
-        name.iter()
-            .map(|byte| byte.to_ascii_lowercase())
-            .collect(alloc)?,
-    )
+    Ok(name.to_ascii_lowercase(alloc)?)
 }
 
 /// Puts a name into a set of names in lower case. It gives whether the name was there.

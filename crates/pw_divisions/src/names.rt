@@ -55,11 +55,7 @@ pub fn own_name_of(entry: &Cursor<'_>) -> Option<Token>
 pub fn upper_name(alloc: Global, text: &[u8], token: Token) -> Result<Bytes, Memory>
     ensures { IfOk result (λ name. name ≡ upper_name text.now token) }
 {
-    let name = token
-        .spelling(text)
-        .iter()
-        .map(|byte| byte.to_ascii_uppercase())
-        .collect(alloc)?;
+    let name = token.spelling(text).to_ascii_uppercase(alloc)?;
     Ok(Bytes::from_vec(name))
 }
 

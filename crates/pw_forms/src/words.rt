@@ -128,10 +128,6 @@ pub fn is_item_name(server: bool, text: &[u8], token: Token) -> bool
 pub fn name_in(alloc: Global, text: &[u8], token: Token) -> Result<Bytes, Memory>
     ensures { IfOk result (λ name. name ≡ token_name text.now token) }
 {
-    let name = token
-        .spelling(text)
-        .iter()
-        .map(|byte| byte.to_ascii_uppercase())
-        .collect(alloc)?;
+    let name = token.spelling(text).to_ascii_uppercase(alloc)?;
     Ok(Bytes::from_vec(name))
 }
