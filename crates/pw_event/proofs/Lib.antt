@@ -5,6 +5,7 @@ mod Ends
 mod Failures
 mod Given
 mod Grammar
+mod Initials
 mod Keyed
 mod Leaves
 mod Lines

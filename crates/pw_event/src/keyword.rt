@@ -1,4 +1,4 @@
-ghost use Rattle.std.specs.Prelude.{◌≡◌, find};
+ghost use Rattle.std.specs.Prelude.{◌≡◌, ◌==◌, filter, find, get_or};
 ghost use Rattle.std.specs.Str.{bytes_eq};
 ghost use Rattle.pw_event.specs.Keywords.{keyword_text, keywords, keyword};
 
@@ -48,57 +48,64 @@ pub enum Keyword {
     After,
 }
 
-/// All of them.
-const KEYWORDS: [Keyword; 39] = [
-    Keyword::Show,
-    Keyword::Key,
-    Keyword::Check,
-    Keyword::Start,
-    Keyword::End,
-    Keyword::Copy,
-    Keyword::Applied,
-    Keyword::Begin,
-    Keyword::Send,
-    Keyword::Take,
-    Keyword::File,
-    Keyword::Read,
-    Keyword::Next,
-    Keyword::Write,
-    Keyword::Rewrite,
-    Keyword::Delete,
-    Keyword::Shared,
-    Keyword::Exclusive,
-    Keyword::Reply,
-    Keyword::Okay,
-    Keyword::Fault,
-    Keyword::Again,
-    Keyword::Commit,
-    Keyword::Back,
-    Keyword::Restart,
-    Keyword::Older,
-    Keyword::Takeover,
-    Keyword::Server,
-    Keyword::Redo,
-    Keyword::Fail,
-    Keyword::Tcp,
-    Keyword::Primary,
-    Keyword::Backup,
-    Keyword::Raise,
-    Keyword::Stopped,
-    Keyword::NoEntries,
-    Keyword::Suspended,
-    Keyword::Lost,
-    Keyword::After,
-];
-
-/// The keyword that a word is, if any.
-fn keyword_of(word: &[u8]) -> Option<Keyword>
-    ensures { result ≡ find (λ keyword. bytes_eq (keyword_text keyword) word.now) keywords }
+/// The keywords that begin with a byte, in their order.
+fn beginning_with(first: u8) -> &'static [Keyword]
+    ensures { result.now ≡ filter (λ keyword. get_or (keyword_text keyword) 0 0 == first) keywords }
 {
-    KEYWORDS
+    match first {
+        b'A' => &[Keyword::Applied, Keyword::Again, Keyword::After],
+        b'B' => &[Keyword::Begin, Keyword::Back, Keyword::Backup],
+        b'C' => &[Keyword::Check, Keyword::Copy, Keyword::Commit],
+        b'D' => &[Keyword::Delete],
+        b'E' => &[Keyword::End],
+        b'F' => &[Keyword::File, Keyword::Fault, Keyword::Fail],
+        b'K' => &[Keyword::Key],
+        b'L' => &[Keyword::Lost],
+        b'N' => &[Keyword::Next, Keyword::NoEntries],
+        b'O' => &[Keyword::Okay, Keyword::Older],
+        b'P' => &[Keyword::Primary],
+        b'R' => &[
+            Keyword::Read,
+            Keyword::Rewrite,
+            Keyword::Reply,
+            Keyword::Restart,
+            Keyword::Redo,
+            Keyword::Raise,
+        ],
+        b'S' => &[
+            Keyword::Show,
+            Keyword::Start,
+            Keyword::Send,
+            Keyword::Shared,
+            Keyword::Server,
+            Keyword::Stopped,
+            Keyword::Suspended,
+        ],
+        b'T' => &[Keyword::Take, Keyword::Takeover, Keyword::Tcp],
+        b'W' => &[Keyword::Write],
+        b'X' => &[Keyword::Exclusive],
+        _ => &[],
+    }
+}
+
+/// The first of some keywords that a word is.
+fn among(keywords: &[Keyword], word: &[u8]) -> Option<Keyword>
+    ensures { result ≡ find (λ keyword. bytes_eq (keyword_text keyword) word.now) keywords.now }
+{
+    keywords
         .iter()
         .copied()
         .find(|keyword| keyword.text() == word)
+}
+
+/// The keyword that a word is, if any. It looks at the few that begin with the word's first byte.
+fn keyword_of(word: &[u8]) -> Option<Keyword>
+    ensures { result ≡ find (λ keyword. bytes_eq (keyword_text keyword) word.now) keywords }
+{
+    match word {
+        [first, ..] => among(beginning_with(*first), word),
+        [] => None,
+    }
 }
 
 impl Keyword {
