@@ -2,6 +2,7 @@ mod Complete
 mod Digits
 mod Dues
 mod Ends
+mod Extended
 mod Failures
 mod Given
 mod Grammar
