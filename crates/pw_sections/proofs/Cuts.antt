@@ -1,8 +1,10 @@
 -- Where a text is cut.
-use Rattle.std.proofs.Common.{◌≡◌, ℕ, suc, ◌+◌, ◌<◌, ◌≤◌, Bool, true, false, ◌&&◌, eqb, List, [], ◌∷◌, length, get_or, take, drop, refl, sym, ap, ◌∙◌, arith}
-use Rattle.std.proofs.lemmas.Bool.{and_parts, eqb-true}
-use Rattle.std.proofs.lemmas.List.{drop_more, drop_all}
-use Rattle.pw_sections.specs.Parts.{DeckSections, with_byte, cut, sections, front}
+use Rattle.std.proofs.Common.{◌≡◌, ◌≢◌, ℕ, zero, suc, ◌+◌, ◌-◌, ◌<◌, ◌≤◌, Bool, true, false, ◌&&◌, eqb, List, [], ◌∷◌, length, get_or, take, drop, refl, sym, ap, ◌∙◌, add-zero, not, arith}
+use Rattle.std.specs.Prelude.{◌==◌}
+use Rattle.std.specs.List.{list_all}
+use Rattle.std.proofs.lemmas.Bool.{and_parts, eqb-true, ne_eqb}
+use Rattle.std.proofs.lemmas.List.{drop_more, drop_all, get_or-take, get_or-drop, length-take-le}
+use Rattle.pw_sections.specs.Parts.{DeckSections, with_byte, cut, sections, front, starts, begins_at, NoneBegins}
 
 step : (s : Bool) (b : ℕ) (rest : List ℕ) → cut s (b ∷ rest) ≡ with_byte (s && eqb b 63) b (cut (eqb b 10) rest)
 unfolding cut
@@ -26,6 +28,12 @@ size_here s b rest is = ap (λ (c : DeckSections). length c.front) (begun s b re
 pub size_more : (s : Bool) (b : ℕ) (rest : List ℕ) → (s && eqb b 63) ≡ false → length (cut s (b ∷ rest)).front ≡ suc (length (cut (eqb b 10) rest).front)
 size_more s b rest is = ap (λ (c : DeckSections). length c.front) (begun s b rest false is)
 
+pub starts-next : (s : Bool) (text : List ℕ) (i : ℕ) → starts s text (i + 1) ≡ eqb (get_or text i 0) 10
+starts-next s text i =
+    let some : i + 1 ≢ 0 = omega arith in
+    let back : (i + 1) - 1 ≡ i = omega arith in
+    rw (ne_eqb (i + 1) 0 some, back) refl
+
 -- the loop's turn, and its ends
 pub turn_here : (text : List ℕ) (i whole : ℕ) (s : Bool) → i < length text → true ≡ (s && eqb (get_or text i 0) 63)
     → whole ≡ i + length (cut s (drop i text)).front → i ≡ whole
@@ -44,6 +52,57 @@ pub turn_end : (text : List ℕ) (i whole : ℕ) (s : Bool) → length text ≤ 
 turn_end text i whole s le so_far =
     let none = ap (λ t. length (cut s t).front) (drop_all i text le) ∙ ap (λ (c : DeckSections). length c.front) (no_text s) in
     omega (arith, none, so_far)
+
+-- the loop's turn over several bytes
+pub turn_over : (count : ℕ) (text : List ℕ) (i whole : ℕ) (s : Bool) → i + count ≤ length text → NoneBegins s text i count
+    → whole ≡ i + length (cut (starts s text i) (drop i text)).front → whole ≡ (i + count) + length (cut (starts s text (i + count)) (drop (i + count) text)).front
+turn_over zero text i whole s le none so_far = so_far ∙ ap (λ n. n + length (cut (starts s text n) (drop n text)).front) (sym (add-zero i))
+turn_over (suc count) text i whole s le none so_far =
+    let lt : i < length text = omega arith in
+    let more = turn_more text i whole (starts s text i) (starts s text (i + 1)) lt (sym (none i (omega arith) (omega arith))) (starts-next s text i) so_far in
+    let same : (i + 1) + count ≡ i + suc count = omega arith in
+    turn_over count text (i + 1) whole s (omega arith) (λ k le_k lt_k. none k (omega arith) (omega arith)) more
+    ∙ ap (λ n. n + length (cut (starts s text n) (drop n text)).front) same
+
+-- a byte that begins no section line
+abbrev pub no_mark : ℕ → Bool
+no_mark byte = not (byte == 63)
+
+marked_by : (b : Bool) → not b ≡ true → b ≡ false
+marked_by true is = absurd cc
+marked_by false is = refl
+
+no_mark-each : (bytes : List ℕ) → list_all no_mark bytes ≡ true → (k : ℕ) → k < length bytes → (get_or bytes k 0 == 63) ≡ false
+no_mark-each [] all k lt = absurd (omega arith)
+no_mark-each (b ∷ bs) all zero lt = marked_by (b == 63) (and_parts (no_mark b) (list_all no_mark bs) all).0
+no_mark-each (b ∷ bs) all (suc k) lt = no_mark-each bs (and_parts (no_mark b) (list_all no_mark bs) all).1 k (omega arith)
+
+-- the same, at the end of a look through all
+pub no_mark-none : (rest bytes : List ℕ) (none : Bool) → length rest ≡ 0 → (none && list_all no_mark rest) ≡ list_all no_mark bytes → none ≡ true
+    → (k : ℕ) → k < length bytes → (get_or bytes k 0 == 63) ≡ false
+no_mark-none [] bytes true end so_far is = no_mark-each bytes (sym so_far)
+no_mark-none [] bytes false end so_far is = absurd cc
+no_mark-none (b ∷ bs) bytes none end so_far is = absurd (omega arith)
+
+and-false : (test : Bool) → (test && false) ≡ false
+and-false true = refl
+and-false false = refl
+
+-- no section line begins in a block with no mark
+pub none-begins : (s : Bool) (text rest block : List ℕ) (at size : ℕ) → rest ≡ drop at text → block ≡ take size rest → size ≤ length rest
+    → ((k : ℕ) → k < length block → (get_or block k 0 == 63) ≡ false) → NoneBegins s text at size
+none-begins s text rest block at size rest_is block_is le none k le_k lt_k =
+    let inside : k - at < size = omega arith in
+    let all : length block ≡ size = ap length block_is ∙ length-take-le size rest le in
+    let same : at + (k - at) ≡ k = omega arith in
+    let in_rest : get_or block (k - at) 0 ≡ get_or rest (k - at) 0 = ap (λ bytes. get_or bytes (k - at) 0) block_is ∙ get_or-take size rest (k - at) 0 inside in
+    let in_text : get_or rest (k - at) 0 ≡ get_or text (at + (k - at)) 0 = ap (λ bytes. get_or bytes (k - at) 0) rest_is ∙ get_or-drop at text (k - at) 0 in
+    let byte : get_or block (k - at) 0 ≡ get_or text k 0 = in_rest ∙ in_text ∙ ap (λ n. get_or text n 0) same in
+    ap (λ b. starts s text k && eqb b 63) (sym byte) ∙ ap (λ test. starts s text k && test) (none (k - at) (omega arith)) ∙ and-false (starts s text k)
+
+-- none begins at one place
+pub none-one : (s : Bool) (text : List ℕ) (at : ℕ) → begins_at s text at ≡ false → NoneBegins s text at 1
+none-one s text at none k le lt = let same : at ≡ k = omega arith in ap (begins_at s text) (sym same) ∙ none
 
 -- what is known where a text is cut at its first section line
 record Parted (s : Bool) (text : List ℕ) : Type 0 where

@@ -1,5 +1,5 @@
 -- A deck is cut before its section lines.
-use Rattle.std.specs.Prelude.{◌≡◌, ℕ, ◌==◌, List, [], ◌∷◌, Bool, true, ◌&&◌, if◌then◌else◌}
+use Rattle.std.specs.Prelude.{◌≡◌, ℕ, ◌+◌, ◌-◌, ◌<◌, ◌≤◌, ◌==◌, List, [], ◌∷◌, get_or, Bool, true, false, ◌&&◌, if◌then◌else◌}
 use Rattle.pw_base.specs.Characters.{line_feed, question_mark}
 
 -- what stands before the first section line, and each section with its line, up to the next section line
@@ -29,3 +29,16 @@ front text = (cut true text).front
 -- the text begins with a section line, or is empty
 abbrev pub IsAtSection : List ℕ → Type 0
 IsAtSection text = front text ≡ []
+
+-- a place of a text stands at the start of a line: the first as the text does, and each other behind LF
+abbrev pub starts : Bool → List ℕ → ℕ → Bool
+starts at_start text i = if i == 0 then at_start else get_or text (i - 1) 0 == line_feed
+
+-- a section line begins at a place
+abbrev pub begins_at : Bool → List ℕ → ℕ → Bool
+begins_at at_start text i = starts at_start text i && get_or text i 0 == question_mark
+
+-- none begins at so many places from one on
+abbrev pub NoneBegins : Bool → List ℕ → ℕ → ℕ → Type 0
+NoneBegins at_start text from count =
+    (i : ℕ) → from ≤ i → i < from + count → begins_at at_start text i ≡ false

@@ -1,11 +1,58 @@
-ghost use Rattle.std.specs.Prelude.{◌≡◌, ◌==◌, ◌+◌, ◌&&◌, ◌∷◌, [], ◌<◌, ◌≤◌, length, MatchOption, IfSome};
-ghost use Rattle.pw_sections.specs.Parts.{cut, sections, front, IsAtSection};
+ghost use Rattle.std.specs.Prelude.{◌≡◌, ◌==◌, ◌+◌, ◌∷◌, [], ◌<◌, ◌≤◌, ℕ, true, false, length, get_or, MatchOption, IfSome};
+ghost use Rattle.pw_base.specs.Characters.{question_mark};
+ghost use Rattle.pw_sections.specs.Parts.{cut, sections, front, IsAtSection, starts, begins_at, NoneBegins};
 
-/// Whether a byte begins a section line.
-fn begins_section(at_start: bool, byte: u8) -> bool
-    ensures { result ≡ (at_start && byte == 63) }
+/// How many bytes are looked at together.
+const BLOCK: usize = 64;
+
+/// Whether a place of a text stands at the start of a line. The text stands there, or it does not.
+fn starts_line(text: &[u8], at: usize, at_start: bool) -> bool
+    requires { at < length text.now }
+    ensures { result ≡ starts at_start text.now at }
 {
-    at_start && byte == b'?'
+    if at == 0 {
+        at_start
+    } else {
+        text[at - 1] == b'\n'
+    }
+}
+
+/// Whether a section line begins at a place of a text.
+fn begins_section(text: &[u8], at: usize, at_start: bool) -> bool
+    requires { at < length text.now }
+    ensures { result ≡ begins_at at_start text.now at }
+{
+    starts_line(text, at, at_start) && text[at] == b'?'
+}
+
+/// Whether no byte is a `?`. It looks at all, so that several are looked at in one step.
+fn has_no_mark(bytes: &[u8]) -> bool
+    ensures { result ≡ true → (i : ℕ) → i < length bytes.now → (get_or bytes.now i 0 == question_mark) ≡ false }
+{
+    let mut none = true;
+    let mut rest = bytes;
+    while let Some((byte, behind)) = rest.split_first() {
+        none = none & (*byte != b'?');
+        rest = behind;
+    }
+    none
+}
+
+/// How many bytes from a place on begin no section line, one at least; None where one begins there.
+fn bytes_passed(text: &[u8], at: usize, at_start: bool) -> Option<usize>
+    requires { at < length text.now }
+    ensures { MatchOption result (begins_at at_start text.now at ≡ true)
+        (λ count. (0 < count) × (at + count ≤ length text.now) × NoneBegins at_start text.now at count) }
+{
+    let rest = text.split_at(at).1;
+    let size = rest.len().min(BLOCK);
+    if has_no_mark(rest.split_at(size).0) {
+        Some(size)
+    } else if begins_section(text, at, at_start) {
+        None
+    } else {
+        Some(1)
+    }
 }
 
 /// How many bytes stand before the first section line. The text stands at the start of a line, or it
@@ -14,16 +61,14 @@ fn front_size(text: &[u8], at_start: bool) -> usize
     ensures value { result ≡ length (cut at_start text.now).front }
     ensures bound { result ≤ length text.now }
 {
-    let mut starts = at_start;
-    let mut size = 0;
-    for byte in text {
-        if begins_section(starts, *byte) {
-            return size;
+    let mut at = 0;
+    while at < text.len() {
+        match bytes_passed(text, at, at_start) {
+            Some(count) => at += count,
+            None => return at,
         }
-        starts = *byte == b'\n';
-        size += 1;
     }
-    size
+    at
 }
 
 /// What stands before the first section line of a deck, and the sections.

@@ -1,17 +1,20 @@
-use Rattle.std.proofs.Common.{◌∙◌, refl, arith}
-use Rattle.pw_sections.proofs.Cuts.{turn_here, turn_more, turn_end}
+use Rattle.std.proofs.Common.{length, sym}
+use Rattle.pw_sections.specs.Parts.{cut, starts}
+use Rattle.pw_sections.proofs.Cuts.{turn_here, turn_over, turn_end}
 use Rattle.pw_sections.proofs.part.front_size.Goals as goal
 
-pub returns-then-begins_section-clause-value : goal.returns-then-begins_section-clause-value
-returns-then-begins_section-clause-value c =
-    c.loop-byte.invariant.count ∙ turn_here c.args.text.now c.loop-byte.byte-index _ c.loop-byte.starts c.loop-byte-test.true c.if-begins_section.ensures c.loop-byte.invariant.value
+pub loop-at-preserved : goal.loop-at-preserved
+loop-at-preserved c =
+    let passed = c.in-Some.ensures in
+    record {
+      within = passed.1;
+      value = turn_over c.in-Some.count c.args.text.now c.loop-at.at (length (cut c.args.at_start c.args.text.now).front) c.args.at_start passed.1 passed.2 c.loop-at.invariant.value;
+    }
 
-pub loop-byte-preserved : goal.loop-byte-preserved
-loop-byte-preserved c = record {
-  count = omega (arith, c.loop-byte.invariant.count);
-  value = turn_more c.args.text.now c.loop-byte.byte-index _ c.loop-byte.starts _ c.loop-byte-test.true c.if-begins_section.ensures refl c.loop-byte.invariant.value;
-}
+pub returns-in-None-clause-value : goal.returns-in-None-clause-value
+returns-in-None-clause-value c =
+    turn_here c.args.text.now c.loop-at.at (length (cut c.args.at_start c.args.text.now).front) (starts c.args.at_start c.args.text.now c.loop-at.at) c.loop-at-test.true (sym c.in-None.ensures) c.loop-at.invariant.value
 
 pub returns-clause-value : goal.returns-clause-value
 returns-clause-value c =
-    c.loop-byte.invariant.count ∙ turn_end c.args.text.now c.loop-byte.byte-index _ c.loop-byte.starts c.loop-byte-test.false c.loop-byte.invariant.value
+    turn_end c.args.text.now c.loop-at.at (length (cut c.args.at_start c.args.text.now).front) (starts c.args.at_start c.args.text.now c.loop-at.at) c.loop-at-test.false c.loop-at.invariant.value
