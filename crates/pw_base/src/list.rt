@@ -83,7 +83,18 @@ impl<T: Drop> List<T> {
         ensures ok { OnOk result (self.new ≡ self.old ++ item ∷ []) }
         ensures err { OnErr result (self.new ≡ self.old) }
     {
+        make_room(&mut self.items)?;
         self.items.push(item)?;
         Ok(())
     }
+}
+
+/// Makes room for one item in a `Vec` that has room for none: most lists have few items.
+fn make_room<T>(items: &mut Vec<T>) -> Result<(), Memory>
+    ensures { items.new.items ≡ items.old.items }
+{
+    if items.capacity() == 0 {
+        items.reserve_exact(1)?;
+    }
+    Ok(())
 }
