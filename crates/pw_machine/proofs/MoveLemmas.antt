@@ -102,3 +102,36 @@ written-more old now text at place value is lt room char =
     ∙ ap (λ n. written (at + n) (value ∷ []) (written at front old)) (sym long)
     ∙ written-twice at front (value ∷ []) old (omega arith)
     ∙ ap (λ v. written at (front ++ v ∷ []) old) char ∙ ap (λ l. written at l old) (sym (take_more text place 0 lt))
+
+-- characters that are copied to a place behind them
+pub copied_behind : (s front back chars new : List ℕ) (from count to : ℕ) → from + count ≤ to → front ≡ take to s → back ≡ drop to s
+    → chars ≡ take count (drop from front) → new ≡ written 0 chars back → front ++ new ≡ written to (take count (drop from s)) s
+copied_behind s front back chars new from count to apart front_is back_is is made =
+    let least : min (to - from) count ≡ count = omega arith in
+    let piece : List ℕ = take count (drop from s) in
+    let none : 0 + length piece ≡ length piece = omega arith in
+    let taken : chars ≡ piece =
+    is ∙ ap (λ l. take count (drop from l)) front_is ∙ ap (take count) (drop_of_take from to s) ∙ take_of_take count (to - from) (drop from s)
+    ∙ ap (λ n. take n (drop from s)) least in
+    ap (λ l. front ++ l) made ∙ ap (λ l. l ++ written 0 chars back) front_is ∙ ap (λ l. take to s ++ written 0 l back) taken
+    ∙ ap (λ l. take to s ++ written 0 piece l) back_is ∙ ap (λ n. take to s ++ (piece ++ drop n (drop to s))) none
+    ∙ ap (λ l. take to s ++ (piece ++ l)) (drop-drop (length piece) to s)
+
+-- characters that are copied to a place in front of them
+pub copied_before : (s front back chars new : List ℕ) (from count to : ℕ) → to + count ≤ from → front ≡ take from s → back ≡ drop from s
+    → chars ≡ take count back → new ≡ written to chars front → new ++ back ≡ written to (take count (drop from s)) s
+copied_before s front back chars new from count to apart front_is back_is is made =
+    let piece : List ℕ = take count (drop from s) in
+    let taken : chars ≡ piece = is ∙ ap (take count) back_is in
+    let few : length piece ≤ count = simp length-take (omega arith) in
+    let k : ℕ = to + length piece in
+    let there : k + (from - k) ≡ from = omega (arith, few) in
+    let behind : drop k (take from s) ++ drop from s ≡ drop k s =
+    ap (λ l. l ++ drop from s) (drop_of_take k from s)
+    ∙ ap (λ l. take (from - k) (drop k s) ++ l) (ap (λ n. drop n s) (sym there) ∙ sym (drop-drop (from - k) k s))
+    ∙ take-append-drop (from - k) (drop k s) in
+    ap (λ l. l ++ back) made ∙ ap (λ l. written to l front ++ back) taken ∙ ap (λ l. written to piece l ++ back) front_is
+    ∙ ap (λ l. written to piece (take from s) ++ l) back_is
+    ∙ append_assoc (take to (take from s)) (piece ++ drop k (take from s)) (drop from s)
+    ∙ ap (λ l. l ++ ((piece ++ drop k (take from s)) ++ drop from s)) (take-take to from s (omega (arith, apart)))
+    ∙ ap (λ l. take to s ++ l) (append_assoc piece (drop k (take from s)) (drop from s) ∙ ap (λ l. piece ++ l) behind)

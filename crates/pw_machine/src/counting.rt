@@ -98,7 +98,7 @@ pub fn counted(
         return false;
     };
     match spot_of(registers, storage, place) {
-        Some(second) if second == receiver && !signed => count_in(storage, receiver, units),
+        Some(second) if !signed && second.is(receiver) => count_in(storage, receiver, units),
         _ => false,
     }
 }

@@ -9,6 +9,8 @@ ghost use Rattle.pw_tree_meaning.specs.Values.{text_in, operand_text, without_si
 ghost use Rattle.pw_machine.specs.Views.{spot_by, taken_by, IsSpot, IsTaken};
 
 use crate::compare::fill_of;
+use crate::linkage::write_at;
+use crate::numbers::chars_at;
 use crate::spot::{MachineOperand, MachineSpot};
 use crate::texts::{sign_of, text_char};
 use crate::value::{number_of, number_of_text};
@@ -74,9 +76,47 @@ fn fill_with(storage: &mut [u8], at: usize, size: usize, char: u8)
     into.fill(char);
 }
 
-/// Copies so many characters to another place. The two may overlap.
+/// Copies so many characters to a place behind them.
+#[inline(always)]
+fn copy_behind(storage: &mut [u8], from: usize, count: usize, to: usize)
+    requires apart { from + count ≤ to }
+    requires inside { to + count ≤ length storage.old }
+    ensures { storage.new ≡ written to (take count (drop from storage.old)) storage.old }
+{
+    let (front, back) = storage.split_at_mut(to);
+    write_at(back, 0, chars_at(front, from, count));
+}
+
+/// Copies so many characters to a place in front of them.
+#[inline(always)]
+fn copy_before(storage: &mut [u8], from: usize, count: usize, to: usize)
+    requires apart { to + count ≤ from }
+    requires inside { from + count ≤ length storage.old }
+    ensures { storage.new ≡ written to (take count (drop from storage.old)) storage.old }
+{
+    let (front, back) = storage.split_at_mut(from);
+    write_at(front, to, chars_at(back, 0, count));
+}
+
+/// Copies so many characters to another place: in one piece where the two are apart. They may overlap.
 #[inline(always)]
 fn copy_to(storage: &mut [u8], from: usize, count: usize, to: usize)
+    requires from { from + count ≤ length storage.old }
+    requires to { to + count ≤ length storage.old }
+    ensures { storage.new ≡ written to (take count (drop from storage.old)) storage.old }
+{
+    if from + count <= to {
+        copy_behind(storage, from, count, to);
+    } else if to + count <= from {
+        copy_before(storage, from, count, to);
+    } else {
+        copy_over(storage, from, count, to);
+    }
+}
+
+/// Copies so many characters to another place, one by one.
+#[inline(never)]
+fn copy_over(storage: &mut [u8], from: usize, count: usize, to: usize)
     requires from { from + count ≤ length storage.old }
     requires to { to + count ≤ length storage.old }
     ensures { storage.new ≡ written to (take count (drop from storage.old)) storage.old }

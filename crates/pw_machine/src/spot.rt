@@ -1,3 +1,5 @@
+ghost use Rattle.std.specs.Prelude.{◌≡◌, true};
+
 use pw_code::place::Kind;
 
 /// Where one occurrence of an item lies in a storage: `size` characters from `at` on.
@@ -6,6 +8,16 @@ pub struct MachineSpot {
     pub at: usize,
     pub size: usize,
     pub kind: Kind,
+}
+
+impl MachineSpot {
+    /// Whether another is the same spot.
+    #[inline(always)]
+    pub fn is(self, other: MachineSpot) -> bool
+        ensures { result ≡ true → self ≡ other }
+    {
+        self.at == other.at && self.size == other.size && self.kind == other.kind
+    }
 }
 
 /// An operand once its subscript was taken: an item's spot, a register with its digits and its value, or what

@@ -19,6 +19,7 @@ use pw_code::system::System;
 use std::mem;
 
 /// The code of a number: those of terminals come first, and those of servers behind them.
+#[inline(always)]
 pub fn code_at(system: &System, number: u16) -> &Code
     requires { number < length system.now.programs + length system.now.servers }
     ensures { result.now ≡ code_at system.now number }
@@ -33,6 +34,7 @@ pub fn code_at(system: &System, number: u16) -> &Code
 }
 
 /// The instruction at which a program stands, None behind the last.
+#[inline(always)]
 pub fn instr_at<'a>(system: &'a System, top: &Top) -> Option<&'a Instr>
     requires valid { IsValid system.now }
     requires frame { IsFrame system.now (frame_of top.now) }
