@@ -150,6 +150,7 @@ fn all_hold(registers: MachineRegisters, storage: &[u8], all: &[Comparison]) -> 
 }
 
 /// Whether in one of the lists each comparison holds, None exactly where a subscript is outside.
+#[inline(never)]
 fn any_holds(
     registers: MachineRegisters,
     storage: &[u8],
@@ -166,10 +167,16 @@ fn any_holds(
     Some(holds)
 }
 
-/// Whether a condition holds at this moment, None exactly where a subscript is outside.
+/// Whether a condition holds at this moment, None exactly where a subscript is outside: one comparison at once.
 pub fn holds(registers: MachineRegisters, storage: &[u8], cond: &Cond) -> Option<bool>
     requires { IsCond (length storage.now) cond.now }
     ensures { result ≡ code_condition_holds (registers_by registers) storage.now cond.now }
 {
-    any_holds(registers, storage, cond.any.as_slice())
+    let lists = cond.any.as_slice();
+    if let [all] = lists {
+        if let [one] = all.as_slice() {
+            return comparison_holds(registers, storage, one);
+        }
+    }
+    any_holds(registers, storage, lists)
 }
