@@ -1,5 +1,7 @@
 -- What is kept, where a terminal's program is answered.
-use Rattle.std.proofs.Common.{◌≡◌, ℕ, Bool, true, false, not, List, Option, Some, None, if◌then◌else◌, ◌∙◌, refl, sym, ap}
+use Rattle.std.proofs.Common.{◌≡◌, ℕ, Bool, true, false, not, List, Option, Some, None, if◌then◌else◌, ◌∙◌, ⊎_elim, refl, sym, ap}
+use Rattle.std.proofs.Math.Path.{fun_ext}
+use Rattle.std.proofs.lemmas.Bool.{cases_eq}
 use Rattle.std.specs.Option.{option_map}
 use Rattle.pw_entry_effects.specs.Can.{CanSend}
 use Rattle.pw_entry_effects.specs.Verbs.{one_send}
@@ -10,13 +12,14 @@ use Rattle.pw_code.specs.declared.verb.Answer.TheVariants as answer
 use Rattle.pw_code.specs.declared.verb.Verb.{Verb}
 use Rattle.pw_code_meaning.specs.Contexts.{PutsAnswer}
 use Rattle.pw_code_meaning.specs.Sound.{IsSoundContext}
-use Rattle.pw_world_store.specs.Calls.{kept_commit_reply}
+use Rattle.pw_world_store.specs.Calls.{before_verb, kept_commit_reply}
 use Rattle.pw_world_state.specs.Asked.{answered_with, unit_in, verb_in}
 use Rattle.pw_world_state.specs.Changes.{at_terminal, free_process, kept_back, kept_commit, kept_send, kept_show, unit_at, with_context, without_unit}
 use Rattle.pw_world_state.specs.Entered.{answer_terminal, answering, entered_back, entered_commit, entered_reply, entered_send, is_outside_at, replies_last, replies_to, reply_by, sent_by, unit_of_ready, verb_of}
 use Rattle.pw_world_state.specs.Kept.{Kept, KeptTerminal}
 use Rattle.pw_world_state.proofs.Behind.{takes-one}
 use Rattle.pw_onecopy.specs.Update.{upd}
+use Rattle.pw_onecopy.proofs.Update.{upd-other, upd-same}
 use Rattle.pw_tmf.specs.Told.{Told}
 use Rattle.pw_tmf.specs.Units.{after_commit, backed_out}
 
@@ -61,6 +64,38 @@ pub back-is : (system : System) (t n : ℕ) (next : Context) (kept : Kept)
     → kept_back t n next kept ≡ entered_back system t n kept
 back-is system t n next kept e =
     last-is system t answer.Dropped next kept e (backed_out true kept.disc (unit_at kept t n))
+
+-- ---- in place
+
+-- what is put at a place in two steps is what the second puts
+put-twice : {A : Type 0} (f : ℕ → A) (k : ℕ) (v w : A) → upd (upd f k v) k w ≡ upd f k w
+put-twice f k v w = fun_ext (λ j. ⊎_elim
+    (λ is. upd-same (upd f k v) k w j is ∙ sym (upd-same f k w j is))
+    (λ ne. upd-other (upd f k v) k w j ne ∙ (upd-other f k v j ne ∙ sym (upd-other f k w j ne)))
+    (cases_eq j k))
+
+-- the context with which a terminal stood at its verb
+pub own-context : (left ready : Option Context) (own context : Context) → left ≡ ready → ready ≡ Some own → left ≡ Some context → own ≡ context
+own-context left ready own context is at stood = cc
+
+-- a terminal that has left its verb goes on as from there
+left-answered : (t : ℕ) (next : Context) (kept : Kept) → kept_show t next (at_terminal t before_verb kept) ≡ kept_show t next kept
+left-answered t next kept =
+    ap (λ (own : KeptTerminal). record kept { terminals = upd (upd kept.terminals t (before_verb (kept.terminals t))) t (with_context next own) })
+    (upd-same kept.terminals t (before_verb (kept.terminals t)) t refl)
+    ∙ ap (λ (terminals : ℕ → KeptTerminal). record kept { terminals = terminals })
+    (put-twice kept.terminals t (before_verb (kept.terminals t)) (with_context next (kept.terminals t)))
+
+-- it goes on with the context that the answer makes of the one with which it left
+pub gone-behind : (system : System) (t : ℕ) (a : Answer) (old next : Context) (kept left new : Kept) → IsSoundContext system old
+    → (kept.terminals t).ready ≡ Some old → PutsAnswer system a old next
+    → left ≡ at_terminal t before_verb kept → new ≡ kept_show t next left → new ≡ answer_terminal system t a kept
+gone-behind system t a old next kept left new sound ready puts leaves goes =
+    goes
+    ∙ (ap (kept_show t next) leaves
+    ∙ (left-answered t next kept
+    ∙ show-is system t a next kept
+    (ap (option_map (answered_with system a)) ready ∙ ap (λ (c : Context). Some c) (sym (takes-is system a old next sound puts)))))
 
 -- ---- SEND
 

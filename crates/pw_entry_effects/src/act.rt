@@ -21,7 +21,10 @@ pub fn act<D: Disc>(keep: &mut Keep<D>, entry: &Event) -> Result<(), DiscFault>
     ensures err { IfErr result (λ fault. IsRefused D.told fault keep.old keep.new) }
 {
     match *entry {
-        Event::Show { terminal, .. } => Ok(show(keep, terminal)?),
+        Event::Show { terminal, .. } => {
+            show(keep, terminal);
+            Ok(())
+        }
         Event::Key { terminal, k } => Ok(key(keep, terminal, k)?),
         Event::CheckStart { terminal } => Ok(check_start(keep, terminal)?),
         Event::CheckEnd { terminal } => Ok(check_end(keep, terminal)?),

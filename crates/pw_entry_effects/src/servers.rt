@@ -10,7 +10,7 @@ ghost use Rattle.pw_world_state.specs.Changes.{free_process, unit_at};
 ghost use Rattle.pw_world_state.specs.Entered.{answer_terminal, entered_file, entered_reply, entered_take, replies_last, reply_by, started_on};
 ghost use Rattle.pw_tmf.specs.Units.{IsRunning};
 
-use crate::verbs::behind;
+use crate::verbs::{behind, go_behind};
 use pw_base::bytes::Bytes;
 use pw_base::memory::Memory;
 use pw_code::context::Context;
@@ -129,26 +129,17 @@ fn one_send<D: Disc>(keep: &Keep<D>, terminal: u32) -> Option<u32>
     }
 }
 
-/// A process is free, and the terminal's program goes on with an answer.
-fn go_on<D: Disc>(
-    keep: &mut Keep<D>,
-    class: u32,
-    process: u32,
-    terminal: u32,
-    answer: Answer,
-) -> Result<(), Memory>
+/// A process is free, and the terminal's program goes on with an answer. It takes no memory.
+fn go_on<D: Disc>(keep: &mut Keep<D>, class: u32, process: u32, terminal: u32, answer: Answer)
     requires valid { IsValid keep.old.system }
     requires can { CanAnswer keep.old.system (kept_in D.told keep.old) terminal }
     requires class { class < length keep.old.system.classes }
     requires busy { IsSome (at_process ((kept_in D.told keep.old).queues class) process) }
-    ensures ok { OnOk result (IsChanged D.told
-        (λ kept. answer_terminal keep.old.system terminal answer (free_process class process kept)) keep.old keep.new) }
-    ensures err { OnErr result (keep.new ≡ keep.old) }
+    ensures { IsChanged D.told
+        (λ kept. answer_terminal keep.old.system terminal answer (free_process class process kept)) keep.old keep.new }
 {
-    let next = behind(keep, terminal, answer)?;
-    keep.answer(terminal, next);
+    go_behind(keep, terminal, answer);
     keep.free(class, process);
-    Ok(())
 }
 
 /// A process is free, and its reply ends a unit of one SEND.
@@ -191,7 +182,10 @@ fn reply_with<D: Disc>(
     let reply = reply_of(keep, class, process, terminal)?;
     match one_send(keep, terminal) {
         Some(unit) => end_send(keep, class, process, terminal, unit, reply),
-        None => Ok(go_on(keep, class, process, terminal, Answer::Replied(reply))?),
+        None => {
+            go_on(keep, class, process, terminal, Answer::Replied(reply));
+            Ok(())
+        }
     }
 }
 
@@ -211,6 +205,9 @@ pub fn reply<D: Disc>(
 {
     match fault {
         None => reply_with(keep, class, process, terminal),
-        Some(code) => Ok(go_on(keep, class, process, terminal, Answer::Failed(code))?),
+        Some(code) => {
+            go_on(keep, class, process, terminal, Answer::Failed(code));
+            Ok(())
+        }
     }
 }

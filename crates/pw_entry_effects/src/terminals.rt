@@ -8,7 +8,7 @@ ghost use Rattle.pw_world_store.specs.Keeps.{IsChanged, kept_in};
 ghost use Rattle.pw_world_state.specs.Entered.{entered_again, entered_key, entered_send, entered_show, lines_of};
 ghost use Rattle.pw_paired.specs.Terminal.{kept_reply};
 
-use crate::verbs::behind;
+use crate::verbs::go_behind;
 use pw_base::bytes::Bytes;
 use pw_base::memory::Memory;
 use pw_code::copies::Duplicate;
@@ -17,16 +17,13 @@ use pw_code::verb::{Answer, Verb};
 use pw_tmf::disc::Disc;
 use pw_world_store::keep::Keep;
 
-/// SHOW: the program goes on.
-pub fn show<D: Disc>(keep: &mut Keep<D>, terminal: u32) -> Result<(), Memory>
+/// SHOW: the program goes on. It takes no memory.
+pub fn show<D: Disc>(keep: &mut Keep<D>, terminal: u32)
     requires valid { IsValid keep.old.system }
     requires can { CanAnswer keep.old.system (kept_in D.told keep.old) terminal }
-    ensures ok { OnOk result (IsChanged D.told (entered_show keep.old.system terminal) keep.old keep.new) }
-    ensures err { OnErr result (keep.new ≡ keep.old) }
+    ensures { IsChanged D.told (entered_show keep.old.system terminal) keep.old keep.new }
 {
-    let next = behind(keep, terminal, Answer::Shown)?;
-    keep.answer(terminal, next);
-    Ok(())
+    go_behind(keep, terminal, Answer::Shown);
 }
 
 /// A copy of an entry line of a terminal, which count from 1.
@@ -46,8 +43,7 @@ pub fn key<D: Disc>(keep: &mut Keep<D>, terminal: u32, k: u32) -> Result<(), Mem
     ensures err { OnErr result (keep.new ≡ keep.old) }
 {
     let line = line_of(keep, terminal, k)?;
-    let next = behind(keep, terminal, Answer::Entry(line))?;
-    keep.answer(terminal, next);
+    go_behind(keep, terminal, Answer::Entry(line));
     Ok(())
 }
 
@@ -76,8 +72,7 @@ pub fn again<D: Disc>(keep: &mut Keep<D>, terminal: u32) -> Result<(), Memory>
     ensures err { OnErr result (keep.new ≡ keep.old) }
 {
     let reply = reply_of(keep, terminal)?;
-    let next = behind(keep, terminal, Answer::Replied(reply))?;
-    keep.answer(terminal, next);
+    go_behind(keep, terminal, Answer::Replied(reply));
     Ok(())
 }
 

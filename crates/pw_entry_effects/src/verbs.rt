@@ -6,9 +6,9 @@ ghost use Rattle.pw_entry_effects.specs.Can.{CanAnswer};
 ghost use Rattle.pw_entry_effects.specs.Verbs.{begins};
 ghost use Rattle.pw_code.specs.Valid.{IsValid};
 ghost use Rattle.pw_code_meaning.specs.Sound.{IsSoundContext};
-ghost use Rattle.pw_world_store.specs.Keeps.{kept_in};
+ghost use Rattle.pw_world_store.specs.Keeps.{IsChanged, kept_in};
 ghost use Rattle.pw_world_state.specs.Asked.{answered_with};
-ghost use Rattle.pw_world_state.specs.Entered.{tcp_of, verb_of};
+ghost use Rattle.pw_world_state.specs.Entered.{answer_terminal, tcp_of, verb_of};
 ghost use Rattle.pw_world_state.specs.TerminalTests.{closing};
 ghost use Rattle.pw_world_state.specs.Tested.{IsPlaced};
 ghost use Rattle.pw_machine.specs.Stack.{HasRoom};
@@ -51,6 +51,21 @@ pub fn behind<D: Disc>(keep: &Keep<D>, terminal: u32, answer: Answer) -> Result<
 {
     match &keep.seat(terminal).ready {
         Some(at) => answered(keep.system(), &at.context, answer),
+        None => unreachable!(),
+    }
+}
+
+/// A terminal's program goes on behind the answer to its verb. It takes no memory.
+pub fn go_behind<D: Disc>(keep: &mut Keep<D>, terminal: u32, answer: Answer)
+    requires valid { IsValid keep.old.system }
+    requires can { CanAnswer keep.old.system (kept_in D.told keep.old) terminal }
+    ensures { IsChanged D.told (answer_terminal keep.old.system terminal answer) keep.old keep.new }
+{
+    match keep.leave_verb(terminal) {
+        Some(mut context) => {
+            run::answer(keep.system(), &mut context, answer).unwrap();
+            keep.answer(terminal, context);
+        }
         None => unreachable!(),
     }
 }

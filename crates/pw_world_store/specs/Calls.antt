@@ -49,6 +49,10 @@ given_to None request = None
 given_to (Some process) None = None
 given_to (Some process) (Some request) = Some (process, request.terminal)
 
+-- its program stands at its last answer again
+abbrev pub before_verb : KeptTerminal → KeptTerminal
+before_verb terminal = record terminal { ready = None }
+
 -- a unit of one SEND ends with its reply, where its process is free already
 abbrev pub kept_commit_reply : ℕ → ℕ → List ℕ → Context → Kept → Kept
 kept_commit_reply t n reply new kept =

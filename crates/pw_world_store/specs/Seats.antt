@@ -36,6 +36,10 @@ runs_unit number seat = runs_numbered number (is_some seat.start) seat.unit
 abbrev pub ready_at : Verb → Context → Seat → Seat
 ready_at verb context seat = record seat { ready = Some (record { verb = verb; context = context }) }
 
+-- its program stands at its last answer again
+abbrev pub seat_before_verb : Seat → Seat
+seat_before_verb seat = record seat { ready = None }
+
 -- it goes on with this context
 abbrev pub seat_answered : Context → Seat → Seat
 seat_answered context seat = record seat { context = Some context; ready = None }

@@ -1,5 +1,6 @@
 ghost use Rattle.std.specs.Prelude.{◌≡◌, ◌-◌, ◌<◌, ◌^◌};
-ghost use Rattle.pw_world_store.specs.Seats.{seat_answered, seat_ended, first_seat, seat_unit_over, ready_at, seat_restarted, resumed, runs_unit, started, without_path};
+ghost use Rattle.std.specs.Option.{option_map};
+ghost use Rattle.pw_world_store.specs.Seats.{seat_answered, seat_before_verb, seat_ended, first_seat, seat_unit_over, ready_at, seat_restarted, resumed, runs_unit, started, without_path};
 
 use pw_code::context::Context;
 use pw_code::unit::Unit;
@@ -73,6 +74,17 @@ impl Seat {
         ensures { self.new ≡ ready_at verb context self.old }
     {
         self.ready = Some(Ready { verb, context });
+    }
+
+    /// Its program stands at its last answer again. The context with which it stood at its verb leaves the seat.
+    pub fn leave_verb(&mut self) -> Option<Context>
+        ensures context { result ≡ option_map (λ at. at.context) self.old.ready }
+        ensures left { self.new ≡ seat_before_verb self.old }
+    {
+        match self.ready.take() {
+            Some(Ready { context, .. }) => Some(context),
+            None => None,
+        }
     }
 
     /// Its program goes on with this context, which has one answer more.

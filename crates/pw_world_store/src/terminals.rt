@@ -1,9 +1,9 @@
 //! What entries do to terminals alone.
 
 ghost use Rattle.std.specs.Prelude.{◌≡◌, ◌<◌, All, length};
-ghost use Rattle.pw_world_store.specs.Calls.{pended};
+ghost use Rattle.pw_world_store.specs.Calls.{before_verb, pended};
 ghost use Rattle.pw_world_store.specs.Each.{with_ending};
-ghost use Rattle.pw_world_store.specs.Keeps.{IsChanged};
+ghost use Rattle.pw_world_store.specs.Keeps.{IsChanged, kept_in};
 ghost use Rattle.pw_world_state.specs.Asked.{verb_in};
 ghost use Rattle.pw_world_state.specs.Changes.{at_each, at_terminal, kept_ran, kept_show, without_path};
 
@@ -22,6 +22,16 @@ impl<D: Disc> Keep<D> {
         ensures { IsChanged D.told (kept_ran terminal context) self.old self.new }
     {
         self.seats[terminal as usize].run_on(verb, context);
+    }
+
+    /// No entry: the terminal's program stands at its last answer again. The context with which it stood at its
+    /// verb leaves, None exactly where it stood at none.
+    pub fn leave_verb(&mut self, terminal: u32) -> Option<Context>
+        requires { terminal < length self.old.system.terminals }
+        ensures context { result ≡ ((kept_in D.told self.old).terminals terminal).ready }
+        ensures left { IsChanged D.told (at_terminal terminal before_verb) self.old self.new }
+    {
+        self.seats[terminal as usize].leave_verb()
     }
 
     /// SHOW, KEY and AGAIN: the terminal's program goes on with this context, which has one answer

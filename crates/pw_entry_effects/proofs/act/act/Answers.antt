@@ -15,10 +15,10 @@ show-requires-clause-can g c =
     let h = subst (Can c.args.keep.now.system (kept_in g.D.Disc.told c.args.keep.now)) c.in-Show.is c.requires.can in
     search (rules, h)
 
-pub returns-in_ok-show-in-Show-clause-ok : goal.returns-in_ok-show-in-Show-clause-ok
-returns-in_ok-show-in-Show-clause-ok g c =
+pub returns-in-Show-clause-ok : goal.returns-in-Show-clause-ok
+returns-in-Show-clause-ok g c =
     acted g.D.Disc.told (entered_show c.args.keep.now.system c.in-Show.terminal) c.args.keep.now.system (members_in (kept_in g.D.Disc.told c.args.keep.now)) c.args.entry.now _ c.args.keep.now c.show.new.keep c.in-Show.is refl
-    c.in_ok-show-in-Show.ensures.ok
+    c.show.ensures
 
 pub key-requires-clause-can : goal.key-requires-clause-can
 key-requires-clause-can g c =

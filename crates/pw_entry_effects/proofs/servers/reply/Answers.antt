@@ -23,11 +23,11 @@ returns-in-None-clause-ok g c =
     (entered_reply system c.args.class c.args.process c.args.terminal c.args.fault) c.args.keep.now c.reply_with.new.keep
     (ap (λ (o : Option ℕ). entered_reply system c.args.class c.args.process c.args.terminal o kept) (sym c.in-None.is)))
 
-pub returns-in_ok-go_on-in-Some-clause-ok : goal.returns-in_ok-go_on-in-Some-clause-ok
-returns-in_ok-go_on-in-Some-clause-ok g c =
+pub returns-in-Some-clause-ok : goal.returns-in-Some-clause-ok
+returns-in-Some-clause-ok g c =
     let system = c.args.keep.now.system in
     let kept : Kept = kept_in g.D.Disc.told c.args.keep.now in
     changed-alike g.D.Disc.told (entered_reply system c.args.class c.args.process c.args.terminal (Some c.in-Some.code))
     (entered_reply system c.args.class c.args.process c.args.terminal c.args.fault) c.args.keep.now c.go_on.new.keep
     (ap (λ (o : Option ℕ). entered_reply system c.args.class c.args.process c.args.terminal o kept) (sym c.in-Some.is))
-    (record { system = c.in_ok-go_on-in-Some.ensures.ok.system; kept = c.in_ok-go_on-in-Some.ensures.ok.kept })
+    (record { system = c.go_on.ensures.system; kept = c.go_on.ensures.kept })

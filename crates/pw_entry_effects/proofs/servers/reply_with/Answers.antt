@@ -29,11 +29,11 @@ returns-in-Some-clause-ok g c =
     (replied-last system c.args.class c.args.process c.args.terminal c.in-Some.unit c.in_ok-reply.reply (kept_in g.D.Disc.told c.args.keep.now)
     c.in_ok-reply.ensures (sym c.one_send.ensures ∙ c.in-Some.is)))
 
-pub returns-in_ok-go_on-in-None-clause-ok : goal.returns-in_ok-go_on-in-None-clause-ok
-returns-in_ok-go_on-in-None-clause-ok g c =
+pub returns-in-None-clause-ok : goal.returns-in-None-clause-ok
+returns-in-None-clause-ok g c =
     let system = c.args.keep.now.system in
     changed-alike g.D.Disc.told (replies_to system c.args.class c.args.process c.args.terminal c.in_ok-reply.reply)
     (entered_reply system c.args.class c.args.process c.args.terminal None) c.args.keep.now c.go_on.new.keep
     (replied-on system c.args.class c.args.process c.args.terminal c.in_ok-reply.reply (kept_in g.D.Disc.told c.args.keep.now)
     c.in_ok-reply.ensures (sym c.one_send.ensures ∙ c.in-None.is))
-    c.in_ok-go_on-in-None.ensures.ok
+    c.go_on.ensures
