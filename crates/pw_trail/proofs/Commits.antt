@@ -35,7 +35,7 @@ module _ (files : List FileInfo) (bytes : List ℕ) (units : List UnitChanges) (
 
 -- A record that is stored behind a trail that is synced.
 module _ (files : List FileInfo) (bytes : List ℕ) (may_leave : List ℕ → Type 0) (end : ℕ) (units : List UnitChanges) (s : IsSynced files bytes may_leave end units) where
-  front_is : take end bytes ≡ s.front
+  pub front_is : take end bytes ≡ s.front
   front_is = ap (take end) s.is ∙ take_at s.front (0 ∷ []) end s.size
 
   -- the trail itself

@@ -1,5 +1,5 @@
 -- What a commit writes leads from the committed records before it to those behind it.
-use Rattle.std.proofs.Common.{◌≡◌, ℕ, ◌<◌, ◌∙◌, refl, sym, ap, subst, subst₂, Bool, true, false, not, ◌&&◌, ◌||◌, ◌==◌, cond, List, [], ◌∷◌, length, map, filter, Option, Some, None, Result, Ok, Err}
+use Rattle.std.proofs.Common.{◌≡◌, ℕ, ◌<◌, ◌∙◌, refl, sym, ap, subst, subst₂, Bool, true, false, not, ◌&&◌, ◌||◌, ◌==◌, cond, List, [], ◌∷◌, ◌++◌, length, map, filter, Option, Some, None, Result, Ok, Err}
 use Rattle.std.specs.Prelude.{nat_le, reverse, slice_get, All}
 use Rattle.std.specs.List.{AllByRecursion, list_any}
 use Rattle.std.specs.Str.{bytes_eq}
@@ -216,6 +216,14 @@ module _ (files : List FileInfo) (told : Told) (of : HasFiles files told) (o : I
       ap (files_read files) is
       ∙ read-more files (units_in files bytes) (record_of told u) (committed told) (committed (after_commit told u reply)) leads
       (ap (λ (l : ℕ → ℕ). with_changes l (committed told) (record_of told u).changes) (sym of.keys) ∙ leads-on told o u.terminal u reply refl)
+
+-- the same of the units of a trail
+pub units-with-record : (files : List FileInfo) (told : Told) → HasFiles files told → IsOrderly told → (u : unit.Unit) (reply : Option (List ℕ)) (units : List UnitChanges)
+    → files_after files units ≡ committed told → files_after files (units ++ record_of told u ∷ []) ≡ committed (after_commit told u reply)
+units-with-record files told of o u reply units is =
+    units-more (keys_of files) units (record_of told u) (deck_file_records files)
+    ∙ ap (λ (g : ℕ → List (List ℕ)). with_changes (keys_of files) g (record_of told u).changes) is
+    ∙ (ap (λ (l : ℕ → ℕ). with_changes l (committed told) (record_of told u).changes) (sym of.keys) ∙ leads-on told o u.terminal u reply refl)
 
 -- ---- each change is of one of the files
 

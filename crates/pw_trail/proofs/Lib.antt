@@ -3,7 +3,8 @@ mod CallRuns
 mod Commits
 mod Committing
 mod Framing
-mod Keeping
+pub mod Groups
+pub mod Keeping
 mod Logging
 mod Opening
 mod Orderly

@@ -22,10 +22,10 @@ passes files (byte ∷ front) other place zero next size is = absurd (omega arit
 passes files (byte ∷ front) other place (suc n) next size is = passes files front other (place + 1) n next (omega arith) (omega arith)
 
 -- a closed gate, and an open one
-shut : (files : List FileInfo) (place gate : ℕ) (rest : List ℕ) → gate ≡ 0 → units_from files place 0 (gate ∷ rest) ≡ Ok []
+pub shut : (files : List FileInfo) (place gate : ℕ) (rest : List ℕ) → gate ≡ 0 → units_from files place 0 (gate ∷ rest) ≡ Ok []
 shut files place gate rest is = grind (arith, nat_tests)
 
-open_gate : (files : List FileInfo) (place gate : ℕ) (rest : List ℕ) → gate ≢ 0
+pub open_gate : (files : List FileInfo) (place gate : ℕ) (rest : List ℕ) → gate ≢ 0
     → units_from files place 0 (gate ∷ rest) ≡ with_first (recorded files rest) place (units_from files (place + 1) (4 + size_of rest) rest)
 open_gate files place gate rest is_open = grind (arith, nat_tests)
 

@@ -3,6 +3,7 @@ pub mod Calls
 pub mod Committing
 pub mod Files
 pub mod Format
+pub mod Groups
 pub mod OneFile
 pub mod Orderly
 pub mod Restoring

@@ -5,6 +5,7 @@
 pub mod append;
 pub mod changes;
 pub mod fault;
+pub mod group;
 pub mod laws;
 pub mod log;
 pub mod open;

@@ -51,7 +51,8 @@ impl<D: Disk> TrailLog<D> {
             → D.may_leave disk image ⊎ (units_in files image ≡ units_in files (D.bytes disk))) }
         ensures damaged { IfErr result (λ error. (at : ℕ) → error.1 ≡ OpenFault.Damaged at
             → units_in files (D.bytes disk) ≡ Err at) }
-        ensures count { IfErr result (λ error. D.faults disk ≤ D.faults error.0) }
+        ensures count { IfOk result (λ log. D.faults disk ≤ D.faults log.disk) }
+        ensures count_err { IfErr result (λ error. D.faults disk ≤ D.faults error.0) }
         ensures failed { IfErr result (λ error. error.1 ≡ OpenFault.Failed
             → Rose (D.faults disk) (D.faults error.0)) }
         ensures endless { IfOk result (λ log. D.life disk ≡ Endless → D.life log.disk ≡ Endless) }

@@ -47,7 +47,8 @@ pub fn open<D: Disk>(
         → D.may_leave disk image ⊎ (units_in system.now.files image ≡ units_in system.now.files (D.bytes disk))) }
     ensures damaged { IfErr result (λ error. (at : ℕ) → error.1 ≡ OpenFault.Damaged at
         → units_in system.now.files (D.bytes disk) ≡ Err at) }
-    ensures count { IfErr result (λ error. D.faults disk ≤ D.faults error.0) }
+    ensures count { IfOk result (λ both. D.faults disk ≤ D.faults both.0.disk) }
+    ensures count_err { IfErr result (λ error. D.faults disk ≤ D.faults error.0) }
     ensures failed { IfErr result (λ error. error.1 ≡ OpenFault.Failed
         → Rose (D.faults disk) (D.faults error.0)) }
     ensures endless { IfOk result (λ both. D.life disk ≡ Endless → D.life both.0.disk ≡ Endless) }

@@ -67,7 +67,7 @@ fn change_to(changed: ChangedKey) -> Change
 }
 
 /// The record of a unit that has changed this.
-fn record_of(alloc: Global, unit: &Unit, changed: Vec<ChangedKey>) -> Result<UnitChanges, Memory>
+pub fn record_of(alloc: Global, unit: &Unit, changed: Vec<ChangedKey>) -> Result<UnitChanges, Memory>
     ensures { IfOk result (λ made. made ≡ record {
       terminal = unit.now.terminal;
       unit = unit.now.number;
@@ -86,7 +86,7 @@ fn record_of(alloc: Global, unit: &Unit, changed: Vec<ChangedKey>) -> Result<Uni
 }
 
 /// One fault more.
-fn failed(faults: &mut u64) -> DiscFault
+pub fn failed(faults: &mut u64) -> DiscFault
     ensures fault { result ≡ DiscFault.Failed }
     ensures rose { Rose faults.old faults.new }
 {
@@ -113,7 +113,8 @@ impl<D: Disk> Trail<D> {
             → D.may_leave disk image ⊎ (units_in system.now.files image ≡ units_in system.now.files (D.bytes disk))) }
         ensures damaged { IfErr result (λ error. (at : ℕ) → error.1 ≡ OpenFault.Damaged at
             → units_in system.now.files (D.bytes disk) ≡ Err at) }
-        ensures count { IfErr result (λ error. D.faults disk ≤ D.faults error.0) }
+        ensures count { IfOk result (λ trail. D.faults disk ≤ D.faults trail.log.disk) }
+        ensures count_err { IfErr result (λ error. D.faults disk ≤ D.faults error.0) }
         ensures failed { IfErr result (λ error. error.1 ≡ OpenFault.Failed
             → Rose (D.faults disk) (D.faults error.0)) }
         ensures endless { IfOk result (λ trail. D.life disk ≡ Endless → D.life trail.log.disk ≡ Endless) }
