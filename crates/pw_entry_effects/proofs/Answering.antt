@@ -1,7 +1,5 @@
 -- What is kept, where a terminal's program is answered.
-use Rattle.std.proofs.Common.{◌≡◌, ℕ, Bool, true, false, not, List, Option, Some, None, if◌then◌else◌, ◌∙◌, ⊎_elim, refl, sym, ap}
-use Rattle.std.proofs.Math.Path.{fun_ext}
-use Rattle.std.proofs.lemmas.Bool.{cases_eq}
+use Rattle.std.proofs.Common.{◌≡◌, ℕ, Bool, true, false, not, List, Option, Some, None, if◌then◌else◌, ◌∙◌, refl, sym, ap}
 use Rattle.std.specs.Option.{option_map}
 use Rattle.pw_entry_effects.specs.Can.{CanSend}
 use Rattle.pw_entry_effects.specs.Verbs.{one_send}
@@ -19,7 +17,8 @@ use Rattle.pw_world_state.specs.Entered.{answer_terminal, answering, entered_bac
 use Rattle.pw_world_state.specs.Kept.{Kept, KeptTerminal}
 use Rattle.pw_world_state.proofs.Behind.{takes-one}
 use Rattle.pw_onecopy.specs.Update.{upd}
-use Rattle.pw_onecopy.proofs.Update.{upd-other, upd-same}
+use Rattle.pw_onecopy.proofs.Update.{upd-same}
+use Rattle.pw_world_store.proofs.Parts.{upd-twice}
 use Rattle.pw_tmf.specs.Told.{Told}
 use Rattle.pw_tmf.specs.Units.{after_commit, backed_out}
 
@@ -67,13 +66,6 @@ back-is system t n next kept e =
 
 -- ---- in place
 
--- what is put at a place in two steps is what the second puts
-put-twice : {A : Type 0} (f : ℕ → A) (k : ℕ) (v w : A) → upd (upd f k v) k w ≡ upd f k w
-put-twice f k v w = fun_ext (λ j. ⊎_elim
-    (λ is. upd-same (upd f k v) k w j is ∙ sym (upd-same f k w j is))
-    (λ ne. upd-other (upd f k v) k w j ne ∙ (upd-other f k v j ne ∙ sym (upd-other f k w j ne)))
-    (cases_eq j k))
-
 -- the context with which a terminal stood at its verb
 pub own-context : (left ready : Option Context) (own context : Context) → left ≡ ready → ready ≡ Some own → left ≡ Some context → own ≡ context
 own-context left ready own context is at stood = cc
@@ -84,7 +76,7 @@ left-answered t next kept =
     ap (λ (own : KeptTerminal). record kept { terminals = upd (upd kept.terminals t (before_verb (kept.terminals t))) t (with_context next own) })
     (upd-same kept.terminals t (before_verb (kept.terminals t)) t refl)
     ∙ ap (λ (terminals : ℕ → KeptTerminal). record kept { terminals = terminals })
-    (put-twice kept.terminals t (before_verb (kept.terminals t)) (with_context next (kept.terminals t)))
+    (upd-twice kept.terminals t (before_verb (kept.terminals t)) (with_context next (kept.terminals t)))
 
 -- it goes on with the context that the answer makes of the one with which it left
 pub gone-behind : (system : System) (t : ℕ) (a : Answer) (old next : Context) (kept left new : Kept) → IsSoundContext system old

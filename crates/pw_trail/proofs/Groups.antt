@@ -69,7 +69,7 @@ open-group files units bytes g some = by g.front g.records g.is
         absurd (some (same-units units [] (sym (closed files units [] [] (records [] [] (records_none files))) ∙ shut files 0 0 [] refl)))
     by (gate ∷ rest) records is = elim (cases_eq gate 0) [
       | inl is_shut ↦ absurd (some (same-units units []
-      (sym (closed files units (gate ∷ rest) [] (records [] [] (records_none files))) ∙ shut files 0 gate (rest ++ 0 ∷ []) is_shut)))
+          (sym (closed files units (gate ∷ rest) [] (records [] [] (records_none files))) ∙ shut files 0 gate (rest ++ 0 ∷ []) is_shut)))
       | inr is_open ↦ record { gate = gate; rest = rest; is_open = is_open; records = records; is = is }
     ]
 

@@ -67,7 +67,11 @@ fn change_to(changed: ChangedKey) -> Change
 }
 
 /// The record of a unit that has changed this.
-pub fn record_of(alloc: Global, unit: &Unit, changed: Vec<ChangedKey>) -> Result<UnitChanges, Memory>
+pub fn record_of(
+    alloc: Global,
+    unit: &Unit,
+    changed: Vec<ChangedKey>,
+) -> Result<UnitChanges, Memory>
     ensures { IfOk result (λ made. made ≡ record {
       terminal = unit.now.terminal;
       unit = unit.now.number;

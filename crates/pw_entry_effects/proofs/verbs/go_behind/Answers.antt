@@ -29,8 +29,8 @@ returns g c =
     let can = c.requires.can in
     let own : can.context ≡ c.in-Some.context = own-context _ _ can.context c.in-Some.context c.leave_verb.ensures.context can.ready c.in-Some.is in
     let puts =
-        subst (λ (s : System). PutsAnswer s c.args.answer can.context c.answer.new.context) (c.system.ensures ∙ c.leave_verb.ensures.left.system)
-        (subst (λ (x : Context). PutsAnswer c.system.result.now c.args.answer x c.answer.new.context) (sym own) c.answer.ensures.takes)
+    subst (λ (s : System). PutsAnswer s c.args.answer can.context c.answer.new.context) (c.system.ensures ∙ c.leave_verb.ensures.left.system)
+    (subst (λ (x : Context). PutsAnswer c.system.result.now c.args.answer x c.answer.new.context) (sym own) c.answer.ensures.takes)
     in
     record {
       system = c.answer-in-Some.ensures.system ∙ c.leave_verb.ensures.left.system;
